@@ -1,0 +1,9 @@
+pub mod Kind
+pub mod KindOf
+pub mod Faults
+pub mod Decided
+pub mod KindEq
+pub mod Spelling
+pub mod Algorithm
+pub mod Base64Url
+pub mod JsonText

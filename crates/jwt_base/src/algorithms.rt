@@ -1,0 +1,306 @@
+//! The names of the algorithms, and the families that their keys belong to.
+
+ghost use Rattle.std.specs.Prelude.{◌≡◌};
+ghost use Rattle.jwt_base.specs.Algorithm.{name_of, family_of, algorithms_of, algorithm_named, ReadsName, key_algorithm_of, ConvertsKeyAlgorithm, key_algorithm_named, key_text_of};
+ghost use Rattle.jwt_base.specs.declared.algorithms.Algorithm.TheVariants.{HS256};
+
+use crate::errors::{Error, ErrorKind, Result, new_error};
+use std::fmt;
+use std::str::FromStr;
+
+/// A family of algorithms, whose keys are of one kind.
+#[derive(Clone, Copy, Debug, PartialEq, Eq)]
+pub enum AlgorithmFamily {
+    /// HMAC: one secret signs and verifies.
+    Hmac,
+    /// RSA.
+    Rsa,
+    /// Elliptic curves.
+    Ec,
+    /// Edwards curves.
+    Ed,
+}
+
+impl AlgorithmFamily {
+    /// The algorithms of the family.
+    pub fn algorithms(&self) -> &'static [Algorithm]
+        ensures { result.now ≡ algorithms_of self.now }
+    {
+        match self {
+            AlgorithmFamily::Hmac => &[Algorithm::HS256, Algorithm::HS384, Algorithm::HS512],
+            AlgorithmFamily::Rsa => &[
+                Algorithm::RS256,
+                Algorithm::RS384,
+                Algorithm::RS512,
+                Algorithm::PS256,
+                Algorithm::PS384,
+                Algorithm::PS512,
+            ],
+            AlgorithmFamily::Ec => &[Algorithm::ES256, Algorithm::ES384],
+            AlgorithmFamily::Ed => &[Algorithm::EdDSA],
+        }
+    }
+}
+
+/// An algorithm that signs tokens (RFC 7518 section 3.1, RFC 8037 section 3.1).
+#[derive(Clone, Copy, Debug, PartialEq, Eq, Hash)]
+pub enum Algorithm {
+    /// HMAC with SHA-256.
+    HS256,
+    /// HMAC with SHA-384.
+    HS384,
+    /// HMAC with SHA-512.
+    HS512,
+    /// RSASSA-PKCS1-v1_5 with SHA-256.
+    RS256,
+    /// RSASSA-PKCS1-v1_5 with SHA-384.
+    RS384,
+    /// RSASSA-PKCS1-v1_5 with SHA-512.
+    RS512,
+    /// RSASSA-PSS with SHA-256.
+    PS256,
+    /// RSASSA-PSS with SHA-384.
+    PS384,
+    /// RSASSA-PSS with SHA-512.
+    PS512,
+    /// ECDSA over P-256 with SHA-256.
+    ES256,
+    /// ECDSA over P-384 with SHA-384.
+    ES384,
+    /// An Edwards curve signature.
+    EdDSA,
+}
+
+impl Algorithm {
+    /// The name in JSON.
+    pub fn name(self) -> &'static str
+        ensures { result.now ≡ name_of self }
+    {
+        match self {
+            Algorithm::HS256 => "HS256",
+            Algorithm::HS384 => "HS384",
+            Algorithm::HS512 => "HS512",
+            Algorithm::RS256 => "RS256",
+            Algorithm::RS384 => "RS384",
+            Algorithm::RS512 => "RS512",
+            Algorithm::PS256 => "PS256",
+            Algorithm::PS384 => "PS384",
+            Algorithm::PS512 => "PS512",
+            Algorithm::ES256 => "ES256",
+            Algorithm::ES384 => "ES384",
+            Algorithm::EdDSA => "EdDSA",
+        }
+    }
+
+    /// The family of the algorithm's keys.
+    pub fn family(self) -> AlgorithmFamily
+        ensures { result ≡ family_of self }
+    {
+        match self {
+            Algorithm::HS256 | Algorithm::HS384 | Algorithm::HS512 => AlgorithmFamily::Hmac,
+            Algorithm::RS256
+            | Algorithm::RS384
+            | Algorithm::RS512
+            | Algorithm::PS256
+            | Algorithm::PS384
+            | Algorithm::PS512 => AlgorithmFamily::Rsa,
+            Algorithm::ES256 | Algorithm::ES384 => AlgorithmFamily::Ec,
+            Algorithm::EdDSA => AlgorithmFamily::Ed,
+        }
+    }
+}
+
+impl Default for Algorithm {
+    ghost is_default = { λ a. a ≡ HS256 };
+
+    fn default() -> Algorithm {
+        Algorithm::HS256
+    }
+}
+
+fn algorithm_of_name(name: &str) -> Option<Algorithm>
+    ensures { result ≡ algorithm_named name.now }
+{
+    match name {
+        "HS256" => Some(Algorithm::HS256),
+        "HS384" => Some(Algorithm::HS384),
+        "HS512" => Some(Algorithm::HS512),
+        "RS256" => Some(Algorithm::RS256),
+        "RS384" => Some(Algorithm::RS384),
+        "RS512" => Some(Algorithm::RS512),
+        "PS256" => Some(Algorithm::PS256),
+        "PS384" => Some(Algorithm::PS384),
+        "PS512" => Some(Algorithm::PS512),
+        "ES256" => Some(Algorithm::ES256),
+        "ES384" => Some(Algorithm::ES384),
+        "EdDSA" => Some(Algorithm::EdDSA),
+        _ => None,
+    }
+}
+
+/// Reads the name in JSON. Any other text is refused with `InvalidAlgorithmName`.
+impl FromStr for Algorithm {
+    type Err = Error;
+
+    ghost from_str_gives = { ReadsName algorithm_named };
+
+    fn from_str(name: &str) -> Result<Algorithm> {
+        match algorithm_of_name(name) {
+            Some(algorithm) => Ok(algorithm),
+            None => Err(new_error(ErrorKind::InvalidAlgorithmName)),
+        }
+    }
+}
+
+/// The algorithm that a JSON Web Key names (RFC 7517 section 4.4): one that signs, one that encrypts keys, or a name
+/// that is not known here.
+#[derive(Clone, Copy, Debug, PartialEq, Eq, Hash)]
+pub enum KeyAlgorithm {
+    /// HMAC with SHA-256.
+    HS256,
+    /// HMAC with SHA-384.
+    HS384,
+    /// HMAC with SHA-512.
+    HS512,
+    /// RSASSA-PKCS1-v1_5 with SHA-256.
+    RS256,
+    /// RSASSA-PKCS1-v1_5 with SHA-384.
+    RS384,
+    /// RSASSA-PKCS1-v1_5 with SHA-512.
+    RS512,
+    /// RSASSA-PSS with SHA-256.
+    PS256,
+    /// RSASSA-PSS with SHA-384.
+    PS384,
+    /// RSASSA-PSS with SHA-512.
+    PS512,
+    /// ECDSA over P-256 with SHA-256.
+    ES256,
+    /// ECDSA over P-384 with SHA-384.
+    ES384,
+    /// An Edwards curve signature.
+    EdDSA,
+    /// RSAES-PKCS1-v1_5.
+    RSA1_5,
+    /// RSAES OAEP with SHA-1.
+    RSA_OAEP,
+    /// RSAES OAEP with SHA-256.
+    RSA_OAEP_256,
+    /// Any other name.
+    UNKNOWN_ALGORITHM,
+}
+
+/// The algorithm of keys that sign by this one.
+impl From<Algorithm> for KeyAlgorithm {
+    ghost from_gives = { λ a k. k ≡ key_algorithm_of a };
+
+    fn from(algorithm: Algorithm) -> KeyAlgorithm {
+        match algorithm {
+            Algorithm::HS256 => KeyAlgorithm::HS256,
+            Algorithm::HS384 => KeyAlgorithm::HS384,
+            Algorithm::HS512 => KeyAlgorithm::HS512,
+            Algorithm::RS256 => KeyAlgorithm::RS256,
+            Algorithm::RS384 => KeyAlgorithm::RS384,
+            Algorithm::RS512 => KeyAlgorithm::RS512,
+            Algorithm::PS256 => KeyAlgorithm::PS256,
+            Algorithm::PS384 => KeyAlgorithm::PS384,
+            Algorithm::PS512 => KeyAlgorithm::PS512,
+            Algorithm::ES256 => KeyAlgorithm::ES256,
+            Algorithm::ES384 => KeyAlgorithm::ES384,
+            Algorithm::EdDSA => KeyAlgorithm::EdDSA,
+        }
+    }
+}
+
+/// The algorithm that signs by such a key. The four that sign nothing are refused with `UnsupportedAlgorithm`.
+impl TryFrom<KeyAlgorithm> for Algorithm {
+    type Error = Error;
+
+    ghost try_from_gives = { ConvertsKeyAlgorithm };
+
+    fn try_from(algorithm: KeyAlgorithm) -> Result<Algorithm> {
+        match algorithm {
+            KeyAlgorithm::HS256 => Ok(Algorithm::HS256),
+            KeyAlgorithm::HS384 => Ok(Algorithm::HS384),
+            KeyAlgorithm::HS512 => Ok(Algorithm::HS512),
+            KeyAlgorithm::RS256 => Ok(Algorithm::RS256),
+            KeyAlgorithm::RS384 => Ok(Algorithm::RS384),
+            KeyAlgorithm::RS512 => Ok(Algorithm::RS512),
+            KeyAlgorithm::PS256 => Ok(Algorithm::PS256),
+            KeyAlgorithm::PS384 => Ok(Algorithm::PS384),
+            KeyAlgorithm::PS512 => Ok(Algorithm::PS512),
+            KeyAlgorithm::ES256 => Ok(Algorithm::ES256),
+            KeyAlgorithm::ES384 => Ok(Algorithm::ES384),
+            KeyAlgorithm::EdDSA => Ok(Algorithm::EdDSA),
+            KeyAlgorithm::RSA1_5
+            | KeyAlgorithm::RSA_OAEP
+            | KeyAlgorithm::RSA_OAEP_256
+            | KeyAlgorithm::UNKNOWN_ALGORITHM => Err(new_error(ErrorKind::UnsupportedAlgorithm)),
+        }
+    }
+}
+
+fn key_algorithm_of_name(name: &str) -> Option<KeyAlgorithm>
+    ensures { result ≡ key_algorithm_named name.now }
+{
+    match name {
+        "HS256" => Some(KeyAlgorithm::HS256),
+        "HS384" => Some(KeyAlgorithm::HS384),
+        "HS512" => Some(KeyAlgorithm::HS512),
+        "RS256" => Some(KeyAlgorithm::RS256),
+        "RS384" => Some(KeyAlgorithm::RS384),
+        "RS512" => Some(KeyAlgorithm::RS512),
+        "PS256" => Some(KeyAlgorithm::PS256),
+        "PS384" => Some(KeyAlgorithm::PS384),
+        "PS512" => Some(KeyAlgorithm::PS512),
+        "ES256" => Some(KeyAlgorithm::ES256),
+        "ES384" => Some(KeyAlgorithm::ES384),
+        "EdDSA" => Some(KeyAlgorithm::EdDSA),
+        "RSA1_5" => Some(KeyAlgorithm::RSA1_5),
+        "RSA-OAEP" => Some(KeyAlgorithm::RSA_OAEP),
+        "RSA-OAEP-256" => Some(KeyAlgorithm::RSA_OAEP_256),
+        _ => None,
+    }
+}
+
+/// Reads the name in JSON. Any other text, `UNKNOWN_ALGORITHM` too, is refused with `InvalidAlgorithmName`.
+impl FromStr for KeyAlgorithm {
+    type Err = Error;
+
+    ghost from_str_gives = { ReadsName key_algorithm_named };
+
+    fn from_str(name: &str) -> Result<KeyAlgorithm> {
+        match key_algorithm_of_name(name) {
+            Some(algorithm) => Ok(algorithm),
+            None => Err(new_error(ErrorKind::InvalidAlgorithmName)),
+        }
+    }
+}
+
+impl fmt::Display for KeyAlgorithm {
+    ghost use Rattle.std.specs.Prelude.{Some};
+    ghost use Rattle.jwt_base.specs.Algorithm.{key_text_of};
+
+    ghost output = { λ k. Some (key_text_of k) };
+
+    fn fmt<W: fmt::Write>(&self, f: &mut fmt::Formatter<W>) -> fmt::Result {
+        match self {
+            KeyAlgorithm::HS256 => write!(f, "HS256"),
+            KeyAlgorithm::HS384 => write!(f, "HS384"),
+            KeyAlgorithm::HS512 => write!(f, "HS512"),
+            KeyAlgorithm::RS256 => write!(f, "RS256"),
+            KeyAlgorithm::RS384 => write!(f, "RS384"),
+            KeyAlgorithm::RS512 => write!(f, "RS512"),
+            KeyAlgorithm::PS256 => write!(f, "PS256"),
+            KeyAlgorithm::PS384 => write!(f, "PS384"),
+            KeyAlgorithm::PS512 => write!(f, "PS512"),
+            KeyAlgorithm::ES256 => write!(f, "ES256"),
+            KeyAlgorithm::ES384 => write!(f, "ES384"),
+            KeyAlgorithm::EdDSA => write!(f, "EdDSA"),
+            KeyAlgorithm::RSA1_5 => write!(f, "RSA1_5"),
+            KeyAlgorithm::RSA_OAEP => write!(f, "RSA_OAEP"),
+            KeyAlgorithm::RSA_OAEP_256 => write!(f, "RSA_OAEP_256"),
+            KeyAlgorithm::UNKNOWN_ALGORITHM => write!(f, "UNKNOWN_ALGORITHM"),
+        }
+    }
+}

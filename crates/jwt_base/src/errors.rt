@@ -1,0 +1,403 @@
+//! Why a call was refused.
+
+ghost use Rattle.std.specs.Prelude.{◌≡◌, IfOk, IfErr, string_bytes};
+ghost use Rattle.jwt_base.specs.Kind as kind;
+ghost use Rattle.jwt_base.specs.KindOf.{kind_held, kind_of, IsMemory};
+
+use base64::{DecodeAllocError, DecodeError, DecodeSliceError};
+use std::alloc::{AllocError, AllocFailed, Global};
+use std::fmt;
+use std::str::Utf8Error;
+use std::string::FromUtf8Error;
+
+/// The refusal of a call, which holds its kind.
+#[derive(Debug, Drop)]
+pub struct Error {
+    kind: ErrorKind,
+}
+
+/// The answer of a call that can be refused.
+pub type Result<T> = std::result::Result<T, Error>;
+
+/// Why a call was refused.
+#[derive(Debug, Drop)]
+pub enum ErrorKind {
+    /// The token has not three parts (RFC 7515 section 7.1), or `exp` lies before the time that is to be left.
+    InvalidToken,
+    /// The signature is not the message's.
+    InvalidSignature,
+    /// The bytes are no elliptic curve key.
+    InvalidEcdsaKey,
+    /// The bytes are no Edwards curve key.
+    InvalidEddsaKey,
+    /// A provider could not sign with an RSA key.
+    RsaFailedSigning,
+    /// The text names no algorithm.
+    InvalidAlgorithmName,
+    /// The call does not serve this algorithm.
+    UnsupportedAlgorithm,
+    /// The key is of another family or kind than the call asks for.
+    InvalidKeyFormat,
+    /// The token has expired (RFC 7519 section 4.1.4).
+    ExpiredSignature,
+    /// The issuer is none of those that are accepted (RFC 7519 section 4.1.1).
+    InvalidIssuer,
+    /// The audience is none of those that are accepted (RFC 7519 section 4.1.3).
+    InvalidAudience,
+    /// The subject is not the one that is accepted (RFC 7519 section 4.1.2).
+    InvalidSubject,
+    /// The token is not valid yet (RFC 7519 section 4.1.5).
+    ImmatureSignature,
+    /// The algorithm is not one of those that are asked for.
+    InvalidAlgorithm,
+    /// No algorithm is listed to choose from.
+    MissingAlgorithm,
+    /// A claim of this name is required, and is not there as a value.
+    MissingRequiredClaim(String),
+    /// The claim of this name has a wrong type.
+    InvalidClaimFormat(String),
+    /// A provider found an RSA key wrong, with its reason.
+    InvalidRsaKey(String),
+    /// A provider could not sign, with its reason.
+    Signing(String),
+    /// A provider's own reason.
+    Provider(String),
+    /// The text is no canonical base64 (RFC 4648).
+    Base64,
+    /// The bytes or the value are not the JSON that is asked for, or a value cannot be written as JSON.
+    Json,
+    /// The bytes are no UTF-8 text.
+    Utf8,
+    /// A request for memory was refused.
+    OutOfMemory,
+    /// A clock tells a moment before 1970-01-01 00:00:00 UTC.
+    ClockBeforeEpoch,
+    /// The header's `crit` is malformed, or asks for what is not understood (RFC 7515 section 4.1.11).
+    InvalidCrit,
+    /// No key of the set has the header's `kid`.
+    NoKey,
+}
+
+/// The error of a kind.
+pub fn new_error(kind: ErrorKind) -> Error
+    ensures held { result.kind ≡ kind }
+    ensures kind { kind_of result ≡ kind_held kind }
+{
+    Error { kind }
+}
+
+impl Error {
+    /// The kind that the error holds.
+    pub fn kind(&self) -> &ErrorKind
+        ensures held { result.now ≡ self.now.kind }
+        ensures kind { kind_held result.now ≡ kind_of self.now }
+    {
+        &self.kind
+    }
+
+    /// The kind, out of the error.
+    pub fn into_kind(self) -> ErrorKind
+        ensures held { result ≡ self.kind }
+        ensures kind { kind_held result ≡ kind_of self }
+    {
+        self.kind
+    }
+
+    /// A copy. The only refusal is `OutOfMemory`.
+    pub fn clone(&self, alloc: Global) -> Result<Error>
+        ensures ok { IfOk result (λ e. kind_of e ≡ kind_of self.now) }
+        ensures err { IfErr result IsMemory }
+    {
+        let kind = self.kind.clone(alloc)?;
+        Ok(Error { kind })
+    }
+}
+
+impl ErrorKind {
+    /// A copy. The only refusal is `OutOfMemory`.
+    pub fn clone(&self, alloc: Global) -> Result<ErrorKind>
+        ensures ok { IfOk result (λ k. kind_held k ≡ kind_held self.now) }
+        ensures err { IfErr result IsMemory }
+    {
+        match self {
+            ErrorKind::MissingRequiredClaim(claim) => Ok(ErrorKind::MissingRequiredClaim(copied(
+                alloc, claim,
+            )?)),
+            ErrorKind::InvalidClaimFormat(claim) => Ok(ErrorKind::InvalidClaimFormat(copied(
+                alloc, claim,
+            )?)),
+            ErrorKind::InvalidRsaKey(message) => Ok(ErrorKind::InvalidRsaKey(copied(
+                alloc, message,
+            )?)),
+            ErrorKind::Signing(message) => Ok(ErrorKind::Signing(copied(alloc, message)?)),
+            ErrorKind::Provider(message) => Ok(ErrorKind::Provider(copied(alloc, message)?)),
+            ErrorKind::InvalidToken => Ok(ErrorKind::InvalidToken),
+            ErrorKind::InvalidSignature => Ok(ErrorKind::InvalidSignature),
+            ErrorKind::InvalidEcdsaKey => Ok(ErrorKind::InvalidEcdsaKey),
+            ErrorKind::InvalidEddsaKey => Ok(ErrorKind::InvalidEddsaKey),
+            ErrorKind::RsaFailedSigning => Ok(ErrorKind::RsaFailedSigning),
+            ErrorKind::InvalidAlgorithmName => Ok(ErrorKind::InvalidAlgorithmName),
+            ErrorKind::UnsupportedAlgorithm => Ok(ErrorKind::UnsupportedAlgorithm),
+            ErrorKind::InvalidKeyFormat => Ok(ErrorKind::InvalidKeyFormat),
+            ErrorKind::ExpiredSignature => Ok(ErrorKind::ExpiredSignature),
+            ErrorKind::InvalidIssuer => Ok(ErrorKind::InvalidIssuer),
+            ErrorKind::InvalidAudience => Ok(ErrorKind::InvalidAudience),
+            ErrorKind::InvalidSubject => Ok(ErrorKind::InvalidSubject),
+            ErrorKind::ImmatureSignature => Ok(ErrorKind::ImmatureSignature),
+            ErrorKind::InvalidAlgorithm => Ok(ErrorKind::InvalidAlgorithm),
+            ErrorKind::MissingAlgorithm => Ok(ErrorKind::MissingAlgorithm),
+            ErrorKind::Base64 => Ok(ErrorKind::Base64),
+            ErrorKind::Json => Ok(ErrorKind::Json),
+            ErrorKind::Utf8 => Ok(ErrorKind::Utf8),
+            ErrorKind::OutOfMemory => Ok(ErrorKind::OutOfMemory),
+            ErrorKind::ClockBeforeEpoch => Ok(ErrorKind::ClockBeforeEpoch),
+            ErrorKind::InvalidCrit => Ok(ErrorKind::InvalidCrit),
+            ErrorKind::NoKey => Ok(ErrorKind::NoKey),
+        }
+    }
+}
+
+fn copied(alloc: Global, text: &String) -> Result<String>
+    ensures ok { IfOk result (λ t. string_bytes t ≡ string_bytes text.now) }
+    ensures err { IfErr result IsMemory }
+{
+    Ok(String::from_str(alloc, text.as_str())?)
+}
+
+impl ErrorKind {
+    ghost use Rattle.jwt_base.specs.KindEq.{number_of_held, text_of_held};
+
+    // The place in the list of kinds, and the text that the kind holds.
+    fn number(&self) -> u8
+        ensures { result ≡ number_of_held self.now }
+    {
+        match self {
+            ErrorKind::InvalidToken => 0,
+            ErrorKind::InvalidSignature => 1,
+            ErrorKind::InvalidEcdsaKey => 2,
+            ErrorKind::InvalidEddsaKey => 3,
+            ErrorKind::RsaFailedSigning => 4,
+            ErrorKind::InvalidAlgorithmName => 5,
+            ErrorKind::UnsupportedAlgorithm => 6,
+            ErrorKind::InvalidKeyFormat => 7,
+            ErrorKind::ExpiredSignature => 8,
+            ErrorKind::InvalidIssuer => 9,
+            ErrorKind::InvalidAudience => 10,
+            ErrorKind::InvalidSubject => 11,
+            ErrorKind::ImmatureSignature => 12,
+            ErrorKind::InvalidAlgorithm => 13,
+            ErrorKind::MissingAlgorithm => 14,
+            ErrorKind::MissingRequiredClaim(_) => 15,
+            ErrorKind::InvalidClaimFormat(_) => 16,
+            ErrorKind::InvalidRsaKey(_) => 17,
+            ErrorKind::Signing(_) => 18,
+            ErrorKind::Provider(_) => 19,
+            ErrorKind::Base64 => 20,
+            ErrorKind::Json => 21,
+            ErrorKind::Utf8 => 22,
+            ErrorKind::OutOfMemory => 23,
+            ErrorKind::ClockBeforeEpoch => 24,
+            ErrorKind::InvalidCrit => 25,
+            ErrorKind::NoKey => 26,
+        }
+    }
+
+    fn held_text(&self) -> &str
+        ensures { result.now ≡ text_of_held self.now }
+    {
+        match self {
+            ErrorKind::MissingRequiredClaim(text) => text.as_str(),
+            ErrorKind::InvalidClaimFormat(text) => text.as_str(),
+            ErrorKind::InvalidRsaKey(text) => text.as_str(),
+            ErrorKind::Signing(text) => text.as_str(),
+            ErrorKind::Provider(text) => text.as_str(),
+            _ => "",
+        }
+    }
+}
+
+/// The same kind and the same text.
+impl PartialEq for ErrorKind {
+    ghost use Rattle.std.specs.Prelude.{◌≡◌, ◌↔◌, IsTrue};
+    ghost use Rattle.std.specs.Cmp.{partial_equiv_from_equiv};
+    ghost use Rattle.jwt_base.specs.KindOf.{kind_held};
+    ghost use Rattle.jwt_base.specs.KindEq.{kind_eq, kind_eq_equiv};
+
+    ghost eq = { kind_eq };
+
+    ghost laws = { partial_equiv_from_equiv kind_eq_equiv };
+
+    fn eq(&self, other: &ErrorKind) -> bool
+        ensures test { result ≡ kind_eq self.now other.now }
+        ensures same { IsTrue result ↔ (kind_held self.now ≡ kind_held other.now) }
+    {
+        self.number() == other.number() && self.held_text() == other.held_text()
+    }
+}
+
+impl Eq for ErrorKind {
+    ghost use Rattle.jwt_base.specs.KindEq.{kind_eq_equiv};
+
+    ghost laws = { kind_eq_equiv };
+}
+
+/// The same kind and the same text.
+impl PartialEq for Error {
+    ghost use Rattle.std.specs.Prelude.{◌≡◌, ◌↔◌, IsTrue};
+    ghost use Rattle.std.specs.Cmp.{partial_equiv_from_equiv};
+    ghost use Rattle.jwt_base.specs.KindOf.{kind_of};
+    ghost use Rattle.jwt_base.specs.KindEq.{error_eq, error_eq_equiv};
+
+    ghost eq = { error_eq };
+
+    ghost laws = { partial_equiv_from_equiv error_eq_equiv };
+
+    fn eq(&self, other: &Error) -> bool
+        ensures test { result ≡ error_eq self.now other.now }
+        ensures same { IsTrue result ↔ (kind_of self.now ≡ kind_of other.now) }
+    {
+        self.kind == other.kind
+    }
+}
+
+impl Eq for Error {
+    ghost use Rattle.jwt_base.specs.KindEq.{error_eq_equiv};
+
+    ghost laws = { error_eq_equiv };
+}
+
+impl From<ErrorKind> for Error {
+    ghost from_gives = { λ k e. kind_of e ≡ kind_held k };
+
+    fn from(kind: ErrorKind) -> Error {
+        Error { kind }
+    }
+}
+
+impl From<AllocError> for Error {
+    ghost from_gives = { λ _ e. IsMemory e };
+
+    fn from(_refused: AllocError) -> Error {
+        new_error(ErrorKind::OutOfMemory)
+    }
+}
+
+impl<T: Drop> From<AllocFailed<T>> for Error {
+    ghost from_gives = { λ _ e. IsMemory e };
+
+    fn from(_refused: AllocFailed<T>) -> Error {
+        new_error(ErrorKind::OutOfMemory)
+    }
+}
+
+impl From<DecodeError> for Error {
+    ghost from_gives = { λ _ e. kind_of e ≡ kind.Base64 };
+
+    fn from(_refused: DecodeError) -> Error {
+        new_error(ErrorKind::Base64)
+    }
+}
+
+impl From<DecodeSliceError> for Error {
+    ghost from_gives = { λ _ e. kind_of e ≡ kind.Base64 };
+
+    fn from(_refused: DecodeSliceError) -> Error {
+        new_error(ErrorKind::Base64)
+    }
+}
+
+impl From<DecodeAllocError> for Error {
+    ghost use Rattle.jwt_base.specs.Faults.{base64_kind};
+
+    ghost from_gives = { λ refused e. kind_of e ≡ base64_kind refused };
+
+    fn from(refused: DecodeAllocError) -> Error {
+        match refused {
+            DecodeAllocError::OutOfMemory => new_error(ErrorKind::OutOfMemory),
+            DecodeAllocError::DecodeError(_) => new_error(ErrorKind::Base64),
+        }
+    }
+}
+
+impl From<serde_json::Error> for Error {
+    ghost use Rattle.jwt_base.specs.Faults.{IsJsonFault};
+
+    ghost from_gives = { IsJsonFault };
+
+    fn from(refused: serde_json::Error) -> Error {
+        if refused.is_memory() {
+            new_error(ErrorKind::OutOfMemory)
+        } else {
+            new_error(ErrorKind::Json)
+        }
+    }
+}
+
+impl From<Utf8Error> for Error {
+    ghost from_gives = { λ _ e. kind_of e ≡ kind.Utf8 };
+
+    fn from(_refused: Utf8Error) -> Error {
+        new_error(ErrorKind::Utf8)
+    }
+}
+
+impl From<FromUtf8Error<Global>> for Error {
+    ghost from_gives = { λ _ e. kind_of e ≡ kind.Utf8 };
+
+    fn from(_refused: FromUtf8Error<Global>) -> Error {
+        new_error(ErrorKind::Utf8)
+    }
+}
+
+impl fmt::Display for ErrorKind {
+    ghost use Rattle.std.specs.Prelude.{Some};
+    ghost use Rattle.jwt_base.specs.Kind.{text_of};
+    ghost use Rattle.jwt_base.specs.KindOf.{kind_held};
+
+    ghost output = { λ k. Some (text_of (kind_held k)) };
+
+    fn fmt<W: fmt::Write>(&self, f: &mut fmt::Formatter<W>) -> fmt::Result {
+        match self {
+            ErrorKind::MissingRequiredClaim(claim) => write!(f, "Missing required claim: {claim}"),
+            ErrorKind::InvalidClaimFormat(claim) => write!(f, "Invalid format for claim: {claim}"),
+            ErrorKind::InvalidRsaKey(message) => write!(f, "RSA key invalid: {message}"),
+            ErrorKind::Signing(message) => write!(f, "Signing failed: {message}"),
+            ErrorKind::Provider(message) => write!(f, "Custom provider error: {message}"),
+            ErrorKind::InvalidToken => write!(f, "InvalidToken"),
+            ErrorKind::InvalidSignature => write!(f, "InvalidSignature"),
+            ErrorKind::InvalidEcdsaKey => write!(f, "InvalidEcdsaKey"),
+            ErrorKind::InvalidEddsaKey => write!(f, "InvalidEddsaKey"),
+            ErrorKind::RsaFailedSigning => write!(f, "RsaFailedSigning"),
+            ErrorKind::InvalidAlgorithmName => write!(f, "InvalidAlgorithmName"),
+            ErrorKind::UnsupportedAlgorithm => write!(f, "UnsupportedAlgorithm"),
+            ErrorKind::InvalidKeyFormat => write!(f, "InvalidKeyFormat"),
+            ErrorKind::ExpiredSignature => write!(f, "ExpiredSignature"),
+            ErrorKind::InvalidIssuer => write!(f, "InvalidIssuer"),
+            ErrorKind::InvalidAudience => write!(f, "InvalidAudience"),
+            ErrorKind::InvalidSubject => write!(f, "InvalidSubject"),
+            ErrorKind::ImmatureSignature => write!(f, "ImmatureSignature"),
+            ErrorKind::InvalidAlgorithm => write!(f, "InvalidAlgorithm"),
+            ErrorKind::MissingAlgorithm => write!(f, "MissingAlgorithm"),
+            ErrorKind::Base64 => write!(f, "Base64 error"),
+            ErrorKind::Json => write!(f, "JSON error"),
+            ErrorKind::Utf8 => write!(f, "UTF-8 error"),
+            ErrorKind::OutOfMemory => write!(f, "Out of memory"),
+            ErrorKind::ClockBeforeEpoch => write!(f, "Clock before 1970"),
+            ErrorKind::InvalidCrit => write!(f, "InvalidCrit"),
+            ErrorKind::NoKey => write!(f, "NoKey"),
+        }
+    }
+}
+
+impl fmt::Display for Error {
+    ghost use Rattle.std.specs.Prelude.{Some};
+    ghost use Rattle.jwt_base.specs.Kind.{text_of};
+    ghost use Rattle.jwt_base.specs.KindOf.{kind_of};
+
+    ghost output = { λ e. Some (text_of (kind_of e)) };
+
+    fn fmt<W: fmt::Write>(&self, f: &mut fmt::Formatter<W>) -> fmt::Result {
+        let kind = &self.kind;
+        write!(f, "{kind}")
+    }
+}

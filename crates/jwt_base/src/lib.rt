@@ -1,0 +1,8 @@
+//! What every layer of the token library stands on: errors, the names of the algorithms, the base64url parts of a
+//! token and the JSON in them, and the small value types.
+#![tactic(auto)]
+
+pub mod algorithms;
+pub mod errors;
+pub mod serialization;
+pub mod text;
