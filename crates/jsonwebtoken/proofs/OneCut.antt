@@ -1,0 +1,48 @@
+-- A token has one cut.
+use Rattle.std.proofs.Common.{◌≡◌, ℕ, List, [], ◌∷◌, ◌++◌, Contains, refl, sym, subst, ◌∙◌, arith}
+use Rattle.std.proofs.lemmas.List.{append_assoc}
+use Rattle.std.proofs.lemmas.List.Elements.{Contains-append_right}
+use Rattle.jsonwebtoken.specs.Tests.{dot, Cut, IsCutOf}
+
+here : (b : List ℕ) (d : ℕ) → Contains (d ∷ b) d
+here b d = (0, omega arith, refl)
+
+middle : (a b : List ℕ) (d : ℕ) → Contains (a ++ d ∷ b) d
+middle a b d = Contains-append_right a (d ∷ b) d (here b d)
+
+-- the last place of d cuts a list in one way
+last_cut : (a b p q : List ℕ) (d : ℕ) → ¬ Contains b d → ¬ Contains q d → a ++ d ∷ b ≡ p ++ d ∷ q → (a ≡ p) × (b ≡ q)
+last_cut [] b [] q d h k e = (refl, cc)
+last_cut [] b (x ∷ p) q d h k e = let tails : b ≡ p ++ d ∷ q = cc in absurd (h (subst (λ l. Contains l d) (sym tails) (middle p q d)))
+last_cut (x ∷ a) b [] q d h k e = let tails : q ≡ a ++ d ∷ b = cc in absurd (k (subst (λ l. Contains l d) (sym tails) (middle a b d)))
+last_cut (x ∷ a) b (y ∷ p) q d h k e =
+    let heads : x ≡ y = cc in
+    let tails : a ++ d ∷ b ≡ p ++ d ∷ q = cc in
+    let r = last_cut a b p q d h k tails in
+    let first : a ≡ p = r.0 in
+    ((cc), r.1)
+
+front_of : (x : List ℕ) (c : Cut) → IsCutOf x c → x ≡ (c.header ++ dot ∷ c.payload) ++ dot ∷ c.signature
+front_of x c cut = cut.joined ∙ sym (append_assoc c.header (dot ∷ c.payload) (dot ∷ c.signature))
+
+abbrev pieces : List ℕ → List ℕ → List ℕ → Cut
+pieces h p s = record { header = h; payload = p; signature = s }
+
+pub one_cut : (x : List ℕ) (c d : Cut) → IsCutOf x c → IsCutOf x d → c ≡ d
+one_cut x c d p q =
+    let fronts = last_cut (c.header ++ dot ∷ c.payload) c.signature (d.header ++ dot ∷ d.payload) d.signature dot p.signature q.signature (sym (front_of x c p) ∙ front_of x d q) in
+    let heads = last_cut c.header c.payload d.header d.payload dot p.payload q.payload fronts.0 in
+    let headers : c.header ≡ d.header = heads.0 in
+    let payloads : c.payload ≡ d.payload = heads.1 in
+    let signatures : c.signature ≡ d.signature = fronts.1 in
+    let same : pieces c.header c.payload c.signature ≡ pieces d.header d.payload d.signature = cc in same
+
+-- a text with no dot has no cut
+pub no_dot : (x : List ℕ) (c : Cut) → ¬ Contains x dot → ¬ IsCutOf x c
+no_dot x c none cut = none (subst (λ l. Contains l dot) (sym cut.joined) (middle c.header (c.payload ++ dot ∷ c.signature) dot))
+
+-- nor has one with a single dot
+pub one_dot : (x f s : List ℕ) (c : Cut) → x ≡ f ++ dot ∷ s → ¬ Contains s dot → ¬ Contains f dot → ¬ IsCutOf x c
+one_dot x f s c e last none cut =
+    let fronts = last_cut f s (c.header ++ dot ∷ c.payload) c.signature dot last cut.signature (sym e ∙ front_of x c cut) in
+    none (subst (λ l. Contains l dot) (sym fronts.0) (middle c.header c.payload dot))

@@ -1,0 +1,10 @@
+pub mod Member
+pub mod Header
+pub mod Order
+pub mod Tests
+pub mod Steps
+pub use Rattle.jwt_base.specs.Kind
+pub use Rattle.jwt_base.specs.KindOf
+pub use Rattle.jwt_base.specs.Algorithm
+pub use Rattle.jwt_base.specs.Base64Url
+pub use Rattle.jwt_base.specs.JsonText

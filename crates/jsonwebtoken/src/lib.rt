@@ -1,0 +1,10 @@
+//! JSON Web Tokens (RFC 7519) in their compact form (RFC 7515).
+#![tactic(auto)]
+
+mod decode;
+mod header;
+
+pub use decode::decode_header;
+pub use header::Header;
+pub use jwt_base::algorithms::{Algorithm, AlgorithmFamily};
+pub use jwt_base::errors;
