@@ -1,0 +1,30 @@
+-- What is answered, where the reader's bytes are known.
+use Rattle.std.proofs.Common.{◌≡◌, ℕ, List, [], ◌∷◌, ◌++◌, Option, Some, None, IfSome, subst, inl, inr}
+use Rattle.std.specs.Io.KnownBytes.{Appends}
+use Rattle.jwt_tool.specs.Line.{Answers, CommandAnswer, IsUsage, command_of, without_final_newline}
+use Rattle.jwt_tool.specs.declared.command.Command.{Command}
+
+usage_answers : (words : List (List ℕ)) (input : List ℕ) (status : ℕ) (line : List ℕ) → command_of words ≡ None → IsUsage status line → Answers words input status line
+usage_answers words input status line is said = rw is (inl said)
+
+pub usage_said : (known : Option (List ℕ)) (words : List (List ℕ)) (status : ℕ) (line : List ℕ) → command_of words ≡ None
+    → IsUsage status line → IfSome known (λ all. Answers words (without_final_newline all) status line)
+usage_said None words status line other said = tt
+usage_said (Some all) words status line other said = usage_answers words (without_final_newline all) status line other said
+
+answers : (words : List (List ℕ)) (c : Command) (input : List ℕ) (status : ℕ) (line : List ℕ) → command_of words ≡ Some c → CommandAnswer c input status line → Answers words input status line
+answers words c input status line is (inl said) = rw is (inl said)
+answers words c input status line is (inr refused) = inr refused
+
+pub command_said : (known : Option (List ℕ)) (words : List (List ℕ)) (c : Command) (read input : List ℕ) (status : ℕ) (line : List ℕ) → command_of words ≡ Some c
+    → IfSome known (λ all. read ≡ all) → input ≡ without_final_newline read → CommandAnswer c input status line
+    → IfSome known (λ all. Answers words (without_final_newline all) status line)
+command_said None words c read input status line is all cut answer = tt
+command_said (Some all) words c read input status line is whole cut answer =
+    answers words c _ status line is (subst (λ r. CommandAnswer c (without_final_newline r) status line) whole (subst (λ i. CommandAnswer c i status line) cut answer))
+
+-- and what is written then
+pub wrote : (known old new : Option (List ℕ)) (words : List (List ℕ)) (status : ℕ) (line : List ℕ) → IfSome known (λ all. Answers words (without_final_newline all) status line)
+    → Appends old new (line ++ 10 ∷ []) → IfSome known (λ all. (l : List ℕ) × Appends old new (l ++ 10 ∷ []) × Answers words (without_final_newline all) status l)
+wrote None old new words status line said appended = tt
+wrote (Some all) old new words status line said appended = (line, appended, said)

@@ -1,0 +1,7 @@
+use Rattle.std.proofs.lemmas.Result.{IfOk-weaker}
+use Rattle.jwt_tool.proofs.run.header_value.Goals as goal
+
+pub returns-clause-ok : goal.returns-clause-ok
+returns-clause-ok c =
+    let read = c.in_ok-header.ensures.accepted in
+    IfOk-weaker c.to_value.result _ _ (λ v written. (read.0, read.1, rw read.2 written)) c.to_value.ensures.ok

@@ -1,0 +1,40 @@
+//! The whole input.
+
+ghost use Rattle.std.specs.Prelude.{◌≡◌, IfOk, IfSome};
+ghost use Rattle.jwt_tool.specs.Line.{without_final_newline};
+
+use crate::fault::ToolFault;
+use std::alloc::Global;
+use std::io::{ErrorKind, Read};
+
+/// At most so many calls of `read` are made.
+const READS: u32 = 16_777_216;
+
+/// The bytes, less one final newline.
+pub fn without_newline(bytes: &[u8]) -> &[u8]
+    ensures { result.now ≡ without_final_newline bytes.now }
+{
+    bytes.strip_suffix(b"\n").unwrap_or(bytes)
+}
+
+/// All that is read. A reader that has not told its end after `READS` calls is refused with `Read`, as is one that
+/// fails; a call that was interrupted is made again.
+pub fn gather<R: Read>(alloc: Global, reader: &mut R) -> Result<Vec<u8>, ToolFault>
+    ensures { IfOk result (λ input. IfSome (R.remaining reader.old) (λ all. input.items ≡ all)) }
+{
+    let mut input = Vec::new(alloc);
+    let mut buffer = [0u8; 4096];
+    'reads: for _ in 0..READS {
+        match reader.read(&mut buffer) {
+            Ok(0) => return Ok(input),
+            Ok(count) => {
+                if input.extend_from_slice(&buffer[..count]).is_err() {
+                    return Err(ToolFault::Memory);
+                }
+            }
+            Err(e) if e.kind() == ErrorKind::Interrupted => {}
+            Err(_) => return Err(ToolFault::Read),
+        }
+    }
+    Err(ToolFault::Read)
+}

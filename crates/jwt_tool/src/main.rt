@@ -1,0 +1,37 @@
+//! Answers a token on standard input with one line.
+#![tactic(auto)]
+
+mod command;
+mod fault;
+mod input;
+mod run;
+#[cfg(test)]
+mod tests;
+
+use fault::ToolFault;
+use run::run;
+use std::process::ExitCode;
+use std::rt::Runtime;
+use std::{env, io};
+
+/// The words after the program's name, and the standard streams.
+fn start<T: Runtime + AllocGlobal>(rt: &T) -> Result<u8, ToolFault> {
+    let Ok(mut words) = env::args(rt) else {
+        return Err(ToolFault::Read);
+    };
+    let _program = words.next();
+    let Ok(words) = words.collect::<Vec<String>>(rt.alloc()) else {
+        return Err(ToolFault::Memory);
+    };
+    run(rt.alloc(), &words, &mut rt.reader(), &mut io::writer(rt))
+}
+
+fn main(rt: HostRuntime) -> ExitCode {
+    match start(&rt) {
+        Ok(status) => ExitCode::from(status),
+        Err(fault) => {
+            let _ = eprintln!(rt; "{fault}");
+            ExitCode::from(3)
+        }
+    }
+}

@@ -1,0 +1,135 @@
+//! From the words and the input to the line.
+
+ghost use Rattle.std.specs.Prelude.{◌≡◌, ◌⊎◌, false, None, ◌++◌, ◌∷◌, [], ℕ, List, IfOk, IfErr, IfSome, OnOk, map, string_bytes};
+ghost use Rattle.std.specs.Io.KnownBytes.{Appends};
+ghost use Rattle.serde_json.specs.View.{view};
+ghost use Rattle.serde_json.specs.Written.{has_float, compact_text};
+ghost use Rattle.jwt_base.specs.Kind.{text_of};
+ghost use Rattle.jwt_base.specs.KindOf.{kind_of, IsMemory};
+ghost use Rattle.jsonwebtoken.specs.Tests.{FirstFailed, header_order, call_on};
+ghost use Rattle.jwt_tool.specs.Line.{Answers, CommandAnswer, HeaderAnswer, IsHeaderValue, command_of, IsUsage, without_final_newline};
+
+use crate::command::{Command, requested_command};
+use crate::fault::ToolFault;
+use crate::input::{gather, without_newline};
+use jsonwebtoken::decode_header;
+use jwt_base::errors::{Error, Result};
+use serde_json::Value;
+use std::alloc::Global;
+use std::io::{Read, Write};
+
+/// A line, and the status that goes with it.
+#[derive(Drop)]
+struct Answer {
+    status: u8,
+    line: String,
+}
+
+/// Answers the words on the input with one line, and with the status to end with: 0 for success, 1 for a refusal, 2
+/// for words that ask for nothing, whose input is not read.
+pub fn run<R: Read, W: Write>(
+    alloc: Global,
+    words: &[String],
+    reader: &mut R,
+    writer: &mut W,
+) -> std::result::Result<u8, ToolFault>
+    ensures unread { command_of (map string_bytes words.now) ≡ None → R.remaining reader.new ≡ R.remaining reader.old }
+    ensures answered { IfOk result (λ status. IfSome (R.remaining reader.old) (λ all.
+        (line : List ℕ) × Appends (W.contents writer.old) (W.contents writer.new) (line ++ 10 ∷ [])
+        × Answers (map string_bytes words.now) (without_final_newline all) status line)) }
+{
+    let answer = answer_to(alloc, words, reader)?;
+    write_line(writer, answer.line)?;
+    Ok(answer.status)
+}
+
+/// The answer to the words. The input is read only where they ask for it.
+fn answer_to<R: Read>(
+    alloc: Global,
+    words: &[String],
+    reader: &mut R,
+) -> std::result::Result<Answer, ToolFault>
+    ensures unread { command_of (map string_bytes words.now) ≡ None → R.remaining reader.new ≡ R.remaining reader.old }
+    ensures said { IfOk result (λ a. IfSome (R.remaining reader.old) (λ all.
+        Answers (map string_bytes words.now) (without_final_newline all) a.status (string_bytes a.line))) }
+{
+    let Some(command) = requested_command(words) else {
+        return usage(alloc);
+    };
+    let input = gather(alloc, reader)?;
+    command_answer(alloc, command, without_newline(&input))
+}
+
+fn usage(alloc: Global) -> std::result::Result<Answer, ToolFault>
+    ensures { IfOk result (λ a. IsUsage a.status (string_bytes a.line)) }
+{
+    match String::from_str(alloc, "usage") {
+        Ok(line) => Ok(Answer { status: 2, line }),
+        Err(_) => Err(ToolFault::Memory),
+    }
+}
+
+/// Writes a text and a newline, at once.
+fn write_line<W: Write>(writer: &mut W, mut line: String) -> std::result::Result<(), ToolFault>
+    ensures { OnOk result (Appends (W.contents writer.old) (W.contents writer.new) (string_bytes line ++ 10 ∷ [])) }
+{
+    if line.push('\n').is_err() {
+        return Err(ToolFault::Memory);
+    }
+    if writer.write_all(line.as_bytes()).is_err() || writer.flush().is_err() {
+        return Err(ToolFault::Write);
+    }
+    Ok(())
+}
+
+fn command_answer(
+    alloc: Global,
+    command: Command,
+    input: &[u8],
+) -> std::result::Result<Answer, ToolFault>
+    ensures { IfOk result (λ a. CommandAnswer command input.now a.status (string_bytes a.line)) }
+{
+    match command {
+        Command::Header => header_answer(alloc, input),
+    }
+}
+
+/// The header's JSON text, or the refusal's text.
+fn header_answer(alloc: Global, input: &[u8]) -> std::result::Result<Answer, ToolFault>
+    ensures { IfOk result (λ a. HeaderAnswer input.now a.status (string_bytes a.line)) }
+{
+    match header_value(alloc, input) {
+        Ok(value) => value_answer(alloc, &value),
+        Err(e) => refusal_answer(alloc, &e),
+    }
+}
+
+/// The value's compact JSON text.
+fn value_answer(alloc: Global, value: &Value) -> std::result::Result<Answer, ToolFault>
+    ensures { IfOk result (λ a. has_float (view value.now) ≡ false
+        → (string_bytes a.line ≡ compact_text (view value.now)) × (a.status ≡ 0)) }
+{
+    match value.to_string(alloc) {
+        Ok(line) => Ok(Answer { status: 0, line }),
+        Err(_) => Err(ToolFault::Memory),
+    }
+}
+
+/// The error's text.
+fn refusal_answer(alloc: Global, e: &Error) -> std::result::Result<Answer, ToolFault>
+    ensures { IfOk result (λ a. (string_bytes a.line ≡ text_of (kind_of e.now)) × (a.status ≡ 1)) }
+{
+    match e.to_string(alloc) {
+        Ok(line) => Ok(Answer { status: 1, line }),
+        Err(_) => Err(ToolFault::Memory),
+    }
+}
+
+fn header_value(alloc: Global, input: &[u8]) -> Result<Value>
+    ensures ok { IfOk result (λ v. IsHeaderValue input.now (view v)) }
+    ensures no_float { IfOk result (λ v. has_float (view v) ≡ false) }
+    ensures err { IfErr result (λ e. IsMemory e ⊎ FirstFailed (call_on input.now) header_order (kind_of e)) }
+{
+    let header = decode_header(alloc, input)?;
+    header.to_value(alloc)
+}
