@@ -100,7 +100,8 @@ impl Error {
         ensures held { result ≡ self.kind }
         ensures kind { kind_held result ≡ kind_of self }
     {
-        self.kind
+        let Error { kind } = self;
+        kind
     }
 
     /// A copy. The only refusal is `OutOfMemory`.
@@ -108,8 +109,7 @@ impl Error {
         ensures ok { IfOk result (λ e. kind_of e ≡ kind_of self.now) }
         ensures err { IfErr result IsMemory }
     {
-        let kind = self.kind.clone(alloc)?;
-        Ok(Error { kind })
+        Ok(new_error(self.kind.clone(alloc)?))
     }
 }
 
@@ -270,7 +270,7 @@ impl From<ErrorKind> for Error {
     ghost from_gives = { λ k e. kind_of e ≡ kind_held k };
 
     fn from(kind: ErrorKind) -> Error {
-        Error { kind }
+        new_error(kind)
     }
 }
 

@@ -58,7 +58,8 @@ impl Text {
     pub fn into_string(self) -> String
         ensures { string_bytes result ≡ self }
     {
-        self.string
+        let Text { string } = self;
+        string
     }
 }
 
@@ -132,7 +133,8 @@ impl Texts {
     pub fn into_vec(self) -> Vec<Text>
         ensures { result.items ≡ self }
     {
-        self.texts
+        let Texts { texts } = self;
+        texts
     }
 }
 
