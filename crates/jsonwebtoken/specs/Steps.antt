@@ -1,5 +1,5 @@
 -- For private clauses: what a step of a call tells of its tests.
-use Rattle.std.specs.Prelude.{◌⊎◌, ℕ, List, [], Result, Ok, Err, None}
+use Rattle.std.specs.Prelude.{◌⊎◌, ℕ, List, [], Result, Ok, Err}
 use Rattle.std.specs.Borrow.{Bor}
 use Rattle.serde_json.specs.Data.{Data, null}
 use Rattle.jwt_base.specs.Kind.{Kind}
@@ -8,7 +8,7 @@ use Rattle.jwt_base.specs.Base64Url.{IsPart}
 use Rattle.jwt_base.specs.JsonText.{IsJson}
 use Rattle.jwt_base.specs.declared.errors.Error.{Error}
 use Rattle.jwt_base.specs.declared.algorithms.Algorithm.TheVariants.{HS256}
-use Rattle.jsonwebtoken.specs.Header.{ReadsHeader}
+use Rattle.jsonwebtoken.specs.Header.{ReadsHeader, new_header}
 use Rattle.jsonwebtoken.specs.Order.{FailedAt}
 use Rattle.jsonwebtoken.specs.Tests.{Cut, IsCutOf, Call, Test, HasThreeParts, HeaderIsPart, HeaderIsJson, HeaderReads, Things, Condition, HasKind, Passes}
 use Rattle.jsonwebtoken.specs.declared.header.Header.{Header}
@@ -39,7 +39,7 @@ nothing = record {
   cut = record { header = []; payload = []; signature = [] };
   header_bytes = [];
   header_value = null;
-  header = record { alg = HS256; typ = None };
+  header = new_header HS256;
 }
 
 -- the parts that three slices hold

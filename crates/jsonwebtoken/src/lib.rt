@@ -5,6 +5,6 @@ mod decode;
 mod header;
 
 pub use decode::decode_header;
-pub use header::Header;
+pub use header::{Enc, Extras, Header, Zip};
 pub use jwt_base::algorithms::{Algorithm, AlgorithmFamily};
-pub use jwt_base::errors;
+pub use jwt_base::{errors, json};

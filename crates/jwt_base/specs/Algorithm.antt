@@ -1,5 +1,7 @@
 -- The algorithms, their names and their families.
-use Rattle.std.specs.Prelude.{◌≡◌, ℕ, List, [], ◌∷◌, Option, Some, None, Result, MatchResult, codes}
+use Rattle.std.specs.Prelude.{◌≡◌, ℕ, List, [], ◌∷◌, Option, Some, None, Result, MatchResult, option_and_then, codes}
+use Rattle.serde_json.specs.Data.{Data}
+use Rattle.serde_json.specs.Find.{as_str}
 use Rattle.jwt_base.specs.Kind as kind
 use Rattle.jwt_base.specs.KindOf.{kind_of}
 use Rattle.jwt_base.specs.Spelling.{spelled}
@@ -52,6 +54,23 @@ all_algorithms = HS256 ∷ HS384 ∷ HS512 ∷ RS256 ∷ RS384 ∷ RS512 ∷ PS2
 -- the algorithm of that name
 abbrev pub algorithm_named : List ℕ → Option Algorithm
 algorithm_named = spelled name_of all_algorithms
+
+abbrev pub family_name_of : AlgorithmFamily → List ℕ
+family_name_of Hmac = codes "Hmac"
+family_name_of Rsa = codes "Rsa"
+family_name_of Ec = codes "Ec"
+family_name_of Ed = codes "Ed"
+
+-- the family of that name
+abbrev pub family_named : List ℕ → Option AlgorithmFamily
+family_named = spelled family_name_of (Hmac ∷ Rsa ∷ Ec ∷ Ed ∷ [])
+
+-- the algorithm, the family that a JSON value names
+abbrev pub algorithm_from : Data → Option Algorithm
+algorithm_from d = option_and_then algorithm_named (as_str d)
+
+abbrev pub family_from : Data → Option AlgorithmFamily
+family_from d = option_and_then family_named (as_str d)
 
 -- what a text is read as: what has that name, else `InvalidAlgorithmName`
 abbrev pub ReadsName : {A : Type 0} → (List ℕ → Option A) → List ℕ → Result A Error → Type 0

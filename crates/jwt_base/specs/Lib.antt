@@ -7,3 +7,9 @@ pub mod Spelling
 pub mod Algorithm
 pub mod Base64Url
 pub mod JsonText
+pub mod DataCode
+pub mod DataEq
+pub mod DataEqLaws
+pub mod NamesFed
+pub mod Members
+pub mod Claims

@@ -1,10 +1,16 @@
 //! The names of the algorithms, and the families that their keys belong to.
 
-ghost use Rattle.std.specs.Prelude.{◌≡◌};
-ghost use Rattle.jwt_base.specs.Algorithm.{name_of, family_of, algorithms_of, algorithm_named, ReadsName, key_algorithm_of, ConvertsKeyAlgorithm, key_algorithm_named, key_text_of};
+ghost use Rattle.std.specs.Prelude.{◌≡◌, Some, None, IfOk, IfErr};
+ghost use Rattle.serde_json.specs.Data.{string};
+ghost use Rattle.serde_json.specs.View.{view};
+ghost use Rattle.jwt_base.specs.Kind as kind;
+ghost use Rattle.jwt_base.specs.KindOf.{kind_of, IsMemory};
+ghost use Rattle.jwt_base.specs.Algorithm.{name_of, family_of, algorithms_of, algorithm_named, family_name_of, family_named, algorithm_from, family_from, ReadsName, key_algorithm_of, ConvertsKeyAlgorithm, key_algorithm_named, key_text_of};
 ghost use Rattle.jwt_base.specs.declared.algorithms.Algorithm.TheVariants.{HS256};
 
 use crate::errors::{Error, ErrorKind, Result, new_error};
+use serde_json::Value;
+use std::alloc::Global;
 use std::fmt;
 use std::str::FromStr;
 
@@ -39,6 +45,50 @@ impl AlgorithmFamily {
             AlgorithmFamily::Ec => &[Algorithm::ES256, Algorithm::ES384],
             AlgorithmFamily::Ed => &[Algorithm::EdDSA],
         }
+    }
+
+    // The name in JSON.
+    fn name(self) -> &'static str
+        ensures { result.now ≡ family_name_of self }
+    {
+        match self {
+            AlgorithmFamily::Hmac => "Hmac",
+            AlgorithmFamily::Rsa => "Rsa",
+            AlgorithmFamily::Ec => "Ec",
+            AlgorithmFamily::Ed => "Ed",
+        }
+    }
+
+    /// The name as a JSON text. The only refusal is `OutOfMemory`.
+    pub fn to_value(&self, alloc: Global) -> Result<Value>
+        ensures ok { IfOk result (λ v. view v ≡ string (family_name_of self.now)) }
+        ensures reads_back { IfOk result (λ v. family_from (view v) ≡ Some self.now) }
+        ensures err { IfErr result IsMemory }
+    {
+        Ok(Value::try_from_str(alloc, self.name())?)
+    }
+
+    /// The family of that name. A value that is none of the four names is refused with `Json`.
+    pub fn from_value(value: &Value) -> Result<AlgorithmFamily>
+        ensures ok { IfOk result (λ f. family_from (view value.now) ≡ Some f) }
+        ensures err { IfErr result (λ e. (kind_of e ≡ kind.Json) × (family_from (view value.now) ≡ None)) }
+    {
+        match value.as_str().and_then(family_of_name) {
+            Some(family) => Ok(family),
+            None => Err(new_error(ErrorKind::Json)),
+        }
+    }
+}
+
+fn family_of_name(name: &str) -> Option<AlgorithmFamily>
+    ensures { result ≡ family_named name.now }
+{
+    match name {
+        "Hmac" => Some(AlgorithmFamily::Hmac),
+        "Rsa" => Some(AlgorithmFamily::Rsa),
+        "Ec" => Some(AlgorithmFamily::Ec),
+        "Ed" => Some(AlgorithmFamily::Ed),
+        _ => None,
     }
 }
 
@@ -106,6 +156,26 @@ impl Algorithm {
             | Algorithm::PS512 => AlgorithmFamily::Rsa,
             Algorithm::ES256 | Algorithm::ES384 => AlgorithmFamily::Ec,
             Algorithm::EdDSA => AlgorithmFamily::Ed,
+        }
+    }
+
+    /// The name as a JSON text. The only refusal is `OutOfMemory`.
+    pub fn to_value(&self, alloc: Global) -> Result<Value>
+        ensures ok { IfOk result (λ v. view v ≡ string (name_of self.now)) }
+        ensures reads_back { IfOk result (λ v. algorithm_from (view v) ≡ Some self.now) }
+        ensures err { IfErr result IsMemory }
+    {
+        Ok(Value::try_from_str(alloc, self.name())?)
+    }
+
+    /// The algorithm of that name. A value that is none of the twelve names is refused with `Json`.
+    pub fn from_value(value: &Value) -> Result<Algorithm>
+        ensures ok { IfOk result (λ a. algorithm_from (view value.now) ≡ Some a) }
+        ensures err { IfErr result (λ e. (kind_of e ≡ kind.Json) × (algorithm_from (view value.now) ≡ None)) }
+    {
+        match value.as_str().and_then(algorithm_of_name) {
+            Some(algorithm) => Ok(algorithm),
+            None => Err(new_error(ErrorKind::Json)),
         }
     }
 }

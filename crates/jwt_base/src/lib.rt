@@ -4,5 +4,6 @@
 
 pub mod algorithms;
 pub mod errors;
+pub mod json;
 pub mod serialization;
 pub mod text;

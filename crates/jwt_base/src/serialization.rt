@@ -5,11 +5,11 @@ ghost use Rattle.serde_json.specs.Data.{Data};
 ghost use Rattle.serde_json.specs.View.{view};
 ghost use Rattle.jwt_base.specs.Kind as kind;
 ghost use Rattle.jwt_base.specs.KindOf.{IsMemory, RefusesAs};
-ghost use Rattle.jwt_base.specs.Base64Url.{IsPart};
+ghost use Rattle.jwt_base.specs.Base64Url.{IsPart, IsStandardText, IsUrlText};
 ghost use Rattle.jwt_base.specs.JsonText.{IsJson};
 
 use crate::errors::Result;
-use base64::engine::general_purpose::URL_SAFE_NO_PAD;
+use base64::engine::general_purpose::{STANDARD, URL_SAFE, URL_SAFE_NO_PAD};
 use serde_json::Value;
 use std::alloc::Global;
 
@@ -28,6 +28,23 @@ pub fn part_text(alloc: Global, bytes: &[u8]) -> Result<String>
     ensures err { IfErr result IsMemory }
 {
     Ok(URL_SAFE_NO_PAD.encode(alloc, bytes)?)
+}
+
+/// The bytes of a text in the standard alphabet with padding (RFC 4648 section 4). Any other text is refused with
+/// `Base64`.
+pub fn standard_bytes(alloc: Global, text: &[u8]) -> Result<Vec<u8>>
+    ensures ok { IfOk result (λ b. IsStandardText text.now b.items) }
+    ensures err { IfErr result (RefusesAs kind.Base64 ((b : List ℕ) → ¬ IsStandardText text.now b)) }
+{
+    Ok(STANDARD.decode(alloc, text)?)
+}
+
+/// The bytes of a text in the URL alphabet with padding (RFC 4648 section 5). Any other text is refused with `Base64`.
+pub fn url_bytes(alloc: Global, text: &[u8]) -> Result<Vec<u8>>
+    ensures ok { IfOk result (λ b. IsUrlText text.now b.items) }
+    ensures err { IfErr result (RefusesAs kind.Base64 ((b : List ℕ) → ¬ IsUrlText text.now b)) }
+{
+    Ok(URL_SAFE.decode(alloc, text)?)
 }
 
 /// The value of JSON bytes. Bytes that are no UTF-8 or no JSON, or that nest deeper than 127 levels, are refused with

@@ -6,6 +6,10 @@ mod algorithm_names;
 #[cfg(test)]
 mod errors;
 #[cfg(test)]
+mod headers;
+#[cfg(test)]
+mod json_values;
+#[cfg(test)]
 mod token_headers;
 #[cfg(test)]
 mod token_parts;

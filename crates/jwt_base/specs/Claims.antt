@@ -1,0 +1,25 @@
+-- What claims values of the plain types are read from.
+use Rattle.std.specs.Prelude.{◌≡◌, ℕ, ◌<◌, ◌^◌, List, Bool, ℤ, pos, Some, option_and_then, FitsSigned}
+use Rattle.std.specs.Int.{Width}
+use Rattle.serde_json.specs.Data.{Data}
+use Rattle.serde_json.specs.Find.{as_str, as_bool, as_number, as_integer}
+
+-- the value is this text
+abbrev pub IsText : Data → List ℕ → Type 0
+IsText d s = as_str d ≡ Some s
+
+-- the value is this truth value
+abbrev pub IsTruth : Data → Bool → Type 0
+IsTruth d b = as_bool d ≡ Some b
+
+-- the value is this whole number
+abbrev pub IsWhole : Data → ℤ → Type 0
+IsWhole d z = option_and_then as_integer (as_number d) ≡ Some z
+
+-- the value is this whole number, and it is below 2 to that power
+abbrev pub IsUnsigned : ℕ → Data → ℕ → Type 0
+IsUnsigned bits d n = (n < 2 ^ bits) × IsWhole d (pos n)
+
+-- the value is this whole number, and it is in the range of signed integers of that width
+abbrev pub IsSigned : Width → Data → ℤ → Type 0
+IsSigned width d z = FitsSigned width z × IsWhole d z

@@ -1,0 +1,47 @@
+-- The members of a JSON object: what each reads as, and what is written of them.
+use Rattle.std.specs.Prelude.{◌≡◌, false, ℕ, List, [], ◌∷◌, ◌||◌, Bool, Option, Some, None, option_map, option_and_then, map, is_some, if◌then◌else◌}
+use Rattle.std.specs.Str.{bytes_eq}
+use Rattle.std.specs.List.{list_any}
+use Rattle.serde_json.specs.Data.{Data, string, array, Items, no_items, item, Members, no_members, member, put}
+use Rattle.serde_json.specs.View.{items_of}
+use Rattle.serde_json.specs.Find.{as_null, as_str, as_array}
+
+-- an optional member: where it is absent or null, nothing is read
+abbrev pub optional : {A : Type 0} → (Data → Option A) → Option Data → Option (Option A)
+optional reader None = Some None
+optional reader (Some d) = if is_some (as_null d) then Some None else option_map Some (reader d)
+
+-- the texts of a list that has nothing else
+abbrev pub item_texts : Items → Option (List (List ℕ))
+item_texts no_items = Some []
+item_texts (item d ds) = option_and_then (λ s. option_map (λ ss. s ∷ ss) (item_texts ds)) (as_str d)
+
+abbrev pub texts : Data → Option (List (List ℕ))
+texts d = option_and_then item_texts (as_array d)
+
+abbrev pub texts_value : List (List ℕ) → Data
+texts_value ss = array (items_of (map string ss))
+
+abbrev pub is_named : List (List ℕ) → List ℕ → Bool
+is_named names k = list_any (bytes_eq k) names
+
+-- the members under other names
+abbrev pub without : List (List ℕ) → Members → Members
+without names no_members = no_members
+without names (member k d ms) = if is_named names k then without names ms else member k d (without names ms)
+
+-- whether a member has one of the names
+abbrev pub has_named : List (List ℕ) → Members → Bool
+has_named names no_members = false
+has_named names (member k d ms) = is_named names k || has_named names ms
+
+-- the members, with d at k where there is a d
+abbrev pub put_some : List ℕ → Option Data → Members → Members
+put_some k None ms = ms
+put_some k (Some d) ms = put k d ms
+
+-- what R reads of a member, where there is one
+abbrev pub ReadsMember : {A : Type 0} → (Data → A → Type 0) → Option Data → Option A → Type 0
+ReadsMember R None a = a ≡ None
+ReadsMember R (Some d) None = ⊥
+ReadsMember R (Some d) (Some a) = R d a

@@ -1,0 +1,199 @@
+//! Values that are read from JSON and written as JSON.
+
+ghost use Rattle.std.specs.Prelude.{◌≡◌, Option, Some, None, IfOk, IfErr, option_map, string_bytes};
+ghost use Rattle.std.proofs.Common.{◌∙◌, sym, ap, rules};
+ghost use Rattle.std.specs.Int.{w32, w64};
+ghost use Rattle.serde_json.specs.Data.{Data, boolean, string, number, unsigned};
+ghost use Rattle.serde_json.specs.Find.{of_integer};
+ghost use Rattle.serde_json.specs.View.{view};
+ghost use Rattle.jwt_base.specs.Kind as kind;
+ghost use Rattle.jwt_base.specs.KindOf.{IsMemory, RefusesAs};
+ghost use Rattle.jwt_base.specs.Claims.{IsText, IsTruth, IsUnsigned, IsSigned};
+
+use crate::errors::{ErrorKind, Result, new_error};
+use serde_json::Value;
+use std::alloc::Global;
+
+/// Values that are read from JSON and written as JSON, as the claims of a token. Both answers are a matter of the value
+/// alone, but for `OutOfMemory`.
+pub trait Claims: Sized + Drop {
+    /// It is read from this JSON value.
+    ghost reads: { Data → Self → Type 0 };
+
+    /// The JSON value that it is written as, if it can be written.
+    ghost written: { Self → Option Data };
+
+    /// The JSON value. One that cannot be written is refused with `Json`.
+    fn to_value(&self, alloc: Global) -> Result<Value>
+        ensures ok { IfOk result (λ v. written self.now ≡ Some (view v)) }
+        ensures err { IfErr result (RefusesAs kind.Json (written self.now ≡ None)) };
+
+    /// What is read from the JSON value. Where there is nothing to be read, the refusal is `Json`.
+    fn from_value(alloc: Global, value: &Value) -> Result<Self>
+        ensures ok { IfOk result (λ c. reads (view value.now) c) }
+        ensures err { IfErr result (RefusesAs kind.Json ((c : Self) → ¬ reads (view value.now) c)) };
+
+    /// What is read from one value is written alike.
+    ghost decided: { (d : Data) (b c : Self) → reads d b → reads d c → written b ≡ written c };
+}
+
+/// A copy.
+impl Claims for Value {
+    ghost reads = { λ d v. view v ≡ d };
+
+    ghost written = { λ v. Some (view v) };
+
+    fn to_value(&self, _alloc: Global) -> Result<Value> {
+        Ok(self.clone()?)
+    }
+
+    fn from_value(_alloc: Global, value: &Value) -> Result<Value> {
+        Ok(value.clone()?)
+    }
+
+    ghost decided = { λ d b c p q. ap Some (p ∙ sym q) };
+}
+
+/// A text.
+impl Claims for String {
+    ghost reads = { λ d s. IsText d (string_bytes s) };
+
+    ghost written = { λ s. Some (string (string_bytes s)) };
+
+    fn to_value(&self, _alloc: Global) -> Result<Value>
+        ensures ok { IfOk result (λ v. Some (string (string_bytes self.now)) ≡ Some (view v)) }
+        ensures reads_back { IfOk result (λ v. IsText (view v) (string_bytes self.now)) }
+        ensures err { IfErr result IsMemory }
+    {
+        Ok(Value::String(self.clone()?))
+    }
+
+    fn from_value(alloc: Global, value: &Value) -> Result<String> {
+        match value.as_str() {
+            Some(text) => Ok(String::from_str(alloc, text)?),
+            None => Err(new_error(ErrorKind::Json)),
+        }
+    }
+
+    ghost decided = { λ d b c p q. ap (option_map string) (sym p ∙ q) };
+}
+
+/// A truth value.
+impl Claims for bool {
+    ghost reads = { IsTruth };
+
+    ghost written = { λ b. Some (boolean b) };
+
+    fn to_value(&self, _alloc: Global) -> Result<Value>
+        ensures ok { IfOk result (λ v. Some (boolean self.now) ≡ Some (view v)) }
+        ensures reads_back { IfOk result (λ v. IsTruth (view v) self.now) }
+        ensures err { IfErr result (λ _. ⊥) }
+    {
+        Ok(Value::Bool(*self))
+    }
+
+    fn from_value(_alloc: Global, value: &Value) -> Result<bool> {
+        match value.as_bool() {
+            Some(truth) => Ok(truth),
+            None => Err(new_error(ErrorKind::Json)),
+        }
+    }
+
+    ghost decided = { Prim.search rules };
+}
+
+/// A whole number in the type's range.
+impl Claims for u32 {
+    ghost reads = { IsUnsigned 32 };
+
+    ghost written = { λ n. Some (number (unsigned n)) };
+
+    fn to_value(&self, _alloc: Global) -> Result<Value>
+        ensures ok { IfOk result (λ v. Some (number (unsigned self.now)) ≡ Some (view v)) }
+        ensures reads_back { IfOk result (λ v. IsUnsigned 32 (view v) self.now) }
+        ensures err { IfErr result (λ _. ⊥) }
+    {
+        Ok(Value::from(*self))
+    }
+
+    fn from_value(_alloc: Global, value: &Value) -> Result<u32> {
+        match value.as_u64() {
+            Some(n) if n <= 0xffff_ffff => Ok(n as u32),
+            _ => Err(new_error(ErrorKind::Json)),
+        }
+    }
+
+    ghost decided = { Prim.search rules };
+}
+
+/// A whole number in the type's range.
+impl Claims for u64 {
+    ghost reads = { IsUnsigned 64 };
+
+    ghost written = { λ n. Some (number (unsigned n)) };
+
+    fn to_value(&self, _alloc: Global) -> Result<Value>
+        ensures ok { IfOk result (λ v. Some (number (unsigned self.now)) ≡ Some (view v)) }
+        ensures reads_back { IfOk result (λ v. IsUnsigned 64 (view v) self.now) }
+        ensures err { IfErr result (λ _. ⊥) }
+    {
+        Ok(Value::from(*self))
+    }
+
+    fn from_value(_alloc: Global, value: &Value) -> Result<u64> {
+        match value.as_u64() {
+            Some(n) => Ok(n),
+            None => Err(new_error(ErrorKind::Json)),
+        }
+    }
+
+    ghost decided = { Prim.search rules };
+}
+
+/// A whole number in the type's range.
+impl Claims for i32 {
+    ghost reads = { IsSigned w32 };
+
+    ghost written = { λ z. Some (number (of_integer z)) };
+
+    fn to_value(&self, _alloc: Global) -> Result<Value>
+        ensures ok { IfOk result (λ v. Some (number (of_integer self.now)) ≡ Some (view v)) }
+        ensures reads_back { IfOk result (λ v. IsSigned w32 (view v) self.now) }
+        ensures err { IfErr result (λ _. ⊥) }
+    {
+        Ok(Value::from(*self))
+    }
+
+    fn from_value(_alloc: Global, value: &Value) -> Result<i32> {
+        match value.as_i64() {
+            Some(z) if -0x8000_0000 <= z && z <= 0x7fff_ffff => Ok(z as i32),
+            _ => Err(new_error(ErrorKind::Json)),
+        }
+    }
+
+    ghost decided = { Prim.search rules };
+}
+
+/// A whole number in the type's range.
+impl Claims for i64 {
+    ghost reads = { IsSigned w64 };
+
+    ghost written = { λ z. Some (number (of_integer z)) };
+
+    fn to_value(&self, _alloc: Global) -> Result<Value>
+        ensures ok { IfOk result (λ v. Some (number (of_integer self.now)) ≡ Some (view v)) }
+        ensures reads_back { IfOk result (λ v. IsSigned w64 (view v) self.now) }
+        ensures err { IfErr result (λ _. ⊥) }
+    {
+        Ok(Value::from(*self))
+    }
+
+    fn from_value(_alloc: Global, value: &Value) -> Result<i64> {
+        match value.as_i64() {
+            Some(z) => Ok(z),
+            None => Err(new_error(ErrorKind::Json)),
+        }
+    }
+
+    ghost decided = { Prim.search rules };
+}

@@ -1,0 +1,141 @@
+//! The members of a JSON object, one by one.
+
+ghost use Rattle.std.specs.Prelude.{◌≡◌, Some, None, IfOk, IfErr, OnOk, OnErr, option_map};
+ghost use Rattle.serde_json.specs.Find.{get, as_str};
+ghost use Rattle.serde_json.specs.Data.{string, put};
+ghost use Rattle.serde_json.specs.View.{view, members_view};
+ghost use Rattle.jwt_base.specs.Kind as kind;
+ghost use Rattle.jwt_base.specs.KindOf.{IsMemory, RefusesAs};
+ghost use Rattle.jwt_base.specs.Members.{optional, texts, put_some, texts_value};
+
+use crate::errors::{ErrorKind, Result, new_error};
+use crate::text::{Text, Texts};
+use serde_json::{Map, Value};
+use std::alloc::Global;
+
+/// The text at an optional member: none where the member is absent or null. A member of another type is refused with
+/// `Json`.
+pub fn optional_text(alloc: Global, value: &Value, name: &str) -> Result<Option<Text>>
+    ensures ok { IfOk result (λ t. optional as_str (get name.now (view value.now)) ≡ Some t) }
+    ensures err { IfErr result
+        (RefusesAs kind.Json (optional as_str (get name.now (view value.now)) ≡ None)) }
+{
+    match value.get(name) {
+        None => Ok(None),
+        Some(member) if member.is_null() => Ok(None),
+        Some(member) => match member.as_str() {
+            Some(text) => Ok(Some(Text::from_str(alloc, text)?)),
+            None => Err(new_error(ErrorKind::Json)),
+        },
+    }
+}
+
+/// The list of texts at an optional member: none where the member is absent or null. Anything else is refused with
+/// `Json`.
+pub fn optional_texts(alloc: Global, value: &Value, name: &str) -> Result<Option<Texts>>
+    ensures ok { IfOk result (λ t. optional texts (get name.now (view value.now)) ≡ Some t) }
+    ensures err { IfErr result
+        (RefusesAs kind.Json (optional texts (get name.now (view value.now)) ≡ None)) }
+{
+    match value.get(name) {
+        None => Ok(None),
+        Some(member) if member.is_null() => Ok(None),
+        Some(member) => Ok(Some(read_texts(alloc, member)?)),
+    }
+}
+
+/// A list of texts. Any other value is refused with `Json`.
+pub fn read_texts(alloc: Global, value: &Value) -> Result<Texts>
+    ensures ok { IfOk result (λ t. texts (view value.now) ≡ Some t) }
+    ensures err { IfErr result (RefusesAs kind.Json (texts (view value.now) ≡ None)) }
+{
+    let Some(items) = value.as_array() else {
+        return Err(new_error(ErrorKind::Json));
+    };
+    let mut texts = Vec::new(alloc);
+    for item in items {
+        let Some(text) = item.as_str() else {
+            return Err(new_error(ErrorKind::Json));
+        };
+        texts.push(Text::from_str(alloc, text)?)?;
+    }
+    Ok(Texts::from(texts))
+}
+
+/// The texts as a JSON list. The only refusal is `OutOfMemory`.
+pub fn write_texts(alloc: Global, texts: &Texts) -> Result<Value>
+    ensures ok { IfOk result (λ v. view v ≡ texts_value texts.now) }
+    ensures err { IfErr result IsMemory }
+{
+    let mut items = Vec::new(alloc);
+    for text in texts.as_slice() {
+        items.push(Value::try_from_str(alloc, text.as_str())?)?;
+    }
+    Ok(Value::Array(items))
+}
+
+/// Puts the text at the name. The only refusal is `OutOfMemory`.
+pub fn put_text(
+    alloc: Global,
+    members: &mut Map<String, Value>,
+    name: &str,
+    text: &str,
+) -> Result<()>
+    ensures ok { OnOk result (members_view members.new.entries
+        ≡ put name.now (string text.now) (members_view members.old.entries)) }
+    ensures err { IfErr result IsMemory }
+    ensures unchanged { OnErr result (members.new.entries ≡ members.old.entries) }
+{
+    let value = Value::try_from_str(alloc, text)?;
+    serde_json::put(members, alloc, name, value)?;
+    Ok(())
+}
+
+/// Puts the text at the name, where there is one. The only refusal is `OutOfMemory`.
+pub fn put_optional_text(
+    alloc: Global,
+    members: &mut Map<String, Value>,
+    name: &str,
+    text: &Option<Text>,
+) -> Result<()>
+    ensures ok { OnOk result (members_view members.new.entries
+        ≡ put_some name.now (option_map string text.now) (members_view members.old.entries)) }
+    ensures err { IfErr result IsMemory }
+    ensures unchanged { OnErr result (members.new.entries ≡ members.old.entries) }
+{
+    match text {
+        Some(text) => put_text(alloc, members, name, text.as_str()),
+        None => Ok(()),
+    }
+}
+
+/// Puts the list at the name, where there is one. The only refusal is `OutOfMemory`.
+pub fn put_optional_texts(
+    alloc: Global,
+    members: &mut Map<String, Value>,
+    name: &str,
+    texts: &Option<Texts>,
+) -> Result<()>
+    ensures ok { OnOk result (members_view members.new.entries
+        ≡ put_some name.now (option_map texts_value texts.now) (members_view members.old.entries)) }
+    ensures err { IfErr result IsMemory }
+    ensures unchanged { OnErr result (members.new.entries ≡ members.old.entries) }
+{
+    match texts {
+        Some(texts) => {
+            let value = write_texts(alloc, texts)?;
+            serde_json::put(members, alloc, name, value)?;
+            Ok(())
+        }
+        None => Ok(()),
+    }
+}
+
+/// A copy of the members. The only refusal is `OutOfMemory`.
+pub fn clone_members(members: &Map<String, Value>) -> Result<Map<String, Value>>
+    ensures ok { IfOk result (λ m. members_view m.entries ≡ members_view members.now.entries) }
+    ensures err { IfErr result IsMemory }
+{
+    let copy = members.clone()?;
+    Ok(copy)
+}
