@@ -3,6 +3,7 @@ pub mod Engine
 pub mod Exits
 pub mod FreeExtras
 pub mod HeaderLemmas
+pub mod HmacMasks
 pub mod OneCut
 pub mod Orders
 pub mod Unreadable

@@ -4,6 +4,9 @@ pub mod Extras
 pub mod Header
 pub mod HeaderSame
 pub mod HeaderWritten
+pub mod Hmac
+pub mod HmacFamilies
+pub mod HmacKeys
 pub mod NamesSame
 pub mod Order
 pub mod Steps
@@ -16,3 +19,5 @@ pub use Rattle.jwt_base.specs.Base64Url
 pub use Rattle.jwt_base.specs.Claims
 pub use Rattle.jwt_base.specs.JsonText
 pub use Rattle.jwt_base.specs.Members
+pub use Rattle.jwt_keys.specs.Key
+pub use Rattle.jwt_keys.specs.Provider

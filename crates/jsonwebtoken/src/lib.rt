@@ -1,6 +1,7 @@
 //! JSON Web Tokens (RFC 7519) in their compact form (RFC 7515).
 #![tactic(auto)]
 
+pub mod crypto;
 mod decode;
 mod header;
 
@@ -8,3 +9,5 @@ pub use decode::decode_header;
 pub use header::{Enc, Extras, Header, Zip};
 pub use jwt_base::algorithms::{Algorithm, AlgorithmFamily};
 pub use jwt_base::{errors, json};
+pub use jwt_keys::decoding::{DecodingKey, DecodingKeyKind};
+pub use jwt_keys::encoding::EncodingKey;

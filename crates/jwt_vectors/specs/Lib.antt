@@ -1,0 +1,6 @@
+pub mod Families
+pub mod Table
+pub use Rattle.jwt_base.specs.Kind
+pub use Rattle.jwt_base.specs.KindOf
+pub use Rattle.jwt_base.specs.Algorithm
+pub use Rattle.jwt_keys.specs.Key

@@ -1,0 +1,12 @@
+//! Providers of signatures for the tests: one that looks signatures up in a table, one that accepts every signature, and
+//! one that refuses every call.
+
+mod closed;
+mod no;
+mod table;
+mod yes;
+
+pub use closed::{NoSigner, NoVerifier};
+pub use no::NoProvider;
+pub use table::{Row, TableProvider, TableSigner, TableVerifier};
+pub use yes::{YesProvider, YesVerifier};

@@ -1,0 +1,86 @@
+//! A provider that refuses every call.
+
+ghost use Rattle.std.specs.Prelude.{◌≡◌, ℕ, List, Option, Err, None, Some, codes};
+ghost use Rattle.jwt_vectors.specs.Families.{never_made};
+ghost use Rattle.jwt_base.specs.Kind as kind;
+
+use super::closed::{NoSigner, NoVerifier, closed};
+use jsonwebtoken::crypto::CryptoProvider;
+use jwt_base::algorithms::Algorithm;
+use jwt_base::errors::Result;
+use jwt_keys::decoding::DecodingKey;
+use jwt_keys::encoding::EncodingKey;
+use jwt_params::curves::EllipticCurve;
+use jwt_params::thumbprints::ThumbprintHash;
+use std::alloc::Global;
+
+/// Refuses every call with `Provider("closed")`.
+#[derive(Debug, Clone, Copy)]
+pub struct NoProvider;
+
+impl CryptoProvider for NoProvider {
+    type Signer = NoSigner;
+    type Verifier = NoVerifier;
+
+    ghost signer_refusal = { λ _ a k. Some (kind.Provider (codes "closed")) };
+
+    ghost verifier_refusal = { λ _ a k. Some (kind.Provider (codes "closed")) };
+
+    ghost sign_refusal = { λ _ a k m. None };
+
+    ghost signs = { λ _ a k m s. ⊥ };
+
+    ghost accepts = { λ _ a k m s. ⊥ };
+
+    ghost is_sparing = { λ _. ⊥ };
+
+    ghost rsa_private_components = { λ _ der. Err (kind.Provider (codes "closed")) };
+
+    ghost rsa_public_components = { λ _ der. Err (kind.Provider (codes "closed")) };
+
+    ghost ec_components = { λ _ der a. Err (kind.Provider (codes "closed")) };
+
+    ghost ed_component = { λ _ der c. Err (kind.Provider (codes "closed")) };
+
+    ghost digest = { λ _ h bytes. Err (kind.Provider (codes "closed")) };
+
+    fn signer_factory(&self, alloc: Global, _algorithm: &Algorithm, _key: &EncodingKey) -> Result<NoSigner> {
+        Err(closed(alloc))
+    }
+
+    fn verifier_factory(&self, alloc: Global, _algorithm: &Algorithm, _key: &DecodingKey) -> Result<NoVerifier> {
+        Err(closed(alloc))
+    }
+
+    fn rsa_pub_components_from_private_key(&self, alloc: Global, _der: &[u8]) -> Result<(Vec<u8>, Vec<u8>)> {
+        Err(closed(alloc))
+    }
+
+    fn rsa_pub_components_from_public_key(&self, alloc: Global, _der: &[u8]) -> Result<(Vec<u8>, Vec<u8>)> {
+        Err(closed(alloc))
+    }
+
+    fn ec_pub_components_from_private_key(
+        &self,
+        alloc: Global,
+        _der: &[u8],
+        _algorithm: Algorithm,
+    ) -> Result<(EllipticCurve, Vec<u8>, Vec<u8>)> {
+        Err(closed(alloc))
+    }
+
+    fn ed_pub_components_from_private_key(
+        &self,
+        alloc: Global,
+        _der: &[u8],
+        _curve: &EllipticCurve,
+    ) -> Result<Vec<u8>> {
+        Err(closed(alloc))
+    }
+
+    fn compute_digest(&self, alloc: Global, _bytes: &[u8], _hash: ThumbprintHash) -> Result<Vec<u8>> {
+        Err(closed(alloc))
+    }
+
+    ghost same_family = { λ _ a k h. never_made h };
+}
