@@ -1,9 +1,12 @@
+pub mod ClaimRuleLemmas
 pub mod Each
 pub mod Engine
 pub mod Exits
 pub mod FreeExtras
 pub mod HeaderLemmas
 pub mod HmacMasks
+pub mod NamePlaces
 pub mod OneCut
 pub mod Orders
+pub mod TextsAmong
 pub mod Unreadable

@@ -1,4 +1,7 @@
 pub mod Certificates
+pub mod Claim
+pub mod ClaimRules
+pub mod ClaimsSeen
 pub mod Enc
 pub mod Extras
 pub mod Header
@@ -7,10 +10,14 @@ pub mod HeaderWritten
 pub mod Hmac
 pub mod HmacFamilies
 pub mod HmacKeys
+pub mod Moments
 pub mod NamesSame
+pub mod Options
+pub mod OptionsOf
 pub mod Order
 pub mod Steps
 pub mod Tests
+pub mod ValidationEq
 pub mod Zip
 pub use Rattle.jwt_base.specs.Kind
 pub use Rattle.jwt_base.specs.KindOf

@@ -4,6 +4,7 @@
 pub mod crypto;
 mod decode;
 mod header;
+mod validation;
 
 pub use decode::decode_header;
 pub use header::{Enc, Extras, Header, Zip};
@@ -11,3 +12,4 @@ pub use jwt_base::algorithms::{Algorithm, AlgorithmFamily};
 pub use jwt_base::{errors, json};
 pub use jwt_keys::decoding::{DecodingKey, DecodingKeyKind};
 pub use jwt_keys::encoding::EncodingKey;
+pub use validation::{Clock, Validation, get_current_timestamp, validate};

@@ -1,0 +1,49 @@
+-- What a token is checked against, with sets of texts as tests of texts.
+use Rattle.std.specs.Prelude.{ℕ, List, Bool, true, false, Option, None, unwrap_or, codes}
+use Rattle.std.specs.List.{list_any}
+use Rattle.std.specs.Str.{bytes_eq}
+use Rattle.jwt_base.specs.declared.algorithms.Algorithm.{Algorithm}
+
+-- a set of texts
+abbrev pub Texts : Type 0
+Texts = List ℕ → Bool
+
+pub record Options : Type 0 where
+  pub required : Texts
+  pub leeway : ℕ
+  pub reject : ℕ
+  pub checks_exp : Bool
+  pub checks_nbf : Bool
+  pub checks_aud : Bool
+  pub aud : Option Texts
+  pub iss : Option Texts
+  pub sub : Option (List ℕ)
+  pub algorithms : List Algorithm
+  pub understood : Texts
+
+abbrev pub no_texts : Texts
+no_texts _ = false
+
+-- the set of what a list's items have for texts
+abbrev pub among : {A : Type 0} → (A → List ℕ) → List A → Texts
+among text items t = list_any (λ a. bytes_eq (text a) t) items
+
+-- the configured audience, of which none counts as empty
+abbrev pub audience : Options → Texts
+audience v = unwrap_or v.aud no_texts
+
+-- what is checked at first
+abbrev pub default_options : List Algorithm → Options
+default_options algorithms = record {
+  required = bytes_eq (codes "exp");
+  leeway = 60;
+  reject = 0;
+  checks_exp = true;
+  checks_nbf = false;
+  checks_aud = true;
+  aud = None;
+  iss = None;
+  sub = None;
+  algorithms = algorithms;
+  understood = no_texts;
+}
