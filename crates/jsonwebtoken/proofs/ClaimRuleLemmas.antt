@@ -52,7 +52,8 @@ pub within : (v : Options) (d : Data) (now : ℕ) → now ≤ end_of_time → Ru
 within v d now m a = (
   record { required = a.required; timeless = λ r t n. any_moment v (claims_of d) r t now n (a.rules r) },
   nbf_from v.checks_nbf (claims_of d).nbf v.leeway now (a.rules NbfTime),
-  exp_until v.checks_exp (claims_of d).exp v.leeway v.reject now m (a.rules ExpTime))
+  exp_until v.checks_exp (claims_of d).exp v.leeway v.reject now m (a.rules ExpTime),
+)
 
 rules_within : (v : Options) (d : Data) (now : ℕ) → RulesOfNoMoment v d → first_moment v (claims_of d) ≤ now → now ≤ last_moment v (claims_of d) → (r : Rule) → Holds v (claims_of d) now r
 rules_within v d now w lo hi ExpFormat = w.timeless ExpFormat tt now

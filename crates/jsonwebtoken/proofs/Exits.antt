@@ -1,24 +1,27 @@
 -- The exits by `?`, and the last call.
-use Rattle.std.proofs.Common.{◌⊎◌, List, [], ◌∷◌, ◌++◌, drop, length, ◌+◌, inl, inr, Result, Ok, Err, IfOk, IfErr}
+use Rattle.std.proofs.Common.{◌⊎◌, ◌↔◌, ℕ, List, [], ◌∷◌, ◌++◌, drop, length, ◌+◌, inl, inr, Result, Ok, Err, IfOk, IfErr}
 use Rattle.jwt_base.specs.Kind.{Kind}
 use Rattle.jwt_base.specs.KindOf.{kind_of, IsMemory}
 use Rattle.jwt_base.specs.declared.errors.Error.{Error}
-use Rattle.jsonwebtoken.specs.Tests.{Call, Test, Things, Passes}
-use Rattle.jsonwebtoken.specs.Steps.{Step, Failed}
+use Rattle.jsonwebtoken.specs.Tests.{Call, Test, Things, Passes, signature_tests, claim_tests, ClaimsAreAnObject, ClaimRulesHold}
+use Rattle.serde_json.specs.Data.{Data}
+use Rattle.jsonwebtoken.specs.ClaimRules.{IsFault, IsRuleFault, missing, broken, RulesHold, Tells}
+use Rattle.jsonwebtoken.specs.Options.{Options}
+use Rattle.jsonwebtoken.specs.Steps.{Meets, Step, Failed, verified}
 
 -- memory ran out, or what follows from the fault
 pub or_memory : {M A B : Type 0} → (A → B) → M ⊎ A → M ⊎ B
 or_memory f (inl m) = inl m
 or_memory f (inr a) = inr (f a)
 
-module _ (call : Call) where
+module _ {T : Type 0} (call : Call T) where
   -- the tests failed before these, or after those that hold
-  early : (a b : List Test) (t : Things) (k : Kind) → Failed call a t k → Failed call (a ++ b) t k
+  pub early : (a b : List Test) (t : Things) (k : Kind) → Failed call a t k → Failed call (a ++ b) t k
   early [] b t k f = absurd f
   early (c ∷ a) b t k (inl f) = inl f
   early (c ∷ a) b t k (inr (h, f)) = inr (h, early a b t k f)
 
-  later : (a b : List Test) (t : Things) (k : Kind) → Passes call a t → Failed call b t k → Failed call (a ++ b) t k
+  pub later : (a b : List Test) (t : Things) (k : Kind) → Passes call a t → Failed call b t k → Failed call (a ++ b) t k
   later [] b t k p f = f
   later (c ∷ a) b t k p f = inr (p.0, later a b t k p.1 f)
 
@@ -35,3 +38,39 @@ module _ (call : Call) where
   step_tail order at shows (Ok y) p q f g = f y p
   step_tail order at shows (Err e) p (inl m) f g = inl m
   step_tail order at shows (Err e) p (inr q) f g = inr (g e q)
+
+  -- the same of a call with one clause
+  pub step_last : {R : Type 0} (order : List Test) (at : Things → Things) (shows : Things → R → Type 0) {P : R → Type 0} {Q : Kind → Type 0} (r : Result R Error) → Meets P Q r
+      → ((y : R) → P y → (x : Things) × Passes call order (at x) × shows x y) → ((k : Kind) → Q k → (x : Things) × Failed call order (at x) k) → Step call order at shows r
+  step_last order at shows (Ok y) m f g = f y m
+  step_last order at shows (Err e) (inl m) f g = inl m
+  step_last order at shows (Err e) (inr q) f g = inr (g (kind_of e) q)
+
+-- a fault of the claim rules, and that they hold, are never both
+not_held : (v : Options) (d : Data) (now : ℕ) (k : Kind) → IsRuleFault v d now k → RulesHold v d now → ⊥
+not_held v d now k (missing n is) held = held.required n is
+not_held v d now k (broken none r first) held = first.fails (held.rules r)
+
+-- one verifier's answers are the other's
+module _ {T : Type 0} (call : Call T) (A : List ℕ → List ℕ → Type 0) (t : Things) (same : (m s : List ℕ) → A m s ↔ call.accepts t.header.alg t.key m s) where
+  abbrev by_verifier : Call T
+  by_verifier = verified call.reads call.options call.now A
+
+  pub verified_passes : Passes by_verifier (signature_tests ++ claim_tests) t → Passes call (signature_tests ++ claim_tests) t
+  verified_passes p = (p.0, ((same _ _).0 p.1.0, p.1.1))
+
+  pub verified_failed : (k : Kind) → Failed by_verifier (signature_tests ++ claim_tests) t k → Failed call (signature_tests ++ claim_tests) t k
+  verified_failed k (inl f) = inl f
+  verified_failed k (inr (h, inl f)) = inr (h, inl ((λ x. f.0 ((same _ _).1 x)), f.1))
+  verified_failed k (inr (h, inr (a, f))) = inr (h, inr ((same _ _).0 a, f))
+
+-- what `validate` refuses fails one of the last two tests
+module _ {T : Type 0} (call : Call T) (t : Things) where
+  failed_at : (k : Kind) → IsFault call.options t.payload_value call.now k → Failed call (ClaimsAreAnObject ∷ ClaimRulesHold ∷ []) t k
+  failed_at k (inl (none, is)) = inl (none, is)
+  failed_at k (inr (object, fault)) = inr (object, inl (not_held call.options t.payload_value call.now k fault, fault))
+
+  pub rules_failed : (e : Error) → ((k : Kind) × IsFault call.options t.payload_value call.now k × Tells e k)
+      → IsMemory e ⊎ Failed call (ClaimsAreAnObject ∷ ClaimRulesHold ∷ []) t (kind_of e)
+  rules_failed e (k, fault, inl is) = inr (rw is (failed_at k fault))
+  rules_failed e (k, fault, inr memory) = inl memory.0

@@ -2,7 +2,7 @@
 use Rattle.std.proofs.Common.{◌≡◌, ℕ, List, [], ◌∷◌, ◌++◌, Contains, refl, sym, subst, ◌∙◌, arith}
 use Rattle.std.proofs.lemmas.List.{append_assoc}
 use Rattle.std.proofs.lemmas.List.Elements.{Contains-append_right}
-use Rattle.jsonwebtoken.specs.Tests.{dot, Cut, IsCutOf}
+use Rattle.jsonwebtoken.specs.Tests.{dot, Cut, IsCutOf, Token, Compact, Parts, HasParts}
 
 here : (b : List ℕ) (d : ℕ) → Contains (d ∷ b) d
 here b d = (0, omega arith, refl)
@@ -28,14 +28,18 @@ front_of x c cut = cut.joined ∙ sym (append_assoc c.header (dot ∷ c.payload)
 abbrev pieces : List ℕ → List ℕ → List ℕ → Cut
 pieces h p s = record { header = h; payload = p; signature = s }
 
-pub one_cut : (x : List ℕ) (c d : Cut) → IsCutOf x c → IsCutOf x d → c ≡ d
-one_cut x c d p q =
+one_cut_of : (x : List ℕ) (c d : Cut) → IsCutOf x c → IsCutOf x d → c ≡ d
+one_cut_of x c d p q =
     let fronts = last_cut (c.header ++ dot ∷ c.payload) c.signature (d.header ++ dot ∷ d.payload) d.signature dot p.signature q.signature (sym (front_of x c p) ∙ front_of x d q) in
     let heads = last_cut c.header c.payload d.header d.payload dot p.payload q.payload fronts.0 in
     let headers : c.header ≡ d.header = heads.0 in
     let payloads : c.payload ≡ d.payload = heads.1 in
     let signatures : c.signature ≡ d.signature = fronts.1 in
     let same : pieces c.header c.payload c.signature ≡ pieces d.header d.payload d.signature = cc in same
+
+pub one_cut : (x : Token) (c d : Cut) → HasParts x c → HasParts x d → c ≡ d
+one_cut (Compact x) c d p q = one_cut_of x c d p q
+one_cut (Parts x) c d p q = p ∙ sym q
 
 -- a text with no dot has no cut
 pub no_dot : (x : List ℕ) (c : Cut) → ¬ Contains x dot → ¬ IsCutOf x c

@@ -67,4 +67,3 @@ abbrev pub IfValue : {A : Type 0} → Claim A → (A → Type 0) → Type 0
 IfValue Absent P = ⊤
 IfValue Malformed P = ⊤
 IfValue (Value a) P = P a
-

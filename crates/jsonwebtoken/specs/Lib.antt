@@ -2,6 +2,7 @@ pub mod Certificates
 pub mod Claim
 pub mod ClaimRules
 pub mod ClaimsSeen
+pub mod Crit
 pub mod Enc
 pub mod Extras
 pub mod Header
@@ -10,6 +11,7 @@ pub mod HeaderWritten
 pub mod Hmac
 pub mod HmacFamilies
 pub mod HmacKeys
+pub mod Laws
 pub mod Moments
 pub mod NamesSame
 pub mod Options

@@ -1,13 +1,23 @@
--- The tests of a token, each a sentence of RFC 7515, and the orders that the calls make them in.
-use Rattle.std.specs.Prelude.{◌≡◌, ℕ, List, [], ◌∷◌, ◌++◌, Contains}
+-- The tests of a token, each a sentence of RFC 7515 or 7519, and the orders that the calls make them in.
+use Rattle.std.specs.Prelude.{◌≡◌, ℕ, List, [], ◌∷◌, ◌++◌, Option, Some, None, Contains, All, IsSome}
 use Rattle.serde_json.specs.Data.{Data}
+use Rattle.serde_json.specs.Find.{as_object}
+use Rattle.jwt_base.specs.Algorithm.{family_of}
 use Rattle.jwt_base.specs.Kind.{Kind}
 use Rattle.jwt_base.specs.Kind as kind
 use Rattle.jwt_base.specs.Base64Url.{IsPart}
 use Rattle.jwt_base.specs.JsonText.{IsJson}
+use Rattle.jwt_base.specs.declared.algorithms.Algorithm.{Algorithm}
+use Rattle.jwt_base.specs.declared.algorithms.AlgorithmFamily.TheVariants.{Hmac}
+use Rattle.jwt_keys.specs.Key.{Key, Plain}
+use Rattle.jsonwebtoken.specs.ClaimRules.{RulesHold, IsRuleFault}
+use Rattle.jsonwebtoken.specs.Crit.{IsUnderstood}
 use Rattle.jsonwebtoken.specs.Header.{ReadsHeader}
+use Rattle.jsonwebtoken.specs.Options.{Options, default_options}
 use Rattle.jsonwebtoken.specs.Order.{PassesAll, FailsFirst}
 use Rattle.jsonwebtoken.specs.declared.header.Header.{Header}
+
+-- ---- a token
 
 -- `.`
 abbrev pub dot : ℕ
@@ -19,16 +29,66 @@ pub record Cut : Type 0 where
   pub payload : List ℕ
   pub signature : List ℕ
 
+-- a token: one text, or its three parts
+pub data Token : Type 0 where
+  Compact : List ℕ → Token
+  Parts : Cut → Token
+
+-- the text of three parts
+abbrev pub text_of_parts : Cut → List ℕ
+text_of_parts c = c.header ++ dot ∷ (c.payload ++ dot ∷ c.signature)
+
 -- The text is the three parts with a dot between each two, and neither of the last two parts holds a dot
 -- (RFC 7515 section 7.1).
 pub record IsCutOf (text : List ℕ) (cut : Cut) : Type 0 where
-  pub joined : text ≡ cut.header ++ dot ∷ (cut.payload ++ dot ∷ cut.signature)
+  pub joined : text ≡ text_of_parts cut
   pub payload : ¬ Contains cut.payload dot
   pub signature : ¬ Contains cut.signature dot
 
--- what a call is given
-pub record Call : Type 0 where
-  pub token : List ℕ
+abbrev pub HasParts : Token → Cut → Type 0
+HasParts (Compact text) c = IsCutOf text c
+HasParts (Parts d) c = c ≡ d
+
+-- what is signed: header part, dot, payload part (RFC 7515 section 5.1)
+abbrev pub message_of : Cut → List ℕ
+message_of c = c.header ++ dot ∷ c.payload
+
+-- ---- a call
+
+-- where the key comes from: it is given
+pub data KeySource : Type 0 where
+  Given : Key → KeySource
+
+-- what a call is given: its arguments, the provider's answers, and what reads as claims
+pub record Call (T : Type 0) : Type 1 where
+  pub token : Token
+  pub keys : KeySource
+  pub options : Options
+  pub now : ℕ
+  pub refusal : Algorithm → Key → Option Kind
+  pub accepts : Algorithm → Key → List ℕ → List ℕ → Type 0
+  pub reads : Data → T → Type 0
+
+-- ---- the tests
+
+pub data Test : Type 0 where
+  KeyIsGiven : Test
+  HasThreeParts : Test
+  HeaderIsPart : Test
+  HeaderIsJson : Test
+  HeaderReads : Test
+  CritIsUnderstood : Test
+  AlgorithmsAreListed : Test
+  AlgorithmIsListed : Test
+  VerifierIsMade : Test
+  FamiliesAgree : Test
+  SignatureIsPart : Test
+  SignatureIsAccepted : Test
+  PayloadIsPart : Test
+  PayloadIsJson : Test
+  ClaimsRead : Test
+  ClaimsAreAnObject : Test
+  ClaimRulesHold : Test
 
 -- what the tests speak of
 pub record Things : Type 0 where
@@ -36,31 +96,57 @@ pub record Things : Type 0 where
   pub header_bytes : List ℕ
   pub header_value : Data
   pub header : Header
+  pub key : Key
+  pub signature_bytes : List ℕ
+  pub payload_bytes : List ℕ
+  pub payload_value : Data
 
-pub data Test : Type 0 where
-  HasThreeParts : Test
-  HeaderIsPart : Test
-  HeaderIsJson : Test
-  HeaderReads : Test
-
-module _ (call : Call) where
+module _ {T : Type 0} (call : Call T) where
   -- the condition of each test
   abbrev pub Condition : Test → Things → Type 0
-  Condition HasThreeParts t = IsCutOf call.token t.cut
+  Condition KeyIsGiven t = call.keys ≡ Given t.key
+  Condition HasThreeParts t = HasParts call.token t.cut
   Condition HeaderIsPart t = IsPart t.cut.header t.header_bytes
   Condition HeaderIsJson t = IsJson t.header_bytes t.header_value
   Condition HeaderReads t = ReadsHeader t.header_value t.header
+  Condition CritIsUnderstood t = IsUnderstood call.options.understood t.header
+  Condition AlgorithmsAreListed t = ¬ (call.options.algorithms ≡ [])
+  Condition AlgorithmIsListed t = Contains call.options.algorithms t.header.alg
+  Condition VerifierIsMade t = call.refusal t.header.alg t.key ≡ None
+  Condition FamiliesAgree t = All (λ a. family_of a ≡ family_of t.header.alg) call.options.algorithms
+  Condition SignatureIsPart t = IsPart t.cut.signature t.signature_bytes
+  Condition SignatureIsAccepted t = call.accepts t.header.alg t.key (message_of t.cut) t.signature_bytes
+  Condition PayloadIsPart t = IsPart t.cut.payload t.payload_bytes
+  Condition PayloadIsJson t = IsJson t.payload_bytes t.payload_value
+  Condition ClaimsRead t = (c : T) × call.reads t.payload_value c
+  Condition ClaimsAreAnObject t = IsSome (as_object t.payload_value)
+  Condition ClaimRulesHold t = RulesHold call.options t.payload_value call.now
 
-  -- the kind of a failed test
+  -- the kinds of a failed test; a key that is given is there
   abbrev pub HasKind : Test → Things → Kind → Type 0
+  HasKind KeyIsGiven t k = ⊥
   HasKind HasThreeParts t k = k ≡ kind.InvalidToken
   HasKind HeaderIsPart t k = k ≡ kind.Base64
   HasKind HeaderIsJson t k = k ≡ kind.Json
   HasKind HeaderReads t k = k ≡ kind.Json
+  HasKind CritIsUnderstood t k = k ≡ kind.InvalidCrit
+  HasKind AlgorithmsAreListed t k = k ≡ kind.MissingAlgorithm
+  HasKind AlgorithmIsListed t k = k ≡ kind.InvalidAlgorithm
+  HasKind VerifierIsMade t k = call.refusal t.header.alg t.key ≡ Some k
+  HasKind FamiliesAgree t k = k ≡ kind.InvalidAlgorithm
+  HasKind SignatureIsPart t k = k ≡ kind.Base64
+  HasKind SignatureIsAccepted t k = k ≡ kind.InvalidSignature
+  HasKind PayloadIsPart t k = k ≡ kind.Base64
+  HasKind PayloadIsJson t k = k ≡ kind.Json
+  HasKind ClaimsRead t k = k ≡ kind.Json
+  HasKind ClaimsAreAnObject t k = k ≡ kind.Json
+  HasKind ClaimRulesHold t k = IsRuleFault call.options t.payload_value call.now k
 
+  -- every test of the order holds
   abbrev pub Passes : List Test → Things → Type 0
   Passes = PassesAll (Condition)
 
+  -- the order's first failed test has this kind
   abbrev pub FirstFailed : List Test → Kind → Type 0
   FirstFailed = FailsFirst (Condition) (HasKind)
 
@@ -69,10 +155,65 @@ module _ (call : Call) where
 abbrev pub header_tests : List Test
 header_tests = HeaderIsPart ∷ HeaderIsJson ∷ HeaderReads ∷ []
 
+abbrev pub algorithm_tests : List Test
+algorithm_tests = AlgorithmsAreListed ∷ AlgorithmIsListed ∷ VerifierIsMade ∷ FamiliesAgree ∷ []
+
+abbrev pub jws_algorithm_tests : List Test
+jws_algorithm_tests = VerifierIsMade ∷ AlgorithmsAreListed ∷ FamiliesAgree ∷ AlgorithmIsListed ∷ []
+
+abbrev pub signature_tests : List Test
+signature_tests = SignatureIsPart ∷ SignatureIsAccepted ∷ []
+
+abbrev pub payload_tests : List Test
+payload_tests = PayloadIsPart ∷ PayloadIsJson ∷ ClaimsRead ∷ []
+
+abbrev pub claim_tests : List Test
+claim_tests = payload_tests ++ ClaimsAreAnObject ∷ ClaimRulesHold ∷ []
+
 abbrev pub header_order : List Test
 header_order = HasThreeParts ∷ header_tests
 
+abbrev pub insecure_order : List Test
+insecure_order = header_order ++ payload_tests
+
+abbrev pub insecure_claims_order : List Test
+insecure_claims_order = HasThreeParts ∷ payload_tests
+
+abbrev pub decode_order : List Test
+decode_order = KeyIsGiven ∷ header_order ++ CritIsUnderstood ∷ algorithm_tests ++ signature_tests ++ claim_tests
+
+abbrev pub jws_order : List Test
+jws_order = KeyIsGiven ∷ header_order ++ CritIsUnderstood ∷ jws_algorithm_tests ++ signature_tests ++ claim_tests
+
 -- ---- the calls
 
-abbrev pub call_on : List ℕ → Call
-call_on text = record { token = text }
+-- a call that verifies
+abbrev pub verifying_call : {T : Type 0} → Token → Key → Options → ℕ → (Algorithm → Key → Option Kind) → (Algorithm → Key → List ℕ → List ℕ → Type 0) → (Data → T → Type 0) → Call T
+verifying_call token key options now refusal accepts reads = record {
+  token = token;
+  keys = Given key;
+  options = options;
+  now = now;
+  refusal = refusal;
+  accepts = accepts;
+  reads = reads;
+}
+
+abbrev pub no_key : Key
+no_key = Plain Hmac []
+
+-- a call that verifies nothing: what it is not given, none of its tests speak of
+abbrev pub insecure_call : {T : Type 0} → Token → (Data → T → Type 0) → Call T
+insecure_call token reads = record {
+  token = token;
+  keys = Given no_key;
+  options = default_options [];
+  now = 0;
+  refusal = λ _ _. None;
+  accepts = λ _ _ _ _. ⊥;
+  reads = reads;
+}
+
+-- a call that reads no claims either
+abbrev pub header_call : List ℕ → Call (Unit {0})
+header_call text = insecure_call (Compact text) (λ _ _. ⊥)

@@ -18,6 +18,7 @@ mod names;
 
 use crate::header::certificates::certificate_bytes;
 pub use extras::Extras;
+pub(crate) use extras::is_header_name;
 use jwt_base::algorithms::Algorithm;
 use jwt_base::errors::{ErrorKind, Result, new_error};
 use jwt_base::json::members::{

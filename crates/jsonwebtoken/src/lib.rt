@@ -2,11 +2,11 @@
 #![tactic(auto)]
 
 pub mod crypto;
-mod decode;
+mod decoding;
 mod header;
 mod validation;
 
-pub use decode::decode_header;
+pub use decoding::{TokenData, decode, decode_header};
 pub use header::{Enc, Extras, Header, Zip};
 pub use jwt_base::algorithms::{Algorithm, AlgorithmFamily};
 pub use jwt_base::{errors, json};

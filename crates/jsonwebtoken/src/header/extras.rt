@@ -1,6 +1,6 @@
 //! The members of a header that the standards do not name.
 
-ghost use Rattle.std.specs.Prelude.{◌≡◌, ◌↔◌, IsTrue, Some, None, true, option_map, IfOk, IfErr, OnOk, OnErr};
+ghost use Rattle.std.specs.Prelude.{is_some, ◌≡◌, ◌↔◌, IsTrue, Some, None, true, option_map, IfOk, IfErr, OnOk, OnErr};
 ghost use Rattle.serde_json.specs.Data.{Data, Members, no_members, object};
 ghost use Rattle.serde_json.specs.Find.{get_member};
 ghost use Rattle.serde_json.specs.View.{view, members_view};
@@ -162,6 +162,12 @@ impl Extras {
         Ok(Extras { members: kept })
     }
 
+    pub(crate) fn contains(&self, name: &str) -> bool
+        ensures { result ≡ is_some (get_member name.now self.now) }
+    {
+        self.at(name).is_some()
+    }
+
     fn at(&self, name: &str) -> Option<&Value>
         ensures { option_map (λ v. view v.now) result ≡ get_member name.now self.now }
     {
@@ -169,7 +175,7 @@ impl Extras {
     }
 }
 
-fn is_header_name(name: &str) -> bool
+pub(crate) fn is_header_name(name: &str) -> bool
     ensures { result ≡ is_named header_names name.now }
 {
     matches!(

@@ -95,6 +95,7 @@ impl<'a> SpecClaims<'a> {
         }
     }
 }
+
 fn time_claim(claims: &Value, name: &str) -> Claim<u64>
     ensures { result ≡ time_in (get name.now (view claims.now)) }
 {

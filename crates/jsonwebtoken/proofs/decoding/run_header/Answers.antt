@@ -1,9 +1,9 @@
 use Rattle.std.proofs.Common.{[], ◌∷◌, inl, inr}
 use Rattle.std.proofs.lemmas.Result.{err_from_is_err_and}
-use Rattle.jsonwebtoken.specs.Tests.{HasThreeParts, header_order, header_tests, call_on}
+use Rattle.jsonwebtoken.specs.Tests.{HasThreeParts, header_order, header_tests, header_call}
 use Rattle.jsonwebtoken.specs.Steps.{nothing, cut_of}
 use Rattle.jsonwebtoken.proofs.Exits.{or_memory, stop}
-use Rattle.jsonwebtoken.proofs.decode.run_header.Goals as goal
+use Rattle.jsonwebtoken.proofs.decoding.run_header.Goals as goal
 
 pub returns-in_default : goal.returns-in_default
 returns-in_default c = inr (nothing, inl (c.in_default.ensures.none, c.new_error.ensures.kind))
@@ -12,7 +12,7 @@ pub returns-in_err-header : goal.returns-in_err-header
 returns-in_err-header c =
     let cut = cut_of c.in-Some.pieces.header c.in-Some.pieces.payload c.in-Some.pieces.signature in
     let p = err_from_is_err_and c.from_residual.result c.from_residual.ensures.1 in
-    rw (p.1, p.2) (or_memory (λ f. stop (call_on c.args.token.now) header_order (HasThreeParts ∷ []) header_tests (record f.0 { cut = cut }) _ (c.in-Some.ensures.some, tt) f.1) c.in_err-header.ensures)
+    rw (p.1, p.2) (or_memory (λ f. stop (header_call c.args.token.now) header_order (HasThreeParts ∷ []) header_tests (record f.0 { cut = cut }) _ (c.in-Some.ensures.some, tt) f.1) c.in_err-header.ensures)
 
 pub returns : goal.returns
 returns c =

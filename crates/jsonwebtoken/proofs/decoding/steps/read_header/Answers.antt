@@ -1,10 +1,10 @@
-use Rattle.std.proofs.Common.{◌≡◌, [], inl, inr, refl}
+use Rattle.std.proofs.Common.{◌≡◌, inl, inr, refl}
 use Rattle.std.proofs.lemmas.Result.{err_from_is_err_and}
 use Rattle.serde_json.specs.View.{view}
-use Rattle.jsonwebtoken.specs.Steps.{nothing, with_header_part}
-use Rattle.jsonwebtoken.specs.Tests.{header_tests, call_on}
+use Rattle.jsonwebtoken.specs.Steps.{nothing, bare, with_header_part}
+use Rattle.jsonwebtoken.specs.Tests.{header_tests}
 use Rattle.jsonwebtoken.proofs.Exits.{or_memory, step_tail}
-use Rattle.jsonwebtoken.proofs.decode.read_header.Goals as goal
+use Rattle.jsonwebtoken.proofs.decoding.steps.read_header.Goals as goal
 
 pub returns-in_err-bytes : goal.returns-in_err-bytes
 returns-in_err-bytes c =
@@ -20,6 +20,6 @@ returns-in_err-value c =
 pub returns : goal.returns
 returns c =
     let json = rw c.as_slice.ensures.value at c.in_ok-value.ensures.ok in
-    step_tail (call_on []) header_tests (with_header_part c.args.part.now) (λ x h. x.header ≡ h) c.from_value.result c.from_value.ensures.ok c.from_value.ensures.err
+    step_tail bare header_tests (with_header_part c.args.part.now) (λ x h. x.header ≡ h) c.from_value.result c.from_value.ensures.ok c.from_value.ensures.err
     (λ h reads. (record nothing { header_bytes = c.in_ok-bytes.bytes.items; header_value = view c.in_ok-value.value; header = h }, (c.in_ok-bytes.ensures.ok, (json, (reads, tt))), refl))
     (λ e none. (record nothing { header_bytes = c.in_ok-bytes.bytes.items; header_value = view c.in_ok-value.value }, inr (c.in_ok-bytes.ensures.ok, inr (json, inl (none.1, none.0)))))

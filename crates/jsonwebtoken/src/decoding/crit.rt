@@ -1,0 +1,74 @@
+//! The extensions that a header asks its receiver to understand (RFC 7515 section 4.1.11).
+
+ghost use Rattle.std.specs.Prelude.{◌≡◌, ◌≢◌, ◌↔◌, IsTrue, IsSome, AllPairs, All};
+ghost use Rattle.std.specs.HashSet.{contains_text};
+ghost use Rattle.serde_json.specs.Find.{get_member};
+ghost use Rattle.jwt_base.specs.Kind as kind;
+ghost use Rattle.jsonwebtoken.specs.Crit.{IsUnderstoodName, IsUnderstoodList, IsUnderstood};
+ghost use Rattle.jsonwebtoken.specs.OptionsOf.{options_of};
+ghost use Rattle.jsonwebtoken.specs.Steps.{Decides};
+
+use crate::header::{Extras, Header, is_header_name};
+use crate::validation::Validation;
+use jwt_base::errors::{ErrorKind, Result, new_error};
+use jwt_base::text::Text;
+use std::collections::HashSet;
+
+/// Refuses with `InvalidCrit` a header whose `crit` is not understood.
+pub(crate) fn check_crit(header: &Header, validation: &Validation) -> Result<()>
+    ensures { Decides (IsUnderstood (options_of validation.now).understood header.now) (λ k. k ≡ kind.InvalidCrit) result }
+{
+    let Some(names) = &header.crit else {
+        return Ok(());
+    };
+    if is_understood_list(
+        names.as_slice(),
+        &header.extras,
+        &validation.understood_crit,
+    ) {
+        Ok(())
+    } else {
+        Err(new_error(ErrorKind::InvalidCrit))
+    }
+}
+
+// The names that are understood are the receiver's own, so a repeat is found within as many of them.
+fn is_understood_list(names: &[Text], extras: &Extras, understood: &HashSet<String>) -> bool
+    ensures { IsTrue result ↔ IsUnderstoodList names.now extras.now (contains_text understood.now) }
+{
+    if names.is_empty() {
+        return false;
+    }
+    if !all_are_understood(names, extras, understood) {
+        return false;
+    }
+    none_is_repeated(names)
+}
+
+fn all_are_understood(names: &[Text], extras: &Extras, understood: &HashSet<String>) -> bool
+    ensures { IsTrue result ↔ All (IsUnderstoodName extras.now (contains_text understood.now)) names.now }
+{
+    names
+        .iter()
+        .all(|name| is_understood(name.as_str(), extras, understood))
+}
+
+fn is_understood(name: &str, extras: &Extras, understood: &HashSet<String>) -> bool
+    ensures { IsTrue result ↔ IsUnderstoodName extras.now (contains_text understood.now) name.now }
+{
+    if is_header_name(name) {
+        return false;
+    }
+    extras.contains(name) && understood.contains(name)
+}
+
+fn none_is_repeated(names: &[Text]) -> bool
+    ensures { IsTrue result ↔ AllPairs (λ a b. a ≢ b) names.now }
+{
+    for (place, name) in names.iter().enumerate() {
+        if names[..place].contains(name) {
+            return false;
+        }
+    }
+    true
+}
