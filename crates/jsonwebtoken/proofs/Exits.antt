@@ -1,5 +1,5 @@
 -- The exits by `?`, and the last call.
-use Rattle.std.proofs.Common.{◌⊎◌, ◌↔◌, ℕ, List, [], ◌∷◌, ◌++◌, drop, length, ◌+◌, inl, inr, Result, Ok, Err, IfOk, IfErr}
+use Rattle.std.proofs.Common.{◌≡◌, Option, Some, None, sym, ◌∙◌, ◌⊎◌, ◌↔◌, ℕ, List, [], ◌∷◌, ◌++◌, drop, length, ◌+◌, inl, inr, Result, Ok, Err, IfOk, IfErr}
 use Rattle.jwt_base.specs.Kind.{Kind}
 use Rattle.jwt_base.specs.KindOf.{kind_of, IsMemory}
 use Rattle.jwt_base.specs.declared.errors.Error.{Error}
@@ -8,6 +8,9 @@ use Rattle.serde_json.specs.Data.{Data}
 use Rattle.jsonwebtoken.specs.ClaimRules.{IsFault, IsRuleFault, missing, broken, RulesHold, Tells}
 use Rattle.jsonwebtoken.specs.Options.{Options}
 use Rattle.jsonwebtoken.specs.Steps.{Meets, Step, Failed, verified}
+
+pub not_both : {K : Type 0} (r : Option K) (k : K) → r ≡ Some k → r ≡ None → ⊥
+not_both r k e f = let both : Some k ≡ None = sym e ∙ f in cc
 
 -- memory ran out, or what follows from the fault
 pub or_memory : {M A B : Type 0} → (A → B) → M ⊎ A → M ⊎ B

@@ -13,7 +13,7 @@ use Rattle.jwt_keys.specs.Key.{Key}
 use Rattle.jsonwebtoken.specs.Header.{ReadsHeader, new_header}
 use Rattle.jsonwebtoken.specs.Options.{Options}
 use Rattle.jsonwebtoken.specs.Order.{FailedAt}
-use Rattle.jsonwebtoken.specs.Tests.{Cut, Compact, HasParts, Given, Call, Test, KeyIsGiven, HasThreeParts, HeaderIsPart, HeaderIsJson, HeaderReads, CritIsUnderstood, AlgorithmsAreListed, AlgorithmIsListed, VerifierIsMade, FamiliesAgree, SignatureIsPart, SignatureIsAccepted, PayloadIsPart, PayloadIsJson, ClaimsRead, ClaimsAreAnObject, ClaimRulesHold, Things, Condition, HasKind, Passes, verifying_call, header_call, no_key}
+use Rattle.jsonwebtoken.specs.Tests.{Cut, Compact, HasParts, Given, Call, Test, KeyIsGiven, HasThreeParts, HeaderIsPart, HeaderIsJson, HeaderReads, CritIsUnderstood, AlgorithmsAreListed, AlgorithmIsListed, VerifierIsMade, FamiliesAgree, SignatureIsPart, SignatureIsAccepted, PayloadIsPart, PayloadIsJson, ClaimsRead, ClaimsAreAnObject, ClaimRulesHold, Things, Condition, HasKind, Passes, verifying_call, header_call, insecure_call, no_key}
 use Rattle.jsonwebtoken.specs.declared.header.Header.{Header}
 
 -- the answer is so; or the refusal is of such a kind, unless memory ran out
@@ -101,6 +101,10 @@ accepting accepts = record bare { accepts = λ _ _. accepts }
 abbrev pub claiming : {T : Type 0} → (Data → T → Type 0) → Options → ℕ → Call T
 claiming reads o now = verifying_call (Compact []) no_key o now (λ _ _. None) (λ _ _ _ _. ⊥) reads
 
--- of these and of what one verifier accepts
+-- of claims alone
+abbrev pub reading : {T : Type 0} → (Data → T → Type 0) → Call T
+reading reads = insecure_call (Compact []) reads
+
+-- of claims, options, the moment and what one verifier accepts
 abbrev pub verified : {T : Type 0} → (Data → T → Type 0) → Options → ℕ → (List ℕ → List ℕ → Type 0) → Call T
 verified reads o now accepts = verifying_call (Compact []) no_key o now (λ _ _. None) (λ _ _. accepts) reads

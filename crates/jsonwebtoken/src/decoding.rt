@@ -10,14 +10,14 @@ ghost use Rattle.jsonwebtoken.specs.Steps.{Step};
 ghost use Rattle.jsonwebtoken.specs.Tests.{Compact, Things, Passes, FirstFailed, header_order, decode_order, header_call, verifying_call};
 
 mod checks;
-mod crit;
-mod steps;
+pub(crate) mod crit;
+pub(crate) mod steps;
 
 use crate::decoding::crit::check_crit;
 use crate::decoding::steps::{make_verifier, parts, read_header, verified_claims};
 use crate::header::Header;
 use crate::validation::Validation;
-use jwt_base::errors::{ErrorKind, Result, new_error};
+use jwt_base::errors::Result;
 use jwt_base::json::Claims;
 use jwt_keys::crypto::CryptoProvider;
 use jwt_keys::decoding::DecodingKey;
@@ -43,9 +43,7 @@ fn run<P: CryptoProvider, T: Claims>(
     ensures { Step (verifying_call (Compact token.now) key.now (options_of validation.now) now (P.verifier_refusal provider.now) (P.accepts provider.now) T.reads)
         decode_order (λ x. x) (λ x r. (x.header ≡ r.header) × T.reads x.payload_value r.claims) result }
 {
-    let Some(pieces) = parts(token) else {
-        return Err(new_error(ErrorKind::InvalidToken));
-    };
+    let pieces = parts(token)?;
     let header = read_header(alloc, pieces.header)?;
     check_crit(&header, validation)?;
     let verifier = make_verifier(alloc, provider, key, validation, &header)?;
@@ -106,9 +104,7 @@ pub fn decode<P: CryptoProvider, T: Claims>(
 fn run_header(alloc: Global, token: &[u8]) -> Result<Header>
     ensures { Step (header_call token.now) header_order (λ x. x) (λ x h. x.header ≡ h) result }
 {
-    let Some(pieces) = parts(token) else {
-        return Err(new_error(ErrorKind::InvalidToken));
-    };
+    let pieces = parts(token)?;
     let header = read_header(alloc, pieces.header)?;
     Ok(header)
 }

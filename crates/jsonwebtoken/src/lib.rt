@@ -2,6 +2,7 @@
 #![tactic(auto)]
 
 pub mod crypto;
+pub mod dangerous;
 mod decoding;
 mod header;
 mod validation;

@@ -1,14 +1,16 @@
 //! The steps that the calls which read tokens share.
 
-ghost use Rattle.std.specs.Prelude.{◌≡◌, ◌↔◌, ◌++◌, ◌∷◌, ℕ, List, IfOk, IfSome, IfNone, Contains};
+ghost use Rattle.std.specs.Prelude.{◌≡◌, ◌↔◌, ◌++◌, ◌∷◌, ℕ, List, IfOk, IfErr, IfSome, IfNone, Contains};
+ghost use Rattle.jwt_base.specs.Kind as kind;
+ghost use Rattle.jwt_base.specs.KindOf.{kind_of};
 ghost use Rattle.jsonwebtoken.specs.OptionsOf.{options_of};
-ghost use Rattle.jsonwebtoken.specs.Steps.{Step, bare, cut_of, with_header_part, with_payload_part, with_cut, with_key, making, accepting, claiming, verified};
-ghost use Rattle.jsonwebtoken.specs.Tests.{dot, Cut, IsCutOf, header_tests, algorithm_tests, signature_tests, claim_tests};
+ghost use Rattle.jsonwebtoken.specs.Steps.{Step, bare, cut_of, with_header_part, with_payload_part, with_cut, with_key, making, accepting, claiming, reading, verified};
+ghost use Rattle.jsonwebtoken.specs.Tests.{dot, Cut, IsCutOf, header_tests, algorithm_tests, jws_algorithm_tests, signature_tests, payload_tests, claim_tests};
 
 use crate::decoding::checks::{check_families, check_listed, check_some_listed, check_verdict};
 use crate::header::Header;
 use crate::validation::{Validation, validate};
-use jwt_base::errors::Result;
+use jwt_base::errors::{ErrorKind, Result, new_error};
 use jwt_base::json::Claims;
 use jwt_base::serialization::{json_value, part_bytes};
 use jwt_keys::crypto::{CryptoProvider, JwtVerifier};
@@ -36,7 +38,7 @@ fn last_dot(text: &[u8]) -> Option<(&[u8], &[u8])>
 }
 
 /// The parts of the token, found from its end.
-pub(crate) fn parts(token: &[u8]) -> Option<Pieces<'_>>
+fn cut(token: &[u8]) -> Option<Pieces<'_>>
     ensures some { IfSome result (λ p. IsCutOf token.now (cut_of p.header p.payload p.signature)) }
     ensures none { IfNone result ((c : Cut) → ¬ IsCutOf token.now c) }
 {
@@ -48,6 +50,17 @@ pub(crate) fn parts(token: &[u8]) -> Option<Pieces<'_>>
         payload,
         signature,
     })
+}
+
+/// The parts of the token. A text with fewer than two dots is refused with `InvalidToken`.
+pub(crate) fn parts(token: &[u8]) -> Result<Pieces<'_>>
+    ensures ok { IfOk result (λ p. IsCutOf token.now (cut_of p.header p.payload p.signature)) }
+    ensures err { IfErr result (λ e. (kind_of e ≡ kind.InvalidToken) × ((c : Cut) → ¬ IsCutOf token.now c)) }
+{
+    match cut(token) {
+        Some(pieces) => Ok(pieces),
+        None => Err(new_error(ErrorKind::InvalidToken)),
+    }
 }
 
 /// The header that a header part stands for.
@@ -78,6 +91,28 @@ pub(crate) fn make_verifier<P: CryptoProvider>(
     check_listed(listed, algorithm)?;
     let verifier = provider.verifier_factory(alloc, &algorithm, key)?;
     check_families(listed, algorithm)?;
+    Ok(verifier)
+}
+
+/// The same, by the order of the tests of a JWS in parts.
+pub(crate) fn make_jws_verifier<P: CryptoProvider>(
+    alloc: Global,
+    provider: &P,
+    key: &DecodingKey,
+    validation: &Validation,
+    header: &Header,
+) -> Result<P::Verifier>
+    ensures tests { Step (making (options_of validation.now) (P.verifier_refusal provider.now)) jws_algorithm_tests
+        (with_key header.now key.now) (λ _ _. Unit {0}) result }
+    ensures accepts { IfOk result (λ v. (m s : List ℕ) →
+        P.Verifier.accepts v m s ↔ P.accepts provider.now header.now.alg key.now m s) }
+{
+    let listed = validation.algorithms.as_slice();
+    let algorithm = header.alg;
+    let verifier = provider.verifier_factory(alloc, &algorithm, key)?;
+    check_some_listed(listed)?;
+    check_families(listed, algorithm)?;
+    check_listed(listed, algorithm)?;
     Ok(verifier)
 }
 
@@ -119,4 +154,15 @@ pub(crate) fn verified_claims<V: JwtVerifier, T: Claims>(
 {
     check_signature(alloc, verifier, pieces)?;
     read_claims(alloc, pieces.payload, validation, now)
+}
+
+/// The claims that a payload part stands for, which no rule is asked of.
+pub(crate) fn read_payload<T: Claims>(alloc: Global, part: &[u8]) -> Result<T>
+    ensures { Step (reading T.reads) payload_tests
+        (with_payload_part part.now) (λ x c. T.reads x.payload_value c) result }
+{
+    let bytes = part_bytes(alloc, part)?;
+    let value = json_value(alloc, bytes.as_slice())?;
+    let claims = T::from_value(alloc, &value)?;
+    Ok(claims)
 }

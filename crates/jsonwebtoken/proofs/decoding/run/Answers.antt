@@ -7,24 +7,26 @@ use Rattle.jsonwebtoken.proofs.Orders.{join}
 use Rattle.jsonwebtoken.proofs.Exits.{or_memory, stop, verified_passes, verified_failed}
 use Rattle.jsonwebtoken.proofs.decoding.run.Goals as goal
 
-pub returns-in_default : goal.returns-in_default
-returns-in_default g c = inr (record nothing { key = c.args.key.now }, inr (refl, inl (c.in_default.ensures.none, c.new_error.ensures.kind)))
+pub returns-in_err-pieces : goal.returns-in_err-pieces
+returns-in_err-pieces g c =
+    let p = err_from_is_err_and c.from_residual.result c.from_residual.ensures.1 in
+    rw (p.1, p.2) (inr (record nothing { key = c.args.key.now }, inr (refl, inl (c.in_err-pieces.ensures.err.1, c.in_err-pieces.ensures.err.0))))
 
 pub returns-in_err-header : goal.returns-in_err-header
 returns-in_err-header g c =
     let call = verifying_call (Compact c.args.token.now) c.args.key.now (options_of c.args.validation.now) c.args.now (g.P.CryptoProvider.verifier_refusal c.args.provider.now) (g.P.CryptoProvider.accepts c.args.provider.now) g.T.Claims.reads in
-    let cut = cut_of c.in-Some.pieces.header c.in-Some.pieces.payload c.in-Some.pieces.signature in
-    let p = err_from_is_err_and c.from_residual.result c.from_residual.ensures.1 in
+    let cut = cut_of c.in_ok-pieces.pieces.header c.in_ok-pieces.pieces.payload c.in_ok-pieces.pieces.signature in
+    let p = err_from_is_err_and c.from_residual-in_err-header.result c.from_residual-in_err-header.ensures.1 in
     rw (p.1, p.2) (or_memory (λ f. stop call decode_order (KeyIsGiven ∷ HasThreeParts ∷ []) header_tests (record f.0 { cut = cut; key = c.args.key.now }) _
-    (refl, (c.in-Some.ensures.some, tt)) f.1) c.in_err-header.ensures)
+    (refl, (c.in_ok-pieces.ensures.ok, tt)) f.1) c.in_err-header.ensures)
 
 pub returns-in_err-check_crit : goal.returns-in_err-check_crit
 returns-in_err-check_crit g c =
     let call = verifying_call (Compact c.args.token.now) c.args.key.now (options_of c.args.validation.now) c.args.now (g.P.CryptoProvider.verifier_refusal c.args.provider.now) (g.P.CryptoProvider.accepts c.args.provider.now) g.T.Claims.reads in
-    let cut = cut_of c.in-Some.pieces.header c.in-Some.pieces.payload c.in-Some.pieces.signature in
+    let cut = cut_of c.in_ok-pieces.pieces.header c.in_ok-pieces.pieces.payload c.in_ok-pieces.pieces.signature in
     let h = c.in_ok-header.ensures in
     let t = record h.0 { cut = cut; key = c.args.key.now } in
-    let before = join call (KeyIsGiven ∷ HasThreeParts ∷ []) header_tests t (refl, (c.in-Some.ensures.some, tt)) h.1 in
+    let before = join call (KeyIsGiven ∷ HasThreeParts ∷ []) header_tests t (refl, (c.in_ok-pieces.ensures.ok, tt)) h.1 in
     let p = err_from_is_err_and c.from_residual-in_err-check_crit.result c.from_residual-in_err-check_crit.ensures.1 in
     let no = rw (sym h.2) at c.in_err-check_crit.ensures in
     rw (p.1, p.2) (or_memory (λ f. stop call decode_order (KeyIsGiven ∷ header_order) (CritIsUnderstood ∷ []) t _ before (inl f)) no)
@@ -32,10 +34,10 @@ returns-in_err-check_crit g c =
 pub returns-in_err-verifier : goal.returns-in_err-verifier
 returns-in_err-verifier g c =
     let call = verifying_call (Compact c.args.token.now) c.args.key.now (options_of c.args.validation.now) c.args.now (g.P.CryptoProvider.verifier_refusal c.args.provider.now) (g.P.CryptoProvider.accepts c.args.provider.now) g.T.Claims.reads in
-    let cut = cut_of c.in-Some.pieces.header c.in-Some.pieces.payload c.in-Some.pieces.signature in
+    let cut = cut_of c.in_ok-pieces.pieces.header c.in_ok-pieces.pieces.payload c.in_ok-pieces.pieces.signature in
     let h = c.in_ok-header.ensures in
     let t = record h.0 { cut = cut; key = c.args.key.now } in
-    let before = join call (KeyIsGiven ∷ HasThreeParts ∷ []) header_tests t (refl, (c.in-Some.ensures.some, tt)) h.1 in
+    let before = join call (KeyIsGiven ∷ HasThreeParts ∷ []) header_tests t (refl, (c.in_ok-pieces.ensures.ok, tt)) h.1 in
     let p = err_from_is_err_and c.from_residual-in_err-verifier.result c.from_residual-in_err-verifier.ensures.1 in
     let crit = rw (sym h.2) at c.in_ok-check_crit.ensures in
     let no = rw (sym h.2) at c.in_err-verifier.ensures.tests in
@@ -45,10 +47,10 @@ returns-in_err-verifier g c =
 pub returns-in_err-claims : goal.returns-in_err-claims
 returns-in_err-claims g c =
     let call = verifying_call (Compact c.args.token.now) c.args.key.now (options_of c.args.validation.now) c.args.now (g.P.CryptoProvider.verifier_refusal c.args.provider.now) (g.P.CryptoProvider.accepts c.args.provider.now) g.T.Claims.reads in
-    let cut = cut_of c.in-Some.pieces.header c.in-Some.pieces.payload c.in-Some.pieces.signature in
+    let cut = cut_of c.in_ok-pieces.pieces.header c.in_ok-pieces.pieces.payload c.in_ok-pieces.pieces.signature in
     let h = c.in_ok-header.ensures in
     let t = record h.0 { cut = cut; key = c.args.key.now } in
-    let before = join call (KeyIsGiven ∷ HasThreeParts ∷ []) header_tests t (refl, (c.in-Some.ensures.some, tt)) h.1 in
+    let before = join call (KeyIsGiven ∷ HasThreeParts ∷ []) header_tests t (refl, (c.in_ok-pieces.ensures.ok, tt)) h.1 in
     let p = err_from_is_err_and c.from_residual-in_err-claims.result c.from_residual-in_err-claims.ensures.1 in
     let crit = rw (sym h.2) at c.in_ok-check_crit.ensures in
     let made = rw (sym h.2) at c.in_ok-verifier.ensures.tests in
@@ -60,10 +62,10 @@ returns-in_err-claims g c =
 pub returns : goal.returns
 returns g c =
     let call = verifying_call (Compact c.args.token.now) c.args.key.now (options_of c.args.validation.now) c.args.now (g.P.CryptoProvider.verifier_refusal c.args.provider.now) (g.P.CryptoProvider.accepts c.args.provider.now) g.T.Claims.reads in
-    let cut = cut_of c.in-Some.pieces.header c.in-Some.pieces.payload c.in-Some.pieces.signature in
+    let cut = cut_of c.in_ok-pieces.pieces.header c.in_ok-pieces.pieces.payload c.in_ok-pieces.pieces.signature in
     let h = c.in_ok-header.ensures in
     let t = record h.0 { cut = cut; key = c.args.key.now } in
-    let before = join call (KeyIsGiven ∷ HasThreeParts ∷ []) header_tests t (refl, (c.in-Some.ensures.some, tt)) h.1 in
+    let before = join call (KeyIsGiven ∷ HasThreeParts ∷ []) header_tests t (refl, (c.in_ok-pieces.ensures.ok, tt)) h.1 in
     let crit = rw (sym h.2) at c.in_ok-check_crit.ensures in
     let made = rw (sym h.2) at c.in_ok-verifier.ensures.tests in
     let same = rw (sym h.2) at c.in_ok-verifier.ensures.accepts in

@@ -1,11 +1,8 @@
-use Rattle.std.proofs.Common.{◌≡◌, inl, inr, Option, Some, None, sym, ◌∙◌}
+use Rattle.std.proofs.Common.{inl, inr}
 use Rattle.std.proofs.lemmas.Result.{err_from_is_err_and}
 use Rattle.jsonwebtoken.specs.Steps.{nothing}
-use Rattle.jsonwebtoken.proofs.Exits.{or_memory}
+use Rattle.jsonwebtoken.proofs.Exits.{or_memory, not_both}
 use Rattle.jsonwebtoken.proofs.decoding.steps.make_verifier.Goals as goal
-
-not_both : {K : Type 0} (r : Option K) (k : K) → r ≡ Some k → r ≡ None → ⊥
-not_both r k e f = let both : Some k ≡ None = sym e ∙ f in cc
 
 pub returns-in_err-check_some_listed-clause-tests : goal.returns-in_err-check_some_listed-clause-tests
 returns-in_err-check_some_listed-clause-tests g c =

@@ -1,5 +1,5 @@
 use Rattle.jsonwebtoken.proofs.OneCut.{no_dot, one_dot}
-use Rattle.jsonwebtoken.proofs.decoding.steps.parts.Goals as goal
+use Rattle.jsonwebtoken.proofs.decoding.steps.cut.Goals as goal
 
 pub returns-in_err-message-clause-none : goal.returns-in_err-message-clause-none
 returns-in_err-message-clause-none c = rw c.from_residual.ensures (λ cut. no_dot _ cut c.in_err-message.ensures.none)
