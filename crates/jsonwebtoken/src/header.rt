@@ -227,8 +227,8 @@ fn optional_enc(alloc: Global, value: &Value) -> Result<Option<Enc>>
 {
     match value.get("enc") {
         None => Ok(None),
-        Some(member) if member.is_null() => Ok(None),
-        Some(member) => Ok(Some(Enc::from_value(alloc, member)?)),
+        Some(enc) if enc.is_null() => Ok(None),
+        Some(enc) => Ok(Some(Enc::from_value(alloc, enc)?)),
     }
 }
 
@@ -239,8 +239,8 @@ fn optional_zip(alloc: Global, value: &Value) -> Result<Option<Zip>>
 {
     match value.get("zip") {
         None => Ok(None),
-        Some(member) if member.is_null() => Ok(None),
-        Some(member) => Ok(Some(Zip::from_value(alloc, member)?)),
+        Some(zip) if zip.is_null() => Ok(None),
+        Some(zip) => Ok(Some(Zip::from_value(alloc, zip)?)),
     }
 }
 

@@ -110,6 +110,14 @@ impl DecodingKey {
         }
     }
 
+    fn copied(alloc: Global, family: AlgorithmFamily, bytes: &[u8]) -> Result<DecodingKey>
+        ensures ok { IfOk result (λ k. k ≡ Plain family bytes.now) }
+        ensures err { IfErr result IsMemory }
+    {
+        let bytes = bytes.to_vec(alloc)?;
+        Ok(DecodingKey::plain(family, bytes))
+    }
+
     fn components(n: Vec<u8>, e: Vec<u8>) -> DecodingKey
         ensures { result ≡ Components n.items e.items }
     {
@@ -124,8 +132,7 @@ impl DecodingKey {
         ensures ok { IfOk result (λ k. k ≡ Plain family.Hmac secret.now) }
         ensures err { IfErr result IsMemory }
     {
-        let bytes = secret.to_vec(alloc)?;
-        Ok(DecodingKey::plain(AlgorithmFamily::Hmac, bytes))
+        DecodingKey::copied(alloc, AlgorithmFamily::Hmac, secret)
     }
 
     /// The HMAC key of the bytes that a text in the standard alphabet with padding stands for (RFC 4648 section 4).
@@ -153,8 +160,7 @@ impl DecodingKey {
         ensures ok { IfOk result (λ k. k ≡ Plain family.Rsa der.now) }
         ensures err { IfErr result IsMemory }
     {
-        let bytes = der.to_vec(alloc)?;
-        Ok(DecodingKey::plain(AlgorithmFamily::Rsa, bytes))
+        DecodingKey::copied(alloc, AlgorithmFamily::Rsa, der)
     }
 
     /// The elliptic curve key of these bytes in DER, which are not looked at. The only refusal is `OutOfMemory`.
@@ -162,8 +168,7 @@ impl DecodingKey {
         ensures ok { IfOk result (λ k. k ≡ Plain family.Ec der.now) }
         ensures err { IfErr result IsMemory }
     {
-        let bytes = der.to_vec(alloc)?;
-        Ok(DecodingKey::plain(AlgorithmFamily::Ec, bytes))
+        DecodingKey::copied(alloc, AlgorithmFamily::Ec, der)
     }
 
     /// The Edwards curve key of these bytes in DER, which are not looked at. The only refusal is `OutOfMemory`.
@@ -171,8 +176,7 @@ impl DecodingKey {
         ensures ok { IfOk result (λ k. k ≡ Plain family.Ed der.now) }
         ensures err { IfErr result IsMemory }
     {
-        let bytes = der.to_vec(alloc)?;
-        Ok(DecodingKey::plain(AlgorithmFamily::Ed, bytes))
+        DecodingKey::copied(alloc, AlgorithmFamily::Ed, der)
     }
 
     /// The RSA key of a modulus and an exponent, each the base64url text of a big-endian number (RFC 7518 section

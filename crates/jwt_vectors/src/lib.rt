@@ -2,10 +2,10 @@
 //! the provider laws.
 #![tactic(auto)]
 
-pub mod providers;
-
 #[cfg(test)]
 mod algorithm_names;
+#[cfg(test)]
+mod claim_rules;
 #[cfg(test)]
 mod errors;
 #[cfg(test)]
@@ -16,9 +16,18 @@ mod hmac;
 mod json_values;
 #[cfg(test)]
 mod key_bytes;
+pub mod providers;
+#[cfg(test)]
+mod refusals;
 #[cfg(test)]
 mod signatures;
 #[cfg(test)]
 mod token_headers;
 #[cfg(test)]
 mod token_parts;
+#[cfg(test)]
+mod unverified_tokens;
+#[cfg(test)]
+mod validation;
+#[cfg(test)]
+mod verified_tokens;

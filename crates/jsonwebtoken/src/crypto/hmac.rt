@@ -11,7 +11,7 @@ ghost use Rattle.jsonwebtoken.specs.HmacFamilies.{family_made};
 
 use super::{CryptoProvider, JwtSigner, JwtVerifier};
 use jwt_base::algorithms::{Algorithm, AlgorithmFamily};
-use jwt_base::errors::{ErrorKind, Result, new_error};
+use jwt_base::errors::{Error, ErrorKind, Result, new_error};
 use jwt_keys::decoding::DecodingKey;
 use jwt_keys::encoding::EncodingKey;
 use jwt_params::curves::EllipticCurve;
@@ -206,6 +206,22 @@ fn hash_of_algorithm(algorithm: Algorithm) -> Option<Hash>
     }
 }
 
+// The hash of an algorithm of HMAC, where the key is of its family.
+fn hash_for_key(algorithm: Algorithm, family: AlgorithmFamily) -> Result<Hash>
+    ensures hash { IfOk result (λ h. hash_for algorithm ≡ Some h) }
+    ensures made { OnOk result (refusal (hash_for algorithm) family ≡ None) }
+    ensures family { OnOk result (family ≡ AlgorithmFamily.Hmac) }
+    ensures err { IfErr result (λ e. refusal (hash_for algorithm) family ≡ Some (kind_of e)) }
+{
+    let Some(hash) = hash_of_algorithm(algorithm) else {
+        return Err(unsupported());
+    };
+    if family != AlgorithmFamily::Hmac {
+        return Err(new_error(ErrorKind::InvalidKeyFormat));
+    }
+    Ok(hash)
+}
+
 fn hash_of_thumbprint(hash: ThumbprintHash) -> Hash
     ensures { result ≡ hash_named hash }
 {
@@ -214,6 +230,12 @@ fn hash_of_thumbprint(hash: ThumbprintHash) -> Hash
         ThumbprintHash::SHA384 => Hash::Sha384,
         ThumbprintHash::SHA512 => Hash::Sha512,
     }
+}
+
+fn unsupported() -> Error
+    ensures { kind_of result ≡ kind.UnsupportedAlgorithm }
+{
+    new_error(ErrorKind::UnsupportedAlgorithm)
 }
 
 /// Signs by HMAC. The secret is not kept.
@@ -307,12 +329,7 @@ impl CryptoProvider for HmacProvider {
         algorithm: &Algorithm,
         key: &EncodingKey,
     ) -> Result<HmacSigner> {
-        let Some(hash) = hash_of_algorithm(*algorithm) else {
-            return Err(new_error(ErrorKind::UnsupportedAlgorithm));
-        };
-        if key.family() != AlgorithmFamily::Hmac {
-            return Err(new_error(ErrorKind::InvalidKeyFormat));
-        }
+        let hash = hash_for_key(*algorithm, key.family())?;
         Ok(HmacSigner {
             blocks: Blocks::new(hash, key.as_bytes()),
         })
@@ -335,15 +352,8 @@ impl CryptoProvider for HmacProvider {
         ensures one_signature { HasOneSignature (HmacAccepts algorithm.now key.now) }
         ensures own_signatures { AcceptsItsOwn algorithm.now }
     {
-        let Some(hash) = hash_of_algorithm(*algorithm) else {
-            return Err(new_error(ErrorKind::UnsupportedAlgorithm));
-        };
-        if key.family() != AlgorithmFamily::Hmac {
-            return Err(new_error(ErrorKind::InvalidKeyFormat));
-        }
-        let Ok(secret) = key.try_get_as_bytes() else {
-            return Err(new_error(ErrorKind::InvalidKeyFormat));
-        };
+        let hash = hash_for_key(*algorithm, key.family())?;
+        let secret = key.try_get_as_bytes()?;
         Ok(HmacVerifier {
             blocks: Blocks::new(hash, secret),
         })
@@ -354,7 +364,7 @@ impl CryptoProvider for HmacProvider {
         _alloc: Global,
         _der: &[u8],
     ) -> Result<(Vec<u8>, Vec<u8>)> {
-        Err(new_error(ErrorKind::UnsupportedAlgorithm))
+        Err(unsupported())
     }
 
     fn rsa_pub_components_from_public_key(
@@ -362,7 +372,7 @@ impl CryptoProvider for HmacProvider {
         _alloc: Global,
         _der: &[u8],
     ) -> Result<(Vec<u8>, Vec<u8>)> {
-        Err(new_error(ErrorKind::UnsupportedAlgorithm))
+        Err(unsupported())
     }
 
     fn ec_pub_components_from_private_key(
@@ -371,7 +381,7 @@ impl CryptoProvider for HmacProvider {
         _der: &[u8],
         _algorithm: Algorithm,
     ) -> Result<(EllipticCurve, Vec<u8>, Vec<u8>)> {
-        Err(new_error(ErrorKind::UnsupportedAlgorithm))
+        Err(unsupported())
     }
 
     fn ed_pub_components_from_private_key(
@@ -380,7 +390,7 @@ impl CryptoProvider for HmacProvider {
         _der: &[u8],
         _curve: &EllipticCurve,
     ) -> Result<Vec<u8>> {
-        Err(new_error(ErrorKind::UnsupportedAlgorithm))
+        Err(unsupported())
     }
 
     /// The digest by SHA-2. The only refusal is `OutOfMemory`.

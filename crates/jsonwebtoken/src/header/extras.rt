@@ -119,7 +119,7 @@ impl Extras {
         if any_member_has_float(members) {
             return Err(new_error(ErrorKind::Json));
         }
-        let members = clone_members(members)?;
+        let members = clone_members(alloc, members)?;
         Ok(Extras { members })
     }
 
@@ -132,12 +132,12 @@ impl Extras {
         Ok(Extras { members })
     }
 
-    pub(crate) fn copied(&self, _alloc: Global) -> Result<Map<String, Value>>
+    pub(crate) fn copied(&self, alloc: Global) -> Result<Map<String, Value>>
         ensures ok { IfOk result (λ m. members_view m.entries ≡ self.now) }
         ensures err { IfErr result IsMemory }
         ensures extras { IsExtras self.now }
     {
-        let members = clone_members(&self.members)?;
+        let members = clone_members(alloc, &self.members)?;
         Ok(members)
     }
 

@@ -94,8 +94,8 @@ impl Validation {
         ensures unchanged { OnErr result (self.new ≡ self.old) }
         ensures err { IfErr result IsMemory }
     {
-        let names = set_of(alloc, names)?;
-        self.required_spec_claims = names;
+        let required = set_of(alloc, names)?;
+        self.required_spec_claims = required;
         Ok(())
     }
 
@@ -106,8 +106,8 @@ impl Validation {
         ensures unchanged { OnErr result (self.new ≡ self.old) }
         ensures err { IfErr result IsMemory }
     {
-        let names = set_of(alloc, names)?;
-        self.understood_crit = names;
+        let understood = set_of(alloc, names)?;
+        self.understood_crit = understood;
         Ok(())
     }
 

@@ -39,8 +39,8 @@ pub fn optional_texts(alloc: Global, value: &Value, name: &str) -> Result<Option
 {
     match value.get(name) {
         None => Ok(None),
-        Some(member) if member.is_null() => Ok(None),
-        Some(member) => Ok(Some(read_texts(alloc, member)?)),
+        Some(list) if list.is_null() => Ok(None),
+        Some(list) => Ok(Some(read_texts(alloc, list)?)),
     }
 }
 
@@ -132,7 +132,7 @@ pub fn put_optional_texts(
 }
 
 /// A copy of the members. The only refusal is `OutOfMemory`.
-pub fn clone_members(members: &Map<String, Value>) -> Result<Map<String, Value>>
+pub fn clone_members(_alloc: Global, members: &Map<String, Value>) -> Result<Map<String, Value>>
     ensures ok { IfOk result (λ m. members_view m.entries ≡ members_view members.now.entries) }
     ensures err { IfErr result IsMemory }
 {

@@ -20,6 +20,7 @@ pub struct NoProvider;
 
 impl CryptoProvider for NoProvider {
     type Signer = NoSigner;
+
     type Verifier = NoVerifier;
 
     ghost signer_refusal = { λ _ a k. Some (kind.Provider (codes "closed")) };
@@ -44,19 +45,37 @@ impl CryptoProvider for NoProvider {
 
     ghost digest = { λ _ h bytes. Err (kind.Provider (codes "closed")) };
 
-    fn signer_factory(&self, alloc: Global, _algorithm: &Algorithm, _key: &EncodingKey) -> Result<NoSigner> {
+    fn signer_factory(
+        &self,
+        alloc: Global,
+        _algorithm: &Algorithm,
+        _key: &EncodingKey,
+    ) -> Result<NoSigner> {
         Err(closed(alloc))
     }
 
-    fn verifier_factory(&self, alloc: Global, _algorithm: &Algorithm, _key: &DecodingKey) -> Result<NoVerifier> {
+    fn verifier_factory(
+        &self,
+        alloc: Global,
+        _algorithm: &Algorithm,
+        _key: &DecodingKey,
+    ) -> Result<NoVerifier> {
         Err(closed(alloc))
     }
 
-    fn rsa_pub_components_from_private_key(&self, alloc: Global, _der: &[u8]) -> Result<(Vec<u8>, Vec<u8>)> {
+    fn rsa_pub_components_from_private_key(
+        &self,
+        alloc: Global,
+        _der: &[u8],
+    ) -> Result<(Vec<u8>, Vec<u8>)> {
         Err(closed(alloc))
     }
 
-    fn rsa_pub_components_from_public_key(&self, alloc: Global, _der: &[u8]) -> Result<(Vec<u8>, Vec<u8>)> {
+    fn rsa_pub_components_from_public_key(
+        &self,
+        alloc: Global,
+        _der: &[u8],
+    ) -> Result<(Vec<u8>, Vec<u8>)> {
         Err(closed(alloc))
     }
 
@@ -78,7 +97,12 @@ impl CryptoProvider for NoProvider {
         Err(closed(alloc))
     }
 
-    fn compute_digest(&self, alloc: Global, _bytes: &[u8], _hash: ThumbprintHash) -> Result<Vec<u8>> {
+    fn compute_digest(
+        &self,
+        alloc: Global,
+        _bytes: &[u8],
+        _hash: ThumbprintHash,
+    ) -> Result<Vec<u8>> {
         Err(closed(alloc))
     }
 

@@ -130,17 +130,18 @@ impl Rows {
     fn has(&self, message: &[u8], signature: &[u8]) -> bool
         ensures { result ≡ list_any (is_signed self.now.algorithm self.now.key.items message.now signature.now) self.now.rows.items }
     {
-        self.rows
-            .iter()
-            .any(|row| row.is_signed(self.algorithm, self.key.as_slice(), message, signature))
+        self.rows.iter().any(|row| row.is_signed(
+            self.algorithm,
+            self.key.as_slice(),
+            message,
+            signature,
+        ))
     }
 
     fn first(&self, message: &[u8]) -> Option<&Row>
         ensures { option_map (λ row. row.now.signature) result ≡ first_signature self.now.rows.items self.now.algorithm self.now.key.items message.now }
     {
-        self.rows
-            .iter()
-            .find(|row| row.is_of(self.algorithm, self.key.as_slice(), message))
+        self.rows.iter().find(|row| row.is_of(self.algorithm, self.key.as_slice(), message))
     }
 }
 
@@ -233,6 +234,7 @@ fn rsa_components(alloc: Global, der: &[u8]) -> Result<(Vec<u8>, Vec<u8>)>
 
 impl CryptoProvider for TableProvider {
     type Signer = TableSigner;
+
     type Verifier = TableVerifier;
 
     ghost signer_refusal = { λ _ a k. family_refusal k.family (family_of a) };
@@ -257,15 +259,25 @@ impl CryptoProvider for TableProvider {
 
     ghost digest = { λ _ h bytes. Ok (hash_bytes (hash_named h) bytes) };
 
-    fn signer_factory(&self, alloc: Global, algorithm: &Algorithm, key: &EncodingKey) -> Result<TableSigner> {
-        if key.family() != algorithm.family() {
+    fn signer_factory(
+        &self,
+        alloc: Global,
+        algorithm: &Algorithm,
+        key: &EncodingKey,
+    ) -> Result<TableSigner> {
+        if algorithm.family() != key.family() {
             return Err(new_error(ErrorKind::InvalidKeyFormat));
         }
         let rows = Rows::new(alloc, *algorithm, key.as_bytes(), self.rows.as_slice())?;
         Ok(TableSigner { rows })
     }
 
-    fn verifier_factory(&self, alloc: Global, algorithm: &Algorithm, key: &DecodingKey) -> Result<TableVerifier> {
+    fn verifier_factory(
+        &self,
+        alloc: Global,
+        algorithm: &Algorithm,
+        key: &DecodingKey,
+    ) -> Result<TableVerifier> {
         if key.family() != algorithm.family() {
             return Err(new_error(ErrorKind::InvalidKeyFormat));
         }
@@ -274,11 +286,19 @@ impl CryptoProvider for TableProvider {
         Ok(TableVerifier { rows })
     }
 
-    fn rsa_pub_components_from_private_key(&self, alloc: Global, der: &[u8]) -> Result<(Vec<u8>, Vec<u8>)> {
+    fn rsa_pub_components_from_private_key(
+        &self,
+        alloc: Global,
+        der: &[u8],
+    ) -> Result<(Vec<u8>, Vec<u8>)> {
         rsa_components(alloc, der)
     }
 
-    fn rsa_pub_components_from_public_key(&self, alloc: Global, der: &[u8]) -> Result<(Vec<u8>, Vec<u8>)> {
+    fn rsa_pub_components_from_public_key(
+        &self,
+        alloc: Global,
+        der: &[u8],
+    ) -> Result<(Vec<u8>, Vec<u8>)> {
         rsa_components(alloc, der)
     }
 

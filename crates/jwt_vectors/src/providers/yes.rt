@@ -43,6 +43,7 @@ pub struct YesProvider;
 
 impl CryptoProvider for YesProvider {
     type Signer = NoSigner;
+
     type Verifier = YesVerifier;
 
     ghost signer_refusal = { λ _ a k. Some (kind.Provider (codes "closed")) };
@@ -67,11 +68,21 @@ impl CryptoProvider for YesProvider {
 
     ghost digest = { λ _ h bytes. Err (kind.Provider (codes "closed")) };
 
-    fn signer_factory(&self, alloc: Global, _algorithm: &Algorithm, _key: &EncodingKey) -> Result<NoSigner> {
+    fn signer_factory(
+        &self,
+        alloc: Global,
+        _algorithm: &Algorithm,
+        _key: &EncodingKey,
+    ) -> Result<NoSigner> {
         Err(closed(alloc))
     }
 
-    fn verifier_factory(&self, _alloc: Global, algorithm: &Algorithm, key: &DecodingKey) -> Result<YesVerifier> {
+    fn verifier_factory(
+        &self,
+        _alloc: Global,
+        algorithm: &Algorithm,
+        key: &DecodingKey,
+    ) -> Result<YesVerifier> {
         if key.family() == algorithm.family() {
             Ok(YesVerifier {
                 algorithm: *algorithm,
@@ -81,11 +92,19 @@ impl CryptoProvider for YesProvider {
         }
     }
 
-    fn rsa_pub_components_from_private_key(&self, alloc: Global, _der: &[u8]) -> Result<(Vec<u8>, Vec<u8>)> {
+    fn rsa_pub_components_from_private_key(
+        &self,
+        alloc: Global,
+        _der: &[u8],
+    ) -> Result<(Vec<u8>, Vec<u8>)> {
         Err(closed(alloc))
     }
 
-    fn rsa_pub_components_from_public_key(&self, alloc: Global, _der: &[u8]) -> Result<(Vec<u8>, Vec<u8>)> {
+    fn rsa_pub_components_from_public_key(
+        &self,
+        alloc: Global,
+        _der: &[u8],
+    ) -> Result<(Vec<u8>, Vec<u8>)> {
         Err(closed(alloc))
     }
 
@@ -107,7 +126,12 @@ impl CryptoProvider for YesProvider {
         Err(closed(alloc))
     }
 
-    fn compute_digest(&self, alloc: Global, _bytes: &[u8], _hash: ThumbprintHash) -> Result<Vec<u8>> {
+    fn compute_digest(
+        &self,
+        alloc: Global,
+        _bytes: &[u8],
+        _hash: ThumbprintHash,
+    ) -> Result<Vec<u8>> {
         Err(closed(alloc))
     }
 

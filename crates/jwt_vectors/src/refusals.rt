@@ -1,0 +1,21 @@
+//! What the tests ask of refusals.
+
+use jwt_base::errors::{ErrorKind, Result};
+use std::alloc::{AllocError, Global};
+
+/// Whether the answer is a refusal of this kind.
+pub fn is_refused<T: Drop>(answer: Result<T>, kind: ErrorKind) -> bool {
+    match answer {
+        Ok(_given) => false,
+        Err(refused) => refused.into_kind() == kind,
+    }
+}
+
+/// Whether the answer is the refusal `Provider("closed")`.
+pub fn is_closed<T: Drop>(
+    alloc: Global,
+    answer: Result<T>,
+) -> std::result::Result<bool, AllocError> {
+    let reason = String::from_str(alloc, "closed")?;
+    Ok(is_refused(answer, ErrorKind::Provider(reason)))
+}
