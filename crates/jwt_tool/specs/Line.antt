@@ -5,7 +5,7 @@ use Rattle.serde_json.specs.Data.{Data}
 use Rattle.serde_json.specs.Written.{compact_text}
 use Rattle.jwt_base.specs.Kind.{Kind, text_of}
 use Rattle.jsonwebtoken.specs.Header.{header_value}
-use Rattle.jsonwebtoken.specs.Tests.{Things, Passes, FirstFailed, header_order, call_on}
+use Rattle.jsonwebtoken.specs.Tests.{Things, Passes, FirstFailed, header_order, header_call}
 use Rattle.jwt_tool.specs.declared.command.Command.{Command}
 use Rattle.jwt_tool.specs.declared.command.Command.TheVariants.{Header}
 
@@ -31,7 +31,7 @@ without_final_newline xs = if slice_index xs (length xs - 1) == 10 then take (le
 
 -- what the header of the input's token is written as
 abbrev pub IsHeaderValue : List ℕ → Data → Type 0
-IsHeaderValue input value = (t : Things) × Passes (call_on input) header_order t × (header_value t.header ≡ Some value)
+IsHeaderValue input value = (t : Things) × Passes (header_call input) header_order t × (header_value t.header ≡ Some value)
 
 -- its JSON text
 abbrev pub IsHeaderText : List ℕ → List ℕ → Type 0
@@ -45,7 +45,7 @@ IsRefusal k status line = (line ≡ text_of k) × (status ≡ 1)
 abbrev pub HeaderLine : List ℕ → ℕ → List ℕ → Type 0
 HeaderLine input status line =
     (IsHeaderText input line × (status ≡ 0))
-    ⊎ ((k : Kind) × FirstFailed (call_on input) header_order k × IsRefusal k status line)
+    ⊎ ((k : Kind) × FirstFailed (header_call input) header_order k × IsRefusal k status line)
 
 abbrev pub CommandLine : Command → List ℕ → ℕ → List ℕ → Type 0
 CommandLine Header input status line = HeaderLine input status line

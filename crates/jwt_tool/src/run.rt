@@ -6,7 +6,7 @@ ghost use Rattle.serde_json.specs.View.{view};
 ghost use Rattle.serde_json.specs.Written.{has_float, compact_text};
 ghost use Rattle.jwt_base.specs.Kind.{text_of};
 ghost use Rattle.jwt_base.specs.KindOf.{kind_of, IsMemory};
-ghost use Rattle.jsonwebtoken.specs.Tests.{FirstFailed, header_order, call_on};
+ghost use Rattle.jsonwebtoken.specs.Tests.{FirstFailed, header_order, header_call};
 ghost use Rattle.jwt_tool.specs.Line.{Answers, CommandAnswer, HeaderAnswer, IsHeaderValue, command_of, IsUsage, without_final_newline};
 
 use crate::command::{Command, requested_command};
@@ -128,7 +128,7 @@ fn refusal_answer(alloc: Global, e: &Error) -> std::result::Result<Answer, ToolF
 fn header_value(alloc: Global, input: &[u8]) -> Result<Value>
     ensures ok { IfOk result (λ v. IsHeaderValue input.now (view v)) }
     ensures no_float { IfOk result (λ v. has_float (view v) ≡ false) }
-    ensures err { IfErr result (λ e. IsMemory e ⊎ FirstFailed (call_on input.now) header_order (kind_of e)) }
+    ensures err { IfErr result (λ e. IsMemory e ⊎ FirstFailed (header_call input.now) header_order (kind_of e)) }
 {
     let header = decode_header(alloc, input)?;
     header.to_value(alloc)

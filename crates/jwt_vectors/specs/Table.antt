@@ -1,5 +1,5 @@
 -- What the provider of the table answers.
-use Rattle.std.specs.Prelude.{◌≡◌, ◌&&◌, ℕ, ◌-◌, List, [], ◌∷◌, Bool, IsTrue, length, drop, nat_lt, if◌then◌else◌, Option, Some, None, Result, Ok, Err, find, option_map, codes}
+use Rattle.std.specs.Prelude.{◌&&◌, ℕ, ◌-◌, List, [], ◌∷◌, Bool, IsTrue, length, drop, nat_lt, if◌then◌else◌, Option, Some, None, Result, Ok, Err, find, option_map, codes}
 use Rattle.std.specs.List.{list_any}
 use Rattle.std.specs.Str.{bytes_eq}
 use Rattle.jwt_base.specs.Kind.{Kind}

@@ -1,7 +1,7 @@
 //! Values that are read from JSON and written as JSON.
 
 ghost use Rattle.std.specs.Prelude.{◌≡◌, Option, Some, None, IfOk, IfErr, option_map, string_bytes};
-ghost use Rattle.std.proofs.Common.{◌∙◌, sym, ap, rules};
+ghost use Rattle.std.proofs.Common.{◌∙◌, sym, ap};
 ghost use Rattle.std.specs.Int.{w32, w64};
 ghost use Rattle.serde_json.specs.Data.{Data, boolean, string, number, unsigned};
 ghost use Rattle.serde_json.specs.Find.{of_integer};
@@ -99,7 +99,7 @@ impl Claims for bool {
         }
     }
 
-    ghost decided = { Prim.search rules };
+    ghost decided = { λ d b c p q. ap (option_map boolean) (sym p ∙ q) };
 }
 
 /// A whole number in the type's range.
@@ -123,7 +123,7 @@ impl Claims for u32 {
         }
     }
 
-    ghost decided = { Prim.search rules };
+    ghost decided = { λ d m n p q. ap (option_map (λ z. number (of_integer z))) (sym p.1 ∙ q.1) };
 }
 
 /// A whole number in the type's range.
@@ -147,7 +147,7 @@ impl Claims for u64 {
         }
     }
 
-    ghost decided = { Prim.search rules };
+    ghost decided = { λ d m n p q. ap (option_map (λ z. number (of_integer z))) (sym p.1 ∙ q.1) };
 }
 
 /// A whole number in the type's range.
@@ -171,7 +171,7 @@ impl Claims for i32 {
         }
     }
 
-    ghost decided = { Prim.search rules };
+    ghost decided = { λ d y z p q. ap (option_map (λ x. number (of_integer x))) (sym p.1 ∙ q.1) };
 }
 
 /// A whole number in the type's range.
@@ -195,5 +195,5 @@ impl Claims for i64 {
         }
     }
 
-    ghost decided = { Prim.search rules };
+    ghost decided = { λ d y z p q. ap (option_map (λ x. number (of_integer x))) (sym p.1 ∙ q.1) };
 }
