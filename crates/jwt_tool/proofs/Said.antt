@@ -1,7 +1,11 @@
 -- What is answered, where the reader's bytes are known.
-use Rattle.std.proofs.Common.{◌≡◌, ℕ, List, [], ◌∷◌, ◌++◌, Option, Some, None, IfSome, subst, inl, inr}
+use Rattle.std.proofs.Common.{◌≡◌, ℕ, List, [], ◌∷◌, ◌++◌, Option, Some, None, IfSome, ◌⊎◌, ap, ◌∙◌, subst, inl, inr}
 use Rattle.std.specs.Io.KnownBytes.{Appends}
-use Rattle.jwt_tool.specs.Line.{Answers, CommandAnswer, IsUsage, command_of, without_final_newline}
+use Rattle.jwt_base.specs.Kind.{text_of}
+use Rattle.jwt_base.specs.KindOf.{kind_of, IsMemory}
+use Rattle.jwt_base.specs.declared.errors.Error.{Error}
+use Rattle.jsonwebtoken.specs.Tests.{FirstFailed, header_order, header_call}
+use Rattle.jwt_tool.specs.Line.{Answers, CommandAnswer, HeaderAnswer, IsUsage, command_of, without_final_newline}
 use Rattle.jwt_tool.specs.declared.command.Command.{Command}
 
 usage_answers : (words : List (List ℕ)) (input : List ℕ) (status : ℕ) (line : List ℕ) → command_of words ≡ None → IsUsage status line → Answers words input status line
@@ -28,3 +32,9 @@ pub wrote : (known old new : Option (List ℕ)) (words : List (List ℕ)) (statu
     → Appends old new (line ++ 10 ∷ []) → IfSome known (λ all. (l : List ℕ) × Appends old new (l ++ 10 ∷ []) × Answers words (without_final_newline all) status l)
 wrote None old new words status line said appended = tt
 wrote (Some all) old new words status line said appended = (line, appended, said)
+
+-- a refusal's text, or that of want of memory
+pub refused_said : (input : List ℕ) (e : Error) (status : ℕ) (line : List ℕ) → IsMemory e ⊎ FirstFailed (header_call input) header_order (kind_of e)
+    → (line ≡ text_of (kind_of e)) × (status ≡ 1) → HeaderAnswer input status line
+refused_said input e status line (inl memory) said = inr (said.0 ∙ ap text_of memory, said.1)
+refused_said input e status line (inr failed) said = inl (inr (kind_of e, failed, said))

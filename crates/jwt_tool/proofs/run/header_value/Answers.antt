@@ -1,7 +1,11 @@
-use Rattle.std.proofs.lemmas.Result.{IfOk-weaker}
+use Rattle.std.proofs.Common.{inl}
+use Rattle.std.proofs.lemmas.Result.{IfOk-weaker, IfErr-weaker}
 use Rattle.jwt_tool.proofs.run.header_value.Goals as goal
 
 pub returns-clause-ok : goal.returns-clause-ok
 returns-clause-ok c =
     let read = c.in_ok-header.ensures.accepted in
     IfOk-weaker c.to_value.result _ _ (λ v written. (read.0, read.1, rw read.2 written)) c.to_value.ensures.ok
+
+pub returns-clause-err : goal.returns-clause-err
+returns-clause-err c = IfErr-weaker c.to_value.result _ _ (λ e memory. inl memory) c.to_value.ensures.err
