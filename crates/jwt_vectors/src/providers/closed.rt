@@ -1,9 +1,8 @@
-//! What is never made, and the refusal that says so.
+//! What no provider makes, and the refusal that says so.
 
-ghost use Rattle.std.specs.Prelude.{◌≡◌, ℕ, List, Option, None, Some, codes};
+ghost use Rattle.std.specs.Prelude.{◌≡◌, ℕ, List, Option, Some, codes};
 ghost use Rattle.jwt_base.specs.Kind as kind;
 ghost use Rattle.jwt_base.specs.KindOf.{Refuses};
-ghost use Rattle.jwt_base.specs.declared.algorithms.Algorithm.TheVariants.{HS256};
 
 use jsonwebtoken::crypto::{JwtSigner, JwtVerifier};
 use jwt_base::algorithms::Algorithm;
@@ -20,42 +19,46 @@ pub(super) fn closed(alloc: Global) -> Error
     }
 }
 
-/// A signer that is never made.
+/// A signer that signs nothing. No provider makes one.
 #[derive(Drop)]
-pub enum NoSigner {}
+pub struct NoSigner {
+    algorithm: Algorithm,
+}
 
 impl JwtSigner for NoSigner {
-    ghost signs_by = { λ _. HS256 };
+    ghost signs_by = { λ s. s.algorithm };
 
-    ghost sign_refusal = { λ _ m. None };
+    ghost sign_refusal = { λ _ m. Some (kind.Provider (codes "closed")) };
 
     ghost signs = { λ _ m s. ⊥ };
 
     fn algorithm(&self) -> Algorithm {
-        match *self {}
+        self.algorithm
     }
 
-    fn sign(&self, _alloc: Global, _message: &[u8]) -> Result<Vec<u8>> {
-        match *self {}
+    fn sign(&self, alloc: Global, _message: &[u8]) -> Result<Vec<u8>> {
+        Err(closed(alloc))
     }
 }
 
-/// A verifier that is never made.
+/// A verifier that accepts nothing. No provider makes one.
 #[derive(Drop)]
-pub enum NoVerifier {}
+pub struct NoVerifier {
+    algorithm: Algorithm,
+}
 
 impl JwtVerifier for NoVerifier {
-    ghost verifies_by = { λ _. HS256 };
+    ghost verifies_by = { λ v. v.algorithm };
 
     ghost accepts = { λ _ m s. ⊥ };
 
-    ghost is_sparing = { λ _. ⊥ };
+    ghost is_sparing = { λ _. Unit {0} };
 
     fn algorithm(&self) -> Algorithm {
-        match *self {}
+        self.algorithm
     }
 
     fn verify(&self, _alloc: Global, _message: &[u8], _signature: &[u8]) -> Result<bool> {
-        match *self {}
+        Ok(false)
     }
 }
