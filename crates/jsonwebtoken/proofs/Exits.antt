@@ -5,8 +5,8 @@ use Rattle.jwt_base.specs.KindOf.{kind_of, IsMemory}
 use Rattle.jwt_base.specs.declared.errors.Error.{Error}
 use Rattle.jsonwebtoken.specs.Tests.{Call, Test, Things, Passes, signature_tests, claim_tests, ClaimsAreAnObject, ClaimRulesHold}
 use Rattle.serde_json.specs.Data.{Data}
-use Rattle.jsonwebtoken.specs.ClaimRules.{IsFault, IsRuleFault, missing, broken, RulesHold, Tells}
-use Rattle.jsonwebtoken.specs.Options.{Options}
+use Rattle.jwt_validation.specs.ClaimRules.{IsFault, IsRuleFault, missing, broken, RulesHold, Tells}
+use Rattle.jwt_validation.specs.Options.{Options}
 use Rattle.jsonwebtoken.specs.Steps.{Meets, Step, Failed, verified}
 
 pub not_both : {K : Type 0} (r : Option K) (k : K) → r ≡ Some k → r ≡ None → ⊥

@@ -6,17 +6,17 @@ use Rattle.jwt_keys.specs.Key.{Key, key_family}
 use Rattle.jwt_base.specs.declared.algorithms.Algorithm.{Algorithm}
 use Rattle.jsonwebtoken.specs.Crit.{IsUnderstoodName, IsUnderstoodList}
 use Rattle.serde_json.specs.Data.{Members}
-use Rattle.jsonwebtoken.specs.declared.header.Header.{Header}
-use Rattle.jsonwebtoken.specs.Options.{Texts}
-use Rattle.jsonwebtoken.specs.Moments.{IsSubset}
+use Rattle.jwt_header.specs.declared.header.Header.{Header}
+use Rattle.jwt_validation.specs.Options.{Texts}
+use Rattle.jwt_validation.specs.Moments.{IsSubset}
 use Rattle.jsonwebtoken.specs.Tests.{Call, Compact, Given, Test, Things, Cut, IsCutOf, message_of, Passes, decode_order, jws_order, header_order, header_tests, jws_algorithm_tests, algorithm_tests, signature_tests, payload_tests, claim_tests, KeyIsGiven, HasThreeParts, HeaderIsPart, HeaderIsJson, HeaderReads, CritIsUnderstood, AlgorithmIsListed, VerifierIsMade, FamiliesAgree, SignatureIsPart, SignatureIsAccepted, PayloadIsPart, ClaimsAreAnObject, ClaimRulesHold}
 use Rattle.jwt_base.specs.Base64Url.{url_characters}
 use Rattle.base64.specs.Rfc4648.{encode_symbols}
 use Rattle.jsonwebtoken.specs.Laws.{base_order, HasMoments, PassesLooser, HasOneSignature, IsOneText, AgreeOn, on_parts, on_text}
 use Rattle.jsonwebtoken.proofs.Dots.{cut_of_parts, parts_of_cut}
-use Rattle.jsonwebtoken.proofs.ClaimRuleLemmas.{within, held_within, rules-looser}
+use Rattle.jwt_validation.proofs.ClaimRuleLemmas.{within, held_within, rules-looser}
 use Rattle.jwt_base.proofs.Parts.{one_json}
-use Rattle.jsonwebtoken.proofs.HeaderLemmas.{one_header}
+use Rattle.jwt_header.proofs.HeaderLemmas.{one_header}
 use Rattle.jsonwebtoken.proofs.Orders.{met, among, join}
 
 pub more_understood : (v w : Texts) → IsSubset v w → (extras : Members) (crit : Option (List (List ℕ)))

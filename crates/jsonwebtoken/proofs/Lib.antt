@@ -1,15 +1,7 @@
-pub mod ClaimRuleLemmas
 pub mod Dots
-pub mod Each
 pub mod Engine
 pub mod Exits
-pub mod FreeExtras
-pub mod HeaderLemmas
-pub mod HmacMasks
 pub mod LawsOf
-pub mod NamePlaces
 pub mod OneCut
 pub mod Orders
-pub mod TextsAmong
 pub mod Repeats
-pub mod Unreadable

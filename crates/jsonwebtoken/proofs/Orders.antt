@@ -7,9 +7,9 @@ use Rattle.jwt_base.specs.KindOf.{kind_of, IsMemory}
 use Rattle.jwt_base.specs.declared.errors.Error.{Error}
 use Rattle.jsonwebtoken.specs.Tests.{Call, Given, Test, KeyIsGiven, HasThreeParts, HeaderIsPart, HeaderIsJson, HeaderReads, CritIsUnderstood, AlgorithmsAreListed, AlgorithmIsListed, VerifierIsMade, FamiliesAgree, SignatureIsPart, SignatureIsAccepted, PayloadIsPart, PayloadIsJson, ClaimsRead, ClaimsAreAnObject, ClaimRulesHold, Things, Condition, HasKind, Passes, FirstFailed}
 use Rattle.jsonwebtoken.specs.Steps.{FailsAt, Step}
-use Rattle.jsonwebtoken.specs.declared.header.Header.{Header}
+use Rattle.jwt_header.specs.declared.header.Header.{Header}
 use Rattle.jsonwebtoken.proofs.Engine as engine
-use Rattle.jsonwebtoken.proofs.HeaderLemmas.{one_header}
+use Rattle.jwt_header.proofs.HeaderLemmas.{one_header}
 use Rattle.jsonwebtoken.proofs.OneCut.{one_cut}
 
 abbrev every_test : List Test

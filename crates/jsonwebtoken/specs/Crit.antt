@@ -3,9 +3,9 @@ use Rattle.std.specs.Prelude.{◌≡◌, ◌≢◌, ℕ, List, [], AllPairs, All
 use Rattle.serde_json.specs.Data.{Members}
 use Rattle.serde_json.specs.Find.{get_member}
 use Rattle.jwt_base.specs.Members.{is_named}
-use Rattle.jsonwebtoken.specs.Extras.{header_names}
-use Rattle.jsonwebtoken.specs.Options.{Texts}
-use Rattle.jsonwebtoken.specs.declared.header.Header.{Header}
+use Rattle.jwt_header.specs.Extras.{header_names}
+use Rattle.jwt_validation.specs.Options.{Texts}
+use Rattle.jwt_header.specs.declared.header.Header.{Header}
 
 -- the standards do not define the name, the header has a member of it, and its receiver understands it
 pub record IsUnderstoodName (extras : Members) (understood : Texts) (name : List ℕ) : Type 0 where

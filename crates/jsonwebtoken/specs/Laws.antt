@@ -1,8 +1,8 @@
 -- When a token is accepted, under which options, and which texts are.
 use Rattle.std.specs.Prelude.{◌≡◌, ◌↔◌, ℕ, ◌≤◌, List, [], ◌∷◌, ◌++◌}
-use Rattle.jsonwebtoken.specs.Claim.{claims_of}
-use Rattle.jsonwebtoken.specs.Options.{Options}
-use Rattle.jsonwebtoken.specs.Moments.{RulesOfNoMoment, first_moment, last_moment, end_of_time, Looser}
+use Rattle.jwt_validation.specs.Claim.{claims_of}
+use Rattle.jwt_validation.specs.Options.{Options}
+use Rattle.jwt_validation.specs.Moments.{RulesOfNoMoment, first_moment, last_moment, end_of_time, Looser}
 use Rattle.jsonwebtoken.specs.Tests.{Call, Compact, Parts, Cut, text_of_parts, jws_order, Test, Things, Passes, decode_order, header_order, algorithm_tests, signature_tests, payload_tests, KeyIsGiven, CritIsUnderstood, ClaimsAreAnObject}
 
 -- the tests of decode that do not speak of the moment

@@ -10,11 +10,11 @@ use Rattle.jwt_base.specs.declared.errors.Error.{Error}
 use Rattle.jwt_base.specs.declared.algorithms.Algorithm.{Algorithm}
 use Rattle.jwt_base.specs.declared.algorithms.Algorithm.TheVariants.{HS256}
 use Rattle.jwt_keys.specs.Key.{Key}
-use Rattle.jsonwebtoken.specs.Header.{ReadsHeader, new_header}
-use Rattle.jsonwebtoken.specs.Options.{Options}
+use Rattle.jwt_header.specs.Header.{ReadsHeader, new_header}
+use Rattle.jwt_validation.specs.Options.{Options}
 use Rattle.jsonwebtoken.specs.Order.{FailedAt}
 use Rattle.jsonwebtoken.specs.Tests.{Cut, Compact, HasParts, Given, Call, Test, KeyIsGiven, HasThreeParts, HeaderIsPart, HeaderIsJson, HeaderReads, CritIsUnderstood, AlgorithmsAreListed, AlgorithmIsListed, VerifierIsMade, FamiliesAgree, SignatureIsPart, SignatureIsAccepted, PayloadIsPart, PayloadIsJson, ClaimsRead, ClaimsAreAnObject, ClaimRulesHold, Things, Condition, HasKind, Passes, verifying_call, header_call, insecure_call, no_key}
-use Rattle.jsonwebtoken.specs.declared.header.Header.{Header}
+use Rattle.jwt_header.specs.declared.header.Header.{Header}
 
 -- the answer is so; or the refusal is of such a kind, unless memory ran out
 abbrev pub Meets : {R : Type 0} → (R → Type 0) → (Kind → Type 0) → Result R Error → Type 0

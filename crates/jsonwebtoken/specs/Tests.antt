@@ -10,12 +10,12 @@ use Rattle.jwt_base.specs.JsonText.{IsJson}
 use Rattle.jwt_base.specs.declared.algorithms.Algorithm.{Algorithm}
 use Rattle.jwt_base.specs.declared.algorithms.AlgorithmFamily.TheVariants.{Hmac}
 use Rattle.jwt_keys.specs.Key.{Key, Plain}
-use Rattle.jsonwebtoken.specs.ClaimRules.{RulesHold, IsRuleFault}
+use Rattle.jwt_validation.specs.ClaimRules.{RulesHold, IsRuleFault}
 use Rattle.jsonwebtoken.specs.Crit.{IsUnderstood}
-use Rattle.jsonwebtoken.specs.Header.{ReadsHeader}
-use Rattle.jsonwebtoken.specs.Options.{Options, default_options}
+use Rattle.jwt_header.specs.Header.{ReadsHeader}
+use Rattle.jwt_validation.specs.Options.{Options, default_options}
 use Rattle.jsonwebtoken.specs.Order.{PassesAll, FailsFirst}
-use Rattle.jsonwebtoken.specs.declared.header.Header.{Header}
+use Rattle.jwt_header.specs.declared.header.Header.{Header}
 
 -- ---- a token
 

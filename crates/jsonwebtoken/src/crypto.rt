@@ -1,5 +1,4 @@
-//! Providers of signatures: the traits with their laws, and the provider that is built in.
+//! What signs and what verifies: the provider laws, the calls over any lawful provider, and the built-in HMAC.
 
+pub use jwt_hmac::hmac;
 pub use jwt_keys::crypto::{CryptoProvider, JwtSigner, JwtVerifier, sign, verify};
-
-pub mod hmac;

@@ -5,7 +5,7 @@ ghost use Rattle.jwt_base.specs.Algorithm.{family_of};
 ghost use Rattle.jwt_base.specs.KindOf.{kind_of, IsMemory};
 ghost use Rattle.jwt_keys.specs.Key.{key_family};
 ghost use Rattle.jsonwebtoken.specs.Laws.{HasMoments, PassesLooser, HasOneSignature, IsOneText};
-ghost use Rattle.jsonwebtoken.specs.OptionsOf.{options_of};
+ghost use Rattle.jwt_validation.specs.OptionsOf.{options_of};
 ghost use Rattle.jsonwebtoken.specs.Steps.{Step};
 ghost use Rattle.jsonwebtoken.specs.Tests.{Compact, Things, Passes, FirstFailed, header_order, decode_order, header_call, verifying_call};
 
@@ -15,12 +15,12 @@ pub(crate) mod steps;
 
 use crate::decoding::crit::check_crit;
 use crate::decoding::steps::{make_verifier, parts, read_header, verified_claims};
-use crate::header::Header;
-use crate::validation::Validation;
 use jwt_base::errors::Result;
 use jwt_base::json::Claims;
+use jwt_header::header::Header;
 use jwt_keys::crypto::CryptoProvider;
 use jwt_keys::decoding::DecodingKey;
+use jwt_validation::validation::Validation;
 use std::alloc::Global;
 
 /// What a token carries.

@@ -4,13 +4,11 @@
 pub mod crypto;
 pub mod dangerous;
 mod decoding;
-mod header;
-mod validation;
 
 pub use decoding::{TokenData, decode, decode_header};
-pub use header::{Enc, Extras, Header, Zip};
 pub use jwt_base::algorithms::{Algorithm, AlgorithmFamily};
 pub use jwt_base::{errors, json};
+pub use jwt_header::header::{Enc, Extras, Header, Zip};
 pub use jwt_keys::decoding::{DecodingKey, DecodingKeyKind};
 pub use jwt_keys::encoding::EncodingKey;
-pub use validation::{Clock, Validation, get_current_timestamp, validate};
+pub use jwt_validation::validation::{Clock, Validation, get_current_timestamp, validate};

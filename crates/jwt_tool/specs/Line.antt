@@ -4,7 +4,7 @@ use Rattle.std.specs.Str.{bytes_eq}
 use Rattle.serde_json.specs.Data.{Data}
 use Rattle.serde_json.specs.Written.{compact_text}
 use Rattle.jwt_base.specs.Kind.{Kind, text_of}
-use Rattle.jsonwebtoken.specs.Header.{header_value}
+use Rattle.jwt_header.specs.Header.{header_value}
 use Rattle.jsonwebtoken.specs.Tests.{Things, Passes, FirstFailed, header_order, header_call}
 use Rattle.jwt_tool.specs.declared.command.Command.{Command}
 use Rattle.jwt_tool.specs.declared.command.Command.TheVariants.{Header}

@@ -5,13 +5,13 @@ ghost use Rattle.std.specs.HashSet.{contains_text};
 ghost use Rattle.serde_json.specs.Find.{get_member};
 ghost use Rattle.jwt_base.specs.Kind as kind;
 ghost use Rattle.jsonwebtoken.specs.Crit.{IsUnderstoodName, IsUnderstoodList, IsUnderstood};
-ghost use Rattle.jsonwebtoken.specs.OptionsOf.{options_of};
+ghost use Rattle.jwt_validation.specs.OptionsOf.{options_of};
 ghost use Rattle.jsonwebtoken.specs.Steps.{Decides};
 
-use crate::header::{Extras, Header, is_header_name};
-use crate::validation::Validation;
 use jwt_base::errors::{ErrorKind, Result, new_error};
 use jwt_base::text::Text;
+use jwt_header::header::{Extras, Header, is_header_name};
+use jwt_validation::validation::Validation;
 use std::collections::HashSet;
 
 /// Refuses with `InvalidCrit` a header whose `crit` is not understood.

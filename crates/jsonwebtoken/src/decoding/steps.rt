@@ -3,18 +3,18 @@
 ghost use Rattle.std.specs.Prelude.{◌≡◌, ◌↔◌, ◌++◌, ◌∷◌, ℕ, List, IfOk, IfErr, IfSome, IfNone, Contains};
 ghost use Rattle.jwt_base.specs.Kind as kind;
 ghost use Rattle.jwt_base.specs.KindOf.{kind_of};
-ghost use Rattle.jsonwebtoken.specs.OptionsOf.{options_of};
+ghost use Rattle.jwt_validation.specs.OptionsOf.{options_of};
 ghost use Rattle.jsonwebtoken.specs.Steps.{Step, bare, cut_of, with_header_part, with_payload_part, with_cut, with_key, making, accepting, claiming, reading, verified};
 ghost use Rattle.jsonwebtoken.specs.Tests.{dot, Cut, IsCutOf, header_tests, algorithm_tests, jws_algorithm_tests, signature_tests, payload_tests, claim_tests};
 
 use crate::decoding::checks::{check_families, check_listed, check_some_listed, check_verdict};
-use crate::header::Header;
-use crate::validation::{Validation, validate};
 use jwt_base::errors::{ErrorKind, Result, new_error};
 use jwt_base::json::Claims;
 use jwt_base::serialization::{json_value, part_bytes};
+use jwt_header::header::Header;
 use jwt_keys::crypto::{CryptoProvider, JwtVerifier};
 use jwt_keys::decoding::DecodingKey;
+use jwt_validation::validation::{Validation, validate};
 use memchr::memrchr;
 use std::alloc::Global;
 

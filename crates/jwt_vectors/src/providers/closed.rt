@@ -4,9 +4,9 @@ ghost use Rattle.std.specs.Prelude.{◌≡◌, ℕ, List, Option, Some, codes};
 ghost use Rattle.jwt_base.specs.Kind as kind;
 ghost use Rattle.jwt_base.specs.KindOf.{Refuses};
 
-use jsonwebtoken::crypto::{JwtSigner, JwtVerifier};
 use jwt_base::algorithms::Algorithm;
 use jwt_base::errors::{Error, ErrorKind, Result, new_error};
+use jwt_keys::crypto::{JwtSigner, JwtVerifier};
 use std::alloc::Global;
 
 // The refusal `Provider("closed")`, or `OutOfMemory`.

@@ -5,9 +5,9 @@ ghost use Rattle.jwt_vectors.specs.Families.{never_made};
 ghost use Rattle.jwt_base.specs.Kind as kind;
 
 use super::closed::{NoSigner, NoVerifier, closed};
-use jsonwebtoken::crypto::CryptoProvider;
 use jwt_base::algorithms::Algorithm;
 use jwt_base::errors::Result;
+use jwt_keys::crypto::CryptoProvider;
 use jwt_keys::decoding::DecodingKey;
 use jwt_keys::encoding::EncodingKey;
 use jwt_params::curves::EllipticCurve;

@@ -5,9 +5,9 @@ ghost use Rattle.jwt_base.specs.Kind as kind;
 ghost use Rattle.jwt_vectors.specs.Families.{verifier_refusal_of, family_made};
 
 use super::closed::{NoSigner, closed};
-use jsonwebtoken::crypto::{CryptoProvider, JwtVerifier};
 use jwt_base::algorithms::Algorithm;
 use jwt_base::errors::{ErrorKind, Result, new_error};
+use jwt_keys::crypto::{CryptoProvider, JwtVerifier};
 use jwt_keys::decoding::DecodingKey;
 use jwt_keys::encoding::EncodingKey;
 use jwt_params::curves::EllipticCurve;

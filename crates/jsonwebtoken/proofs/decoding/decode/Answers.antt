@@ -1,6 +1,6 @@
 use Rattle.std.proofs.Common.{◌≡◌, refl}
 use Rattle.std.proofs.lemmas.Result.{IfOk-weaker}
-use Rattle.jsonwebtoken.specs.OptionsOf.{options_of}
+use Rattle.jwt_validation.specs.OptionsOf.{options_of}
 use Rattle.jsonwebtoken.specs.Tests.{Compact, Things, Passes, decode_order, verifying_call}
 use Rattle.jsonwebtoken.proofs.LawsOf.{moments, looser, one_text, family_of_key}
 use Rattle.jsonwebtoken.proofs.Orders.{accepted, exact, refused, same_answer}

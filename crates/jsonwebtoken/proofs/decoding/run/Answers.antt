@@ -1,7 +1,7 @@
 use Rattle.std.proofs.Common.{◌++◌, [], ◌∷◌, inl, inr, refl, sym}
 use Rattle.std.proofs.lemmas.Result.{err_from_is_err_and}
 use Rattle.jsonwebtoken.specs.Tests.{Compact, CritIsUnderstood, KeyIsGiven, HasThreeParts, header_order, header_tests, algorithm_tests, signature_tests, claim_tests, decode_order, verifying_call}
-use Rattle.jsonwebtoken.specs.OptionsOf.{options_of}
+use Rattle.jwt_validation.specs.OptionsOf.{options_of}
 use Rattle.jsonwebtoken.specs.Steps.{nothing, cut_of}
 use Rattle.jsonwebtoken.proofs.Orders.{join}
 use Rattle.jsonwebtoken.proofs.Exits.{or_memory, stop, verified_passes, verified_failed}

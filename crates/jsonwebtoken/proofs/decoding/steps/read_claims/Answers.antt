@@ -1,7 +1,7 @@
 use Rattle.std.proofs.Common.{inl, inr, refl}
 use Rattle.std.proofs.lemmas.Result.{err_from_is_err_and}
 use Rattle.serde_json.specs.View.{view}
-use Rattle.jsonwebtoken.specs.OptionsOf.{options_of}
+use Rattle.jwt_validation.specs.OptionsOf.{options_of}
 use Rattle.jsonwebtoken.specs.Steps.{nothing, claiming}
 use Rattle.jsonwebtoken.proofs.Exits.{or_memory, rules_failed}
 use Rattle.jsonwebtoken.proofs.decoding.steps.read_claims.Goals as goal

@@ -1,7 +1,7 @@
 use Rattle.std.proofs.Common.{◌++◌}
 use Rattle.std.proofs.lemmas.Result.{err_from_is_err_and}
 use Rattle.jsonwebtoken.specs.Tests.{Things, signature_tests, claim_tests}
-use Rattle.jsonwebtoken.specs.OptionsOf.{options_of}
+use Rattle.jwt_validation.specs.OptionsOf.{options_of}
 use Rattle.jsonwebtoken.specs.Steps.{Failed, claiming, with_payload_part, verified, with_cut, cut_of}
 use Rattle.jsonwebtoken.proofs.Orders.{join}
 use Rattle.jsonwebtoken.proofs.Exits.{or_memory, step_last, early, later}

@@ -1,0 +1,4 @@
+pub mod Each
+pub mod FreeExtras
+pub mod HeaderLemmas
+pub mod Unreadable

@@ -1,0 +1,94 @@
+-- Sameness of headers, where any two floats count as equal, and what a hasher is fed of one.
+use Rattle.std.specs.Prelude.{◌≡◌, ◌&&◌, ◌++◌, Bool, Some, unwrap_or, refl}
+use Rattle.std.specs.Bool.{Decides}
+use Rattle.std.specs.Cmp.{IsEquivalence}
+use Rattle.std.specs.Cmp.Lexicographic.{pointwise}
+use Rattle.std.specs.Hash.{HashWrites, Alike, str, slice, option}
+use Rattle.std.specs.Str.{bytes_eq}
+use Rattle.std.proofs.Common.{sym, ap, ◌∙◌}
+use Rattle.std.proofs.lemmas.Slice.Eq.{bytes_eq-Decides}
+use Rattle.jwt_base.specs.Algorithm.{name_of, algorithm_named}
+use Rattle.jwt_base.specs.DataEq.{members_eq, members_marked}
+use Rattle.jwt_base.specs.DataEqLaws.{members_decides}
+use Rattle.jwt_base.specs.Decided.{option_eq, option_decides_itself, and_decides, same_as, texts_decides, decided_by, fed_by_mark}
+use Rattle.jwt_base.specs.NamesFed.{names_fed, names_marked}
+use Rattle.jwt_base.specs.declared.algorithms.Algorithm.{Algorithm}
+use Rattle.jwt_base.specs.declared.algorithms.Algorithm.TheVariants.{HS256, HS384, HS512, RS256, RS384, RS512, PS256, PS384, PS512, ES256, ES384, EdDSA}
+use Rattle.jwt_header.specs.NamesSame.{enc_eq, enc_decides, enc_fed, zip_eq, zip_decides, zip_fed}
+use Rattle.jwt_header.specs.declared.header.Header.{Header}
+
+abbrev pub same_algorithm : Algorithm → Algorithm → Bool
+same_algorithm a b = bytes_eq (name_of a) (name_of b)
+
+pub named_back : (a : Algorithm) → algorithm_named (name_of a) ≡ Some a
+named_back HS256 = refl
+named_back HS384 = refl
+named_back HS512 = refl
+named_back RS256 = refl
+named_back RS384 = refl
+named_back RS512 = refl
+named_back PS256 = refl
+named_back PS384 = refl
+named_back PS512 = refl
+named_back ES256 = refl
+named_back ES384 = refl
+named_back EdDSA = refl
+
+pub same_algorithm_decides : (a b : Algorithm) → Decides (same_algorithm a b) (a ≡ b)
+same_algorithm_decides a b = same_as _ (bytes_eq-Decides (name_of a) (name_of b))
+    (λ e. ap (λ o. unwrap_or o a) (sym (named_back a) ∙ ap algorithm_named e ∙ named_back b))
+    (ap name_of)
+
+abbrev pub header_eq : Header → Header → Bool
+header_eq g h =
+    same_algorithm g.alg h.alg
+    && (option_eq bytes_eq g.typ h.typ
+    && (option_eq bytes_eq g.cty h.cty
+    && (option_eq bytes_eq g.jku h.jku
+    && (option_eq bytes_eq g.kid h.kid
+    && (option_eq bytes_eq g.x5u h.x5u
+    && (option_eq bytes_eq g.x5t h.x5t
+    && (option_eq bytes_eq g.x5t_s256 h.x5t_s256
+    && (option_eq bytes_eq g.url h.url
+    && (option_eq bytes_eq g.nonce h.nonce
+    && (option_eq (pointwise bytes_eq) g.x5c h.x5c
+    && (option_eq (pointwise bytes_eq) g.crit h.crit
+    && (option_eq enc_eq g.enc h.enc
+    && (option_eq zip_eq g.zip h.zip
+    && (members_eq g.extras h.extras))))))))))))))
+
+-- the header with one mark in place of each float
+abbrev pub marked_header : Header → Header
+marked_header h = record h { extras = members_marked h.extras }
+
+pub header_decides : (g h : Header) → Decides (header_eq g h) (marked_header g ≡ marked_header h)
+header_decides g h = same_as _
+    (and_decides _ _ (same_algorithm_decides g.alg h.alg) (
+    and_decides _ _ (option_decides_itself bytes_eq bytes_eq-Decides g.typ h.typ) (
+    and_decides _ _ (option_decides_itself bytes_eq bytes_eq-Decides g.cty h.cty) (
+    and_decides _ _ (option_decides_itself bytes_eq bytes_eq-Decides g.jku h.jku) (
+    and_decides _ _ (option_decides_itself bytes_eq bytes_eq-Decides g.kid h.kid) (
+    and_decides _ _ (option_decides_itself bytes_eq bytes_eq-Decides g.x5u h.x5u) (
+    and_decides _ _ (option_decides_itself bytes_eq bytes_eq-Decides g.x5t h.x5t) (
+    and_decides _ _ (option_decides_itself bytes_eq bytes_eq-Decides g.x5t_s256 h.x5t_s256) (
+    and_decides _ _ (option_decides_itself bytes_eq bytes_eq-Decides g.url h.url) (
+    and_decides _ _ (option_decides_itself bytes_eq bytes_eq-Decides g.nonce h.nonce) (
+    and_decides _ _ (option_decides_itself (pointwise bytes_eq) texts_decides g.x5c h.x5c) (
+    and_decides _ _ (option_decides_itself (pointwise bytes_eq) texts_decides g.crit h.crit) (
+    and_decides _ _ (option_decides_itself enc_eq enc_decides g.enc h.enc) (
+    and_decides _ _ (option_decides_itself zip_eq zip_decides g.zip h.zip) (members_decides g.extras h.extras)))))))))))))))
+    (λ p i. record { alg = p.0 i; typ = p.1.0 i; cty = p.1.1.0 i; jku = p.1.1.1.0 i; kid = p.1.1.1.1.0 i; x5u = p.1.1.1.1.1.0 i; x5t = p.1.1.1.1.1.1.0 i; x5t_s256 = p.1.1.1.1.1.1.1.0 i; url = p.1.1.1.1.1.1.1.1.0 i; nonce = p.1.1.1.1.1.1.1.1.1.0 i; x5c = p.1.1.1.1.1.1.1.1.1.1.0 i; crit = p.1.1.1.1.1.1.1.1.1.1.1.0 i; enc = p.1.1.1.1.1.1.1.1.1.1.1.1.0 i; zip = p.1.1.1.1.1.1.1.1.1.1.1.1.1.0 i; extras = p.1.1.1.1.1.1.1.1.1.1.1.1.1.1 i })
+    (λ e. (ap (λ x. x.alg) e, (ap (λ x. x.typ) e, (ap (λ x. x.cty) e, (ap (λ x. x.jku) e, (ap (λ x. x.kid) e, (ap (λ x. x.x5u) e, (ap (λ x. x.x5t) e, (ap (λ x. x.x5t_s256) e, (ap (λ x. x.url) e, (ap (λ x. x.nonce) e, (ap (λ x. x.x5c) e, (ap (λ x. x.crit) e, (ap (λ x. x.enc) e, (ap (λ x. x.zip) e, ap (λ x. x.extras) e)))))))))))))))
+
+pub header_eq_equiv : IsEquivalence header_eq
+header_eq_equiv = decided_by header_eq marked_header header_decides
+
+-- of the extras their names alone
+abbrev pub header_fed : Header → HashWrites
+header_fed h = str (name_of h.alg) ++ option str h.typ ++ option str h.cty ++ option str h.jku ++ option str h.kid ++ option str h.x5u ++ option str h.x5t ++ option str h.x5t_s256 ++ option str h.url ++ option str h.nonce ++ option (slice str) h.x5c ++ option (slice str) h.crit ++ option enc_fed h.enc ++ option zip_fed h.zip ++ names_fed h.extras
+
+header_marked : (h : Header) → header_fed h ≡ header_fed (marked_header h)
+header_marked h = λ i. str (name_of h.alg) ++ option str h.typ ++ option str h.cty ++ option str h.jku ++ option str h.kid ++ option str h.x5u ++ option str h.x5t ++ option str h.x5t_s256 ++ option str h.url ++ option str h.nonce ++ option (slice str) h.x5c ++ option (slice str) h.crit ++ option enc_fed h.enc ++ option zip_fed h.zip ++ names_marked h.extras i
+
+pub header_alike : Alike header_eq header_fed
+header_alike = fed_by_mark header_eq marked_header header_decides header_fed header_fed header_marked

@@ -1,0 +1,370 @@
+//! The header of a token.
+
+ghost use Rattle.std.specs.Prelude.{◌≡◌, ◌↔◌, IsTrue, Some, None, List, ℕ, false, Option, IfOk, IfErr, OnOk, option_map, option_and_then, map, codes};
+ghost use Rattle.serde_json.specs.Find.{get};
+ghost use Rattle.serde_json.specs.View.{view, members_view};
+ghost use Rattle.serde_json.specs.Written.{has_float};
+ghost use Rattle.jwt_base.specs.Algorithm.{algorithm_from};
+ghost use Rattle.jwt_base.specs.Kind as kind;
+ghost use Rattle.jwt_base.specs.KindOf.{kind_of, IsMemory, RefusesAs};
+ghost use Rattle.jwt_base.specs.Members.{optional, put_some};
+ghost use Rattle.jwt_header.specs.Enc.{enc_from, enc_value};
+ghost use Rattle.jwt_header.specs.Extras.{IsExtras};
+ghost use Rattle.jwt_header.specs.Zip.{zip_from, zip_value};
+
+mod certificates;
+mod extras;
+mod names;
+
+use crate::header::certificates::certificate_bytes;
+pub use extras::{Extras, is_header_name};
+use jwt_base::algorithms::Algorithm;
+use jwt_base::errors::{ErrorKind, Result, new_error};
+use jwt_base::json::members::{
+    optional_text, optional_texts, put_optional_text, put_optional_texts, put_text,
+};
+use jwt_base::text::{Text, Texts, clone_text};
+pub use names::{Enc, Zip};
+use serde_json::{Map, Value};
+use std::alloc::Global;
+use std::hash::{Hash, Hasher};
+
+/// The header of a token (RFC 7515 section 4.1).
+#[derive(Debug, Drop)]
+pub struct Header {
+    /// The algorithm that signs the token, `alg` (section 4.1.1).
+    pub alg: Algorithm,
+    /// The type of the whole token, `typ` (section 4.1.9).
+    pub typ: Option<Text>,
+    /// The type of the payload, `cty` (section 4.1.10).
+    pub cty: Option<Text>,
+    /// Where the key set is found, `jku` (section 4.1.2).
+    pub jku: Option<Text>,
+    /// Which key signs, `kid` (section 4.1.4).
+    pub kid: Option<Text>,
+    /// Where the certificates are found, `x5u` (section 4.1.5).
+    pub x5u: Option<Text>,
+    /// The SHA-1 digest of the key's certificate in base64url, `x5t` (section 4.1.7).
+    pub x5t: Option<Text>,
+    /// The SHA-256 digest of the key's certificate in base64url, `x5t#S256` (section 4.1.8).
+    pub x5t_s256: Option<Text>,
+    /// Where the request goes, `url` (RFC 8555 section 6.4).
+    pub url: Option<Text>,
+    /// The value against replay, `nonce` (RFC 8555 section 6.5).
+    pub nonce: Option<Text>,
+    /// The key's certificate and those that certify it, each in standard base64, `x5c` (section 4.1.6).
+    pub x5c: Option<Texts>,
+    /// The names that have to be understood, `crit` (section 4.1.11).
+    pub crit: Option<Texts>,
+    /// How the content is encrypted, `enc` (RFC 7516 section 4.1.2).
+    pub enc: Option<Enc>,
+    /// How the content is compressed, `zip` (RFC 7516 section 4.1.3).
+    pub zip: Option<Zip>,
+    /// The members that the standards do not name (section 4.3).
+    pub extras: Extras,
+}
+
+impl Header {
+    ghost use Rattle.jwt_header.specs.Certificates.{AreCertificates};
+    ghost use Rattle.jwt_header.specs.Header.{ReadsHeader, new_header, header_members, header_value};
+    ghost use Rattle.jwt_header.specs.HeaderWritten.{IsNormal, HasNormalForm};
+    ghost use Rattle.jwt_header.specs.declared.header.Header.{Header};
+
+    /// The header with this algorithm, the type `JWT`, and nothing else. The only refusal is `OutOfMemory`.
+    pub fn new(alloc: Global, algorithm: Algorithm) -> Result<Header>
+        ensures ok { IfOk result (λ h. h ≡ new_header algorithm) }
+        ensures err { IfErr result IsMemory }
+    {
+        Ok(Header {
+            alg: algorithm,
+            typ: Some(Text::from_str(alloc, "JWT")?),
+            cty: None,
+            jku: None,
+            kid: None,
+            x5u: None,
+            x5t: None,
+            x5t_s256: None,
+            url: None,
+            nonce: None,
+            x5c: None,
+            crit: None,
+            enc: None,
+            zip: None,
+            extras: Extras::new(alloc),
+        })
+    }
+
+    /// The header that a JSON object reads as. `alg` has to be one of the twelve names. The other members may be absent
+    /// or null, and every further one goes to the extras with its value. A value that is no object, a member of a wrong
+    /// type and a float among the extras are refused with `Json`.
+    pub fn from_value(alloc: Global, value: &Value) -> Result<Header>
+        ensures ok { IfOk result (λ h. ReadsHeader (view value.now) h) }
+        ensures normal { IfOk result IsNormal }
+        ensures err { IfErr result (RefusesAs kind.Json ((h : Header) → ¬ ReadsHeader (view value.now) h)) }
+    {
+        let header = Header::read(alloc, value)?;
+        Ok(header)
+    }
+
+    /// The JSON object of the members that are there and the extras. The only refusal is `OutOfMemory`.
+    pub fn to_value(&self, alloc: Global) -> Result<Value>
+        ensures ok { IfOk result (λ v. header_value self.now ≡ Some (view v)) }
+        ensures no_float { IfOk result (λ v. has_float (view v) ≡ false) }
+        ensures err { IfErr result IsMemory }
+        ensures normal_form { HasNormalForm self.now }
+    {
+        let members = self.members(alloc)?;
+        Ok(Value::Object(members))
+    }
+
+    /// The bytes of each certificate of `x5c`, in order, and none where there is no `x5c`. An entry that is no text of
+    /// standard base64 with padding (RFC 4648 section 4) is refused with `Base64`.
+    pub fn x5c_der(&self, alloc: Global) -> Result<Option<Vec<Vec<u8>>>>
+        ensures ok { IfOk result (λ o. AreCertificates self.now.x5c (option_map (λ v. map (λ b. b.items) v.items) o)) }
+        ensures err { IfErr result (RefusesAs kind.Base64
+            ((o : Option (List (List ℕ))) → ¬ AreCertificates self.now.x5c o)) }
+    {
+        match &self.x5c {
+            Some(texts) => {
+                let certificates = certificate_bytes(alloc, texts.as_slice())?;
+                Ok(Some(certificates))
+            }
+            None => Ok(None),
+        }
+    }
+
+    /// A copy. The only refusal is `OutOfMemory`.
+    pub fn clone(&self, alloc: Global) -> Result<Header>
+        ensures ok { IfOk result (λ h. h ≡ self.now) }
+        ensures err { IfErr result IsMemory }
+    {
+        Ok(Header {
+            alg: self.alg,
+            typ: clone_text(alloc, &self.typ)?,
+            cty: clone_text(alloc, &self.cty)?,
+            jku: clone_text(alloc, &self.jku)?,
+            kid: clone_text(alloc, &self.kid)?,
+            x5u: clone_text(alloc, &self.x5u)?,
+            x5t: clone_text(alloc, &self.x5t)?,
+            x5t_s256: clone_text(alloc, &self.x5t_s256)?,
+            url: clone_text(alloc, &self.url)?,
+            nonce: clone_text(alloc, &self.nonce)?,
+            x5c: clone_texts(alloc, &self.x5c)?,
+            crit: clone_texts(alloc, &self.crit)?,
+            enc: clone_enc(alloc, &self.enc)?,
+            zip: clone_zip(alloc, &self.zip)?,
+            extras: self.extras.clone(alloc)?,
+        })
+    }
+
+    fn read(alloc: Global, value: &Value) -> Result<Header>
+        ensures ok { IfOk result (λ h. ReadsHeader (view value.now) h) }
+        ensures extras { IfOk result (λ h. IsExtras h.extras) }
+        ensures err { IfErr result (RefusesAs kind.Json ((h : Header) → ¬ ReadsHeader (view value.now) h)) }
+    {
+        let Some(members) = value.as_object() else {
+            return Err(new_error(ErrorKind::Json));
+        };
+        Ok(Header {
+            alg: read_algorithm(value)?,
+            typ: optional_text(alloc, value, "typ")?,
+            cty: optional_text(alloc, value, "cty")?,
+            jku: optional_text(alloc, value, "jku")?,
+            kid: optional_text(alloc, value, "kid")?,
+            x5u: optional_text(alloc, value, "x5u")?,
+            x5t: optional_text(alloc, value, "x5t")?,
+            x5t_s256: optional_text(alloc, value, "x5t#S256")?,
+            url: optional_text(alloc, value, "url")?,
+            nonce: optional_text(alloc, value, "nonce")?,
+            x5c: optional_texts(alloc, value, "x5c")?,
+            crit: optional_texts(alloc, value, "crit")?,
+            enc: optional_enc(alloc, value)?,
+            zip: optional_zip(alloc, value)?,
+            extras: Extras::among(alloc, members)?,
+        })
+    }
+
+    fn members(&self, alloc: Global) -> Result<Map<String, Value>>
+        ensures ok { IfOk result (λ m. members_view m.entries ≡ header_members self.now) }
+        ensures extras { IsExtras self.now.extras }
+        ensures err { IfErr result IsMemory }
+    {
+        let mut members = self.extras.copied(alloc)?;
+        put_zip(alloc, &mut members, &self.zip)?;
+        put_enc(alloc, &mut members, &self.enc)?;
+        put_optional_texts(alloc, &mut members, "crit", &self.crit)?;
+        put_optional_texts(alloc, &mut members, "x5c", &self.x5c)?;
+        put_optional_text(alloc, &mut members, "nonce", &self.nonce)?;
+        put_optional_text(alloc, &mut members, "url", &self.url)?;
+        put_optional_text(alloc, &mut members, "x5t#S256", &self.x5t_s256)?;
+        put_optional_text(alloc, &mut members, "x5t", &self.x5t)?;
+        put_optional_text(alloc, &mut members, "x5u", &self.x5u)?;
+        put_optional_text(alloc, &mut members, "kid", &self.kid)?;
+        put_optional_text(alloc, &mut members, "jku", &self.jku)?;
+        put_optional_text(alloc, &mut members, "cty", &self.cty)?;
+        put_optional_text(alloc, &mut members, "typ", &self.typ)?;
+        put_text(alloc, &mut members, "alg", self.alg.name())?;
+        Ok(members)
+    }
+}
+
+fn read_algorithm(value: &Value) -> Result<Algorithm>
+    ensures ok { IfOk result (λ a. option_and_then algorithm_from (get (codes "alg") (view value.now)) ≡ Some a) }
+    ensures err { IfErr result (RefusesAs kind.Json
+        (option_and_then algorithm_from (get (codes "alg") (view value.now)) ≡ None)) }
+{
+    match value.get("alg") {
+        Some(name) => Algorithm::from_value(name),
+        None => Err(new_error(ErrorKind::Json)),
+    }
+}
+
+fn optional_enc(alloc: Global, value: &Value) -> Result<Option<Enc>>
+    ensures ok { IfOk result (λ e. optional enc_from (get (codes "enc") (view value.now)) ≡ Some e) }
+    ensures err { IfErr result
+        (RefusesAs kind.Json (optional enc_from (get (codes "enc") (view value.now)) ≡ None)) }
+{
+    match value.get("enc") {
+        None => Ok(None),
+        Some(enc) if enc.is_null() => Ok(None),
+        Some(enc) => Ok(Some(Enc::from_value(alloc, enc)?)),
+    }
+}
+
+fn optional_zip(alloc: Global, value: &Value) -> Result<Option<Zip>>
+    ensures ok { IfOk result (λ z. optional zip_from (get (codes "zip") (view value.now)) ≡ Some z) }
+    ensures err { IfErr result
+        (RefusesAs kind.Json (optional zip_from (get (codes "zip") (view value.now)) ≡ None)) }
+{
+    match value.get("zip") {
+        None => Ok(None),
+        Some(zip) if zip.is_null() => Ok(None),
+        Some(zip) => Ok(Some(Zip::from_value(alloc, zip)?)),
+    }
+}
+
+fn put_enc(alloc: Global, members: &mut Map<String, Value>, enc: &Option<Enc>) -> Result<()>
+    ensures ok { OnOk result (members_view members.new.entries
+        ≡ put_some (codes "enc") (option_map enc_value enc.now) (members_view members.old.entries)) }
+    ensures err { IfErr result IsMemory }
+{
+    match enc {
+        Some(enc) => put_text(alloc, members, "enc", enc.as_str()),
+        None => Ok(()),
+    }
+}
+
+fn put_zip(alloc: Global, members: &mut Map<String, Value>, zip: &Option<Zip>) -> Result<()>
+    ensures ok { OnOk result (members_view members.new.entries
+        ≡ put_some (codes "zip") (option_map zip_value zip.now) (members_view members.old.entries)) }
+    ensures err { IfErr result IsMemory }
+{
+    match zip {
+        Some(zip) => put_text(alloc, members, "zip", zip.as_str()),
+        None => Ok(()),
+    }
+}
+
+fn clone_texts(alloc: Global, texts: &Option<Texts>) -> Result<Option<Texts>>
+    ensures ok { IfOk result (λ copy. copy ≡ texts.now) }
+    ensures err { IfErr result IsMemory }
+{
+    match texts {
+        Some(texts) => Ok(Some(texts.clone(alloc)?)),
+        None => Ok(None),
+    }
+}
+
+fn clone_enc(alloc: Global, enc: &Option<Enc>) -> Result<Option<Enc>>
+    ensures ok { IfOk result (λ copy. copy ≡ enc.now) }
+    ensures err { IfErr result IsMemory }
+{
+    match enc {
+        Some(enc) => Ok(Some(enc.clone(alloc)?)),
+        None => Ok(None),
+    }
+}
+
+fn clone_zip(alloc: Global, zip: &Option<Zip>) -> Result<Option<Zip>>
+    ensures ok { IfOk result (λ copy. copy ≡ zip.now) }
+    ensures err { IfErr result IsMemory }
+{
+    match zip {
+        Some(zip) => Ok(Some(zip.clone(alloc)?)),
+        None => Ok(None),
+    }
+}
+
+/// The same fields, where any two floats among the extras count as equal.
+impl PartialEq for Header {
+    ghost use Rattle.std.specs.Cmp.{partial_equiv_from_equiv};
+    ghost use Rattle.jwt_header.specs.HeaderSame.{header_eq, header_eq_equiv, marked_header};
+
+    ghost eq = { header_eq };
+
+    ghost laws = { partial_equiv_from_equiv header_eq_equiv };
+
+    fn eq(&self, other: &Header) -> bool
+        ensures test { result ≡ header_eq self.now other.now }
+        ensures same { IsTrue result ↔ (marked_header self.now ≡ marked_header other.now) }
+    {
+        self.is_same(other)
+    }
+}
+
+impl Eq for Header {
+    ghost use Rattle.jwt_header.specs.HeaderSame.{header_eq_equiv};
+
+    ghost laws = { header_eq_equiv };
+}
+
+impl Header {
+    ghost use Rattle.jwt_header.specs.HeaderSame.{header_eq};
+
+    fn is_same(&self, other: &Header) -> bool
+        ensures { result ≡ header_eq self.now other.now }
+    {
+        self.alg.name() == other.alg.name()
+            && self.typ == other.typ
+            && self.cty == other.cty
+            && self.jku == other.jku
+            && self.kid == other.kid
+            && self.x5u == other.x5u
+            && self.x5t == other.x5t
+            && self.x5t_s256 == other.x5t_s256
+            && self.url == other.url
+            && self.nonce == other.nonce
+            && self.x5c == other.x5c
+            && self.crit == other.crit
+            && self.enc == other.enc
+            && self.zip == other.zip
+            && self.extras == other.extras
+    }
+}
+
+/// Feeds the fields, and of the extras their names alone.
+impl Hash for Header {
+    ghost use Rattle.jwt_header.specs.HeaderSame.{header_fed, header_alike};
+
+    ghost hash_input = { header_fed };
+
+    ghost respects_eq = { header_alike.fed };
+
+    fn hash<H: Hasher>(&self, state: &mut H) {
+        self.alg.name().hash(state);
+        self.typ.hash(state);
+        self.cty.hash(state);
+        self.jku.hash(state);
+        self.kid.hash(state);
+        self.x5u.hash(state);
+        self.x5t.hash(state);
+        self.x5t_s256.hash(state);
+        self.url.hash(state);
+        self.nonce.hash(state);
+        self.x5c.hash(state);
+        self.crit.hash(state);
+        self.enc.hash(state);
+        self.zip.hash(state);
+        self.extras.hash(state);
+    }
+}

@@ -1,0 +1,3 @@
+pub mod ClaimRuleLemmas
+pub mod NamePlaces
+pub mod TextsAmong

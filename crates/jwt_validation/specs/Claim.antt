@@ -1,0 +1,69 @@
+-- A claim of a token, as the claim rules see it.
+use Rattle.std.specs.Prelude.{ℕ, List, [], ◌∷◌, Option, Some, None, option_map, option_and_then, ⊤, codes}
+use Rattle.std.specs.Option.{option_map_or}
+use Rattle.serde_json.specs.Data.{Data, null, boolean, number, string, array, object, Items, no_items, item}
+use Rattle.serde_json.specs.Find.{get, as_number, as_u64, as_str}
+use Rattle.jwt_validation.specs.declared.validation.claims.Claim.{Claim}
+use Rattle.jwt_validation.specs.declared.validation.claims.Claim.TheVariants.{Absent, Malformed, Value}
+
+-- a member that is a time
+abbrev pub time_in : Option Data → Claim ℕ
+time_in None = Absent
+time_in (Some d) = option_map_or Value (option_and_then as_u64 (as_number d)) Malformed
+
+-- a member that is a text
+abbrev pub text_in : Option Data → Claim (List ℕ)
+text_in None = Absent
+text_in (Some null) = Absent
+text_in (Some (boolean b)) = Malformed
+text_in (Some (number n)) = Malformed
+text_in (Some (string s)) = Value s
+text_in (Some (array ds)) = Malformed
+text_in (Some (object ms)) = Malformed
+
+-- the items, where each is a text
+abbrev pub all_texts : Items → Option (List (List ℕ))
+all_texts no_items = Some []
+all_texts (item d ds) = option_and_then (λ s. option_map (λ ss. s ∷ ss) (all_texts ds)) (as_str d)
+
+-- a member that is a text or a list of texts
+abbrev pub texts_in : Option Data → Claim (List (List ℕ))
+texts_in None = Absent
+texts_in (Some null) = Absent
+texts_in (Some (boolean b)) = Malformed
+texts_in (Some (number n)) = Malformed
+texts_in (Some (string s)) = Value (s ∷ [])
+texts_in (Some (array ds)) = option_map_or Value (all_texts ds) Malformed
+texts_in (Some (object ms)) = Malformed
+
+-- the claims that have rules
+pub record Claims : Type 0 where
+  pub exp : Claim ℕ
+  pub nbf : Claim ℕ
+  pub sub : Claim (List ℕ)
+  pub iss : Claim (List (List ℕ))
+  pub aud : Claim (List (List ℕ))
+
+abbrev pub claims_of : Data → Claims
+claims_of d = record {
+  exp = time_in (get (codes "exp") d);
+  nbf = time_in (get (codes "nbf") d);
+  sub = text_in (get (codes "sub") d);
+  iss = texts_in (get (codes "iss") d);
+  aud = texts_in (get (codes "aud") d);
+}
+
+abbrev pub IsWellFormed : {A : Type 0} → Claim A → Type 0
+IsWellFormed Absent = ⊤
+IsWellFormed Malformed = ⊥
+IsWellFormed (Value a) = ⊤
+
+abbrev pub IsPresent : {A : Type 0} → Claim A → Type 0
+IsPresent Absent = ⊥
+IsPresent Malformed = ⊥
+IsPresent (Value a) = ⊤
+
+abbrev pub IfValue : {A : Type 0} → Claim A → (A → Type 0) → Type 0
+IfValue Absent P = ⊤
+IfValue Malformed P = ⊤
+IfValue (Value a) P = P a

@@ -1,0 +1,73 @@
+-- The moments at which a value is accepted, and options that accept more.
+use Rattle.std.specs.Prelude.{◌≡◌, ℕ, ◌+◌, ◌-◌, ◌≤◌, List, Bool, IsTrue, IsSome, IsSomeAnd, IfSome, None, Contains, min, if◌then◌else◌, ◌⊎◌, ⊤}
+use Rattle.serde_json.specs.Data.{Data}
+use Rattle.serde_json.specs.Find.{as_object}
+use Rattle.jwt_base.specs.Algorithm.{family_of}
+use Rattle.jwt_base.specs.declared.algorithms.Algorithm.{Algorithm}
+use Rattle.jwt_validation.specs.Options.{Options, Texts, audience}
+use Rattle.jwt_validation.specs.Claim.{Claims, claims_of}
+use Rattle.jwt_validation.specs.ClaimRules.{IsMissing, Holds}
+use Rattle.jwt_validation.specs.declared.validation.claims.Name.{Name}
+use Rattle.jwt_validation.specs.declared.validation.claims.Claim.{Claim}
+use Rattle.jwt_validation.specs.declared.validation.claims.Claim.TheVariants.{Absent, Malformed, Value}
+use Rattle.jwt_validation.specs.declared.validation.rules.Rule.{Rule}
+use Rattle.jwt_validation.specs.declared.validation.rules.Rule.TheVariants.{ExpFormat, NbfFormat, ExpReject, ExpTime, NbfTime, Subject, Issuer, Audience}
+
+-- the rules that do not speak of the moment
+abbrev pub IsTimeless : Rule → Type 0
+IsTimeless ExpFormat = ⊤
+IsTimeless NbfFormat = ⊤
+IsTimeless ExpReject = ⊤
+IsTimeless ExpTime = ⊥
+IsTimeless NbfTime = ⊥
+IsTimeless Subject = ⊤
+IsTimeless Issuer = ⊤
+IsTimeless Audience = ⊤
+
+-- the last moment that a u64 holds
+abbrev pub end_of_time : ℕ
+end_of_time = 18446744073709551615
+
+-- a claim's value under f, where it is checked and there is one
+abbrev pub checked : {A B : Type 0} → Bool → Claim A → (A → B) → B → B
+checked b Absent f other = other
+checked b Malformed f other = other
+checked b (Value a) f other = if b then f a else other
+
+-- `nbf` less the leeway, or 0 where that is negative
+abbrev pub first_moment : Options → Claims → ℕ
+first_moment v c = checked v.checks_nbf c.nbf (λ nbf. nbf - v.leeway) 0
+
+-- `exp` and the leeway, less the time that must be left
+abbrev pub last_moment : Options → Claims → ℕ
+last_moment v c = checked v.checks_exp c.exp (λ exp. min (exp + v.leeway - v.reject) end_of_time) end_of_time
+
+-- what is asked of the claims without regard to the moment
+pub record RulesOfNoMoment (v : Options) (d : Data) : Type 0 where
+  pub required : (n : Name) → ¬ IsMissing v (claims_of d) n
+  pub timeless : (r : Rule) → IsTimeless r → (now : ℕ) → Holds v (claims_of d) now r
+
+-- an object that keeps these, at a moment from the first to the last
+pub record IsAcceptedWithin (v : Options) (d : Data) (now : ℕ) : Type 0 where
+  pub is_object : IsSome (as_object d)
+  pub rules : RulesOfNoMoment v d
+  pub from : first_moment v (claims_of d) ≤ now
+  pub until : now ≤ last_moment v (claims_of d)
+
+abbrev pub IsSubset : Texts → Texts → Type 0
+IsSubset s t = (x : List ℕ) → IsTrue (s x) → IsTrue (t x)
+
+-- w accepts what v does, and more
+pub record Looser (v w : Options) : Type 0 where
+  pub leeway : v.leeway ≤ w.leeway
+  pub reject : w.reject ≤ v.reject
+  pub required : IsSubset w.required v.required
+  pub checks_exp : IsTrue w.checks_exp → IsTrue v.checks_exp
+  pub checks_nbf : IsTrue w.checks_nbf → IsTrue v.checks_nbf
+  pub checks_aud : IsTrue w.checks_aud → IsTrue v.checks_aud
+  pub sub : (w.sub ≡ None) ⊎ (w.sub ≡ v.sub)
+  pub iss : IfSome w.iss (λ t. IsSomeAnd v.iss (λ s. IsSubset s t))
+  pub aud : IsSubset (audience v) (audience w)
+  pub understood : IsSubset v.understood w.understood
+  pub keeps : (a : Algorithm) → Contains v.algorithms a → Contains w.algorithms a
+  pub families : (a : Algorithm) → Contains w.algorithms a → (b : Algorithm) × Contains v.algorithms b × (family_of b ≡ family_of a)

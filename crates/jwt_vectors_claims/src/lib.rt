@@ -1,0 +1,7 @@
+//! Tests of the claim rules on worked examples.
+#![tactic(auto)]
+
+#[cfg(test)]
+mod claim_rules;
+#[cfg(test)]
+mod validation;

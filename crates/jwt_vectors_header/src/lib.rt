@@ -1,0 +1,5 @@
+//! Tests of headers on worked examples.
+#![tactic(auto)]
+
+#[cfg(test)]
+mod headers;

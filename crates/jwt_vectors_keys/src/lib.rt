@@ -1,0 +1,9 @@
+//! Tests of keys, HMAC and providers on vectors from outside: the RFCs, and worked examples.
+#![tactic(auto)]
+
+#[cfg(test)]
+mod hmac;
+#[cfg(test)]
+mod key_bytes;
+#[cfg(test)]
+mod signatures;

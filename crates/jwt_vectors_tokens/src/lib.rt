@@ -1,0 +1,9 @@
+//! Tests of whole tokens on vectors from outside: the RFCs, and worked examples.
+#![tactic(auto)]
+
+#[cfg(test)]
+mod token_headers;
+#[cfg(test)]
+mod unverified_tokens;
+#[cfg(test)]
+mod verified_tokens;
