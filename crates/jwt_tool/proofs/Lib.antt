@@ -1,1 +1,4 @@
+pub mod Calls
+pub mod Moments
+pub mod Requests
 pub mod Said

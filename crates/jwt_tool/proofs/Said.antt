@@ -1,31 +1,31 @@
 -- What is answered, where the reader's bytes are known.
 use Rattle.std.proofs.Common.{◌≡◌, ℕ, List, [], ◌∷◌, ◌++◌, Option, Some, None, IfSome, ◌⊎◌, ap, ◌∙◌, subst, inl, inr}
 use Rattle.std.specs.Io.KnownBytes.{Appends}
-use Rattle.jwt_base.specs.Kind.{text_of}
+use Rattle.serde_json.specs.Data.{Data}
+use Rattle.jwt_base.specs.Kind.{Kind, text_of}
 use Rattle.jwt_base.specs.KindOf.{kind_of, IsMemory}
 use Rattle.jwt_base.specs.declared.errors.Error.{Error}
-use Rattle.jsonwebtoken.specs.Tests.{FirstFailed, header_order, header_call}
-use Rattle.jwt_tool.specs.Line.{Answers, CommandAnswer, HeaderAnswer, IsUsage, command_of, without_final_newline}
-use Rattle.jwt_tool.specs.declared.command.Command.{Command}
+use Rattle.jwt_tool.specs.Line.{Answers, RequestAnswer, ValueAnswer, IsUsage, without_final_newline}
+use Rattle.jwt_tool.specs.Words.{Request, request_of}
 
-usage_answers : (words : List (List ℕ)) (input : List ℕ) (status : ℕ) (line : List ℕ) → command_of words ≡ None → IsUsage status line → Answers words input status line
+usage_answers : (words : List (List ℕ)) (input : List ℕ) (status : ℕ) (line : List ℕ) → request_of words ≡ None → IsUsage status line → Answers words input status line
 usage_answers words input status line is said = rw is (inl said)
 
-pub usage_said : (known : Option (List ℕ)) (words : List (List ℕ)) (status : ℕ) (line : List ℕ) → command_of words ≡ None
+pub usage_said : (known : Option (List ℕ)) (words : List (List ℕ)) (status : ℕ) (line : List ℕ) → request_of words ≡ None
     → IsUsage status line → IfSome known (λ all. Answers words (without_final_newline all) status line)
 usage_said None words status line other said = tt
 usage_said (Some all) words status line other said = usage_answers words (without_final_newline all) status line other said
 
-answers : (words : List (List ℕ)) (c : Command) (input : List ℕ) (status : ℕ) (line : List ℕ) → command_of words ≡ Some c → CommandAnswer c input status line → Answers words input status line
+answers : (words : List (List ℕ)) (c : Request) (input : List ℕ) (status : ℕ) (line : List ℕ) → request_of words ≡ Some c → RequestAnswer c input status line → Answers words input status line
 answers words c input status line is (inl said) = rw is (inl said)
 answers words c input status line is (inr refused) = inr refused
 
-pub command_said : (known : Option (List ℕ)) (words : List (List ℕ)) (c : Command) (read input : List ℕ) (status : ℕ) (line : List ℕ) → command_of words ≡ Some c
-    → IfSome known (λ all. read ≡ all) → input ≡ without_final_newline read → CommandAnswer c input status line
+pub request_said : (known : Option (List ℕ)) (words : List (List ℕ)) (c : Request) (read input : List ℕ) (status : ℕ) (line : List ℕ) → request_of words ≡ Some c
+    → IfSome known (λ all. read ≡ all) → input ≡ without_final_newline read → RequestAnswer c input status line
     → IfSome known (λ all. Answers words (without_final_newline all) status line)
-command_said None words c read input status line is all cut answer = tt
-command_said (Some all) words c read input status line is whole cut answer =
-    answers words c _ status line is (subst (λ r. CommandAnswer c (without_final_newline r) status line) whole (subst (λ i. CommandAnswer c i status line) cut answer))
+request_said None words c read input status line is all cut answer = tt
+request_said (Some all) words c read input status line is whole cut answer =
+    answers words c _ status line is (subst (λ r. RequestAnswer c (without_final_newline r) status line) whole (subst (λ i. RequestAnswer c i status line) cut answer))
 
 -- and what is written then
 pub wrote : (known old new : Option (List ℕ)) (words : List (List ℕ)) (status : ℕ) (line : List ℕ) → IfSome known (λ all. Answers words (without_final_newline all) status line)
@@ -34,7 +34,7 @@ wrote None old new words status line said appended = tt
 wrote (Some all) old new words status line said appended = (line, appended, said)
 
 -- a refusal's text, or that of want of memory
-pub refused_said : (input : List ℕ) (e : Error) (status : ℕ) (line : List ℕ) → IsMemory e ⊎ FirstFailed (header_call input) header_order (kind_of e)
-    → (line ≡ text_of (kind_of e)) × (status ≡ 1) → HeaderAnswer input status line
-refused_said input e status line (inl memory) said = inr (said.0 ∙ ap text_of memory, said.1)
-refused_said input e status line (inr failed) said = inl (inr (kind_of e, failed, said))
+pub refused_said : (P : Data → Type 0) (K : Kind → Type 0) (e : Error) (status : ℕ) (line : List ℕ) → IsMemory e ⊎ K (kind_of e)
+    → (line ≡ text_of (kind_of e)) × (status ≡ 1) → ValueAnswer P K status line
+refused_said P K e status line (inl memory) said = inr (said.0 ∙ ap text_of memory, said.1)
+refused_said P K e status line (inr failed) said = inl (inr (kind_of e, failed, said))

@@ -1,25 +1,19 @@
 -- The line and the status for words and an input.
-use Rattle.std.specs.Prelude.{◌≡◌, ◌==◌, ◌-◌, length, take, slice_index, if◌then◌else◌, MatchOption, ℕ, List, [], ◌∷◌, ◌⊎◌, Option, Some, None, codes}
-use Rattle.std.specs.Str.{bytes_eq}
+use Rattle.std.specs.Prelude.{◌≡◌, ◌==◌, ◌-◌, true, false, length, take, slice_index, if◌then◌else◌, MatchOption, ℕ, List, [], ◌∷◌, ◌⊎◌, Some, codes}
 use Rattle.serde_json.specs.Data.{Data}
-use Rattle.serde_json.specs.Written.{compact_text}
+use Rattle.serde_json.specs.View.{view}
+use Rattle.serde_json.specs.Written.{compact_text, has_float}
+use Rattle.serde_json.specs.declared.value.Value.{Value}
 use Rattle.jwt_base.specs.Kind.{Kind, text_of}
+use Rattle.jwt_base.specs.Kind as kind
+use Rattle.jwt_base.specs.declared.algorithms.Algorithm.{Algorithm}
+use Rattle.jwt_base.specs.declared.algorithms.AlgorithmFamily.TheVariants.{Hmac}
+use Rattle.jwt_keys.specs.Key.{Plain, key_family}
+use Rattle.jwt_hmac.specs.HmacKeys.{hash_for, refusal, HmacAccepts}
 use Rattle.jwt_header.specs.Header.{header_value}
-use Rattle.jsonwebtoken.specs.Tests.{Things, Passes, FirstFailed, header_order, header_call}
-use Rattle.jwt_tool.specs.declared.command.Command.{Command}
-use Rattle.jwt_tool.specs.declared.command.Command.TheVariants.{Header}
-
--- ---- the words
-
--- the command that one word names
-abbrev pub command_named : List ℕ → Option Command
-command_named word = if bytes_eq word (codes "header") then Some Header else None
-
--- what the words ask for
-abbrev pub command_of : List (List ℕ) → Option Command
-command_of [] = Some Header
-command_of (word ∷ []) = command_named word
-command_of (word ∷ more ∷ rest) = None
+use Rattle.jwt_validation.specs.Options.{default_options}
+use Rattle.jsonwebtoken.specs.Tests.{Compact, Call, Things, Passes, FirstFailed, header_order, header_call, decode_order, verifying_call}
+use Rattle.jwt_tool.specs.Words.{Request, ForHeader, ForClaims, request_of}
 
 -- ---- the input
 
@@ -29,33 +23,52 @@ without_final_newline xs = if slice_index xs (length xs - 1) == 10 then take (le
 
 -- ---- the line
 
--- what the header of the input's token is written as
-abbrev pub IsHeaderValue : List ℕ → Data → Type 0
-IsHeaderValue input value = (t : Things) × Passes (header_call input) header_order t × (header_value t.header ≡ Some value)
-
--- its JSON text
-abbrev pub IsHeaderText : List ℕ → List ℕ → Type 0
-IsHeaderText input line = (value : Data) × IsHeaderValue input value × (line ≡ compact_text value)
-
 -- an error's text, and the status that goes with it
 abbrev pub IsRefusal : Kind → ℕ → List ℕ → Type 0
 IsRefusal k status line = (line ≡ text_of k) × (status ≡ 1)
 
+-- a value's JSON text; one that holds a float has none
+abbrev pub ValueLine : Data → ℕ → List ℕ → Type 0
+ValueLine value status line =
+    ((has_float value ≡ false) × ((line ≡ compact_text value) × (status ≡ 0)))
+    ⊎ ((has_float value ≡ true) × IsRefusal kind.Json status line)
+
+-- what the header of the input's token is written as
+abbrev pub IsHeaderValue : List ℕ → Data → Type 0
+IsHeaderValue input value = (t : Things) × Passes (header_call input) header_order t × (header_value t.header ≡ Some value)
+
 -- the token's header, or the kind of its first failed test
 abbrev pub HeaderLine : List ℕ → ℕ → List ℕ → Type 0
 HeaderLine input status line =
-    (IsHeaderText input line × (status ≡ 0))
+    ((value : Data) × IsHeaderValue input value × ValueLine value status line)
     ⊎ ((k : Kind) × FirstFailed (header_call input) header_order k × IsRefusal k status line)
 
-abbrev pub CommandLine : Command → List ℕ → ℕ → List ℕ → Type 0
-CommandLine Header input status line = HeaderLine input status line
+-- the input's token, checked by HMAC with a secret at a moment, as a validation of that one algorithm asks at first
+abbrev pub hmac_call : List ℕ → Algorithm → List ℕ → ℕ → Call Value
+hmac_call input algorithm secret now = verifying_call (Compact input) (Plain Hmac secret) (default_options (algorithm ∷ [])) now
+    (λ a key. refusal (hash_for a) (key_family key)) HmacAccepts (λ value claims. view claims ≡ value)
+
+-- the claims of a token that passes every test of decode
+abbrev pub IsClaimsValue : List ℕ → Algorithm → List ℕ → ℕ → Data → Type 0
+IsClaimsValue input algorithm secret now value =
+    (t : Things) × Passes (hmac_call input algorithm secret now) decode_order t × (t.payload_value ≡ value)
+
+-- the token's claims, or the kind of its first failed test
+abbrev pub ClaimsLine : List ℕ → Algorithm → List ℕ → ℕ → ℕ → List ℕ → Type 0
+ClaimsLine input algorithm secret now status line =
+    ((value : Data) × IsClaimsValue input algorithm secret now value × ValueLine value status line)
+    ⊎ ((k : Kind) × FirstFailed (hmac_call input algorithm secret now) decode_order k × IsRefusal k status line)
+
+abbrev pub RequestLine : Request → List ℕ → ℕ → List ℕ → Type 0
+RequestLine ForHeader input status line = HeaderLine input status line
+RequestLine (ForClaims algorithm secret now) input status line = ClaimsLine input algorithm secret now status line
 
 abbrev pub IsUsage : ℕ → List ℕ → Type 0
 IsUsage status line = (line ≡ codes "usage") × (status ≡ 2)
 
 -- the line and the status for any words
 abbrev pub Line : List (List ℕ) → List ℕ → ℕ → List ℕ → Type 0
-Line words input status line = MatchOption (command_of words) (IsUsage status line) (λ c. CommandLine c input status line)
+Line words input status line = MatchOption (request_of words) (IsUsage status line) (λ r. RequestLine r input status line)
 
 -- what is answered where memory ran out
 abbrev pub IsMemoryLine : ℕ → List ℕ → Type 0
@@ -65,8 +78,11 @@ IsMemoryLine status line = (line ≡ codes "Out of memory") × (status ≡ 1)
 abbrev pub Answers : List (List ℕ) → List ℕ → ℕ → List ℕ → Type 0
 Answers words input status line = Line words input status line ⊎ IsMemoryLine status line
 
-abbrev pub HeaderAnswer : List ℕ → ℕ → List ℕ → Type 0
-HeaderAnswer input status line = HeaderLine input status line ⊎ IsMemoryLine status line
+abbrev pub RequestAnswer : Request → List ℕ → ℕ → List ℕ → Type 0
+RequestAnswer request input status line = RequestLine request input status line ⊎ IsMemoryLine status line
 
-abbrev pub CommandAnswer : Command → List ℕ → ℕ → List ℕ → Type 0
-CommandAnswer command input status line = CommandLine command input status line ⊎ IsMemoryLine status line
+-- for private clauses: the line of a value that is so, or of a refusal of such a kind, or want of memory
+abbrev pub ValueAnswer : (Data → Type 0) → (Kind → Type 0) → ℕ → List ℕ → Type 0
+ValueAnswer P K status line =
+    (((value : Data) × P value × ValueLine value status line) ⊎ ((k : Kind) × K k × IsRefusal k status line))
+    ⊎ IsMemoryLine status line

@@ -1,31 +1,86 @@
 //! What the words after the program's name ask for.
 
-ghost use Rattle.std.specs.Prelude.{◌≡◌, map, string_bytes};
-ghost use Rattle.jwt_tool.specs.Line.{command_of, command_named};
+ghost use Rattle.std.specs.Prelude.{◌≡◌, option_map, map, string_bytes};
+ghost use Rattle.jwt_base.specs.Algorithm.{algorithm_named};
+ghost use Rattle.jwt_tool.specs.Words.{Request, request_of, request_named, decoding_request, moment_of};
+ghost use Rattle.jwt_tool.specs.Asked.{asked};
+
+use jwt_base::algorithms::Algorithm;
 
 /// What the program does with its input.
-#[derive(Clone, Copy, Debug, PartialEq, Eq)]
-pub enum Command {
+#[derive(Clone, Copy, Debug)]
+pub enum Command<'a> {
     /// Prints the header of a token.
     Header,
+    /// Verifies a token by HMAC with a secret, at a moment in seconds since 1970-01-01 00:00:00 UTC, and prints its
+    /// claims.
+    Decode {
+        algorithm: Algorithm,
+        secret: &'a str,
+        now: u64,
+    },
 }
 
 /// The command that the words ask for. Words that ask for none are answered by `usage`.
-pub fn requested_command(words: &[String]) -> Option<Command>
-    ensures { result ≡ command_of (map string_bytes words.now) }
+pub fn requested_command(words: &[String]) -> Option<Command<'_>>
+    ensures { option_map asked result ≡ request_of (map string_bytes words.now) }
 {
     match words {
         [] => Some(Command::Header),
         [word] => word_command(word.as_str()),
+        [_, _] => None,
+        [_, _, _] => None,
+        [word, algorithm, secret, now] => decode_command(
+            word.as_str(),
+            algorithm.as_str(),
+            secret.as_str(),
+            now.as_str(),
+        ),
         _ => None,
     }
 }
 
-fn word_command(word: &str) -> Option<Command>
-    ensures { result ≡ command_named word.now }
+fn word_command(word: &str) -> Option<Command<'_>>
+    ensures { option_map asked result ≡ request_named word.now }
 {
     match word {
         "header" => Some(Command::Header),
         _ => None,
     }
+}
+
+fn decode_command<'a>(
+    word: &str,
+    algorithm: &str,
+    secret: &'a str,
+    now: &str,
+) -> Option<Command<'a>>
+    ensures { option_map asked result ≡ decoding_request word.now algorithm.now secret.now now.now }
+{
+    if word != "decode" {
+        return None;
+    }
+    let algorithm = algorithm_of(algorithm)?;
+    let now = moment(now)?;
+    Some(Command::Decode {
+        algorithm,
+        secret,
+        now,
+    })
+}
+
+fn algorithm_of(name: &str) -> Option<Algorithm>
+    ensures { result ≡ algorithm_named name.now }
+{
+    name.parse::<Algorithm>().ok()
+}
+
+/// The number that one or more decimal digits write.
+fn moment(word: &str) -> Option<u64>
+    ensures { result ≡ moment_of word.now }
+{
+    if word.starts_with('+') {
+        return None;
+    }
+    word.parse::<u64>().ok()
 }

@@ -1,19 +1,21 @@
 //! From the words and the input to the line.
 
-ghost use Rattle.std.specs.Prelude.{◌≡◌, ◌⊎◌, false, None, ◌++◌, ◌∷◌, [], ℕ, List, IfOk, IfErr, IfSome, OnOk, map, string_bytes};
+ghost use Rattle.std.specs.Prelude.{◌≡◌, ◌⊎◌, None, ◌++◌, ◌∷◌, [], ℕ, List, IfOk, IfErr, IfSome, OnOk, map, string_bytes};
 ghost use Rattle.std.specs.Io.KnownBytes.{Appends};
 ghost use Rattle.serde_json.specs.View.{view};
-ghost use Rattle.serde_json.specs.Written.{has_float, compact_text};
-ghost use Rattle.jwt_base.specs.Kind.{text_of};
 ghost use Rattle.jwt_base.specs.KindOf.{kind_of, IsMemory};
-ghost use Rattle.jsonwebtoken.specs.Tests.{FirstFailed, header_order, header_call};
-ghost use Rattle.jwt_tool.specs.Line.{Answers, CommandAnswer, HeaderAnswer, IsHeaderValue, command_of, IsUsage, without_final_newline};
+ghost use Rattle.jsonwebtoken.specs.Tests.{FirstFailed, header_order, header_call, decode_order};
+ghost use Rattle.jwt_tool.specs.Asked.{asked};
+ghost use Rattle.jwt_tool.specs.Words.{request_of};
+ghost use Rattle.jwt_tool.specs.Line.{Answers, RequestAnswer, ValueAnswer, ValueLine, IsRefusal, IsHeaderValue, IsClaimsValue, hmac_call, IsUsage, without_final_newline};
 
 use crate::command::{Command, requested_command};
 use crate::fault::ToolFault;
 use crate::input::{gather, without_newline};
-use jsonwebtoken::decode_header;
-use jwt_base::errors::{Error, Result};
+use jsonwebtoken::crypto::hmac::HmacProvider;
+use jsonwebtoken::{Algorithm, DecodingKey, TokenData, Validation, decode, decode_header};
+use jwt_base::errors::{Error, ErrorKind, Result, new_error};
+use jwt_base::json::has_float;
 use serde_json::Value;
 use std::alloc::Global;
 use std::io::{Read, Write};
@@ -33,7 +35,7 @@ pub fn run<R: Read, W: Write>(
     reader: &mut R,
     writer: &mut W,
 ) -> std::result::Result<u8, ToolFault>
-    ensures unread { command_of (map string_bytes words.now) ≡ None → R.remaining reader.new ≡ R.remaining reader.old }
+    ensures unread { request_of (map string_bytes words.now) ≡ None → R.remaining reader.new ≡ R.remaining reader.old }
     ensures answered { IfOk result (λ status. IfSome (R.remaining reader.old) (λ all.
         (line : List ℕ) × Appends (W.contents writer.old) (W.contents writer.new) (line ++ 10 ∷ [])
         × Answers (map string_bytes words.now) (without_final_newline all) status line)) }
@@ -49,7 +51,7 @@ fn answer_to<R: Read>(
     words: &[String],
     reader: &mut R,
 ) -> std::result::Result<Answer, ToolFault>
-    ensures unread { command_of (map string_bytes words.now) ≡ None → R.remaining reader.new ≡ R.remaining reader.old }
+    ensures unread { request_of (map string_bytes words.now) ≡ None → R.remaining reader.new ≡ R.remaining reader.old }
     ensures said { IfOk result (λ a. IfSome (R.remaining reader.old) (λ all.
         Answers (map string_bytes words.now) (without_final_newline all) a.status (string_bytes a.line))) }
 {
@@ -84,19 +86,25 @@ fn write_line<W: Write>(writer: &mut W, mut line: String) -> std::result::Result
 
 fn command_answer(
     alloc: Global,
-    command: Command,
+    command: Command<'_>,
     input: &[u8],
 ) -> std::result::Result<Answer, ToolFault>
-    ensures { IfOk result (λ a. CommandAnswer command input.now a.status (string_bytes a.line)) }
+    ensures { IfOk result (λ a. RequestAnswer (asked command.entry) input.now a.status (string_bytes a.line)) }
 {
     match command {
         Command::Header => header_answer(alloc, input),
+        Command::Decode {
+            algorithm,
+            secret,
+            now,
+        } => claims_answer(alloc, algorithm, secret, now, input),
     }
 }
 
 /// The header's JSON text, or the refusal's text.
 fn header_answer(alloc: Global, input: &[u8]) -> std::result::Result<Answer, ToolFault>
-    ensures { IfOk result (λ a. HeaderAnswer input.now a.status (string_bytes a.line)) }
+    ensures { IfOk result (λ a. ValueAnswer (IsHeaderValue input.now)
+        (λ k. FirstFailed (header_call input.now) header_order k) a.status (string_bytes a.line)) }
 {
     match header_value(alloc, input) {
         Ok(value) => value_answer(alloc, &value),
@@ -104,11 +112,30 @@ fn header_answer(alloc: Global, input: &[u8]) -> std::result::Result<Answer, Too
     }
 }
 
-/// The value's compact JSON text.
-fn value_answer(alloc: Global, value: &Value) -> std::result::Result<Answer, ToolFault>
-    ensures { IfOk result (λ a. has_float (view value.now) ≡ false
-        → (string_bytes a.line ≡ compact_text (view value.now)) × (a.status ≡ 0)) }
+/// The claims' JSON text, or the refusal's text.
+fn claims_answer(
+    alloc: Global,
+    algorithm: Algorithm,
+    secret: &str,
+    now: u64,
+    input: &[u8],
+) -> std::result::Result<Answer, ToolFault>
+    ensures { IfOk result (λ a. ValueAnswer (IsClaimsValue input.now algorithm secret.now now)
+        (λ k. FirstFailed (hmac_call input.now algorithm secret.now now) decode_order k) a.status (string_bytes a.line)) }
 {
+    match claims_value(alloc, algorithm, secret, now, input) {
+        Ok(value) => value_answer(alloc, &value),
+        Err(e) => refusal_answer(alloc, &e),
+    }
+}
+
+/// The value's compact JSON text. One that holds a float is answered by the text of `Json`.
+fn value_answer(alloc: Global, value: &Value) -> std::result::Result<Answer, ToolFault>
+    ensures { IfOk result (λ a. ValueLine (view value.now) a.status (string_bytes a.line)) }
+{
+    if has_float(value) {
+        return refusal_answer(alloc, &new_error(ErrorKind::Json));
+    }
     match value.to_string(alloc) {
         Ok(line) => Ok(Answer { status: 0, line }),
         Err(_) => Err(ToolFault::Memory),
@@ -117,7 +144,7 @@ fn value_answer(alloc: Global, value: &Value) -> std::result::Result<Answer, Too
 
 /// The error's text.
 fn refusal_answer(alloc: Global, e: &Error) -> std::result::Result<Answer, ToolFault>
-    ensures { IfOk result (λ a. (string_bytes a.line ≡ text_of (kind_of e.now)) × (a.status ≡ 1)) }
+    ensures { IfOk result (λ a. IsRefusal (kind_of e.now) a.status (string_bytes a.line)) }
 {
     match e.to_string(alloc) {
         Ok(line) => Ok(Answer { status: 1, line }),
@@ -127,9 +154,24 @@ fn refusal_answer(alloc: Global, e: &Error) -> std::result::Result<Answer, ToolF
 
 fn header_value(alloc: Global, input: &[u8]) -> Result<Value>
     ensures ok { IfOk result (λ v. IsHeaderValue input.now (view v)) }
-    ensures no_float { IfOk result (λ v. has_float (view v) ≡ false) }
     ensures err { IfErr result (λ e. IsMemory e ⊎ FirstFailed (header_call input.now) header_order (kind_of e)) }
 {
     let header = decode_header(alloc, input)?;
     header.to_value(alloc)
+}
+
+fn claims_value(
+    alloc: Global,
+    algorithm: Algorithm,
+    secret: &str,
+    now: u64,
+    input: &[u8],
+) -> Result<Value>
+    ensures ok { IfOk result (λ v. IsClaimsValue input.now algorithm secret.now now (view v)) }
+    ensures err { IfErr result (λ e. IsMemory e ⊎ FirstFailed (hmac_call input.now algorithm secret.now now) decode_order (kind_of e)) }
+{
+    let key = DecodingKey::from_secret(alloc, secret.as_bytes())?;
+    let validation = Validation::new(alloc, algorithm)?;
+    let data: TokenData<Value> = decode(alloc, &HmacProvider, input, &key, &validation, now)?;
+    Ok(data.claims)
 }

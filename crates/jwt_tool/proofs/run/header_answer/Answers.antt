@@ -1,12 +1,15 @@
 use Rattle.std.proofs.Common.{inl}
 use Rattle.std.proofs.lemmas.Result.{IfOk-weaker}
+use Rattle.jsonwebtoken.specs.Tests.{FirstFailed, header_order, header_call}
+use Rattle.jwt_tool.specs.Line.{IsHeaderValue}
 use Rattle.jwt_tool.proofs.Said.{refused_said}
 use Rattle.jwt_tool.proofs.run.header_answer.Goals as goal
 
 pub returns-in-Ok : goal.returns-in-Ok
 returns-in-Ok c =
-    IfOk-weaker c.value_answer.result _ _ (λ a says. let said = says c.in-Ok.ensures.no_float in inl (inl ((_, c.in-Ok.ensures.ok, said.0), said.1))) c.value_answer.ensures
+    IfOk-weaker c.value_answer.result _ _ (λ a says. inl (inl (_, c.in-Ok.ensures.ok, says))) c.value_answer.ensures
 
 pub returns-in-Err : goal.returns-in-Err
 returns-in-Err c =
-    IfOk-weaker c.refusal_answer.result _ _ (λ a said. refused_said _ _ _ _ c.in-Err.ensures.err said) c.refusal_answer.ensures
+    IfOk-weaker c.refusal_answer.result _ _ (λ a said. refused_said (IsHeaderValue c.args.input.now) (λ k. FirstFailed (header_call c.args.input.now) header_order k)
+    _ _ _ c.in-Err.ensures.err said) c.refusal_answer.ensures

@@ -1,0 +1,34 @@
+-- What decode tells of the key and the validation that it was given, told of what the words ask for.
+use Rattle.std.proofs.Common.{◌≡◌, ℕ, List, [], ◌∷◌, sym, subst}
+use Rattle.serde_json.specs.View.{view}
+use Rattle.serde_json.specs.declared.value.Value.{Value}
+use Rattle.jwt_base.specs.Kind.{Kind}
+use Rattle.jwt_base.specs.declared.algorithms.Algorithm.{Algorithm}
+use Rattle.jwt_base.specs.declared.algorithms.AlgorithmFamily.TheVariants.{Hmac}
+use Rattle.jwt_keys.specs.Key.{Key, Plain, key_family}
+use Rattle.jwt_hmac.specs.HmacKeys.{hash_for, refusal, HmacAccepts}
+use Rattle.jwt_header.specs.declared.header.Header.{Header}
+use Rattle.jwt_validation.specs.Options.{Options, default_options}
+use Rattle.jsonwebtoken.specs.Tests.{Compact, Call, Things, Passes, FirstFailed, decode_order, verifying_call}
+use Rattle.jwt_tool.specs.Line.{IsClaimsValue, hmac_call}
+
+abbrev given_call : List ℕ → Key → Options → ℕ → Call Value
+given_call input key options now = verifying_call (Compact input) key options now (λ a k. refusal (hash_for a) (key_family k)) HmacAccepts (λ value claims. view claims ≡ value)
+
+pub claims_passed : (input : List ℕ) (algorithm : Algorithm) (secret : List ℕ) (now : ℕ) (key : Key) (options : Options) (header : Header) (claims : Value)
+    → key ≡ Plain Hmac secret → options ≡ default_options (algorithm ∷ [])
+    → (t : Things) × Passes (given_call input key options now) decode_order t × ((t.header ≡ header) × (view claims ≡ t.payload_value))
+    → IsClaimsValue input algorithm secret now (view claims)
+claims_passed input algorithm secret now key options header claims is_key is_options found = (
+  found.0,
+  subst (λ o. Passes (given_call input (Plain Hmac secret) o now) decode_order found.0) is_options
+      (subst (λ k. Passes (given_call input k options now) decode_order found.0) is_key found.1),
+  sym found.2.1,
+)
+
+pub claims_failed : (input : List ℕ) (algorithm : Algorithm) (secret : List ℕ) (now : ℕ) (key : Key) (options : Options) (k : Kind)
+    → key ≡ Plain Hmac secret → options ≡ default_options (algorithm ∷ [])
+    → FirstFailed (given_call input key options now) decode_order k → FirstFailed (hmac_call input algorithm secret now) decode_order k
+claims_failed input algorithm secret now key options k is_key is_options failed =
+    subst (λ o. FirstFailed (given_call input (Plain Hmac secret) o now) decode_order k) is_options
+    (subst (λ q. FirstFailed (given_call input q options now) decode_order k) is_key failed)

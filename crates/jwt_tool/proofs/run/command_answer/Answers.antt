@@ -1,0 +1,4 @@
+use Rattle.jwt_tool.proofs.run.command_answer.Goals as goal
+
+pub returns-in-Decode : goal.returns-in-Decode
+returns-in-Decode c = rw c.in-Decode.is c.claims_answer.ensures

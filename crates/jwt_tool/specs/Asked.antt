@@ -1,0 +1,8 @@
+-- The command as what the words ask for.
+use Rattle.jwt_tool.specs.Words.{Request, ForHeader, ForClaims}
+use Rattle.jwt_tool.specs.declared.command.Command.{Command}
+use Rattle.jwt_tool.specs.declared.command.Command.TheVariants.{Header, Decode}
+
+abbrev pub asked : Command → Request
+asked Header = ForHeader
+asked (Decode algorithm secret now) = ForClaims algorithm secret.now now

@@ -1,0 +1,36 @@
+-- What the words after the program's name ask for.
+use Rattle.std.specs.Prelude.{◌&&◌, ◌^◌, ltb, length, if◌then◌else◌, ℕ, List, [], ◌∷◌, Option, Some, None, option_map, option_and_then, codes}
+use Rattle.std.specs.Str.{bytes_eq, all_ascii_digits}
+use Rattle.std.specs.Str.Parse.{digits_value}
+use Rattle.jwt_base.specs.Algorithm.{algorithm_named}
+use Rattle.jwt_base.specs.declared.algorithms.Algorithm.{Algorithm}
+
+-- the header of a token; or its claims, verified by an algorithm and a secret at a moment
+pub data Request : Type 0 where
+  ForHeader : Request
+  ForClaims : Algorithm → List ℕ → ℕ → Request
+
+-- the number that one or more decimal digits write, where it has at most 64 bits
+abbrev pub moment_of : List ℕ → Option ℕ
+moment_of word = if all_ascii_digits word && (ltb 0 (length word) && ltb (digits_value 10 word) (2 ^ 64)) then Some (digits_value 10 word) else None
+
+-- what one word asks for
+abbrev pub request_named : List ℕ → Option Request
+request_named word = if bytes_eq word (codes "header") then Some ForHeader else None
+
+abbrev pub claims_at : List ℕ → Option ℕ → Algorithm → Option Request
+claims_at secret moment algorithm = option_map (λ now. ForClaims algorithm secret now) moment
+
+-- `decode`, the name of an algorithm, a secret and a moment
+abbrev pub decoding_request : List ℕ → List ℕ → List ℕ → List ℕ → Option Request
+decoding_request word algorithm secret moment =
+    if bytes_eq word (codes "decode") then option_and_then (claims_at secret (moment_of moment)) (algorithm_named algorithm) else None
+
+-- what the words ask for; words that ask for nothing are answered by the usage
+abbrev pub request_of : List (List ℕ) → Option Request
+request_of [] = Some ForHeader
+request_of (word ∷ []) = request_named word
+request_of (word ∷ algorithm ∷ []) = None
+request_of (word ∷ algorithm ∷ secret ∷ []) = None
+request_of (word ∷ algorithm ∷ secret ∷ moment ∷ []) = decoding_request word algorithm secret moment
+request_of (word ∷ algorithm ∷ secret ∷ moment ∷ more ∷ rest) = None
