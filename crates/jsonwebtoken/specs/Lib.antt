@@ -1,4 +1,6 @@
 pub mod Crit
+pub mod Issue
+pub mod IssueSteps
 pub mod Laws
 pub mod Order
 pub mod Steps
