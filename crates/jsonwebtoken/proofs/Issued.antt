@@ -1,17 +1,16 @@
 -- The tests of a token that is to be issued, and how its text is read back.
-use Rattle.std.proofs.Common.{◌≡◌, ◌⊎◌, ℕ, List, [], ◌∷◌, ◌++◌, Bool, true, ◌&&◌, Option, Some, slice_get, refl, sym, ◌∙◌, inl, inr, drop, length, ◌+◌, Result, IfOk, IfErr}
+use Rattle.std.proofs.Common.{◌≡◌, ◌⊎◌, ℕ, List, [], ◌∷◌, Bool, true, ◌&&◌, Option, Some, None, slice_get, refl, sym, ◌∙◌, Result, IfOk, IfErr}
 use Rattle.std.specs.Prelude.{MatchResult}
 use Rattle.serde_json.specs.Data.{Data}
 use Rattle.serde_json.specs.Written.{compact_text}
-use Rattle.jwt_base.specs.Kind.{Kind}
 use Rattle.jwt_base.specs.KindOf.{kind_of, IsMemory}
 use Rattle.jwt_base.specs.declared.algorithms.Algorithm.{Algorithm}
 use Rattle.jwt_base.specs.declared.errors.Error.{Error}
 use Rattle.jwt_keys.specs.Key.{Key}
 use Rattle.jwt_header.specs.Header.{ReadsHeader, header_value}
 use Rattle.jwt_header.specs.HeaderWritten.{normal_header, HasNormalForm}
-use Rattle.jsonwebtoken.specs.Issue.{Payload, NoClaims, WrittenAs, Issue, IssueTest, KeyFitsAlgorithm, SignerIsMade, HeaderIsWritten, ClaimsAreWritten, MessageIsSigned, Written, AreWritten, IssueCondition, IssueKind, IssuePasses, IssueFailsFirst, AreIssued, ReadsBack}
-use Rattle.jsonwebtoken.specs.IssueSteps.{IsPartOf, IssueFailsAt, IssueFailed, IssueStep}
+use Rattle.jsonwebtoken.specs.Issue.{Payload, NoClaims, WrittenAs, Issue, IssueTest, KeyFitsAlgorithm, SignerIsMade, HeaderIsWritten, ClaimsAreWritten, MessageIsSigned, Written, AreWritten, payload_part, IssueCondition, IssueKind, IssuePasses, IssueFailsFirst, AreIssued, ReadsBack}
+use Rattle.jsonwebtoken.specs.IssueSteps.{IsPartOf, IsPayloadOf, IssueFailsAt, IssueStep}
 use Rattle.jsonwebtoken.specs.Tests.{Cut, Things, text_of_parts}
 use Rattle.jsonwebtoken.specs.Steps.{nothing}
 use Rattle.jsonwebtoken.proofs.Dots.{cut_of_parts}
@@ -80,21 +79,6 @@ module _ (issue : Issue) where
   fails_for b t s p q ClaimsAreWritten e none h = none s.claims_value h
   fails_for b t s p q MessageIsSigned e none h = none (rw (one_written b t s e p q) h)
 
-  -- the tests failed before these, or after those that hold
-  early : (a b : List IssueTest) (t : Written) (k : Kind) → IssueFailed issue a t k → IssueFailed issue (a ++ b) t k
-  early [] b t k f = absurd f
-  early (c ∷ a) b t k (inl f) = inl f
-  early (c ∷ a) b t k (inr (h, f)) = inr (h, early a b t k f)
-
-  later : (a b : List IssueTest) (t : Written) (k : Kind) → IssuePasses issue a t → IssueFailed issue b t k → IssueFailed issue (a ++ b) t k
-  later [] b t k p f = f
-  later (c ∷ a) b t k p f = inr (p.0, later a b t k p.1 f)
-
-  -- of an order: the tests a hold, and the tests b that follow failed
-  pub issue_stop : (order a b : List IssueTest) (t : Written) (k : Kind) → IssuePasses issue a t → IssueFailed issue b t k
-      → (x : Written) × IssueFailed issue (a ++ (b ++ drop (length a + length b) order)) x k
-  issue_stop order a b t k p f = (t, later a (b ++ drop (length a + length b) order) t k p (early b (drop (length a + length b) order) t k f))
-
   -- an answer that tells of an order, as the clauses say it
   module _ {R : Type 0} (order : List IssueTest) (sound : is_sound order ≡ true) (shows : Written → R → Type 0) (r : Result R Error) (m : IssueStep issue order shows r) where
     pub issue_accepted : IfOk r (λ y. (t : Written) × IssuePasses issue order t × shows t y)
@@ -123,16 +107,21 @@ module _ (issue : Issue) (accepts : Algorithm → Key → List ℕ → List ℕ 
     payload_value = v;
   }
 
-  pub read_back : AreIssued issue t c → (v : Data) → t.claims_value ≡ Some v → IsPartOf v c.payload → ReadsBack issue accepts t (text_of_parts c)
+  pub read_back : AreIssued issue t c → IsPayloadOf t.claims_value c.payload → ReadsBack issue accepts t (text_of_parts c)
   unfolding things_of
-  read_back a v is payload w is_w deep_h deep_w =
-      let both : Some v ≡ Some w = sym is ∙ is_w in
-      let same : v ≡ w = cc in
+  read_back a claims v is deep_h deep_v =
+      let payload : IsPartOf v c.payload = rw is at claims in
       let cut = cut_of_parts c (compact_text t.header_value) (compact_text v) a.bytes header.part payload.part a.signature in
-      let reads : ReadsHeader t.header_value (normal_header issue.header) = (normal.reads_back t.header_value written (normal_header issue.header)).1 refl in record {
+      let reads : ReadsHeader t.header_value (normal_header issue.header) = (normal.reads_back t.header_value written (normal_header issue.header)).1 refl in
+      record {
         things = things_of a v;
-        passed = (cut, (header.part, (header.reads_back deep_h, (reads, (a.signature, (payload.part, (payload.reads_back (rw same deep_w), tt)))))));
+        passed = (cut, (header.part, (header.reads_back deep_h, (reads, (a.signature, (payload.part, (payload.reads_back deep_v, tt)))))));
         header = refl;
-        claims = same;
+        claims = refl;
         accepted = λ key law. law _ _ a.signed;
       }
+
+-- the part of a payload
+pub is_payload_part : (v : Option Data) (text : List ℕ) → IsPayloadOf v text → text ≡ payload_part v
+is_payload_part None text e = e
+is_payload_part (Some d) text p = p.part.1

@@ -23,6 +23,10 @@ pub data Payload : Type 0 where
   NoClaims : Payload
   WrittenAs : Option Data → Payload
 
+abbrev pub payload_of : Option (Option Data) → Payload
+payload_of None = NoClaims
+payload_of (Some w) = WrittenAs w
+
 -- what a call is given: its arguments, and the provider's answers
 pub record Issue : Type 1 where
   pub header : Header

@@ -1,5 +1,5 @@
 -- For private clauses: what a step of a call that issues a token tells of its tests.
-use Rattle.std.specs.Prelude.{◌≡◌, ◌≤◌, ℕ, List, Option, Result}
+use Rattle.std.specs.Prelude.{◌≡◌, ◌≤◌, ℕ, List, [], Option, Some, None, Result}
 use Rattle.serde_json.specs.Data.{Data, depth}
 use Rattle.serde_json.specs.Read.{max_depth}
 use Rattle.serde_json.specs.Written.{compact_text}
@@ -11,12 +11,16 @@ use Rattle.jsonwebtoken.specs.Order.{FailedAt}
 use Rattle.jsonwebtoken.specs.Steps.{Meets}
 use Rattle.jsonwebtoken.specs.Issue.{Issue, IssueTest, KeyFitsAlgorithm, SignerIsMade, HeaderIsWritten, ClaimsAreWritten, MessageIsSigned, Written, AreWritten, IssueCondition, IssueKind, IssuePasses}
 use Rattle.jwt_header.specs.Header.{header_value}
-use Rattle.std.specs.Prelude.{Some}
 
 -- the part that stands for the value's compact text, which reads back where it nests no deeper than is read
 pub record IsPartOf (d : Data) (text : List ℕ) : Type 0 where
   pub part : IsPart text (compact_text d)
   pub reads_back : depth d ≤ max_depth → IsJson (compact_text d) d
+
+-- the same of a payload, which without claims is empty
+abbrev pub IsPayloadOf : Option Data → List ℕ → Type 0
+IsPayloadOf None text = text ≡ []
+IsPayloadOf (Some d) text = IsPartOf d text
 
 module _ (issue : Issue) where
   -- the test fails at these things, whatever stands in place of the thing that it looks for

@@ -1,6 +1,6 @@
 //! The steps that the calls which issue tokens share.
 
-ghost use Rattle.std.specs.Prelude.{◌≡◌, ◌++◌, ◌∷◌, List, ℕ, Option, Some, None, false, IfOk, IfErr, OnOk, string_bytes};
+ghost use Rattle.std.specs.Prelude.{◌≡◌, ◌++◌, ◌∷◌, List, ℕ, Option, Some, None, false, IfOk, IfErr, OnOk, option_map, string_bytes};
 ghost use Rattle.serde_json.specs.Data.{Data};
 ghost use Rattle.serde_json.specs.View.{view};
 ghost use Rattle.serde_json.specs.Written.{has_float as holds_float};
@@ -10,8 +10,8 @@ ghost use Rattle.jwt_base.specs.Kind as kind;
 ghost use Rattle.jwt_base.specs.KindOf.{IsMemory, Refuses, RefusesAs};
 ghost use Rattle.jwt_header.specs.Header.{header_value};
 ghost use Rattle.jwt_header.specs.HeaderWritten.{HasNormalForm};
-ghost use Rattle.jsonwebtoken.specs.Issue.{WrittenAs, AreWritten};
-ghost use Rattle.jsonwebtoken.specs.IssueSteps.{IsPartOf};
+ghost use Rattle.jsonwebtoken.specs.Issue.{WrittenAs, AreWritten, payload_of};
+ghost use Rattle.jsonwebtoken.specs.IssueSteps.{IsPartOf, IsPayloadOf};
 ghost use Rattle.jsonwebtoken.specs.Steps.{Decides};
 ghost use Rattle.jsonwebtoken.specs.Tests.{dot};
 
@@ -70,6 +70,19 @@ pub(crate) fn claims_part<T: Claims>(alloc: Global, claims: &T) -> Result<String
     }
     let part = value_part(alloc, &value)?;
     Ok(part)
+}
+
+/// The part of the claims, which is empty where there are none.
+pub(crate) fn payload_part<T: Claims>(alloc: Global, claims: Option<&T>) -> Result<String>
+    ensures ok { IfOk result (λ t. (v : Option Data)
+        × (AreWritten (payload_of (option_map (λ c. T.written c.now) claims.entry)) v × IsPayloadOf v (string_bytes t))) }
+    ensures err { IfErr result (RefusesAs kind.Json
+        ((v : Option Data) → ¬ AreWritten (payload_of (option_map (λ c. T.written c.now) claims.entry)) v)) }
+{
+    match claims {
+        Some(claims) => claims_part(alloc, claims),
+        None => Ok(String::new(alloc)),
+    }
 }
 
 /// The text, a dot, and the part.

@@ -83,6 +83,6 @@ returns g c =
       (c.in_ok-check_family.ensures, (c.in_ok-signer.ensures.made, (h.1.0, ((v.0, refl, v.1.0, v.1.1), (unrefused, tt))))),
       (
         (cut, text, issued),
-        rw text (read_back issue (g.P.CryptoProvider.accepts c.args.provider.now) t cut c.in_ok-header_text.ensures.normal_form h.1.0 h.1.1 issued v.0 refl v.1.2),
+        rw text (read_back issue (g.P.CryptoProvider.accepts c.args.provider.now) t cut c.in_ok-header_text.ensures.normal_form h.1.0 h.1.1 issued v.1.2),
       ),
     )
