@@ -6,6 +6,8 @@ mod issued_tokens;
 #[cfg(test)]
 mod token_headers;
 #[cfg(test)]
+mod tokens_in_parts;
+#[cfg(test)]
 mod unverified_tokens;
 #[cfg(test)]
 mod verified_tokens;
