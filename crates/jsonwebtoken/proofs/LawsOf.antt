@@ -9,10 +9,12 @@ use Rattle.serde_json.specs.Data.{Members}
 use Rattle.jwt_header.specs.declared.header.Header.{Header}
 use Rattle.jwt_validation.specs.Options.{Texts}
 use Rattle.jwt_validation.specs.Moments.{IsSubset}
-use Rattle.jsonwebtoken.specs.Tests.{Call, Compact, Given, Test, Things, Cut, IsCutOf, message_of, Passes, decode_order, jws_order, header_order, header_tests, jws_algorithm_tests, algorithm_tests, signature_tests, payload_tests, claim_tests, KeyIsGiven, HasThreeParts, HeaderIsPart, HeaderIsJson, HeaderReads, CritIsUnderstood, AlgorithmIsListed, VerifierIsMade, FamiliesAgree, SignatureIsPart, SignatureIsAccepted, PayloadIsPart, ClaimsAreAnObject, ClaimRulesHold}
+use Rattle.jsonwebtoken.specs.Tests.{Call, Compact, Given, Test, Things, Cut, IsCutOf, text_of_parts, message_of, Passes, decode_order, jws_order, header_order, header_tests, jws_algorithm_tests, algorithm_tests, signature_tests, payload_tests, claim_tests, KeyIsGiven, HasThreeParts, HeaderIsPart, HeaderIsJson, HeaderReads, CritIsUnderstood, AlgorithmIsListed, VerifierIsMade, FamiliesAgree, SignatureIsPart, SignatureIsAccepted, PayloadIsPart, ClaimsAreAnObject, ClaimRulesHold}
 use Rattle.jwt_base.specs.Base64Url.{url_characters}
 use Rattle.base64.specs.Rfc4648.{encode_symbols}
 use Rattle.jsonwebtoken.specs.Laws.{base_order, HasMoments, PassesLooser, HasOneSignature, IsOneText, AgreeOn, on_parts, on_text}
+use Rattle.jsonwebtoken.specs.Jws.{JwsHasMoments, JwsPassesLooser, AreOneCut}
+use Rattle.jsonwebtoken.proofs.OneCut.{one_cut}
 use Rattle.jsonwebtoken.proofs.Dots.{cut_of_parts, parts_of_cut}
 use Rattle.jwt_validation.proofs.ClaimRuleLemmas.{within, held_within, rules-looser}
 use Rattle.jwt_base.proofs.Parts.{one_json}
@@ -133,3 +135,33 @@ moments call t m le = (
       record { base = among (record call { now = m }) base_order decode_order t refl p; rules = w.0; from = w.1; until = w.2 },
   λ w. join (record call { now = m }) base_order (ClaimRulesHold ∷ []) t w.base (held_within call.options t.payload_value m w.rules w.from w.until, tt),
 )
+
+-- ---- the laws of tokens in parts
+
+module _ {T : Type 0} (call : Call T) (t : Things) (p : Passes call jws_order t) where
+  -- the tests are those of decode in another order
+  pub as_decode : Passes call decode_order t
+  as_decode = among call decode_order jws_order t refl p
+
+  pub jws_looser : JwsPassesLooser call t
+  jws_looser w l = among (record call { options = w }) jws_order decode_order t refl (looser call t as_decode w l)
+
+pub jws_moments : {T : Type 0} (call : Call T) → JwsHasMoments call
+jws_moments call t m le =
+    let at = record call { now = m } in (
+      λ p. (moments call t m le).0 (among at decode_order jws_order t refl p),
+      λ w. among at jws_order decode_order t refl ((moments call t m le).1 w),
+    )
+
+pub one_cut_accepted : {T : Type 0} (call : Call T) (c : Cut) (t : Things) → Passes (on_parts call c) jws_order t → HasOneSignature call t → AreOneCut (on_parts call c) c t
+one_cut_accepted call c t p one d w m u q hb pb =
+    let other = record call { options = w; now = m } in
+    let text = on_text call c in
+    let other_text = on_text other d in
+    let pt = (agree call c t).0 p in
+    let qt = (agree other d u).0 q in
+    let same : text_of_parts d ≡ text_of_parts c = one_text text t pt (text_of_parts c) refl one (text_of_parts d) w m u qt hb pb in
+    let is_t : t.cut ≡ c = met (on_parts call c) jws_order t p HasThreeParts refl in
+    let is_u : u.cut ≡ d = met (on_parts other d) jws_order u q HasThreeParts refl in
+    let cut_u : IsCutOf (text_of_parts c) u.cut = rw same at (met other_text decode_order u qt HasThreeParts refl) in
+    sym is_u ∙ one_cut (Compact (text_of_parts c)) u.cut t.cut cut_u (met text decode_order t pt HasThreeParts refl) ∙ is_t

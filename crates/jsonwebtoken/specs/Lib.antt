@@ -1,4 +1,7 @@
 pub mod Crit
+pub mod Issue
+pub mod IssueSteps
+pub mod Jws
 pub mod Laws
 pub mod Order
 pub mod Steps

@@ -4,8 +4,11 @@
 pub mod crypto;
 pub mod dangerous;
 mod decoding;
+mod encoding;
+pub mod jws;
 
 pub use decoding::{TokenData, decode, decode_header};
+pub use encoding::encode;
 pub use jwt_base::algorithms::{Algorithm, AlgorithmFamily};
 pub use jwt_base::{errors, json};
 pub use jwt_header::header::{Enc, Extras, Header, Zip};

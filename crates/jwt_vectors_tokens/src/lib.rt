@@ -2,7 +2,11 @@
 #![tactic(auto)]
 
 #[cfg(test)]
+mod issued_tokens;
+#[cfg(test)]
 mod token_headers;
+#[cfg(test)]
+mod tokens_in_parts;
 #[cfg(test)]
 mod unverified_tokens;
 #[cfg(test)]

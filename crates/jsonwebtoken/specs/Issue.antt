@@ -1,0 +1,150 @@
+-- The tests of a token that is to be issued, the orders that the calls make them in, and its text (RFC 7515 section 7.1).
+use Rattle.std.specs.Prelude.{◌≡◌, ◌≤◌, ℕ, List, [], ◌∷◌, ◌++◌, Option, Some, None, false}
+use Rattle.serde_json.specs.Data.{Data, depth}
+use Rattle.serde_json.specs.Read.{max_depth}
+use Rattle.serde_json.specs.Written.{compact_text, has_float}
+use Rattle.base64.specs.Rfc4648.{encode_symbols}
+use Rattle.jwt_base.specs.Algorithm.{family_of}
+use Rattle.jwt_base.specs.Base64Url.{IsPart, url_characters}
+use Rattle.jwt_base.specs.Kind.{Kind}
+use Rattle.jwt_base.specs.Kind as kind
+use Rattle.jwt_base.specs.declared.algorithms.Algorithm.{Algorithm}
+use Rattle.jwt_keys.specs.Key.{SecretKey, Key}
+use Rattle.jwt_header.specs.Header.{header_value}
+use Rattle.jwt_header.specs.HeaderWritten.{normal_header}
+use Rattle.jwt_header.specs.declared.header.Header.{Header}
+use Rattle.jsonwebtoken.specs.Order.{PassesAll, FailsFirst}
+use Rattle.jsonwebtoken.specs.Tests.{dot, Cut, message_of, text_of_parts, Call, Test, HasThreeParts, SignatureIsPart, SignatureIsAccepted, PayloadIsPart, PayloadIsJson, header_tests, Things, Condition, Passes, header_call}
+
+-- ---- a call
+
+-- the claims of a token: none, or those that are written as this value, if they can be written
+pub data Payload : Type 0 where
+  NoClaims : Payload
+  WrittenAs : Option Data → Payload
+
+abbrev pub payload_of : Option (Option Data) → Payload
+payload_of None = NoClaims
+payload_of (Some w) = WrittenAs w
+
+-- what a call is given: its arguments, and the provider's answers
+pub record Issue : Type 1 where
+  pub header : Header
+  pub payload : Payload
+  pub key : SecretKey
+  pub signer_refusal : Algorithm → SecretKey → Option Kind
+  pub sign_refusal : Algorithm → SecretKey → List ℕ → Option Kind
+  pub signs : Algorithm → SecretKey → List ℕ → List ℕ → Type 0
+
+-- ---- the tests
+
+pub data IssueTest : Type 0 where
+  KeyFitsAlgorithm : IssueTest
+  SignerIsMade : IssueTest
+  HeaderIsWritten : IssueTest
+  ClaimsAreWritten : IssueTest
+  MessageIsSigned : IssueTest
+
+-- what the tests speak of: the header's value, and that of the claims where there are any
+pub record Written : Type 0 where
+  pub header_value : Data
+  pub claims_value : Option Data
+
+-- the claims are written as this value, in which no float stands
+abbrev pub AreWritten : Payload → Option Data → Type 0
+AreWritten NoClaims v = v ≡ None
+AreWritten (WrittenAs w) v = (d : Data) × (v ≡ Some d) × (w ≡ Some d) × (has_float d ≡ false)
+
+-- the part that stands for a value's compact text
+abbrev pub part_of : Data → List ℕ
+part_of d = encode_symbols url_characters (compact_text d)
+
+-- the payload part: without claims it is empty
+abbrev pub payload_part : Option Data → List ℕ
+payload_part None = []
+payload_part (Some d) = part_of d
+
+-- what is signed (RFC 7515 section 5.1)
+abbrev pub message_to_sign : Written → List ℕ
+message_to_sign t = part_of t.header_value ++ dot ∷ payload_part t.claims_value
+
+module _ (issue : Issue) where
+  -- the condition of each test
+  abbrev pub IssueCondition : IssueTest → Written → Type 0
+  IssueCondition KeyFitsAlgorithm t = issue.key.family ≡ family_of issue.header.alg
+  IssueCondition SignerIsMade t = issue.signer_refusal issue.header.alg issue.key ≡ None
+  IssueCondition HeaderIsWritten t = header_value issue.header ≡ Some t.header_value
+  IssueCondition ClaimsAreWritten t = AreWritten issue.payload t.claims_value
+  IssueCondition MessageIsSigned t = issue.sign_refusal issue.header.alg issue.key (message_to_sign t) ≡ None
+
+  -- the kinds of a failed test
+  abbrev pub IssueKind : IssueTest → Written → Kind → Type 0
+  IssueKind KeyFitsAlgorithm t k = k ≡ kind.InvalidAlgorithm
+  IssueKind SignerIsMade t k = issue.signer_refusal issue.header.alg issue.key ≡ Some k
+  IssueKind HeaderIsWritten t k = k ≡ kind.Json
+  IssueKind ClaimsAreWritten t k = k ≡ kind.Json
+  IssueKind MessageIsSigned t k = issue.sign_refusal issue.header.alg issue.key (message_to_sign t) ≡ Some k
+
+  -- every test of the order holds
+  abbrev pub IssuePasses : List IssueTest → Written → Type 0
+  IssuePasses = PassesAll (IssueCondition)
+
+  -- the order's first failed test has this kind
+  abbrev pub IssueFailsFirst : List IssueTest → Kind → Type 0
+  IssueFailsFirst = FailsFirst (IssueCondition) (IssueKind)
+
+  -- The parts of an issued token: those of the header's and of the claims' text, and that of a signature which the
+  -- provider may answer for the two.
+  pub record AreIssued (t : Written) (c : Cut) : Type 0 where
+    pub header : c.header ≡ part_of t.header_value
+    pub payload : c.payload ≡ payload_part t.claims_value
+    pub bytes : List ℕ
+    pub signature : IsPart c.signature bytes
+    pub signed : issue.signs issue.header.alg issue.key (message_of c) bytes
+
+  -- the text of an issued token
+  abbrev pub IsIssued : Written → List ℕ → Type 0
+  IsIssued t x = (c : Cut) × (x ≡ text_of_parts c) × AreIssued t c
+
+-- ---- the orders
+
+abbrev pub encode_order : List IssueTest
+encode_order = KeyFitsAlgorithm ∷ SignerIsMade ∷ HeaderIsWritten ∷ ClaimsAreWritten ∷ MessageIsSigned ∷ []
+
+abbrev pub jws_encode_order : List IssueTest
+jws_encode_order = KeyFitsAlgorithm ∷ HeaderIsWritten ∷ ClaimsAreWritten ∷ SignerIsMade ∷ MessageIsSigned ∷ []
+
+-- ---- the calls
+
+abbrev pub issuing : Header → Payload → SecretKey → (Algorithm → SecretKey → Option Kind) → (Algorithm → SecretKey → List ℕ → Option Kind) → (Algorithm → SecretKey → List ℕ → List ℕ → Type 0) → Issue
+issuing header payload key signer_refusal sign_refusal signs = record {
+  header = header;
+  payload = payload;
+  key = key;
+  signer_refusal = signer_refusal;
+  sign_refusal = sign_refusal;
+  signs = signs;
+}
+
+-- ---- reading an issued token
+
+-- the tests that ask neither for a validation nor for a key nor for a claims type
+abbrev pub issued_tests : List Test
+issued_tests = HasThreeParts ∷ header_tests ++ SignatureIsPart ∷ PayloadIsPart ∷ PayloadIsJson ∷ []
+
+abbrev pub reading_call : List ℕ → (Algorithm → Key → List ℕ → List ℕ → Type 0) → Call (Unit {0})
+reading_call x accepts = record (header_call x) { accepts = accepts }
+
+-- The text passes these tests with the header's normal form and the claims' value, and its signature is accepted with
+-- each key that accepts what the issuer's key signs.
+pub record IsReadBack (issue : Issue) (accepts : Algorithm → Key → List ℕ → List ℕ → Type 0) (v : Data) (x : List ℕ) : Type 0 where
+  pub things : Things
+  pub passed : Passes (reading_call x accepts) issued_tests things
+  pub header : things.header ≡ normal_header issue.header
+  pub claims : things.payload_value ≡ v
+  pub accepted : (key : Key) → ((m s : List ℕ) → issue.signs issue.header.alg issue.key m s → accepts issue.header.alg key m s)
+      → Condition (reading_call x accepts) SignatureIsAccepted (record things { key = key })
+
+-- so it is where the header and the claims nest as deep as JSON is read
+abbrev pub ReadsBack : Issue → (Algorithm → Key → List ℕ → List ℕ → Type 0) → Written → List ℕ → Type 0
+ReadsBack issue accepts t x = (v : Data) → t.claims_value ≡ Some v → depth t.header_value ≤ max_depth → depth v ≤ max_depth → IsReadBack issue accepts v x

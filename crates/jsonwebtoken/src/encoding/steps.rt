@@ -1,0 +1,111 @@
+//! The steps that the calls which issue tokens share.
+
+ghost use Rattle.std.specs.Prelude.{◌≡◌, ◌++◌, ◌∷◌, List, ℕ, Option, Some, None, false, IfOk, IfErr, OnOk, option_map, string_bytes};
+ghost use Rattle.serde_json.specs.Data.{Data};
+ghost use Rattle.serde_json.specs.View.{view};
+ghost use Rattle.serde_json.specs.Written.{has_float as holds_float};
+ghost use Rattle.jwt_base.specs.Algorithm.{family_of};
+ghost use Rattle.jwt_base.specs.Base64Url.{IsPart};
+ghost use Rattle.jwt_base.specs.Kind as kind;
+ghost use Rattle.jwt_base.specs.KindOf.{IsMemory, Refuses, RefusesAs};
+ghost use Rattle.jwt_header.specs.Header.{header_value};
+ghost use Rattle.jwt_header.specs.HeaderWritten.{HasNormalForm};
+ghost use Rattle.jsonwebtoken.specs.Issue.{WrittenAs, AreWritten, payload_of};
+ghost use Rattle.jsonwebtoken.specs.IssueSteps.{IsPartOf, IsPayloadOf};
+ghost use Rattle.jsonwebtoken.specs.Steps.{Decides};
+ghost use Rattle.jsonwebtoken.specs.Tests.{dot};
+
+use jwt_base::algorithms::Algorithm;
+use jwt_base::errors::{ErrorKind, Result, new_error};
+use jwt_base::json::{Claims, has_float};
+use jwt_base::serialization::part_text;
+use jwt_header::header::Header;
+use jwt_keys::crypto::JwtSigner;
+use jwt_keys::encoding::EncodingKey;
+use serde_json::Value;
+use std::alloc::Global;
+
+/// Refuses a key of another family than the algorithm's with `InvalidAlgorithm`.
+pub(crate) fn check_family(key: &EncodingKey, algorithm: Algorithm) -> Result<()>
+    ensures { Decides (key.now.family ≡ family_of algorithm) (λ k. k ≡ kind.InvalidAlgorithm) result }
+{
+    if key.family() == algorithm.family() {
+        return Ok(());
+    }
+    Err(new_error(ErrorKind::InvalidAlgorithm))
+}
+
+/// The part that stands for the compact text of a value without floats.
+fn value_part(alloc: Global, value: &Value) -> Result<String>
+    requires { holds_float (view value.now) ≡ false }
+    ensures ok { IfOk result (λ t. IsPartOf (view value.now) (string_bytes t)) }
+    ensures err { IfErr result IsMemory }
+{
+    let text = value.to_vec(alloc)?;
+    part_text(alloc, text.as_slice())
+}
+
+/// The header part.
+pub(crate) fn header_part(alloc: Global, header: &Header) -> Result<String>
+    ensures ok { IfOk result (λ t. (d : Data)
+        × ((header_value header.now ≡ Some d) × IsPartOf d (string_bytes t))) }
+    ensures err { IfErr result (RefusesAs kind.Json (header_value header.now ≡ None)) }
+    ensures normal_form { HasNormalForm header.now }
+{
+    let value = header.to_value(alloc)?;
+    let part = value_part(alloc, &value)?;
+    Ok(part)
+}
+
+/// The part of the claims. Claims that cannot be written and those with a float in them are refused with `Json`.
+pub(crate) fn claims_part<T: Claims>(alloc: Global, claims: &T) -> Result<String>
+    ensures ok { IfOk result (λ t. (d : Data)
+        × ((T.written claims.now ≡ Some d) × (holds_float d ≡ false) × IsPartOf d (string_bytes t))) }
+    ensures err { IfErr result (RefusesAs kind.Json
+        ((v : Option Data) → ¬ AreWritten (WrittenAs (T.written claims.now)) v)) }
+{
+    let value = claims.to_value(alloc)?;
+    if has_float(&value) {
+        return Err(new_error(ErrorKind::Json));
+    }
+    let part = value_part(alloc, &value)?;
+    Ok(part)
+}
+
+/// The part of the claims, which is empty where there are none.
+pub(crate) fn payload_part<T: Claims>(alloc: Global, claims: Option<&T>) -> Result<String>
+    ensures ok { IfOk result (λ t. (v : Option Data)
+        × (AreWritten (payload_of (option_map (λ c. T.written c.now) claims.entry)) v × IsPayloadOf v (string_bytes t))) }
+    ensures err { IfErr result (RefusesAs kind.Json
+        ((v : Option Data) → ¬ AreWritten (payload_of (option_map (λ c. T.written c.now) claims.entry)) v)) }
+{
+    match claims {
+        Some(claims) => claims_part(alloc, claims),
+        None => Ok(String::new(alloc)),
+    }
+}
+
+/// The text, a dot, and the part.
+pub(crate) fn with_part(mut text: String, part: &str) -> Result<String>
+    ensures ok { IfOk result (λ t. string_bytes t ≡ string_bytes text ++ dot ∷ part.now) }
+    ensures err { IfErr result IsMemory }
+{
+    text.push('.')?;
+    text.push_str(part)?;
+    Ok(text)
+}
+
+/// The part of a signature of the message.
+pub(crate) fn signature_part<S: JwtSigner>(
+    alloc: Global,
+    signer: &S,
+    message: &[u8],
+) -> Result<String>
+    ensures signed { IfOk result (λ t. (b : List ℕ) × (IsPart (string_bytes t) b × S.signs signer.now message.now b)) }
+    ensures ok { OnOk result (S.sign_refusal signer.now message.now ≡ None) }
+    ensures err { IfErr result (Refuses (S.sign_refusal signer.now message.now)) }
+{
+    let signature = signer.sign(alloc, message)?;
+    let part = part_text(alloc, signature.as_slice())?;
+    Ok(part)
+}
