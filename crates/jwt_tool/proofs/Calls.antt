@@ -1,16 +1,20 @@
 -- What decode tells of the key and the validation that it was given, told of what the words ask for.
-use Rattle.std.proofs.Common.{◌≡◌, ℕ, List, [], ◌∷◌, sym, subst}
+use Rattle.std.proofs.Common.{◌≡◌, ℕ, List, [], ◌∷◌, Some, None, sym, subst, inr}
 use Rattle.serde_json.specs.View.{view}
 use Rattle.serde_json.specs.declared.value.Value.{Value}
 use Rattle.jwt_base.specs.Kind.{Kind}
 use Rattle.jwt_base.specs.declared.algorithms.Algorithm.{Algorithm}
 use Rattle.jwt_base.specs.declared.algorithms.AlgorithmFamily.TheVariants.{Hmac}
-use Rattle.jwt_keys.specs.Key.{Key, Plain, key_family}
-use Rattle.jwt_hmac.specs.HmacKeys.{hash_for, refusal, HmacAccepts}
+use Rattle.jwt_keys.specs.Key.{Key, Plain, SecretKey, key_family}
+use Rattle.jwt_hmac.specs.HmacKeys.{hash_for, refusal, HmacAccepts, HmacSigns}
 use Rattle.jwt_header.specs.declared.header.Header.{Header}
 use Rattle.jwt_validation.specs.Options.{Options, default_options}
 use Rattle.jsonwebtoken.specs.Tests.{Compact, Call, Things, Passes, FirstFailed, decode_order, verifying_call}
-use Rattle.jwt_tool.specs.Line.{IsClaimsValue, hmac_call}
+use Rattle.jsonwebtoken.specs.Issue.{Issue, Written, WrittenAs, IsIssued, IssuePasses, IssueFailsFirst, encode_order, issuing}
+use Rattle.jwt_base.specs.JsonText.{IsJson}
+use Rattle.jwt_header.specs.Header.{new_header}
+use Rattle.serde_json.specs.Data.{Data}
+use Rattle.jwt_tool.specs.Line.{IsClaimsValue, IsToken, HasTokenFault, hmac_call}
 
 abbrev given_call : List ℕ → Key → Options → ℕ → Call Value
 given_call input key options now = verifying_call (Compact input) key options now (λ a k. refusal (hash_for a) (key_family k)) HmacAccepts (λ value claims. view claims ≡ value)
@@ -32,3 +36,31 @@ pub claims_failed : (input : List ℕ) (algorithm : Algorithm) (secret : List �
 claims_failed input algorithm secret now key options k is_key is_options failed =
     subst (λ o. FirstFailed (given_call input (Plain Hmac secret) o now) decode_order k) is_options
     (subst (λ q. FirstFailed (given_call input q options now) decode_order k) is_key failed)
+
+abbrev given_issue : Header → SecretKey → Data → Issue
+given_issue header key claims = issuing header (WrittenAs (Some claims)) key (λ a k. refusal (hash_for a) k.family) (λ a k message. None) HmacSigns
+
+abbrev pub secret_key : List ℕ → SecretKey
+secret_key secret = record { family = Hmac; bytes = secret }
+
+pub token_issued : (input : List ℕ) (algorithm : Algorithm) (secret token : List ℕ) (header : Header) (key : SecretKey) (claims : Data)
+    → header ≡ new_header algorithm → key ≡ secret_key secret → IsJson input claims
+    → (t : Written) × IssuePasses (given_issue header key claims) encode_order t × IsIssued (given_issue header key claims) t token
+    → IsToken input algorithm secret token
+token_issued input algorithm secret token header key claims is_header is_key read found = (
+  claims,
+  read,
+  subst (λ k. (t : Written) × IssuePasses (given_issue (new_header algorithm) k claims) encode_order t × IsIssued (given_issue (new_header algorithm) k claims) t token) is_key
+      (subst (λ h. (t : Written) × IssuePasses (given_issue h key claims) encode_order t × IsIssued (given_issue h key claims) t token) is_header found),
+)
+
+pub token_failed : (input : List ℕ) (algorithm : Algorithm) (secret : List ℕ) (header : Header) (key : SecretKey) (claims : Data) (k : Kind)
+    → header ≡ new_header algorithm → key ≡ secret_key secret → IsJson input claims
+    → IssueFailsFirst (given_issue header key claims) encode_order k → HasTokenFault input algorithm secret k
+token_failed input algorithm secret header key claims k is_header is_key read failed =
+    inr (
+      claims,
+      read,
+      subst (λ q. IssueFailsFirst (given_issue (new_header algorithm) q claims) encode_order k) is_key
+          (subst (λ h. IssueFailsFirst (given_issue h key claims) encode_order k) is_header failed),
+    )

@@ -1,4 +1,4 @@
--- Two words, and three, ask for nothing.
+-- Two words ask for nothing.
 use Rattle.std.proofs.Common.{◌≡◌, refl, ℕ, ◌<◌, ◌≤◌, length, List, [], ◌∷◌, map, None, arith}
 use Rattle.jwt_tool.specs.Words.{request_of}
 
@@ -8,10 +8,3 @@ module _ {A : Type 0} (text : A → List ℕ) where
   two_words (a ∷ []) least below = absurd (omega (arith, least))
   two_words (a ∷ b ∷ []) least below = refl
   two_words (a ∷ b ∷ c ∷ rest) least below = absurd (omega (arith, below))
-
-  pub three_words : (ws : List A) → 3 ≤ length ws → length ws < 4 → None ≡ request_of (map text ws)
-  three_words [] least below = absurd (omega (arith, least))
-  three_words (a ∷ []) least below = absurd (omega (arith, least))
-  three_words (a ∷ b ∷ []) least below = absurd (omega (arith, least))
-  three_words (a ∷ b ∷ c ∷ []) least below = refl
-  three_words (a ∷ b ∷ c ∷ d ∷ rest) least below = absurd (omega (arith, below))

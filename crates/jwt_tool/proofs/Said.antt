@@ -1,11 +1,10 @@
 -- What is answered, where the reader's bytes are known.
 use Rattle.std.proofs.Common.{◌≡◌, ℕ, List, [], ◌∷◌, ◌++◌, Option, Some, None, IfSome, ◌⊎◌, ap, ◌∙◌, subst, inl, inr}
 use Rattle.std.specs.Io.KnownBytes.{Appends}
-use Rattle.serde_json.specs.Data.{Data}
 use Rattle.jwt_base.specs.Kind.{Kind, text_of}
 use Rattle.jwt_base.specs.KindOf.{kind_of, IsMemory}
 use Rattle.jwt_base.specs.declared.errors.Error.{Error}
-use Rattle.jwt_tool.specs.Line.{Answers, RequestAnswer, ValueAnswer, IsUsage, without_final_newline}
+use Rattle.jwt_tool.specs.Line.{Answers, RequestAnswer, IsRefusal, IsMemoryLine, IsUsage, without_final_newline}
 use Rattle.jwt_tool.specs.Words.{Request, request_of}
 
 usage_answers : (words : List (List ℕ)) (input : List ℕ) (status : ℕ) (line : List ℕ) → request_of words ≡ None → IsUsage status line → Answers words input status line
@@ -34,7 +33,7 @@ wrote None old new words status line said appended = tt
 wrote (Some all) old new words status line said appended = (line, appended, said)
 
 -- a refusal's text, or that of want of memory
-pub refused_said : (P : Data → Type 0) (K : Kind → Type 0) (e : Error) (status : ℕ) (line : List ℕ) → IsMemory e ⊎ K (kind_of e)
-    → (line ≡ text_of (kind_of e)) × (status ≡ 1) → ValueAnswer P K status line
-refused_said P K e status line (inl memory) said = inr (said.0 ∙ ap text_of memory, said.1)
-refused_said P K e status line (inr failed) said = inl (inr (kind_of e, failed, said))
+pub refused_said : {L : Type 0} (K : Kind → Type 0) (e : Error) (status : ℕ) (line : List ℕ) → IsMemory e ⊎ K (kind_of e)
+    → (line ≡ text_of (kind_of e)) × (status ≡ 1) → (L ⊎ ((k : Kind) × K k × IsRefusal k status line)) ⊎ IsMemoryLine status line
+refused_said K e status line (inl memory) said = inr (said.0 ∙ ap text_of memory, said.1)
+refused_said K e status line (inr failed) said = inl (inr (kind_of e, failed, said))

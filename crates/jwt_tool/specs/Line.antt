@@ -1,5 +1,5 @@
 -- The line and the status for words and an input.
-use Rattle.std.specs.Prelude.{◌≡◌, ◌==◌, ◌-◌, true, false, length, take, slice_index, if◌then◌else◌, MatchOption, ℕ, List, [], ◌∷◌, ◌⊎◌, Some, codes}
+use Rattle.std.specs.Prelude.{None, ◌≡◌, ◌==◌, ◌-◌, true, false, length, take, slice_index, if◌then◌else◌, MatchOption, ℕ, List, [], ◌∷◌, ◌⊎◌, Some, codes}
 use Rattle.serde_json.specs.Data.{Data}
 use Rattle.serde_json.specs.View.{view}
 use Rattle.serde_json.specs.Written.{compact_text, has_float}
@@ -9,11 +9,13 @@ use Rattle.jwt_base.specs.Kind as kind
 use Rattle.jwt_base.specs.declared.algorithms.Algorithm.{Algorithm}
 use Rattle.jwt_base.specs.declared.algorithms.AlgorithmFamily.TheVariants.{Hmac}
 use Rattle.jwt_keys.specs.Key.{Plain, key_family}
-use Rattle.jwt_hmac.specs.HmacKeys.{hash_for, refusal, HmacAccepts}
-use Rattle.jwt_header.specs.Header.{header_value}
+use Rattle.jwt_hmac.specs.HmacKeys.{hash_for, refusal, HmacAccepts, HmacSigns}
+use Rattle.jwt_header.specs.Header.{header_value, new_header}
 use Rattle.jwt_validation.specs.Options.{default_options}
 use Rattle.jsonwebtoken.specs.Tests.{Compact, Call, Things, Passes, FirstFailed, header_order, header_call, decode_order, verifying_call}
-use Rattle.jwt_tool.specs.Words.{Request, ForHeader, ForClaims, request_of}
+use Rattle.jsonwebtoken.specs.Issue.{Issue, Written, WrittenAs, IsIssued, IssuePasses, IssueFailsFirst, encode_order, issuing}
+use Rattle.jwt_base.specs.JsonText.{IsJson}
+use Rattle.jwt_tool.specs.Words.{Request, ForHeader, ForToken, ForClaims, request_of}
 
 -- ---- the input
 
@@ -59,8 +61,30 @@ ClaimsLine input algorithm secret now status line =
     ((value : Data) × IsClaimsValue input algorithm secret now value × ValueLine value status line)
     ⊎ ((k : Kind) × FirstFailed (hmac_call input algorithm secret now) decode_order k × IsRefusal k status line)
 
+-- the token of claims, under the header of the algorithm with the type `JWT`
+abbrev pub hmac_issue : Algorithm → List ℕ → Data → Issue
+hmac_issue algorithm secret claims = issuing (new_header algorithm) (WrittenAs (Some claims)) (record { family = Hmac; bytes = secret })
+    (λ a key. refusal (hash_for a) key.family) (λ a key message. None) HmacSigns
+
+-- the token of the claims that the input is the JSON text of
+abbrev pub IsToken : List ℕ → Algorithm → List ℕ → List ℕ → Type 0
+IsToken input algorithm secret token = (claims : Data) × IsJson input claims
+    × ((t : Written) × IssuePasses (hmac_issue algorithm secret claims) encode_order t × IsIssued (hmac_issue algorithm secret claims) t token)
+
+-- the input is no JSON text, or the first failed test of encode has this kind
+abbrev pub HasTokenFault : List ℕ → Algorithm → List ℕ → Kind → Type 0
+HasTokenFault input algorithm secret k =
+    ((k ≡ kind.Json) × ((claims : Data) → ¬ IsJson input claims))
+    ⊎ ((claims : Data) × IsJson input claims × IssueFailsFirst (hmac_issue algorithm secret claims) encode_order k)
+
+abbrev pub TokenLine : List ℕ → Algorithm → List ℕ → ℕ → List ℕ → Type 0
+TokenLine input algorithm secret status line =
+    (IsToken input algorithm secret line × (status ≡ 0))
+    ⊎ ((k : Kind) × HasTokenFault input algorithm secret k × IsRefusal k status line)
+
 abbrev pub RequestLine : Request → List ℕ → ℕ → List ℕ → Type 0
 RequestLine ForHeader input status line = HeaderLine input status line
+RequestLine (ForToken algorithm secret) input status line = TokenLine input algorithm secret status line
 RequestLine (ForClaims algorithm secret now) input status line = ClaimsLine input algorithm secret now status line
 
 abbrev pub IsUsage : ℕ → List ℕ → Type 0

@@ -5,9 +5,11 @@ use Rattle.std.specs.Str.Parse.{digits_value}
 use Rattle.jwt_base.specs.Algorithm.{algorithm_named}
 use Rattle.jwt_base.specs.declared.algorithms.Algorithm.{Algorithm}
 
--- the header of a token; or its claims, verified by an algorithm and a secret at a moment
+-- the header of a token; the token of claims, by an algorithm and a secret; or a token's claims, verified by these at a
+-- moment
 pub data Request : Type 0 where
   ForHeader : Request
+  ForToken : Algorithm → List ℕ → Request
   ForClaims : Algorithm → List ℕ → ℕ → Request
 
 -- the number that one or more decimal digits write, where it has at most 64 bits
@@ -17,6 +19,11 @@ moment_of word = if all_ascii_digits word && (ltb 0 (length word) && ltb (digits
 -- what one word asks for
 abbrev pub request_named : List ℕ → Option Request
 request_named word = if bytes_eq word (codes "header") then Some ForHeader else None
+
+-- `encode`, the name of an algorithm, and a secret
+abbrev pub encoding_request : List ℕ → List ℕ → List ℕ → Option Request
+encoding_request word algorithm secret =
+    if bytes_eq word (codes "encode") then option_map (λ a. ForToken a secret) (algorithm_named algorithm) else None
 
 abbrev pub claims_at : List ℕ → Option ℕ → Algorithm → Option Request
 claims_at secret moment algorithm = option_map (λ now. ForClaims algorithm secret now) moment
@@ -31,6 +38,6 @@ abbrev pub request_of : List (List ℕ) → Option Request
 request_of [] = Some ForHeader
 request_of (word ∷ []) = request_named word
 request_of (word ∷ algorithm ∷ []) = None
-request_of (word ∷ algorithm ∷ secret ∷ []) = None
+request_of (word ∷ algorithm ∷ secret ∷ []) = encoding_request word algorithm secret
 request_of (word ∷ algorithm ∷ secret ∷ moment ∷ []) = decoding_request word algorithm secret moment
 request_of (word ∷ algorithm ∷ secret ∷ moment ∷ more ∷ rest) = None

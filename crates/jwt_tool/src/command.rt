@@ -2,7 +2,7 @@
 
 ghost use Rattle.std.specs.Prelude.{◌≡◌, option_map, map, string_bytes};
 ghost use Rattle.jwt_base.specs.Algorithm.{algorithm_named};
-ghost use Rattle.jwt_tool.specs.Words.{Request, request_of, request_named, decoding_request, moment_of};
+ghost use Rattle.jwt_tool.specs.Words.{Request, request_of, request_named, encoding_request, decoding_request, moment_of};
 ghost use Rattle.jwt_tool.specs.Asked.{asked};
 
 use jwt_base::algorithms::Algorithm;
@@ -12,6 +12,11 @@ use jwt_base::algorithms::Algorithm;
 pub enum Command<'a> {
     /// Prints the header of a token.
     Header,
+    /// Issues the token of the claims that it reads as JSON, signed by HMAC with a secret.
+    Encode {
+        algorithm: Algorithm,
+        secret: &'a str,
+    },
     /// Verifies a token by HMAC with a secret, at a moment in seconds since 1970-01-01 00:00:00 UTC, and prints its
     /// claims.
     Decode {
@@ -29,7 +34,9 @@ pub fn requested_command(words: &[String]) -> Option<Command<'_>>
         [] => Some(Command::Header),
         [word] => word_command(word.as_str()),
         [_, _] => None,
-        [_, _, _] => None,
+        [word, algorithm, secret] => {
+            encode_command(word.as_str(), algorithm.as_str(), secret.as_str())
+        }
         [word, algorithm, secret, now] => decode_command(
             word.as_str(),
             algorithm.as_str(),
@@ -47,6 +54,16 @@ fn word_command(word: &str) -> Option<Command<'_>>
         "header" => Some(Command::Header),
         _ => None,
     }
+}
+
+fn encode_command<'a>(word: &str, algorithm: &str, secret: &'a str) -> Option<Command<'a>>
+    ensures { option_map asked result ≡ encoding_request word.now algorithm.now secret.now }
+{
+    if word != "encode" {
+        return None;
+    }
+    let algorithm = algorithm_of(algorithm)?;
+    Some(Command::Encode { algorithm, secret })
 }
 
 fn decode_command<'a>(

@@ -7,15 +7,19 @@ ghost use Rattle.jwt_base.specs.KindOf.{kind_of, IsMemory};
 ghost use Rattle.jsonwebtoken.specs.Tests.{FirstFailed, header_order, header_call, decode_order};
 ghost use Rattle.jwt_tool.specs.Asked.{asked};
 ghost use Rattle.jwt_tool.specs.Words.{request_of};
-ghost use Rattle.jwt_tool.specs.Line.{Answers, RequestAnswer, ValueAnswer, ValueLine, IsRefusal, IsHeaderValue, IsClaimsValue, hmac_call, IsUsage, without_final_newline};
+ghost use Rattle.jwt_tool.specs.Line.{Answers, RequestAnswer, ValueAnswer, ValueLine, IsRefusal, IsHeaderValue, IsClaimsValue, hmac_call, IsToken, HasTokenFault, TokenLine, IsMemoryLine, IsUsage, without_final_newline};
 
 use crate::command::{Command, requested_command};
 use crate::fault::ToolFault;
 use crate::input::{gather, without_newline};
 use jsonwebtoken::crypto::hmac::HmacProvider;
-use jsonwebtoken::{Algorithm, DecodingKey, TokenData, Validation, decode, decode_header};
+use jsonwebtoken::{
+    Algorithm, DecodingKey, EncodingKey, Header, TokenData, Validation, decode, decode_header,
+    encode,
+};
 use jwt_base::errors::{Error, ErrorKind, Result, new_error};
 use jwt_base::json::has_float;
+use jwt_base::serialization::json_value;
 use serde_json::Value;
 use std::alloc::Global;
 use std::io::{Read, Write};
@@ -93,6 +97,7 @@ fn command_answer(
 {
     match command {
         Command::Header => header_answer(alloc, input),
+        Command::Encode { algorithm, secret } => token_answer(alloc, algorithm, secret, input),
         Command::Decode {
             algorithm,
             secret,
@@ -108,6 +113,22 @@ fn header_answer(alloc: Global, input: &[u8]) -> std::result::Result<Answer, Too
 {
     match header_value(alloc, input) {
         Ok(value) => value_answer(alloc, &value),
+        Err(e) => refusal_answer(alloc, &e),
+    }
+}
+
+/// The issued token, or the refusal's text.
+fn token_answer(
+    alloc: Global,
+    algorithm: Algorithm,
+    secret: &str,
+    input: &[u8],
+) -> std::result::Result<Answer, ToolFault>
+    ensures { IfOk result (λ a. TokenLine input.now algorithm secret.now a.status (string_bytes a.line)
+        ⊎ IsMemoryLine a.status (string_bytes a.line)) }
+{
+    match issued_token(alloc, algorithm, secret, input) {
+        Ok(line) => Ok(Answer { status: 0, line }),
         Err(e) => refusal_answer(alloc, &e),
     }
 }
@@ -174,4 +195,15 @@ fn claims_value(
     let validation = Validation::new(alloc, algorithm)?;
     let data: TokenData<Value> = decode(alloc, &HmacProvider, input, &key, &validation, now)?;
     Ok(data.claims)
+}
+
+fn issued_token(alloc: Global, algorithm: Algorithm, secret: &str, input: &[u8]) -> Result<String>
+    ensures ok { IfOk result (λ x. IsToken input.now algorithm secret.now (string_bytes x)) }
+    ensures err { IfErr result (λ e. IsMemory e ⊎ HasTokenFault input.now algorithm secret.now (kind_of e)) }
+{
+    let claims = json_value(alloc, input)?;
+    let header = Header::new(alloc, algorithm)?;
+    let key = EncodingKey::from_secret(alloc, secret.as_bytes())?;
+    let token = encode(alloc, &HmacProvider, &header, &claims, &key)?;
+    Ok(token)
 }

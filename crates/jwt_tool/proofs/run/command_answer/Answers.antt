@@ -2,3 +2,6 @@ use Rattle.jwt_tool.proofs.run.command_answer.Goals as goal
 
 pub returns-in-Decode : goal.returns-in-Decode
 returns-in-Decode c = rw c.in-Decode.is c.claims_answer.ensures
+
+pub returns-in-Encode : goal.returns-in-Encode
+returns-in-Encode c = rw c.in-Encode.is c.token_answer.ensures
