@@ -1,0 +1,40 @@
+//! Why nothing was measured.
+
+use jsonwebtoken::errors::Error;
+use std::alloc::AllocError;
+use std::io;
+
+/// Why nothing was measured.
+#[derive(Debug, Drop, thiserror::Error)]
+pub enum BenchFault {
+    /// The words are none of those that the README names.
+    #[error("usage: jwt_bench [decode|encode|header FILE COUNT]")]
+    Words,
+    /// The file, the clock or the output failed.
+    #[error("input or output failed")]
+    Io,
+    /// The token or the claims were refused.
+    #[error("refused")]
+    Refused,
+    /// Memory ran out.
+    #[error("out of memory")]
+    Memory,
+}
+
+impl From<io::Error> for BenchFault {
+    fn from(_fault: io::Error) -> BenchFault {
+        BenchFault::Io
+    }
+}
+
+impl From<AllocError> for BenchFault {
+    fn from(_fault: AllocError) -> BenchFault {
+        BenchFault::Memory
+    }
+}
+
+impl From<Error> for BenchFault {
+    fn from(_fault: Error) -> BenchFault {
+        BenchFault::Refused
+    }
+}
