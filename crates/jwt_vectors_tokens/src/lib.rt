@@ -2,6 +2,8 @@
 #![tactic(auto)]
 
 #[cfg(test)]
+mod first_failed_tests;
+#[cfg(test)]
 mod issued_tokens;
 #[cfg(test)]
 mod token_headers;
