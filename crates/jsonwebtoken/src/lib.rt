@@ -4,6 +4,7 @@
 pub mod crypto;
 pub mod dangerous;
 mod decoding;
+pub mod jwk;
 
 pub use decoding::{TokenData, decode, decode_header};
 pub use jwt_base::algorithms::{Algorithm, AlgorithmFamily};
