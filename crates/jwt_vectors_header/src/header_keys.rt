@@ -129,10 +129,7 @@ fn read_back(alloc: Global, header: &Header) -> Answer<Header> {
 #[test]
 fn a_key_in_a_header_reads_back_as_its_normal_form(rt: HostRuntime) -> Result<(), Fail> {
     let alloc = rt.alloc();
-    let header = header_with(
-        alloc,
-        "{\"kty\":\"RSA\",\"n\":\"a\",\"e\":\"b\",\"z\":1}",
-    )?;
+    let header = header_with(alloc, "{\"kty\":\"RSA\",\"n\":\"a\",\"e\":\"b\",\"z\":1}")?;
     let back = read_back(alloc, &header)?;
     let written = text_of(alloc, &back)?;
     assert_eq!(rt;

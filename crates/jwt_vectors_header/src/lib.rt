@@ -2,6 +2,6 @@
 #![tactic(auto)]
 
 #[cfg(test)]
-mod headers;
-#[cfg(test)]
 mod header_keys;
+#[cfg(test)]
+mod headers;
