@@ -5,6 +5,7 @@ pub mod crypto;
 pub mod dangerous;
 mod decoding;
 mod encoding;
+pub mod jwk;
 pub mod jws;
 
 pub use decoding::{TokenData, decode, decode_header};

@@ -1,5 +1,5 @@
 -- The algorithms, their names and their families.
-use Rattle.std.specs.Prelude.{◌≡◌, ℕ, List, [], ◌∷◌, Option, Some, None, Result, MatchResult, option_and_then, codes}
+use Rattle.std.specs.Prelude.{◌≡◌, ℕ, List, [], ◌∷◌, Option, Some, None, Result, MatchResult, option_and_then, option_map, unwrap_or, codes}
 use Rattle.serde_json.specs.Data.{Data}
 use Rattle.serde_json.specs.Find.{as_str}
 use Rattle.jwt_base.specs.Kind as kind
@@ -145,3 +145,7 @@ known_key_algorithms = key.HS256 ∷ key.HS384 ∷ key.HS512 ∷ key.RS256 ∷ k
 
 abbrev pub key_algorithm_named : List ℕ → Option KeyAlgorithm
 key_algorithm_named = spelled key_name_of known_key_algorithms
+
+-- the algorithm of a key that a JSON text names
+abbrev pub key_algorithm_from : Data → Option KeyAlgorithm
+key_algorithm_from d = option_map (λ s. unwrap_or (key_algorithm_named s) key.UNKNOWN_ALGORITHM) (as_str d)

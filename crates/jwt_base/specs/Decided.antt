@@ -1,5 +1,5 @@
 -- Tests that decide a sameness: what they are made of, and that they are equivalences.
-use Rattle.std.specs.Prelude.{◌≡◌, ◌&&◌, ℕ, List, [], ◌∷◌, Bool, true, false, Option, Some, None, option_map, refl}
+use Rattle.std.specs.Prelude.{◌≡◌, ◌&&◌, ℕ, List, [], ◌∷◌, Bool, true, false, Option, Some, None, option_map, map, refl}
 use Rattle.std.specs.Bool.{Decides, beq, one_answer}
 use Rattle.std.specs.Cmp.{IsEquivalence, booleans_Decides}
 use Rattle.std.specs.Cmp.Lexicographic.{pointwise}
@@ -51,6 +51,24 @@ module _ {A : Type 0} (other : A → Bool) (text : A → List ℕ) (back : Bool 
 module _ {K J : Type 0} (test : K → K → Bool) (f : K → J) (decides : (x y : K) → Decides (test x y) (f x ≡ f y)) where
   pub fed_by_mark : (F : K → HashWrites) (G : J → HashWrites) → ((x : K) → F x ≡ G (f x)) → Alike test F
   fed_by_mark F G same = record { fed = λ x y e. same x ∙ ap G ((decides x y).0 e) ∙ sym (same y) }
+
+-- lists, item by item
+pub list_decides : {A B : Type 0} (test : A → A → Bool) (f : A → B) → ((a b : A) → Decides (test a b) (f a ≡ f b)) → (xs ys : List A) → Decides (pointwise test xs ys) (map f xs ≡ map f ys)
+list_decides test f same [] [] = (λ e. refl, λ e. refl)
+list_decides test f same [] (y ∷ ys) = (λ e. absurd (true≢false (sym e)), λ e. absurd (cc))
+list_decides test f same (x ∷ xs) [] = (λ e. absurd (true≢false (sym e)), λ e. absurd (cc))
+list_decides test f same (x ∷ xs) (y ∷ ys) = same_as _ (and_decides (test x y) (pointwise test xs ys) (same x y) (list_decides test f same xs ys))
+    (λ p i. p.0 i ∷ p.1 i)
+    (λ e. (cc, cc))
+
+map_itself : {A : Type 0} (xs : List A) → map (λ a. a) xs ≡ xs
+map_itself [] = refl
+map_itself (x ∷ xs) = ap (λ more. x ∷ more) (map_itself xs)
+
+pub list_decides_itself : {A : Type 0} (test : A → A → Bool) → ((a b : A) → Decides (test a b) (a ≡ b)) → (xs ys : List A) → Decides (pointwise test xs ys) (xs ≡ ys)
+list_decides_itself test same xs ys =
+    let both = list_decides test (λ a. a) same xs ys in
+    (λ e. sym (map_itself xs) ∙ both.0 e ∙ map_itself ys, λ e. both.1 (ap (map (λ a. a)) e))
 
 pub texts_decides : (xs ys : List (List ℕ)) → Decides (pointwise bytes_eq xs ys) (xs ≡ ys)
 texts_decides [] [] = (λ e. refl, λ e. refl)

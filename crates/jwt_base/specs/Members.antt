@@ -1,10 +1,10 @@
 -- The members of a JSON object: what each reads as, and what is written of them.
-use Rattle.std.specs.Prelude.{◌≡◌, false, ℕ, List, [], ◌∷◌, ◌||◌, Bool, Option, Some, None, option_map, option_and_then, map, is_some, if◌then◌else◌}
+use Rattle.std.specs.Prelude.{◌≡◌, IsTrue, false, ℕ, List, [], ◌∷◌, ◌||◌, Bool, Option, Some, None, option_map, option_and_then, map, is_some, if◌then◌else◌}
 use Rattle.std.specs.Str.{bytes_eq}
 use Rattle.std.specs.List.{list_any}
 use Rattle.serde_json.specs.Data.{Data, string, array, Items, no_items, item, Members, no_members, member, put}
 use Rattle.serde_json.specs.View.{items_of}
-use Rattle.serde_json.specs.Find.{as_null, as_str, as_array}
+use Rattle.serde_json.specs.Find.{get, as_null, as_str, as_array}
 
 -- an optional member: where it is absent or null, nothing is read
 abbrev pub optional : {A : Type 0} → (Data → Option A) → Option Data → Option (Option A)
@@ -45,3 +45,18 @@ abbrev pub ReadsMember : {A : Type 0} → (Data → A → Type 0) → Option Dat
 ReadsMember R None a = a ≡ None
 ReadsMember R (Some d) None = ⊥
 ReadsMember R (Some d) (Some a) = R d a
+
+-- an optional member that R reads: absent and null give nothing
+abbrev pub ReadsOptional : {A : Type 0} → (Data → A → Type 0) → Option Data → Option A → Type 0
+ReadsOptional R None a = a ≡ None
+ReadsOptional R (Some d) None = IsTrue (is_some (as_null d))
+ReadsOptional R (Some d) (Some a) = (is_some (as_null d) ≡ false) × R d a
+
+-- an optional value as a member: none where it cannot be written
+abbrev pub written_optional : {A : Type 0} → (A → Option Data) → Option A → Option (Option Data)
+written_optional writer None = Some None
+written_optional writer (Some a) = option_map Some (writer a)
+
+-- the text at a member
+abbrev pub text_at : List ℕ → Data → Option (List ℕ)
+text_at name d = option_and_then as_str (get name d)

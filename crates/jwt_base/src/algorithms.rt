@@ -5,7 +5,7 @@ ghost use Rattle.serde_json.specs.Data.{string};
 ghost use Rattle.serde_json.specs.View.{view};
 ghost use Rattle.jwt_base.specs.Kind as kind;
 ghost use Rattle.jwt_base.specs.KindOf.{kind_of, IsMemory};
-ghost use Rattle.jwt_base.specs.Algorithm.{name_of, family_of, algorithms_of, algorithm_named, family_name_of, family_named, algorithm_from, family_from, ReadsName, key_algorithm_of, ConvertsKeyAlgorithm, key_algorithm_named, key_text_of};
+ghost use Rattle.jwt_base.specs.Algorithm.{name_of, family_of, algorithms_of, algorithm_named, family_name_of, family_named, algorithm_from, family_from, ReadsName, key_algorithm_of, ConvertsKeyAlgorithm, key_algorithm_named, key_algorithm_from, key_name_of, key_text_of};
 ghost use Rattle.jwt_base.specs.declared.algorithms.Algorithm.TheVariants.{HS256};
 
 use crate::errors::{Error, ErrorKind, Result, new_error};
@@ -258,6 +258,56 @@ pub enum KeyAlgorithm {
     RSA_OAEP_256,
     /// Any other name.
     UNKNOWN_ALGORITHM,
+}
+
+impl KeyAlgorithm {
+    /// The name in JSON.
+    pub fn name(self) -> &'static str
+        ensures { result.now ≡ key_name_of self }
+    {
+        match self {
+            KeyAlgorithm::HS256 => "HS256",
+            KeyAlgorithm::HS384 => "HS384",
+            KeyAlgorithm::HS512 => "HS512",
+            KeyAlgorithm::RS256 => "RS256",
+            KeyAlgorithm::RS384 => "RS384",
+            KeyAlgorithm::RS512 => "RS512",
+            KeyAlgorithm::PS256 => "PS256",
+            KeyAlgorithm::PS384 => "PS384",
+            KeyAlgorithm::PS512 => "PS512",
+            KeyAlgorithm::ES256 => "ES256",
+            KeyAlgorithm::ES384 => "ES384",
+            KeyAlgorithm::EdDSA => "EdDSA",
+            KeyAlgorithm::RSA1_5 => "RSA1_5",
+            KeyAlgorithm::RSA_OAEP => "RSA-OAEP",
+            KeyAlgorithm::RSA_OAEP_256 => "RSA-OAEP-256",
+            KeyAlgorithm::UNKNOWN_ALGORITHM => "UNKNOWN_ALGORITHM",
+        }
+    }
+
+    /// The name as a JSON text. The only refusal is `OutOfMemory`.
+    pub fn to_value(&self, alloc: Global) -> Result<Value>
+        ensures ok { IfOk result (λ v. view v ≡ string (key_name_of self.now)) }
+        ensures reads_back { IfOk result (λ v. key_algorithm_from (view v) ≡ Some self.now) }
+        ensures err { IfErr result IsMemory }
+    {
+        Ok(Value::try_from_str(alloc, self.name())?)
+    }
+
+    /// The algorithm that a JSON text names: `UNKNOWN_ALGORITHM` where it is none of the other fifteen. A value that is
+    /// no text is refused with `Json`. No memory is taken.
+    pub fn from_value(value: &Value) -> Result<KeyAlgorithm>
+        ensures ok { IfOk result (λ a. key_algorithm_from (view value.now) ≡ Some a) }
+        ensures err { IfErr result (λ e. (kind_of e ≡ kind.Json) × (key_algorithm_from (view value.now) ≡ None)) }
+    {
+        let Some(name) = value.as_str() else {
+            return Err(new_error(ErrorKind::Json));
+        };
+        match key_algorithm_of_name(name) {
+            Some(algorithm) => Ok(algorithm),
+            None => Ok(KeyAlgorithm::UNKNOWN_ALGORITHM),
+        }
+    }
 }
 
 /// The algorithm of keys that sign by this one.

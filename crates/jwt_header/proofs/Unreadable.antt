@@ -1,18 +1,20 @@
 -- A member that does not read leaves no header to read.
-use Rattle.std.proofs.Common.{◌≡◌, inl, inr, Some, None, option_and_then, codes, true, true≢false, sym, ap, ◌∙◌}
+use Rattle.std.proofs.Common.{◌≡◌, inl, inr, Option, Some, None, option_and_then, codes, true, true≢false, sym, ap, ◌∙◌}
 use Rattle.serde_json.specs.Data.{Data, Members}
 use Rattle.serde_json.specs.Find.{get, as_str, as_object}
 use Rattle.serde_json.specs.Written.{members_have_float}
 use Rattle.jwt_base.specs.Algorithm.{algorithm_from}
 use Rattle.jwt_base.specs.Kind as kind
 use Rattle.jwt_base.specs.KindOf.{RefusesAs}
-use Rattle.jwt_base.specs.Members.{optional, texts, without}
+use Rattle.jwt_base.specs.Members.{optional, ReadsOptional, texts, without}
 use Rattle.jwt_base.specs.declared.errors.Error.{Error}
 use Rattle.jwt_header.specs.Enc.{enc_from}
 use Rattle.jwt_header.specs.Extras.{header_names}
 use Rattle.jwt_header.specs.Header.{ReadsHeader}
 use Rattle.jwt_header.specs.Zip.{zip_from}
 use Rattle.jwt_header.specs.declared.header.Header.{Header}
+use Rattle.jwt_jwk.specs.Jwk.{ReadsKey}
+use Rattle.jwt_jwk.specs.declared.jwk.Jwk.{Jwk}
 
 -- no header reads from the value
 abbrev pub RefusesHeader : Data → Error → Type 0
@@ -33,6 +35,9 @@ unreadable-cty d e = weaker _ _ e (λ none h r. absurd (cc (none, r.cty)))
 
 pub unreadable-jku : (d : Data) (e : Error) → RefusesAs kind.Json (optional as_str (get (codes "jku") d) ≡ None) e → RefusesHeader d e
 unreadable-jku d e = weaker _ _ e (λ none h r. absurd (cc (none, r.jku)))
+
+pub unreadable-jwk : (d : Data) (e : Error) → RefusesAs kind.Json ((k : Option Jwk) → ¬ ReadsOptional ReadsKey (get (codes "jwk") d) k) e → RefusesHeader d e
+unreadable-jwk d e = weaker _ _ e (λ none h r. none h.jwk r.jwk)
 
 pub unreadable-kid : (d : Data) (e : Error) → RefusesAs kind.Json (optional as_str (get (codes "kid") d) ≡ None) e → RefusesHeader d e
 unreadable-kid d e = weaker _ _ e (λ none h r. absurd (cc (none, r.kid)))

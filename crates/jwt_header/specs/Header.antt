@@ -4,12 +4,13 @@ use Rattle.serde_json.specs.Data.{Data, string, object, Members, no_members, put
 use Rattle.serde_json.specs.Find.{get, as_str, as_object}
 use Rattle.serde_json.specs.Written.{members_have_float}
 use Rattle.jwt_base.specs.Algorithm.{name_of, algorithm_from}
-use Rattle.jwt_base.specs.Members.{optional, texts, texts_value, without, put_some}
+use Rattle.jwt_base.specs.Members.{optional, ReadsOptional, texts, texts_value, without, put_some, written_optional}
 use Rattle.jwt_base.specs.declared.algorithms.Algorithm.{Algorithm}
 use Rattle.jwt_header.specs.Enc.{enc_from, enc_value}
 use Rattle.jwt_header.specs.Extras.{header_names}
 use Rattle.jwt_header.specs.Zip.{zip_from, zip_value}
 use Rattle.jwt_header.specs.declared.header.Header.{Header}
+use Rattle.jwt_jwk.specs.Jwk.{ReadsKey, key_value}
 
 -- d is an object, each name gives its field, the other members are the extras, and no float is among them
 pub record ReadsHeader (d : Data) (h : Header) : Type 0 where
@@ -17,6 +18,7 @@ pub record ReadsHeader (d : Data) (h : Header) : Type 0 where
   pub typ : optional as_str (get (codes "typ") d) ≡ Some h.typ
   pub cty : optional as_str (get (codes "cty") d) ≡ Some h.cty
   pub jku : optional as_str (get (codes "jku") d) ≡ Some h.jku
+  pub jwk : ReadsOptional ReadsKey (get (codes "jwk") d) h.jwk
   pub kid : optional as_str (get (codes "kid") d) ≡ Some h.kid
   pub x5u : optional as_str (get (codes "x5u") d) ≡ Some h.x5u
   pub x5t : optional as_str (get (codes "x5t") d) ≡ Some h.x5t
@@ -32,11 +34,11 @@ pub record ReadsHeader (d : Data) (h : Header) : Type 0 where
 
 -- the algorithm, the type `JWT`, and nothing else
 abbrev pub new_header : Algorithm → Header
-new_header a = record { alg = a; typ = Some (codes "JWT"); cty = None; jku = None; kid = None; x5u = None; x5t = None; x5t_s256 = None; url = None; nonce = None; x5c = None; crit = None; enc = None; zip = None; extras = no_members }
+new_header a = record { alg = a; typ = Some (codes "JWT"); cty = None; jku = None; jwk = None; kid = None; x5u = None; x5t = None; x5t_s256 = None; url = None; nonce = None; x5c = None; crit = None; enc = None; zip = None; extras = no_members }
 
--- the members that are there
-abbrev pub header_members : Header → Members
-header_members h =
+-- the members that are there, but for the key, beside these
+abbrev pub with_named : Header → Members → Members
+with_named h ms =
     put (codes "alg") (string (name_of h.alg)) (
     put_some (codes "typ") (option_map string h.typ) (
     put_some (codes "cty") (option_map string h.cty) (
@@ -50,8 +52,12 @@ header_members h =
     put_some (codes "x5c") (option_map texts_value h.x5c) (
     put_some (codes "crit") (option_map texts_value h.crit) (
     put_some (codes "enc") (option_map enc_value h.enc) (
-    put_some (codes "zip") (option_map zip_value h.zip) h.extras)))))))))))))
+    put_some (codes "zip") (option_map zip_value h.zip) ms)))))))))))))
+
+-- the members that are there; none where the key cannot be written
+abbrev pub header_members : Header → Option Members
+header_members h = option_map (λ jwk. with_named h (put_some (codes "jwk") jwk h.extras)) (written_optional key_value h.jwk)
 
 -- the value that the header is written as
 abbrev pub header_value : Header → Option Data
-header_value h = Some (object (header_members h))
+header_value h = option_map object (header_members h)

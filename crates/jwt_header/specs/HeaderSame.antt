@@ -1,21 +1,23 @@
 -- Sameness of headers, where any two floats count as equal, and what a hasher is fed of one.
-use Rattle.std.specs.Prelude.{◌≡◌, ◌&&◌, ◌++◌, Bool, Some, unwrap_or, refl}
+use Rattle.std.specs.Prelude.{◌≡◌, ◌&&◌, ◌++◌, Bool, pos, Option, Some, None, option_map, unwrap_or, refl}
 use Rattle.std.specs.Bool.{Decides}
 use Rattle.std.specs.Cmp.{IsEquivalence}
 use Rattle.std.specs.Cmp.Lexicographic.{pointwise}
-use Rattle.std.specs.Hash.{HashWrites, Alike, str, slice, option}
+use Rattle.std.specs.Hash.{HashWrites, Alike, str, slice, option, isize}
 use Rattle.std.specs.Str.{bytes_eq}
 use Rattle.std.proofs.Common.{sym, ap, ◌∙◌}
 use Rattle.std.proofs.lemmas.Slice.Eq.{bytes_eq-Decides}
 use Rattle.jwt_base.specs.Algorithm.{name_of, algorithm_named}
 use Rattle.jwt_base.specs.DataEq.{members_eq, members_marked}
 use Rattle.jwt_base.specs.DataEqLaws.{members_decides}
-use Rattle.jwt_base.specs.Decided.{option_eq, option_decides_itself, and_decides, same_as, texts_decides, decided_by, fed_by_mark}
+use Rattle.jwt_base.specs.Decided.{option_eq, option_decides, option_decides_itself, and_decides, same_as, texts_decides, decided_by, fed_by_mark}
 use Rattle.jwt_base.specs.NamesFed.{names_fed, names_marked}
 use Rattle.jwt_base.specs.declared.algorithms.Algorithm.{Algorithm}
 use Rattle.jwt_base.specs.declared.algorithms.Algorithm.TheVariants.{HS256, HS384, HS512, RS256, RS384, RS512, PS256, PS384, PS512, ES256, ES384, EdDSA}
 use Rattle.jwt_header.specs.NamesSame.{enc_eq, enc_decides, enc_fed, zip_eq, zip_decides, zip_fed}
 use Rattle.jwt_header.specs.declared.header.Header.{Header}
+use Rattle.jwt_jwk.specs.JwkSame.{key_eq, marked_key, key_decides, key_fed, key_marked}
+use Rattle.jwt_jwk.specs.declared.jwk.Jwk.{Jwk}
 
 abbrev pub same_algorithm : Algorithm → Algorithm → Bool
 same_algorithm a b = bytes_eq (name_of a) (name_of b)
@@ -45,6 +47,7 @@ header_eq g h =
     && (option_eq bytes_eq g.typ h.typ
     && (option_eq bytes_eq g.cty h.cty
     && (option_eq bytes_eq g.jku h.jku
+    && (option_eq key_eq g.jwk h.jwk
     && (option_eq bytes_eq g.kid h.kid
     && (option_eq bytes_eq g.x5u h.x5u
     && (option_eq bytes_eq g.x5t h.x5t
@@ -55,11 +58,11 @@ header_eq g h =
     && (option_eq (pointwise bytes_eq) g.crit h.crit
     && (option_eq enc_eq g.enc h.enc
     && (option_eq zip_eq g.zip h.zip
-    && (members_eq g.extras h.extras))))))))))))))
+    && (members_eq g.extras h.extras)))))))))))))))
 
 -- the header with one mark in place of each float
 abbrev pub marked_header : Header → Header
-marked_header h = record h { extras = members_marked h.extras }
+marked_header h = record h { jwk = option_map marked_key h.jwk; extras = members_marked h.extras }
 
 pub header_decides : (g h : Header) → Decides (header_eq g h) (marked_header g ≡ marked_header h)
 header_decides g h = same_as _
@@ -67,6 +70,7 @@ header_decides g h = same_as _
     and_decides _ _ (option_decides_itself bytes_eq bytes_eq-Decides g.typ h.typ) (
     and_decides _ _ (option_decides_itself bytes_eq bytes_eq-Decides g.cty h.cty) (
     and_decides _ _ (option_decides_itself bytes_eq bytes_eq-Decides g.jku h.jku) (
+    and_decides _ _ (option_decides key_eq marked_key key_decides g.jwk h.jwk) (
     and_decides _ _ (option_decides_itself bytes_eq bytes_eq-Decides g.kid h.kid) (
     and_decides _ _ (option_decides_itself bytes_eq bytes_eq-Decides g.x5u h.x5u) (
     and_decides _ _ (option_decides_itself bytes_eq bytes_eq-Decides g.x5t h.x5t) (
@@ -76,19 +80,23 @@ header_decides g h = same_as _
     and_decides _ _ (option_decides_itself (pointwise bytes_eq) texts_decides g.x5c h.x5c) (
     and_decides _ _ (option_decides_itself (pointwise bytes_eq) texts_decides g.crit h.crit) (
     and_decides _ _ (option_decides_itself enc_eq enc_decides g.enc h.enc) (
-    and_decides _ _ (option_decides_itself zip_eq zip_decides g.zip h.zip) (members_decides g.extras h.extras)))))))))))))))
-    (λ p i. record { alg = p.0 i; typ = p.1.0 i; cty = p.1.1.0 i; jku = p.1.1.1.0 i; kid = p.1.1.1.1.0 i; x5u = p.1.1.1.1.1.0 i; x5t = p.1.1.1.1.1.1.0 i; x5t_s256 = p.1.1.1.1.1.1.1.0 i; url = p.1.1.1.1.1.1.1.1.0 i; nonce = p.1.1.1.1.1.1.1.1.1.0 i; x5c = p.1.1.1.1.1.1.1.1.1.1.0 i; crit = p.1.1.1.1.1.1.1.1.1.1.1.0 i; enc = p.1.1.1.1.1.1.1.1.1.1.1.1.0 i; zip = p.1.1.1.1.1.1.1.1.1.1.1.1.1.0 i; extras = p.1.1.1.1.1.1.1.1.1.1.1.1.1.1 i })
-    (λ e. (ap (λ x. x.alg) e, (ap (λ x. x.typ) e, (ap (λ x. x.cty) e, (ap (λ x. x.jku) e, (ap (λ x. x.kid) e, (ap (λ x. x.x5u) e, (ap (λ x. x.x5t) e, (ap (λ x. x.x5t_s256) e, (ap (λ x. x.url) e, (ap (λ x. x.nonce) e, (ap (λ x. x.x5c) e, (ap (λ x. x.crit) e, (ap (λ x. x.enc) e, (ap (λ x. x.zip) e, ap (λ x. x.extras) e)))))))))))))))
+    and_decides _ _ (option_decides_itself zip_eq zip_decides g.zip h.zip) (members_decides g.extras h.extras))))))))))))))))
+    (λ p i. record { alg = p.0 i; typ = p.1.0 i; cty = p.1.1.0 i; jku = p.1.1.1.0 i; jwk = p.1.1.1.1.0 i; kid = p.1.1.1.1.1.0 i; x5u = p.1.1.1.1.1.1.0 i; x5t = p.1.1.1.1.1.1.1.0 i; x5t_s256 = p.1.1.1.1.1.1.1.1.0 i; url = p.1.1.1.1.1.1.1.1.1.0 i; nonce = p.1.1.1.1.1.1.1.1.1.1.0 i; x5c = p.1.1.1.1.1.1.1.1.1.1.1.0 i; crit = p.1.1.1.1.1.1.1.1.1.1.1.1.0 i; enc = p.1.1.1.1.1.1.1.1.1.1.1.1.1.0 i; zip = p.1.1.1.1.1.1.1.1.1.1.1.1.1.1.0 i; extras = p.1.1.1.1.1.1.1.1.1.1.1.1.1.1.1 i })
+    (λ e. (ap (λ x. x.alg) e, (ap (λ x. x.typ) e, (ap (λ x. x.cty) e, (ap (λ x. x.jku) e, (ap (λ x. x.jwk) e, (ap (λ x. x.kid) e, (ap (λ x. x.x5u) e, (ap (λ x. x.x5t) e, (ap (λ x. x.x5t_s256) e, (ap (λ x. x.url) e, (ap (λ x. x.nonce) e, (ap (λ x. x.x5c) e, (ap (λ x. x.crit) e, (ap (λ x. x.enc) e, (ap (λ x. x.zip) e, ap (λ x. x.extras) e))))))))))))))))
 
 pub header_eq_equiv : IsEquivalence header_eq
 header_eq_equiv = decided_by header_eq marked_header header_decides
 
--- of the extras their names alone
+-- of free members their names alone
 abbrev pub header_fed : Header → HashWrites
-header_fed h = str (name_of h.alg) ++ option str h.typ ++ option str h.cty ++ option str h.jku ++ option str h.kid ++ option str h.x5u ++ option str h.x5t ++ option str h.x5t_s256 ++ option str h.url ++ option str h.nonce ++ option (slice str) h.x5c ++ option (slice str) h.crit ++ option enc_fed h.enc ++ option zip_fed h.zip ++ names_fed h.extras
+header_fed h = str (name_of h.alg) ++ option str h.typ ++ option str h.cty ++ option str h.jku ++ option key_fed h.jwk ++ option str h.kid ++ option str h.x5u ++ option str h.x5t ++ option str h.x5t_s256 ++ option str h.url ++ option str h.nonce ++ option (slice str) h.x5c ++ option (slice str) h.crit ++ option enc_fed h.enc ++ option zip_fed h.zip ++ names_fed h.extras
+
+jwk_marked : (o : Option Jwk) → option key_fed o ≡ option key_fed (option_map marked_key o)
+jwk_marked None = refl
+jwk_marked (Some k) = ap (λ w. isize (pos 1) ++ w) (key_marked k)
 
 header_marked : (h : Header) → header_fed h ≡ header_fed (marked_header h)
-header_marked h = λ i. str (name_of h.alg) ++ option str h.typ ++ option str h.cty ++ option str h.jku ++ option str h.kid ++ option str h.x5u ++ option str h.x5t ++ option str h.x5t_s256 ++ option str h.url ++ option str h.nonce ++ option (slice str) h.x5c ++ option (slice str) h.crit ++ option enc_fed h.enc ++ option zip_fed h.zip ++ names_marked h.extras i
+header_marked h = λ i. str (name_of h.alg) ++ option str h.typ ++ option str h.cty ++ option str h.jku ++ jwk_marked h.jwk i ++ option str h.kid ++ option str h.x5u ++ option str h.x5t ++ option str h.x5t_s256 ++ option str h.url ++ option str h.nonce ++ option (slice str) h.x5c ++ option (slice str) h.crit ++ option enc_fed h.enc ++ option zip_fed h.zip ++ names_marked h.extras i
 
 pub header_alike : Alike header_eq header_fed
 header_alike = fed_by_mark header_eq marked_header header_decides header_fed header_fed header_marked

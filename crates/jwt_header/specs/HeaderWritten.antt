@@ -6,10 +6,11 @@ use Rattle.jwt_header.specs.Extras.{IsExtras}
 use Rattle.jwt_header.specs.Header.{ReadsHeader, header_value}
 use Rattle.jwt_header.specs.Zip.{normal_zip}
 use Rattle.jwt_header.specs.declared.header.Header.{Header}
+use Rattle.jwt_jwk.specs.JwkWritten.{normal_key}
 
--- a free text that is a known spelling becomes the known value
+-- a free text that is a known spelling becomes the known value, and the key its normal form
 abbrev pub normal_header : Header → Header
-normal_header h = record h { enc = option_map normal_enc h.enc; zip = option_map normal_zip h.zip }
+normal_header h = record h { enc = option_map normal_enc h.enc; zip = option_map normal_zip h.zip; jwk = option_map normal_key h.jwk }
 
 -- its own normal form, and one that can be written
 pub record IsNormal (h : Header) : Type 0 where

@@ -7,10 +7,12 @@ ghost use Rattle.serde_json.specs.Written.{has_float};
 ghost use Rattle.jwt_base.specs.Algorithm.{algorithm_from};
 ghost use Rattle.jwt_base.specs.Kind as kind;
 ghost use Rattle.jwt_base.specs.KindOf.{kind_of, IsMemory, RefusesAs};
-ghost use Rattle.jwt_base.specs.Members.{optional, put_some};
+ghost use Rattle.jwt_base.specs.Members.{optional, put_some, ReadsOptional, written_optional};
 ghost use Rattle.jwt_header.specs.Enc.{enc_from, enc_value};
 ghost use Rattle.jwt_header.specs.Extras.{IsExtras};
 ghost use Rattle.jwt_header.specs.Zip.{zip_from, zip_value};
+ghost use Rattle.jwt_jwk.specs.Jwk.{ReadsKey, key_value};
+ghost use Rattle.jwt_jwk.specs.declared.jwk.Jwk.{Jwk};
 
 mod certificates;
 mod extras;
@@ -24,6 +26,7 @@ use jwt_base::json::members::{
     optional_text, optional_texts, put_optional_text, put_optional_texts, put_text,
 };
 use jwt_base::text::{Text, Texts, clone_text};
+use jwt_jwk::jwk::Jwk;
 pub use names::{Enc, Zip};
 use serde_json::{Map, Value};
 use std::alloc::Global;
@@ -40,6 +43,8 @@ pub struct Header {
     pub cty: Option<Text>,
     /// Where the key set is found, `jku` (section 4.1.2).
     pub jku: Option<Text>,
+    /// The key that verifies the token, `jwk` (section 4.1.3).
+    pub jwk: Option<Jwk>,
     /// Which key signs, `kid` (section 4.1.4).
     pub kid: Option<Text>,
     /// Where the certificates are found, `x5u` (section 4.1.5).
@@ -66,7 +71,7 @@ pub struct Header {
 
 impl Header {
     ghost use Rattle.jwt_header.specs.Certificates.{AreCertificates};
-    ghost use Rattle.jwt_header.specs.Header.{ReadsHeader, new_header, header_members, header_value};
+    ghost use Rattle.jwt_header.specs.Header.{ReadsHeader, new_header, with_named, header_members, header_value};
     ghost use Rattle.jwt_header.specs.HeaderWritten.{IsNormal, HasNormalForm};
     ghost use Rattle.jwt_header.specs.declared.header.Header.{Header};
 
@@ -80,6 +85,7 @@ impl Header {
             typ: Some(Text::from_str(alloc, "JWT")?),
             cty: None,
             jku: None,
+            jwk: None,
             kid: None,
             x5u: None,
             x5t: None,
@@ -96,7 +102,7 @@ impl Header {
 
     /// The header that a JSON object reads as. `alg` has to be one of the twelve names. The other members may be absent
     /// or null, and every further one goes to the extras with its value. A value that is no object, a member of a wrong
-    /// type and a float among the extras are refused with `Json`.
+    /// type, a `jwk` that is no key and a float among the extras are refused with `Json`.
     pub fn from_value(alloc: Global, value: &Value) -> Result<Header>
         ensures ok { IfOk result (λ h. ReadsHeader (view value.now) h) }
         ensures normal { IfOk result IsNormal }
@@ -106,11 +112,12 @@ impl Header {
         Ok(header)
     }
 
-    /// The JSON object of the members that are there and the extras. The only refusal is `OutOfMemory`.
+    /// The JSON object of the members that are there and the extras. A `jwk` that cannot be written is refused with
+    /// `Json`.
     pub fn to_value(&self, alloc: Global) -> Result<Value>
         ensures ok { IfOk result (λ v. header_value self.now ≡ Some (view v)) }
         ensures no_float { IfOk result (λ v. has_float (view v) ≡ false) }
-        ensures err { IfErr result IsMemory }
+        ensures err { IfErr result (RefusesAs kind.Json (header_value self.now ≡ None)) }
         ensures normal_form { HasNormalForm self.now }
     {
         let members = self.members(alloc)?;
@@ -143,6 +150,7 @@ impl Header {
             typ: clone_text(alloc, &self.typ)?,
             cty: clone_text(alloc, &self.cty)?,
             jku: clone_text(alloc, &self.jku)?,
+            jwk: clone_jwk(alloc, &self.jwk)?,
             kid: clone_text(alloc, &self.kid)?,
             x5u: clone_text(alloc, &self.x5u)?,
             x5t: clone_text(alloc, &self.x5t)?,
@@ -170,6 +178,7 @@ impl Header {
             typ: optional_text(alloc, value, "typ")?,
             cty: optional_text(alloc, value, "cty")?,
             jku: optional_text(alloc, value, "jku")?,
+            jwk: optional_jwk(alloc, value)?,
             kid: optional_text(alloc, value, "kid")?,
             x5u: optional_text(alloc, value, "x5u")?,
             x5t: optional_text(alloc, value, "x5t")?,
@@ -185,26 +194,38 @@ impl Header {
     }
 
     fn members(&self, alloc: Global) -> Result<Map<String, Value>>
-        ensures ok { IfOk result (λ m. members_view m.entries ≡ header_members self.now) }
+        ensures ok { IfOk result (λ m. header_members self.now ≡ Some (members_view m.entries)) }
         ensures extras { IsExtras self.now.extras }
-        ensures err { IfErr result IsMemory }
+        ensures err { IfErr result (RefusesAs kind.Json (header_members self.now ≡ None)) }
     {
         let mut members = self.extras.copied(alloc)?;
-        put_zip(alloc, &mut members, &self.zip)?;
-        put_enc(alloc, &mut members, &self.enc)?;
-        put_optional_texts(alloc, &mut members, "crit", &self.crit)?;
-        put_optional_texts(alloc, &mut members, "x5c", &self.x5c)?;
-        put_optional_text(alloc, &mut members, "nonce", &self.nonce)?;
-        put_optional_text(alloc, &mut members, "url", &self.url)?;
-        put_optional_text(alloc, &mut members, "x5t#S256", &self.x5t_s256)?;
-        put_optional_text(alloc, &mut members, "x5t", &self.x5t)?;
-        put_optional_text(alloc, &mut members, "x5u", &self.x5u)?;
-        put_optional_text(alloc, &mut members, "kid", &self.kid)?;
-        put_optional_text(alloc, &mut members, "jku", &self.jku)?;
-        put_optional_text(alloc, &mut members, "cty", &self.cty)?;
-        put_optional_text(alloc, &mut members, "typ", &self.typ)?;
-        put_text(alloc, &mut members, "alg", self.alg.name())?;
+        let jwk = written_jwk(alloc, &self.jwk)?;
+        put_written(alloc, &mut members, "jwk", jwk)?;
+        self.put_named(alloc, &mut members)?;
         Ok(members)
+    }
+
+    // The members with a name of their own, but for the key.
+    fn put_named(&self, alloc: Global, members: &mut Map<String, Value>) -> Result<()>
+        ensures ok { OnOk result (members_view members.new.entries
+            ≡ with_named self.now (members_view members.old.entries)) }
+        ensures err { IfErr result IsMemory }
+    {
+        put_zip(alloc, members, &self.zip)?;
+        put_enc(alloc, members, &self.enc)?;
+        put_optional_texts(alloc, members, "crit", &self.crit)?;
+        put_optional_texts(alloc, members, "x5c", &self.x5c)?;
+        put_optional_text(alloc, members, "nonce", &self.nonce)?;
+        put_optional_text(alloc, members, "url", &self.url)?;
+        put_optional_text(alloc, members, "x5t#S256", &self.x5t_s256)?;
+        put_optional_text(alloc, members, "x5t", &self.x5t)?;
+        put_optional_text(alloc, members, "x5u", &self.x5u)?;
+        put_optional_text(alloc, members, "kid", &self.kid)?;
+        put_optional_text(alloc, members, "jku", &self.jku)?;
+        put_optional_text(alloc, members, "cty", &self.cty)?;
+        put_optional_text(alloc, members, "typ", &self.typ)?;
+        put_text(alloc, members, "alg", self.alg.name())?;
+        Ok(())
     }
 }
 
@@ -231,6 +252,18 @@ fn optional_enc(alloc: Global, value: &Value) -> Result<Option<Enc>>
     }
 }
 
+fn optional_jwk(alloc: Global, value: &Value) -> Result<Option<Jwk>>
+    ensures ok { IfOk result (ReadsOptional ReadsKey (get (codes "jwk") (view value.now))) }
+    ensures err { IfErr result (RefusesAs kind.Json
+        ((k : Option Jwk) → ¬ ReadsOptional ReadsKey (get (codes "jwk") (view value.now)) k)) }
+{
+    match value.get("jwk") {
+        None => Ok(None),
+        Some(jwk) if jwk.is_null() => Ok(None),
+        Some(jwk) => Ok(Some(Jwk::from_value(alloc, jwk)?)),
+    }
+}
+
 fn optional_zip(alloc: Global, value: &Value) -> Result<Option<Zip>>
     ensures ok { IfOk result (λ z. optional zip_from (get (codes "zip") (view value.now)) ≡ Some z) }
     ensures err { IfErr result
@@ -240,6 +273,39 @@ fn optional_zip(alloc: Global, value: &Value) -> Result<Option<Zip>>
         None => Ok(None),
         Some(zip) if zip.is_null() => Ok(None),
         Some(zip) => Ok(Some(Zip::from_value(alloc, zip)?)),
+    }
+}
+
+// What the key is written as, where there is one.
+fn written_jwk(alloc: Global, jwk: &Option<Jwk>) -> Result<Option<Value>>
+    ensures ok { IfOk result (λ v. written_optional key_value jwk.now ≡ Some (option_map view v)) }
+    ensures err { IfErr result (RefusesAs kind.Json (written_optional key_value jwk.now ≡ None)) }
+{
+    match jwk {
+        Some(jwk) => {
+            let value = jwk.to_value(alloc)?;
+            Ok(Some(value))
+        }
+        None => Ok(None),
+    }
+}
+
+fn put_written(
+    alloc: Global,
+    members: &mut Map<String, Value>,
+    name: &str,
+    value: Option<Value>,
+) -> Result<()>
+    ensures ok { OnOk result (members_view members.new.entries
+        ≡ put_some name.now (option_map view value) (members_view members.old.entries)) }
+    ensures err { IfErr result IsMemory }
+{
+    match value {
+        Some(value) => {
+            serde_json::put(members, alloc, name, value)?;
+            Ok(())
+        }
+        None => Ok(()),
     }
 }
 
@@ -275,6 +341,16 @@ fn clone_texts(alloc: Global, texts: &Option<Texts>) -> Result<Option<Texts>>
     }
 }
 
+fn clone_jwk(alloc: Global, jwk: &Option<Jwk>) -> Result<Option<Jwk>>
+    ensures ok { IfOk result (λ copy. copy ≡ jwk.now) }
+    ensures err { IfErr result IsMemory }
+{
+    match jwk {
+        Some(jwk) => Ok(Some(jwk.clone(alloc)?)),
+        None => Ok(None),
+    }
+}
+
 fn clone_enc(alloc: Global, enc: &Option<Enc>) -> Result<Option<Enc>>
     ensures ok { IfOk result (λ copy. copy ≡ enc.now) }
     ensures err { IfErr result IsMemory }
@@ -295,7 +371,7 @@ fn clone_zip(alloc: Global, zip: &Option<Zip>) -> Result<Option<Zip>>
     }
 }
 
-/// The same fields, where any two floats among the extras count as equal.
+/// The same fields, where any two floats among the extras and the members of `jwk` count as equal.
 impl PartialEq for Header {
     ghost use Rattle.std.specs.Cmp.{partial_equiv_from_equiv};
     ghost use Rattle.jwt_header.specs.HeaderSame.{header_eq, header_eq_equiv, marked_header};
@@ -328,6 +404,7 @@ impl Header {
             && self.typ == other.typ
             && self.cty == other.cty
             && self.jku == other.jku
+            && self.jwk == other.jwk
             && self.kid == other.kid
             && self.x5u == other.x5u
             && self.x5t == other.x5t
@@ -342,7 +419,7 @@ impl Header {
     }
 }
 
-/// Feeds the fields, and of the extras their names alone.
+/// Feeds the fields, and of free members their names alone.
 impl Hash for Header {
     ghost use Rattle.jwt_header.specs.HeaderSame.{header_fed, header_alike};
 
@@ -355,6 +432,7 @@ impl Hash for Header {
         self.typ.hash(state);
         self.cty.hash(state);
         self.jku.hash(state);
+        self.jwk.hash(state);
         self.kid.hash(state);
         self.x5u.hash(state);
         self.x5t.hash(state);

@@ -1,4 +1,10 @@
+pub mod Common
+pub mod CommonSame
 pub mod Curve
+pub mod KeyType
+pub mod NamesSame
+pub mod Operation
+pub mod Use
 pub use Rattle.jwt_base.specs.Kind
 pub use Rattle.jwt_base.specs.KindOf
 pub use Rattle.jwt_base.specs.Spelling

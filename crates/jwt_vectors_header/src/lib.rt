@@ -2,4 +2,6 @@
 #![tactic(auto)]
 
 #[cfg(test)]
+mod header_keys;
+#[cfg(test)]
 mod headers;

@@ -1,0 +1,18 @@
+//! JSON Web Keys and sets of them (RFC 7517).
+
+pub use jwt_base::algorithms::KeyAlgorithm;
+pub use jwt_jwk::jwk::Jwk;
+pub use jwt_jwk::jwk_set::JwkSet;
+pub use jwt_kinds::algorithm::AlgorithmParameters;
+pub use jwt_kinds::elliptic::EllipticCurveKeyParameters;
+pub use jwt_kinds::free_members::FreeMembers;
+pub use jwt_kinds::octet::OctetKeyParameters;
+pub use jwt_kinds::octet_pair::OctetKeyPairParameters;
+pub use jwt_kinds::other::OtherKeyParameters;
+pub use jwt_kinds::rsa::RSAKeyParameters;
+pub use jwt_params::common::CommonParameters;
+pub use jwt_params::curves::EllipticCurve;
+pub use jwt_params::key_types::{EllipticCurveKeyType, OctetKeyPairType, OctetKeyType, RSAKeyType};
+pub use jwt_params::operations::{KeyOperationList, KeyOperations};
+pub use jwt_params::thumbprints::ThumbprintHash;
+pub use jwt_params::uses::PublicKeyUse;

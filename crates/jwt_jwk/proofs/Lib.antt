@@ -1,0 +1,2 @@
+pub mod JwkLemmas
+pub mod SetLemmas

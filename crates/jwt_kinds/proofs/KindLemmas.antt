@@ -1,0 +1,147 @@
+-- What is written of a kind reads as its normal form, and what was read stays as it is.
+use Rattle.std.proofs.Common.{◌≡◌, ℕ, List, Bool, true, false, cond, Option, Some, None, option_map, unwrap_or, codes, refl, sym, ap, ◌∙◌, subst}
+use Rattle.std.specs.Option.{option_or}
+use Rattle.serde_json.specs.Data.{Data, null, boolean, number, string, array, object, Members}
+use Rattle.serde_json.specs.Find.{as_object}
+use Rattle.serde_json.specs.Written.{members_have_float}
+use Rattle.jwt_base.specs.Members.{has_named, without}
+use Rattle.jwt_base.proofs.FreeMembers.{without-free}
+use Rattle.jwt_base.proofs.MembersWritten.{get_member-without}
+use Rattle.jwt_params.specs.Common.{common_names}
+use Rattle.jwt_params.specs.declared.curves.EllipticCurve.{EllipticCurve}
+use Rattle.jwt_params.specs.declared.curves.EllipticCurve.TheVariants.{P256, P384, P521, Ed25519}
+use Rattle.jwt_params.specs.declared.key_types.EllipticCurveKeyType.{EllipticCurveKeyType}
+use Rattle.jwt_params.specs.declared.key_types.EllipticCurveKeyType.TheVariants.{EC}
+use Rattle.jwt_params.specs.declared.key_types.RSAKeyType.{RSAKeyType}
+use Rattle.jwt_params.specs.declared.key_types.RSAKeyType.TheVariants.{RSA}
+use Rattle.jwt_params.specs.declared.key_types.OctetKeyType.{OctetKeyType}
+use Rattle.jwt_params.specs.declared.key_types.OctetKeyType.TheVariants.{Octet}
+use Rattle.jwt_params.specs.declared.key_types.OctetKeyPairType.{OctetKeyPairType}
+use Rattle.jwt_params.specs.declared.key_types.OctetKeyPairType.TheVariants.{OctetKeyPair}
+use Rattle.jwt_kinds.specs.Kinds.{other_from, named_from, algorithm_from, elliptic_members, rsa_members, octet_members, pair_members, algorithm_members, normal_algorithm, has_common}
+use Rattle.jwt_kinds.specs.declared.elliptic.EllipticCurveKeyParameters.{EllipticCurveKeyParameters}
+use Rattle.jwt_kinds.specs.declared.rsa.RSAKeyParameters.{RSAKeyParameters}
+use Rattle.jwt_kinds.specs.declared.octet.OctetKeyParameters.{OctetKeyParameters}
+use Rattle.jwt_kinds.specs.declared.octet_pair.OctetKeyPairParameters.{OctetKeyPairParameters}
+use Rattle.jwt_kinds.specs.declared.other.OtherKeyParameters.{OtherKeyParameters}
+use Rattle.jwt_kinds.specs.declared.algorithm.AlgorithmParameters.{AlgorithmParameters}
+use Rattle.jwt_kinds.specs.declared.algorithm.AlgorithmParameters.TheVariants as kinds
+
+elliptic_read : (t : EllipticCurveKeyType) (c : EllipticCurve) (x y : List ℕ) → let p : EllipticCurveKeyParameters = record { key_type = t; curve = c; x = x; y = y } in algorithm_from (object (elliptic_members p)) ≡ Some (kinds.EllipticCurve p)
+elliptic_read EC P256 x y = refl
+elliptic_read EC P384 x y = refl
+elliptic_read EC P521 x y = refl
+elliptic_read EC Ed25519 x y = refl
+
+rsa_read : (t : RSAKeyType) (n e : List ℕ) → let p : RSAKeyParameters = record { key_type = t; n = n; e = e } in algorithm_from (object (rsa_members p)) ≡ Some (kinds.RSA p)
+rsa_read RSA n e = refl
+
+octet_read : (t : OctetKeyType) (k : List ℕ) → let p : OctetKeyParameters = record { key_type = t; value = k } in algorithm_from (object (octet_members p)) ≡ Some (kinds.OctetKey p)
+octet_read Octet k = refl
+
+pair_read : (t : OctetKeyPairType) (c : EllipticCurve) (x : List ℕ) → let p : OctetKeyPairParameters = record { key_type = t; curve = c; x = x } in algorithm_from (object (pair_members p)) ≡ Some (kinds.OctetKeyPair p)
+pair_read OctetKeyPair P256 x = refl
+pair_read OctetKeyPair P384 x = refl
+pair_read OctetKeyPair P521 x = refl
+pair_read OctetKeyPair Ed25519 x = refl
+
+or_other : (o : Option AlgorithmParameters) (a : AlgorithmParameters) → option_or o (Some a) ≡ Some (unwrap_or o a)
+or_other None a = refl
+or_other (Some x) a = refl
+
+other_read : (p : OtherKeyParameters) (ms : Members) (b : Bool) → members_have_float p.fields ≡ b → cond b None (Some p.fields) ≡ Some ms → algorithm_from (object ms) ≡ Some (normal_algorithm (kinds.Other p))
+other_read p ms true is e = absurd (cc)
+other_read p ms false is e =
+    let same : p.fields ≡ ms = cc in
+    rw (← same, is) (or_other (named_from (object p.fields)) (kinds.Other p))
+
+-- what is written of a kind reads as its normal form
+pub kind_read : (a : AlgorithmParameters) (ms : Members) → algorithm_members a ≡ Some ms → algorithm_from (object ms) ≡ Some (normal_algorithm a)
+kind_read (kinds.EllipticCurve p) ms is = ap (λ x. algorithm_from (object x)) (sym (ap (λ o. unwrap_or o ms) is)) ∙ elliptic_read p.key_type p.curve p.x p.y
+kind_read (kinds.RSA p) ms is = ap (λ x. algorithm_from (object x)) (sym (ap (λ o. unwrap_or o ms) is)) ∙ rsa_read p.key_type p.n p.e
+kind_read (kinds.OctetKey p) ms is = ap (λ x. algorithm_from (object x)) (sym (ap (λ o. unwrap_or o ms) is)) ∙ octet_read p.key_type p.value
+kind_read (kinds.OctetKeyPair p) ms is = ap (λ x. algorithm_from (object x)) (sym (ap (λ o. unwrap_or o ms) is)) ∙ pair_read p.key_type p.curve p.x
+kind_read (kinds.Other p) ms is = other_read p ms _ refl is
+
+other_free : (p : OtherKeyParameters) (ms : Members) (b : Bool) → without common_names p.fields ≡ p.fields → cond b None (Some p.fields) ≡ Some ms → without common_names ms ≡ ms
+other_free p ms true free e = absurd (cc)
+other_free p ms false free e = let same : p.fields ≡ ms = cc in rw (← same) free
+
+-- the members of a kind have none of the common names
+pub kind_free : (a : AlgorithmParameters) (ms : Members) → has_common a ≡ false → algorithm_members a ≡ Some ms → without common_names ms ≡ ms
+kind_free (kinds.EllipticCurve p) ms e is = let same = ap (λ o. unwrap_or o ms) is in rw (← same) refl
+kind_free (kinds.RSA p) ms e is = let same = ap (λ o. unwrap_or o ms) is in rw (← same) refl
+kind_free (kinds.OctetKey p) ms e is = let same = ap (λ o. unwrap_or o ms) is in rw (← same) refl
+kind_free (kinds.OctetKeyPair p) ms e is = let same = ap (λ o. unwrap_or o ms) is in rw (← same) refl
+kind_free (kinds.Other p) ms e is = other_free p ms (members_have_float p.fields) (without-free common_names p.fields e) is
+
+other_no_float : (p : OtherKeyParameters) (ms : Members) (b : Bool) → members_have_float p.fields ≡ b → cond b None (Some p.fields) ≡ Some ms → members_have_float ms ≡ false
+other_no_float p ms true is e = absurd (cc)
+other_no_float p ms false is e = let same : p.fields ≡ ms = cc in rw (← same) is
+
+-- what is written of a kind has no float
+pub kind_no_float : (a : AlgorithmParameters) (ms : Members) → algorithm_members a ≡ Some ms → members_have_float ms ≡ false
+kind_no_float (kinds.EllipticCurve p) ms is = let same = ap (λ o. unwrap_or o ms) is in rw (← same) refl
+kind_no_float (kinds.RSA p) ms is = let same = ap (λ o. unwrap_or o ms) is in rw (← same) refl
+kind_no_float (kinds.OctetKey p) ms is = let same = ap (λ o. unwrap_or o ms) is in rw (← same) refl
+kind_no_float (kinds.OctetKeyPair p) ms is = let same = ap (λ o. unwrap_or o ms) is in rw (← same) refl
+kind_no_float (kinds.Other p) ms is = other_no_float p ms _ refl is
+
+-- a kind that was read of these members
+pub record OwnKind (ms : Members) (a : AlgorithmParameters) : Type 0 where
+  pub stays : normal_algorithm a ≡ a
+  pub free : has_named common_names ms ≡ false → has_common a ≡ false
+  pub members : (written : Members) × (algorithm_members a ≡ Some written)
+
+-- one with parameters of its own
+named_at : (ms : Members) (x : Option EllipticCurveKeyParameters) (y : Option RSAKeyParameters) (z : Option OctetKeyParameters) (w : Option OctetKeyPairParameters) (a : AlgorithmParameters) → option_or (option_map kinds.EllipticCurve x) (option_or (option_map kinds.RSA y) (option_or (option_map kinds.OctetKey z) (option_map kinds.OctetKeyPair w))) ≡ Some a → OwnKind ms a
+named_at ms (Some p) y z w a e = subst (OwnKind ms) (ap (λ o. unwrap_or o a) e) (record { stays = refl; free = λ _. refl; members = (_, refl) })
+named_at ms None (Some p) z w a e = subst (OwnKind ms) (ap (λ o. unwrap_or o a) e) (record { stays = refl; free = λ _. refl; members = (_, refl) })
+named_at ms None None (Some p) w a e = subst (OwnKind ms) (ap (λ o. unwrap_or o a) e) (record { stays = refl; free = λ _. refl; members = (_, refl) })
+named_at ms None None None (Some p) a e = subst (OwnKind ms) (ap (λ o. unwrap_or o a) e) (record { stays = refl; free = λ _. refl; members = (_, refl) })
+named_at ms None None None None a e = absurd (cc)
+
+other_own : (ms : Members) (b : Bool) (a : AlgorithmParameters) → members_have_float ms ≡ b → named_from (object ms) ≡ None → option_map kinds.Other (cond b None (Some (record { fields = ms }))) ≡ Some a → OwnKind ms a
+other_own ms true a float none e = absurd (cc)
+other_own ms false a float none e = subst (OwnKind ms) (ap (λ o. unwrap_or o a) e) (record { stays = rw none; free = λ f. f; members = (ms, rw float) })
+
+own_of : (ms : Members) (o : Option AlgorithmParameters) (a : AlgorithmParameters) → named_from (object ms) ≡ o → option_or o (option_map kinds.Other (other_from (object ms))) ≡ Some a → OwnKind ms a
+own_of ms None a is e = other_own ms _ a refl is e
+own_of ms (Some b) a is e = subst (OwnKind ms) (ap (λ o. unwrap_or o a) e) (named_at ms _ _ _ _ b is)
+
+pub kind_own : (ms : Members) (a : AlgorithmParameters) → algorithm_from (object ms) ≡ Some a → OwnKind ms a
+kind_own ms a e = own_of ms _ a refl e
+
+-- what was read is its own normal form
+pub kind_stays : (d : Data) (a : AlgorithmParameters) → algorithm_from d ≡ Some a → normal_algorithm a ≡ a
+kind_stays null a e = absurd (cc)
+kind_stays (boolean b) a e = absurd (cc)
+kind_stays (number n) a e = absurd (cc)
+kind_stays (string s) a e = absurd (cc)
+kind_stays (array ds) a e = absurd (cc)
+kind_stays (object ms) a e = (kind_own ms a e).stays
+
+twice_at : (p : OtherKeyParameters) (o : Option AlgorithmParameters) → named_from (object p.fields) ≡ o → normal_algorithm (unwrap_or o (kinds.Other p)) ≡ unwrap_or o (kinds.Other p)
+twice_at p None e = rw e
+twice_at p (Some a) e = (named_at p.fields _ _ _ _ a e).stays
+
+pub kind_twice : (a : AlgorithmParameters) → normal_algorithm (normal_algorithm a) ≡ normal_algorithm a
+kind_twice (kinds.EllipticCurve p) = refl
+kind_twice (kinds.RSA p) = refl
+kind_twice (kinds.OctetKey p) = refl
+kind_twice (kinds.OctetKeyPair p) = refl
+kind_twice (kinds.Other p) = twice_at p _ refl
+
+named_from-without : (ms : Members) → named_from (object (without common_names ms)) ≡ named_from (object ms)
+named_from-without ms =
+    let left = get_member-without common_names in
+    simp (left (codes "kty") ms, left (codes "crv") ms, left (codes "x") ms, left (codes "y") ms, left (codes "n") ms, left (codes "e") ms, left (codes "k") ms)
+
+-- the parameters of a kind are none of the common members
+pub named-without : (d : Data) (ms : Members) → as_object d ≡ Some ms → named_from (object (without common_names ms)) ≡ named_from d
+named-without null ms e = absurd (cc)
+named-without (boolean b) ms e = absurd (cc)
+named-without (number n) ms e = absurd (cc)
+named-without (string s) ms e = absurd (cc)
+named-without (array ds) ms e = absurd (cc)
+named-without (object ns) ms e = let same : ns ≡ ms = cc in rw (← same) (named_from-without ns)

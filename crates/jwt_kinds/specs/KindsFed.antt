@@ -1,0 +1,61 @@
+-- What a hasher is fed of a key's kind: of free members their names alone.
+use Rattle.std.specs.Prelude.{◌≡◌, ◌++◌, refl}
+use Rattle.std.specs.Hash.{HashWrites, Alike, str}
+use Rattle.jwt_base.specs.Decided.{fed_by_mark}
+use Rattle.jwt_base.specs.NamesFed.{names_fed, names_marked}
+use Rattle.jwt_params.specs.Curve.{curve_name}
+use Rattle.jwt_kinds.specs.KindsSame.{elliptic_eq, elliptic_decides, rsa_eq, rsa_decides, octet_eq, octet_decides, pair_eq, pair_decides, other_eq, marked_other, other_decides, algorithm_eq, marked_algorithm, algorithm_decides}
+use Rattle.jwt_kinds.specs.declared.elliptic.EllipticCurveKeyParameters.{EllipticCurveKeyParameters}
+use Rattle.jwt_kinds.specs.declared.rsa.RSAKeyParameters.{RSAKeyParameters}
+use Rattle.jwt_kinds.specs.declared.octet.OctetKeyParameters.{OctetKeyParameters}
+use Rattle.jwt_kinds.specs.declared.octet_pair.OctetKeyPairParameters.{OctetKeyPairParameters}
+use Rattle.jwt_kinds.specs.declared.other.OtherKeyParameters.{OtherKeyParameters}
+use Rattle.jwt_kinds.specs.declared.algorithm.AlgorithmParameters.{AlgorithmParameters}
+use Rattle.jwt_kinds.specs.declared.algorithm.AlgorithmParameters.TheVariants as kinds
+
+abbrev pub elliptic_fed : EllipticCurveKeyParameters → HashWrites
+elliptic_fed p = str (curve_name p.curve) ++ str p.x ++ str p.y
+
+pub elliptic_alike : Alike elliptic_eq elliptic_fed
+elliptic_alike = fed_by_mark elliptic_eq (λ p. p) elliptic_decides elliptic_fed elliptic_fed (λ p. refl)
+
+abbrev pub rsa_fed : RSAKeyParameters → HashWrites
+rsa_fed p = str p.n ++ str p.e
+
+pub rsa_alike : Alike rsa_eq rsa_fed
+rsa_alike = fed_by_mark rsa_eq (λ p. p) rsa_decides rsa_fed rsa_fed (λ p. refl)
+
+abbrev pub octet_fed : OctetKeyParameters → HashWrites
+octet_fed p = str p.value
+
+pub octet_alike : Alike octet_eq octet_fed
+octet_alike = fed_by_mark octet_eq (λ p. p) octet_decides octet_fed octet_fed (λ p. refl)
+
+abbrev pub pair_fed : OctetKeyPairParameters → HashWrites
+pair_fed p = str (curve_name p.curve) ++ str p.x
+
+pub pair_alike : Alike pair_eq pair_fed
+pair_alike = fed_by_mark pair_eq (λ p. p) pair_decides pair_fed pair_fed (λ p. refl)
+
+abbrev pub other_fed : OtherKeyParameters → HashWrites
+other_fed p = names_fed p.fields
+
+pub other_alike : Alike other_eq other_fed
+other_alike = fed_by_mark other_eq marked_other other_decides other_fed other_fed (λ p. names_marked p.fields)
+
+abbrev pub algorithm_fed : AlgorithmParameters → HashWrites
+algorithm_fed (kinds.EllipticCurve p) = elliptic_fed p
+algorithm_fed (kinds.RSA p) = rsa_fed p
+algorithm_fed (kinds.OctetKey p) = octet_fed p
+algorithm_fed (kinds.OctetKeyPair p) = pair_fed p
+algorithm_fed (kinds.Other p) = other_fed p
+
+pub algorithm_marked : (a : AlgorithmParameters) → algorithm_fed a ≡ algorithm_fed (marked_algorithm a)
+algorithm_marked (kinds.EllipticCurve p) = refl
+algorithm_marked (kinds.RSA p) = refl
+algorithm_marked (kinds.OctetKey p) = refl
+algorithm_marked (kinds.OctetKeyPair p) = refl
+algorithm_marked (kinds.Other p) = names_marked p.fields
+
+pub algorithm_alike : Alike algorithm_eq algorithm_fed
+algorithm_alike = fed_by_mark algorithm_eq marked_algorithm algorithm_decides algorithm_fed algorithm_fed algorithm_marked

@@ -1,0 +1,211 @@
+-- Sameness of the kinds of keys, where any two floats count as equal.
+use Rattle.std.specs.Prelude.{◌≡◌, ◌&&◌, Bool, false, Some, unwrap_or, refl}
+use Rattle.std.specs.Bool.{Decides}
+use Rattle.std.specs.Cmp.{IsEquivalence}
+use Rattle.std.specs.Str.{bytes_eq}
+use Rattle.std.proofs.Common.{sym, ap, ◌∙◌}
+use Rattle.std.proofs.lemmas.Slice.Eq.{bytes_eq-Decides}
+use Rattle.jwt_base.specs.DataEq.{members_eq, members_marked}
+use Rattle.jwt_base.specs.DataEqLaws.{members_decides}
+use Rattle.jwt_base.specs.Decided.{and_decides, same_as, decided_by}
+use Rattle.jwt_params.specs.Curve.{curve_name, curve_named}
+use Rattle.jwt_params.specs.declared.curves.EllipticCurve.{EllipticCurve}
+use Rattle.jwt_params.specs.declared.curves.EllipticCurve.TheVariants.{P256, P384, P521, Ed25519}
+use Rattle.jwt_params.specs.declared.key_types.EllipticCurveKeyType.{EllipticCurveKeyType}
+use Rattle.jwt_params.specs.declared.key_types.EllipticCurveKeyType.TheVariants.{EC}
+use Rattle.jwt_params.specs.declared.key_types.RSAKeyType.{RSAKeyType}
+use Rattle.jwt_params.specs.declared.key_types.RSAKeyType.TheVariants.{RSA}
+use Rattle.jwt_params.specs.declared.key_types.OctetKeyType.{OctetKeyType}
+use Rattle.jwt_params.specs.declared.key_types.OctetKeyType.TheVariants.{Octet}
+use Rattle.jwt_params.specs.declared.key_types.OctetKeyPairType.{OctetKeyPairType}
+use Rattle.jwt_params.specs.declared.key_types.OctetKeyPairType.TheVariants.{OctetKeyPair}
+use Rattle.jwt_kinds.specs.declared.elliptic.EllipticCurveKeyParameters.{EllipticCurveKeyParameters}
+use Rattle.jwt_kinds.specs.declared.rsa.RSAKeyParameters.{RSAKeyParameters}
+use Rattle.jwt_kinds.specs.declared.octet.OctetKeyParameters.{OctetKeyParameters}
+use Rattle.jwt_kinds.specs.declared.octet_pair.OctetKeyPairParameters.{OctetKeyPairParameters}
+use Rattle.jwt_kinds.specs.declared.other.OtherKeyParameters.{OtherKeyParameters}
+use Rattle.jwt_kinds.specs.declared.algorithm.AlgorithmParameters.{AlgorithmParameters}
+use Rattle.jwt_kinds.specs.declared.algorithm.AlgorithmParameters.TheVariants as kinds
+
+abbrev pub same_curve : EllipticCurve → EllipticCurve → Bool
+same_curve a b = bytes_eq (curve_name a) (curve_name b)
+
+pub curve_back : (c : EllipticCurve) → curve_named (curve_name c) ≡ Some c
+curve_back P256 = refl
+curve_back P384 = refl
+curve_back P521 = refl
+curve_back Ed25519 = refl
+
+pub same_curve_decides : (a b : EllipticCurve) → Decides (same_curve a b) (a ≡ b)
+same_curve_decides a b = same_as _ (bytes_eq-Decides (curve_name a) (curve_name b))
+    (λ e. ap (λ o. unwrap_or o a) (sym (curve_back a) ∙ ap curve_named e ∙ curve_back b))
+    (ap curve_name)
+
+abbrev pub elliptic_eq : EllipticCurveKeyParameters → EllipticCurveKeyParameters → Bool
+elliptic_eq p q = same_curve p.curve q.curve && (bytes_eq p.x q.x && bytes_eq p.y q.y)
+
+elliptic_type : (a b : EllipticCurveKeyType) → a ≡ b
+elliptic_type EC EC = refl
+
+pub elliptic_decides : (p q : EllipticCurveKeyParameters) → Decides (elliptic_eq p q) (p ≡ q)
+elliptic_decides p q = same_as _ (and_decides _ _ (same_curve_decides p.curve q.curve) (and_decides _ _ (bytes_eq-Decides p.x q.x) (bytes_eq-Decides p.y q.y)))
+    (λ h i. record { key_type = elliptic_type p.key_type q.key_type i; curve = h.0 i; x = h.1.0 i; y = h.1.1 i })
+    (λ e. (ap (λ x. x.curve) e, (ap (λ x. x.x) e, ap (λ x. x.y) e)))
+
+pub elliptic_eq_equiv : IsEquivalence elliptic_eq
+elliptic_eq_equiv = decided_by elliptic_eq (λ p. p) elliptic_decides
+
+abbrev pub rsa_eq : RSAKeyParameters → RSAKeyParameters → Bool
+rsa_eq p q = bytes_eq p.n q.n && bytes_eq p.e q.e
+
+rsa_type : (a b : RSAKeyType) → a ≡ b
+rsa_type RSA RSA = refl
+
+pub rsa_decides : (p q : RSAKeyParameters) → Decides (rsa_eq p q) (p ≡ q)
+rsa_decides p q = same_as _ (and_decides _ _ (bytes_eq-Decides p.n q.n) (bytes_eq-Decides p.e q.e))
+    (λ h i. record { key_type = rsa_type p.key_type q.key_type i; n = h.0 i; e = h.1 i })
+    (λ e. (ap (λ x. x.n) e, ap (λ x. x.e) e))
+
+pub rsa_eq_equiv : IsEquivalence rsa_eq
+rsa_eq_equiv = decided_by rsa_eq (λ p. p) rsa_decides
+
+abbrev pub octet_eq : OctetKeyParameters → OctetKeyParameters → Bool
+octet_eq p q = bytes_eq p.value q.value
+
+octet_type : (a b : OctetKeyType) → a ≡ b
+octet_type Octet Octet = refl
+
+pub octet_decides : (p q : OctetKeyParameters) → Decides (octet_eq p q) (p ≡ q)
+octet_decides p q = same_as _ (bytes_eq-Decides p.value q.value)
+    (λ h i. record { key_type = octet_type p.key_type q.key_type i; value = h i })
+    (λ e. ap (λ x. x.value) e)
+
+pub octet_eq_equiv : IsEquivalence octet_eq
+octet_eq_equiv = decided_by octet_eq (λ p. p) octet_decides
+
+abbrev pub pair_eq : OctetKeyPairParameters → OctetKeyPairParameters → Bool
+pair_eq p q = same_curve p.curve q.curve && bytes_eq p.x q.x
+
+pair_type : (a b : OctetKeyPairType) → a ≡ b
+pair_type OctetKeyPair OctetKeyPair = refl
+
+pub pair_decides : (p q : OctetKeyPairParameters) → Decides (pair_eq p q) (p ≡ q)
+pair_decides p q = same_as _ (and_decides _ _ (same_curve_decides p.curve q.curve) (bytes_eq-Decides p.x q.x))
+    (λ h i. record { key_type = pair_type p.key_type q.key_type i; curve = h.0 i; x = h.1 i })
+    (λ e. (ap (λ x. x.curve) e, ap (λ x. x.x) e))
+
+pub pair_eq_equiv : IsEquivalence pair_eq
+pair_eq_equiv = decided_by pair_eq (λ p. p) pair_decides
+
+abbrev pub other_eq : OtherKeyParameters → OtherKeyParameters → Bool
+other_eq p q = members_eq p.fields q.fields
+
+-- one mark in place of each float
+abbrev pub marked_other : OtherKeyParameters → OtherKeyParameters
+marked_other p = record { fields = members_marked p.fields }
+
+pub other_decides : (p q : OtherKeyParameters) → Decides (other_eq p q) (marked_other p ≡ marked_other q)
+other_decides p q = same_as _ (members_decides p.fields q.fields) (λ h i. record { fields = h i }) (λ e. ap (λ x. x.fields) e)
+
+pub other_eq_equiv : IsEquivalence other_eq
+other_eq_equiv = decided_by other_eq marked_other other_decides
+
+abbrev pub algorithm_eq : AlgorithmParameters → AlgorithmParameters → Bool
+algorithm_eq (kinds.EllipticCurve p) (kinds.EllipticCurve q) = elliptic_eq p q
+algorithm_eq (kinds.EllipticCurve p) (kinds.RSA q) = false
+algorithm_eq (kinds.EllipticCurve p) (kinds.OctetKey q) = false
+algorithm_eq (kinds.EllipticCurve p) (kinds.OctetKeyPair q) = false
+algorithm_eq (kinds.EllipticCurve p) (kinds.Other q) = false
+algorithm_eq (kinds.RSA p) (kinds.EllipticCurve q) = false
+algorithm_eq (kinds.RSA p) (kinds.RSA q) = rsa_eq p q
+algorithm_eq (kinds.RSA p) (kinds.OctetKey q) = false
+algorithm_eq (kinds.RSA p) (kinds.OctetKeyPair q) = false
+algorithm_eq (kinds.RSA p) (kinds.Other q) = false
+algorithm_eq (kinds.OctetKey p) (kinds.EllipticCurve q) = false
+algorithm_eq (kinds.OctetKey p) (kinds.RSA q) = false
+algorithm_eq (kinds.OctetKey p) (kinds.OctetKey q) = octet_eq p q
+algorithm_eq (kinds.OctetKey p) (kinds.OctetKeyPair q) = false
+algorithm_eq (kinds.OctetKey p) (kinds.Other q) = false
+algorithm_eq (kinds.OctetKeyPair p) (kinds.EllipticCurve q) = false
+algorithm_eq (kinds.OctetKeyPair p) (kinds.RSA q) = false
+algorithm_eq (kinds.OctetKeyPair p) (kinds.OctetKey q) = false
+algorithm_eq (kinds.OctetKeyPair p) (kinds.OctetKeyPair q) = pair_eq p q
+algorithm_eq (kinds.OctetKeyPair p) (kinds.Other q) = false
+algorithm_eq (kinds.Other p) (kinds.EllipticCurve q) = false
+algorithm_eq (kinds.Other p) (kinds.RSA q) = false
+algorithm_eq (kinds.Other p) (kinds.OctetKey q) = false
+algorithm_eq (kinds.Other p) (kinds.OctetKeyPair q) = false
+algorithm_eq (kinds.Other p) (kinds.Other q) = other_eq p q
+
+-- the kind with one mark in place of each float
+abbrev pub marked_algorithm : AlgorithmParameters → AlgorithmParameters
+marked_algorithm (kinds.EllipticCurve p) = kinds.EllipticCurve p
+marked_algorithm (kinds.RSA p) = kinds.RSA p
+marked_algorithm (kinds.OctetKey p) = kinds.OctetKey p
+marked_algorithm (kinds.OctetKeyPair p) = kinds.OctetKeyPair p
+marked_algorithm (kinds.Other p) = kinds.Other (marked_other p)
+
+abbrev the_elliptic : EllipticCurveKeyParameters → AlgorithmParameters → EllipticCurveKeyParameters
+the_elliptic d (kinds.EllipticCurve p) = p
+the_elliptic d (kinds.RSA p) = d
+the_elliptic d (kinds.OctetKey p) = d
+the_elliptic d (kinds.OctetKeyPair p) = d
+the_elliptic d (kinds.Other p) = d
+
+abbrev the_rsa : RSAKeyParameters → AlgorithmParameters → RSAKeyParameters
+the_rsa d (kinds.EllipticCurve p) = d
+the_rsa d (kinds.RSA p) = p
+the_rsa d (kinds.OctetKey p) = d
+the_rsa d (kinds.OctetKeyPair p) = d
+the_rsa d (kinds.Other p) = d
+
+abbrev the_octet : OctetKeyParameters → AlgorithmParameters → OctetKeyParameters
+the_octet d (kinds.EllipticCurve p) = d
+the_octet d (kinds.RSA p) = d
+the_octet d (kinds.OctetKey p) = p
+the_octet d (kinds.OctetKeyPair p) = d
+the_octet d (kinds.Other p) = d
+
+abbrev the_pair : OctetKeyPairParameters → AlgorithmParameters → OctetKeyPairParameters
+the_pair d (kinds.EllipticCurve p) = d
+the_pair d (kinds.RSA p) = d
+the_pair d (kinds.OctetKey p) = d
+the_pair d (kinds.OctetKeyPair p) = p
+the_pair d (kinds.Other p) = d
+
+abbrev the_other : OtherKeyParameters → AlgorithmParameters → OtherKeyParameters
+the_other d (kinds.EllipticCurve p) = d
+the_other d (kinds.RSA p) = d
+the_other d (kinds.OctetKey p) = d
+the_other d (kinds.OctetKeyPair p) = d
+the_other d (kinds.Other p) = p
+
+pub algorithm_decides : (a b : AlgorithmParameters) → Decides (algorithm_eq a b) (marked_algorithm a ≡ marked_algorithm b)
+algorithm_decides (kinds.EllipticCurve p) (kinds.EllipticCurve q) = same_as _ (elliptic_decides p q) (ap kinds.EllipticCurve) (λ e. ap (the_elliptic p) e)
+algorithm_decides (kinds.EllipticCurve p) (kinds.RSA q) = (λ e. absurd (cc), λ e. absurd (cc))
+algorithm_decides (kinds.EllipticCurve p) (kinds.OctetKey q) = (λ e. absurd (cc), λ e. absurd (cc))
+algorithm_decides (kinds.EllipticCurve p) (kinds.OctetKeyPair q) = (λ e. absurd (cc), λ e. absurd (cc))
+algorithm_decides (kinds.EllipticCurve p) (kinds.Other q) = (λ e. absurd (cc), λ e. absurd (cc))
+algorithm_decides (kinds.RSA p) (kinds.EllipticCurve q) = (λ e. absurd (cc), λ e. absurd (cc))
+algorithm_decides (kinds.RSA p) (kinds.RSA q) = same_as _ (rsa_decides p q) (ap kinds.RSA) (λ e. ap (the_rsa p) e)
+algorithm_decides (kinds.RSA p) (kinds.OctetKey q) = (λ e. absurd (cc), λ e. absurd (cc))
+algorithm_decides (kinds.RSA p) (kinds.OctetKeyPair q) = (λ e. absurd (cc), λ e. absurd (cc))
+algorithm_decides (kinds.RSA p) (kinds.Other q) = (λ e. absurd (cc), λ e. absurd (cc))
+algorithm_decides (kinds.OctetKey p) (kinds.EllipticCurve q) = (λ e. absurd (cc), λ e. absurd (cc))
+algorithm_decides (kinds.OctetKey p) (kinds.RSA q) = (λ e. absurd (cc), λ e. absurd (cc))
+algorithm_decides (kinds.OctetKey p) (kinds.OctetKey q) = same_as _ (octet_decides p q) (ap kinds.OctetKey) (λ e. ap (the_octet p) e)
+algorithm_decides (kinds.OctetKey p) (kinds.OctetKeyPair q) = (λ e. absurd (cc), λ e. absurd (cc))
+algorithm_decides (kinds.OctetKey p) (kinds.Other q) = (λ e. absurd (cc), λ e. absurd (cc))
+algorithm_decides (kinds.OctetKeyPair p) (kinds.EllipticCurve q) = (λ e. absurd (cc), λ e. absurd (cc))
+algorithm_decides (kinds.OctetKeyPair p) (kinds.RSA q) = (λ e. absurd (cc), λ e. absurd (cc))
+algorithm_decides (kinds.OctetKeyPair p) (kinds.OctetKey q) = (λ e. absurd (cc), λ e. absurd (cc))
+algorithm_decides (kinds.OctetKeyPair p) (kinds.OctetKeyPair q) = same_as _ (pair_decides p q) (ap kinds.OctetKeyPair) (λ e. ap (the_pair p) e)
+algorithm_decides (kinds.OctetKeyPair p) (kinds.Other q) = (λ e. absurd (cc), λ e. absurd (cc))
+algorithm_decides (kinds.Other p) (kinds.EllipticCurve q) = (λ e. absurd (cc), λ e. absurd (cc))
+algorithm_decides (kinds.Other p) (kinds.RSA q) = (λ e. absurd (cc), λ e. absurd (cc))
+algorithm_decides (kinds.Other p) (kinds.OctetKey q) = (λ e. absurd (cc), λ e. absurd (cc))
+algorithm_decides (kinds.Other p) (kinds.OctetKeyPair q) = (λ e. absurd (cc), λ e. absurd (cc))
+algorithm_decides (kinds.Other p) (kinds.Other q) = same_as _ (other_decides p q) (ap kinds.Other) (λ e. ap (the_other (marked_other p)) e)
+
+pub algorithm_eq_equiv : IsEquivalence algorithm_eq
+algorithm_eq_equiv = decided_by algorithm_eq marked_algorithm algorithm_decides

@@ -1,0 +1,136 @@
+//! Secrets.
+
+ghost use Rattle.std.specs.Prelude.{◌≡◌, ◌↔◌, IsTrue, Some, None, IfOk, IfErr};
+ghost use Rattle.serde_json.specs.Data.{object};
+ghost use Rattle.serde_json.specs.View.{view, members_view};
+ghost use Rattle.jwt_base.specs.Kind as kind;
+ghost use Rattle.jwt_base.specs.KindOf.{IsMemory, RefusesAs};
+
+use crate::members::{has_type, text_at};
+use jwt_base::errors::{ErrorKind, Result, new_error};
+use jwt_base::json::members::put_text;
+use jwt_base::text::Text;
+use jwt_params::key_types::OctetKeyType;
+use serde_json::{Map, Value};
+use std::alloc::Global;
+use std::hash::{Hash, Hasher};
+
+/// The parameters of a secret (RFC 7518 section 6.4).
+#[derive(Debug, Drop)]
+pub struct OctetKeyParameters {
+    /// The type, `oct` (section 6.1).
+    pub key_type: OctetKeyType,
+    /// The bytes in base64url, `k` (section 6.4.1).
+    pub value: Text,
+}
+
+impl OctetKeyParameters {
+    ghost use Rattle.jwt_kinds.specs.Kinds.{octet_from, octet_members};
+
+    /// The parameters that a JSON object gives; further members are ignored. A value that is no object is refused with
+    /// `Json`, and so is one where `kty` is not `oct`, or `k` is no text.
+    pub fn from_value(alloc: Global, value: &Value) -> Result<OctetKeyParameters>
+        ensures ok { IfOk result (λ p. octet_from (view value.now) ≡ Some p) }
+        ensures err { IfErr result (RefusesAs kind.Json (octet_from (view value.now) ≡ None)) }
+    {
+        match OctetKeyParameters::read(alloc, value)? {
+            Some(parameters) => Ok(parameters),
+            None => Err(new_error(ErrorKind::Json)),
+        }
+    }
+
+    /// The JSON object of the parameters. The only refusal is `OutOfMemory`.
+    pub fn to_value(&self, alloc: Global) -> Result<Value>
+        ensures ok { IfOk result (λ v. view v ≡ object (octet_members self.now)) }
+        ensures reads_back { IfOk result (λ v. octet_from (view v) ≡ Some self.now) }
+        ensures err { IfErr result IsMemory }
+    {
+        let members = self.members(alloc)?;
+        Ok(Value::Object(members))
+    }
+
+    /// A copy. The only refusal is `OutOfMemory`.
+    pub fn clone(&self, alloc: Global) -> Result<OctetKeyParameters>
+        ensures ok { IfOk result (λ p. p ≡ self.now) }
+        ensures err { IfErr result IsMemory }
+    {
+        Ok(OctetKeyParameters {
+            key_type: self.key_type,
+            value: self.value.clone(alloc)?,
+        })
+    }
+
+    // None where the value has not got the parameters.
+    pub(crate) fn read(alloc: Global, value: &Value) -> Result<Option<OctetKeyParameters>>
+        ensures ok { IfOk result (λ p. p ≡ octet_from (view value.now)) }
+        ensures err { IfErr result IsMemory }
+    {
+        if !has_type(value, "oct") {
+            return Ok(None);
+        }
+        let Some(value) = text_at(value, "k") else {
+            return Ok(None);
+        };
+        Ok(Some(OctetKeyParameters {
+            key_type: OctetKeyType::Octet,
+            value: Text::from_str(alloc, value)?,
+        }))
+    }
+
+    pub(crate) fn members(&self, alloc: Global) -> Result<Map<String, Value>>
+        ensures ok { IfOk result (λ m. members_view m.entries ≡ octet_members self.now) }
+        ensures err { IfErr result IsMemory }
+    {
+        let mut members = Map::new(alloc);
+        put_text(alloc, &mut members, "kty", self.key_type.name())?;
+        put_text(alloc, &mut members, "k", self.value.as_str())?;
+        Ok(members)
+    }
+}
+
+/// The same parameters.
+impl PartialEq for OctetKeyParameters {
+    ghost use Rattle.std.specs.Cmp.{partial_equiv_from_equiv};
+    ghost use Rattle.jwt_kinds.specs.KindsSame.{octet_eq, octet_eq_equiv};
+
+    ghost eq = { octet_eq };
+
+    ghost laws = { partial_equiv_from_equiv octet_eq_equiv };
+
+    fn eq(&self, other: &OctetKeyParameters) -> bool
+        ensures test { result ≡ octet_eq self.now other.now }
+        ensures same { IsTrue result ↔ (self.now ≡ other.now) }
+    {
+        self.is_same(other)
+    }
+}
+
+impl Eq for OctetKeyParameters {
+    ghost use Rattle.jwt_kinds.specs.KindsSame.{octet_eq_equiv};
+
+    ghost laws = { octet_eq_equiv };
+}
+
+impl OctetKeyParameters {
+    ghost use Rattle.jwt_kinds.specs.KindsSame.{octet_eq};
+
+    // The type has one value.
+    fn is_same(&self, other: &OctetKeyParameters) -> bool
+        ensures { result ≡ octet_eq self.now other.now }
+    {
+        self.value == other.value
+    }
+}
+
+/// Feeds the parameters.
+impl Hash for OctetKeyParameters {
+    ghost use Rattle.jwt_kinds.specs.KindsFed.{octet_fed, octet_alike};
+
+    ghost hash_input = { octet_fed };
+
+    ghost respects_eq = { octet_alike.fed };
+
+    fn hash<H: Hasher>(&self, state: &mut H) {
+        self.value.hash(state);
+    }
+}

@@ -1,0 +1,121 @@
+//! Keys of kinds that are not known here.
+
+ghost use Rattle.std.specs.Prelude.{◌≡◌, ◌↔◌, IsTrue, Some, None, IfOk, IfErr};
+ghost use Rattle.serde_json.specs.View.{view, members_view};
+ghost use Rattle.jwt_base.specs.Kind as kind;
+ghost use Rattle.jwt_base.specs.KindOf.{IsMemory, RefusesAs};
+
+use crate::free_members::FreeMembers;
+use jwt_base::errors::{ErrorKind, Result, new_error};
+use jwt_base::json::equality::any_member_has_float;
+use jwt_base::json::members::clone_members;
+use serde_json::{Map, Value};
+use std::alloc::Global;
+use std::hash::{Hash, Hasher};
+
+/// The members of a key whose kind is not known here, or whose parameters are not complete.
+#[derive(Debug, Drop)]
+pub struct OtherKeyParameters {
+    /// The members, but for those that keys of every kind may have (RFC 7517 section 4).
+    pub fields: FreeMembers,
+}
+
+impl OtherKeyParameters {
+    ghost use Rattle.std.specs.Prelude.{option_map};
+    ghost use Rattle.serde_json.specs.Data.{object};
+    ghost use Rattle.jwt_kinds.specs.Kinds.{other_from, other_members};
+
+    /// All members of a JSON object. Any other value and a float are refused with `Json`.
+    pub fn from_value(alloc: Global, value: &Value) -> Result<OtherKeyParameters>
+        ensures ok { IfOk result (λ p. other_from (view value.now) ≡ Some p) }
+        ensures err { IfErr result (RefusesAs kind.Json (other_from (view value.now) ≡ None)) }
+    {
+        let Some(members) = value.as_object() else {
+            return Err(new_error(ErrorKind::Json));
+        };
+        if any_member_has_float(members) {
+            return Err(new_error(ErrorKind::Json));
+        }
+        let members = clone_members(alloc, members)?;
+        Ok(OtherKeyParameters {
+            fields: FreeMembers::from(members),
+        })
+    }
+
+    /// The JSON object of the members. A float is refused with `Json`.
+    pub fn to_value(&self, alloc: Global) -> Result<Value>
+        ensures ok { IfOk result (λ v. option_map object (other_members self.now) ≡ Some (view v)) }
+        ensures reads_back { IfOk result (λ v. other_from (view v) ≡ Some self.now) }
+        ensures err { IfErr result (RefusesAs kind.Json (other_members self.now ≡ None)) }
+    {
+        let members = self.members(alloc)?;
+        Ok(Value::Object(members))
+    }
+
+    /// A copy. The only refusal is `OutOfMemory`.
+    pub fn clone(&self, alloc: Global) -> Result<OtherKeyParameters>
+        ensures ok { IfOk result (λ p. p ≡ self.now) }
+        ensures err { IfErr result IsMemory }
+    {
+        Ok(OtherKeyParameters {
+            fields: self.fields.clone(alloc)?,
+        })
+    }
+
+    pub(crate) fn members(&self, alloc: Global) -> Result<Map<String, Value>>
+        ensures ok { IfOk result (λ m. other_members self.now ≡ Some (members_view m.entries)) }
+        ensures err { IfErr result (RefusesAs kind.Json (other_members self.now ≡ None)) }
+    {
+        if self.fields.has_float() {
+            return Err(new_error(ErrorKind::Json));
+        }
+        let members = self.fields.copied(alloc)?;
+        Ok(members)
+    }
+}
+
+/// The same members, where any two floats count as equal.
+impl PartialEq for OtherKeyParameters {
+    ghost use Rattle.std.specs.Cmp.{partial_equiv_from_equiv};
+    ghost use Rattle.jwt_kinds.specs.KindsSame.{other_eq, other_eq_equiv, marked_other};
+
+    ghost eq = { other_eq };
+
+    ghost laws = { partial_equiv_from_equiv other_eq_equiv };
+
+    fn eq(&self, other: &OtherKeyParameters) -> bool
+        ensures test { result ≡ other_eq self.now other.now }
+        ensures same { IsTrue result ↔ (marked_other self.now ≡ marked_other other.now) }
+    {
+        self.is_same(other)
+    }
+}
+
+impl Eq for OtherKeyParameters {
+    ghost use Rattle.jwt_kinds.specs.KindsSame.{other_eq_equiv};
+
+    ghost laws = { other_eq_equiv };
+}
+
+impl OtherKeyParameters {
+    ghost use Rattle.jwt_kinds.specs.KindsSame.{other_eq};
+
+    fn is_same(&self, other: &OtherKeyParameters) -> bool
+        ensures { result ≡ other_eq self.now other.now }
+    {
+        self.fields == other.fields
+    }
+}
+
+/// Feeds the names of the members alone.
+impl Hash for OtherKeyParameters {
+    ghost use Rattle.jwt_kinds.specs.KindsFed.{other_fed, other_alike};
+
+    ghost hash_input = { other_fed };
+
+    ghost respects_eq = { other_alike.fed };
+
+    fn hash<H: Hasher>(&self, state: &mut H) {
+        self.fields.hash(state);
+    }
+}

@@ -1,0 +1,289 @@
+//! What a key may do.
+
+ghost use Rattle.std.specs.Prelude.{◌≡◌, Some, None, IfOk, IfErr, map};
+ghost use Rattle.serde_json.specs.View.{view};
+ghost use Rattle.jwt_base.specs.Kind as kind;
+ghost use Rattle.jwt_base.specs.KindOf.{IsMemory, RefusesAs};
+ghost use Rattle.jwt_params.specs.Operation.{operation_named};
+
+use jwt_base::errors::{ErrorKind, Result, new_error};
+use jwt_base::json::members::read_texts;
+use jwt_base::text::Text;
+use serde_json::Value;
+use std::alloc::Global;
+use std::hash::{Hash, Hasher};
+use std::marker::Model;
+
+/// What a key may do, an entry of `key_ops` (RFC 7517 section 4.3).
+#[derive(Debug, Drop)]
+pub enum KeyOperations {
+    /// Compute a signature or a MAC, `sign`.
+    Sign,
+    /// Verify a signature or a MAC, `verify`.
+    Verify,
+    /// Encrypt content, `encrypt`.
+    Encrypt,
+    /// Decrypt content, `decrypt`.
+    Decrypt,
+    /// Encrypt a key, `wrapKey`.
+    WrapKey,
+    /// Decrypt a key, `unwrapKey`.
+    UnwrapKey,
+    /// Derive a key, `deriveKey`.
+    DeriveKey,
+    /// Derive bits that are no key, `deriveBits`.
+    DeriveBits,
+    /// Any other name.
+    Other(Text),
+}
+
+impl KeyOperations {
+    ghost use Rattle.jwt_params.specs.Operation.{operation_text, operation_from, operation_value, normal_operation, is_other_operation};
+
+    /// The name as a JSON text. The only refusal is `OutOfMemory`.
+    pub fn to_value(&self, alloc: Global) -> Result<Value>
+        ensures ok { IfOk result (λ v. view v ≡ operation_value self.now) }
+        ensures reads_back { IfOk result (λ v. operation_from (view v) ≡ Some (normal_operation self.now)) }
+        ensures err { IfErr result IsMemory }
+    {
+        Ok(Value::try_from_str(alloc, self.as_str())?)
+    }
+
+    /// What a JSON text names: one of the eight, or `Other`. A value that is no text is refused with `Json`.
+    pub fn from_value(alloc: Global, value: &Value) -> Result<KeyOperations>
+        ensures ok { IfOk result (λ o. operation_from (view value.now) ≡ Some o) }
+        ensures err { IfErr result (RefusesAs kind.Json (operation_from (view value.now) ≡ None)) }
+    {
+        match value.as_str() {
+            Some(name) => Ok(KeyOperations::named(alloc, name)?),
+            None => Err(new_error(ErrorKind::Json)),
+        }
+    }
+
+    /// A copy. The only refusal is `OutOfMemory`.
+    pub fn clone(&self, alloc: Global) -> Result<KeyOperations>
+        ensures ok { IfOk result (λ o. o ≡ self.now) }
+        ensures err { IfErr result IsMemory }
+    {
+        Ok(match self {
+            KeyOperations::Sign => KeyOperations::Sign,
+            KeyOperations::Verify => KeyOperations::Verify,
+            KeyOperations::Encrypt => KeyOperations::Encrypt,
+            KeyOperations::Decrypt => KeyOperations::Decrypt,
+            KeyOperations::WrapKey => KeyOperations::WrapKey,
+            KeyOperations::UnwrapKey => KeyOperations::UnwrapKey,
+            KeyOperations::DeriveKey => KeyOperations::DeriveKey,
+            KeyOperations::DeriveBits => KeyOperations::DeriveBits,
+            KeyOperations::Other(name) => KeyOperations::Other(name.clone(alloc)?),
+        })
+    }
+
+    fn as_str(&self) -> &str
+        ensures { result.now ≡ operation_text self.now }
+    {
+        match self {
+            KeyOperations::Sign => "sign",
+            KeyOperations::Verify => "verify",
+            KeyOperations::Encrypt => "encrypt",
+            KeyOperations::Decrypt => "decrypt",
+            KeyOperations::WrapKey => "wrapKey",
+            KeyOperations::UnwrapKey => "unwrapKey",
+            KeyOperations::DeriveKey => "deriveKey",
+            KeyOperations::DeriveBits => "deriveBits",
+            KeyOperations::Other(name) => name.as_str(),
+        }
+    }
+
+    fn named(alloc: Global, name: &str) -> Result<KeyOperations>
+        ensures ok { IfOk result (λ o. o ≡ operation_named name.now) }
+        ensures err { IfErr result IsMemory }
+    {
+        Ok(match name {
+            "sign" => KeyOperations::Sign,
+            "verify" => KeyOperations::Verify,
+            "encrypt" => KeyOperations::Encrypt,
+            "decrypt" => KeyOperations::Decrypt,
+            "wrapKey" => KeyOperations::WrapKey,
+            "unwrapKey" => KeyOperations::UnwrapKey,
+            "deriveKey" => KeyOperations::DeriveKey,
+            "deriveBits" => KeyOperations::DeriveBits,
+            _ => KeyOperations::Other(Text::from_str(alloc, name)?),
+        })
+    }
+
+    fn is_other(&self) -> bool
+        ensures { result ≡ is_other_operation self.now }
+    {
+        match self {
+            KeyOperations::Other(_) => true,
+            _ => false,
+        }
+    }
+}
+
+impl PartialEq for KeyOperations {
+    ghost use Rattle.std.specs.Prelude.{◌≡◌, ◌↔◌, IsTrue};
+    ghost use Rattle.std.specs.Cmp.{partial_equiv_from_equiv};
+    ghost use Rattle.jwt_params.specs.NamesSame.{operation_eq, operation_eq_equiv};
+
+    ghost eq = { operation_eq };
+
+    ghost laws = { partial_equiv_from_equiv operation_eq_equiv };
+
+    fn eq(&self, other: &KeyOperations) -> bool
+        ensures test { result ≡ operation_eq self.now other.now }
+        ensures same { IsTrue result ↔ (self.now ≡ other.now) }
+    {
+        self.is_other() == other.is_other() && self.as_str() == other.as_str()
+    }
+}
+
+impl Eq for KeyOperations {
+    ghost use Rattle.jwt_params.specs.NamesSame.{operation_eq_equiv};
+
+    ghost laws = { operation_eq_equiv };
+}
+
+impl Hash for KeyOperations {
+    ghost use Rattle.jwt_params.specs.NamesSame.{operation_fed, operation_alike};
+
+    ghost hash_input = { operation_fed };
+
+    ghost respects_eq = { operation_alike.fed };
+
+    fn hash<H: Hasher>(&self, state: &mut H) {
+        self.as_str().hash(state);
+    }
+}
+
+/// What a key may do, `key_ops` (RFC 7517 section 4.3), in order. A contract sees the list.
+#[derive(Debug, Drop)]
+pub struct KeyOperationList {
+    operations: Vec<KeyOperations>,
+}
+
+impl Model for KeyOperationList {
+    ghost use Rattle.std.specs.Prelude.{List};
+    ghost use Rattle.jwt_params.specs.declared.operations.KeyOperations.{KeyOperations};
+
+    ghost Value = { List KeyOperations };
+
+    ghost view = { λ l. l.operations.items };
+}
+
+impl KeyOperationList {
+    ghost use Rattle.jwt_params.specs.Operation.{operations_from, operations_value};
+
+    /// The operations, in order.
+    pub fn as_slice(&self) -> &[KeyOperations]
+        ensures { result.now ≡ self.now }
+    {
+        self.operations.as_slice()
+    }
+
+    /// The operations as a `Vec`, which is not copied.
+    pub fn into_vec(self) -> Vec<KeyOperations>
+        ensures { result.items ≡ self }
+    {
+        let KeyOperationList { operations } = self;
+        operations
+    }
+
+    /// A copy. The only refusal is `OutOfMemory`.
+    pub fn clone(&self, alloc: Global) -> Result<KeyOperationList>
+        ensures ok { IfOk result (λ l. l ≡ self.now) }
+        ensures err { IfErr result IsMemory }
+    {
+        let mut operations = Vec::new(alloc);
+        for operation in self.as_slice() {
+            operations.push(operation.clone(alloc)?)?;
+        }
+        Ok(KeyOperationList { operations })
+    }
+
+    /// The names as a JSON list. The only refusal is `OutOfMemory`.
+    pub fn to_value(&self, alloc: Global) -> Result<Value>
+        ensures ok { IfOk result (λ v. view v ≡ operations_value self.now) }
+        ensures err { IfErr result IsMemory }
+    {
+        let mut items = Vec::new(alloc);
+        for operation in self.as_slice() {
+            items.push(Value::try_from_str(alloc, operation.as_str())?)?;
+        }
+        Ok(Value::Array(items))
+    }
+
+    /// What a JSON list of texts names. Any other value is refused with `Json`.
+    pub fn from_value(alloc: Global, value: &Value) -> Result<KeyOperationList>
+        ensures ok { IfOk result (λ l. operations_from (view value.now) ≡ Some l) }
+        ensures err { IfErr result (RefusesAs kind.Json (operations_from (view value.now) ≡ None)) }
+    {
+        let names = read_texts(alloc, value)?;
+        let operations = named_operations(alloc, names.as_slice())?;
+        Ok(KeyOperationList { operations })
+    }
+}
+
+fn named_operations(alloc: Global, names: &[Text]) -> Result<Vec<KeyOperations>>
+    ensures ok { IfOk result (λ v. v.items ≡ map operation_named names.now) }
+    ensures err { IfErr result IsMemory }
+{
+    let mut operations = Vec::new(alloc);
+    for name in names {
+        operations.push(KeyOperations::named(alloc, name.as_str())?)?;
+    }
+    Ok(operations)
+}
+
+impl From<Vec<KeyOperations>> for KeyOperationList {
+    ghost from_gives = { λ v l. l ≡ v.items };
+
+    fn from(operations: Vec<KeyOperations>) -> KeyOperationList {
+        KeyOperationList { operations }
+    }
+}
+
+impl PartialEq for KeyOperationList {
+    ghost use Rattle.std.specs.Prelude.{◌≡◌, ◌↔◌, IsTrue};
+    ghost use Rattle.std.specs.Cmp.{partial_equiv_from_equiv};
+    ghost use Rattle.jwt_params.specs.NamesSame.{operations_eq, operations_eq_equiv};
+
+    ghost eq = { operations_eq };
+
+    ghost laws = { partial_equiv_from_equiv operations_eq_equiv };
+
+    fn eq(&self, other: &KeyOperationList) -> bool
+        ensures test { result ≡ operations_eq self.now other.now }
+        ensures same { IsTrue result ↔ (self.now ≡ other.now) }
+    {
+        self.is_same(other)
+    }
+}
+
+impl KeyOperationList {
+    ghost use Rattle.jwt_params.specs.NamesSame.{operations_eq};
+
+    fn is_same(&self, other: &KeyOperationList) -> bool
+        ensures { result ≡ operations_eq self.now other.now }
+    {
+        self.operations == other.operations
+    }
+}
+
+impl Eq for KeyOperationList {
+    ghost use Rattle.jwt_params.specs.NamesSame.{operations_eq_equiv};
+
+    ghost laws = { operations_eq_equiv };
+}
+
+impl Hash for KeyOperationList {
+    ghost use Rattle.jwt_params.specs.NamesSame.{operations_fed, operations_alike};
+
+    ghost hash_input = { operations_fed };
+
+    ghost respects_eq = { operations_alike.fed };
+
+    fn hash<H: Hasher>(&self, state: &mut H) {
+        self.operations.hash(state);
+    }
+}
