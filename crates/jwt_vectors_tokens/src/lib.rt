@@ -13,3 +13,5 @@ mod tokens_in_parts;
 mod unverified_tokens;
 #[cfg(test)]
 mod verified_tokens;
+#[cfg(test)]
+mod written_headers;
