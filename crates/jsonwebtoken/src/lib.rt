@@ -11,6 +11,7 @@ pub mod jws;
 pub use decoding::{TokenData, decode, decode_header};
 pub use encoding::encode;
 pub use jwt_base::algorithms::{Algorithm, AlgorithmFamily};
+pub use jwt_base::text::{Text, Texts};
 pub use jwt_base::{errors, json};
 pub use jwt_header::header::{Enc, Extras, Header, Zip};
 pub use jwt_keys::decoding::{DecodingKey, DecodingKeyKind};

@@ -7,9 +7,8 @@ use jsonwebtoken::jwk::{
 };
 use jsonwebtoken::jws::{self, Jws};
 use jsonwebtoken::{
-    Algorithm, DecodingKey, EncodingKey, Header, TokenData, Validation, Zip, decode, encode,
+    Algorithm, DecodingKey, EncodingKey, Header, Text, TokenData, Validation, Zip, decode, encode,
 };
-use jwt_base::text::Text;
 use serde_json::{Map, Value};
 use std::alloc::Global;
 use std::test::Fail;
