@@ -303,14 +303,23 @@ fn a_header_with_a_free_known_name_reads_back_as_its_normal_form(
     Ok(())
 }
 
-// The certificates of these texts, as `Debug` shows them, or the refusal's text.
-fn certificates_of(alloc: Global, texts: &[&str]) -> Answer<String> {
-    let mut header = Header::new(alloc, Algorithm::HS256)?;
+fn list_of(alloc: Global, texts: &[&str]) -> Answer<Texts> {
     let mut list = Vec::new(alloc);
     for text in texts {
         list.push(Text::from_str(alloc, text)?)?;
     }
-    header.x5c = Some(Texts::from(list));
+    Ok(Texts::from(list))
+}
+
+fn certified(alloc: Global, texts: &[&str]) -> Answer<Header> {
+    let list = list_of(alloc, texts)?;
+    let mut header = Header::new(alloc, Algorithm::HS256)?;
+    header.x5c = Some(list);
+    Ok(header)
+}
+
+// The certificates of the header, as `Debug` shows them, or the refusal's text.
+fn certificates_of(alloc: Global, header: &Header) -> Answer<String> {
     match header.x5c_der(alloc) {
         Ok(certificates) => Ok(format!(in alloc; "{certificates:?}")?),
         Err(refusal) => Ok(format!(in alloc; "{refusal}")?),
@@ -323,7 +332,8 @@ fn check_certificates(
     texts: &[&str],
     expected: &str,
 ) -> Answer<()> {
-    let shown = certificates_of(alloc, texts)?;
+    let header = certified(alloc, texts)?;
+    let shown = certificates_of(alloc, &header)?;
     assert_eq!(rt; shown.as_str(), expected);
     Ok(())
 }

@@ -30,17 +30,19 @@ fn is_typed(header: &Header, typ: Option<&str>) -> bool {
     }
 }
 
+fn text_of(alloc: Global, header: &Header) -> Result<String> {
+    let value = header.to_value(alloc)?;
+    Ok(value.to_string(alloc)?)
+}
+
 #[test]
 fn a_signed_token_has_its_header(rt: HostRuntime) -> std::result::Result<(), Fail> {
     let alloc = rt.alloc();
     let header = decode_header(alloc, SIGNED.as_bytes())?;
     assert!(rt; header.alg == Algorithm::HS256);
     assert!(rt; is_typed(&header, Some("JWT")));
-    let value = header.to_value(alloc)?;
-    assert_eq!(rt;
-        value.to_string(alloc)?.as_str(),
-        "{\"alg\":\"HS256\",\"typ\":\"JWT\"}"
-    );
+    let text = text_of(alloc, &header)?;
+    assert_eq!(rt; text.as_str(), "{\"alg\":\"HS256\",\"typ\":\"JWT\"}");
     Ok(())
 }
 
@@ -114,21 +116,42 @@ fn a_type_may_be_absent_or_null(rt: HostRuntime) -> std::result::Result<(), Fail
     Ok(())
 }
 
+fn is_new(header: &Header) -> bool {
+    header.alg == Algorithm::RS256 && is_typed(header, Some("JWT"))
+}
+
+fn copy_of_new(alloc: Global) -> Result<Header> {
+    let header = Header::new(alloc, Algorithm::RS256)?;
+    header.clone(alloc)
+}
+
 #[test]
 fn a_new_header_has_the_type_jwt(rt: HostRuntime) -> std::result::Result<(), Fail> {
     let alloc = rt.alloc();
+    let copy = copy_of_new(alloc)?;
+    assert!(rt; is_new(&copy));
+    let text = text_of(alloc, &copy)?;
+    assert_eq!(rt; text.as_str(), "{\"alg\":\"RS256\",\"typ\":\"JWT\"}");
+    Ok(())
+}
+
+fn new_read_back(alloc: Global) -> Result<Header> {
     let header = Header::new(alloc, Algorithm::RS256)?;
-    let copy = header.clone(alloc)?;
-    assert!(rt; copy.alg == Algorithm::RS256);
-    assert!(rt; is_typed(&copy, Some("JWT")));
-    let value = copy.to_value(alloc)?;
-    assert_eq!(rt;
-        value.to_string(alloc)?.as_str(),
-        "{\"alg\":\"RS256\",\"typ\":\"JWT\"}"
-    );
-    let back = Header::from_value(alloc, &value)?;
-    assert!(rt; back.alg == Algorithm::RS256);
-    assert!(rt; is_typed(&back, Some("JWT")));
+    let value = header.to_value(alloc)?;
+    Header::from_value(alloc, &value)
+}
+
+#[test]
+fn a_new_header_reads_back(rt: HostRuntime) -> std::result::Result<(), Fail> {
+    let alloc = rt.alloc();
+    let back = new_read_back(alloc)?;
+    assert!(rt; is_new(&back));
+    Ok(())
+}
+
+#[test]
+fn a_list_is_no_header(rt: HostRuntime) -> std::result::Result<(), Fail> {
+    let alloc = rt.alloc();
     let list = Value::from_str(alloc, "[]")?;
     assert!(rt; Header::from_value(alloc, &list).is_err());
     Ok(())
