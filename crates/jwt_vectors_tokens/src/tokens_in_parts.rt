@@ -141,30 +141,44 @@ fn crit_is_tested_before_the_verifier_is_made(rt: HostRuntime) -> std::result::R
     Ok(())
 }
 
+// The text that `encode` answers for the claims.
+fn whole(alloc: Global, claims: &Value, key: &EncodingKey) -> Result<String> {
+    let header = Header::new(alloc, Algorithm::HS256)?;
+    encode(alloc, &HmacProvider, &header, claims, key)
+}
+
 #[test]
 fn the_parts_are_those_of_the_whole_token(rt: HostRuntime) -> std::result::Result<(), Fail> {
     let alloc = rt.alloc();
     let key = EncodingKey::from_secret(alloc, b"secret")?;
-    let header = Header::new(alloc, Algorithm::HS256)?;
     let claims = Value::from_str(alloc, "{\"b\":10,\"a\":20}")?;
-    let whole = encode(alloc, &HmacProvider, &header, &claims, &key)?;
+    let text = whole(alloc, &claims, &key)?;
     let got = issued(alloc, &HmacProvider, Algorithm::HS256, Some(&claims), &key)?;
-    assert_eq!(rt; got.as_str(), whole.as_str());
+    assert_eq!(rt; got.as_str(), text.as_str());
     Ok(())
+}
+
+// A token without claims.
+fn without_claims(alloc: Global) -> Result<Jws<Value>> {
+    let key = EncodingKey::from_secret(alloc, b"secret")?;
+    let header = Header::new(alloc, Algorithm::HS256)?;
+    let claims: Option<&Value> = None;
+    jws::encode(alloc, &HmacProvider, &header, claims, &key)
+}
+
+fn by_secret(alloc: Global, token: &Jws<Value>) -> std::result::Result<String, Fail> {
+    let key = DecodingKey::from_secret(alloc, b"secret")?;
+    let validation = Validation::new(alloc, Algorithm::HS256)?;
+    by(alloc, &HmacProvider, token, &key, &validation, 0)
 }
 
 #[test]
 fn without_claims_the_payload_is_empty(rt: HostRuntime) -> std::result::Result<(), Fail> {
     let alloc = rt.alloc();
-    let key = EncodingKey::from_secret(alloc, b"secret")?;
-    let header = Header::new(alloc, Algorithm::HS256)?;
-    let claims: Option<&Value> = None;
-    let token = jws::encode(alloc, &HmacProvider, &header, claims, &key)?;
+    let token = without_claims(alloc)?;
     assert_eq!(rt; token.protected.as_str(), HEADER);
     assert_eq!(rt; token.payload.as_str(), "");
-    let key = DecodingKey::from_secret(alloc, b"secret")?;
-    let validation = Validation::new(alloc, Algorithm::HS256)?;
-    let got = by(alloc, &HmacProvider, &token, &key, &validation, 0)?;
+    let got = by_secret(alloc, &token)?;
     assert_eq!(rt; got.as_str(), "JSON error");
     Ok(())
 }

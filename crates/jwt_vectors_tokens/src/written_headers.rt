@@ -13,23 +13,34 @@ use serde_json::{Map, Value};
 use std::alloc::Global;
 use std::test::Fail;
 
-/// The header of the algorithm with a key that holds `kid` among its free members, which is not written.
-fn unwritten(alloc: Global, algorithm: Algorithm) -> Result<Header> {
+/// A key that holds `kid` among its free members, which is not written.
+fn unwritten_key(alloc: Global) -> Result<Jwk> {
     let mut members = Map::new(alloc);
     let name = String::from_str(alloc, "kid")?;
     drop(members.insert(name, Value::Null)?);
-    let mut header = Header::new(alloc, algorithm)?;
-    header.jwk = Some(Jwk {
+    Ok(Jwk {
         common: CommonParameters::default(),
         algorithm: AlgorithmParameters::Other(OtherKeyParameters {
             fields: FreeMembers::from(members),
         }),
-    });
+    })
+}
+
+/// The header of the algorithm with such a key.
+fn unwritten(alloc: Global, algorithm: Algorithm) -> Result<Header> {
+    let key = unwritten_key(alloc)?;
+    let mut header = Header::new(alloc, algorithm)?;
+    header.jwk = Some(key);
     Ok(header)
 }
 
-fn whole(alloc: Global, header: &Header, key: &EncodingKey) -> std::result::Result<String, Fail> {
-    match encode(alloc, &HmacProvider, header, &Value::Null, key) {
+fn whole(
+    alloc: Global,
+    algorithm: Algorithm,
+    key: &EncodingKey,
+) -> std::result::Result<String, Fail> {
+    let header = unwritten(alloc, algorithm)?;
+    match encode(alloc, &HmacProvider, &header, &Value::Null, key) {
         Ok(token) => Ok(token),
         Err(refusal) => Ok(refusal.to_string(alloc)?),
     }
@@ -37,13 +48,14 @@ fn whole(alloc: Global, header: &Header, key: &EncodingKey) -> std::result::Resu
 
 fn in_parts(
     alloc: Global,
-    header: &Header,
+    algorithm: Algorithm,
     key: &EncodingKey,
 ) -> std::result::Result<String, Fail> {
+    let header = unwritten(alloc, algorithm)?;
     let answer: Result<Jws<Value>> = jws::encode(
         alloc,
         &HmacProvider,
-        header,
+        &header,
         Some(&Value::Null),
         key,
     );
@@ -58,32 +70,32 @@ fn a_header_is_written_after_the_signer_is_made_and_in_parts_before(
     rt: HostRuntime,
 ) -> std::result::Result<(), Fail> {
     let alloc = rt.alloc();
-    let header = unwritten(alloc, Algorithm::ES256)?;
     let key = EncodingKey::from_ec_der(alloc, b"\x04\x01")?;
-    assert_eq!(rt;
-        whole(alloc, &header, &key)?.as_str(),
-        "UnsupportedAlgorithm"
-    );
-    assert_eq!(rt; in_parts(alloc, &header, &key)?.as_str(), "JSON error");
+    let got = whole(alloc, Algorithm::ES256, &key)?;
+    assert_eq!(rt; got.as_str(), "UnsupportedAlgorithm");
+    let got = in_parts(alloc, Algorithm::ES256, &key)?;
+    assert_eq!(rt; got.as_str(), "JSON error");
     Ok(())
 }
 
 #[test]
 fn a_header_that_is_not_written_is_not_issued(rt: HostRuntime) -> std::result::Result<(), Fail> {
     let alloc = rt.alloc();
-    let header = unwritten(alloc, Algorithm::HS256)?;
     let key = EncodingKey::from_secret(alloc, b"secret")?;
-    assert_eq!(rt; whole(alloc, &header, &key)?.as_str(), "JSON error");
-    assert_eq!(rt; in_parts(alloc, &header, &key)?.as_str(), "JSON error");
+    let got = whole(alloc, Algorithm::HS256, &key)?;
+    assert_eq!(rt; got.as_str(), "JSON error");
+    let got = in_parts(alloc, Algorithm::HS256, &key)?;
+    assert_eq!(rt; got.as_str(), "JSON error");
     Ok(())
 }
 
 /// The token of claims under a header whose compression is the free text `DEF`.
 fn compressed(alloc: Global) -> Result<String> {
-    let mut header = Header::new(alloc, Algorithm::HS256)?;
-    header.zip = Some(Zip::Other(Text::from_str(alloc, "DEF")?));
     let claims = Value::from_str(alloc, "{\"exp\":2532524891}")?;
     let key = EncodingKey::from_secret(alloc, b"secret")?;
+    let free = Text::from_str(alloc, "DEF")?;
+    let mut header = Header::new(alloc, Algorithm::HS256)?;
+    header.zip = Some(Zip::Other(free));
     encode(alloc, &HmacProvider, &header, &claims, &key)
 }
 
