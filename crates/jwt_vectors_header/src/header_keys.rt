@@ -1,5 +1,6 @@
 //! Headers that hold a key.
 
+use crate::calls::{copy_of, hash_of, header_of, new_header, read, rewritten, text_of};
 use jwt_base::algorithms::Algorithm;
 use jwt_base::errors::Result as Answer;
 use jwt_header::header::Header;
@@ -10,30 +11,8 @@ use jwt_kinds::other::OtherKeyParameters;
 use jwt_params::common::CommonParameters;
 use serde_json::{Map, Value};
 use std::alloc::Global;
-use std::hash::{DefaultHasher, Hash, Hasher};
 use std::process::Abort;
 use std::test::Fail;
-
-fn header_of(alloc: Global, text: &str) -> Answer<Header> {
-    let value = Value::from_str(alloc, text)?;
-    Header::from_value(alloc, &value)
-}
-
-// What the header is written as, or the refusal's text.
-fn text_of(alloc: Global, header: &Header) -> Answer<String> {
-    match header.to_value(alloc) {
-        Ok(value) => Ok(value.to_string(alloc)?),
-        Err(refusal) => Ok(format!(in alloc; "{refusal}")?),
-    }
-}
-
-// The JSON text that the header of a JSON text is written as, or the refusal's text.
-fn rewritten(alloc: Global, text: &str) -> Answer<String> {
-    match header_of(alloc, text) {
-        Ok(header) => text_of(alloc, &header),
-        Err(refusal) => Ok(format!(in alloc; "{refusal}")?),
-    }
-}
 
 fn check_all(rt: &impl Abort, alloc: Global, rows: &[(&str, &str)]) -> Answer<()> {
     for (text, expected) in rows {
@@ -87,14 +66,20 @@ fn free_members(alloc: Global, text: &str) -> Answer<FreeMembers> {
     }
 }
 
-// A header with a key of the kind `Other` that has these members.
-fn header_with(alloc: Global, text: &str) -> Answer<Header> {
-    let mut header = Header::new(alloc, Algorithm::ES256)?;
+// A key of the kind `Other` that has these members.
+fn free_key(alloc: Global, text: &str) -> Answer<Jwk> {
     let fields = free_members(alloc, text)?;
-    header.jwk = Some(Jwk {
+    Ok(Jwk {
         common: CommonParameters::default(),
         algorithm: AlgorithmParameters::Other(OtherKeyParameters { fields }),
-    });
+    })
+}
+
+// A header with such a key.
+fn header_with(alloc: Global, text: &str) -> Answer<Box<Header>> {
+    let key = free_key(alloc, text)?;
+    let mut header = new_header(alloc, Algorithm::ES256)?;
+    header.jwk = Some(key);
     Ok(header)
 }
 
@@ -121,9 +106,9 @@ fn a_key_that_cannot_be_written_refuses_the_header(rt: HostRuntime) -> Result<()
 }
 
 // The header that is read back.
-fn read_back(alloc: Global, header: &Header) -> Answer<Header> {
+fn read_back(alloc: Global, header: &Header) -> Answer<Box<Header>> {
     let value = header.to_value(alloc)?;
-    Header::from_value(alloc, &value)
+    read(alloc, &value)
 }
 
 #[test]
@@ -136,15 +121,10 @@ fn a_key_in_a_header_reads_back_as_its_normal_form(rt: HostRuntime) -> Result<()
         written.as_str(),
         "{\"alg\":\"ES256\",\"jwk\":{\"e\":\"b\",\"kty\":\"RSA\",\"n\":\"a\"},\"typ\":\"JWT\"}"
     );
-    assert!(rt; back != header);
-    assert!(rt; read_back(alloc, &back)? == back);
+    assert!(rt; *back != *header);
+    let again = read_back(alloc, &back)?;
+    assert!(rt; *again == *back);
     Ok(())
-}
-
-fn hash_of<T: Hash>(value: &T) -> u64 {
-    let mut state = DefaultHasher::new();
-    value.hash(&mut state);
-    state.finish()
 }
 
 #[test]
@@ -152,10 +132,11 @@ fn headers_are_equal_by_their_keys(rt: HostRuntime) -> Result<(), Fail> {
     let alloc = rt.alloc();
     let first = header_with(alloc, "{\"v\":1.5}")?;
     let second = header_with(alloc, "{\"v\":2.5}")?;
-    assert!(rt; first == second);
-    assert_eq!(rt; hash_of(&first), hash_of(&second));
+    assert!(rt; *first == *second);
+    assert_eq!(rt; hash_of(&*first), hash_of(&*second));
     let third = header_with(alloc, "{\"v\":2}")?;
-    assert!(rt; first != third);
-    assert!(rt; first.clone(alloc)? == first);
+    assert!(rt; *first != *third);
+    let copy = copy_of(alloc, &first)?;
+    assert!(rt; *copy == *first);
     Ok(())
 }

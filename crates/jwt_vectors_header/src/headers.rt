@@ -1,5 +1,6 @@
 //! Headers: from a JSON text to a header, and to a JSON text again.
 
+use crate::calls::{copy_of, hash_of, header_of, new_header, read, rewritten, text_of};
 use jwt_base::algorithms::Algorithm;
 use jwt_base::errors::Result as Answer;
 use jwt_base::json::Claims;
@@ -7,27 +8,8 @@ use jwt_base::text::{Text, Texts};
 use jwt_header::header::{Enc, Extras, Header, Zip};
 use serde_json::Value;
 use std::alloc::Global;
-use std::hash::{DefaultHasher, Hash, Hasher};
 use std::process::Abort;
 use std::test::Fail;
-
-fn header_of(alloc: Global, text: &str) -> Answer<Header> {
-    let value = Value::from_str(alloc, text)?;
-    Header::from_value(alloc, &value)
-}
-
-fn text_of(alloc: Global, header: &Header) -> Answer<String> {
-    Ok(header.to_value(alloc)?.to_string(alloc)?)
-}
-
-// The JSON text that the header of a JSON text is written as, or the refusal's text.
-fn rewritten(alloc: Global, text: &str) -> Answer<String> {
-    let value = Value::from_str(alloc, text)?;
-    match Header::from_value(alloc, &value) {
-        Ok(header) => text_of(alloc, &header),
-        Err(refusal) => Ok(format!(in alloc; "{refusal}")?),
-    }
-}
 
 fn check(rt: &impl Abort, alloc: Global, text: &str, expected: &str) -> Answer<()> {
     let answer = rewritten(alloc, text)?;
@@ -229,8 +211,8 @@ fn every_member_is_written_and_copied(rt: HostRuntime) -> Result<(), Fail> {
     let alloc = rt.alloc();
     check(&rt, alloc, EVERY_MEMBER, EVERY_MEMBER_WRITTEN)?;
     let header = header_of(alloc, EVERY_MEMBER)?;
-    let copy = header.clone(alloc)?;
-    assert!(rt; copy == header);
+    let copy = copy_of(alloc, &header)?;
+    assert!(rt; *copy == *header);
     let written = text_of(alloc, &copy)?;
     assert_eq!(rt; written.as_str(), EVERY_MEMBER_WRITTEN);
     Ok(())
@@ -238,7 +220,7 @@ fn every_member_is_written_and_copied(rt: HostRuntime) -> Result<(), Fail> {
 
 #[test]
 fn a_new_header_has_its_algorithm_and_type_alone(rt: HostRuntime) -> Result<(), Fail> {
-    let header = Header::new(rt.alloc(), Algorithm::HS256)?;
+    let header = new_header(rt.alloc(), Algorithm::HS256)?;
     let written = text_of(rt.alloc(), &header)?;
     assert_eq!(rt; written.as_str(), "{\"alg\":\"HS256\",\"typ\":\"JWT\"}");
     Ok(())
@@ -294,12 +276,14 @@ fn a_free_compression_with_the_known_name_reads_back_as_known(rt: HostRuntime) -
 fn a_header_with_a_free_known_name_reads_back_as_its_normal_form(
     rt: HostRuntime,
 ) -> Result<(), Fail> {
-    let mut header = Header::new(rt.alloc(), Algorithm::HS256)?;
-    header.zip = Some(Zip::Other(Text::from_str(rt.alloc(), "DEF")?));
-    let written = header.to_value(rt.alloc())?;
-    let back = Header::from_value(rt.alloc(), &written)?;
+    let alloc = rt.alloc();
+    let free = Text::from_str(alloc, "DEF")?;
+    let mut header = new_header(alloc, Algorithm::HS256)?;
+    header.zip = Some(Zip::Other(free));
+    let written = header.to_value(alloc)?;
+    let back = read(alloc, &written)?;
     assert!(rt; back.zip == Some(Zip::Deflate));
-    assert!(rt; back != header);
+    assert!(rt; *back != *header);
     Ok(())
 }
 
@@ -311,9 +295,9 @@ fn list_of(alloc: Global, texts: &[&str]) -> Answer<Texts> {
     Ok(Texts::from(list))
 }
 
-fn certified(alloc: Global, texts: &[&str]) -> Answer<Header> {
+fn certified(alloc: Global, texts: &[&str]) -> Answer<Box<Header>> {
     let list = list_of(alloc, texts)?;
-    let mut header = Header::new(alloc, Algorithm::HS256)?;
+    let mut header = new_header(alloc, Algorithm::HS256)?;
     header.x5c = Some(list);
     Ok(header)
 }
@@ -347,11 +331,15 @@ fn certificates_are_read_in_standard_base64(rt: HostRuntime) -> Result<(), Fail>
     for text in ["AQ", "AQI", "AR==", "AQ=", "-_8=", "AQID\n"] {
         check_certificates(&rt, alloc, &["AQID", text], "Base64 error")?;
     }
-    assert!(rt;
-        Header::new(alloc, Algorithm::HS256)?
-            .x5c_der(alloc)?
-            .is_none()
-    );
+    Ok(())
+}
+
+#[test]
+fn a_header_without_certificates_has_none(rt: HostRuntime) -> Result<(), Fail> {
+    let alloc = rt.alloc();
+    let header = new_header(alloc, Algorithm::HS256)?;
+    let certificates = header.x5c_der(alloc)?;
+    assert!(rt; certificates.is_none());
     Ok(())
 }
 
@@ -443,15 +431,9 @@ fn a_float_is_not_inserted(rt: HostRuntime) -> Result<(), Fail> {
     Ok(())
 }
 
-fn hash_of<T: Hash>(value: &T) -> u64 {
-    let mut state = DefaultHasher::new();
-    value.hash(&mut state);
-    state.finish()
-}
-
 // A header HS512 with these extras, put in this order.
-fn header_with(alloc: Global, names: &[&str]) -> Answer<Header> {
-    let mut header = Header::new(alloc, Algorithm::HS512)?;
+fn header_with(alloc: Global, names: &[&str]) -> Answer<Box<Header>> {
+    let mut header = new_header(alloc, Algorithm::HS512)?;
     for name in names {
         if *name == "answer" {
             header.extras.insert(alloc, name, &42u64)?;
@@ -470,11 +452,19 @@ fn equal_extras_and_headers_hash_alike(rt: HostRuntime) -> Result<(), Fail> {
     let second = header_with(alloc, &["answer", "foo"])?;
     assert!(rt; first.extras == second.extras);
     assert_eq!(rt; hash_of(&first.extras), hash_of(&second.extras));
-    assert!(rt; first == second);
-    assert_eq!(rt; hash_of(&first), hash_of(&second));
+    assert!(rt; *first == *second);
+    assert_eq!(rt; hash_of(&*first), hash_of(&*second));
+    Ok(())
+}
+
+#[test]
+fn other_extras_make_another_header(rt: HostRuntime) -> Result<(), Fail> {
+    let alloc = rt.alloc();
+    let first = header_with(alloc, &["foo", "answer"])?;
     let third = header_with(alloc, &["foo", "answer", "more"])?;
     assert!(rt; first.extras != third.extras);
-    assert!(rt; first != third);
-    assert!(rt; third.extras.clone(alloc)? == third.extras);
+    assert!(rt; *first != *third);
+    let copy = third.extras.clone(alloc)?;
+    assert!(rt; copy == third.extras);
     Ok(())
 }

@@ -1,10 +1,11 @@
 //! Tokens in which any of the tests fail, alone and together: the answer is the kind of the first that fails.
 
+use crate::calls::{decoded, new_validation, rsa_key, secret_key, shown, signing_key};
 use jsonwebtoken::crypto::hmac::HmacProvider;
 use jsonwebtoken::crypto::sign;
 use jsonwebtoken::errors::Result;
 use jsonwebtoken::jws::{self, Jws};
-use jsonwebtoken::{Algorithm, DecodingKey, EncodingKey, TokenData, Validation, decode};
+use jsonwebtoken::{Algorithm, DecodingKey, TokenData, Validation};
 use serde_json::Value;
 use std::alloc::Global;
 use std::marker::PhantomData;
@@ -62,13 +63,6 @@ const CLAIMS: &str = "{\"exp\":2532524891}";
 
 const NOW: u64 = 1_000_000;
 
-fn shown(alloc: Global, answer: Result<TokenData<Value>>) -> std::result::Result<String, Fail> {
-    match answer {
-        Ok(data) => Ok(data.claims.to_string(alloc)?),
-        Err(refusal) => Ok(refusal.to_string(alloc)?),
-    }
-}
-
 /// The parts of one call.
 #[derive(Clone, Copy)]
 struct Asked {
@@ -106,27 +100,27 @@ fn first_failed(asked: &Asked, order: usize) -> &'static str {
     first.1
 }
 
-fn key_of(alloc: Global, is_rsa: bool) -> Result<DecodingKey> {
+fn key_of(alloc: Global, is_rsa: bool) -> Result<Box<DecodingKey>> {
     if is_rsa {
-        DecodingKey::from_rsa_der(alloc, b"secret")
+        rsa_key(alloc)
     } else {
-        DecodingKey::from_secret(alloc, b"secret")
+        secret_key(alloc)
     }
 }
 
-fn validation_of(alloc: Global, list: &[Algorithm]) -> Result<Validation> {
-    let mut validation = Validation::new(alloc, Algorithm::HS256)?;
+fn validation_of(alloc: Global, list: &[Algorithm]) -> Result<Box<Validation>> {
+    let mut validation = new_validation(alloc, Algorithm::HS256)?;
     validation.algorithms = list.to_vec(alloc)?;
     Ok(validation)
 }
 
 /// The signature part: the one that is given, or the right one.
-fn signature_of(alloc: Global, asked: &Asked) -> std::result::Result<String, Fail> {
+fn signature_of(alloc: Global, asked: &Asked) -> Result<String> {
     if let Some(text) = asked.signature.1 {
         return Ok(String::from_str(alloc, text)?);
     }
     let message = format!(in alloc; "{}.{}", asked.header.1, asked.payload.1)?;
-    let key = EncodingKey::from_secret(alloc, b"secret")?;
+    let key = signing_key(alloc)?;
     let text = sign(
         alloc,
         &HmacProvider,
@@ -137,13 +131,13 @@ fn signature_of(alloc: Global, asked: &Asked) -> std::result::Result<String, Fai
     Ok(text)
 }
 
-fn by_text(alloc: Global, asked: &Asked, signature: &str) -> std::result::Result<String, Fail> {
+fn by_text(alloc: Global, asked: &Asked, signature: &str) -> Result<String> {
     let token = format!(in alloc; "{}.{}.{signature}", asked.header.1, asked.payload.1)?;
     let key = key_of(alloc, asked.key.1)?;
     let validation = validation_of(alloc, asked.list.1)?;
     shown(
         alloc,
-        decode(
+        decoded(
             alloc,
             &HmacProvider,
             token.as_bytes(),
@@ -154,19 +148,33 @@ fn by_text(alloc: Global, asked: &Asked, signature: &str) -> std::result::Result
     )
 }
 
-fn by_parts(alloc: Global, asked: &Asked, signature: &str) -> std::result::Result<String, Fail> {
-    let token: Jws<Value> = Jws {
+fn parts(alloc: Global, asked: &Asked, signature: &str) -> Result<Box<Jws<Value>>> {
+    let token = Jws {
         protected: String::from_str(alloc, asked.header.1)?,
         payload: String::from_str(alloc, asked.payload.1)?,
         signature: String::from_str(alloc, signature)?,
         _pd: PhantomData,
     };
+    Ok(Box::new(alloc, token)?)
+}
+
+fn decoded_parts(
+    alloc: Global,
+    token: &Jws<Value>,
+    key: &DecodingKey,
+    validation: &Validation,
+) -> Result<Box<TokenData<Value>>> {
+    Ok(Box::new(
+        alloc,
+        jws::decode(alloc, &HmacProvider, token, key, validation, NOW)?,
+    )?)
+}
+
+fn by_parts(alloc: Global, asked: &Asked, signature: &str) -> Result<String> {
+    let token = parts(alloc, asked, signature)?;
     let key = key_of(alloc, asked.key.1)?;
     let validation = validation_of(alloc, asked.list.1)?;
-    shown(
-        alloc,
-        jws::decode(alloc, &HmacProvider, &token, &key, &validation, NOW),
-    )
+    shown(alloc, decoded_parts(alloc, &token, &key, &validation))
 }
 
 #[test]

@@ -2,6 +2,8 @@
 #![tactic(auto)]
 
 #[cfg(test)]
+mod calls;
+#[cfg(test)]
 mod first_failed_tests;
 #[cfg(test)]
 mod issued_tokens;

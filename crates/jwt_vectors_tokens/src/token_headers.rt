@@ -1,5 +1,8 @@
+//! What `decode_header` answers to tokens.
+
+use crate::calls::{header_of, new_header};
 use jsonwebtoken::errors::{ErrorKind, Result};
-use jsonwebtoken::{Algorithm, Header, decode_header};
+use jsonwebtoken::{Algorithm, Header};
 use jwt_base::serialization::part_text;
 use serde_json::Value;
 use std::alloc::Global;
@@ -16,7 +19,7 @@ fn token(alloc: Global, header: &str) -> Result<String> {
 }
 
 fn is_refused(alloc: Global, token: &[u8], kind: ErrorKind) -> bool {
-    match decode_header(alloc, token) {
+    match header_of(alloc, token) {
         Ok(_) => false,
         Err(e) => *e.kind() == kind,
     }
@@ -38,12 +41,17 @@ fn text_of(alloc: Global, header: &Header) -> Result<String> {
 #[test]
 fn a_signed_token_has_its_header(rt: HostRuntime) -> std::result::Result<(), Fail> {
     let alloc = rt.alloc();
-    let header = decode_header(alloc, SIGNED.as_bytes())?;
+    let header = header_of(alloc, SIGNED.as_bytes())?;
     assert!(rt; header.alg == Algorithm::HS256);
     assert!(rt; is_typed(&header, Some("JWT")));
     let text = text_of(alloc, &header)?;
     assert_eq!(rt; text.as_str(), "{\"alg\":\"HS256\",\"typ\":\"JWT\"}");
     Ok(())
+}
+
+fn algorithm_of(alloc: Global, token: &[u8]) -> Result<Algorithm> {
+    let header = header_of(alloc, token)?;
+    Ok(header.alg)
 }
 
 #[test]
@@ -53,10 +61,10 @@ fn the_signature_part_is_not_read(rt: HostRuntime) -> std::result::Result<(), Fa
     let mut spare = String::from_str(alloc, SIGNED)?;
     let _last = spare.pop();
     spare.push('9')?;
-    assert!(rt; decode_header(alloc, spare.as_bytes())?.alg == Algorithm::HS256);
+    assert!(rt; algorithm_of(alloc, spare.as_bytes())? == Algorithm::HS256);
     let mut padded = String::from_str(alloc, SIGNED)?;
     padded.push('=')?;
-    assert!(rt; decode_header(alloc, padded.as_bytes())?.alg == Algorithm::HS256);
+    assert!(rt; algorithm_of(alloc, padded.as_bytes())? == Algorithm::HS256);
     Ok(())
 }
 
@@ -110,7 +118,7 @@ fn a_type_may_be_absent_or_null(rt: HostRuntime) -> std::result::Result<(), Fail
         ("{\"typ\":\"at+jwt\",\"alg\":\"HS256\"}", Some("at+jwt")),
         ("{\"alg\":\"HS256\",\"typ\":\"\"}", Some("")),
     ] {
-        let header = decode_header(alloc, token(alloc, text)?.as_bytes())?;
+        let header = header_of(alloc, token(alloc, text)?.as_bytes())?;
         assert!(rt; is_typed(&header, typ));
     }
     Ok(())
@@ -120,9 +128,9 @@ fn is_new(header: &Header) -> bool {
     header.alg == Algorithm::RS256 && is_typed(header, Some("JWT"))
 }
 
-fn copy_of_new(alloc: Global) -> Result<Header> {
-    let header = Header::new(alloc, Algorithm::RS256)?;
-    header.clone(alloc)
+fn copy_of_new(alloc: Global) -> Result<Box<Header>> {
+    let header = new_header(alloc, Algorithm::RS256)?;
+    Ok(Box::new(alloc, Header::clone(&header, alloc)?)?)
 }
 
 #[test]
@@ -135,10 +143,14 @@ fn a_new_header_has_the_type_jwt(rt: HostRuntime) -> std::result::Result<(), Fai
     Ok(())
 }
 
-fn new_read_back(alloc: Global) -> Result<Header> {
-    let header = Header::new(alloc, Algorithm::RS256)?;
+fn read(alloc: Global, value: &Value) -> Result<Box<Header>> {
+    Ok(Box::new(alloc, Header::from_value(alloc, value)?)?)
+}
+
+fn new_read_back(alloc: Global) -> Result<Box<Header>> {
+    let header = new_header(alloc, Algorithm::RS256)?;
     let value = header.to_value(alloc)?;
-    Header::from_value(alloc, &value)
+    read(alloc, &value)
 }
 
 #[test]
@@ -153,6 +165,6 @@ fn a_new_header_reads_back(rt: HostRuntime) -> std::result::Result<(), Fail> {
 fn a_list_is_no_header(rt: HostRuntime) -> std::result::Result<(), Fail> {
     let alloc = rt.alloc();
     let list = Value::from_str(alloc, "[]")?;
-    assert!(rt; Header::from_value(alloc, &list).is_err());
+    assert!(rt; read(alloc, &list).is_err());
     Ok(())
 }

@@ -1,10 +1,11 @@
 //! What the calls on tokens in parts answer: a row is what is asked, and the claims or the error's text.
 
+use crate::calls::{new_header, new_validation, rsa_key, secret_key, shown, signing_key};
 use jsonwebtoken::crypto::CryptoProvider;
 use jsonwebtoken::crypto::hmac::HmacProvider;
 use jsonwebtoken::errors::Result;
 use jsonwebtoken::jws::{self, Jws};
-use jsonwebtoken::{Algorithm, DecodingKey, EncodingKey, Header, TokenData, Validation, encode};
+use jsonwebtoken::{Algorithm, DecodingKey, EncodingKey, TokenData, Validation, encode};
 use jwt_vectors::providers::NoProvider;
 use serde_json::Value;
 use std::alloc::Global;
@@ -17,19 +18,41 @@ const PAYLOAD: &str = "eyJzdWIiOiJiQGIuY29tIiwiY29tcGFueSI6IkFDTUUiLCJleHAiOjI1M
 
 const SIGNATURE: &str = "9r56oF7ZliOBlOAyiOFperTGxBtPykRQiWNFxhDCW98";
 
+const THREE_TEXTS: &str = "{\"payload\":\"b\",\"protected\":\"a\",\"signature\":\"c\"}";
+
 const CLAIMS: &str = "{\"company\":\"ACME\",\"exp\":2532524891,\"sub\":\"b@b.com\"}";
 
-fn parts(alloc: Global, protected: &str, payload: &str, signature: &str) -> Result<Jws<Value>> {
-    Ok(Jws {
+fn parts(
+    alloc: Global,
+    protected: &str,
+    payload: &str,
+    signature: &str,
+) -> Result<Box<Jws<Value>>> {
+    let token = Jws {
         protected: String::from_str(alloc, protected)?,
         payload: String::from_str(alloc, payload)?,
         signature: String::from_str(alloc, signature)?,
         _pd: PhantomData,
-    })
+    };
+    Ok(Box::new(alloc, token)?)
 }
 
-fn signed(alloc: Global) -> Result<Jws<Value>> {
+fn signed(alloc: Global) -> Result<Box<Jws<Value>>> {
     parts(alloc, HEADER, PAYLOAD, SIGNATURE)
+}
+
+fn decoded<P: CryptoProvider>(
+    alloc: Global,
+    provider: &P,
+    token: &Jws<Value>,
+    key: &DecodingKey,
+    validation: &Validation,
+    now: u64,
+) -> Result<Box<TokenData<Value>>> {
+    Ok(Box::new(
+        alloc,
+        jws::decode(alloc, provider, token, key, validation, now)?,
+    )?)
 }
 
 // The claims that are accepted, or the error's text.
@@ -40,14 +63,19 @@ fn by<P: CryptoProvider>(
     key: &DecodingKey,
     validation: &Validation,
     now: u64,
-) -> std::result::Result<String, Fail> {
-    let answer: Result<TokenData<Value>> = jws::decode(
-        alloc, provider, token, key, validation, now,
-    );
-    match answer {
-        Ok(data) => Ok(data.claims.to_string(alloc)?),
-        Err(refusal) => Ok(refusal.to_string(alloc)?),
-    }
+) -> Result<String> {
+    shown(alloc, decoded(alloc, provider, token, key, validation, now))
+}
+
+fn in_parts<P: CryptoProvider>(
+    alloc: Global,
+    provider: &P,
+    algorithm: Algorithm,
+    claims: Option<&Value>,
+    key: &EncodingKey,
+) -> Result<Box<Jws<Value>>> {
+    let header = new_header(alloc, algorithm)?;
+    Ok(Box::new(alloc, jws::encode(alloc, provider, &header, claims, key)?)?)
 }
 
 // The three texts with their dots, or the error's text.
@@ -57,9 +85,8 @@ fn issued<P: CryptoProvider>(
     algorithm: Algorithm,
     claims: Option<&Value>,
     key: &EncodingKey,
-) -> std::result::Result<String, Fail> {
-    let header = Header::new(alloc, algorithm)?;
-    match jws::encode(alloc, provider, &header, claims, key) {
+) -> Result<String> {
+    match in_parts(alloc, provider, algorithm, claims, key) {
         Ok(token) => Ok(format!(in alloc;
             "{}.{}.{}",
             token.protected, token.payload, token.signature
@@ -74,8 +101,8 @@ fn the_parts_of_a_signed_token_are_accepted_until_its_last_moment(
 ) -> std::result::Result<(), Fail> {
     let alloc = rt.alloc();
     let token = signed(alloc)?;
-    let key = DecodingKey::from_secret(alloc, b"secret")?;
-    let validation = Validation::new(alloc, Algorithm::HS256)?;
+    let key = secret_key(alloc)?;
+    let validation = new_validation(alloc, Algorithm::HS256)?;
     for (now, answer) in [
         (0, CLAIMS),
         (2532524951, CLAIMS),
@@ -90,8 +117,8 @@ fn the_parts_of_a_signed_token_are_accepted_until_its_last_moment(
 #[test]
 fn parts_that_are_no_token_have_their_kinds(rt: HostRuntime) -> std::result::Result<(), Fail> {
     let alloc = rt.alloc();
-    let key = DecodingKey::from_secret(alloc, b"secret")?;
-    let validation = Validation::new(alloc, Algorithm::HS256)?;
+    let key = secret_key(alloc)?;
+    let validation = new_validation(alloc, Algorithm::HS256)?;
     for (protected, payload, signature, answer) in [
         ("", "", "", "JSON error"),
         ("e30", "e30", "", "JSON error"),
@@ -113,14 +140,14 @@ fn the_verifier_is_made_before_the_list_is_looked_at(
 ) -> std::result::Result<(), Fail> {
     let alloc = rt.alloc();
     let token = signed(alloc)?;
-    let key = DecodingKey::from_rsa_der(alloc, b"secret")?;
-    let mut validation = Validation::new(alloc, Algorithm::RS512)?;
+    let key = rsa_key(alloc)?;
+    let mut validation = new_validation(alloc, Algorithm::RS512)?;
     let got = by(alloc, &NoProvider, &token, &key, &validation, 0)?;
     assert_eq!(rt; got.as_str(), "Custom provider error: closed");
     validation.algorithms.clear();
     let got = by(alloc, &HmacProvider, &token, &key, &validation, 0)?;
     assert_eq!(rt; got.as_str(), "InvalidKeyFormat");
-    let secret = DecodingKey::from_secret(alloc, b"secret")?;
+    let secret = secret_key(alloc)?;
     let got = by(alloc, &HmacProvider, &token, &secret, &validation, 0)?;
     assert_eq!(rt; got.as_str(), "MissingAlgorithm");
     Ok(())
@@ -131,8 +158,8 @@ fn crit_is_tested_before_the_verifier_is_made(rt: HostRuntime) -> std::result::R
     let alloc = rt.alloc();
     let asked = "eyJhbGciOiJIUzI1NiIsImNyaXQiOlsiZXhwIl0sImV4cCI6MTM2MzI4NDAwMH0";
     let token = parts(alloc, asked, PAYLOAD, SIGNATURE)?;
-    let key = DecodingKey::from_rsa_der(alloc, b"secret")?;
-    let mut validation = Validation::new(alloc, Algorithm::HS256)?;
+    let key = rsa_key(alloc)?;
+    let mut validation = new_validation(alloc, Algorithm::HS256)?;
     let got = by(alloc, &HmacProvider, &token, &key, &validation, 0)?;
     assert_eq!(rt; got.as_str(), "InvalidCrit");
     validation.set_understood_crit(alloc, &["exp"])?;
@@ -143,14 +170,14 @@ fn crit_is_tested_before_the_verifier_is_made(rt: HostRuntime) -> std::result::R
 
 // The text that `encode` answers for the claims.
 fn whole(alloc: Global, claims: &Value, key: &EncodingKey) -> Result<String> {
-    let header = Header::new(alloc, Algorithm::HS256)?;
+    let header = new_header(alloc, Algorithm::HS256)?;
     encode(alloc, &HmacProvider, &header, claims, key)
 }
 
 #[test]
 fn the_parts_are_those_of_the_whole_token(rt: HostRuntime) -> std::result::Result<(), Fail> {
     let alloc = rt.alloc();
-    let key = EncodingKey::from_secret(alloc, b"secret")?;
+    let key = signing_key(alloc)?;
     let claims = Value::from_str(alloc, "{\"b\":10,\"a\":20}")?;
     let text = whole(alloc, &claims, &key)?;
     let got = issued(alloc, &HmacProvider, Algorithm::HS256, Some(&claims), &key)?;
@@ -159,16 +186,14 @@ fn the_parts_are_those_of_the_whole_token(rt: HostRuntime) -> std::result::Resul
 }
 
 // A token without claims.
-fn without_claims(alloc: Global) -> Result<Jws<Value>> {
-    let key = EncodingKey::from_secret(alloc, b"secret")?;
-    let header = Header::new(alloc, Algorithm::HS256)?;
-    let claims: Option<&Value> = None;
-    jws::encode(alloc, &HmacProvider, &header, claims, &key)
+fn without_claims(alloc: Global) -> Result<Box<Jws<Value>>> {
+    let key = signing_key(alloc)?;
+    in_parts(alloc, &HmacProvider, Algorithm::HS256, None, &key)
 }
 
-fn by_secret(alloc: Global, token: &Jws<Value>) -> std::result::Result<String, Fail> {
-    let key = DecodingKey::from_secret(alloc, b"secret")?;
-    let validation = Validation::new(alloc, Algorithm::HS256)?;
+fn by_secret(alloc: Global, token: &Jws<Value>) -> Result<String> {
+    let key = secret_key(alloc)?;
+    let validation = new_validation(alloc, Algorithm::HS256)?;
     by(alloc, &HmacProvider, token, &key, &validation, 0)
 }
 
@@ -186,7 +211,7 @@ fn without_claims_the_payload_is_empty(rt: HostRuntime) -> std::result::Result<(
 #[test]
 fn claims_are_written_before_the_signer_is_made(rt: HostRuntime) -> std::result::Result<(), Fail> {
     let alloc = rt.alloc();
-    let key = EncodingKey::from_secret(alloc, b"secret")?;
+    let key = signing_key(alloc)?;
     let float = Value::from_str(alloc, "[1.5]")?;
     let got = issued(alloc, &NoProvider, Algorithm::HS256, Some(&float), &key)?;
     assert_eq!(rt; got.as_str(), "JSON error");
@@ -197,23 +222,40 @@ fn claims_are_written_before_the_signer_is_made(rt: HostRuntime) -> std::result:
     Ok(())
 }
 
+fn written(alloc: Global, token: &Jws<Value>) -> Result<String> {
+    Ok(token.to_value(alloc)?.to_string(alloc)?)
+}
+
+fn read(alloc: Global, text: &str) -> Result<Box<Jws<Value>>> {
+    let value = Value::from_str(alloc, text)?;
+    Ok(Box::new(alloc, Jws::from_value(alloc, &value)?)?)
+}
+
 #[test]
 fn parts_are_an_object_of_three_texts(rt: HostRuntime) -> std::result::Result<(), Fail> {
     let alloc = rt.alloc();
-    let text = "{\"payload\":\"b\",\"protected\":\"a\",\"signature\":\"c\"}";
     let token = parts(alloc, "a", "b", "c")?;
-    assert_eq!(rt; token.to_value(alloc)?.to_string(alloc)?.as_str(), text);
+    let text = written(alloc, &token)?;
+    assert_eq!(rt; text.as_str(), THREE_TEXTS);
     let copy = token.clone(alloc)?;
-    assert_eq!(rt; copy.to_value(alloc)?.to_string(alloc)?.as_str(), text);
+    let text = written(alloc, &copy)?;
+    assert_eq!(rt; text.as_str(), THREE_TEXTS);
+    Ok(())
+}
+
+#[test]
+fn parts_are_read_from_objects_with_the_three_texts(
+    rt: HostRuntime,
+) -> std::result::Result<(), Fail> {
+    let alloc = rt.alloc();
     let further = "{\"signature\":\"c\",\"header\":{},\"payload\":\"b\",\"protected\":\"a\"}";
-    let read: Jws<Value> = Jws::from_value(alloc, &Value::from_str(alloc, further)?)?;
-    assert_eq!(rt; read.to_value(alloc)?.to_string(alloc)?.as_str(), text);
+    let text = written(alloc, &*read(alloc, further)?)?;
+    assert_eq!(rt; text.as_str(), THREE_TEXTS);
     for wrong in [
         "[]",
         "{\"payload\":\"b\",\"protected\":\"a\",\"signature\":null}",
     ] {
-        let read: Result<Jws<Value>> = Jws::from_value(alloc, &Value::from_str(alloc, wrong)?);
-        assert!(rt; read.is_err(), "{wrong}");
+        assert!(rt; read(alloc, wrong).is_err(), "{wrong}");
     }
     Ok(())
 }

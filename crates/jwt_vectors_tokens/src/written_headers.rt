@@ -1,14 +1,12 @@
 //! What headers tokens are issued with, and which are not written.
 
+use crate::calls::{decoded, new_header, new_validation, secret_key, signing_ec_key, signing_key};
 use jsonwebtoken::crypto::hmac::HmacProvider;
 use jsonwebtoken::errors::Result;
 use jsonwebtoken::jwk::{
     AlgorithmParameters, CommonParameters, FreeMembers, Jwk, OtherKeyParameters,
 };
-use jsonwebtoken::jws::{self, Jws};
-use jsonwebtoken::{
-    Algorithm, DecodingKey, EncodingKey, Header, Text, TokenData, Validation, Zip, decode, encode,
-};
+use jsonwebtoken::{Algorithm, EncodingKey, Header, Text, Zip, encode, jws};
 use serde_json::{Map, Value};
 use std::alloc::Global;
 use std::test::Fail;
@@ -27,18 +25,14 @@ fn unwritten_key(alloc: Global) -> Result<Jwk> {
 }
 
 /// The header of the algorithm with such a key.
-fn unwritten(alloc: Global, algorithm: Algorithm) -> Result<Header> {
+fn unwritten(alloc: Global, algorithm: Algorithm) -> Result<Box<Header>> {
     let key = unwritten_key(alloc)?;
-    let mut header = Header::new(alloc, algorithm)?;
+    let mut header = new_header(alloc, algorithm)?;
     header.jwk = Some(key);
     Ok(header)
 }
 
-fn whole(
-    alloc: Global,
-    algorithm: Algorithm,
-    key: &EncodingKey,
-) -> std::result::Result<String, Fail> {
+fn whole(alloc: Global, algorithm: Algorithm, key: &EncodingKey) -> Result<String> {
     let header = unwritten(alloc, algorithm)?;
     match encode(alloc, &HmacProvider, &header, &Value::Null, key) {
         Ok(token) => Ok(token),
@@ -46,20 +40,10 @@ fn whole(
     }
 }
 
-fn in_parts(
-    alloc: Global,
-    algorithm: Algorithm,
-    key: &EncodingKey,
-) -> std::result::Result<String, Fail> {
+fn in_parts(alloc: Global, algorithm: Algorithm, key: &EncodingKey) -> Result<String> {
     let header = unwritten(alloc, algorithm)?;
-    let answer: Result<Jws<Value>> = jws::encode(
-        alloc,
-        &HmacProvider,
-        &header,
-        Some(&Value::Null),
-        key,
-    );
-    match answer {
+    let claims = Some(&Value::Null);
+    match jws::encode(alloc, &HmacProvider, &header, claims, key) {
         Ok(token) => Ok(token.protected),
         Err(refusal) => Ok(refusal.to_string(alloc)?),
     }
@@ -70,7 +54,7 @@ fn a_header_is_written_after_the_signer_is_made_and_in_parts_before(
     rt: HostRuntime,
 ) -> std::result::Result<(), Fail> {
     let alloc = rt.alloc();
-    let key = EncodingKey::from_ec_der(alloc, b"\x04\x01")?;
+    let key = signing_ec_key(alloc, b"\x04\x01")?;
     let got = whole(alloc, Algorithm::ES256, &key)?;
     assert_eq!(rt; got.as_str(), "UnsupportedAlgorithm");
     let got = in_parts(alloc, Algorithm::ES256, &key)?;
@@ -81,7 +65,7 @@ fn a_header_is_written_after_the_signer_is_made_and_in_parts_before(
 #[test]
 fn a_header_that_is_not_written_is_not_issued(rt: HostRuntime) -> std::result::Result<(), Fail> {
     let alloc = rt.alloc();
-    let key = EncodingKey::from_secret(alloc, b"secret")?;
+    let key = signing_key(alloc)?;
     let got = whole(alloc, Algorithm::HS256, &key)?;
     assert_eq!(rt; got.as_str(), "JSON error");
     let got = in_parts(alloc, Algorithm::HS256, &key)?;
@@ -92,9 +76,9 @@ fn a_header_that_is_not_written_is_not_issued(rt: HostRuntime) -> std::result::R
 /// The token of claims under a header whose compression is the free text `DEF`.
 fn compressed(alloc: Global) -> Result<String> {
     let claims = Value::from_str(alloc, "{\"exp\":2532524891}")?;
-    let key = EncodingKey::from_secret(alloc, b"secret")?;
+    let key = signing_key(alloc)?;
     let free = Text::from_str(alloc, "DEF")?;
-    let mut header = Header::new(alloc, Algorithm::HS256)?;
+    let mut header = new_header(alloc, Algorithm::HS256)?;
     header.zip = Some(Zip::Other(free));
     encode(alloc, &HmacProvider, &header, &claims, &key)
 }
@@ -105,16 +89,9 @@ fn a_free_compression_is_read_back_as_the_known_one(
 ) -> std::result::Result<(), Fail> {
     let alloc = rt.alloc();
     let token = compressed(alloc)?;
-    let key = DecodingKey::from_secret(alloc, b"secret")?;
-    let validation = Validation::new(alloc, Algorithm::HS256)?;
-    let data: TokenData<Value> = decode(
-        alloc,
-        &HmacProvider,
-        token.as_bytes(),
-        &key,
-        &validation,
-        0,
-    )?;
+    let key = secret_key(alloc)?;
+    let validation = new_validation(alloc, Algorithm::HS256)?;
+    let data = decoded(alloc, &HmacProvider, token.as_bytes(), &key, &validation, 0)?;
     assert!(rt; matches!(data.header.zip, Some(Zip::Deflate)));
     Ok(())
 }
