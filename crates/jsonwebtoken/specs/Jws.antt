@@ -1,7 +1,7 @@
 -- A token in parts as JSON (RFC 7515 section 7.2.2), and when such a token is accepted.
-use Rattle.std.specs.Prelude.{◌≡◌, ◌↔◌, ◌≤◌, ℕ, List, Option, Some, option_and_then, codes, string_bytes}
+use Rattle.std.specs.Prelude.{◌≡◌, ◌↔◌, ◌≤◌, ℕ, List, Some, codes, string_bytes}
 use Rattle.serde_json.specs.Data.{Data, string, object, no_members, put}
-use Rattle.serde_json.specs.Find.{get, as_str}
+use Rattle.jwt_base.specs.Members.{text_at}
 use Rattle.jwt_validation.specs.Options.{Options}
 use Rattle.jwt_validation.specs.Moments.{end_of_time, Looser}
 use Rattle.jsonwebtoken.specs.declared.jws.Jws.{Jws}
@@ -13,10 +13,6 @@ use Rattle.jsonwebtoken.specs.Tests.{Call, Cut, Parts, Things, Passes, jws_order
 -- the parts of a token
 abbrev pub parts_of : {C : Type 0} → Jws C → Cut
 parts_of j = record { header = string_bytes j.protected; payload = string_bytes j.payload; signature = string_bytes j.signature }
-
--- the text at the name
-abbrev pub text_at : List ℕ → Data → Option (List ℕ)
-text_at k d = option_and_then as_str (get k d)
 
 -- the value has the three texts
 pub record ReadsParts (d : Data) (c : Cut) : Type 0 where

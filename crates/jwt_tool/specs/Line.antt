@@ -29,10 +29,14 @@ without_final_newline xs = if slice_index xs (length xs - 1) == 10 then take (le
 abbrev pub IsRefusal : Kind → ℕ → List ℕ → Type 0
 IsRefusal k status line = (line ≡ text_of k) × (status ≡ 1)
 
+-- a value's JSON text
+abbrev pub IsText : Data → ℕ → List ℕ → Type 0
+IsText value status line = (line ≡ compact_text value) × (status ≡ 0)
+
 -- a value's JSON text; one that holds a float has none
 abbrev pub ValueLine : Data → ℕ → List ℕ → Type 0
 ValueLine value status line =
-    ((has_float value ≡ false) × ((line ≡ compact_text value) × (status ≡ 0)))
+    ((has_float value ≡ false) × IsText value status line)
     ⊎ ((has_float value ≡ true) × IsRefusal kind.Json status line)
 
 -- what the header of the input's token is written as
@@ -42,7 +46,7 @@ IsHeaderValue input value = (t : Things) × Passes (header_call input) header_or
 -- the token's header, or the kind of its first failed test
 abbrev pub HeaderLine : List ℕ → ℕ → List ℕ → Type 0
 HeaderLine input status line =
-    ((value : Data) × IsHeaderValue input value × ValueLine value status line)
+    ((value : Data) × IsHeaderValue input value × IsText value status line)
     ⊎ ((k : Kind) × FirstFailed (header_call input) header_order k × IsRefusal k status line)
 
 -- the input's token, checked by HMAC with a secret at a moment, as a validation of that one algorithm asks at first
@@ -105,8 +109,8 @@ Answers words input status line = Line words input status line ⊎ IsMemoryLine 
 abbrev pub RequestAnswer : Request → List ℕ → ℕ → List ℕ → Type 0
 RequestAnswer request input status line = RequestLine request input status line ⊎ IsMemoryLine status line
 
--- for private clauses: the line of a value that is so, or of a refusal of such a kind, or want of memory
-abbrev pub ValueAnswer : (Data → Type 0) → (Kind → Type 0) → ℕ → List ℕ → Type 0
-ValueAnswer P K status line =
-    (((value : Data) × P value × ValueLine value status line) ⊎ ((k : Kind) × K k × IsRefusal k status line))
+-- for private clauses: such a line of a value that is so, or a refusal of such a kind, or want of memory
+abbrev pub ValueAnswer : (Data → ℕ → List ℕ → Type 0) → (Data → Type 0) → (Kind → Type 0) → ℕ → List ℕ → Type 0
+ValueAnswer L P K status line =
+    (((value : Data) × P value × L value status line) ⊎ ((k : Kind) × K k × IsRefusal k status line))
     ⊎ IsMemoryLine status line

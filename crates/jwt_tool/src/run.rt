@@ -1,13 +1,14 @@
 //! From the words and the input to the line.
 
-ghost use Rattle.std.specs.Prelude.{◌≡◌, ◌⊎◌, None, ◌++◌, ◌∷◌, [], ℕ, List, IfOk, IfErr, IfSome, OnOk, map, string_bytes};
+ghost use Rattle.std.specs.Prelude.{◌≡◌, ◌⊎◌, None, false, ◌++◌, ◌∷◌, [], ℕ, List, IfOk, IfErr, IfSome, OnOk, map, string_bytes};
 ghost use Rattle.std.specs.Io.KnownBytes.{Appends};
 ghost use Rattle.serde_json.specs.View.{view};
+ghost use Rattle.serde_json.specs.Written.{has_float};
 ghost use Rattle.jwt_base.specs.KindOf.{kind_of, IsMemory};
 ghost use Rattle.jsonwebtoken.specs.Tests.{FirstFailed, header_order, header_call, decode_order};
 ghost use Rattle.jwt_tool.specs.Asked.{asked};
 ghost use Rattle.jwt_tool.specs.Words.{request_of};
-ghost use Rattle.jwt_tool.specs.Line.{Answers, RequestAnswer, ValueAnswer, ValueLine, IsRefusal, IsHeaderValue, IsClaimsValue, hmac_call, IsToken, HasTokenFault, TokenLine, IsMemoryLine, IsUsage, without_final_newline};
+ghost use Rattle.jwt_tool.specs.Line.{Answers, RequestAnswer, ValueAnswer, ValueLine, IsText, IsRefusal, IsHeaderValue, IsClaimsValue, hmac_call, IsToken, HasTokenFault, TokenLine, IsMemoryLine, IsUsage, without_final_newline};
 
 use crate::command::{Command, requested_command};
 use crate::fault::ToolFault;
@@ -108,11 +109,11 @@ fn command_answer(
 
 /// The header's JSON text, or the refusal's text.
 fn header_answer(alloc: Global, input: &[u8]) -> std::result::Result<Answer, ToolFault>
-    ensures { IfOk result (λ a. ValueAnswer (IsHeaderValue input.now)
+    ensures { IfOk result (λ a. ValueAnswer IsText (IsHeaderValue input.now)
         (λ k. FirstFailed (header_call input.now) header_order k) a.status (string_bytes a.line)) }
 {
     match header_value(alloc, input) {
-        Ok(value) => value_answer(alloc, &value),
+        Ok(value) => text_answer(alloc, &value),
         Err(e) => refusal_answer(alloc, &e),
     }
 }
@@ -141,7 +142,7 @@ fn claims_answer(
     now: u64,
     input: &[u8],
 ) -> std::result::Result<Answer, ToolFault>
-    ensures { IfOk result (λ a. ValueAnswer (IsClaimsValue input.now algorithm secret.now now)
+    ensures { IfOk result (λ a. ValueAnswer ValueLine (IsClaimsValue input.now algorithm secret.now now)
         (λ k. FirstFailed (hmac_call input.now algorithm secret.now now) decode_order k) a.status (string_bytes a.line)) }
 {
     match claims_value(alloc, algorithm, secret, now, input) {
@@ -157,6 +158,14 @@ fn value_answer(alloc: Global, value: &Value) -> std::result::Result<Answer, Too
     if has_float(value) {
         return refusal_answer(alloc, &new_error(ErrorKind::Json));
     }
+    text_answer(alloc, value)
+}
+
+/// The compact JSON text of a value without a float.
+fn text_answer(alloc: Global, value: &Value) -> std::result::Result<Answer, ToolFault>
+    requires { has_float (view value.now) ≡ false }
+    ensures { IfOk result (λ a. IsText (view value.now) a.status (string_bytes a.line)) }
+{
     match value.to_string(alloc) {
         Ok(line) => Ok(Answer { status: 0, line }),
         Err(_) => Err(ToolFault::Memory),
@@ -175,6 +184,7 @@ fn refusal_answer(alloc: Global, e: &Error) -> std::result::Result<Answer, ToolF
 
 fn header_value(alloc: Global, input: &[u8]) -> Result<Value>
     ensures ok { IfOk result (λ v. IsHeaderValue input.now (view v)) }
+    ensures no_float { IfOk result (λ v. has_float (view v) ≡ false) }
     ensures err { IfErr result (λ e. IsMemory e ⊎ FirstFailed (header_call input.now) header_order (kind_of e)) }
 {
     let header = decode_header(alloc, input)?;

@@ -6,7 +6,7 @@ use Rattle.jwt_tool.proofs.run.header_answer.Goals as goal
 
 pub returns-in-Ok : goal.returns-in-Ok
 returns-in-Ok c =
-    IfOk-weaker c.value_answer.result _ _ (λ a says. inl (inl (_, c.in-Ok.ensures.ok, says))) c.value_answer.ensures
+    IfOk-weaker c.text_answer.result _ _ (λ a says. inl (inl (_, c.in-Ok.ensures.ok, says))) c.text_answer.ensures
 
 pub returns-in-Err : goal.returns-in-Err
 returns-in-Err c =
