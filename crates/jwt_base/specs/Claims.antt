@@ -1,8 +1,17 @@
--- What claims values of the plain types are read from.
-use Rattle.std.specs.Prelude.{◌≡◌, ℕ, ◌<◌, ◌^◌, List, Bool, ℤ, pos, Some, option_and_then, FitsSigned}
+-- What text claims are written as, and what claims values of the plain types are read from.
+use Rattle.std.specs.Prelude.{◌≡◌, ℕ, ◌<◌, ◌≤◌, ◌^◌, List, Bool, false, ℤ, pos, Some, option_and_then, FitsSigned}
 use Rattle.std.specs.Int.{Width}
-use Rattle.serde_json.specs.Data.{Data}
+use Rattle.serde_json.specs.Data.{Data, depth}
+use Rattle.serde_json.specs.Read.{max_depth}
+use Rattle.serde_json.specs.Written.{compact_text, has_float}
+use Rattle.jwt_base.specs.JsonText.{IsJson}
 use Rattle.serde_json.specs.Find.{as_str, as_bool, as_number, as_integer}
+
+-- the value holds no float, and this is its compact text, which reads back where it nests no deeper than is read
+pub record IsCompact (d : Data) (text : List ℕ) : Type 0 where
+  pub no_float : has_float d ≡ false
+  pub is_text : text ≡ compact_text d
+  pub reads_back : depth d ≤ max_depth → IsJson text d
 
 -- the value is this text
 abbrev pub IsText : Data → List ℕ → Type 0

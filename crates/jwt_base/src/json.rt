@@ -4,5 +4,5 @@ pub mod claims;
 pub mod equality;
 pub mod members;
 
-pub use claims::Claims;
+pub use claims::{Claims, value_text};
 pub use equality::{has_float, value_eq};

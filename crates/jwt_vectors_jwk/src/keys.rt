@@ -9,9 +9,13 @@ use std::alloc::Global;
 use std::process::Abort;
 use std::test::Fail;
 
-fn key_of(alloc: Global, text: &str) -> Answer<Jwk> {
+fn key_of(alloc: Global, text: &str) -> Answer<Box<Jwk>> {
     let value = Value::from_str(alloc, text)?;
-    Jwk::from_value(alloc, &value)
+    Ok(Box::new(alloc, Jwk::from_value(alloc, &value)?)?)
+}
+
+fn text_of(alloc: Global, key: &Jwk) -> Answer<String> {
+    Ok(key.to_value(alloc)?.to_string(alloc)?)
 }
 
 fn kind_of(key: &Jwk) -> &'static str {
@@ -29,7 +33,7 @@ fn rewritten(alloc: Global, text: &str) -> Answer<String> {
     match key_of(alloc, text) {
         Ok(key) => {
             let kind = kind_of(&key);
-            let written = key.to_value(alloc)?.to_string(alloc)?;
+            let written = text_of(alloc, &key)?;
             Ok(format!(in alloc; "{kind} {written}")?)
         }
         Err(refusal) => Ok(format!(in alloc; "{refusal}")?),
@@ -313,7 +317,20 @@ fn an_algorithm_that_is_not_known_is_supported_by_nothing(rt: HostRuntime) -> Re
         )
     );
     assert!(rt; !key.is_supported());
-    let own = key.algorithm.to_value(rt.alloc())?.to_string(rt.alloc())?;
+    Ok(())
+}
+
+fn own_text(alloc: Global, key: &Jwk) -> Answer<String> {
+    Ok(key.algorithm.to_value(alloc)?.to_string(alloc)?)
+}
+
+#[test]
+fn the_common_members_are_no_parameters(rt: HostRuntime) -> Result<(), Fail> {
+    let key = key_of(
+        rt.alloc(),
+        "{\"kid\":\"a\",\"kty\":\"AKP\",\"alg\":\"ML-DSA-44\",\"pub\":\"...\",\"priv\":\"AA\"}",
+    )?;
+    let own = own_text(rt.alloc(), &key)?;
     assert_eq!(rt;
         own.as_str(),
         "{\"kty\":\"AKP\",\"priv\":\"AA\",\"pub\":\"...\"}"

@@ -15,11 +15,19 @@ use std::alloc::Global;
 use std::process::Abort;
 use std::test::Fail;
 
+fn common_of(alloc: Global, text: &str) -> Answer<Box<CommonParameters>> {
+    let value = Value::from_str(alloc, text)?;
+    Ok(Box::new(alloc, CommonParameters::from_value(alloc, &value)?)?)
+}
+
+fn common_text(alloc: Global, common: &CommonParameters) -> Answer<String> {
+    Ok(common.to_value(alloc)?.to_string(alloc)?)
+}
+
 // The parameters of a JSON text, written, or the refusal's text.
 fn common_again(alloc: Global, text: &str) -> Answer<String> {
-    let value = Value::from_str(alloc, text)?;
-    match CommonParameters::from_value(alloc, &value) {
-        Ok(common) => Ok(common.to_value(alloc)?.to_string(alloc)?),
+    match common_of(alloc, text) {
+        Ok(common) => common_text(alloc, &common),
         Err(refusal) => Ok(format!(in alloc; "{refusal}")?),
     }
 }
@@ -41,11 +49,23 @@ fn common_parameters_ignore_further_members(rt: HostRuntime) -> Result<(), Fail>
 
 #[test]
 fn nothing_is_there_at_first(rt: HostRuntime) -> Result<(), Fail> {
-    let common = CommonParameters::default();
-    let written = common.to_value(rt.alloc())?.to_string(rt.alloc())?;
+    let alloc = rt.alloc();
+    let common = Box::new(alloc, CommonParameters::default())?;
+    let written = common_text(alloc, &common)?;
     assert_eq!(rt; written.as_str(), "{}");
-    let copy = common.clone(rt.alloc())?;
-    assert!(rt; copy == common);
+    Ok(())
+}
+
+fn copy_of(alloc: Global, common: &CommonParameters) -> Answer<Box<CommonParameters>> {
+    Ok(Box::new(alloc, common.clone(alloc)?)?)
+}
+
+#[test]
+fn a_copy_of_common_parameters_is_the_same(rt: HostRuntime) -> Result<(), Fail> {
+    let alloc = rt.alloc();
+    let common = common_of(alloc, "{\"kid\":\"a\",\"x5c\":[\"b\"]}")?;
+    let copy = copy_of(alloc, &common)?;
+    assert!(rt; *copy == *common);
     Ok(())
 }
 

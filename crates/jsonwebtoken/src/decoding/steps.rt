@@ -124,7 +124,8 @@ fn check_signature<V: JwtVerifier>(alloc: Global, verifier: &V, pieces: &Pieces<
     check_verdict(alloc, verifier, pieces.message, bytes.as_slice())
 }
 
-/// The claims that a payload part stands for. Its one JSON value is lent to the claims and then to the rules.
+/// The claims that a payload part stands for. Its one JSON value is lent to the rules and then given up to the claims,
+/// whose refusal comes first.
 fn read_claims<T: Claims>(
     alloc: Global,
     part: &[u8],
@@ -136,8 +137,9 @@ fn read_claims<T: Claims>(
 {
     let bytes = part_bytes(alloc, part)?;
     let value = json_value(alloc, bytes.as_slice())?;
-    let claims = T::from_value(alloc, &value)?;
-    validate(alloc, &value, validation, now)?;
+    let rules = validate(alloc, &value, validation, now);
+    let claims = T::from_owned(alloc, value)?;
+    rules?;
     Ok(claims)
 }
 
@@ -163,6 +165,6 @@ pub(crate) fn read_payload<T: Claims>(alloc: Global, part: &[u8]) -> Result<T>
 {
     let bytes = part_bytes(alloc, part)?;
     let value = json_value(alloc, bytes.as_slice())?;
-    let claims = T::from_value(alloc, &value)?;
+    let claims = T::from_owned(alloc, value)?;
     Ok(claims)
 }

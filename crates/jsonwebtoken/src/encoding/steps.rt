@@ -17,7 +17,7 @@ ghost use Rattle.jsonwebtoken.specs.Tests.{dot};
 
 use jwt_base::algorithms::Algorithm;
 use jwt_base::errors::{ErrorKind, Result, new_error};
-use jwt_base::json::{Claims, has_float};
+use jwt_base::json::Claims;
 use jwt_base::serialization::part_text;
 use jwt_header::header::Header;
 use jwt_keys::crypto::JwtSigner;
@@ -64,11 +64,8 @@ pub(crate) fn claims_part<T: Claims>(alloc: Global, claims: &T) -> Result<String
     ensures err { IfErr result (RefusesAs kind.Json
         ((v : Option Data) → ¬ AreWritten (WrittenAs (T.written claims.now)) v)) }
 {
-    let value = claims.to_value(alloc)?;
-    if has_float(&value) {
-        return Err(new_error(ErrorKind::Json));
-    }
-    let part = value_part(alloc, &value)?;
+    let text = claims.to_text(alloc)?;
+    let part = part_text(alloc, text.as_slice())?;
     Ok(part)
 }
 

@@ -1,16 +1,18 @@
 //! Values that are read from JSON and written as JSON.
 
-ghost use Rattle.std.specs.Prelude.{◌≡◌, Option, Some, None, IfOk, IfErr, option_map, string_bytes};
+ghost use Rattle.std.specs.Prelude.{◌≡◌, Option, Some, None, true, IfOk, IfErr, option_map, string_bytes};
 ghost use Rattle.std.proofs.Common.{◌∙◌, sym, ap};
 ghost use Rattle.std.specs.Int.{w32, w64};
 ghost use Rattle.serde_json.specs.Data.{Data, boolean, string, number, unsigned};
 ghost use Rattle.serde_json.specs.Find.{of_integer};
 ghost use Rattle.serde_json.specs.View.{view};
+ghost use Rattle.serde_json.specs.Written.{has_float as holds_float};
 ghost use Rattle.jwt_base.specs.Kind as kind;
 ghost use Rattle.jwt_base.specs.KindOf.{IsMemory, RefusesAs};
-ghost use Rattle.jwt_base.specs.Claims.{IsText, IsTruth, IsUnsigned, IsSigned};
+ghost use Rattle.jwt_base.specs.Claims.{IsCompact, IsText, IsTruth, IsUnsigned, IsSigned};
 
 use crate::errors::{ErrorKind, Result, new_error};
+use crate::json::equality::has_float;
 use serde_json::Value;
 use std::alloc::Global;
 
@@ -33,11 +35,39 @@ pub trait Claims: Sized + Drop {
         ensures ok { IfOk result (λ c. reads (view value.now) c) }
         ensures err { IfErr result (RefusesAs kind.Json ((c : Self) → ¬ reads (view value.now) c)) };
 
+    /// The same of a value that is given up, and need not be copied.
+    fn from_owned(alloc: Global, value: Value) -> Result<Self>
+        ensures ok { IfOk result (λ c. reads (view value) c) }
+        ensures err { IfErr result (RefusesAs kind.Json ((c : Self) → ¬ reads (view value) c)) }
+    {
+        Self::from_value(alloc, &value)
+    }
+
+    /// The compact JSON text. Claims that cannot be written and those with a float in them are refused with `Json`.
+    fn to_text(&self, alloc: Global) -> Result<Vec<u8>>
+        ensures ok { IfOk result (λ t. (d : Data) × ((written self.now ≡ Some d) × IsCompact d t.items)) }
+        ensures err { IfErr result (RefusesAs kind.Json ((d : Data) → written self.now ≡ Some d → holds_float d ≡ true)) }
+    {
+        let value = self.to_value(alloc)?;
+        value_text(alloc, &value)
+    }
+
     /// What is read from one value is written alike.
     ghost decided: { (d : Data) (b c : Self) → reads d b → reads d c → written b ≡ written c };
 }
 
-/// A copy.
+/// The value's compact JSON text. A value with a float in it is refused with `Json`.
+pub fn value_text(alloc: Global, value: &Value) -> Result<Vec<u8>>
+    ensures ok { IfOk result (λ t. IsCompact (view value.now) t.items) }
+    ensures err { IfErr result (RefusesAs kind.Json (holds_float (view value.now) ≡ true)) }
+{
+    if has_float(value) {
+        return Err(new_error(ErrorKind::Json));
+    }
+    Ok(value.to_vec(alloc)?)
+}
+
+/// A copy, or the value itself where it is given up.
 impl Claims for Value {
     ghost reads = { λ d v. view v ≡ d };
 
@@ -49,6 +79,14 @@ impl Claims for Value {
 
     fn from_value(_alloc: Global, value: &Value) -> Result<Value> {
         Ok(value.clone()?)
+    }
+
+    fn from_owned(_alloc: Global, value: Value) -> Result<Value> {
+        Ok(value)
+    }
+
+    fn to_text(&self, alloc: Global) -> Result<Vec<u8>> {
+        value_text(alloc, self)
     }
 
     ghost decided = { λ d b c p q. ap Some (p ∙ sym q) };

@@ -26,18 +26,18 @@ returns-in_err-claims g c =
       inr (c.in_ok-bytes.ensures.ok, inr (json, inl (none.1, none.0))),
     )) c.in_err-claims.ensures.err)
 
-pub returns-in_err-validate : goal.returns-in_err-validate
-returns-in_err-validate g c =
-    let p = err_from_is_err_and c.from_residual-in_err-validate.result c.from_residual-in_err-validate.ensures.1 in
+pub returns-in_err-rules : goal.returns-in_err-rules
+returns-in_err-rules g c =
+    let p = err_from_is_err_and c.from_residual-in_err-rules.result c.from_residual-in_err-rules.ensures.1 in
     let json = rw c.as_slice.ensures.value at c.in_ok-value.ensures.ok in
     let t = record nothing { payload_bytes = c.in_ok-bytes.bytes.items; payload_value = view c.in_ok-value.value } in
     rw (p.1, p.2) (or_memory (λ f. (t, inr (c.in_ok-bytes.ensures.ok, inr (json, inr ((_, c.in_ok-claims.ensures.ok), f)))))
-    (rules_failed (claiming g.T.Claims.reads (options_of c.args.validation.now) c.args.now) t _ c.in_err-validate.ensures.err))
+    (rules_failed (claiming g.T.Claims.reads (options_of c.args.validation.now) c.args.now) t _ c.in_err-rules.ensures.err))
 
 pub returns : goal.returns
 returns g c =
     let json = rw c.as_slice.ensures.value at c.in_ok-value.ensures.ok in
-    let held = c.in_ok-validate.ensures.ok.0 refl in (
+    let held = c.in_ok-rules.ensures.ok.0 refl in (
       record nothing { payload_bytes = c.in_ok-bytes.bytes.items; payload_value = view c.in_ok-value.value },
       (c.in_ok-bytes.ensures.ok, (json, ((_, c.in_ok-claims.ensures.ok), (held.0, (held.1, tt))))),
       c.in_ok-claims.ensures.ok,
