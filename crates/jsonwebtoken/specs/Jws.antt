@@ -1,5 +1,5 @@
 -- A token in parts as JSON (RFC 7515 section 7.2.2), and when such a token is accepted.
-use Rattle.std.specs.Prelude.{◌≡◌, ◌↔◌, ◌≤◌, ℕ, List, Some, codes, string_bytes}
+use Rattle.std.specs.Prelude.{◌≡◌, ◌↔◌, ◌≤◌, ℕ, Some, codes, string_bytes}
 use Rattle.serde_json.specs.Data.{Data, string, object, no_members, put}
 use Rattle.jwt_base.specs.Members.{text_at}
 use Rattle.jwt_validation.specs.Options.{Options}

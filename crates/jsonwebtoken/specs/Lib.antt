@@ -6,6 +6,7 @@ pub mod Laws
 pub mod Order
 pub mod Steps
 pub mod Tests
+pub mod Usual
 pub use Rattle.jwt_base.specs.Kind
 pub use Rattle.jwt_base.specs.KindOf
 pub use Rattle.jwt_base.specs.Algorithm

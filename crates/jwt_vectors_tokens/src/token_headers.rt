@@ -49,6 +49,52 @@ fn a_signed_token_has_its_header(rt: HostRuntime) -> std::result::Result<(), Fai
     Ok(())
 }
 
+// What the header of this part is written as, or the refusal's text.
+fn rewritten(alloc: Global, part: &str) -> Result<String> {
+    let token = format!(in alloc; "{part}.e30.")?;
+    match header_of(alloc, token.as_bytes()) {
+        Ok(header) => text_of(alloc, &header),
+        Err(refusal) => Ok(refusal.to_string(alloc)?),
+    }
+}
+
+#[test]
+fn the_usual_headers_are_read_as_any_other(rt: HostRuntime) -> std::result::Result<(), Fail> {
+    for (part, answer) in [
+        (
+            "eyJhbGciOiJIUzI1NiIsInR5cCI6IkpXVCJ9",
+            "{\"alg\":\"HS256\",\"typ\":\"JWT\"}",
+        ),
+        (
+            "eyJ0eXAiOiJKV1QiLCJhbGciOiJIUzI1NiJ9",
+            "{\"alg\":\"HS256\",\"typ\":\"JWT\"}",
+        ),
+        (
+            "eyJhbGciOiJSUzI1NiIsInR5cCI6IkpXVCJ9",
+            "{\"alg\":\"RS256\",\"typ\":\"JWT\"}",
+        ),
+        (
+            "eyJhbGciOiJFUzI1NiIsInR5cCI6IkpXVCJ9",
+            "{\"alg\":\"ES256\",\"typ\":\"JWT\"}",
+        ),
+        (
+            "eyJhbGciOiJFZERTQSIsInR5cCI6IkpXVCJ9",
+            "{\"alg\":\"EdDSA\",\"typ\":\"JWT\"}",
+        ),
+        (
+            "eyJhbGciOiJQUzI1NiIsInR5cCI6IkpXVCJ9",
+            "{\"alg\":\"PS256\",\"typ\":\"JWT\"}",
+        ),
+        ("eyJhbGciOiJIUzI1NiIsInR5cCI6IkpXVCJ9=", "Base64 error"),
+        ("eyJhbGciOiJIUzI1NiIsInR5cCI6IkpXVCJ", "Base64 error"),
+        ("eyJhbGciOiJIUzI1NiIsInR5cCI6IkpXVCI", "JSON error"),
+    ] {
+        let got = rewritten(rt.alloc(), part)?;
+        assert_eq!(rt; got.as_str(), answer, "{part}");
+    }
+    Ok(())
+}
+
 fn algorithm_of(alloc: Global, token: &[u8]) -> Result<Algorithm> {
     let header = header_of(alloc, token)?;
     Ok(header.alg)

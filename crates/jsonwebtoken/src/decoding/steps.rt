@@ -8,6 +8,7 @@ ghost use Rattle.jsonwebtoken.specs.Steps.{Step, bare, cut_of, with_header_part,
 ghost use Rattle.jsonwebtoken.specs.Tests.{dot, Cut, IsCutOf, header_tests, algorithm_tests, jws_algorithm_tests, signature_tests, payload_tests, claim_tests};
 
 use crate::decoding::checks::{check_families, check_listed, check_some_listed, check_verdict};
+use crate::decoding::usual::usual_algorithm;
 use jwt_base::errors::{ErrorKind, Result, new_error};
 use jwt_base::json::Claims;
 use jwt_base::serialization::{json_value, part_bytes};
@@ -63,10 +64,13 @@ pub(crate) fn parts(token: &[u8]) -> Result<Pieces<'_>>
     }
 }
 
-/// The header that a header part stands for.
+/// The header that a header part stands for. The usual ones are known without being read.
 pub(crate) fn read_header(alloc: Global, part: &[u8]) -> Result<Header>
     ensures { Step bare header_tests (with_header_part part.now) (λ x h. x.header ≡ h) result }
 {
+    if let Some(algorithm) = usual_algorithm(part) {
+        return Header::new(alloc, algorithm);
+    }
     let bytes = part_bytes(alloc, part)?;
     let value = json_value(alloc, bytes.as_slice())?;
     Header::from_value(alloc, &value)

@@ -1,10 +1,18 @@
-use Rattle.std.proofs.Common.{◌≡◌, inl, inr, refl}
-use Rattle.std.proofs.lemmas.Result.{err_from_is_err_and}
+use Rattle.std.proofs.Common.{◌≡◌, inl, inr, refl, sym}
+use Rattle.std.proofs.lemmas.Result.{err_from_is_err_and, IfErr-weaker}
 use Rattle.serde_json.specs.View.{view}
+use Rattle.jwt_header.specs.Header.{new_header}
 use Rattle.jsonwebtoken.specs.Steps.{nothing, bare, with_header_part}
 use Rattle.jsonwebtoken.specs.Tests.{header_tests}
 use Rattle.jsonwebtoken.proofs.Exits.{or_memory, step_tail}
 use Rattle.jsonwebtoken.proofs.decoding.steps.read_header.Goals as goal
+
+pub returns-in-Some : goal.returns-in-Some
+returns-in-Some c =
+    let u = c.in-Some.ensures in
+    step_tail bare header_tests (with_header_part c.args.part.now) (λ x h. x.header ≡ h) {Q = λ e. ⊥} c.new.result c.new.ensures.ok (IfErr-weaker c.new.result _ _ (λ e m. inl m) c.new.ensures.err)
+    (λ h is. (record nothing { header_bytes = u.bytes; header_value = u.value; header = new_header c.in-Some.algorithm }, (u.is_part, (u.is_json, (u.reads, tt))), sym is))
+    (λ e none. absurd none)
 
 pub returns-in_err-bytes : goal.returns-in_err-bytes
 returns-in_err-bytes c =
