@@ -155,6 +155,31 @@ fn a_header_is_a_json_object_with_an_algorithm(rt: HostRuntime) -> std::result::
     Ok(())
 }
 
+/// A header whose member nests this many lists.
+fn nested(alloc: Global, lists: usize) -> Result<String> {
+    let mut text = String::from_str(alloc, "{\"alg\":\"HS256\",\"v\":")?;
+    for _ in 0..lists {
+        text.push('[')?;
+    }
+    for _ in 0..lists {
+        text.push(']')?;
+    }
+    text.push('}')?;
+    Ok(text)
+}
+
+#[test]
+fn a_member_nests_100_lists_and_not_200(rt: HostRuntime) -> std::result::Result<(), Fail> {
+    let alloc = rt.alloc();
+    let kept = nested(alloc, 100)?;
+    let header = header_of(alloc, token(alloc, kept.as_str())?.as_bytes())?;
+    let text = text_of(alloc, &header)?;
+    assert_eq!(rt; text.as_str(), kept.as_str());
+    let deeper = token(alloc, nested(alloc, 200)?.as_str())?;
+    assert!(rt; is_refused(alloc, deeper.as_bytes(), ErrorKind::Json));
+    Ok(())
+}
+
 #[test]
 fn a_type_may_be_absent_or_null(rt: HostRuntime) -> std::result::Result<(), Fail> {
     let alloc = rt.alloc();
