@@ -6,4 +6,4 @@ pub mod LawsOf
 pub mod OneCut
 pub mod Orders
 pub mod Repeats
-pub mod Usual
+pub mod UsualParts

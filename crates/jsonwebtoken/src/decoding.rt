@@ -12,7 +12,6 @@ ghost use Rattle.jsonwebtoken.specs.Tests.{Compact, Things, Passes, FirstFailed,
 mod checks;
 pub(crate) mod crit;
 pub(crate) mod steps;
-mod usual;
 
 use crate::decoding::crit::check_crit;
 use crate::decoding::steps::{make_verifier, parts, read_header, verified_claims};

@@ -7,6 +7,7 @@ mod decoding;
 mod encoding;
 pub mod jwk;
 pub mod jws;
+mod usual;
 
 pub use decoding::{TokenData, decode, decode_header};
 pub use encoding::encode;

@@ -8,7 +8,7 @@ ghost use Rattle.jsonwebtoken.specs.Steps.{Step, bare, cut_of, with_header_part,
 ghost use Rattle.jsonwebtoken.specs.Tests.{dot, Cut, IsCutOf, header_tests, algorithm_tests, jws_algorithm_tests, signature_tests, payload_tests, claim_tests};
 
 use crate::decoding::checks::{check_families, check_listed, check_some_listed, check_verdict};
-use crate::decoding::usual::usual_algorithm;
+use crate::usual::usual_algorithm;
 use jwt_base::errors::{ErrorKind, Result, new_error};
 use jwt_base::json::Claims;
 use jwt_base::serialization::{json_value, part_bytes};

@@ -15,6 +15,7 @@ ghost use Rattle.jsonwebtoken.specs.IssueSteps.{IsPartOf, IsPayloadOf};
 ghost use Rattle.jsonwebtoken.specs.Steps.{Decides};
 ghost use Rattle.jsonwebtoken.specs.Tests.{dot};
 
+use crate::usual::usual_part;
 use jwt_base::algorithms::Algorithm;
 use jwt_base::errors::{ErrorKind, Result, new_error};
 use jwt_base::json::Claims;
@@ -45,13 +46,16 @@ fn value_part(alloc: Global, value: &Value) -> Result<String>
     part_text(alloc, text.as_slice())
 }
 
-/// The header part.
+/// The header part. The usual ones are known without being written.
 pub(crate) fn header_part(alloc: Global, header: &Header) -> Result<String>
     ensures ok { IfOk result (λ t. (d : Data)
         × ((header_value header.now ≡ Some d) × IsPartOf d (string_bytes t))) }
     ensures err { IfErr result (RefusesAs kind.Json (header_value header.now ≡ None)) }
     ensures normal_form { HasNormalForm header.now }
 {
+    if let Some(part) = usual_part(header) {
+        return Ok(String::from_str(alloc, part)?);
+    }
     let value = header.to_value(alloc)?;
     let part = value_part(alloc, &value)?;
     Ok(part)
