@@ -115,7 +115,7 @@ module _ (issue : Issue) (accepts : Algorithm → Key → List ℕ → List ℕ 
       let reads : ReadsHeader t.header_value (normal_header issue.header) = (normal.reads_back t.header_value written (normal_header issue.header)).1 refl in
       record {
         things = things_of a v;
-        passed = (cut, (header.part, (header.reads_back deep_h, (reads, (a.signature, (payload.part, (payload.reads_back deep_v, tt)))))));
+        passed = (cut, (header.part, (header.compact.reads_back deep_h, (reads, (a.signature, (payload.part, (payload.compact.reads_back deep_v, tt)))))));
         header = refl;
         claims = refl;
         accepted = λ key law. law _ _ a.signed;

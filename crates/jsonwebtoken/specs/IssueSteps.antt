@@ -1,10 +1,9 @@
 -- For private clauses: what a step of a call that issues a token tells of its tests.
-use Rattle.std.specs.Prelude.{◌≡◌, ◌≤◌, ℕ, List, [], Option, Some, None, Result}
-use Rattle.serde_json.specs.Data.{Data, depth}
-use Rattle.serde_json.specs.Read.{max_depth}
+use Rattle.std.specs.Prelude.{◌≡◌, ℕ, List, [], Option, Some, None, Result}
+use Rattle.serde_json.specs.Data.{Data}
 use Rattle.serde_json.specs.Written.{compact_text}
 use Rattle.jwt_base.specs.Base64Url.{IsPart}
-use Rattle.jwt_base.specs.JsonText.{IsJson}
+use Rattle.jwt_base.specs.Claims.{IsCompact}
 use Rattle.jwt_base.specs.Kind.{Kind}
 use Rattle.jwt_base.specs.declared.errors.Error.{Error}
 use Rattle.jsonwebtoken.specs.Order.{FailedAt}
@@ -12,10 +11,10 @@ use Rattle.jsonwebtoken.specs.Steps.{Meets}
 use Rattle.jsonwebtoken.specs.Issue.{Issue, IssueTest, KeyFitsAlgorithm, SignerIsMade, HeaderIsWritten, ClaimsAreWritten, MessageIsSigned, Written, AreWritten, IssueCondition, IssueKind, IssuePasses}
 use Rattle.jwt_header.specs.Header.{header_value}
 
--- the part that stands for the value's compact text, which reads back where it nests no deeper than is read
+-- the part that stands for the value's compact text
 pub record IsPartOf (d : Data) (text : List ℕ) : Type 0 where
   pub part : IsPart text (compact_text d)
-  pub reads_back : depth d ≤ max_depth → IsJson (compact_text d) d
+  pub compact : IsCompact d (compact_text d)
 
 -- the same of a payload, which without claims is empty
 abbrev pub IsPayloadOf : Option Data → List ℕ → Type 0

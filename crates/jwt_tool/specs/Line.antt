@@ -30,13 +30,13 @@ abbrev pub IsRefusal : Kind → ℕ → List ℕ → Type 0
 IsRefusal k status line = (line ≡ text_of k) × (status ≡ 1)
 
 -- a value's JSON text
-abbrev pub IsText : Data → ℕ → List ℕ → Type 0
-IsText value status line = (line ≡ compact_text value) × (status ≡ 0)
+abbrev pub IsValueText : Data → ℕ → List ℕ → Type 0
+IsValueText value status line = (line ≡ compact_text value) × (status ≡ 0)
 
 -- a value's JSON text; one that holds a float has none
 abbrev pub ValueLine : Data → ℕ → List ℕ → Type 0
 ValueLine value status line =
-    ((has_float value ≡ false) × IsText value status line)
+    ((has_float value ≡ false) × IsValueText value status line)
     ⊎ ((has_float value ≡ true) × IsRefusal kind.Json status line)
 
 -- what the header of the input's token is written as
@@ -46,7 +46,7 @@ IsHeaderValue input value = (t : Things) × Passes (header_call input) header_or
 -- the token's header, or the kind of its first failed test
 abbrev pub HeaderLine : List ℕ → ℕ → List ℕ → Type 0
 HeaderLine input status line =
-    ((value : Data) × IsHeaderValue input value × IsText value status line)
+    ((value : Data) × IsHeaderValue input value × IsValueText value status line)
     ⊎ ((k : Kind) × FirstFailed (header_call input) header_order k × IsRefusal k status line)
 
 -- the input's token, checked by HMAC with a secret at a moment, as a validation of that one algorithm asks at first

@@ -8,7 +8,7 @@ ghost use Rattle.jwt_base.specs.KindOf.{kind_of, IsMemory};
 ghost use Rattle.jsonwebtoken.specs.Tests.{FirstFailed, header_order, header_call, decode_order};
 ghost use Rattle.jwt_tool.specs.Asked.{asked};
 ghost use Rattle.jwt_tool.specs.Words.{request_of};
-ghost use Rattle.jwt_tool.specs.Line.{Answers, RequestAnswer, ValueAnswer, ValueLine, IsText, IsRefusal, IsHeaderValue, IsClaimsValue, hmac_call, IsToken, HasTokenFault, TokenLine, IsMemoryLine, IsUsage, without_final_newline};
+ghost use Rattle.jwt_tool.specs.Line.{Answers, RequestAnswer, ValueAnswer, ValueLine, IsValueText, IsRefusal, IsHeaderValue, IsClaimsValue, hmac_call, IsToken, HasTokenFault, TokenLine, IsMemoryLine, IsUsage, without_final_newline};
 
 use crate::command::{Command, requested_command};
 use crate::fault::ToolFault;
@@ -109,7 +109,7 @@ fn command_answer(
 
 /// The header's JSON text, or the refusal's text.
 fn header_answer(alloc: Global, input: &[u8]) -> std::result::Result<Answer, ToolFault>
-    ensures { IfOk result (λ a. ValueAnswer IsText (IsHeaderValue input.now)
+    ensures { IfOk result (λ a. ValueAnswer IsValueText (IsHeaderValue input.now)
         (λ k. FirstFailed (header_call input.now) header_order k) a.status (string_bytes a.line)) }
 {
     match header_value(alloc, input) {
@@ -164,7 +164,7 @@ fn value_answer(alloc: Global, value: &Value) -> std::result::Result<Answer, Too
 /// The compact JSON text of a value without a float.
 fn text_answer(alloc: Global, value: &Value) -> std::result::Result<Answer, ToolFault>
     requires { has_float (view value.now) ≡ false }
-    ensures { IfOk result (λ a. IsText (view value.now) a.status (string_bytes a.line)) }
+    ensures { IfOk result (λ a. IsValueText (view value.now) a.status (string_bytes a.line)) }
 {
     match value.to_string(alloc) {
         Ok(line) => Ok(Answer { status: 0, line }),

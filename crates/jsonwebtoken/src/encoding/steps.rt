@@ -64,7 +64,7 @@ pub(crate) fn header_part(alloc: Global, header: &Header) -> Result<String>
 /// The part of the claims. Claims that cannot be written and those with a float in them are refused with `Json`.
 pub(crate) fn claims_part<T: Claims>(alloc: Global, claims: &T) -> Result<String>
     ensures ok { IfOk result (λ t. (d : Data)
-        × ((T.written claims.now ≡ Some d) × (holds_float d ≡ false) × IsPartOf d (string_bytes t))) }
+        × ((T.written claims.now ≡ Some d) × IsPartOf d (string_bytes t))) }
     ensures err { IfErr result (RefusesAs kind.Json
         ((v : Option Data) → ¬ AreWritten (WrittenAs (T.written claims.now)) v)) }
 {

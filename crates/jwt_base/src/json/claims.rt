@@ -35,7 +35,8 @@ pub trait Claims: Sized + Drop {
         ensures ok { IfOk result (λ c. reads (view value.now) c) }
         ensures err { IfErr result (RefusesAs kind.Json ((c : Self) → ¬ reads (view value.now) c)) };
 
-    /// The same of a value that is given up, and need not be copied.
+    /// What is read from a JSON value that is given up, and need not be copied. Where there is nothing to be read, the
+    /// refusal is `Json`.
     fn from_owned(alloc: Global, value: Value) -> Result<Self>
         ensures ok { IfOk result (λ c. reads (view value) c) }
         ensures err { IfErr result (RefusesAs kind.Json ((c : Self) → ¬ reads (view value) c)) }

@@ -43,7 +43,7 @@ returns-in_err-signature g c =
     let v = c.in_ok-claims_text.ensures.ok in
     let t : Written = record { header_value = h.0; claims_value = Some v.0 } in
     let message : c.as_bytes.result.now ≡ message_to_sign t =
-    c.as_bytes.ensures.value ∙ c.in_ok-message.ensures.ok ∙ rw (c.as_str.ensures.value, h.1.1.part.1, v.1.2.part.1) refl in
+    c.as_bytes.ensures.value ∙ c.in_ok-message.ensures.ok ∙ rw (c.as_str.ensures.value, h.1.1.part.1, v.1.1.part.1) refl in
     let same = c.in_ok-signer.ensures.sign_refusal (message_to_sign t) in
     let no = rw (message, same) at c.in_err-signature.ensures.err in
     rw (p.1, p.2) (or_memory (λ f. (
@@ -55,7 +55,7 @@ returns-in_err-signature g c =
           inr (
             h.1.0,
             inr (
-              (v.0, refl, v.1.0, v.1.1),
+              (v.0, refl, v.1.0, v.1.1.compact.no_float),
               inl ((λ x. not_both _ _ f x), f),
             ),
           ),
@@ -72,17 +72,17 @@ returns g c =
     let t : Written = record { header_value = h.0; claims_value = Some v.0 } in
     let cut : Cut = record { header = string_bytes c.in_ok-header_text.header_text; payload = string_bytes c.in_ok-claims_text.claims_text; signature = string_bytes c.in_ok-signature.signature } in
     let parts : c.as_bytes.result.now ≡ message_of cut = c.as_bytes.ensures.value ∙ c.in_ok-message.ensures.ok ∙ rw c.as_str.ensures.value refl in
-    let message : c.as_bytes.result.now ≡ message_to_sign t = parts ∙ rw (h.1.1.part.1, v.1.2.part.1) refl in
+    let message : c.as_bytes.result.now ≡ message_to_sign t = parts ∙ rw (h.1.1.part.1, v.1.1.part.1) refl in
     let same = c.in_ok-signer.ensures.sign_refusal (message_to_sign t) in
     let unrefused = rw (message, same) at c.in_ok-signature.ensures.ok in
     let signed = (c.in_ok-signer.ensures.signs (message_of cut) s.0).0 (rw parts at s.1.1) in
     let text : string_bytes c.in_ok-token.token ≡ text_of_parts cut =
     c.in_ok-token.ensures.ok ∙ rw (c.as_str-2.ensures.value, c.in_ok-message.ensures.ok, c.as_str.ensures.value) (append_assoc cut.header (dot ∷ cut.payload) (dot ∷ cut.signature)) in
-    let issued : AreIssued issue t cut = record { header = h.1.1.part.1; payload = v.1.2.part.1; bytes = s.0; signature = s.1.0; signed = signed } in (
+    let issued : AreIssued issue t cut = record { header = h.1.1.part.1; payload = v.1.1.part.1; bytes = s.0; signature = s.1.0; signed = signed } in (
       t,
-      (c.in_ok-check_family.ensures, (c.in_ok-signer.ensures.made, (h.1.0, ((v.0, refl, v.1.0, v.1.1), (unrefused, tt))))),
+      (c.in_ok-check_family.ensures, (c.in_ok-signer.ensures.made, (h.1.0, ((v.0, refl, v.1.0, v.1.1.compact.no_float), (unrefused, tt))))),
       (
         (cut, text, issued),
-        rw text (read_back issue (g.P.CryptoProvider.accepts c.args.provider.now) t cut c.in_ok-header_text.ensures.normal_form h.1.0 h.1.1 issued v.1.2),
+        rw text (read_back issue (g.P.CryptoProvider.accepts c.args.provider.now) t cut c.in_ok-header_text.ensures.normal_form h.1.0 h.1.1 issued v.1.1),
       ),
     )
