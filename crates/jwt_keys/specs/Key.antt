@@ -51,3 +51,7 @@ IsEcOfParts x y key = (a : List ℕ) × ((b : List ℕ) × ((key ≡ Plain famil
 -- RFC 8037 section 2: the public key's bytes
 abbrev pub IsEdOfPart : List ℕ → Key → Type 0
 IsEdOfPart x key = (b : List ℕ) × ((key ≡ Plain family.Ed b) × IsPart x b)
+
+-- RFC 7518 section 6.4.1: the secret's bytes
+abbrev pub IsHmacOfPart : List ℕ → Key → Type 0
+IsHmacOfPart secret key = (b : List ℕ) × ((key ≡ Plain family.Hmac b) × IsPart secret b)

@@ -1,5 +1,6 @@
 pub mod Key
 pub mod KeyOf
+pub mod KeyOfJwk
 pub mod Provider
 pub use Rattle.jwt_base.specs.Kind
 pub use Rattle.jwt_base.specs.KindOf

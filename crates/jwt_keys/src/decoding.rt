@@ -5,11 +5,14 @@ ghost use Rattle.jwt_base.specs.Kind as kind;
 ghost use Rattle.jwt_base.specs.KindOf.{kind_of, IsMemory, RefusesAs};
 ghost use Rattle.jwt_base.specs.Base64Url.{IsStandardText, IsUrlText};
 ghost use Rattle.jwt_base.specs.declared.algorithms.AlgorithmFamily.TheVariants as family;
-ghost use Rattle.jwt_keys.specs.Key.{Key, Plain, Components, key_family, key_content, IsRsaOfParts, IsEcOfParts, IsEdOfPart, cleared, cleared_content};
+ghost use Rattle.jwt_keys.specs.Key.{Key, Plain, Components, key_family, key_content, IsRsaOfParts, IsEcOfParts, IsEdOfPart, IsHmacOfPart, cleared, cleared_content};
+ghost use Rattle.jwt_keys.specs.KeyOfJwk.{IsKeyOf, refusal_of};
 
 use jwt_base::algorithms::AlgorithmFamily;
 use jwt_base::errors::{ErrorKind, Result, new_error};
 use jwt_base::serialization::{part_bytes, standard_bytes, url_bytes};
+use jwt_jwk::jwk::Jwk;
+use jwt_kinds::algorithm::AlgorithmParameters;
 use std::alloc::Global;
 use std::fmt;
 use std::marker::Model;
@@ -227,6 +230,39 @@ impl DecodingKey {
     {
         let bytes = part_bytes(alloc, x.as_bytes())?;
         Ok(DecodingKey::plain(AlgorithmFamily::Ed, bytes))
+    }
+
+    /// The key that a JSON Web Key stands for (RFC 7518 section 6, RFC 8037 section 2): the modulus and the exponent of
+    /// an RSA key, the point of one on an elliptic curve, the public key of a pair of octet strings, a secret. The curve
+    /// is not looked at. Where a member is no base64url text: `Base64`. A key of any other kind is refused with
+    /// `UnsupportedAlgorithm`.
+    pub fn from_jwk(alloc: Global, jwk: &Jwk) -> Result<DecodingKey>
+        ensures ok { IfOk result (IsKeyOf jwk.now.algorithm) }
+        ensures err { IfErr result (RefusesAs (refusal_of jwk.now.algorithm) ((k : Key) → ¬ IsKeyOf jwk.now.algorithm k)) }
+    {
+        match &jwk.algorithm {
+            AlgorithmParameters::EllipticCurve(key) => {
+                DecodingKey::from_ec_components(alloc, key.x.as_str(), key.y.as_str())
+            }
+            AlgorithmParameters::RSA(key) => {
+                DecodingKey::from_rsa_components(alloc, key.n.as_str(), key.e.as_str())
+            }
+            AlgorithmParameters::OctetKey(key) => {
+                DecodingKey::from_secret_part(alloc, key.value.as_str())
+            }
+            AlgorithmParameters::OctetKeyPair(key) => {
+                DecodingKey::from_ed_components(alloc, key.x.as_str())
+            }
+            AlgorithmParameters::Other(_) => Err(new_error(ErrorKind::UnsupportedAlgorithm)),
+        }
+    }
+
+    fn from_secret_part(alloc: Global, secret: &str) -> Result<DecodingKey>
+        ensures ok { IfOk result (IsHmacOfPart secret.now) }
+        ensures err { IfErr result (RefusesAs kind.Base64 ((k : Key) → ¬ IsHmacOfPart secret.now k)) }
+    {
+        let bytes = part_bytes(alloc, secret.as_bytes())?;
+        Ok(DecodingKey::plain(AlgorithmFamily::Hmac, bytes))
     }
 
     /// The family of the algorithms that the key is for.

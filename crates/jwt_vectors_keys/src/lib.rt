@@ -6,4 +6,6 @@ mod hmac;
 #[cfg(test)]
 mod key_bytes;
 #[cfg(test)]
+mod keys_of_jwks;
+#[cfg(test)]
 mod signatures;

@@ -2,9 +2,11 @@
 
 use jsonwebtoken::crypto::CryptoProvider;
 use jsonwebtoken::errors::Result;
+use jsonwebtoken::jwk::Jwk;
 use jsonwebtoken::{
     Algorithm, DecodingKey, EncodingKey, Header, TokenData, Validation, decode, decode_header,
 };
+use jwt_base::serialization::json_value;
 use serde_json::Value;
 use std::alloc::Global;
 
@@ -26,6 +28,17 @@ pub(crate) fn rsa_key(alloc: Global) -> Result<Box<DecodingKey>> {
 /// The key of these bytes as a secret.
 pub(crate) fn key_of_bytes(alloc: Global, bytes: &[u8]) -> Result<Box<DecodingKey>> {
     Ok(Box::new(alloc, DecodingKey::from_secret(alloc, bytes)?)?)
+}
+
+/// The key that a JSON Web Key stands for.
+pub(crate) fn jwk_key(alloc: Global, text: &str) -> Result<Box<DecodingKey>> {
+    let jwk = read_jwk(alloc, text)?;
+    Ok(Box::new(alloc, DecodingKey::from_jwk(alloc, &jwk)?)?)
+}
+
+fn read_jwk(alloc: Global, text: &str) -> Result<Box<Jwk>> {
+    let value = json_value(alloc, text.as_bytes())?;
+    Ok(Box::new(alloc, Jwk::from_value(alloc, &value)?)?)
 }
 
 pub(crate) fn ec_key(alloc: Global, der: &[u8]) -> Result<Box<DecodingKey>> {
