@@ -1,20 +1,21 @@
 -- The tests of a token: things that pass the same tests are the same, as far as these tests know them.
-use Rattle.std.proofs.Common.{◌≡◌, ◌⊎◌, ℕ, List, [], ◌∷◌, ◌++◌, Bool, true, ◌&&◌, Some, slice_get, refl, sym, ◌∙◌, Result, IfOk, IfErr}
+use Rattle.std.proofs.Common.{◌≡◌, ◌⊎◌, ℕ, List, [], ◌∷◌, ◌++◌, Bool, true, ◌&&◌, ◌||◌, Some, ⊎_elim, slice_get, refl, sym, ◌∙◌, Result, IfOk, IfErr}
 use Rattle.std.specs.Prelude.{MatchResult}
 use Rattle.serde_json.specs.Data.{Data}
 use Rattle.jwt_base.proofs.Parts.{one_part, one_json}
 use Rattle.jwt_base.specs.KindOf.{kind_of, IsMemory}
 use Rattle.jwt_base.specs.declared.errors.Error.{Error}
-use Rattle.jsonwebtoken.specs.Tests.{Call, Given, Test, KeyIsGiven, HasThreeParts, HeaderIsPart, HeaderIsJson, HeaderReads, CritIsUnderstood, AlgorithmsAreListed, AlgorithmIsListed, VerifierIsMade, FamiliesAgree, SignatureIsPart, SignatureIsAccepted, PayloadIsPart, PayloadIsJson, ClaimsRead, ClaimsAreAnObject, ClaimRulesHold, Things, Condition, HasKind, Passes, FirstFailed}
+use Rattle.jsonwebtoken.specs.Tests.{Call, Given, Test, KeyIsGiven, HasThreeParts, HeaderIsPart, HeaderIsJson, HeaderReads, CritIsUnderstood, KeyIsFound, KeyAlgorithmAgrees, KeyIsUsable, AlgorithmsAreListed, AlgorithmIsListed, VerifierIsMade, FamiliesAgree, SignatureIsPart, SignatureIsAccepted, PayloadIsPart, PayloadIsJson, ClaimsRead, ClaimsAreAnObject, ClaimRulesHold, Things, Condition, HasKind, Passes, FirstFailed}
 use Rattle.jsonwebtoken.specs.Steps.{FailsAt, Step}
 use Rattle.jwt_header.specs.declared.header.Header.{Header}
 use Rattle.jsonwebtoken.proofs.Engine as engine
 use Rattle.jwt_header.proofs.HeaderLemmas.{one_header}
 use Rattle.jsonwebtoken.proofs.OneCut.{one_cut}
+use Rattle.jsonwebtoken.proofs.OneKey.{one_key}
 
 abbrev every_test : List Test
-every_test = KeyIsGiven ∷ HasThreeParts ∷ HeaderIsPart ∷ HeaderIsJson ∷ HeaderReads ∷ CritIsUnderstood ∷ AlgorithmsAreListed ∷ AlgorithmIsListed
-    ∷ VerifierIsMade ∷ FamiliesAgree ∷ SignatureIsPart ∷ SignatureIsAccepted ∷ PayloadIsPart ∷ PayloadIsJson ∷ ClaimsRead ∷ ClaimsAreAnObject ∷ ClaimRulesHold ∷ []
+every_test = KeyIsGiven ∷ HasThreeParts ∷ HeaderIsPart ∷ HeaderIsJson ∷ HeaderReads ∷ CritIsUnderstood ∷ KeyIsFound ∷ KeyAlgorithmAgrees ∷ KeyIsUsable
+    ∷ AlgorithmsAreListed ∷ AlgorithmIsListed ∷ VerifierIsMade ∷ FamiliesAgree ∷ SignatureIsPart ∷ SignatureIsAccepted ∷ PayloadIsPart ∷ PayloadIsJson ∷ ClaimsRead ∷ ClaimsAreAnObject ∷ ClaimRulesHold ∷ []
 
 abbrev pub number : Test → ℕ
 number KeyIsGiven = 0
@@ -23,17 +24,20 @@ number HeaderIsPart = 2
 number HeaderIsJson = 3
 number HeaderReads = 4
 number CritIsUnderstood = 5
-number AlgorithmsAreListed = 6
-number AlgorithmIsListed = 7
-number VerifierIsMade = 8
-number FamiliesAgree = 9
-number SignatureIsPart = 10
-number SignatureIsAccepted = 11
-number PayloadIsPart = 12
-number PayloadIsJson = 13
-number ClaimsRead = 14
-number ClaimsAreAnObject = 15
-number ClaimRulesHold = 16
+number KeyIsFound = 6
+number KeyAlgorithmAgrees = 7
+number KeyIsUsable = 8
+number AlgorithmsAreListed = 9
+number AlgorithmIsListed = 10
+number VerifierIsMade = 11
+number FamiliesAgree = 12
+number SignatureIsPart = 13
+number SignatureIsAccepted = 14
+number PayloadIsPart = 15
+number PayloadIsJson = 16
+number ClaimsRead = 17
+number ClaimsAreAnObject = 18
+number ClaimRulesHold = 19
 
 at_number : (c : Test) → slice_get every_test (number c) ≡ Some c
 at_number = elim [
@@ -43,6 +47,9 @@ at_number = elim [
   | HeaderIsJson ↦ refl
   | HeaderReads ↦ refl
   | CritIsUnderstood ↦ refl
+  | KeyIsFound ↦ refl
+  | KeyAlgorithmAgrees ↦ refl
+  | KeyIsUsable ↦ refl
   | AlgorithmsAreListed ↦ refl
   | AlgorithmIsListed ↦ refl
   | VerifierIsMade ↦ refl
@@ -75,8 +82,11 @@ value_known b = bytes_known b && is_in HeaderIsJson b
 abbrev pub header_known : List Test → Bool
 header_known b = value_known b && is_in HeaderReads b
 
+abbrev pub jwk_known : List Test → Bool
+jwk_known b = header_known b && is_in KeyIsFound b
+
 abbrev pub key_known : List Test → Bool
-key_known b = is_in KeyIsGiven b
+key_known b = is_in KeyIsGiven b || (jwk_known b && is_in KeyIsUsable b)
 
 abbrev pub signature_known : List Test → Bool
 signature_known b = cut_known b && is_in SignatureIsPart b
@@ -95,6 +105,9 @@ ready HeaderIsPart b = cut_known b
 ready HeaderIsJson b = bytes_known b
 ready HeaderReads b = value_known b
 ready CritIsUnderstood b = header_known b
+ready KeyIsFound b = header_known b
+ready KeyAlgorithmAgrees b = header_known b && jwk_known b
+ready KeyIsUsable b = jwk_known b
 ready AlgorithmsAreListed b = true
 ready AlgorithmIsListed b = header_known b
 ready VerifierIsMade b = header_known b && key_known b
@@ -144,8 +157,21 @@ module _ {T : Type 0} (call : Call T) where
     same_header e = let k = engine.both_true (value_known b) (is_in HeaderReads b) e in
         one_header s.header_value _ _ (rw (same_value k.0) at (met b t p HeaderReads k.1)) (met b s q HeaderReads k.1)
 
+    same_jwk : jwk_known b ≡ true → t.jwk ≡ s.jwk
+    same_jwk e =
+        let k = engine.both_true (header_known b) (is_in KeyIsFound b) e in
+        let of_t = rw (same_header k.0) at (met b t p KeyIsFound k.1) in
+        let both : Some t.jwk ≡ Some s.jwk = sym of_t ∙ met b s q KeyIsFound k.1 in cc
+
+    given_key : is_in KeyIsGiven b ≡ true → t.key ≡ s.key
+    given_key e = let both : Given t.key ≡ Given s.key = sym (met b t p KeyIsGiven e) ∙ met b s q KeyIsGiven e in cc
+
+    usable_key : (jwk_known b && is_in KeyIsUsable b) ≡ true → t.key ≡ s.key
+    usable_key e = let k = engine.both_true (jwk_known b) (is_in KeyIsUsable b) e in
+        one_key s.jwk.algorithm _ _ (rw (same_jwk k.0) at (met b t p KeyIsUsable k.1)) (met b s q KeyIsUsable k.1)
+
     same_key : key_known b ≡ true → t.key ≡ s.key
-    same_key e = let both : Given t.key ≡ Given s.key = sym (met b t p KeyIsGiven e) ∙ met b s q KeyIsGiven e in cc
+    same_key e = ⊎_elim given_key usable_key (engine.either_true (is_in KeyIsGiven b) (jwk_known b && is_in KeyIsUsable b) e)
 
     same_signature : signature_known b ≡ true → t.signature_bytes ≡ s.signature_bytes
     same_signature e = let k = engine.both_true (cut_known b) (is_in SignatureIsPart b) e in
@@ -166,6 +192,9 @@ module _ {T : Type 0} (call : Call T) where
     fails_for_these HeaderIsJson e none h = none s.header_value (rw (same_bytes e) h)
     fails_for_these HeaderReads e none h = none s.header (rw (same_value e) h)
     fails_for_these CritIsUnderstood e none h = none (rw (same_header e) h)
+    fails_for_these KeyIsFound e none h = none s.jwk (rw (same_header e) h)
+    fails_for_these KeyAlgorithmAgrees e none h = let k = engine.both_true (header_known b) (jwk_known b) e in none (rw (same_header k.0, same_jwk k.1) h)
+    fails_for_these KeyIsUsable e none h = none s.key (rw (same_jwk e) h)
     fails_for_these AlgorithmsAreListed e none h = none h
     fails_for_these AlgorithmIsListed e none h = none (rw (same_header e) h)
     fails_for_these VerifierIsMade e none h = let k = engine.both_true (header_known b) (key_known b) e in none (rw (same_header k.0, same_key k.1) h)

@@ -5,7 +5,7 @@ use Rattle.jwt_base.specs.Members.{text_at}
 use Rattle.jwt_validation.specs.Options.{Options}
 use Rattle.jwt_validation.specs.Moments.{end_of_time, Looser}
 use Rattle.jsonwebtoken.specs.declared.jws.Jws.{Jws}
-use Rattle.jsonwebtoken.specs.Laws.{IsWithin}
+use Rattle.jsonwebtoken.specs.Laws.{base_order, IsWithin}
 use Rattle.jsonwebtoken.specs.Tests.{Call, Cut, Parts, Things, Passes, jws_order}
 
 -- ---- as JSON
@@ -29,7 +29,7 @@ parts_value c = object (put (codes "payload") (string c.payload) (put (codes "pr
 module _ {T : Type 0} (call : Call T) where
   -- any things pass at just the moments from the first to the last
   abbrev pub JwsHasMoments : Type 0
-  JwsHasMoments = (t : Things) (m : ℕ) → m ≤ end_of_time → Passes (record call { now = m }) jws_order t ↔ IsWithin call t m
+  JwsHasMoments = (t : Things) (m : ℕ) → m ≤ end_of_time → Passes (record call { now = m }) jws_order t ↔ IsWithin call base_order t m
 
   -- they pass under looser options too
   abbrev pub JwsPassesLooser : Things → Type 0

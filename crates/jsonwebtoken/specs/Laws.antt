@@ -11,15 +11,15 @@ base_order = KeyIsGiven ∷ header_order ++ CritIsUnderstood ∷ algorithm_tests
 
 module _ {T : Type 0} (call : Call T) where
   -- what is asked at a moment: the tests that do not speak of it hold, and it lies from the first moment to the last
-  pub record IsWithin (t : Things) (m : ℕ) : Type 0 where
-    pub base : Passes call base_order t
+  pub record IsWithin (order : List Test) (t : Things) (m : ℕ) : Type 0 where
+    pub base : Passes call order t
     pub rules : RulesOfNoMoment call.options t.payload_value
     pub from : first_moment call.options (claims_of t.payload_value) ≤ m
     pub until : m ≤ last_moment call.options (claims_of t.payload_value)
 
   -- any things pass at just these moments
   abbrev pub HasMoments : Type 0
-  HasMoments = (t : Things) (m : ℕ) → m ≤ end_of_time → Passes (record call { now = m }) decode_order t ↔ IsWithin t m
+  HasMoments = (t : Things) (m : ℕ) → m ≤ end_of_time → Passes (record call { now = m }) decode_order t ↔ IsWithin base_order t m
 
   -- they pass under looser options too
   abbrev pub PassesLooser : Things → Type 0

@@ -1,7 +1,7 @@
 -- For private clauses: what a step of a call tells of its tests.
-use Rattle.std.specs.Prelude.{◌≡◌, ◌⊎◌, ℕ, List, [], Option, None, Result, Ok, Err}
+use Rattle.std.specs.Prelude.{◌≡◌, ◌⊎◌, ℕ, List, [], Option, Some, None, Result, Ok, Err}
 use Rattle.std.specs.Borrow.{Bor}
-use Rattle.serde_json.specs.Data.{Data, null}
+use Rattle.serde_json.specs.Data.{Data, null, no_members}
 use Rattle.jwt_base.specs.Kind.{Kind}
 use Rattle.jwt_base.specs.KindOf.{kind_of, IsMemory}
 use Rattle.jwt_base.specs.Base64Url.{IsPart}
@@ -9,11 +9,15 @@ use Rattle.jwt_base.specs.JsonText.{IsJson}
 use Rattle.jwt_base.specs.declared.errors.Error.{Error}
 use Rattle.jwt_base.specs.declared.algorithms.Algorithm.{Algorithm}
 use Rattle.jwt_base.specs.declared.algorithms.Algorithm.TheVariants.{HS256}
+use Rattle.jwt_params.specs.Common.{no_common}
+use Rattle.jwt_kinds.specs.declared.algorithm.AlgorithmParameters.TheVariants.{Other}
+use Rattle.jwt_jwk.specs.declared.jwk.Jwk.{Jwk}
 use Rattle.jwt_keys.specs.Key.{Key}
+use Rattle.jwt_keys.specs.KeyOfJwk.{IsKeyOf}
 use Rattle.jwt_header.specs.Header.{ReadsHeader, new_header}
 use Rattle.jwt_validation.specs.Options.{Options}
 use Rattle.jsonwebtoken.specs.Order.{FailedAt}
-use Rattle.jsonwebtoken.specs.Tests.{Cut, Compact, HasParts, Given, Call, Test, KeyIsGiven, HasThreeParts, HeaderIsPart, HeaderIsJson, HeaderReads, CritIsUnderstood, AlgorithmsAreListed, AlgorithmIsListed, VerifierIsMade, FamiliesAgree, SignatureIsPart, SignatureIsAccepted, PayloadIsPart, PayloadIsJson, ClaimsRead, ClaimsAreAnObject, ClaimRulesHold, Things, Condition, HasKind, Passes, verifying_call, header_call, insecure_call, no_key}
+use Rattle.jsonwebtoken.specs.Tests.{Cut, Compact, HasParts, Given, InSet, set_of, named_key, Call, Test, KeyIsGiven, HasThreeParts, HeaderIsPart, HeaderIsJson, HeaderReads, CritIsUnderstood, KeyIsFound, KeyAlgorithmAgrees, KeyIsUsable, AlgorithmsAreListed, AlgorithmIsListed, VerifierIsMade, FamiliesAgree, SignatureIsPart, SignatureIsAccepted, PayloadIsPart, PayloadIsJson, ClaimsRead, ClaimsAreAnObject, ClaimRulesHold, Things, Condition, HasKind, Passes, verifying_call, header_call, insecure_call, no_key}
 use Rattle.jwt_header.specs.declared.header.Header.{Header}
 
 -- the answer is so; or the refusal is of such a kind, unless memory ran out
@@ -34,6 +38,9 @@ module _ {T : Type 0} (call : Call T) where
   FailsAt HeaderIsJson t = (d : Data) → IsJson t.header_bytes d → ⊥
   FailsAt HeaderReads t = (h : Header) → ReadsHeader t.header_value h → ⊥
   FailsAt CritIsUnderstood t = Condition call CritIsUnderstood t → ⊥
+  FailsAt KeyIsFound t = (j : Jwk) → named_key (set_of call.keys) t.header ≡ Some j → ⊥
+  FailsAt KeyAlgorithmAgrees t = Condition call KeyAlgorithmAgrees t → ⊥
+  FailsAt KeyIsUsable t = (k : Key) → IsKeyOf t.jwk.algorithm k → ⊥
   FailsAt AlgorithmsAreListed t = Condition call AlgorithmsAreListed t → ⊥
   FailsAt AlgorithmIsListed t = Condition call AlgorithmIsListed t → ⊥
   FailsAt VerifierIsMade t = Condition call VerifierIsMade t → ⊥
@@ -56,12 +63,16 @@ module _ {T : Type 0} (call : Call T) where
 
 -- ---- the things that a step knows of
 
+abbrev pub no_jwk : Jwk
+no_jwk = record { common = no_common; algorithm = Other (record { fields = no_members }) }
+
 abbrev pub nothing : Things
 nothing = record {
   cut = record { header = []; payload = []; signature = [] };
   header_bytes = [];
   header_value = null;
   header = new_header HS256;
+  jwk = no_jwk;
   key = no_key;
   signature_bytes = [];
   payload_bytes = [];
@@ -81,6 +92,9 @@ with_payload_part p x = record x { cut = record { header = []; payload = p; sign
 abbrev pub with_cut : Cut → Things → Things
 with_cut c x = record x { cut = c }
 
+abbrev pub with_header : Header → Things → Things
+with_header h x = record x { header = h }
+
 abbrev pub with_key : Header → Key → Things → Things
 with_key h k x = record x { header = h; key = k }
 
@@ -88,6 +102,10 @@ with_key h k x = record x { header = h; key = k }
 
 abbrev pub bare : Call (Unit {0})
 bare = header_call []
+
+-- of a set
+abbrev pub looking_in : List Jwk → Call (Unit {0})
+looking_in set = record bare { keys = InSet set }
 
 -- of the options and of the provider's refusals
 abbrev pub making : Options → (Algorithm → Key → Option Kind) → Call (Unit {0})

@@ -1,15 +1,18 @@
--- The tests of a token, each a sentence of RFC 7515 or 7519, and the orders that the calls make them in.
-use Rattle.std.specs.Prelude.{◌≡◌, ℕ, List, [], ◌∷◌, ◌++◌, Option, Some, None, Contains, All, IsSome}
+-- The tests of a token, each a sentence of RFC 7515, 7517 or 7519, and the orders that the calls make them in.
+use Rattle.std.specs.Prelude.{◌≡◌, ◌⊎◌, ℕ, List, [], ◌∷◌, ◌++◌, Option, Some, None, Contains, All, IsSome, find, option_and_then}
 use Rattle.serde_json.specs.Data.{Data}
 use Rattle.serde_json.specs.Find.{as_object}
-use Rattle.jwt_base.specs.Algorithm.{family_of}
+use Rattle.jwt_base.specs.Algorithm.{family_of, key_algorithm_of}
 use Rattle.jwt_base.specs.Kind.{Kind}
 use Rattle.jwt_base.specs.Kind as kind
 use Rattle.jwt_base.specs.Base64Url.{IsPart}
 use Rattle.jwt_base.specs.JsonText.{IsJson}
 use Rattle.jwt_base.specs.declared.algorithms.Algorithm.{Algorithm}
 use Rattle.jwt_base.specs.declared.algorithms.AlgorithmFamily.TheVariants.{Hmac}
+use Rattle.jwt_jwk.specs.Jwk.{has_id}
+use Rattle.jwt_jwk.specs.declared.jwk.Jwk.{Jwk}
 use Rattle.jwt_keys.specs.Key.{Key, Plain}
+use Rattle.jwt_keys.specs.KeyOfJwk.{IsKeyOf, refusal_of}
 use Rattle.jwt_validation.specs.ClaimRules.{RulesHold, IsRuleFault}
 use Rattle.jsonwebtoken.specs.Crit.{IsUnderstood}
 use Rattle.jwt_header.specs.Header.{ReadsHeader}
@@ -55,9 +58,23 @@ message_of c = c.header ++ dot ∷ c.payload
 
 -- ---- a call
 
--- where the key comes from: it is given
+-- where the key comes from: it is given, or the header names it in a set
 pub data KeySource : Type 0 where
   Given : Key → KeySource
+  InSet : List Jwk → KeySource
+
+-- the keys that a header can name
+abbrev pub set_of : KeySource → List Jwk
+set_of (Given k) = []
+set_of (InSet ks) = ks
+
+-- the first key with the id that the header has (RFC 7515 section 4.1.4, RFC 7517 section 4.5)
+abbrev pub named_key : List Jwk → Header → Option Jwk
+named_key ks h = option_and_then (λ kid. find (has_id kid) ks) h.kid
+
+-- the key is for every algorithm, or for this one (RFC 7517 section 4.4)
+abbrev pub AgreesWith : Algorithm → Jwk → Type 0
+AgreesWith a k = (k.common.key_algorithm ≡ None) ⊎ (k.common.key_algorithm ≡ Some (key_algorithm_of a))
 
 -- what a call is given: its arguments, the provider's answers, and what reads as claims
 pub record Call (T : Type 0) : Type 1 where
@@ -78,6 +95,9 @@ pub data Test : Type 0 where
   HeaderIsJson : Test
   HeaderReads : Test
   CritIsUnderstood : Test
+  KeyIsFound : Test
+  KeyAlgorithmAgrees : Test
+  KeyIsUsable : Test
   AlgorithmsAreListed : Test
   AlgorithmIsListed : Test
   VerifierIsMade : Test
@@ -96,6 +116,7 @@ pub record Things : Type 0 where
   pub header_bytes : List ℕ
   pub header_value : Data
   pub header : Header
+  pub jwk : Jwk
   pub key : Key
   pub signature_bytes : List ℕ
   pub payload_bytes : List ℕ
@@ -110,6 +131,9 @@ module _ {T : Type 0} (call : Call T) where
   Condition HeaderIsJson t = IsJson t.header_bytes t.header_value
   Condition HeaderReads t = ReadsHeader t.header_value t.header
   Condition CritIsUnderstood t = IsUnderstood call.options.understood t.header
+  Condition KeyIsFound t = named_key (set_of call.keys) t.header ≡ Some t.jwk
+  Condition KeyAlgorithmAgrees t = AgreesWith t.header.alg t.jwk
+  Condition KeyIsUsable t = IsKeyOf t.jwk.algorithm t.key
   Condition AlgorithmsAreListed t = ¬ (call.options.algorithms ≡ [])
   Condition AlgorithmIsListed t = Contains call.options.algorithms t.header.alg
   Condition VerifierIsMade t = call.refusal t.header.alg t.key ≡ None
@@ -130,6 +154,9 @@ module _ {T : Type 0} (call : Call T) where
   HasKind HeaderIsJson t k = k ≡ kind.Json
   HasKind HeaderReads t k = k ≡ kind.Json
   HasKind CritIsUnderstood t k = k ≡ kind.InvalidCrit
+  HasKind KeyIsFound t k = k ≡ kind.NoKey
+  HasKind KeyAlgorithmAgrees t k = k ≡ kind.InvalidAlgorithm
+  HasKind KeyIsUsable t k = k ≡ refusal_of t.jwk.algorithm
   HasKind AlgorithmsAreListed t k = k ≡ kind.MissingAlgorithm
   HasKind AlgorithmIsListed t k = k ≡ kind.InvalidAlgorithm
   HasKind VerifierIsMade t k = call.refusal t.header.alg t.key ≡ Some k
@@ -154,6 +181,9 @@ module _ {T : Type 0} (call : Call T) where
 
 abbrev pub header_tests : List Test
 header_tests = HeaderIsPart ∷ HeaderIsJson ∷ HeaderReads ∷ []
+
+abbrev pub key_tests : List Test
+key_tests = KeyIsFound ∷ KeyAlgorithmAgrees ∷ KeyIsUsable ∷ []
 
 abbrev pub algorithm_tests : List Test
 algorithm_tests = AlgorithmsAreListed ∷ AlgorithmIsListed ∷ VerifierIsMade ∷ FamiliesAgree ∷ []
@@ -185,6 +215,9 @@ decode_order = KeyIsGiven ∷ header_order ++ CritIsUnderstood ∷ algorithm_tes
 abbrev pub jws_order : List Test
 jws_order = KeyIsGiven ∷ header_order ++ CritIsUnderstood ∷ jws_algorithm_tests ++ signature_tests ++ claim_tests
 
+abbrev pub set_order : List Test
+set_order = header_order ++ CritIsUnderstood ∷ key_tests ++ algorithm_tests ++ signature_tests ++ claim_tests
+
 -- ---- the calls
 
 -- a call that verifies
@@ -192,6 +225,18 @@ abbrev pub verifying_call : {T : Type 0} → Token → Key → Options → ℕ �
 verifying_call token key options now refusal accepts reads = record {
   token = token;
   keys = Given key;
+  options = options;
+  now = now;
+  refusal = refusal;
+  accepts = accepts;
+  reads = reads;
+}
+
+-- a call that verifies by a key of a set
+abbrev pub set_call : {T : Type 0} → List ℕ → List Jwk → Options → ℕ → (Algorithm → Key → Option Kind) → (Algorithm → Key → List ℕ → List ℕ → Type 0) → (Data → T → Type 0) → Call T
+set_call text set options now refusal accepts reads = record {
+  token = Compact text;
+  keys = InSet set;
   options = options;
   now = now;
   refusal = refusal;

@@ -11,7 +11,10 @@ ghost use Rattle.jsonwebtoken.specs.Tests.{Compact, Things, Passes, FirstFailed,
 
 mod checks;
 pub(crate) mod crit;
+mod key_set;
 pub(crate) mod steps;
+
+pub use crate::decoding::key_set::decode_with_set;
 
 use crate::decoding::crit::check_crit;
 use crate::decoding::steps::{make_verifier, parts, read_header, verified_claims};

@@ -9,7 +9,7 @@ pub mod jwk;
 pub mod jws;
 mod usual;
 
-pub use decoding::{TokenData, decode, decode_header};
+pub use decoding::{TokenData, decode, decode_header, decode_with_set};
 pub use encoding::encode;
 pub use jwt_base::algorithms::{Algorithm, AlgorithmFamily};
 pub use jwt_base::text::{Text, Texts};

@@ -1,9 +1,10 @@
 -- The command as what the words ask for.
-use Rattle.jwt_tool.specs.Words.{Request, ForHeader, ForToken, ForClaims}
+use Rattle.jwt_tool.specs.Words.{Request, ForHeader, ForToken, ForClaims, ForClaimsBySet}
 use Rattle.jwt_tool.specs.declared.command.Command.{Command}
-use Rattle.jwt_tool.specs.declared.command.Command.TheVariants.{Header, Encode, Decode}
+use Rattle.jwt_tool.specs.declared.command.Command.TheVariants.{Header, Encode, Decode, DecodeWithSet}
 
 abbrev pub asked : Command → Request
 asked Header = ForHeader
 asked (Encode algorithm secret) = ForToken algorithm secret.now
 asked (Decode algorithm secret now) = ForClaims algorithm secret.now now
+asked (DecodeWithSet algorithm set now) = ForClaimsBySet algorithm set.now now

@@ -8,14 +8,16 @@ use Rattle.jwt_base.specs.Kind.{Kind, text_of}
 use Rattle.jwt_base.specs.Kind as kind
 use Rattle.jwt_base.specs.declared.algorithms.Algorithm.{Algorithm}
 use Rattle.jwt_base.specs.declared.algorithms.AlgorithmFamily.TheVariants.{Hmac}
+use Rattle.jwt_jwk.specs.JwkSet.{ReadsSet}
+use Rattle.jwt_jwk.specs.declared.jwk.Jwk.{Jwk}
 use Rattle.jwt_keys.specs.Key.{Plain, key_family}
 use Rattle.jwt_hmac.specs.HmacKeys.{hash_for, refusal, HmacAccepts, HmacSigns}
 use Rattle.jwt_header.specs.Header.{header_value, new_header}
 use Rattle.jwt_validation.specs.Options.{default_options}
-use Rattle.jsonwebtoken.specs.Tests.{Compact, Call, Things, Passes, FirstFailed, header_order, header_call, decode_order, verifying_call}
+use Rattle.jsonwebtoken.specs.Tests.{Compact, Call, Things, Passes, FirstFailed, header_order, header_call, decode_order, verifying_call, set_order, set_call}
 use Rattle.jsonwebtoken.specs.Issue.{Issue, Written, WrittenAs, IsIssued, IssuePasses, IssueFailsFirst, encode_order, issuing}
 use Rattle.jwt_base.specs.JsonText.{IsJson}
-use Rattle.jwt_tool.specs.Words.{Request, ForHeader, ForToken, ForClaims, request_of}
+use Rattle.jwt_tool.specs.Words.{Request, ForHeader, ForToken, ForClaims, ForClaimsBySet, request_of}
 
 -- ---- the input
 
@@ -65,6 +67,31 @@ ClaimsLine input algorithm secret now status line =
     ((value : Data) × IsClaimsValue input algorithm secret now value × ValueLine value status line)
     ⊎ ((k : Kind) × FirstFailed (hmac_call input algorithm secret now) decode_order k × IsRefusal k status line)
 
+-- the text is the JSON of a set of these keys
+abbrev pub IsSetText : List ℕ → List Jwk → Type 0
+IsSetText text keys = (value : Data) × IsJson text value × ReadsSet value keys
+
+-- the input's token, checked by HMAC with the key of the set that its header names, under the same options
+abbrev pub hmac_set_call : List ℕ → Algorithm → List Jwk → ℕ → Call Value
+hmac_set_call input algorithm keys now = set_call input keys (default_options (algorithm ∷ [])) now
+    (λ a key. refusal (hash_for a) (key_family key)) HmacAccepts (λ value claims. view claims ≡ value)
+
+-- the text is that of a set by which the token passes every test, and these are its claims
+abbrev pub IsClaimsValueBySet : List ℕ → Algorithm → List ℕ → ℕ → Data → Type 0
+IsClaimsValueBySet input algorithm set now value = (keys : List Jwk) × IsSetText set keys
+    × ((t : Things) × Passes (hmac_set_call input algorithm keys now) set_order t × (t.payload_value ≡ value))
+
+-- the text is that of no set, or the first failed test has this kind
+abbrev pub HasSetFault : List ℕ → Algorithm → List ℕ → ℕ → Kind → Type 0
+HasSetFault input algorithm set now k =
+    ((k ≡ kind.Json) × ((keys : List Jwk) → ¬ IsSetText set keys))
+    ⊎ ((keys : List Jwk) × IsSetText set keys × FirstFailed (hmac_set_call input algorithm keys now) set_order k)
+
+abbrev pub SetClaimsLine : List ℕ → Algorithm → List ℕ → ℕ → ℕ → List ℕ → Type 0
+SetClaimsLine input algorithm set now status line =
+    ((value : Data) × IsClaimsValueBySet input algorithm set now value × ValueLine value status line)
+    ⊎ ((k : Kind) × HasSetFault input algorithm set now k × IsRefusal k status line)
+
 -- the token of claims, under the header of the algorithm with the type `JWT`
 abbrev pub hmac_issue : Algorithm → List ℕ → Data → Issue
 hmac_issue algorithm secret claims = issuing (new_header algorithm) (WrittenAs (Some claims)) (record { family = Hmac; bytes = secret })
@@ -90,6 +117,7 @@ abbrev pub RequestLine : Request → List ℕ → ℕ → List ℕ → Type 0
 RequestLine ForHeader input status line = HeaderLine input status line
 RequestLine (ForToken algorithm secret) input status line = TokenLine input algorithm secret status line
 RequestLine (ForClaims algorithm secret now) input status line = ClaimsLine input algorithm secret now status line
+RequestLine (ForClaimsBySet algorithm set now) input status line = SetClaimsLine input algorithm set now status line
 
 abbrev pub IsUsage : ℕ → List ℕ → Type 0
 IsUsage status line = (line ≡ codes "usage") × (status ≡ 2)

@@ -5,12 +5,13 @@ use Rattle.std.specs.Str.Parse.{digits_value}
 use Rattle.jwt_base.specs.Algorithm.{algorithm_named}
 use Rattle.jwt_base.specs.declared.algorithms.Algorithm.{Algorithm}
 
--- the header of a token; the token of claims, by an algorithm and a secret; or a token's claims, verified by these at a
--- moment
+-- the header of a token; the token of claims, by an algorithm and a secret; a token's claims, verified by these at a
+-- moment; or a token's claims, verified by an algorithm and the text of a key set at a moment
 pub data Request : Type 0 where
   ForHeader : Request
   ForToken : Algorithm → List ℕ → Request
   ForClaims : Algorithm → List ℕ → ℕ → Request
+  ForClaimsBySet : Algorithm → List ℕ → ℕ → Request
 
 -- the number that one or more decimal digits write, where it has at most 64 bits
 abbrev pub moment_of : List ℕ → Option ℕ
@@ -25,13 +26,17 @@ abbrev pub encoding_request : List ℕ → List ℕ → List ℕ → Option Requ
 encoding_request word algorithm secret =
     if bytes_eq word (codes "encode") then option_map (λ a. ForToken a secret) (algorithm_named algorithm) else None
 
-abbrev pub claims_at : List ℕ → Option ℕ → Algorithm → Option Request
-claims_at secret moment algorithm = option_map (λ now. ForClaims algorithm secret now) moment
+-- the name of an algorithm, a secret or a set, and a moment
+abbrev pub claims_asked : (Algorithm → List ℕ → ℕ → Request) → List ℕ → List ℕ → List ℕ → Option Request
+claims_asked request algorithm by moment =
+    option_and_then (λ a. option_map (λ now. request a by now) (moment_of moment)) (algorithm_named algorithm)
 
--- `decode`, the name of an algorithm, a secret and a moment
+-- `decode` with a secret, or `decode-set` with the text of a set
 abbrev pub decoding_request : List ℕ → List ℕ → List ℕ → List ℕ → Option Request
-decoding_request word algorithm secret moment =
-    if bytes_eq word (codes "decode") then option_and_then (claims_at secret (moment_of moment)) (algorithm_named algorithm) else None
+decoding_request word algorithm by moment =
+    if bytes_eq word (codes "decode") then claims_asked ForClaims algorithm by moment
+    else if bytes_eq word (codes "decode-set") then claims_asked ForClaimsBySet algorithm by moment
+    else None
 
 -- what the words ask for; words that ask for nothing are answered by the usage
 abbrev pub request_of : List (List ℕ) → Option Request
@@ -39,5 +44,5 @@ request_of [] = Some ForHeader
 request_of (word ∷ []) = request_named word
 request_of (word ∷ algorithm ∷ []) = None
 request_of (word ∷ algorithm ∷ secret ∷ []) = encoding_request word algorithm secret
-request_of (word ∷ algorithm ∷ secret ∷ moment ∷ []) = decoding_request word algorithm secret moment
-request_of (word ∷ algorithm ∷ secret ∷ moment ∷ more ∷ rest) = None
+request_of (word ∷ algorithm ∷ by ∷ moment ∷ []) = decoding_request word algorithm by moment
+request_of (word ∷ algorithm ∷ by ∷ moment ∷ more ∷ rest) = None

@@ -2,7 +2,7 @@
 
 ghost use Rattle.std.specs.Prelude.{◌≡◌, option_map, map, string_bytes};
 ghost use Rattle.jwt_base.specs.Algorithm.{algorithm_named};
-ghost use Rattle.jwt_tool.specs.Words.{Request, request_of, request_named, encoding_request, decoding_request, moment_of};
+ghost use Rattle.jwt_tool.specs.Words.{Request, request_of, request_named, encoding_request, decoding_request, claims_asked, ForClaims, ForClaimsBySet, moment_of};
 ghost use Rattle.jwt_tool.specs.Asked.{asked};
 
 use jwt_base::algorithms::Algorithm;
@@ -24,6 +24,12 @@ pub enum Command<'a> {
         secret: &'a str,
         now: u64,
     },
+    /// The same with the key that the token's header names in a key set (RFC 7517 section 5), given as its JSON text.
+    DecodeWithSet {
+        algorithm: Algorithm,
+        set: &'a str,
+        now: u64,
+    },
 }
 
 /// The command that the words ask for. Words that ask for none are answered by `usage`.
@@ -37,12 +43,9 @@ pub fn requested_command(words: &[String]) -> Option<Command<'_>>
         [word, algorithm, secret] => {
             encode_command(word.as_str(), algorithm.as_str(), secret.as_str())
         }
-        [word, algorithm, secret, now] => decode_command(
-            word.as_str(),
-            algorithm.as_str(),
-            secret.as_str(),
-            now.as_str(),
-        ),
+        [word, algorithm, by, now] => {
+            decode_command(word.as_str(), algorithm.as_str(), by.as_str(), now.as_str())
+        }
         _ => None,
     }
 }
@@ -69,19 +72,38 @@ fn encode_command<'a>(word: &str, algorithm: &str, secret: &'a str) -> Option<Co
 fn decode_command<'a>(
     word: &str,
     algorithm: &str,
-    secret: &'a str,
+    by: &'a str,
     now: &str,
 ) -> Option<Command<'a>>
-    ensures { option_map asked result ≡ decoding_request word.now algorithm.now secret.now now.now }
+    ensures { option_map asked result ≡ decoding_request word.now algorithm.now by.now now.now }
 {
-    if word != "decode" {
-        return None;
+    match word {
+        "decode" => decode_by_secret(algorithm, by, now),
+        "decode-set" => decode_by_set(algorithm, by, now),
+        _ => None,
     }
+}
+
+fn decode_by_secret<'a>(algorithm: &str, secret: &'a str, now: &str) -> Option<Command<'a>>
+    ensures { option_map asked result ≡ claims_asked ForClaims algorithm.now secret.now now.now }
+{
     let algorithm = algorithm_of(algorithm)?;
     let now = moment(now)?;
     Some(Command::Decode {
         algorithm,
         secret,
+        now,
+    })
+}
+
+fn decode_by_set<'a>(algorithm: &str, set: &'a str, now: &str) -> Option<Command<'a>>
+    ensures { option_map asked result ≡ claims_asked ForClaimsBySet algorithm.now set.now now.now }
+{
+    let algorithm = algorithm_of(algorithm)?;
+    let now = moment(now)?;
+    Some(Command::DecodeWithSet {
+        algorithm,
+        set,
         now,
     })
 }

@@ -4,19 +4,22 @@ ghost use Rattle.std.specs.Prelude.{◌≡◌, ◌⊎◌, None, false, ◌++◌,
 ghost use Rattle.std.specs.Io.KnownBytes.{Appends};
 ghost use Rattle.serde_json.specs.View.{view};
 ghost use Rattle.serde_json.specs.Written.{has_float};
-ghost use Rattle.jwt_base.specs.KindOf.{kind_of, IsMemory};
+ghost use Rattle.jwt_base.specs.Kind as kind;
+ghost use Rattle.jwt_base.specs.KindOf.{kind_of, IsMemory, RefusesAs};
+ghost use Rattle.jwt_jwk.specs.declared.jwk.Jwk.{Jwk};
 ghost use Rattle.jsonwebtoken.specs.Tests.{FirstFailed, header_order, header_call, decode_order};
 ghost use Rattle.jwt_tool.specs.Asked.{asked};
 ghost use Rattle.jwt_tool.specs.Words.{request_of};
-ghost use Rattle.jwt_tool.specs.Line.{Answers, RequestAnswer, ValueAnswer, ValueLine, IsValueText, IsRefusal, IsHeaderValue, IsClaimsValue, hmac_call, IsToken, HasTokenFault, TokenLine, IsMemoryLine, IsUsage, without_final_newline};
+ghost use Rattle.jwt_tool.specs.Line.{Answers, RequestAnswer, ValueAnswer, ValueLine, IsValueText, IsRefusal, IsHeaderValue, IsClaimsValue, hmac_call, IsSetText, IsClaimsValueBySet, HasSetFault, IsToken, HasTokenFault, TokenLine, IsMemoryLine, IsUsage, without_final_newline};
 
 use crate::command::{Command, requested_command};
 use crate::fault::ToolFault;
 use crate::input::{gather, without_newline};
 use jsonwebtoken::crypto::hmac::HmacProvider;
+use jsonwebtoken::jwk::JwkSet;
 use jsonwebtoken::{
     Algorithm, DecodingKey, EncodingKey, Header, TokenData, Validation, decode, decode_header,
-    encode,
+    decode_with_set, encode,
 };
 use jwt_base::errors::{Error, ErrorKind, Result, new_error};
 use jwt_base::json::has_float;
@@ -104,6 +107,11 @@ fn command_answer(
             secret,
             now,
         } => claims_answer(alloc, algorithm, secret, now, input),
+        Command::DecodeWithSet {
+            algorithm,
+            set,
+            now,
+        } => set_claims_answer(alloc, algorithm, set, now, input),
     }
 }
 
@@ -146,6 +154,23 @@ fn claims_answer(
         (λ k. FirstFailed (hmac_call input.now algorithm secret.now now) decode_order k) a.status (string_bytes a.line)) }
 {
     match claims_value(alloc, algorithm, secret, now, input) {
+        Ok(value) => value_answer(alloc, &value),
+        Err(e) => refusal_answer(alloc, &e),
+    }
+}
+
+/// The same with a key of a set. A text that is that of no set is refused with `Json`.
+fn set_claims_answer(
+    alloc: Global,
+    algorithm: Algorithm,
+    set: &str,
+    now: u64,
+    input: &[u8],
+) -> std::result::Result<Answer, ToolFault>
+    ensures { IfOk result (λ a. ValueAnswer ValueLine (IsClaimsValueBySet input.now algorithm set.now now)
+        (HasSetFault input.now algorithm set.now now) a.status (string_bytes a.line)) }
+{
+    match set_claims_value(alloc, algorithm, set, now, input) {
         Ok(value) => value_answer(alloc, &value),
         Err(e) => refusal_answer(alloc, &e),
     }
@@ -205,6 +230,31 @@ fn claims_value(
     let validation = Validation::new(alloc, algorithm)?;
     let data: TokenData<Value> = decode(alloc, &HmacProvider, input, &key, &validation, now)?;
     Ok(data.claims)
+}
+
+fn set_claims_value(
+    alloc: Global,
+    algorithm: Algorithm,
+    set: &str,
+    now: u64,
+    input: &[u8],
+) -> Result<Value>
+    ensures ok { IfOk result (λ v. IsClaimsValueBySet input.now algorithm set.now now (view v)) }
+    ensures err { IfErr result (λ e. IsMemory e ⊎ HasSetFault input.now algorithm set.now now (kind_of e)) }
+{
+    let keys = key_set(alloc, set)?;
+    let validation = Validation::new(alloc, algorithm)?;
+    let data: TokenData<Value> = decode_with_set(alloc, &HmacProvider, input, &keys, &validation, now)?;
+    Ok(data.claims)
+}
+
+/// The key set of a JSON text.
+fn key_set(alloc: Global, text: &str) -> Result<JwkSet>
+    ensures ok { IfOk result (λ s. IsSetText text.now s.keys.items) }
+    ensures err { IfErr result (RefusesAs kind.Json ((keys : List Jwk) → ¬ IsSetText text.now keys)) }
+{
+    let value = json_value(alloc, text.as_bytes())?;
+    JwkSet::from_value(alloc, &value)
 }
 
 fn issued_token(alloc: Global, algorithm: Algorithm, secret: &str, input: &[u8]) -> Result<String>

@@ -10,6 +10,8 @@ mod issued_tokens;
 #[cfg(test)]
 mod token_headers;
 #[cfg(test)]
+mod tokens_by_sets;
+#[cfg(test)]
 mod tokens_in_parts;
 #[cfg(test)]
 mod unverified_tokens;

@@ -5,3 +5,6 @@ returns-in-Decode c = rw c.in-Decode.is c.claims_answer.ensures
 
 pub returns-in-Encode : goal.returns-in-Encode
 returns-in-Encode c = rw c.in-Encode.is c.token_answer.ensures
+
+pub returns-in-DecodeWithSet : goal.returns-in-DecodeWithSet
+returns-in-DecodeWithSet c = rw c.in-DecodeWithSet.is c.set_claims_answer.ensures
