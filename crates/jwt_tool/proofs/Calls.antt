@@ -17,7 +17,7 @@ use Rattle.jwt_base.proofs.Parts.{one_json}
 use Rattle.jwt_jwk.specs.JwkSet.{ReadsSet}
 use Rattle.jwt_header.specs.Header.{new_header}
 use Rattle.serde_json.specs.Data.{Data}
-use Rattle.jwt_tool.specs.Line.{IsClaimsValue, IsToken, HasTokenFault, hmac_call, hmac_set_call, IsSetText, IsClaimsValueBySet, HasSetFault}
+use Rattle.jwt_tool.specs.Line.{IsClaimsValue, IsToken, HasTokenFault, hmac_call, IsSetText, IsClaimsValueBySet, HasSetFault}
 
 abbrev given_call : List ℕ → Key → Options → ℕ → Call Value
 given_call input key options now = verifying_call (Compact input) key options now (λ a k. refusal (hash_for a) (key_family k)) HmacAccepts (λ value claims. view claims ≡ value)

@@ -1,4 +1,3 @@
-use Rattle.std.proofs.Common.{inl}
 use Rattle.std.proofs.lemmas.Result.{err_from_is_err_and}
 use Rattle.jsonwebtoken.proofs.Exits.{or_memory}
 use Rattle.jwt_tool.proofs.Calls.{set_claims_passed, set_claims_failed}
