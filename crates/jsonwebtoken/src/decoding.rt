@@ -14,9 +14,8 @@ pub(crate) mod crit;
 mod key_set;
 pub(crate) mod steps;
 
-pub use crate::decoding::key_set::decode_with_set;
-
 use crate::decoding::crit::check_crit;
+pub use crate::decoding::key_set::decode_with_set;
 use crate::decoding::steps::{make_verifier, parts, read_header, verified_claims};
 use jwt_base::errors::Result;
 use jwt_base::json::Claims;

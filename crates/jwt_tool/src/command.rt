@@ -69,12 +69,7 @@ fn encode_command<'a>(word: &str, algorithm: &str, secret: &'a str) -> Option<Co
     Some(Command::Encode { algorithm, secret })
 }
 
-fn decode_command<'a>(
-    word: &str,
-    algorithm: &str,
-    by: &'a str,
-    now: &str,
-) -> Option<Command<'a>>
+fn decode_command<'a>(word: &str, algorithm: &str, by: &'a str, now: &str) -> Option<Command<'a>>
     ensures { option_map asked result ≡ decoding_request word.now algorithm.now by.now now.now }
 {
     match word {

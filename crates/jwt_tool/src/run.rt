@@ -244,7 +244,14 @@ fn set_claims_value(
 {
     let keys = key_set(alloc, set)?;
     let validation = Validation::new(alloc, algorithm)?;
-    let data: TokenData<Value> = decode_with_set(alloc, &HmacProvider, input, &keys, &validation, now)?;
+    let data: TokenData<Value> = decode_with_set(
+        alloc,
+        &HmacProvider,
+        input,
+        &keys,
+        &validation,
+        now,
+    )?;
     Ok(data.claims)
 }
 

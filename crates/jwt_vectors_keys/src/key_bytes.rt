@@ -52,7 +52,7 @@ fn verifies(
     holds_bytes(rt, &copy, family, bytes)
 }
 
-fn holds_components(kind: &DecodingKeyKind, modulus: &[u8], exponent: &[u8]) -> bool {
+pub(crate) fn holds_components(kind: &DecodingKeyKind, modulus: &[u8], exponent: &[u8]) -> bool {
     match kind {
         DecodingKeyKind::RsaModulusExponent { n, e } => {
             n.as_slice() == modulus && e.as_slice() == exponent

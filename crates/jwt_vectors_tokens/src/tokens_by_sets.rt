@@ -37,7 +37,10 @@ fn decoded_by(
     now: u64,
 ) -> Result<Box<TokenData<Value>>> {
     let token = token.as_bytes();
-    Ok(Box::new(alloc, decode_with_set(alloc, &HmacProvider, token, set, validation, now)?)?)
+    Ok(Box::new(
+        alloc,
+        decode_with_set(alloc, &HmacProvider, token, set, validation, now)?,
+    )?)
 }
 
 // By the keys of a set, at the moment 0.
@@ -58,7 +61,9 @@ fn the_key_that_the_header_names_verifies_its_token(
 ) -> std::result::Result<(), Fail> {
     let alloc = rt.alloc();
     let for_it = "{\"kty\":\"oct\",\"k\":\"c2VjcmV0\",\"kid\":\"kid\",\"alg\":\"HS256\"}";
-    let after_another = format!(in alloc; "{{\"kty\":\"AKP\",\"kid\":\"other\"}},{{\"kty\":\"AKP\"}},{SIGNER}")?;
+    let after_another = format!(in alloc;
+        "{{\"kty\":\"AKP\",\"kid\":\"other\"}},{{\"kty\":\"AKP\"}},{SIGNER}"
+    )?;
     for keys in [SIGNER, for_it, after_another.as_str()] {
         assert_eq!(rt; answer(alloc, NAMED, keys)?.as_str(), CLAIMS, "{keys}");
     }
@@ -113,10 +118,7 @@ fn only_the_first_key_of_a_name_is_looked_at(rt: HostRuntime) -> std::result::Re
             "{\"kty\":\"oct\",\"k\":\"c2VjcmV\",\"kid\":\"kid\"}",
             "Base64 error",
         ),
-        (
-            "{\"kty\":\"AKP\",\"kid\":\"kid\"}",
-            "UnsupportedAlgorithm",
-        ),
+        ("{\"kty\":\"AKP\",\"kid\":\"kid\"}", "UnsupportedAlgorithm"),
         (
             "{\"kty\":\"RSA\",\"n\":\"AQAB\",\"e\":\"AQAB\",\"kid\":\"kid\"}",
             "InvalidKeyFormat",
@@ -124,9 +126,17 @@ fn only_the_first_key_of_a_name_is_looked_at(rt: HostRuntime) -> std::result::Re
     ] {
         assert_eq!(rt; answer(alloc, NAMED, first)?.as_str(), refusal, "{first}");
         let then_signer = format!(in alloc; "{first},{SIGNER}")?;
-        assert_eq!(rt; answer(alloc, NAMED, &then_signer)?.as_str(), refusal, "{first}");
+        assert_eq!(rt;
+            answer(alloc, NAMED, &then_signer)?.as_str(),
+            refusal,
+            "{first}"
+        );
         let after_signer = format!(in alloc; "{SIGNER},{first}")?;
-        assert_eq!(rt; answer(alloc, NAMED, &after_signer)?.as_str(), CLAIMS, "{first}");
+        assert_eq!(rt;
+            answer(alloc, NAMED, &after_signer)?.as_str(),
+            CLAIMS,
+            "{first}"
+        );
     }
     Ok(())
 }

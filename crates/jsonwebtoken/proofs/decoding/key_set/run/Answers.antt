@@ -18,7 +18,7 @@ returns-in_err-header g c =
     let cut = cut_of c.in_ok-pieces.pieces.header c.in_ok-pieces.pieces.payload c.in_ok-pieces.pieces.signature in
     let p = err_from_is_err_and c.from_residual-in_err-header.result c.from_residual-in_err-header.ensures.1 in
     rw (p.1, p.2) (or_memory (λ f. stop call set_order (HasThreeParts ∷ []) header_tests (record f.0 { cut = cut }) _
-        (c.in_ok-pieces.ensures.ok, tt) f.1) c.in_err-header.ensures)
+    (c.in_ok-pieces.ensures.ok, tt) f.1) c.in_err-header.ensures)
 
 pub returns-in_err-check_crit : goal.returns-in_err-check_crit
 returns-in_err-check_crit g c =
@@ -42,7 +42,7 @@ returns-in_err-key g c =
     let crit = rw (sym h.2) at c.in_ok-check_crit.ensures in
     let no = rw (sym h.2) at c.in_err-key.ensures in
     rw (p.1, p.2) (or_memory (λ f. let s = record t { jwk = f.0.jwk; key = f.0.key } in stop call set_order (header_order ++ CritIsUnderstood ∷ []) key_tests s _
-        (join call header_order (CritIsUnderstood ∷ []) s before (crit, tt)) f.1) no)
+    (join call header_order (CritIsUnderstood ∷ []) s before (crit, tt)) f.1) no)
 
 pub returns-in_err-verifier : goal.returns-in_err-verifier
 returns-in_err-verifier g c =
@@ -56,7 +56,7 @@ returns-in_err-verifier g c =
     let crit = rw (sym h.2) at c.in_ok-check_crit.ensures in
     let no = rw (sym h.2, sym key.2) at c.in_err-verifier.ensures.tests in
     rw (p.1, p.2) (or_memory (λ f. stop call set_order (header_order ++ CritIsUnderstood ∷ key_tests) algorithm_tests t _
-        (join call header_order (CritIsUnderstood ∷ key_tests) t before (crit, key.1)) f.1) no)
+    (join call header_order (CritIsUnderstood ∷ key_tests) t before (crit, key.1)) f.1) no)
 
 pub returns-in_err-claims : goal.returns-in_err-claims
 returns-in_err-claims g c =
@@ -71,8 +71,8 @@ returns-in_err-claims g c =
     let made = rw (sym h.2, sym key.2) at c.in_ok-verifier.ensures.tests in
     let same = rw (sym h.2, sym key.2) at c.in_ok-verifier.ensures.accepts in
     rw (p.1, p.2) (or_memory (λ f. let s = record t { signature_bytes = f.0.signature_bytes; payload_bytes = f.0.payload_bytes; payload_value = f.0.payload_value } in
-        stop call set_order (header_order ++ CritIsUnderstood ∷ key_tests ++ algorithm_tests) (signature_tests ++ claim_tests) s _
-        (join call header_order (CritIsUnderstood ∷ key_tests ++ algorithm_tests) s before (crit, join call key_tests algorithm_tests s key.1 made.1)) (verified_failed call _ s same _ f.1)) c.in_err-claims.ensures)
+    stop call set_order (header_order ++ CritIsUnderstood ∷ key_tests ++ algorithm_tests) (signature_tests ++ claim_tests) s _
+    (join call header_order (CritIsUnderstood ∷ key_tests ++ algorithm_tests) s before (crit, join call key_tests algorithm_tests s key.1 made.1)) (verified_failed call _ s same _ f.1)) c.in_err-claims.ensures)
 
 pub returns : goal.returns
 returns g c =
@@ -86,6 +86,9 @@ returns g c =
     let made = rw (sym h.2, sym key.2) at c.in_ok-verifier.ensures.tests in
     let same = rw (sym h.2, sym key.2) at c.in_ok-verifier.ensures.accepts in
     let f = c.in_ok-claims.ensures in
-    let s = record t { signature_bytes = f.0.signature_bytes; payload_bytes = f.0.payload_bytes; payload_value = f.0.payload_value } in
-    (s, join call (header_order ++ CritIsUnderstood ∷ key_tests ++ algorithm_tests) (signature_tests ++ claim_tests) s
-        (join call header_order (CritIsUnderstood ∷ key_tests ++ algorithm_tests) s before (crit, join call key_tests algorithm_tests s key.1 made.1)) (verified_passes call _ s same f.1), (h.2, f.2))
+    let s = record t { signature_bytes = f.0.signature_bytes; payload_bytes = f.0.payload_bytes; payload_value = f.0.payload_value } in (
+      s,
+      join call (header_order ++ CritIsUnderstood ∷ key_tests ++ algorithm_tests) (signature_tests ++ claim_tests) s
+          (join call header_order (CritIsUnderstood ∷ key_tests ++ algorithm_tests) s before (crit, join call key_tests algorithm_tests s key.1 made.1)) (verified_passes call _ s same f.1),
+      (h.2, f.2),
+    )
