@@ -243,15 +243,8 @@ fn set_claims_value(
     ensures err { IfErr result (λ e. IsMemory e ⊎ HasSetFault input.now algorithm set.now now (kind_of e)) }
 {
     let keys = key_set(alloc, set)?;
-    let validation = Validation::new(alloc, algorithm)?;
-    let data: TokenData<Value> = decode_with_set(
-        alloc,
-        &HmacProvider,
-        input,
-        &keys,
-        &validation,
-        now,
-    )?;
+    let rules = Validation::new(alloc, algorithm)?;
+    let data: TokenData<Value> = decode_with_set(alloc, &HmacProvider, input, &keys, &rules, now)?;
     Ok(data.claims)
 }
 
