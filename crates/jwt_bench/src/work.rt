@@ -35,14 +35,46 @@ impl Work {
     }
 }
 
+/// What reading needs.
+#[derive(Drop)]
+struct Reading {
+    key: DecodingKey,
+    validation: Validation,
+}
+
+impl Reading {
+    fn new(alloc: Global) -> Result<Box<Reading>> {
+        let reading = Reading {
+            key: DecodingKey::from_secret(alloc, b"secret")?,
+            validation: Validation::new(alloc, Algorithm::HS256)?,
+        };
+        Ok(Box::new(alloc, reading)?)
+    }
+}
+
+/// What issuing needs.
+#[derive(Drop)]
+struct Issuing {
+    key: EncodingKey,
+    header: Header,
+}
+
+impl Issuing {
+    fn new(alloc: Global) -> Result<Box<Issuing>> {
+        let issuing = Issuing {
+            key: EncodingKey::from_secret(alloc, b"secret")?,
+            header: Header::new(alloc, Algorithm::HS256)?,
+        };
+        Ok(Box::new(alloc, issuing)?)
+    }
+}
+
 /// What the work needs and is not measured.
 #[derive(Drop)]
 pub struct Prepared {
     work: Work,
-    decoding_key: DecodingKey,
-    encoding_key: EncodingKey,
-    validation: Validation,
-    header: Header,
+    reading: Box<Reading>,
+    issuing: Box<Issuing>,
     claims: Value,
 }
 
@@ -55,10 +87,8 @@ impl Prepared {
         };
         Ok(Prepared {
             work,
-            decoding_key: DecodingKey::from_secret(alloc, b"secret")?,
-            encoding_key: EncodingKey::from_secret(alloc, b"secret")?,
-            validation: Validation::new(alloc, Algorithm::HS256)?,
-            header: Header::new(alloc, Algorithm::HS256)?,
+            reading: Reading::new(alloc)?,
+            issuing: Issuing::new(alloc)?,
             claims,
         })
     }
@@ -68,8 +98,8 @@ impl Prepared {
             alloc,
             &HmacProvider,
             token,
-            &self.decoding_key,
-            &self.validation,
+            &self.reading.key,
+            &self.reading.validation,
             0,
         )?;
         drop(black_box(data));
@@ -80,9 +110,9 @@ impl Prepared {
         let token = encode(
             alloc,
             &HmacProvider,
-            &self.header,
+            &self.issuing.header,
             black_box(&self.claims),
-            &self.encoding_key,
+            &self.issuing.key,
         )?;
         drop(black_box(token));
         Ok(())

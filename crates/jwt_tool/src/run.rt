@@ -262,8 +262,8 @@ fn issued_token(alloc: Global, algorithm: Algorithm, secret: &str, input: &[u8])
     ensures err { IfErr result (λ e. IsMemory e ⊎ HasTokenFault input.now algorithm secret.now (kind_of e)) }
 {
     let claims = json_value(alloc, input)?;
-    let header = Header::new(alloc, algorithm)?;
     let key = EncodingKey::from_secret(alloc, secret.as_bytes())?;
+    let header = Header::new(alloc, algorithm)?;
     let token = encode(alloc, &HmacProvider, &header, &claims, &key)?;
     Ok(token)
 }
