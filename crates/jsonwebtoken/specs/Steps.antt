@@ -17,7 +17,7 @@ use Rattle.jwt_keys.specs.KeyOfJwk.{IsKeyOf}
 use Rattle.jwt_header.specs.Header.{ReadsHeader, new_header}
 use Rattle.jwt_validation.specs.Options.{Options}
 use Rattle.jsonwebtoken.specs.Order.{FailedAt}
-use Rattle.jsonwebtoken.specs.Tests.{Cut, Compact, HasParts, Given, InSet, set_of, named_key, Call, Test, KeyIsGiven, HasThreeParts, HeaderIsPart, HeaderIsJson, HeaderReads, CritIsUnderstood, KeyIsFound, KeyAlgorithmAgrees, KeyIsUsable, AlgorithmsAreListed, AlgorithmIsListed, VerifierIsMade, FamiliesAgree, SignatureIsPart, SignatureIsAccepted, PayloadIsPart, PayloadIsJson, ClaimsRead, ClaimsAreAnObject, ClaimRulesHold, Things, Condition, HasKind, Passes, verifying_call, header_call, insecure_call, no_key}
+use Rattle.jsonwebtoken.specs.Tests.{Cut, Compact, HasParts, Given, InSet, set_of, named_key, Call, Test, KeyIsGiven, HasThreeParts, HeaderIsPart, HeaderIsJson, HeaderReads, CritIsUnderstood, KeyIsFound, KeyAlgorithmAgrees, KeyIsUsable, AlgorithmsAreListed, AlgorithmIsListed, VerifierIsMade, FamiliesAgree, SignatureIsPart, SignatureIsAccepted, PayloadIsPart, PayloadIsJson, ClaimsRead, ClaimsAreAnObject, ClaimRulesHold, Things, Condition, HasKind, Passes, verifying_call, set_call, header_call, insecure_call, no_key}
 use Rattle.jwt_header.specs.declared.header.Header.{Header}
 
 -- the answer is so; or the refusal is of such a kind, unless memory ran out
@@ -98,6 +98,12 @@ with_header h x = record x { header = h }
 abbrev pub with_key : Header → Key → Things → Things
 with_key h k x = record x { header = h; key = k }
 
+abbrev pub with_read : Cut → Header → Things → Things
+with_read c h x = record x { cut = c; header = h }
+
+abbrev pub with_read_key : Cut → Header → Key → Things → Things
+with_read_key c h k x = record x { cut = c; header = h; key = k }
+
 -- ---- the calls that a step knows of
 
 abbrev pub bare : Call (Unit {0})
@@ -126,3 +132,11 @@ reading reads = insecure_call (Compact []) reads
 -- of claims, options, the moment and what one verifier accepts
 abbrev pub verified : {T : Type 0} → (Data → T → Type 0) → Options → ℕ → (List ℕ → List ℕ → Type 0) → Call T
 verified reads o now accepts = verifying_call (Compact []) no_key o now (λ _ _. None) (λ _ _. accepts) reads
+
+-- of all but the token and where its key comes from
+abbrev pub checking : {T : Type 0} → (Data → T → Type 0) → Options → ℕ → (Algorithm → Key → Option Kind) → (Algorithm → Key → List ℕ → List ℕ → Type 0) → Call T
+checking reads o now refusal accepts = verifying_call (Compact []) no_key o now refusal accepts reads
+
+-- of all but the token
+abbrev pub checking_by : {T : Type 0} → List Jwk → (Data → T → Type 0) → Options → ℕ → (Algorithm → Key → Option Kind) → (Algorithm → Key → List ℕ → List ℕ → Type 0) → Call T
+checking_by set reads o now refusal accepts = set_call [] set o now refusal accepts reads

@@ -1,13 +1,13 @@
 //! Reading tokens in their compact form (RFC 7515 section 7.1).
 
-ghost use Rattle.std.specs.Prelude.{◌≡◌, ◌⊎◌, IfOk, IfErr, MatchResult};
+ghost use Rattle.std.specs.Prelude.{◌≡◌, ◌⊎◌, ◌++◌, ◌∷◌, IfOk, IfErr, MatchResult};
 ghost use Rattle.jwt_base.specs.Algorithm.{family_of};
 ghost use Rattle.jwt_base.specs.KindOf.{kind_of, IsMemory};
 ghost use Rattle.jwt_keys.specs.Key.{key_family};
 ghost use Rattle.jsonwebtoken.specs.Laws.{HasMoments, PassesLooser, HasOneSignature, IsOneText};
 ghost use Rattle.jwt_validation.specs.OptionsOf.{options_of};
-ghost use Rattle.jsonwebtoken.specs.Steps.{Step};
-ghost use Rattle.jsonwebtoken.specs.Tests.{Compact, Things, Passes, FirstFailed, header_order, decode_order, header_call, verifying_call};
+ghost use Rattle.jsonwebtoken.specs.Steps.{Step, checking, cut_of, with_read_key};
+ghost use Rattle.jsonwebtoken.specs.Tests.{Compact, CritIsUnderstood, Things, Passes, FirstFailed, algorithm_tests, signature_tests, claim_tests, header_order, decode_order, header_call, verifying_call};
 
 mod checks;
 pub(crate) mod crit;
@@ -16,7 +16,7 @@ pub(crate) mod steps;
 
 use crate::decoding::crit::check_crit;
 pub use crate::decoding::key_set::decode_with_set;
-use crate::decoding::steps::{make_verifier, parts, read_header, verified_claims};
+use crate::decoding::steps::{Pieces, keyed_claims, parts, read_header};
 use jwt_base::errors::Result;
 use jwt_base::json::Claims;
 use jwt_header::header::Header;
@@ -34,6 +34,25 @@ pub struct TokenData<T> {
     pub claims: T,
 }
 
+/// The claims of a token whose header was read.
+fn checked_claims<P: CryptoProvider, T: Claims>(
+    alloc: Global,
+    provider: &P,
+    pieces: &Pieces<'_>,
+    header: &Header,
+    key: &DecodingKey,
+    validation: &Validation,
+    now: u64,
+) -> Result<T>
+    ensures { Step (checking T.reads (options_of validation.now) now (P.verifier_refusal provider.now) (P.accepts provider.now))
+        (CritIsUnderstood ∷ algorithm_tests ++ signature_tests ++ claim_tests)
+        (with_read_key (cut_of pieces.now.header pieces.now.payload pieces.now.signature) header.now key.now) (λ x c. T.reads x.payload_value c) result }
+{
+    check_crit(header, validation)?;
+    let claims = keyed_claims(alloc, provider, pieces, header, key, validation, now)?;
+    Ok(claims)
+}
+
 fn run<P: CryptoProvider, T: Claims>(
     alloc: Global,
     provider: &P,
@@ -47,9 +66,7 @@ fn run<P: CryptoProvider, T: Claims>(
 {
     let pieces = parts(token)?;
     let header = read_header(alloc, pieces.header)?;
-    check_crit(&header, validation)?;
-    let verifier = make_verifier(alloc, provider, key, validation, &header)?;
-    let claims = verified_claims(alloc, &verifier, &pieces, validation, now)?;
+    let claims = checked_claims(alloc, provider, &pieces, &header, key, validation, now)?;
     Ok(TokenData { header, claims })
 }
 

@@ -1,6 +1,6 @@
 //! Tokens in parts, as the members of the flattened JSON form (RFC 7515 section 7.2.2).
 
-ghost use Rattle.std.specs.Prelude.{◌≡◌, ◌⊎◌, Some, None, ℕ, List, IfOk, IfErr, MatchResult, option_map, string_bytes, codes};
+ghost use Rattle.std.specs.Prelude.{◌≡◌, ◌⊎◌, ◌++◌, ◌∷◌, Some, None, ℕ, List, IfOk, IfErr, MatchResult, option_map, string_bytes, codes};
 ghost use Rattle.serde_json.specs.View.{view};
 ghost use Rattle.jwt_base.specs.Algorithm.{family_of};
 ghost use Rattle.jwt_base.specs.Kind as kind;
@@ -12,8 +12,8 @@ ghost use Rattle.jsonwebtoken.specs.IssueSteps.{IssueStep};
 ghost use Rattle.jwt_base.specs.Members.{text_at};
 ghost use Rattle.jsonwebtoken.specs.Jws.{parts_of, ReadsParts, parts_value, JwsHasMoments, JwsPassesLooser, AreOneCut};
 ghost use Rattle.jsonwebtoken.specs.Laws.{HasOneSignature, AgreeOn};
-ghost use Rattle.jsonwebtoken.specs.Steps.{Step, cut_of};
-ghost use Rattle.jsonwebtoken.specs.Tests.{Cut, Parts, Things, text_of_parts, Passes, FirstFailed, jws_order, verifying_call};
+ghost use Rattle.jsonwebtoken.specs.Steps.{Step, checking, cut_of, with_read_key};
+ghost use Rattle.jsonwebtoken.specs.Tests.{Cut, CritIsUnderstood, Parts, Things, text_of_parts, Passes, FirstFailed, jws_algorithm_tests, signature_tests, claim_tests, jws_order, verifying_call};
 
 use crate::decoding::TokenData;
 use crate::decoding::crit::check_crit;
@@ -156,6 +156,26 @@ pub fn encode<P: CryptoProvider, T: Claims>(
     issue(alloc, provider, header, claims, key)
 }
 
+/// The claims of a token whose header was read.
+fn checked_claims<P: CryptoProvider, T: Claims>(
+    alloc: Global,
+    provider: &P,
+    pieces: &Pieces<'_>,
+    header: &Header,
+    key: &DecodingKey,
+    validation: &Validation,
+    now: u64,
+) -> Result<T>
+    ensures { Step (checking T.reads (options_of validation.now) now (P.verifier_refusal provider.now) (P.accepts provider.now))
+        (CritIsUnderstood ∷ jws_algorithm_tests ++ signature_tests ++ claim_tests)
+        (with_read_key (cut_of pieces.now.header pieces.now.payload pieces.now.signature) header.now key.now) (λ x c. T.reads x.payload_value c) result }
+{
+    check_crit(header, validation)?;
+    let verifier = make_jws_verifier(alloc, provider, key, validation, header)?;
+    let claims = verified_claims(alloc, &verifier, pieces, validation, now)?;
+    Ok(claims)
+}
+
 fn run_pieces<P: CryptoProvider, T: Claims>(
     alloc: Global,
     provider: &P,
@@ -168,9 +188,7 @@ fn run_pieces<P: CryptoProvider, T: Claims>(
         jws_order (λ x. x) (λ x r. (x.header ≡ r.header) × T.reads x.payload_value r.claims) result }
 {
     let header = read_header(alloc, pieces.header)?;
-    check_crit(&header, validation)?;
-    let verifier = make_jws_verifier(alloc, provider, key, validation, &header)?;
-    let claims = verified_claims(alloc, &verifier, pieces, validation, now)?;
+    let claims = checked_claims(alloc, provider, pieces, &header, key, validation, now)?;
     Ok(TokenData { header, claims })
 }
 

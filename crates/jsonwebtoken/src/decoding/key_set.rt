@@ -1,17 +1,17 @@
 //! Reading tokens by the key that their header names in a set (RFC 7515 section 4.1.4, RFC 7517 section 5).
 
-ghost use Rattle.std.specs.Prelude.{◌≡◌, ◌⊎◌, Some, None, IfOk, IfErr, MatchResult};
+ghost use Rattle.std.specs.Prelude.{◌≡◌, ◌⊎◌, ◌++◌, ◌∷◌, Some, None, IfOk, IfErr, MatchResult};
 ghost use Rattle.jwt_base.specs.Kind as kind;
 ghost use Rattle.jwt_base.specs.KindOf.{kind_of, IsMemory};
 ghost use Rattle.jwt_validation.specs.OptionsOf.{options_of};
 ghost use Rattle.jsonwebtoken.specs.Laws.{HasOneSignature};
 ghost use Rattle.jsonwebtoken.specs.SetLaws.{SetHasMoments, SetPassesLooser, PassesWithMore, IsOneTextBySet};
-ghost use Rattle.jsonwebtoken.specs.Steps.{Decides, Step, looking_in, with_header};
-ghost use Rattle.jsonwebtoken.specs.Tests.{named_key, AgreesWith, Things, Passes, FirstFailed, key_tests, set_order, set_call};
+ghost use Rattle.jsonwebtoken.specs.Steps.{Decides, Step, checking_by, cut_of, looking_in, with_header, with_read};
+ghost use Rattle.jsonwebtoken.specs.Tests.{named_key, AgreesWith, CritIsUnderstood, Things, Passes, FirstFailed, key_tests, algorithm_tests, signature_tests, claim_tests, set_order, set_call};
 
 use crate::decoding::TokenData;
 use crate::decoding::crit::check_crit;
-use crate::decoding::steps::{make_verifier, parts, read_header, verified_claims};
+use crate::decoding::steps::{Pieces, keyed_claims, parts, read_header};
 use jwt_base::algorithms::{Algorithm, KeyAlgorithm};
 use jwt_base::errors::{ErrorKind, Result, new_error};
 use jwt_base::json::Claims;
@@ -59,6 +59,26 @@ fn key_in_set(alloc: Global, set: &JwkSet, header: &Header) -> Result<DecodingKe
     Ok(key)
 }
 
+/// The claims of a token whose header was read, by the key that it names.
+fn checked_claims<P: CryptoProvider, T: Claims>(
+    alloc: Global,
+    provider: &P,
+    pieces: &Pieces<'_>,
+    header: &Header,
+    set: &JwkSet,
+    validation: &Validation,
+    now: u64,
+) -> Result<T>
+    ensures { Step (checking_by set.now.keys.items T.reads (options_of validation.now) now (P.verifier_refusal provider.now) (P.accepts provider.now))
+        (CritIsUnderstood ∷ key_tests ++ algorithm_tests ++ signature_tests ++ claim_tests)
+        (with_read (cut_of pieces.now.header pieces.now.payload pieces.now.signature) header.now) (λ x c. T.reads x.payload_value c) result }
+{
+    check_crit(header, validation)?;
+    let key = key_in_set(alloc, set, header)?;
+    let claims = keyed_claims(alloc, provider, pieces, header, &key, validation, now)?;
+    Ok(claims)
+}
+
 fn run<P: CryptoProvider, T: Claims>(
     alloc: Global,
     provider: &P,
@@ -72,10 +92,7 @@ fn run<P: CryptoProvider, T: Claims>(
 {
     let pieces = parts(token)?;
     let header = read_header(alloc, pieces.header)?;
-    check_crit(&header, validation)?;
-    let key = key_in_set(alloc, set, &header)?;
-    let verifier = make_verifier(alloc, provider, &key, validation, &header)?;
-    let claims = verified_claims(alloc, &verifier, &pieces, validation, now)?;
+    let claims = checked_claims(alloc, provider, &pieces, &header, set, validation, now)?;
     Ok(TokenData { header, claims })
 }
 

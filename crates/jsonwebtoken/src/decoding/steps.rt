@@ -4,7 +4,7 @@ ghost use Rattle.std.specs.Prelude.{◌≡◌, ◌↔◌, ◌++◌, ◌∷◌, �
 ghost use Rattle.jwt_base.specs.Kind as kind;
 ghost use Rattle.jwt_base.specs.KindOf.{kind_of};
 ghost use Rattle.jwt_validation.specs.OptionsOf.{options_of};
-ghost use Rattle.jsonwebtoken.specs.Steps.{Step, bare, cut_of, with_header_part, with_payload_part, with_cut, with_key, making, accepting, claiming, reading, verified};
+ghost use Rattle.jsonwebtoken.specs.Steps.{Step, bare, cut_of, with_header_part, with_payload_part, with_cut, with_key, with_read_key, making, accepting, claiming, reading, verified, checking};
 ghost use Rattle.jsonwebtoken.specs.Tests.{dot, Cut, IsCutOf, header_tests, algorithm_tests, jws_algorithm_tests, signature_tests, payload_tests, claim_tests};
 
 use crate::decoding::checks::{check_families, check_listed, check_some_listed, check_verdict};
@@ -160,6 +160,25 @@ pub(crate) fn verified_claims<V: JwtVerifier, T: Claims>(
 {
     check_signature(alloc, verifier, pieces)?;
     read_claims(alloc, pieces.payload, validation, now)
+}
+
+/// The claims of a token whose header was read and is understood, by the key.
+pub(crate) fn keyed_claims<P: CryptoProvider, T: Claims>(
+    alloc: Global,
+    provider: &P,
+    pieces: &Pieces<'_>,
+    header: &Header,
+    key: &DecodingKey,
+    validation: &Validation,
+    now: u64,
+) -> Result<T>
+    ensures { Step (checking T.reads (options_of validation.now) now (P.verifier_refusal provider.now) (P.accepts provider.now))
+        (algorithm_tests ++ signature_tests ++ claim_tests)
+        (with_read_key (cut_of pieces.now.header pieces.now.payload pieces.now.signature) header.now key.now) (λ x c. T.reads x.payload_value c) result }
+{
+    let verifier = make_verifier(alloc, provider, key, validation, header)?;
+    let claims = verified_claims(alloc, &verifier, pieces, validation, now)?;
+    Ok(claims)
 }
 
 /// The claims that a payload part stands for, which no rule is asked of.

@@ -4,7 +4,7 @@ use Rattle.jsonwebtoken.specs.Tests.{Compact, CritIsUnderstood, KeyIsGiven, HasT
 use Rattle.jwt_validation.specs.OptionsOf.{options_of}
 use Rattle.jsonwebtoken.specs.Steps.{nothing, cut_of}
 use Rattle.jsonwebtoken.proofs.Orders.{join}
-use Rattle.jsonwebtoken.proofs.Exits.{or_memory, stop, verified_passes, verified_failed}
+use Rattle.jsonwebtoken.proofs.Exits.{or_memory, stop}
 use Rattle.jsonwebtoken.proofs.decoding.run.Goals as goal
 
 pub returns-in_err-pieces : goal.returns-in_err-pieces
@@ -20,59 +20,21 @@ returns-in_err-header g c =
     rw (p.1, p.2) (or_memory (λ f. stop call decode_order (KeyIsGiven ∷ HasThreeParts ∷ []) header_tests (record f.0 { cut = cut; key = c.args.key.now }) _
     (refl, (c.in_ok-pieces.ensures.ok, tt)) f.1) c.in_err-header.ensures)
 
-pub returns-in_err-check_crit : goal.returns-in_err-check_crit
-returns-in_err-check_crit g c =
-    let call = verifying_call (Compact c.args.token.now) c.args.key.now (options_of c.args.validation.now) c.args.now (g.P.CryptoProvider.verifier_refusal c.args.provider.now) (g.P.CryptoProvider.accepts c.args.provider.now) g.T.Claims.reads in
-    let cut = cut_of c.in_ok-pieces.pieces.header c.in_ok-pieces.pieces.payload c.in_ok-pieces.pieces.signature in
-    let h = c.in_ok-header.ensures in
-    let t = record h.0 { cut = cut; key = c.args.key.now } in
-    let before = join call (KeyIsGiven ∷ HasThreeParts ∷ []) header_tests t (refl, (c.in_ok-pieces.ensures.ok, tt)) h.1 in
-    let p = err_from_is_err_and c.from_residual-in_err-check_crit.result c.from_residual-in_err-check_crit.ensures.1 in
-    let no = rw (sym h.2) at c.in_err-check_crit.ensures in
-    rw (p.1, p.2) (or_memory (λ f. stop call decode_order (KeyIsGiven ∷ header_order) (CritIsUnderstood ∷ []) t _ before (inl f)) no)
-
-pub returns-in_err-verifier : goal.returns-in_err-verifier
-returns-in_err-verifier g c =
-    let call = verifying_call (Compact c.args.token.now) c.args.key.now (options_of c.args.validation.now) c.args.now (g.P.CryptoProvider.verifier_refusal c.args.provider.now) (g.P.CryptoProvider.accepts c.args.provider.now) g.T.Claims.reads in
-    let cut = cut_of c.in_ok-pieces.pieces.header c.in_ok-pieces.pieces.payload c.in_ok-pieces.pieces.signature in
-    let h = c.in_ok-header.ensures in
-    let t = record h.0 { cut = cut; key = c.args.key.now } in
-    let before = join call (KeyIsGiven ∷ HasThreeParts ∷ []) header_tests t (refl, (c.in_ok-pieces.ensures.ok, tt)) h.1 in
-    let p = err_from_is_err_and c.from_residual-in_err-verifier.result c.from_residual-in_err-verifier.ensures.1 in
-    let crit = rw (sym h.2) at c.in_ok-check_crit.ensures in
-    let no = rw (sym h.2) at c.in_err-verifier.ensures.tests in
-    rw (p.1, p.2) (or_memory (λ f. stop call decode_order (KeyIsGiven ∷ header_order ++ CritIsUnderstood ∷ []) algorithm_tests t _
-    (join call (KeyIsGiven ∷ header_order) (CritIsUnderstood ∷ []) t before (crit, tt)) f.1) no)
-
 pub returns-in_err-claims : goal.returns-in_err-claims
 returns-in_err-claims g c =
     let call = verifying_call (Compact c.args.token.now) c.args.key.now (options_of c.args.validation.now) c.args.now (g.P.CryptoProvider.verifier_refusal c.args.provider.now) (g.P.CryptoProvider.accepts c.args.provider.now) g.T.Claims.reads in
     let cut = cut_of c.in_ok-pieces.pieces.header c.in_ok-pieces.pieces.payload c.in_ok-pieces.pieces.signature in
     let h = c.in_ok-header.ensures in
-    let t = record h.0 { cut = cut; key = c.args.key.now } in
-    let before = join call (KeyIsGiven ∷ HasThreeParts ∷ []) header_tests t (refl, (c.in_ok-pieces.ensures.ok, tt)) h.1 in
     let p = err_from_is_err_and c.from_residual-in_err-claims.result c.from_residual-in_err-claims.ensures.1 in
-    let crit = rw (sym h.2) at c.in_ok-check_crit.ensures in
-    let made = rw (sym h.2) at c.in_ok-verifier.ensures.tests in
-    let same = rw (sym h.2) at c.in_ok-verifier.ensures.accepts in
-    rw (p.1, p.2) (or_memory (λ f. let s = record t { signature_bytes = f.0.signature_bytes; payload_bytes = f.0.payload_bytes; payload_value = f.0.payload_value } in
-    stop call decode_order (KeyIsGiven ∷ header_order ++ CritIsUnderstood ∷ algorithm_tests) (signature_tests ++ claim_tests) s _
-    (join call (KeyIsGiven ∷ header_order) (CritIsUnderstood ∷ algorithm_tests) s before (crit, made.1)) (verified_failed call _ s same _ f.1)) c.in_err-claims.ensures)
+    let no = rw (sym h.2) at c.in_err-claims.ensures in
+    rw (p.1, p.2) (or_memory (λ f. let t = record h.0 { cut = cut; key = c.args.key.now; signature_bytes = f.0.signature_bytes; payload_bytes = f.0.payload_bytes; payload_value = f.0.payload_value } in
+    stop call decode_order (KeyIsGiven ∷ header_order) (CritIsUnderstood ∷ algorithm_tests ++ signature_tests ++ claim_tests) t _ (join call (KeyIsGiven ∷ HasThreeParts ∷ []) header_tests t (refl, (c.in_ok-pieces.ensures.ok, tt)) h.1) f.1) no)
 
 pub returns : goal.returns
 returns g c =
     let call = verifying_call (Compact c.args.token.now) c.args.key.now (options_of c.args.validation.now) c.args.now (g.P.CryptoProvider.verifier_refusal c.args.provider.now) (g.P.CryptoProvider.accepts c.args.provider.now) g.T.Claims.reads in
     let cut = cut_of c.in_ok-pieces.pieces.header c.in_ok-pieces.pieces.payload c.in_ok-pieces.pieces.signature in
     let h = c.in_ok-header.ensures in
-    let t = record h.0 { cut = cut; key = c.args.key.now } in
-    let before = join call (KeyIsGiven ∷ HasThreeParts ∷ []) header_tests t (refl, (c.in_ok-pieces.ensures.ok, tt)) h.1 in
-    let crit = rw (sym h.2) at c.in_ok-check_crit.ensures in
-    let made = rw (sym h.2) at c.in_ok-verifier.ensures.tests in
-    let same = rw (sym h.2) at c.in_ok-verifier.ensures.accepts in
-    let f = c.in_ok-claims.ensures in
-    let s = record t { signature_bytes = f.0.signature_bytes; payload_bytes = f.0.payload_bytes; payload_value = f.0.payload_value } in (
-      s,
-      join call (KeyIsGiven ∷ header_order ++ CritIsUnderstood ∷ algorithm_tests) (signature_tests ++ claim_tests) s
-          (join call (KeyIsGiven ∷ header_order) (CritIsUnderstood ∷ algorithm_tests) s before (crit, made.1)) (verified_passes call _ s same f.1),
-      (h.2, f.2),
-    )
+    let f = rw (sym h.2) at c.in_ok-claims.ensures in
+    let t = record h.0 { cut = cut; key = c.args.key.now; signature_bytes = f.0.signature_bytes; payload_bytes = f.0.payload_bytes; payload_value = f.0.payload_value } in
+    (t, join call (KeyIsGiven ∷ header_order) (CritIsUnderstood ∷ algorithm_tests ++ signature_tests ++ claim_tests) t (join call (KeyIsGiven ∷ HasThreeParts ∷ []) header_tests t (refl, (c.in_ok-pieces.ensures.ok, tt)) h.1) f.1, (h.2, f.2))
