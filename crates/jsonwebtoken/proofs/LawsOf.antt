@@ -16,7 +16,7 @@ use Rattle.jsonwebtoken.proofs.Dots.{cut_of_parts, parts_of_cut}
 use Rattle.jwt_validation.proofs.ClaimRuleLemmas.{within, held_within}
 use Rattle.jwt_base.proofs.Parts.{one_json}
 use Rattle.jwt_header.proofs.HeaderLemmas.{one_header}
-use Rattle.jsonwebtoken.proofs.OneKey.{one_key}
+use Rattle.jwt_keys.proofs.OneKey.{one_key}
 use Rattle.jsonwebtoken.proofs.Orders.{met, among, join}
 use Rattle.jsonwebtoken.proofs.Pointwise.{passes_looser}
 

@@ -4,7 +4,6 @@ pub mod Exits
 pub mod Issued
 pub mod LawsOf
 pub mod OneCut
-pub mod OneKey
 pub mod Orders
 pub mod Pointwise
 pub mod Repeats

@@ -11,7 +11,7 @@ use Rattle.jwt_header.specs.declared.header.Header.{Header}
 use Rattle.jsonwebtoken.proofs.Engine as engine
 use Rattle.jwt_header.proofs.HeaderLemmas.{one_header}
 use Rattle.jsonwebtoken.proofs.OneCut.{one_cut}
-use Rattle.jsonwebtoken.proofs.OneKey.{one_key}
+use Rattle.jwt_keys.proofs.OneKey.{one_key}
 
 abbrev every_test : List Test
 every_test = KeyIsGiven ∷ HasThreeParts ∷ HeaderIsPart ∷ HeaderIsJson ∷ HeaderReads ∷ CritIsUnderstood ∷ KeyIsFound ∷ KeyAlgorithmAgrees ∷ KeyIsUsable

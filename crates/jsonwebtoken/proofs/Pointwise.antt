@@ -5,8 +5,8 @@ use Rattle.std.proofs.lemmas.List.Folds.{find-append}
 use Rattle.serde_json.specs.Data.{Members}
 use Rattle.jwt_base.specs.Algorithm.{family_of}
 use Rattle.jwt_base.specs.declared.algorithms.Algorithm.{Algorithm}
-use Rattle.jwt_jwk.specs.Jwk.{has_id}
-use Rattle.jwt_jwk.specs.declared.jwk.Jwk.{Jwk}
+use Rattle.jwt_keys.specs.Jwk.{has_id}
+use Rattle.jwt_keys.specs.declared.jwk.Jwk.{Jwk}
 use Rattle.jwt_validation.proofs.ClaimRuleLemmas.{rules-looser}
 use Rattle.jwt_validation.specs.Moments.{IsSubset, Looser}
 use Rattle.jwt_validation.specs.Options.{Options, Texts}

@@ -15,7 +15,7 @@ pub use Rattle.jwt_base.specs.Base64Url
 pub use Rattle.jwt_base.specs.Claims
 pub use Rattle.jwt_base.specs.JsonText
 pub use Rattle.jwt_base.specs.Members
-pub use Rattle.jwt_jwk.specs.Jwk
+pub use Rattle.jwt_keys.specs.Jwk
 pub use Rattle.jwt_keys.specs.Key
 pub use Rattle.jwt_keys.specs.KeyOfJwk
 pub use Rattle.jwt_keys.specs.Provider

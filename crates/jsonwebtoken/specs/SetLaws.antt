@@ -1,6 +1,6 @@
 -- When a token is accepted by a key of a set, under which options and with which sets.
 use Rattle.std.specs.Prelude.{◌≡◌, ◌↔◌, ℕ, ◌≤◌, List, [], ◌∷◌, ◌++◌}
-use Rattle.jwt_jwk.specs.declared.jwk.Jwk.{Jwk}
+use Rattle.jwt_keys.specs.declared.jwk.Jwk.{Jwk}
 use Rattle.jwt_validation.specs.Options.{Options}
 use Rattle.jwt_validation.specs.Moments.{end_of_time, Looser}
 use Rattle.jsonwebtoken.specs.Laws.{IsWithin}

@@ -11,7 +11,7 @@ use Rattle.jwt_base.specs.declared.algorithms.Algorithm.{Algorithm}
 use Rattle.jwt_base.specs.declared.algorithms.Algorithm.TheVariants.{HS256}
 use Rattle.jwt_params.specs.Common.{no_common}
 use Rattle.jwt_kinds.specs.declared.algorithm.AlgorithmParameters.TheVariants.{Other}
-use Rattle.jwt_jwk.specs.declared.jwk.Jwk.{Jwk}
+use Rattle.jwt_keys.specs.declared.jwk.Jwk.{Jwk}
 use Rattle.jwt_keys.specs.Key.{Key}
 use Rattle.jwt_keys.specs.KeyOfJwk.{IsKeyOf}
 use Rattle.jwt_header.specs.Header.{ReadsHeader, new_header}

@@ -9,8 +9,8 @@ use Rattle.jwt_base.specs.Base64Url.{IsPart}
 use Rattle.jwt_base.specs.JsonText.{IsJson}
 use Rattle.jwt_base.specs.declared.algorithms.Algorithm.{Algorithm}
 use Rattle.jwt_base.specs.declared.algorithms.AlgorithmFamily.TheVariants.{Hmac}
-use Rattle.jwt_jwk.specs.Jwk.{has_id}
-use Rattle.jwt_jwk.specs.declared.jwk.Jwk.{Jwk}
+use Rattle.jwt_keys.specs.Jwk.{has_id}
+use Rattle.jwt_keys.specs.declared.jwk.Jwk.{Jwk}
 use Rattle.jwt_keys.specs.Key.{Key, Plain}
 use Rattle.jwt_keys.specs.KeyOfJwk.{IsKeyOf, refusal_of}
 use Rattle.jwt_validation.specs.ClaimRules.{RulesHold, IsRuleFault}

@@ -1,8 +1,8 @@
 //! JSON Web Keys and sets of them (RFC 7517).
 
 pub use jwt_base::algorithms::KeyAlgorithm;
-pub use jwt_jwk::jwk::Jwk;
-pub use jwt_jwk::jwk_set::JwkSet;
+pub use jwt_keys::jwk::Jwk;
+pub use jwt_keys::jwk_set::JwkSet;
 pub use jwt_kinds::algorithm::AlgorithmParameters;
 pub use jwt_kinds::elliptic::EllipticCurveKeyParameters;
 pub use jwt_kinds::free_members::FreeMembers;

@@ -16,10 +16,10 @@ use Rattle.jwt_header.specs.Extras.{header_names, IsExtras}
 use Rattle.jwt_header.specs.Header.{ReadsHeader, with_named, header_members, header_value}
 use Rattle.jwt_header.specs.HeaderSame.{named_back}
 use Rattle.jwt_header.specs.HeaderWritten.{normal_header, IsNormal, HasNormalForm}
-use Rattle.jwt_jwk.specs.Jwk.{ReadsKey, key_members, key_value}
-use Rattle.jwt_jwk.specs.JwkWritten.{normal_key}
-use Rattle.jwt_jwk.specs.declared.jwk.Jwk.{Jwk}
-use Rattle.jwt_jwk.proofs.JwkLemmas.{one_key, reads_written as reads_written_key, read_is_normal as read_key_is_normal, has_normal_form as key_has_normal_form, written_no_float as written_key_no_float}
+use Rattle.jwt_keys.specs.Jwk.{ReadsKey, key_members, key_value}
+use Rattle.jwt_keys.specs.JwkWritten.{normal_key}
+use Rattle.jwt_keys.specs.declared.jwk.Jwk.{Jwk}
+use Rattle.jwt_keys.proofs.JwkLemmas.{one_key, reads_written as reads_written_key, read_is_normal as read_key_is_normal, has_normal_form as key_has_normal_form, written_no_float as written_key_no_float}
 use Rattle.jwt_header.specs.Zip.{zip_text, zip_named, zip_from, zip_value, normal_zip}
 use Rattle.jwt_header.specs.declared.header.Header.{Header}
 use Rattle.jwt_header.specs.declared.header.names.Enc.{Enc}

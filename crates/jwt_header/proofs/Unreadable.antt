@@ -13,8 +13,8 @@ use Rattle.jwt_header.specs.Extras.{header_names}
 use Rattle.jwt_header.specs.Header.{ReadsHeader}
 use Rattle.jwt_header.specs.Zip.{zip_from}
 use Rattle.jwt_header.specs.declared.header.Header.{Header}
-use Rattle.jwt_jwk.specs.Jwk.{ReadsKey}
-use Rattle.jwt_jwk.specs.declared.jwk.Jwk.{Jwk}
+use Rattle.jwt_keys.specs.Jwk.{ReadsKey}
+use Rattle.jwt_keys.specs.declared.jwk.Jwk.{Jwk}
 
 -- no header reads from the value
 abbrev pub RefusesHeader : Data → Error → Type 0

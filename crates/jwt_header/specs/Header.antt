@@ -10,7 +10,7 @@ use Rattle.jwt_header.specs.Enc.{enc_from, enc_value}
 use Rattle.jwt_header.specs.Extras.{header_names}
 use Rattle.jwt_header.specs.Zip.{zip_from, zip_value}
 use Rattle.jwt_header.specs.declared.header.Header.{Header}
-use Rattle.jwt_jwk.specs.Jwk.{ReadsKey, key_value}
+use Rattle.jwt_keys.specs.Jwk.{ReadsKey, key_value}
 
 -- d is an object, each name gives its field, the other members are the extras, and no float is among them
 pub record ReadsHeader (d : Data) (h : Header) : Type 0 where

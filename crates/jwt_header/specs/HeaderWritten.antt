@@ -6,7 +6,7 @@ use Rattle.jwt_header.specs.Extras.{IsExtras}
 use Rattle.jwt_header.specs.Header.{ReadsHeader, header_value}
 use Rattle.jwt_header.specs.Zip.{normal_zip}
 use Rattle.jwt_header.specs.declared.header.Header.{Header}
-use Rattle.jwt_jwk.specs.JwkWritten.{normal_key}
+use Rattle.jwt_keys.specs.JwkWritten.{normal_key}
 
 -- a free text that is a known spelling becomes the known value, and the key its normal form
 abbrev pub normal_header : Header → Header

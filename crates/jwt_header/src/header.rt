@@ -11,8 +11,8 @@ ghost use Rattle.jwt_base.specs.Members.{optional, put_some, ReadsOptional, writ
 ghost use Rattle.jwt_header.specs.Enc.{enc_from, enc_value};
 ghost use Rattle.jwt_header.specs.Extras.{IsExtras};
 ghost use Rattle.jwt_header.specs.Zip.{zip_from, zip_value};
-ghost use Rattle.jwt_jwk.specs.Jwk.{ReadsKey, key_value};
-ghost use Rattle.jwt_jwk.specs.declared.jwk.Jwk.{Jwk};
+ghost use Rattle.jwt_keys.specs.Jwk.{ReadsKey, key_value};
+ghost use Rattle.jwt_keys.specs.declared.jwk.Jwk.{Jwk};
 
 mod certificates;
 mod extras;
@@ -26,7 +26,7 @@ use jwt_base::json::members::{
     optional_text, optional_texts, put_optional_text, put_optional_texts, put_text,
 };
 use jwt_base::text::{Text, Texts, clone_text};
-use jwt_jwk::jwk::Jwk;
+use jwt_keys::jwk::Jwk;
 pub use names::{Enc, Zip};
 use serde_json::{Map, Value};
 use std::alloc::Global;

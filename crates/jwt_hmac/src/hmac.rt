@@ -1,10 +1,10 @@
 //! The provider of HMAC (RFC 2104) with SHA-2 (RFC 7518 section 3.2).
 
-ghost use Rattle.std.specs.Prelude.{◌≡◌, ◌≢◌, ◌↔◌, ⊤, ℕ, ◌≤◌, List, ◌++◌, Option, Ok, Err, Some, None, IfOk, IfErr, OnOk, IsOk, IsTrue, length};
+ghost use Rattle.std.specs.Prelude.{◌≡◌, ◌≢◌, ◌↔◌, ⊤, ℕ, ◌≤◌, List, ◌++◌, Option, Ok, Some, None, IfOk, IfErr, OnOk, IsOk, IsTrue, length};
 ghost use Rattle.jwt_base.specs.Kind as kind;
 ghost use Rattle.jwt_base.specs.KindOf.{kind_of, IsMemory, Refuses};
 ghost use Rattle.jwt_keys.specs.Key.{Key, Plain, SecretKey, key_family};
-ghost use Rattle.jwt_keys.specs.Provider.{HasOneSignature};
+ghost use Rattle.jwt_keys.specs.Provider.{HasOneSignature, reads_no_key};
 ghost use Rattle.jwt_hmac.specs.Hmac.{hash_bytes, block_len, short_key, filled, masked, nested, hmac, mac_by, HaveOneKey};
 ghost use Rattle.jwt_hmac.specs.HmacKeys.{hash_for, hash_named, algorithm_for, refusal, HmacSigns, HmacAccepts, AcceptsItsOwn};
 ghost use Rattle.jwt_hmac.specs.HmacFamilies.{family_made};
@@ -311,15 +311,7 @@ impl CryptoProvider for HmacProvider {
 
     ghost is_sparing = { λ _. ⊤ };
 
-    ghost rsa_private_components = { λ _ der. Err kind.UnsupportedAlgorithm };
-
-    ghost rsa_public_components = { λ _ der. Err kind.UnsupportedAlgorithm };
-
-    ghost ec_components = { λ _ der a. Err kind.UnsupportedAlgorithm };
-
-    ghost ed_component = { λ _ der c. Err kind.UnsupportedAlgorithm };
-
-    ghost digest = { λ _ h bytes. Ok (hash_bytes (hash_named h) bytes) };
+    ghost key_answers = { λ _. reads_no_key kind.UnsupportedAlgorithm (λ h bytes. Ok (hash_bytes (hash_named h) bytes)) };
 
     /// A signer by HMAC. An algorithm of another family is refused with `UnsupportedAlgorithm`, and then a key of another
     /// family with `InvalidKeyFormat`. No memory is taken.

@@ -8,10 +8,10 @@ ghost use Rattle.jwt_base.specs.declared.algorithms.AlgorithmFamily.TheVariants 
 ghost use Rattle.jwt_keys.specs.Key.{Key, Plain, Components, key_family, key_content, IsRsaOfParts, IsEcOfParts, IsEdOfPart, IsHmacOfPart, cleared, cleared_content};
 ghost use Rattle.jwt_keys.specs.KeyOfJwk.{IsKeyOf, refusal_of};
 
+use crate::jwk::Jwk;
 use jwt_base::algorithms::AlgorithmFamily;
 use jwt_base::errors::{ErrorKind, Result, new_error};
 use jwt_base::serialization::{part_bytes, standard_bytes, url_bytes};
-use jwt_jwk::jwk::Jwk;
 use jwt_kinds::algorithm::AlgorithmParameters;
 use std::alloc::Global;
 use std::fmt;

@@ -92,7 +92,8 @@ impl EllipticCurveKeyParameters {
         }))
     }
 
-    pub(crate) fn members(&self, alloc: Global) -> Result<Map<String, Value>>
+    /// The members `crv`, `kty`, `x` and `y`. The only refusal is `OutOfMemory`.
+    pub fn members(&self, alloc: Global) -> Result<Map<String, Value>>
         ensures ok { IfOk result (λ m. members_view m.entries ≡ elliptic_members self.now) }
         ensures err { IfErr result IsMemory }
     {

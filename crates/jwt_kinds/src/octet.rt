@@ -77,7 +77,8 @@ impl OctetKeyParameters {
         }))
     }
 
-    pub(crate) fn members(&self, alloc: Global) -> Result<Map<String, Value>>
+    /// The members `k` and `kty`. The only refusal is `OutOfMemory`.
+    pub fn members(&self, alloc: Global) -> Result<Map<String, Value>>
         ensures ok { IfOk result (λ m. members_view m.entries ≡ octet_members self.now) }
         ensures err { IfErr result IsMemory }
     {

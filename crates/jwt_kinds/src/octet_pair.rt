@@ -85,7 +85,8 @@ impl OctetKeyPairParameters {
         }))
     }
 
-    pub(crate) fn members(&self, alloc: Global) -> Result<Map<String, Value>>
+    /// The members `crv`, `kty` and `x`. The only refusal is `OutOfMemory`.
+    pub fn members(&self, alloc: Global) -> Result<Map<String, Value>>
         ensures ok { IfOk result (λ m. members_view m.entries ≡ pair_members self.now) }
         ensures err { IfErr result IsMemory }
     {

@@ -84,7 +84,8 @@ impl RSAKeyParameters {
         }))
     }
 
-    pub(crate) fn members(&self, alloc: Global) -> Result<Map<String, Value>>
+    /// The members `e`, `kty` and `n`. The only refusal is `OutOfMemory`.
+    pub fn members(&self, alloc: Global) -> Result<Map<String, Value>>
         ensures ok { IfOk result (λ m. members_view m.entries ≡ rsa_members self.now) }
         ensures err { IfErr result IsMemory }
     {

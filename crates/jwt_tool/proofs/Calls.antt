@@ -5,7 +5,7 @@ use Rattle.serde_json.specs.declared.value.Value.{Value}
 use Rattle.jwt_base.specs.Kind.{Kind}
 use Rattle.jwt_base.specs.declared.algorithms.Algorithm.{Algorithm}
 use Rattle.jwt_base.specs.declared.algorithms.AlgorithmFamily.TheVariants.{Hmac}
-use Rattle.jwt_jwk.specs.declared.jwk.Jwk.{Jwk}
+use Rattle.jwt_keys.specs.declared.jwk.Jwk.{Jwk}
 use Rattle.jwt_keys.specs.Key.{Key, Plain, SecretKey, key_family}
 use Rattle.jwt_hmac.specs.HmacKeys.{hash_for, refusal, HmacAccepts, HmacSigns}
 use Rattle.jwt_header.specs.declared.header.Header.{Header}
@@ -14,7 +14,7 @@ use Rattle.jsonwebtoken.specs.Tests.{Compact, Call, Things, Passes, FirstFailed,
 use Rattle.jsonwebtoken.specs.Issue.{Issue, Written, WrittenAs, IsIssued, IssuePasses, IssueFailsFirst, encode_order, issuing}
 use Rattle.jwt_base.specs.JsonText.{IsJson}
 use Rattle.jwt_base.proofs.Parts.{one_json}
-use Rattle.jwt_jwk.specs.JwkSet.{ReadsSet}
+use Rattle.jwt_keys.specs.JwkSet.{ReadsSet}
 use Rattle.jwt_header.specs.Header.{new_header}
 use Rattle.serde_json.specs.Data.{Data}
 use Rattle.jwt_tool.specs.Line.{IsClaimsValue, IsToken, HasTokenFault, hmac_call, IsSetText, IsClaimsValueBySet, HasSetFault}

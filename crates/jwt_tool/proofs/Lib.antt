@@ -1,4 +1,4 @@
 pub mod Calls
 pub mod Moments
-pub mod Requests
 pub mod Said
+pub mod Thumbprints

@@ -1,23 +1,28 @@
 -- The line and the status for words and an input.
-use Rattle.std.specs.Prelude.{None, ◌≡◌, ◌==◌, ◌-◌, true, false, length, take, slice_index, if◌then◌else◌, MatchOption, ℕ, List, [], ◌∷◌, ◌⊎◌, Some, codes}
+use Rattle.std.specs.Prelude.{None, ◌≡◌, ◌==◌, ◌-◌, true, false, length, take, slice_index, if◌then◌else◌, MatchOption, ℕ, List, [], ◌∷◌, ◌⊎◌, Some, Ok, Err, codes}
 use Rattle.serde_json.specs.Data.{Data}
 use Rattle.serde_json.specs.View.{view}
 use Rattle.serde_json.specs.Written.{compact_text, has_float}
 use Rattle.serde_json.specs.declared.value.Value.{Value}
 use Rattle.jwt_base.specs.Kind.{Kind, text_of}
 use Rattle.jwt_base.specs.Kind as kind
+use Rattle.jwt_base.specs.Base64Url.{IsPart}
 use Rattle.jwt_base.specs.declared.algorithms.Algorithm.{Algorithm}
 use Rattle.jwt_base.specs.declared.algorithms.AlgorithmFamily.TheVariants.{Hmac}
-use Rattle.jwt_jwk.specs.JwkSet.{ReadsSet}
-use Rattle.jwt_jwk.specs.declared.jwk.Jwk.{Jwk}
+use Rattle.jwt_params.specs.declared.thumbprints.ThumbprintHash.{ThumbprintHash}
+use Rattle.jwt_keys.specs.Jwk.{ReadsKey}
+use Rattle.jwt_keys.specs.JwkSet.{ReadsSet}
+use Rattle.jwt_keys.specs.Thumbprint.{thumb_text}
+use Rattle.jwt_keys.specs.declared.jwk.Jwk.{Jwk}
 use Rattle.jwt_keys.specs.Key.{Plain, key_family}
-use Rattle.jwt_hmac.specs.HmacKeys.{hash_for, refusal, HmacAccepts, HmacSigns}
+use Rattle.jwt_hmac.specs.Hmac.{hash_bytes}
+use Rattle.jwt_hmac.specs.HmacKeys.{hash_for, hash_named, refusal, HmacAccepts, HmacSigns}
 use Rattle.jwt_header.specs.Header.{header_value, new_header}
 use Rattle.jwt_validation.specs.Options.{default_options}
 use Rattle.jsonwebtoken.specs.Tests.{Compact, Call, Things, Passes, FirstFailed, header_order, header_call, decode_order, verifying_call, set_order, set_call}
 use Rattle.jsonwebtoken.specs.Issue.{Issue, Written, WrittenAs, IsIssued, IssuePasses, IssueFailsFirst, encode_order, issuing}
 use Rattle.jwt_base.specs.JsonText.{IsJson}
-use Rattle.jwt_tool.specs.Words.{Request, ForHeader, ForToken, ForClaims, ForClaimsBySet, request_of}
+use Rattle.jwt_tool.specs.Words.{Request, ForHeader, ForThumbprint, ForToken, ForClaims, ForClaimsBySet, request_of}
 
 -- ---- the input
 
@@ -50,6 +55,26 @@ abbrev pub HeaderLine : List ℕ → ℕ → List ℕ → Type 0
 HeaderLine input status line =
     ((value : Data) × IsHeaderValue input value × IsValueText value status line)
     ⊎ ((k : Kind) × FirstFailed (header_call input) header_order k × IsRefusal k status line)
+
+-- the text is the JSON of this key
+abbrev pub IsKeyText : List ℕ → Jwk → Type 0
+IsKeyText text key = (value : Data) × (IsJson text value × ReadsKey value key)
+
+-- the input is that of a key, and this is the base64url text of the digest of its required members (RFC 7638)
+abbrev pub IsThumbprint : List ℕ → ThumbprintHash → List ℕ → Type 0
+IsThumbprint input hash thumbprint = (key : Jwk) × (IsKeyText input key
+    × ((text : List ℕ) × ((thumb_text key ≡ Ok text) × IsPart thumbprint (hash_bytes (hash_named hash) text))))
+
+-- the input is that of no key, or of one that has no thumbprint for this reason
+abbrev pub HasThumbprintFault : List ℕ → Kind → Type 0
+HasThumbprintFault input k =
+    ((k ≡ kind.Json) × ((key : Jwk) → ¬ IsKeyText input key))
+    ⊎ ((key : Jwk) × (IsKeyText input key × (thumb_text key ≡ Err k)))
+
+abbrev pub ThumbprintLine : List ℕ → ThumbprintHash → ℕ → List ℕ → Type 0
+ThumbprintLine input hash status line =
+    (IsThumbprint input hash line × (status ≡ 0))
+    ⊎ ((k : Kind) × HasThumbprintFault input k × IsRefusal k status line)
 
 -- the input's token, checked by HMAC with a secret at a moment, as a validation of that one algorithm asks at first
 abbrev pub hmac_call : List ℕ → Algorithm → List ℕ → ℕ → Call Value
@@ -115,6 +140,7 @@ TokenLine input algorithm secret status line =
 
 abbrev pub RequestLine : Request → List ℕ → ℕ → List ℕ → Type 0
 RequestLine ForHeader input status line = HeaderLine input status line
+RequestLine (ForThumbprint hash) input status line = ThumbprintLine input hash status line
 RequestLine (ForToken algorithm secret) input status line = TokenLine input algorithm secret status line
 RequestLine (ForClaims algorithm secret now) input status line = ClaimsLine input algorithm secret now status line
 RequestLine (ForClaimsBySet algorithm set now) input status line = SetClaimsLine input algorithm set now status line

@@ -4,11 +4,15 @@ use Rattle.std.specs.Str.{bytes_eq, all_ascii_digits}
 use Rattle.std.specs.Str.Parse.{digits_value}
 use Rattle.jwt_base.specs.Algorithm.{algorithm_named}
 use Rattle.jwt_base.specs.declared.algorithms.Algorithm.{Algorithm}
+use Rattle.jwt_params.specs.declared.thumbprints.ThumbprintHash.{ThumbprintHash}
+use Rattle.jwt_params.specs.declared.thumbprints.ThumbprintHash.TheVariants.{SHA256, SHA384, SHA512}
 
--- the header of a token; the token of claims, by an algorithm and a secret; a token's claims, verified by these at a
--- moment; or a token's claims, verified by an algorithm and the text of a key set at a moment
+-- the header of a token; the thumbprint of a key by a hash; the token of claims, by an algorithm and a secret; a token's
+-- claims, verified by these at a moment; or a token's claims, verified by an algorithm and the text of a key set at a
+-- moment
 pub data Request : Type 0 where
   ForHeader : Request
+  ForThumbprint : ThumbprintHash → Request
   ForToken : Algorithm → List ℕ → Request
   ForClaims : Algorithm → List ℕ → ℕ → Request
   ForClaimsBySet : Algorithm → List ℕ → ℕ → Request
@@ -20,6 +24,18 @@ moment_of word = if all_ascii_digits word && (ltb 0 (length word) && ltb (digits
 -- what one word asks for
 abbrev pub request_named : List ℕ → Option Request
 request_named word = if bytes_eq word (codes "header") then Some ForHeader else None
+
+-- the hash of this name
+abbrev pub hash_of_name : List ℕ → Option ThumbprintHash
+hash_of_name name =
+    if bytes_eq name (codes "SHA256") then Some SHA256
+    else if bytes_eq name (codes "SHA384") then Some SHA384
+    else if bytes_eq name (codes "SHA512") then Some SHA512
+    else None
+
+-- `thumbprint`, and the name of a hash
+abbrev pub thumbprint_request : List ℕ → List ℕ → Option Request
+thumbprint_request word hash = if bytes_eq word (codes "thumbprint") then option_map ForThumbprint (hash_of_name hash) else None
 
 -- `encode`, the name of an algorithm, and a secret
 abbrev pub encoding_request : List ℕ → List ℕ → List ℕ → Option Request
@@ -42,7 +58,7 @@ decoding_request word algorithm by moment =
 abbrev pub request_of : List (List ℕ) → Option Request
 request_of [] = Some ForHeader
 request_of (word ∷ []) = request_named word
-request_of (word ∷ algorithm ∷ []) = None
+request_of (word ∷ hash ∷ []) = thumbprint_request word hash
 request_of (word ∷ algorithm ∷ secret ∷ []) = encoding_request word algorithm secret
 request_of (word ∷ algorithm ∷ by ∷ moment ∷ []) = decoding_request word algorithm by moment
 request_of (word ∷ algorithm ∷ by ∷ moment ∷ more ∷ rest) = None

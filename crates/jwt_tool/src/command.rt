@@ -2,16 +2,21 @@
 
 ghost use Rattle.std.specs.Prelude.{◌≡◌, option_map, map, string_bytes};
 ghost use Rattle.jwt_base.specs.Algorithm.{algorithm_named};
-ghost use Rattle.jwt_tool.specs.Words.{Request, request_of, request_named, encoding_request, decoding_request, claims_asked, ForClaims, ForClaimsBySet, moment_of};
+ghost use Rattle.jwt_tool.specs.Words.{Request, request_of, request_named, thumbprint_request, hash_of_name, encoding_request, decoding_request, claims_asked, ForClaims, ForClaimsBySet, moment_of};
 ghost use Rattle.jwt_tool.specs.Asked.{asked};
 
+use jsonwebtoken::jwk::ThumbprintHash;
 use jwt_base::algorithms::Algorithm;
 
 /// What the program does with its input.
-#[derive(Clone, Copy, Debug)]
+#[derive(Debug, Drop)]
 pub enum Command<'a> {
     /// Prints the header of a token.
     Header,
+    /// Prints the thumbprint of the key that it reads as JSON (RFC 7638).
+    Thumbprint {
+        hash: ThumbprintHash,
+    },
     /// Issues the token of the claims that it reads as JSON, signed by HMAC with a secret.
     Encode {
         algorithm: Algorithm,
@@ -39,7 +44,7 @@ pub fn requested_command(words: &[String]) -> Option<Command<'_>>
     match words {
         [] => Some(Command::Header),
         [word] => word_command(word.as_str()),
-        [_, _] => None,
+        [word, hash] => thumbprint_command(word.as_str(), hash.as_str()),
         [word, algorithm, secret] => {
             encode_command(word.as_str(), algorithm.as_str(), secret.as_str())
         }
@@ -55,6 +60,27 @@ fn word_command(word: &str) -> Option<Command<'_>>
 {
     match word {
         "header" => Some(Command::Header),
+        _ => None,
+    }
+}
+
+fn thumbprint_command<'a>(word: &str, hash: &str) -> Option<Command<'a>>
+    ensures { option_map asked result ≡ thumbprint_request word.now hash.now }
+{
+    if word != "thumbprint" {
+        return None;
+    }
+    let hash = hash_of(hash)?;
+    Some(Command::Thumbprint { hash })
+}
+
+fn hash_of(name: &str) -> Option<ThumbprintHash>
+    ensures { result ≡ hash_of_name name.now }
+{
+    match name {
+        "SHA256" => Some(ThumbprintHash::SHA256),
+        "SHA384" => Some(ThumbprintHash::SHA384),
+        "SHA512" => Some(ThumbprintHash::SHA512),
         _ => None,
     }
 }

@@ -6,17 +6,17 @@ ghost use Rattle.serde_json.specs.View.{view};
 ghost use Rattle.serde_json.specs.Written.{has_float};
 ghost use Rattle.jwt_base.specs.Kind as kind;
 ghost use Rattle.jwt_base.specs.KindOf.{kind_of, IsMemory, RefusesAs};
-ghost use Rattle.jwt_jwk.specs.declared.jwk.Jwk.{Jwk};
+ghost use Rattle.jwt_keys.specs.declared.jwk.Jwk.{Jwk};
 ghost use Rattle.jsonwebtoken.specs.Tests.{FirstFailed, header_order, header_call, decode_order};
 ghost use Rattle.jwt_tool.specs.Asked.{asked};
 ghost use Rattle.jwt_tool.specs.Words.{request_of};
-ghost use Rattle.jwt_tool.specs.Line.{Answers, RequestAnswer, ValueAnswer, ValueLine, IsValueText, IsRefusal, IsHeaderValue, IsClaimsValue, hmac_call, IsSetText, IsClaimsValueBySet, HasSetFault, IsToken, HasTokenFault, TokenLine, IsMemoryLine, IsUsage, without_final_newline};
+ghost use Rattle.jwt_tool.specs.Line.{Answers, RequestAnswer, ValueAnswer, ValueLine, IsValueText, IsRefusal, IsHeaderValue, IsClaimsValue, hmac_call, IsSetText, IsClaimsValueBySet, HasSetFault, IsThumbprint, HasThumbprintFault, ThumbprintLine, IsToken, HasTokenFault, TokenLine, IsMemoryLine, IsUsage, without_final_newline};
 
 use crate::command::{Command, requested_command};
 use crate::fault::ToolFault;
 use crate::input::{gather, without_newline};
 use jsonwebtoken::crypto::hmac::HmacProvider;
-use jsonwebtoken::jwk::JwkSet;
+use jsonwebtoken::jwk::{Jwk, JwkSet, ThumbprintHash};
 use jsonwebtoken::{
     Algorithm, DecodingKey, EncodingKey, Header, TokenData, Validation, decode, decode_header,
     decode_with_set, encode,
@@ -101,6 +101,7 @@ fn command_answer(
 {
     match command {
         Command::Header => header_answer(alloc, input),
+        Command::Thumbprint { hash } => thumbprint_answer(alloc, hash, input),
         Command::Encode { algorithm, secret } => token_answer(alloc, algorithm, secret, input),
         Command::Decode {
             algorithm,
@@ -122,6 +123,21 @@ fn header_answer(alloc: Global, input: &[u8]) -> std::result::Result<Answer, Too
 {
     match header_value(alloc, input) {
         Ok(value) => text_answer(alloc, &value),
+        Err(e) => refusal_answer(alloc, &e),
+    }
+}
+
+/// The key's thumbprint, or the refusal's text.
+fn thumbprint_answer(
+    alloc: Global,
+    hash: ThumbprintHash,
+    input: &[u8],
+) -> std::result::Result<Answer, ToolFault>
+    ensures { IfOk result (λ a. ThumbprintLine input.now hash a.status (string_bytes a.line)
+        ⊎ IsMemoryLine a.status (string_bytes a.line)) }
+{
+    match key_thumbprint(alloc, hash, input) {
+        Ok(line) => Ok(Answer { status: 0, line }),
         Err(e) => refusal_answer(alloc, &e),
     }
 }
@@ -266,4 +282,15 @@ fn issued_token(alloc: Global, algorithm: Algorithm, secret: &str, input: &[u8])
     let header = Header::new(alloc, algorithm)?;
     let token = encode(alloc, &HmacProvider, &header, &claims, &key)?;
     Ok(token)
+}
+
+/// The thumbprint of the key that the input is the JSON text of.
+fn key_thumbprint(alloc: Global, hash: ThumbprintHash, input: &[u8]) -> Result<String>
+    ensures ok { IfOk result (λ t. IsThumbprint input.now hash (string_bytes t)) }
+    ensures err { IfErr result (λ e. IsMemory e ⊎ HasThumbprintFault input.now (kind_of e)) }
+{
+    let value = json_value(alloc, input)?;
+    let key = Jwk::from_value(alloc, &value)?;
+    let thumbprint = key.thumbprint(alloc, &HmacProvider, hash)?;
+    Ok(thumbprint)
 }

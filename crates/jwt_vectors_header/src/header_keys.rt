@@ -4,7 +4,7 @@ use crate::calls::{copy_of, hash_of, header_of, new_header, read, rewritten, tex
 use jwt_base::algorithms::Algorithm;
 use jwt_base::errors::Result as Answer;
 use jwt_header::header::Header;
-use jwt_jwk::jwk::Jwk;
+use jwt_keys::jwk::Jwk;
 use jwt_kinds::algorithm::AlgorithmParameters;
 use jwt_kinds::free_members::FreeMembers;
 use jwt_kinds::other::OtherKeyParameters;

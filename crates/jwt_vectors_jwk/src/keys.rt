@@ -2,7 +2,7 @@
 
 use jwt_base::algorithms::KeyAlgorithm;
 use jwt_base::errors::Result as Answer;
-use jwt_jwk::jwk::Jwk;
+use jwt_keys::jwk::Jwk;
 use jwt_kinds::algorithm::AlgorithmParameters;
 use serde_json::Value;
 use std::alloc::Global;

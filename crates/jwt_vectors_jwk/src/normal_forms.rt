@@ -2,7 +2,7 @@
 
 use jwt_base::errors::Result as Answer;
 use jwt_base::text::Text;
-use jwt_jwk::jwk::Jwk;
+use jwt_keys::jwk::Jwk;
 use jwt_kinds::algorithm::AlgorithmParameters;
 use jwt_kinds::free_members::FreeMembers;
 use jwt_kinds::other::OtherKeyParameters;

@@ -4,8 +4,12 @@
 #[cfg(test)]
 mod hmac;
 #[cfg(test)]
+mod jwks_of_keys;
+#[cfg(test)]
 mod key_bytes;
 #[cfg(test)]
 mod keys_of_jwks;
 #[cfg(test)]
 mod signatures;
+#[cfg(test)]
+mod thumbprints;

@@ -16,10 +16,10 @@ use jwt_base::algorithms::{Algorithm, KeyAlgorithm};
 use jwt_base::errors::{ErrorKind, Result, new_error};
 use jwt_base::json::Claims;
 use jwt_header::header::Header;
-use jwt_jwk::jwk::Jwk;
-use jwt_jwk::jwk_set::JwkSet;
 use jwt_keys::crypto::CryptoProvider;
 use jwt_keys::decoding::DecodingKey;
+use jwt_keys::jwk::Jwk;
+use jwt_keys::jwk_set::JwkSet;
 use jwt_validation::validation::Validation;
 use std::alloc::Global;
 

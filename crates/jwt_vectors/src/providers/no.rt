@@ -3,6 +3,7 @@
 ghost use Rattle.std.specs.Prelude.{◌≡◌, ℕ, List, Option, Err, None, Some, codes};
 ghost use Rattle.jwt_vectors.specs.Families.{never_made};
 ghost use Rattle.jwt_base.specs.Kind as kind;
+ghost use Rattle.jwt_keys.specs.Provider.{reads_no_key};
 
 use super::closed::{NoSigner, NoVerifier, closed};
 use jwt_base::algorithms::Algorithm;
@@ -35,15 +36,7 @@ impl CryptoProvider for NoProvider {
 
     ghost is_sparing = { λ _. ⊥ };
 
-    ghost rsa_private_components = { λ _ der. Err (kind.Provider (codes "closed")) };
-
-    ghost rsa_public_components = { λ _ der. Err (kind.Provider (codes "closed")) };
-
-    ghost ec_components = { λ _ der a. Err (kind.Provider (codes "closed")) };
-
-    ghost ed_component = { λ _ der c. Err (kind.Provider (codes "closed")) };
-
-    ghost digest = { λ _ h bytes. Err (kind.Provider (codes "closed")) };
+    ghost key_answers = { λ _. reads_no_key (kind.Provider (codes "closed")) (λ h bytes. Err (kind.Provider (codes "closed"))) };
 
     fn signer_factory(
         &self,

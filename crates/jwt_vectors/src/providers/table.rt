@@ -1,6 +1,6 @@
 //! A provider that looks signatures up in a table.
 
-ghost use Rattle.std.specs.Prelude.{◌≡◌, ℕ, List, Option, Ok, Err, None, Some, IfOk, IfErr, option_map, codes};
+ghost use Rattle.std.specs.Prelude.{◌≡◌, ℕ, List, Option, Ok, None, Some, IfOk, IfErr, option_map, codes};
 ghost use Rattle.jwt_base.specs.Kind as kind;
 ghost use Rattle.jwt_base.specs.KindOf.{IsMemory, Refuses};
 ghost use Rattle.jwt_base.specs.Algorithm.{family_of};
@@ -249,15 +249,7 @@ impl CryptoProvider for TableProvider {
 
     ghost is_sparing = { λ _. ⊥ };
 
-    ghost rsa_private_components = { λ _ der. rsa_answer der };
-
-    ghost rsa_public_components = { λ _ der. rsa_answer der };
-
-    ghost ec_components = { λ _ der a. ec_answer der a };
-
-    ghost ed_component = { λ _ der c. ed_answer der c };
-
-    ghost digest = { λ _ h bytes. Ok (hash_bytes (hash_named h) bytes) };
+    ghost key_answers = { λ _. record { rsa_private = rsa_answer; rsa_public = rsa_answer; ec_private = ec_answer; ed_private = ed_answer; digest = λ h bytes. Ok (hash_bytes (hash_named h) bytes) } };
 
     fn signer_factory(
         &self,

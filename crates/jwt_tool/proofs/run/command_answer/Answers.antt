@@ -8,3 +8,6 @@ returns-in-Encode c = rw c.in-Encode.is c.token_answer.ensures
 
 pub returns-in-DecodeWithSet : goal.returns-in-DecodeWithSet
 returns-in-DecodeWithSet c = rw c.in-DecodeWithSet.is c.set_claims_answer.ensures
+
+pub returns-in-Thumbprint : goal.returns-in-Thumbprint
+returns-in-Thumbprint c = rw c.in-Thumbprint.is c.thumbprint_answer.ensures

@@ -1,2 +1,0 @@
-pub mod JwkLemmas
-pub mod SetLemmas

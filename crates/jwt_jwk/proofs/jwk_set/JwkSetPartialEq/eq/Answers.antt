@@ -1,5 +1,0 @@
-use Rattle.jwt_jwk.specs.JwkSame.{set_decides}
-use Rattle.jwt_jwk.proofs.jwk_set.JwkSetPartialEq.eq.Goals as goal
-
-pub returns-clause-same : goal.returns-clause-same
-returns-clause-same c = rw c.is_same.ensures (set_decides c.args.self.now c.args.other.now)

@@ -1,5 +1,0 @@
-//! JSON Web Keys and sets of them (RFC 7517).
-#![tactic(auto)]
-
-pub mod jwk;
-pub mod jwk_set;

@@ -1,0 +1,36 @@
+-- What a JSON value says as a key, and what a key is written as (RFC 7517 section 4).
+use Rattle.std.specs.Prelude.{◌≡◌, ℕ, List, Bool, false, Option, Some, None, option_map, option_and_then, is_some, if◌then◌else◌}
+use Rattle.std.specs.Option.{option_map_or}
+use Rattle.std.specs.Str.{bytes_eq}
+use Rattle.serde_json.specs.Data.{Data, object, Members}
+use Rattle.serde_json.specs.Find.{as_object}
+use Rattle.jwt_base.specs.Algorithm.{algorithm_of}
+use Rattle.jwt_base.specs.Members.{without}
+use Rattle.jwt_params.specs.Common.{common_names, ReadsCommon, with_common}
+use Rattle.jwt_kinds.specs.Kinds.{algorithm_from, algorithm_members, has_common}
+use Rattle.jwt_kinds.specs.declared.algorithm.AlgorithmParameters.{AlgorithmParameters}
+use Rattle.jwt_keys.specs.declared.jwk.Jwk.{Jwk}
+
+-- the kind of what is left without the common members
+abbrev pub kind_from : Data → Option AlgorithmParameters
+kind_from d = option_and_then (λ ms. algorithm_from (object (without common_names ms))) (as_object d)
+
+-- d is an object, the common names give the common part, and the rest has the kind
+pub record ReadsKey (d : Data) (k : Jwk) : Type 0 where
+  pub common : ReadsCommon d k.common
+  pub algorithm : kind_from d ≡ Some k.algorithm
+
+-- none where an `Other` holds a common name or a float
+abbrev pub key_members : Jwk → Option Members
+key_members k = if has_common k.algorithm then None else option_map (with_common k.common) (algorithm_members k.algorithm)
+
+abbrev pub key_value : Jwk → Option Data
+key_value k = option_map object (key_members k)
+
+-- `alg` is there, and it is an algorithm that signs tokens
+abbrev pub is_supported_key : Jwk → Bool
+is_supported_key k = is_some (option_and_then algorithm_of k.common.key_algorithm)
+
+-- `kid` is there, and it is this text
+abbrev pub has_id : List ℕ → Jwk → Bool
+has_id kid k = option_map_or (λ id. bytes_eq id kid) k.common.key_id false

@@ -1,0 +1,40 @@
+-- A set of keys (RFC 7517 section 5), key by key.
+use Rattle.std.specs.Prelude.{◌≡◌, ◌↔◌, List, [], ◌∷◌, Option, Some, option_map, option_and_then, map, codes}
+use Rattle.serde_json.specs.Data.{Data, array, object, Items, no_items, item, no_members, member}
+use Rattle.serde_json.specs.Find.{get}
+use Rattle.serde_json.specs.View.{items_of}
+use Rattle.jwt_keys.specs.Jwk.{ReadsKey, key_value}
+use Rattle.jwt_keys.specs.JwkWritten.{normal_key}
+use Rattle.jwt_keys.specs.declared.jwk.Jwk.{Jwk}
+
+-- each item reads as the key at its place
+abbrev pub ReadsKeys : Items → List Jwk → Type 0
+ReadsKeys no_items [] = Unit {0}
+ReadsKeys no_items (k ∷ ks) = ⊥
+ReadsKeys (item d ds) [] = ⊥
+ReadsKeys (item d ds) (k ∷ ks) = ReadsKey d k × ReadsKeys ds ks
+
+abbrev pub ReadsSet : Data → List Jwk → Type 0
+ReadsSet d ks = (ds : Items) × (get (codes "keys") d ≡ Some (array ds)) × ReadsKeys ds ks
+
+-- none where one of the keys cannot be written
+abbrev pub key_values : List Jwk → Option (List Data)
+key_values [] = Some []
+key_values (k ∷ ks) = option_and_then (λ d. option_map (λ more. d ∷ more) (key_values ks)) (key_value k)
+
+abbrev pub set_value : List Jwk → Option Data
+set_value ks = option_map (λ ds. object (member (codes "keys") (array (items_of ds)) no_members)) (key_values ks)
+
+abbrev pub normal_set : List Jwk → List Jwk
+normal_set = map normal_key
+
+-- its own normal form, and one that can be written
+pub record IsNormalSet (ks : List Jwk) : Type 0 where
+  pub itself : normal_set ks ≡ ks
+  pub written : (d : Data) × (set_value ks ≡ Some d)
+
+-- What is written reads as the normal form alone; a normal form stays as it is; two normal forms are told apart by what is written.
+pub record HasNormalSet (ks : List Jwk) : Type 0 where
+  pub reads_back : (d : Data) → set_value ks ≡ Some d → (ls : List Jwk) → ReadsSet d ls ↔ (ls ≡ normal_set ks)
+  pub once : normal_set (normal_set ks) ≡ normal_set ks
+  pub told_apart : IsNormalSet ks → (ls : List Jwk) → IsNormalSet ls → (set_value ks ≡ set_value ls) ↔ (ks ≡ ls)

@@ -1,0 +1,187 @@
+//! A set of JSON Web Keys.
+
+ghost use Rattle.std.specs.Prelude.{◌≡◌, ◌↔◌, IsTrue, Some, None, List, [], false, IfOk, IfErr, map, find, option_map};
+ghost use Rattle.serde_json.specs.Data.{object};
+ghost use Rattle.serde_json.specs.View.{view, items_view, members_view};
+ghost use Rattle.serde_json.specs.Written.{has_float};
+ghost use Rattle.jwt_base.specs.Kind as kind;
+ghost use Rattle.jwt_base.specs.KindOf.{IsMemory, RefusesAs};
+ghost use Rattle.jwt_keys.specs.Jwk.{key_value, has_id};
+ghost use Rattle.jwt_keys.specs.JwkSet.{ReadsKeys, ReadsSet, set_value, key_values, IsNormalSet, HasNormalSet};
+ghost use Rattle.jwt_keys.specs.declared.jwk.Jwk.{Jwk};
+
+use crate::jwk::Jwk;
+use jwt_base::errors::{ErrorKind, Result, new_error};
+use serde_json::{Map, Value};
+use std::alloc::Global;
+use std::hash::{Hash, Hasher};
+
+/// A set of JSON Web Keys (RFC 7517 section 5), in order.
+#[derive(Debug, Drop)]
+pub struct JwkSet {
+    /// The keys, `keys` (section 5.1).
+    pub keys: Vec<Jwk>,
+}
+
+impl JwkSet {
+    /// The set of no keys. No memory is taken.
+    pub fn new(alloc: Global) -> JwkSet
+        ensures { result.keys.items ≡ [] }
+    {
+        JwkSet {
+            keys: Vec::new(alloc),
+        }
+    }
+
+    /// The first key whose `kid` (RFC 7517 section 4.5) is there and is this text: none exactly where there is none. No
+    /// memory is taken.
+    pub fn find(&self, kid: &str) -> Option<&Jwk>
+        ensures { option_map (λ k. k.now) result ≡ find (has_id kid.now) self.now.keys.items }
+    {
+        first_of(self.keys.as_slice(), kid)
+    }
+
+    /// The set that a JSON object reads as: `keys` is a list, and each of its entries reads as a key; further members
+    /// are ignored. Anything else is refused with `Json`.
+    pub fn from_value(alloc: Global, value: &Value) -> Result<JwkSet>
+        ensures ok { IfOk result (λ s. ReadsSet (view value.now) s.keys.items) }
+        ensures normal { IfOk result (λ s. IsNormalSet s.keys.items) }
+        ensures err { IfErr result (RefusesAs kind.Json ((ks : List Jwk) → ¬ ReadsSet (view value.now) ks)) }
+    {
+        let set = JwkSet::read(alloc, value)?;
+        Ok(set)
+    }
+
+    /// The JSON object of the keys, in order. A key that cannot be written is refused with `Json`.
+    pub fn to_value(&self, alloc: Global) -> Result<Value>
+        ensures ok { IfOk result (λ v. set_value self.now.keys.items ≡ Some (view v)) }
+        ensures err { IfErr result (RefusesAs kind.Json (set_value self.now.keys.items ≡ None)) }
+        ensures normal_form { HasNormalSet self.now.keys.items }
+    {
+        let members = self.members(alloc)?;
+        Ok(Value::Object(members))
+    }
+
+    /// A copy. The only refusal is `OutOfMemory`.
+    pub fn clone(&self, alloc: Global) -> Result<JwkSet>
+        ensures ok { IfOk result (λ s. s.keys.items ≡ self.now.keys.items) }
+        ensures err { IfErr result IsMemory }
+    {
+        let keys = clone_keys(alloc, self.keys.as_slice())?;
+        Ok(JwkSet { keys })
+    }
+
+    fn read(alloc: Global, value: &Value) -> Result<JwkSet>
+        ensures ok { IfOk result (λ s. ReadsSet (view value.now) s.keys.items) }
+        ensures err { IfErr result (RefusesAs kind.Json ((ks : List Jwk) → ¬ ReadsSet (view value.now) ks)) }
+    {
+        let Some(member) = value.get("keys") else {
+            return Err(new_error(ErrorKind::Json));
+        };
+        let Some(items) = member.as_array() else {
+            return Err(new_error(ErrorKind::Json));
+        };
+        let keys = read_keys(alloc, items)?;
+        Ok(JwkSet { keys })
+    }
+
+    fn members(&self, alloc: Global) -> Result<Map<String, Value>>
+        ensures ok { IfOk result (λ m. set_value self.now.keys.items ≡ Some (object (members_view m.entries))) }
+        ensures err { IfErr result (RefusesAs kind.Json (set_value self.now.keys.items ≡ None)) }
+    {
+        let values = write_keys(alloc, self.keys.as_slice())?;
+        let mut members = Map::new(alloc);
+        serde_json::put(&mut members, alloc, "keys", Value::Array(values))?;
+        Ok(members)
+    }
+}
+
+fn first_of<'k>(keys: &'k [Jwk], kid: &str) -> Option<&'k Jwk>
+    ensures { option_map (λ k. k.now) result ≡ find (has_id kid.now) keys.now }
+{
+    for key in keys {
+        if key.has_id(kid) {
+            return Some(key);
+        }
+    }
+    None
+}
+
+fn clone_keys(alloc: Global, keys: &[Jwk]) -> Result<Vec<Jwk>>
+    ensures ok { IfOk result (λ copy. copy.items ≡ keys.now) }
+    ensures err { IfErr result IsMemory }
+{
+    let mut copy = Vec::new(alloc);
+    for key in keys {
+        copy.push(key.clone(alloc)?)?;
+    }
+    Ok(copy)
+}
+
+fn read_keys(alloc: Global, items: &[Value]) -> Result<Vec<Jwk>>
+    ensures ok { IfOk result (λ ks. ReadsKeys (items_view items.now) ks.items) }
+    ensures err { IfErr result (RefusesAs kind.Json ((ks : List Jwk) → ¬ ReadsKeys (items_view items.now) ks)) }
+{
+    let mut keys = Vec::new(alloc);
+    for item in items {
+        keys.push(Jwk::from_value(alloc, item)?)?;
+    }
+    Ok(keys)
+}
+
+fn write_keys(alloc: Global, keys: &[Jwk]) -> Result<Vec<Value>>
+    ensures ok { IfOk result (λ vs. key_values keys.now ≡ Some (map view vs.items)) }
+    ensures err { IfErr result (RefusesAs kind.Json (key_values keys.now ≡ None)) }
+{
+    let mut values = Vec::new(alloc);
+    for key in keys {
+        values.push(key.to_value(alloc)?)?;
+    }
+    Ok(values)
+}
+
+/// The same keys in the same order, where any two floats count as equal.
+impl PartialEq for JwkSet {
+    ghost use Rattle.std.specs.Cmp.{partial_equiv_from_equiv};
+    ghost use Rattle.jwt_keys.specs.JwkSame.{set_eq, set_eq_equiv, marked_set};
+
+    ghost eq = { set_eq };
+
+    ghost laws = { partial_equiv_from_equiv set_eq_equiv };
+
+    fn eq(&self, other: &JwkSet) -> bool
+        ensures test { result ≡ set_eq self.now other.now }
+        ensures same { IsTrue result ↔ (marked_set self.now ≡ marked_set other.now) }
+    {
+        self.is_same(other)
+    }
+}
+
+impl Eq for JwkSet {
+    ghost use Rattle.jwt_keys.specs.JwkSame.{set_eq_equiv};
+
+    ghost laws = { set_eq_equiv };
+}
+
+impl JwkSet {
+    ghost use Rattle.jwt_keys.specs.JwkSame.{set_eq};
+
+    fn is_same(&self, other: &JwkSet) -> bool
+        ensures { result ≡ set_eq self.now other.now }
+    {
+        self.keys == other.keys
+    }
+}
+
+/// Feeds the keys, and of free members their names alone.
+impl Hash for JwkSet {
+    ghost use Rattle.jwt_keys.specs.JwkSame.{set_fed, set_alike};
+
+    ghost hash_input = { set_fed };
+
+    ghost respects_eq = { set_alike.fed };
+
+    fn hash<H: Hasher>(&self, state: &mut H) {
+        self.keys.hash(state);
+    }
+}
