@@ -1,5 +1,6 @@
 //! The JSON Web Keys of keys: a row is a key, and its JSON text or the error's text.
 
+use crate::key_bytes::holds_components;
 use jwt_base::algorithms::Algorithm;
 use jwt_base::errors::Result as Answer;
 use jwt_base::serialization::part_text;
@@ -261,5 +262,15 @@ fn the_key_of_a_keys_jwk_is_that_key(rt: HostRuntime) -> Result<(), Fail> {
     let edwards = DecodingKey::from_ed_der(alloc, &[9; 32])?;
     let jwk = reading_jwk(alloc, &NoProvider, &edwards, Some(Algorithm::EdDSA))?;
     assert!(rt; stands_for(alloc, &jwk, &[9; 32])?);
+    Ok(())
+}
+
+#[test]
+fn the_numbers_of_a_keys_jwk_are_those_numbers(rt: HostRuntime) -> Result<(), Fail> {
+    let alloc = rt.alloc();
+    let key = DecodingKey::from_rsa_raw_components(alloc, &[0, 0xff], &[3])?;
+    let jwk = reading_jwk(alloc, &NoProvider, &key, None)?;
+    let again = DecodingKey::from_jwk(alloc, &jwk)?;
+    assert!(rt; holds_components(again.kind(), &[0, 0xff], &[3]));
     Ok(())
 }
