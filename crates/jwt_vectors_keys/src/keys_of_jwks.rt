@@ -11,7 +11,8 @@ use std::alloc::Global;
 use std::process::Abort;
 use std::test::Fail;
 
-fn jwk(alloc: Global, text: &str) -> Answer<Box<Jwk>> {
+/// The key that a JSON text reads as.
+pub(crate) fn jwk(alloc: Global, text: &str) -> Answer<Box<Jwk>> {
     let value = json_value(alloc, text.as_bytes())?;
     Ok(Box::new(alloc, Jwk::from_value(alloc, &value)?)?)
 }

@@ -1,20 +1,14 @@
 //! Thumbprints (RFC 7638): a row is a key's JSON text, and its thumbprint or the error's text.
 
+use crate::keys_of_jwks::jwk;
 use jwt_base::errors::Result as Answer;
-use jwt_base::serialization::json_value;
 use jwt_hmac::hmac::HmacProvider;
 use jwt_keys::crypto::CryptoProvider;
-use jwt_keys::jwk::Jwk;
 use jwt_params::thumbprints::ThumbprintHash;
 use jwt_vectors::providers::{NoProvider, TableProvider};
 use std::alloc::Global;
 use std::process::Abort;
 use std::test::Fail;
-
-fn key(alloc: Global, text: &str) -> Answer<Box<Jwk>> {
-    let value = json_value(alloc, text.as_bytes())?;
-    Ok(Box::new(alloc, Jwk::from_value(alloc, &value)?)?)
-}
 
 // The thumbprint of the key of this text, or the error's text.
 fn shown<P: CryptoProvider>(
@@ -23,7 +17,7 @@ fn shown<P: CryptoProvider>(
     text: &str,
     hash: ThumbprintHash,
 ) -> Answer<String> {
-    let key = key(alloc, text)?;
+    let key = jwk(alloc, text)?;
     match key.thumbprint(alloc, provider, hash) {
         Ok(thumbprint) => Ok(thumbprint),
         Err(refusal) => Ok(refusal.to_string(alloc)?),
