@@ -1,7 +1,7 @@
 //! What the tests call, with the headers behind a pointer.
 
 use jwt_base::algorithms::Algorithm;
-use jwt_base::errors::Result as Answer;
+use jwt_base::errors::{ErrorKind, Result as Answer};
 use jwt_header::header::Header;
 use serde_json::Value;
 use std::alloc::Global;
@@ -44,4 +44,12 @@ pub(crate) fn hash_of<T: Hash>(value: &T) -> u64 {
     let mut state = DefaultHasher::new();
     value.hash(&mut state);
     state.finish()
+}
+
+/// Whether the answer is the refusal `Json`.
+pub(crate) fn is_json<T: Drop>(answer: Answer<T>) -> bool {
+    match answer {
+        Ok(_given) => false,
+        Err(refusal) => *refusal.kind() == ErrorKind::Json,
+    }
 }

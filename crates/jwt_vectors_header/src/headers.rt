@@ -1,6 +1,6 @@
 //! Headers: from a JSON text to a header, and to a JSON text again.
 
-use crate::calls::{copy_of, hash_of, header_of, new_header, read, rewritten, text_of};
+use crate::calls::{copy_of, hash_of, header_of, is_json, new_header, read, rewritten, text_of};
 use jwt_base::algorithms::Algorithm;
 use jwt_base::errors::Result as Answer;
 use jwt_base::json::Claims;
@@ -255,7 +255,7 @@ fn a_free_encryption_with_a_known_name_reads_back_as_known(rt: HostRuntime) -> R
     let written = free.to_value(alloc)?;
     assert_eq!(rt; written.as_str(), Some("A128GCM"));
     assert!(rt; Enc::from_value(alloc, &written)? == Enc::A128GCM);
-    assert!(rt; Enc::from_value(alloc, &Value::Null).is_err());
+    assert!(rt; is_json(Enc::from_value(alloc, &Value::Null)));
     Ok(())
 }
 
@@ -268,7 +268,7 @@ fn a_free_compression_with_the_known_name_reads_back_as_known(rt: HostRuntime) -
     let written = free.to_value(alloc)?;
     assert_eq!(rt; written.as_str(), Some("DEF"));
     assert!(rt; Zip::from_value(alloc, &written)? == Zip::Deflate);
-    assert!(rt; Zip::from_value(alloc, &Value::Null).is_err());
+    assert!(rt; is_json(Zip::from_value(alloc, &Value::Null)));
     Ok(())
 }
 
@@ -378,7 +378,7 @@ fn extras_are_read_from_objects(rt: HostRuntime) -> Result<(), Fail> {
 fn check_refused_name(rt: &impl Abort, alloc: Global, name: &str) -> Answer<()> {
     let mut extras = Extras::new(alloc);
     extras.insert(alloc, "foo", &5u64)?;
-    assert!(rt; extras.insert(alloc, name, &5u64).is_err(), "{name}");
+    assert!(rt; is_json(extras.insert(alloc, name, &5u64)), "{name}");
     let written = extras.to_value(alloc)?.to_string(alloc)?;
     assert_eq!(rt; written.as_str(), "{\"foo\":5}");
     let text = format!(in alloc; "{{\"{name}\":5}}")?;
@@ -426,7 +426,7 @@ fn a_float_is_not_inserted(rt: HostRuntime) -> Result<(), Fail> {
     let alloc = rt.alloc();
     let mut extras = Extras::new(alloc);
     let float = Value::from_str(alloc, "[1.5]")?;
-    assert!(rt; extras.insert(alloc, "bar", &float).is_err());
+    assert!(rt; is_json(extras.insert(alloc, "bar", &float)));
     assert!(rt; extras.inner().is_empty());
     Ok(())
 }

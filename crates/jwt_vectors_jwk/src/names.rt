@@ -1,7 +1,7 @@
 //! The values that are known by their names.
 
 use jwt_base::algorithms::{Algorithm, KeyAlgorithm};
-use jwt_base::errors::Result as Answer;
+use jwt_base::errors::{ErrorKind, Result as Answer};
 use jwt_base::text::Text;
 use jwt_params::key_types::{EllipticCurveKeyType, OctetKeyPairType, OctetKeyType, RSAKeyType};
 use jwt_params::operations::{KeyOperationList, KeyOperations};
@@ -10,6 +10,14 @@ use serde_json::Value;
 use std::alloc::Global;
 use std::process::Abort;
 use std::test::Fail;
+
+/// Whether the answer is a refusal of this kind.
+fn is_refused<T: Drop>(answer: Answer<T>, kind: ErrorKind) -> bool {
+    match answer {
+        Ok(_given) => false,
+        Err(refusal) => *refusal.kind() == kind,
+    }
+}
 
 fn check_use(rt: &impl Abort, alloc: Global, name: &str, expected: &str) -> Answer<()> {
     let value = Value::try_from_str(alloc, name)?;
@@ -27,7 +35,12 @@ fn uses_are_read_by_their_names(rt: HostRuntime) -> Result<(), Fail> {
     check_use(&rt, rt.alloc(), "sig", "Signature")?;
     check_use(&rt, rt.alloc(), "enc", "Encryption")?;
     check_use(&rt, rt.alloc(), "SIG", "Other(Text { string: \"SIG\" })")?;
-    assert!(rt; PublicKeyUse::from_value(rt.alloc(), &Value::Null).is_err());
+    assert!(rt;
+        is_refused(
+            PublicKeyUse::from_value(rt.alloc(), &Value::Null),
+            ErrorKind::Json
+        )
+    );
     Ok(())
 }
 
@@ -177,7 +190,7 @@ fn key_algorithms_are_read_by_their_names(rt: HostRuntime) -> Result<(), Fail> {
     for name in ["", "ES512", "RSA_OAEP", "hs256"] {
         check_algorithm(&rt, rt.alloc(), name, "UNKNOWN_ALGORITHM")?;
     }
-    assert!(rt; KeyAlgorithm::from_value(&Value::Null).is_err());
+    assert!(rt; is_refused(KeyAlgorithm::from_value(&Value::Null), ErrorKind::Json));
     Ok(())
 }
 
@@ -189,7 +202,12 @@ fn an_algorithm_that_encrypts_keys_signs_nothing(rt: HostRuntime) -> Result<(), 
         KeyAlgorithm::RSA_OAEP_256,
         KeyAlgorithm::UNKNOWN_ALGORITHM,
     ] {
-        assert!(rt; Algorithm::try_from(algorithm).is_err());
+        assert!(rt;
+            is_refused(
+                Algorithm::try_from(algorithm),
+                ErrorKind::UnsupportedAlgorithm
+            )
+        );
     }
     Ok(())
 }
@@ -198,9 +216,9 @@ fn an_algorithm_that_encrypts_keys_signs_nothing(rt: HostRuntime) -> Result<(), 
 fn a_name_is_no_object(rt: HostRuntime) -> Result<(), Fail> {
     let alloc = rt.alloc();
     let object = Value::from_str(alloc, "{\"sig\":\"sig\"}")?;
-    assert!(rt; PublicKeyUse::from_value(alloc, &object).is_err());
-    assert!(rt; KeyOperations::from_value(alloc, &object).is_err());
-    assert!(rt; KeyAlgorithm::from_value(&object).is_err());
-    assert!(rt; RSAKeyType::from_value(&object).is_err());
+    assert!(rt; is_refused(PublicKeyUse::from_value(alloc, &object), ErrorKind::Json));
+    assert!(rt; is_refused(KeyOperations::from_value(alloc, &object), ErrorKind::Json));
+    assert!(rt; is_refused(KeyAlgorithm::from_value(&object), ErrorKind::Json));
+    assert!(rt; is_refused(RSAKeyType::from_value(&object), ErrorKind::Json));
     Ok(())
 }

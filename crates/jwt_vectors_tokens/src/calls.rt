@@ -1,7 +1,7 @@
 //! What the tests call, with the large answers behind a pointer.
 
 use jsonwebtoken::crypto::CryptoProvider;
-use jsonwebtoken::errors::Result;
+use jsonwebtoken::errors::{ErrorKind, Result};
 use jsonwebtoken::jwk::Jwk;
 use jsonwebtoken::{
     Algorithm, DecodingKey, EncodingKey, Header, TokenData, Validation, decode, decode_header,
@@ -77,5 +77,13 @@ pub(crate) fn shown(alloc: Global, answer: Result<Box<TokenData<Value>>>) -> Res
     match answer {
         Ok(data) => Ok(data.claims.to_string(alloc)?),
         Err(refusal) => Ok(refusal.to_string(alloc)?),
+    }
+}
+
+/// Whether the answer is the refusal `Json`.
+pub(crate) fn is_json<T: Drop>(answer: Result<T>) -> bool {
+    match answer {
+        Ok(_given) => false,
+        Err(refusal) => *refusal.kind() == ErrorKind::Json,
     }
 }

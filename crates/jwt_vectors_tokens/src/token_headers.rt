@@ -1,6 +1,6 @@
 //! What `decode_header` answers to tokens.
 
-use crate::calls::{header_of, new_header};
+use crate::calls::{header_of, is_json, new_header};
 use jsonwebtoken::errors::{ErrorKind, Result};
 use jsonwebtoken::{Algorithm, Header};
 use jwt_base::serialization::part_text;
@@ -236,6 +236,6 @@ fn a_new_header_reads_back(rt: HostRuntime) -> std::result::Result<(), Fail> {
 fn a_list_is_no_header(rt: HostRuntime) -> std::result::Result<(), Fail> {
     let alloc = rt.alloc();
     let list = Value::from_str(alloc, "[]")?;
-    assert!(rt; read(alloc, &list).is_err());
+    assert!(rt; is_json(read(alloc, &list)));
     Ok(())
 }

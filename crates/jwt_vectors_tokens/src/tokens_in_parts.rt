@@ -1,6 +1,6 @@
 //! What the calls on tokens in parts answer: a row is what is asked, and the claims or the error's text.
 
-use crate::calls::{new_header, new_validation, rsa_key, secret_key, shown, signing_key};
+use crate::calls::{is_json, new_header, new_validation, rsa_key, secret_key, shown, signing_key};
 use jsonwebtoken::crypto::CryptoProvider;
 use jsonwebtoken::crypto::hmac::HmacProvider;
 use jsonwebtoken::errors::Result;
@@ -255,7 +255,7 @@ fn parts_are_read_from_objects_with_the_three_texts(
         "[]",
         "{\"payload\":\"b\",\"protected\":\"a\",\"signature\":null}",
     ] {
-        assert!(rt; read(alloc, wrong).is_err(), "{wrong}");
+        assert!(rt; is_json(read(alloc, wrong)), "{wrong}");
     }
     Ok(())
 }
