@@ -202,6 +202,18 @@ pub fn rsa_components(sweep: &mut Sweep, alloc: Global) -> Result<()> {
     Ok(())
 }
 
+pub fn kinds(sweep: &mut Sweep, alloc: Global) -> Result<()> {
+    let pair = DecodingKey::from_rsa_raw_components(alloc, b"ab", b"c")?;
+    let mut kind = pair.kind().clone(alloc)?;
+    sweep
+        .of("DecodingKey::kind", "two numbers")
+        .sparing(is_pair_of_ab_and_c(pair.kind()));
+    let case = sweep.of("DecodingKeyKind::zeroize", "two numbers");
+    kind.zeroize();
+    case.sparing(!is_pair_of_ab_and_c(&kind));
+    Ok(())
+}
+
 pub fn curve_components(sweep: &mut Sweep, alloc: Global) -> Result<()> {
     let mut point = [0u8; 65];
     point[0] = 4;

@@ -27,6 +27,7 @@ fn try_names(sweep: &mut Sweep, alloc: Global) -> Result<()> {
     names::conversions_to_errors(sweep, alloc)?;
     names::algorithms(sweep, alloc)?;
     names::families(sweep)?;
+    names::key_algorithms(sweep)?;
     names::values(sweep, alloc)?;
     names::texts_as_claims(sweep, alloc)?;
     names::numbers_as_claims(sweep, alloc)?;
@@ -36,6 +37,7 @@ fn try_names(sweep: &mut Sweep, alloc: Global) -> Result<()> {
 fn try_parameters(sweep: &mut Sweep, alloc: Global) -> Result<()> {
     parameters::common(sweep, alloc)?;
     parameters::types(sweep, alloc)?;
+    parameters::defaults(sweep)?;
     parameters::uses(sweep, alloc)?;
     parameters::operations(sweep, alloc)?;
     parameters::operation_lists(sweep, alloc)
@@ -56,6 +58,7 @@ fn try_keys(sweep: &mut Sweep, alloc: Global) -> Result<()> {
     keys::decoding_secrets(sweep, alloc)?;
     keys::decoding_bytes(sweep, alloc)?;
     keys::rsa_components(sweep, alloc)?;
+    keys::kinds(sweep, alloc)?;
     keys::curve_components(sweep, alloc)?;
     keys::signatures(sweep, alloc)
 }

@@ -105,6 +105,22 @@ pub fn families(sweep: &mut Sweep) -> Result<()> {
     Ok(())
 }
 
+pub fn key_algorithms(sweep: &mut Sweep) -> Result<()> {
+    sweep
+        .of("KeyAlgorithm::from_str", "RSA-OAEP")
+        .sparing(matches!(
+            "RSA-OAEP".parse::<KeyAlgorithm>(),
+            Ok(KeyAlgorithm::RSA_OAEP)
+        ));
+    sweep
+        .of("KeyAlgorithm::name", "RSA-OAEP")
+        .sparing(KeyAlgorithm::RSA_OAEP.name() == "RSA-OAEP");
+    let case = sweep.of("Algorithm::try_from", "an algorithm that signs nothing");
+    let answer = Algorithm::try_from(KeyAlgorithm::RSA_OAEP);
+    case.sparing(is_refused(answer, &ErrorKind::UnsupportedAlgorithm));
+    Ok(())
+}
+
 pub fn values(sweep: &mut Sweep, alloc: Global) -> Result<()> {
     let claims = json_value(alloc, CLAIMS)?;
     let text = Vec::from_slice(alloc, CLAIMS)?;

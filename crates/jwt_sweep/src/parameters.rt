@@ -81,6 +81,28 @@ pub fn types(sweep: &mut Sweep, alloc: Global) -> Result<()> {
     Ok(())
 }
 
+pub fn defaults(sweep: &mut Sweep) -> Result<()> {
+    sweep
+        .of("CommonParameters::default, eq", "nothing")
+        .sparing(CommonParameters::default() == CommonParameters::default());
+    sweep
+        .of("EllipticCurve::default", "a name")
+        .sparing(EllipticCurve::default() == EllipticCurve::P256);
+    sweep.of("EllipticCurveKeyType::default", "a name").sparing(
+        EllipticCurveKeyType::default() == EllipticCurveKeyType::EC,
+    );
+    sweep
+        .of("RSAKeyType::default", "a name")
+        .sparing(RSAKeyType::default() == RSAKeyType::RSA);
+    sweep
+        .of("OctetKeyType::default", "a name")
+        .sparing(OctetKeyType::default() == OctetKeyType::Octet);
+    sweep.of("OctetKeyPairType::default", "a name").sparing(
+        OctetKeyPairType::default() == OctetKeyPairType::OctetKeyPair,
+    );
+    Ok(())
+}
+
 pub fn uses(sweep: &mut Sweep, alloc: Global) -> Result<()> {
     let value = json_value(alloc, b"\"own\"")?;
     let wrong = json_value(alloc, b"5")?;
