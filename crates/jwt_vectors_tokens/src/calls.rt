@@ -7,6 +7,7 @@ use jsonwebtoken::{
     Algorithm, DecodingKey, EncodingKey, Header, TokenData, Validation, decode, decode_header,
 };
 use jwt_base::serialization::json_value;
+use jwt_vectors::refusals::is_refused;
 use serde_json::Value;
 use std::alloc::Global;
 
@@ -82,8 +83,5 @@ pub(crate) fn shown(alloc: Global, answer: Result<Box<TokenData<Value>>>) -> Res
 
 /// Whether the answer is the refusal `Json`.
 pub(crate) fn is_json<T: Drop>(answer: Result<T>) -> bool {
-    match answer {
-        Ok(_given) => false,
-        Err(refusal) => *refusal.kind() == ErrorKind::Json,
-    }
+    is_refused(answer, ErrorKind::Json)
 }

@@ -372,6 +372,7 @@ fn a_provider_that_accepts_all_leaves_the_other_tests(
         ("e3", "Base64 error"),
         ("\u{e9}", "Base64 error"),
         ("_w", "JSON error"),
+        // `[ ]`, and in the next row `[]`
         ("WyBd", "JSON error"),
         ("W10", "JSON error"),
     ] {
