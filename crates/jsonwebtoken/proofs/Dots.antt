@@ -5,8 +5,8 @@ use Rattle.std.proofs.lemmas.List.Elements.{All-contains, All-nil, All-cons}
 use Rattle.std.specs.Prelude.{All}
 use Rattle.base64.specs.Rfc4648.{encode_symbols}
 use Rattle.jwt_base.specs.Base64Url.{IsPart, url_characters}
-use Rattle.jsonwebtoken.specs.Tests.{Cut, Compact, IsCutOf}
-use Rattle.jsonwebtoken.proofs.OneCut.{one_cut}
+use Rattle.jsonwebtoken.specs.Tests.{Parts, Compact, ArePartsOf}
+use Rattle.jsonwebtoken.proofs.UniqueParts.{one_way}
 
 abbrev one_dot : ℕ → ℕ
 one_dot x = if eqb x 46 then 1 else 0
@@ -54,23 +54,23 @@ url_free = refl
 part_dots : (text b : List ℕ) → IsPart text b → dots text ≡ 0
 part_dots text b p = rw p.1 (no_dots url_characters b url_free)
 
-joined : Cut → List ℕ
+joined : Parts → List ℕ
 joined c = c.header ++ 46 ∷ (c.payload ++ 46 ∷ c.signature)
 
-dots-joined : (c : Cut) → dots (joined c) ≡ dots c.header + dots c.payload + dots c.signature + 2
+dots-joined : (c : Parts) → dots (joined c) ≡ dots c.header + dots c.payload + dots c.signature + 2
 unfolding joined dots
 dots-joined c = omega (arith, dots-append c.header (46 ∷ (c.payload ++ 46 ∷ c.signature)), dots-append c.payload (46 ∷ c.signature))
 
 -- the three parts are the cut of their text
-pub cut_of_parts : (c : Cut) (h p s : List ℕ) → IsPart c.header h → IsPart c.payload p → IsPart c.signature s → IsCutOf (c.header ++ 46 ∷ (c.payload ++ 46 ∷ c.signature)) c
-cut_of_parts c h p s ph pp ps = record { joined = refl; payload = free c.payload (part_dots c.payload p pp); signature = free c.signature (part_dots c.signature s ps) }
+pub are_parts : (c : Parts) (h p s : List ℕ) → IsPart c.header h → IsPart c.payload p → IsPart c.signature s → ArePartsOf (c.header ++ 46 ∷ (c.payload ++ 46 ∷ c.signature)) c
+are_parts c h p s ph pp ps = record { joined = refl; payload = free c.payload (part_dots c.payload p pp); signature = free c.signature (part_dots c.signature s ps) }
 
 -- and a text that is cut in parts has these three
-pub parts_of_cut : (c d : Cut) (h p s : List ℕ) → IsCutOf (c.header ++ 46 ∷ (c.payload ++ 46 ∷ c.signature)) d → IsPart d.header h → IsPart d.payload p → IsPart d.signature s → d ≡ c
+pub same_as_parts : (c d : Parts) (h p s : List ℕ) → ArePartsOf (c.header ++ 46 ∷ (c.payload ++ 46 ∷ c.signature)) d → IsPart d.header h → IsPart d.payload p → IsPart d.signature s → d ≡ c
 unfolding joined
-parts_of_cut c d h p s cut ph pp ps =
+same_as_parts c d h p s cut ph pp ps =
     let same : joined c ≡ joined d = cut.joined in
     let counted : dots (joined c) ≡ dots (joined d) = ap dots same in
     let zero_p : dots c.payload ≡ 0 = omega (arith, counted, dots-joined c, dots-joined d, part_dots d.header h ph, part_dots d.payload p pp, part_dots d.signature s ps) in
     let zero_s : dots c.signature ≡ 0 = omega (arith, counted, dots-joined c, dots-joined d, part_dots d.header h ph, part_dots d.payload p pp, part_dots d.signature s ps) in
-    one_cut (Compact (joined c)) d c cut (record { joined = refl; payload = free c.payload zero_p; signature = free c.signature zero_s })
+    one_way (Compact (joined c)) d c cut (record { joined = refl; payload = free c.payload zero_p; signature = free c.signature zero_s })

@@ -1,13 +1,17 @@
 -- The exits by `?`, and the last call.
 use Rattle.std.proofs.Common.{◌≡◌, Option, Some, None, sym, ◌∙◌, ◌⊎◌, ◌↔◌, ℕ, List, [], ◌∷◌, ◌++◌, drop, length, ◌+◌, inl, inr, Result, Ok, Err, IfOk, IfErr}
+use Rattle.std.specs.Prelude.{IsErrAnd}
+use Rattle.std.proofs.lemmas.Result.{err_from_is_err_and}
+use Rattle.serde_json.specs.Data.{Data}
 use Rattle.jwt_base.specs.Kind.{Kind}
 use Rattle.jwt_base.specs.KindOf.{kind_of, IsMemory}
 use Rattle.jwt_base.specs.declared.errors.Error.{Error}
-use Rattle.jsonwebtoken.specs.Tests.{Call, Test, Things, Passes, signature_tests, claim_tests, ClaimsAreAnObject, ClaimRulesHold}
-use Rattle.serde_json.specs.Data.{Data}
+use Rattle.jwt_header.specs.declared.header.Header.{Header}
 use Rattle.jwt_validation.specs.ClaimRules.{IsFault, IsRuleFault, missing, broken, RulesHold, Tells}
 use Rattle.jwt_validation.specs.Options.{Options}
-use Rattle.jsonwebtoken.specs.Steps.{Meets, Step, Failed, verified}
+use Rattle.jsonwebtoken.specs.Tests.{Call, Parts, HasParts, key_of, Test, HasThreeParts, opening_tests, Contents, Condition, Passes, verifying_tests, ClaimsAreAnObject, ClaimRulesHold}
+use Rattle.jsonwebtoken.specs.Steps.{Meets, Step, Failed, opening, with_parts, verifying_by}
+use Rattle.jsonwebtoken.proofs.Engine.{join}
 
 pub not_both : {K : Type 0} (r : Option K) (k : K) → r ≡ Some k → r ≡ None → ⊥
 not_both r k e f = let both : Some k ≡ None = sym e ∙ f in cc
@@ -17,37 +21,66 @@ pub or_memory : {M A B : Type 0} → (A → B) → M ⊎ A → M ⊎ B
 or_memory f (inl m) = inl m
 or_memory f (inr a) = inr (f a)
 
+-- an exit by `?`: memory ran out, or the fault fails a test of the order
+module _ {T R : Type 0} (call : Call T) (order : List Test) (at : Contents → Contents) (Shows : Contents → R → Type 0) where
+  pub exit : {A : Type 0} (r : Result R Error) (e : Error) → IsErrAnd r (λ y. y ≡ e)
+      → (A → (x : Contents) × Failed call order (at x) (kind_of e)) → IsMemory e ⊎ A → Step call order at Shows r
+  exit r e is f fault = let p = err_from_is_err_and r is in rw (p.1, p.2) (or_memory f fault)
+
 module _ {T : Type 0} (call : Call T) where
   -- the tests failed before these, or after those that hold
-  pub early : (a b : List Test) (t : Things) (k : Kind) → Failed call a t k → Failed call (a ++ b) t k
+  pub early : (a b : List Test) (t : Contents) (k : Kind) → Failed call a t k → Failed call (a ++ b) t k
   early [] b t k f = absurd f
   early (c ∷ a) b t k (inl f) = inl f
   early (c ∷ a) b t k (inr (h, f)) = inr (h, early a b t k f)
 
-  pub later : (a b : List Test) (t : Things) (k : Kind) → Passes call a t → Failed call b t k → Failed call (a ++ b) t k
+  pub later : (a b : List Test) (t : Contents) (k : Kind) → Passes call a t → Failed call b t k → Failed call (a ++ b) t k
   later [] b t k p f = f
   later (c ∷ a) b t k p f = inr (p.0, later a b t k p.1 f)
 
   -- Of an order: the tests a hold, and the tests b that follow failed. What is left of the order is computed.
-  pub stop : (order a b : List Test) (t : Things) (k : Kind) → Passes call a t → Failed call b t k
-      → (x : Things) × Failed call (a ++ (b ++ drop (length a + length b) order)) x k
+  pub stop : (order a b : List Test) (t : Contents) (k : Kind) → Passes call a t → Failed call b t k
+      → (x : Contents) × Failed call (a ++ (b ++ drop (length a + length b) order)) x k
   stop order a b t k p f = (t, later a (b ++ drop (length a + length b) order) t k p (early b (drop (length a + length b) order) t k f))
 
   -- a last call, by what it says of its answer and of its refusal
-  pub step_tail : {R : Type 0} (order : List Test) (at : Things → Things) (shows : Things → R → Type 0) {P : R → Type 0} {Q : Error → Type 0} (r : Result R Error)
+  pub step_tail : {R : Type 0} (order : List Test) (at : Contents → Contents) (shows : Contents → R → Type 0) {P : R → Type 0} {Q : Error → Type 0} (r : Result R Error)
       → IfOk r P → IfErr r (λ e. IsMemory e ⊎ Q e)
-      → ((y : R) → P y → (x : Things) × Passes call order (at x) × shows x y)
-      → ((e : Error) → Q e → (x : Things) × Failed call order (at x) (kind_of e)) → Step call order at shows r
+      → ((y : R) → P y → (x : Contents) × Passes call order (at x) × shows x y)
+      → ((e : Error) → Q e → (x : Contents) × Failed call order (at x) (kind_of e)) → Step call order at shows r
   step_tail order at shows (Ok y) p q f g = f y p
   step_tail order at shows (Err e) p (inl m) f g = inl m
   step_tail order at shows (Err e) p (inr q) f g = inr (g e q)
 
   -- the same of a call with one clause
-  pub step_last : {R : Type 0} (order : List Test) (at : Things → Things) (shows : Things → R → Type 0) {P : R → Type 0} {Q : Kind → Type 0} (r : Result R Error) → Meets P Q r
-      → ((y : R) → P y → (x : Things) × Passes call order (at x) × shows x y) → ((k : Kind) → Q k → (x : Things) × Failed call order (at x) k) → Step call order at shows r
+  pub step_last : {R : Type 0} (order : List Test) (at : Contents → Contents) (shows : Contents → R → Type 0) {P : R → Type 0} {Q : Kind → Type 0} (r : Result R Error) → Meets P Q r
+      → ((y : R) → P y → (x : Contents) × Passes call order (at x) × shows x y) → ((k : Kind) → Q k → (x : Contents) × Failed call order (at x) k) → Step call order at shows r
   step_last order at shows (Ok y) m f g = f y m
   step_last order at shows (Err e) (inl m) f g = inl m
   step_last order at shows (Err e) (inr q) f g = inr (g (kind_of e) q)
+
+-- ---- what the steps of a call that verifies tell, put together
+
+abbrev pub front : List Test
+front = HasThreeParts ∷ opening_tests
+
+-- the parts that were found, and the header that was read of them and is understood
+module _ {T : Type 0} (call : Call T) (parts : Parts) (h : Header) (o : (x : Contents) × Passes (opening call.options) opening_tests (with_parts parts x) × (x.header ≡ h))
+    (has : HasParts call.token parts) where
+  -- with the key that was found, and with what was read of the other parts
+  abbrev pub opened : Contents → Contents → Contents
+  opened n x = record o.0 { parts = parts; header = h; jwk = n.jwk; jwk_key = n.jwk_key; signature_bytes = x.signature_bytes; payload_bytes = x.payload_bytes; payload_value = x.payload_value }
+
+  opened_passes : (n x : Contents) → Passes call front (opened n x)
+  opened_passes n x = let p : Passes (opening call.options) opening_tests (opened n x) = rw o.2 at o.1 in (has, p)
+
+  -- what passes the rest of the order passes all of it, and so with what fails
+  pub opened_then : (order : List Test) (n x : Contents) → Passes call (drop (length front) order) (opened n x) → Passes call (front ++ drop (length front) order) (opened n x)
+  opened_then order n x p = join (Condition call) front (drop (length front) order) (opened n x) (opened_passes n x) p
+
+  pub after_opened : (order : List Test) (n x : Contents) (k : Kind) → Failed call (drop (length front) order) (opened n x) k
+      → (s : Contents) × Failed call (front ++ drop (length front) order) s k
+  after_opened order n x k f = (opened n x, later call front (drop (length front) order) (opened n x) k (opened_passes n x) f)
 
 -- a fault of the claim rules, and that they hold, are never both
 not_held : (v : Options) (d : Data) (now : ℕ) (k : Kind) → IsRuleFault v d now k → RulesHold v d now → ⊥
@@ -55,20 +88,20 @@ not_held v d now k (missing n is) held = held.required n is
 not_held v d now k (broken none r first) held = first.fails (held.rules r)
 
 -- one verifier's answers are the other's
-module _ {T : Type 0} (call : Call T) (A : List ℕ → List ℕ → Type 0) (t : Things) (same : (m s : List ℕ) → A m s ↔ call.accepts t.header.alg t.key m s) where
+module _ {T : Type 0} (call : Call T) (A : List ℕ → List ℕ → Type 0) (t : Contents) (same : (m s : List ℕ) → A m s ↔ call.accepts t.header.alg (key_of call.keys t.jwk_key) m s) where
   abbrev by_verifier : Call T
-  by_verifier = verified call.reads call.options call.now A
+  by_verifier = verifying_by call.reads call.options call.now A
 
-  pub verified_passes : Passes by_verifier (signature_tests ++ claim_tests) t → Passes call (signature_tests ++ claim_tests) t
+  pub verified_passes : Passes by_verifier verifying_tests t → Passes call verifying_tests t
   verified_passes p = (p.0, ((same _ _).0 p.1.0, p.1.1))
 
-  pub verified_failed : (k : Kind) → Failed by_verifier (signature_tests ++ claim_tests) t k → Failed call (signature_tests ++ claim_tests) t k
+  pub verified_failed : (k : Kind) → Failed by_verifier verifying_tests t k → Failed call verifying_tests t k
   verified_failed k (inl f) = inl f
   verified_failed k (inr (h, inl f)) = inr (h, inl ((λ x. f.0 ((same _ _).1 x)), f.1))
   verified_failed k (inr (h, inr (a, f))) = inr (h, inr ((same _ _).0 a, f))
 
 -- what `validate` refuses fails one of the last two tests
-module _ {T : Type 0} (call : Call T) (t : Things) where
+module _ {T : Type 0} (call : Call T) (t : Contents) where
   failed_at : (k : Kind) → IsFault call.options t.payload_value call.now k → Failed call (ClaimsAreAnObject ∷ ClaimRulesHold ∷ []) t k
   failed_at k (inl (none, is)) = inl (none, is)
   failed_at k (inr (object, fault)) = inr (object, inl (not_held call.options t.payload_value call.now k fault, fault))

@@ -11,9 +11,10 @@ use Rattle.jwt_header.specs.Header.{ReadsHeader, header_value}
 use Rattle.jwt_header.specs.HeaderWritten.{normal_header, HasNormalForm}
 use Rattle.jsonwebtoken.specs.Issue.{Payload, NoClaims, WrittenAs, Issue, IssueTest, KeyFitsAlgorithm, SignerIsMade, HeaderIsWritten, ClaimsAreWritten, MessageIsSigned, Written, AreWritten, payload_part, IssueCondition, IssueKind, IssuePasses, IssueFailsFirst, AreIssued, ReadsBack}
 use Rattle.jsonwebtoken.specs.IssueSteps.{IsPartOf, IsPayloadOf, IssueFailsAt, IssueStep}
-use Rattle.jsonwebtoken.specs.Tests.{Cut, Things, text_of_parts}
-use Rattle.jsonwebtoken.specs.Steps.{nothing}
-use Rattle.jsonwebtoken.proofs.Dots.{cut_of_parts}
+use Rattle.jsonwebtoken.specs.Tests.{Parts, Contents, text_of_parts}
+use Rattle.jsonwebtoken.specs.Steps.{no_contents}
+use Rattle.jsonwebtoken.proofs.Ascii.{message_bytes}
+use Rattle.jsonwebtoken.proofs.Dots.{are_parts}
 use Rattle.jsonwebtoken.proofs.Engine as engine
 
 -- ---- the orders
@@ -94,11 +95,11 @@ module _ (issue : Issue) where
 -- ---- the text
 
 -- an issued token reads as the header's normal form and the claims' value
-module _ (issue : Issue) (accepts : Algorithm → Key → List ℕ → List ℕ → Type 0) (t : Written) (c : Cut) (normal : HasNormalForm issue.header)
+module _ (issue : Issue) (accepts : Algorithm → Key → List ℕ → List ℕ → Type 0) (t : Written) (c : Parts) (normal : HasNormalForm issue.header)
     (written : header_value issue.header ≡ Some t.header_value) (header : IsPartOf t.header_value c.header) where
-  things_of : AreIssued issue t c → Data → Things
-  things_of a v = record nothing {
-    cut = c;
+  contents_of : AreIssued issue t c → Data → Contents
+  contents_of a v = record no_contents {
+    parts = c;
     header_bytes = compact_text t.header_value;
     header_value = t.header_value;
     header = normal_header issue.header;
@@ -108,17 +109,17 @@ module _ (issue : Issue) (accepts : Algorithm → Key → List ℕ → List ℕ 
   }
 
   pub read_back : AreIssued issue t c → IsPayloadOf t.claims_value c.payload → ReadsBack issue accepts t (text_of_parts c)
-  unfolding things_of
+  unfolding contents_of
   read_back a claims v is deep_h deep_v =
       let payload : IsPartOf v c.payload = rw is at claims in
-      let cut = cut_of_parts c (compact_text t.header_value) (compact_text v) a.bytes header.part payload.part a.signature in
+      let parts = are_parts c (compact_text t.header_value) (compact_text v) a.bytes header.part payload.part a.signature in
       let reads : ReadsHeader t.header_value (normal_header issue.header) = (normal.reads_back t.header_value written (normal_header issue.header)).1 refl in
       record {
-        things = things_of a v;
-        passed = (cut, (header.part, (header.compact.reads_back deep_h, (reads, (a.signature, (payload.part, (payload.compact.reads_back deep_v, tt)))))));
+        contents = contents_of a v;
+        passed = (parts, (header.part, (header.compact.reads_back deep_h, (reads, (a.signature, (payload.part, (payload.compact.reads_back deep_v, tt)))))));
         header = refl;
         claims = refl;
-        accepted = λ key law. law _ _ a.signed;
+        accepted = λ key law. law _ _ (message_bytes c _ _ header.part payload.part) a.signature.0 a.signed;
       }
 
 -- the part of a payload

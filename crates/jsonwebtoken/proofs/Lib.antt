@@ -1,10 +1,10 @@
+pub mod Ascii
 pub mod Dots
+pub mod EachTest
 pub mod Engine
 pub mod Exits
 pub mod Issued
 pub mod LawsOf
-pub mod OneCut
-pub mod Orders
-pub mod Pointwise
 pub mod Repeats
+pub mod UniqueParts
 pub mod UsualParts

@@ -1,14 +1,9 @@
 -- The texts of the usual header parts, computed.
-use Rattle.std.proofs.Common.{◌≡◌, refl, ℕ, ◌<◌, List, [], ◌∷◌, Bool, true, false, ◌&&◌, Some, codes, arith}
-use Rattle.std.specs.Prelude.{All, ltb}
+use Rattle.std.proofs.Common.{◌≡◌, refl, ℕ, List, true, Some, codes}
+use Rattle.std.specs.Prelude.{ltb}
 use Rattle.std.specs.List.{list_all}
-use Rattle.std.specs.Str.{IsAscii}
-use Rattle.std.proofs.lemmas.Bool.{ltb-true, false≢true}
-use Rattle.std.proofs.lemmas.List.Elements.{All-nil, All-cons}
 use Rattle.std.proofs.lemmas.Str.{IsUtf8-from_ascii}
-use Rattle.std.proofs.lemmas.Str.Ascii.{IsAscii-from_all}
 use Rattle.base64.proofs.OnLiterals.{base64_on_literals}
-use Rattle.base64.specs.GeneralPurpose.{IsBytes}
 use Rattle.base64.specs.Rfc4648.{encode_symbols}
 use Rattle.serde_json.specs.Data.{Data, object, string, put, no_members}
 use Rattle.serde_json.specs.Read.{read}
@@ -22,21 +17,7 @@ use Rattle.jwt_header.specs.Header.{new_header, header_value}
 use Rattle.jwt_header.specs.HeaderWritten.{HasNormalForm}
 use Rattle.jwt_header.proofs.HeaderLemmas.{reads_written, has_normal_form}
 use Rattle.jsonwebtoken.specs.Usual.{IsUsual}
-
-both : (x y : Bool) → (x && y) ≡ true → (x ≡ true) × (y ≡ true)
-both true true e = (refl, refl)
-both true false e = absurd (false≢true e)
-both false y e = absurd (false≢true e)
-
-all_small : (xs : List ℕ) → list_all (λ b. ltb b 128) xs ≡ true → All (λ b. b < 128) xs
-all_small [] e = All-nil (λ b. b < 128)
-all_small (x ∷ xs) e = let p = both (ltb x 128) (list_all (λ b. ltb b 128) xs) e in All-cons (λ b. b < 128) x xs (ltb-true x 128 p.0) (all_small xs p.1)
-
-ascii : (xs : List ℕ) → list_all (λ b. ltb b 128) xs ≡ true → IsAscii xs
-ascii xs e = IsAscii-from_all xs (all_small xs e)
-
-bytes_of : (xs : List ℕ) → IsAscii xs → IsBytes xs
-bytes_of xs small i = omega (arith, small i)
+use Rattle.jsonwebtoken.proofs.Ascii.{ascii, bytes_of}
 
 abbrev value_of : Algorithm → Data
 value_of a = object (put (codes "alg") (string (name_of a)) (put (codes "typ") (string (codes "JWT")) no_members))

@@ -3,6 +3,7 @@ use Rattle.std.specs.Prelude.{◌≡◌, ◌≤◌, ℕ, List, [], ◌∷◌, �
 use Rattle.serde_json.specs.Data.{Data, depth}
 use Rattle.serde_json.specs.Read.{max_depth}
 use Rattle.serde_json.specs.Written.{compact_text, has_float}
+use Rattle.base64.specs.GeneralPurpose.{IsBytes}
 use Rattle.base64.specs.Rfc4648.{encode_symbols}
 use Rattle.jwt_base.specs.Algorithm.{family_of}
 use Rattle.jwt_base.specs.Base64Url.{IsPart, url_characters}
@@ -14,7 +15,7 @@ use Rattle.jwt_header.specs.Header.{header_value}
 use Rattle.jwt_header.specs.HeaderWritten.{normal_header}
 use Rattle.jwt_header.specs.declared.header.Header.{Header}
 use Rattle.jsonwebtoken.specs.Order.{PassesAll, FailsFirst}
-use Rattle.jsonwebtoken.specs.Tests.{dot, Cut, message_of, text_of_parts, Call, Test, HasThreeParts, SignatureIsPart, SignatureIsAccepted, PayloadIsPart, PayloadIsJson, header_tests, Things, Condition, Passes, header_call}
+use Rattle.jsonwebtoken.specs.Tests.{dot, Parts, message_of, text_of_parts, Test, HasThreeParts, SignatureIsPart, PayloadIsPart, PayloadIsJson, header_tests, Contents, Passes, header_call}
 
 -- ---- a call
 
@@ -75,7 +76,8 @@ module _ (issue : Issue) where
   IssueCondition SignerIsMade t = issue.signer_refusal issue.header.alg issue.key ≡ None
   IssueCondition HeaderIsWritten t = header_value issue.header ≡ Some t.header_value
   IssueCondition ClaimsAreWritten t = AreWritten issue.payload t.claims_value
-  IssueCondition MessageIsSigned t = issue.sign_refusal issue.header.alg issue.key (message_to_sign t) ≡ None
+  IssueCondition MessageIsSigned t =
+      issue.sign_refusal issue.header.alg issue.key (message_to_sign t) ≡ None
 
   -- the kinds of a failed test
   abbrev pub IssueKind : IssueTest → Written → Kind → Type 0
@@ -83,7 +85,8 @@ module _ (issue : Issue) where
   IssueKind SignerIsMade t k = issue.signer_refusal issue.header.alg issue.key ≡ Some k
   IssueKind HeaderIsWritten t k = k ≡ kind.Json
   IssueKind ClaimsAreWritten t k = k ≡ kind.Json
-  IssueKind MessageIsSigned t k = issue.sign_refusal issue.header.alg issue.key (message_to_sign t) ≡ Some k
+  IssueKind MessageIsSigned t k =
+      issue.sign_refusal issue.header.alg issue.key (message_to_sign t) ≡ Some k
 
   -- every test of the order holds
   abbrev pub IssuePasses : List IssueTest → Written → Type 0
@@ -95,28 +98,32 @@ module _ (issue : Issue) where
 
   -- The parts of an issued token: those of the header's and of the claims' text, and that of a signature which the
   -- provider may answer for the two.
-  pub record AreIssued (t : Written) (c : Cut) : Type 0 where
-    pub header : c.header ≡ part_of t.header_value
-    pub payload : c.payload ≡ payload_part t.claims_value
+  pub record AreIssued (t : Written) (p : Parts) : Type 0 where
+    pub header : p.header ≡ part_of t.header_value
+    pub payload : p.payload ≡ payload_part t.claims_value
     pub bytes : List ℕ
-    pub signature : IsPart c.signature bytes
-    pub signed : issue.signs issue.header.alg issue.key (message_of c) bytes
+    pub signature : IsPart p.signature bytes
+    pub signed : issue.signs issue.header.alg issue.key (message_of p) bytes
 
   -- the text of an issued token
   abbrev pub IsIssued : Written → List ℕ → Type 0
-  IsIssued t x = (c : Cut) × (x ≡ text_of_parts c) × AreIssued t c
+  IsIssued t x = (p : Parts) × (x ≡ text_of_parts p) × AreIssued t p
 
 -- ---- the orders
 
 abbrev pub encode_order : List IssueTest
-encode_order = KeyFitsAlgorithm ∷ SignerIsMade ∷ HeaderIsWritten ∷ ClaimsAreWritten ∷ MessageIsSigned ∷ []
+encode_order =
+    KeyFitsAlgorithm ∷ SignerIsMade ∷ HeaderIsWritten ∷ ClaimsAreWritten ∷ MessageIsSigned ∷ []
 
 abbrev pub jws_encode_order : List IssueTest
-jws_encode_order = KeyFitsAlgorithm ∷ HeaderIsWritten ∷ ClaimsAreWritten ∷ SignerIsMade ∷ MessageIsSigned ∷ []
+jws_encode_order =
+    KeyFitsAlgorithm ∷ HeaderIsWritten ∷ ClaimsAreWritten ∷ SignerIsMade ∷ MessageIsSigned ∷ []
 
 -- ---- the calls
 
-abbrev pub issuing : Header → Payload → SecretKey → (Algorithm → SecretKey → Option Kind) → (Algorithm → SecretKey → List ℕ → Option Kind) → (Algorithm → SecretKey → List ℕ → List ℕ → Type 0) → Issue
+abbrev pub issuing : Header → Payload → SecretKey → (Algorithm → SecretKey → Option Kind)
+    → (Algorithm → SecretKey → List ℕ → Option Kind)
+    → (Algorithm → SecretKey → List ℕ → List ℕ → Type 0) → Issue
 issuing header payload key signer_refusal sign_refusal signs = record {
   header = header;
   payload = payload;
@@ -128,23 +135,28 @@ issuing header payload key signer_refusal sign_refusal signs = record {
 
 -- ---- reading an issued token
 
--- the tests that ask neither for a validation nor for a key nor for a claims type
+-- the tests that ask neither for a validation nor for a key nor for a type of claims
 abbrev pub issued_tests : List Test
 issued_tests = HasThreeParts ∷ header_tests ++ SignatureIsPart ∷ PayloadIsPart ∷ PayloadIsJson ∷ []
 
-abbrev pub reading_call : List ℕ → (Algorithm → Key → List ℕ → List ℕ → Type 0) → Call (Unit {0})
-reading_call x accepts = record (header_call x) { accepts = accepts }
+-- every signature that the issuer's key makes is accepted with this one
+abbrev pub AcceptsOf : Issue → (Algorithm → Key → List ℕ → List ℕ → Type 0) → Key → Type 0
+AcceptsOf issue accepts key = (m s : List ℕ) → IsBytes m → IsBytes s
+    → issue.signs issue.header.alg issue.key m s → accepts issue.header.alg key m s
 
 -- The text passes these tests with the header's normal form and the claims' value, and its signature is accepted with
 -- each key that accepts what the issuer's key signs.
-pub record IsReadBack (issue : Issue) (accepts : Algorithm → Key → List ℕ → List ℕ → Type 0) (v : Data) (x : List ℕ) : Type 0 where
-  pub things : Things
-  pub passed : Passes (reading_call x accepts) issued_tests things
-  pub header : things.header ≡ normal_header issue.header
-  pub claims : things.payload_value ≡ v
-  pub accepted : (key : Key) → ((m s : List ℕ) → issue.signs issue.header.alg issue.key m s → accepts issue.header.alg key m s)
-      → Condition (reading_call x accepts) SignatureIsAccepted (record things { key = key })
+pub record IsReadBack (issue : Issue) (accepts : Algorithm → Key → List ℕ → List ℕ → Type 0)
+    (v : Data) (x : List ℕ) : Type 0 where
+  pub contents : Contents
+  pub passed : Passes (header_call x) issued_tests contents
+  pub header : contents.header ≡ normal_header issue.header
+  pub claims : contents.payload_value ≡ v
+  pub accepted : (key : Key) → AcceptsOf issue accepts key
+      → accepts contents.header.alg key (message_of contents.parts) contents.signature_bytes
 
 -- so it is where the header and the claims nest as deep as JSON is read
-abbrev pub ReadsBack : Issue → (Algorithm → Key → List ℕ → List ℕ → Type 0) → Written → List ℕ → Type 0
-ReadsBack issue accepts t x = (v : Data) → t.claims_value ≡ Some v → depth t.header_value ≤ max_depth → depth v ≤ max_depth → IsReadBack issue accepts v x
+abbrev pub ReadsBack : Issue → (Algorithm → Key → List ℕ → List ℕ → Type 0)
+    → Written → List ℕ → Type 0
+ReadsBack issue accepts t x = (v : Data) → t.claims_value ≡ Some v
+    → depth t.header_value ≤ max_depth → depth v ≤ max_depth → IsReadBack issue accepts v x

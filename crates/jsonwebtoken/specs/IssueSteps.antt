@@ -8,7 +8,7 @@ use Rattle.jwt_base.specs.Kind.{Kind}
 use Rattle.jwt_base.specs.declared.errors.Error.{Error}
 use Rattle.jsonwebtoken.specs.Order.{FailedAt}
 use Rattle.jsonwebtoken.specs.Steps.{Meets}
-use Rattle.jsonwebtoken.specs.Issue.{Issue, IssueTest, KeyFitsAlgorithm, SignerIsMade, HeaderIsWritten, ClaimsAreWritten, MessageIsSigned, Written, AreWritten, IssueCondition, IssueKind, IssuePasses}
+use Rattle.jsonwebtoken.specs.Issue.{Issue, IssueTest, HeaderIsWritten, ClaimsAreWritten, Written, AreWritten, IssueCondition, IssueKind, IssuePasses}
 use Rattle.jwt_header.specs.Header.{header_value}
 
 -- the part that stands for the value's compact text
@@ -22,18 +22,18 @@ IsPayloadOf None text = text ≡ []
 IsPayloadOf (Some d) text = IsPartOf d text
 
 module _ (issue : Issue) where
-  -- the test fails at these things, whatever stands in place of the thing that it looks for
+  -- the test fails at these values, whatever stands in place of what it looks for
   abbrev pub IssueFailsAt : IssueTest → Written → Type 0
-  IssueFailsAt KeyFitsAlgorithm t = IssueCondition issue KeyFitsAlgorithm t → ⊥
-  IssueFailsAt SignerIsMade t = IssueCondition issue SignerIsMade t → ⊥
   IssueFailsAt HeaderIsWritten t = (d : Data) → header_value issue.header ≡ Some d → ⊥
   IssueFailsAt ClaimsAreWritten t = (v : Option Data) → AreWritten issue.payload v → ⊥
-  IssueFailsAt MessageIsSigned t = IssueCondition issue MessageIsSigned t → ⊥
+  IssueFailsAt c t = IssueCondition issue c t → ⊥
 
   abbrev pub IssueFailed : List IssueTest → Written → Kind → Type 0
   IssueFailed = FailedAt (IssueCondition issue) (IssueKind issue) IssueFailsAt
 
-  -- What the answer tells of these tests: some things pass them, and are what is answered; or they pass them up to
+  -- What the answer tells of these tests: some values pass them, and are what is answered; or they pass them up to
   -- one that fails, unless memory ran out.
-  abbrev pub IssueStep : {R : Type 0} → List IssueTest → (Written → R → Type 0) → Result R Error → Type 0
-  IssueStep order shows = Meets (λ r. (t : Written) × IssuePasses issue order t × shows t r) (λ k. (t : Written) × IssueFailed order t k)
+  abbrev pub IssueStep : {R : Type 0} → List IssueTest → (Written → R → Type 0)
+      → Result R Error → Type 0
+  IssueStep order Shows = Meets (λ r. (t : Written) × IssuePasses issue order t × Shows t r)
+      (λ k. (t : Written) × IssueFailed order t k)

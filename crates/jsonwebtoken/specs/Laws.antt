@@ -1,47 +1,69 @@
--- When a token is accepted, under which options, and which texts are.
-use Rattle.std.specs.Prelude.{◌≡◌, ◌↔◌, ℕ, ◌≤◌, List, [], ◌∷◌, ◌++◌}
+-- When a token is accepted, under which options, and which tokens are, by the tests of any order.
+use Rattle.std.specs.Prelude.{◌≡◌, ◌↔◌, ℕ, ◌≤◌, List, [], ◌∷◌, ◌++◌, Bool, true, false, if◌then◌else◌}
+use Rattle.jwt_base.specs.Algorithm.{family_of}
+use Rattle.jwt_keys.specs.Key.{key_family}
+use Rattle.jwt_keys.specs.Provider.{HasOneSignature}
+use Rattle.jwt_keys.specs.declared.jwk.Jwk.{Jwk}
 use Rattle.jwt_validation.specs.Claim.{claims_of}
-use Rattle.jwt_validation.specs.Options.{Options}
 use Rattle.jwt_validation.specs.Moments.{RulesOfNoMoment, first_moment, last_moment, end_of_time, Looser}
-use Rattle.jsonwebtoken.specs.Tests.{Call, Compact, Parts, Cut, text_of_parts, jws_order, Test, Things, Passes, decode_order, header_order, algorithm_tests, signature_tests, payload_tests, KeyIsGiven, CritIsUnderstood, ClaimsAreAnObject}
+use Rattle.jwt_validation.specs.Options.{Options}
+use Rattle.jsonwebtoken.specs.Tests.{Call, Token, Compact, Separate, Parts, InSet, key_of, text_of_parts, Test, ClaimRulesHold, Contents, Passes, decode_order, jws_order}
 
--- the tests of decode that do not speak of the moment
-abbrev pub base_order : List Test
-base_order = KeyIsGiven ∷ header_order ++ CritIsUnderstood ∷ algorithm_tests ++ signature_tests ++ payload_tests ++ ClaimsAreAnObject ∷ []
+-- every test but the claim rules says nothing of the moment
+abbrev pub is_timeless : Test → Bool
+is_timeless ClaimRulesHold = false
+is_timeless _ = true
 
-module _ {T : Type 0} (call : Call T) where
-  -- what is asked at a moment: the tests that do not speak of it hold, and it lies from the first moment to the last
-  pub record IsWithin (order : List Test) (t : Things) (m : ℕ) : Type 0 where
-    pub base : Passes call order t
+-- the order without the claim rules
+abbrev pub timeless : List Test → List Test
+timeless [] = []
+timeless (c ∷ cs) = if is_timeless c then c ∷ timeless cs else timeless cs
+
+module _ {T : Type 0} (call : Call T) (order : List Test) where
+  -- What is asked at a moment: the tests that do not speak of it hold, and it lies from the first moment to the last.
+  pub record IsWithin (t : Contents) (m : ℕ) : Type 0 where
+    pub base : Passes call (timeless order) t
     pub rules : RulesOfNoMoment call.options t.payload_value
     pub from : first_moment call.options (claims_of t.payload_value) ≤ m
     pub until : m ≤ last_moment call.options (claims_of t.payload_value)
 
-  -- any things pass at just these moments
+  -- any contents pass at just these moments
   abbrev pub HasMoments : Type 0
-  HasMoments = (t : Things) (m : ℕ) → m ≤ end_of_time → Passes (record call { now = m }) decode_order t ↔ IsWithin base_order t m
+  HasMoments = (t : Contents) (m : ℕ) → m ≤ end_of_time
+      → Passes (record call { now = m }) order t ↔ IsWithin t m
 
-  -- they pass under looser options too
-  abbrev pub PassesLooser : Things → Type 0
-  PassesLooser t = (w : Options) → Looser call.options w → Passes (record call { options = w }) decode_order t
+  -- what passes does so under looser options too
+  abbrev pub KeepsLooser : Type 0
+  KeepsLooser = (t : Contents) → Passes call order t
+      → (w : Options) → Looser call.options w → Passes (record call { options = w }) order t
 
-  -- the provider accepts at most one signature of a message under the algorithm and key of these things
-  abbrev pub HasOneSignature : Things → Type 0
-  HasOneSignature t = (m a b : List ℕ) → call.accepts t.header.alg t.key m a → call.accepts t.header.alg t.key m b → a ≡ b
+  -- what passes does so with more keys after those of the set
+  abbrev pub KeepsWithMore : List Jwk → Type 0
+  KeepsWithMore set = (t : Contents) → Passes call order t
+      → (more : List Jwk) → Passes (record call { keys = InSet (set ++ more) }) order t
 
-  -- any text that is accepted with the same header bytes and payload bytes, at any moment and under any options, is
-  -- this one
-  abbrev pub IsOneText : List ℕ → Things → Type 0
-  IsOneText x t = (y : List ℕ) (w : Options) (m : ℕ) (u : Things) → Passes (record call { token = Compact y; options = w; now = m }) decode_order u
+  -- the key of what passes is of the family of the header's algorithm
+  abbrev pub KeyFits : Type 0
+  KeyFits = (t : Contents) → Passes call order t
+      → key_family (key_of call.keys t.jwk_key) ≡ family_of t.header.alg
+
+  -- Where the provider accepts one signature of a message: any token of this form that passes with the same header
+  -- bytes and payload bytes, at any moment and under any options, is this one.
+  abbrev pub FixesToken : (A : Type 0) → (A → Token) → A → Type 0
+  FixesToken A form x = (t : Contents) → Passes call order t
+      → HasOneSignature (call.accepts t.header.alg (key_of call.keys t.jwk_key))
+      → (y : A) (w : Options) (m : ℕ) (u : Contents)
+      → Passes (record call { token = form y; options = w; now = m }) order u
       → u.header_bytes ≡ t.header_bytes → u.payload_bytes ≡ t.payload_bytes → y ≡ x
 
 -- the same call on the three parts of a token, and on their text
-abbrev pub on_parts : {T : Type 0} → Call T → Cut → Call T
-on_parts call c = record call { token = Parts c }
+abbrev pub on_parts : {T : Type 0} → Call T → Parts → Call T
+on_parts call p = record call { token = Separate p }
 
-abbrev pub on_text : {T : Type 0} → Call T → Cut → Call T
-on_text call c = record call { token = Compact (text_of_parts c) }
+abbrev pub on_text : {T : Type 0} → Call T → Parts → Call T
+on_text call p = record call { token = Compact (text_of_parts p) }
 
--- the same things pass both
-abbrev pub AgreeOn : {T : Type 0} → Call T → Cut → Type 0
-AgreeOn call c = (t : Things) → Passes (on_parts call c) jws_order t ↔ Passes (on_text call c) decode_order t
+-- the same contents pass both
+abbrev pub AgreeOn : {T : Type 0} → Call T → Parts → Type 0
+AgreeOn call p = (t : Contents)
+    → Passes (on_parts call p) jws_order t ↔ Passes (on_text call p) decode_order t

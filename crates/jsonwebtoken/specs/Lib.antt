@@ -1,10 +1,11 @@
+pub mod Calls
 pub mod Crit
 pub mod Issue
+pub mod IssueCalls
 pub mod IssueSteps
 pub mod Jws
 pub mod Laws
 pub mod Order
-pub mod SetLaws
 pub mod Steps
 pub mod Tests
 pub mod Usual

@@ -8,10 +8,9 @@ use Rattle.jwt_base.specs.Kind as kind
 use Rattle.jwt_base.specs.Base64Url.{IsPart}
 use Rattle.jwt_base.specs.JsonText.{IsJson}
 use Rattle.jwt_base.specs.declared.algorithms.Algorithm.{Algorithm}
-use Rattle.jwt_base.specs.declared.algorithms.AlgorithmFamily.TheVariants.{Hmac}
 use Rattle.jwt_keys.specs.Jwk.{has_id}
 use Rattle.jwt_keys.specs.declared.jwk.Jwk.{Jwk}
-use Rattle.jwt_keys.specs.Key.{Key, Plain}
+use Rattle.jwt_keys.specs.Key.{Key}
 use Rattle.jwt_keys.specs.KeyOfJwk.{IsKeyOf, refusal_of}
 use Rattle.jwt_validation.specs.ClaimRules.{RulesHold, IsRuleFault}
 use Rattle.jsonwebtoken.specs.Crit.{IsUnderstood}
@@ -27,7 +26,7 @@ abbrev pub dot : ℕ
 dot = 46
 
 -- the three parts of a token
-pub record Cut : Type 0 where
+pub record Parts : Type 0 where
   pub header : List ℕ
   pub payload : List ℕ
   pub signature : List ℕ
@@ -35,26 +34,26 @@ pub record Cut : Type 0 where
 -- a token: one text, or its three parts
 pub data Token : Type 0 where
   Compact : List ℕ → Token
-  Parts : Cut → Token
+  Separate : Parts → Token
 
 -- the text of three parts
-abbrev pub text_of_parts : Cut → List ℕ
-text_of_parts c = c.header ++ dot ∷ (c.payload ++ dot ∷ c.signature)
+abbrev pub text_of_parts : Parts → List ℕ
+text_of_parts p = p.header ++ dot ∷ (p.payload ++ dot ∷ p.signature)
 
 -- The text is the three parts with a dot between each two, and neither of the last two parts holds a dot
 -- (RFC 7515 section 7.1).
-pub record IsCutOf (text : List ℕ) (cut : Cut) : Type 0 where
-  pub joined : text ≡ text_of_parts cut
-  pub payload : ¬ Contains cut.payload dot
-  pub signature : ¬ Contains cut.signature dot
+pub record ArePartsOf (text : List ℕ) (parts : Parts) : Type 0 where
+  pub joined : text ≡ text_of_parts parts
+  pub payload : ¬ Contains parts.payload dot
+  pub signature : ¬ Contains parts.signature dot
 
-abbrev pub HasParts : Token → Cut → Type 0
-HasParts (Compact text) c = IsCutOf text c
-HasParts (Parts d) c = c ≡ d
+abbrev pub HasParts : Token → Parts → Type 0
+HasParts (Compact text) p = ArePartsOf text p
+HasParts (Separate q) p = p ≡ q
 
 -- what is signed: header part, dot, payload part (RFC 7515 section 5.1)
-abbrev pub message_of : Cut → List ℕ
-message_of c = c.header ++ dot ∷ c.payload
+abbrev pub message_of : Parts → List ℕ
+message_of p = p.header ++ dot ∷ p.payload
 
 -- ---- a call
 
@@ -74,7 +73,8 @@ named_key ks h = option_and_then (λ kid. find (has_id kid) ks) h.kid
 
 -- the key is for every algorithm, or for this one (RFC 7517 section 4.4)
 abbrev pub AgreesWith : Algorithm → Jwk → Type 0
-AgreesWith a k = (k.common.key_algorithm ≡ None) ⊎ (k.common.key_algorithm ≡ Some (key_algorithm_of a))
+AgreesWith a k =
+    (k.common.key_algorithm ≡ None) ⊎ (k.common.key_algorithm ≡ Some (key_algorithm_of a))
 
 -- what a call is given: its arguments, the provider's answers, and what reads as claims
 pub record Call (T : Type 0) : Type 1 where
@@ -89,7 +89,6 @@ pub record Call (T : Type 0) : Type 1 where
 -- ---- the tests
 
 pub data Test : Type 0 where
-  KeyIsGiven : Test
   HasThreeParts : Test
   HeaderIsPart : Test
   HeaderIsJson : Test
@@ -111,44 +110,68 @@ pub data Test : Type 0 where
   ClaimRulesHold : Test
 
 -- what the tests speak of
-pub record Things : Type 0 where
-  pub cut : Cut
+pub record Contents : Type 0 where
+  pub parts : Parts
   pub header_bytes : List ℕ
   pub header_value : Data
   pub header : Header
   pub jwk : Jwk
-  pub key : Key
+  pub jwk_key : Key
   pub signature_bytes : List ℕ
   pub payload_bytes : List ℕ
   pub payload_value : Data
 
+-- the key to verify with: the one that is given, or that of the JSON Web Key which the header names
+abbrev pub key_of : KeySource → Key → Key
+key_of (Given k) named = k
+key_of (InSet ks) named = named
+
 module _ {T : Type 0} (call : Call T) where
   -- the condition of each test
-  abbrev pub Condition : Test → Things → Type 0
-  Condition KeyIsGiven t = call.keys ≡ Given t.key
-  Condition HasThreeParts t = HasParts call.token t.cut
-  Condition HeaderIsPart t = IsPart t.cut.header t.header_bytes
+  abbrev pub Condition : Test → Contents → Type 0
+  -- RFC 7515 section 7.1
+  Condition HasThreeParts t = HasParts call.token t.parts
+  -- RFC 7515 sections 2 and 5.2
+  Condition HeaderIsPart t = IsPart t.parts.header t.header_bytes
+  -- RFC 7515 section 5.2
   Condition HeaderIsJson t = IsJson t.header_bytes t.header_value
+  -- RFC 7515 section 4.1
   Condition HeaderReads t = ReadsHeader t.header_value t.header
+  -- RFC 7515 section 4.1.11
   Condition CritIsUnderstood t = IsUnderstood call.options.understood t.header
+  -- RFC 7515 section 4.1.4, RFC 7517 section 4.5
   Condition KeyIsFound t = named_key (set_of call.keys) t.header ≡ Some t.jwk
+  -- RFC 7517 section 4.4
   Condition KeyAlgorithmAgrees t = AgreesWith t.header.alg t.jwk
-  Condition KeyIsUsable t = IsKeyOf t.jwk.algorithm t.key
+  -- RFC 7518 section 6, RFC 8037 section 2
+  Condition KeyIsUsable t = IsKeyOf t.jwk.algorithm t.jwk_key
+  -- RFC 8725 section 3.1
   Condition AlgorithmsAreListed t = ¬ (call.options.algorithms ≡ [])
+  -- RFC 8725 section 3.1
   Condition AlgorithmIsListed t = Contains call.options.algorithms t.header.alg
-  Condition VerifierIsMade t = call.refusal t.header.alg t.key ≡ None
-  Condition FamiliesAgree t = All (λ a. family_of a ≡ family_of t.header.alg) call.options.algorithms
-  Condition SignatureIsPart t = IsPart t.cut.signature t.signature_bytes
-  Condition SignatureIsAccepted t = call.accepts t.header.alg t.key (message_of t.cut) t.signature_bytes
-  Condition PayloadIsPart t = IsPart t.cut.payload t.payload_bytes
+  -- RFC 7515 section 4.1.1
+  Condition VerifierIsMade t = call.refusal t.header.alg (key_of call.keys t.jwk_key) ≡ None
+  -- RFC 8725 section 3.1
+  Condition FamiliesAgree t =
+      All (λ a. family_of a ≡ family_of t.header.alg) call.options.algorithms
+  -- RFC 7515 sections 2 and 5.2
+  Condition SignatureIsPart t = IsPart t.parts.signature t.signature_bytes
+  -- RFC 7515 section 5.2
+  Condition SignatureIsAccepted t =
+      call.accepts t.header.alg (key_of call.keys t.jwk_key) (message_of t.parts) t.signature_bytes
+  -- RFC 7515 sections 2 and 5.2
+  Condition PayloadIsPart t = IsPart t.parts.payload t.payload_bytes
+  -- RFC 7519 section 7.2
   Condition PayloadIsJson t = IsJson t.payload_bytes t.payload_value
+  -- RFC 7519 section 4
   Condition ClaimsRead t = (c : T) × call.reads t.payload_value c
+  -- RFC 7519 section 7.2
   Condition ClaimsAreAnObject t = IsSome (as_object t.payload_value)
+  -- RFC 7519 section 4.1
   Condition ClaimRulesHold t = RulesHold call.options t.payload_value call.now
 
-  -- the kinds of a failed test; a key that is given is there
-  abbrev pub HasKind : Test → Things → Kind → Type 0
-  HasKind KeyIsGiven t k = ⊥
+  -- the kinds of a failed test
+  abbrev pub HasKind : Test → Contents → Kind → Type 0
   HasKind HasThreeParts t k = k ≡ kind.InvalidToken
   HasKind HeaderIsPart t k = k ≡ kind.Base64
   HasKind HeaderIsJson t k = k ≡ kind.Json
@@ -159,7 +182,7 @@ module _ {T : Type 0} (call : Call T) where
   HasKind KeyIsUsable t k = k ≡ refusal_of t.jwk.algorithm
   HasKind AlgorithmsAreListed t k = k ≡ kind.MissingAlgorithm
   HasKind AlgorithmIsListed t k = k ≡ kind.InvalidAlgorithm
-  HasKind VerifierIsMade t k = call.refusal t.header.alg t.key ≡ Some k
+  HasKind VerifierIsMade t k = call.refusal t.header.alg (key_of call.keys t.jwk_key) ≡ Some k
   HasKind FamiliesAgree t k = k ≡ kind.InvalidAlgorithm
   HasKind SignatureIsPart t k = k ≡ kind.Base64
   HasKind SignatureIsAccepted t k = k ≡ kind.InvalidSignature
@@ -170,7 +193,7 @@ module _ {T : Type 0} (call : Call T) where
   HasKind ClaimRulesHold t k = IsRuleFault call.options t.payload_value call.now k
 
   -- every test of the order holds
-  abbrev pub Passes : List Test → Things → Type 0
+  abbrev pub Passes : List Test → Contents → Type 0
   Passes = PassesAll (Condition)
 
   -- the order's first failed test has this kind
@@ -181,6 +204,10 @@ module _ {T : Type 0} (call : Call T) where
 
 abbrev pub header_tests : List Test
 header_tests = HeaderIsPart ∷ HeaderIsJson ∷ HeaderReads ∷ []
+
+-- of the header: what comes first of every call that verifies, once the parts are found
+abbrev pub opening_tests : List Test
+opening_tests = header_tests ++ CritIsUnderstood ∷ []
 
 abbrev pub key_tests : List Test
 key_tests = KeyIsFound ∷ KeyAlgorithmAgrees ∷ KeyIsUsable ∷ []
@@ -200,6 +227,10 @@ payload_tests = PayloadIsPart ∷ PayloadIsJson ∷ ClaimsRead ∷ []
 abbrev pub claim_tests : List Test
 claim_tests = payload_tests ++ ClaimsAreAnObject ∷ ClaimRulesHold ∷ []
 
+-- of the signature and then of the claims: what comes last of every call that verifies
+abbrev pub verifying_tests : List Test
+verifying_tests = signature_tests ++ claim_tests
+
 abbrev pub header_order : List Test
 header_order = HasThreeParts ∷ header_tests
 
@@ -210,21 +241,23 @@ abbrev pub insecure_claims_order : List Test
 insecure_claims_order = HasThreeParts ∷ payload_tests
 
 abbrev pub decode_order : List Test
-decode_order = KeyIsGiven ∷ header_order ++ CritIsUnderstood ∷ algorithm_tests ++ signature_tests ++ claim_tests
+decode_order = HasThreeParts ∷ opening_tests ++ algorithm_tests ++ verifying_tests
 
 abbrev pub jws_order : List Test
-jws_order = KeyIsGiven ∷ header_order ++ CritIsUnderstood ∷ jws_algorithm_tests ++ signature_tests ++ claim_tests
+jws_order = HasThreeParts ∷ opening_tests ++ jws_algorithm_tests ++ verifying_tests
 
 abbrev pub set_order : List Test
-set_order = header_order ++ CritIsUnderstood ∷ key_tests ++ algorithm_tests ++ signature_tests ++ claim_tests
+set_order = HasThreeParts ∷ opening_tests ++ key_tests ++ algorithm_tests ++ verifying_tests
 
 -- ---- the calls
 
--- a call that verifies
-abbrev pub verifying_call : {T : Type 0} → Token → Key → Options → ℕ → (Algorithm → Key → Option Kind) → (Algorithm → Key → List ℕ → List ℕ → Type 0) → (Data → T → Type 0) → Call T
-verifying_call token key options now refusal accepts reads = record {
+-- a call that verifies, by what a provider answers and by what reads as claims
+abbrev pub verifying_call : {T : Type 0} → Token → KeySource → Options → ℕ
+    → (Algorithm → Key → Option Kind) → (Algorithm → Key → List ℕ → List ℕ → Type 0)
+    → (Data → T → Type 0) → Call T
+verifying_call token keys options now refusal accepts reads = record {
   token = token;
-  keys = Given key;
+  keys = keys;
   options = options;
   now = now;
   refusal = refusal;
@@ -232,33 +265,12 @@ verifying_call token key options now refusal accepts reads = record {
   reads = reads;
 }
 
--- a call that verifies by a key of a set
-abbrev pub set_call : {T : Type 0} → List ℕ → List Jwk → Options → ℕ → (Algorithm → Key → Option Kind) → (Algorithm → Key → List ℕ → List ℕ → Type 0) → (Data → T → Type 0) → Call T
-set_call text set options now refusal accepts reads = record {
-  token = Compact text;
-  keys = InSet set;
-  options = options;
-  now = now;
-  refusal = refusal;
-  accepts = accepts;
-  reads = reads;
-}
-
-abbrev pub no_key : Key
-no_key = Plain Hmac []
-
--- a call that verifies nothing: what it is not given, none of its tests speak of
-abbrev pub insecure_call : {T : Type 0} → Token → (Data → T → Type 0) → Call T
-insecure_call token reads = record {
-  token = token;
-  keys = Given no_key;
-  options = default_options [];
-  now = 0;
-  refusal = λ _ _. None;
-  accepts = λ _ _ _ _. ⊥;
-  reads = reads;
-}
+-- a call that verifies nothing: of what it is not given, none of its tests speak
+abbrev pub insecure_call : {T : Type 0} → List ℕ → (Data → T → Type 0) → Call T
+insecure_call text reads =
+    verifying_call (Compact text) (InSet []) (default_options []) 0
+    (λ _ _. None) (λ _ _ _ _. ⊥) reads
 
 -- a call that reads no claims either
 abbrev pub header_call : List ℕ → Call (Unit {0})
-header_call text = insecure_call (Compact text) (λ _ _. ⊥)
+header_call text = insecure_call text (λ _ _. ⊥)

@@ -1,22 +1,21 @@
 //! Reading tokens in their compact form (RFC 7515 section 7.1).
 
-ghost use Rattle.std.specs.Prelude.{◌≡◌, ◌⊎◌, ◌++◌, ◌∷◌, IfOk, IfErr, MatchResult};
+ghost use Rattle.std.specs.Prelude.{◌≡◌, ℕ, List, IfOk};
 ghost use Rattle.jwt_base.specs.Algorithm.{family_of};
-ghost use Rattle.jwt_base.specs.KindOf.{kind_of, IsMemory};
 ghost use Rattle.jwt_keys.specs.Key.{key_family};
-ghost use Rattle.jsonwebtoken.specs.Laws.{HasMoments, PassesLooser, HasOneSignature, IsOneText};
-ghost use Rattle.jwt_validation.specs.OptionsOf.{options_of};
-ghost use Rattle.jsonwebtoken.specs.Steps.{Step, checking, cut_of, with_read_key};
-ghost use Rattle.jsonwebtoken.specs.Tests.{Compact, CritIsUnderstood, Things, Passes, FirstFailed, algorithm_tests, signature_tests, claim_tests, header_order, decode_order, header_call, verifying_call};
+ghost use Rattle.jsonwebtoken.specs.Calls.{decoding, Accepts, AcceptsEach, RefusesFirst, Carries, HasHeader};
+ghost use Rattle.jsonwebtoken.specs.Laws.{HasMoments, KeepsLooser, FixesToken};
+ghost use Rattle.jsonwebtoken.specs.Steps.{Step};
+ghost use Rattle.jsonwebtoken.specs.Tests.{Compact, header_order, decode_order, header_call};
 
-mod checks;
+pub(crate) mod checks;
 pub(crate) mod crit;
 mod key_set;
+pub(crate) mod parts;
 pub(crate) mod steps;
 
-use crate::decoding::crit::check_crit;
 pub use crate::decoding::key_set::decode_with_set;
-use crate::decoding::steps::{Pieces, keyed_claims, parts, read_header};
+use crate::decoding::steps::{allowed_verifier, opened, read_header, token_parts, verified};
 use jwt_base::errors::Result;
 use jwt_base::json::Claims;
 use jwt_header::header::Header;
@@ -34,26 +33,7 @@ pub struct TokenData<T> {
     pub claims: T,
 }
 
-/// The claims of a token whose header was read.
-fn checked_claims<P: CryptoProvider, T: Claims>(
-    alloc: Global,
-    provider: &P,
-    pieces: &Pieces<'_>,
-    header: &Header,
-    key: &DecodingKey,
-    validation: &Validation,
-    now: u64,
-) -> Result<T>
-    ensures { Step (checking T.reads (options_of validation.now) now (P.verifier_refusal provider.now) (P.accepts provider.now))
-        (CritIsUnderstood ∷ algorithm_tests ++ signature_tests ++ claim_tests)
-        (with_read_key (cut_of pieces.now.header pieces.now.payload pieces.now.signature) header.now key.now) (λ x c. T.reads x.payload_value c) result }
-{
-    check_crit(header, validation)?;
-    let claims = keyed_claims(alloc, provider, pieces, header, key, validation, now)?;
-    Ok(claims)
-}
-
-fn run<P: CryptoProvider, T: Claims>(
+fn decode_by_steps<P: CryptoProvider, T: Claims>(
     alloc: Global,
     provider: &P,
     token: &[u8],
@@ -61,12 +41,14 @@ fn run<P: CryptoProvider, T: Claims>(
     validation: &Validation,
     now: u64,
 ) -> Result<TokenData<T>>
-    ensures { Step (verifying_call (Compact token.now) key.now (options_of validation.now) now (P.verifier_refusal provider.now) (P.accepts provider.now) T.reads)
-        decode_order (λ x. x) (λ x r. (x.header ≡ r.header) × T.reads x.payload_value r.claims) result }
+    ensures { let call = decoding P.CryptoProvider T.Claims
+        provider.now token.now key.now validation.now now in
+        Step call decode_order (λ x. x) (Carries call) result }
 {
-    let pieces = parts(token)?;
-    let header = read_header(alloc, pieces.header)?;
-    let claims = checked_claims(alloc, provider, &pieces, &header, key, validation, now)?;
+    let parts = token_parts(token)?;
+    let header = opened(alloc, &parts, validation)?;
+    let verifier = allowed_verifier(alloc, provider, &header, key, validation)?;
+    let claims = verified(alloc, &verifier, &parts, validation, now)?;
     Ok(TokenData { header, claims })
 }
 
@@ -95,36 +77,42 @@ pub fn decode<P: CryptoProvider, T: Claims>(
     validation: &Validation,
     now: u64,
 ) -> Result<TokenData<T>>
-    ensures accepted { let call = verifying_call (Compact token.now) key.now (options_of validation.now) now (P.verifier_refusal provider.now) (P.accepts provider.now) T.reads in
-        IfOk result (λ r. (t : Things) × Passes call decode_order t × ((t.header ≡ r.header) × T.reads t.payload_value r.claims)) }
-    ensures exact { let call = verifying_call (Compact token.now) key.now (options_of validation.now) now (P.verifier_refusal provider.now) (P.accepts provider.now) T.reads in
-        (t : Things) → Passes call decode_order t → MatchResult result (λ r. (t.header ≡ r.header) × T.reads t.payload_value r.claims) IsMemory }
-    ensures refused { let call = verifying_call (Compact token.now) key.now (options_of validation.now) now (P.verifier_refusal provider.now) (P.accepts provider.now) T.reads in
-        IfErr result (λ e. IsMemory e ⊎ FirstFailed call decode_order (kind_of e)) }
+    ensures accepted { Accepts
+        (decoding P.CryptoProvider T.Claims provider.now token.now key.now validation.now now)
+        decode_order Carries result }
+    ensures exact { AcceptsEach
+        (decoding P.CryptoProvider T.Claims provider.now token.now key.now validation.now now)
+        decode_order Carries result }
+    ensures refused { RefusesFirst
+        (decoding P.CryptoProvider T.Claims provider.now token.now key.now validation.now now)
+        decode_order result }
 
     // The key is of the family of the header's algorithm.
     ensures family { IfOk result (λ r. key_family key.now ≡ family_of r.header.alg) }
 
     // It accepts at just the moments from the first to the last.
-    ensures moments { let call = verifying_call (Compact token.now) key.now (options_of validation.now) now (P.verifier_refusal provider.now) (P.accepts provider.now) T.reads in
-        HasMoments call }
+    ensures moments { HasMoments
+        (decoding P.CryptoProvider T.Claims provider.now token.now key.now validation.now now)
+        decode_order }
 
     // What it accepts is accepted under every looser validation, with the same header and claims.
-    ensures looser { let call = verifying_call (Compact token.now) key.now (options_of validation.now) now (P.verifier_refusal provider.now) (P.accepts provider.now) T.reads in
-        (t : Things) → Passes call decode_order t → PassesLooser call t }
+    ensures looser { KeepsLooser
+        (decoding P.CryptoProvider T.Claims provider.now token.now key.now validation.now now)
+        decode_order }
 
     // Where the provider accepts one signature of a message, the header's and the payload's bytes fix the token.
-    ensures one_text { let call = verifying_call (Compact token.now) key.now (options_of validation.now) now (P.verifier_refusal provider.now) (P.accepts provider.now) T.reads in
-        (t : Things) → Passes call decode_order t → HasOneSignature call t → IsOneText call token.now t }
+    ensures one_text { FixesToken
+        (decoding P.CryptoProvider T.Claims provider.now token.now key.now validation.now now)
+        decode_order (List ℕ) Compact token.now }
 {
-    run(alloc, provider, token, key, validation, now)
+    decode_by_steps(alloc, provider, token, key, validation, now)
 }
 
-fn run_header(alloc: Global, token: &[u8]) -> Result<Header>
-    ensures { Step (header_call token.now) header_order (λ x. x) (λ x h. x.header ≡ h) result }
+fn decode_header_by_steps(alloc: Global, token: &[u8]) -> Result<Header>
+    ensures { Step (header_call token.now) header_order (λ x. x) (HasHeader (header_call token.now)) result }
 {
-    let pieces = parts(token)?;
-    let header = read_header(alloc, pieces.header)?;
+    let parts = token_parts(token)?;
+    let header = read_header(alloc, parts.header)?;
     Ok(header)
 }
 
@@ -134,12 +122,9 @@ fn run_header(alloc: Global, token: &[u8]) -> Result<Header>
 /// A token with fewer than two dots is refused with `InvalidToken`, then a header part that is no canonical base64url
 /// with `Base64`, then bytes that are no JSON or no header with `Json`.
 pub fn decode_header(alloc: Global, token: &[u8]) -> Result<Header>
-    ensures accepted { let call = header_call token.now in
-        IfOk result (λ h. (t : Things) × Passes call header_order t × (t.header ≡ h)) }
-    ensures exact { let call = header_call token.now in
-        (t : Things) → Passes call header_order t → MatchResult result (λ h. t.header ≡ h) IsMemory }
-    ensures refused { let call = header_call token.now in
-        IfErr result (λ e. IsMemory e ⊎ FirstFailed call header_order (kind_of e)) }
+    ensures accepted { Accepts (header_call token.now) header_order HasHeader result }
+    ensures exact { AcceptsEach (header_call token.now) header_order HasHeader result }
+    ensures refused { RefusesFirst (header_call token.now) header_order result }
 {
-    run_header(alloc, token)
+    decode_header_by_steps(alloc, token)
 }

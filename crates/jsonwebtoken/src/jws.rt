@@ -1,24 +1,27 @@
 //! Tokens in parts, as the members of the flattened JSON form (RFC 7515 section 7.2.2).
 
-ghost use Rattle.std.specs.Prelude.{◌≡◌, ◌⊎◌, ◌++◌, ◌∷◌, Some, None, ℕ, List, IfOk, IfErr, MatchResult, option_map, string_bytes, codes};
+ghost use Rattle.std.specs.Prelude.{◌≡◌, ◌↔◌, ℕ, List, Some, None, IfOk, IfErr, string_bytes};
 ghost use Rattle.serde_json.specs.View.{view};
 ghost use Rattle.jwt_base.specs.Algorithm.{family_of};
 ghost use Rattle.jwt_base.specs.Kind as kind;
-ghost use Rattle.jwt_base.specs.KindOf.{kind_of, IsMemory, RefusesAs};
+ghost use Rattle.jwt_base.specs.KindOf.{IsMemory, RefusesAs};
+ghost use Rattle.jwt_base.specs.Members.{text_at};
 ghost use Rattle.jwt_keys.specs.Key.{key_family};
 ghost use Rattle.jwt_validation.specs.OptionsOf.{options_of};
-ghost use Rattle.jsonwebtoken.specs.Issue.{Written, payload_of, AreIssued, IssuePasses, IssueFailsFirst, ReadsBack, jws_encode_order, issuing};
+ghost use Rattle.jsonwebtoken.specs.Calls.{decoding_parts, Accepts, AcceptsEach, RefusesFirst, Carries};
+ghost use Rattle.jsonwebtoken.specs.Issue.{Written, AreIssued, IssuePasses, ReadsBack, jws_encode_order};
+ghost use Rattle.jsonwebtoken.specs.IssueCalls.{encoding_parts, Issues, IssuesEach, RefusesToIssue};
 ghost use Rattle.jsonwebtoken.specs.IssueSteps.{IssueStep};
-ghost use Rattle.jwt_base.specs.Members.{text_at};
-ghost use Rattle.jsonwebtoken.specs.Jws.{parts_of, ReadsParts, parts_value, JwsHasMoments, JwsPassesLooser, AreOneCut};
-ghost use Rattle.jsonwebtoken.specs.Laws.{HasOneSignature, AgreeOn};
-ghost use Rattle.jsonwebtoken.specs.Steps.{Step, checking, cut_of, with_read_key};
-ghost use Rattle.jsonwebtoken.specs.Tests.{Cut, CritIsUnderstood, Parts, Things, text_of_parts, Passes, FirstFailed, jws_algorithm_tests, signature_tests, claim_tests, jws_order, verifying_call};
+ghost use Rattle.jsonwebtoken.specs.Jws.{parts_of, ReadsParts, parts_value};
+ghost use Rattle.jsonwebtoken.specs.Laws.{HasMoments, KeepsLooser, FixesToken, AgreeOn};
+ghost use Rattle.jsonwebtoken.specs.Steps.{Step, parts_in, allowing, with_header};
+ghost use Rattle.jsonwebtoken.specs.Tests.{Parts, Separate, text_of_parts, jws_algorithm_tests, jws_order};
 
 use crate::decoding::TokenData;
-use crate::decoding::crit::check_crit;
-use crate::decoding::steps::{Pieces, make_jws_verifier, read_header, verified_claims};
-use crate::encoding::steps::{check_family, header_part, payload_part, signature_part, with_part};
+use crate::decoding::checks::{check_families, check_listed, check_some_listed};
+use crate::decoding::parts::TokenParts;
+use crate::decoding::steps::{opened, verified};
+use crate::encoding::steps::{check_family, header_part, payload_part, sign_parts, with_part};
 use jwt_base::errors::{ErrorKind, Result, new_error};
 use jwt_base::json::Claims;
 use jwt_base::json::members::put_text;
@@ -62,7 +65,7 @@ impl<C> Jws<C> {
     /// lacks one of the texts is refused with `Json`.
     pub fn from_value(alloc: Global, value: &Value) -> Result<Jws<C>>
         ensures ok { IfOk result (λ j. ReadsParts (view value.now) (parts_of j)) }
-        ensures err { IfErr result (RefusesAs kind.Json ((c : Cut) → ¬ ReadsParts (view value.now) c)) }
+        ensures err { IfErr result (RefusesAs kind.Json ((p : Parts) → ¬ ReadsParts (view value.now) p)) }
     {
         Ok(Jws {
             protected: required_text(alloc, value, "protected")?,
@@ -99,15 +102,17 @@ fn required_text(alloc: Global, value: &Value, name: &str) -> Result<String>
     }
 }
 
-fn issue<P: CryptoProvider, T: Claims>(
+fn encode_by_steps<P: CryptoProvider, T: Claims>(
     alloc: Global,
     provider: &P,
     header: &Header,
     claims: Option<&T>,
     key: &EncodingKey,
 ) -> Result<Jws<T>>
-    ensures { let issue = issuing header.now (payload_of (option_map (λ c. T.written c.now) claims.entry)) key.now (P.signer_refusal provider.now) (P.sign_refusal provider.now) (P.signs provider.now) in
-        IssueStep issue jws_encode_order (λ t j. AreIssued issue t (parts_of j) × ReadsBack issue (P.accepts provider.now) t (text_of_parts (parts_of j))) result }
+    ensures { let issue = encoding_parts P.CryptoProvider T.Claims
+        provider.now header.now claims.entry key.now in
+        IssueStep issue jws_encode_order (λ t j. AreIssued issue t (parts_of j)
+        × ReadsBack issue (P.accepts provider.now) t (text_of_parts (parts_of j))) result }
 {
     let algorithm = header.alg;
     check_family(key, algorithm)?;
@@ -115,12 +120,11 @@ fn issue<P: CryptoProvider, T: Claims>(
     let payload = payload_part(alloc, claims)?;
     let signer = provider.signer_factory(alloc, &algorithm, key)?;
     let front = String::from_str(alloc, protected.as_str())?;
-    let message = with_part(front, payload.as_str())?;
-    let signature = signature_part(alloc, &signer, message.as_bytes())?;
+    let signed = sign_parts(alloc, &signer, front, payload.as_str())?;
     Ok(Jws {
         protected,
         payload,
-        signature,
+        signature: signed.signature,
         _pd: PhantomData,
     })
 }
@@ -141,58 +145,68 @@ pub fn encode<P: CryptoProvider, T: Claims>(
     claims: Option<&T>,
     key: &EncodingKey,
 ) -> Result<Jws<T>>
-    ensures issued { let issue = issuing header.now (payload_of (option_map (λ c. T.written c.now) claims.entry)) key.now (P.signer_refusal provider.now) (P.sign_refusal provider.now) (P.signs provider.now) in
-        IfOk result (λ j. (t : Written) × IssuePasses issue jws_encode_order t × AreIssued issue t (parts_of j)) }
-    ensures exact { let issue = issuing header.now (payload_of (option_map (λ c. T.written c.now) claims.entry)) key.now (P.signer_refusal provider.now) (P.sign_refusal provider.now) (P.signs provider.now) in
-        (t : Written) → IssuePasses issue jws_encode_order t → MatchResult result (λ j. AreIssued issue t (parts_of j)) IsMemory }
-    ensures refused { let issue = issuing header.now (payload_of (option_map (λ c. T.written c.now) claims.entry)) key.now (P.signer_refusal provider.now) (P.sign_refusal provider.now) (P.signs provider.now) in
-        IfErr result (λ e. IsMemory e ⊎ IssueFailsFirst issue jws_encode_order (kind_of e)) }
+    ensures issued { Issues
+        (encoding_parts P.CryptoProvider T.Claims provider.now header.now claims.entry key.now)
+        jws_encode_order (λ i t j. AreIssued i t (parts_of j)) result }
+    ensures exact { IssuesEach
+        (encoding_parts P.CryptoProvider T.Claims provider.now header.now claims.entry key.now)
+        jws_encode_order (λ i t j. AreIssued i t (parts_of j)) result }
+    ensures refused { RefusesToIssue
+        (encoding_parts P.CryptoProvider T.Claims provider.now header.now claims.entry key.now)
+        jws_encode_order result }
 
     // With claims, the text of the parts reads as the header's normal form and the claims' value, and its signature is
     // accepted with each key that accepts what this key signs.
-    ensures read_back { let issue = issuing header.now (payload_of (option_map (λ c. T.written c.now) claims.entry)) key.now (P.signer_refusal provider.now) (P.sign_refusal provider.now) (P.signs provider.now) in
-        IfOk result (λ j. (t : Written) → IssuePasses issue jws_encode_order t → ReadsBack issue (P.accepts provider.now) t (text_of_parts (parts_of j))) }
+    ensures read_back { let issue = encoding_parts P.CryptoProvider T.Claims
+        provider.now header.now claims.entry key.now in
+        IfOk result (λ j. (t : Written) → IssuePasses issue jws_encode_order t
+        → ReadsBack issue (P.accepts provider.now) t (text_of_parts (parts_of j))) }
 {
-    issue(alloc, provider, header, claims, key)
+    encode_by_steps(alloc, provider, header, claims, key)
 }
 
-/// The claims of a token whose header was read.
-fn checked_claims<P: CryptoProvider, T: Claims>(
+/// The verifier by the key and the header's algorithm, which is among those that are allowed: the tests of
+/// [`allowed_verifier`](crate::decoding::steps::allowed_verifier) in another order.
+fn allowed_verifier<P: CryptoProvider>(
     alloc: Global,
     provider: &P,
-    pieces: &Pieces<'_>,
     header: &Header,
     key: &DecodingKey,
     validation: &Validation,
-    now: u64,
-) -> Result<T>
-    ensures { Step (checking T.reads (options_of validation.now) now (P.verifier_refusal provider.now) (P.accepts provider.now))
-        (CritIsUnderstood ∷ jws_algorithm_tests ++ signature_tests ++ claim_tests)
-        (with_read_key (cut_of pieces.now.header pieces.now.payload pieces.now.signature) header.now key.now) (λ x c. T.reads x.payload_value c) result }
+) -> Result<P::Verifier>
+    ensures tests { Step
+        (allowing (options_of validation.now) key.now (P.verifier_refusal provider.now))
+        jws_algorithm_tests (with_header header.now) (λ _ _. Unit {0}) result }
+    ensures accepts { IfOk result (λ v. (m s : List ℕ) →
+        P.Verifier.accepts v m s ↔ P.accepts provider.now header.now.alg key.now m s) }
 {
-    check_crit(header, validation)?;
-    let verifier = make_jws_verifier(alloc, provider, key, validation, header)?;
-    let claims = verified_claims(alloc, &verifier, pieces, validation, now)?;
-    Ok(claims)
+    let algorithm = header.alg;
+    let verifier = provider.verifier_factory(alloc, &algorithm, key)?;
+    check_some_listed(validation)?;
+    check_families(validation, algorithm)?;
+    check_listed(validation, algorithm)?;
+    Ok(verifier)
 }
 
-fn run_pieces<P: CryptoProvider, T: Claims>(
+fn decode_parts<P: CryptoProvider, T: Claims>(
     alloc: Global,
     provider: &P,
-    pieces: &Pieces<'_>,
+    parts: &TokenParts<'_>,
     key: &DecodingKey,
     validation: &Validation,
     now: u64,
 ) -> Result<TokenData<T>>
-    ensures { Step (verifying_call (Parts (cut_of pieces.now.header pieces.now.payload pieces.now.signature)) key.now (options_of validation.now) now (P.verifier_refusal provider.now) (P.accepts provider.now) T.reads)
-        jws_order (λ x. x) (λ x r. (x.header ≡ r.header) × T.reads x.payload_value r.claims) result }
+    ensures { let call = decoding_parts P.CryptoProvider T.Claims
+        provider.now (parts_in parts.now) key.now validation.now now in
+        Step call jws_order (λ x. x) (Carries call) result }
 {
-    let header = read_header(alloc, pieces.header)?;
-    let claims = checked_claims(alloc, provider, pieces, &header, key, validation, now)?;
+    let header = opened(alloc, parts, validation)?;
+    let verifier = allowed_verifier(alloc, provider, &header, key, validation)?;
+    let claims = verified(alloc, &verifier, parts, validation, now)?;
     Ok(TokenData { header, claims })
 }
 
-fn run<P: CryptoProvider, T: Claims>(
+fn decode_by_steps<P: CryptoProvider, T: Claims>(
     alloc: Global,
     provider: &P,
     token: &Jws<T>,
@@ -200,18 +214,19 @@ fn run<P: CryptoProvider, T: Claims>(
     validation: &Validation,
     now: u64,
 ) -> Result<TokenData<T>>
-    ensures { Step (verifying_call (Parts (parts_of token.now)) key.now (options_of validation.now) now (P.verifier_refusal provider.now) (P.accepts provider.now) T.reads)
-        jws_order (λ x. x) (λ x r. (x.header ≡ r.header) × T.reads x.payload_value r.claims) result }
+    ensures { let call = decoding_parts P.CryptoProvider T.Claims
+        provider.now (parts_of token.now) key.now validation.now now in
+        Step call jws_order (λ x. x) (Carries call) result }
 {
     let front = String::from_str(alloc, token.protected.as_str())?;
     let message = with_part(front, token.payload.as_str())?;
-    let pieces = Pieces {
+    let parts = TokenParts {
         message: message.as_bytes(),
         header: token.protected.as_bytes(),
         payload: token.payload.as_bytes(),
         signature: token.signature.as_bytes(),
     };
-    let data = run_pieces(alloc, provider, &pieces, key, validation, now)?;
+    let data = decode_parts(alloc, provider, &parts, key, validation, now)?;
     Ok(data)
 }
 
@@ -239,31 +254,44 @@ pub fn decode<P: CryptoProvider, T: Claims>(
     validation: &Validation,
     now: u64,
 ) -> Result<TokenData<T>>
-    ensures accepted { let call = verifying_call (Parts (parts_of token.now)) key.now (options_of validation.now) now (P.verifier_refusal provider.now) (P.accepts provider.now) T.reads in
-        IfOk result (λ r. (t : Things) × Passes call jws_order t × ((t.header ≡ r.header) × T.reads t.payload_value r.claims)) }
-    ensures exact { let call = verifying_call (Parts (parts_of token.now)) key.now (options_of validation.now) now (P.verifier_refusal provider.now) (P.accepts provider.now) T.reads in
-        (t : Things) → Passes call jws_order t → MatchResult result (λ r. (t.header ≡ r.header) × T.reads t.payload_value r.claims) IsMemory }
-    ensures refused { let call = verifying_call (Parts (parts_of token.now)) key.now (options_of validation.now) now (P.verifier_refusal provider.now) (P.accepts provider.now) T.reads in
-        IfErr result (λ e. IsMemory e ⊎ FirstFailed call jws_order (kind_of e)) }
+    ensures accepted { Accepts
+        (decoding_parts P.CryptoProvider T.Claims provider.now (parts_of token.now) key.now
+        validation.now now)
+        jws_order Carries result }
+    ensures exact { AcceptsEach
+        (decoding_parts P.CryptoProvider T.Claims provider.now (parts_of token.now) key.now
+        validation.now now)
+        jws_order Carries result }
+    ensures refused { RefusesFirst
+        (decoding_parts P.CryptoProvider T.Claims provider.now (parts_of token.now) key.now
+        validation.now now)
+        jws_order result }
 
     // The key is of the family of the header's algorithm.
     ensures family { IfOk result (λ r. key_family key.now ≡ family_of r.header.alg) }
 
     // It accepts at just the moments from the first to the last.
-    ensures moments { let call = verifying_call (Parts (parts_of token.now)) key.now (options_of validation.now) now (P.verifier_refusal provider.now) (P.accepts provider.now) T.reads in
-        JwsHasMoments call }
+    ensures moments { HasMoments
+        (decoding_parts P.CryptoProvider T.Claims provider.now (parts_of token.now) key.now
+        validation.now now)
+        jws_order }
 
     // What it accepts is accepted under every looser validation, with the same header and claims.
-    ensures looser { let call = verifying_call (Parts (parts_of token.now)) key.now (options_of validation.now) now (P.verifier_refusal provider.now) (P.accepts provider.now) T.reads in
-        (t : Things) → Passes call jws_order t → JwsPassesLooser call t }
+    ensures looser { KeepsLooser
+        (decoding_parts P.CryptoProvider T.Claims provider.now (parts_of token.now) key.now
+        validation.now now)
+        jws_order }
 
     // Where the provider accepts one signature of a message, the header's and the payload's bytes fix the three texts.
-    ensures one_text { let call = verifying_call (Parts (parts_of token.now)) key.now (options_of validation.now) now (P.verifier_refusal provider.now) (P.accepts provider.now) T.reads in
-        (t : Things) → Passes call jws_order t → HasOneSignature call t → AreOneCut call (parts_of token.now) t }
+    ensures one_text { FixesToken
+        (decoding_parts P.CryptoProvider T.Claims provider.now (parts_of token.now) key.now
+        validation.now now)
+        jws_order Parts Separate (parts_of token.now) }
 
     // Of all three texts it accepts what `decode` accepts of their text, with the same header and claims.
-    ensures agrees { let call = verifying_call (Parts (parts_of token.now)) key.now (options_of validation.now) now (P.verifier_refusal provider.now) (P.accepts provider.now) T.reads in
-        (c : Cut) → AgreeOn call c }
+    ensures agrees { (p : Parts) → AgreeOn
+        (decoding_parts P.CryptoProvider T.Claims provider.now (parts_of token.now) key.now
+        validation.now now) p }
 {
-    run(alloc, provider, token, key, validation, now)
+    decode_by_steps(alloc, provider, token, key, validation, now)
 }

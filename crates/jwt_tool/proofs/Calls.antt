@@ -10,7 +10,7 @@ use Rattle.jwt_keys.specs.Key.{Key, Plain, SecretKey, key_family}
 use Rattle.jwt_hmac.specs.HmacKeys.{hash_for, refusal, HmacAccepts, HmacSigns}
 use Rattle.jwt_header.specs.declared.header.Header.{Header}
 use Rattle.jwt_validation.specs.Options.{Options, default_options}
-use Rattle.jsonwebtoken.specs.Tests.{Compact, Call, Things, Passes, FirstFailed, decode_order, verifying_call, set_order, set_call}
+use Rattle.jsonwebtoken.specs.Tests.{Compact, Call, Contents, Passes, FirstFailed, Given, InSet, decode_order, verifying_call, set_order}
 use Rattle.jsonwebtoken.specs.Issue.{Issue, Written, WrittenAs, IsIssued, IssuePasses, IssueFailsFirst, encode_order, issuing}
 use Rattle.jwt_base.specs.JsonText.{IsJson}
 use Rattle.jwt_base.proofs.Parts.{one_json}
@@ -20,11 +20,11 @@ use Rattle.serde_json.specs.Data.{Data}
 use Rattle.jwt_tool.specs.Line.{IsClaimsValue, IsToken, HasTokenFault, hmac_call, IsSetText, IsClaimsValueBySet, HasSetFault}
 
 abbrev given_call : List ℕ → Key → Options → ℕ → Call Value
-given_call input key options now = verifying_call (Compact input) key options now (λ a k. refusal (hash_for a) (key_family k)) HmacAccepts (λ value claims. view claims ≡ value)
+given_call input key options now = verifying_call (Compact input) (Given key) options now (λ a k. refusal (hash_for a) (key_family k)) HmacAccepts (λ value claims. view claims ≡ value)
 
 pub claims_passed : (input : List ℕ) (algorithm : Algorithm) (secret : List ℕ) (now : ℕ) (key : Key) (options : Options) (header : Header) (claims : Value)
     → key ≡ Plain Hmac secret → options ≡ default_options (algorithm ∷ [])
-    → (t : Things) × Passes (given_call input key options now) decode_order t × ((t.header ≡ header) × (view claims ≡ t.payload_value))
+    → (t : Contents) × Passes (given_call input key options now) decode_order t × ((t.header ≡ header) × (view claims ≡ t.payload_value))
     → IsClaimsValue input algorithm secret now (view claims)
 claims_passed input algorithm secret now key options header claims is_key is_options found = (
   found.0,
@@ -41,11 +41,11 @@ claims_failed input algorithm secret now key options k is_key is_options failed 
     (subst (λ q. FirstFailed (given_call input q options now) decode_order k) is_key failed)
 
 abbrev given_set_call : List ℕ → List Jwk → Options → ℕ → Call Value
-given_set_call input keys options now = set_call input keys options now (λ a k. refusal (hash_for a) (key_family k)) HmacAccepts (λ value claims. view claims ≡ value)
+given_set_call input keys options now = verifying_call (Compact input) (InSet keys) options now (λ a k. refusal (hash_for a) (key_family k)) HmacAccepts (λ value claims. view claims ≡ value)
 
 pub set_claims_passed : (input : List ℕ) (algorithm : Algorithm) (set : List ℕ) (now : ℕ) (keys : List Jwk) (options : Options) (header : Header) (claims : Value)
     → IsSetText set keys → options ≡ default_options (algorithm ∷ [])
-    → (t : Things) × Passes (given_set_call input keys options now) set_order t × ((t.header ≡ header) × (view claims ≡ t.payload_value))
+    → (t : Contents) × Passes (given_set_call input keys options now) set_order t × ((t.header ≡ header) × (view claims ≡ t.payload_value))
     → IsClaimsValueBySet input algorithm set now (view claims)
 set_claims_passed input algorithm set now keys options header claims text is_options found =
     (keys, text, (found.0, subst (λ o. Passes (given_set_call input keys o now) set_order found.0) is_options found.1, sym found.2.1))

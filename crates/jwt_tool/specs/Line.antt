@@ -19,7 +19,7 @@ use Rattle.jwt_hmac.specs.Hmac.{hash_bytes}
 use Rattle.jwt_hmac.specs.HmacKeys.{hash_for, hash_named, refusal, HmacAccepts, HmacSigns}
 use Rattle.jwt_header.specs.Header.{header_value, new_header}
 use Rattle.jwt_validation.specs.Options.{default_options}
-use Rattle.jsonwebtoken.specs.Tests.{Compact, Call, Things, Passes, FirstFailed, header_order, header_call, decode_order, verifying_call, set_order, set_call}
+use Rattle.jsonwebtoken.specs.Tests.{Compact, Call, Contents, Passes, FirstFailed, header_order, header_call, Given, InSet, decode_order, verifying_call, set_order}
 use Rattle.jsonwebtoken.specs.Issue.{Issue, Written, WrittenAs, IsIssued, IssuePasses, IssueFailsFirst, encode_order, issuing}
 use Rattle.jwt_base.specs.JsonText.{IsJson}
 use Rattle.jwt_tool.specs.Words.{Request, ForHeader, ForThumbprint, ForToken, ForClaims, ForClaimsBySet, request_of}
@@ -48,7 +48,7 @@ ValueLine value status line =
 
 -- what the header of the input's token is written as
 abbrev pub IsHeaderValue : List ℕ → Data → Type 0
-IsHeaderValue input value = (t : Things) × Passes (header_call input) header_order t × (header_value t.header ≡ Some value)
+IsHeaderValue input value = (t : Contents) × Passes (header_call input) header_order t × (header_value t.header ≡ Some value)
 
 -- the token's header, or the kind of its first failed test
 abbrev pub HeaderLine : List ℕ → ℕ → List ℕ → Type 0
@@ -78,13 +78,13 @@ ThumbprintLine input hash status line =
 
 -- the input's token, checked by HMAC with a secret at a moment, as a validation of that one algorithm asks at first
 abbrev pub hmac_call : List ℕ → Algorithm → List ℕ → ℕ → Call Value
-hmac_call input algorithm secret now = verifying_call (Compact input) (Plain Hmac secret) (default_options (algorithm ∷ [])) now
+hmac_call input algorithm secret now = verifying_call (Compact input) (Given (Plain Hmac secret)) (default_options (algorithm ∷ [])) now
     (λ a key. refusal (hash_for a) (key_family key)) HmacAccepts (λ value claims. view claims ≡ value)
 
 -- the claims of a token that passes every test of decode
 abbrev pub IsClaimsValue : List ℕ → Algorithm → List ℕ → ℕ → Data → Type 0
 IsClaimsValue input algorithm secret now value =
-    (t : Things) × Passes (hmac_call input algorithm secret now) decode_order t × (t.payload_value ≡ value)
+    (t : Contents) × Passes (hmac_call input algorithm secret now) decode_order t × (t.payload_value ≡ value)
 
 -- the token's claims, or the kind of its first failed test
 abbrev pub ClaimsLine : List ℕ → Algorithm → List ℕ → ℕ → ℕ → List ℕ → Type 0
@@ -98,13 +98,13 @@ IsSetText text keys = (value : Data) × IsJson text value × ReadsSet value keys
 
 -- the input's token, checked by HMAC with the key of the set that its header names, under the same options
 abbrev pub hmac_set_call : List ℕ → Algorithm → List Jwk → ℕ → Call Value
-hmac_set_call input algorithm keys now = set_call input keys (default_options (algorithm ∷ [])) now
+hmac_set_call input algorithm keys now = verifying_call (Compact input) (InSet keys) (default_options (algorithm ∷ [])) now
     (λ a key. refusal (hash_for a) (key_family key)) HmacAccepts (λ value claims. view claims ≡ value)
 
 -- the text is that of a set by which the token passes every test, and these are its claims
 abbrev pub IsClaimsValueBySet : List ℕ → Algorithm → List ℕ → ℕ → Data → Type 0
 IsClaimsValueBySet input algorithm set now value = (keys : List Jwk) × IsSetText set keys
-    × ((t : Things) × Passes (hmac_set_call input algorithm keys now) set_order t × (t.payload_value ≡ value))
+    × ((t : Contents) × Passes (hmac_set_call input algorithm keys now) set_order t × (t.payload_value ≡ value))
 
 -- the text is that of no set, or the first failed test has this kind
 abbrev pub HasSetFault : List ℕ → Algorithm → List ℕ → ℕ → Kind → Type 0

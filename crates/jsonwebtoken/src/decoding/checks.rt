@@ -3,28 +3,29 @@
 ghost use Rattle.std.specs.Prelude.{◌≡◌, [], All, Contains};
 ghost use Rattle.jwt_base.specs.Algorithm.{family_of};
 ghost use Rattle.jwt_base.specs.Kind as kind;
-ghost use Rattle.jsonwebtoken.specs.Steps.{Decides};
+ghost use Rattle.jsonwebtoken.specs.Steps.{AsksFor};
 
 use jwt_base::algorithms::Algorithm;
 use jwt_base::errors::{ErrorKind, Result, new_error};
 use jwt_keys::crypto::JwtVerifier;
+use jwt_validation::validation::Validation;
 use std::alloc::Global;
 
 /// Refuses an empty list with `MissingAlgorithm`.
-pub(crate) fn check_some_listed(listed: &[Algorithm]) -> Result<()>
-    ensures { Decides (¬ (listed.now ≡ [])) (λ k. k ≡ kind.MissingAlgorithm) result }
+pub(crate) fn check_some_listed(validation: &Validation) -> Result<()>
+    ensures { AsksFor (¬ (validation.now.algorithms.items ≡ [])) (λ k. k ≡ kind.MissingAlgorithm) result }
 {
-    if listed.is_empty() {
+    if validation.algorithms.is_empty() {
         return Err(new_error(ErrorKind::MissingAlgorithm));
     }
     Ok(())
 }
 
 /// Refuses an algorithm that is not listed with `InvalidAlgorithm`.
-pub(crate) fn check_listed(listed: &[Algorithm], algorithm: Algorithm) -> Result<()>
-    ensures { Decides (Contains listed.now algorithm) (λ k. k ≡ kind.InvalidAlgorithm) result }
+pub(crate) fn check_listed(validation: &Validation, algorithm: Algorithm) -> Result<()>
+    ensures { AsksFor (Contains validation.now.algorithms.items algorithm) (λ k. k ≡ kind.InvalidAlgorithm) result }
 {
-    if listed.contains(&algorithm) {
+    if validation.algorithms.contains(&algorithm) {
         Ok(())
     } else {
         Err(new_error(ErrorKind::InvalidAlgorithm))
@@ -32,10 +33,15 @@ pub(crate) fn check_listed(listed: &[Algorithm], algorithm: Algorithm) -> Result
 }
 
 /// Refuses with `InvalidAlgorithm` a list with an algorithm of another family.
-pub(crate) fn check_families(listed: &[Algorithm], algorithm: Algorithm) -> Result<()>
-    ensures { Decides (All (λ b. family_of b ≡ family_of algorithm) listed.now) (λ k. k ≡ kind.InvalidAlgorithm) result }
+pub(crate) fn check_families(validation: &Validation, algorithm: Algorithm) -> Result<()>
+    ensures { AsksFor (All (λ b. family_of b ≡ family_of algorithm) validation.now.algorithms.items)
+        (λ k. k ≡ kind.InvalidAlgorithm) result }
 {
-    if listed.iter().all(|b| b.family() == algorithm.family()) {
+    if validation
+        .algorithms
+        .iter()
+        .all(|b| b.family() == algorithm.family())
+    {
         Ok(())
     } else {
         Err(new_error(ErrorKind::InvalidAlgorithm))
@@ -49,7 +55,7 @@ pub(crate) fn check_verdict<V: JwtVerifier>(
     message: &[u8],
     signature: &[u8],
 ) -> Result<()>
-    ensures { Decides (V.accepts verifier.now message.now signature.now) (λ k. k ≡ kind.InvalidSignature) result }
+    ensures { AsksFor (V.accepts verifier.now message.now signature.now) (λ k. k ≡ kind.InvalidSignature) result }
 {
     if verifier.verify(alloc, message, signature)? {
         Ok(())

@@ -6,7 +6,7 @@ ghost use Rattle.serde_json.specs.Find.{get_member};
 ghost use Rattle.jwt_base.specs.Kind as kind;
 ghost use Rattle.jsonwebtoken.specs.Crit.{IsUnderstoodName, IsUnderstoodList, IsUnderstood};
 ghost use Rattle.jwt_validation.specs.OptionsOf.{options_of};
-ghost use Rattle.jsonwebtoken.specs.Steps.{Decides};
+ghost use Rattle.jsonwebtoken.specs.Steps.{AsksFor};
 
 use jwt_base::errors::{ErrorKind, Result, new_error};
 use jwt_base::text::Text;
@@ -16,7 +16,7 @@ use std::collections::HashSet;
 
 /// Refuses with `InvalidCrit` a header whose `crit` is not understood.
 pub(crate) fn check_crit(header: &Header, validation: &Validation) -> Result<()>
-    ensures { Decides (IsUnderstood (options_of validation.now).understood header.now) (λ k. k ≡ kind.InvalidCrit) result }
+    ensures { AsksFor (IsUnderstood (options_of validation.now).understood header.now) (λ k. k ≡ kind.InvalidCrit) result }
 {
     let Some(names) = &header.crit else {
         return Ok(());

@@ -1,17 +1,15 @@
 //! Reading tokens by the key that their header names in a set (RFC 7515 section 4.1.4, RFC 7517 section 5).
 
-ghost use Rattle.std.specs.Prelude.{◌≡◌, ◌⊎◌, ◌++◌, ◌∷◌, Some, None, IfOk, IfErr, MatchResult};
+ghost use Rattle.std.specs.Prelude.{◌≡◌, ℕ, List, Some, None, IfOk, IfErr};
 ghost use Rattle.jwt_base.specs.Kind as kind;
-ghost use Rattle.jwt_base.specs.KindOf.{kind_of, IsMemory};
-ghost use Rattle.jwt_validation.specs.OptionsOf.{options_of};
-ghost use Rattle.jsonwebtoken.specs.Laws.{HasOneSignature};
-ghost use Rattle.jsonwebtoken.specs.SetLaws.{SetHasMoments, SetPassesLooser, PassesWithMore, IsOneTextBySet};
-ghost use Rattle.jsonwebtoken.specs.Steps.{Decides, Step, checking_by, cut_of, looking_in, with_header, with_read};
-ghost use Rattle.jsonwebtoken.specs.Tests.{named_key, AgreesWith, CritIsUnderstood, Things, Passes, FirstFailed, key_tests, algorithm_tests, signature_tests, claim_tests, set_order, set_call};
+ghost use Rattle.jwt_base.specs.KindOf.{kind_of};
+ghost use Rattle.jsonwebtoken.specs.Calls.{decoding_by_set, Accepts, AcceptsEach, RefusesFirst, Carries};
+ghost use Rattle.jsonwebtoken.specs.Laws.{HasMoments, KeepsLooser, KeepsWithMore, KeyFits, FixesToken};
+ghost use Rattle.jsonwebtoken.specs.Steps.{AsksFor, Step, looking_in, with_header};
+ghost use Rattle.jsonwebtoken.specs.Tests.{Compact, named_key, AgreesWith, key_tests, set_order};
 
 use crate::decoding::TokenData;
-use crate::decoding::crit::check_crit;
-use crate::decoding::steps::{Pieces, keyed_claims, parts, read_header};
+use crate::decoding::steps::{allowed_verifier, opened, token_parts, verified};
 use jwt_base::algorithms::{Algorithm, KeyAlgorithm};
 use jwt_base::errors::{ErrorKind, Result, new_error};
 use jwt_base::json::Claims;
@@ -31,15 +29,12 @@ fn find_key<'k>(set: &'k JwkSet, header: &Header) -> Result<&'k Jwk>
     let Some(kid) = &header.kid else {
         return Err(new_error(ErrorKind::NoKey));
     };
-    match set.find(kid.as_str()) {
-        Some(key) => Ok(key),
-        None => Err(new_error(ErrorKind::NoKey)),
-    }
+    set.find(kid.as_str()).ok_or(new_error(ErrorKind::NoKey))
 }
 
 /// Refuses with `InvalidAlgorithm` a key that is for another algorithm (RFC 7517 section 4.4).
 fn check_key_algorithm(jwk: &Jwk, algorithm: Algorithm) -> Result<()>
-    ensures { Decides (AgreesWith algorithm jwk.now) (λ k. k ≡ kind.InvalidAlgorithm) result }
+    ensures { AsksFor (AgreesWith algorithm jwk.now) (λ k. k ≡ kind.InvalidAlgorithm) result }
 {
     match jwk.common.key_algorithm {
         Some(named) if named != KeyAlgorithm::from(algorithm) => Err(new_error(
@@ -51,7 +46,7 @@ fn check_key_algorithm(jwk: &Jwk, algorithm: Algorithm) -> Result<()>
 
 /// The key that the header names.
 fn key_in_set(alloc: Global, set: &JwkSet, header: &Header) -> Result<DecodingKey>
-    ensures { Step (looking_in set.now.keys.items) key_tests (with_header header.now) (λ x k. x.key ≡ k) result }
+    ensures { Step (looking_in set.now.keys.items) key_tests (with_header header.now) (λ x k. x.jwk_key ≡ k) result }
 {
     let jwk = find_key(set, header)?;
     check_key_algorithm(jwk, header.alg)?;
@@ -59,27 +54,7 @@ fn key_in_set(alloc: Global, set: &JwkSet, header: &Header) -> Result<DecodingKe
     Ok(key)
 }
 
-/// The claims of a token whose header was read, by the key that it names.
-fn checked_claims<P: CryptoProvider, T: Claims>(
-    alloc: Global,
-    provider: &P,
-    pieces: &Pieces<'_>,
-    header: &Header,
-    set: &JwkSet,
-    validation: &Validation,
-    now: u64,
-) -> Result<T>
-    ensures { Step (checking_by set.now.keys.items T.reads (options_of validation.now) now (P.verifier_refusal provider.now) (P.accepts provider.now))
-        (CritIsUnderstood ∷ key_tests ++ algorithm_tests ++ signature_tests ++ claim_tests)
-        (with_read (cut_of pieces.now.header pieces.now.payload pieces.now.signature) header.now) (λ x c. T.reads x.payload_value c) result }
-{
-    check_crit(header, validation)?;
-    let key = key_in_set(alloc, set, header)?;
-    let claims = keyed_claims(alloc, provider, pieces, header, &key, validation, now)?;
-    Ok(claims)
-}
-
-fn run<P: CryptoProvider, T: Claims>(
+fn decode_with_set_by_steps<P: CryptoProvider, T: Claims>(
     alloc: Global,
     provider: &P,
     token: &[u8],
@@ -87,12 +62,15 @@ fn run<P: CryptoProvider, T: Claims>(
     validation: &Validation,
     now: u64,
 ) -> Result<TokenData<T>>
-    ensures { Step (set_call token.now set.now.keys.items (options_of validation.now) now (P.verifier_refusal provider.now) (P.accepts provider.now) T.reads)
-        set_order (λ x. x) (λ x r. (x.header ≡ r.header) × T.reads x.payload_value r.claims) result }
+    ensures { let call = decoding_by_set P.CryptoProvider T.Claims
+        provider.now token.now set.now.keys.items validation.now now in
+        Step call set_order (λ x. x) (Carries call) result }
 {
-    let pieces = parts(token)?;
-    let header = read_header(alloc, pieces.header)?;
-    let claims = checked_claims(alloc, provider, &pieces, &header, set, validation, now)?;
+    let parts = token_parts(token)?;
+    let header = opened(alloc, &parts, validation)?;
+    let key = key_in_set(alloc, set, &header)?;
+    let verifier = allowed_verifier(alloc, provider, &header, &key, validation)?;
+    let claims = verified(alloc, &verifier, &parts, validation, now)?;
     Ok(TokenData { header, claims })
 }
 
@@ -114,28 +92,48 @@ pub fn decode_with_set<P: CryptoProvider, T: Claims>(
     validation: &Validation,
     now: u64,
 ) -> Result<TokenData<T>>
-    ensures accepted { let call = set_call token.now set.now.keys.items (options_of validation.now) now (P.verifier_refusal provider.now) (P.accepts provider.now) T.reads in
-        IfOk result (λ r. (t : Things) × Passes call set_order t × ((t.header ≡ r.header) × T.reads t.payload_value r.claims)) }
-    ensures exact { let call = set_call token.now set.now.keys.items (options_of validation.now) now (P.verifier_refusal provider.now) (P.accepts provider.now) T.reads in
-        (t : Things) → Passes call set_order t → MatchResult result (λ r. (t.header ≡ r.header) × T.reads t.payload_value r.claims) IsMemory }
-    ensures refused { let call = set_call token.now set.now.keys.items (options_of validation.now) now (P.verifier_refusal provider.now) (P.accepts provider.now) T.reads in
-        IfErr result (λ e. IsMemory e ⊎ FirstFailed call set_order (kind_of e)) }
+    ensures accepted { Accepts
+        (decoding_by_set P.CryptoProvider T.Claims provider.now token.now set.now.keys.items
+        validation.now now)
+        set_order Carries result }
+    ensures exact { AcceptsEach
+        (decoding_by_set P.CryptoProvider T.Claims provider.now token.now set.now.keys.items
+        validation.now now)
+        set_order Carries result }
+    ensures refused { RefusesFirst
+        (decoding_by_set P.CryptoProvider T.Claims provider.now token.now set.now.keys.items
+        validation.now now)
+        set_order result }
+
+    // The key is of the family of the header's algorithm.
+    ensures family { KeyFits
+        (decoding_by_set P.CryptoProvider T.Claims provider.now token.now set.now.keys.items
+        validation.now now)
+        set_order }
 
     // It accepts at just the moments from the first to the last.
-    ensures moments { let call = set_call token.now set.now.keys.items (options_of validation.now) now (P.verifier_refusal provider.now) (P.accepts provider.now) T.reads in
-        SetHasMoments call }
+    ensures moments { HasMoments
+        (decoding_by_set P.CryptoProvider T.Claims provider.now token.now set.now.keys.items
+        validation.now now)
+        set_order }
 
     // What it accepts is accepted under every looser validation, with the same header and claims.
-    ensures looser { let call = set_call token.now set.now.keys.items (options_of validation.now) now (P.verifier_refusal provider.now) (P.accepts provider.now) T.reads in
-        (t : Things) → Passes call set_order t → SetPassesLooser call t }
+    ensures looser { KeepsLooser
+        (decoding_by_set P.CryptoProvider T.Claims provider.now token.now set.now.keys.items
+        validation.now now)
+        set_order }
 
     // What it accepts is accepted with more keys after those of the set, with the same header and claims.
-    ensures more_keys { let call = set_call token.now set.now.keys.items (options_of validation.now) now (P.verifier_refusal provider.now) (P.accepts provider.now) T.reads in
-        (t : Things) → Passes call set_order t → PassesWithMore call set.now.keys.items t }
+    ensures more_keys { KeepsWithMore
+        (decoding_by_set P.CryptoProvider T.Claims provider.now token.now set.now.keys.items
+        validation.now now)
+        set_order set.now.keys.items }
 
     // Where the provider accepts one signature of a message, the header's and the payload's bytes fix the token.
-    ensures one_text { let call = set_call token.now set.now.keys.items (options_of validation.now) now (P.verifier_refusal provider.now) (P.accepts provider.now) T.reads in
-        (t : Things) → Passes call set_order t → HasOneSignature call t → IsOneTextBySet call token.now t }
+    ensures one_text { FixesToken
+        (decoding_by_set P.CryptoProvider T.Claims provider.now token.now set.now.keys.items
+        validation.now now)
+        set_order (List ℕ) Compact token.now }
 {
-    run(alloc, provider, token, set, validation, now)
+    decode_with_set_by_steps(alloc, provider, token, set, validation, now)
 }

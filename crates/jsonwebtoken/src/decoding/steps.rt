@@ -4,10 +4,12 @@ ghost use Rattle.std.specs.Prelude.{◌≡◌, ◌↔◌, ◌++◌, ◌∷◌, �
 ghost use Rattle.jwt_base.specs.Kind as kind;
 ghost use Rattle.jwt_base.specs.KindOf.{kind_of};
 ghost use Rattle.jwt_validation.specs.OptionsOf.{options_of};
-ghost use Rattle.jsonwebtoken.specs.Steps.{Step, bare, cut_of, with_header_part, with_payload_part, with_cut, with_key, with_read_key, making, accepting, claiming, reading, verified, checking};
-ghost use Rattle.jsonwebtoken.specs.Tests.{dot, Cut, IsCutOf, header_tests, algorithm_tests, jws_algorithm_tests, signature_tests, payload_tests, claim_tests};
+ghost use Rattle.jsonwebtoken.specs.Steps.{Step, bare, parts_in, with_header_part, with_payload_part, with_parts, with_header, opening, allowing, accepting, claiming, reading, verifying_by};
+ghost use Rattle.jsonwebtoken.specs.Tests.{dot, Parts, ArePartsOf, header_tests, opening_tests, algorithm_tests, signature_tests, payload_tests, claim_tests, verifying_tests};
 
 use crate::decoding::checks::{check_families, check_listed, check_some_listed, check_verdict};
+use crate::decoding::crit::check_crit;
+use crate::decoding::parts::TokenParts;
 use crate::usual::usual_algorithm;
 use jwt_base::errors::{ErrorKind, Result, new_error};
 use jwt_base::json::Claims;
@@ -19,16 +21,6 @@ use jwt_validation::validation::{Validation, validate};
 use memchr::memrchr;
 use std::alloc::Global;
 
-/// The three parts of a token, and what is signed of it.
-#[derive(Drop)]
-pub(crate) struct Pieces<'a> {
-    pub(crate) message: &'a [u8],
-    pub(crate) header: &'a [u8],
-    pub(crate) payload: &'a [u8],
-    pub(crate) signature: &'a [u8],
-    ghost joined: { message.now ≡ header.now ++ dot ∷ payload.now },
-}
-
 /// What stands before the last dot, and what stands after it.
 fn last_dot(text: &[u8]) -> Option<(&[u8], &[u8])>
     ensures some { IfSome result (λ p. (text.now ≡ p.0.now ++ dot ∷ p.1.now) × (¬ Contains p.1.now dot)) }
@@ -39,13 +31,13 @@ fn last_dot(text: &[u8]) -> Option<(&[u8], &[u8])>
 }
 
 /// The parts of the token, found from its end.
-fn cut(token: &[u8]) -> Option<Pieces<'_>>
-    ensures some { IfSome result (λ p. IsCutOf token.now (cut_of p.header p.payload p.signature)) }
-    ensures none { IfNone result ((c : Cut) → ¬ IsCutOf token.now c) }
+fn find_parts(token: &[u8]) -> Option<TokenParts<'_>>
+    ensures some { IfSome result (λ p. ArePartsOf token.now (parts_in p)) }
+    ensures none { IfNone result ((p : Parts) → ¬ ArePartsOf token.now p) }
 {
     let (message, signature) = last_dot(token)?;
     let (header, payload) = last_dot(message)?;
-    Some(Pieces {
+    Some(TokenParts {
         message,
         header,
         payload,
@@ -54,14 +46,11 @@ fn cut(token: &[u8]) -> Option<Pieces<'_>>
 }
 
 /// The parts of the token. A text with fewer than two dots is refused with `InvalidToken`.
-pub(crate) fn parts(token: &[u8]) -> Result<Pieces<'_>>
-    ensures ok { IfOk result (λ p. IsCutOf token.now (cut_of p.header p.payload p.signature)) }
-    ensures err { IfErr result (λ e. (kind_of e ≡ kind.InvalidToken) × ((c : Cut) → ¬ IsCutOf token.now c)) }
+pub(crate) fn token_parts(token: &[u8]) -> Result<TokenParts<'_>>
+    ensures ok { IfOk result (λ p. ArePartsOf token.now (parts_in p)) }
+    ensures err { IfErr result (λ e. (kind_of e ≡ kind.InvalidToken) × ((p : Parts) → ¬ ArePartsOf token.now p)) }
 {
-    match cut(token) {
-        Some(pieces) => Ok(pieces),
-        None => Err(new_error(ErrorKind::InvalidToken)),
-    }
+    find_parts(token).ok_or(new_error(ErrorKind::InvalidToken))
 }
 
 /// The header that a header part stands for. The usual ones are known without being read.
@@ -76,56 +65,52 @@ pub(crate) fn read_header(alloc: Global, part: &[u8]) -> Result<Header>
     Header::from_value(alloc, &value)
 }
 
-/// The verifier by the header's algorithm and the key.
-pub(crate) fn make_verifier<P: CryptoProvider>(
+/// The header of a token that is to be verified: its `crit` is understood.
+pub(crate) fn opened(
+    alloc: Global,
+    parts: &TokenParts<'_>,
+    validation: &Validation,
+) -> Result<Header>
+    ensures { Step (opening (options_of validation.now)) opening_tests
+        (with_parts (parts_in parts.now)) (λ x h. x.header ≡ h) result }
+{
+    let header = read_header(alloc, parts.header)?;
+    check_crit(&header, validation)?;
+    Ok(header)
+}
+
+/// The verifier by the key and the header's algorithm, which is among those that are allowed.
+pub(crate) fn allowed_verifier<P: CryptoProvider>(
     alloc: Global,
     provider: &P,
+    header: &Header,
     key: &DecodingKey,
     validation: &Validation,
-    header: &Header,
 ) -> Result<P::Verifier>
-    ensures tests { Step (making (options_of validation.now) (P.verifier_refusal provider.now)) algorithm_tests
-        (with_key header.now key.now) (λ _ _. Unit {0}) result }
+    ensures tests { Step
+        (allowing (options_of validation.now) key.now (P.verifier_refusal provider.now))
+        algorithm_tests (with_header header.now) (λ _ _. Unit {0}) result }
     ensures accepts { IfOk result (λ v. (m s : List ℕ) →
         P.Verifier.accepts v m s ↔ P.accepts provider.now header.now.alg key.now m s) }
 {
-    let listed = validation.algorithms.as_slice();
     let algorithm = header.alg;
-    check_some_listed(listed)?;
-    check_listed(listed, algorithm)?;
+    check_some_listed(validation)?;
+    check_listed(validation, algorithm)?;
     let verifier = provider.verifier_factory(alloc, &algorithm, key)?;
-    check_families(listed, algorithm)?;
+    check_families(validation, algorithm)?;
     Ok(verifier)
 }
 
-/// The same, by the order of the tests of a JWS in parts.
-pub(crate) fn make_jws_verifier<P: CryptoProvider>(
+fn check_signature<V: JwtVerifier>(
     alloc: Global,
-    provider: &P,
-    key: &DecodingKey,
-    validation: &Validation,
-    header: &Header,
-) -> Result<P::Verifier>
-    ensures tests { Step (making (options_of validation.now) (P.verifier_refusal provider.now)) jws_algorithm_tests
-        (with_key header.now key.now) (λ _ _. Unit {0}) result }
-    ensures accepts { IfOk result (λ v. (m s : List ℕ) →
-        P.Verifier.accepts v m s ↔ P.accepts provider.now header.now.alg key.now m s) }
-{
-    let listed = validation.algorithms.as_slice();
-    let algorithm = header.alg;
-    let verifier = provider.verifier_factory(alloc, &algorithm, key)?;
-    check_some_listed(listed)?;
-    check_families(listed, algorithm)?;
-    check_listed(listed, algorithm)?;
-    Ok(verifier)
-}
-
-fn check_signature<V: JwtVerifier>(alloc: Global, verifier: &V, pieces: &Pieces<'_>) -> Result<()>
+    verifier: &V,
+    parts: &TokenParts<'_>,
+) -> Result<()>
     ensures { Step (accepting (V.accepts verifier.now)) signature_tests
-        (with_cut (cut_of pieces.now.header pieces.now.payload pieces.now.signature)) (λ _ _. Unit {0}) result }
+        (with_parts (parts_in parts.now)) (λ _ _. Unit {0}) result }
 {
-    let bytes = part_bytes(alloc, pieces.signature)?;
-    check_verdict(alloc, verifier, pieces.message, bytes.as_slice())
+    let bytes = part_bytes(alloc, parts.signature)?;
+    check_verdict(alloc, verifier, parts.message, bytes.as_slice())
 }
 
 /// The claims that a payload part stands for. Its one JSON value is lent to the rules and then given up to the claims,
@@ -147,38 +132,20 @@ fn read_claims<T: Claims>(
     Ok(claims)
 }
 
-/// The claims of a token whose signature the verifier accepts.
-pub(crate) fn verified_claims<V: JwtVerifier, T: Claims>(
+/// The claims of a token whose signature the verifier accepts, and whose claims hold at the moment.
+pub(crate) fn verified<V: JwtVerifier, T: Claims>(
     alloc: Global,
     verifier: &V,
-    pieces: &Pieces<'_>,
+    parts: &TokenParts<'_>,
     validation: &Validation,
     now: u64,
 ) -> Result<T>
-    ensures { Step (verified T.reads (options_of validation.now) now (V.accepts verifier.now)) (signature_tests ++ claim_tests)
-        (with_cut (cut_of pieces.now.header pieces.now.payload pieces.now.signature)) (λ x c. T.reads x.payload_value c) result }
+    ensures { Step
+        (verifying_by T.reads (options_of validation.now) now (V.accepts verifier.now))
+        verifying_tests (with_parts (parts_in parts.now)) (λ x c. T.reads x.payload_value c) result }
 {
-    check_signature(alloc, verifier, pieces)?;
-    read_claims(alloc, pieces.payload, validation, now)
-}
-
-/// The claims of a token whose header was read and is understood, by the key.
-pub(crate) fn keyed_claims<P: CryptoProvider, T: Claims>(
-    alloc: Global,
-    provider: &P,
-    pieces: &Pieces<'_>,
-    header: &Header,
-    key: &DecodingKey,
-    validation: &Validation,
-    now: u64,
-) -> Result<T>
-    ensures { Step (checking T.reads (options_of validation.now) now (P.verifier_refusal provider.now) (P.accepts provider.now))
-        (algorithm_tests ++ signature_tests ++ claim_tests)
-        (with_read_key (cut_of pieces.now.header pieces.now.payload pieces.now.signature) header.now key.now) (λ x c. T.reads x.payload_value c) result }
-{
-    let verifier = make_verifier(alloc, provider, key, validation, header)?;
-    let claims = verified_claims(alloc, &verifier, pieces, validation, now)?;
-    Ok(claims)
+    check_signature(alloc, verifier, parts)?;
+    read_claims(alloc, parts.payload, validation, now)
 }
 
 /// The claims that a payload part stands for, which no rule is asked of.

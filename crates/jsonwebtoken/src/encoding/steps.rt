@@ -12,7 +12,7 @@ ghost use Rattle.jwt_header.specs.Header.{header_value};
 ghost use Rattle.jwt_header.specs.HeaderWritten.{HasNormalForm};
 ghost use Rattle.jsonwebtoken.specs.Issue.{WrittenAs, AreWritten, payload_of};
 ghost use Rattle.jsonwebtoken.specs.IssueSteps.{IsPartOf, IsPayloadOf};
-ghost use Rattle.jsonwebtoken.specs.Steps.{Decides};
+ghost use Rattle.jsonwebtoken.specs.Steps.{AsksFor};
 ghost use Rattle.jsonwebtoken.specs.Tests.{dot};
 
 use crate::usual::usual_part;
@@ -28,7 +28,7 @@ use std::alloc::Global;
 
 /// Refuses a key of another family than the algorithm's with `InvalidAlgorithm`.
 pub(crate) fn check_family(key: &EncodingKey, algorithm: Algorithm) -> Result<()>
-    ensures { Decides (key.now.family ≡ family_of algorithm) (λ k. k ≡ kind.InvalidAlgorithm) result }
+    ensures { AsksFor (key.now.family ≡ family_of algorithm) (λ k. k ≡ kind.InvalidAlgorithm) result }
 {
     if key.family() == algorithm.family() {
         return Ok(());
@@ -97,11 +97,7 @@ pub(crate) fn with_part(mut text: String, part: &str) -> Result<String>
 }
 
 /// The part of a signature of the message.
-pub(crate) fn signature_part<S: JwtSigner>(
-    alloc: Global,
-    signer: &S,
-    message: &[u8],
-) -> Result<String>
+fn signature_part<S: JwtSigner>(alloc: Global, signer: &S, message: &[u8]) -> Result<String>
     ensures signed { IfOk result (λ t. (b : List ℕ) × (IsPart (string_bytes t) b × S.signs signer.now message.now b)) }
     ensures ok { OnOk result (S.sign_refusal signer.now message.now ≡ None) }
     ensures err { IfErr result (Refuses (S.sign_refusal signer.now message.now)) }
@@ -109,4 +105,29 @@ pub(crate) fn signature_part<S: JwtSigner>(
     let signature = signer.sign(alloc, message)?;
     let part = part_text(alloc, signature.as_slice())?;
     Ok(part)
+}
+
+/// What is signed of a token, and the part of its signature.
+#[derive(Drop)]
+pub(crate) struct SignedMessage {
+    pub(crate) message: String,
+    pub(crate) signature: String,
+}
+
+/// The header part, a dot and the payload part, with the part of their signature.
+pub(crate) fn sign_parts<S: JwtSigner>(
+    alloc: Global,
+    signer: &S,
+    header: String,
+    payload: &str,
+) -> Result<SignedMessage>
+    ensures message { IfOk result (λ s. string_bytes s.message ≡ string_bytes header ++ dot ∷ payload.now) }
+    ensures signed { IfOk result (λ s. (b : List ℕ) × (IsPart (string_bytes s.signature) b
+        × S.signs signer.now (string_bytes header ++ dot ∷ payload.now) b)) }
+    ensures ok { OnOk result (S.sign_refusal signer.now (string_bytes header ++ dot ∷ payload.now) ≡ None) }
+    ensures err { IfErr result (Refuses (S.sign_refusal signer.now (string_bytes header ++ dot ∷ payload.now))) }
+{
+    let message = with_part(header, payload)?;
+    let signature = signature_part(alloc, signer, message.as_bytes())?;
+    Ok(SignedMessage { message, signature })
 }

@@ -1,34 +1,44 @@
-use Rattle.std.proofs.Common.{◌≡◌, refl}
+use Rattle.std.proofs.Common.{◌≡◌, ℕ, List, refl}
 use Rattle.std.proofs.lemmas.Result.{IfOk-weaker}
-use Rattle.jwt_validation.specs.OptionsOf.{options_of}
-use Rattle.jsonwebtoken.specs.Tests.{Compact, Things, Passes, decode_order, verifying_call}
-use Rattle.jsonwebtoken.proofs.LawsOf.{moments, looser, one_text, family_of_key}
-use Rattle.jsonwebtoken.proofs.Orders.{accepted, exact, refused, same_answer}
+use Rattle.jsonwebtoken.specs.Calls.{decoding}
+use Rattle.jsonwebtoken.specs.Tests.{Compact, Contents, Passes, decode_order}
+use Rattle.jsonwebtoken.proofs.EachTest.{accepted, exact, refused, same_answer}
+use Rattle.jsonwebtoken.proofs.LawsOf.{moments, looser, fixes, key_fits, one_text}
 use Rattle.jsonwebtoken.proofs.decoding.decode.Goals as goal
 
 pub returns-clause-accepted : goal.returns-clause-accepted
-returns-clause-accepted g c = accepted (verifying_call (Compact c.args.token.now) c.args.key.now (options_of c.args.validation.now) c.args.now (g.P.CryptoProvider.verifier_refusal c.args.provider.now) (g.P.CryptoProvider.accepts c.args.provider.now) g.T.Claims.reads) decode_order refl _ c.run.result c.run.ensures
+returns-clause-accepted g c =
+    let call = decoding g.P.CryptoProvider g.T.Claims c.args.provider.now c.args.token.now c.args.key.now c.args.validation.now c.args.now in
+    accepted call decode_order refl _ c.decode_by_steps.result c.decode_by_steps.ensures
 
 pub returns-clause-exact : goal.returns-clause-exact
 returns-clause-exact g c =
-    let call = verifying_call (Compact c.args.token.now) c.args.key.now (options_of c.args.validation.now) c.args.now (g.P.CryptoProvider.verifier_refusal c.args.provider.now) (g.P.CryptoProvider.accepts c.args.provider.now) g.T.Claims.reads in
-    exact call decode_order refl _ c.run.result c.run.ensures (same_answer call decode_order refl refl (λ r. r.header) (λ r v. g.T.Claims.reads v r.claims))
+    let call = decoding g.P.CryptoProvider g.T.Claims c.args.provider.now c.args.token.now c.args.key.now c.args.validation.now c.args.now in
+    exact call decode_order refl _ c.decode_by_steps.result c.decode_by_steps.ensures (same_answer call decode_order refl refl (λ r. r.header) (λ r v. g.T.Claims.reads v r.claims))
 
 pub returns-clause-refused : goal.returns-clause-refused
-returns-clause-refused g c = refused (verifying_call (Compact c.args.token.now) c.args.key.now (options_of c.args.validation.now) c.args.now (g.P.CryptoProvider.verifier_refusal c.args.provider.now) (g.P.CryptoProvider.accepts c.args.provider.now) g.T.Claims.reads) decode_order refl _ c.run.result c.run.ensures
+returns-clause-refused g c =
+    let call = decoding g.P.CryptoProvider g.T.Claims c.args.provider.now c.args.token.now c.args.key.now c.args.validation.now c.args.now in
+    refused call decode_order refl _ c.decode_by_steps.result c.decode_by_steps.ensures
 
 pub returns-clause-family : goal.returns-clause-family
 returns-clause-family g c =
-    let call = verifying_call (Compact c.args.token.now) c.args.key.now (options_of c.args.validation.now) c.args.now (g.P.CryptoProvider.verifier_refusal c.args.provider.now) (g.P.CryptoProvider.accepts c.args.provider.now) g.T.Claims.reads in
-    IfOk-weaker c.run.result _ _ (λ r (a : (t : Things) × Passes call decode_order t × ((t.header ≡ r.header) × g.T.Claims.reads t.payload_value r.claims)).
-    family_of_key call a.0 r.header c.args.key.now a.1 refl a.2.0 (g.met.P.CryptoProvider.same_family c.args.provider.now))
-    (accepted call decode_order refl _ c.run.result c.run.ensures)
+    let call = decoding g.P.CryptoProvider g.T.Claims c.args.provider.now c.args.token.now c.args.key.now c.args.validation.now c.args.now in
+    IfOk-weaker c.decode_by_steps.result _ _ (λ r (a : (t : Contents) × Passes call decode_order t × ((t.header ≡ r.header) × g.T.Claims.reads t.payload_value r.claims)).
+    rw (← a.2.0) (key_fits call decode_order refl (g.met.P.CryptoProvider.same_family c.args.provider.now) a.0 a.1))
+    (accepted call decode_order refl _ c.decode_by_steps.result c.decode_by_steps.ensures)
 
 pub returns-clause-moments : goal.returns-clause-moments
-returns-clause-moments g c = moments (verifying_call (Compact c.args.token.now) c.args.key.now (options_of c.args.validation.now) c.args.now (g.P.CryptoProvider.verifier_refusal c.args.provider.now) (g.P.CryptoProvider.accepts c.args.provider.now) g.T.Claims.reads)
+returns-clause-moments g c =
+    let call = decoding g.P.CryptoProvider g.T.Claims c.args.provider.now c.args.token.now c.args.key.now c.args.validation.now c.args.now in
+    moments call decode_order refl refl refl (λ t m. (λ p. p, λ p. p))
 
 pub returns-clause-looser : goal.returns-clause-looser
-returns-clause-looser g c = λ t p. looser (verifying_call (Compact c.args.token.now) c.args.key.now (options_of c.args.validation.now) c.args.now (g.P.CryptoProvider.verifier_refusal c.args.provider.now) (g.P.CryptoProvider.accepts c.args.provider.now) g.T.Claims.reads) t p
+returns-clause-looser g c =
+    let call = decoding g.P.CryptoProvider g.T.Claims c.args.provider.now c.args.token.now c.args.key.now c.args.validation.now c.args.now in
+    looser call decode_order
 
 pub returns-clause-one_text : goal.returns-clause-one_text
-returns-clause-one_text g c = λ t p one. one_text (verifying_call (Compact c.args.token.now) c.args.key.now (options_of c.args.validation.now) c.args.now (g.P.CryptoProvider.verifier_refusal c.args.provider.now) (g.P.CryptoProvider.accepts c.args.provider.now) g.T.Claims.reads) t p c.args.token.now refl one
+returns-clause-one_text g c =
+    let call = decoding g.P.CryptoProvider g.T.Claims c.args.provider.now c.args.token.now c.args.key.now c.args.validation.now c.args.now in
+    fixes call decode_order (List ℕ) Compact c.args.token.now refl one_text refl (λ x w m t u p q h. refl)

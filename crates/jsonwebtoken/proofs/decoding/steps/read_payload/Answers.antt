@@ -1,34 +1,34 @@
 use Rattle.std.proofs.Common.{inl, inr}
 use Rattle.std.proofs.lemmas.Result.{err_from_is_err_and}
 use Rattle.serde_json.specs.View.{view}
-use Rattle.jsonwebtoken.specs.Steps.{nothing}
+use Rattle.jsonwebtoken.specs.Steps.{no_contents}
 use Rattle.jsonwebtoken.proofs.Exits.{or_memory}
 use Rattle.jsonwebtoken.proofs.decoding.steps.read_payload.Goals as goal
 
 pub returns-in_err-bytes : goal.returns-in_err-bytes
 returns-in_err-bytes g c =
     let p = err_from_is_err_and c.from_residual.result c.from_residual.ensures.1 in
-    rw (p.1, p.2) (or_memory (λ none. (nothing, inl (none.1, none.0))) c.in_err-bytes.ensures.err)
+    rw (p.1, p.2) (or_memory (λ none. (no_contents, inl (none.1, none.0))) c.in_err-bytes.ensures.err)
 
 pub returns-in_err-value : goal.returns-in_err-value
 returns-in_err-value g c =
     let p = err_from_is_err_and c.from_residual-in_err-value.result c.from_residual-in_err-value.ensures.1 in
     let no = rw c.as_slice.ensures.value at c.in_err-value.ensures.err in
-    rw (p.1, p.2) (or_memory (λ none. (record nothing { payload_bytes = c.in_ok-bytes.bytes.items }, inr (c.in_ok-bytes.ensures.ok, inl (none.1, none.0)))) no)
+    rw (p.1, p.2) (or_memory (λ none. (record no_contents { payload_bytes = c.in_ok-bytes.bytes.items }, inr (c.in_ok-bytes.ensures.ok, inl (none.1, none.0)))) no)
 
 pub returns-in_err-claims : goal.returns-in_err-claims
 returns-in_err-claims g c =
     let p = err_from_is_err_and c.from_residual-in_err-claims.result c.from_residual-in_err-claims.ensures.1 in
     let json = rw c.as_slice.ensures.value at c.in_ok-value.ensures.ok in
     rw (p.1, p.2) (or_memory (λ none. (
-      record nothing { payload_bytes = c.in_ok-bytes.bytes.items; payload_value = view c.in_ok-value.value },
+      record no_contents { payload_bytes = c.in_ok-bytes.bytes.items; payload_value = view c.in_ok-value.value },
       inr (c.in_ok-bytes.ensures.ok, inr (json, inl (none.1, none.0))),
     )) c.in_err-claims.ensures.err)
 
 pub returns : goal.returns
 returns g c =
     let json = rw c.as_slice.ensures.value at c.in_ok-value.ensures.ok in (
-      record nothing { payload_bytes = c.in_ok-bytes.bytes.items; payload_value = view c.in_ok-value.value },
+      record no_contents { payload_bytes = c.in_ok-bytes.bytes.items; payload_value = view c.in_ok-value.value },
       (c.in_ok-bytes.ensures.ok, (json, ((_, c.in_ok-claims.ensures.ok), tt))),
       c.in_ok-claims.ensures.ok,
     )

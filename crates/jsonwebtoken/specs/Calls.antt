@@ -1,0 +1,64 @@
+-- The calls that the contracts speak of: what an entry point is given, with what its provider and its type of claims
+-- say, and how it answers.
+use Rattle.std.specs.Prelude.{◌≡◌, ℕ, List, Result}
+use Rattle.jwt_base.specs.declared.errors.Error.{Error}
+use Rattle.jwt_base.specs.declared.json.claims.Claims.{Ghosts as ClaimsOf}
+use Rattle.jwt_header.specs.declared.header.Header.{Header}
+use Rattle.jwt_keys.specs.Key.{Key}
+use Rattle.jwt_keys.specs.declared.crypto.CryptoProvider.{Ghosts as ProviderOf}
+use Rattle.jwt_keys.specs.declared.jwk.Jwk.{Jwk}
+use Rattle.jwt_validation.specs.OptionsOf.{options_of}
+use Rattle.jwt_validation.specs.declared.validation.options.Validation.{Validation}
+use Rattle.jsonwebtoken.specs.Order.{AnswersOne, AnswersEach, RefusesByFirst}
+use Rattle.jsonwebtoken.specs.Tests.{Call, Test, Contents, Condition, HasKind, Parts, Token, Compact, Separate, KeySource, Given, InSet, verifying_call}
+use Rattle.jsonwebtoken.specs.declared.decoding.TokenData.{TokenData}
+
+-- ---- the calls
+
+module _ {P S V T : Type 0} (provider : ProviderOf P S V) (claims : ClaimsOf T) where
+  -- a call that verifies a token at a moment
+  abbrev pub verifying : P → Token → KeySource → Validation → ℕ → Call T
+  verifying p token keys validation now =
+      verifying_call token keys (options_of validation) now
+      (provider.verifier_refusal p) (provider.accepts p) claims.reads
+
+  -- the call of `decode`
+  abbrev pub decoding : P → List ℕ → Key → Validation → ℕ → Call T
+  decoding p text key validation now = verifying p (Compact text) (Given key) validation now
+
+  -- the call of `decode_with_set`
+  abbrev pub decoding_by_set : P → List ℕ → List Jwk → Validation → ℕ → Call T
+  decoding_by_set p text keys validation now =
+      verifying p (Compact text) (InSet keys) validation now
+
+  -- the call of `jws::decode`
+  abbrev pub decoding_parts : P → Parts → Key → Validation → ℕ → Call T
+  decoding_parts p parts key validation now =
+      verifying p (Separate parts) (Given key) validation now
+
+-- ---- what an answer shows of the contents
+
+-- the header and the claims
+abbrev pub Carries : {T : Type 0} → Call T → Contents → TokenData T → Type 0
+Carries call t answer = (t.header ≡ answer.header) × call.reads t.payload_value answer.claims
+
+abbrev pub HasHeader : {T : Type 0} → Call T → Contents → Header → Type 0
+HasHeader call t header = t.header ≡ header
+
+abbrev pub HasClaims : {T : Type 0} → Call T → Contents → T → Type 0
+HasClaims call t claims = call.reads t.payload_value claims
+
+-- ---- how a call answers that makes its tests in this order
+
+module _ {T R : Type 0} (call : Call T) (order : List Test) where
+  -- where it accepts, some contents pass every test, and are what the answer shows
+  abbrev pub Accepts : (Call T → Contents → R → Type 0) → Result R Error → Type 0
+  Accepts Shows answer = AnswersOne (Condition call) order (Shows call) answer
+
+  -- whatever contents pass every test, the answer shows them, unless memory ran out
+  abbrev pub AcceptsEach : (Call T → Contents → R → Type 0) → Result R Error → Type 0
+  AcceptsEach Shows answer = AnswersEach (Condition call) order (Shows call) answer
+
+  -- where it refuses, the kind is that of the first failed test, unless memory ran out
+  abbrev pub RefusesFirst : Result R Error → Type 0
+  RefusesFirst answer = RefusesByFirst (Condition call) (HasKind call) order answer

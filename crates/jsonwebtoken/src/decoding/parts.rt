@@ -1,0 +1,14 @@
+//! The three parts of a token.
+
+ghost use Rattle.std.specs.Prelude.{◌≡◌, ◌++◌, ◌∷◌};
+ghost use Rattle.jsonwebtoken.specs.Tests.{dot};
+
+/// The three parts of a token, and what is signed of it.
+#[derive(Drop)]
+pub(crate) struct TokenParts<'a> {
+    pub(crate) message: &'a [u8],
+    pub(crate) header: &'a [u8],
+    pub(crate) payload: &'a [u8],
+    pub(crate) signature: &'a [u8],
+    ghost joined: { message.now ≡ header.now ++ dot ∷ payload.now },
+}
