@@ -7,8 +7,9 @@ use Rattle.std.specs.Hash.{HashWrites, Alike, slice, on_Alike, items_Alike}
 use Rattle.std.proofs.Common.{ap}
 use Rattle.jwt_base.specs.Decided.{and_decides, same_as, list_decides, decided_by, fed_by_mark}
 use Rattle.jwt_params.specs.CommonSame.{common_eq, common_decides, common_fed}
-use Rattle.jwt_kinds.specs.KindsFed.{algorithm_fed, algorithm_marked}
-use Rattle.jwt_kinds.specs.KindsSame.{algorithm_eq, marked_algorithm, algorithm_decides}
+use Rattle.jwt_kinds.specs.Kinds.{marked_algorithm}
+use Rattle.jwt_kinds.specs.equality.KindsFed.{algorithm_fed, algorithm_marked}
+use Rattle.jwt_kinds.specs.equality.KindsSame.{algorithm_eq, algorithm_decides}
 use Rattle.jwt_keys.specs.declared.jwk.Jwk.{Jwk}
 use Rattle.jwt_keys.specs.declared.jwk_set.JwkSet.{JwkSet}
 
