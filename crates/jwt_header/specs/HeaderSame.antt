@@ -9,9 +9,9 @@ use Rattle.std.proofs.Common.{sym, ap, ◌∙◌}
 use Rattle.std.proofs.lemmas.Slice.Eq.{bytes_eq-Decides}
 use Rattle.jwt_base.specs.Algorithm.{name_of, algorithm_named}
 use Rattle.jwt_base.specs.DataEq.{members_eq, members_marked}
-use Rattle.jwt_base.specs.DataEqLaws.{members_decides}
-use Rattle.jwt_base.specs.Decided.{option_eq, option_decides, option_decides_itself, and_decides, same_as, texts_decides, decided_by, fed_by_mark}
-use Rattle.jwt_base.specs.NamesFed.{names_fed, names_marked}
+use Rattle.jwt_base.specs.equality.DataEqLaws.{members_decides}
+use Rattle.jwt_base.specs.equality.Decided.{option_eq, option_decides, option_decides_itself, and_decides, same_as, texts_decides, decided_by, fed_by_mark}
+use Rattle.jwt_base.specs.equality.NamesFed.{names_fed, names_marked}
 use Rattle.jwt_base.specs.declared.algorithms.Algorithm.{Algorithm}
 use Rattle.jwt_base.specs.declared.algorithms.Algorithm.TheVariants.{HS256, HS384, HS512, RS256, RS384, RS512, PS256, PS384, PS512, ES256, ES384, EdDSA}
 use Rattle.jwt_header.specs.NamesSame.{enc_eq, enc_decides, enc_fed, zip_eq, zip_decides, zip_fed}

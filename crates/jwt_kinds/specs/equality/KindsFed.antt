@@ -1,8 +1,8 @@
 -- What a hasher is fed of a key's kind: of free members their names alone.
 use Rattle.std.specs.Prelude.{◌≡◌, ◌++◌, refl}
 use Rattle.std.specs.Hash.{HashWrites, Alike, str}
-use Rattle.jwt_base.specs.Decided.{fed_by_mark}
-use Rattle.jwt_base.specs.NamesFed.{names_fed, names_marked}
+use Rattle.jwt_base.specs.equality.Decided.{fed_by_mark}
+use Rattle.jwt_base.specs.equality.NamesFed.{names_fed, names_marked}
 use Rattle.jwt_params.specs.Curve.{curve_name}
 use Rattle.jwt_kinds.specs.Kinds.{marked_other, marked_algorithm}
 use Rattle.jwt_kinds.specs.equality.KindsSame.{elliptic_eq, elliptic_decides, pair_eq, pair_decides, other_eq, other_decides, algorithm_eq, algorithm_decides}

@@ -9,8 +9,8 @@ use Rattle.std.proofs.Common.{ap}
 use Rattle.std.proofs.lemmas.Bool.Decides.{Decides-eqb}
 use Rattle.std.proofs.lemmas.Slice.Eq.{bytes_eq-Decides}
 use Rattle.jwt_base.specs.DataEq.{members_eq}
-use Rattle.jwt_base.specs.DataEqLaws.{members_decides}
-use Rattle.jwt_base.specs.Decided.{and_decides, same_as, decided_by}
+use Rattle.jwt_base.specs.equality.DataEqLaws.{members_decides}
+use Rattle.jwt_base.specs.equality.Decided.{and_decides, same_as, decided_by}
 use Rattle.jwt_params.specs.contracts.curves.EllipticCurve.{the_type}
 use Rattle.jwt_params.specs.declared.curves.EllipticCurve.{EllipticCurve}
 use Rattle.jwt_params.specs.declared.key_types.EllipticCurveKeyType.{EllipticCurveKeyType}
