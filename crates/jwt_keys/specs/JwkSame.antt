@@ -6,7 +6,7 @@ use Rattle.std.specs.Cmp.Lexicographic.{pointwise}
 use Rattle.std.specs.Hash.{HashWrites, Alike, slice, on_Alike, items_Alike}
 use Rattle.std.proofs.Common.{ap}
 use Rattle.jwt_base.specs.equality.Decided.{and_decides, same_as, list_decides, decided_by, fed_by_mark}
-use Rattle.jwt_params.specs.CommonSame.{common_eq, common_decides, common_fed}
+use Rattle.jwt_params.specs.equality.CommonSame.{common_eq, common_decides, common_fed}
 use Rattle.jwt_kinds.specs.Kinds.{marked_algorithm}
 use Rattle.jwt_kinds.specs.equality.KindsFed.{algorithm_fed, algorithm_marked}
 use Rattle.jwt_kinds.specs.equality.KindsSame.{algorithm_eq, algorithm_decides}
