@@ -16,7 +16,8 @@ use Rattle.jwt_base.specs.declared.algorithms.Algorithm.{Algorithm}
 use Rattle.jwt_base.specs.declared.algorithms.Algorithm.TheVariants.{HS256, HS384, HS512, RS256, RS384, RS512, PS256, PS384, PS512, ES256, ES384, EdDSA}
 use Rattle.jwt_header.specs.NamesSame.{enc_eq, enc_decides, enc_fed, zip_eq, zip_decides, zip_fed}
 use Rattle.jwt_header.specs.declared.header.Header.{Header}
-use Rattle.jwt_keys.specs.JwkSame.{key_eq, marked_key, key_decides, key_fed, key_marked}
+use Rattle.jwt_keys.specs.Jwk.{marked_key}
+use Rattle.jwt_keys.specs.equality.JwkSame.{key_eq, key_decides, key_fed, key_marked}
 use Rattle.jwt_keys.specs.declared.jwk.Jwk.{Jwk}
 
 abbrev pub same_algorithm : Algorithm → Algorithm → Bool
