@@ -1,15 +1,11 @@
 pub mod Kind
 pub mod KindOf
 pub mod Faults
-pub mod Decided
-pub mod KindEq
 pub mod Spelling
 pub mod Algorithm
 pub mod Base64Url
 pub mod JsonText
-pub mod DataCode
 pub mod DataEq
-pub mod DataEqLaws
-pub mod NamesFed
 pub mod Members
 pub mod Claims
+pub mod equality

@@ -165,7 +165,7 @@ fn copied(alloc: Global, text: &String) -> Result<String>
 }
 
 impl ErrorKind {
-    ghost use Rattle.jwt_base.specs.KindEq.{number_of_held, text_of_held};
+    ghost use Rattle.jwt_base.specs.equality.KindEq.{number_of_held, text_of_held};
 
     // The place in the list of kinds, and the text that the kind holds.
     fn number(&self) -> u8
@@ -221,7 +221,7 @@ impl PartialEq for ErrorKind {
     ghost use Rattle.std.specs.Prelude.{◌≡◌, ◌↔◌, IsTrue};
     ghost use Rattle.std.specs.Cmp.{partial_equiv_from_equiv};
     ghost use Rattle.jwt_base.specs.KindOf.{kind_held};
-    ghost use Rattle.jwt_base.specs.KindEq.{kind_eq, kind_eq_equiv};
+    ghost use Rattle.jwt_base.specs.equality.KindEq.{kind_eq, kind_eq_equiv};
 
     ghost eq = { kind_eq };
 
@@ -236,7 +236,7 @@ impl PartialEq for ErrorKind {
 }
 
 impl Eq for ErrorKind {
-    ghost use Rattle.jwt_base.specs.KindEq.{kind_eq_equiv};
+    ghost use Rattle.jwt_base.specs.equality.KindEq.{kind_eq_equiv};
 
     ghost laws = { kind_eq_equiv };
 }
@@ -246,7 +246,7 @@ impl PartialEq for Error {
     ghost use Rattle.std.specs.Prelude.{◌≡◌, ◌↔◌, IsTrue};
     ghost use Rattle.std.specs.Cmp.{partial_equiv_from_equiv};
     ghost use Rattle.jwt_base.specs.KindOf.{kind_of};
-    ghost use Rattle.jwt_base.specs.KindEq.{error_eq, error_eq_equiv};
+    ghost use Rattle.jwt_base.specs.equality.KindEq.{error_eq, error_eq_equiv};
 
     ghost eq = { error_eq };
 
@@ -261,7 +261,7 @@ impl PartialEq for Error {
 }
 
 impl Eq for Error {
-    ghost use Rattle.jwt_base.specs.KindEq.{error_eq_equiv};
+    ghost use Rattle.jwt_base.specs.equality.KindEq.{error_eq_equiv};
 
     ghost laws = { error_eq_equiv };
 }

@@ -14,7 +14,7 @@ use Rattle.jwt_base.proofs.NormalForms.{spelled_text, again_within, own_optional
 use Rattle.jwt_header.specs.Enc.{enc_text, enc_named, known_encs, enc_from, enc_value, normal_enc}
 use Rattle.jwt_header.specs.Extras.{header_names, IsExtras}
 use Rattle.jwt_header.specs.Header.{ReadsHeader, with_named, header_members, header_value}
-use Rattle.jwt_header.specs.HeaderSame.{named_back}
+use Rattle.jwt_header.specs.equality.HeaderSame.{named_back}
 use Rattle.jwt_header.specs.HeaderWritten.{normal_header, IsNormal, HasNormalForm}
 use Rattle.jwt_keys.specs.Jwk.{ReadsKey, key_members, key_value}
 use Rattle.jwt_keys.specs.JwkWritten.{normal_key}

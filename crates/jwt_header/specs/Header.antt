@@ -4,13 +4,14 @@ use Rattle.serde_json.specs.Data.{Data, string, object, Members, no_members, put
 use Rattle.serde_json.specs.Find.{get, as_str, as_object}
 use Rattle.serde_json.specs.Written.{members_have_float}
 use Rattle.jwt_base.specs.Algorithm.{name_of, algorithm_from}
+use Rattle.jwt_base.specs.DataEq.{members_marked}
 use Rattle.jwt_base.specs.Members.{optional, ReadsOptional, texts, texts_value, without, put_some, written_optional}
 use Rattle.jwt_base.specs.declared.algorithms.Algorithm.{Algorithm}
 use Rattle.jwt_header.specs.Enc.{enc_from, enc_value}
 use Rattle.jwt_header.specs.Extras.{header_names}
 use Rattle.jwt_header.specs.Zip.{zip_from, zip_value}
 use Rattle.jwt_header.specs.declared.header.Header.{Header}
-use Rattle.jwt_keys.specs.Jwk.{ReadsKey, key_value}
+use Rattle.jwt_keys.specs.Jwk.{ReadsKey, key_value, marked_key}
 
 -- d is an object, each name gives its field, the other members are the extras, and no float is among them
 pub record ReadsHeader (d : Data) (h : Header) : Type 0 where
@@ -61,3 +62,7 @@ header_members h = option_map (λ jwk. with_named h (put_some (codes "jwk") jwk 
 -- the value that the header is written as
 abbrev pub header_value : Header → Option Data
 header_value h = option_map object (header_members h)
+
+-- the header with one mark in place of each float
+abbrev pub marked_header : Header → Header
+marked_header h = record h { jwk = option_map marked_key h.jwk; extras = members_marked h.extras }

@@ -374,7 +374,8 @@ fn clone_zip(alloc: Global, zip: &Option<Zip>) -> Result<Option<Zip>>
 /// The same fields, where any two floats among the extras and the members of `jwk` count as equal.
 impl PartialEq for Header {
     ghost use Rattle.std.specs.Cmp.{partial_equiv_from_equiv};
-    ghost use Rattle.jwt_header.specs.HeaderSame.{header_eq, header_eq_equiv, marked_header};
+    ghost use Rattle.jwt_header.specs.Header.{marked_header};
+    ghost use Rattle.jwt_header.specs.equality.HeaderSame.{header_eq, header_eq_equiv};
 
     ghost eq = { header_eq };
 
@@ -389,13 +390,13 @@ impl PartialEq for Header {
 }
 
 impl Eq for Header {
-    ghost use Rattle.jwt_header.specs.HeaderSame.{header_eq_equiv};
+    ghost use Rattle.jwt_header.specs.equality.HeaderSame.{header_eq_equiv};
 
     ghost laws = { header_eq_equiv };
 }
 
 impl Header {
-    ghost use Rattle.jwt_header.specs.HeaderSame.{header_eq};
+    ghost use Rattle.jwt_header.specs.equality.HeaderSame.{header_eq};
 
     fn is_same(&self, other: &Header) -> bool
         ensures { result ≡ header_eq self.now other.now }
@@ -421,7 +422,7 @@ impl Header {
 
 /// Feeds the fields, and of free members their names alone.
 impl Hash for Header {
-    ghost use Rattle.jwt_header.specs.HeaderSame.{header_fed, header_alike};
+    ghost use Rattle.jwt_header.specs.equality.HeaderSame.{header_fed, header_alike};
 
     ghost hash_input = { header_fed };
 

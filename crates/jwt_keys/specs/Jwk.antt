@@ -7,7 +7,7 @@ use Rattle.serde_json.specs.Find.{as_object}
 use Rattle.jwt_base.specs.Algorithm.{algorithm_of}
 use Rattle.jwt_base.specs.Members.{without}
 use Rattle.jwt_params.specs.Common.{common_names, ReadsCommon, with_common}
-use Rattle.jwt_kinds.specs.Kinds.{algorithm_from, algorithm_members, has_common}
+use Rattle.jwt_kinds.specs.Kinds.{algorithm_from, algorithm_members, has_common, marked_algorithm}
 use Rattle.jwt_kinds.specs.declared.algorithm.AlgorithmParameters.{AlgorithmParameters}
 use Rattle.jwt_keys.specs.declared.jwk.Jwk.{Jwk}
 
@@ -34,3 +34,7 @@ is_supported_key k = is_some (option_and_then algorithm_of k.common.key_algorith
 -- `kid` is there, and it is this text
 abbrev pub has_id : List ℕ → Jwk → Bool
 has_id kid k = option_map_or (λ id. bytes_eq id kid) k.common.key_id false
+
+-- the key with one mark in place of each float
+abbrev pub marked_key : Jwk → Jwk
+marked_key k = record k { algorithm = marked_algorithm k.algorithm }

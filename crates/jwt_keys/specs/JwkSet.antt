@@ -3,9 +3,10 @@ use Rattle.std.specs.Prelude.{◌≡◌, ◌↔◌, List, [], ◌∷◌, Option,
 use Rattle.serde_json.specs.Data.{Data, array, object, Items, no_items, item, no_members, member}
 use Rattle.serde_json.specs.Find.{get}
 use Rattle.serde_json.specs.View.{items_of}
-use Rattle.jwt_keys.specs.Jwk.{ReadsKey, key_value}
+use Rattle.jwt_keys.specs.Jwk.{ReadsKey, key_value, marked_key}
 use Rattle.jwt_keys.specs.JwkWritten.{normal_key}
 use Rattle.jwt_keys.specs.declared.jwk.Jwk.{Jwk}
+use Rattle.jwt_keys.specs.declared.jwk_set.JwkSet.{JwkSet}
 
 -- each item reads as the key at its place
 abbrev pub ReadsKeys : Items → List Jwk → Type 0
@@ -38,3 +39,7 @@ pub record HasNormalSet (ks : List Jwk) : Type 0 where
   pub reads_back : (d : Data) → set_value ks ≡ Some d → (ls : List Jwk) → ReadsSet d ls ↔ (ls ≡ normal_set ks)
   pub once : normal_set (normal_set ks) ≡ normal_set ks
   pub told_apart : IsNormalSet ks → (ls : List Jwk) → IsNormalSet ls → (set_value ks ≡ set_value ls) ↔ (ks ≡ ls)
+
+-- the keys with one mark in place of each float
+abbrev pub marked_set : JwkSet → List Jwk
+marked_set s = map marked_key s.keys.items

@@ -126,7 +126,8 @@ fn read_kind(alloc: Global, value: &Value) -> Result<AlgorithmParameters>
 /// The same parameters, where any two floats count as equal.
 impl PartialEq for Jwk {
     ghost use Rattle.std.specs.Cmp.{partial_equiv_from_equiv};
-    ghost use Rattle.jwt_keys.specs.JwkSame.{key_eq, key_eq_equiv, marked_key};
+    ghost use Rattle.jwt_keys.specs.Jwk.{marked_key};
+    ghost use Rattle.jwt_keys.specs.equality.JwkSame.{key_eq, key_eq_equiv};
 
     ghost eq = { key_eq };
 
@@ -141,13 +142,13 @@ impl PartialEq for Jwk {
 }
 
 impl Eq for Jwk {
-    ghost use Rattle.jwt_keys.specs.JwkSame.{key_eq_equiv};
+    ghost use Rattle.jwt_keys.specs.equality.JwkSame.{key_eq_equiv};
 
     ghost laws = { key_eq_equiv };
 }
 
 impl Jwk {
-    ghost use Rattle.jwt_keys.specs.JwkSame.{key_eq};
+    ghost use Rattle.jwt_keys.specs.equality.JwkSame.{key_eq};
 
     fn is_same(&self, other: &Jwk) -> bool
         ensures { result ≡ key_eq self.now other.now }
@@ -158,7 +159,7 @@ impl Jwk {
 
 /// Feeds the parameters, and of free members their names alone.
 impl Hash for Jwk {
-    ghost use Rattle.jwt_keys.specs.JwkSame.{key_fed, key_alike};
+    ghost use Rattle.jwt_keys.specs.equality.JwkSame.{key_fed, key_alike};
 
     ghost hash_input = { key_fed };
 

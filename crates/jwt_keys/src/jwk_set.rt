@@ -143,7 +143,8 @@ fn write_keys(alloc: Global, keys: &[Jwk]) -> Result<Vec<Value>>
 /// The same keys in the same order, where any two floats count as equal.
 impl PartialEq for JwkSet {
     ghost use Rattle.std.specs.Cmp.{partial_equiv_from_equiv};
-    ghost use Rattle.jwt_keys.specs.JwkSame.{set_eq, set_eq_equiv, marked_set};
+    ghost use Rattle.jwt_keys.specs.JwkSet.{marked_set};
+    ghost use Rattle.jwt_keys.specs.equality.JwkSame.{set_eq, set_eq_equiv};
 
     ghost eq = { set_eq };
 
@@ -158,13 +159,13 @@ impl PartialEq for JwkSet {
 }
 
 impl Eq for JwkSet {
-    ghost use Rattle.jwt_keys.specs.JwkSame.{set_eq_equiv};
+    ghost use Rattle.jwt_keys.specs.equality.JwkSame.{set_eq_equiv};
 
     ghost laws = { set_eq_equiv };
 }
 
 impl JwkSet {
-    ghost use Rattle.jwt_keys.specs.JwkSame.{set_eq};
+    ghost use Rattle.jwt_keys.specs.equality.JwkSame.{set_eq};
 
     fn is_same(&self, other: &JwkSet) -> bool
         ensures { result ≡ set_eq self.now other.now }
@@ -175,7 +176,7 @@ impl JwkSet {
 
 /// Feeds the keys, and of free members their names alone.
 impl Hash for JwkSet {
-    ghost use Rattle.jwt_keys.specs.JwkSame.{set_fed, set_alike};
+    ghost use Rattle.jwt_keys.specs.equality.JwkSame.{set_fed, set_alike};
 
     ghost hash_input = { set_fed };
 

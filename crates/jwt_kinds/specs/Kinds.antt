@@ -5,6 +5,7 @@ use Rattle.std.specs.Str.{bytes_eq}
 use Rattle.serde_json.specs.Data.{Data, string, object, Members, no_members, put}
 use Rattle.serde_json.specs.Find.{get, as_object}
 use Rattle.serde_json.specs.Written.{members_have_float}
+use Rattle.jwt_base.specs.DataEq.{members_marked}
 use Rattle.jwt_base.specs.Members.{has_named, text_at}
 use Rattle.jwt_params.specs.Common.{common_names}
 use Rattle.jwt_params.specs.Curve.{curve_name, curve_from}
@@ -90,3 +91,15 @@ normal_algorithm (kinds.RSA p) = kinds.RSA p
 normal_algorithm (kinds.OctetKey p) = kinds.OctetKey p
 normal_algorithm (kinds.OctetKeyPair p) = kinds.OctetKeyPair p
 normal_algorithm (kinds.Other p) = unwrap_or (named_from (object p.fields)) (kinds.Other p)
+
+-- one mark in place of each float
+abbrev pub marked_other : OtherKeyParameters → OtherKeyParameters
+marked_other p = record { fields = members_marked p.fields }
+
+-- the kind with one mark in place of each float
+abbrev pub marked_algorithm : AlgorithmParameters → AlgorithmParameters
+marked_algorithm (kinds.EllipticCurve p) = kinds.EllipticCurve p
+marked_algorithm (kinds.RSA p) = kinds.RSA p
+marked_algorithm (kinds.OctetKey p) = kinds.OctetKey p
+marked_algorithm (kinds.OctetKeyPair p) = kinds.OctetKeyPair p
+marked_algorithm (kinds.Other p) = kinds.Other (marked_other p)

@@ -1,6 +1,5 @@
 pub mod Kinds
-pub mod KindsFed
-pub mod KindsSame
+pub mod equality
 pub use Rattle.jwt_base.specs.Kind
 pub use Rattle.jwt_base.specs.KindOf
 pub use Rattle.jwt_base.specs.Members

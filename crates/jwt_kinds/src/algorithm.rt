@@ -151,7 +151,8 @@ impl AlgorithmParameters {
 /// The same kind with the same parameters, where any two floats count as equal.
 impl PartialEq for AlgorithmParameters {
     ghost use Rattle.std.specs.Cmp.{partial_equiv_from_equiv};
-    ghost use Rattle.jwt_kinds.specs.KindsSame.{algorithm_eq, algorithm_eq_equiv, marked_algorithm};
+    ghost use Rattle.jwt_kinds.specs.Kinds.{marked_algorithm};
+    ghost use Rattle.jwt_kinds.specs.equality.KindsSame.{algorithm_eq, algorithm_eq_equiv};
 
     ghost eq = { algorithm_eq };
 
@@ -166,13 +167,13 @@ impl PartialEq for AlgorithmParameters {
 }
 
 impl Eq for AlgorithmParameters {
-    ghost use Rattle.jwt_kinds.specs.KindsSame.{algorithm_eq_equiv};
+    ghost use Rattle.jwt_kinds.specs.equality.KindsSame.{algorithm_eq_equiv};
 
     ghost laws = { algorithm_eq_equiv };
 }
 
 impl AlgorithmParameters {
-    ghost use Rattle.jwt_kinds.specs.KindsSame.{algorithm_eq};
+    ghost use Rattle.jwt_kinds.specs.equality.KindsSame.{algorithm_eq};
 
     fn is_same(&self, other: &AlgorithmParameters) -> bool
         ensures { result ≡ algorithm_eq self.now other.now }
@@ -204,7 +205,7 @@ impl AlgorithmParameters {
 
 /// Feeds the parameters, and of free members their names alone.
 impl Hash for AlgorithmParameters {
-    ghost use Rattle.jwt_kinds.specs.KindsFed.{algorithm_fed, algorithm_alike};
+    ghost use Rattle.jwt_kinds.specs.equality.KindsFed.{algorithm_fed, algorithm_alike};
 
     ghost hash_input = { algorithm_fed };
 

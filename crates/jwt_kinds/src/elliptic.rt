@@ -17,7 +17,7 @@ use std::alloc::Global;
 use std::hash::{Hash, Hasher};
 
 /// The parameters of a key on an elliptic curve (RFC 7518 section 6.2.1).
-#[derive(Debug, Drop)]
+#[derive(Debug, Drop, Eq)]
 pub struct EllipticCurveKeyParameters {
     /// The type, `EC` (section 6.1).
     pub key_type: EllipticCurveKeyType,
@@ -109,7 +109,7 @@ impl EllipticCurveKeyParameters {
 /// The same parameters.
 impl PartialEq for EllipticCurveKeyParameters {
     ghost use Rattle.std.specs.Cmp.{partial_equiv_from_equiv};
-    ghost use Rattle.jwt_kinds.specs.KindsSame.{elliptic_eq, elliptic_eq_equiv};
+    ghost use Rattle.jwt_kinds.specs.equality.KindsSame.{elliptic_eq, elliptic_eq_equiv};
 
     ghost eq = { elliptic_eq };
 
@@ -123,26 +123,20 @@ impl PartialEq for EllipticCurveKeyParameters {
     }
 }
 
-impl Eq for EllipticCurveKeyParameters {
-    ghost use Rattle.jwt_kinds.specs.KindsSame.{elliptic_eq_equiv};
-
-    ghost laws = { elliptic_eq_equiv };
-}
-
 impl EllipticCurveKeyParameters {
-    ghost use Rattle.jwt_kinds.specs.KindsSame.{elliptic_eq};
+    ghost use Rattle.jwt_kinds.specs.equality.KindsSame.{elliptic_eq};
 
     // The type has one value.
     fn is_same(&self, other: &EllipticCurveKeyParameters) -> bool
         ensures { result ≡ elliptic_eq self.now other.now }
     {
-        self.curve.name() == other.curve.name() && self.x == other.x && self.y == other.y
+        self.curve == other.curve && self.x == other.x && self.y == other.y
     }
 }
 
 /// Feeds the parameters.
 impl Hash for EllipticCurveKeyParameters {
-    ghost use Rattle.jwt_kinds.specs.KindsFed.{elliptic_fed, elliptic_alike};
+    ghost use Rattle.jwt_kinds.specs.equality.KindsFed.{elliptic_fed, elliptic_alike};
 
     ghost hash_input = { elliptic_fed };
 

@@ -27,7 +27,7 @@ pub struct FreeMembers {
 impl Model for FreeMembers {
     ghost use Rattle.serde_json.specs.Data.{Members};
     ghost use Rattle.serde_json.specs.View.{members_view};
-    ghost use Rattle.jwt_base.specs.DataCode.{coded_members};
+    ghost use Rattle.jwt_base.specs.equality.DataCode.{coded_members};
 
     ghost Value = { Members };
 
@@ -128,7 +128,7 @@ impl From<BTreeMap<String, Value>> for FreeMembers {
 impl PartialEq for FreeMembers {
     ghost use Rattle.std.specs.Cmp.{partial_equiv_from_equiv};
     ghost use Rattle.jwt_base.specs.DataEq.{members_eq, members_marked};
-    ghost use Rattle.jwt_base.specs.DataEqLaws.{members_eq_equiv};
+    ghost use Rattle.jwt_base.specs.equality.DataEqLaws.{members_eq_equiv};
 
     ghost eq = { members_eq };
 
@@ -143,14 +143,14 @@ impl PartialEq for FreeMembers {
 }
 
 impl Eq for FreeMembers {
-    ghost use Rattle.jwt_base.specs.DataEqLaws.{members_eq_equiv};
+    ghost use Rattle.jwt_base.specs.equality.DataEqLaws.{members_eq_equiv};
 
     ghost laws = { members_eq_equiv };
 }
 
 /// Feeds the names alone.
 impl Hash for FreeMembers {
-    ghost use Rattle.jwt_base.specs.NamesFed.{names_fed, names_alike};
+    ghost use Rattle.jwt_base.specs.equality.NamesFed.{names_fed, names_alike};
 
     ghost hash_input = { names_fed };
 

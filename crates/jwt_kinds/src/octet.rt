@@ -13,10 +13,9 @@ use jwt_base::text::Text;
 use jwt_params::key_types::OctetKeyType;
 use serde_json::{Map, Value};
 use std::alloc::Global;
-use std::hash::{Hash, Hasher};
 
 /// The parameters of a secret (RFC 7518 section 6.4).
-#[derive(Debug, Drop)]
+#[derive(Debug, Drop, Eq, Hash)]
 pub struct OctetKeyParameters {
     /// The type, `oct` (section 6.1).
     pub key_type: OctetKeyType,
@@ -92,7 +91,7 @@ impl OctetKeyParameters {
 /// The same parameters.
 impl PartialEq for OctetKeyParameters {
     ghost use Rattle.std.specs.Cmp.{partial_equiv_from_equiv};
-    ghost use Rattle.jwt_kinds.specs.KindsSame.{octet_eq, octet_eq_equiv};
+    ghost use Rattle.jwt_kinds.specs.equality.KindsSame.{octet_eq, octet_eq_equiv};
 
     ghost eq = { octet_eq };
 
@@ -106,32 +105,13 @@ impl PartialEq for OctetKeyParameters {
     }
 }
 
-impl Eq for OctetKeyParameters {
-    ghost use Rattle.jwt_kinds.specs.KindsSame.{octet_eq_equiv};
-
-    ghost laws = { octet_eq_equiv };
-}
-
 impl OctetKeyParameters {
-    ghost use Rattle.jwt_kinds.specs.KindsSame.{octet_eq};
+    ghost use Rattle.jwt_kinds.specs.equality.KindsSame.{octet_eq};
 
     // The type has one value.
     fn is_same(&self, other: &OctetKeyParameters) -> bool
         ensures { result ≡ octet_eq self.now other.now }
     {
         self.value == other.value
-    }
-}
-
-/// Feeds the parameters.
-impl Hash for OctetKeyParameters {
-    ghost use Rattle.jwt_kinds.specs.KindsFed.{octet_fed, octet_alike};
-
-    ghost hash_input = { octet_fed };
-
-    ghost respects_eq = { octet_alike.fed };
-
-    fn hash<H: Hasher>(&self, state: &mut H) {
-        self.value.hash(state);
     }
 }

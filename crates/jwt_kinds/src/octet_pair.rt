@@ -17,7 +17,7 @@ use std::alloc::Global;
 use std::hash::{Hash, Hasher};
 
 /// The parameters of a public key that is an octet string (RFC 8037 section 2).
-#[derive(Debug, Drop)]
+#[derive(Debug, Drop, Eq)]
 pub struct OctetKeyPairParameters {
     /// The type, `OKP`.
     pub key_type: OctetKeyPairType,
@@ -101,7 +101,7 @@ impl OctetKeyPairParameters {
 /// The same parameters.
 impl PartialEq for OctetKeyPairParameters {
     ghost use Rattle.std.specs.Cmp.{partial_equiv_from_equiv};
-    ghost use Rattle.jwt_kinds.specs.KindsSame.{pair_eq, pair_eq_equiv};
+    ghost use Rattle.jwt_kinds.specs.equality.KindsSame.{pair_eq, pair_eq_equiv};
 
     ghost eq = { pair_eq };
 
@@ -115,26 +115,20 @@ impl PartialEq for OctetKeyPairParameters {
     }
 }
 
-impl Eq for OctetKeyPairParameters {
-    ghost use Rattle.jwt_kinds.specs.KindsSame.{pair_eq_equiv};
-
-    ghost laws = { pair_eq_equiv };
-}
-
 impl OctetKeyPairParameters {
-    ghost use Rattle.jwt_kinds.specs.KindsSame.{pair_eq};
+    ghost use Rattle.jwt_kinds.specs.equality.KindsSame.{pair_eq};
 
     // The type has one value.
     fn is_same(&self, other: &OctetKeyPairParameters) -> bool
         ensures { result ≡ pair_eq self.now other.now }
     {
-        self.curve.name() == other.curve.name() && self.x == other.x
+        self.curve == other.curve && self.x == other.x
     }
 }
 
 /// Feeds the parameters.
 impl Hash for OctetKeyPairParameters {
-    ghost use Rattle.jwt_kinds.specs.KindsFed.{pair_fed, pair_alike};
+    ghost use Rattle.jwt_kinds.specs.equality.KindsFed.{pair_fed, pair_alike};
 
     ghost hash_input = { pair_fed };
 

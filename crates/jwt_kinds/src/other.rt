@@ -77,7 +77,8 @@ impl OtherKeyParameters {
 /// The same members, where any two floats count as equal.
 impl PartialEq for OtherKeyParameters {
     ghost use Rattle.std.specs.Cmp.{partial_equiv_from_equiv};
-    ghost use Rattle.jwt_kinds.specs.KindsSame.{other_eq, other_eq_equiv, marked_other};
+    ghost use Rattle.jwt_kinds.specs.Kinds.{marked_other};
+    ghost use Rattle.jwt_kinds.specs.equality.KindsSame.{other_eq, other_eq_equiv};
 
     ghost eq = { other_eq };
 
@@ -92,13 +93,13 @@ impl PartialEq for OtherKeyParameters {
 }
 
 impl Eq for OtherKeyParameters {
-    ghost use Rattle.jwt_kinds.specs.KindsSame.{other_eq_equiv};
+    ghost use Rattle.jwt_kinds.specs.equality.KindsSame.{other_eq_equiv};
 
     ghost laws = { other_eq_equiv };
 }
 
 impl OtherKeyParameters {
-    ghost use Rattle.jwt_kinds.specs.KindsSame.{other_eq};
+    ghost use Rattle.jwt_kinds.specs.equality.KindsSame.{other_eq};
 
     fn is_same(&self, other: &OtherKeyParameters) -> bool
         ensures { result ≡ other_eq self.now other.now }
@@ -109,7 +110,7 @@ impl OtherKeyParameters {
 
 /// Feeds the names of the members alone.
 impl Hash for OtherKeyParameters {
-    ghost use Rattle.jwt_kinds.specs.KindsFed.{other_fed, other_alike};
+    ghost use Rattle.jwt_kinds.specs.equality.KindsFed.{other_fed, other_alike};
 
     ghost hash_input = { other_fed };
 

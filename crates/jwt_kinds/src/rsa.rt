@@ -13,10 +13,9 @@ use jwt_base::text::Text;
 use jwt_params::key_types::RSAKeyType;
 use serde_json::{Map, Value};
 use std::alloc::Global;
-use std::hash::{Hash, Hasher};
 
 /// The parameters of a public RSA key (RFC 7518 section 6.3.1).
-#[derive(Debug, Drop)]
+#[derive(Debug, Drop, Eq, Hash)]
 pub struct RSAKeyParameters {
     /// The type, `RSA` (section 6.1).
     pub key_type: RSAKeyType,
@@ -100,7 +99,7 @@ impl RSAKeyParameters {
 /// The same parameters.
 impl PartialEq for RSAKeyParameters {
     ghost use Rattle.std.specs.Cmp.{partial_equiv_from_equiv};
-    ghost use Rattle.jwt_kinds.specs.KindsSame.{rsa_eq, rsa_eq_equiv};
+    ghost use Rattle.jwt_kinds.specs.equality.KindsSame.{rsa_eq, rsa_eq_equiv};
 
     ghost eq = { rsa_eq };
 
@@ -114,33 +113,13 @@ impl PartialEq for RSAKeyParameters {
     }
 }
 
-impl Eq for RSAKeyParameters {
-    ghost use Rattle.jwt_kinds.specs.KindsSame.{rsa_eq_equiv};
-
-    ghost laws = { rsa_eq_equiv };
-}
-
 impl RSAKeyParameters {
-    ghost use Rattle.jwt_kinds.specs.KindsSame.{rsa_eq};
+    ghost use Rattle.jwt_kinds.specs.equality.KindsSame.{rsa_eq};
 
     // The type has one value.
     fn is_same(&self, other: &RSAKeyParameters) -> bool
         ensures { result ≡ rsa_eq self.now other.now }
     {
         self.n == other.n && self.e == other.e
-    }
-}
-
-/// Feeds the parameters.
-impl Hash for RSAKeyParameters {
-    ghost use Rattle.jwt_kinds.specs.KindsFed.{rsa_fed, rsa_alike};
-
-    ghost hash_input = { rsa_fed };
-
-    ghost respects_eq = { rsa_alike.fed };
-
-    fn hash<H: Hasher>(&self, state: &mut H) {
-        self.n.hash(state);
-        self.e.hash(state);
     }
 }

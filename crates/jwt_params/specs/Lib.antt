@@ -1,10 +1,9 @@
 pub mod Common
-pub mod CommonSame
 pub mod Curve
 pub mod KeyType
-pub mod NamesSame
 pub mod Operation
 pub mod Use
+pub mod equality
 pub use Rattle.jwt_base.specs.Kind
 pub use Rattle.jwt_base.specs.KindOf
 pub use Rattle.jwt_base.specs.Spelling

@@ -8,7 +8,7 @@ ghost use Rattle.jwt_base.specs.Kind as kind;
 ghost use Rattle.jwt_base.specs.KindOf.{IsMemory, RefusesAs};
 ghost use Rattle.jwt_base.specs.Members.{optional, is_named, put_some};
 ghost use Rattle.jwt_params.specs.Common.{common_names, key_algorithm_value};
-ghost use Rattle.jwt_params.specs.CommonSame.{algorithm_text};
+ghost use Rattle.jwt_params.specs.equality.CommonSame.{algorithm_text};
 ghost use Rattle.jwt_params.specs.Operation.{operations_from, operations_value};
 ghost use Rattle.jwt_params.specs.Use.{use_from, use_value};
 
@@ -276,7 +276,7 @@ impl Default for CommonParameters {
 /// The same fields.
 impl PartialEq for CommonParameters {
     ghost use Rattle.std.specs.Cmp.{partial_equiv_from_equiv};
-    ghost use Rattle.jwt_params.specs.CommonSame.{common_eq, common_eq_equiv};
+    ghost use Rattle.jwt_params.specs.equality.CommonSame.{common_eq, common_eq_equiv};
 
     ghost eq = { common_eq };
 
@@ -291,13 +291,13 @@ impl PartialEq for CommonParameters {
 }
 
 impl Eq for CommonParameters {
-    ghost use Rattle.jwt_params.specs.CommonSame.{common_eq_equiv};
+    ghost use Rattle.jwt_params.specs.equality.CommonSame.{common_eq_equiv};
 
     ghost laws = { common_eq_equiv };
 }
 
 impl CommonParameters {
-    ghost use Rattle.jwt_params.specs.CommonSame.{common_eq};
+    ghost use Rattle.jwt_params.specs.equality.CommonSame.{common_eq};
 
     fn is_same(&self, other: &CommonParameters) -> bool
         ensures { result ≡ common_eq self.now other.now }
@@ -325,7 +325,7 @@ fn algorithm_name(algorithm: &Option<KeyAlgorithm>) -> &'static str
 
 /// Feeds the fields.
 impl Hash for CommonParameters {
-    ghost use Rattle.jwt_params.specs.CommonSame.{common_fed, common_alike};
+    ghost use Rattle.jwt_params.specs.equality.CommonSame.{common_fed, common_alike};
 
     ghost hash_input = { common_fed };
 

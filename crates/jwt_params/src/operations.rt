@@ -124,7 +124,7 @@ impl KeyOperations {
 impl PartialEq for KeyOperations {
     ghost use Rattle.std.specs.Prelude.{◌≡◌, ◌↔◌, IsTrue};
     ghost use Rattle.std.specs.Cmp.{partial_equiv_from_equiv};
-    ghost use Rattle.jwt_params.specs.NamesSame.{operation_eq, operation_eq_equiv};
+    ghost use Rattle.jwt_params.specs.equality.NamesSame.{operation_eq, operation_eq_equiv};
 
     ghost eq = { operation_eq };
 
@@ -139,13 +139,13 @@ impl PartialEq for KeyOperations {
 }
 
 impl Eq for KeyOperations {
-    ghost use Rattle.jwt_params.specs.NamesSame.{operation_eq_equiv};
+    ghost use Rattle.jwt_params.specs.equality.NamesSame.{operation_eq_equiv};
 
     ghost laws = { operation_eq_equiv };
 }
 
 impl Hash for KeyOperations {
-    ghost use Rattle.jwt_params.specs.NamesSame.{operation_fed, operation_alike};
+    ghost use Rattle.jwt_params.specs.equality.NamesSame.{operation_fed, operation_alike};
 
     ghost hash_input = { operation_fed };
 
@@ -246,7 +246,7 @@ impl From<Vec<KeyOperations>> for KeyOperationList {
 impl PartialEq for KeyOperationList {
     ghost use Rattle.std.specs.Prelude.{◌≡◌, ◌↔◌, IsTrue};
     ghost use Rattle.std.specs.Cmp.{partial_equiv_from_equiv};
-    ghost use Rattle.jwt_params.specs.NamesSame.{operations_eq, operations_eq_equiv};
+    ghost use Rattle.jwt_params.specs.equality.NamesSame.{operations_eq, operations_eq_equiv};
 
     ghost eq = { operations_eq };
 
@@ -261,7 +261,7 @@ impl PartialEq for KeyOperationList {
 }
 
 impl KeyOperationList {
-    ghost use Rattle.jwt_params.specs.NamesSame.{operations_eq};
+    ghost use Rattle.jwt_params.specs.equality.NamesSame.{operations_eq};
 
     fn is_same(&self, other: &KeyOperationList) -> bool
         ensures { result ≡ operations_eq self.now other.now }
@@ -271,13 +271,13 @@ impl KeyOperationList {
 }
 
 impl Eq for KeyOperationList {
-    ghost use Rattle.jwt_params.specs.NamesSame.{operations_eq_equiv};
+    ghost use Rattle.jwt_params.specs.equality.NamesSame.{operations_eq_equiv};
 
     ghost laws = { operations_eq_equiv };
 }
 
 impl Hash for KeyOperationList {
-    ghost use Rattle.jwt_params.specs.NamesSame.{operations_fed, operations_alike};
+    ghost use Rattle.jwt_params.specs.equality.NamesSame.{operations_fed, operations_alike};
 
     ghost hash_input = { operations_fed };
 

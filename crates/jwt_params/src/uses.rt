@@ -91,7 +91,7 @@ impl PublicKeyUse {
 impl PartialEq for PublicKeyUse {
     ghost use Rattle.std.specs.Prelude.{◌≡◌, ◌↔◌, IsTrue};
     ghost use Rattle.std.specs.Cmp.{partial_equiv_from_equiv};
-    ghost use Rattle.jwt_params.specs.NamesSame.{use_eq, use_eq_equiv};
+    ghost use Rattle.jwt_params.specs.equality.NamesSame.{use_eq, use_eq_equiv};
 
     ghost eq = { use_eq };
 
@@ -106,13 +106,13 @@ impl PartialEq for PublicKeyUse {
 }
 
 impl Eq for PublicKeyUse {
-    ghost use Rattle.jwt_params.specs.NamesSame.{use_eq_equiv};
+    ghost use Rattle.jwt_params.specs.equality.NamesSame.{use_eq_equiv};
 
     ghost laws = { use_eq_equiv };
 }
 
 impl Hash for PublicKeyUse {
-    ghost use Rattle.jwt_params.specs.NamesSame.{use_fed, use_alike};
+    ghost use Rattle.jwt_params.specs.equality.NamesSame.{use_fed, use_alike};
 
     ghost hash_input = { use_fed };
 

@@ -4,4 +4,4 @@ pub mod ClaimsSeen
 pub mod Moments
 pub mod Options
 pub mod OptionsOf
-pub mod ValidationEq
+pub mod equality

@@ -30,7 +30,7 @@ pub struct Extras {
 impl Model for Extras {
     ghost use Rattle.serde_json.specs.Data.{Members};
     ghost use Rattle.serde_json.specs.View.{members_view};
-    ghost use Rattle.jwt_base.specs.DataCode.{coded_members};
+    ghost use Rattle.jwt_base.specs.equality.DataCode.{coded_members};
     ghost use Rattle.jwt_header.specs.Extras.{IsExtras};
 
     ghost Value = { Members };
@@ -216,7 +216,7 @@ fn any_header_name(members: &Map<String, Value>) -> bool
 impl PartialEq for Extras {
     ghost use Rattle.std.specs.Cmp.{partial_equiv_from_equiv};
     ghost use Rattle.jwt_base.specs.DataEq.{members_eq, members_marked};
-    ghost use Rattle.jwt_base.specs.DataEqLaws.{members_eq_equiv};
+    ghost use Rattle.jwt_base.specs.equality.DataEqLaws.{members_eq_equiv};
 
     ghost eq = { members_eq };
 
@@ -231,14 +231,14 @@ impl PartialEq for Extras {
 }
 
 impl Eq for Extras {
-    ghost use Rattle.jwt_base.specs.DataEqLaws.{members_eq_equiv};
+    ghost use Rattle.jwt_base.specs.equality.DataEqLaws.{members_eq_equiv};
 
     ghost laws = { members_eq_equiv };
 }
 
 /// Feeds the names alone.
 impl Hash for Extras {
-    ghost use Rattle.jwt_base.specs.NamesFed.{names_fed, names_alike};
+    ghost use Rattle.jwt_base.specs.equality.NamesFed.{names_fed, names_alike};
 
     ghost hash_input = { names_fed };
 

@@ -112,7 +112,7 @@ impl Enc {
 impl PartialEq for Enc {
     ghost use Rattle.std.specs.Prelude.{◌≡◌, ◌↔◌, IsTrue};
     ghost use Rattle.std.specs.Cmp.{partial_equiv_from_equiv};
-    ghost use Rattle.jwt_header.specs.NamesSame.{enc_eq, enc_eq_equiv};
+    ghost use Rattle.jwt_header.specs.equality.NamesSame.{enc_eq, enc_eq_equiv};
 
     ghost eq = { enc_eq };
 
@@ -127,13 +127,13 @@ impl PartialEq for Enc {
 }
 
 impl Eq for Enc {
-    ghost use Rattle.jwt_header.specs.NamesSame.{enc_eq_equiv};
+    ghost use Rattle.jwt_header.specs.equality.NamesSame.{enc_eq_equiv};
 
     ghost laws = { enc_eq_equiv };
 }
 
 impl Hash for Enc {
-    ghost use Rattle.jwt_header.specs.NamesSame.{enc_fed, enc_alike};
+    ghost use Rattle.jwt_header.specs.equality.NamesSame.{enc_fed, enc_alike};
 
     ghost hash_input = { enc_fed };
 
@@ -220,7 +220,7 @@ impl Zip {
 impl PartialEq for Zip {
     ghost use Rattle.std.specs.Prelude.{◌≡◌, ◌↔◌, IsTrue};
     ghost use Rattle.std.specs.Cmp.{partial_equiv_from_equiv};
-    ghost use Rattle.jwt_header.specs.NamesSame.{zip_eq, zip_eq_equiv};
+    ghost use Rattle.jwt_header.specs.equality.NamesSame.{zip_eq, zip_eq_equiv};
 
     ghost eq = { zip_eq };
 
@@ -235,13 +235,13 @@ impl PartialEq for Zip {
 }
 
 impl Eq for Zip {
-    ghost use Rattle.jwt_header.specs.NamesSame.{zip_eq_equiv};
+    ghost use Rattle.jwt_header.specs.equality.NamesSame.{zip_eq_equiv};
 
     ghost laws = { zip_eq_equiv };
 }
 
 impl Hash for Zip {
-    ghost use Rattle.jwt_header.specs.NamesSame.{zip_fed, zip_alike};
+    ghost use Rattle.jwt_header.specs.equality.NamesSame.{zip_fed, zip_alike};
 
     ghost hash_input = { zip_fed };
 

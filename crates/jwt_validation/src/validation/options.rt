@@ -7,7 +7,7 @@ ghost use Rattle.jwt_base.specs.Algorithm.{algorithms_of};
 ghost use Rattle.jwt_base.specs.KindOf.{IsMemory};
 ghost use Rattle.jwt_validation.specs.Options.{among, default_options};
 ghost use Rattle.jwt_validation.specs.OptionsOf.{options_of};
-ghost use Rattle.jwt_validation.specs.ValidationEq.{validation_eq};
+ghost use Rattle.jwt_validation.specs.equality.ValidationEq.{validation_eq};
 
 use jwt_base::algorithms::{Algorithm, AlgorithmFamily};
 use jwt_base::errors::Result;
@@ -204,7 +204,7 @@ impl PartialEq for Validation {
     ghost use Rattle.std.specs.Prelude.{◌≡◌, ◌↔◌, IsTrue};
     ghost use Rattle.std.specs.Cmp.{partial_equiv_from_equiv};
     ghost use Rattle.jwt_validation.specs.OptionsOf.{options_of};
-    ghost use Rattle.jwt_validation.specs.ValidationEq.{validation_eq, validation_eq_equiv};
+    ghost use Rattle.jwt_validation.specs.equality.ValidationEq.{validation_eq, validation_eq_equiv};
 
     ghost eq = { validation_eq };
 
@@ -219,7 +219,7 @@ impl PartialEq for Validation {
 }
 
 impl Eq for Validation {
-    ghost use Rattle.jwt_validation.specs.ValidationEq.{validation_eq_equiv};
+    ghost use Rattle.jwt_validation.specs.equality.ValidationEq.{validation_eq_equiv};
 
     ghost laws = { validation_eq_equiv };
 }

@@ -1,6 +1,6 @@
 use Rattle.std.proofs.Common.{◌≡◌, fold}
 use Rattle.serde_json.specs.View.{members_view}
-use Rattle.jwt_base.specs.NamesFed.{names_fed}
+use Rattle.jwt_base.specs.equality.NamesFed.{names_fed}
 use Rattle.jwt_base.proofs.json.equality.hash_names.Given as goal
 
 abbrev pub invariant-loop-name : goal.invariant-loop-name

@@ -1,5 +1,5 @@
 use Rattle.serde_json.specs.View.{members_view}
-use Rattle.jwt_base.specs.DataEqLaws.{members_decides}
+use Rattle.jwt_base.specs.equality.DataEqLaws.{members_decides}
 use Rattle.jwt_base.proofs.json.equality.members_are_equal.Goals as goal
 
 pub returns-clause-same : goal.returns-clause-same

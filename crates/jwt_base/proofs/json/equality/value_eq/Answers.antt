@@ -1,5 +1,5 @@
 use Rattle.serde_json.specs.View.{view}
-use Rattle.jwt_base.specs.DataEqLaws.{data_decides}
+use Rattle.jwt_base.specs.equality.DataEqLaws.{data_decides}
 use Rattle.jwt_base.proofs.json.equality.value_eq.Goals as goal
 
 pub returns-clause-same : goal.returns-clause-same

@@ -1,4 +1,4 @@
-use Rattle.jwt_header.specs.HeaderSame.{header_decides}
+use Rattle.jwt_header.specs.equality.HeaderSame.{header_decides}
 use Rattle.jwt_header.proofs.header.HeaderPartialEq.eq.Goals as goal
 
 pub returns-clause-same : goal.returns-clause-same

@@ -1,4 +1,4 @@
-use Rattle.jwt_keys.specs.JwkSame.{key_decides}
+use Rattle.jwt_keys.specs.equality.JwkSame.{key_decides}
 use Rattle.jwt_keys.proofs.jwk.JwkPartialEq.eq.Goals as goal
 
 pub returns-clause-same : goal.returns-clause-same

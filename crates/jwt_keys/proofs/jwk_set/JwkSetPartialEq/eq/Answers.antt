@@ -1,4 +1,4 @@
-use Rattle.jwt_keys.specs.JwkSame.{set_decides}
+use Rattle.jwt_keys.specs.equality.JwkSame.{set_decides}
 use Rattle.jwt_keys.proofs.jwk_set.JwkSetPartialEq.eq.Goals as goal
 
 pub returns-clause-same : goal.returns-clause-same

@@ -1,4 +1,4 @@
-use Rattle.jwt_kinds.specs.KindsSame.{algorithm_decides}
+use Rattle.jwt_kinds.specs.equality.KindsSame.{algorithm_decides}
 use Rattle.jwt_kinds.proofs.algorithm.AlgorithmParametersPartialEq.eq.Goals as goal
 
 pub returns-clause-same : goal.returns-clause-same

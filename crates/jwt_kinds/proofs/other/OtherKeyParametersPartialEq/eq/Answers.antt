@@ -1,4 +1,4 @@
-use Rattle.jwt_kinds.specs.KindsSame.{other_decides}
+use Rattle.jwt_kinds.specs.equality.KindsSame.{other_decides}
 use Rattle.jwt_kinds.proofs.other.OtherKeyParametersPartialEq.eq.Goals as goal
 
 pub returns-clause-same : goal.returns-clause-same

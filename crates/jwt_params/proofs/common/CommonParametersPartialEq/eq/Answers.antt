@@ -1,4 +1,4 @@
-use Rattle.jwt_params.specs.CommonSame.{common_decides}
+use Rattle.jwt_params.specs.equality.CommonSame.{common_decides}
 use Rattle.jwt_params.proofs.common.CommonParametersPartialEq.eq.Goals as goal
 
 pub returns-clause-same : goal.returns-clause-same

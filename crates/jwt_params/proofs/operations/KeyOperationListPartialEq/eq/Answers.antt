@@ -1,4 +1,4 @@
-use Rattle.jwt_params.specs.NamesSame.{operations_decides}
+use Rattle.jwt_params.specs.equality.NamesSame.{operations_decides}
 use Rattle.jwt_params.proofs.operations.KeyOperationListPartialEq.eq.Goals as goal
 
 pub returns-clause-same : goal.returns-clause-same

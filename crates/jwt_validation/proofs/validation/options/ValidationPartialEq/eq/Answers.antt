@@ -1,4 +1,4 @@
-use Rattle.jwt_validation.specs.ValidationEq.{validation_decides}
+use Rattle.jwt_validation.specs.equality.ValidationEq.{validation_decides}
 use Rattle.jwt_validation.proofs.validation.options.ValidationPartialEq.eq.Goals as goal
 
 pub returns-clause-same : goal.returns-clause-same

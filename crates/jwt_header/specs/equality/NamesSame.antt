@@ -4,7 +4,7 @@ use Rattle.std.specs.Bool.{Decides, beq}
 use Rattle.std.specs.Cmp.{IsEquivalence}
 use Rattle.std.specs.Hash.{HashWrites, Alike, str}
 use Rattle.std.specs.Str.{bytes_eq}
-use Rattle.jwt_base.specs.Decided.{decided_by, fed_by_mark, spelled_decides}
+use Rattle.jwt_base.specs.equality.Decided.{decided_by, fed_by_mark, spelled_decides}
 use Rattle.jwt_header.specs.Enc.{enc_text, enc_named, is_other_enc}
 use Rattle.jwt_header.specs.Zip.{zip_text, zip_named, is_other_zip}
 use Rattle.jwt_header.specs.declared.header.names.Enc.{Enc}

@@ -13,7 +13,7 @@ use Rattle.std.proofs.Common.{sym, ap, ◌∙◌}
 use Rattle.std.proofs.lemmas.Bool.Decides.{same_from_decides, Decides-eqb}
 use Rattle.std.proofs.lemmas.List.Folds.{Any-from_list_any}
 use Rattle.std.proofs.lemmas.Slice.Eq.{bytes_eq-Decides, slice_eq-Decides}
-use Rattle.jwt_base.specs.Decided.{and_decides, decided_by, option_decides, option_eq}
+use Rattle.jwt_base.specs.equality.Decided.{and_decides, decided_by, option_decides, option_eq}
 use Rattle.jwt_base.specs.declared.algorithms.Algorithm.{Algorithm}
 use Rattle.jwt_base.specs.contracts.algorithms.Algorithm.{the_type}
 use Rattle.jwt_validation.specs.OptionsOf.{options_of}

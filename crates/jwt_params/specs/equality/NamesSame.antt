@@ -5,7 +5,7 @@ use Rattle.std.specs.Cmp.{IsEquivalence}
 use Rattle.std.specs.Cmp.Lexicographic.{pointwise}
 use Rattle.std.specs.Hash.{HashWrites, Alike, str, slice}
 use Rattle.std.specs.Str.{bytes_eq}
-use Rattle.jwt_base.specs.Decided.{decided_by, fed_by_mark, spelled_decides, list_decides_itself}
+use Rattle.jwt_base.specs.equality.Decided.{decided_by, fed_by_mark, spelled_decides, list_decides_itself}
 use Rattle.jwt_params.specs.Operation.{operation_text, operation_named, is_other_operation}
 use Rattle.jwt_params.specs.Use.{use_text, use_named, is_other_use}
 use Rattle.jwt_params.specs.declared.operations.KeyOperations.{KeyOperations}

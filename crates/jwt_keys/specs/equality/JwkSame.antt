@@ -1,23 +1,21 @@
 -- Sameness of keys and of sets, where any two floats count as equal, and what a hasher is fed of them.
-use Rattle.std.specs.Prelude.{◌≡◌, ◌&&◌, ◌++◌, List, Bool, map}
+use Rattle.std.specs.Prelude.{◌≡◌, ◌&&◌, ◌++◌, Bool}
 use Rattle.std.specs.Bool.{Decides}
 use Rattle.std.specs.Cmp.{IsEquivalence}
 use Rattle.std.specs.Cmp.Lexicographic.{pointwise}
 use Rattle.std.specs.Hash.{HashWrites, Alike, slice, on_Alike, items_Alike}
 use Rattle.std.proofs.Common.{ap}
-use Rattle.jwt_base.specs.Decided.{and_decides, same_as, list_decides, decided_by, fed_by_mark}
-use Rattle.jwt_params.specs.CommonSame.{common_eq, common_decides, common_fed}
-use Rattle.jwt_kinds.specs.KindsFed.{algorithm_fed, algorithm_marked}
-use Rattle.jwt_kinds.specs.KindsSame.{algorithm_eq, marked_algorithm, algorithm_decides}
+use Rattle.jwt_base.specs.equality.Decided.{and_decides, same_as, list_decides, decided_by, fed_by_mark}
+use Rattle.jwt_params.specs.equality.CommonSame.{common_eq, common_decides, common_fed}
+use Rattle.jwt_kinds.specs.equality.KindsFed.{algorithm_fed, algorithm_marked}
+use Rattle.jwt_kinds.specs.equality.KindsSame.{algorithm_eq, algorithm_decides}
+use Rattle.jwt_keys.specs.Jwk.{marked_key}
+use Rattle.jwt_keys.specs.JwkSet.{marked_set}
 use Rattle.jwt_keys.specs.declared.jwk.Jwk.{Jwk}
 use Rattle.jwt_keys.specs.declared.jwk_set.JwkSet.{JwkSet}
 
 abbrev pub key_eq : Jwk → Jwk → Bool
 key_eq k l = common_eq k.common l.common && algorithm_eq k.algorithm l.algorithm
-
--- the key with one mark in place of each float
-abbrev pub marked_key : Jwk → Jwk
-marked_key k = record k { algorithm = marked_algorithm k.algorithm }
 
 pub key_decides : (k l : Jwk) → Decides (key_eq k l) (marked_key k ≡ marked_key l)
 key_decides k l = same_as _ (and_decides (common_eq k.common l.common) _ (common_decides k.common l.common) (algorithm_decides k.algorithm l.algorithm))
@@ -38,10 +36,6 @@ key_alike = fed_by_mark key_eq marked_key key_decides key_fed key_fed key_marked
 
 abbrev pub set_eq : JwkSet → JwkSet → Bool
 set_eq s t = pointwise key_eq s.keys.items t.keys.items
-
--- the keys with one mark in place of each float
-abbrev pub marked_set : JwkSet → List Jwk
-marked_set s = map marked_key s.keys.items
 
 pub set_decides : (s t : JwkSet) → Decides (set_eq s t) (marked_set s ≡ marked_set t)
 set_decides s t = list_decides key_eq marked_key key_decides s.keys.items t.keys.items

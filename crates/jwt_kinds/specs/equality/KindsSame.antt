@@ -1,16 +1,18 @@
 -- Sameness of the kinds of keys, where any two floats count as equal.
-use Rattle.std.specs.Prelude.{◌≡◌, ◌&&◌, Bool, false, Some, unwrap_or, refl}
+use Rattle.std.specs.Prelude.{◌≡◌, ◌&&◌, Bool, false, refl}
+use denote.Enum.Bare.{sameb, tag_one}
+use denote.Enum.Declared.{tag_of}
 use Rattle.std.specs.Bool.{Decides}
 use Rattle.std.specs.Cmp.{IsEquivalence}
 use Rattle.std.specs.Str.{bytes_eq}
-use Rattle.std.proofs.Common.{sym, ap, ◌∙◌}
+use Rattle.std.proofs.Common.{ap}
+use Rattle.std.proofs.lemmas.Bool.Decides.{Decides-eqb}
 use Rattle.std.proofs.lemmas.Slice.Eq.{bytes_eq-Decides}
-use Rattle.jwt_base.specs.DataEq.{members_eq, members_marked}
-use Rattle.jwt_base.specs.DataEqLaws.{members_decides}
-use Rattle.jwt_base.specs.Decided.{and_decides, same_as, decided_by}
-use Rattle.jwt_params.specs.Curve.{curve_name, curve_named}
+use Rattle.jwt_base.specs.DataEq.{members_eq}
+use Rattle.jwt_base.specs.equality.DataEqLaws.{members_decides}
+use Rattle.jwt_base.specs.equality.Decided.{and_decides, same_as, decided_by}
+use Rattle.jwt_params.specs.contracts.curves.EllipticCurve.{the_type}
 use Rattle.jwt_params.specs.declared.curves.EllipticCurve.{EllipticCurve}
-use Rattle.jwt_params.specs.declared.curves.EllipticCurve.TheVariants.{P256, P384, P521, Ed25519}
 use Rattle.jwt_params.specs.declared.key_types.EllipticCurveKeyType.{EllipticCurveKeyType}
 use Rattle.jwt_params.specs.declared.key_types.EllipticCurveKeyType.TheVariants.{EC}
 use Rattle.jwt_params.specs.declared.key_types.RSAKeyType.{RSAKeyType}
@@ -19,6 +21,7 @@ use Rattle.jwt_params.specs.declared.key_types.OctetKeyType.{OctetKeyType}
 use Rattle.jwt_params.specs.declared.key_types.OctetKeyType.TheVariants.{Octet}
 use Rattle.jwt_params.specs.declared.key_types.OctetKeyPairType.{OctetKeyPairType}
 use Rattle.jwt_params.specs.declared.key_types.OctetKeyPairType.TheVariants.{OctetKeyPair}
+use Rattle.jwt_kinds.specs.Kinds.{marked_other, marked_algorithm}
 use Rattle.jwt_kinds.specs.declared.elliptic.EllipticCurveKeyParameters.{EllipticCurveKeyParameters}
 use Rattle.jwt_kinds.specs.declared.rsa.RSAKeyParameters.{RSAKeyParameters}
 use Rattle.jwt_kinds.specs.declared.octet.OctetKeyParameters.{OctetKeyParameters}
@@ -28,18 +31,10 @@ use Rattle.jwt_kinds.specs.declared.algorithm.AlgorithmParameters.{AlgorithmPara
 use Rattle.jwt_kinds.specs.declared.algorithm.AlgorithmParameters.TheVariants as kinds
 
 abbrev pub same_curve : EllipticCurve → EllipticCurve → Bool
-same_curve a b = bytes_eq (curve_name a) (curve_name b)
-
-pub curve_back : (c : EllipticCurve) → curve_named (curve_name c) ≡ Some c
-curve_back P256 = refl
-curve_back P384 = refl
-curve_back P521 = refl
-curve_back Ed25519 = refl
+same_curve a b = sameb the_type a b
 
 pub same_curve_decides : (a b : EllipticCurve) → Decides (same_curve a b) (a ≡ b)
-same_curve_decides a b = same_as _ (bytes_eq-Decides (curve_name a) (curve_name b))
-    (λ e. ap (λ o. unwrap_or o a) (sym (curve_back a) ∙ ap curve_named e ∙ curve_back b))
-    (ap curve_name)
+same_curve_decides a b = same_as _ (Decides-eqb (tag_of the_type a) (tag_of the_type b)) (tag_one the_type tt a b) (ap (tag_of the_type))
 
 abbrev pub elliptic_eq : EllipticCurveKeyParameters → EllipticCurveKeyParameters → Bool
 elliptic_eq p q = same_curve p.curve q.curve && (bytes_eq p.x q.x && bytes_eq p.y q.y)
@@ -100,10 +95,6 @@ pair_eq_equiv = decided_by pair_eq (λ p. p) pair_decides
 abbrev pub other_eq : OtherKeyParameters → OtherKeyParameters → Bool
 other_eq p q = members_eq p.fields q.fields
 
--- one mark in place of each float
-abbrev pub marked_other : OtherKeyParameters → OtherKeyParameters
-marked_other p = record { fields = members_marked p.fields }
-
 pub other_decides : (p q : OtherKeyParameters) → Decides (other_eq p q) (marked_other p ≡ marked_other q)
 other_decides p q = same_as _ (members_decides p.fields q.fields) (λ h i. record { fields = h i }) (λ e. ap (λ x. x.fields) e)
 
@@ -136,14 +127,6 @@ algorithm_eq (kinds.Other p) (kinds.RSA q) = false
 algorithm_eq (kinds.Other p) (kinds.OctetKey q) = false
 algorithm_eq (kinds.Other p) (kinds.OctetKeyPair q) = false
 algorithm_eq (kinds.Other p) (kinds.Other q) = other_eq p q
-
--- the kind with one mark in place of each float
-abbrev pub marked_algorithm : AlgorithmParameters → AlgorithmParameters
-marked_algorithm (kinds.EllipticCurve p) = kinds.EllipticCurve p
-marked_algorithm (kinds.RSA p) = kinds.RSA p
-marked_algorithm (kinds.OctetKey p) = kinds.OctetKey p
-marked_algorithm (kinds.OctetKeyPair p) = kinds.OctetKeyPair p
-marked_algorithm (kinds.Other p) = kinds.Other (marked_other p)
 
 abbrev the_elliptic : EllipticCurveKeyParameters → AlgorithmParameters → EllipticCurveKeyParameters
 the_elliptic d (kinds.EllipticCurve p) = p

@@ -6,7 +6,7 @@ use Rattle.std.proofs.Common.{sym, ap, true≢false}
 use Rattle.std.proofs.lemmas.Slice.Eq.{bytes_eq-Decides}
 use Rattle.serde_json.specs.Data.{Num, unsigned, negative, float, Data, null, boolean, number, string, array, object, Items, no_items, item, Members, no_members, member}
 use Rattle.std.specs.Str.{bytes_eq}
-use Rattle.jwt_base.specs.Decided.{decided_by}
+use Rattle.jwt_base.specs.equality.Decided.{decided_by}
 use Rattle.jwt_base.specs.DataEq.{num_eq, data_eq, items_eq, members_eq, num_marked, marked, items_marked, members_marked}
 
 both_true : (a b : Bool) → a && b ≡ true → (a ≡ true) × (b ≡ true)

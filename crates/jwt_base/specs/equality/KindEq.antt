@@ -6,7 +6,7 @@ use Rattle.std.specs.Str.{bytes_eq}
 use Rattle.std.proofs.Common.{sym, ap, ◌∙◌}
 use Rattle.std.proofs.lemmas.Slice.Eq.{bytes_eq-Decides}
 use Rattle.std.proofs.lemmas.Bool.Decides.{Decides-eqb}
-use Rattle.jwt_base.specs.Decided.{decided_by, and_decides, same_as}
+use Rattle.jwt_base.specs.equality.Decided.{decided_by, and_decides, same_as}
 use Rattle.jwt_base.specs.Kind.{Kind, InvalidToken, InvalidSignature, InvalidEcdsaKey, InvalidEddsaKey, RsaFailedSigning, InvalidAlgorithmName, UnsupportedAlgorithm, InvalidKeyFormat, ExpiredSignature, InvalidIssuer, InvalidAudience, InvalidSubject, ImmatureSignature, InvalidAlgorithm, MissingAlgorithm, MissingRequiredClaim, InvalidClaimFormat, InvalidRsaKey, Signing, Provider, Base64, Json, Utf8, OutOfMemory, ClockBeforeEpoch, InvalidCrit, NoKey}
 use Rattle.jwt_base.specs.KindOf.{kind_held, kind_of}
 use Rattle.jwt_base.specs.declared.errors.ErrorKind.{ErrorKind}

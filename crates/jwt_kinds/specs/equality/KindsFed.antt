@@ -1,10 +1,11 @@
 -- What a hasher is fed of a key's kind: of free members their names alone.
 use Rattle.std.specs.Prelude.{◌≡◌, ◌++◌, refl}
 use Rattle.std.specs.Hash.{HashWrites, Alike, str}
-use Rattle.jwt_base.specs.Decided.{fed_by_mark}
-use Rattle.jwt_base.specs.NamesFed.{names_fed, names_marked}
+use Rattle.jwt_base.specs.equality.Decided.{fed_by_mark}
+use Rattle.jwt_base.specs.equality.NamesFed.{names_fed, names_marked}
 use Rattle.jwt_params.specs.Curve.{curve_name}
-use Rattle.jwt_kinds.specs.KindsSame.{elliptic_eq, elliptic_decides, rsa_eq, rsa_decides, octet_eq, octet_decides, pair_eq, pair_decides, other_eq, marked_other, other_decides, algorithm_eq, marked_algorithm, algorithm_decides}
+use Rattle.jwt_kinds.specs.Kinds.{marked_other, marked_algorithm}
+use Rattle.jwt_kinds.specs.equality.KindsSame.{elliptic_eq, elliptic_decides, pair_eq, pair_decides, other_eq, other_decides, algorithm_eq, algorithm_decides}
 use Rattle.jwt_kinds.specs.declared.elliptic.EllipticCurveKeyParameters.{EllipticCurveKeyParameters}
 use Rattle.jwt_kinds.specs.declared.rsa.RSAKeyParameters.{RSAKeyParameters}
 use Rattle.jwt_kinds.specs.declared.octet.OctetKeyParameters.{OctetKeyParameters}
@@ -22,14 +23,8 @@ elliptic_alike = fed_by_mark elliptic_eq (λ p. p) elliptic_decides elliptic_fed
 abbrev pub rsa_fed : RSAKeyParameters → HashWrites
 rsa_fed p = str p.n ++ str p.e
 
-pub rsa_alike : Alike rsa_eq rsa_fed
-rsa_alike = fed_by_mark rsa_eq (λ p. p) rsa_decides rsa_fed rsa_fed (λ p. refl)
-
 abbrev pub octet_fed : OctetKeyParameters → HashWrites
 octet_fed p = str p.value
-
-pub octet_alike : Alike octet_eq octet_fed
-octet_alike = fed_by_mark octet_eq (λ p. p) octet_decides octet_fed octet_fed (λ p. refl)
 
 abbrev pub pair_fed : OctetKeyPairParameters → HashWrites
 pair_fed p = str (curve_name p.curve) ++ str p.x

@@ -8,10 +8,10 @@ use Rattle.std.specs.Str.{bytes_eq}
 use Rattle.std.proofs.Common.{sym, ap, ◌∙◌}
 use Rattle.std.proofs.lemmas.Slice.Eq.{bytes_eq-Decides}
 use Rattle.jwt_base.specs.Algorithm.{key_name_of, key_algorithm_named}
-use Rattle.jwt_base.specs.Decided.{option_eq, option_decides_itself, and_decides, same_as, texts_decides, decided_by, fed_by_mark}
+use Rattle.jwt_base.specs.equality.Decided.{option_eq, option_decides_itself, and_decides, same_as, texts_decides, decided_by, fed_by_mark}
 use Rattle.jwt_base.specs.declared.algorithms.KeyAlgorithm.{KeyAlgorithm}
 use Rattle.jwt_base.specs.declared.algorithms.KeyAlgorithm.TheVariants as key
-use Rattle.jwt_params.specs.NamesSame.{use_eq, use_decides, use_fed, operations_eq, operations_decides, operations_fed}
+use Rattle.jwt_params.specs.equality.NamesSame.{use_eq, use_decides, use_fed, operations_eq, operations_decides, operations_fed}
 use Rattle.jwt_params.specs.declared.common.CommonParameters.{CommonParameters}
 
 -- the name, which is empty where there is no algorithm

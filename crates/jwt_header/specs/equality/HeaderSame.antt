@@ -8,15 +8,17 @@ use Rattle.std.specs.Str.{bytes_eq}
 use Rattle.std.proofs.Common.{sym, ap, ◌∙◌}
 use Rattle.std.proofs.lemmas.Slice.Eq.{bytes_eq-Decides}
 use Rattle.jwt_base.specs.Algorithm.{name_of, algorithm_named}
-use Rattle.jwt_base.specs.DataEq.{members_eq, members_marked}
-use Rattle.jwt_base.specs.DataEqLaws.{members_decides}
-use Rattle.jwt_base.specs.Decided.{option_eq, option_decides, option_decides_itself, and_decides, same_as, texts_decides, decided_by, fed_by_mark}
-use Rattle.jwt_base.specs.NamesFed.{names_fed, names_marked}
+use Rattle.jwt_base.specs.DataEq.{members_eq}
+use Rattle.jwt_base.specs.equality.DataEqLaws.{members_decides}
+use Rattle.jwt_base.specs.equality.Decided.{option_eq, option_decides, option_decides_itself, and_decides, same_as, texts_decides, decided_by, fed_by_mark}
+use Rattle.jwt_base.specs.equality.NamesFed.{names_fed, names_marked}
 use Rattle.jwt_base.specs.declared.algorithms.Algorithm.{Algorithm}
 use Rattle.jwt_base.specs.declared.algorithms.Algorithm.TheVariants.{HS256, HS384, HS512, RS256, RS384, RS512, PS256, PS384, PS512, ES256, ES384, EdDSA}
-use Rattle.jwt_header.specs.NamesSame.{enc_eq, enc_decides, enc_fed, zip_eq, zip_decides, zip_fed}
+use Rattle.jwt_header.specs.Header.{marked_header}
+use Rattle.jwt_header.specs.equality.NamesSame.{enc_eq, enc_decides, enc_fed, zip_eq, zip_decides, zip_fed}
 use Rattle.jwt_header.specs.declared.header.Header.{Header}
-use Rattle.jwt_keys.specs.JwkSame.{key_eq, marked_key, key_decides, key_fed, key_marked}
+use Rattle.jwt_keys.specs.Jwk.{marked_key}
+use Rattle.jwt_keys.specs.equality.JwkSame.{key_eq, key_decides, key_fed, key_marked}
 use Rattle.jwt_keys.specs.declared.jwk.Jwk.{Jwk}
 
 abbrev pub same_algorithm : Algorithm → Algorithm → Bool
@@ -59,10 +61,6 @@ header_eq g h =
     && (option_eq enc_eq g.enc h.enc
     && (option_eq zip_eq g.zip h.zip
     && (members_eq g.extras h.extras)))))))))))))))
-
--- the header with one mark in place of each float
-abbrev pub marked_header : Header → Header
-marked_header h = record h { jwk = option_map marked_key h.jwk; extras = members_marked h.extras }
 
 pub header_decides : (g h : Header) → Decides (header_eq g h) (marked_header g ≡ marked_header h)
 header_decides g h = same_as _

@@ -1,0 +1,6 @@
+-- That tests of equality decide what they say, and that equal values are hashed alike.
+pub mod DataCode
+pub mod DataEqLaws
+pub mod Decided
+pub mod KindEq
+pub mod NamesFed

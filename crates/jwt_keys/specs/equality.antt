@@ -1,0 +1,2 @@
+-- That tests of equality decide what they say, and that equal values are hashed alike.
+pub mod JwkSame
