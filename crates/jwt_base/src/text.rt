@@ -118,6 +118,20 @@ impl Model for Texts {
 }
 
 impl Texts {
+    ghost use Rattle.std.specs.Prelude.{map};
+
+    /// A list of its own of these texts, in order. The only refusal is `OutOfMemory`.
+    pub fn from_slice(alloc: Global, texts: &[&str]) -> Result<Texts>
+        ensures ok { IfOk result (λ t. t ≡ map (λ s. s.now) texts.now) }
+        ensures err { IfErr result IsMemory }
+    {
+        let mut list = Vec::new(alloc);
+        for text in texts {
+            list.push(Text::from_str(alloc, text)?)?;
+        }
+        Ok(Texts { texts: list })
+    }
+
     /// A copy. The only refusal is `OutOfMemory`.
     pub fn clone(&self, alloc: Global) -> Result<Texts>
         ensures ok { IfOk result (λ t. t ≡ self.now) }

@@ -28,3 +28,16 @@ fn debug_shows_texts_as_a_list(rt: HostRuntime) -> Result<(), Fail> {
     assert_eq!(rt; shown.as_str(), "[] [\"a\", \"b\"]");
     Ok(())
 }
+
+#[test]
+fn a_list_of_texts_has_each_in_order(rt: HostRuntime) -> Result<(), Fail> {
+    let texts = Texts::from_slice(rt.alloc(), &["b", "a", "b"])?;
+    let [first, second, third] = texts.as_slice() else {
+        return Err(Fail::new("not three texts"));
+    };
+    assert_eq!(rt; first.as_str(), "b");
+    assert_eq!(rt; second.as_str(), "a");
+    assert_eq!(rt; third.as_str(), "b");
+    assert!(rt; Texts::from_slice(rt.alloc(), &[])?.as_slice().is_empty());
+    Ok(())
+}
