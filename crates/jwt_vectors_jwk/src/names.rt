@@ -114,6 +114,17 @@ fn a_list_of_operations_is_written_in_order(rt: HostRuntime) -> Result<(), Fail>
     Ok(())
 }
 
+#[test]
+fn a_list_of_operations_holds_copies_in_order(rt: HostRuntime) -> Result<(), Fail> {
+    let alloc = rt.alloc();
+    let free = KeyOperations::Other(Text::from_str(alloc, "v")?);
+    let operations = [KeyOperations::Verify, free, KeyOperations::Sign];
+    let list = KeyOperationList::from_slice(alloc, &operations)?;
+    let written = list.to_value(alloc)?.to_string(alloc)?;
+    assert_eq!(rt; written.as_str(), "[\"verify\",\"v\",\"sign\"]");
+    Ok(())
+}
+
 // RFC 7518 section 6.1, RFC 8037 section 2.
 #[test]
 fn key_types_are_written_by_their_names(rt: HostRuntime) -> Result<(), Fail> {
