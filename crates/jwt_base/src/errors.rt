@@ -114,6 +114,43 @@ impl Error {
 }
 
 impl ErrorKind {
+    ghost use Rattle.jwt_base.specs.Kind.{kind_name};
+
+    /// The name of the kind, as `MissingRequiredClaim`, without the text that it may hold.
+    pub fn name(&self) -> &'static str
+        ensures { result.now ≡ kind_name (kind_held self.now) }
+    {
+        match self {
+            ErrorKind::InvalidToken => "InvalidToken",
+            ErrorKind::InvalidSignature => "InvalidSignature",
+            ErrorKind::InvalidEcdsaKey => "InvalidEcdsaKey",
+            ErrorKind::InvalidEddsaKey => "InvalidEddsaKey",
+            ErrorKind::RsaFailedSigning => "RsaFailedSigning",
+            ErrorKind::InvalidAlgorithmName => "InvalidAlgorithmName",
+            ErrorKind::UnsupportedAlgorithm => "UnsupportedAlgorithm",
+            ErrorKind::InvalidKeyFormat => "InvalidKeyFormat",
+            ErrorKind::ExpiredSignature => "ExpiredSignature",
+            ErrorKind::InvalidIssuer => "InvalidIssuer",
+            ErrorKind::InvalidAudience => "InvalidAudience",
+            ErrorKind::InvalidSubject => "InvalidSubject",
+            ErrorKind::ImmatureSignature => "ImmatureSignature",
+            ErrorKind::InvalidAlgorithm => "InvalidAlgorithm",
+            ErrorKind::MissingAlgorithm => "MissingAlgorithm",
+            ErrorKind::MissingRequiredClaim(_) => "MissingRequiredClaim",
+            ErrorKind::InvalidClaimFormat(_) => "InvalidClaimFormat",
+            ErrorKind::InvalidRsaKey(_) => "InvalidRsaKey",
+            ErrorKind::Signing(_) => "Signing",
+            ErrorKind::Provider(_) => "Provider",
+            ErrorKind::Base64 => "Base64",
+            ErrorKind::Json => "Json",
+            ErrorKind::Utf8 => "Utf8",
+            ErrorKind::OutOfMemory => "OutOfMemory",
+            ErrorKind::ClockBeforeEpoch => "ClockBeforeEpoch",
+            ErrorKind::InvalidCrit => "InvalidCrit",
+            ErrorKind::NoKey => "NoKey",
+        }
+    }
+
     /// A copy. The only refusal is `OutOfMemory`.
     pub fn clone(&self, alloc: Global) -> Result<ErrorKind>
         ensures ok { IfOk result (λ k. kind_held k ≡ kind_held self.now) }

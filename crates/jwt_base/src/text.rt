@@ -11,11 +11,12 @@ ghost use Rattle.jwt_base.specs.KindOf.{IsMemory};
 
 use crate::errors::Result;
 use std::alloc::Global;
+use std::fmt;
 use std::hash::{Hash, Hasher};
 use std::marker::Model;
 
 /// A text. A contract sees its UTF-8 bytes.
-#[derive(Debug, Drop)]
+#[derive(Drop)]
 pub struct Text {
     string: String,
 }
@@ -95,8 +96,15 @@ impl Hash for Text {
     }
 }
 
+/// The characters in quotes, as a `str` shows them.
+impl fmt::Debug for Text {
+    fn fmt<W: fmt::Write>(&self, f: &mut fmt::Formatter<W>) -> fmt::Result {
+        fmt::Debug::fmt(self.as_str(), f)
+    }
+}
+
 /// A list of texts. A contract sees the list of their bytes.
-#[derive(Debug, Drop)]
+#[derive(Drop)]
 pub struct Texts {
     texts: Vec<Text>,
 }
@@ -110,6 +118,20 @@ impl Model for Texts {
 }
 
 impl Texts {
+    ghost use Rattle.std.specs.Prelude.{map};
+
+    /// A list of its own of these texts, in order. The only refusal is `OutOfMemory`.
+    pub fn from_slice(alloc: Global, texts: &[&str]) -> Result<Texts>
+        ensures ok { IfOk result (λ t. t ≡ map (λ s. s.now) texts.now) }
+        ensures err { IfErr result IsMemory }
+    {
+        let mut list = Vec::new(alloc);
+        for text in texts {
+            list.push(Text::from_str(alloc, text)?)?;
+        }
+        Ok(Texts { texts: list })
+    }
+
     /// A copy. The only refusal is `OutOfMemory`.
     pub fn clone(&self, alloc: Global) -> Result<Texts>
         ensures ok { IfOk result (λ t. t ≡ self.now) }
@@ -167,6 +189,13 @@ impl Hash for Texts {
 
     fn hash<H: Hasher>(&self, state: &mut H) {
         self.texts.hash(state);
+    }
+}
+
+/// The texts in brackets.
+impl fmt::Debug for Texts {
+    fn fmt<W: fmt::Write>(&self, f: &mut fmt::Formatter<W>) -> fmt::Result {
+        fmt::Debug::fmt(self.as_slice(), f)
     }
 }
 

@@ -13,9 +13,10 @@ use jwt_base::text::Text;
 use jwt_params::key_types::OctetKeyType;
 use serde_json::{Map, Value};
 use std::alloc::Global;
+use std::fmt;
 
 /// The parameters of a secret (RFC 7518 section 6.4).
-#[derive(Debug, Drop, Eq, Hash)]
+#[derive(Drop, Eq, Hash)]
 pub struct OctetKeyParameters {
     /// The type, `oct` (section 6.1).
     pub key_type: OctetKeyType,
@@ -85,6 +86,16 @@ impl OctetKeyParameters {
         put_text(alloc, &mut members, "kty", self.key_type.name())?;
         put_text(alloc, &mut members, "k", self.value.as_str())?;
         Ok(members)
+    }
+}
+
+/// The type, and `[redacted]` for the bytes.
+impl fmt::Debug for OctetKeyParameters {
+    fn fmt<W: fmt::Write>(&self, f: &mut fmt::Formatter<W>) -> fmt::Result {
+        f.debug_struct("OctetKeyParameters")
+            .field("key_type", &self.key_type)
+            .field("value", &"[redacted]")
+            .finish()
     }
 }
 

@@ -174,6 +174,18 @@ impl Model for KeyOperationList {
 impl KeyOperationList {
     ghost use Rattle.jwt_params.specs.Operation.{operations_from, operations_value};
 
+    /// A list of copies of these operations, in order. The only refusal is `OutOfMemory`.
+    pub fn from_slice(alloc: Global, operations: &[KeyOperations]) -> Result<KeyOperationList>
+        ensures ok { IfOk result (λ l. l ≡ operations.now) }
+        ensures err { IfErr result IsMemory }
+    {
+        let mut copies = Vec::new(alloc);
+        for operation in operations {
+            copies.push(operation.clone(alloc)?)?;
+        }
+        Ok(KeyOperationList { operations: copies })
+    }
+
     /// The operations, in order.
     pub fn as_slice(&self) -> &[KeyOperations]
         ensures { result.now ≡ self.now }
@@ -194,11 +206,7 @@ impl KeyOperationList {
         ensures ok { IfOk result (λ l. l ≡ self.now) }
         ensures err { IfErr result IsMemory }
     {
-        let mut operations = Vec::new(alloc);
-        for operation in self.as_slice() {
-            operations.push(operation.clone(alloc)?)?;
-        }
-        Ok(KeyOperationList { operations })
+        KeyOperationList::from_slice(alloc, self.as_slice())
     }
 
     /// The names as a JSON list. The only refusal is `OutOfMemory`.

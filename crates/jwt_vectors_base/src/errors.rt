@@ -70,6 +70,20 @@ fn each_kind_shows_its_text(rt: HostRuntime) -> Result<(), Fail> {
 }
 
 #[test]
+fn a_kind_is_named_without_its_text(rt: HostRuntime) -> Result<(), Fail> {
+    let alloc = rt.alloc();
+    let claim = ErrorKind::MissingRequiredClaim(text(alloc, "exp")?);
+    assert_eq!(rt; claim.name(), "MissingRequiredClaim");
+    let provider = ErrorKind::Provider(text(alloc, "closed")?);
+    assert_eq!(rt; provider.name(), "Provider");
+    assert_eq!(rt; ErrorKind::InvalidToken.name(), "InvalidToken");
+    assert_eq!(rt; ErrorKind::Json.name(), "Json");
+    assert_eq!(rt; ErrorKind::OutOfMemory.name(), "OutOfMemory");
+    assert_eq!(rt; ErrorKind::NoKey.name(), "NoKey");
+    Ok(())
+}
+
+#[test]
 fn a_kind_equals_itself_alone(rt: HostRuntime) -> Result<(), Fail> {
     let alloc = rt.alloc();
     let all = kinds(alloc)?;

@@ -8,4 +8,6 @@ mod errors;
 #[cfg(test)]
 mod json_values;
 #[cfg(test)]
+mod texts;
+#[cfg(test)]
 mod token_parts;

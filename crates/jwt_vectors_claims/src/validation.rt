@@ -54,6 +54,19 @@ fn setters_replace_their_set(rt: HostRuntime) -> Result<(), Fail> {
 }
 
 #[test]
+fn the_subject_is_replaced(rt: HostRuntime) -> Result<(), Fail> {
+    let mut options = Validation::new(rt.alloc(), Algorithm::HS256)?;
+    options.set_subject(rt.alloc(), "a")?;
+    options.set_subject(rt.alloc(), "b@b.com")?;
+    let shown = format!(in rt.alloc(); "{options:?}")?;
+    assert_eq!(rt;
+        shown.as_str(),
+        "Validation { required_spec_claims: {\"exp\"}, leeway: 60, reject_tokens_expiring_in_less_than: 0, validate_exp: true, validate_nbf: false, validate_aud: true, aud: None, iss: None, sub: Some(\"b@b.com\"), algorithms: [HS256], understood_crit: {} }"
+    );
+    Ok(())
+}
+
+#[test]
 fn a_copy_is_equal(rt: HostRuntime) -> Result<(), Fail> {
     let mut options = Validation::new(rt.alloc(), Algorithm::HS256)?;
     options.sub = Some(String::from_str(rt.alloc(), "s")?);

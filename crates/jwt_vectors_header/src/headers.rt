@@ -201,7 +201,7 @@ fn each_member_gives_its_own_field(rt: HostRuntime) -> Result<(), Fail> {
     let shown = format!(in rt.alloc(); "{header:?}")?;
     assert_eq!(rt;
         shown.as_str(),
-        "Header { alg: ES384, typ: Some(Text { string: \"1\" }), cty: Some(Text { string: \"2\" }), jku: Some(Text { string: \"3\" }), jwk: None, kid: Some(Text { string: \"4\" }), x5u: Some(Text { string: \"5\" }), x5t: Some(Text { string: \"6\" }), x5t_s256: Some(Text { string: \"7\" }), url: Some(Text { string: \"8\" }), nonce: Some(Text { string: \"9\" }), x5c: Some(Texts { texts: [Text { string: \"AQ==\" }] }), crit: Some(Texts { texts: [Text { string: \"v\" }] }), enc: Some(A128GCM), zip: Some(Deflate), extras: Extras { members: {\"v\": Number(0)} } }"
+        "Header { alg: ES384, typ: Some(\"1\"), cty: Some(\"2\"), jku: Some(\"3\"), jwk: None, kid: Some(\"4\"), x5u: Some(\"5\"), x5t: Some(\"6\"), x5t_s256: Some(\"7\"), url: Some(\"8\"), nonce: Some(\"9\"), x5c: Some([\"AQ==\"]), crit: Some([\"v\"]), enc: Some(A128GCM), zip: Some(Deflate), extras: Extras { members: {\"v\": Number(0)} } }"
     );
     Ok(())
 }
@@ -236,7 +236,7 @@ fn encryptions_are_read_by_their_names(rt: HostRuntime) -> Result<(), Fail> {
         ("A128GCM", "A128GCM"),
         ("A192GCM", "A192GCM"),
         ("A256GCM", "A256GCM"),
-        ("a128gcm", "Other(Text { string: \"a128gcm\" })"),
+        ("a128gcm", "Other(\"a128gcm\")"),
     ] {
         let value = Value::try_from_str(rt.alloc(), name)?;
         let encryption = Enc::from_value(rt.alloc(), &value)?;

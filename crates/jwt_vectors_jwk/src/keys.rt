@@ -387,7 +387,7 @@ fn a_key_is_shown_by_its_fields(rt: HostRuntime) -> Result<(), Fail> {
     let shown = format!(in rt.alloc(); "{key:?}")?;
     assert_eq!(rt;
         shown.as_str(),
-        "Jwk { common: CommonParameters { public_key_use: None, key_operations: None, key_algorithm: None, key_id: Some(Text { string: \"a\" }), x509_url: None, x509_chain: None, x509_sha1_fingerprint: None, x509_sha256_fingerprint: None }, algorithm: OctetKey(OctetKeyParameters { key_type: Octet, value: Text { string: \"AA\" } }) }"
+        "Jwk { common: CommonParameters { public_key_use: None, key_operations: None, key_algorithm: None, key_id: Some(\"a\"), x509_url: None, x509_chain: None, x509_sha1_fingerprint: None, x509_sha256_fingerprint: None }, algorithm: OctetKey(OctetKeyParameters { key_type: Octet, value: \"[redacted]\" }) }"
     );
     Ok(())
 }

@@ -34,7 +34,7 @@ fn check_use(rt: &impl Abort, alloc: Global, name: &str, expected: &str) -> Answ
 fn uses_are_read_by_their_names(rt: HostRuntime) -> Result<(), Fail> {
     check_use(&rt, rt.alloc(), "sig", "Signature")?;
     check_use(&rt, rt.alloc(), "enc", "Encryption")?;
-    check_use(&rt, rt.alloc(), "SIG", "Other(Text { string: \"SIG\" })")?;
+    check_use(&rt, rt.alloc(), "SIG", "Other(\"SIG\")")?;
     assert!(rt;
         is_refused(
             PublicKeyUse::from_value(rt.alloc(), &Value::Null),
@@ -66,7 +66,7 @@ fn operations_are_read_by_their_names(rt: HostRuntime) -> Result<(), Fail> {
         ("unwrapKey", "UnwrapKey"),
         ("deriveKey", "DeriveKey"),
         ("deriveBits", "DeriveBits"),
-        ("wrapkey", "Other(Text { string: \"wrapkey\" })"),
+        ("wrapkey", "Other(\"wrapkey\")"),
     ] {
         check_operation(&rt, rt.alloc(), name, expected)?;
     }
@@ -111,6 +111,17 @@ fn a_list_of_operations_is_written_in_order(rt: HostRuntime) -> Result<(), Fail>
     let copy = list.clone(alloc)?;
     assert!(rt; copy == list);
     assert_eq!(rt; copy.into_vec().len(), 2);
+    Ok(())
+}
+
+#[test]
+fn a_list_of_operations_holds_copies_in_order(rt: HostRuntime) -> Result<(), Fail> {
+    let alloc = rt.alloc();
+    let free = KeyOperations::Other(Text::from_str(alloc, "v")?);
+    let operations = [KeyOperations::Verify, free, KeyOperations::Sign];
+    let list = KeyOperationList::from_slice(alloc, &operations)?;
+    let written = list.to_value(alloc)?.to_string(alloc)?;
+    assert_eq!(rt; written.as_str(), "[\"verify\",\"v\",\"sign\"]");
     Ok(())
 }
 

@@ -172,3 +172,14 @@ fn parameters_are_equal_by_their_fields(rt: HostRuntime) -> Result<(), Fail> {
     assert!(rt; first != second);
     Ok(())
 }
+
+#[test]
+fn debug_shows_no_secret(rt: HostRuntime) -> Result<(), Fail> {
+    let alloc = rt.alloc();
+    let value = Value::from_str(alloc, "{\"k\":\"c2VjcmV0\",\"kty\":\"oct\"}")?;
+    let parameters = OctetKeyParameters::from_value(alloc, &value)?;
+    let shown = format!(in alloc; "{parameters:?}")?;
+    let expected = "OctetKeyParameters { key_type: Octet, value: \"[redacted]\" }";
+    assert_eq!(rt; shown.as_str(), expected);
+    Ok(())
+}

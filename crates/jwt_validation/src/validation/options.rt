@@ -87,6 +87,18 @@ impl Validation {
         Ok(())
     }
 
+    /// Replaces the subject. The only refusal is `OutOfMemory`.
+    pub fn set_subject(&mut self, alloc: Global, subject: &str) -> Result<()>
+        ensures ok { OnOk result (options_of self.new
+            ≡ record (options_of self.old) { sub = Some subject.now }) }
+        ensures unchanged { OnErr result (self.new ≡ self.old) }
+        ensures err { IfErr result IsMemory }
+    {
+        let subject = String::from_str(alloc, subject)?;
+        self.sub = Some(subject);
+        Ok(())
+    }
+
     /// Replaces the names of the required claims. The only refusal is `OutOfMemory`.
     pub fn set_required_spec_claims(&mut self, alloc: Global, names: &[&str]) -> Result<()>
         ensures ok { OnOk result (options_of self.new
