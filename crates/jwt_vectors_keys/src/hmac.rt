@@ -8,7 +8,7 @@ use jwt_keys::decoding::DecodingKey;
 use jwt_keys::encoding::EncodingKey;
 use jwt_params::curves::EllipticCurve;
 use jwt_params::thumbprints::ThumbprintHash;
-use jwt_vectors::refusals::is_refused;
+use jwt_test_providers::refusals::is_refused;
 use std::alloc::Global;
 use std::process::Abort;
 use std::test::Fail;

@@ -9,7 +9,7 @@ use jwt_keys::crypto::CryptoProvider;
 use jwt_keys::decoding::DecodingKey;
 use jwt_keys::encoding::EncodingKey;
 use jwt_keys::jwk::Jwk;
-use jwt_vectors::providers::{NoProvider, TableProvider};
+use jwt_test_providers::providers::{NoProvider, TableProvider};
 use std::alloc::Global;
 use std::process::Abort;
 use std::test::Fail;

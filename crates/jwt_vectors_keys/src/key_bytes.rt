@@ -5,7 +5,7 @@ use jwt_base::errors::{ErrorKind, Result as Answer};
 use jwt_keys::decoding::{DecodingKey, DecodingKeyKind};
 use jwt_keys::encoding::EncodingKey;
 use jwt_params::curves::EllipticCurve;
-use jwt_vectors::refusals::is_refused;
+use jwt_test_providers::refusals::is_refused;
 use serde_json::Value;
 use std::alloc::Global;
 use std::process::Abort;

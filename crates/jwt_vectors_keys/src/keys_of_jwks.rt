@@ -6,7 +6,7 @@ use jwt_base::errors::{ErrorKind, Result as Answer};
 use jwt_base::serialization::json_value;
 use jwt_keys::decoding::DecodingKey;
 use jwt_keys::jwk::Jwk;
-use jwt_vectors::refusals::is_refused;
+use jwt_test_providers::refusals::is_refused;
 use std::alloc::Global;
 use std::process::Abort;
 use std::test::Fail;

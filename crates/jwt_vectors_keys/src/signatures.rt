@@ -8,8 +8,8 @@ use jwt_keys::decoding::DecodingKey;
 use jwt_keys::encoding::EncodingKey;
 use jwt_params::curves::EllipticCurve;
 use jwt_params::thumbprints::ThumbprintHash;
-use jwt_vectors::providers::{NoProvider, Row, TableProvider, YesProvider};
-use jwt_vectors::refusals::{is_closed, is_refused};
+use jwt_test_providers::providers::{NoProvider, Row, TableProvider, YesProvider};
+use jwt_test_providers::refusals::{is_closed, is_refused};
 use std::alloc::Global;
 use std::test::Fail;
 

@@ -5,7 +5,7 @@ use jwt_base::errors::Result as Answer;
 use jwt_hmac::hmac::HmacProvider;
 use jwt_keys::crypto::CryptoProvider;
 use jwt_params::thumbprints::ThumbprintHash;
-use jwt_vectors::providers::{NoProvider, TableProvider};
+use jwt_test_providers::providers::{NoProvider, TableProvider};
 use std::alloc::Global;
 use std::process::Abort;
 use std::test::Fail;

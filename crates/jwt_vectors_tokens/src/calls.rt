@@ -7,7 +7,7 @@ use jsonwebtoken::{
     Algorithm, DecodingKey, EncodingKey, Header, TokenData, Validation, decode, decode_header,
 };
 use jwt_base::serialization::json_value;
-use jwt_vectors::refusals::is_refused;
+use jwt_test_providers::refusals::is_refused;
 use serde_json::Value;
 use std::alloc::Global;
 

@@ -5,7 +5,7 @@ use jsonwebtoken::crypto::hmac::HmacProvider;
 use jsonwebtoken::crypto::{CryptoProvider, sign};
 use jsonwebtoken::errors::Result;
 use jsonwebtoken::{Algorithm, EncodingKey, encode};
-use jwt_vectors::providers::{NoProvider, Row, TableProvider, YesProvider};
+use jwt_test_providers::providers::{NoProvider, Row, TableProvider, YesProvider};
 use serde_json::Value;
 use std::alloc::Global;
 use std::test::Fail;

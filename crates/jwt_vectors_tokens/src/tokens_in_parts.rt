@@ -6,7 +6,7 @@ use jsonwebtoken::crypto::hmac::HmacProvider;
 use jsonwebtoken::errors::Result;
 use jsonwebtoken::jws::{self, Jws};
 use jsonwebtoken::{Algorithm, DecodingKey, EncodingKey, TokenData, Validation, encode};
-use jwt_vectors::providers::NoProvider;
+use jwt_test_providers::providers::NoProvider;
 use serde_json::Value;
 use std::alloc::Global;
 use std::marker::PhantomData;

@@ -9,7 +9,7 @@ use jsonwebtoken::errors::{ErrorKind, Result, new_error};
 use jsonwebtoken::json::Claims;
 use jsonwebtoken::{Algorithm, DecodingKey, TokenData, Validation, decode};
 use jwt_base::serialization::part_text;
-use jwt_vectors::providers::{NoProvider, Row, TableProvider, YesProvider};
+use jwt_test_providers::providers::{NoProvider, Row, TableProvider, YesProvider};
 use serde_json::Value;
 use std::alloc::Global;
 use std::test::Fail;

@@ -1,61 +1,38 @@
-//! A provider that accepts every signature.
+//! A provider that refuses every call.
 
-ghost use Rattle.std.specs.Prelude.{◌≡◌, ℕ, List, Option, Err, None, Some, ⊤, codes};
+ghost use Rattle.std.specs.Prelude.{◌≡◌, ℕ, List, Option, Err, None, Some, codes};
+ghost use Rattle.jwt_test_providers.specs.Families.{never_made};
 ghost use Rattle.jwt_base.specs.Kind as kind;
 ghost use Rattle.jwt_keys.specs.Provider.{reads_no_key};
-ghost use Rattle.jwt_vectors.specs.Families.{verifier_refusal_of, family_made};
 
-use super::closed::{NoSigner, closed};
+use super::closed::{NoSigner, NoVerifier, closed};
 use jwt_base::algorithms::Algorithm;
-use jwt_base::errors::{ErrorKind, Result, new_error};
-use jwt_keys::crypto::{CryptoProvider, JwtVerifier};
+use jwt_base::errors::Result;
+use jwt_keys::crypto::CryptoProvider;
 use jwt_keys::decoding::DecodingKey;
 use jwt_keys::encoding::EncodingKey;
 use jwt_params::curves::EllipticCurve;
 use jwt_params::thumbprints::ThumbprintHash;
 use std::alloc::Global;
 
-/// Accepts every signature.
-#[derive(Drop)]
-pub struct YesVerifier {
-    algorithm: Algorithm,
-}
-
-impl JwtVerifier for YesVerifier {
-    ghost verifies_by = { λ v. v.algorithm };
-
-    ghost accepts = { λ _ m s. ⊤ };
-
-    ghost is_sparing = { λ _. ⊥ };
-
-    fn algorithm(&self) -> Algorithm {
-        self.algorithm
-    }
-
-    fn verify(&self, _alloc: Global, _message: &[u8], _signature: &[u8]) -> Result<bool> {
-        Ok(true)
-    }
-}
-
-/// Makes a verifier for each key of the algorithm's family, which accepts every signature; a key of another family is
-/// refused with `InvalidKeyFormat`. Every other call is refused with `Provider("closed")`.
+/// Refuses every call with `Provider("closed")`.
 #[derive(Debug, Clone, Copy)]
-pub struct YesProvider;
+pub struct NoProvider;
 
-impl CryptoProvider for YesProvider {
+impl CryptoProvider for NoProvider {
     type Signer = NoSigner;
 
-    type Verifier = YesVerifier;
+    type Verifier = NoVerifier;
 
     ghost signer_refusal = { λ _ a k. Some (kind.Provider (codes "closed")) };
 
-    ghost verifier_refusal = { λ _ a k. verifier_refusal_of a k };
+    ghost verifier_refusal = { λ _ a k. Some (kind.Provider (codes "closed")) };
 
     ghost sign_refusal = { λ _ a k m. None };
 
     ghost signs = { λ _ a k m s. ⊥ };
 
-    ghost accepts = { λ _ a k m s. ⊤ };
+    ghost accepts = { λ _ a k m s. ⊥ };
 
     ghost is_sparing = { λ _. ⊥ };
 
@@ -72,17 +49,11 @@ impl CryptoProvider for YesProvider {
 
     fn verifier_factory(
         &self,
-        _alloc: Global,
-        algorithm: &Algorithm,
-        key: &DecodingKey,
-    ) -> Result<YesVerifier> {
-        if key.family() == algorithm.family() {
-            Ok(YesVerifier {
-                algorithm: *algorithm,
-            })
-        } else {
-            Err(new_error(ErrorKind::InvalidKeyFormat))
-        }
+        alloc: Global,
+        _algorithm: &Algorithm,
+        _key: &DecodingKey,
+    ) -> Result<NoVerifier> {
+        Err(closed(alloc))
     }
 
     fn rsa_pub_components_from_private_key(
@@ -128,5 +99,5 @@ impl CryptoProvider for YesProvider {
         Err(closed(alloc))
     }
 
-    ghost same_family = { λ _ a k h. family_made a k h };
+    ghost same_family = { λ _ a k h. never_made h };
 }

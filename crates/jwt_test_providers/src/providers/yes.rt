@@ -1,38 +1,61 @@
-//! A provider that refuses every call.
+//! A provider that accepts every signature.
 
-ghost use Rattle.std.specs.Prelude.{◌≡◌, ℕ, List, Option, Err, None, Some, codes};
-ghost use Rattle.jwt_vectors.specs.Families.{never_made};
+ghost use Rattle.std.specs.Prelude.{◌≡◌, ℕ, List, Option, Err, None, Some, ⊤, codes};
 ghost use Rattle.jwt_base.specs.Kind as kind;
 ghost use Rattle.jwt_keys.specs.Provider.{reads_no_key};
+ghost use Rattle.jwt_test_providers.specs.Families.{verifier_refusal_of, family_made};
 
-use super::closed::{NoSigner, NoVerifier, closed};
+use super::closed::{NoSigner, closed};
 use jwt_base::algorithms::Algorithm;
-use jwt_base::errors::Result;
-use jwt_keys::crypto::CryptoProvider;
+use jwt_base::errors::{ErrorKind, Result, new_error};
+use jwt_keys::crypto::{CryptoProvider, JwtVerifier};
 use jwt_keys::decoding::DecodingKey;
 use jwt_keys::encoding::EncodingKey;
 use jwt_params::curves::EllipticCurve;
 use jwt_params::thumbprints::ThumbprintHash;
 use std::alloc::Global;
 
-/// Refuses every call with `Provider("closed")`.
-#[derive(Debug, Clone, Copy)]
-pub struct NoProvider;
+/// Accepts every signature.
+#[derive(Drop)]
+pub struct YesVerifier {
+    algorithm: Algorithm,
+}
 
-impl CryptoProvider for NoProvider {
+impl JwtVerifier for YesVerifier {
+    ghost verifies_by = { λ v. v.algorithm };
+
+    ghost accepts = { λ _ m s. ⊤ };
+
+    ghost is_sparing = { λ _. ⊥ };
+
+    fn algorithm(&self) -> Algorithm {
+        self.algorithm
+    }
+
+    fn verify(&self, _alloc: Global, _message: &[u8], _signature: &[u8]) -> Result<bool> {
+        Ok(true)
+    }
+}
+
+/// Makes a verifier for each key of the algorithm's family, which accepts every signature; a key of another family is
+/// refused with `InvalidKeyFormat`. Every other call is refused with `Provider("closed")`.
+#[derive(Debug, Clone, Copy)]
+pub struct YesProvider;
+
+impl CryptoProvider for YesProvider {
     type Signer = NoSigner;
 
-    type Verifier = NoVerifier;
+    type Verifier = YesVerifier;
 
     ghost signer_refusal = { λ _ a k. Some (kind.Provider (codes "closed")) };
 
-    ghost verifier_refusal = { λ _ a k. Some (kind.Provider (codes "closed")) };
+    ghost verifier_refusal = { λ _ a k. verifier_refusal_of a k };
 
     ghost sign_refusal = { λ _ a k m. None };
 
     ghost signs = { λ _ a k m s. ⊥ };
 
-    ghost accepts = { λ _ a k m s. ⊥ };
+    ghost accepts = { λ _ a k m s. ⊤ };
 
     ghost is_sparing = { λ _. ⊥ };
 
@@ -49,11 +72,17 @@ impl CryptoProvider for NoProvider {
 
     fn verifier_factory(
         &self,
-        alloc: Global,
-        _algorithm: &Algorithm,
-        _key: &DecodingKey,
-    ) -> Result<NoVerifier> {
-        Err(closed(alloc))
+        _alloc: Global,
+        algorithm: &Algorithm,
+        key: &DecodingKey,
+    ) -> Result<YesVerifier> {
+        if key.family() == algorithm.family() {
+            Ok(YesVerifier {
+                algorithm: *algorithm,
+            })
+        } else {
+            Err(new_error(ErrorKind::InvalidKeyFormat))
+        }
     }
 
     fn rsa_pub_components_from_private_key(
@@ -99,5 +128,5 @@ impl CryptoProvider for NoProvider {
         Err(closed(alloc))
     }
 
-    ghost same_family = { λ _ a k h. never_made h };
+    ghost same_family = { λ _ a k h. family_made a k h };
 }
