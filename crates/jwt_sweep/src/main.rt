@@ -88,6 +88,7 @@ fn try_extras(sweep: &mut Sweep, alloc: Global) -> Result<()> {
 fn try_rules(sweep: &mut Sweep, alloc: Global) -> Result<()> {
     rules::validations(sweep, alloc)?;
     rules::set_parties(sweep, alloc)?;
+    rules::set_subject(sweep, alloc)?;
     rules::set_names(sweep, alloc)?;
     rules::claims(sweep, alloc)?;
     rules::bare_refusals(sweep, alloc)?;

@@ -32,6 +32,8 @@ pub fn conversions_to_errors(sweep: &mut Sweep, alloc: Global) -> Result<()> {
     case.sparing(*new_error(ErrorKind::NoKey).kind() == ErrorKind::NoKey);
     let case = sweep.of("Error::from, Error::into_kind", "a kind");
     case.sparing(Error::from(ErrorKind::NoKey).into_kind() == ErrorKind::NoKey);
+    let case = sweep.of("ErrorKind::name", "a kind");
+    case.sparing(ErrorKind::NoKey.name() == "NoKey");
     if let Err(fault) = Value::from_str(alloc, "[") {
         let case = sweep.of("Error::from", "a fault of JSON");
         case.sparing(*Error::from(fault).kind() == ErrorKind::Json);
@@ -216,6 +218,9 @@ pub fn texts(sweep: &mut Sweep, alloc: Global) -> Result<()> {
     sweep
         .of("Text::clone", "a text")
         .same(text.clone(alloc), &text);
+    sweep
+        .of("Texts::from_slice", "two texts")
+        .same(Texts::from_slice(alloc, &["a text", "a text"]), &texts);
     sweep
         .of("Texts::clone", "two texts")
         .same(texts.clone(alloc), &texts);

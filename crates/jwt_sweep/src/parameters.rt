@@ -157,6 +157,10 @@ pub fn operation_lists(sweep: &mut Sweep, alloc: Global) -> Result<()> {
     sweep
         .of("KeyOperationList::to_value", "three names")
         .same_value(list.to_value(alloc), &value);
+    sweep.of("KeyOperationList::from_slice", "three names").same(
+        KeyOperationList::from_slice(alloc, list.as_slice()),
+        &list,
+    );
     sweep
         .of("KeyOperationList::clone", "three names")
         .same(list.clone(alloc), &list);

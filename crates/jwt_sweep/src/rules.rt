@@ -30,7 +30,7 @@ fn strict_validation(alloc: Global) -> Result<Box<Validation>> {
     validation.set_audience(alloc, &["a", "b"])?;
     validation.set_issuer(alloc, &["i"])?;
     validation.set_understood_crit(alloc, &["own"])?;
-    validation.sub = Some(String::from_str(alloc, "s")?);
+    validation.set_subject(alloc, "s")?;
     Ok(validation)
 }
 
@@ -74,6 +74,16 @@ pub fn set_parties(sweep: &mut Sweep, alloc: Global) -> Result<()> {
     let case = sweep.of("Validation::set_issuer", "ten names");
     let answer = now.set_issuer(alloc, &NAMES);
     let is_set = matches!(&now.iss, Some(set) if set.len() == 9 && set.contains("a"));
+    case.changed(answer, &*before, &*now, is_set);
+    Ok(())
+}
+
+pub fn set_subject(sweep: &mut Sweep, alloc: Global) -> Result<()> {
+    let before = strict_validation(alloc)?;
+    let mut now = copy_of(alloc, &before)?;
+    let case = sweep.of("Validation::set_subject", "another subject");
+    let answer = now.set_subject(alloc, "another");
+    let is_set = matches!(&now.sub, Some(subject) if subject.as_str() == "another");
     case.changed(answer, &*before, &*now, is_set);
     Ok(())
 }
