@@ -13,7 +13,7 @@ pub record IsUnderstoodName (extras : Members) (understood : Texts) (name : List
   pub present : IsSome (get_member name extras)
   pub known : IsTrue (understood name)
 
--- the list is not empty, names no_contents twice, and each of its names is understood
+-- the list is not empty, names nothing twice, and each of its names is understood
 pub record IsUnderstoodList (names : List (List ℕ)) (extras : Members) (understood : Texts) : Type 0 where
   pub some : ¬ (names ≡ [])
   pub once : AllPairs (λ a b. a ≢ b) names
