@@ -79,7 +79,7 @@ is_in = engine.has number
 abbrev pub are_in : List Test → List Test → Bool
 are_in = engine.has_all number
 
--- these tests make the things known that the test speaks of
+-- these tests make known what the test speaks of
 abbrev pub parts_known : List Test → Bool
 parts_known b = is_in HasThreeParts b
 
@@ -242,7 +242,7 @@ module _ {T : Type 0} (call : Call T) where
         → (t : Contents) → Passes call order t → MatchResult r (λ y. shows t y) IsMemory
     exact = engine.exact (Condition call) (HasKind call) (FailsAt call) (ready (is_given call.keys)) fails_for order sound shows r m
 
-  -- what is answered does not depend on the things
+  -- what is answered does not depend on the contents
   pub same_answer : (order : List Test) → header_known order ≡ true → claims_known order ≡ true → {X : Type 0} (header : X → Header) (claims : X → Data → Type 0)
       → (s t : Contents) (y : X) → Passes call order s → Passes call order t
       → (s.header ≡ header y) × claims y s.payload_value → (t.header ≡ header y) × claims y t.payload_value

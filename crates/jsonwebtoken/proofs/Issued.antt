@@ -64,7 +64,7 @@ module _ (issue : Issue) where
   met : (b : List IssueTest) (t : Written) → IssuePasses issue b t → (c : IssueTest) → engine.has number c b ≡ true → IssueCondition issue c t
   met = engine.holds_of number (IssueCondition issue) every_test at_number
 
-  -- things that pass the tests of what is written are the same
+  -- values that pass the tests of what is written are the same
   pub one_written : (b : List IssueTest) (t s : Written) → written_known b ≡ true → IssuePasses issue b t → IssuePasses issue b s → t ≡ s
   one_written b t s e p q =
       let k = engine.both_true (engine.has number HeaderIsWritten b) (engine.has number ClaimsAreWritten b) e in

@@ -8,7 +8,6 @@ ghost use Rattle.jsonwebtoken.specs.Laws.{HasMoments, KeepsLooser, FixesToken};
 ghost use Rattle.jsonwebtoken.specs.Steps.{Step};
 ghost use Rattle.jsonwebtoken.specs.Tests.{Compact, header_order, decode_order, header_call};
 
-pub(crate) mod checks;
 pub(crate) mod crit;
 mod key_set;
 pub(crate) mod parts;

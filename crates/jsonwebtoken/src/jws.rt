@@ -18,9 +18,8 @@ ghost use Rattle.jsonwebtoken.specs.Steps.{Step, parts_in, allowing, with_header
 ghost use Rattle.jsonwebtoken.specs.Tests.{Parts, Separate, text_of_parts, jws_algorithm_tests, jws_order};
 
 use crate::decoding::TokenData;
-use crate::decoding::checks::{check_families, check_listed, check_some_listed};
 use crate::decoding::parts::TokenParts;
-use crate::decoding::steps::{opened, verified};
+use crate::decoding::steps::{check_families, check_listed, check_some_listed, opened, verified};
 use crate::encoding::steps::{check_family, header_part, payload_part, sign_parts, with_part};
 use jwt_base::errors::{ErrorKind, Result, new_error};
 use jwt_base::json::Claims;

@@ -1,16 +1,17 @@
-//! The steps that the calls which read tokens share.
+//! The tests that ask for one condition, and the steps that the calls which read tokens share.
 
-ghost use Rattle.std.specs.Prelude.{◌≡◌, ◌↔◌, ◌++◌, ◌∷◌, ℕ, List, IfOk, IfErr, IfSome, IfNone, Contains};
+ghost use Rattle.std.specs.Prelude.{◌≡◌, ◌↔◌, ◌++◌, ◌∷◌, ℕ, List, IfOk, IfErr, IfSome, IfNone, Contains, [], All};
+ghost use Rattle.jwt_base.specs.Algorithm.{family_of};
 ghost use Rattle.jwt_base.specs.Kind as kind;
 ghost use Rattle.jwt_base.specs.KindOf.{kind_of};
 ghost use Rattle.jwt_validation.specs.OptionsOf.{options_of};
-ghost use Rattle.jsonwebtoken.specs.Steps.{Step, bare, parts_in, with_header_part, with_payload_part, with_parts, with_header, opening, allowing, accepting, claiming, reading, verifying_by};
+ghost use Rattle.jsonwebtoken.specs.Steps.{Step, bare, parts_in, with_header_part, with_payload_part, with_parts, with_header, opening, allowing, accepting, claiming, reading, verifying_by, AsksFor};
 ghost use Rattle.jsonwebtoken.specs.Tests.{dot, Parts, ArePartsOf, header_tests, opening_tests, algorithm_tests, signature_tests, payload_tests, claim_tests, verifying_tests};
 
-use crate::decoding::checks::{check_families, check_listed, check_some_listed, check_verdict};
 use crate::decoding::crit::check_crit;
 use crate::decoding::parts::TokenParts;
 use crate::usual::usual_algorithm;
+use jwt_base::algorithms::Algorithm;
 use jwt_base::errors::{ErrorKind, Result, new_error};
 use jwt_base::json::Claims;
 use jwt_base::serialization::{json_value, part_bytes};
@@ -20,6 +21,59 @@ use jwt_keys::decoding::DecodingKey;
 use jwt_validation::validation::{Validation, validate};
 use memchr::memrchr;
 use std::alloc::Global;
+
+/// Refuses an empty list with `MissingAlgorithm`.
+pub(crate) fn check_some_listed(validation: &Validation) -> Result<()>
+    ensures { AsksFor (¬ (validation.now.algorithms.items ≡ [])) (λ k. k ≡ kind.MissingAlgorithm) result }
+{
+    if validation.algorithms.is_empty() {
+        return Err(new_error(ErrorKind::MissingAlgorithm));
+    }
+    Ok(())
+}
+
+/// Refuses an algorithm that is not listed with `InvalidAlgorithm`.
+pub(crate) fn check_listed(validation: &Validation, algorithm: Algorithm) -> Result<()>
+    ensures { AsksFor (Contains validation.now.algorithms.items algorithm) (λ k. k ≡ kind.InvalidAlgorithm) result }
+{
+    if validation.algorithms.contains(&algorithm) {
+        Ok(())
+    } else {
+        Err(new_error(ErrorKind::InvalidAlgorithm))
+    }
+}
+
+/// Refuses with `InvalidAlgorithm` a list with an algorithm of another family.
+pub(crate) fn check_families(validation: &Validation, algorithm: Algorithm) -> Result<()>
+    ensures { AsksFor (All (λ b. family_of b ≡ family_of algorithm) validation.now.algorithms.items)
+        (λ k. k ≡ kind.InvalidAlgorithm) result }
+{
+    if validation
+        .algorithms
+        .iter()
+        .all(|b| b.family() == algorithm.family())
+    {
+        Ok(())
+    } else {
+        Err(new_error(ErrorKind::InvalidAlgorithm))
+    }
+}
+
+/// Refuses with `InvalidSignature` what the verifier does not accept.
+pub(crate) fn check_verdict<V: JwtVerifier>(
+    alloc: Global,
+    verifier: &V,
+    message: &[u8],
+    signature: &[u8],
+) -> Result<()>
+    ensures { AsksFor (V.accepts verifier.now message.now signature.now) (λ k. k ≡ kind.InvalidSignature) result }
+{
+    if verifier.verify(alloc, message, signature)? {
+        Ok(())
+    } else {
+        Err(new_error(ErrorKind::InvalidSignature))
+    }
+}
 
 /// What stands before the last dot, and what stands after it.
 fn last_dot(text: &[u8]) -> Option<(&[u8], &[u8])>
