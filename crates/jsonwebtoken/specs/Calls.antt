@@ -5,10 +5,10 @@ use Rattle.jwt_base.specs.declared.errors.Error.{Error}
 use Rattle.jwt_base.specs.declared.json.claims.Claims.{Ghosts as ClaimsOf}
 use Rattle.jwt_header.specs.declared.header.Header.{Header}
 use Rattle.jwt_keys.specs.Key.{Key}
-use Rattle.jwt_keys.specs.declared.crypto.CryptoProvider.{Ghosts as ProviderOf}
+use Rattle.jwt_keys.specs.declared.provider.CryptoProvider.{Ghosts as ProviderOf}
 use Rattle.jwt_keys.specs.declared.jwk.Jwk.{Jwk}
 use Rattle.jwt_validation.specs.OptionsOf.{options_of}
-use Rattle.jwt_validation.specs.declared.validation.options.Validation.{Validation}
+use Rattle.jwt_validation.specs.declared.validation.Validation.{Validation}
 use Rattle.jsonwebtoken.specs.Order.{AnswersOne, AnswersEach, RefusesByFirst}
 use Rattle.jsonwebtoken.specs.Tests.{Call, Test, Contents, Condition, HasKind, Parts, Token, Compact, Separate, KeySource, Given, InSet, verifying_call}
 use Rattle.jsonwebtoken.specs.declared.decoding.TokenData.{TokenData}

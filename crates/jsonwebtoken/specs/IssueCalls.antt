@@ -6,7 +6,7 @@ use Rattle.jwt_base.specs.declared.errors.Error.{Error}
 use Rattle.jwt_base.specs.declared.json.claims.Claims.{Ghosts as ClaimsOf}
 use Rattle.jwt_header.specs.declared.header.Header.{Header}
 use Rattle.jwt_keys.specs.Key.{SecretKey}
-use Rattle.jwt_keys.specs.declared.crypto.CryptoProvider.{Ghosts as ProviderOf}
+use Rattle.jwt_keys.specs.declared.provider.CryptoProvider.{Ghosts as ProviderOf}
 use Rattle.jsonwebtoken.specs.Order.{AnswersOne, AnswersEach, RefusesByFirst}
 use Rattle.jsonwebtoken.specs.Issue.{Issue, IssueTest, Payload, WrittenAs, payload_of, Written, IssueCondition, IssueKind, issuing}
 

@@ -17,10 +17,10 @@ pub use crate::decoding::key_set::decode_with_set;
 use crate::decoding::steps::{allowed_verifier, opened, read_header, token_parts, verified};
 use jwt_base::errors::Result;
 use jwt_base::json::Claims;
-use jwt_header::header::Header;
-use jwt_keys::crypto::CryptoProvider;
-use jwt_keys::decoding::DecodingKey;
-use jwt_validation::validation::Validation;
+use jwt_header::Header;
+use jwt_keys::decoding_key::DecodingKey;
+use jwt_keys::provider::CryptoProvider;
+use jwt_validation::Validation;
 use std::alloc::Global;
 
 /// What a token carries.

@@ -10,9 +10,9 @@ pub(crate) mod steps;
 use crate::encoding::steps::{check_family, claims_part, header_part, sign_parts, with_part};
 use jwt_base::errors::Result;
 use jwt_base::json::Claims;
-use jwt_header::header::Header;
-use jwt_keys::crypto::CryptoProvider;
-use jwt_keys::encoding::EncodingKey;
+use jwt_header::Header;
+use jwt_keys::encoding_key::EncodingKey;
+use jwt_keys::provider::CryptoProvider;
 use std::alloc::Global;
 
 fn encode_by_steps<P: CryptoProvider, T: Claims>(

@@ -3,12 +3,12 @@
 pub use jwt_base::algorithms::KeyAlgorithm;
 pub use jwt_keys::jwk::Jwk;
 pub use jwt_keys::jwk_set::JwkSet;
-pub use jwt_kinds::algorithm::AlgorithmParameters;
 pub use jwt_kinds::elliptic::EllipticCurveKeyParameters;
 pub use jwt_kinds::free_members::FreeMembers;
 pub use jwt_kinds::octet::OctetKeyParameters;
 pub use jwt_kinds::octet_pair::OctetKeyPairParameters;
 pub use jwt_kinds::other::OtherKeyParameters;
+pub use jwt_kinds::parameters::AlgorithmParameters;
 pub use jwt_kinds::rsa::RSAKeyParameters;
 pub use jwt_params::common::CommonParameters;
 pub use jwt_params::curves::EllipticCurve;

@@ -24,11 +24,11 @@ use crate::encoding::steps::{check_family, header_part, payload_part, sign_parts
 use jwt_base::errors::{ErrorKind, Result, new_error};
 use jwt_base::json::Claims;
 use jwt_base::json::members::put_text;
-use jwt_header::header::Header;
-use jwt_keys::crypto::CryptoProvider;
-use jwt_keys::decoding::DecodingKey;
-use jwt_keys::encoding::EncodingKey;
-use jwt_validation::validation::Validation;
+use jwt_header::Header;
+use jwt_keys::decoding_key::DecodingKey;
+use jwt_keys::encoding_key::EncodingKey;
+use jwt_keys::provider::CryptoProvider;
+use jwt_validation::Validation;
 use serde_json::{Map, Value};
 use std::alloc::Global;
 use std::marker::PhantomData;

@@ -6,7 +6,7 @@ ghost use Rattle.jwt_header.specs.Header.{new_header};
 ghost use Rattle.jsonwebtoken.specs.Usual.{IsUsual};
 
 use jwt_base::algorithms::Algorithm;
-use jwt_header::header::Header;
+use jwt_header::Header;
 
 /// The part for the algorithm, where it is one of these four.
 fn usual_text(algorithm: Algorithm) -> Option<&'static str>

@@ -19,13 +19,13 @@ use Rattle.jwt_header.specs.HeaderWritten.{normal_header, IsNormal, HasNormalFor
 use Rattle.jwt_keys.specs.Jwk.{ReadsKey, key_members, key_value}
 use Rattle.jwt_keys.specs.JwkWritten.{normal_key}
 use Rattle.jwt_keys.specs.declared.jwk.Jwk.{Jwk}
-use Rattle.jwt_keys.proofs.JwkLemmas.{one_key, reads_written as reads_written_key, read_is_normal as read_key_is_normal, has_normal_form as key_has_normal_form, written_no_float as written_key_no_float}
+use Rattle.jwt_keys.proofs.JwkLemmas.{reads_one_key, reads_written as reads_written_key, read_is_normal as read_key_is_normal, has_normal_form as key_has_normal_form, written_no_float as written_key_no_float}
 use Rattle.jwt_header.specs.Zip.{zip_text, zip_named, zip_from, zip_value, normal_zip}
 use Rattle.jwt_header.specs.declared.header.Header.{Header}
-use Rattle.jwt_header.specs.declared.header.names.Enc.{Enc}
-use Rattle.jwt_header.specs.declared.header.names.Enc.TheVariants as enc
-use Rattle.jwt_header.specs.declared.header.names.Zip.{Zip}
-use Rattle.jwt_header.specs.declared.header.names.Zip.TheVariants as zip
+use Rattle.jwt_header.specs.declared.names.Enc.{Enc}
+use Rattle.jwt_header.specs.declared.names.Enc.TheVariants as enc
+use Rattle.jwt_header.specs.declared.names.Zip.{Zip}
+use Rattle.jwt_header.specs.declared.names.Zip.TheVariants as zip
 
 -- optional members that a relation reads
 one_optional : {A : Type 0} (R : Data → A → Type 0) → ((d : Data) (a b : A) → R d a → R d b → a ≡ b) → (o : Option Data) (x y : Option A) → ReadsOptional R o x → ReadsOptional R o y → x ≡ y
@@ -66,7 +66,7 @@ one_header d g h r s =
     let typ : g.typ ≡ h.typ = cc (r.typ, s.typ) in
     let cty : g.cty ≡ h.cty = cc (r.cty, s.cty) in
     let jku : g.jku ≡ h.jku = cc (r.jku, s.jku) in
-    let jwk : g.jwk ≡ h.jwk = one_optional ReadsKey one_key (get (codes "jwk") d) g.jwk h.jwk r.jwk s.jwk in
+    let jwk : g.jwk ≡ h.jwk = one_optional ReadsKey reads_one_key (get (codes "jwk") d) g.jwk h.jwk r.jwk s.jwk in
     let kid : g.kid ≡ h.kid = cc (r.kid, s.kid) in
     let x5u : g.x5u ≡ h.x5u = cc (r.x5u, s.x5u) in
     let x5t : g.x5t ≡ h.x5t = cc (r.x5t, s.x5t) in

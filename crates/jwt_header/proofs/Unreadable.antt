@@ -1,5 +1,5 @@
 -- A member that does not read leaves no header to read.
-use Rattle.std.proofs.Common.{◌≡◌, inl, inr, Option, Some, None, option_and_then, codes, true, true≢false, sym, ap, ◌∙◌}
+use Rattle.std.proofs.Common.{◌≡◌, Option, Some, None, option_and_then, codes, true, true≢false, sym, ap, ◌∙◌}
 use Rattle.serde_json.specs.Data.{Data, Members}
 use Rattle.serde_json.specs.Find.{get, as_str, as_object}
 use Rattle.serde_json.specs.Written.{members_have_float}
@@ -13,16 +13,13 @@ use Rattle.jwt_header.specs.Extras.{header_names}
 use Rattle.jwt_header.specs.Header.{ReadsHeader}
 use Rattle.jwt_header.specs.Zip.{zip_from}
 use Rattle.jwt_header.specs.declared.header.Header.{Header}
+use Rattle.jwt_keys.proofs.JwkLemmas.{weaker}
 use Rattle.jwt_keys.specs.Jwk.{ReadsKey}
 use Rattle.jwt_keys.specs.declared.jwk.Jwk.{Jwk}
 
 -- no header reads from the value
 abbrev pub RefusesHeader : Data → Error → Type 0
 RefusesHeader d = RefusesAs kind.Json ((h : Header) → ¬ ReadsHeader d h)
-
-weaker : (P Q : Type 0) (e : Error) → (P → Q) → RefusesAs kind.Json P e → RefusesAs kind.Json Q e
-weaker P Q e f (inl m) = inl m
-weaker P Q e f (inr r) = inr (r.0, f r.1)
 
 pub unreadable-alg : (d : Data) (e : Error) → RefusesAs kind.Json (option_and_then algorithm_from (get (codes "alg") d) ≡ None) e → RefusesHeader d e
 unreadable-alg d e = weaker _ _ e (λ none h r. absurd (cc (none, r.alg)))

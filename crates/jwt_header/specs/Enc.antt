@@ -3,8 +3,8 @@ use Rattle.std.specs.Prelude.{ℕ, List, [], ◌∷◌, Bool, true, false, Optio
 use Rattle.serde_json.specs.Data.{Data, string}
 use Rattle.serde_json.specs.Find.{as_str}
 use Rattle.jwt_base.specs.Spelling.{spelled}
-use Rattle.jwt_header.specs.declared.header.names.Enc.{Enc}
-use Rattle.jwt_header.specs.declared.header.names.Enc.TheVariants.{A128CBC_HS256, A192CBC_HS384, A256CBC_HS512, A128GCM, A192GCM, A256GCM, Other}
+use Rattle.jwt_header.specs.declared.names.Enc.{Enc}
+use Rattle.jwt_header.specs.declared.names.Enc.TheVariants.{A128CBC_HS256, A192CBC_HS384, A256CBC_HS512, A128GCM, A192GCM, A256GCM, Other}
 
 abbrev pub enc_text : Enc → List ℕ
 enc_text A128CBC_HS256 = codes "A128CBC-HS256"

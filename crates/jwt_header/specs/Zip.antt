@@ -3,8 +3,8 @@ use Rattle.std.specs.Prelude.{ℕ, List, [], ◌∷◌, Bool, true, false, Optio
 use Rattle.serde_json.specs.Data.{Data, string}
 use Rattle.serde_json.specs.Find.{as_str}
 use Rattle.jwt_base.specs.Spelling.{spelled}
-use Rattle.jwt_header.specs.declared.header.names.Zip.{Zip}
-use Rattle.jwt_header.specs.declared.header.names.Zip.TheVariants.{Deflate, Other}
+use Rattle.jwt_header.specs.declared.names.Zip.{Zip}
+use Rattle.jwt_header.specs.declared.names.Zip.TheVariants.{Deflate, Other}
 
 abbrev pub zip_text : Zip → List ℕ
 zip_text Deflate = codes "DEF"

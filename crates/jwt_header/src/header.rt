@@ -14,12 +14,9 @@ ghost use Rattle.jwt_header.specs.Zip.{zip_from, zip_value};
 ghost use Rattle.jwt_keys.specs.Jwk.{ReadsKey, key_value};
 ghost use Rattle.jwt_keys.specs.declared.jwk.Jwk.{Jwk};
 
-mod certificates;
-mod extras;
-mod names;
-
-use crate::header::certificates::certificate_bytes;
-pub use extras::{Extras, is_header_name};
+use crate::certificates::certificate_bytes;
+use crate::extras::Extras;
+use crate::names::{Enc, Zip};
 use jwt_base::algorithms::Algorithm;
 use jwt_base::errors::{ErrorKind, Result, new_error};
 use jwt_base::json::members::{
@@ -27,7 +24,6 @@ use jwt_base::json::members::{
 };
 use jwt_base::text::{Text, Texts, clone_text};
 use jwt_keys::jwk::Jwk;
-pub use names::{Enc, Zip};
 use serde_json::{Map, Value};
 use std::alloc::Global;
 use std::hash::{Hash, Hasher};

@@ -1,4 +1,11 @@
 //! The header of a token (RFC 7515 section 4).
 #![tactic(auto)]
 
-pub mod header;
+mod certificates;
+mod extras;
+mod header;
+mod names;
+
+pub use extras::{Extras, is_header_name};
+pub use header::Header;
+pub use names::{Enc, Zip};

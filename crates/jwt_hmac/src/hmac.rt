@@ -11,9 +11,9 @@ ghost use Rattle.jwt_hmac.specs.HmacFamilies.{family_made};
 
 use jwt_base::algorithms::{Algorithm, AlgorithmFamily};
 use jwt_base::errors::{Error, ErrorKind, Result, new_error};
-use jwt_keys::crypto::{CryptoProvider, JwtSigner, JwtVerifier};
-use jwt_keys::decoding::DecodingKey;
-use jwt_keys::encoding::EncodingKey;
+use jwt_keys::decoding_key::DecodingKey;
+use jwt_keys::encoding_key::EncodingKey;
+use jwt_keys::provider::{CryptoProvider, JwtSigner, JwtVerifier};
 use jwt_params::curves::EllipticCurve;
 use jwt_params::thumbprints::ThumbprintHash;
 use sha2::{Digest, Sha256, Sha384, Sha512};

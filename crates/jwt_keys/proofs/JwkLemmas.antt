@@ -12,9 +12,9 @@ use Rattle.jwt_base.proofs.FreeMembers.{has_named-without}
 use Rattle.jwt_params.specs.Common.{common_names, ReadsCommon, with_common}
 use Rattle.jwt_params.specs.declared.common.CommonParameters.{CommonParameters}
 use Rattle.jwt_params.proofs.CommonLemmas.{one_common, without-with_common, reads_with_common, common_is_normal, common_twice, common_no_float}
-use Rattle.jwt_kinds.specs.Kinds.{named_from, other_from, algorithm_from, algorithm_members, normal_algorithm, has_common}
-use Rattle.jwt_kinds.specs.declared.algorithm.AlgorithmParameters.{AlgorithmParameters}
-use Rattle.jwt_kinds.specs.declared.algorithm.AlgorithmParameters.TheVariants as kinds
+use Rattle.jwt_kinds.specs.Kinds.{named_from, other_from, parameters_from, parameters_members, normal_parameters, has_common}
+use Rattle.jwt_kinds.specs.declared.parameters.AlgorithmParameters.{AlgorithmParameters}
+use Rattle.jwt_kinds.specs.declared.parameters.AlgorithmParameters.TheVariants as kinds
 use Rattle.jwt_kinds.proofs.KindLemmas.{kind_read, kind_free, kind_no_float, OwnKind, kind_own, kind_twice, named-without}
 use Rattle.jwt_keys.specs.Jwk.{ReadsKey, kind_from, key_members, key_value}
 use Rattle.jwt_keys.specs.JwkWritten.{normal_key, IsNormal, HasNormalForm}
@@ -39,7 +39,7 @@ unreadable-kind d e = weaker _ _ e (λ none k r. absurd (cc (none, r.algorithm))
 kind_from-at : (d : Data) (ms : Members) (o : Option AlgorithmParameters) → as_object d ≡ Some ms → named_from d ≡ o → kind_from d ≡ option_or o (option_map kinds.Other (other_from (object (without common_names ms))))
 kind_from-at d ms o is e =
     let ws = without common_names ms in
-    ap (λ x. option_and_then (λ ns. algorithm_from (object (without common_names ns))) x) is
+    ap (λ x. option_and_then (λ ns. parameters_from (object (without common_names ns))) x) is
     ∙ ap (λ x. option_or x (option_map kinds.Other (other_from (object ws)))) (named-without d ms is ∙ e)
 
 pub kind_from-named : (d : Data) (ms : Members) (a : AlgorithmParameters) → as_object d ≡ Some ms → named_from d ≡ Some a → kind_from d ≡ Some a
@@ -60,20 +60,20 @@ kind_from-float d ms e is none = weaker _ _ e (λ float. kind_from-at d ms None 
 -- ---- writing
 
 -- a value reads as one key at most
-pub one_key : (d : Data) (k l : Jwk) → ReadsKey d k → ReadsKey d l → k ≡ l
-one_key d k l r s =
+pub reads_one_key : (d : Data) (k l : Jwk) → ReadsKey d k → ReadsKey d l → k ≡ l
+reads_one_key d k l r s =
     let common = one_common d k.common l.common r.common s.common in
     let algorithm : k.algorithm ≡ l.algorithm = cc (r.algorithm, s.algorithm) in
     λ i. record { common = common i; algorithm = algorithm i }
 
-reads_members : (k : Jwk) (ms : Members) → without common_names ms ≡ ms → algorithm_from (object ms) ≡ Some (normal_algorithm k.algorithm) → ReadsKey (object (with_common k.common ms)) (normal_key k)
+reads_members : (k : Jwk) (ms : Members) → without common_names ms ≡ ms → parameters_from (object ms) ≡ Some (normal_parameters k.algorithm) → ReadsKey (object (with_common k.common ms)) (normal_key k)
 reads_members k ms free kind = record {
   common = reads_with_common k.common ms free;
-  algorithm = ap (λ x. algorithm_from (object x)) (without-with_common k.common ms free) ∙ kind;
+  algorithm = ap (λ x. parameters_from (object x)) (without-with_common k.common ms free) ∙ kind;
 }
 
 -- what was written is an object of the kind's members, which have no common name
-written_at : (k : Jwk) (d : Data) (b : Bool) (o : Option Members) → has_common k.algorithm ≡ b → algorithm_members k.algorithm ≡ o → option_map object (cond b None (option_map (with_common k.common) o)) ≡ Some d → ReadsKey d (normal_key k)
+written_at : (k : Jwk) (d : Data) (b : Bool) (o : Option Members) → has_common k.algorithm ≡ b → parameters_members k.algorithm ≡ o → option_map object (cond b None (option_map (with_common k.common) o)) ≡ Some d → ReadsKey d (normal_key k)
 written_at k d true o e f is = absurd (cc)
 written_at k d false None e f is = absurd (cc)
 written_at k d false (Some ms) e f is =
@@ -83,7 +83,7 @@ written_at k d false (Some ms) e f is =
 pub reads_written : (k : Jwk) (d : Data) → key_value k ≡ Some d → ReadsKey d (normal_key k)
 reads_written k d is = written_at k d _ _ refl refl is
 
-no_float_at : (k : Jwk) (ms : Members) (b : Bool) (o : Option Members) → algorithm_members k.algorithm ≡ o → cond b None (option_map (with_common k.common) o) ≡ Some ms → members_have_float ms ≡ false
+no_float_at : (k : Jwk) (ms : Members) (b : Bool) (o : Option Members) → parameters_members k.algorithm ≡ o → cond b None (option_map (with_common k.common) o) ≡ Some ms → members_have_float ms ≡ false
 no_float_at k ms true o f is = absurd (cc)
 no_float_at k ms false None f is = absurd (cc)
 no_float_at k ms false (Some ns) f is =
@@ -96,7 +96,7 @@ written_no_float k ms is = no_float_at k ms _ _ refl is
 
 -- ---- normal forms
 
-own_in : (o : Option Members) (a : AlgorithmParameters) → option_and_then (λ ms. algorithm_from (object (without common_names ms))) o ≡ Some a → (ms : Members) × (OwnKind ms a × (has_common a ≡ false))
+own_in : (o : Option Members) (a : AlgorithmParameters) → option_and_then (λ ms. parameters_from (object (without common_names ms))) o ≡ Some a → (ms : Members) × (OwnKind ms a × (has_common a ≡ false))
 own_in None a e = absurd (cc)
 own_in (Some ms) a e =
     let ws = without common_names ms in
@@ -119,11 +119,11 @@ normal_twice k = λ i. record { common = common_twice k.common i; algorithm = ki
 same_written : (k l : Jwk) → IsNormal k → IsNormal l → key_value k ≡ key_value l → k ≡ l
 same_written k l n m e =
     let d = m.written.0 in
-    sym n.itself ∙ one_key d (normal_key k) (normal_key l) (reads_written k d (e ∙ m.written.1)) (reads_written l d m.written.1) ∙ m.itself
+    sym n.itself ∙ reads_one_key d (normal_key k) (normal_key l) (reads_written k d (e ∙ m.written.1)) (reads_written l d m.written.1) ∙ m.itself
 
 pub has_normal_form : (k : Jwk) → HasNormalForm k
 has_normal_form k = record {
-  reads_back = λ d is l. (λ r. one_key d l (normal_key k) r (reads_written k d is), λ e. subst (ReadsKey d) (sym e) (reads_written k d is));
+  reads_back = λ d is l. (λ r. reads_one_key d l (normal_key k) r (reads_written k d is), λ e. subst (ReadsKey d) (sym e) (reads_written k d is));
   once = normal_twice k;
   told_apart = λ n l m. (same_written k l n m, ap key_value);
 }

@@ -10,7 +10,7 @@ use Rattle.jwt_base.specs.KindOf.{RefusesAs}
 use Rattle.jwt_base.specs.declared.errors.Error.{Error}
 use Rattle.jwt_keys.specs.Jwk.{ReadsKey, key_value}
 use Rattle.jwt_keys.specs.JwkSet.{ReadsKeys, ReadsSet, key_values, set_value, normal_set, IsNormalSet, HasNormalSet}
-use Rattle.jwt_keys.proofs.JwkLemmas.{weaker, reads_written, one_key, read_is_normal, has_normal_form}
+use Rattle.jwt_keys.proofs.JwkLemmas.{weaker, reads_written, reads_one_key, read_is_normal, has_normal_form}
 use Rattle.jwt_keys.specs.declared.jwk.Jwk.{Jwk}
 
 more_at : (vs : List Value) (i : ℕ) (d : Value) (ks : List Jwk) (k : Jwk) → i < length vs → ReadsKeys (items_view (take i vs)) ks → ReadsKey (view (get_or vs i d)) k → ReadsKeys (items_view (take (suc i) vs)) (ks ++ k ∷ [])
@@ -67,7 +67,7 @@ one_list no_items [] (l ∷ ls) r s = absurd s
 one_list no_items (k ∷ ks) ls r s = absurd r
 one_list (item d ds) [] ls r s = absurd r
 one_list (item d ds) (k ∷ ks) [] r s = absurd s
-one_list (item d ds) (k ∷ ks) (l ∷ ls) r s = λ i. one_key d k l r.0 s.0 i ∷ one_list ds ks ls r.1 s.1 i
+one_list (item d ds) (k ∷ ks) (l ∷ ls) r s = λ i. reads_one_key d k l r.0 s.0 i ∷ one_list ds ks ls r.1 s.1 i
 
 one_set : (d : Data) (ks ls : List Jwk) → ReadsSet d ks → ReadsSet d ls → ks ≡ ls
 one_set d ks ls (ds, at, r) (es, there, s) =

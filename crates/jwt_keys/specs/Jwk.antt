@@ -7,13 +7,13 @@ use Rattle.serde_json.specs.Find.{as_object}
 use Rattle.jwt_base.specs.Algorithm.{algorithm_of}
 use Rattle.jwt_base.specs.Members.{without}
 use Rattle.jwt_params.specs.Common.{common_names, ReadsCommon, with_common}
-use Rattle.jwt_kinds.specs.Kinds.{algorithm_from, algorithm_members, has_common, marked_algorithm}
-use Rattle.jwt_kinds.specs.declared.algorithm.AlgorithmParameters.{AlgorithmParameters}
+use Rattle.jwt_kinds.specs.Kinds.{parameters_from, parameters_members, has_common, marked_parameters}
+use Rattle.jwt_kinds.specs.declared.parameters.AlgorithmParameters.{AlgorithmParameters}
 use Rattle.jwt_keys.specs.declared.jwk.Jwk.{Jwk}
 
 -- the kind of what is left without the common members
 abbrev pub kind_from : Data → Option AlgorithmParameters
-kind_from d = option_and_then (λ ms. algorithm_from (object (without common_names ms))) (as_object d)
+kind_from d = option_and_then (λ ms. parameters_from (object (without common_names ms))) (as_object d)
 
 -- d is an object, the common names give the common part, and the rest has the kind
 pub record ReadsKey (d : Data) (k : Jwk) : Type 0 where
@@ -22,7 +22,7 @@ pub record ReadsKey (d : Data) (k : Jwk) : Type 0 where
 
 -- none where an `Other` holds a common name or a float
 abbrev pub key_members : Jwk → Option Members
-key_members k = if has_common k.algorithm then None else option_map (with_common k.common) (algorithm_members k.algorithm)
+key_members k = if has_common k.algorithm then None else option_map (with_common k.common) (parameters_members k.algorithm)
 
 abbrev pub key_value : Jwk → Option Data
 key_value k = option_map object (key_members k)
@@ -37,4 +37,4 @@ has_id kid k = option_map_or (λ id. bytes_eq id kid) k.common.key_id false
 
 -- the key with one mark in place of each float
 abbrev pub marked_key : Jwk → Jwk
-marked_key k = record k { algorithm = marked_algorithm k.algorithm }
+marked_key k = record k { algorithm = marked_parameters k.algorithm }

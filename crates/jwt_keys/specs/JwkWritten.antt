@@ -2,13 +2,13 @@
 use Rattle.std.specs.Prelude.{◌≡◌, ◌↔◌, Some}
 use Rattle.serde_json.specs.Data.{Data}
 use Rattle.jwt_params.specs.Common.{normal_common}
-use Rattle.jwt_kinds.specs.Kinds.{normal_algorithm}
+use Rattle.jwt_kinds.specs.Kinds.{normal_parameters}
 use Rattle.jwt_keys.specs.Jwk.{ReadsKey, key_value}
 use Rattle.jwt_keys.specs.declared.jwk.Jwk.{Jwk}
 
 -- a free text that is a known spelling becomes the known value, and an `Other` with the members of a kind becomes that kind
 abbrev pub normal_key : Jwk → Jwk
-normal_key k = record { common = normal_common k.common; algorithm = normal_algorithm k.algorithm }
+normal_key k = record { common = normal_common k.common; algorithm = normal_parameters k.algorithm }
 
 -- its own normal form, and one that can be written
 pub record IsNormal (k : Jwk) : Type 0 where

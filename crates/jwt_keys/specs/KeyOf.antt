@@ -2,8 +2,8 @@
 use Rattle.std.specs.Prelude.{◌≡◌}
 use Rattle.jwt_base.specs.declared.algorithms.AlgorithmFamily.{AlgorithmFamily}
 use Rattle.jwt_base.specs.declared.algorithms.AlgorithmFamily.TheVariants as family
-use Rattle.jwt_keys.specs.declared.decoding.DecodingKeyKind.{DecodingKeyKind}
-use Rattle.jwt_keys.specs.declared.decoding.DecodingKeyKind.TheVariants.{SecretOrDer, RsaModulusExponent}
+use Rattle.jwt_keys.specs.declared.decoding_key.DecodingKeyKind.{DecodingKeyKind}
+use Rattle.jwt_keys.specs.declared.decoding_key.DecodingKeyKind.TheVariants.{SecretOrDer, RsaModulusExponent}
 use Rattle.jwt_keys.specs.Key.{Key, Plain, Components, KeyContent, Bytes, ModulusExponent}
 
 abbrev pub content_of : DecodingKeyKind → KeyContent

@@ -10,9 +10,9 @@ ghost use Rattle.jwt_keys.specs.JwkWritten.{IsNormal, HasNormalForm};
 
 use jwt_base::algorithms::Algorithm;
 use jwt_base::errors::{ErrorKind, Result, new_error};
-use jwt_kinds::algorithm::AlgorithmParameters;
 use jwt_kinds::free_members::FreeMembers;
 use jwt_kinds::other::OtherKeyParameters;
+use jwt_kinds::parameters::AlgorithmParameters;
 use jwt_params::common::CommonParameters;
 use serde_json::{Map, Value};
 use std::alloc::Global;

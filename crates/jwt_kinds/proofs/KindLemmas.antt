@@ -18,28 +18,28 @@ use Rattle.jwt_params.specs.declared.key_types.OctetKeyType.{OctetKeyType}
 use Rattle.jwt_params.specs.declared.key_types.OctetKeyType.TheVariants.{Octet}
 use Rattle.jwt_params.specs.declared.key_types.OctetKeyPairType.{OctetKeyPairType}
 use Rattle.jwt_params.specs.declared.key_types.OctetKeyPairType.TheVariants.{OctetKeyPair}
-use Rattle.jwt_kinds.specs.Kinds.{other_from, named_from, algorithm_from, elliptic_members, rsa_members, octet_members, pair_members, algorithm_members, normal_algorithm, has_common}
+use Rattle.jwt_kinds.specs.Kinds.{other_from, named_from, parameters_from, elliptic_members, rsa_members, octet_members, pair_members, parameters_members, normal_parameters, has_common}
 use Rattle.jwt_kinds.specs.declared.elliptic.EllipticCurveKeyParameters.{EllipticCurveKeyParameters}
 use Rattle.jwt_kinds.specs.declared.rsa.RSAKeyParameters.{RSAKeyParameters}
 use Rattle.jwt_kinds.specs.declared.octet.OctetKeyParameters.{OctetKeyParameters}
 use Rattle.jwt_kinds.specs.declared.octet_pair.OctetKeyPairParameters.{OctetKeyPairParameters}
 use Rattle.jwt_kinds.specs.declared.other.OtherKeyParameters.{OtherKeyParameters}
-use Rattle.jwt_kinds.specs.declared.algorithm.AlgorithmParameters.{AlgorithmParameters}
-use Rattle.jwt_kinds.specs.declared.algorithm.AlgorithmParameters.TheVariants as kinds
+use Rattle.jwt_kinds.specs.declared.parameters.AlgorithmParameters.{AlgorithmParameters}
+use Rattle.jwt_kinds.specs.declared.parameters.AlgorithmParameters.TheVariants as kinds
 
-elliptic_read : (t : EllipticCurveKeyType) (c : EllipticCurve) (x y : List ℕ) → let p : EllipticCurveKeyParameters = record { key_type = t; curve = c; x = x; y = y } in algorithm_from (object (elliptic_members p)) ≡ Some (kinds.EllipticCurve p)
+elliptic_read : (t : EllipticCurveKeyType) (c : EllipticCurve) (x y : List ℕ) → let p : EllipticCurveKeyParameters = record { key_type = t; curve = c; x = x; y = y } in parameters_from (object (elliptic_members p)) ≡ Some (kinds.EllipticCurve p)
 elliptic_read EC P256 x y = refl
 elliptic_read EC P384 x y = refl
 elliptic_read EC P521 x y = refl
 elliptic_read EC Ed25519 x y = refl
 
-rsa_read : (t : RSAKeyType) (n e : List ℕ) → let p : RSAKeyParameters = record { key_type = t; n = n; e = e } in algorithm_from (object (rsa_members p)) ≡ Some (kinds.RSA p)
+rsa_read : (t : RSAKeyType) (n e : List ℕ) → let p : RSAKeyParameters = record { key_type = t; n = n; e = e } in parameters_from (object (rsa_members p)) ≡ Some (kinds.RSA p)
 rsa_read RSA n e = refl
 
-octet_read : (t : OctetKeyType) (k : List ℕ) → let p : OctetKeyParameters = record { key_type = t; value = k } in algorithm_from (object (octet_members p)) ≡ Some (kinds.OctetKey p)
+octet_read : (t : OctetKeyType) (k : List ℕ) → let p : OctetKeyParameters = record { key_type = t; value = k } in parameters_from (object (octet_members p)) ≡ Some (kinds.OctetKey p)
 octet_read Octet k = refl
 
-pair_read : (t : OctetKeyPairType) (c : EllipticCurve) (x : List ℕ) → let p : OctetKeyPairParameters = record { key_type = t; curve = c; x = x } in algorithm_from (object (pair_members p)) ≡ Some (kinds.OctetKeyPair p)
+pair_read : (t : OctetKeyPairType) (c : EllipticCurve) (x : List ℕ) → let p : OctetKeyPairParameters = record { key_type = t; curve = c; x = x } in parameters_from (object (pair_members p)) ≡ Some (kinds.OctetKeyPair p)
 pair_read OctetKeyPair P256 x = refl
 pair_read OctetKeyPair P384 x = refl
 pair_read OctetKeyPair P521 x = refl
@@ -49,18 +49,18 @@ or_other : (o : Option AlgorithmParameters) (a : AlgorithmParameters) → option
 or_other None a = refl
 or_other (Some x) a = refl
 
-other_read : (p : OtherKeyParameters) (ms : Members) (b : Bool) → members_have_float p.fields ≡ b → cond b None (Some p.fields) ≡ Some ms → algorithm_from (object ms) ≡ Some (normal_algorithm (kinds.Other p))
+other_read : (p : OtherKeyParameters) (ms : Members) (b : Bool) → members_have_float p.fields ≡ b → cond b None (Some p.fields) ≡ Some ms → parameters_from (object ms) ≡ Some (normal_parameters (kinds.Other p))
 other_read p ms true is e = absurd (cc)
 other_read p ms false is e =
     let same : p.fields ≡ ms = cc in
     rw (← same, is) (or_other (named_from (object p.fields)) (kinds.Other p))
 
 -- what is written of a kind reads as its normal form
-pub kind_read : (a : AlgorithmParameters) (ms : Members) → algorithm_members a ≡ Some ms → algorithm_from (object ms) ≡ Some (normal_algorithm a)
-kind_read (kinds.EllipticCurve p) ms is = ap (λ x. algorithm_from (object x)) (sym (ap (λ o. unwrap_or o ms) is)) ∙ elliptic_read p.key_type p.curve p.x p.y
-kind_read (kinds.RSA p) ms is = ap (λ x. algorithm_from (object x)) (sym (ap (λ o. unwrap_or o ms) is)) ∙ rsa_read p.key_type p.n p.e
-kind_read (kinds.OctetKey p) ms is = ap (λ x. algorithm_from (object x)) (sym (ap (λ o. unwrap_or o ms) is)) ∙ octet_read p.key_type p.value
-kind_read (kinds.OctetKeyPair p) ms is = ap (λ x. algorithm_from (object x)) (sym (ap (λ o. unwrap_or o ms) is)) ∙ pair_read p.key_type p.curve p.x
+pub kind_read : (a : AlgorithmParameters) (ms : Members) → parameters_members a ≡ Some ms → parameters_from (object ms) ≡ Some (normal_parameters a)
+kind_read (kinds.EllipticCurve p) ms is = ap (λ x. parameters_from (object x)) (sym (ap (λ o. unwrap_or o ms) is)) ∙ elliptic_read p.key_type p.curve p.x p.y
+kind_read (kinds.RSA p) ms is = ap (λ x. parameters_from (object x)) (sym (ap (λ o. unwrap_or o ms) is)) ∙ rsa_read p.key_type p.n p.e
+kind_read (kinds.OctetKey p) ms is = ap (λ x. parameters_from (object x)) (sym (ap (λ o. unwrap_or o ms) is)) ∙ octet_read p.key_type p.value
+kind_read (kinds.OctetKeyPair p) ms is = ap (λ x. parameters_from (object x)) (sym (ap (λ o. unwrap_or o ms) is)) ∙ pair_read p.key_type p.curve p.x
 kind_read (kinds.Other p) ms is = other_read p ms _ refl is
 
 other_free : (p : OtherKeyParameters) (ms : Members) (b : Bool) → without common_names p.fields ≡ p.fields → cond b None (Some p.fields) ≡ Some ms → without common_names ms ≡ ms
@@ -68,7 +68,7 @@ other_free p ms true free e = absurd (cc)
 other_free p ms false free e = let same : p.fields ≡ ms = cc in rw (← same) free
 
 -- the members of a kind have none of the common names
-pub kind_free : (a : AlgorithmParameters) (ms : Members) → has_common a ≡ false → algorithm_members a ≡ Some ms → without common_names ms ≡ ms
+pub kind_free : (a : AlgorithmParameters) (ms : Members) → has_common a ≡ false → parameters_members a ≡ Some ms → without common_names ms ≡ ms
 kind_free (kinds.EllipticCurve p) ms e is = let same = ap (λ o. unwrap_or o ms) is in rw (← same) refl
 kind_free (kinds.RSA p) ms e is = let same = ap (λ o. unwrap_or o ms) is in rw (← same) refl
 kind_free (kinds.OctetKey p) ms e is = let same = ap (λ o. unwrap_or o ms) is in rw (← same) refl
@@ -80,7 +80,7 @@ other_no_float p ms true is e = absurd (cc)
 other_no_float p ms false is e = let same : p.fields ≡ ms = cc in rw (← same) is
 
 -- what is written of a kind has no float
-pub kind_no_float : (a : AlgorithmParameters) (ms : Members) → algorithm_members a ≡ Some ms → members_have_float ms ≡ false
+pub kind_no_float : (a : AlgorithmParameters) (ms : Members) → parameters_members a ≡ Some ms → members_have_float ms ≡ false
 kind_no_float (kinds.EllipticCurve p) ms is = let same = ap (λ o. unwrap_or o ms) is in rw (← same) refl
 kind_no_float (kinds.RSA p) ms is = let same = ap (λ o. unwrap_or o ms) is in rw (← same) refl
 kind_no_float (kinds.OctetKey p) ms is = let same = ap (λ o. unwrap_or o ms) is in rw (← same) refl
@@ -89,9 +89,9 @@ kind_no_float (kinds.Other p) ms is = other_no_float p ms _ refl is
 
 -- a kind that was read of these members
 pub record OwnKind (ms : Members) (a : AlgorithmParameters) : Type 0 where
-  pub stays : normal_algorithm a ≡ a
+  pub stays : normal_parameters a ≡ a
   pub free : has_named common_names ms ≡ false → has_common a ≡ false
-  pub members : (written : Members) × (algorithm_members a ≡ Some written)
+  pub members : (written : Members) × (parameters_members a ≡ Some written)
 
 -- one with parameters of its own
 named_at : (ms : Members) (x : Option EllipticCurveKeyParameters) (y : Option RSAKeyParameters) (z : Option OctetKeyParameters) (w : Option OctetKeyPairParameters) (a : AlgorithmParameters) → option_or (option_map kinds.EllipticCurve x) (option_or (option_map kinds.RSA y) (option_or (option_map kinds.OctetKey z) (option_map kinds.OctetKeyPair w))) ≡ Some a → OwnKind ms a
@@ -109,11 +109,11 @@ own_of : (ms : Members) (o : Option AlgorithmParameters) (a : AlgorithmParameter
 own_of ms None a is e = other_own ms _ a refl is e
 own_of ms (Some b) a is e = subst (OwnKind ms) (ap (λ o. unwrap_or o a) e) (named_at ms _ _ _ _ b is)
 
-pub kind_own : (ms : Members) (a : AlgorithmParameters) → algorithm_from (object ms) ≡ Some a → OwnKind ms a
+pub kind_own : (ms : Members) (a : AlgorithmParameters) → parameters_from (object ms) ≡ Some a → OwnKind ms a
 kind_own ms a e = own_of ms _ a refl e
 
 -- what was read is its own normal form
-pub kind_stays : (d : Data) (a : AlgorithmParameters) → algorithm_from d ≡ Some a → normal_algorithm a ≡ a
+pub kind_stays : (d : Data) (a : AlgorithmParameters) → parameters_from d ≡ Some a → normal_parameters a ≡ a
 kind_stays null a e = absurd (cc)
 kind_stays (boolean b) a e = absurd (cc)
 kind_stays (number n) a e = absurd (cc)
@@ -121,11 +121,11 @@ kind_stays (string s) a e = absurd (cc)
 kind_stays (array ds) a e = absurd (cc)
 kind_stays (object ms) a e = (kind_own ms a e).stays
 
-twice_at : (p : OtherKeyParameters) (o : Option AlgorithmParameters) → named_from (object p.fields) ≡ o → normal_algorithm (unwrap_or o (kinds.Other p)) ≡ unwrap_or o (kinds.Other p)
+twice_at : (p : OtherKeyParameters) (o : Option AlgorithmParameters) → named_from (object p.fields) ≡ o → normal_parameters (unwrap_or o (kinds.Other p)) ≡ unwrap_or o (kinds.Other p)
 twice_at p None e = rw e
 twice_at p (Some a) e = (named_at p.fields _ _ _ _ a e).stays
 
-pub kind_twice : (a : AlgorithmParameters) → normal_algorithm (normal_algorithm a) ≡ normal_algorithm a
+pub kind_twice : (a : AlgorithmParameters) → normal_parameters (normal_parameters a) ≡ normal_parameters a
 kind_twice (kinds.EllipticCurve p) = refl
 kind_twice (kinds.RSA p) = refl
 kind_twice (kinds.OctetKey p) = refl

@@ -20,8 +20,8 @@ use Rattle.jwt_kinds.specs.declared.rsa.RSAKeyParameters.{RSAKeyParameters}
 use Rattle.jwt_kinds.specs.declared.octet.OctetKeyParameters.{OctetKeyParameters}
 use Rattle.jwt_kinds.specs.declared.octet_pair.OctetKeyPairParameters.{OctetKeyPairParameters}
 use Rattle.jwt_kinds.specs.declared.other.OtherKeyParameters.{OtherKeyParameters}
-use Rattle.jwt_kinds.specs.declared.algorithm.AlgorithmParameters.{AlgorithmParameters}
-use Rattle.jwt_kinds.specs.declared.algorithm.AlgorithmParameters.TheVariants as kinds
+use Rattle.jwt_kinds.specs.declared.parameters.AlgorithmParameters.{AlgorithmParameters}
+use Rattle.jwt_kinds.specs.declared.parameters.AlgorithmParameters.TheVariants as kinds
 
 abbrev pub is_type : List ℕ → Data → Bool
 is_type name d = option_map_or (λ s. bytes_eq s name) (text_at (codes "kty") d) false
@@ -50,8 +50,8 @@ abbrev pub named_from : Data → Option AlgorithmParameters
 named_from d = option_or (option_map kinds.EllipticCurve (elliptic_from d)) (option_or (option_map kinds.RSA (rsa_from d)) (option_or (option_map kinds.OctetKey (octet_from d)) (option_map kinds.OctetKeyPair (pair_from d))))
 
 -- the first of the five
-abbrev pub algorithm_from : Data → Option AlgorithmParameters
-algorithm_from d = option_or (named_from d) (option_map kinds.Other (other_from d))
+abbrev pub parameters_from : Data → Option AlgorithmParameters
+parameters_from d = option_or (named_from d) (option_map kinds.Other (other_from d))
 
 abbrev pub elliptic_members : EllipticCurveKeyParameters → Members
 elliptic_members p = put (codes "y") (string p.y) (put (codes "x") (string p.x) (put (codes "crv") (string (curve_name p.curve)) (put (codes "kty") (string (elliptic_type_name p.key_type)) no_members)))
@@ -74,32 +74,32 @@ has_common own = false
 abbrev pub other_members : OtherKeyParameters → Option Members
 other_members p = if members_have_float p.fields then None else Some p.fields
 
-abbrev pub algorithm_members : AlgorithmParameters → Option Members
-algorithm_members (kinds.EllipticCurve p) = Some (elliptic_members p)
-algorithm_members (kinds.RSA p) = Some (rsa_members p)
-algorithm_members (kinds.OctetKey p) = Some (octet_members p)
-algorithm_members (kinds.OctetKeyPair p) = Some (pair_members p)
-algorithm_members (kinds.Other p) = other_members p
+abbrev pub parameters_members : AlgorithmParameters → Option Members
+parameters_members (kinds.EllipticCurve p) = Some (elliptic_members p)
+parameters_members (kinds.RSA p) = Some (rsa_members p)
+parameters_members (kinds.OctetKey p) = Some (octet_members p)
+parameters_members (kinds.OctetKeyPair p) = Some (pair_members p)
+parameters_members (kinds.Other p) = other_members p
 
-abbrev pub algorithm_value : AlgorithmParameters → Option Data
-algorithm_value a = option_map object (algorithm_members a)
+abbrev pub parameters_value : AlgorithmParameters → Option Data
+parameters_value a = option_map object (parameters_members a)
 
 -- an `Other` with the members of a kind becomes that kind
-abbrev pub normal_algorithm : AlgorithmParameters → AlgorithmParameters
-normal_algorithm (kinds.EllipticCurve p) = kinds.EllipticCurve p
-normal_algorithm (kinds.RSA p) = kinds.RSA p
-normal_algorithm (kinds.OctetKey p) = kinds.OctetKey p
-normal_algorithm (kinds.OctetKeyPair p) = kinds.OctetKeyPair p
-normal_algorithm (kinds.Other p) = unwrap_or (named_from (object p.fields)) (kinds.Other p)
+abbrev pub normal_parameters : AlgorithmParameters → AlgorithmParameters
+normal_parameters (kinds.EllipticCurve p) = kinds.EllipticCurve p
+normal_parameters (kinds.RSA p) = kinds.RSA p
+normal_parameters (kinds.OctetKey p) = kinds.OctetKey p
+normal_parameters (kinds.OctetKeyPair p) = kinds.OctetKeyPair p
+normal_parameters (kinds.Other p) = unwrap_or (named_from (object p.fields)) (kinds.Other p)
 
 -- one mark in place of each float
 abbrev pub marked_other : OtherKeyParameters → OtherKeyParameters
 marked_other p = record { fields = members_marked p.fields }
 
 -- the kind with one mark in place of each float
-abbrev pub marked_algorithm : AlgorithmParameters → AlgorithmParameters
-marked_algorithm (kinds.EllipticCurve p) = kinds.EllipticCurve p
-marked_algorithm (kinds.RSA p) = kinds.RSA p
-marked_algorithm (kinds.OctetKey p) = kinds.OctetKey p
-marked_algorithm (kinds.OctetKeyPair p) = kinds.OctetKeyPair p
-marked_algorithm (kinds.Other p) = kinds.Other (marked_other p)
+abbrev pub marked_parameters : AlgorithmParameters → AlgorithmParameters
+marked_parameters (kinds.EllipticCurve p) = kinds.EllipticCurve p
+marked_parameters (kinds.RSA p) = kinds.RSA p
+marked_parameters (kinds.OctetKey p) = kinds.OctetKey p
+marked_parameters (kinds.OctetKeyPair p) = kinds.OctetKeyPair p
+marked_parameters (kinds.Other p) = kinds.Other (marked_other p)

@@ -6,10 +6,10 @@ use Rattle.jwt_validation.specs.Options.{Options, Texts, audience}
 use Rattle.jwt_validation.specs.Claim.{Claims, claims_of, IsWellFormed, IfValue}
 use Rattle.jwt_validation.specs.ClaimRules.{Holds, RulesHold, SharesMember, text}
 use Rattle.jwt_validation.specs.Moments.{checked, end_of_time, RulesOfNoMoment, first_moment, last_moment, IsTimeless, IsSubset, Looser}
-use Rattle.jwt_validation.specs.declared.validation.claims.Claim.{Claim}
-use Rattle.jwt_validation.specs.declared.validation.claims.Claim.TheVariants.{Absent, Malformed, Value}
-use Rattle.jwt_validation.specs.declared.validation.rules.Rule.{Rule}
-use Rattle.jwt_validation.specs.declared.validation.rules.Rule.TheVariants.{ExpFormat, NbfFormat, ExpReject, ExpTime, NbfTime, Subject, Issuer, Audience}
+use Rattle.jwt_validation.specs.declared.claims.Claim.{Claim}
+use Rattle.jwt_validation.specs.declared.claims.Claim.TheVariants.{Absent, Malformed, Value}
+use Rattle.jwt_validation.specs.declared.rules.Rule.{Rule}
+use Rattle.jwt_validation.specs.declared.rules.Rule.TheVariants.{ExpFormat, NbfFormat, ExpReject, ExpTime, NbfTime, Subject, Issuer, Audience}
 
 -- ---- moments
 

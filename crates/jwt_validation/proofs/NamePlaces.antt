@@ -1,7 +1,7 @@
 -- Where the names and the rules stand in the lists that the code goes through.
 use Rattle.std.proofs.Common.{ℕ}
-use Rattle.jwt_validation.specs.declared.validation.claims.Name.{Name}
-use Rattle.jwt_validation.specs.declared.validation.claims.Name.TheVariants.{Exp, Nbf, Aud, Iss, Sub}
+use Rattle.jwt_validation.specs.declared.claims.Name.{Name}
+use Rattle.jwt_validation.specs.declared.claims.Name.TheVariants.{Exp, Nbf, Aud, Iss, Sub}
 
 abbrev pub name_place : Name → ℕ
 name_place Exp = 1

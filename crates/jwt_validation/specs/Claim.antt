@@ -3,8 +3,8 @@ use Rattle.std.specs.Prelude.{ℕ, List, [], ◌∷◌, Option, Some, None, opti
 use Rattle.std.specs.Option.{option_map_or}
 use Rattle.serde_json.specs.Data.{Data, null, boolean, number, string, array, object, Items, no_items, item}
 use Rattle.serde_json.specs.Find.{get, as_number, as_u64, as_str}
-use Rattle.jwt_validation.specs.declared.validation.claims.Claim.{Claim}
-use Rattle.jwt_validation.specs.declared.validation.claims.Claim.TheVariants.{Absent, Malformed, Value}
+use Rattle.jwt_validation.specs.declared.claims.Claim.{Claim}
+use Rattle.jwt_validation.specs.declared.claims.Claim.TheVariants.{Absent, Malformed, Value}
 
 -- a member that is a time
 abbrev pub time_in : Option Data → Claim ℕ

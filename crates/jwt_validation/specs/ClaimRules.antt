@@ -8,12 +8,12 @@ use Rattle.jwt_base.specs.KindOf.{kind_of, IsMemory}
 use Rattle.jwt_base.specs.declared.errors.Error.{Error}
 use Rattle.jwt_validation.specs.Options.{Options, Texts, audience}
 use Rattle.jwt_validation.specs.Claim.{Claims, claims_of, IsWellFormed, IsPresent, IfValue}
-use Rattle.jwt_validation.specs.declared.validation.claims.Name.{Name}
-use Rattle.jwt_validation.specs.declared.validation.claims.Name.TheVariants.{Exp, Nbf, Aud, Iss, Sub}
-use Rattle.jwt_validation.specs.declared.validation.claims.Claim.{Claim}
-use Rattle.jwt_validation.specs.declared.validation.claims.Claim.TheVariants.{Absent, Malformed, Value}
-use Rattle.jwt_validation.specs.declared.validation.rules.Rule.{Rule}
-use Rattle.jwt_validation.specs.declared.validation.rules.Rule.TheVariants.{ExpFormat, NbfFormat, ExpReject, ExpTime, NbfTime, Subject, Issuer, Audience}
+use Rattle.jwt_validation.specs.declared.claims.Name.{Name}
+use Rattle.jwt_validation.specs.declared.claims.Name.TheVariants.{Exp, Nbf, Aud, Iss, Sub}
+use Rattle.jwt_validation.specs.declared.claims.Claim.{Claim}
+use Rattle.jwt_validation.specs.declared.claims.Claim.TheVariants.{Absent, Malformed, Value}
+use Rattle.jwt_validation.specs.declared.rules.Rule.{Rule}
+use Rattle.jwt_validation.specs.declared.rules.Rule.TheVariants.{ExpFormat, NbfFormat, ExpReject, ExpTime, NbfTime, Subject, Issuer, Audience}
 
 -- ---- the required claims
 

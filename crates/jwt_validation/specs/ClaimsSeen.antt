@@ -5,9 +5,9 @@ use Rattle.serde_json.specs.Find.{as_str}
 use Rattle.serde_json.specs.View.{view}
 use Rattle.serde_json.specs.declared.value.Value.{Value}
 use Rattle.jwt_validation.specs.Claim.{Claims}
-use Rattle.jwt_validation.specs.declared.validation.claims.Claim.{Claim}
-use Rattle.jwt_validation.specs.declared.validation.claims.Claim.TheVariants as claim
-use Rattle.jwt_validation.specs.declared.validation.claims.SpecClaims.{SpecClaims}
+use Rattle.jwt_validation.specs.declared.claims.Claim.{Claim}
+use Rattle.jwt_validation.specs.declared.claims.Claim.TheVariants as claim
+use Rattle.jwt_validation.specs.declared.claims.SpecClaims.{SpecClaims}
 
 -- a claim, with its value under f
 abbrev pub seen : {A B : Type 0} → (A → B) → Claim A → Claim B

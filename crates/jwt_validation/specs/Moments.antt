@@ -7,11 +7,11 @@ use Rattle.jwt_base.specs.declared.algorithms.Algorithm.{Algorithm}
 use Rattle.jwt_validation.specs.Options.{Options, Texts, audience}
 use Rattle.jwt_validation.specs.Claim.{Claims, claims_of}
 use Rattle.jwt_validation.specs.ClaimRules.{IsMissing, Holds}
-use Rattle.jwt_validation.specs.declared.validation.claims.Name.{Name}
-use Rattle.jwt_validation.specs.declared.validation.claims.Claim.{Claim}
-use Rattle.jwt_validation.specs.declared.validation.claims.Claim.TheVariants.{Absent, Malformed, Value}
-use Rattle.jwt_validation.specs.declared.validation.rules.Rule.{Rule}
-use Rattle.jwt_validation.specs.declared.validation.rules.Rule.TheVariants.{ExpFormat, NbfFormat, ExpReject, ExpTime, NbfTime, Subject, Issuer, Audience}
+use Rattle.jwt_validation.specs.declared.claims.Name.{Name}
+use Rattle.jwt_validation.specs.declared.claims.Claim.{Claim}
+use Rattle.jwt_validation.specs.declared.claims.Claim.TheVariants.{Absent, Malformed, Value}
+use Rattle.jwt_validation.specs.declared.rules.Rule.{Rule}
+use Rattle.jwt_validation.specs.declared.rules.Rule.TheVariants.{ExpFormat, NbfFormat, ExpReject, ExpTime, NbfTime, Subject, Issuer, Audience}
 
 -- the rules that do not speak of the moment
 abbrev pub IsTimeless : Rule → Type 0

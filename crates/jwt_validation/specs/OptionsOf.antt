@@ -2,7 +2,7 @@
 use Rattle.std.specs.Prelude.{option_map, string_bytes}
 use Rattle.std.specs.HashSet.{contains_text}
 use Rattle.jwt_validation.specs.Options.{Options}
-use Rattle.jwt_validation.specs.declared.validation.options.Validation.{Validation}
+use Rattle.jwt_validation.specs.declared.validation.Validation.{Validation}
 
 abbrev pub options_of : Validation → Options
 options_of v = record {

@@ -1,4 +1,12 @@
 //! The claim rules of a token (RFC 7519 section 4.1).
 #![tactic(auto)]
 
-pub mod validation;
+mod check;
+mod claims;
+mod clock;
+mod rules;
+mod validation;
+
+pub use check::validate;
+pub use clock::{Clock, get_current_timestamp};
+pub use validation::Validation;

@@ -1,99 +1,253 @@
-//! The claim rules of a token (RFC 7519 section 4.1).
+//! What the claims of a token are checked against.
 
-ghost use Rattle.std.specs.Prelude.{◌≡◌, ◌↔◌, IsOk, OnOk, IfErr, IsSome, MatchOption};
-ghost use Rattle.serde_json.specs.Find.{as_object};
-ghost use Rattle.serde_json.specs.View.{view};
-ghost use Rattle.jwt_base.specs.Kind.{Kind};
-ghost use Rattle.jwt_validation.specs.ClaimRules.{IsMissing, IsFirstBroken, Holds, RulesHold, IsFault, Tells};
-ghost use Rattle.jwt_validation.specs.ClaimsSeen.{claims_seen};
-ghost use Rattle.jwt_validation.specs.Moments.{IsAcceptedWithin, Looser};
-ghost use Rattle.jwt_validation.specs.Options.{Options};
+ghost use Rattle.std.specs.Prelude.{◌≡◌, ◌||◌, IfOk, IfErr, OnOk, OnErr, Some, None, option_map, string_bytes, ◌∷◌, []};
+ghost use Rattle.std.specs.HashSet.{contains_text};
+ghost use Rattle.std.specs.Str.{bytes_eq};
+ghost use Rattle.jwt_base.specs.Algorithm.{algorithms_of};
+ghost use Rattle.jwt_base.specs.KindOf.{IsMemory};
+ghost use Rattle.jwt_validation.specs.Options.{among, default_options};
 ghost use Rattle.jwt_validation.specs.OptionsOf.{options_of};
+ghost use Rattle.jwt_validation.specs.equality.ValidationEq.{validation_eq};
 
-use crate::validation::claims::{NAMES, Name, SpecClaims};
-use crate::validation::rules::{RULES, Rule, holds, missing_claim, refusal};
-use jwt_base::errors::{ErrorKind, Result, new_error};
-use serde_json::Value;
+use jwt_base::algorithms::{Algorithm, AlgorithmFamily};
+use jwt_base::errors::Result;
 use std::alloc::Global;
+use std::collections::HashSet;
 
-mod claims;
-mod options;
-mod rules;
-mod timestamp;
-
-pub use crate::validation::options::Validation;
-pub use crate::validation::timestamp::{Clock, get_current_timestamp};
-
-/// Checks claims at the moment `now`, in whole seconds since 1970-01-01 00:00:00 UTC.
-///
-/// Claims that are no JSON object are refused with `Json`. Then each required claim must be there and well formed,
-/// else the answer is `MissingRequiredClaim` of one that is not. Then the rules are tested in this order, and the
-/// answer is the error of the first that is broken:
-///
-/// - where `exp` is checked, it is a whole number, else `InvalidClaimFormat`;
-/// - where `nbf` is checked, it is a whole number, else `InvalidClaimFormat`;
-/// - `exp` is no less than the time that must be left, else `InvalidToken`;
-/// - `exp` and the leeway are no less than `now` and the time that must be left, else `ExpiredSignature`;
-/// - `nbf` is at most `now` and the leeway, else `ImmatureSignature`;
-/// - `sub` is the configured subject, else `InvalidSubject`;
-/// - `iss` names a configured issuer, else `InvalidIssuer`;
-/// - `aud` names a configured audience, else `InvalidAudience`.
-///
-/// The last three are `InvalidClaimFormat` where the claim has a wrong type. A claim that is absent and not required
-/// breaks no rule. `OutOfMemory` may stand in place of `MissingRequiredClaim` and `InvalidClaimFormat` alone.
-pub fn validate(alloc: Global, claims: &Value, options: &Validation, now: u64) -> Result<()>
-    ensures ok { IsOk result ↔ (IsSome (as_object (view claims.now))
-        × RulesHold (options_of options.now) (view claims.now) now) }
-    ensures err { IfErr result (λ e. (k : Kind)
-        × IsFault (options_of options.now) (view claims.now) now k × Tells e k) }
-    ensures moments { IsOk result ↔ IsAcceptedWithin (options_of options.now) (view claims.now) now }
-    ensures looser { OnOk result ((w : Options) → Looser (options_of options.now) w
-        → RulesHold w (view claims.now) now) }
-{
-    check(alloc, claims, options, now)
+/// What a token is checked against. Times are in whole seconds.
+#[derive(Debug, Drop)]
+pub struct Validation {
+    /// The claims that must be there. Of these names `exp`, `nbf`, `aud`, `iss` and `sub` count, and others are
+    /// ignored. A malformed claim counts as missing.
+    pub required_spec_claims: HashSet<String>,
+    /// How far clocks may differ: a token is still accepted so long after `exp`, and already so long before `nbf`.
+    pub leeway: u64,
+    /// A token is refused so long before it expires.
+    pub reject_tokens_expiring_in_less_than: u64,
+    /// Whether `exp` is checked (RFC 7519 section 4.1.4).
+    pub validate_exp: bool,
+    /// Whether `nbf` is checked (RFC 7519 section 4.1.5).
+    pub validate_nbf: bool,
+    /// Whether `aud` is checked (RFC 7519 section 4.1.3).
+    pub validate_aud: bool,
+    /// The audiences of which a token's `aud` must name one. With none, a token that has an `aud` is refused.
+    pub aud: Option<HashSet<String>>,
+    /// The issuers of which a token's `iss` must name one (RFC 7519 section 4.1.1). With none, `iss` is not checked.
+    pub iss: Option<HashSet<String>>,
+    /// What a token's `sub` must be (RFC 7519 section 4.1.2). With none, `sub` is not checked.
+    pub sub: Option<String>,
+    /// The algorithms that are accepted.
+    pub algorithms: Vec<Algorithm>,
+    /// The header members that `crit` may name (RFC 7515 section 4.1.11).
+    pub understood_crit: HashSet<String>,
 }
 
-fn check(alloc: Global, claims: &Value, options: &Validation, now: u64) -> Result<()>
-    ensures ok { IsOk result ↔ (IsSome (as_object (view claims.now))
-        × RulesHold (options_of options.now) (view claims.now) now) }
-    ensures err { IfErr result (λ e. (k : Kind)
-        × IsFault (options_of options.now) (view claims.now) now k × Tells e k) }
-{
-    if !claims.is_object() {
-        return Err(new_error(ErrorKind::Json));
+impl Validation {
+    /// The checks of one algorithm: `exp` is required and checked, with 60 seconds of leeway, and any `aud` is
+    /// refused until an audience is set. The only refusal is `OutOfMemory`.
+    pub fn new(alloc: Global, algorithm: Algorithm) -> Result<Validation>
+        ensures ok { IfOk result (λ v. options_of v ≡ default_options (algorithm ∷ [])) }
+        ensures err { IfErr result IsMemory }
+    {
+        let mut algorithms = Vec::new(alloc);
+        algorithms.push(algorithm)?;
+        with_algorithms(alloc, algorithms)
     }
-    let claims = SpecClaims::read(claims);
-    if let Some(name) = first_missing(&claims, options) {
-        return Err(missing_claim(alloc, name.text()));
+
+    /// The same checks as `new`, for the algorithms of a family. The only refusal is `OutOfMemory`.
+    pub fn new_for_family(alloc: Global, family: AlgorithmFamily) -> Result<Validation>
+        ensures ok { IfOk result (λ v. options_of v ≡ default_options (algorithms_of family)) }
+        ensures err { IfErr result IsMemory }
+    {
+        let algorithms = family.algorithms().to_vec(alloc)?;
+        with_algorithms(alloc, algorithms)
     }
-    match first_broken(&claims, options, now) {
-        Some(rule) => Err(refusal(alloc, rule, &claims)),
-        None => Ok(()),
+
+    /// Replaces the audiences. The only refusal is `OutOfMemory`.
+    pub fn set_audience(&mut self, alloc: Global, audiences: &[&str]) -> Result<()>
+        ensures ok { OnOk result (options_of self.new
+            ≡ record (options_of self.old) { aud = Some (among (λ s. s.now) audiences.now) }) }
+        ensures unchanged { OnErr result (self.new ≡ self.old) }
+        ensures err { IfErr result IsMemory }
+    {
+        let audiences = set_of(alloc, audiences)?;
+        self.aud = Some(audiences);
+        Ok(())
+    }
+
+    /// Replaces the issuers. The only refusal is `OutOfMemory`.
+    pub fn set_issuer(&mut self, alloc: Global, issuers: &[&str]) -> Result<()>
+        ensures ok { OnOk result (options_of self.new
+            ≡ record (options_of self.old) { iss = Some (among (λ s. s.now) issuers.now) }) }
+        ensures unchanged { OnErr result (self.new ≡ self.old) }
+        ensures err { IfErr result IsMemory }
+    {
+        let issuers = set_of(alloc, issuers)?;
+        self.iss = Some(issuers);
+        Ok(())
+    }
+
+    /// Replaces the subject. The only refusal is `OutOfMemory`.
+    pub fn set_subject(&mut self, alloc: Global, subject: &str) -> Result<()>
+        ensures ok { OnOk result (options_of self.new
+            ≡ record (options_of self.old) { sub = Some subject.now }) }
+        ensures unchanged { OnErr result (self.new ≡ self.old) }
+        ensures err { IfErr result IsMemory }
+    {
+        let subject = String::from_str(alloc, subject)?;
+        self.sub = Some(subject);
+        Ok(())
+    }
+
+    /// Replaces the names of the required claims. The only refusal is `OutOfMemory`.
+    pub fn set_required_spec_claims(&mut self, alloc: Global, names: &[&str]) -> Result<()>
+        ensures ok { OnOk result (options_of self.new
+            ≡ record (options_of self.old) { required = among (λ s. s.now) names.now }) }
+        ensures unchanged { OnErr result (self.new ≡ self.old) }
+        ensures err { IfErr result IsMemory }
+    {
+        let required = set_of(alloc, names)?;
+        self.required_spec_claims = required;
+        Ok(())
+    }
+
+    /// Replaces the names that a header's `crit` may have. The only refusal is `OutOfMemory`.
+    pub fn set_understood_crit(&mut self, alloc: Global, names: &[&str]) -> Result<()>
+        ensures ok { OnOk result (options_of self.new
+            ≡ record (options_of self.old) { understood = among (λ s. s.now) names.now }) }
+        ensures unchanged { OnErr result (self.new ≡ self.old) }
+        ensures err { IfErr result IsMemory }
+    {
+        let understood = set_of(alloc, names)?;
+        self.understood_crit = understood;
+        Ok(())
+    }
+
+    /// A copy. The only refusal is `OutOfMemory`.
+    pub fn clone(&self, alloc: Global) -> Result<Validation>
+        ensures ok { IfOk result (λ v. options_of v ≡ options_of self.now) }
+        ensures err { IfErr result IsMemory }
+    {
+        Ok(Validation {
+            required_spec_claims: copied_set(&self.required_spec_claims)?,
+            leeway: self.leeway,
+            reject_tokens_expiring_in_less_than: self.reject_tokens_expiring_in_less_than,
+            validate_exp: self.validate_exp,
+            validate_nbf: self.validate_nbf,
+            validate_aud: self.validate_aud,
+            aud: copied_choice(&self.aud)?,
+            iss: copied_choice(&self.iss)?,
+            sub: copied_text(alloc, &self.sub)?,
+            algorithms: self.algorithms.as_slice().to_vec(alloc)?,
+            understood_crit: copied_set(&self.understood_crit)?,
+        })
     }
 }
 
-fn first_missing(claims: &SpecClaims, options: &Validation) -> Option<Name>
-    ensures { MatchOption result
-        ((n : Name) → ¬ IsMissing (options_of options.now) (claims_seen claims.now) n)
-        (λ n. IsMissing (options_of options.now) (claims_seen claims.now) n) }
+fn with_algorithms(alloc: Global, algorithms: Vec<Algorithm>) -> Result<Validation>
+    ensures ok { IfOk result (λ v. options_of v ≡ default_options algorithms.items) }
+    ensures err { IfErr result IsMemory }
 {
-    for name in NAMES {
-        if options.required_spec_claims.contains(name.text()) && !claims.has_value(name) {
-            return Some(name);
-        }
-    }
-    None
+    let required_spec_claims = set_of(alloc, &["exp"])?;
+    Ok(Validation {
+        required_spec_claims,
+        leeway: 60,
+        reject_tokens_expiring_in_less_than: 0,
+        validate_exp: true,
+        validate_nbf: false,
+        validate_aud: true,
+        aud: None,
+        iss: None,
+        sub: None,
+        algorithms,
+        understood_crit: HashSet::new(alloc),
+    })
 }
 
-fn first_broken(claims: &SpecClaims, options: &Validation, now: u64) -> Option<Rule>
-    ensures { MatchOption result
-        ((r : Rule) → Holds (options_of options.now) (claims_seen claims.now) now r)
-        (λ r. IsFirstBroken (options_of options.now) (claims_seen claims.now) now r) }
+fn set_of(alloc: Global, texts: &[&str]) -> Result<HashSet<String>>
+    ensures ok { IfOk result (λ set. (t : _) → contains_text set t ≡ among (λ s. s.now) texts.now t) }
+    ensures err { IfErr result IsMemory }
 {
-    for rule in RULES {
-        if !holds(rule, claims, options, now) {
-            return Some(rule);
-        }
+    let mut set = HashSet::new(alloc);
+    for text in texts {
+        insert_text(alloc, &mut set, text)?;
     }
-    None
+    Ok(set)
+}
+
+fn insert_text(alloc: Global, set: &mut HashSet<String>, text: &str) -> Result<()>
+    ensures ok { OnOk result ((t : _) → contains_text set.new t ≡ (bytes_eq text.now t || contains_text set.old t)) }
+    ensures err { IfErr result IsMemory }
+{
+    set.insert(String::from_str(alloc, text)?)?;
+    Ok(())
+}
+
+fn copied_set(set: &HashSet<String>) -> Result<HashSet<String>>
+    ensures ok { IfOk result (λ copy. contains_text copy ≡ contains_text set.now) }
+    ensures err { IfErr result IsMemory }
+{
+    let copy = set.clone()?;
+    Ok(copy)
+}
+
+fn copied_choice(set: &Option<HashSet<String>>) -> Result<Option<HashSet<String>>>
+    ensures ok { IfOk result (λ copy. option_map contains_text copy ≡ option_map contains_text set.now) }
+    ensures err { IfErr result IsMemory }
+{
+    match set {
+        Some(set) => Ok(Some(copied_set(set)?)),
+        None => Ok(None),
+    }
+}
+
+fn copied_text(alloc: Global, text: &Option<String>) -> Result<Option<String>>
+    ensures ok { IfOk result (λ copy. option_map string_bytes copy ≡ option_map string_bytes text.now) }
+    ensures err { IfErr result IsMemory }
+{
+    match text {
+        Some(text) => Ok(Some(String::from_str(alloc, text.as_str())?)),
+        None => Ok(None),
+    }
+}
+
+/// The same fields, the sets as sets.
+impl PartialEq for Validation {
+    ghost use Rattle.std.specs.Prelude.{◌≡◌, ◌↔◌, IsTrue};
+    ghost use Rattle.std.specs.Cmp.{partial_equiv_from_equiv};
+    ghost use Rattle.jwt_validation.specs.OptionsOf.{options_of};
+    ghost use Rattle.jwt_validation.specs.equality.ValidationEq.{validation_eq, validation_eq_equiv};
+
+    ghost eq = { validation_eq };
+
+    ghost laws = { partial_equiv_from_equiv validation_eq_equiv };
+
+    fn eq(&self, other: &Validation) -> bool
+        ensures test { result ≡ validation_eq self.now other.now }
+        ensures same { IsTrue result ↔ (options_of self.now ≡ options_of other.now) }
+    {
+        asks_same(self, other)
+    }
+}
+
+impl Eq for Validation {
+    ghost use Rattle.jwt_validation.specs.equality.ValidationEq.{validation_eq_equiv};
+
+    ghost laws = { validation_eq_equiv };
+}
+
+fn asks_same(one: &Validation, other: &Validation) -> bool
+    ensures { result ≡ validation_eq one.now other.now }
+{
+    one.required_spec_claims == other.required_spec_claims
+        && one.leeway == other.leeway
+        && one.reject_tokens_expiring_in_less_than == other.reject_tokens_expiring_in_less_than
+        && one.validate_exp == other.validate_exp
+        && one.validate_nbf == other.validate_nbf
+        && one.validate_aud == other.validate_aud
+        && one.aud == other.aud
+        && one.iss == other.iss
+        && one.sub == other.sub
+        && one.algorithms == other.algorithms
+        && one.understood_crit == other.understood_crit
 }

@@ -2,7 +2,7 @@
 
 use jwt_base::algorithms::{Algorithm, AlgorithmFamily};
 use jwt_base::errors::ErrorKind;
-use jwt_validation::validation::{Clock, Validation, get_current_timestamp};
+use jwt_validation::{Clock, Validation, get_current_timestamp};
 use std::test::Fail;
 
 #[test]

@@ -2,7 +2,7 @@
 
 use jwt_base::algorithms::Algorithm;
 use jwt_base::errors::{ErrorKind, Result as Answer};
-use jwt_header::header::Header;
+use jwt_header::Header;
 use serde_json::Value;
 use std::alloc::Global;
 use std::hash::{DefaultHasher, Hash, Hasher};

@@ -3,11 +3,11 @@
 use crate::calls::{copy_of, hash_of, header_of, new_header, read, rewritten, text_of};
 use jwt_base::algorithms::Algorithm;
 use jwt_base::errors::Result as Answer;
-use jwt_header::header::Header;
+use jwt_header::Header;
 use jwt_keys::jwk::Jwk;
-use jwt_kinds::algorithm::AlgorithmParameters;
 use jwt_kinds::free_members::FreeMembers;
 use jwt_kinds::other::OtherKeyParameters;
+use jwt_kinds::parameters::AlgorithmParameters;
 use jwt_params::common::CommonParameters;
 use serde_json::{Map, Value};
 use std::alloc::Global;

@@ -5,7 +5,7 @@ use jwt_base::algorithms::Algorithm;
 use jwt_base::errors::Result as Answer;
 use jwt_base::json::Claims;
 use jwt_base::text::{Text, Texts};
-use jwt_header::header::{Enc, Extras, Header, Zip};
+use jwt_header::{Enc, Extras, Header, Zip};
 use serde_json::Value;
 use std::alloc::Global;
 use std::process::Abort;

@@ -3,9 +3,9 @@
 use jwt_base::errors::Result as Answer;
 use jwt_base::text::Text;
 use jwt_keys::jwk::Jwk;
-use jwt_kinds::algorithm::AlgorithmParameters;
 use jwt_kinds::free_members::FreeMembers;
 use jwt_kinds::other::OtherKeyParameters;
+use jwt_kinds::parameters::AlgorithmParameters;
 use jwt_params::common::CommonParameters;
 use serde_json::{Map, Value};
 use std::alloc::Global;

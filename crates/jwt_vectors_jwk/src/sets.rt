@@ -4,7 +4,7 @@ use jwt_base::algorithms::KeyAlgorithm;
 use jwt_base::errors::Result as Answer;
 use jwt_keys::jwk::Jwk;
 use jwt_keys::jwk_set::JwkSet;
-use jwt_kinds::algorithm::AlgorithmParameters;
+use jwt_kinds::parameters::AlgorithmParameters;
 use serde_json::Value;
 use std::alloc::Global;
 use std::hash::{DefaultHasher, Hash, Hasher};

@@ -2,10 +2,10 @@
 
 use jwt_base::algorithms::Algorithm;
 use jwt_base::errors::{ErrorKind, Result};
-use jwt_hmac::hmac::{HmacProvider, HmacVerifier};
-use jwt_keys::crypto::{CryptoProvider, JwtSigner, JwtVerifier};
-use jwt_keys::decoding::DecodingKey;
-use jwt_keys::encoding::EncodingKey;
+use jwt_hmac::{HmacProvider, HmacVerifier};
+use jwt_keys::decoding_key::DecodingKey;
+use jwt_keys::encoding_key::EncodingKey;
+use jwt_keys::provider::{CryptoProvider, JwtSigner, JwtVerifier};
 use jwt_params::curves::EllipticCurve;
 use jwt_params::thumbprints::ThumbprintHash;
 use jwt_test_providers::refusals::is_refused;

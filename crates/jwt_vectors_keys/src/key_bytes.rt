@@ -2,8 +2,8 @@
 
 use jwt_base::algorithms::AlgorithmFamily;
 use jwt_base::errors::{ErrorKind, Result as Answer};
-use jwt_keys::decoding::{DecodingKey, DecodingKeyKind};
-use jwt_keys::encoding::EncodingKey;
+use jwt_keys::decoding_key::{DecodingKey, DecodingKeyKind};
+use jwt_keys::encoding_key::EncodingKey;
 use jwt_params::curves::EllipticCurve;
 use jwt_test_providers::refusals::is_refused;
 use serde_json::Value;

@@ -4,7 +4,7 @@ use crate::key_bytes::holds_components;
 use jwt_base::algorithms::AlgorithmFamily;
 use jwt_base::errors::{ErrorKind, Result as Answer};
 use jwt_base::serialization::json_value;
-use jwt_keys::decoding::DecodingKey;
+use jwt_keys::decoding_key::DecodingKey;
 use jwt_keys::jwk::Jwk;
 use jwt_test_providers::refusals::is_refused;
 use std::alloc::Global;

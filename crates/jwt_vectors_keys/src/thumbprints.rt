@@ -2,8 +2,8 @@
 
 use crate::keys_of_jwks::jwk;
 use jwt_base::errors::Result as Answer;
-use jwt_hmac::hmac::HmacProvider;
-use jwt_keys::crypto::CryptoProvider;
+use jwt_hmac::HmacProvider;
+use jwt_keys::provider::CryptoProvider;
 use jwt_params::thumbprints::ThumbprintHash;
 use jwt_test_providers::providers::{NoProvider, TableProvider};
 use std::alloc::Global;

@@ -10,8 +10,8 @@ ghost use Rattle.jsonwebtoken.specs.Steps.{AsksFor};
 
 use jwt_base::errors::{ErrorKind, Result, new_error};
 use jwt_base::text::Text;
-use jwt_header::header::{Extras, Header, is_header_name};
-use jwt_validation::validation::Validation;
+use jwt_header::{Extras, Header, is_header_name};
+use jwt_validation::Validation;
 use std::collections::HashSet;
 
 /// Refuses with `InvalidCrit` a header whose `crit` is not understood.

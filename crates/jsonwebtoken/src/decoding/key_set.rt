@@ -13,12 +13,12 @@ use crate::decoding::steps::{allowed_verifier, opened, token_parts, verified};
 use jwt_base::algorithms::{Algorithm, KeyAlgorithm};
 use jwt_base::errors::{ErrorKind, Result, new_error};
 use jwt_base::json::Claims;
-use jwt_header::header::Header;
-use jwt_keys::crypto::CryptoProvider;
-use jwt_keys::decoding::DecodingKey;
+use jwt_header::Header;
+use jwt_keys::decoding_key::DecodingKey;
 use jwt_keys::jwk::Jwk;
 use jwt_keys::jwk_set::JwkSet;
-use jwt_validation::validation::Validation;
+use jwt_keys::provider::CryptoProvider;
+use jwt_validation::Validation;
 use std::alloc::Global;
 
 /// The first key of the set with the header's `kid`. Where the header has none, or no key has it: `NoKey`.
@@ -83,7 +83,7 @@ fn decode_with_set_by_steps<P: CryptoProvider, T: Claims>(
 /// - the header has a `kid`, and a key of the set has it too, else `NoKey`; of several keys with that `kid` the first
 ///   is taken, and no other is looked at;
 /// - that key has no `alg`, or the header's (RFC 7517 section 4.4), else `InvalidAlgorithm`;
-/// - [`DecodingKey::from_jwk`](jwt_keys::decoding::DecodingKey::from_jwk) gives a key of it, else its kind.
+/// - [`DecodingKey::from_jwk`](jwt_keys::decoding_key::DecodingKey::from_jwk) gives a key of it, else its kind.
 pub fn decode_with_set<P: CryptoProvider, T: Claims>(
     alloc: Global,
     provider: &P,

@@ -15,10 +15,10 @@ use jwt_base::algorithms::Algorithm;
 use jwt_base::errors::{ErrorKind, Result, new_error};
 use jwt_base::json::Claims;
 use jwt_base::serialization::{json_value, part_bytes};
-use jwt_header::header::Header;
-use jwt_keys::crypto::{CryptoProvider, JwtVerifier};
-use jwt_keys::decoding::DecodingKey;
-use jwt_validation::validation::{Validation, validate};
+use jwt_header::Header;
+use jwt_keys::decoding_key::DecodingKey;
+use jwt_keys::provider::{CryptoProvider, JwtVerifier};
+use jwt_validation::{Validation, validate};
 use memchr::memrchr;
 use std::alloc::Global;
 

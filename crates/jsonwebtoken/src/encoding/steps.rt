@@ -20,9 +20,9 @@ use jwt_base::algorithms::Algorithm;
 use jwt_base::errors::{ErrorKind, Result, new_error};
 use jwt_base::json::Claims;
 use jwt_base::serialization::part_text;
-use jwt_header::header::Header;
-use jwt_keys::crypto::JwtSigner;
-use jwt_keys::encoding::EncodingKey;
+use jwt_header::Header;
+use jwt_keys::encoding_key::EncodingKey;
+use jwt_keys::provider::JwtSigner;
 use serde_json::Value;
 use std::alloc::Global;
 

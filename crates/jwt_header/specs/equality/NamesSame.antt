@@ -7,10 +7,10 @@ use Rattle.std.specs.Str.{bytes_eq}
 use Rattle.jwt_base.specs.equality.Decided.{decided_by, fed_by_mark, spelled_decides}
 use Rattle.jwt_header.specs.Enc.{enc_text, enc_named, is_other_enc}
 use Rattle.jwt_header.specs.Zip.{zip_text, zip_named, is_other_zip}
-use Rattle.jwt_header.specs.declared.header.names.Enc.{Enc}
-use Rattle.jwt_header.specs.declared.header.names.Enc.TheVariants.{A128CBC_HS256, A192CBC_HS384, A256CBC_HS512, A128GCM, A192GCM, A256GCM, Other}
-use Rattle.jwt_header.specs.declared.header.names.Zip.{Zip}
-use Rattle.jwt_header.specs.declared.header.names.Zip.TheVariants.{Deflate, Other as OtherZip}
+use Rattle.jwt_header.specs.declared.names.Enc.{Enc}
+use Rattle.jwt_header.specs.declared.names.Enc.TheVariants.{A128CBC_HS256, A192CBC_HS384, A256CBC_HS512, A128GCM, A192GCM, A256GCM, Other}
+use Rattle.jwt_header.specs.declared.names.Zip.{Zip}
+use Rattle.jwt_header.specs.declared.names.Zip.TheVariants.{Deflate, Other as OtherZip}
 
 abbrev pub enc_eq : Enc → Enc → Bool
 enc_eq a b = beq (is_other_enc a) (is_other_enc b) && bytes_eq (enc_text a) (enc_text b)

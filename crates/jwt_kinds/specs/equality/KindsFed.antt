@@ -4,15 +4,15 @@ use Rattle.std.specs.Hash.{HashWrites, Alike, str}
 use Rattle.jwt_base.specs.equality.Decided.{fed_by_mark}
 use Rattle.jwt_base.specs.equality.NamesFed.{names_fed, names_marked}
 use Rattle.jwt_params.specs.Curve.{curve_name}
-use Rattle.jwt_kinds.specs.Kinds.{marked_other, marked_algorithm}
-use Rattle.jwt_kinds.specs.equality.KindsSame.{elliptic_eq, elliptic_decides, pair_eq, pair_decides, other_eq, other_decides, algorithm_eq, algorithm_decides}
+use Rattle.jwt_kinds.specs.Kinds.{marked_other, marked_parameters}
+use Rattle.jwt_kinds.specs.equality.KindsSame.{elliptic_eq, elliptic_decides, pair_eq, pair_decides, other_eq, other_decides, parameters_eq, parameters_decides}
 use Rattle.jwt_kinds.specs.declared.elliptic.EllipticCurveKeyParameters.{EllipticCurveKeyParameters}
 use Rattle.jwt_kinds.specs.declared.rsa.RSAKeyParameters.{RSAKeyParameters}
 use Rattle.jwt_kinds.specs.declared.octet.OctetKeyParameters.{OctetKeyParameters}
 use Rattle.jwt_kinds.specs.declared.octet_pair.OctetKeyPairParameters.{OctetKeyPairParameters}
 use Rattle.jwt_kinds.specs.declared.other.OtherKeyParameters.{OtherKeyParameters}
-use Rattle.jwt_kinds.specs.declared.algorithm.AlgorithmParameters.{AlgorithmParameters}
-use Rattle.jwt_kinds.specs.declared.algorithm.AlgorithmParameters.TheVariants as kinds
+use Rattle.jwt_kinds.specs.declared.parameters.AlgorithmParameters.{AlgorithmParameters}
+use Rattle.jwt_kinds.specs.declared.parameters.AlgorithmParameters.TheVariants as kinds
 
 abbrev pub elliptic_fed : EllipticCurveKeyParameters → HashWrites
 elliptic_fed p = str (curve_name p.curve) ++ str p.x ++ str p.y
@@ -38,19 +38,19 @@ other_fed p = names_fed p.fields
 pub other_alike : Alike other_eq other_fed
 other_alike = fed_by_mark other_eq marked_other other_decides other_fed other_fed (λ p. names_marked p.fields)
 
-abbrev pub algorithm_fed : AlgorithmParameters → HashWrites
-algorithm_fed (kinds.EllipticCurve p) = elliptic_fed p
-algorithm_fed (kinds.RSA p) = rsa_fed p
-algorithm_fed (kinds.OctetKey p) = octet_fed p
-algorithm_fed (kinds.OctetKeyPair p) = pair_fed p
-algorithm_fed (kinds.Other p) = other_fed p
+abbrev pub parameters_fed : AlgorithmParameters → HashWrites
+parameters_fed (kinds.EllipticCurve p) = elliptic_fed p
+parameters_fed (kinds.RSA p) = rsa_fed p
+parameters_fed (kinds.OctetKey p) = octet_fed p
+parameters_fed (kinds.OctetKeyPair p) = pair_fed p
+parameters_fed (kinds.Other p) = other_fed p
 
-pub algorithm_marked : (a : AlgorithmParameters) → algorithm_fed a ≡ algorithm_fed (marked_algorithm a)
-algorithm_marked (kinds.EllipticCurve p) = refl
-algorithm_marked (kinds.RSA p) = refl
-algorithm_marked (kinds.OctetKey p) = refl
-algorithm_marked (kinds.OctetKeyPair p) = refl
-algorithm_marked (kinds.Other p) = names_marked p.fields
+pub parameters_marked : (a : AlgorithmParameters) → parameters_fed a ≡ parameters_fed (marked_parameters a)
+parameters_marked (kinds.EllipticCurve p) = refl
+parameters_marked (kinds.RSA p) = refl
+parameters_marked (kinds.OctetKey p) = refl
+parameters_marked (kinds.OctetKeyPair p) = refl
+parameters_marked (kinds.Other p) = names_marked p.fields
 
-pub algorithm_alike : Alike algorithm_eq algorithm_fed
-algorithm_alike = fed_by_mark algorithm_eq marked_algorithm algorithm_decides algorithm_fed algorithm_fed algorithm_marked
+pub parameters_alike : Alike parameters_eq parameters_fed
+parameters_alike = fed_by_mark parameters_eq marked_parameters parameters_decides parameters_fed parameters_fed parameters_marked

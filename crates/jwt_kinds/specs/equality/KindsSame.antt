@@ -21,14 +21,14 @@ use Rattle.jwt_params.specs.declared.key_types.OctetKeyType.{OctetKeyType}
 use Rattle.jwt_params.specs.declared.key_types.OctetKeyType.TheVariants.{Octet}
 use Rattle.jwt_params.specs.declared.key_types.OctetKeyPairType.{OctetKeyPairType}
 use Rattle.jwt_params.specs.declared.key_types.OctetKeyPairType.TheVariants.{OctetKeyPair}
-use Rattle.jwt_kinds.specs.Kinds.{marked_other, marked_algorithm}
+use Rattle.jwt_kinds.specs.Kinds.{marked_other, marked_parameters}
 use Rattle.jwt_kinds.specs.declared.elliptic.EllipticCurveKeyParameters.{EllipticCurveKeyParameters}
 use Rattle.jwt_kinds.specs.declared.rsa.RSAKeyParameters.{RSAKeyParameters}
 use Rattle.jwt_kinds.specs.declared.octet.OctetKeyParameters.{OctetKeyParameters}
 use Rattle.jwt_kinds.specs.declared.octet_pair.OctetKeyPairParameters.{OctetKeyPairParameters}
 use Rattle.jwt_kinds.specs.declared.other.OtherKeyParameters.{OtherKeyParameters}
-use Rattle.jwt_kinds.specs.declared.algorithm.AlgorithmParameters.{AlgorithmParameters}
-use Rattle.jwt_kinds.specs.declared.algorithm.AlgorithmParameters.TheVariants as kinds
+use Rattle.jwt_kinds.specs.declared.parameters.AlgorithmParameters.{AlgorithmParameters}
+use Rattle.jwt_kinds.specs.declared.parameters.AlgorithmParameters.TheVariants as kinds
 
 abbrev pub same_curve : EllipticCurve → EllipticCurve → Bool
 same_curve a b = sameb the_type a b
@@ -101,32 +101,32 @@ other_decides p q = same_as _ (members_decides p.fields q.fields) (λ h i. recor
 pub other_eq_equiv : IsEquivalence other_eq
 other_eq_equiv = decided_by other_eq marked_other other_decides
 
-abbrev pub algorithm_eq : AlgorithmParameters → AlgorithmParameters → Bool
-algorithm_eq (kinds.EllipticCurve p) (kinds.EllipticCurve q) = elliptic_eq p q
-algorithm_eq (kinds.EllipticCurve p) (kinds.RSA q) = false
-algorithm_eq (kinds.EllipticCurve p) (kinds.OctetKey q) = false
-algorithm_eq (kinds.EllipticCurve p) (kinds.OctetKeyPair q) = false
-algorithm_eq (kinds.EllipticCurve p) (kinds.Other q) = false
-algorithm_eq (kinds.RSA p) (kinds.EllipticCurve q) = false
-algorithm_eq (kinds.RSA p) (kinds.RSA q) = rsa_eq p q
-algorithm_eq (kinds.RSA p) (kinds.OctetKey q) = false
-algorithm_eq (kinds.RSA p) (kinds.OctetKeyPair q) = false
-algorithm_eq (kinds.RSA p) (kinds.Other q) = false
-algorithm_eq (kinds.OctetKey p) (kinds.EllipticCurve q) = false
-algorithm_eq (kinds.OctetKey p) (kinds.RSA q) = false
-algorithm_eq (kinds.OctetKey p) (kinds.OctetKey q) = octet_eq p q
-algorithm_eq (kinds.OctetKey p) (kinds.OctetKeyPair q) = false
-algorithm_eq (kinds.OctetKey p) (kinds.Other q) = false
-algorithm_eq (kinds.OctetKeyPair p) (kinds.EllipticCurve q) = false
-algorithm_eq (kinds.OctetKeyPair p) (kinds.RSA q) = false
-algorithm_eq (kinds.OctetKeyPair p) (kinds.OctetKey q) = false
-algorithm_eq (kinds.OctetKeyPair p) (kinds.OctetKeyPair q) = pair_eq p q
-algorithm_eq (kinds.OctetKeyPair p) (kinds.Other q) = false
-algorithm_eq (kinds.Other p) (kinds.EllipticCurve q) = false
-algorithm_eq (kinds.Other p) (kinds.RSA q) = false
-algorithm_eq (kinds.Other p) (kinds.OctetKey q) = false
-algorithm_eq (kinds.Other p) (kinds.OctetKeyPair q) = false
-algorithm_eq (kinds.Other p) (kinds.Other q) = other_eq p q
+abbrev pub parameters_eq : AlgorithmParameters → AlgorithmParameters → Bool
+parameters_eq (kinds.EllipticCurve p) (kinds.EllipticCurve q) = elliptic_eq p q
+parameters_eq (kinds.EllipticCurve p) (kinds.RSA q) = false
+parameters_eq (kinds.EllipticCurve p) (kinds.OctetKey q) = false
+parameters_eq (kinds.EllipticCurve p) (kinds.OctetKeyPair q) = false
+parameters_eq (kinds.EllipticCurve p) (kinds.Other q) = false
+parameters_eq (kinds.RSA p) (kinds.EllipticCurve q) = false
+parameters_eq (kinds.RSA p) (kinds.RSA q) = rsa_eq p q
+parameters_eq (kinds.RSA p) (kinds.OctetKey q) = false
+parameters_eq (kinds.RSA p) (kinds.OctetKeyPair q) = false
+parameters_eq (kinds.RSA p) (kinds.Other q) = false
+parameters_eq (kinds.OctetKey p) (kinds.EllipticCurve q) = false
+parameters_eq (kinds.OctetKey p) (kinds.RSA q) = false
+parameters_eq (kinds.OctetKey p) (kinds.OctetKey q) = octet_eq p q
+parameters_eq (kinds.OctetKey p) (kinds.OctetKeyPair q) = false
+parameters_eq (kinds.OctetKey p) (kinds.Other q) = false
+parameters_eq (kinds.OctetKeyPair p) (kinds.EllipticCurve q) = false
+parameters_eq (kinds.OctetKeyPair p) (kinds.RSA q) = false
+parameters_eq (kinds.OctetKeyPair p) (kinds.OctetKey q) = false
+parameters_eq (kinds.OctetKeyPair p) (kinds.OctetKeyPair q) = pair_eq p q
+parameters_eq (kinds.OctetKeyPair p) (kinds.Other q) = false
+parameters_eq (kinds.Other p) (kinds.EllipticCurve q) = false
+parameters_eq (kinds.Other p) (kinds.RSA q) = false
+parameters_eq (kinds.Other p) (kinds.OctetKey q) = false
+parameters_eq (kinds.Other p) (kinds.OctetKeyPair q) = false
+parameters_eq (kinds.Other p) (kinds.Other q) = other_eq p q
 
 abbrev the_elliptic : EllipticCurveKeyParameters → AlgorithmParameters → EllipticCurveKeyParameters
 the_elliptic d (kinds.EllipticCurve p) = p
@@ -163,32 +163,32 @@ the_other d (kinds.OctetKey p) = d
 the_other d (kinds.OctetKeyPair p) = d
 the_other d (kinds.Other p) = p
 
-pub algorithm_decides : (a b : AlgorithmParameters) → Decides (algorithm_eq a b) (marked_algorithm a ≡ marked_algorithm b)
-algorithm_decides (kinds.EllipticCurve p) (kinds.EllipticCurve q) = same_as _ (elliptic_decides p q) (ap kinds.EllipticCurve) (λ e. ap (the_elliptic p) e)
-algorithm_decides (kinds.EllipticCurve p) (kinds.RSA q) = (λ e. absurd (cc), λ e. absurd (cc))
-algorithm_decides (kinds.EllipticCurve p) (kinds.OctetKey q) = (λ e. absurd (cc), λ e. absurd (cc))
-algorithm_decides (kinds.EllipticCurve p) (kinds.OctetKeyPair q) = (λ e. absurd (cc), λ e. absurd (cc))
-algorithm_decides (kinds.EllipticCurve p) (kinds.Other q) = (λ e. absurd (cc), λ e. absurd (cc))
-algorithm_decides (kinds.RSA p) (kinds.EllipticCurve q) = (λ e. absurd (cc), λ e. absurd (cc))
-algorithm_decides (kinds.RSA p) (kinds.RSA q) = same_as _ (rsa_decides p q) (ap kinds.RSA) (λ e. ap (the_rsa p) e)
-algorithm_decides (kinds.RSA p) (kinds.OctetKey q) = (λ e. absurd (cc), λ e. absurd (cc))
-algorithm_decides (kinds.RSA p) (kinds.OctetKeyPair q) = (λ e. absurd (cc), λ e. absurd (cc))
-algorithm_decides (kinds.RSA p) (kinds.Other q) = (λ e. absurd (cc), λ e. absurd (cc))
-algorithm_decides (kinds.OctetKey p) (kinds.EllipticCurve q) = (λ e. absurd (cc), λ e. absurd (cc))
-algorithm_decides (kinds.OctetKey p) (kinds.RSA q) = (λ e. absurd (cc), λ e. absurd (cc))
-algorithm_decides (kinds.OctetKey p) (kinds.OctetKey q) = same_as _ (octet_decides p q) (ap kinds.OctetKey) (λ e. ap (the_octet p) e)
-algorithm_decides (kinds.OctetKey p) (kinds.OctetKeyPair q) = (λ e. absurd (cc), λ e. absurd (cc))
-algorithm_decides (kinds.OctetKey p) (kinds.Other q) = (λ e. absurd (cc), λ e. absurd (cc))
-algorithm_decides (kinds.OctetKeyPair p) (kinds.EllipticCurve q) = (λ e. absurd (cc), λ e. absurd (cc))
-algorithm_decides (kinds.OctetKeyPair p) (kinds.RSA q) = (λ e. absurd (cc), λ e. absurd (cc))
-algorithm_decides (kinds.OctetKeyPair p) (kinds.OctetKey q) = (λ e. absurd (cc), λ e. absurd (cc))
-algorithm_decides (kinds.OctetKeyPair p) (kinds.OctetKeyPair q) = same_as _ (pair_decides p q) (ap kinds.OctetKeyPair) (λ e. ap (the_pair p) e)
-algorithm_decides (kinds.OctetKeyPair p) (kinds.Other q) = (λ e. absurd (cc), λ e. absurd (cc))
-algorithm_decides (kinds.Other p) (kinds.EllipticCurve q) = (λ e. absurd (cc), λ e. absurd (cc))
-algorithm_decides (kinds.Other p) (kinds.RSA q) = (λ e. absurd (cc), λ e. absurd (cc))
-algorithm_decides (kinds.Other p) (kinds.OctetKey q) = (λ e. absurd (cc), λ e. absurd (cc))
-algorithm_decides (kinds.Other p) (kinds.OctetKeyPair q) = (λ e. absurd (cc), λ e. absurd (cc))
-algorithm_decides (kinds.Other p) (kinds.Other q) = same_as _ (other_decides p q) (ap kinds.Other) (λ e. ap (the_other (marked_other p)) e)
+pub parameters_decides : (a b : AlgorithmParameters) → Decides (parameters_eq a b) (marked_parameters a ≡ marked_parameters b)
+parameters_decides (kinds.EllipticCurve p) (kinds.EllipticCurve q) = same_as _ (elliptic_decides p q) (ap kinds.EllipticCurve) (λ e. ap (the_elliptic p) e)
+parameters_decides (kinds.EllipticCurve p) (kinds.RSA q) = (λ e. absurd (cc), λ e. absurd (cc))
+parameters_decides (kinds.EllipticCurve p) (kinds.OctetKey q) = (λ e. absurd (cc), λ e. absurd (cc))
+parameters_decides (kinds.EllipticCurve p) (kinds.OctetKeyPair q) = (λ e. absurd (cc), λ e. absurd (cc))
+parameters_decides (kinds.EllipticCurve p) (kinds.Other q) = (λ e. absurd (cc), λ e. absurd (cc))
+parameters_decides (kinds.RSA p) (kinds.EllipticCurve q) = (λ e. absurd (cc), λ e. absurd (cc))
+parameters_decides (kinds.RSA p) (kinds.RSA q) = same_as _ (rsa_decides p q) (ap kinds.RSA) (λ e. ap (the_rsa p) e)
+parameters_decides (kinds.RSA p) (kinds.OctetKey q) = (λ e. absurd (cc), λ e. absurd (cc))
+parameters_decides (kinds.RSA p) (kinds.OctetKeyPair q) = (λ e. absurd (cc), λ e. absurd (cc))
+parameters_decides (kinds.RSA p) (kinds.Other q) = (λ e. absurd (cc), λ e. absurd (cc))
+parameters_decides (kinds.OctetKey p) (kinds.EllipticCurve q) = (λ e. absurd (cc), λ e. absurd (cc))
+parameters_decides (kinds.OctetKey p) (kinds.RSA q) = (λ e. absurd (cc), λ e. absurd (cc))
+parameters_decides (kinds.OctetKey p) (kinds.OctetKey q) = same_as _ (octet_decides p q) (ap kinds.OctetKey) (λ e. ap (the_octet p) e)
+parameters_decides (kinds.OctetKey p) (kinds.OctetKeyPair q) = (λ e. absurd (cc), λ e. absurd (cc))
+parameters_decides (kinds.OctetKey p) (kinds.Other q) = (λ e. absurd (cc), λ e. absurd (cc))
+parameters_decides (kinds.OctetKeyPair p) (kinds.EllipticCurve q) = (λ e. absurd (cc), λ e. absurd (cc))
+parameters_decides (kinds.OctetKeyPair p) (kinds.RSA q) = (λ e. absurd (cc), λ e. absurd (cc))
+parameters_decides (kinds.OctetKeyPair p) (kinds.OctetKey q) = (λ e. absurd (cc), λ e. absurd (cc))
+parameters_decides (kinds.OctetKeyPair p) (kinds.OctetKeyPair q) = same_as _ (pair_decides p q) (ap kinds.OctetKeyPair) (λ e. ap (the_pair p) e)
+parameters_decides (kinds.OctetKeyPair p) (kinds.Other q) = (λ e. absurd (cc), λ e. absurd (cc))
+parameters_decides (kinds.Other p) (kinds.EllipticCurve q) = (λ e. absurd (cc), λ e. absurd (cc))
+parameters_decides (kinds.Other p) (kinds.RSA q) = (λ e. absurd (cc), λ e. absurd (cc))
+parameters_decides (kinds.Other p) (kinds.OctetKey q) = (λ e. absurd (cc), λ e. absurd (cc))
+parameters_decides (kinds.Other p) (kinds.OctetKeyPair q) = (λ e. absurd (cc), λ e. absurd (cc))
+parameters_decides (kinds.Other p) (kinds.Other q) = same_as _ (other_decides p q) (ap kinds.Other) (λ e. ap (the_other (marked_other p)) e)
 
-pub algorithm_eq_equiv : IsEquivalence algorithm_eq
-algorithm_eq_equiv = decided_by algorithm_eq marked_algorithm algorithm_decides
+pub parameters_eq_equiv : IsEquivalence parameters_eq
+parameters_eq_equiv = decided_by parameters_eq marked_parameters parameters_decides

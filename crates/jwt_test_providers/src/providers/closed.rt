@@ -6,7 +6,7 @@ ghost use Rattle.jwt_base.specs.KindOf.{Refuses};
 
 use jwt_base::algorithms::Algorithm;
 use jwt_base::errors::{Error, ErrorKind, Result, new_error};
-use jwt_keys::crypto::{JwtSigner, JwtVerifier};
+use jwt_keys::provider::{JwtSigner, JwtVerifier};
 use std::alloc::Global;
 
 // The refusal `Provider("closed")`, or `OutOfMemory`.

@@ -13,10 +13,10 @@ ghost use Rattle.std.specs.List.{list_any};
 
 use jwt_base::algorithms::Algorithm;
 use jwt_base::errors::{Error, ErrorKind, Result, new_error};
-use jwt_hmac::hmac::HmacProvider;
-use jwt_keys::crypto::{CryptoProvider, JwtSigner, JwtVerifier};
-use jwt_keys::decoding::DecodingKey;
-use jwt_keys::encoding::EncodingKey;
+use jwt_hmac::HmacProvider;
+use jwt_keys::decoding_key::DecodingKey;
+use jwt_keys::encoding_key::EncodingKey;
+use jwt_keys::provider::{CryptoProvider, JwtSigner, JwtVerifier};
 use jwt_params::curves::EllipticCurve;
 use jwt_params::thumbprints::ThumbprintHash;
 use std::alloc::Global;

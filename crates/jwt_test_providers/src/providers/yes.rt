@@ -8,9 +8,9 @@ ghost use Rattle.jwt_test_providers.specs.Families.{verifier_refusal_of, family_
 use super::closed::{NoSigner, closed};
 use jwt_base::algorithms::Algorithm;
 use jwt_base::errors::{ErrorKind, Result, new_error};
-use jwt_keys::crypto::{CryptoProvider, JwtVerifier};
-use jwt_keys::decoding::DecodingKey;
-use jwt_keys::encoding::EncodingKey;
+use jwt_keys::decoding_key::DecodingKey;
+use jwt_keys::encoding_key::EncodingKey;
+use jwt_keys::provider::{CryptoProvider, JwtVerifier};
 use jwt_params::curves::EllipticCurve;
 use jwt_params::thumbprints::ThumbprintHash;
 use std::alloc::Global;

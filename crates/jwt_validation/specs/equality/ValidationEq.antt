@@ -17,7 +17,7 @@ use Rattle.jwt_base.specs.equality.Decided.{and_decides, decided_by, option_deci
 use Rattle.jwt_base.specs.declared.algorithms.Algorithm.{Algorithm}
 use Rattle.jwt_base.specs.contracts.algorithms.Algorithm.{the_type}
 use Rattle.jwt_validation.specs.OptionsOf.{options_of}
-use Rattle.jwt_validation.specs.declared.validation.options.Validation.{Validation}
+use Rattle.jwt_validation.specs.declared.validation.Validation.{Validation}
 
 -- sets of texts: each has every text of the other
 module _ {S : Type 0} where

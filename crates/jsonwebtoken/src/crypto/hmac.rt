@@ -1,0 +1,3 @@
+//! HMAC (RFC 2104) as a provider of HS256, HS384 and HS512 (RFC 7518 section 3.2).
+
+pub use jwt_hmac::{HmacProvider, HmacSigner, HmacVerifier};

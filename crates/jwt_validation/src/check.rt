@@ -1,0 +1,92 @@
+//! Whether claims pass the rules, and which they fail first.
+
+ghost use Rattle.std.specs.Prelude.{◌≡◌, ◌↔◌, IsOk, OnOk, IfErr, IsSome, MatchOption};
+ghost use Rattle.serde_json.specs.Find.{as_object};
+ghost use Rattle.serde_json.specs.View.{view};
+ghost use Rattle.jwt_base.specs.Kind.{Kind};
+ghost use Rattle.jwt_validation.specs.ClaimRules.{IsMissing, IsFirstBroken, Holds, RulesHold, IsFault, Tells};
+ghost use Rattle.jwt_validation.specs.ClaimsSeen.{claims_seen};
+ghost use Rattle.jwt_validation.specs.Moments.{IsAcceptedWithin, Looser};
+ghost use Rattle.jwt_validation.specs.Options.{Options};
+ghost use Rattle.jwt_validation.specs.OptionsOf.{options_of};
+
+use crate::claims::{NAMES, Name, SpecClaims};
+use crate::rules::{RULES, Rule, holds, missing_claim, refusal};
+use crate::validation::Validation;
+use jwt_base::errors::{ErrorKind, Result, new_error};
+use serde_json::Value;
+use std::alloc::Global;
+
+/// Checks claims at the moment `now`, in whole seconds since 1970-01-01 00:00:00 UTC.
+///
+/// Claims that are no JSON object are refused with `Json`. Then each required claim must be there and well formed,
+/// else the answer is `MissingRequiredClaim` of one that is not. Then the rules are tested in this order, and the
+/// answer is the error of the first that is broken:
+///
+/// - where `exp` is checked, it is a whole number, else `InvalidClaimFormat`;
+/// - where `nbf` is checked, it is a whole number, else `InvalidClaimFormat`;
+/// - `exp` is no less than the time that must be left, else `InvalidToken`;
+/// - `exp` and the leeway are no less than `now` and the time that must be left, else `ExpiredSignature`;
+/// - `nbf` is at most `now` and the leeway, else `ImmatureSignature`;
+/// - `sub` is the configured subject, else `InvalidSubject`;
+/// - `iss` names a configured issuer, else `InvalidIssuer`;
+/// - `aud` names a configured audience, else `InvalidAudience`.
+///
+/// The last three are `InvalidClaimFormat` where the claim has a wrong type. A claim that is absent and not required
+/// breaks no rule. `OutOfMemory` may stand in place of `MissingRequiredClaim` and `InvalidClaimFormat` alone.
+pub fn validate(alloc: Global, claims: &Value, options: &Validation, now: u64) -> Result<()>
+    ensures ok { IsOk result ↔ (IsSome (as_object (view claims.now))
+        × RulesHold (options_of options.now) (view claims.now) now) }
+    ensures err { IfErr result (λ e. (k : Kind)
+        × IsFault (options_of options.now) (view claims.now) now k × Tells e k) }
+    ensures moments { IsOk result ↔ IsAcceptedWithin (options_of options.now) (view claims.now) now }
+    ensures looser { OnOk result ((w : Options) → Looser (options_of options.now) w
+        → RulesHold w (view claims.now) now) }
+{
+    check(alloc, claims, options, now)
+}
+
+fn check(alloc: Global, claims: &Value, options: &Validation, now: u64) -> Result<()>
+    ensures ok { IsOk result ↔ (IsSome (as_object (view claims.now))
+        × RulesHold (options_of options.now) (view claims.now) now) }
+    ensures err { IfErr result (λ e. (k : Kind)
+        × IsFault (options_of options.now) (view claims.now) now k × Tells e k) }
+{
+    if !claims.is_object() {
+        return Err(new_error(ErrorKind::Json));
+    }
+    let claims = SpecClaims::read(claims);
+    if let Some(name) = first_missing(&claims, options) {
+        return Err(missing_claim(alloc, name.text()));
+    }
+    match first_broken(&claims, options, now) {
+        Some(rule) => Err(refusal(alloc, rule, &claims)),
+        None => Ok(()),
+    }
+}
+
+fn first_missing(claims: &SpecClaims, options: &Validation) -> Option<Name>
+    ensures { MatchOption result
+        ((n : Name) → ¬ IsMissing (options_of options.now) (claims_seen claims.now) n)
+        (λ n. IsMissing (options_of options.now) (claims_seen claims.now) n) }
+{
+    for name in NAMES {
+        if options.required_spec_claims.contains(name.text()) && !claims.has_value(name) {
+            return Some(name);
+        }
+    }
+    None
+}
+
+fn first_broken(claims: &SpecClaims, options: &Validation, now: u64) -> Option<Rule>
+    ensures { MatchOption result
+        ((r : Rule) → Holds (options_of options.now) (claims_seen claims.now) now r)
+        (λ r. IsFirstBroken (options_of options.now) (claims_seen claims.now) now r) }
+{
+    for rule in RULES {
+        if !holds(rule, claims, options, now) {
+            return Some(rule);
+        }
+    }
+    None
+}
