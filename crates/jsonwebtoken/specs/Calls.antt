@@ -42,9 +42,11 @@ module _ {P S V T : Type 0} (provider : ProviderOf P S V) (claims : ClaimsOf T) 
 abbrev pub Carries : {T : Type 0} → Call T → Contents → TokenData T → Type 0
 Carries call t answer = (t.header ≡ answer.header) × call.reads t.payload_value answer.claims
 
+-- the header alone
 abbrev pub HasHeader : {T : Type 0} → Call T → Contents → Header → Type 0
 HasHeader call t header = t.header ≡ header
 
+-- the claims alone
 abbrev pub HasClaims : {T : Type 0} → Call T → Contents → T → Type 0
 HasClaims call t claims = call.reads t.payload_value claims
 

@@ -51,26 +51,26 @@ pub record Written : Type 0 where
   pub header_value : Data
   pub claims_value : Option Data
 
--- the claims are written as this value, in which no float stands
+-- the claims are written as this value, in which no float stands (RFC 7519 section 7.1)
 abbrev pub AreWritten : Payload → Option Data → Type 0
 AreWritten NoClaims v = v ≡ None
 AreWritten (WrittenAs w) v = (d : Data) × (v ≡ Some d) × (w ≡ Some d) × (has_float d ≡ false)
 
--- the part that stands for a value's compact text
+-- the part that stands for a value's compact text (RFC 7515 section 2)
 abbrev pub part_of : Data → List ℕ
 part_of d = encode_symbols url_characters (compact_text d)
 
--- the payload part: without claims it is empty
+-- the payload part: without claims it is empty (RFC 7515 section 5.1)
 abbrev pub payload_part : Option Data → List ℕ
 payload_part None = []
 payload_part (Some d) = part_of d
 
--- what is signed (RFC 7515 section 5.1)
+-- what is signed: header part, dot, payload part (RFC 7515 section 5.1)
 abbrev pub message_to_sign : Written → List ℕ
 message_to_sign t = part_of t.header_value ++ dot ∷ payload_part t.claims_value
 
 module _ (issue : Issue) where
-  -- the condition of each test
+  -- the condition of each test (RFC 7515 sections 4.1.1 and 5.1, RFC 7519 section 7.1)
   abbrev pub IssueCondition : IssueTest → Written → Type 0
   IssueCondition KeyFitsAlgorithm t = issue.key.family ≡ family_of issue.header.alg
   IssueCondition SignerIsMade t = issue.signer_refusal issue.header.alg issue.key ≡ None
@@ -96,8 +96,8 @@ module _ (issue : Issue) where
   abbrev pub IssueFailsFirst : List IssueTest → Kind → Type 0
   IssueFailsFirst = FailsFirst (IssueCondition) (IssueKind)
 
-  -- The parts of an issued token: those of the header's and of the claims' text, and that of a signature which the
-  -- provider may answer for the two.
+  -- The parts of an issued token: those of the header's and of the claims' text, and that of a
+  -- signature which the provider may answer for the two (RFC 7515 sections 5.1 and 7.1).
   pub record AreIssued (t : Written) (p : Parts) : Type 0 where
     pub header : p.header ≡ part_of t.header_value
     pub payload : p.payload ≡ payload_part t.claims_value
@@ -105,16 +105,18 @@ module _ (issue : Issue) where
     pub signature : IsPart p.signature bytes
     pub signed : issue.signs issue.header.alg issue.key (message_of p) bytes
 
-  -- the text of an issued token
+  -- the text of an issued token (RFC 7515 section 7.1, RFC 7519 section 7.1)
   abbrev pub IsIssued : Written → List ℕ → Type 0
   IsIssued t x = (p : Parts) × (x ≡ text_of_parts p) × AreIssued t p
 
 -- ---- the orders
 
+-- the order of `encode` (RFC 7515 section 5.1, RFC 7519 section 7.1)
 abbrev pub encode_order : List IssueTest
 encode_order =
     KeyFitsAlgorithm ∷ SignerIsMade ∷ HeaderIsWritten ∷ ClaimsAreWritten ∷ MessageIsSigned ∷ []
 
+-- the order of `jws::encode` (RFC 7515 section 5.1, RFC 7519 section 7.1)
 abbrev pub jws_encode_order : List IssueTest
 jws_encode_order =
     KeyFitsAlgorithm ∷ HeaderIsWritten ∷ ClaimsAreWritten ∷ SignerIsMade ∷ MessageIsSigned ∷ []
@@ -144,8 +146,8 @@ abbrev pub AcceptsOf : Issue → (Algorithm → Key → List ℕ → List ℕ �
 AcceptsOf issue accepts key = (m s : List ℕ) → IsBytes m → IsBytes s
     → issue.signs issue.header.alg issue.key m s → accepts issue.header.alg key m s
 
--- The text passes these tests with the header's normal form and the claims' value, and its signature is accepted with
--- each key that accepts what the issuer's key signs.
+-- The text passes these tests with the header's normal form and the claims' value, and its
+-- signature is accepted with each key that accepts what the issuer's key signs.
 pub record IsReadBack (issue : Issue) (accepts : Algorithm → Key → List ℕ → List ℕ → Type 0)
     (v : Data) (x : List ℕ) : Type 0 where
   pub contents : Contents

@@ -20,14 +20,15 @@ timeless [] = []
 timeless (c ∷ cs) = if is_timeless c then c ∷ timeless cs else timeless cs
 
 module _ {T : Type 0} (call : Call T) (order : List Test) where
-  -- What is asked at a moment: the tests that do not speak of it hold, and it lies from the first moment to the last.
+  -- What is asked at a moment: the tests that do not speak of it hold, and it lies from the first
+  -- moment to the last (RFC 7519 sections 4.1.4 and 4.1.5).
   pub record IsWithin (t : Contents) (m : ℕ) : Type 0 where
     pub base : Passes call (timeless order) t
     pub rules : RulesOfNoMoment call.options t.payload_value
     pub from : first_moment call.options (claims_of t.payload_value) ≤ m
     pub until : m ≤ last_moment call.options (claims_of t.payload_value)
 
-  -- any contents pass at just these moments
+  -- any contents pass at just these moments (RFC 7519 sections 4.1.4 and 4.1.5)
   abbrev pub HasMoments : Type 0
   HasMoments = (t : Contents) (m : ℕ) → m ≤ end_of_time
       → Passes (record call { now = m }) order t ↔ IsWithin t m
@@ -63,7 +64,7 @@ on_parts call p = record call { token = Separate p }
 abbrev pub on_text : {T : Type 0} → Call T → Parts → Call T
 on_text call p = record call { token = Compact (text_of_parts p) }
 
--- the same contents pass both
+-- the same contents pass both (RFC 7515 sections 7.1 and 7.2.2)
 abbrev pub AgreeOn : {T : Type 0} → Call T → Parts → Type 0
 AgreeOn call p = (t : Contents)
     → Passes (on_parts call p) jws_order t ↔ Passes (on_text call p) decode_order t

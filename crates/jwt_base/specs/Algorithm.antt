@@ -13,7 +13,7 @@ use Rattle.jwt_base.specs.declared.algorithms.AlgorithmFamily.TheVariants.{Hmac,
 use Rattle.jwt_base.specs.declared.algorithms.KeyAlgorithm.{KeyAlgorithm}
 use Rattle.jwt_base.specs.declared.algorithms.KeyAlgorithm.TheVariants as key
 
--- RFC 7518 section 3.1 and RFC 8037 section 3.1
+-- the names of the algorithms (RFC 7518 section 3.1, RFC 8037 section 3.1)
 abbrev pub name_of : Algorithm → List ℕ
 name_of HS256 = codes "HS256"
 name_of HS384 = codes "HS384"
@@ -28,6 +28,7 @@ name_of ES256 = codes "ES256"
 name_of ES384 = codes "ES384"
 name_of EdDSA = codes "EdDSA"
 
+-- what the algorithm signs by (RFC 7518 section 3.1, RFC 8037 section 3.1)
 abbrev pub family_of : Algorithm → AlgorithmFamily
 family_of HS256 = Hmac
 family_of HS384 = Hmac
@@ -48,10 +49,11 @@ algorithms_of Rsa = RS256 ∷ RS384 ∷ RS512 ∷ PS256 ∷ PS384 ∷ PS512 ∷ 
 algorithms_of Ec = ES256 ∷ ES384 ∷ []
 algorithms_of Ed = EdDSA ∷ []
 
+-- the twelve: those of RFC 7518 section 3.1 but ES512 and `none`, and that of RFC 8037 section 3.1
 abbrev pub all_algorithms : List Algorithm
 all_algorithms = HS256 ∷ HS384 ∷ HS512 ∷ RS256 ∷ RS384 ∷ RS512 ∷ PS256 ∷ PS384 ∷ PS512 ∷ ES256 ∷ ES384 ∷ EdDSA ∷ []
 
--- the algorithm of that name
+-- the algorithm of exactly that name (RFC 7518 section 3.1, RFC 8037 section 3.1)
 abbrev pub algorithm_named : List ℕ → Option Algorithm
 algorithm_named = spelled name_of all_algorithms
 
@@ -65,10 +67,11 @@ family_name_of Ed = codes "Ed"
 abbrev pub family_named : List ℕ → Option AlgorithmFamily
 family_named = spelled family_name_of (Hmac ∷ Rsa ∷ Ec ∷ Ed ∷ [])
 
--- the algorithm, the family that a JSON value names
+-- the algorithm that a JSON text names (RFC 7515 section 4.1.1)
 abbrev pub algorithm_from : Data → Option Algorithm
 algorithm_from d = option_and_then algorithm_named (as_str d)
 
+-- the family that a JSON text names
 abbrev pub family_from : Data → Option AlgorithmFamily
 family_from d = option_and_then family_named (as_str d)
 
@@ -76,7 +79,7 @@ family_from d = option_and_then family_named (as_str d)
 abbrev pub ReadsName : {A : Type 0} → (List ℕ → Option A) → List ℕ → Result A Error → Type 0
 ReadsName named text r = MatchResult r (λ a. named text ≡ Some a) (λ e. (kind_of e ≡ kind.InvalidAlgorithmName) × (named text ≡ None))
 
--- the algorithm of a key that is this algorithm
+-- the algorithm of a key that is this algorithm (RFC 7517 section 4.4)
 abbrev pub key_algorithm_of : Algorithm → KeyAlgorithm
 key_algorithm_of HS256 = key.HS256
 key_algorithm_of HS384 = key.HS384
@@ -92,6 +95,7 @@ key_algorithm_of ES384 = key.ES384
 key_algorithm_of EdDSA = key.EdDSA
 
 -- the algorithm that signs by such a key; four names of keys are no such algorithm
+-- (RFC 7517 section 4.4)
 abbrev pub algorithm_of : KeyAlgorithm → Option Algorithm
 algorithm_of key.HS256 = Some HS256
 algorithm_of key.HS384 = Some HS384
@@ -110,10 +114,11 @@ algorithm_of key.RSA_OAEP = None
 algorithm_of key.RSA_OAEP_256 = None
 algorithm_of key.UNKNOWN_ALGORITHM = None
 
+-- the algorithm that signs by such a key, else `UnsupportedAlgorithm`
 abbrev pub ConvertsKeyAlgorithm : KeyAlgorithm → Result Algorithm Error → Type 0
 ConvertsKeyAlgorithm k r = MatchResult r (λ a. algorithm_of k ≡ Some a) (λ e. (kind_of e ≡ kind.UnsupportedAlgorithm) × (algorithm_of k ≡ None))
 
--- the name in JSON (RFC 7518 sections 3.1 and 4.1)
+-- the name in JSON (RFC 7518 sections 3.1 and 4.1, RFC 8037 section 3.1)
 abbrev pub key_name_of : KeyAlgorithm → List ℕ
 key_name_of key.HS256 = codes "HS256"
 key_name_of key.HS384 = codes "HS384"
@@ -143,9 +148,10 @@ abbrev pub known_key_algorithms : List KeyAlgorithm
 known_key_algorithms = key.HS256 ∷ key.HS384 ∷ key.HS512 ∷ key.RS256 ∷ key.RS384 ∷ key.RS512 ∷ key.PS256 ∷ key.PS384 ∷ key.PS512 ∷ key.ES256 ∷ key.ES384 ∷ key.EdDSA
     ∷ key.RSA1_5 ∷ key.RSA_OAEP ∷ key.RSA_OAEP_256 ∷ []
 
+-- the algorithm of a key of that name (RFC 7517 section 4.4)
 abbrev pub key_algorithm_named : List ℕ → Option KeyAlgorithm
 key_algorithm_named = spelled key_name_of known_key_algorithms
 
--- the algorithm of a key that a JSON text names
+-- the algorithm of a key that a JSON text names; any other text is unknown (RFC 7517 section 4.4)
 abbrev pub key_algorithm_from : Data → Option KeyAlgorithm
 key_algorithm_from d = option_map (λ s. unwrap_or (key_algorithm_named s) key.UNKNOWN_ALGORITHM) (as_str d)

@@ -7,7 +7,8 @@ use Rattle.serde_json.specs.Written.{compact_text, has_float}
 use Rattle.jwt_base.specs.JsonText.{IsJson}
 use Rattle.serde_json.specs.Find.{as_str, as_bool, as_number, as_integer}
 
--- the value holds no float, and this is its compact text, which reads back where it nests no deeper than is read
+-- the value holds no float, and this is its JSON text without space (RFC 8259), which reads back
+-- where it nests no deeper than is read
 pub record IsCompact (d : Data) (text : List ℕ) : Type 0 where
   pub no_float : has_float d ≡ false
   pub is_text : text ≡ compact_text d

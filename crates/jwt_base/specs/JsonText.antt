@@ -4,6 +4,6 @@ use Rattle.std.specs.Str.{IsUtf8}
 use Rattle.serde_json.specs.Data.{Data}
 use Rattle.serde_json.specs.Read.{read}
 
--- the bytes read as this value
+-- the bytes are UTF-8 and read as this value (RFC 7515 section 5.2, RFC 7519 section 7.2, RFC 8259)
 abbrev pub IsJson : List ℕ → Data → Type 0
 IsJson bytes value = IsUtf8 bytes × (read bytes ≡ Some value)

@@ -3,7 +3,8 @@ use Rattle.std.specs.Prelude.{ℕ, List, Option, Some, None}
 use Rattle.std.specs.List.{AllZip}
 use Rattle.jwt_base.specs.Base64Url.{IsStandardText}
 
--- the bytes of each text, in order; nothing where there is no list
+-- the bytes of each text of `x5c`, in order; nothing where there is no list
+-- (RFC 7515 section 4.1.6)
 abbrev pub AreCertificates : Option (List (List ℕ)) → Option (List (List ℕ)) → Type 0
 AreCertificates None None = Unit {0}
 AreCertificates None (Some certificates) = ⊥

@@ -18,7 +18,8 @@ pub record IsNormal (h : Header) : Type 0 where
   pub extras : IsExtras h.extras
   pub written : (d : Data) × (header_value h ≡ Some d)
 
--- What is written reads as the normal form alone; a normal form stays as it is; two normal forms are told apart by what is written.
+-- What is written reads as the normal form alone; a normal form stays as it is; two normal forms
+-- are told apart by what is written.
 pub record HasNormalForm (h : Header) : Type 0 where
   pub reads_back : (d : Data) → header_value h ≡ Some d → (g : Header) → ReadsHeader d g ↔ (g ≡ normal_header h)
   pub once : normal_header (normal_header h) ≡ normal_header h

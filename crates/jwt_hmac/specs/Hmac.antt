@@ -5,27 +5,27 @@ use Rattle.sha2.specs.Sha512.{sha384, sha512}
 use Rattle.jwt_hmac.specs.declared.hmac.Hash.{Hash}
 use Rattle.jwt_hmac.specs.declared.hmac.Hash.TheVariants.{Sha256, Sha384, Sha512}
 
--- H
+-- H (RFC 2104 section 2, RFC 7518 section 3.2)
 abbrev pub hash_bytes : Hash → List ℕ → List ℕ
 hash_bytes Sha256 m = sha256 m
 hash_bytes Sha384 m = sha384 m
 hash_bytes Sha512 m = sha512 m
 
--- B, the length of a block in bytes
+-- B, the length of a block in bytes (RFC 2104 section 2)
 abbrev pub block_len : Hash → ℕ
 block_len Sha256 = 64
 block_len Sha384 = 128
 block_len Sha512 = 128
 
--- the key, or its digest where it is longer than B
+-- the key, or its digest where it is longer than B (RFC 2104 section 2)
 abbrev pub short_key : Hash → List ℕ → List ℕ
 short_key h k = if nat_lt (block_len h) (length k) then hash_bytes h k else k
 
--- filled with zero bytes to n
+-- filled with zero bytes to n (RFC 2104 section 2)
 abbrev pub filled : ℕ → List ℕ → List ℕ
 filled n k = k ++ replicate (n - length k) 0
 
--- K', of B bytes
+-- K', of B bytes (RFC 2104 section 2)
 unfoldable pub key_block : Hash → List ℕ → List ℕ
 key_block h k = filled (block_len h) (short_key h k)
 
@@ -37,11 +37,12 @@ masked mask bytes = map (λ b. bit_xor b mask) bytes
 unfoldable pub nested : Hash → List ℕ → List ℕ → List ℕ → List ℕ
 nested h inner outer m = hash_bytes h (outer ++ hash_bytes h (inner ++ m))
 
--- H((K' xor opad) ++ H((K' xor ipad) ++ m)), where each byte of ipad is 36 hex and each of opad 5C hex
+-- H((K' xor opad) ++ H((K' xor ipad) ++ m)), where each byte of ipad is 36 hex and each of opad 5C
+-- hex (RFC 2104 section 2)
 unfoldable pub hmac : Hash → List ℕ → List ℕ → List ℕ
 hmac h k m = nested h (masked 0x36 (key_block h k)) (masked 0x5c (key_block h k)) m
 
--- the code of a message by two blocks, of which the first B bytes count
+-- the code of a message by two blocks, of which the first B bytes count (RFC 2104 section 2)
 abbrev pub mac_by : Hash → List ℕ → List ℕ → List ℕ → List ℕ
 mac_by h inner outer m = nested h (take (block_len h) inner) (take (block_len h) outer) m
 

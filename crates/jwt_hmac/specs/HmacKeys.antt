@@ -20,18 +20,20 @@ hash_for algorithm.HS384 = Some Sha384
 hash_for algorithm.HS512 = Some Sha512
 hash_for _ = None
 
+-- the algorithm of HMAC by this hash (RFC 7518 section 3.2)
 abbrev pub algorithm_for : Hash → Algorithm
 algorithm_for Sha256 = algorithm.HS256
 algorithm_for Sha384 = algorithm.HS384
 algorithm_for Sha512 = algorithm.HS512
 
--- the hash that a thumbprint names
+-- the hash that a thumbprint names (RFC 7638 section 3.4)
 abbrev pub hash_named : ThumbprintHash → Hash
 hash_named SHA256 = Sha256
 hash_named SHA384 = Sha384
 hash_named SHA512 = Sha512
 
--- the kind with which a factory refuses, by the algorithm's hash and the key's family
+-- the kind with which a factory refuses, by the algorithm's hash and the key's family; the length
+-- of a secret, of which RFC 7518 section 3.2 speaks, is not looked at
 abbrev pub refusal : Option Hash → AlgorithmFamily → Option Kind
 refusal None f = Some kind.UnsupportedAlgorithm
 refusal (Some h) family.Hmac = None
@@ -40,19 +42,22 @@ refusal (Some h) family.Ec = Some kind.InvalidKeyFormat
 refusal (Some h) family.Ed = Some kind.InvalidKeyFormat
 
 -- the signature is the code of the message under the secret; without a hash there is none
+-- (RFC 7518 section 3.2)
 abbrev pub IsHmacOf : Option Hash → List ℕ → List ℕ → List ℕ → Type 0
 IsHmacOf None secret message signature = ⊥
 IsHmacOf (Some h) secret message signature = signature ≡ hmac h secret message
 
+-- a secret signs a message with its code alone (RFC 7518 section 3.2)
 abbrev pub HmacSigns : Algorithm → SecretKey → List ℕ → List ℕ → Type 0
 HmacSigns a key message signature = IsHmacOf (hash_for a) key.bytes message signature
 
+-- a secret accepts exactly the code of a message; components accept nothing (RFC 7518 section 3.2)
 abbrev pub HmacAccepts : Algorithm → Key → List ℕ → List ℕ → Type 0
 HmacAccepts a (Plain f secret) message signature = IsHmacOf (hash_for a) secret message signature
 HmacAccepts a (Components n e) message signature = ⊥
 
--- What a key signs, the key to verify with of the same secret accepts; and where a signer is made for the one, a
--- verifier is made for the other.
+-- What a key signs, the key to verify with of the same secret accepts; and where a signer is made
+-- for the one, a verifier is made for the other.
 pub record AcceptsItsOwn (a : Algorithm) : Type 0 where
   pub accepted : (key : SecretKey) (m s : List ℕ) → HmacSigns a key m s → HmacAccepts a (Plain family.Hmac key.bytes) m s
   pub made : (key : SecretKey) → refusal (hash_for a) key.family ≡ None → refusal (hash_for a) family.Hmac ≡ None

@@ -11,27 +11,29 @@ use Rattle.jwt_kinds.specs.Kinds.{parameters_from, parameters_members, has_commo
 use Rattle.jwt_kinds.specs.declared.parameters.AlgorithmParameters.{AlgorithmParameters}
 use Rattle.jwt_keys.specs.declared.jwk.Jwk.{Jwk}
 
--- the kind of what is left without the common members
+-- the kind of what is left without the common members (RFC 7517 section 4)
 abbrev pub kind_from : Data → Option AlgorithmParameters
 kind_from d = option_and_then (λ ms. parameters_from (object (without common_names ms))) (as_object d)
 
--- d is an object, the common names give the common part, and the rest has the kind
+-- the value is an object, the common names give the common part, and the rest has the kind
+-- (RFC 7517 section 4)
 pub record ReadsKey (d : Data) (k : Jwk) : Type 0 where
   pub common : ReadsCommon d k.common
   pub algorithm : kind_from d ≡ Some k.algorithm
 
--- none where an `Other` holds a common name or a float
+-- all members; none where an `Other` holds a common name or a float (RFC 7517 section 4)
 abbrev pub key_members : Jwk → Option Members
 key_members k = if has_common k.algorithm then None else option_map (with_common k.common) (parameters_members k.algorithm)
 
+-- the object of these (RFC 7517 section 4)
 abbrev pub key_value : Jwk → Option Data
 key_value k = option_map object (key_members k)
 
--- `alg` is there, and it is an algorithm that signs tokens
+-- `alg` is there, and it is an algorithm that signs tokens (RFC 7517 section 4.4)
 abbrev pub is_supported_key : Jwk → Bool
 is_supported_key k = is_some (option_and_then algorithm_of k.common.key_algorithm)
 
--- `kid` is there, and it is this text
+-- `kid` is there, and it is this text (RFC 7517 section 4.5)
 abbrev pub has_id : List ℕ → Jwk → Bool
 has_id kid k = option_map_or (λ id. bytes_eq id kid) k.common.key_id false
 

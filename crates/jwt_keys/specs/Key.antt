@@ -19,6 +19,7 @@ pub data KeyContent : Type 0 where
   Bytes : List ℕ → KeyContent
   ModulusExponent : List ℕ → List ℕ → KeyContent
 
+-- the family; of components RSA
 abbrev pub key_family : Key → AlgorithmFamily
 key_family (Plain f b) = f
 key_family (Components n e) = family.Rsa
@@ -40,18 +41,19 @@ abbrev pub cleared : Key → Key
 cleared (Plain f b) = Plain f (zeros b)
 cleared (Components n e) = Components (zeros n) (zeros e)
 
--- RFC 7518 section 6.3.1: both texts are parts of the numbers' bytes
+-- both texts are parts of the numbers' bytes (RFC 7518 section 6.3.1)
 abbrev pub IsRsaOfParts : List ℕ → List ℕ → Key → Type 0
 IsRsaOfParts modulus exponent key = (n : List ℕ) × ((e : List ℕ) × ((key ≡ Components n e) × IsPart modulus n × IsPart exponent e))
 
--- RFC 7518 section 6.2.1: an uncompressed point, which is the byte 4 and the two coordinates
+-- an uncompressed point: the byte 4 and the two coordinates, of which both texts are parts
+-- (RFC 7518 section 6.2.1)
 abbrev pub IsEcOfParts : List ℕ → List ℕ → Key → Type 0
 IsEcOfParts x y key = (a : List ℕ) × ((b : List ℕ) × ((key ≡ Plain family.Ec (4 ∷ a ++ b)) × IsPart x a × IsPart y b))
 
--- RFC 8037 section 2: the public key's bytes
+-- the text is the part of the public key's bytes (RFC 8037 section 2)
 abbrev pub IsEdOfPart : List ℕ → Key → Type 0
 IsEdOfPart x key = (b : List ℕ) × ((key ≡ Plain family.Ed b) × IsPart x b)
 
--- RFC 7518 section 6.4.1: the secret's bytes
+-- the text is the part of the secret's bytes (RFC 7518 section 6.4.1)
 abbrev pub IsHmacOfPart : List ℕ → Key → Type 0
 IsHmacOfPart secret key = (b : List ℕ) × ((key ≡ Plain family.Hmac b) × IsPart secret b)

@@ -6,6 +6,7 @@ use Rattle.jwt_keys.specs.declared.decoding_key.DecodingKeyKind.{DecodingKeyKind
 use Rattle.jwt_keys.specs.declared.decoding_key.DecodingKeyKind.TheVariants.{SecretOrDer, RsaModulusExponent}
 use Rattle.jwt_keys.specs.Key.{Key, Plain, Components, KeyContent, Bytes, ModulusExponent}
 
+-- what a `DecodingKeyKind` holds
 abbrev pub content_of : DecodingKeyKind → KeyContent
 content_of (SecretOrDer b) = Bytes b.items
 content_of (RsaModulusExponent n e) = ModulusExponent n.items e.items

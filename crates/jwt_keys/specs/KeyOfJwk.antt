@@ -6,6 +6,7 @@ use Rattle.jwt_kinds.specs.declared.parameters.AlgorithmParameters.{AlgorithmPar
 use Rattle.jwt_kinds.specs.declared.parameters.AlgorithmParameters.TheVariants.{EllipticCurve, RSA, OctetKey, OctetKeyPair, Other}
 
 -- the parameters are those of this key; the curve is not looked at
+-- (RFC 7518 section 6, RFC 8037 section 2)
 abbrev pub IsKeyOf : AlgorithmParameters → Key → Type 0
 IsKeyOf (EllipticCurve p) key = IsEcOfParts p.x p.y key
 IsKeyOf (RSA p) key = IsRsaOfParts p.n p.e key

@@ -46,21 +46,22 @@ ValueLine value status line =
     ((has_float value ≡ false) × IsValueText value status line)
     ⊎ ((has_float value ≡ true) × IsRefusal kind.Json status line)
 
--- what the header of the input's token is written as
+-- what the header of the input's token is written as (RFC 7515 section 4)
 abbrev pub IsHeaderValue : List ℕ → Data → Type 0
 IsHeaderValue input value = (t : Contents) × Passes (header_call input) header_order t × (header_value t.header ≡ Some value)
 
--- the token's header, or the kind of its first failed test
+-- the token's header, or the kind of its first failed test (RFC 7515 section 4)
 abbrev pub HeaderLine : List ℕ → ℕ → List ℕ → Type 0
 HeaderLine input status line =
     ((value : Data) × IsHeaderValue input value × IsValueText value status line)
     ⊎ ((k : Kind) × FirstFailed (header_call input) header_order k × IsRefusal k status line)
 
--- the text is the JSON of this key
+-- the text is the JSON of this key (RFC 7517 section 4)
 abbrev pub IsKeyText : List ℕ → Jwk → Type 0
 IsKeyText text key = (value : Data) × (IsJson text value × ReadsKey value key)
 
--- the input is that of a key, and this is the base64url text of the digest of its required members (RFC 7638)
+-- the input is that of a key, and this is the base64url text of the digest of its required members
+-- (RFC 7638 section 3)
 abbrev pub IsThumbprint : List ℕ → ThumbprintHash → List ℕ → Type 0
 IsThumbprint input hash thumbprint = (key : Jwk) × (IsKeyText input key
     × ((text : List ℕ) × ((thumb_text key ≡ Ok text) × IsPart thumbprint (hash_bytes (hash_named hash) text))))
@@ -71,32 +72,35 @@ HasThumbprintFault input k =
     ((k ≡ kind.Json) × ((key : Jwk) → ¬ IsKeyText input key))
     ⊎ ((key : Jwk) × (IsKeyText input key × (thumb_text key ≡ Err k)))
 
+-- the thumbprint, or why there is none (RFC 7638 section 3)
 abbrev pub ThumbprintLine : List ℕ → ThumbprintHash → ℕ → List ℕ → Type 0
 ThumbprintLine input hash status line =
     (IsThumbprint input hash line × (status ≡ 0))
     ⊎ ((k : Kind) × HasThumbprintFault input k × IsRefusal k status line)
 
--- the input's token, checked by HMAC with a secret at a moment, as a validation of that one algorithm asks at first
+-- the input's token, checked by HMAC with a secret at a moment, as a validation of that one
+-- algorithm asks at first
 abbrev pub hmac_call : List ℕ → Algorithm → List ℕ → ℕ → Call Value
 hmac_call input algorithm secret now = verifying_call (Compact input) (Given (Plain Hmac secret)) (default_options (algorithm ∷ [])) now
     (λ a key. refusal (hash_for a) (key_family key)) HmacAccepts (λ value claims. view claims ≡ value)
 
--- the claims of a token that passes every test of decode
+-- the claims of a token that passes every test of decode (RFC 7519 section 7.2)
 abbrev pub IsClaimsValue : List ℕ → Algorithm → List ℕ → ℕ → Data → Type 0
 IsClaimsValue input algorithm secret now value =
     (t : Contents) × Passes (hmac_call input algorithm secret now) decode_order t × (t.payload_value ≡ value)
 
--- the token's claims, or the kind of its first failed test
+-- the token's claims, or the kind of its first failed test (RFC 7519 section 7.2)
 abbrev pub ClaimsLine : List ℕ → Algorithm → List ℕ → ℕ → ℕ → List ℕ → Type 0
 ClaimsLine input algorithm secret now status line =
     ((value : Data) × IsClaimsValue input algorithm secret now value × ValueLine value status line)
     ⊎ ((k : Kind) × FirstFailed (hmac_call input algorithm secret now) decode_order k × IsRefusal k status line)
 
--- the text is the JSON of a set of these keys
+-- the text is the JSON of a set of these keys (RFC 7517 section 5)
 abbrev pub IsSetText : List ℕ → List Jwk → Type 0
 IsSetText text keys = (value : Data) × IsJson text value × ReadsSet value keys
 
--- the input's token, checked by HMAC with the key of the set that its header names, under the same options
+-- the input's token, checked by HMAC with the key of the set that its header names, under the same
+-- options
 abbrev pub hmac_set_call : List ℕ → Algorithm → List Jwk → ℕ → Call Value
 hmac_set_call input algorithm keys now = verifying_call (Compact input) (InSet keys) (default_options (algorithm ∷ [])) now
     (λ a key. refusal (hash_for a) (key_family key)) HmacAccepts (λ value claims. view claims ≡ value)
@@ -112,17 +116,18 @@ HasSetFault input algorithm set now k =
     ((k ≡ kind.Json) × ((keys : List Jwk) → ¬ IsSetText set keys))
     ⊎ ((keys : List Jwk) × IsSetText set keys × FirstFailed (hmac_set_call input algorithm keys now) set_order k)
 
+-- the token's claims by a set, or why there are none (RFC 7517 section 5, RFC 7519 section 7.2)
 abbrev pub SetClaimsLine : List ℕ → Algorithm → List ℕ → ℕ → ℕ → List ℕ → Type 0
 SetClaimsLine input algorithm set now status line =
     ((value : Data) × IsClaimsValueBySet input algorithm set now value × ValueLine value status line)
     ⊎ ((k : Kind) × HasSetFault input algorithm set now k × IsRefusal k status line)
 
--- the token of claims, under the header of the algorithm with the type `JWT`
+-- the token of claims, under the header of the algorithm with the type `JWT` (RFC 7519 section 5.1)
 abbrev pub hmac_issue : Algorithm → List ℕ → Data → Issue
 hmac_issue algorithm secret claims = issuing (new_header algorithm) (WrittenAs (Some claims)) (record { family = Hmac; bytes = secret })
     (λ a key. refusal (hash_for a) key.family) (λ a key message. None) HmacSigns
 
--- the token of the claims that the input is the JSON text of
+-- the token of the claims that the input is the JSON text of (RFC 7519 section 7.1)
 abbrev pub IsToken : List ℕ → Algorithm → List ℕ → List ℕ → Type 0
 IsToken input algorithm secret token = (claims : Data) × IsJson input claims
     × ((t : Written) × IssuePasses (hmac_issue algorithm secret claims) encode_order t × IsIssued (hmac_issue algorithm secret claims) t token)
@@ -133,11 +138,13 @@ HasTokenFault input algorithm secret k =
     ((k ≡ kind.Json) × ((claims : Data) → ¬ IsJson input claims))
     ⊎ ((claims : Data) × IsJson input claims × IssueFailsFirst (hmac_issue algorithm secret claims) encode_order k)
 
+-- the token, or why there is none (RFC 7519 section 7.1)
 abbrev pub TokenLine : List ℕ → Algorithm → List ℕ → ℕ → List ℕ → Type 0
 TokenLine input algorithm secret status line =
     (IsToken input algorithm secret line × (status ≡ 0))
     ⊎ ((k : Kind) × HasTokenFault input algorithm secret k × IsRefusal k status line)
 
+-- the line and the status for what is asked for
 abbrev pub RequestLine : Request → List ℕ → ℕ → List ℕ → Type 0
 RequestLine ForHeader input status line = HeaderLine input status line
 RequestLine (ForThumbprint hash) input status line = ThumbprintLine input hash status line
@@ -145,6 +152,7 @@ RequestLine (ForToken algorithm secret) input status line = TokenLine input algo
 RequestLine (ForClaims algorithm secret now) input status line = ClaimsLine input algorithm secret now status line
 RequestLine (ForClaimsBySet algorithm set now) input status line = SetClaimsLine input algorithm set now status line
 
+-- the line and the status for words that ask for nothing
 abbrev pub IsUsage : ℕ → List ℕ → Type 0
 IsUsage status line = (line ≡ codes "usage") × (status ≡ 2)
 
@@ -160,10 +168,12 @@ IsMemoryLine status line = (line ≡ codes "Out of memory") × (status ≡ 1)
 abbrev pub Answers : List (List ℕ) → List ℕ → ℕ → List ℕ → Type 0
 Answers words input status line = Line words input status line ⊎ IsMemoryLine status line
 
+-- for private clauses: the line for what is asked for, or want of memory
 abbrev pub RequestAnswer : Request → List ℕ → ℕ → List ℕ → Type 0
 RequestAnswer request input status line = RequestLine request input status line ⊎ IsMemoryLine status line
 
--- for private clauses: such a line of a value that is so, or a refusal of such a kind, or want of memory
+-- for private clauses: such a line of a value that is so, or a refusal of such a kind, or want of
+-- memory
 abbrev pub ValueAnswer : (Data → ℕ → List ℕ → Type 0) → (Data → Type 0) → (Kind → Type 0) → ℕ → List ℕ → Type 0
 ValueAnswer L P K status line =
     (((value : Data) × P value × L value status line) ⊎ ((k : Kind) × K k × IsRefusal k status line))

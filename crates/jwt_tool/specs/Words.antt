@@ -7,9 +7,9 @@ use Rattle.jwt_base.specs.declared.algorithms.Algorithm.{Algorithm}
 use Rattle.jwt_params.specs.declared.thumbprints.ThumbprintHash.{ThumbprintHash}
 use Rattle.jwt_params.specs.declared.thumbprints.ThumbprintHash.TheVariants.{SHA256, SHA384, SHA512}
 
--- the header of a token; the thumbprint of a key by a hash; the token of claims, by an algorithm and a secret; a token's
--- claims, verified by these at a moment; or a token's claims, verified by an algorithm and the text of a key set at a
--- moment
+-- the header of a token; the thumbprint of a key by a hash; the token of claims, by an algorithm
+-- and a secret; a token's claims, verified by these at a moment; or a token's claims, verified by
+-- an algorithm and the text of a key set at a moment
 pub data Request : Type 0 where
   ForHeader : Request
   ForThumbprint : ThumbprintHash → Request

@@ -17,6 +17,7 @@ use Rattle.jwt_validation.specs.declared.rules.Rule.TheVariants.{ExpFormat, NbfF
 
 -- ---- the required claims
 
+-- the names of the claims (RFC 7519 sections 4.1.1 to 4.1.5)
 abbrev pub text : Name → List ℕ
 text Exp = codes "exp"
 text Nbf = codes "nbf"
@@ -31,7 +32,7 @@ HasValue c Aud = IsPresent c.aud
 HasValue c Iss = IsPresent c.iss
 HasValue c Sub = IsPresent c.sub
 
--- the claim is required, and is absent or malformed
+-- the claim is required, and is absent or malformed (RFC 7519 section 4.1)
 abbrev pub IsMissing : Options → Claims → Name → Type 0
 IsMissing v c n = IsTrue (v.required (text n)) × ¬ HasValue c n
 
@@ -47,11 +48,14 @@ place Subject = 6
 place Issuer = 7
 place Audience = 8
 
--- one of the texts is in the set
+-- one of the texts is in the set (RFC 7519 section 4.1.3)
 abbrev pub SharesMember : Texts → List (List ℕ) → Type 0
 SharesMember set = Any (λ t. IsTrue (set t))
 
--- RFC 7519 sections 4.1.1 to 4.1.5; the moments themselves of `exp` and of `exp` with leeway accept
+-- What each rule asks (RFC 7519): `ExpFormat` and `ExpTime` by section 4.1.4, `NbfFormat` and
+-- `NbfTime` by 4.1.5, `Subject` by 4.1.2, `Issuer` by 4.1.1, `Audience` by 4.1.3; `ExpReject` is a
+-- rule of this library.
+-- The moments themselves of `exp` and of `exp` with leeway accept.
 abbrev pub Holds : Options → Claims → ℕ → Rule → Type 0
 Holds v c now ExpFormat = IsTrue v.checks_exp → IsWellFormed c.exp
 Holds v c now NbfFormat = IsTrue v.checks_nbf → IsWellFormed c.nbf
@@ -86,7 +90,7 @@ pub record IsFirstBroken (v : Options) (c : Claims) (now : ℕ) (r : Rule) : Typ
 
 -- ---- what is accepted, and the kinds of a refusal
 
--- no required claim is missing, and each rule holds
+-- no required claim is missing, and each rule holds (RFC 7519 section 4.1)
 pub record RulesHold (v : Options) (d : Data) (now : ℕ) : Type 0 where
   pub required : (n : Name) → ¬ IsMissing v (claims_of d) n
   pub rules : (r : Rule) → Holds v (claims_of d) now r
@@ -97,7 +101,7 @@ pub data IsRuleFault (v : Options) (d : Data) (now : ℕ) : Kind → Type 0 wher
   broken : ((n : Name) → ¬ IsMissing v (claims_of d) n) → (r : Rule) → IsFirstBroken v (claims_of d) now r
       → IsRuleFault v d now (kind_of_rule (claims_of d) r)
 
--- `Json` of a value that is no object, else the kind that the rules give
+-- `Json` of a value that is no object (RFC 7519 section 7.2), else the kind that the rules give
 abbrev pub IsFault : Options → Data → ℕ → Kind → Type 0
 IsFault v d now k = ((¬ IsSome (as_object d)) × (k ≡ kind.Json)) ⊎ (IsSome (as_object d) × IsRuleFault v d now k)
 

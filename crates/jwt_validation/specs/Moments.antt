@@ -34,11 +34,11 @@ checked b Absent f other = other
 checked b Malformed f other = other
 checked b (Value a) f other = if b then f a else other
 
--- `nbf` less the leeway, or 0 where that is negative
+-- `nbf` less the leeway, or 0 where that is negative (RFC 7519 section 4.1.5)
 abbrev pub first_moment : Options → Claims → ℕ
 first_moment v c = checked v.checks_nbf c.nbf (λ nbf. nbf - v.leeway) 0
 
--- `exp` and the leeway, less the time that must be left
+-- `exp` and the leeway, less the time that must be left (RFC 7519 section 4.1.4)
 abbrev pub last_moment : Options → Claims → ℕ
 last_moment v c = checked v.checks_exp c.exp (λ exp. min (exp + v.leeway - v.reject) end_of_time) end_of_time
 
@@ -48,12 +48,14 @@ pub record RulesOfNoMoment (v : Options) (d : Data) : Type 0 where
   pub timeless : (r : Rule) → IsTimeless r → (now : ℕ) → Holds v (claims_of d) now r
 
 -- an object that keeps these, at a moment from the first to the last
+-- (RFC 7519 sections 4.1.4 and 4.1.5)
 pub record IsAcceptedWithin (v : Options) (d : Data) (now : ℕ) : Type 0 where
   pub is_object : IsSome (as_object d)
   pub rules : RulesOfNoMoment v d
   pub from : first_moment v (claims_of d) ≤ now
   pub until : now ≤ last_moment v (claims_of d)
 
+-- what is in the one set is in the other
 abbrev pub IsSubset : Texts → Texts → Type 0
 IsSubset s t = (x : List ℕ) → IsTrue (s x) → IsTrue (t x)
 

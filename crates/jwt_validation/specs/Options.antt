@@ -8,6 +8,8 @@ use Rattle.jwt_base.specs.declared.algorithms.Algorithm.{Algorithm}
 abbrev pub Texts : Type 0
 Texts = List ℕ → Bool
 
+-- what a token is checked against
+-- (RFC 7519 section 4.1, RFC 7515 section 4.1.11, RFC 8725 section 3.1)
 pub record Options : Type 0 where
   pub required : Texts
   pub leeway : ℕ
@@ -28,7 +30,7 @@ no_texts _ = false
 abbrev pub among : {A : Type 0} → (A → List ℕ) → List A → Texts
 among text items t = list_any (λ a. bytes_eq (text a) t) items
 
--- the configured audience, of which none counts as empty
+-- the configured audience, of which none counts as empty (RFC 7519 section 4.1.3)
 abbrev pub audience : Options → Texts
 audience v = unwrap_or v.aud no_texts
 
