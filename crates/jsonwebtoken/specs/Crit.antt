@@ -16,7 +16,8 @@ pub record IsUnderstoodName (extras : Members) (understood : Texts) (name : List
 
 -- the list is not empty, names nothing twice, and each of its names is understood
 -- (RFC 7515 section 4.1.11)
-pub record IsUnderstoodList (names : List (List ℕ)) (extras : Members) (understood : Texts) : Type 0 where
+pub record IsUnderstoodList (names : List (List ℕ)) (extras : Members)
+    (understood : Texts) : Type 0 where
   pub some : ¬ (names ≡ [])
   pub once : AllPairs (λ a b. a ≢ b) names
   pub each : All (IsUnderstoodName extras understood) names

@@ -51,7 +51,8 @@ algorithms_of Ed = EdDSA ∷ []
 
 -- the twelve: those of RFC 7518 section 3.1 but ES512 and `none`, and that of RFC 8037 section 3.1
 abbrev pub all_algorithms : List Algorithm
-all_algorithms = HS256 ∷ HS384 ∷ HS512 ∷ RS256 ∷ RS384 ∷ RS512 ∷ PS256 ∷ PS384 ∷ PS512 ∷ ES256 ∷ ES384 ∷ EdDSA ∷ []
+all_algorithms = HS256 ∷ HS384 ∷ HS512 ∷ RS256 ∷ RS384 ∷ RS512 ∷ PS256 ∷ PS384 ∷ PS512
+    ∷ ES256 ∷ ES384 ∷ EdDSA ∷ []
 
 -- the algorithm of exactly that name (RFC 7518 section 3.1, RFC 8037 section 3.1)
 abbrev pub algorithm_named : List ℕ → Option Algorithm
@@ -77,7 +78,8 @@ family_from d = option_and_then family_named (as_str d)
 
 -- what a text is read as: what has that name, else `InvalidAlgorithmName`
 abbrev pub ReadsName : {A : Type 0} → (List ℕ → Option A) → List ℕ → Result A Error → Type 0
-ReadsName named text r = MatchResult r (λ a. named text ≡ Some a) (λ e. (kind_of e ≡ kind.InvalidAlgorithmName) × (named text ≡ None))
+ReadsName named text r = MatchResult r (λ a. named text ≡ Some a)
+    (λ e. (kind_of e ≡ kind.InvalidAlgorithmName) × (named text ≡ None))
 
 -- the algorithm of a key that is this algorithm (RFC 7517 section 4.4)
 abbrev pub key_algorithm_of : Algorithm → KeyAlgorithm
@@ -116,7 +118,8 @@ algorithm_of key.UNKNOWN_ALGORITHM = None
 
 -- the algorithm that signs by such a key, else `UnsupportedAlgorithm`
 abbrev pub ConvertsKeyAlgorithm : KeyAlgorithm → Result Algorithm Error → Type 0
-ConvertsKeyAlgorithm k r = MatchResult r (λ a. algorithm_of k ≡ Some a) (λ e. (kind_of e ≡ kind.UnsupportedAlgorithm) × (algorithm_of k ≡ None))
+ConvertsKeyAlgorithm k r = MatchResult r (λ a. algorithm_of k ≡ Some a)
+    (λ e. (kind_of e ≡ kind.UnsupportedAlgorithm) × (algorithm_of k ≡ None))
 
 -- the name in JSON (RFC 7518 sections 3.1 and 4.1, RFC 8037 section 3.1)
 abbrev pub key_name_of : KeyAlgorithm → List ℕ
@@ -145,7 +148,8 @@ key_text_of other = key_name_of other
 
 -- those with a name of their own; every other name is unknown
 abbrev pub known_key_algorithms : List KeyAlgorithm
-known_key_algorithms = key.HS256 ∷ key.HS384 ∷ key.HS512 ∷ key.RS256 ∷ key.RS384 ∷ key.RS512 ∷ key.PS256 ∷ key.PS384 ∷ key.PS512 ∷ key.ES256 ∷ key.ES384 ∷ key.EdDSA
+known_key_algorithms = key.HS256 ∷ key.HS384 ∷ key.HS512 ∷ key.RS256 ∷ key.RS384 ∷ key.RS512
+    ∷ key.PS256 ∷ key.PS384 ∷ key.PS512 ∷ key.ES256 ∷ key.ES384 ∷ key.EdDSA
     ∷ key.RSA1_5 ∷ key.RSA_OAEP ∷ key.RSA_OAEP_256 ∷ []
 
 -- the algorithm of a key of that name (RFC 7517 section 4.4)
@@ -154,4 +158,5 @@ key_algorithm_named = spelled key_name_of known_key_algorithms
 
 -- the algorithm of a key that a JSON text names; any other text is unknown (RFC 7517 section 4.4)
 abbrev pub key_algorithm_from : Data → Option KeyAlgorithm
-key_algorithm_from d = option_map (λ s. unwrap_or (key_algorithm_named s) key.UNKNOWN_ALGORITHM) (as_str d)
+key_algorithm_from d =
+    option_map (λ s. unwrap_or (key_algorithm_named s) key.UNKNOWN_ALGORITHM) (as_str d)

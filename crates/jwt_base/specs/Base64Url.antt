@@ -23,7 +23,8 @@ padding bytes = replicate (padding_len (length bytes)) 0x3d
 
 -- The padded text of these bytes in the standard alphabet (RFC 4648 section 4).
 abbrev pub IsStandardText : List ℕ → List ℕ → Type 0
-IsStandardText text bytes = IsBytes bytes × (text ≡ encode_symbols standard_characters bytes ++ padding bytes)
+IsStandardText text bytes =
+    IsBytes bytes × (text ≡ encode_symbols standard_characters bytes ++ padding bytes)
 
 -- The padded text of these bytes in the URL alphabet (RFC 4648 section 5).
 abbrev pub IsUrlText : List ℕ → List ℕ → Type 0

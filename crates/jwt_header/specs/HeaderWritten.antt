@@ -21,6 +21,8 @@ pub record IsNormal (h : Header) : Type 0 where
 -- What is written reads as the normal form alone; a normal form stays as it is; two normal forms
 -- are told apart by what is written.
 pub record HasNormalForm (h : Header) : Type 0 where
-  pub reads_back : (d : Data) → header_value h ≡ Some d → (g : Header) → ReadsHeader d g ↔ (g ≡ normal_header h)
+  pub reads_back : (d : Data) → header_value h ≡ Some d
+      → (g : Header) → ReadsHeader d g ↔ (g ≡ normal_header h)
   pub once : normal_header (normal_header h) ≡ normal_header h
-  pub told_apart : IsNormal h → (g : Header) → IsNormal g → (header_value h ≡ header_value g) ↔ (h ≡ g)
+  pub told_apart : IsNormal h → (g : Header) → IsNormal g
+      → (header_value h ≡ header_value g) ↔ (h ≡ g)

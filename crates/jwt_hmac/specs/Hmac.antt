@@ -48,4 +48,5 @@ mac_by h inner outer m = nested h (take (block_len h) inner) (take (block_len h)
 
 -- one K' of B bytes gives both blocks
 abbrev pub HaveOneKey : Hash → List ℕ → List ℕ → Type 0
-HaveOneKey h inner outer = masked 0x36 (take (block_len h) inner) ≡ masked 0x5c (take (block_len h) outer)
+HaveOneKey h inner outer =
+    masked 0x36 (take (block_len h) inner) ≡ masked 0x5c (take (block_len h) outer)

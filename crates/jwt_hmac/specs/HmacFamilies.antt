@@ -17,7 +17,8 @@ key_made (Some x) family.Ec h = cc
 key_made (Some x) family.Ed h = cc
 
 -- and so is the algorithm
-algorithm_made : (a : Algorithm) (f : AlgorithmFamily) → refusal (hash_for a) f ≡ None → family_of a ≡ family.Hmac
+algorithm_made : (a : Algorithm) (f : AlgorithmFamily) → refusal (hash_for a) f ≡ None
+    → family_of a ≡ family.Hmac
 algorithm_made algorithm.HS256 f h = refl
 algorithm_made algorithm.HS384 f h = refl
 algorithm_made algorithm.HS512 f h = refl
@@ -31,5 +32,6 @@ algorithm_made algorithm.ES256 f h = cc
 algorithm_made algorithm.ES384 f h = cc
 algorithm_made algorithm.EdDSA f h = cc
 
-pub family_made : (a : Algorithm) (f : AlgorithmFamily) → refusal (hash_for a) f ≡ None → f ≡ family_of a
+pub family_made : (a : Algorithm) (f : AlgorithmFamily) → refusal (hash_for a) f ≡ None
+    → f ≡ family_of a
 family_made a f h = key_made (hash_for a) f h ∙ sym (algorithm_made a f h)

@@ -59,5 +59,7 @@ HmacAccepts a (Components n e) message signature = ⊥
 -- What a key signs, the key to verify with of the same secret accepts; and where a signer is made
 -- for the one, a verifier is made for the other.
 pub record AcceptsItsOwn (a : Algorithm) : Type 0 where
-  pub accepted : (key : SecretKey) (m s : List ℕ) → HmacSigns a key m s → HmacAccepts a (Plain family.Hmac key.bytes) m s
-  pub made : (key : SecretKey) → refusal (hash_for a) key.family ≡ None → refusal (hash_for a) family.Hmac ≡ None
+  pub accepted : (key : SecretKey) (m s : List ℕ) → HmacSigns a key m s
+      → HmacAccepts a (Plain family.Hmac key.bytes) m s
+  pub made : (key : SecretKey) → refusal (hash_for a) key.family ≡ None
+      → refusal (hash_for a) family.Hmac ≡ None

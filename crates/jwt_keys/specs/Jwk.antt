@@ -13,7 +13,8 @@ use Rattle.jwt_keys.specs.declared.jwk.Jwk.{Jwk}
 
 -- the kind of what is left without the common members (RFC 7517 section 4)
 abbrev pub kind_from : Data → Option AlgorithmParameters
-kind_from d = option_and_then (λ ms. parameters_from (object (without common_names ms))) (as_object d)
+kind_from d =
+    option_and_then (λ ms. parameters_from (object (without common_names ms))) (as_object d)
 
 -- the value is an object, the common names give the common part, and the rest has the kind
 -- (RFC 7517 section 4)
@@ -23,7 +24,9 @@ pub record ReadsKey (d : Data) (k : Jwk) : Type 0 where
 
 -- all members; none where an `Other` holds a common name or a float (RFC 7517 section 4)
 abbrev pub key_members : Jwk → Option Members
-key_members k = if has_common k.algorithm then None else option_map (with_common k.common) (parameters_members k.algorithm)
+key_members k =
+    if has_common k.algorithm then None
+    else option_map (with_common k.common) (parameters_members k.algorithm)
 
 -- the object of these (RFC 7517 section 4)
 abbrev pub key_value : Jwk → Option Data

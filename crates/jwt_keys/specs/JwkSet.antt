@@ -22,11 +22,13 @@ ReadsSet d ks = (ds : Items) × (get (codes "keys") d ≡ Some (array ds)) × Re
 -- the keys' values in their order; none where one cannot be written (RFC 7517 section 5.1)
 abbrev pub key_values : List Jwk → Option (List Data)
 key_values [] = Some []
-key_values (k ∷ ks) = option_and_then (λ d. option_map (λ more. d ∷ more) (key_values ks)) (key_value k)
+key_values (k ∷ ks) =
+    option_and_then (λ d. option_map (λ more. d ∷ more) (key_values ks)) (key_value k)
 
 -- the object with the list `keys` alone (RFC 7517 sections 5 and 5.1)
 abbrev pub set_value : List Jwk → Option Data
-set_value ks = option_map (λ ds. object (member (codes "keys") (array (items_of ds)) no_members)) (key_values ks)
+set_value ks = option_map
+    (λ ds. object (member (codes "keys") (array (items_of ds)) no_members)) (key_values ks)
 
 -- the normal form of each key
 abbrev pub normal_set : List Jwk → List Jwk
@@ -40,9 +42,11 @@ pub record IsNormalSet (ks : List Jwk) : Type 0 where
 -- What is written reads as the normal form alone; a normal form stays as it is; two normal forms
 -- are told apart by what is written.
 pub record HasNormalSet (ks : List Jwk) : Type 0 where
-  pub reads_back : (d : Data) → set_value ks ≡ Some d → (ls : List Jwk) → ReadsSet d ls ↔ (ls ≡ normal_set ks)
+  pub reads_back : (d : Data) → set_value ks ≡ Some d
+      → (ls : List Jwk) → ReadsSet d ls ↔ (ls ≡ normal_set ks)
   pub once : normal_set (normal_set ks) ≡ normal_set ks
-  pub told_apart : IsNormalSet ks → (ls : List Jwk) → IsNormalSet ls → (set_value ks ≡ set_value ls) ↔ (ks ≡ ls)
+  pub told_apart : IsNormalSet ks → (ls : List Jwk) → IsNormalSet ls
+      → (set_value ks ≡ set_value ls) ↔ (ks ≡ ls)
 
 -- the keys with one mark in place of each float
 abbrev pub marked_set : JwkSet → List Jwk

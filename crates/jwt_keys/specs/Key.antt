@@ -43,12 +43,14 @@ cleared (Components n e) = Components (zeros n) (zeros e)
 
 -- both texts are parts of the numbers' bytes (RFC 7518 section 6.3.1)
 abbrev pub IsRsaOfParts : List ℕ → List ℕ → Key → Type 0
-IsRsaOfParts modulus exponent key = (n : List ℕ) × ((e : List ℕ) × ((key ≡ Components n e) × IsPart modulus n × IsPart exponent e))
+IsRsaOfParts modulus exponent key =
+    (n : List ℕ) × ((e : List ℕ) × ((key ≡ Components n e) × IsPart modulus n × IsPart exponent e))
 
 -- an uncompressed point: the byte 4 and the two coordinates, of which both texts are parts
 -- (RFC 7518 section 6.2.1)
 abbrev pub IsEcOfParts : List ℕ → List ℕ → Key → Type 0
-IsEcOfParts x y key = (a : List ℕ) × ((b : List ℕ) × ((key ≡ Plain family.Ec (4 ∷ a ++ b)) × IsPart x a × IsPart y b))
+IsEcOfParts x y key =
+    (a : List ℕ) × ((b : List ℕ) × ((key ≡ Plain family.Ec (4 ∷ a ++ b)) × IsPart x a × IsPart y b))
 
 -- the text is the part of the public key's bytes (RFC 8037 section 2)
 abbrev pub IsEdOfPart : List ℕ → Key → Type 0

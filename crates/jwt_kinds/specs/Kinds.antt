@@ -33,27 +33,47 @@ curve_at d = option_and_then curve_from (get (codes "crv") d)
 
 -- an `EC` key with `crv`, `x` and `y` (RFC 7518 section 6.2.1)
 abbrev pub elliptic_from : Data → Option EllipticCurveKeyParameters
-elliptic_from d = if is_type (codes "EC") d then option_and_then (λ curve. option_and_then (λ x. option_map (λ y. record { key_type = EC; curve = curve; x = x; y = y }) (text_at (codes "y") d)) (text_at (codes "x") d)) (curve_at d) else None
+elliptic_from d =
+    if is_type (codes "EC") d then option_and_then (λ curve. option_and_then (λ x. option_map
+    (λ y. record { key_type = EC; curve = curve; x = x; y = y })
+    (text_at (codes "y") d)) (text_at (codes "x") d)) (curve_at d)
+    else None
 
 -- an `RSA` key with `n` and `e` (RFC 7518 section 6.3.1)
 abbrev pub rsa_from : Data → Option RSAKeyParameters
-rsa_from d = if is_type (codes "RSA") d then option_and_then (λ n. option_map (λ e. record { key_type = RSA; n = n; e = e }) (text_at (codes "e") d)) (text_at (codes "n") d) else None
+rsa_from d =
+    if is_type (codes "RSA") d then option_and_then (λ n. option_map
+    (λ e. record { key_type = RSA; n = n; e = e })
+    (text_at (codes "e") d)) (text_at (codes "n") d)
+    else None
 
 -- an `oct` key with `k` (RFC 7518 section 6.4.1)
 abbrev pub octet_from : Data → Option OctetKeyParameters
-octet_from d = if is_type (codes "oct") d then option_map (λ value. record { key_type = Octet; value = value }) (text_at (codes "k") d) else None
+octet_from d =
+    if is_type (codes "oct") d then option_map
+    (λ value. record { key_type = Octet; value = value }) (text_at (codes "k") d)
+    else None
 
 -- an `OKP` key with `crv` and `x` (RFC 8037 section 2)
 abbrev pub pair_from : Data → Option OctetKeyPairParameters
-pair_from d = if is_type (codes "OKP") d then option_and_then (λ curve. option_map (λ x. record { key_type = OctetKeyPair; curve = curve; x = x }) (text_at (codes "x") d)) (curve_at d) else None
+pair_from d =
+    if is_type (codes "OKP") d then option_and_then (λ curve. option_map
+    (λ x. record { key_type = OctetKeyPair; curve = curve; x = x })
+    (text_at (codes "x") d)) (curve_at d)
+    else None
 
 -- all members, where no float is in them
 abbrev pub other_from : Data → Option OtherKeyParameters
-other_from d = option_and_then (λ ms. if members_have_float ms then None else Some (record { fields = ms })) (as_object d)
+other_from d = option_and_then
+    (λ ms. if members_have_float ms then None else Some (record { fields = ms })) (as_object d)
 
 -- the first of the kinds with parameters of their own (RFC 7518 section 6, RFC 8037 section 2)
 abbrev pub named_from : Data → Option AlgorithmParameters
-named_from d = option_or (option_map kinds.EllipticCurve (elliptic_from d)) (option_or (option_map kinds.RSA (rsa_from d)) (option_or (option_map kinds.OctetKey (octet_from d)) (option_map kinds.OctetKeyPair (pair_from d))))
+named_from d =
+    option_or (option_map kinds.EllipticCurve (elliptic_from d))
+    (option_or (option_map kinds.RSA (rsa_from d))
+    (option_or (option_map kinds.OctetKey (octet_from d))
+    (option_map kinds.OctetKeyPair (pair_from d))))
 
 -- the first of the five (RFC 7518 section 6, RFC 8037 section 2)
 abbrev pub parameters_from : Data → Option AlgorithmParameters
@@ -61,19 +81,27 @@ parameters_from d = option_or (named_from d) (option_map kinds.Other (other_from
 
 -- the members of an `EC` key (RFC 7518 section 6.2.1)
 abbrev pub elliptic_members : EllipticCurveKeyParameters → Members
-elliptic_members p = put (codes "y") (string p.y) (put (codes "x") (string p.x) (put (codes "crv") (string (curve_name p.curve)) (put (codes "kty") (string (elliptic_type_name p.key_type)) no_members)))
+elliptic_members p = put (codes "y") (string p.y)
+    (put (codes "x") (string p.x)
+    (put (codes "crv") (string (curve_name p.curve))
+    (put (codes "kty") (string (elliptic_type_name p.key_type)) no_members)))
 
 -- the members of an `RSA` key (RFC 7518 section 6.3.1)
 abbrev pub rsa_members : RSAKeyParameters → Members
-rsa_members p = put (codes "e") (string p.e) (put (codes "n") (string p.n) (put (codes "kty") (string (rsa_type_name p.key_type)) no_members))
+rsa_members p = put (codes "e") (string p.e)
+    (put (codes "n") (string p.n)
+    (put (codes "kty") (string (rsa_type_name p.key_type)) no_members))
 
 -- the members of an `oct` key (RFC 7518 section 6.4.1)
 abbrev pub octet_members : OctetKeyParameters → Members
-octet_members p = put (codes "k") (string p.value) (put (codes "kty") (string (octet_type_name p.key_type)) no_members)
+octet_members p = put (codes "k") (string p.value)
+    (put (codes "kty") (string (octet_type_name p.key_type)) no_members)
 
 -- the members of an `OKP` key (RFC 8037 section 2)
 abbrev pub pair_members : OctetKeyPairParameters → Members
-pair_members p = put (codes "x") (string p.x) (put (codes "crv") (string (curve_name p.curve)) (put (codes "kty") (string (octet_pair_type_name p.key_type)) no_members))
+pair_members p = put (codes "x") (string p.x)
+    (put (codes "crv") (string (curve_name p.curve))
+    (put (codes "kty") (string (octet_pair_type_name p.key_type)) no_members))
 
 -- whether one of the members of an `Other` has a common name
 abbrev pub has_common : AlgorithmParameters → Bool

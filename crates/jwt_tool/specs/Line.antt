@@ -28,7 +28,8 @@ use Rattle.jwt_tool.specs.Words.{Request, ForHeader, ForThumbprint, ForToken, Fo
 
 -- the bytes, less one newline at their end
 abbrev pub without_final_newline : List ℕ → List ℕ
-without_final_newline xs = if slice_index xs (length xs - 1) == 10 then take (length xs - 1) xs else xs
+without_final_newline xs =
+    if slice_index xs (length xs - 1) == 10 then take (length xs - 1) xs else xs
 
 -- ---- the line
 
@@ -48,7 +49,9 @@ ValueLine value status line =
 
 -- what the header of the input's token is written as (RFC 7515 section 4)
 abbrev pub IsHeaderValue : List ℕ → Data → Type 0
-IsHeaderValue input value = (t : Contents) × Passes (header_call input) header_order t × (header_value t.header ≡ Some value)
+IsHeaderValue input value =
+    (t : Contents) × Passes (header_call input) header_order t
+    × (header_value t.header ≡ Some value)
 
 -- the token's header, or the kind of its first failed test (RFC 7515 section 4)
 abbrev pub HeaderLine : List ℕ → ℕ → List ℕ → Type 0
@@ -64,7 +67,8 @@ IsKeyText text key = (value : Data) × (IsJson text value × ReadsKey value key)
 -- (RFC 7638 section 3)
 abbrev pub IsThumbprint : List ℕ → ThumbprintHash → List ℕ → Type 0
 IsThumbprint input hash thumbprint = (key : Jwk) × (IsKeyText input key
-    × ((text : List ℕ) × ((thumb_text key ≡ Ok text) × IsPart thumbprint (hash_bytes (hash_named hash) text))))
+    × ((text : List ℕ) × ((thumb_text key ≡ Ok text)
+    × IsPart thumbprint (hash_bytes (hash_named hash) text))))
 
 -- the input is that of no key, or of one that has no thumbprint for this reason
 abbrev pub HasThumbprintFault : List ℕ → Kind → Type 0
@@ -81,19 +85,23 @@ ThumbprintLine input hash status line =
 -- the input's token, checked by HMAC with a secret at a moment, as a validation of that one
 -- algorithm asks at first
 abbrev pub hmac_call : List ℕ → Algorithm → List ℕ → ℕ → Call Value
-hmac_call input algorithm secret now = verifying_call (Compact input) (Given (Plain Hmac secret)) (default_options (algorithm ∷ [])) now
-    (λ a key. refusal (hash_for a) (key_family key)) HmacAccepts (λ value claims. view claims ≡ value)
+hmac_call input algorithm secret now =
+    verifying_call (Compact input) (Given (Plain Hmac secret)) (default_options (algorithm ∷ []))
+    now (λ a key. refusal (hash_for a) (key_family key)) HmacAccepts
+    (λ value claims. view claims ≡ value)
 
 -- the claims of a token that passes every test of decode (RFC 7519 section 7.2)
 abbrev pub IsClaimsValue : List ℕ → Algorithm → List ℕ → ℕ → Data → Type 0
 IsClaimsValue input algorithm secret now value =
-    (t : Contents) × Passes (hmac_call input algorithm secret now) decode_order t × (t.payload_value ≡ value)
+    (t : Contents) × Passes (hmac_call input algorithm secret now) decode_order t
+    × (t.payload_value ≡ value)
 
 -- the token's claims, or the kind of its first failed test (RFC 7519 section 7.2)
 abbrev pub ClaimsLine : List ℕ → Algorithm → List ℕ → ℕ → ℕ → List ℕ → Type 0
 ClaimsLine input algorithm secret now status line =
     ((value : Data) × IsClaimsValue input algorithm secret now value × ValueLine value status line)
-    ⊎ ((k : Kind) × FirstFailed (hmac_call input algorithm secret now) decode_order k × IsRefusal k status line)
+    ⊎ ((k : Kind) × FirstFailed (hmac_call input algorithm secret now) decode_order k
+    × IsRefusal k status line)
 
 -- the text is the JSON of a set of these keys (RFC 7517 section 5)
 abbrev pub IsSetText : List ℕ → List Jwk → Type 0
@@ -102,41 +110,50 @@ IsSetText text keys = (value : Data) × IsJson text value × ReadsSet value keys
 -- the input's token, checked by HMAC with the key of the set that its header names, under the same
 -- options
 abbrev pub hmac_set_call : List ℕ → Algorithm → List Jwk → ℕ → Call Value
-hmac_set_call input algorithm keys now = verifying_call (Compact input) (InSet keys) (default_options (algorithm ∷ [])) now
-    (λ a key. refusal (hash_for a) (key_family key)) HmacAccepts (λ value claims. view claims ≡ value)
+hmac_set_call input algorithm keys now =
+    verifying_call (Compact input) (InSet keys) (default_options (algorithm ∷ []))
+    now (λ a key. refusal (hash_for a) (key_family key)) HmacAccepts
+    (λ value claims. view claims ≡ value)
 
 -- the text is that of a set by which the token passes every test, and these are its claims
 abbrev pub IsClaimsValueBySet : List ℕ → Algorithm → List ℕ → ℕ → Data → Type 0
 IsClaimsValueBySet input algorithm set now value = (keys : List Jwk) × IsSetText set keys
-    × ((t : Contents) × Passes (hmac_set_call input algorithm keys now) set_order t × (t.payload_value ≡ value))
+    × ((t : Contents) × Passes (hmac_set_call input algorithm keys now) set_order t
+    × (t.payload_value ≡ value))
 
 -- the text is that of no set, or the first failed test has this kind
 abbrev pub HasSetFault : List ℕ → Algorithm → List ℕ → ℕ → Kind → Type 0
 HasSetFault input algorithm set now k =
     ((k ≡ kind.Json) × ((keys : List Jwk) → ¬ IsSetText set keys))
-    ⊎ ((keys : List Jwk) × IsSetText set keys × FirstFailed (hmac_set_call input algorithm keys now) set_order k)
+    ⊎ ((keys : List Jwk) × IsSetText set keys
+    × FirstFailed (hmac_set_call input algorithm keys now) set_order k)
 
 -- the token's claims by a set, or why there are none (RFC 7517 section 5, RFC 7519 section 7.2)
 abbrev pub SetClaimsLine : List ℕ → Algorithm → List ℕ → ℕ → ℕ → List ℕ → Type 0
 SetClaimsLine input algorithm set now status line =
-    ((value : Data) × IsClaimsValueBySet input algorithm set now value × ValueLine value status line)
+    ((value : Data) × IsClaimsValueBySet input algorithm set now value
+    × ValueLine value status line)
     ⊎ ((k : Kind) × HasSetFault input algorithm set now k × IsRefusal k status line)
 
 -- the token of claims, under the header of the algorithm with the type `JWT` (RFC 7519 section 5.1)
 abbrev pub hmac_issue : Algorithm → List ℕ → Data → Issue
-hmac_issue algorithm secret claims = issuing (new_header algorithm) (WrittenAs (Some claims)) (record { family = Hmac; bytes = secret })
+hmac_issue algorithm secret claims =
+    issuing (new_header algorithm) (WrittenAs (Some claims))
+    (record { family = Hmac; bytes = secret })
     (λ a key. refusal (hash_for a) key.family) (λ a key message. None) HmacSigns
 
 -- the token of the claims that the input is the JSON text of (RFC 7519 section 7.1)
 abbrev pub IsToken : List ℕ → Algorithm → List ℕ → List ℕ → Type 0
 IsToken input algorithm secret token = (claims : Data) × IsJson input claims
-    × ((t : Written) × IssuePasses (hmac_issue algorithm secret claims) encode_order t × IsIssued (hmac_issue algorithm secret claims) t token)
+    × ((t : Written) × IssuePasses (hmac_issue algorithm secret claims) encode_order t
+    × IsIssued (hmac_issue algorithm secret claims) t token)
 
 -- the input is no JSON text, or the first failed test of encode has this kind
 abbrev pub HasTokenFault : List ℕ → Algorithm → List ℕ → Kind → Type 0
 HasTokenFault input algorithm secret k =
     ((k ≡ kind.Json) × ((claims : Data) → ¬ IsJson input claims))
-    ⊎ ((claims : Data) × IsJson input claims × IssueFailsFirst (hmac_issue algorithm secret claims) encode_order k)
+    ⊎ ((claims : Data) × IsJson input claims
+    × IssueFailsFirst (hmac_issue algorithm secret claims) encode_order k)
 
 -- the token, or why there is none (RFC 7519 section 7.1)
 abbrev pub TokenLine : List ℕ → Algorithm → List ℕ → ℕ → List ℕ → Type 0
@@ -148,9 +165,12 @@ TokenLine input algorithm secret status line =
 abbrev pub RequestLine : Request → List ℕ → ℕ → List ℕ → Type 0
 RequestLine ForHeader input status line = HeaderLine input status line
 RequestLine (ForThumbprint hash) input status line = ThumbprintLine input hash status line
-RequestLine (ForToken algorithm secret) input status line = TokenLine input algorithm secret status line
-RequestLine (ForClaims algorithm secret now) input status line = ClaimsLine input algorithm secret now status line
-RequestLine (ForClaimsBySet algorithm set now) input status line = SetClaimsLine input algorithm set now status line
+RequestLine (ForToken algorithm secret) input status line =
+    TokenLine input algorithm secret status line
+RequestLine (ForClaims algorithm secret now) input status line =
+    ClaimsLine input algorithm secret now status line
+RequestLine (ForClaimsBySet algorithm set now) input status line =
+    SetClaimsLine input algorithm set now status line
 
 -- the line and the status for words that ask for nothing
 abbrev pub IsUsage : ℕ → List ℕ → Type 0
@@ -158,7 +178,8 @@ IsUsage status line = (line ≡ codes "usage") × (status ≡ 2)
 
 -- the line and the status for any words
 abbrev pub Line : List (List ℕ) → List ℕ → ℕ → List ℕ → Type 0
-Line words input status line = MatchOption (request_of words) (IsUsage status line) (λ r. RequestLine r input status line)
+Line words input status line =
+    MatchOption (request_of words) (IsUsage status line) (λ r. RequestLine r input status line)
 
 -- what is answered where memory ran out
 abbrev pub IsMemoryLine : ℕ → List ℕ → Type 0
@@ -170,11 +191,14 @@ Answers words input status line = Line words input status line ⊎ IsMemoryLine 
 
 -- for private clauses: the line for what is asked for, or want of memory
 abbrev pub RequestAnswer : Request → List ℕ → ℕ → List ℕ → Type 0
-RequestAnswer request input status line = RequestLine request input status line ⊎ IsMemoryLine status line
+RequestAnswer request input status line =
+    RequestLine request input status line ⊎ IsMemoryLine status line
 
 -- for private clauses: such a line of a value that is so, or a refusal of such a kind, or want of
 -- memory
-abbrev pub ValueAnswer : (Data → ℕ → List ℕ → Type 0) → (Data → Type 0) → (Kind → Type 0) → ℕ → List ℕ → Type 0
+abbrev pub ValueAnswer : (Data → ℕ → List ℕ → Type 0) → (Data → Type 0) → (Kind → Type 0)
+    → ℕ → List ℕ → Type 0
 ValueAnswer L P K status line =
-    (((value : Data) × P value × L value status line) ⊎ ((k : Kind) × K k × IsRefusal k status line))
+    (((value : Data) × P value × L value status line)
+    ⊎ ((k : Kind) × K k × IsRefusal k status line))
     ⊎ IsMemoryLine status line

@@ -19,7 +19,10 @@ pub data Request : Type 0 where
 
 -- the number that one or more decimal digits write, where it has at most 64 bits
 abbrev pub moment_of : List ℕ → Option ℕ
-moment_of word = if all_ascii_digits word && (ltb 0 (length word) && ltb (digits_value 10 word) (2 ^ 64)) then Some (digits_value 10 word) else None
+moment_of word =
+    if all_ascii_digits word && (ltb 0 (length word)
+    && ltb (digits_value 10 word) (2 ^ 64)) then Some (digits_value 10 word)
+    else None
 
 -- what one word asks for
 abbrev pub request_named : List ℕ → Option Request
@@ -35,17 +38,23 @@ hash_of_name name =
 
 -- `thumbprint`, and the name of a hash
 abbrev pub thumbprint_request : List ℕ → List ℕ → Option Request
-thumbprint_request word hash = if bytes_eq word (codes "thumbprint") then option_map ForThumbprint (hash_of_name hash) else None
+thumbprint_request word hash =
+    if bytes_eq word (codes "thumbprint") then option_map ForThumbprint (hash_of_name hash)
+    else None
 
 -- `encode`, the name of an algorithm, and a secret
 abbrev pub encoding_request : List ℕ → List ℕ → List ℕ → Option Request
 encoding_request word algorithm secret =
-    if bytes_eq word (codes "encode") then option_map (λ a. ForToken a secret) (algorithm_named algorithm) else None
+    if bytes_eq word (codes "encode") then option_map (λ a. ForToken a secret)
+    (algorithm_named algorithm)
+    else None
 
 -- the name of an algorithm, a secret or a set, and a moment
-abbrev pub claims_asked : (Algorithm → List ℕ → ℕ → Request) → List ℕ → List ℕ → List ℕ → Option Request
+abbrev pub claims_asked : (Algorithm → List ℕ → ℕ → Request) → List ℕ → List ℕ → List ℕ
+    → Option Request
 claims_asked request algorithm by moment =
-    option_and_then (λ a. option_map (λ now. request a by now) (moment_of moment)) (algorithm_named algorithm)
+    option_and_then (λ a. option_map (λ now. request a by now) (moment_of moment))
+    (algorithm_named algorithm)
 
 -- `decode` with a secret, or `decode-set` with the text of a set
 abbrev pub decoding_request : List ℕ → List ℕ → List ℕ → List ℕ → Option Request

@@ -64,7 +64,8 @@ Holds v c now ExpTime = IsTrue v.checks_exp → IfValue c.exp (λ t. now + v.rej
 Holds v c now NbfTime = IsTrue v.checks_nbf → IfValue c.nbf (λ t. t ≤ now + v.leeway)
 Holds v c now Subject = IfSome v.sub (λ s. IsWellFormed c.sub × IfValue c.sub (λ t. t ≡ s))
 Holds v c now Issuer = IfSome v.iss (λ set. IsWellFormed c.iss × IfValue c.iss (SharesMember set))
-Holds v c now Audience = IsTrue v.checks_aud → IsWellFormed c.aud × IfValue c.aud (SharesMember (audience v))
+Holds v c now Audience =
+    IsTrue v.checks_aud → IsWellFormed c.aud × IfValue c.aud (SharesMember (audience v))
 
 -- a malformed claim has the kind for that
 abbrev pub format_or : {A : Type 0} → Claim A → Name → Kind → Kind
@@ -97,13 +98,17 @@ pub record RulesHold (v : Options) (d : Data) (now : ℕ) : Type 0 where
 
 -- the kind of any missing claim; where none is missing, that of the first broken rule
 pub data IsRuleFault (v : Options) (d : Data) (now : ℕ) : Kind → Type 0 where
-  missing : (n : Name) → IsMissing v (claims_of d) n → IsRuleFault v d now (kind.MissingRequiredClaim (text n))
-  broken : ((n : Name) → ¬ IsMissing v (claims_of d) n) → (r : Rule) → IsFirstBroken v (claims_of d) now r
+  missing : (n : Name) → IsMissing v (claims_of d) n
+      → IsRuleFault v d now (kind.MissingRequiredClaim (text n))
+  broken : ((n : Name) → ¬ IsMissing v (claims_of d) n)
+      → (r : Rule) → IsFirstBroken v (claims_of d) now r
       → IsRuleFault v d now (kind_of_rule (claims_of d) r)
 
 -- `Json` of a value that is no object (RFC 7519 section 7.2), else the kind that the rules give
 abbrev pub IsFault : Options → Data → ℕ → Kind → Type 0
-IsFault v d now k = ((¬ IsSome (as_object d)) × (k ≡ kind.Json)) ⊎ (IsSome (as_object d) × IsRuleFault v d now k)
+IsFault v d now k =
+    ((¬ IsSome (as_object d)) × (k ≡ kind.Json))
+    ⊎ (IsSome (as_object d) × IsRuleFault v d now k)
 
 -- the kinds that hold the name of a claim
 abbrev pub NamesClaim : Kind → Type 0

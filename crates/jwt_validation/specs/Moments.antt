@@ -40,7 +40,8 @@ first_moment v c = checked v.checks_nbf c.nbf (λ nbf. nbf - v.leeway) 0
 
 -- `exp` and the leeway, less the time that must be left (RFC 7519 section 4.1.4)
 abbrev pub last_moment : Options → Claims → ℕ
-last_moment v c = checked v.checks_exp c.exp (λ exp. min (exp + v.leeway - v.reject) end_of_time) end_of_time
+last_moment v c =
+    checked v.checks_exp c.exp (λ exp. min (exp + v.leeway - v.reject) end_of_time) end_of_time
 
 -- what is asked of the claims without regard to the moment
 pub record RulesOfNoMoment (v : Options) (d : Data) : Type 0 where
@@ -72,4 +73,5 @@ pub record Looser (v w : Options) : Type 0 where
   pub aud : IsSubset (audience v) (audience w)
   pub understood : IsSubset v.understood w.understood
   pub keeps : (a : Algorithm) → Contains v.algorithms a → Contains w.algorithms a
-  pub families : (a : Algorithm) → Contains w.algorithms a → (b : Algorithm) × Contains v.algorithms b × (family_of b ≡ family_of a)
+  pub families : (a : Algorithm) → Contains w.algorithms a
+      → (b : Algorithm) × Contains v.algorithms b × (family_of b ≡ family_of a)
