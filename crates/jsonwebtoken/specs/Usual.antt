@@ -1,4 +1,4 @@
--- The header parts that are known by their texts.
+-- For private clauses: the header parts that are known by their texts.
 use Rattle.std.specs.Prelude.{◌≡◌, ℕ, List, Some}
 use Rattle.serde_json.specs.Data.{Data}
 use Rattle.serde_json.specs.Written.{compact_text}
@@ -7,8 +7,8 @@ use Rattle.jwt_base.specs.JsonText.{IsJson}
 use Rattle.jwt_base.specs.declared.algorithms.Algorithm.{Algorithm}
 use Rattle.jwt_header.specs.Header.{ReadsHeader, new_header, header_value}
 
--- for private clauses: the part stands for the header with the algorithm and the type `JWT` alone,
--- and is what is written of it
+-- the part stands for the header with the algorithm and the type `JWT` alone, and is what is written
+-- of it (RFC 7519 section 5.1)
 pub record IsUsual (part : List ℕ) (a : Algorithm) : Type 0 where
   pub bytes : List ℕ
   pub value : Data
