@@ -116,7 +116,7 @@ algorithm_of key.RSA_OAEP = None
 algorithm_of key.RSA_OAEP_256 = None
 algorithm_of key.UNKNOWN_ALGORITHM = None
 
--- the algorithm that signs by such a key, else `UnsupportedAlgorithm`
+-- the algorithm that signs by such a key, else `UnsupportedAlgorithm` (RFC 7517 section 4.4)
 abbrev pub ConvertsKeyAlgorithm : KeyAlgorithm → Result Algorithm Error → Type 0
 ConvertsKeyAlgorithm k r = MatchResult r (λ a. algorithm_of k ≡ Some a)
     (λ e. (kind_of e ≡ kind.UnsupportedAlgorithm) × (algorithm_of k ≡ None))
@@ -147,6 +147,7 @@ key_text_of key.RSA_OAEP_256 = codes "RSA_OAEP_256"
 key_text_of other = key_name_of other
 
 -- those with a name of their own; every other name is unknown
+-- (RFC 7518 sections 3.1 and 4.1, RFC 8037 section 3.1)
 abbrev pub known_key_algorithms : List KeyAlgorithm
 known_key_algorithms = key.HS256 ∷ key.HS384 ∷ key.HS512 ∷ key.RS256 ∷ key.RS384 ∷ key.RS512
     ∷ key.PS256 ∷ key.PS384 ∷ key.PS512 ∷ key.ES256 ∷ key.ES384 ∷ key.EdDSA

@@ -29,11 +29,11 @@ filled n k = k ++ replicate (n - length k) 0
 unfoldable pub key_block : Hash → List ℕ → List ℕ
 key_block h k = filled (block_len h) (short_key h k)
 
--- each byte xor the mask
+-- each byte xor the mask (RFC 2104 section 2)
 abbrev pub masked : ℕ → List ℕ → List ℕ
 masked mask bytes = map (λ b. bit_xor b mask) bytes
 
--- H(outer ++ H(inner ++ m))
+-- H(outer ++ H(inner ++ m)) (RFC 2104 section 2)
 unfoldable pub nested : Hash → List ℕ → List ℕ → List ℕ → List ℕ
 nested h inner outer m = hash_bytes h (outer ++ hash_bytes h (inner ++ m))
 

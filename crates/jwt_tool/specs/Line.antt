@@ -70,7 +70,8 @@ IsThumbprint input hash thumbprint = (key : Jwk) × (IsKeyText input key
     × ((text : List ℕ) × ((thumb_text key ≡ Ok text)
     × IsPart thumbprint (hash_bytes (hash_named hash) text))))
 
--- the input is that of no key, or of one that has no thumbprint for this reason
+-- the input is that of no key (RFC 7517 section 4), or of one that has no thumbprint for this
+-- reason (RFC 7638 section 3.2)
 abbrev pub HasThumbprintFault : List ℕ → Kind → Type 0
 HasThumbprintFault input k =
     ((k ≡ kind.Json) × ((key : Jwk) → ¬ IsKeyText input key))
@@ -116,12 +117,13 @@ hmac_set_call input algorithm keys now =
     (λ value claims. view claims ≡ value)
 
 -- the text is that of a set by which the token passes every test, and these are its claims
+-- (RFC 7517 section 5, RFC 7519 section 7.2)
 abbrev pub IsClaimsValueBySet : List ℕ → Algorithm → List ℕ → ℕ → Data → Type 0
 IsClaimsValueBySet input algorithm set now value = (keys : List Jwk) × IsSetText set keys
     × ((t : Contents) × Passes (hmac_set_call input algorithm keys now) set_order t
     × (t.payload_value ≡ value))
 
--- the text is that of no set, or the first failed test has this kind
+-- the text is that of no set (RFC 7517 section 5), or the first failed test has this kind
 abbrev pub HasSetFault : List ℕ → Algorithm → List ℕ → ℕ → Kind → Type 0
 HasSetFault input algorithm set now k =
     ((k ≡ kind.Json) × ((keys : List Jwk) → ¬ IsSetText set keys))

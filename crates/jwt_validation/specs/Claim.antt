@@ -22,7 +22,7 @@ text_in (Some (string s)) = Value s
 text_in (Some (array ds)) = Malformed
 text_in (Some (object ms)) = Malformed
 
--- the items, where each is a text
+-- the items, where each is a text (RFC 7519 section 4.1.3)
 abbrev pub all_texts : Items → Option (List (List ℕ))
 all_texts no_items = Some []
 all_texts (item d ds) = option_and_then (λ s. option_map (λ ss. s ∷ ss) (all_texts ds)) (as_str d)

@@ -25,6 +25,7 @@ text Aud = codes "aud"
 text Iss = codes "iss"
 text Sub = codes "sub"
 
+-- the claim of this name is there, and it is not malformed
 abbrev pub HasValue : Claims → Name → Type 0
 HasValue c Exp = IsPresent c.exp
 HasValue c Nbf = IsPresent c.nbf
