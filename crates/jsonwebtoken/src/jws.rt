@@ -92,11 +92,8 @@ fn required_text(alloc: Global, value: &Value, name: &str) -> Result<String>
     ensures ok { IfOk result (λ t. text_at name.now (view value.now) ≡ Some (string_bytes t)) }
     ensures err { IfErr result (RefusesAs kind.Json (text_at name.now (view value.now) ≡ None)) }
 {
-    match value.get(name) {
-        Some(member) => match member.as_str() {
-            Some(text) => Ok(String::from_str(alloc, text)?),
-            None => Err(new_error(ErrorKind::Json)),
-        },
+    match value.get(name).and_then(Value::as_str) {
+        Some(text) => Ok(String::from_str(alloc, text)?),
         None => Err(new_error(ErrorKind::Json)),
     }
 }

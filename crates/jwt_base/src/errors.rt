@@ -158,16 +158,22 @@ impl ErrorKind {
     {
         match self {
             ErrorKind::MissingRequiredClaim(claim) => Ok(ErrorKind::MissingRequiredClaim(copied(
-                alloc, claim,
+                alloc,
+                claim.as_str(),
             )?)),
             ErrorKind::InvalidClaimFormat(claim) => Ok(ErrorKind::InvalidClaimFormat(copied(
-                alloc, claim,
+                alloc,
+                claim.as_str(),
             )?)),
             ErrorKind::InvalidRsaKey(message) => Ok(ErrorKind::InvalidRsaKey(copied(
-                alloc, message,
+                alloc,
+                message.as_str(),
             )?)),
-            ErrorKind::Signing(message) => Ok(ErrorKind::Signing(copied(alloc, message)?)),
-            ErrorKind::Provider(message) => Ok(ErrorKind::Provider(copied(alloc, message)?)),
+            ErrorKind::Signing(message) => Ok(ErrorKind::Signing(copied(alloc, message.as_str())?)),
+            ErrorKind::Provider(message) => Ok(ErrorKind::Provider(copied(
+                alloc,
+                message.as_str(),
+            )?)),
             ErrorKind::InvalidToken => Ok(ErrorKind::InvalidToken),
             ErrorKind::InvalidSignature => Ok(ErrorKind::InvalidSignature),
             ErrorKind::InvalidEcdsaKey => Ok(ErrorKind::InvalidEcdsaKey),
@@ -194,11 +200,11 @@ impl ErrorKind {
     }
 }
 
-fn copied(alloc: Global, text: &String) -> Result<String>
-    ensures ok { IfOk result (λ t. string_bytes t ≡ string_bytes text.now) }
+fn copied(alloc: Global, text: &str) -> Result<String>
+    ensures ok { IfOk result (λ t. string_bytes t ≡ text.now) }
     ensures err { IfErr result IsMemory }
 {
-    Ok(String::from_str(alloc, text.as_str())?)
+    Ok(String::from_str(alloc, text)?)
 }
 
 impl ErrorKind {

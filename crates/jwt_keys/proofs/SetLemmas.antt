@@ -1,16 +1,17 @@
 -- The keys of a set, one after another.
-use Rattle.std.proofs.Common.{◌≡◌, ℕ, zero, suc, ◌<◌, ◌+◌, List, [], ◌∷◌, ◌++◌, length, get_or, take, drop, arith, add-one, drop-cons, Option, Some, None, option_map, option_and_then, unwrap_or, codes, refl, sym, ap, ◌∙◌, subst}
-use Rattle.serde_json.specs.Data.{Data, array, object, Items, no_items, item, no_members, member}
+use Rattle.std.proofs.Common.{◌≡◌, ℕ, zero, suc, ◌<◌, ◌+◌, List, [], ◌∷◌, ◌++◌, length, get_or, take, drop, arith, add-one, drop-cons, false, Option, Some, None, option_map, option_and_then, unwrap_or, codes, refl, sym, ap, ◌∙◌, subst}
+use Rattle.serde_json.specs.Data.{Data, array, object, Items, no_items, item, Members, no_members, member}
 use Rattle.serde_json.specs.Find.{as_array}
 use Rattle.serde_json.specs.View.{items_of}
 use Rattle.serde_json.specs.View.{view, items_view}
+use Rattle.serde_json.specs.Written.{has_float, items_have_float}
 use Rattle.serde_json.specs.declared.value.Value.{Value}
 use Rattle.jwt_base.specs.Kind as kind
 use Rattle.jwt_base.specs.KindOf.{RefusesAs}
 use Rattle.jwt_base.specs.declared.errors.Error.{Error}
-use Rattle.jwt_keys.specs.Jwk.{ReadsKey, key_value}
+use Rattle.jwt_keys.specs.Jwk.{ReadsKey, key_members, key_value}
 use Rattle.jwt_keys.specs.JwkSet.{ReadsKeys, ReadsSet, key_values, set_value, normal_set, IsNormalSet, HasNormalSet}
-use Rattle.jwt_keys.proofs.JwkLemmas.{weaker, reads_written, reads_one_key, read_is_normal, has_normal_form}
+use Rattle.jwt_keys.proofs.JwkLemmas.{weaker, reads_written, reads_one_key, read_is_normal, has_normal_form, written_no_float}
 use Rattle.jwt_keys.specs.declared.jwk.Jwk.{Jwk}
 
 more_at : (vs : List Value) (i : ℕ) (d : Value) (ks : List Jwk) (k : Jwk) → i < length vs → ReadsKeys (items_view (take i vs)) ks → ReadsKey (view (get_or vs i d)) k → ReadsKeys (items_view (take (suc i) vs)) (ks ++ k ∷ [])
@@ -110,3 +111,29 @@ has_normal_set ks = record {
   once = set_twice ks;
   told_apart = λ n ls m. (same_written ks ls n m, ap set_value);
 }
+
+-- ---- no float in what is written
+
+value_no_float : (k : Jwk) (o : Option Members) (d : Data) → key_members k ≡ o → option_map object o ≡ Some d → has_float d ≡ false
+value_no_float k None d e is = absurd (cc)
+value_no_float k (Some ms) d e is = subst (λ x. has_float x ≡ false) (ap (λ x. unwrap_or x d) is) (written_no_float k ms e)
+
+one_more_written : (k : Jwk) (o : Option Data) (p : Option (List Data)) (ds : List Data) → key_value k ≡ o
+    → ((es : List Data) → p ≡ Some es → items_have_float (items_of es) ≡ false)
+    → option_and_then (λ d. option_map (λ more. d ∷ more) p) o ≡ Some ds → items_have_float (items_of ds) ≡ false
+one_more_written k None p ds v f is = absurd (cc)
+one_more_written k (Some d) None ds v f is = absurd (cc)
+one_more_written k (Some d) (Some es) ds v f is =
+    subst (λ x. items_have_float (items_of x) ≡ false) (ap (λ x. unwrap_or x ds) is) (rw (value_no_float k _ d refl v, f es refl) refl)
+
+keys_no_float : (ks : List Jwk) (ds : List Data) → key_values ks ≡ Some ds → items_have_float (items_of ds) ≡ false
+keys_no_float [] ds is = subst (λ x. items_have_float (items_of x) ≡ false) (ap (λ x. unwrap_or x ds) is) refl
+keys_no_float (k ∷ ks) ds is = one_more_written k _ _ ds refl (keys_no_float ks) is
+
+set_no_float_at : (ks : List Jwk) (o : Option (List Data)) (d : Data) → key_values ks ≡ o
+    → option_map (λ ds. object (member (codes "keys") (array (items_of ds)) no_members)) o ≡ Some d → has_float d ≡ false
+set_no_float_at ks None d e is = absurd (cc)
+set_no_float_at ks (Some ds) d e is = subst (λ x. has_float x ≡ false) (ap (λ x. unwrap_or x d) is) (rw (keys_no_float ks ds e) refl)
+
+pub set_no_float : (ks : List Jwk) (d : Data) → set_value ks ≡ Some d → has_float d ≡ false
+set_no_float ks d is = set_no_float_at ks _ d refl is

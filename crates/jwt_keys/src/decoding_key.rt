@@ -215,7 +215,7 @@ impl DecodingKey {
     {
         let x = part_bytes(alloc, x.as_bytes())?;
         let y = part_bytes(alloc, y.as_bytes())?;
-        let mut point = Vec::with_capacity(alloc, 1)?;
+        let mut point = Vec::new(alloc);
         point.push(4)?;
         point.extend_from_slice(x.as_slice())?;
         point.extend_from_slice(y.as_slice())?;

@@ -59,10 +59,9 @@ impl Jwk {
     pub fn is_supported(&self) -> bool
         ensures { result ≡ is_supported_key self.now }
     {
-        match self.common.key_algorithm {
-            Some(algorithm) => Algorithm::try_from(algorithm).is_ok(),
-            None => false,
-        }
+        self.common
+            .key_algorithm
+            .is_some_and(|algorithm| Algorithm::try_from(algorithm).is_ok())
     }
 
     /// A copy. The only refusal is `OutOfMemory`.

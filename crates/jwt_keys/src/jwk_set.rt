@@ -55,6 +55,7 @@ impl JwkSet {
     /// The JSON object of the keys, in order. A key that cannot be written is refused with `Json`.
     pub fn to_value(&self, alloc: Global) -> Result<Value>
         ensures ok { IfOk result (λ v. set_value self.now.keys.items ≡ Some (view v)) }
+        ensures no_float { IfOk result (λ v. has_float (view v) ≡ false) }
         ensures err { IfErr result (RefusesAs kind.Json (set_value self.now.keys.items ≡ None)) }
         ensures normal_form { HasNormalSet self.now.keys.items }
     {

@@ -159,8 +159,5 @@ fn some_in(texts: &[Value], set: &HashSet<String>) -> bool
 fn is_member(value: &Value, set: &HashSet<String>) -> bool
     ensures { result ≡ option_map_or (contains_text set.now) (as_str (view value.now)) false }
 {
-    match value.as_str() {
-        Some(text) => set.contains(text),
-        None => false,
-    }
+    value.as_str().is_some_and(|text| set.contains(text))
 }

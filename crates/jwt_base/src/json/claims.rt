@@ -16,8 +16,8 @@ use crate::json::equality::has_float;
 use serde_json::Value;
 use std::alloc::Global;
 
-/// Values that are read from JSON and written as JSON, as the claims of a token. Both answers are a matter of the value
-/// alone, but for `OutOfMemory`.
+/// Values that are read from JSON and written as JSON, as the claims of a token. What is written is fixed by the value,
+/// and what two readings of one JSON value give is written alike.
 pub trait Claims: Sized + Drop {
     /// It is read from this JSON value.
     ghost reads: { Data → Self → Type 0 };
@@ -157,7 +157,7 @@ impl Claims for u32 {
 
     fn from_value(_alloc: Global, value: &Value) -> Result<u32> {
         match value.as_u64() {
-            Some(n) if n <= 0xffff_ffff => Ok(n as u32),
+            Some(n) if n <= u64::from(u32::MAX) => Ok(n as u32),
             _ => Err(new_error(ErrorKind::Json)),
         }
     }

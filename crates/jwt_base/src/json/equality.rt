@@ -23,8 +23,8 @@ pub fn has_float(value: &Value) -> bool
 }
 
 #[cycle(floats)]
-fn any_item_has_float(items: &Vec<Value>) -> bool
-    ensures { result ≡ items_have_float (items_view items.now.items) }
+fn any_item_has_float(items: &[Value]) -> bool
+    ensures { result ≡ items_have_float (items_view items.now) }
 {
     for item in items {
         if has_float(item) {
@@ -117,8 +117,8 @@ fn same_numbers(a: &Number, b: &Number) -> bool
 }
 
 #[cycle(same)]
-fn same_items(xs: &Vec<Value>, ys: &Vec<Value>) -> bool
-    ensures { result ≡ items_eq (items_view xs.now.items) (items_view ys.now.items) }
+fn same_items(xs: &[Value], ys: &[Value]) -> bool
+    ensures { result ≡ items_eq (items_view xs.now) (items_view ys.now) }
 {
     let mut others = ys.iter();
     for x in xs {

@@ -7,4 +7,4 @@ abbrev pub invariant-same_members-loop-name : goal.invariant-same_members-loop-n
 invariant-same_members-loop-name l = members_eq (members_view l.xs.entries) (members_view l.ys.entries) ≡ members_eq (members_view l.name-iterator) (members_view l.others)
 
 abbrev pub invariant-same_items-loop-x : goal.invariant-same_items-loop-x
-invariant-same_items-loop-x l = items_eq (items_view l.x-items) (items_view l.ys.items) ≡ items_eq (items_view (drop l.x-index l.x-items)) (items_view l.others.rest.now)
+invariant-same_items-loop-x l = items_eq (items_view l.xs) (items_view l.ys) ≡ items_eq (items_view (drop l.x-index l.xs)) (items_view l.others.rest.now)
