@@ -209,3 +209,14 @@ pub fn clone_text(alloc: Global, text: &Option<Text>) -> Result<Option<Text>>
         None => Ok(None),
     }
 }
+
+/// A copy of a list of texts that may be absent. The only refusal is `OutOfMemory`.
+pub fn clone_texts(alloc: Global, texts: &Option<Texts>) -> Result<Option<Texts>>
+    ensures ok { IfOk result (λ copy. copy ≡ texts.now) }
+    ensures err { IfErr result IsMemory }
+{
+    match texts {
+        Some(texts) => Ok(Some(texts.clone(alloc)?)),
+        None => Ok(None),
+    }
+}

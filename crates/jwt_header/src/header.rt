@@ -22,7 +22,7 @@ use jwt_base::errors::{ErrorKind, Result, new_error};
 use jwt_base::json::members::{
     optional_text, optional_texts, put_optional_text, put_optional_texts, put_text,
 };
-use jwt_base::text::{Text, Texts, clone_text};
+use jwt_base::text::{Text, Texts, clone_text, clone_texts};
 use jwt_keys::jwk::Jwk;
 use serde_json::{Map, Value};
 use std::alloc::Global;
@@ -324,16 +324,6 @@ fn put_zip(alloc: Global, members: &mut Map<String, Value>, zip: &Option<Zip>) -
     match zip {
         Some(zip) => put_text(alloc, members, "zip", zip.as_str()),
         None => Ok(()),
-    }
-}
-
-fn clone_texts(alloc: Global, texts: &Option<Texts>) -> Result<Option<Texts>>
-    ensures ok { IfOk result (λ copy. copy ≡ texts.now) }
-    ensures err { IfErr result IsMemory }
-{
-    match texts {
-        Some(texts) => Ok(Some(texts.clone(alloc)?)),
-        None => Ok(None),
     }
 }
 

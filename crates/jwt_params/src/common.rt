@@ -19,7 +19,7 @@ use jwt_base::errors::{ErrorKind, Result, new_error};
 use jwt_base::json::members::{
     optional_text, optional_texts, put_optional_text, put_optional_texts, put_text,
 };
-use jwt_base::text::{Text, Texts, clone_text};
+use jwt_base::text::{Text, Texts, clone_text, clone_texts};
 use serde_json::{Map, Value};
 use std::alloc::Global;
 use std::hash::{Hash, Hasher};
@@ -99,7 +99,7 @@ impl CommonParameters {
             key_algorithm: self.key_algorithm,
             key_id: clone_text(alloc, &self.key_id)?,
             x509_url: clone_text(alloc, &self.x509_url)?,
-            x509_chain: clone_chain(alloc, &self.x509_chain)?,
+            x509_chain: clone_texts(alloc, &self.x509_chain)?,
             x509_sha1_fingerprint: clone_text(alloc, &self.x509_sha1_fingerprint)?,
             x509_sha256_fingerprint: clone_text(alloc, &self.x509_sha256_fingerprint)?,
         })
@@ -239,16 +239,6 @@ fn clone_operations(
 {
     match operations {
         Some(operations) => Ok(Some(operations.clone(alloc)?)),
-        None => Ok(None),
-    }
-}
-
-fn clone_chain(alloc: Global, chain: &Option<Texts>) -> Result<Option<Texts>>
-    ensures ok { IfOk result (λ copy. copy ≡ chain.now) }
-    ensures err { IfErr result IsMemory }
-{
-    match chain {
-        Some(chain) => Ok(Some(chain.clone(alloc)?)),
         None => Ok(None),
     }
 }
