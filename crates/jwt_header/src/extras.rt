@@ -1,19 +1,19 @@
 //! The members of a header that the standards do not name.
 
-ghost use Rattle.std.specs.Prelude.{is_some, ◌≡◌, ◌↔◌, IsTrue, Some, None, true, option_map, IfOk, IfErr, OnOk, OnErr};
+ghost use Rattle.std.specs.Prelude.{is_some, ◌≡◌, ◌↔◌, IsTrue, Some, None, true, option_map, map, IfOk, IfErr, OnOk, OnErr};
 ghost use Rattle.serde_json.specs.Data.{Data, Members, no_members, object};
 ghost use Rattle.serde_json.specs.Find.{get_member};
 ghost use Rattle.serde_json.specs.View.{view, members_view};
 ghost use Rattle.serde_json.specs.Written.{members_have_float};
 ghost use Rattle.jwt_base.specs.Kind as kind;
 ghost use Rattle.jwt_base.specs.KindOf.{IsMemory, RefusesAs};
-ghost use Rattle.jwt_base.specs.Members.{is_named, has_named, without, ReadsMember};
+ghost use Rattle.jwt_base.specs.Members.{is_named, without, ReadsMember};
 ghost use Rattle.jwt_header.specs.Extras.{header_names, IsExtras, ReadsExtras, inserted};
 
 use jwt_base::errors::{ErrorKind, Result, new_error};
 use jwt_base::json::Claims;
 use jwt_base::json::equality::{any_member_has_float, has_float, hash_names, members_are_equal};
-use jwt_base::json::members::clone_members;
+use jwt_base::json::members::{any_is_named, clone_members, is_one_of, members_without};
 use serde_json::{Map, Value};
 use std::alloc::Global;
 use std::collections::BTreeMap;
@@ -113,7 +113,7 @@ impl Extras {
         let Some(members) = value.as_object() else {
             return Err(new_error(ErrorKind::Json));
         };
-        if any_header_name(members) {
+        if any_is_named(&header_names(), members) {
             return Err(new_error(ErrorKind::Json));
         }
         if any_member_has_float(members) {
@@ -137,8 +137,7 @@ impl Extras {
         ensures err { IfErr result IsMemory }
         ensures extras { IsExtras self.now }
     {
-        let members = clone_members(alloc, &self.members)?;
-        Ok(members)
+        clone_members(alloc, &self.members)
     }
 
     // The members of a header that have none of its names.
@@ -148,18 +147,8 @@ impl Extras {
         ensures err { IfErr result (RefusesAs kind.Json
             (members_have_float (without header_names (members_view members.now.entries)) ≡ true)) }
     {
-        let mut kept = Map::new(alloc);
-        for (name, member) in members.iter() {
-            if is_header_name(name.as_str()) {
-                continue;
-            }
-            if has_float(member) {
-                return Err(new_error(ErrorKind::Json));
-            }
-            let name = String::from_str(alloc, name.as_str())?;
-            drop(kept.insert(name, member.clone()?)?);
-        }
-        Ok(Extras { members: kept })
+        let members = members_without(alloc, &header_names(), members)?;
+        Ok(Extras { members })
     }
 
     /// Whether there is a member of this name.
@@ -181,35 +170,18 @@ impl Extras {
 pub fn is_header_name(name: &str) -> bool
     ensures { result ≡ is_named header_names name.now }
 {
-    matches!(
-        name,
-        "alg"
-            | "typ"
-            | "cty"
-            | "jku"
-            | "jwk"
-            | "kid"
-            | "x5u"
-            | "x5c"
-            | "x5t"
-            | "x5t#S256"
-            | "crit"
-            | "enc"
-            | "zip"
-            | "url"
-            | "nonce"
-    )
+    is_one_of(name, &header_names())
 }
 
-fn any_header_name(members: &Map<String, Value>) -> bool
-    ensures { result ≡ has_named header_names (members_view members.now.entries) }
+// The names of a header's own members (RFC 7515 section 4.1, RFC 7516 section 4.1, RFC 8555 section
+// 6).
+fn header_names() -> [&'static str; 15]
+    ensures { map (λ s. s.now) result ≡ header_names }
 {
-    for (name, _) in members.iter() {
-        if is_header_name(name.as_str()) {
-            return true;
-        }
-    }
-    false
+    [
+        "alg", "typ", "cty", "jku", "jwk", "kid", "x5u", "x5c", "x5t", "x5t#S256", "crit", "enc",
+        "zip", "url", "nonce",
+    ]
 }
 
 /// The same names with the same values, where any two floats count as equal.

@@ -8,10 +8,10 @@ ghost use Rattle.jwt_base.specs.KindOf.{IsMemory, RefusesAs};
 ghost use Rattle.jwt_base.specs.Members.{has_named, without};
 ghost use Rattle.jwt_params.specs.Common.{common_names};
 
-use jwt_base::errors::{ErrorKind, Result, new_error};
-use jwt_base::json::equality::{any_member_has_float, has_float, hash_names, members_are_equal};
-use jwt_base::json::members::clone_members;
-use jwt_params::common::is_common_name;
+use jwt_base::errors::Result;
+use jwt_base::json::equality::{any_member_has_float, hash_names, members_are_equal};
+use jwt_base::json::members::{any_is_named, clone_members, members_without};
+use jwt_params::common::common_names;
 use serde_json::{Map, Value};
 use std::alloc::Global;
 use std::collections::BTreeMap;
@@ -69,25 +69,15 @@ impl FreeMembers {
         ensures err { IfErr result (RefusesAs kind.Json
             (members_have_float (without common_names (members_view members.now.entries)) ≡ true)) }
     {
-        let mut kept = Map::new(alloc);
-        for (name, member) in members.iter() {
-            if is_common_name(name.as_str()) {
-                continue;
-            }
-            if has_float(member) {
-                return Err(new_error(ErrorKind::Json));
-            }
-            let name = String::from_str(alloc, name.as_str())?;
-            drop(kept.insert(name, member.clone()?)?);
-        }
-        Ok(FreeMembers { members: kept })
+        let members = members_without(alloc, &common_names(), members)?;
+        Ok(FreeMembers { members })
     }
 
     /// Whether one of them has a name that keys of every kind may have (RFC 7517 section 4).
     pub fn has_common_name(&self) -> bool
         ensures { result ≡ has_named common_names self.now }
     {
-        any_common_name(&self.members)
+        any_is_named(&common_names(), &self.members)
     }
 
     pub(crate) fn has_float(&self) -> bool
@@ -100,20 +90,8 @@ impl FreeMembers {
         ensures ok { IfOk result (λ m. members_view m.entries ≡ self.now) }
         ensures err { IfErr result IsMemory }
     {
-        let members = clone_members(alloc, &self.members)?;
-        Ok(members)
+        clone_members(alloc, &self.members)
     }
-}
-
-fn any_common_name(members: &Map<String, Value>) -> bool
-    ensures { result ≡ has_named common_names (members_view members.now.entries) }
-{
-    for (name, _) in members.iter() {
-        if is_common_name(name.as_str()) {
-            return true;
-        }
-    }
-    false
 }
 
 impl From<BTreeMap<String, Value>> for FreeMembers {

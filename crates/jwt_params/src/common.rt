@@ -1,6 +1,6 @@
 //! What keys of every kind may have.
 
-ghost use Rattle.std.specs.Prelude.{◌≡◌, ◌↔◌, IsTrue, Some, None, IfOk, IfErr, OnOk, option_map, codes};
+ghost use Rattle.std.specs.Prelude.{◌≡◌, ◌↔◌, IsTrue, Some, None, IfOk, IfErr, OnOk, option_map, map, codes};
 ghost use Rattle.serde_json.specs.Find.{get};
 ghost use Rattle.serde_json.specs.View.{view, members_view};
 ghost use Rattle.jwt_base.specs.Algorithm.{key_algorithm_from};
@@ -17,7 +17,7 @@ use crate::uses::PublicKeyUse;
 use jwt_base::algorithms::KeyAlgorithm;
 use jwt_base::errors::{ErrorKind, Result, new_error};
 use jwt_base::json::members::{
-    optional_text, optional_texts, put_optional_text, put_optional_texts, put_text,
+    is_one_of, optional_text, optional_texts, put_optional_text, put_optional_texts, put_text,
 };
 use jwt_base::text::{Text, Texts, clone_text, clone_texts};
 use serde_json::{Map, Value};
@@ -129,10 +129,16 @@ impl CommonParameters {
 pub fn is_common_name(name: &str) -> bool
     ensures { result ≡ is_named common_names name.now }
 {
-    matches!(
-        name,
-        "use" | "key_ops" | "alg" | "kid" | "x5u" | "x5c" | "x5t" | "x5t#S256"
-    )
+    is_one_of(name, &common_names())
+}
+
+/// The names of the members that keys of every kind may have (RFC 7517 sections 4.2 to 4.9).
+pub fn common_names() -> [&'static str; 8]
+    ensures { map (λ s. s.now) result ≡ common_names }
+{
+    [
+        "use", "key_ops", "alg", "kid", "x5u", "x5c", "x5t", "x5t#S256",
+    ]
 }
 
 fn optional_use(alloc: Global, value: &Value) -> Result<Option<PublicKeyUse>>

@@ -1,14 +1,18 @@
 //! The members of a JSON object, one by one.
 
 ghost use Rattle.std.specs.Prelude.{◌≡◌, Some, None, IfOk, IfErr, OnOk, OnErr, option_map};
+ghost use Rattle.std.specs.Prelude.{true, false, map};
 ghost use Rattle.serde_json.specs.Find.{get, as_str};
 ghost use Rattle.serde_json.specs.Data.{string, put};
 ghost use Rattle.serde_json.specs.View.{view, members_view};
+ghost use Rattle.serde_json.specs.Written.{members_have_float};
 ghost use Rattle.jwt_base.specs.Kind as kind;
 ghost use Rattle.jwt_base.specs.KindOf.{IsMemory, RefusesAs};
 ghost use Rattle.jwt_base.specs.Members.{optional, texts, put_some, texts_value};
+ghost use Rattle.jwt_base.specs.Members.{is_named, has_named, without};
 
 use crate::errors::{ErrorKind, Result, new_error};
+use crate::json::equality::has_float;
 use crate::text::{Text, Texts};
 use serde_json::{Map, Value};
 use std::alloc::Global;
@@ -138,4 +142,54 @@ pub fn clone_members(_alloc: Global, members: &Map<String, Value>) -> Result<Map
 {
     let copy = members.clone()?;
     Ok(copy)
+}
+
+/// A copy of the members but for those of these names. A float in the copy is refused with `Json`.
+pub fn members_without(
+    alloc: Global,
+    names: &[&str],
+    members: &Map<String, Value>,
+) -> Result<Map<String, Value>>
+    ensures ok { IfOk result (λ m. members_view m.entries
+        ≡ without (map (λ s. s.now) names.now) (members_view members.now.entries)) }
+    ensures no_float { IfOk result (λ m. members_have_float (members_view m.entries) ≡ false) }
+    ensures err { IfErr result (RefusesAs kind.Json (members_have_float
+        (without (map (λ s. s.now) names.now) (members_view members.now.entries)) ≡ true)) }
+{
+    let mut kept = Map::new(alloc);
+    for (name, member) in members.iter() {
+        if is_one_of(name.as_str(), names) {
+            continue;
+        }
+        if has_float(member) {
+            return Err(new_error(ErrorKind::Json));
+        }
+        let name = String::from_str(alloc, name.as_str())?;
+        drop(kept.insert(name, member.clone()?)?);
+    }
+    Ok(kept)
+}
+
+/// Whether one of the members has one of these names.
+pub fn any_is_named(names: &[&str], members: &Map<String, Value>) -> bool
+    ensures { result ≡ has_named (map (λ s. s.now) names.now) (members_view members.now.entries) }
+{
+    for (name, _) in members.iter() {
+        if is_one_of(name.as_str(), names) {
+            return true;
+        }
+    }
+    false
+}
+
+/// Whether the name is one of these.
+pub fn is_one_of(name: &str, names: &[&str]) -> bool
+    ensures { result ≡ is_named (map (λ s. s.now) names.now) name.now }
+{
+    for other in names {
+        if name == *other {
+            return true;
+        }
+    }
+    false
 }

@@ -1,62 +1,13 @@
-use Rattle.std.proofs.Common.{◌≡◌, [], ◌∷◌, ◌++◌, true, false, inr, string_bytes, string_cmp, sym, ap, ◌∙◌, subst, append_assoc, rules}
-use Rattle.std.specs.List.Sorted.{IsStrictlySortedBy}
-use Rattle.std.specs.Map.{keys_of}
-use Rattle.serde_json.proofs.Views.{Entry, members_view-insert_entry}
-use Rattle.serde_json.specs.View.{view, members_view}
-use Rattle.serde_json.specs.Written.{has_float}
+use Rattle.serde_json.specs.View.{members_view}
 use Rattle.jwt_header.specs.Extras.{header_names}
-use Rattle.jwt_base.specs.Members.{is_named}
-use Rattle.jwt_base.proofs.Kept.{kept_last, left_out, no_float_last, float_within}
 use Rattle.jwt_base.proofs.FreeMembers.{has_named-without}
 use Rattle.jwt_header.proofs.extras.Extras.among.Goals as goal
 
-pub loop-name-preserved-then-is_header_name : goal.loop-name-preserved-then-is_header_name
-loop-name-preserved-then-is_header_name c =
-    let l = c.loop-name.invariant in
-    let e : Entry = (c.in-Some.name.now, c.in-Some.member.now) in
-    let left = c.next.new.self in
-    let all : c.args.members.now.entries ≡ l.done ++ e ∷ left = l.entries ∙ ap (λ es. l.done ++ es) c.in-Some.ensures.steps in
-    let named : is_named header_names (string_bytes e.0) ≡ true = search rules in
-    let out = left_out header_names l.done e named in
-    record {
-      done = l.done ++ e ∷ [];
-      entries = all ∙ sym (append_assoc l.done (e ∷ []) left);
-      kept = l.kept ∙ out;
-      no_float = rw out at l.no_float;
-    }
-
-pub returns-then-has_float-clause-err : goal.returns-then-has_float-clause-err
-returns-then-has_float-clause-err c =
-    let l = c.loop-name.invariant in
-    let e : Entry = (c.in-Some.name.now, c.in-Some.member.now) in
-    let left = c.next.new.self in
-    let all : c.args.members.now.entries ≡ l.done ++ e ∷ left = l.entries ∙ ap (λ es. l.done ++ es) c.in-Some.ensures.steps in
-    let free : is_named header_names (string_bytes e.0) ≡ false = search rules in
-    let float : has_float (view e.1) ≡ true = search rules in
-    inr (search rules, rw all (float_within header_names l.done e left free float))
-
-pub loop-name-preserved : goal.loop-name-preserved
-loop-name-preserved c =
-    let l = c.loop-name.invariant in
-    let e : Entry = (c.in-Some.name.now, c.in-Some.member.now) in
-    let left = c.next.new.self in
-    let all : c.args.members.now.entries ≡ l.done ++ e ∷ left = l.entries ∙ ap (λ es. l.done ++ es) c.in-Some.ensures.steps in
-    let free : is_named header_names (string_bytes e.0) ≡ false = search rules in
-    let none : has_float (view e.1) ≡ false = search rules in
-    let ordered = subst (λ es. IsStrictlySortedBy string_cmp (keys_of es)) all c.iter-name-items.ensures.ordered in
-    let last = kept_last header_names l.done e left ordered free in
-    let named : string_bytes c.in_ok-name.name ≡ string_bytes e.0 = search rules in
-    record {
-      done = l.done ++ e ∷ [];
-      entries = all ∙ sym (append_assoc l.done (e ∷ []) left);
-      kept = ap members_view c.in_ok-insert.ensures.entries ∙ members_view-insert_entry c.loop-name.kept.entries c.in_ok-name.name c.in_ok-clone.field-0 ∙ rw (named, c.in_ok-clone.ensures.cases, l.kept) last;
-      no_float = no_float_last header_names l.done e none l.no_float;
-    }
-
 pub invariant_of-result : goal.invariant_of-result
-invariant_of-result c =
-    let l = c.loop-name.invariant in
-    rw l.kept (record { free = has_named-without header_names (members_view l.done); no_float = l.no_float })
+invariant_of-result c = record {
+  free = rw (c.in_ok-members.ensures.ok, c.header_names.ensures) (has_named-without header_names (members_view c.args.members.now.entries));
+  no_float = c.in_ok-members.ensures.no_float;
+}
 
 pub returns-clause-extras : goal.returns-clause-extras
 returns-clause-extras c = invariant_of-result c

@@ -1,22 +1,22 @@
-use Rattle.std.proofs.Common.{◌≡◌, [], ◌∷◌, ◌++◌, true, false, inr, string_bytes, string_cmp, sym, ap, ◌∙◌, subst, append_assoc, rules}
+use Rattle.std.proofs.Common.{◌≡◌, map, [], ◌∷◌, ◌++◌, true, false, inr, string_bytes, string_cmp, sym, ap, ◌∙◌, subst, append_assoc, rules}
 use Rattle.std.specs.List.Sorted.{IsStrictlySortedBy}
 use Rattle.std.specs.Map.{keys_of}
 use Rattle.serde_json.proofs.Views.{Entry, members_view-insert_entry}
 use Rattle.serde_json.specs.View.{view, members_view}
 use Rattle.serde_json.specs.Written.{has_float}
-use Rattle.jwt_params.specs.Common.{common_names}
 use Rattle.jwt_base.specs.Members.{is_named}
 use Rattle.jwt_base.proofs.Kept.{kept_last, left_out, no_float_last, float_within}
-use Rattle.jwt_kinds.proofs.free_members.FreeMembers.among.Goals as goal
+use Rattle.jwt_base.proofs.json.members.members_without.Goals as goal
 
-pub loop-name-preserved-then-is_common_name : goal.loop-name-preserved-then-is_common_name
-loop-name-preserved-then-is_common_name c =
+pub loop-name-preserved-then-is_one_of : goal.loop-name-preserved-then-is_one_of
+loop-name-preserved-then-is_one_of c =
     let l = c.loop-name.invariant in
+    let names = map (λ s. s.now) c.args.names.now in
     let e : Entry = (c.in-Some.name.now, c.in-Some.member.now) in
     let left = c.next.new.self in
     let all : c.args.members.now.entries ≡ l.done ++ e ∷ left = l.entries ∙ ap (λ es. l.done ++ es) c.in-Some.ensures.steps in
-    let named : is_named common_names (string_bytes e.0) ≡ true = search rules in
-    let out = left_out common_names l.done e named in
+    let named : is_named names (string_bytes e.0) ≡ true = search rules in
+    let out = left_out names l.done e named in
     record {
       done = l.done ++ e ∷ [];
       entries = all ∙ sym (append_assoc l.done (e ∷ []) left);
@@ -27,27 +27,29 @@ loop-name-preserved-then-is_common_name c =
 pub returns-then-has_float-clause-err : goal.returns-then-has_float-clause-err
 returns-then-has_float-clause-err c =
     let l = c.loop-name.invariant in
+    let names = map (λ s. s.now) c.args.names.now in
     let e : Entry = (c.in-Some.name.now, c.in-Some.member.now) in
     let left = c.next.new.self in
     let all : c.args.members.now.entries ≡ l.done ++ e ∷ left = l.entries ∙ ap (λ es. l.done ++ es) c.in-Some.ensures.steps in
-    let free : is_named common_names (string_bytes e.0) ≡ false = search rules in
+    let free : is_named names (string_bytes e.0) ≡ false = search rules in
     let float : has_float (view e.1) ≡ true = search rules in
-    inr (search rules, rw all (float_within common_names l.done e left free float))
+    inr (search rules, rw all (float_within names l.done e left free float))
 
 pub loop-name-preserved : goal.loop-name-preserved
 loop-name-preserved c =
     let l = c.loop-name.invariant in
+    let names = map (λ s. s.now) c.args.names.now in
     let e : Entry = (c.in-Some.name.now, c.in-Some.member.now) in
     let left = c.next.new.self in
     let all : c.args.members.now.entries ≡ l.done ++ e ∷ left = l.entries ∙ ap (λ es. l.done ++ es) c.in-Some.ensures.steps in
-    let free : is_named common_names (string_bytes e.0) ≡ false = search rules in
+    let free : is_named names (string_bytes e.0) ≡ false = search rules in
     let none : has_float (view e.1) ≡ false = search rules in
     let ordered = subst (λ es. IsStrictlySortedBy string_cmp (keys_of es)) all c.iter-name-items.ensures.ordered in
-    let last = kept_last common_names l.done e left ordered free in
+    let last = kept_last names l.done e left ordered free in
     let named : string_bytes c.in_ok-name.name ≡ string_bytes e.0 = search rules in
     record {
       done = l.done ++ e ∷ [];
       entries = all ∙ sym (append_assoc l.done (e ∷ []) left);
       kept = ap members_view c.in_ok-insert.ensures.entries ∙ members_view-insert_entry c.loop-name.kept.entries c.in_ok-name.name c.in_ok-clone.field-0 ∙ rw (named, c.in_ok-clone.ensures.cases, l.kept) last;
-      no_float = no_float_last common_names l.done e none l.no_float;
+      no_float = no_float_last names l.done e none l.no_float;
     }
