@@ -95,18 +95,18 @@ impl Extras {
     }
 
     /// The members as a JSON object. The only refusal is `OutOfMemory`.
-    pub fn to_value(&self, alloc: Global) -> Result<Value>
+    pub fn to_value(&self, _alloc: Global) -> Result<Value>
         ensures ok { IfOk result (λ v. view v ≡ object self.now) }
         ensures reads_back { IfOk result (λ v. ReadsExtras (view v) self.now) }
         ensures err { IfErr result IsMemory }
     {
-        let members = self.copied(alloc)?;
+        let members = self.copied()?;
         Ok(Value::Object(members))
     }
 
     /// The members of a JSON object. Any other value, one of the header's fifteen names and a float are refused with
     /// `Json`.
-    pub fn from_value(alloc: Global, value: &Value) -> Result<Extras>
+    pub fn from_value(_alloc: Global, value: &Value) -> Result<Extras>
         ensures ok { IfOk result (λ e. ReadsExtras (view value.now) e) }
         ensures err { IfErr result (RefusesAs kind.Json ((e : Members) → ¬ ReadsExtras (view value.now) e)) }
     {
@@ -119,25 +119,25 @@ impl Extras {
         if any_member_has_float(members) {
             return Err(new_error(ErrorKind::Json));
         }
-        let members = clone_members(alloc, members)?;
+        let members = clone_members(members)?;
         Ok(Extras { members })
     }
 
     /// A copy. The only refusal is `OutOfMemory`.
-    pub fn clone(&self, alloc: Global) -> Result<Extras>
+    pub fn clone(&self, _alloc: Global) -> Result<Extras>
         ensures ok { IfOk result (λ e. e ≡ self.now) }
         ensures err { IfErr result IsMemory }
     {
-        let members = self.copied(alloc)?;
+        let members = self.copied()?;
         Ok(Extras { members })
     }
 
-    pub(crate) fn copied(&self, alloc: Global) -> Result<Map<String, Value>>
+    pub(crate) fn copied(&self) -> Result<Map<String, Value>>
         ensures ok { IfOk result (λ m. members_view m.entries ≡ self.now) }
         ensures err { IfErr result IsMemory }
         ensures extras { IsExtras self.now }
     {
-        clone_members(alloc, &self.members)
+        clone_members(&self.members)
     }
 
     // The members of a header that have none of its names.

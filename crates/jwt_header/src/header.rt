@@ -194,7 +194,7 @@ impl Header {
         ensures extras { IsExtras self.now.extras }
         ensures err { IfErr result (RefusesAs kind.Json (header_members self.now ≡ None)) }
     {
-        let mut members = self.extras.copied(alloc)?;
+        let mut members = self.extras.copied()?;
         let jwk = written_jwk(alloc, &self.jwk)?;
         put_written(alloc, &mut members, "jwk", jwk)?;
         self.put_named(alloc, &mut members)?;

@@ -53,11 +53,11 @@ impl FreeMembers {
     }
 
     /// A copy. The only refusal is `OutOfMemory`.
-    pub fn clone(&self, alloc: Global) -> Result<FreeMembers>
+    pub fn clone(&self, _alloc: Global) -> Result<FreeMembers>
         ensures ok { IfOk result (λ f. f ≡ self.now) }
         ensures err { IfErr result IsMemory }
     {
-        let members = self.copied(alloc)?;
+        let members = self.copied()?;
         Ok(FreeMembers { members })
     }
 
@@ -86,11 +86,11 @@ impl FreeMembers {
         any_member_has_float(&self.members)
     }
 
-    pub(crate) fn copied(&self, alloc: Global) -> Result<Map<String, Value>>
+    pub(crate) fn copied(&self) -> Result<Map<String, Value>>
         ensures ok { IfOk result (λ m. members_view m.entries ≡ self.now) }
         ensures err { IfErr result IsMemory }
     {
-        clone_members(alloc, &self.members)
+        clone_members(&self.members)
     }
 }
 

@@ -26,7 +26,7 @@ impl OtherKeyParameters {
     ghost use Rattle.jwt_kinds.specs.Kinds.{other_from, other_members};
 
     /// All members of a JSON object. Any other value and a float are refused with `Json`.
-    pub fn from_value(alloc: Global, value: &Value) -> Result<OtherKeyParameters>
+    pub fn from_value(_alloc: Global, value: &Value) -> Result<OtherKeyParameters>
         ensures ok { IfOk result (λ p. other_from (view value.now) ≡ Some p) }
         ensures err { IfErr result (RefusesAs kind.Json (other_from (view value.now) ≡ None)) }
     {
@@ -36,19 +36,19 @@ impl OtherKeyParameters {
         if any_member_has_float(members) {
             return Err(new_error(ErrorKind::Json));
         }
-        let members = clone_members(alloc, members)?;
+        let members = clone_members(members)?;
         Ok(OtherKeyParameters {
             fields: FreeMembers::from(members),
         })
     }
 
     /// The JSON object of the members. A float is refused with `Json`.
-    pub fn to_value(&self, alloc: Global) -> Result<Value>
+    pub fn to_value(&self, _alloc: Global) -> Result<Value>
         ensures ok { IfOk result (λ v. option_map object (other_members self.now) ≡ Some (view v)) }
         ensures reads_back { IfOk result (λ v. other_from (view v) ≡ Some self.now) }
         ensures err { IfErr result (RefusesAs kind.Json (other_members self.now ≡ None)) }
     {
-        let members = self.members(alloc)?;
+        let members = self.members()?;
         Ok(Value::Object(members))
     }
 
@@ -62,15 +62,14 @@ impl OtherKeyParameters {
         })
     }
 
-    pub(crate) fn members(&self, alloc: Global) -> Result<Map<String, Value>>
+    pub(crate) fn members(&self) -> Result<Map<String, Value>>
         ensures ok { IfOk result (λ m. other_members self.now ≡ Some (members_view m.entries)) }
         ensures err { IfErr result (RefusesAs kind.Json (other_members self.now ≡ None)) }
     {
         if self.fields.has_float() {
             return Err(new_error(ErrorKind::Json));
         }
-        let members = self.fields.copied(alloc)?;
-        Ok(members)
+        self.fields.copied()
     }
 }
 

@@ -100,7 +100,7 @@ impl AlgorithmParameters {
                 Ok(members)
             }
             AlgorithmParameters::Other(other) => {
-                let members = other.members(alloc)?;
+                let members = other.members()?;
                 Ok(members)
             }
         }

@@ -136,7 +136,7 @@ pub fn put_optional_texts(
 }
 
 /// A copy of the members. The only refusal is `OutOfMemory`.
-pub fn clone_members(_alloc: Global, members: &Map<String, Value>) -> Result<Map<String, Value>>
+pub fn clone_members(members: &Map<String, Value>) -> Result<Map<String, Value>>
     ensures ok { IfOk result (λ m. members_view m.entries ≡ members_view members.now.entries) }
     ensures err { IfErr result IsMemory }
 {
