@@ -3,4 +3,5 @@ pub mod DataCode
 pub mod DataEqLaws
 pub mod Decided
 pub mod KindEq
+pub mod NamedSame
 pub mod NamesFed

@@ -46,15 +46,19 @@ optional-use_value : (o : Option PublicKeyUse) → optional use_from (option_map
 optional-use_value None = refl
 optional-use_value (Some u) = refl
 
-named_texts : (o : Option (List (List ℕ))) (ss : List (List ℕ)) → option_map Some o ≡ Some (Some ss) → option_map Some (option_map (map operation_named) o) ≡ Some (Some (map operation_named ss))
-named_texts None ss e = absurd (cc)
-named_texts (Some ts) ss e = let is : ts ≡ ss = ap (λ o. unwrap_or (unwrap_or o None) ss) e in ap (λ x. Some (Some (map operation_named x))) is
+texts_back : (o : Option (List (List ℕ))) (ss : List (List ℕ)) → option_map Some o ≡ Some (Some ss) → o ≡ Some ss
+texts_back None ss e = absurd (cc)
+texts_back (Some ts) ss e = ap (λ o. unwrap_or o (Some ts)) e
+
+-- a list of operations reads as its normal form
+pub operations_read_back : (os : List KeyOperations) → operations_from (operations_value os) ≡ Some (normal_operations os)
+operations_read_back os =
+    let ss = map operation_text os in
+    ap (option_map (map operation_named)) (texts_back (texts (texts_value ss)) ss (optional-texts_value (Some ss)))
 
 optional-operations_value : (o : Option (List KeyOperations)) → optional operations_from (option_map operations_value o) ≡ Some (option_map normal_operations o)
 optional-operations_value None = refl
-optional-operations_value (Some os) =
-    let ss = map operation_text os in
-    named_texts (texts (texts_value ss)) ss (optional-texts_value (Some ss))
+optional-operations_value (Some os) = ap (option_map Some) (operations_read_back os)
 
 optional-key_algorithm_value : (o : Option KeyAlgorithm) → optional key_algorithm_from (option_map key_algorithm_value o) ≡ Some o
 optional-key_algorithm_value None = refl

@@ -41,6 +41,7 @@ impl EllipticCurve {
     /// The JSON value, a text. The only refusal is `OutOfMemory`.
     pub fn to_value(&self, alloc: Global) -> Result<Value>
         ensures ok { IfOk result (λ v. view v ≡ string (curve_name self.now)) }
+        ensures reads_back { IfOk result (λ v. curve_from (view v) ≡ Some self.now) }
         ensures err { IfErr result IsMemory }
     {
         Ok(Value::String(String::from_str(alloc, self.name())?))
@@ -51,10 +52,8 @@ impl EllipticCurve {
         ensures ok { IfOk result (λ c. curve_from (view value.now) ≡ Some c) }
         ensures err { IfErr result (λ e. (kind_of e ≡ kind.Json) × (curve_from (view value.now) ≡ None)) }
     {
-        match value.as_str().and_then(curve_of_name) {
-            Some(curve) => Ok(curve),
-            None => Err(new_error(ErrorKind::Json)),
-        }
+        let curve = value.as_str().and_then(curve_of_name);
+        curve.ok_or(new_error(ErrorKind::Json))
     }
 }
 

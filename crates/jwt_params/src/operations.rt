@@ -1,13 +1,11 @@
 //! What a key may do.
 
-ghost use Rattle.std.specs.Prelude.{◌≡◌, Some, None, IfOk, IfErr, map};
+ghost use Rattle.std.specs.Prelude.{◌≡◌, Some, None, IfOk, IfErr};
 ghost use Rattle.serde_json.specs.View.{view};
 ghost use Rattle.jwt_base.specs.Kind as kind;
 ghost use Rattle.jwt_base.specs.KindOf.{IsMemory, RefusesAs};
-ghost use Rattle.jwt_params.specs.Operation.{operation_named};
 
 use jwt_base::errors::{ErrorKind, Result, new_error};
-use jwt_base::json::members::read_texts;
 use jwt_base::text::Text;
 use serde_json::Value;
 use std::alloc::Global;
@@ -15,7 +13,7 @@ use std::hash::{Hash, Hasher};
 use std::marker::Model;
 
 /// What a key may do, an entry of `key_ops` (RFC 7517 section 4.3).
-#[derive(Debug, Drop)]
+#[derive(Debug, Drop, Eq)]
 pub enum KeyOperations {
     /// Compute a signature or a MAC, `sign`.
     Sign,
@@ -38,7 +36,7 @@ pub enum KeyOperations {
 }
 
 impl KeyOperations {
-    ghost use Rattle.jwt_params.specs.Operation.{operation_text, operation_from, operation_value, normal_operation, is_other_operation};
+    ghost use Rattle.jwt_params.specs.Operation.{operation_text, operation_named, operation_from, operation_value, normal_operation, is_other_operation};
 
     /// The name as a JSON text. The only refusal is `OutOfMemory`.
     pub fn to_value(&self, alloc: Global) -> Result<Value>
@@ -54,10 +52,8 @@ impl KeyOperations {
         ensures ok { IfOk result (λ o. operation_from (view value.now) ≡ Some o) }
         ensures err { IfErr result (RefusesAs kind.Json (operation_from (view value.now) ≡ None)) }
     {
-        match value.as_str() {
-            Some(name) => Ok(KeyOperations::named(alloc, name)?),
-            None => Err(new_error(ErrorKind::Json)),
-        }
+        let name = value.as_str().ok_or(new_error(ErrorKind::Json))?;
+        KeyOperations::named(alloc, name)
     }
 
     /// A copy. The only refusal is `OutOfMemory`.
@@ -114,10 +110,7 @@ impl KeyOperations {
     fn is_other(&self) -> bool
         ensures { result ≡ is_other_operation self.now }
     {
-        match self {
-            KeyOperations::Other(_) => true,
-            _ => false,
-        }
+        matches!(self, KeyOperations::Other(_))
     }
 }
 
@@ -136,12 +129,6 @@ impl PartialEq for KeyOperations {
     {
         self.is_other() == other.is_other() && self.as_str() == other.as_str()
     }
-}
-
-impl Eq for KeyOperations {
-    ghost use Rattle.jwt_params.specs.equality.NamesSame.{operation_eq_equiv};
-
-    ghost laws = { operation_eq_equiv };
 }
 
 impl Hash for KeyOperations {
@@ -172,7 +159,7 @@ impl Model for KeyOperationList {
 }
 
 impl KeyOperationList {
-    ghost use Rattle.jwt_params.specs.Operation.{operations_from, operations_value};
+    ghost use Rattle.jwt_params.specs.Operation.{operations_from, operations_value, normal_operations};
 
     /// A list of copies of these operations, in order. The only refusal is `OutOfMemory`.
     pub fn from_slice(alloc: Global, operations: &[KeyOperations]) -> Result<KeyOperationList>
@@ -212,6 +199,7 @@ impl KeyOperationList {
     /// The names as a JSON list. The only refusal is `OutOfMemory`.
     pub fn to_value(&self, alloc: Global) -> Result<Value>
         ensures ok { IfOk result (λ v. view v ≡ operations_value self.now) }
+        ensures reads_back { IfOk result (λ v. operations_from (view v) ≡ Some (normal_operations self.now)) }
         ensures err { IfErr result IsMemory }
     {
         let mut items = Vec::new(alloc);
@@ -226,21 +214,13 @@ impl KeyOperationList {
         ensures ok { IfOk result (λ l. operations_from (view value.now) ≡ Some l) }
         ensures err { IfErr result (RefusesAs kind.Json (operations_from (view value.now) ≡ None)) }
     {
-        let names = read_texts(alloc, value)?;
-        let operations = named_operations(alloc, names.as_slice())?;
+        let items = value.as_array().ok_or(new_error(ErrorKind::Json))?;
+        let mut operations = Vec::new(alloc);
+        for item in items {
+            operations.push(KeyOperations::from_value(alloc, item)?)?;
+        }
         Ok(KeyOperationList { operations })
     }
-}
-
-fn named_operations(alloc: Global, names: &[Text]) -> Result<Vec<KeyOperations>>
-    ensures ok { IfOk result (λ v. v.items ≡ map operation_named names.now) }
-    ensures err { IfErr result IsMemory }
-{
-    let mut operations = Vec::new(alloc);
-    for name in names {
-        operations.push(KeyOperations::named(alloc, name.as_str())?)?;
-    }
-    Ok(operations)
 }
 
 impl From<Vec<KeyOperations>> for KeyOperationList {

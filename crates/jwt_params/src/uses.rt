@@ -12,7 +12,7 @@ use std::alloc::Global;
 use std::hash::{Hash, Hasher};
 
 /// What a public key is for, `use` (RFC 7517 section 4.2).
-#[derive(Debug, Drop)]
+#[derive(Debug, Drop, Eq)]
 pub enum PublicKeyUse {
     /// Signatures, `sig`.
     Signature,
@@ -39,10 +39,8 @@ impl PublicKeyUse {
         ensures ok { IfOk result (λ u. use_from (view value.now) ≡ Some u) }
         ensures err { IfErr result (RefusesAs kind.Json (use_from (view value.now) ≡ None)) }
     {
-        match value.as_str() {
-            Some(name) => Ok(PublicKeyUse::named(alloc, name)?),
-            None => Err(new_error(ErrorKind::Json)),
-        }
+        let name = value.as_str().ok_or(new_error(ErrorKind::Json))?;
+        PublicKeyUse::named(alloc, name)
     }
 
     /// A copy. The only refusal is `OutOfMemory`.
@@ -81,10 +79,7 @@ impl PublicKeyUse {
     fn is_other(&self) -> bool
         ensures { result ≡ is_other_use self.now }
     {
-        match self {
-            PublicKeyUse::Other(_) => true,
-            _ => false,
-        }
+        matches!(self, PublicKeyUse::Other(_))
     }
 }
 
@@ -103,12 +98,6 @@ impl PartialEq for PublicKeyUse {
     {
         self.is_other() == other.is_other() && self.as_str() == other.as_str()
     }
-}
-
-impl Eq for PublicKeyUse {
-    ghost use Rattle.jwt_params.specs.equality.NamesSame.{use_eq_equiv};
-
-    ghost laws = { use_eq_equiv };
 }
 
 impl Hash for PublicKeyUse {

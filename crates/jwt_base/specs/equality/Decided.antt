@@ -1,7 +1,7 @@
 -- Tests that decide a sameness: what they are made of, and that they are equivalences.
 use Rattle.std.specs.Prelude.{◌≡◌, ◌&&◌, ℕ, List, [], ◌∷◌, Bool, true, false, Option, Some, None, option_map, map, refl}
-use Rattle.std.specs.Bool.{Decides, beq, one_answer}
-use Rattle.std.specs.Cmp.{IsEquivalence, booleans_Decides}
+use Rattle.std.specs.Bool.{Decides, one_answer}
+use Rattle.std.specs.Cmp.{IsEquivalence}
 use Rattle.std.specs.Cmp.Lexicographic.{pointwise}
 use Rattle.std.specs.Hash.{HashWrites, Alike}
 use Rattle.std.specs.Str.{bytes_eq}
@@ -39,13 +39,6 @@ and_decides false t p q = (λ e. absurd (true≢false (sym e)), λ h. p.1 h.0)
 
 pub same_as : {P Q : Type 0} (s : Bool) → Decides s P → (P → Q) → (Q → P) → Decides s Q
 same_as s d f g = (λ e. f (d.0 e), λ q. d.1 (g q))
-
--- values told apart by their text, and by whether they are a free one
-module _ {A : Type 0} (other : A → Bool) (text : A → List ℕ) (back : Bool → List ℕ → A) (kept : (a : A) → back (other a) (text a) ≡ a) where
-  pub spelled_decides : (a b : A) → Decides (beq (other a) (other b) && bytes_eq (text a) (text b)) (a ≡ b)
-  spelled_decides a b = same_as _ (and_decides (beq (other a) (other b)) (bytes_eq (text a) (text b)) (booleans_Decides (other a) (other b)) (bytes_eq-Decides (text a) (text b)))
-      (λ p. sym (kept a) ∙ (λ i. back (p.0 i) (p.1 i)) ∙ kept b)
-      (λ e. (ap other e, ap text e))
 
 -- what is fed of the marked value alone is fed alike
 module _ {K J : Type 0} (test : K → K → Bool) (f : K → J) (decides : (x y : K) → Decides (test x y) (f x ≡ f y)) where

@@ -1,48 +1,45 @@
 -- Sameness of the values that are known by their names, and what a hasher is fed of them.
-use Rattle.std.specs.Prelude.{◌≡◌, ◌&&◌, ℕ, List, Bool, refl, if◌then◌else◌}
-use Rattle.std.specs.Bool.{Decides, beq}
+use Rattle.std.specs.Prelude.{◌≡◌, List, Bool, refl}
+use Rattle.std.specs.Bool.{Decides}
 use Rattle.std.specs.Cmp.{IsEquivalence}
 use Rattle.std.specs.Cmp.Lexicographic.{pointwise}
-use Rattle.std.specs.Hash.{HashWrites, Alike, str, slice}
-use Rattle.std.specs.Str.{bytes_eq}
-use Rattle.jwt_base.specs.equality.Decided.{decided_by, fed_by_mark, spelled_decides, list_decides_itself}
-use Rattle.jwt_params.specs.Operation.{operation_text, operation_named, is_other_operation}
-use Rattle.jwt_params.specs.Use.{use_text, use_named, is_other_use}
+use Rattle.std.specs.Hash.{HashWrites, Alike, slice}
+use Rattle.jwt_base.specs.equality.Decided.{decided_by, fed_by_mark, list_decides_itself}
+use Rattle.jwt_base.specs.equality.NamedSame.{IsKept, named_eq, named_fed, named_decides, named_eq_equiv, named_alike}
+use Rattle.jwt_params.specs.Operation.{operation_names}
+use Rattle.jwt_params.specs.Use.{use_names}
 use Rattle.jwt_params.specs.declared.operations.KeyOperations.{KeyOperations}
 use Rattle.jwt_params.specs.declared.operations.KeyOperations.TheVariants.{Sign, Verify, Encrypt, Decrypt, WrapKey, UnwrapKey, DeriveKey, DeriveBits, Other}
 use Rattle.jwt_params.specs.declared.uses.PublicKeyUse.{PublicKeyUse}
 use Rattle.jwt_params.specs.declared.uses.PublicKeyUse.TheVariants.{Signature, Encryption, Other as OtherUse}
 
 abbrev pub use_eq : PublicKeyUse → PublicKeyUse → Bool
-use_eq a b = beq (is_other_use a) (is_other_use b) && bytes_eq (use_text a) (use_text b)
+use_eq = named_eq use_names
 
-abbrev use_back : Bool → List ℕ → PublicKeyUse
-use_back other s = if other then OtherUse s else use_named s
+abbrev pub use_fed : PublicKeyUse → HashWrites
+use_fed = named_fed use_names
 
-use_kept : (u : PublicKeyUse) → use_back (is_other_use u) (use_text u) ≡ u
+use_kept : (u : PublicKeyUse) → IsKept use_names u
 use_kept Signature = refl
 use_kept Encryption = refl
 use_kept (OtherUse s) = refl
 
 pub use_decides : (a b : PublicKeyUse) → Decides (use_eq a b) (a ≡ b)
-use_decides = spelled_decides is_other_use use_text use_back use_kept
+use_decides = named_decides use_names use_kept
 
 pub use_eq_equiv : IsEquivalence use_eq
-use_eq_equiv = decided_by use_eq (λ u. u) use_decides
-
-abbrev pub use_fed : PublicKeyUse → HashWrites
-use_fed u = str (use_text u)
+use_eq_equiv = named_eq_equiv use_names use_kept
 
 pub use_alike : Alike use_eq use_fed
-use_alike = fed_by_mark use_eq (λ u. u) use_decides use_fed use_fed (λ u. refl)
+use_alike = named_alike use_names use_kept
 
 abbrev pub operation_eq : KeyOperations → KeyOperations → Bool
-operation_eq a b = beq (is_other_operation a) (is_other_operation b) && bytes_eq (operation_text a) (operation_text b)
+operation_eq = named_eq operation_names
 
-abbrev operation_back : Bool → List ℕ → KeyOperations
-operation_back other s = if other then Other s else operation_named s
+abbrev pub operation_fed : KeyOperations → HashWrites
+operation_fed = named_fed operation_names
 
-operation_kept : (o : KeyOperations) → operation_back (is_other_operation o) (operation_text o) ≡ o
+operation_kept : (o : KeyOperations) → IsKept operation_names o
 operation_kept Sign = refl
 operation_kept Verify = refl
 operation_kept Encrypt = refl
@@ -54,16 +51,13 @@ operation_kept DeriveBits = refl
 operation_kept (Other s) = refl
 
 pub operation_decides : (a b : KeyOperations) → Decides (operation_eq a b) (a ≡ b)
-operation_decides = spelled_decides is_other_operation operation_text operation_back operation_kept
+operation_decides = named_decides operation_names operation_kept
 
 pub operation_eq_equiv : IsEquivalence operation_eq
-operation_eq_equiv = decided_by operation_eq (λ o. o) operation_decides
-
-abbrev pub operation_fed : KeyOperations → HashWrites
-operation_fed o = str (operation_text o)
+operation_eq_equiv = named_eq_equiv operation_names operation_kept
 
 pub operation_alike : Alike operation_eq operation_fed
-operation_alike = fed_by_mark operation_eq (λ o. o) operation_decides operation_fed operation_fed (λ o. refl)
+operation_alike = named_alike operation_names operation_kept
 
 -- lists of operations
 abbrev pub operations_eq : List KeyOperations → List KeyOperations → Bool
