@@ -5,3 +5,4 @@ pub mod Decided
 pub mod KindEq
 pub mod NamedSame
 pub mod NamesFed
+pub mod VariantsSame
