@@ -101,8 +101,8 @@ impl Jwk {
         if self.algorithm.has_common_name() {
             return Err(new_error(ErrorKind::Json));
         }
-        let mut members = self.algorithm.members(alloc)?;
-        self.common.put_into(alloc, &mut members)?;
+        let members = self.algorithm.members(alloc)?;
+        let members = self.common.with_members(alloc, members)?;
         Ok(members)
     }
 }

@@ -8,7 +8,6 @@ ghost use Rattle.jwt_base.specs.Kind as kind;
 ghost use Rattle.jwt_base.specs.KindOf.{IsMemory, RefusesAs};
 ghost use Rattle.jwt_base.specs.Members.{optional, is_named, put_some};
 ghost use Rattle.jwt_params.specs.Common.{common_names, key_algorithm_value};
-ghost use Rattle.jwt_params.specs.equality.CommonSame.{algorithm_text};
 ghost use Rattle.jwt_params.specs.Operation.{operations_from, operations_value};
 ghost use Rattle.jwt_params.specs.Use.{use_from, use_value};
 
@@ -66,26 +65,30 @@ impl CommonParameters {
         ensures reads_back { IfOk result (λ v. ReadsCommon (view v) (normal_common self.now)) }
         ensures err { IfErr result IsMemory }
     {
-        let mut members = Map::new(alloc);
-        self.put_into(alloc, &mut members)?;
+        let members = self.with_members(alloc, Map::new(alloc))?;
         Ok(Value::Object(members))
     }
 
-    /// Puts what is there among the members. The only refusal is `OutOfMemory`.
-    pub fn put_into(&self, alloc: Global, members: &mut Map<String, Value>) -> Result<()>
-        ensures ok { OnOk result (members_view members.new.entries
-            ≡ with_common self.now (members_view members.old.entries)) }
+    /// The members, and with them what is there. The only refusal is `OutOfMemory`.
+    pub fn with_members(
+        &self,
+        alloc: Global,
+        members: Map<String, Value>,
+    ) -> Result<Map<String, Value>>
+        ensures ok { IfOk result (λ all. members_view all.entries
+            ≡ with_common self.now (members_view members.entries)) }
         ensures err { IfErr result IsMemory }
     {
-        put_optional_text(alloc, members, "x5t#S256", &self.x509_sha256_fingerprint)?;
-        put_optional_text(alloc, members, "x5t", &self.x509_sha1_fingerprint)?;
-        put_optional_texts(alloc, members, "x5c", &self.x509_chain)?;
-        put_optional_text(alloc, members, "x5u", &self.x509_url)?;
-        put_optional_text(alloc, members, "kid", &self.key_id)?;
-        put_algorithm(alloc, members, &self.key_algorithm)?;
-        put_operations(alloc, members, &self.key_operations)?;
-        put_use(alloc, members, &self.public_key_use)?;
-        Ok(())
+        let mut all = members;
+        put_optional_text(alloc, &mut all, "x5t#S256", &self.x509_sha256_fingerprint)?;
+        put_optional_text(alloc, &mut all, "x5t", &self.x509_sha1_fingerprint)?;
+        put_optional_texts(alloc, &mut all, "x5c", &self.x509_chain)?;
+        put_optional_text(alloc, &mut all, "x5u", &self.x509_url)?;
+        put_optional_text(alloc, &mut all, "kid", &self.key_id)?;
+        put_algorithm(alloc, &mut all, &self.key_algorithm)?;
+        put_operations(alloc, &mut all, &self.key_operations)?;
+        put_use(alloc, &mut all, &self.public_key_use)?;
+        Ok(all)
     }
 
     /// A copy. The only refusal is `OutOfMemory`.
@@ -300,22 +303,12 @@ impl CommonParameters {
     {
         self.public_key_use == other.public_key_use
             && self.key_operations == other.key_operations
-            && algorithm_name(&self.key_algorithm) == algorithm_name(&other.key_algorithm)
+            && self.key_algorithm == other.key_algorithm
             && self.key_id == other.key_id
             && self.x509_url == other.x509_url
             && self.x509_chain == other.x509_chain
             && self.x509_sha1_fingerprint == other.x509_sha1_fingerprint
             && self.x509_sha256_fingerprint == other.x509_sha256_fingerprint
-    }
-}
-
-// The name, which is empty where there is no algorithm.
-fn algorithm_name(algorithm: &Option<KeyAlgorithm>) -> &'static str
-    ensures { result.now ≡ algorithm_text algorithm.now }
-{
-    match algorithm {
-        Some(algorithm) => algorithm.name(),
-        None => "",
     }
 }
 
@@ -330,7 +323,7 @@ impl Hash for CommonParameters {
     fn hash<H: Hasher>(&self, state: &mut H) {
         self.public_key_use.hash(state);
         self.key_operations.hash(state);
-        algorithm_name(&self.key_algorithm).hash(state);
+        self.key_algorithm.hash(state);
         self.key_id.hash(state);
         self.x509_url.hash(state);
         self.x509_chain.hash(state);

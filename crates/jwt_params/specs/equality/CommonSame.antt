@@ -1,59 +1,24 @@
 -- Sameness of what keys of every kind may have, and what a hasher is fed of it.
-use Rattle.std.specs.Prelude.{◌≡◌, ◌&&◌, ◌++◌, ℕ, List, [], Bool, Option, Some, None, unwrap_or, refl, if◌then◌else◌}
+use Rattle.std.specs.Prelude.{◌≡◌, ◌&&◌, ◌++◌, Bool, refl}
+use denote.Enum.Bare.{sameb}
 use Rattle.std.specs.Bool.{Decides}
 use Rattle.std.specs.Cmp.{IsEquivalence}
 use Rattle.std.specs.Cmp.Lexicographic.{pointwise}
 use Rattle.std.specs.Hash.{HashWrites, Alike, str, slice, option}
 use Rattle.std.specs.Str.{bytes_eq}
-use Rattle.std.proofs.Common.{sym, ap, ◌∙◌}
+use Rattle.std.proofs.Common.{ap}
 use Rattle.std.proofs.lemmas.Slice.Eq.{bytes_eq-Decides}
-use Rattle.jwt_base.specs.Algorithm.{key_name_of, key_algorithm_named}
+use Rattle.jwt_base.specs.contracts.algorithms.KeyAlgorithm.{the_type}
 use Rattle.jwt_base.specs.equality.Decided.{option_eq, option_decides_itself, and_decides, same_as, texts_decides, decided_by, fed_by_mark}
-use Rattle.jwt_base.specs.declared.algorithms.KeyAlgorithm.{KeyAlgorithm}
-use Rattle.jwt_base.specs.declared.algorithms.KeyAlgorithm.TheVariants as key
+use Rattle.jwt_base.specs.equality.VariantsSame.{variant_decides, variant_fed}
 use Rattle.jwt_params.specs.equality.NamesSame.{use_eq, use_decides, use_fed, operations_eq, operations_decides, operations_fed}
 use Rattle.jwt_params.specs.declared.common.CommonParameters.{CommonParameters}
-
--- the name, which is empty where there is no algorithm
-abbrev pub algorithm_text : Option KeyAlgorithm → List ℕ
-algorithm_text None = []
-algorithm_text (Some a) = key_name_of a
-
-abbrev algorithm_back : List ℕ → Option KeyAlgorithm
-algorithm_back s = if bytes_eq s [] then None else Some (unwrap_or (key_algorithm_named s) key.UNKNOWN_ALGORITHM)
-
-algorithm_kept : (o : Option KeyAlgorithm) → algorithm_back (algorithm_text o) ≡ o
-algorithm_kept None = refl
-algorithm_kept (Some key.HS256) = refl
-algorithm_kept (Some key.HS384) = refl
-algorithm_kept (Some key.HS512) = refl
-algorithm_kept (Some key.RS256) = refl
-algorithm_kept (Some key.RS384) = refl
-algorithm_kept (Some key.RS512) = refl
-algorithm_kept (Some key.PS256) = refl
-algorithm_kept (Some key.PS384) = refl
-algorithm_kept (Some key.PS512) = refl
-algorithm_kept (Some key.ES256) = refl
-algorithm_kept (Some key.ES384) = refl
-algorithm_kept (Some key.EdDSA) = refl
-algorithm_kept (Some key.RSA1_5) = refl
-algorithm_kept (Some key.RSA_OAEP) = refl
-algorithm_kept (Some key.RSA_OAEP_256) = refl
-algorithm_kept (Some key.UNKNOWN_ALGORITHM) = refl
-
-abbrev pub same_algorithm : Option KeyAlgorithm → Option KeyAlgorithm → Bool
-same_algorithm a b = bytes_eq (algorithm_text a) (algorithm_text b)
-
-pub same_algorithm_decides : (a b : Option KeyAlgorithm) → Decides (same_algorithm a b) (a ≡ b)
-same_algorithm_decides a b = same_as _ (bytes_eq-Decides (algorithm_text a) (algorithm_text b))
-    (λ e. sym (algorithm_kept a) ∙ ap algorithm_back e ∙ algorithm_kept b)
-    (ap algorithm_text)
 
 abbrev pub common_eq : CommonParameters → CommonParameters → Bool
 common_eq c d =
     option_eq use_eq c.public_key_use d.public_key_use
     && (option_eq operations_eq c.key_operations d.key_operations
-    && (same_algorithm c.key_algorithm d.key_algorithm
+    && (option_eq (sameb the_type) c.key_algorithm d.key_algorithm
     && (option_eq bytes_eq c.key_id d.key_id
     && (option_eq bytes_eq c.x509_url d.x509_url
     && (option_eq (pointwise bytes_eq) c.x509_chain d.x509_chain
@@ -64,7 +29,7 @@ pub common_decides : (c d : CommonParameters) → Decides (common_eq c d) (c ≡
 common_decides c d = same_as _
     (and_decides _ _ (option_decides_itself use_eq use_decides c.public_key_use d.public_key_use) (
     and_decides _ _ (option_decides_itself operations_eq operations_decides c.key_operations d.key_operations) (
-    and_decides _ _ (same_algorithm_decides c.key_algorithm d.key_algorithm) (
+    and_decides _ _ (option_decides_itself (sameb the_type) (variant_decides the_type tt) c.key_algorithm d.key_algorithm) (
     and_decides _ _ (option_decides_itself bytes_eq bytes_eq-Decides c.key_id d.key_id) (
     and_decides _ _ (option_decides_itself bytes_eq bytes_eq-Decides c.x509_url d.x509_url) (
     and_decides _ _ (option_decides_itself (pointwise bytes_eq) texts_decides c.x509_chain d.x509_chain) (
@@ -77,7 +42,7 @@ pub common_eq_equiv : IsEquivalence common_eq
 common_eq_equiv = decided_by common_eq (λ c. c) common_decides
 
 abbrev pub common_fed : CommonParameters → HashWrites
-common_fed c = option use_fed c.public_key_use ++ option operations_fed c.key_operations ++ str (algorithm_text c.key_algorithm) ++ option str c.key_id ++ option str c.x509_url ++ option (slice str) c.x509_chain ++ option str c.x509_sha1_fingerprint ++ option str c.x509_sha256_fingerprint
+common_fed c = option use_fed c.public_key_use ++ option operations_fed c.key_operations ++ option (variant_fed the_type) c.key_algorithm ++ option str c.key_id ++ option str c.x509_url ++ option (slice str) c.x509_chain ++ option str c.x509_sha1_fingerprint ++ option str c.x509_sha256_fingerprint
 
 pub common_alike : Alike common_eq common_fed
 common_alike = fed_by_mark common_eq (λ c. c) common_decides common_fed common_fed (λ c. refl)
