@@ -3,7 +3,9 @@ use Rattle.std.proofs.Common.{◌≡◌, inl, inr, ℕ, List, [], ◌∷◌, Opt
 use Rattle.serde_json.specs.Data.{Data, Members, string, object}
 use Rattle.serde_json.specs.Find.{get, get_member, as_null, as_object}
 use Rattle.serde_json.specs.Written.{has_float, members_have_float}
-use Rattle.jwt_base.specs.Algorithm.{name_of}
+use Rattle.jwt_base.specs.Algorithm.{name_of, algorithm_named}
+use Rattle.jwt_base.specs.declared.algorithms.Algorithm.{Algorithm}
+use Rattle.jwt_base.specs.declared.algorithms.Algorithm.TheVariants.{HS256, HS384, HS512, RS256, RS384, RS512, PS256, PS384, PS512, ES256, ES384, EdDSA}
 use Rattle.jwt_base.specs.Kind as kind
 use Rattle.jwt_base.specs.KindOf.{IsMemory, RefusesAs}
 use Rattle.jwt_base.specs.declared.errors.Error.{Error}
@@ -14,7 +16,6 @@ use Rattle.jwt_base.proofs.NormalForms.{spelled_text, again_within, own_optional
 use Rattle.jwt_header.specs.Enc.{enc_text, enc_named, known_encs, enc_from, enc_value, normal_enc}
 use Rattle.jwt_header.specs.Extras.{header_names, IsExtras}
 use Rattle.jwt_header.specs.Header.{ReadsHeader, with_named, header_members, header_value}
-use Rattle.jwt_header.specs.equality.HeaderSame.{named_back}
 use Rattle.jwt_header.specs.HeaderWritten.{normal_header, IsNormal, HasNormalForm}
 use Rattle.jwt_keys.specs.Jwk.{ReadsKey, key_members, key_value}
 use Rattle.jwt_keys.specs.JwkWritten.{normal_key}
@@ -87,6 +88,20 @@ optional-enc_value (Some e) = refl
 optional-zip_value : (o : Option Zip) → optional zip_from (option_map zip_value o) ≡ Some (option_map normal_zip o)
 optional-zip_value None = refl
 optional-zip_value (Some z) = refl
+
+named_back : (a : Algorithm) → algorithm_named (name_of a) ≡ Some a
+named_back HS256 = refl
+named_back HS384 = refl
+named_back HS512 = refl
+named_back RS256 = refl
+named_back RS384 = refl
+named_back RS512 = refl
+named_back PS256 = refl
+named_back PS384 = refl
+named_back PS512 = refl
+named_back ES256 = refl
+named_back ES384 = refl
+named_back EdDSA = refl
 
 -- a name of the header is none of the extras'
 at_name : (h : Header) → IsExtras h.extras → (q : List ℕ) → is_named header_names q ≡ true → get_member q h.extras ≡ None

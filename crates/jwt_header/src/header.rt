@@ -387,7 +387,7 @@ impl Header {
     fn is_same(&self, other: &Header) -> bool
         ensures { result ≡ header_eq self.now other.now }
     {
-        self.alg.name() == other.alg.name()
+        self.alg == other.alg
             && self.typ == other.typ
             && self.cty == other.cty
             && self.jku == other.jku
@@ -415,7 +415,7 @@ impl Hash for Header {
     ghost respects_eq = { header_alike.fed };
 
     fn hash<H: Hasher>(&self, state: &mut H) {
-        self.alg.name().hash(state);
+        self.alg.hash(state);
         self.typ.hash(state);
         self.cty.hash(state);
         self.jku.hash(state);

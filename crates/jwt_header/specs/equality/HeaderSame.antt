@@ -1,19 +1,19 @@
 -- Sameness of headers, where any two floats count as equal, and what a hasher is fed of one.
-use Rattle.std.specs.Prelude.{◌≡◌, ◌&&◌, ◌++◌, Bool, pos, Option, Some, None, option_map, unwrap_or, refl}
+use Rattle.std.specs.Prelude.{◌≡◌, ◌&&◌, ◌++◌, Bool, pos, Option, Some, None, option_map, refl}
+use denote.Enum.Bare.{sameb}
 use Rattle.std.specs.Bool.{Decides}
 use Rattle.std.specs.Cmp.{IsEquivalence}
 use Rattle.std.specs.Cmp.Lexicographic.{pointwise}
 use Rattle.std.specs.Hash.{HashWrites, Alike, str, slice, option, isize}
 use Rattle.std.specs.Str.{bytes_eq}
-use Rattle.std.proofs.Common.{sym, ap, ◌∙◌}
+use Rattle.std.proofs.Common.{ap}
 use Rattle.std.proofs.lemmas.Slice.Eq.{bytes_eq-Decides}
-use Rattle.jwt_base.specs.Algorithm.{name_of, algorithm_named}
+use Rattle.jwt_base.specs.contracts.algorithms.Algorithm.{the_type}
 use Rattle.jwt_base.specs.DataEq.{members_eq}
 use Rattle.jwt_base.specs.equality.DataEqLaws.{members_decides}
 use Rattle.jwt_base.specs.equality.Decided.{option_eq, option_decides, option_decides_itself, and_decides, same_as, texts_decides, decided_by, fed_by_mark}
 use Rattle.jwt_base.specs.equality.NamesFed.{names_fed, names_marked}
-use Rattle.jwt_base.specs.declared.algorithms.Algorithm.{Algorithm}
-use Rattle.jwt_base.specs.declared.algorithms.Algorithm.TheVariants.{HS256, HS384, HS512, RS256, RS384, RS512, PS256, PS384, PS512, ES256, ES384, EdDSA}
+use Rattle.jwt_base.specs.equality.VariantsSame.{variant_decides, variant_fed}
 use Rattle.jwt_header.specs.Header.{marked_header}
 use Rattle.jwt_header.specs.equality.NamesSame.{enc_eq, enc_decides, enc_fed, zip_eq, zip_decides, zip_fed}
 use Rattle.jwt_header.specs.declared.header.Header.{Header}
@@ -21,31 +21,9 @@ use Rattle.jwt_keys.specs.Jwk.{marked_key}
 use Rattle.jwt_keys.specs.equality.JwkSame.{key_eq, key_decides, key_fed, key_marked}
 use Rattle.jwt_keys.specs.declared.jwk.Jwk.{Jwk}
 
-abbrev pub same_algorithm : Algorithm → Algorithm → Bool
-same_algorithm a b = bytes_eq (name_of a) (name_of b)
-
-pub named_back : (a : Algorithm) → algorithm_named (name_of a) ≡ Some a
-named_back HS256 = refl
-named_back HS384 = refl
-named_back HS512 = refl
-named_back RS256 = refl
-named_back RS384 = refl
-named_back RS512 = refl
-named_back PS256 = refl
-named_back PS384 = refl
-named_back PS512 = refl
-named_back ES256 = refl
-named_back ES384 = refl
-named_back EdDSA = refl
-
-pub same_algorithm_decides : (a b : Algorithm) → Decides (same_algorithm a b) (a ≡ b)
-same_algorithm_decides a b = same_as _ (bytes_eq-Decides (name_of a) (name_of b))
-    (λ e. ap (λ o. unwrap_or o a) (sym (named_back a) ∙ ap algorithm_named e ∙ named_back b))
-    (ap name_of)
-
 abbrev pub header_eq : Header → Header → Bool
 header_eq g h =
-    same_algorithm g.alg h.alg
+    sameb the_type g.alg h.alg
     && (option_eq bytes_eq g.typ h.typ
     && (option_eq bytes_eq g.cty h.cty
     && (option_eq bytes_eq g.jku h.jku
@@ -64,7 +42,7 @@ header_eq g h =
 
 pub header_decides : (g h : Header) → Decides (header_eq g h) (marked_header g ≡ marked_header h)
 header_decides g h = same_as _
-    (and_decides _ _ (same_algorithm_decides g.alg h.alg) (
+    (and_decides _ _ (variant_decides the_type tt g.alg h.alg) (
     and_decides _ _ (option_decides_itself bytes_eq bytes_eq-Decides g.typ h.typ) (
     and_decides _ _ (option_decides_itself bytes_eq bytes_eq-Decides g.cty h.cty) (
     and_decides _ _ (option_decides_itself bytes_eq bytes_eq-Decides g.jku h.jku) (
@@ -87,14 +65,14 @@ header_eq_equiv = decided_by header_eq marked_header header_decides
 
 -- of free members their names alone
 abbrev pub header_fed : Header → HashWrites
-header_fed h = str (name_of h.alg) ++ option str h.typ ++ option str h.cty ++ option str h.jku ++ option key_fed h.jwk ++ option str h.kid ++ option str h.x5u ++ option str h.x5t ++ option str h.x5t_s256 ++ option str h.url ++ option str h.nonce ++ option (slice str) h.x5c ++ option (slice str) h.crit ++ option enc_fed h.enc ++ option zip_fed h.zip ++ names_fed h.extras
+header_fed h = variant_fed the_type h.alg ++ option str h.typ ++ option str h.cty ++ option str h.jku ++ option key_fed h.jwk ++ option str h.kid ++ option str h.x5u ++ option str h.x5t ++ option str h.x5t_s256 ++ option str h.url ++ option str h.nonce ++ option (slice str) h.x5c ++ option (slice str) h.crit ++ option enc_fed h.enc ++ option zip_fed h.zip ++ names_fed h.extras
 
 jwk_marked : (o : Option Jwk) → option key_fed o ≡ option key_fed (option_map marked_key o)
 jwk_marked None = refl
 jwk_marked (Some k) = ap (λ w. isize (pos 1) ++ w) (key_marked k)
 
 header_marked : (h : Header) → header_fed h ≡ header_fed (marked_header h)
-header_marked h = λ i. str (name_of h.alg) ++ option str h.typ ++ option str h.cty ++ option str h.jku ++ jwk_marked h.jwk i ++ option str h.kid ++ option str h.x5u ++ option str h.x5t ++ option str h.x5t_s256 ++ option str h.url ++ option str h.nonce ++ option (slice str) h.x5c ++ option (slice str) h.crit ++ option enc_fed h.enc ++ option zip_fed h.zip ++ names_marked h.extras i
+header_marked h = λ i. variant_fed the_type h.alg ++ option str h.typ ++ option str h.cty ++ option str h.jku ++ jwk_marked h.jwk i ++ option str h.kid ++ option str h.x5u ++ option str h.x5t ++ option str h.x5t_s256 ++ option str h.url ++ option str h.nonce ++ option (slice str) h.x5c ++ option (slice str) h.crit ++ option enc_fed h.enc ++ option zip_fed h.zip ++ names_marked h.extras i
 
 pub header_alike : Alike header_eq header_fed
 header_alike = fed_by_mark header_eq marked_header header_decides header_fed header_fed header_marked
