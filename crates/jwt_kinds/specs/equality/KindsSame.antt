@@ -1,18 +1,16 @@
 -- Sameness of the kinds of keys, where any two floats count as equal.
 use Rattle.std.specs.Prelude.{◌≡◌, ◌&&◌, Bool, false, refl}
-use denote.Enum.Bare.{sameb, tag_one}
-use denote.Enum.Declared.{tag_of}
+use denote.Enum.Bare.{sameb}
 use Rattle.std.specs.Bool.{Decides}
 use Rattle.std.specs.Cmp.{IsEquivalence}
 use Rattle.std.specs.Str.{bytes_eq}
 use Rattle.std.proofs.Common.{ap}
-use Rattle.std.proofs.lemmas.Bool.Decides.{Decides-eqb}
 use Rattle.std.proofs.lemmas.Slice.Eq.{bytes_eq-Decides}
 use Rattle.jwt_base.specs.DataEq.{members_eq}
 use Rattle.jwt_base.specs.equality.DataEqLaws.{members_decides}
 use Rattle.jwt_base.specs.equality.Decided.{and_decides, same_as, decided_by}
+use Rattle.jwt_base.specs.equality.VariantsSame.{variant_decides}
 use Rattle.jwt_params.specs.contracts.curves.EllipticCurve.{the_type}
-use Rattle.jwt_params.specs.declared.curves.EllipticCurve.{EllipticCurve}
 use Rattle.jwt_params.specs.declared.key_types.EllipticCurveKeyType.{EllipticCurveKeyType}
 use Rattle.jwt_params.specs.declared.key_types.EllipticCurveKeyType.TheVariants.{EC}
 use Rattle.jwt_params.specs.declared.key_types.RSAKeyType.{RSAKeyType}
@@ -30,20 +28,14 @@ use Rattle.jwt_kinds.specs.declared.other.OtherKeyParameters.{OtherKeyParameters
 use Rattle.jwt_kinds.specs.declared.parameters.AlgorithmParameters.{AlgorithmParameters}
 use Rattle.jwt_kinds.specs.declared.parameters.AlgorithmParameters.TheVariants as kinds
 
-abbrev pub same_curve : EllipticCurve → EllipticCurve → Bool
-same_curve a b = sameb the_type a b
-
-pub same_curve_decides : (a b : EllipticCurve) → Decides (same_curve a b) (a ≡ b)
-same_curve_decides a b = same_as _ (Decides-eqb (tag_of the_type a) (tag_of the_type b)) (tag_one the_type tt a b) (ap (tag_of the_type))
-
 abbrev pub elliptic_eq : EllipticCurveKeyParameters → EllipticCurveKeyParameters → Bool
-elliptic_eq p q = same_curve p.curve q.curve && (bytes_eq p.x q.x && bytes_eq p.y q.y)
+elliptic_eq p q = sameb the_type p.curve q.curve && (bytes_eq p.x q.x && bytes_eq p.y q.y)
 
 elliptic_type : (a b : EllipticCurveKeyType) → a ≡ b
 elliptic_type EC EC = refl
 
 pub elliptic_decides : (p q : EllipticCurveKeyParameters) → Decides (elliptic_eq p q) (p ≡ q)
-elliptic_decides p q = same_as _ (and_decides _ _ (same_curve_decides p.curve q.curve) (and_decides _ _ (bytes_eq-Decides p.x q.x) (bytes_eq-Decides p.y q.y)))
+elliptic_decides p q = same_as _ (and_decides _ _ (variant_decides the_type tt p.curve q.curve) (and_decides _ _ (bytes_eq-Decides p.x q.x) (bytes_eq-Decides p.y q.y)))
     (λ h i. record { key_type = elliptic_type p.key_type q.key_type i; curve = h.0 i; x = h.1.0 i; y = h.1.1 i })
     (λ e. (ap (λ x. x.curve) e, (ap (λ x. x.x) e, ap (λ x. x.y) e)))
 
@@ -79,13 +71,13 @@ pub octet_eq_equiv : IsEquivalence octet_eq
 octet_eq_equiv = decided_by octet_eq (λ p. p) octet_decides
 
 abbrev pub pair_eq : OctetKeyPairParameters → OctetKeyPairParameters → Bool
-pair_eq p q = same_curve p.curve q.curve && bytes_eq p.x q.x
+pair_eq p q = sameb the_type p.curve q.curve && bytes_eq p.x q.x
 
 pair_type : (a b : OctetKeyPairType) → a ≡ b
 pair_type OctetKeyPair OctetKeyPair = refl
 
 pub pair_decides : (p q : OctetKeyPairParameters) → Decides (pair_eq p q) (p ≡ q)
-pair_decides p q = same_as _ (and_decides _ _ (same_curve_decides p.curve q.curve) (bytes_eq-Decides p.x q.x))
+pair_decides p q = same_as _ (and_decides _ _ (variant_decides the_type tt p.curve q.curve) (bytes_eq-Decides p.x q.x))
     (λ h i. record { key_type = pair_type p.key_type q.key_type i; curve = h.0 i; x = h.1 i })
     (λ e. (ap (λ x. x.curve) e, ap (λ x. x.x) e))
 

@@ -1,6 +1,6 @@
 -- Two `Validation`s are equal exactly where they ask for the same.
 use Rattle.std.specs.Prelude.{◌≡◌, ◌&&◌, ◌==◌, ℕ, Bool, true, List, String, refl}
-use denote.Enum.Bare.{sameb, same_true, true_same}
+use denote.Enum.Bare.{sameb}
 use Rattle.std.specs.declared.alloc.Global.{Global}
 use Rattle.std.specs.Bool.{Decides, beq}
 use Rattle.std.specs.Cmp.{IsEquivalence, booleans_Decides}
@@ -14,7 +14,7 @@ use Rattle.std.proofs.lemmas.Bool.Decides.{same_from_decides, Decides-eqb}
 use Rattle.std.proofs.lemmas.List.Folds.{Any-from_list_any}
 use Rattle.std.proofs.lemmas.Slice.Eq.{bytes_eq-Decides, slice_eq-Decides}
 use Rattle.jwt_base.specs.equality.Decided.{and_decides, decided_by, option_decides, option_eq}
-use Rattle.jwt_base.specs.declared.algorithms.Algorithm.{Algorithm}
+use Rattle.jwt_base.specs.equality.VariantsSame.{variant_decides}
 use Rattle.jwt_base.specs.contracts.algorithms.Algorithm.{the_type}
 use Rattle.jwt_validation.specs.OptionsOf.{options_of}
 use Rattle.jwt_validation.specs.declared.validation.Validation.{Validation}
@@ -35,9 +35,6 @@ module _ {S : Type 0} where
         λ e. by_keys.1 (λ q i. e i (string_bytes q)),
       )
 
-algorithms_decide : (x y : Algorithm) → Decides (sameb the_type x y) (x ≡ y)
-algorithms_decide x y = (same_true the_type tt x y, true_same the_type x y)
-
 -- what each field asks for is the same
 abbrev pub validation_eq : Validation → Validation → Bool
 validation_eq a b = hash_set_eq string_eq a.required_spec_claims b.required_spec_claims && ((a.leeway == b.leeway)
@@ -53,7 +50,7 @@ validation_decides a b =
     (and_decides _ _ (booleans_Decides a.validate_nbf b.validate_nbf) (and_decides _ _ (booleans_Decides a.validate_aud b.validate_aud)
     (and_decides _ _ (option_decides (hash_set_eq string_eq) contains_text sets_decide a.aud b.aud) (and_decides _ _ (option_decides (hash_set_eq string_eq) contains_text sets_decide a.iss b.iss)
     (and_decides _ _ (option_decides string_eq string_bytes (λ x y. bytes_eq-Decides (string_bytes x) (string_bytes y)) a.sub b.sub)
-    (and_decides _ _ (slice_eq-Decides algorithms_decide a.algorithms.items b.algorithms.items (pointwise (sameb the_type) a.algorithms.items b.algorithms.items) refl)
+    (and_decides _ _ (slice_eq-Decides (variant_decides the_type tt) a.algorithms.items b.algorithms.items (pointwise (sameb the_type) a.algorithms.items b.algorithms.items) refl)
     (sets_decide a.understood_crit b.understood_crit)))))))))) in (
       λ h. let p = parts.0 h in λ i. record {
         required = p.0 i;
