@@ -13,7 +13,7 @@ use std::hash::{Hash, Hasher};
 
 /// How the content of an encrypted token is encrypted, `enc` (RFC 7518 section 5.1). It is read and written, and
 /// nothing is encrypted here.
-#[derive(Debug, Drop)]
+#[derive(Debug, Drop, Eq)]
 pub enum Enc {
     /// AES-128 in CBC mode with HMAC SHA-256.
     A128CBC_HS256,
@@ -48,10 +48,8 @@ impl Enc {
         ensures ok { IfOk result (λ e. enc_from (view value.now) ≡ Some e) }
         ensures err { IfErr result (RefusesAs kind.Json (enc_from (view value.now) ≡ None)) }
     {
-        match value.as_str() {
-            Some(name) => Ok(Enc::named(alloc, name)?),
-            None => Err(new_error(ErrorKind::Json)),
-        }
+        let name = value.as_str().ok_or(new_error(ErrorKind::Json))?;
+        Enc::named(alloc, name)
     }
 
     /// A copy. The only refusal is `OutOfMemory`.
@@ -102,10 +100,7 @@ impl Enc {
     fn is_other(&self) -> bool
         ensures { result ≡ is_other_enc self.now }
     {
-        match self {
-            Enc::Other(_) => true,
-            _ => false,
-        }
+        matches!(self, Enc::Other(_))
     }
 }
 
@@ -126,12 +121,6 @@ impl PartialEq for Enc {
     }
 }
 
-impl Eq for Enc {
-    ghost use Rattle.jwt_header.specs.equality.NamesSame.{enc_eq_equiv};
-
-    ghost laws = { enc_eq_equiv };
-}
-
 impl Hash for Enc {
     ghost use Rattle.jwt_header.specs.equality.NamesSame.{enc_fed, enc_alike};
 
@@ -146,7 +135,7 @@ impl Hash for Enc {
 
 /// How the content of an encrypted token is compressed, `zip` (RFC 7516 section 4.1.3). It is read and written, and
 /// nothing is compressed here.
-#[derive(Debug, Drop)]
+#[derive(Debug, Drop, Eq)]
 pub enum Zip {
     /// DEFLATE, `DEF`.
     Deflate,
@@ -171,10 +160,8 @@ impl Zip {
         ensures ok { IfOk result (λ z. zip_from (view value.now) ≡ Some z) }
         ensures err { IfErr result (RefusesAs kind.Json (zip_from (view value.now) ≡ None)) }
     {
-        match value.as_str() {
-            Some(name) => Ok(Zip::named(alloc, name)?),
-            None => Err(new_error(ErrorKind::Json)),
-        }
+        let name = value.as_str().ok_or(new_error(ErrorKind::Json))?;
+        Zip::named(alloc, name)
     }
 
     /// A copy. The only refusal is `OutOfMemory`.
@@ -210,10 +197,7 @@ impl Zip {
     fn is_other(&self) -> bool
         ensures { result ≡ is_other_zip self.now }
     {
-        match self {
-            Zip::Other(_) => true,
-            _ => false,
-        }
+        matches!(self, Zip::Other(_))
     }
 }
 
@@ -232,12 +216,6 @@ impl PartialEq for Zip {
     {
         self.is_other() == other.is_other() && self.as_str() == other.as_str()
     }
-}
-
-impl Eq for Zip {
-    ghost use Rattle.jwt_header.specs.equality.NamesSame.{zip_eq_equiv};
-
-    ghost laws = { zip_eq_equiv };
 }
 
 impl Hash for Zip {

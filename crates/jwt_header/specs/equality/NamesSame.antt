@@ -1,24 +1,23 @@
 -- Sameness of the values that are known by their names, and what a hasher is fed of them.
-use Rattle.std.specs.Prelude.{◌≡◌, ◌&&◌, ℕ, List, Bool, refl, if◌then◌else◌}
-use Rattle.std.specs.Bool.{Decides, beq}
+use Rattle.std.specs.Prelude.{◌≡◌, Bool, refl}
+use Rattle.std.specs.Bool.{Decides}
 use Rattle.std.specs.Cmp.{IsEquivalence}
-use Rattle.std.specs.Hash.{HashWrites, Alike, str}
-use Rattle.std.specs.Str.{bytes_eq}
-use Rattle.jwt_base.specs.equality.Decided.{decided_by, fed_by_mark, spelled_decides}
-use Rattle.jwt_header.specs.Enc.{enc_text, enc_named, is_other_enc}
-use Rattle.jwt_header.specs.Zip.{zip_text, zip_named, is_other_zip}
+use Rattle.std.specs.Hash.{HashWrites, Alike}
+use Rattle.jwt_base.specs.equality.NamedSame.{IsKept, named_eq, named_fed, named_decides, named_eq_equiv, named_alike}
+use Rattle.jwt_header.specs.Enc.{enc_names}
+use Rattle.jwt_header.specs.Zip.{zip_names}
 use Rattle.jwt_header.specs.declared.names.Enc.{Enc}
 use Rattle.jwt_header.specs.declared.names.Enc.TheVariants.{A128CBC_HS256, A192CBC_HS384, A256CBC_HS512, A128GCM, A192GCM, A256GCM, Other}
 use Rattle.jwt_header.specs.declared.names.Zip.{Zip}
 use Rattle.jwt_header.specs.declared.names.Zip.TheVariants.{Deflate, Other as OtherZip}
 
 abbrev pub enc_eq : Enc → Enc → Bool
-enc_eq a b = beq (is_other_enc a) (is_other_enc b) && bytes_eq (enc_text a) (enc_text b)
+enc_eq = named_eq enc_names
 
-abbrev enc_back : Bool → List ℕ → Enc
-enc_back other s = if other then Other s else enc_named s
+abbrev pub enc_fed : Enc → HashWrites
+enc_fed = named_fed enc_names
 
-enc_kept : (e : Enc) → enc_back (is_other_enc e) (enc_text e) ≡ e
+enc_kept : (e : Enc) → IsKept enc_names e
 enc_kept A128CBC_HS256 = refl
 enc_kept A192CBC_HS384 = refl
 enc_kept A256CBC_HS512 = refl
@@ -28,35 +27,29 @@ enc_kept A256GCM = refl
 enc_kept (Other s) = refl
 
 pub enc_decides : (a b : Enc) → Decides (enc_eq a b) (a ≡ b)
-enc_decides = spelled_decides is_other_enc enc_text enc_back enc_kept
+enc_decides = named_decides enc_names enc_kept
 
 pub enc_eq_equiv : IsEquivalence enc_eq
-enc_eq_equiv = decided_by enc_eq (λ e. e) enc_decides
-
-abbrev pub enc_fed : Enc → HashWrites
-enc_fed e = str (enc_text e)
+enc_eq_equiv = named_eq_equiv enc_names enc_kept
 
 pub enc_alike : Alike enc_eq enc_fed
-enc_alike = fed_by_mark enc_eq (λ e. e) enc_decides enc_fed enc_fed (λ e. refl)
+enc_alike = named_alike enc_names enc_kept
 
 abbrev pub zip_eq : Zip → Zip → Bool
-zip_eq a b = beq (is_other_zip a) (is_other_zip b) && bytes_eq (zip_text a) (zip_text b)
+zip_eq = named_eq zip_names
 
-abbrev zip_back : Bool → List ℕ → Zip
-zip_back other s = if other then OtherZip s else zip_named s
+abbrev pub zip_fed : Zip → HashWrites
+zip_fed = named_fed zip_names
 
-zip_kept : (z : Zip) → zip_back (is_other_zip z) (zip_text z) ≡ z
+zip_kept : (z : Zip) → IsKept zip_names z
 zip_kept Deflate = refl
 zip_kept (OtherZip s) = refl
 
 pub zip_decides : (a b : Zip) → Decides (zip_eq a b) (a ≡ b)
-zip_decides = spelled_decides is_other_zip zip_text zip_back zip_kept
+zip_decides = named_decides zip_names zip_kept
 
 pub zip_eq_equiv : IsEquivalence zip_eq
-zip_eq_equiv = decided_by zip_eq (λ z. z) zip_decides
-
-abbrev pub zip_fed : Zip → HashWrites
-zip_fed z = str (zip_text z)
+zip_eq_equiv = named_eq_equiv zip_names zip_kept
 
 pub zip_alike : Alike zip_eq zip_fed
-zip_alike = fed_by_mark zip_eq (λ z. z) zip_decides zip_fed zip_fed (λ z. refl)
+zip_alike = named_alike zip_names zip_kept
