@@ -143,7 +143,7 @@ impl Hash for EllipticCurveKeyParameters {
     ghost respects_eq = { elliptic_alike.fed };
 
     fn hash<H: Hasher>(&self, state: &mut H) {
-        self.curve.name().hash(state);
+        self.curve.hash(state);
         self.x.hash(state);
         self.y.hash(state);
     }

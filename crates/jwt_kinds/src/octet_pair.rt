@@ -135,7 +135,7 @@ impl Hash for OctetKeyPairParameters {
     ghost respects_eq = { pair_alike.fed };
 
     fn hash<H: Hasher>(&self, state: &mut H) {
-        self.curve.name().hash(state);
+        self.curve.hash(state);
         self.x.hash(state);
     }
 }

@@ -3,7 +3,8 @@ use Rattle.std.specs.Prelude.{◌≡◌, ◌++◌, refl}
 use Rattle.std.specs.Hash.{HashWrites, Alike, str}
 use Rattle.jwt_base.specs.equality.Decided.{fed_by_mark}
 use Rattle.jwt_base.specs.equality.NamesFed.{names_fed, names_marked}
-use Rattle.jwt_params.specs.Curve.{curve_name}
+use Rattle.jwt_base.specs.equality.VariantsSame.{variant_fed}
+use Rattle.jwt_params.specs.contracts.curves.EllipticCurve.{the_type}
 use Rattle.jwt_kinds.specs.Kinds.{marked_other, marked_parameters}
 use Rattle.jwt_kinds.specs.equality.KindsSame.{elliptic_eq, elliptic_decides, pair_eq, pair_decides, other_eq, other_decides, parameters_eq, parameters_decides}
 use Rattle.jwt_kinds.specs.declared.elliptic.EllipticCurveKeyParameters.{EllipticCurveKeyParameters}
@@ -15,7 +16,7 @@ use Rattle.jwt_kinds.specs.declared.parameters.AlgorithmParameters.{AlgorithmPar
 use Rattle.jwt_kinds.specs.declared.parameters.AlgorithmParameters.TheVariants as kinds
 
 abbrev pub elliptic_fed : EllipticCurveKeyParameters → HashWrites
-elliptic_fed p = str (curve_name p.curve) ++ str p.x ++ str p.y
+elliptic_fed p = variant_fed the_type p.curve ++ str p.x ++ str p.y
 
 pub elliptic_alike : Alike elliptic_eq elliptic_fed
 elliptic_alike = fed_by_mark elliptic_eq (λ p. p) elliptic_decides elliptic_fed elliptic_fed (λ p. refl)
@@ -27,7 +28,7 @@ abbrev pub octet_fed : OctetKeyParameters → HashWrites
 octet_fed p = str p.value
 
 abbrev pub pair_fed : OctetKeyPairParameters → HashWrites
-pair_fed p = str (curve_name p.curve) ++ str p.x
+pair_fed p = variant_fed the_type p.curve ++ str p.x
 
 pub pair_alike : Alike pair_eq pair_fed
 pair_alike = fed_by_mark pair_eq (λ p. p) pair_decides pair_fed pair_fed (λ p. refl)
