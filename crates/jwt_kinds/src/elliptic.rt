@@ -38,10 +38,7 @@ impl EllipticCurveKeyParameters {
         ensures ok { IfOk result (λ p. elliptic_from (view value.now) ≡ Some p) }
         ensures err { IfErr result (RefusesAs kind.Json (elliptic_from (view value.now) ≡ None)) }
     {
-        match EllipticCurveKeyParameters::read(alloc, value)? {
-            Some(parameters) => Ok(parameters),
-            None => Err(new_error(ErrorKind::Json)),
-        }
+        EllipticCurveKeyParameters::read(alloc, value)?.ok_or(new_error(ErrorKind::Json))
     }
 
     /// The JSON object of the parameters. The only refusal is `OutOfMemory`.

@@ -33,10 +33,7 @@ impl OctetKeyParameters {
         ensures ok { IfOk result (λ p. octet_from (view value.now) ≡ Some p) }
         ensures err { IfErr result (RefusesAs kind.Json (octet_from (view value.now) ≡ None)) }
     {
-        match OctetKeyParameters::read(alloc, value)? {
-            Some(parameters) => Ok(parameters),
-            None => Err(new_error(ErrorKind::Json)),
-        }
+        OctetKeyParameters::read(alloc, value)?.ok_or(new_error(ErrorKind::Json))
     }
 
     /// The JSON object of the parameters. The only refusal is `OutOfMemory`.

@@ -36,10 +36,7 @@ impl OctetKeyPairParameters {
         ensures ok { IfOk result (λ p. pair_from (view value.now) ≡ Some p) }
         ensures err { IfErr result (RefusesAs kind.Json (pair_from (view value.now) ≡ None)) }
     {
-        match OctetKeyPairParameters::read(alloc, value)? {
-            Some(parameters) => Ok(parameters),
-            None => Err(new_error(ErrorKind::Json)),
-        }
+        OctetKeyPairParameters::read(alloc, value)?.ok_or(new_error(ErrorKind::Json))
     }
 
     /// The JSON object of the parameters. The only refusal is `OutOfMemory`.

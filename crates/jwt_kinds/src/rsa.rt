@@ -34,10 +34,7 @@ impl RSAKeyParameters {
         ensures ok { IfOk result (λ p. rsa_from (view value.now) ≡ Some p) }
         ensures err { IfErr result (RefusesAs kind.Json (rsa_from (view value.now) ≡ None)) }
     {
-        match RSAKeyParameters::read(alloc, value)? {
-            Some(parameters) => Ok(parameters),
-            None => Err(new_error(ErrorKind::Json)),
-        }
+        RSAKeyParameters::read(alloc, value)?.ok_or(new_error(ErrorKind::Json))
     }
 
     /// The JSON object of the parameters. The only refusal is `OutOfMemory`.
