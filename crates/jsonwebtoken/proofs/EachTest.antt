@@ -162,7 +162,7 @@ module _ {T : Type 0} (call : Call T) where
   join = engine.join (Condition call)
 
   module _ (b : List Test) (t s : Contents) (p : Passes call b t) (q : Passes call b s) where
-    same_parts : parts_known b ≡ true → t.parts ≡ s.parts
+    pub same_parts : parts_known b ≡ true → t.parts ≡ s.parts
     same_parts e = one_way call.token t.parts s.parts (met b t p HasThreeParts e) (met b s q HasThreeParts e)
 
     same_bytes : bytes_known b ≡ true → t.header_bytes ≡ s.header_bytes
@@ -190,7 +190,7 @@ module _ {T : Type 0} (call : Call T) where
     same_key : key_known (is_given call.keys) b ≡ true → key_of call.keys t.jwk_key ≡ key_of call.keys s.jwk_key
     same_key e = same_key_of call.keys (jwk_key_known b) t.jwk_key s.jwk_key e same_jwk_key
 
-    same_signature : signature_known b ≡ true → t.signature_bytes ≡ s.signature_bytes
+    pub same_signature : signature_known b ≡ true → t.signature_bytes ≡ s.signature_bytes
     same_signature e = let k = engine.both_true (parts_known b) (is_in SignatureIsPart b) e in
         one_part s.parts.signature _ _ (rw (same_parts k.0) at (met b t p SignatureIsPart k.1)) (met b s q SignatureIsPart k.1)
 

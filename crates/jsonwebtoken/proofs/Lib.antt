@@ -8,3 +8,4 @@ pub mod LawsOf
 pub mod Repeats
 pub mod UniqueParts
 pub mod UsualParts
+pub mod Vouching

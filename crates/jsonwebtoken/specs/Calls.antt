@@ -10,8 +10,9 @@ use Rattle.jwt_keys.specs.declared.jwk.Jwk.{Jwk}
 use Rattle.jwt_validation.specs.OptionsOf.{options_of}
 use Rattle.jwt_validation.specs.declared.validation.Validation.{Validation}
 use Rattle.jsonwebtoken.specs.Order.{AnswersOne, AnswersEach, RefusesByFirst}
-use Rattle.jsonwebtoken.specs.Tests.{Call, Test, Contents, Condition, HasKind, Parts, Token, Compact, Separate, KeySource, Given, InSet, verifying_call}
+use Rattle.jsonwebtoken.specs.Tests.{Call, Test, Contents, Condition, HasKind, Parts, Token, Compact, Separate, KeySource, Given, InSet, message_of, verifying_call}
 use Rattle.jsonwebtoken.specs.declared.decoding.TokenData.{TokenData}
+use Rattle.jsonwebtoken.specs.declared.signed.SignedPart.{SignedPart}
 
 -- ---- the calls
 
@@ -45,6 +46,12 @@ Carries call t answer = (t.header ≡ answer.header) × call.reads t.payload_val
 -- the header alone
 abbrev pub HasHeader : {T : Type 0} → Call T → Contents → Header → Type 0
 HasHeader call t header = t.header ≡ header
+
+-- the header, what is signed (RFC 7515 section 5.1), and the signature's bytes
+abbrev pub HasSigned : {T : Type 0} → Call T → Contents → SignedPart → Type 0
+HasSigned call t part = (t.header ≡ part.header)
+    × (message_of t.parts ≡ part.message.now)
+    × (t.signature_bytes ≡ part.signature.items)
 
 -- the claims alone
 abbrev pub HasClaims : {T : Type 0} → Call T → Contents → T → Type 0

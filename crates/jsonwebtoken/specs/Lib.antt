@@ -9,6 +9,7 @@ pub mod Order
 pub mod Steps
 pub mod Tests
 pub mod Usual
+pub mod Vouched
 pub use Rattle.jwt_base.specs.Kind
 pub use Rattle.jwt_base.specs.KindOf
 pub use Rattle.jwt_base.specs.Algorithm
@@ -22,6 +23,7 @@ pub use Rattle.jwt_keys.specs.KeyOfJwk
 pub use Rattle.jwt_keys.specs.Provider
 pub use Rattle.jwt_hmac.specs.Hmac
 pub use Rattle.jwt_hmac.specs.HmacKeys
+pub use Rattle.jwt_verdict.specs.Verdict
 pub use Rattle.jwt_header.specs.Header
 pub use Rattle.jwt_header.specs.HeaderWritten
 pub use Rattle.jwt_header.specs.Extras

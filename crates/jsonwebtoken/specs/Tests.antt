@@ -234,6 +234,10 @@ verifying_tests = signature_tests ++ claim_tests
 abbrev pub header_order : List Test
 header_order = HasThreeParts ∷ header_tests
 
+-- what is asked of a token before its signature is checked elsewhere
+abbrev pub signed_order : List Test
+signed_order = header_order ++ SignatureIsPart ∷ []
+
 abbrev pub insecure_order : List Test
 insecure_order = header_order ++ payload_tests
 

@@ -1,5 +1,7 @@
-//! What signs and what verifies: the provider laws, the calls over any lawful provider, and the built-in HMAC.
+//! What signs and what verifies: the provider laws, the calls over any lawful provider, the built-in HMAC, and a caller's
+//! own verdicts.
 
 pub mod hmac;
+pub mod verdict;
 
 pub use jwt_keys::provider::{CryptoProvider, JwtSigner, JwtVerifier, sign, verify};

@@ -7,6 +7,7 @@ mod decoding;
 mod encoding;
 pub mod jwk;
 pub mod jws;
+mod signed;
 mod usual;
 
 pub use decoding::{TokenData, decode, decode_header, decode_with_set};
@@ -18,3 +19,4 @@ pub use jwt_header::{Enc, Extras, Header, Zip};
 pub use jwt_keys::decoding_key::{DecodingKey, DecodingKeyKind};
 pub use jwt_keys::encoding_key::EncodingKey;
 pub use jwt_validation::{Clock, Validation, get_current_timestamp, validate};
+pub use signed::{SignedPart, decode_by_verdict, signed_part};

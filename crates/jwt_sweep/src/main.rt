@@ -87,6 +87,7 @@ fn try_extras(sweep: &mut Sweep, alloc: Global) -> Result<()> {
 
 fn try_rules(sweep: &mut Sweep, alloc: Global) -> Result<()> {
     rules::validations(sweep, alloc)?;
+    rules::validations_read(sweep, alloc)?;
     rules::set_parties(sweep, alloc)?;
     rules::set_subject(sweep, alloc)?;
     rules::set_names(sweep, alloc)?;
@@ -107,6 +108,8 @@ fn try_tokens(sweep: &mut Sweep, alloc: Global) -> Result<()> {
     tokens::verified_tokens(sweep, alloc)?;
     tokens::keys_and_lists(sweep, alloc)?;
     tokens::tokens_by_sets(sweep, alloc)?;
+    tokens::signed_parts(sweep, alloc)?;
+    tokens::tokens_by_verdict(sweep, alloc)?;
     tokens::unverified_tokens(sweep, alloc)?;
     tokens::issued_tokens(sweep, alloc)?;
     tokens::tokens_in_parts(sweep, alloc)?;

@@ -61,6 +61,22 @@ pub fn validations(sweep: &mut Sweep, alloc: Global) -> Result<()> {
     Ok(())
 }
 
+pub fn validations_read(sweep: &mut Sweep, alloc: Global) -> Result<()> {
+    let mut strict = strict_validation(alloc)?;
+    strict.leeway = 5;
+    let text =
+        b"{\"algorithms\":[\"HS256\"],\"leeway\":5,\"aud\":[\"a\",\"b\"],\"iss\":[\"i\"],\"sub\":\"s\",\"understood_crit\":[\"own\"]}";
+    let value = json_value(alloc, text)?;
+    sweep
+        .of("Validation::from_value", "every kind of member")
+        .same(Validation::from_value(alloc, &value), &strict);
+    let wrong = json_value(alloc, b"{\"aud\":[\"a\"],\"sub\":1}")?;
+    sweep
+        .of("Validation::from_value", "a member of a wrong type")
+        .refused(Validation::from_value(alloc, &wrong), &ErrorKind::Json);
+    Ok(())
+}
+
 const NAMES: [&str; 10] = ["a", "b", "a", "c", "d", "e", "f", "g", "h", "i"];
 
 pub fn set_parties(sweep: &mut Sweep, alloc: Global) -> Result<()> {

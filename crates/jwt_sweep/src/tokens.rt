@@ -2,16 +2,17 @@
 
 use crate::sweep::Sweep;
 use jsonwebtoken::crypto::hmac::HmacProvider;
+use jsonwebtoken::crypto::verdict::VerdictProvider;
 use jsonwebtoken::dangerous::{insecure_decode, insecure_decode_claims};
 use jsonwebtoken::jwk::JwkSet;
 use jsonwebtoken::jws::{self, Jws};
 use jsonwebtoken::{
-    Algorithm, DecodingKey, EncodingKey, Header, TokenData, Validation, decode, decode_header,
-    decode_with_set, encode,
+    Algorithm, DecodingKey, EncodingKey, Header, TokenData, Validation, decode, decode_by_verdict,
+    decode_header, decode_with_set, encode, signed_part,
 };
 use jwt_base::errors::{ErrorKind, Result};
 use jwt_base::json::value_eq;
-use jwt_base::serialization::json_value;
+use jwt_base::serialization::{json_value, part_bytes};
 use serde_json::Value;
 use std::alloc::Global;
 use std::marker::PhantomData;
@@ -172,6 +173,61 @@ pub fn tokens_by_sets(sweep: &mut Sweep, alloc: Global) -> Result<()> {
     sweep
         .of("decode_with_set", "no key id")
         .refused(decoded_by_set(alloc, TOKEN, &set), &ErrorKind::NoKey);
+    Ok(())
+}
+
+/// Whether the header, the message and the signature are those of `TOKEN`.
+fn is_signed_part(alloc: Global, header: &Header) -> Result<bool> {
+    let part = signed_part(alloc, TOKEN.as_bytes())?;
+    let signature = part_bytes(alloc, PARTS[2].as_bytes())?;
+    Ok(part.header == *header && part.message.len() == 105 && part.signature == signature)
+}
+
+pub fn signed_parts(sweep: &mut Sweep, alloc: Global) -> Result<()> {
+    let usual = header_of(alloc, Algorithm::HS256)?;
+    sweep
+        .of("signed_part", "a usual header")
+        .right(is_signed_part(alloc, &usual));
+    for (token, kind) in [
+        ("abc", ErrorKind::InvalidToken),
+        ("e30.e30.", ErrorKind::Json),
+        ("eyJhbGciOiJIUzI1NiJ9.e30.Y", ErrorKind::Base64),
+    ] {
+        sweep
+            .of("signed_part", "a token that fails a test")
+            .refused(signed_part(alloc, token.as_bytes()), &kind);
+    }
+    Ok(())
+}
+
+pub fn tokens_by_verdict(sweep: &mut Sweep, alloc: Global) -> Result<()> {
+    let claims = json_value(alloc, CLAIMS)?;
+    let token = TOKEN.as_bytes();
+    let validation = validation_of(alloc, Algorithm::HS256)?;
+    let signature = part_bytes(alloc, PARTS[2].as_bytes())?;
+    let message = &token[..105];
+    let yes = VerdictProvider::new(Algorithm::HS256, message, signature.as_slice(), true);
+    let no = VerdictProvider::new(Algorithm::HS256, message, signature.as_slice(), false);
+    let other = VerdictProvider::new(Algorithm::RS256, message, signature.as_slice(), true);
+    sweep.of("decode_by_verdict", "yes").right(gives(
+        decode_by_verdict(alloc, token, &yes, &validation, LAST),
+        &claims,
+    ));
+    for (verdict, kind) in [
+        (&no, ErrorKind::InvalidSignature),
+        (&other, ErrorKind::InvalidAlgorithm),
+    ] {
+        let answer: Result<TokenData<Value>> = decode_by_verdict(
+            alloc,
+            token,
+            verdict,
+            &validation,
+            LAST,
+        );
+        sweep
+            .of("decode_by_verdict", "another verdict")
+            .refused(answer, &kind);
+    }
     Ok(())
 }
 

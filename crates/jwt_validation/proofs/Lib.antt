@@ -1,3 +1,4 @@
+pub mod AlgorithmsRead
 pub mod ClaimRuleLemmas
 pub mod NamePlaces
 pub mod TextsAmong

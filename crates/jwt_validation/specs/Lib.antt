@@ -4,4 +4,5 @@ pub mod ClaimsSeen
 pub mod Moments
 pub mod Options
 pub mod OptionsOf
+pub mod OptionsRead
 pub mod equality

@@ -4,6 +4,7 @@
 mod check;
 mod claims;
 mod clock;
+mod read;
 mod rules;
 mod validation;
 

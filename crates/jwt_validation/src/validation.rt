@@ -175,7 +175,7 @@ fn set_of(alloc: Global, texts: &[&str]) -> Result<HashSet<String>>
     Ok(set)
 }
 
-fn insert_text(alloc: Global, set: &mut HashSet<String>, text: &str) -> Result<()>
+pub(crate) fn insert_text(alloc: Global, set: &mut HashSet<String>, text: &str) -> Result<()>
     ensures ok { OnOk result ((t : _) → contains_text set.new t ≡ (bytes_eq text.now t || contains_text set.old t)) }
     ensures err { IfErr result IsMemory }
 {

@@ -4,4 +4,6 @@
 #[cfg(test)]
 mod claim_rules;
 #[cfg(test)]
+mod options_read;
+#[cfg(test)]
 mod validation;

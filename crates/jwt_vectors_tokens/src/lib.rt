@@ -12,6 +12,8 @@ mod token_headers;
 #[cfg(test)]
 mod tokens_by_sets;
 #[cfg(test)]
+mod tokens_by_verdict;
+#[cfg(test)]
 mod tokens_in_parts;
 #[cfg(test)]
 mod unverified_tokens;

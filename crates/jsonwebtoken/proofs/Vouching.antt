@@ -1,0 +1,28 @@
+-- What `decode` accepts with the provider of a verdict is what the verdict vouches for.
+use Rattle.std.proofs.Common.{◌≡◌, ℕ, List, ◌∷◌, refl}
+use Rattle.jwt_base.specs.declared.json.claims.Claims.{Ghosts as ClaimsOf}
+use Rattle.jwt_validation.specs.declared.validation.Validation.{Validation}
+use Rattle.jwt_verdict.specs.Verdict.{Verdict}
+use Rattle.jwt_verdict.specs.VerdictMade.{is_made, made_by_own}
+use Rattle.jsonwebtoken.specs.Tests.{Call, Contents, Passes, decode_order, VerifierIsMade, SignatureIsAccepted, key_of}
+use Rattle.jsonwebtoken.specs.Vouched.{IsVouched, decoding_by_verdict, unasked_order}
+use Rattle.jsonwebtoken.proofs.EachTest.{met, among}
+
+module _ {T : Type 0} (claims : ClaimsOf T) (v : Verdict) (text : List ℕ) (validation : Validation) (now : ℕ) (t : Contents) where
+  abbrev call : Call T
+  call = decoding_by_verdict claims v text validation now
+
+  pub vouched : Passes call decode_order t → IsVouched call v t
+  vouched p =
+      let verified = met call decode_order t p SignatureIsAccepted refl in
+      record {
+        tests = among call unasked_order decode_order t refl p;
+        yes = verified.yes;
+        algorithm = (is_made v t.header.alg (key_of call.keys t.jwk_key) (met call decode_order t p VerifierIsMade refl)).algorithm;
+        message = verified.message;
+        signature = verified.signature;
+      }
+
+  pub passed : IsVouched call v t → Passes call decode_order t
+  passed w = among call decode_order (VerifierIsMade ∷ SignatureIsAccepted ∷ unasked_order) t refl
+      (made_by_own v t.header.alg w.algorithm, (record { yes = w.yes; message = w.message; signature = w.signature }, w.tests))

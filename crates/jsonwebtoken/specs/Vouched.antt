@@ -1,0 +1,44 @@
+-- What is accepted of a token whose signature the caller has checked.
+use Rattle.std.specs.Prelude.{◌≡◌, ℕ, List, [], ◌∷◌, ◌++◌, IsTrue, Result, IfOk, MatchResult}
+use Rattle.jwt_base.specs.Algorithm.{family_of}
+use Rattle.jwt_base.specs.KindOf.{IsMemory}
+use Rattle.jwt_base.specs.declared.errors.Error.{Error}
+use Rattle.jwt_base.specs.declared.json.claims.Claims.{Ghosts as ClaimsOf}
+use Rattle.jwt_keys.specs.Key.{Plain}
+use Rattle.jwt_validation.specs.OptionsOf.{options_of}
+use Rattle.jwt_validation.specs.declared.validation.Validation.{Validation}
+use Rattle.jwt_verdict.specs.Verdict.{Verdict, IsVerified, refusal_by}
+use Rattle.jsonwebtoken.specs.Calls.{Carries}
+use Rattle.jsonwebtoken.specs.Tests.{Call, Compact, Given, Test, HasThreeParts, AlgorithmsAreListed, AlgorithmIsListed, FamiliesAgree, SignatureIsPart, Contents, Passes, opening_tests, claim_tests, message_of, verifying_call}
+use Rattle.jsonwebtoken.specs.declared.decoding.TokenData.{TokenData}
+
+-- the tests of `decode` that ask no provider
+abbrev pub unasked_order : List Test
+unasked_order = HasThreeParts ∷ opening_tests
+    ++ AlgorithmsAreListed ∷ AlgorithmIsListed ∷ FamiliesAgree ∷ SignatureIsPart ∷ claim_tests
+
+-- the call of `decode` with the provider of a verdict and a key of its algorithm's family
+abbrev pub decoding_by_verdict : {T : Type 0} → ClaimsOf T → Verdict → List ℕ → Validation → ℕ → Call T
+decoding_by_verdict claims v text validation now =
+    verifying_call (Compact text) (Given (Plain (family_of v.algorithm) []))
+    (options_of validation) now (refusal_by v) (λ _ _. IsVerified v) claims.reads
+
+-- The tests that ask no provider hold, and the verdict is yes to the token's own message and signature
+-- (RFC 7515 section 5.2), by the algorithm that the header names.
+pub record IsVouched {T : Type 0} (call : Call T) (v : Verdict) (t : Contents) : Type 0 where
+  pub tests : Passes call unasked_order t
+  pub yes : IsTrue v.says_yes
+  pub algorithm : t.header.alg ≡ v.algorithm
+  pub message : message_of t.parts ≡ v.message
+  pub signature : t.signature_bytes ≡ v.signature
+
+module _ {T : Type 0} (call : Call T) (v : Verdict) where
+  -- where it accepts, some contents are vouched for, and are what the answer carries
+  abbrev pub AcceptsVouched : Result (TokenData T) Error → Type 0
+  AcceptsVouched answer =
+      IfOk answer (λ r. (t : Contents) × IsVouched call v t × Carries call t r)
+
+  -- whatever contents are vouched for, the answer carries them, unless memory ran out
+  abbrev pub AcceptsEachVouched : Result (TokenData T) Error → Type 0
+  AcceptsEachVouched answer =
+      (t : Contents) → IsVouched call v t → MatchResult answer (Carries call t) IsMemory

@@ -1,0 +1,3 @@
+//! The provider of a caller's verdict on one signature, which was checked by cryptography elsewhere.
+
+pub use jwt_verdict::{VerdictProvider, VerdictVerifier};

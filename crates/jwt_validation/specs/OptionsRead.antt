@@ -1,0 +1,65 @@
+-- What a JSON object says as the options of a validation.
+use Rattle.std.specs.Prelude.{◌≡◌, ℕ, List, [], ◌∷◌, ◌||◌, Bool, true, false, not, Option, Some, option_map, option_and_then, unwrap_or, codes}
+use Rattle.std.specs.Str.{bytes_eq}
+use Rattle.serde_json.specs.Data.{Data, Items, no_items, item, Members, no_members, member}
+use Rattle.serde_json.specs.Find.{get, as_bool, as_str, as_number, as_u64, as_array, as_object}
+use Rattle.jwt_base.specs.Algorithm.{algorithm_from}
+use Rattle.jwt_base.specs.Members.{optional, is_named, texts}
+use Rattle.jwt_base.specs.declared.algorithms.Algorithm.{Algorithm}
+use Rattle.jwt_validation.specs.Options.{Options, Texts, among, no_texts}
+
+abbrev pub option_names : List (List ℕ)
+option_names = codes "required_spec_claims" ∷ codes "leeway" ∷ codes "reject_tokens_expiring_in_less_than"
+    ∷ codes "validate_exp" ∷ codes "validate_nbf" ∷ codes "validate_aud" ∷ codes "aud" ∷ codes "iss"
+    ∷ codes "sub" ∷ codes "algorithms" ∷ codes "understood_crit" ∷ []
+
+-- whether a member has none of these names
+abbrev pub has_other : List (List ℕ) → Members → Bool
+has_other names no_members = false
+has_other names (member k d ms) = not (is_named names k) || has_other names ms
+
+-- it is an object, and each of its members is an option
+abbrev pub HasOptionNames : Data → Type 0
+HasOptionNames d = option_map (has_other option_names) (as_object d) ≡ Some false
+
+-- a whole number from 0 to 2^64 - 1
+abbrev pub as_whole : Data → Option ℕ
+as_whole d = option_and_then as_u64 (as_number d)
+
+-- an optional member: where it is absent or null, the default
+abbrev pub or_default : {A : Type 0} → A → (Data → Option A) → Option Data → Option A
+or_default a reader d = option_map (λ o. unwrap_or o a) (optional reader d)
+
+-- the set of the texts of a list
+abbrev pub text_set : Data → Option Texts
+text_set d = option_map (among (λ s. s)) (texts d)
+
+-- the algorithms that a list names, each by its name and nothing else (RFC 7518 section 3.1, RFC 8037 section 3.1)
+abbrev pub item_algorithms : Items → Option (List Algorithm)
+item_algorithms no_items = Some []
+item_algorithms (item d ds) =
+    option_and_then (λ a. option_map (λ rest. a ∷ rest) (item_algorithms ds)) (algorithm_from d)
+
+abbrev pub algorithms_in : Data → Option (List Algorithm)
+algorithms_in d = option_and_then item_algorithms (as_array d)
+
+-- the times in seconds, and which claims are checked
+pub record ReadsTimes (d : Data) (leeway reject : ℕ) (checks_exp checks_nbf checks_aud : Bool) : Type 0 where
+  pub at_leeway : or_default 60 as_whole (get (codes "leeway") d) ≡ Some leeway
+  pub at_reject :
+      or_default 0 as_whole (get (codes "reject_tokens_expiring_in_less_than") d) ≡ Some reject
+  pub at_exp : or_default true as_bool (get (codes "validate_exp") d) ≡ Some checks_exp
+  pub at_nbf : or_default false as_bool (get (codes "validate_nbf") d) ≡ Some checks_nbf
+  pub at_aud : or_default true as_bool (get (codes "validate_aud") d) ≡ Some checks_aud
+
+-- each option by its name, absent ones by the values of `Validation::new` and no algorithm, and no other member
+pub record ReadsOptions (d : Data) (o : Options) : Type 0 where
+  pub names : HasOptionNames d
+  pub times : ReadsTimes d o.leeway o.reject o.checks_exp o.checks_nbf o.checks_aud
+  pub required : or_default (bytes_eq (codes "exp")) text_set (get (codes "required_spec_claims") d)
+      ≡ Some o.required
+  pub aud : optional text_set (get (codes "aud") d) ≡ Some o.aud
+  pub iss : optional text_set (get (codes "iss") d) ≡ Some o.iss
+  pub sub : optional as_str (get (codes "sub") d) ≡ Some o.sub
+  pub algorithms : or_default [] algorithms_in (get (codes "algorithms") d) ≡ Some o.algorithms
+  pub understood : or_default no_texts text_set (get (codes "understood_crit") d) ≡ Some o.understood
