@@ -1,5 +1,5 @@
 -- What `decode` accepts with the provider of a verdict is what the verdict vouches for.
-use Rattle.std.proofs.Common.{◌≡◌, ℕ, List, ◌∷◌, refl}
+use Rattle.std.proofs.Common.{ℕ, List, ◌∷◌, refl}
 use Rattle.jwt_base.specs.declared.json.claims.Claims.{Ghosts as ClaimsOf}
 use Rattle.jwt_validation.specs.declared.validation.Validation.{Validation}
 use Rattle.jwt_verdict.specs.Verdict.{Verdict}

@@ -1,0 +1,161 @@
+-- What the calls for C answer.
+use Rattle.std.specs.Prelude.{◌≡◌, ◌⊎◌, ◌≤◌, ℕ, List, [], Bool, false, length, Option, Some, None, Result, Ok, Err}
+use Rattle.json.specs.Lex.{tokens}
+use Rattle.json.specs.Print.{print}
+use Rattle.serde_json.specs.Data.{Data, depth}
+use Rattle.serde_json.specs.Read.{max_depth}
+use Rattle.serde_json.specs.View.{view}
+use Rattle.serde_json.specs.Written.{has_float, compact_text, IsInOrder}
+use Rattle.serde_json.specs.declared.value.Value.{Value}
+use Rattle.jwt_base.specs.Algorithm.{family_of}
+use Rattle.jwt_base.specs.JsonText.{IsJson}
+use Rattle.jwt_base.specs.Kind.{Kind}
+use Rattle.jwt_base.specs.Kind as kind
+use Rattle.jwt_base.specs.KindOf.{kind_of}
+use Rattle.jwt_base.specs.declared.algorithms.Algorithm.{Algorithm}
+use Rattle.jwt_base.specs.declared.algorithms.AlgorithmFamily.TheVariants.{Hmac}
+use Rattle.jwt_base.specs.declared.errors.Error.{Error}
+use Rattle.jwt_hmac.specs.HmacKeys.{HmacAccepts, hash_for, refusal}
+use Rattle.jwt_header.specs.Header.{header_value}
+use Rattle.jwt_keys.specs.Key.{Plain, key_family}
+use Rattle.jwt_validation.specs.Options.{Options}
+use Rattle.jwt_validation.specs.OptionsRead.{ReadsOptions}
+use Rattle.jwt_verdict.specs.Verdict.{Verdict, IsVerified, refusal_by}
+use Rattle.jsonwebtoken.specs.Tests.{Call, Compact, Contents, Given, Passes, FirstFailed, decode_order, header_order, signed_order, header_call, message_of, verifying_call}
+use Rattle.jsonwebtoken.specs.Vouched.{IsVouched}
+use Rattle.jwt_c.specs.Status.{number, bad_options, algorithm_numbered, IsGiven, IsKept}
+use Rattle.jwt_c.specs.declared.answers.Refusal.{Refusal}
+use Rattle.jwt_c.specs.declared.answers.Refusal.TheVariants as refused
+
+-- ---- answers
+
+-- what a call has to say
+pub data Answer : Type 0 where
+  -- these bytes
+  Gives : List ℕ → Answer
+  -- the token is refused
+  Refuses : Kind → Answer
+  -- the options are none
+  RefusesOptions : Answer
+
+-- what is left of it in status, length and room
+abbrev pub Leaves : Answer → ℕ → ℕ → List ℕ → List ℕ → Type 0
+Leaves (Gives bytes) = IsGiven bytes
+Leaves (Refuses k) = IsKept (number k)
+Leaves RefusesOptions = IsKept bad_options
+
+-- ---- texts
+
+-- The text is JSON of the value, without space, with its members in the order of their names (RFC 8259). What it has for
+-- a float reads back as that.
+pub record IsTextOf (text : List ℕ) (value : Data) : Type 0 where
+  pub json : IsJson text value
+  pub compact : text ≡ print (tokens text)
+  pub order : IsInOrder text value
+  pub exact : has_float value ≡ false → text ≡ compact_text value
+
+-- the text is JSON of an object of options
+abbrev pub ReadsOptionsText : List ℕ → Options → Type 0
+ReadsOptionsText text options = (value : Data) × IsJson text value × ReadsOptions value options
+
+-- ---- claims
+
+-- `decode` by HMAC with the secret
+abbrev pub hmac_call : List ℕ → List ℕ → ℕ → Options → Call Value
+hmac_call token secret now options =
+    verifying_call (Compact token) (Given (Plain Hmac secret)) options now
+    (λ a key. refusal (hash_for a) (key_family key)) HmacAccepts (λ value claims. view claims ≡ value)
+
+-- `decode` with a verdict
+abbrev pub verdict_call : List ℕ → Verdict → ℕ → Options → Call Value
+verdict_call token v now options =
+    verifying_call (Compact token) (Given (Plain (family_of v.algorithm) [])) options now
+    (refusal_by v) (λ _ _. IsVerified v) (λ value claims. view claims ≡ value)
+
+-- With the options that the text is of: the claims of a token that is accepted; or the kind with which it is refused, or
+-- memory ran out; or the text is of no options.
+abbrev pub AnswersWhere : List ℕ → (Options → Contents → Type 0) → (Options → Kind → Type 0)
+    → Answer → Type 0
+AnswersWhere text Accepted Refused (Gives claims) = (o : Options) × ReadsOptionsText text o
+    × ((t : Contents) × Accepted o t × IsTextOf claims t.payload_value)
+AnswersWhere text Accepted Refused (Refuses k) = (k ≡ kind.OutOfMemory)
+    ⊎ ((o : Options) × ReadsOptionsText text o × Refused o k)
+AnswersWhere text Accepted Refused RefusesOptions = (o : Options) → ¬ ReadsOptionsText text o
+
+-- accepted is what passes every test of `decode`; a refusal has the kind of the first that fails (RFC 7519 section 7.2)
+abbrev pub AnswersHmac : List ℕ → List ℕ → List ℕ → ℕ → Answer → Type 0
+AnswersHmac text token secret now = AnswersWhere text
+    (λ o. Passes (hmac_call token secret now o) decode_order)
+    (λ o. FirstFailed (hmac_call token secret now o) decode_order)
+
+-- accepted is what the verdict vouches for; a refusal has the kind of the first test of `decode` that fails
+abbrev pub AnswersVerdict : List ℕ → List ℕ → Verdict → ℕ → Answer → Type 0
+AnswersVerdict text token v now = AnswersWhere text
+    (λ o. IsVouched (verdict_call token v now o) v)
+    (λ o. FirstFailed (verdict_call token v now o) decode_order)
+
+-- a caller's verdict, by the algorithm that is named by its number
+pub record Said : Type 0 where
+  pub message : List ℕ
+  pub signature : List ℕ
+  pub says_yes : Bool
+
+abbrev pub verdict_by : Said → Algorithm → Verdict
+verdict_by s a = record { algorithm = a; message = s.message; signature = s.signature; says_yes = s.says_yes }
+
+-- a number of no algorithm is refused, before the options are looked at
+abbrev pub AnswersSaid : Option Algorithm → List ℕ → List ℕ → Said → ℕ → Answer → Type 0
+AnswersSaid None text token s now a = a ≡ Refuses kind.InvalidAlgorithmName
+AnswersSaid (Some algorithm) text token s now a =
+    AnswersVerdict text token (verdict_by s algorithm) now a
+
+-- ---- the header and what is signed
+
+-- the compact JSON text of the header of a token (RFC 7515 section 4)
+abbrev pub IsHeaderText : List ℕ → List ℕ → Type 0
+IsHeaderText token text = (t : Contents) × Passes (header_call token) header_order t
+    × ((value : Data) × (header_value t.header ≡ Some value) × (text ≡ compact_text value))
+
+-- the header's text; or the kind of the first failed test, or memory ran out
+abbrev pub AnswersHeader : List ℕ → Answer → Type 0
+AnswersHeader token (Gives text) = IsHeaderText token text
+AnswersHeader token (Refuses k) =
+    (k ≡ kind.OutOfMemory) ⊎ FirstFailed (header_call token) header_order k
+AnswersHeader token RefusesOptions = ⊥
+
+-- what is left of what is signed: the header's algorithm, the length of the message, which is the front of the token,
+-- and the signature's bytes in the room (RFC 7515 section 5.1); or of a refusal
+abbrev pub LeavesSigned : List ℕ → ℕ → ℕ → ℕ → ℕ → List ℕ → List ℕ → Type 0
+LeavesSigned token algorithm message_len status len before after =
+    ((t : Contents) × Passes (header_call token) signed_order t
+    × (algorithm_numbered algorithm ≡ Some t.header.alg)
+    × (message_len ≡ length (message_of t.parts))
+    × IsGiven t.signature_bytes status len before after)
+    ⊎ ((k : Kind)
+    × ((k ≡ kind.OutOfMemory) ⊎ FirstFailed (header_call token) signed_order k)
+    × (algorithm ≡ 0) × (message_len ≡ 0) × IsKept (number k) status len before after)
+
+-- ---- for private clauses
+
+-- the answer that a refusal is, and its status
+abbrev pub answer_of : Refusal → Answer
+answer_of refused.Options = RefusesOptions
+answer_of (refused.Token e) = Refuses (kind_of e)
+
+abbrev pub refusal_status : Refusal → ℕ
+refusal_status refused.Options = bad_options
+refusal_status (refused.Token e) = number (kind_of e)
+
+-- memory ran out, or the text is of no options
+abbrev pub IsOptionsFault : List ℕ → Refusal → Type 0
+IsOptionsFault text refused.Options = (o : Options) → ¬ ReadsOptionsText text o
+IsOptionsFault text (refused.Token e) = kind_of e ≡ kind.OutOfMemory
+
+-- the claims are handed out as their text, unless memory ran out, and a refusal as it is
+abbrev pub HandsOut : {D V : Type 0} → (D → Value) → (V → List ℕ)
+    → Result D Error → Result V Refusal → Type 0
+HandsOut claims items (Ok d) (Ok b) =
+    depth (view (claims d)) ≤ max_depth → IsTextOf (items b) (view (claims d))
+HandsOut claims items (Ok d) (Err r) = answer_of r ≡ Refuses kind.OutOfMemory
+HandsOut claims items (Err e) (Ok b) = ⊥
+HandsOut claims items (Err e) (Err r) = answer_of r ≡ Refuses (kind_of e)

@@ -1,0 +1,166 @@
+//! What the calls for C answer, before it is put in the caller's room.
+
+ghost use Rattle.std.specs.Prelude.{◌≡◌, ◌⊎◌, Some, false, IfOk, IfErr};
+ghost use Rattle.serde_json.specs.View.{view};
+ghost use Rattle.serde_json.specs.Written.{has_float};
+ghost use Rattle.jwt_base.specs.Kind as kind;
+ghost use Rattle.jwt_base.specs.KindOf.{kind_of, IsMemory};
+ghost use Rattle.jwt_header.specs.Header.{header_value};
+ghost use Rattle.jwt_validation.specs.OptionsOf.{options_of};
+ghost use Rattle.jsonwebtoken.specs.Tests.{Contents, Passes, FirstFailed, header_order, header_call};
+ghost use Rattle.jwt_c.specs.Calls.{Gives, AnswersHmac, AnswersVerdict, AnswersSaid, AnswersHeader, HandsOut, IsHeaderText, IsOptionsFault, ReadsOptionsText, answer_of};
+ghost use Rattle.jwt_c.specs.Status.{algorithm_numbered};
+
+use crate::status::numbered_algorithm;
+use jsonwebtoken::crypto::hmac::HmacProvider;
+use jsonwebtoken::crypto::verdict::VerdictProvider;
+use jsonwebtoken::errors::{Error, ErrorKind, new_error};
+use jsonwebtoken::{DecodingKey, TokenData, Validation, decode, decode_by_verdict, decode_header};
+use jwt_base::serialization::json_value;
+use serde_json::Value;
+use std::alloc::{AllocError, Global};
+use std::result::Result;
+
+/// Why a call gives nothing.
+#[derive(Drop)]
+pub(crate) enum Refusal {
+    Options,
+    Token(Error),
+}
+
+impl From<Error> for Refusal {
+    ghost use Rattle.jwt_c.specs.Calls.{Refuses, answer_of};
+
+    ghost from_gives = { λ e r. answer_of r ≡ Refuses (kind_of e) };
+
+    fn from(refused: Error) -> Refusal {
+        Refusal::Token(refused)
+    }
+}
+
+impl From<AllocError> for Refusal {
+    ghost use Rattle.jwt_c.specs.Calls.{Refuses, answer_of};
+
+    ghost from_gives = { λ _ r. answer_of r ≡ Refuses kind.OutOfMemory };
+
+    fn from(refused: AllocError) -> Refusal {
+        Refusal::Token(Error::from(refused))
+    }
+}
+
+fn read_options(alloc: Global, text: &[u8]) -> Result<Validation, Error>
+    ensures ok { IfOk result (λ v. ReadsOptionsText text.now (options_of v)) }
+    ensures err { IfErr result (λ e. IsMemory e ⊎ ((o : _) → ¬ ReadsOptionsText text.now o)) }
+{
+    let value = json_value(alloc, text)?;
+    let options = Validation::from_value(alloc, &value)?;
+    Ok(options)
+}
+
+fn options_in(alloc: Global, text: &[u8]) -> Result<Validation, Refusal>
+    ensures ok { IfOk result (λ v. ReadsOptionsText text.now (options_of v)) }
+    ensures err { IfErr result (IsOptionsFault text.now) }
+{
+    match read_options(alloc, text) {
+        Ok(validation) => Ok(validation),
+        Err(refused) => {
+            if *refused.kind() == ErrorKind::OutOfMemory {
+                Err(Refusal::Token(refused))
+            } else {
+                Err(Refusal::Options)
+            }
+        }
+    }
+}
+
+// The claims as their text, or the refusal.
+fn hand_out(alloc: Global, answer: Result<TokenData<Value>, Error>) -> Result<Vec<u8>, Refusal>
+    ensures { HandsOut (λ d. d.claims) (λ b. b.items) answer result }
+{
+    match answer {
+        Ok(data) => match data.claims.to_vec(alloc) {
+            Ok(text) => Ok(text),
+            Err(refused) => Err(Refusal::from(refused)),
+        },
+        Err(refused) => Err(Refusal::from(refused)),
+    }
+}
+
+/// The claims of a token that is verified with a secret, by HMAC.
+pub(crate) fn hmac_answer(
+    alloc: Global,
+    token: &[u8],
+    secret: &[u8],
+    options: &[u8],
+    now: u64,
+) -> Result<Vec<u8>, Refusal>
+    ensures ok { IfOk result (λ b. AnswersHmac options.now token.now secret.now now (Gives b.items)) }
+    ensures err { IfErr result (λ r. AnswersHmac options.now token.now secret.now now (answer_of r)) }
+{
+    let validation = options_in(alloc, options)?;
+    let key = DecodingKey::from_secret(alloc, secret)?;
+    let answer = decode(alloc, &HmacProvider, token, &key, &validation, now);
+    hand_out(alloc, answer)
+}
+
+fn verdict_answer(
+    alloc: Global,
+    token: &[u8],
+    verdict: &VerdictProvider<'_>,
+    options: &[u8],
+    now: u64,
+) -> Result<Vec<u8>, Refusal>
+    ensures ok { IfOk result (λ b. AnswersVerdict options.now token.now verdict.now now (Gives b.items)) }
+    ensures err { IfErr result (λ r. AnswersVerdict options.now token.now verdict.now now (answer_of r)) }
+{
+    let validation = options_in(alloc, options)?;
+    let answer = decode_by_verdict(alloc, token, verdict, &validation, now);
+    hand_out(alloc, answer)
+}
+
+/// The claims of a token whose signature the caller has checked, by the algorithm of this number.
+pub(crate) fn said_answer(
+    alloc: Global,
+    token: &[u8],
+    algorithm: u32,
+    message: &[u8],
+    signature: &[u8],
+    verdict: bool,
+    options: &[u8],
+    now: u64,
+) -> Result<Vec<u8>, Refusal>
+    ensures ok { IfOk result (λ b. AnswersSaid (algorithm_numbered algorithm) options.now token.now
+        (record { message = message.now; signature = signature.now; says_yes = verdict }) now
+        (Gives b.items)) }
+    ensures err { IfErr result (λ r. AnswersSaid (algorithm_numbered algorithm) options.now token.now
+        (record { message = message.now; signature = signature.now; says_yes = verdict }) now
+        (answer_of r)) }
+{
+    match numbered_algorithm(algorithm) {
+        Some(by) => {
+            let said = VerdictProvider::new(by, message, signature, verdict);
+            verdict_answer(alloc, token, &said, options, now)
+        }
+        None => Err(Refusal::Token(new_error(ErrorKind::InvalidAlgorithmName))),
+    }
+}
+
+fn header_of(alloc: Global, token: &[u8]) -> Result<Value, Error>
+    ensures ok { IfOk result (λ v. (t : Contents) × Passes (header_call token.now) header_order t
+        × (header_value t.header ≡ Some (view v))) }
+    ensures no_float { IfOk result (λ v. has_float (view v) ≡ false) }
+    ensures err { IfErr result (λ e. IsMemory e ⊎ FirstFailed (header_call token.now) header_order (kind_of e)) }
+{
+    let header = decode_header(alloc, token)?;
+    header.to_value(alloc)
+}
+
+/// The header of a token, which is not verified, as its text.
+pub(crate) fn header_answer(alloc: Global, token: &[u8]) -> Result<Vec<u8>, Refusal>
+    ensures ok { IfOk result (λ b. AnswersHeader token.now (Gives b.items)) }
+    ensures err { IfErr result (λ r. AnswersHeader token.now (answer_of r)) }
+{
+    let value = header_of(alloc, token)?;
+    let text = value.to_vec(alloc)?;
+    Ok(text)
+}

@@ -1,0 +1,434 @@
+/* Tests of the calls for C, from C. The last line counts. Tokens signed by HMAC are worked examples, or were signed by
+   Python's hmac; the others are made here and accepted by a verdict. */
+#include "jwt.h"
+#include <malloc.h>
+#include <pthread.h>
+#include <stdio.h>
+#include <stdlib.h>
+#include <string.h>
+
+#define TOKEN                                                                                                          \
+    "eyJhbGciOiJIUzI1NiIsInR5cCI6IkpXVCJ9.eyJzdWIiOiJiQGIuY29tIiwiY29tcGFueSI6IkFDTUUiLCJleHAiOjI1MzI1MjQ4OTF9"       \
+    ".9r56oF7ZliOBlOAyiOFperTGxBtPykRQiWNFxhDCW98"
+#define CLAIMS "{\"company\":\"ACME\",\"exp\":2532524891,\"sub\":\"b@b.com\"}"
+#define OPTIONS "{\"algorithms\":[\"HS256\"]}"
+/* the last moment at which the claims are accepted */
+#define LAST 2532524951u
+
+#define BYTES(text) (const uint8_t *)(text), strlen(text)
+#define ROOM 4096
+
+static int passed, failed;
+
+static void is(const char *what, long got, long wanted) {
+    if (got == wanted) {
+        passed++;
+    } else {
+        failed++;
+        printf("FAILED: %s: %ld, not %ld\n", what, got, wanted);
+    }
+}
+
+/* ---- memory: requests are counted, and one of them refused */
+
+void *__real_malloc(size_t size);
+void *__real_calloc(size_t count, size_t size);
+void *__real_realloc(void *block, size_t size);
+void *__real_aligned_alloc(size_t align, size_t size);
+static __thread long requests, refused_one;
+
+static bool refuses(void) { return ++requests == refused_one; }
+void *__wrap_malloc(size_t size) { return refuses() ? NULL : __real_malloc(size); }
+void *__wrap_calloc(size_t count, size_t size) { return refuses() ? NULL : __real_calloc(count, size); }
+void *__wrap_realloc(void *block, size_t size) { return refuses() ? NULL : __real_realloc(block, size); }
+void *__wrap_aligned_alloc(size_t align, size_t size) { return refuses() ? NULL : __real_aligned_alloc(align, size); }
+
+/* ---- rooms: what was there before, and whether the bytes behind an answer are as they were */
+
+struct answer {
+    uint32_t status;
+    size_t len;
+    uint8_t room[ROOM + 16];
+};
+
+static struct answer fresh(void) {
+    struct answer a;
+    memset(&a, 'x', sizeof a);
+    return a;
+}
+
+static bool is_kept(const struct answer *a, size_t from) {
+    for (size_t i = from; i < sizeof a->room; i++)
+        if (a->room[i] != 'x') return false;
+    return true;
+}
+
+/* the status; a refusal has no length and leaves the room, an answer leaves what is behind it */
+static long status_of(const struct answer *a) {
+    size_t given = a->status == JWT_OK ? a->len : 0;
+    if (a->status != JWT_OK && a->status != JWT_NO_ROOM && a->len != 0) return -1;
+    return is_kept(a, given) ? (long)a->status : -2;
+}
+
+static long gives(const struct answer *a, const char *text) {
+    return status_of(a) == JWT_OK && a->len == strlen(text) && memcmp(a->room, text, a->len) == 0;
+}
+
+static struct answer hmac_in(const char *token, const char *secret, const char *options, uint64_t now, size_t room) {
+    struct answer a = fresh();
+    a.status = jwt_decode_hmac(BYTES(token), BYTES(secret), BYTES(options), now, a.room, room, &a.len);
+    return a;
+}
+
+static long hmac(const char *token, const char *secret, const char *options, uint64_t now) {
+    struct answer a = hmac_in(token, secret, options, now, ROOM);
+    return status_of(&a);
+}
+
+/* ---- tokens that a verdict accepts */
+
+static size_t encode(const char *text, char *part) {
+    static const char symbols[] = "ABCDEFGHIJKLMNOPQRSTUVWXYZabcdefghijklmnopqrstuvwxyz0123456789-_";
+    size_t len = strlen(text), at = 0;
+    for (size_t i = 0; i < len; i += 3) {
+        size_t left = len - i;
+        unsigned group = (uint8_t)text[i] << 16;
+        if (left > 1) group |= (uint8_t)text[i + 1] << 8;
+        if (left > 2) group |= (uint8_t)text[i + 2];
+        for (size_t k = 0; k < (left > 2 ? 4 : left + 1); k++) part[at++] = symbols[group >> (18 - 6 * k) & 63];
+    }
+    part[at] = 0;
+    return at;
+}
+
+static char made[8192];
+
+/* the token of a header and claims, with the signature `s` */
+static const char *token_of(const char *header, const char *claims) {
+    size_t at = encode(header, made);
+    made[at++] = '.';
+    at += encode(claims, made + at);
+    strcpy(made + at, ".cw");
+    return made;
+}
+
+static struct answer verdict_on(const char *token, uint32_t algorithm, bool verdict, const char *options, uint64_t now) {
+    struct answer a = fresh();
+    const char *dot = strrchr(token, '.');
+    size_t message = dot ? (size_t)(dot - token) : 0;
+    a.status = jwt_decode_verdict(BYTES(token), algorithm, (const uint8_t *)token, message, BYTES("s"), verdict,
+                                  BYTES(options), now, a.room, ROOM, &a.len);
+    return a;
+}
+
+#define ES256 "{\"alg\":\"ES256\"}"
+#define ES256_LISTED "{\"algorithms\":[\"ES256\"]"
+
+/* the status for claims under ES256, at the moment 1000 */
+static long claims(const char *text, const char *options) {
+    struct answer a = verdict_on(token_of(ES256, text), JWT_ES256, true, options, 1000);
+    return status_of(&a);
+}
+
+/* ---- the tests */
+
+static void accepted(void) {
+    struct answer a = hmac_in(TOKEN, "secret", OPTIONS, LAST, ROOM);
+    is("claims are given", gives(&a, CLAIMS), 1);
+    is("after the last moment", hmac(TOKEN, "secret", OPTIONS, LAST + 1), JWT_EXPIRED_SIGNATURE);
+    is("another secret", hmac(TOKEN, "Secret", OPTIONS, LAST), JWT_INVALID_SIGNATURE);
+    is("an empty secret", hmac(TOKEN, "", OPTIONS, LAST), JWT_INVALID_SIGNATURE);
+    is("signed with an empty secret",
+       hmac("eyJhbGciOiJIUzI1NiJ9.eyJleHAiOjF9.VKicOCCIc7GH9_2Xn_TAWzILcLOwxC8r9TbwU8bVlzc", "", OPTIONS, 61), JWT_OK);
+    is("a secret by a null pointer",
+       jwt_decode_hmac(BYTES(TOKEN), NULL, 0, BYTES(OPTIONS), LAST, a.room, ROOM, &a.len), JWT_INVALID_SIGNATURE);
+}
+
+static void rooms(void) {
+    size_t needed = strlen(CLAIMS);
+    for (size_t room = 0; room <= needed + 9; room++) {
+        struct answer a = hmac_in(TOKEN, "secret", OPTIONS, LAST, room);
+        is("a room's status", a.status, room < needed ? JWT_NO_ROOM : JWT_OK);
+        is("the length that is needed", a.len, needed);
+        is("bytes behind the answer", is_kept(&a, room < needed ? 0 : needed), 1);
+    }
+    size_t len = 7;
+    is("no room", jwt_decode_hmac(BYTES(TOKEN), BYTES("secret"), BYTES(OPTIONS), LAST, NULL, 0, &len), JWT_NO_ROOM);
+    is("the length of no room", len, needed);
+}
+
+static void options(void) {
+    static const char *const refused[] = {
+        "", "{", "null", "[]", "\"HS256\"", "{\"algorithms\":\"HS256\"}", "{\"algorithms\":[\"HS257\"]}",
+        "{\"algorithms\":[\"HS256\"],\"leeways\":1}", "{\"algorithms\":[\"HS256\"],\"leeway\":-1}",
+        "{\"algorithms\":[\"HS256\"],\"leeway\":1.5}", "{\"algorithms\":[\"HS256\"],\"aud\":\"a\"}",
+        "{\"algorithms\":[\"HS256\"]} x", "\xff",
+    };
+    for (size_t i = 0; i < sizeof refused / sizeof *refused; i++)
+        is(refused[i], hmac(TOKEN, "secret", refused[i], LAST), JWT_BAD_OPTIONS);
+    is("options before the token", hmac("a", "secret", "{", LAST), JWT_BAD_OPTIONS);
+    is("no algorithm", hmac(TOKEN, "secret", "{}", LAST), JWT_MISSING_ALGORITHM);
+    is("another algorithm", hmac(TOKEN, "secret", "{\"algorithms\":[\"HS384\"]}", LAST), JWT_INVALID_ALGORITHM);
+    is("every option",
+       hmac(TOKEN, "secret",
+            "{\"algorithms\":[\"HS256\",\"HS384\"],\"required_spec_claims\":[\"exp\",\"sub\"],\"leeway\":0,"
+            "\"reject_tokens_expiring_in_less_than\":10,\"validate_exp\":true,\"validate_nbf\":true,"
+            "\"validate_aud\":true,\"aud\":null,\"iss\":[\"i\"],\"sub\":\"b@b.com\",\"understood_crit\":[]}",
+            LAST - 70),
+       JWT_OK);
+    struct answer a = fresh();
+    a.status = jwt_decode_hmac(BYTES(TOKEN), BYTES("secret"), NULL, 0, LAST, a.room, ROOM, &a.len);
+    is("options by a null pointer", status_of(&a), JWT_BAD_OPTIONS);
+}
+
+static void kinds_of_tokens(void) {
+    is("an empty token", hmac("", "secret", OPTIONS, LAST), JWT_INVALID_TOKEN);
+    is("one dot", hmac("e30.e30", "secret", OPTIONS, LAST), JWT_INVALID_TOKEN);
+    is("padding", hmac("e30=.e30.", "secret", OPTIONS, LAST), JWT_BASE64);
+    is("no JSON", hmac("_w.e30.", "secret", OPTIONS, LAST), JWT_JSON);
+    is("no header", hmac("e30.e30.", "secret", OPTIONS, LAST), JWT_JSON);
+    is("crit", hmac(token_of("{\"alg\":\"HS256\",\"crit\":[\"x\"],\"x\":1}", "{}"), "secret", OPTIONS, LAST),
+       JWT_INVALID_CRIT);
+    is("by a curve", hmac(token_of(ES256, "{}"), "secret", "{\"algorithms\":[\"ES256\"]}", LAST),
+       JWT_UNSUPPORTED_ALGORITHM);
+    struct answer a = fresh();
+    a.status = jwt_decode_hmac(NULL, 0, BYTES("secret"), BYTES(OPTIONS), LAST, a.room, ROOM, &a.len);
+    is("a token by a null pointer", status_of(&a), JWT_INVALID_TOKEN);
+}
+
+static void kinds_of_claims(void) {
+    is("within its time", claims("{\"exp\":940}", ES256_LISTED "}"), JWT_OK);
+    is("after its time", claims("{\"exp\":939}", ES256_LISTED "}"), JWT_EXPIRED_SIGNATURE);
+    is("before its time", claims("{\"exp\":940,\"nbf\":1061}", ES256_LISTED ",\"validate_nbf\":true}"),
+       JWT_IMMATURE_SIGNATURE);
+    is("too late to begin with", claims("{\"exp\":5}", ES256_LISTED ",\"reject_tokens_expiring_in_less_than\":6}"),
+       JWT_INVALID_TOKEN);
+    is("another issuer", claims("{\"exp\":940,\"iss\":\"j\"}", ES256_LISTED ",\"iss\":[\"i\"]}"), JWT_INVALID_ISSUER);
+    is("another audience", claims("{\"exp\":940,\"aud\":[\"b\"]}", ES256_LISTED ",\"aud\":[\"a\"]}"),
+       JWT_INVALID_AUDIENCE);
+    is("an audience that nobody set", claims("{\"exp\":940,\"aud\":\"a\"}", ES256_LISTED "}"), JWT_INVALID_AUDIENCE);
+    is("another subject", claims("{\"exp\":940,\"sub\":\"t\"}", ES256_LISTED ",\"sub\":\"s\"}"), JWT_INVALID_SUBJECT);
+    is("claims that are no object", claims("[]", ES256_LISTED "}"), JWT_JSON);
+    is("claims that are no JSON", claims("", ES256_LISTED "}"), JWT_JSON);
+}
+
+static void kinds_with_a_claim(void) {
+    static const char *const names[] = {"exp", "nbf", "aud", "iss", "sub"};
+    for (uint32_t i = 0; i < 5; i++) {
+        char asked[200], given[100], text[100];
+        struct answer a = fresh();
+        snprintf(asked, sizeof asked, ES256_LISTED ",\"required_spec_claims\":[\"%s\"]}", names[i]);
+        is("a missing claim", claims("{}", asked), JWT_MISSING_EXP + i);
+        a.status = jwt_status_text(JWT_MISSING_EXP + i, a.room, ROOM, &a.len);
+        snprintf(text, sizeof text, "Missing required claim: %s", names[i]);
+        is(text, gives(&a, text), 1);
+        snprintf(asked, sizeof asked,
+                 ES256_LISTED ",\"required_spec_claims\":[],\"validate_nbf\":true,\"iss\":[\"i\"],\"sub\":\"s\"}");
+        snprintf(given, sizeof given, "{\"%s\":true}", names[i]);
+        is("a malformed claim", claims(given, asked), JWT_MALFORMED_EXP + i);
+        a = fresh();
+        a.status = jwt_status_text(JWT_MALFORMED_EXP + i, a.room, ROOM, &a.len);
+        snprintf(text, sizeof text, "Invalid format for claim: %s", names[i]);
+        is(text, gives(&a, text), 1);
+    }
+}
+
+static void verdicts(void) {
+    const char *token = token_of(ES256, "{\"exp\":940}");
+    struct answer a = verdict_on(token, JWT_ES256, true, ES256_LISTED "}", 1000);
+    is("a yes", gives(&a, "{\"exp\":940}"), 1);
+    a = verdict_on(token, JWT_ES256, false, ES256_LISTED "}", 1000);
+    is("a no", status_of(&a), JWT_INVALID_SIGNATURE);
+    a = verdict_on(token, JWT_RS256, true, ES256_LISTED "}", 1000);
+    is("a yes by another algorithm", status_of(&a), JWT_INVALID_ALGORITHM);
+    for (uint32_t number = 0; number < 20; number += 13) {
+        a = verdict_on(token, number, true, "", 1000);
+        is("a number of no algorithm", status_of(&a), JWT_INVALID_ALGORITHM_NAME);
+    }
+    a = verdict_on(token, UINT32_MAX, true, ES256_LISTED "}", 1000);
+    is("the greatest number", status_of(&a), JWT_INVALID_ALGORITHM_NAME);
+    size_t message = strlen(token) - 3;
+    a = fresh();
+    a.status = jwt_decode_verdict(BYTES(token), JWT_ES256, (const uint8_t *)token, message - 1, BYTES("s"), true,
+                                  BYTES(ES256_LISTED "}"), 1000, a.room, ROOM, &a.len);
+    is("a yes to another message", status_of(&a), JWT_INVALID_SIGNATURE);
+    a = fresh();
+    a.status = jwt_decode_verdict(BYTES(token), JWT_ES256, (const uint8_t *)token, message, BYTES("t"), true,
+                                  BYTES(ES256_LISTED "}"), 1000, a.room, ROOM, &a.len);
+    is("a yes to another signature", status_of(&a), JWT_INVALID_SIGNATURE);
+    a = fresh();
+    a.status = jwt_decode_verdict(BYTES(token), JWT_ES256, NULL, 0, NULL, 0, true, BYTES(ES256_LISTED "}"), 1000,
+                                  a.room, ROOM, &a.len);
+    is("a yes to nothing", status_of(&a), JWT_INVALID_SIGNATURE);
+}
+
+static void signed_parts(void) {
+    static const char *const names[] = {"HS256", "HS384", "HS512", "RS256", "RS384", "RS512",
+                                        "PS256", "PS384", "PS512", "ES256", "ES384", "EdDSA"};
+    uint32_t algorithm;
+    size_t message;
+    struct answer a;
+    for (uint32_t i = 0; i < 12; i++) {
+        char header[40];
+        snprintf(header, sizeof header, "{\"alg\":\"%s\"}", names[i]);
+        const char *token = token_of(header, "no JSON");
+        a = fresh();
+        a.status = jwt_signed_part(BYTES(token), &algorithm, &message, a.room, ROOM, &a.len);
+        is("a signature's bytes", gives(&a, "s"), 1);
+        is("the header's algorithm", algorithm, i + 1);
+        is("the message's length", message, strlen(token) - 3);
+    }
+    a = fresh();
+    a.status = jwt_signed_part(BYTES(TOKEN), &algorithm, &message, a.room, 31, &a.len);
+    is("a room too small for a signature", status_of(&a), JWT_NO_ROOM);
+    is("the signature's length", a.len, 32);
+    is("the algorithm all the same", algorithm, JWT_HS256);
+    is("the message's length all the same", message, strlen(TOKEN) - 44);
+    static const struct {
+        const char *token;
+        uint32_t status;
+    } refused[] = {{"", JWT_INVALID_TOKEN}, {"e30=.e30.", JWT_BASE64}, {"e30.e30.", JWT_JSON}, {"eyJhbGciOiJIUzI1NiJ9..Y", JWT_BASE64}};
+    for (size_t i = 0; i < 4; i++) {
+        a = fresh();
+        a.status = jwt_signed_part(BYTES(refused[i].token), &algorithm, &message, a.room, ROOM, &a.len);
+        is("no signed part", status_of(&a), refused[i].status);
+        is("the algorithm of none", algorithm, 0);
+        is("the message's length of none", message, 0);
+    }
+}
+
+static void headers(void) {
+    struct answer a = fresh();
+    a.status = jwt_decode_header(BYTES(TOKEN), a.room, ROOM, &a.len);
+    is("a header", gives(&a, "{\"alg\":\"HS256\",\"typ\":\"JWT\"}"), 1);
+    a = fresh();
+    a.status = jwt_decode_header(BYTES(token_of("{\"x\":[1, \"\\u00e9\"],\"kid\":\"k\",\"alg\":\"EdDSA\"}", "?")), a.room, ROOM, &a.len);
+    is("a header of more members", gives(&a, "{\"alg\":\"EdDSA\",\"kid\":\"k\",\"x\":[1,\"\xc3\xa9\"]}"), 1);
+    for (size_t room = 0; room <= 30; room++) {
+        a = fresh();
+        a.status = jwt_decode_header(BYTES(TOKEN), a.room, room, &a.len);
+        is("a header's room", status_of(&a), room < 27 ? JWT_NO_ROOM : JWT_OK);
+        is("a header's length", a.len, 27);
+    }
+    a = fresh();
+    a.status = jwt_decode_header(BYTES("e30.e30."), a.room, ROOM, &a.len);
+    is("no header to give", status_of(&a), JWT_JSON);
+    a.status = jwt_decode_header(NULL, 0, a.room, ROOM, &a.len);
+    is("the header of nothing", status_of(&a), JWT_INVALID_TOKEN);
+}
+
+static void status_texts(void) {
+    static const struct {
+        uint32_t status;
+        const char *text;
+    } rows[] = {{0, "OK"}, {1, "InvalidToken"}, {2, "InvalidSignature"}, {9, "ExpiredSignature"}, {14, "InvalidAlgorithm"}, {15, "MissingAlgorithm"}, {19, "Base64 error"}, {20, "JSON error"}, {22, "Out of memory"}, {24, "InvalidCrit"}, {25, "NoKey"}, {100, "Room too small"}, {101, "Options not understood"}, {102, "Unknown status"}};
+    struct answer a;
+    for (size_t i = 0; i < sizeof rows / sizeof *rows; i++) {
+        a = fresh();
+        a.status = jwt_status_text(rows[i].status, a.room, ROOM, &a.len);
+        is(rows[i].text, gives(&a, rows[i].text), 1);
+    }
+    static const uint32_t none[] = {38, 99, 103, UINT32_MAX};
+    for (size_t i = 0; i < 4; i++) {
+        a = fresh();
+        a.status = jwt_status_text(none[i], a.room, ROOM, &a.len);
+        is("no status", status_of(&a), JWT_NO_STATUS);
+    }
+    a = fresh();
+    a.status = jwt_status_text(2, a.room, 15, &a.len);
+    is("a room too small for a text", status_of(&a), JWT_NO_ROOM);
+    is("the text's length", a.len, 16);
+}
+
+/* an object that nests so deep, the object itself counted */
+static const char *nested(const char *member, int levels) {
+    static char text[1024];
+    int at = sprintf(text, "{\"%s\":", member);
+    for (int i = 1; i < levels; i++) text[at++] = '[';
+    for (int i = 1; i < levels; i++) text[at++] = ']';
+    strcpy(text + at, "}");
+    return text;
+}
+
+static void nesting(void) {
+    is("claims of 127 levels", claims(nested("a", 127), ES256_LISTED ",\"required_spec_claims\":[]}"), JWT_OK);
+    is("claims of 128 levels", claims(nested("a", 128), ES256_LISTED ",\"required_spec_claims\":[]}"), JWT_JSON);
+    struct answer a = verdict_on(token_of(ES256, nested("a", 127)), JWT_ES256, true,
+                                 ES256_LISTED ",\"required_spec_claims\":[]}", 0);
+    is("what is given of 127 levels", gives(&a, nested("a", 127)), 1);
+    is("options of 128 levels", hmac(TOKEN, "secret", nested("aud", 128), LAST), JWT_BAD_OPTIONS);
+}
+
+/* every request for memory of a call is refused in turn: the answer is that of want of memory, or the right one */
+static void refused_memory(void) {
+    long ends = 0, wrong = 0;
+    for (long number = 1; number < 1000 && !ends; number++) {
+        struct answer a = fresh();
+        requests = 0, refused_one = number;
+        a.status = jwt_decode_hmac(BYTES(TOKEN), BYTES("secret"), BYTES(OPTIONS), LAST, a.room, ROOM, &a.len);
+        ends = requests < number;
+        refused_one = 0;
+        wrong += !(ends ? gives(&a, CLAIMS) : status_of(&a) == JWT_OUT_OF_MEMORY || gives(&a, CLAIMS));
+        is("claims in want of memory", wrong, 0);
+    }
+    is("all requests were refused once", ends, 1);
+    long refusals = 0;
+    for (long number = 1; number < 5; number++) {
+        struct answer a = fresh();
+        requests = 0, refused_one = number;
+        a.status = jwt_decode_header(BYTES(TOKEN), a.room, ROOM, &a.len);
+        refused_one = 0;
+        refusals += status_of(&a) == JWT_OUT_OF_MEMORY;
+    }
+    is("a header in want of memory", refusals > 0, 1);
+}
+
+static void growth(void) {
+    for (int i = 0; i < 100; i++) hmac(TOKEN, "secret", OPTIONS, LAST), hmac(TOKEN, "other", OPTIONS, LAST);
+    size_t before = mallinfo2().uordblks;
+    long wrong = 0;
+    for (int i = 0; i < 50000; i++) {
+        wrong += hmac(TOKEN, "secret", OPTIONS, LAST) != JWT_OK;
+        wrong += hmac(TOKEN, "other", OPTIONS, LAST) != JWT_INVALID_SIGNATURE;
+    }
+    is("answers of 100000 calls", wrong, 0);
+    is("memory after 100000 calls", mallinfo2().uordblks, before);
+}
+
+static void *many(void *wrong) {
+    for (int i = 0; i < 5000; i++) {
+        struct answer a = hmac_in(TOKEN, "secret", OPTIONS, LAST, ROOM);
+        *(long *)wrong += !gives(&a, CLAIMS);
+        *(long *)wrong += hmac(TOKEN, "secret", OPTIONS, LAST + 1) != JWT_EXPIRED_SIGNATURE;
+    }
+    return NULL;
+}
+
+static void threads(void) {
+    pthread_t started[8];
+    long wrong[8] = {0};
+    for (int i = 0; i < 8; i++) pthread_create(&started[i], NULL, many, &wrong[i]);
+    for (int i = 0; i < 8; i++) {
+        pthread_join(started[i], NULL);
+        is("a thread among eight", wrong[i], 0);
+    }
+}
+
+int main(void) {
+    accepted();
+    rooms();
+    options();
+    kinds_of_tokens();
+    kinds_of_claims();
+    kinds_with_a_claim();
+    verdicts();
+    signed_parts();
+    headers();
+    status_texts();
+    nesting();
+    refused_memory();
+    growth();
+    threads();
+    printf("%d checks of the calls for C, %d failed\n", passed, failed);
+    return failed != 0;
+}
