@@ -200,33 +200,33 @@ pub fn signed_parts(sweep: &mut Sweep, alloc: Global) -> Result<()> {
     Ok(())
 }
 
-pub fn tokens_by_verdict(sweep: &mut Sweep, alloc: Global) -> Result<()> {
-    let claims = json_value(alloc, CLAIMS)?;
+fn decoded_by_verdict(
+    alloc: Global,
+    algorithm: Algorithm,
+    signature: &[u8],
+    yes: bool,
+) -> Result<TokenData<Value>> {
     let token = TOKEN.as_bytes();
     let validation = validation_of(alloc, Algorithm::HS256)?;
+    let verdict = VerdictProvider::new(algorithm, &token[..105], signature, yes);
+    decode_by_verdict(alloc, token, &verdict, &validation, LAST)
+}
+
+pub fn tokens_by_verdict(sweep: &mut Sweep, alloc: Global) -> Result<()> {
+    let claims = json_value(alloc, CLAIMS)?;
     let signature = part_bytes(alloc, PARTS[2].as_bytes())?;
-    let message = &token[..105];
-    let yes = VerdictProvider::new(Algorithm::HS256, message, signature.as_slice(), true);
-    let no = VerdictProvider::new(Algorithm::HS256, message, signature.as_slice(), false);
-    let other = VerdictProvider::new(Algorithm::RS256, message, signature.as_slice(), true);
+    let bytes = signature.as_slice();
     sweep.of("decode_by_verdict", "yes").right(gives(
-        decode_by_verdict(alloc, token, &yes, &validation, LAST),
+        decoded_by_verdict(alloc, Algorithm::HS256, bytes, true),
         &claims,
     ));
-    for (verdict, kind) in [
-        (&no, ErrorKind::InvalidSignature),
-        (&other, ErrorKind::InvalidAlgorithm),
+    for (algorithm, yes, kind) in [
+        (Algorithm::HS256, false, ErrorKind::InvalidSignature),
+        (Algorithm::RS256, true, ErrorKind::InvalidAlgorithm),
     ] {
-        let answer: Result<TokenData<Value>> = decode_by_verdict(
-            alloc,
-            token,
-            verdict,
-            &validation,
-            LAST,
-        );
         sweep
             .of("decode_by_verdict", "another verdict")
-            .refused(answer, &kind);
+            .refused(decoded_by_verdict(alloc, algorithm, bytes, yes), &kind);
     }
     Ok(())
 }
