@@ -1,5 +1,5 @@
-/* Verifies the tokens of RFC 7515 appendices A.2 and A.3 and of RFC 8037 appendix A.4: OpenSSL checks the signature, and
-   the library all the rest. The last line counts. */
+/* Verifies the tokens of RFC 7515 appendices A.2 and A.3 and of RFC 8037 appendix A.4: OpenSSL checks the signature,
+   and the library all the rest. The last line counts. */
 #include "jwt.h"
 #include <openssl/core_names.h>
 #include <openssl/ec.h>
@@ -17,12 +17,10 @@ static const char rs256[] =
     "Ar7t1dnZcAcQjbKBYNX4BAynRFdiuB--f_nZLgrnbyTyWzO75vRK5h6xBArLIARNPvkSjtQBMHlb1L07Qe7K0GarZRmB_eSN9383LcOLn6_dO-"
     "-xi12jzDwusC-eOkHWEsqtFZESc6BfI7noOPqvhJ1phCnvWh6IeYI2w9QOYEUipUTI8np6LbgGY9Fs98rqVt5AXLIhWkWywlVmtVrBp0igcN_I"
     "oypGlUPQGe77Rw";
-static const char es256[] =
-    "eyJhbGciOiJFUzI1NiJ9." PAYLOAD
-    ".DtEhU3ljbEg8L38VWAfUAqOyKAM6-Xx-F4GawxaepmXFCgfTjDxw5djxLa8ISlSApmWQxfKTUJqPP3-Kg6NU1Q";
-static const char eddsa[] =
-    "eyJhbGciOiJFZERTQSJ9.RXhhbXBsZSBvZiBFZDI1NTE5IHNpZ25pbmc"
-    ".hgyY0il_MGCjP0JzlnLWG1PPOt7-09PGcvMg3AIbQR6dWbhijcNR4ki4iylGjg5BhVsPt9g7sVvpAr_MuM0KAg";
+static const char es256[] = "eyJhbGciOiJFUzI1NiJ9." PAYLOAD
+                            ".DtEhU3ljbEg8L38VWAfUAqOyKAM6-Xx-F4GawxaepmXFCgfTjDxw5djxLa8ISlSApmWQxfKTUJqPP3-Kg6NU1Q";
+static const char eddsa[] = "eyJhbGciOiJFZERTQSJ9.RXhhbXBsZSBvZiBFZDI1NTE5IHNpZ25pbmc"
+                            ".hgyY0il_MGCjP0JzlnLWG1PPOt7-09PGcvMg3AIbQR6dWbhijcNR4ki4iylGjg5BhVsPt9g7sVvpAr_MuM0KAg";
 static const char modulus[] =
     "ofgWCuLjybRlzo0tZWJjNiuSfb4p4fAkd_wWJcyQoTbji9k0l8W26mPddxHmfHQp-Vaw-4qPCJrcS2mJPMEzP1Pt0Bm4d4QlL-yRT-SFd2lZS-pC"
     "gNMsD1W_YpRPEwOWvG6b32690r2jZ47soMZo9wGzjb_7OMg0LOL-bSf63kpaSHSXndS5z5rexMdbBYUsLA9e-KXBdQOS-UTo7WTBEMa2R2CapHg6"
@@ -49,7 +47,8 @@ static size_t unpart(const char *text, uint8_t *bytes) {
 static EVP_PKEY *key_of(const char *type, OSSL_PARAM *params) {
     EVP_PKEY *key = NULL;
     EVP_PKEY_CTX *made = EVP_PKEY_CTX_new_from_name(NULL, type, NULL);
-    if (EVP_PKEY_fromdata_init(made) != 1 || EVP_PKEY_fromdata(made, &key, EVP_PKEY_PUBLIC_KEY, params) != 1) key = NULL;
+    if (EVP_PKEY_fromdata_init(made) != 1 || EVP_PKEY_fromdata(made, &key, EVP_PKEY_PUBLIC_KEY, params) != 1)
+        key = NULL;
     EVP_PKEY_CTX_free(made);
     return key;
 }
@@ -108,8 +107,8 @@ static bool checks(uint32_t algorithm, EVP_PKEY *key, const uint8_t *message, si
     }
     EVP_MD_CTX *state = EVP_MD_CTX_new();
     const EVP_MD *hash = algorithm == JWT_EDDSA ? NULL : EVP_sha256();
-    bool yes = EVP_DigestVerifyInit(state, NULL, hash, NULL, key) == 1
-               && EVP_DigestVerify(state, signature, len, message, message_len) == 1;
+    bool yes = EVP_DigestVerifyInit(state, NULL, hash, NULL, key) == 1 &&
+               EVP_DigestVerify(state, signature, len, message, message_len) == 1;
     EVP_MD_CTX_free(state);
     return yes;
 }
@@ -118,8 +117,8 @@ static bool checks(uint32_t algorithm, EVP_PKEY *key, const uint8_t *message, si
 
 /* The claims, or the refusal's text, of a token by a key that is for this algorithm. The verdict is on `signed_token`,
    which is the token itself but where it is mixed up. */
-static size_t answer(const char *token, const char *signed_token, uint32_t algorithm, const char *options, EVP_PKEY *key,
-                     uint64_t now, uint8_t *room, size_t room_len) {
+static size_t answer(const char *token, const char *signed_token, uint32_t algorithm, const char *options,
+                     EVP_PKEY *key, uint64_t now, uint8_t *room, size_t room_len) {
     uint8_t signature[512];
     uint32_t named;
     size_t message_len, signature_len, len;
@@ -154,7 +153,8 @@ int main(void) {
         /* its payload is no JSON, which is looked at once the signature is accepted */
         {eddsa, eddsa, JWT_EDDSA, by_edwards, ed, 0, "JSON error"},
         /* a token that the key did not sign */
-        {"eyJhbGciOiJFZERTQSJ9.e30.AAAA", "eyJhbGciOiJFZERTQSJ9.e30.AAAA", JWT_EDDSA, by_edwards, ed, 0, "InvalidSignature"},
+        {"eyJhbGciOiJFZERTQSJ9.e30.AAAA", "eyJhbGciOiJFZERTQSJ9.e30.AAAA", JWT_EDDSA, by_edwards, ed, 0,
+         "InvalidSignature"},
         /* a key for another algorithm */
         {rs256, rs256, JWT_PS256, by_pss, rsa, 0, "InvalidAlgorithm"},
         /* a verdict on another token */

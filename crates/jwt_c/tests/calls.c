@@ -7,7 +7,7 @@
 #include <stdlib.h>
 #include <string.h>
 
-#define TOKEN                                                                                                          \
+#define TOKEN                                                                                                         \
     "eyJhbGciOiJIUzI1NiIsInR5cCI6IkpXVCJ9.eyJzdWIiOiJiQGIuY29tIiwiY29tcGFueSI6IkFDTUUiLCJleHAiOjI1MzI1MjQ4OTF9"       \
     ".9r56oF7ZliOBlOAyiOFperTGxBtPykRQiWNFxhDCW98"
 #define CLAIMS "{\"company\":\"ACME\",\"exp\":2532524891,\"sub\":\"b@b.com\"}"
@@ -112,7 +112,8 @@ static const char *token_of(const char *header, const char *claims) {
     return made;
 }
 
-static struct answer verdict_on(const char *token, uint32_t algorithm, bool verdict, const char *options, uint64_t now) {
+static struct answer verdict_on(const char *token, uint32_t algorithm, bool verdict, const char *options,
+                                uint64_t now) {
     struct answer a = fresh();
     const char *dot = strrchr(token, '.');
     size_t message = dot ? (size_t)(dot - token) : 0;
@@ -159,10 +160,19 @@ static void rooms(void) {
 
 static void options(void) {
     static const char *const refused[] = {
-        "", "{", "null", "[]", "\"HS256\"", "{\"algorithms\":\"HS256\"}", "{\"algorithms\":[\"HS257\"]}",
-        "{\"algorithms\":[\"HS256\"],\"leeways\":1}", "{\"algorithms\":[\"HS256\"],\"leeway\":-1}",
-        "{\"algorithms\":[\"HS256\"],\"leeway\":1.5}", "{\"algorithms\":[\"HS256\"],\"aud\":\"a\"}",
-        "{\"algorithms\":[\"HS256\"]} x", "\xff",
+        "",
+        "{",
+        "null",
+        "[]",
+        "\"HS256\"",
+        "{\"algorithms\":\"HS256\"}",
+        "{\"algorithms\":[\"HS257\"]}",
+        "{\"algorithms\":[\"HS256\"],\"leeways\":1}",
+        "{\"algorithms\":[\"HS256\"],\"leeway\":-1}",
+        "{\"algorithms\":[\"HS256\"],\"leeway\":1.5}",
+        "{\"algorithms\":[\"HS256\"],\"aud\":\"a\"}",
+        "{\"algorithms\":[\"HS256\"]} x",
+        "\xff",
     };
     for (size_t i = 0; i < sizeof refused / sizeof *refused; i++)
         is(refused[i], hmac(TOKEN, "secret", refused[i], LAST), JWT_BAD_OPTIONS);
@@ -287,7 +297,10 @@ static void signed_parts(void) {
     static const struct {
         const char *token;
         uint32_t status;
-    } refused[] = {{"", JWT_INVALID_TOKEN}, {"e30=.e30.", JWT_BASE64}, {"e30.e30.", JWT_JSON}, {"eyJhbGciOiJIUzI1NiJ9..Y", JWT_BASE64}};
+    } refused[] = {{"", JWT_INVALID_TOKEN},
+                   {"e30=.e30.", JWT_BASE64},
+                   {"e30.e30.", JWT_JSON},
+                   {"eyJhbGciOiJIUzI1NiJ9..Y", JWT_BASE64}};
     for (size_t i = 0; i < 4; i++) {
         a = fresh();
         a.status = jwt_signed_part(BYTES(refused[i].token), &algorithm, &message, a.room, ROOM, &a.len);
@@ -302,7 +315,8 @@ static void headers(void) {
     a.status = jwt_decode_header(BYTES(TOKEN), a.room, ROOM, &a.len);
     is("a header", gives(&a, "{\"alg\":\"HS256\",\"typ\":\"JWT\"}"), 1);
     a = fresh();
-    a.status = jwt_decode_header(BYTES(token_of("{\"x\":[1, \"\\u00e9\"],\"kid\":\"k\",\"alg\":\"EdDSA\"}", "?")), a.room, ROOM, &a.len);
+    a.status = jwt_decode_header(BYTES(token_of("{\"x\":[1, \"\\u00e9\"],\"kid\":\"k\",\"alg\":\"EdDSA\"}", "?")),
+                                 a.room, ROOM, &a.len);
     is("a header of more members", gives(&a, "{\"alg\":\"EdDSA\",\"kid\":\"k\",\"x\":[1,\"\xc3\xa9\"]}"), 1);
     for (size_t room = 0; room <= 30; room++) {
         a = fresh();
@@ -321,7 +335,20 @@ static void status_texts(void) {
     static const struct {
         uint32_t status;
         const char *text;
-    } rows[] = {{0, "OK"}, {1, "InvalidToken"}, {2, "InvalidSignature"}, {9, "ExpiredSignature"}, {14, "InvalidAlgorithm"}, {15, "MissingAlgorithm"}, {19, "Base64 error"}, {20, "JSON error"}, {22, "Out of memory"}, {24, "InvalidCrit"}, {25, "NoKey"}, {100, "Room too small"}, {101, "Options not understood"}, {102, "Unknown status"}};
+    } rows[] = {{0, "OK"},
+                {1, "InvalidToken"},
+                {2, "InvalidSignature"},
+                {9, "ExpiredSignature"},
+                {14, "InvalidAlgorithm"},
+                {15, "MissingAlgorithm"},
+                {19, "Base64 error"},
+                {20, "JSON error"},
+                {22, "Out of memory"},
+                {24, "InvalidCrit"},
+                {25, "NoKey"},
+                {100, "Room too small"},
+                {101, "Options not understood"},
+                {102, "Unknown status"}};
     struct answer a;
     for (size_t i = 0; i < sizeof rows / sizeof *rows; i++) {
         a = fresh();
