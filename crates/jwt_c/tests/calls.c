@@ -273,19 +273,25 @@ static void verdicts(void) {
 }
 
 static void signed_parts(void) {
-    static const char *const names[] = {"HS256", "HS384", "HS512", "RS256", "RS384", "RS512",
-                                        "PS256", "PS384", "PS512", "ES256", "ES384", "EdDSA"};
+    static const struct {
+        uint32_t number;
+        const char *name;
+    } algorithms[] = {
+        {JWT_HS256, "HS256"}, {JWT_HS384, "HS384"}, {JWT_HS512, "HS512"}, {JWT_RS256, "RS256"},
+        {JWT_RS384, "RS384"}, {JWT_RS512, "RS512"}, {JWT_PS256, "PS256"}, {JWT_PS384, "PS384"},
+        {JWT_PS512, "PS512"}, {JWT_ES256, "ES256"}, {JWT_ES384, "ES384"}, {JWT_EDDSA, "EdDSA"},
+    };
     uint32_t algorithm;
     size_t message;
     struct answer a;
     for (uint32_t i = 0; i < 12; i++) {
         char header[40];
-        snprintf(header, sizeof header, "{\"alg\":\"%s\"}", names[i]);
+        snprintf(header, sizeof header, "{\"alg\":\"%s\"}", algorithms[i].name);
         const char *token = token_of(header, "no JSON");
         a = fresh();
         a.status = jwt_signed_part(BYTES(token), &algorithm, &message, a.room, ROOM, &a.len);
         is("a signature's bytes", gives(&a, "s"), 1);
-        is("the header's algorithm", algorithm, i + 1);
+        is("the header's algorithm", algorithm, algorithms[i].number);
         is("the message's length", message, strlen(token) - 3);
     }
     a = fresh();
@@ -335,20 +341,49 @@ static void status_texts(void) {
     static const struct {
         uint32_t status;
         const char *text;
-    } rows[] = {{0, "OK"},
-                {1, "InvalidToken"},
-                {2, "InvalidSignature"},
-                {9, "ExpiredSignature"},
-                {14, "InvalidAlgorithm"},
-                {15, "MissingAlgorithm"},
-                {19, "Base64 error"},
-                {20, "JSON error"},
-                {22, "Out of memory"},
-                {24, "InvalidCrit"},
-                {25, "NoKey"},
-                {100, "Room too small"},
-                {101, "Options not understood"},
-                {102, "Unknown status"}};
+    } rows[] = {
+        {JWT_OK, "OK"},
+        {JWT_INVALID_TOKEN, "InvalidToken"},
+        {JWT_INVALID_SIGNATURE, "InvalidSignature"},
+        {JWT_INVALID_ECDSA_KEY, "InvalidEcdsaKey"},
+        {JWT_INVALID_EDDSA_KEY, "InvalidEddsaKey"},
+        {JWT_RSA_FAILED_SIGNING, "RsaFailedSigning"},
+        {JWT_INVALID_ALGORITHM_NAME, "InvalidAlgorithmName"},
+        {JWT_UNSUPPORTED_ALGORITHM, "UnsupportedAlgorithm"},
+        {JWT_INVALID_KEY_FORMAT, "InvalidKeyFormat"},
+        {JWT_EXPIRED_SIGNATURE, "ExpiredSignature"},
+        {JWT_INVALID_ISSUER, "InvalidIssuer"},
+        {JWT_INVALID_AUDIENCE, "InvalidAudience"},
+        {JWT_INVALID_SUBJECT, "InvalidSubject"},
+        {JWT_IMMATURE_SIGNATURE, "ImmatureSignature"},
+        {JWT_INVALID_ALGORITHM, "InvalidAlgorithm"},
+        {JWT_MISSING_ALGORITHM, "MissingAlgorithm"},
+        {JWT_INVALID_RSA_KEY, "RSA key invalid: "},
+        {JWT_SIGNING, "Signing failed: "},
+        {JWT_PROVIDER, "Custom provider error: "},
+        {JWT_BASE64, "Base64 error"},
+        {JWT_JSON, "JSON error"},
+        {JWT_UTF8, "UTF-8 error"},
+        {JWT_OUT_OF_MEMORY, "Out of memory"},
+        {JWT_CLOCK_BEFORE_EPOCH, "Clock before 1970"},
+        {JWT_INVALID_CRIT, "InvalidCrit"},
+        {JWT_NO_KEY, "NoKey"},
+        {JWT_MISSING_EXP, "Missing required claim: exp"},
+        {JWT_MISSING_NBF, "Missing required claim: nbf"},
+        {JWT_MISSING_AUD, "Missing required claim: aud"},
+        {JWT_MISSING_ISS, "Missing required claim: iss"},
+        {JWT_MISSING_SUB, "Missing required claim: sub"},
+        {JWT_MISSING_CLAIM, "Missing required claim: "},
+        {JWT_MALFORMED_EXP, "Invalid format for claim: exp"},
+        {JWT_MALFORMED_NBF, "Invalid format for claim: nbf"},
+        {JWT_MALFORMED_AUD, "Invalid format for claim: aud"},
+        {JWT_MALFORMED_ISS, "Invalid format for claim: iss"},
+        {JWT_MALFORMED_SUB, "Invalid format for claim: sub"},
+        {JWT_MALFORMED_CLAIM, "Invalid format for claim: "},
+        {JWT_NO_ROOM, "Room too small"},
+        {JWT_BAD_OPTIONS, "Options not understood"},
+        {JWT_NO_STATUS, "Unknown status"},
+    };
     struct answer a;
     for (size_t i = 0; i < sizeof rows / sizeof *rows; i++) {
         a = fresh();
