@@ -421,28 +421,111 @@ static void nesting(void) {
     is("options of 128 levels", hmac(TOKEN, "secret", nested("aud", 128), LAST), JWT_BAD_OPTIONS);
 }
 
-/* every request for memory of a call is refused in turn: the answer is that of want of memory, or the right one */
+/* ---- want of memory: every request of a call is refused in turn */
+
+/* a call, and whether what it left is right */
+static bool claims_given(struct answer *a) {
+    a->status = jwt_decode_hmac(BYTES(TOKEN), BYTES("secret"), BYTES(OPTIONS), LAST, a->room, ROOM, &a->len);
+    return gives(a, CLAIMS);
+}
+
+static bool vouched_claims_given(struct answer *a) {
+    *a = verdict_on(token_of(ES256, "{\"exp\":940}"), JWT_ES256, true, ES256_LISTED ",\"aud\":[\"a\",\"b\"]}", 1000);
+    return gives(a, "{\"exp\":940}");
+}
+
+static bool signed_part_given(struct answer *a) {
+    uint32_t algorithm = 99;
+    size_t message = 99;
+    a->status = jwt_signed_part(BYTES(TOKEN), &algorithm, &message, a->room, ROOM, &a->len);
+    if (a->status != JWT_OK) a->len += algorithm + message;
+    return status_of(a) == JWT_OK && a->len == 32 && algorithm == JWT_HS256 && message == strlen(TOKEN) - 44;
+}
+
+static bool header_given(struct answer *a) {
+    a->status = jwt_decode_header(BYTES(TOKEN), a->room, ROOM, &a->len);
+    return gives(a, "{\"alg\":\"HS256\",\"typ\":\"JWT\"}");
+}
+
+/* how often the call answered want of memory, until no request was left to refuse; -1 for another answer */
+static long refused_in_turn(bool (*call)(struct answer *)) {
+    long seen = 0;
+    for (long number = 1; number < 1000; number++) {
+        struct answer a = fresh();
+        requests = 0, refused_one = number;
+        bool is_right = call(&a), was_refused = requests >= number;
+        refused_one = 0;
+        if (!was_refused) return is_right ? seen : -1;
+        if (!is_right && status_of(&a) != JWT_OUT_OF_MEMORY) return -1;
+        seen += !is_right;
+    }
+    return -1;
+}
+
 static void refused_memory(void) {
-    long ends = 0, wrong = 0;
-    for (long number = 1; number < 1000 && !ends; number++) {
-        struct answer a = fresh();
-        requests = 0, refused_one = number;
-        a.status = jwt_decode_hmac(BYTES(TOKEN), BYTES("secret"), BYTES(OPTIONS), LAST, a.room, ROOM, &a.len);
-        ends = requests < number;
-        refused_one = 0;
-        wrong += !(ends ? gives(&a, CLAIMS) : status_of(&a) == JWT_OUT_OF_MEMORY || gives(&a, CLAIMS));
-        is("claims in want of memory", wrong, 0);
-    }
-    is("all requests were refused once", ends, 1);
-    long refusals = 0;
-    for (long number = 1; number < 5; number++) {
-        struct answer a = fresh();
-        requests = 0, refused_one = number;
-        a.status = jwt_decode_header(BYTES(TOKEN), a.room, ROOM, &a.len);
-        refused_one = 0;
-        refusals += status_of(&a) == JWT_OUT_OF_MEMORY;
-    }
-    is("a header in want of memory", refusals > 0, 1);
+    refused_in_turn(claims_given), refused_in_turn(header_given);
+    size_t before = mallinfo2().uordblks;
+    is("claims in want of memory", refused_in_turn(claims_given) > 0, 1);
+    is("vouched claims in want of memory", refused_in_turn(vouched_claims_given) > 0, 1);
+    is("a signed part in want of memory", refused_in_turn(signed_part_given) > 0, 1);
+    is("a header in want of memory", refused_in_turn(header_given) > 0, 1);
+    is("memory after all that was refused", mallinfo2().uordblks <= before + 4096, 1);
+}
+
+/* ---- sizes: no call answers want of memory because of a length */
+
+#define GREATEST (1 << 20)
+
+static char text[GREATEST + 100], token[3 * GREATEST + 300];
+static uint8_t big_room[2 * GREATEST];
+
+/* `before`, so many letters, and `after` */
+static const char *filled(const char *before, size_t count, const char *after) {
+    size_t at = strlen(before);
+    memcpy(text, before, at);
+    memset(text + at, 'a', count);
+    strcpy(text + at + count, after);
+    return text;
+}
+
+static bool is_in_room(uint32_t status, size_t len, const char *wanted) {
+    return status == JWT_OK && len == strlen(wanted) && memcmp(big_room, wanted, len) == 0;
+}
+
+/* the claims, what is signed and the header of a token whose claims, signature, key id or options have this size */
+static long wrong_at(size_t size) {
+    uint32_t algorithm;
+    size_t len = 0, message;
+    long wrong = 0;
+    size_t at = encode(ES256, token);
+    token[at++] = '.';
+    at += encode(filled("{\"exp\":940,\"sub\":\"", size, "\"}"), token + at);
+    strcpy(token + at, ".cw");
+    uint32_t status = jwt_decode_verdict(BYTES(token), JWT_ES256, (const uint8_t *)token, at, BYTES("s"), true,
+                                         BYTES(ES256_LISTED "}"), 1000, big_room, sizeof big_room, &len);
+    wrong += !is_in_room(status, len, text);
+    filled(ES256_LISTED ",\"sub\":\"", size, "\"}");
+    status = jwt_decode_verdict(BYTES(token), JWT_ES256, (const uint8_t *)token, at, BYTES("s"), true, BYTES(text),
+                                1000, big_room, sizeof big_room, &len);
+    wrong += status != JWT_OK;
+    filled(ES256_LISTED ",\"aud\":[\"", size, "\"]}");
+    status = jwt_decode_verdict(BYTES(token), JWT_ES256, (const uint8_t *)token, at, BYTES("s"), true, BYTES(text),
+                                1000, big_room, sizeof big_room, &len);
+    wrong += status != JWT_OK;
+    /* an encoded text for a signature */
+    token[at++] = '.';
+    encode(filled("", size, ""), token + at);
+    status = jwt_signed_part(BYTES(token), &algorithm, &message, big_room, sizeof big_room, &len);
+    wrong += !is_in_room(status, len, text) || message != at - 1;
+    at = encode(filled("{\"alg\":\"ES256\",\"kid\":\"", size, "\"}"), token);
+    strcpy(token + at, "..");
+    status = jwt_decode_header(BYTES(token), big_room, sizeof big_room, &len);
+    return wrong + !is_in_room(status, len, text);
+}
+
+static void sizes(void) {
+    for (size_t size = 0; size <= 300; size++) is("a small size", wrong_at(size), 0);
+    for (size_t size = 512; size <= GREATEST; size *= 2) is("a large size", wrong_at(size), 0);
 }
 
 static void growth(void) {
@@ -489,6 +572,7 @@ int main(void) {
     status_texts();
     nesting();
     refused_memory();
+    sizes();
     growth();
     threads();
     printf("%d checks of the calls for C, %d failed\n", passed, failed);
