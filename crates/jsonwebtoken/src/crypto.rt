@@ -1,7 +1,8 @@
-//! What signs and what verifies: the provider laws, the calls over any lawful provider, the built-in HMAC, and a caller's
-//! own verdicts.
+//! What signs and what verifies: the provider laws, the calls over any lawful provider, the built-in HMAC, a caller's
+//! own verdicts, and a comparison of signatures.
 
 pub mod hmac;
 pub mod verdict;
 
+pub use jwt_hmac::comparison::is_same;
 pub use jwt_keys::provider::{CryptoProvider, JwtSigner, JwtVerifier, sign, verify};

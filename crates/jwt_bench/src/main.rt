@@ -1,4 +1,5 @@
-//! Measures what one token costs: reading and verifying it, issuing it, or reading its header.
+//! Measures what one token costs: reading and verifying it, issuing it, or reading its header; and what it costs to
+//! compare two texts.
 #![tactic(auto)]
 
 mod fault;
@@ -28,8 +29,8 @@ fn measure<T: Runtime + AllocGlobal>(
     repeat(alloc, &prepared, text, count / 10)?;
     let start = Instant::now(rt)?;
     repeat(alloc, &prepared, text, count)?;
-    let nanoseconds = start.elapsed(rt)?.as_nanos();
-    println!(rt; "{}", nanoseconds / u128::from(count.max(1)))?;
+    let picoseconds = start.elapsed(rt)?.as_nanos().saturating_mul(1000) / u128::from(count.max(1));
+    println!(rt; "{}.{:03}", picoseconds / 1000, picoseconds % 1000)?;
     Ok(())
 }
 
@@ -40,11 +41,15 @@ fn show<T: Runtime + AllocGlobal>(rt: &T) -> Result<(), BenchFault> {
         (Work::Decode, TOKEN),
         (Work::Encode, CLAIMS),
         (Work::Header, TOKEN),
+        (Work::PreparedDecode, TOKEN),
+        (Work::PreparedEncode, CLAIMS),
+        (Work::CompareFirst, TOKEN),
+        (Work::CompareLast, TOKEN),
     ] {
         let prepared = Prepared::new(alloc, work, text)?;
         repeat(alloc, &prepared, text, 1)?;
     }
-    println!(rt; "one decode, one encode, one header")?;
+    println!(rt; "one decode, one encode, one header, two comparisons")?;
     Ok(())
 }
 

@@ -1,7 +1,8 @@
 //! The work that is measured, by HS256 with the secret `secret`.
 
 use crate::fault::BenchFault;
-use jsonwebtoken::crypto::hmac::HmacProvider;
+use jsonwebtoken::crypto::hmac::{HmacProvider, PreparedHmac};
+use jsonwebtoken::crypto::{CryptoProvider, is_same};
 use jsonwebtoken::{
     Algorithm, DecodingKey, EncodingKey, Header, TokenData, Validation, decode, decode_header,
     encode,
@@ -21,6 +22,14 @@ pub enum Work {
     Encode,
     /// Reads the header of a token.
     Header,
+    /// Reads and verifies a token by a secret that is prepared.
+    PreparedDecode,
+    /// Issues the token of claims by a secret that is prepared.
+    PreparedEncode,
+    /// Compares a text with one whose first byte is another.
+    CompareFirst,
+    /// Compares a text with one whose last byte is another.
+    CompareLast,
 }
 
 impl Work {
@@ -30,6 +39,10 @@ impl Work {
             "decode" => Some(Work::Decode),
             "encode" => Some(Work::Encode),
             "header" => Some(Work::Header),
+            "prepared-decode" => Some(Work::PreparedDecode),
+            "prepared-encode" => Some(Work::PreparedEncode),
+            "compare-first" => Some(Work::CompareFirst),
+            "compare-last" => Some(Work::CompareLast),
             _ => None,
         }
     }
@@ -76,27 +89,29 @@ pub struct Prepared {
     reading: Box<Reading>,
     issuing: Box<Issuing>,
     claims: Value,
+    provider: PreparedHmac,
 }
 
 impl Prepared {
     /// For this work on this text.
     pub fn new(alloc: Global, work: Work, text: &str) -> Result<Prepared> {
         let claims = match work {
-            Work::Encode => json_value(alloc, text.as_bytes())?,
-            Work::Decode | Work::Header => Value::Null,
+            Work::Encode | Work::PreparedEncode => json_value(alloc, text.as_bytes())?,
+            _ => Value::Null,
         };
         Ok(Prepared {
             work,
             reading: Reading::new(alloc)?,
             issuing: Issuing::new(alloc)?,
             claims,
+            provider: PreparedHmac::new(alloc, Algorithm::HS256, b"secret")?,
         })
     }
 
-    fn decode(&self, alloc: Global, token: &[u8]) -> Result<()> {
+    fn decode<P: CryptoProvider>(&self, alloc: Global, provider: &P, token: &[u8]) -> Result<()> {
         let data: TokenData<Value> = decode(
             alloc,
-            &HmacProvider,
+            provider,
             token,
             &self.reading.key,
             &self.reading.validation,
@@ -106,10 +121,10 @@ impl Prepared {
         Ok(())
     }
 
-    fn encode(&self, alloc: Global) -> Result<()> {
+    fn encode<P: CryptoProvider>(&self, alloc: Global, provider: &P) -> Result<()> {
         let token = encode(
             alloc,
-            &HmacProvider,
+            provider,
             &self.issuing.header,
             black_box(&self.claims),
             &self.issuing.key,
@@ -119,6 +134,40 @@ impl Prepared {
     }
 }
 
+// Compares the bytes so many times with bytes that differ in one place, each time by another byte, so that no compiler
+// leaves a comparison out.
+fn compare(
+    alloc: Global,
+    bytes: &[u8],
+    place: usize,
+    count: u64,
+) -> std::result::Result<(), BenchFault> {
+    let mut other = Vec::from_slice(alloc, bytes)?;
+    for turn in 0..count {
+        if let (Some(given), Some(byte)) = (other.get_mut(place), bytes.get(place)) {
+            *given = *byte ^ (turn % 255 + 1) as u8;
+        }
+        if is_same(bytes, other.as_slice()) {
+            return Err(BenchFault::Refused);
+        }
+    }
+    Ok(())
+}
+
+fn repeat_calls(alloc: Global, prepared: &Prepared, text: &str, count: u64) -> Result<()> {
+    for _ in 0..count {
+        let token = black_box(text).as_bytes();
+        match prepared.work {
+            Work::Decode => prepared.decode(alloc, &HmacProvider, token)?,
+            Work::Encode => prepared.encode(alloc, &HmacProvider)?,
+            Work::PreparedDecode => prepared.decode(alloc, &prepared.provider, token)?,
+            Work::PreparedEncode => prepared.encode(alloc, &prepared.provider)?,
+            _ => drop(black_box(decode_header(alloc, token)?)),
+        }
+    }
+    Ok(())
+}
+
 /// Does the work on the text so many times.
 pub fn repeat(
     alloc: Global,
@@ -126,13 +175,10 @@ pub fn repeat(
     text: &str,
     count: u64,
 ) -> std::result::Result<(), BenchFault> {
-    for _ in 0..count {
-        let token = black_box(text).as_bytes();
-        match prepared.work {
-            Work::Decode => prepared.decode(alloc, token)?,
-            Work::Encode => prepared.encode(alloc)?,
-            Work::Header => drop(black_box(decode_header(alloc, token)?)),
-        }
+    let bytes = text.as_bytes();
+    match prepared.work {
+        Work::CompareFirst => compare(alloc, bytes, 0, count),
+        Work::CompareLast => compare(alloc, bytes, bytes.len().saturating_sub(1), count),
+        _ => Ok(repeat_calls(alloc, prepared, text, count)?),
     }
-    Ok(())
 }

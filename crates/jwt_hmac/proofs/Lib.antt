@@ -1,1 +1,6 @@
+pub mod HeldSecrets
 pub mod HmacMasks
+pub mod OneDigest256
+pub mod OneDigest512
+pub mod PreparedKeys
+pub mod SameBytes

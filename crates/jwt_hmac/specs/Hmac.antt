@@ -37,10 +37,17 @@ masked mask bytes = map (λ b. bit_xor b mask) bytes
 unfoldable pub nested : Hash → List ℕ → List ℕ → List ℕ → List ℕ
 nested h inner outer m = hash_bytes h (outer ++ hash_bytes h (inner ++ m))
 
--- H((K' xor opad) ++ H((K' xor ipad) ++ m)), where each byte of ipad is 36 hex and each of opad 5C
--- hex (RFC 2104 section 2)
+-- K' xor ipad, each byte of which is 36 hex (RFC 2104 section 2)
+abbrev pub inner_block : Hash → List ℕ → List ℕ
+inner_block h k = masked 0x36 (key_block h k)
+
+-- K' xor opad, each byte of which is 5C hex (RFC 2104 section 2)
+abbrev pub outer_block : Hash → List ℕ → List ℕ
+outer_block h k = masked 0x5c (key_block h k)
+
+-- H((K' xor opad) ++ H((K' xor ipad) ++ m)) (RFC 2104 section 2)
 unfoldable pub hmac : Hash → List ℕ → List ℕ → List ℕ
-hmac h k m = nested h (masked 0x36 (key_block h k)) (masked 0x5c (key_block h k)) m
+hmac h k m = nested h (inner_block h k) (outer_block h k) m
 
 -- the code of a message by two blocks, of which the first B bytes count (RFC 2104 section 2)
 abbrev pub mac_by : Hash → List ℕ → List ℕ → List ℕ → List ℕ

@@ -1,14 +1,15 @@
 //! The provider of HMAC (RFC 2104) with SHA-2 (RFC 7518 section 3.2).
 
-ghost use Rattle.std.specs.Prelude.{◌≡◌, ◌≢◌, ◌↔◌, ⊤, ℕ, ◌≤◌, List, ◌++◌, Option, Ok, Some, None, IfOk, IfErr, OnOk, IsOk, IsTrue, length};
+ghost use Rattle.std.specs.Prelude.{◌≡◌, ◌≢◌, ◌↔◌, ⊤, ℕ, ◌≤◌, List, ◌++◌, Option, Ok, Some, None, IfOk, IfErr, OnOk, IsOk, IsTrue, length, take};
 ghost use Rattle.jwt_base.specs.Kind as kind;
 ghost use Rattle.jwt_base.specs.KindOf.{kind_of, IsMemory, Refuses};
 ghost use Rattle.jwt_keys.specs.Key.{Key, Plain, SecretKey, key_family};
 ghost use Rattle.jwt_keys.specs.Provider.{HasOneSignature, reads_no_key};
-ghost use Rattle.jwt_hmac.specs.Hmac.{hash_bytes, block_len, short_key, filled, masked, nested, hmac, mac_by, HaveOneKey};
+ghost use Rattle.jwt_hmac.specs.Hmac.{hash_bytes, block_len, short_key, inner_block, outer_block, filled, masked, nested, hmac, mac_by, HaveOneKey};
 ghost use Rattle.jwt_hmac.specs.HmacKeys.{hash_for, hash_named, algorithm_for, refusal, HmacSigns, HmacAccepts, AcceptsItsOwn};
 ghost use Rattle.jwt_hmac.specs.HmacFamilies.{family_made};
 
+use crate::comparison::is_same;
 use jwt_base::algorithms::{Algorithm, AlgorithmFamily};
 use jwt_base::errors::{Error, ErrorKind, Result, new_error};
 use jwt_keys::decoding_key::DecodingKey;
@@ -20,8 +21,8 @@ use sha2::{Digest, Sha256, Sha384, Sha512};
 use std::alloc::Global;
 
 // A hash function.
-#[derive(Clone, Copy)]
-enum Hash {
+#[derive(Clone, Copy, PartialEq, Eq)]
+pub(crate) enum Hash {
     Sha256,
     Sha384,
     Sha512,
@@ -35,6 +36,16 @@ impl Hash {
         match self {
             Hash::Sha256 => 64,
             Hash::Sha384 | Hash::Sha512 => 128,
+        }
+    }
+
+    pub(crate) fn algorithm(self) -> Algorithm
+        ensures { result ≡ algorithm_for self }
+    {
+        match self {
+            Hash::Sha256 => Algorithm::HS256,
+            Hash::Sha384 => Algorithm::HS384,
+            Hash::Sha512 => Algorithm::HS512,
         }
     }
 
@@ -126,16 +137,18 @@ fn filled_key(hash: Hash, secret: &[u8]) -> [u8; 128]
 // What is kept of a secret: K' xor ipad and K' xor opad, of which the first B bytes count. The secret itself is not
 // kept.
 #[derive(Drop)]
-struct Blocks {
-    hash: Hash,
-    inner: [u8; 128],
-    outer: [u8; 128],
+pub(crate) struct Blocks {
+    pub(crate) hash: Hash,
+    pub(crate) inner: [u8; 128],
+    pub(crate) outer: [u8; 128],
     ghost one_key: { HaveOneKey hash inner outer },
 }
 
 impl Blocks {
-    fn new(hash: Hash, secret: &[u8]) -> Blocks
+    pub(crate) fn new(hash: Hash, secret: &[u8]) -> Blocks
         ensures hash { result.hash ≡ hash }
+        ensures inner { take (block_len hash) result.inner ≡ inner_block hash secret.now }
+        ensures outer { take (block_len hash) result.outer ≡ outer_block hash secret.now }
         ensures mac { (m : List ℕ) → mac_by hash result.inner result.outer m ≡ hmac hash secret.now m }
     {
         let key = filled_key(hash, secret);
@@ -146,17 +159,13 @@ impl Blocks {
         }
     }
 
-    fn algorithm(&self) -> Algorithm
+    pub(crate) fn algorithm(&self) -> Algorithm
         ensures { result ≡ algorithm_for self.now.hash }
     {
-        match self.hash {
-            Hash::Sha256 => Algorithm::HS256,
-            Hash::Sha384 => Algorithm::HS384,
-            Hash::Sha512 => Algorithm::HS512,
-        }
+        self.hash.algorithm()
     }
 
-    fn sign(&self, alloc: Global, message: &[u8]) -> Result<Vec<u8>>
+    pub(crate) fn sign(&self, alloc: Global, message: &[u8]) -> Result<Vec<u8>>
         ensures ok { IfOk result (λ s. s.items ≡ mac_by self.now.hash self.now.inner self.now.outer message.now) }
         ensures err { IfErr result IsMemory }
     {
@@ -169,7 +178,7 @@ impl Blocks {
         })
     }
 
-    fn verify(&self, message: &[u8], signature: &[u8]) -> bool
+    pub(crate) fn verify(&self, message: &[u8], signature: &[u8]) -> bool
         ensures { IsTrue result ↔ (signature.now ≡ mac_by self.now.hash self.now.inner self.now.outer message.now) }
     {
         match self.hash {
@@ -189,13 +198,7 @@ impl Blocks {
     }
 }
 
-fn is_same(expected: &[u8], signature: &[u8]) -> bool
-    ensures { IsTrue result ↔ (signature.now ≡ expected.now) }
-{
-    expected == signature
-}
-
-fn hash_of_algorithm(algorithm: Algorithm) -> Option<Hash>
+pub(crate) fn hash_of_algorithm(algorithm: Algorithm) -> Option<Hash>
     ensures { result ≡ hash_for algorithm }
 {
     match algorithm {
@@ -207,7 +210,7 @@ fn hash_of_algorithm(algorithm: Algorithm) -> Option<Hash>
 }
 
 // The hash of an algorithm of HMAC, where the key is of its family.
-fn hash_for_key(algorithm: Algorithm, family: AlgorithmFamily) -> Result<Hash>
+pub(crate) fn hash_for_key(algorithm: Algorithm, family: AlgorithmFamily) -> Result<Hash>
     ensures hash { IfOk result (λ h. hash_for algorithm ≡ Some h) }
     ensures made { OnOk result (refusal (hash_for algorithm) family ≡ None) }
     ensures family { OnOk result (family ≡ AlgorithmFamily.Hmac) }
@@ -232,7 +235,7 @@ fn hash_of_thumbprint(hash: ThumbprintHash) -> Hash
     }
 }
 
-fn unsupported() -> Error
+pub(crate) fn unsupported() -> Error
     ensures { kind_of result ≡ kind.UnsupportedAlgorithm }
 {
     new_error(ErrorKind::UnsupportedAlgorithm)

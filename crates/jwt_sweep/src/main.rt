@@ -7,6 +7,7 @@ mod hmac;
 mod keys;
 mod names;
 mod parameters;
+mod prepared;
 mod rules;
 mod sizes;
 mod sweep;
@@ -100,7 +101,10 @@ fn try_hmac(sweep: &mut Sweep, alloc: Global) -> Result<()> {
     hmac::signatures(sweep, alloc)?;
     hmac::verifiers(sweep, alloc)?;
     hmac::factories(sweep, alloc)?;
-    hmac::key_calls(sweep, alloc)
+    hmac::key_calls(sweep, alloc)?;
+    prepared::secrets(sweep, alloc)?;
+    prepared::signatures(sweep, alloc)?;
+    prepared::factories(sweep, alloc)
 }
 
 fn try_tokens(sweep: &mut Sweep, alloc: Global) -> Result<()> {

@@ -1,7 +1,7 @@
 //! Calls on small and large texts, keys and lists, with no request refused.
 
 use crate::sweep::Sweep;
-use jsonwebtoken::crypto::hmac::HmacProvider;
+use jsonwebtoken::crypto::hmac::{HmacProvider, PreparedHmac};
 use jsonwebtoken::jwk::{Jwk, JwkSet, ThumbprintHash};
 use jsonwebtoken::jws::{self, Jws};
 use jsonwebtoken::{
@@ -117,6 +117,18 @@ fn comes_back(alloc: Global, token: &Token) -> Result<bool> {
     )
 }
 
+/// The same by a provider that has its secret prepared.
+fn comes_back_prepared(alloc: Global, token: &Token) -> Result<bool> {
+    let secret = token.secret.as_bytes();
+    let provider = PreparedHmac::new(alloc, Algorithm::HS256, secret)?;
+    let key = EncodingKey::from_secret(alloc, secret)?;
+    let text = encode(alloc, &provider, &token.header, &token.claims, &key)?;
+    let key = DecodingKey::from_secret(alloc, secret)?;
+    let validation = Validation::new(alloc, Algorithm::HS256)?;
+    let answer = decode(alloc, &provider, text.as_bytes(), &key, &validation, 0);
+    is_given_back(answer, token)
+}
+
 fn decoded_parts(alloc: Global, parts: &Jws<Value>, secret: &str) -> Result<TokenData<Value>> {
     let key = DecodingKey::from_secret(alloc, secret.as_bytes())?;
     let validation = Validation::new(alloc, Algorithm::HS256)?;
@@ -180,6 +192,9 @@ fn try_size(sweep: &mut Sweep, alloc: Global, size: usize) -> Result<()> {
     sweep
         .of("jws::encode, jws::decode", "a text and a secret")
         .sized(size, comes_back_in_parts(alloc, &token));
+    sweep
+        .of("PreparedHmac::new, encode, decode", "a text and a secret")
+        .sized(size, comes_back_prepared(alloc, &token));
     let token = with_header(alloc, size)?;
     sweep
         .of("encode, decode", "a header")

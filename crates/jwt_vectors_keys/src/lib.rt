@@ -10,6 +10,8 @@ mod key_bytes;
 #[cfg(test)]
 mod keys_of_jwks;
 #[cfg(test)]
+mod prepared;
+#[cfg(test)]
 mod signatures;
 #[cfg(test)]
 mod thumbprints;
