@@ -108,29 +108,39 @@ impl Prepared {
         })
     }
 
-    fn decode<P: CryptoProvider>(&self, alloc: Global, provider: &P, token: &[u8]) -> Result<()> {
-        let data: TokenData<Value> = decode(
+    // What a call answers is looked at where it is: to move it would cost as much as a step of the call.
+    fn decode<P: CryptoProvider>(&self, alloc: Global, provider: &P, token: &[u8]) -> bool {
+        let answer: Result<TokenData<Value>> = decode(
             alloc,
             provider,
             token,
             &self.reading.key,
             &self.reading.validation,
             0,
-        )?;
-        drop(black_box(data));
-        Ok(())
+        );
+        black_box(&answer).is_ok()
     }
 
-    fn encode<P: CryptoProvider>(&self, alloc: Global, provider: &P) -> Result<()> {
-        let token = encode(
+    fn encode<P: CryptoProvider>(&self, alloc: Global, provider: &P) -> bool {
+        let answer = encode(
             alloc,
             provider,
             &self.issuing.header,
             black_box(&self.claims),
             &self.issuing.key,
-        )?;
-        drop(black_box(token));
-        Ok(())
+        );
+        black_box(&answer).is_ok()
+    }
+
+    fn is_done(&self, alloc: Global, text: &str) -> bool {
+        let token = text.as_bytes();
+        match self.work {
+            Work::Decode => self.decode(alloc, &HmacProvider, token),
+            Work::Encode => self.encode(alloc, &HmacProvider),
+            Work::PreparedDecode => self.decode(alloc, &self.provider, token),
+            Work::PreparedEncode => self.encode(alloc, &self.provider),
+            _ => black_box(&decode_header(alloc, token)).is_ok(),
+        }
     }
 }
 
@@ -154,15 +164,15 @@ fn compare(
     Ok(())
 }
 
-fn repeat_calls(alloc: Global, prepared: &Prepared, text: &str, count: u64) -> Result<()> {
+fn repeat_calls(
+    alloc: Global,
+    prepared: &Prepared,
+    text: &str,
+    count: u64,
+) -> std::result::Result<(), BenchFault> {
     for _ in 0..count {
-        let token = black_box(text).as_bytes();
-        match prepared.work {
-            Work::Decode => prepared.decode(alloc, &HmacProvider, token)?,
-            Work::Encode => prepared.encode(alloc, &HmacProvider)?,
-            Work::PreparedDecode => prepared.decode(alloc, &prepared.provider, token)?,
-            Work::PreparedEncode => prepared.encode(alloc, &prepared.provider)?,
-            _ => drop(black_box(decode_header(alloc, token)?)),
+        if !prepared.is_done(alloc, black_box(text)) {
+            return Err(BenchFault::Refused);
         }
     }
     Ok(())
@@ -179,6 +189,6 @@ pub fn repeat(
     match prepared.work {
         Work::CompareFirst => compare(alloc, bytes, 0, count),
         Work::CompareLast => compare(alloc, bytes, bytes.len().saturating_sub(1), count),
-        _ => Ok(repeat_calls(alloc, prepared, text, count)?),
+        _ => repeat_calls(alloc, prepared, text, count),
     }
 }

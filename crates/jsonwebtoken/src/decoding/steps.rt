@@ -128,9 +128,11 @@ pub(crate) fn opened(
     ensures { Step (opening (options_of validation.now)) opening_tests
         (with_parts (parts_in parts.now)) (λ x h. x.header ≡ h) result }
 {
-    let header = read_header(alloc, parts.header)?;
-    check_crit(&header, validation)?;
-    Ok(header)
+    let header = read_header(alloc, parts.header);
+    if let Ok(header) = &header {
+        check_crit(header, validation)?;
+    }
+    header
 }
 
 /// The verifier by the key and the header's algorithm, which is among those that are allowed.
