@@ -8,6 +8,8 @@ mod first_failed_tests;
 #[cfg(test)]
 mod issued_tokens;
 #[cfg(test)]
+mod prepared_secrets;
+#[cfg(test)]
 mod token_headers;
 #[cfg(test)]
 mod tokens_by_sets;
