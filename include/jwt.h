@@ -1,5 +1,5 @@
 /*
- * JSON Web Tokens (RFC 7519) in their compact form, read and verified by a library that is proved: what is said here of
+ * JSON Web Tokens (RFC 7519) in their compact form, read, verified and issued by a library that is proved: what is said here of
  * each call is what its contract says for every input (crates/jwt_c/src/lib.rt).
  *
  * Every call takes byte slices as a pointer and a length; a pointer whose length is 0 may be null. Texts need no zero
@@ -70,7 +70,12 @@ enum jwt_status {
     /* the options are no JSON object of options */
     JWT_BAD_OPTIONS = 101,
     /* jwt_status_text was asked for a number that is no status */
-    JWT_NO_STATUS = 102
+    JWT_NO_STATUS = 102,
+    /* a JSON text that a call was given is no key set, header, object of claims, or key */
+    JWT_BAD_SET = 103,
+    JWT_BAD_HEADER = 104,
+    JWT_BAD_CLAIMS = 105,
+    JWT_BAD_KEY = 106
 };
 
 /* The algorithms (RFC 7518 section 3.1, RFC 8037 section 3.1). 0 is none. */
@@ -113,6 +118,17 @@ uint32_t jwt_decode_hmac(const uint8_t *token, size_t token_len,
                          uint8_t *room, size_t room_len, size_t *len);
 
 /*
+ * The same as jwt_decode_hmac with the key of a set that the header names by its `kid`. The set is JSON, as
+ * {"keys":[{"kty":"oct","kid":"a","k":"c2VjcmV0"}]} (RFC 7517 section 5), read after the options; JWT_BAD_SET where it is
+ * none. Of several keys with that `kid` the first counts. Where the header has no `kid`, or no key has it: JWT_NO_KEY.
+ */
+uint32_t jwt_decode_set(const uint8_t *token, size_t token_len,
+                        const uint8_t *set, size_t set_len,
+                        const uint8_t *options, size_t options_len,
+                        uint64_t now,
+                        uint8_t *room, size_t room_len, size_t *len);
+
+/*
  * What is to be checked of a token by cryptography of the caller's: the number of the algorithm that the header names in
  * *algorithm, the length of the message in *message_len, which is the front of the token, and the signature's bytes in
  * the room. For the curves these are the two numbers one after the other (RFC 7518 section 3.4). Both numbers are given
@@ -143,6 +159,24 @@ uint32_t jwt_decode_verdict(const uint8_t *token, size_t token_len,
 /* Gives the header of a token: compact JSON, members in the order of their names. Nothing is verified. */
 uint32_t jwt_decode_header(const uint8_t *token, size_t token_len,
                            uint8_t *room, size_t room_len, size_t *len);
+
+/*
+ * Gives the token of a header and claims, signed with a secret, by HMAC. The header is JSON, as {"alg":"HS256","typ":"JWT"},
+ * and so are the claims, of an object: JWT_BAD_HEADER and then JWT_BAD_CLAIMS where they are none. An algorithm of another
+ * family is JWT_INVALID_ALGORITHM, and claims with a number that is no integer are JWT_JSON.
+ */
+uint32_t jwt_encode_hmac(const uint8_t *header, size_t header_len,
+                         const uint8_t *claims, size_t claims_len,
+                         const uint8_t *secret, size_t secret_len,
+                         uint8_t *room, size_t room_len, size_t *len);
+
+/*
+ * Gives the thumbprint (RFC 7638) of a key, which is JSON (RFC 7517 section 4; JWT_BAD_KEY where it is none), by SHA-2 with
+ * so many bits: 256, 384 or 512. Any other number is JWT_INVALID_ALGORITHM_NAME. A key of a kind that has no thumbprint is
+ * JWT_UNSUPPORTED_ALGORITHM, and one whose curve is not of its kind JWT_INVALID_KEY_FORMAT.
+ */
+uint32_t jwt_thumbprint(const uint8_t *key, size_t key_len, uint32_t bits,
+                        uint8_t *room, size_t room_len, size_t *len);
 
 /* Gives the text of a status, as "Missing required claim: exp". */
 uint32_t jwt_status_text(uint32_t status, uint8_t *room, size_t room_len, size_t *len);

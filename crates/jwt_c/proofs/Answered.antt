@@ -4,15 +4,15 @@ use Rattle.jwt_base.specs.Kind.{Kind}
 use Rattle.jwt_base.specs.Kind as kind
 use Rattle.jwt_base.specs.KindOf.{IsMemory, kind_of}
 use Rattle.jwt_base.specs.declared.errors.Error.{Error}
-use Rattle.jwt_validation.specs.Options.{Options}
-use Rattle.jsonwebtoken.specs.Tests.{Contents}
-use Rattle.jwt_c.specs.Calls.{Answer, Gives, Leaves, AnswersWhere, IsOptionsFault, answer_of, refusal_status}
+use Rattle.jwt_c.specs.Calls.{Answer, Gives, Leaves, AnswersBy, answer_of, refusal_status}
+use Rattle.jwt_c.specs.Inputs.{IsReadAs}
 use Rattle.jwt_c.specs.Status.{IsGiven, IsKept}
-use Rattle.jwt_c.specs.declared.answers.Refusal.{Refusal}
-use Rattle.jwt_c.specs.declared.answers.Refusal.TheVariants as refused
+use Rattle.jwt_c.specs.declared.inputs.Input.{Input}
+use Rattle.jwt_c.specs.declared.inputs.Refusal.{Refusal}
+use Rattle.jwt_c.specs.declared.inputs.Refusal.TheVariants as refused
 
 kept_by : (r : Refusal) (s n : ℕ) (old new : List ℕ) → IsKept (refusal_status r) s n old new → Leaves (answer_of r) s n old new
-kept_by refused.Options s n old new k = k
+kept_by (refused.Input i) s n old new k = k
 kept_by (refused.Token e) s n old new k = k
 
 -- an answer by its two sides
@@ -23,7 +23,18 @@ pub answered : {V : Type 0} (items : V → List ℕ) (By : Answer → Type 0) (r
 answered items By (Ok b) s n old new p q given kept = (Gives (items b), p, given)
 answered items By (Err e) s n old new p q given kept = (answer_of e, q, kept_by e s n old new kept)
 
--- what is of no options is answered so by each call
-pub options_fault : (text : List ℕ) (A : Options → Contents → Type 0) (R : Options → Kind → Type 0) (r : Refusal) → IsOptionsFault text r → AnswersWhere text A R (answer_of r)
-options_fault text A R refused.Options f = f
-options_fault text A R (refused.Token e) f = inl f
+-- a text that could not be read is answered so, where the call misreads it
+pub misread : {T E : Type 0} (Reads : E → Type 0) (MisreadAs : Input → Type 0) (G : E → List ℕ → Type 0) (R : E → Kind → Type 0)
+    (input : Input) (None : Type 0) → (None → MisreadAs input) → (r : Result T Error) (x : Result T Refusal) → IsReadAs input r x → IfErr r (λ e. IsMemory e ⊎ None)
+    → IfErr x (λ f. AnswersBy Reads MisreadAs G R (answer_of f))
+misread Reads M G R input N means (Ok v) (Ok w) p n = tt
+misread Reads M G R input N means (Ok v) (Err r) p n = absurd p
+misread Reads M G R input N means (Err e) (Ok w) p n = tt
+misread Reads M G R input N means (Err e) (Err (refused.Input i)) p (inl m) = absurd (p.1 m)
+misread Reads M G R input N means (Err e) (Err (refused.Input i)) p (inr none) = rw p.0 (means none)
+misread Reads M G R input N means (Err e) (Err (refused.Token f)) p n = inl p
+
+-- what was read is what is handed on
+pub read_ok : {T : Type 0} (P : T → Type 0) (input : Input) (r : Result T Error) (v : T) → IsReadAs input r (Ok v) → IfOk r P → P v
+read_ok P input (Ok w) v p q = rw p q
+read_ok P input (Err e) v p q = absurd p

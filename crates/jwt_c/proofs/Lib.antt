@@ -1,3 +1,4 @@
 pub mod Answered
 pub mod Handed
+pub mod Readings
 pub mod Statuses

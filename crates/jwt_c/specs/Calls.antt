@@ -18,14 +18,17 @@ use Rattle.jwt_base.specs.declared.errors.Error.{Error}
 use Rattle.jwt_hmac.specs.HmacKeys.{HmacAccepts, hash_for, refusal}
 use Rattle.jwt_header.specs.Header.{header_value}
 use Rattle.jwt_keys.specs.Key.{Plain, key_family}
+use Rattle.jwt_keys.specs.declared.jwk.Jwk.{Jwk}
 use Rattle.jwt_validation.specs.Options.{Options}
-use Rattle.jwt_validation.specs.OptionsRead.{ReadsOptions}
 use Rattle.jwt_verdict.specs.Verdict.{Verdict, IsVerified, refusal_by}
-use Rattle.jsonwebtoken.specs.Tests.{Call, Compact, Contents, Given, Passes, FirstFailed, decode_order, header_order, signed_order, header_call, message_of, verifying_call}
+use Rattle.jsonwebtoken.specs.Tests.{Call, Compact, Contents, Given, InSet, Passes, FirstFailed, decode_order, header_order, set_order, signed_order, header_call, message_of, verifying_call}
 use Rattle.jsonwebtoken.specs.Vouched.{IsVouched}
-use Rattle.jwt_c.specs.Status.{number, bad_options, algorithm_numbered, IsGiven, IsKept}
-use Rattle.jwt_c.specs.declared.answers.Refusal.{Refusal}
-use Rattle.jwt_c.specs.declared.answers.Refusal.TheVariants as refused
+use Rattle.jwt_c.specs.Inputs.{ReadsOptionsText, ReadsSetText}
+use Rattle.jwt_c.specs.Status.{number, input_status, algorithm_numbered, IsGiven, IsKept}
+use Rattle.jwt_c.specs.declared.inputs.Input.{Input}
+use Rattle.jwt_c.specs.declared.inputs.Input.TheVariants as input
+use Rattle.jwt_c.specs.declared.inputs.Refusal.{Refusal}
+use Rattle.jwt_c.specs.declared.inputs.Refusal.TheVariants as refused
 
 -- ---- answers
 
@@ -35,14 +38,14 @@ pub data Answer : Type 0 where
   Gives : List ℕ → Answer
   -- the token is refused
   Refuses : Kind → Answer
-  -- the options are none
-  RefusesOptions : Answer
+  -- this text is not of what it is to be
+  Misreads : Input → Answer
 
 -- what is left of it in status, length and room
 abbrev pub Leaves : Answer → ℕ → ℕ → List ℕ → List ℕ → Type 0
 Leaves (Gives bytes) = IsGiven bytes
 Leaves (Refuses k) = IsKept (number k)
-Leaves RefusesOptions = IsKept bad_options
+Leaves (Misreads i) = IsKept (input_status i)
 
 -- ---- texts
 
@@ -54,9 +57,29 @@ pub record IsTextOf (text : List ℕ) (value : Data) : Type 0 where
   pub order : IsInOrder text value
   pub exact : has_float value ≡ false → text ≡ compact_text value
 
--- the text is JSON of an object of options
-abbrev pub ReadsOptionsText : List ℕ → Options → Type 0
-ReadsOptionsText text options = (value : Data) × IsJson text value × ReadsOptions value options
+-- ---- texts that are given
+
+-- a text that nothing reads as this
+abbrev pub Misread : {X : Type 0} → (X → Type 0) → Type 0
+Misread Reads = (x : _) → ¬ Reads x
+
+-- the only text is misread
+abbrev pub MisreadsOne : {X : Type 0} → Input → (X → Type 0) → Input → Type 0
+MisreadsOne first Reads i = (i ≡ first) × Misread Reads
+
+-- the first of two texts is misread; or it is read, and the second is misread
+abbrev pub MisreadsTwo : {X Y : Type 0} → Input → (X → Type 0) → Input → (Y → Type 0) → Input → Type 0
+MisreadsTwo first Reads second ReadsToo i = MisreadsOne first Reads i
+    ⊎ (((x : _) × Reads x) × MisreadsOne second ReadsToo i)
+
+-- Of what the texts are read as: the bytes that are given; or the kind with which that is refused, or memory ran out; or
+-- a text is misread.
+abbrev pub AnswersBy : {E : Type 0} → (E → Type 0) → (Input → Type 0)
+    → (E → List ℕ → Type 0) → (E → Kind → Type 0) → Answer → Type 0
+AnswersBy Reads MisreadAs Shows Refused (Gives bytes) = (e : _) × Reads e × Shows e bytes
+AnswersBy Reads MisreadAs Shows Refused (Refuses k) = (k ≡ kind.OutOfMemory)
+    ⊎ ((e : _) × Reads e × Refused e k)
+AnswersBy Reads MisreadAs Shows Refused (Misreads i) = MisreadAs i
 
 -- ---- claims
 
@@ -72,21 +95,36 @@ verdict_call token v now options =
     verifying_call (Compact token) (Given (Plain (family_of v.algorithm) [])) options now
     (refusal_by v) (λ _ _. IsVerified v) (λ value claims. view claims ≡ value)
 
--- With the options that the text is of: the claims of a token that is accepted; or the kind with which it is refused, or
--- memory ran out; or the text is of no options.
+-- `decode_with_set` by HMAC
+abbrev pub set_call : List ℕ → List Jwk → ℕ → Options → Call Value
+set_call token keys now options =
+    verifying_call (Compact token) (InSet keys) options now
+    (λ a key. refusal (hash_for a) (key_family key)) HmacAccepts (λ value claims. view claims ≡ value)
+
+-- the claims' text is that of contents that are accepted
+abbrev pub IsClaimsText : (Contents → Type 0) → List ℕ → Type 0
+IsClaimsText Accepted claims = (t : Contents) × Accepted t × IsTextOf claims t.payload_value
+
+-- with the options that the text is of: the claims of a token that is accepted, or why it is refused
 abbrev pub AnswersWhere : List ℕ → (Options → Contents → Type 0) → (Options → Kind → Type 0)
     → Answer → Type 0
-AnswersWhere text Accepted Refused (Gives claims) = (o : Options) × ReadsOptionsText text o
-    × ((t : Contents) × Accepted o t × IsTextOf claims t.payload_value)
-AnswersWhere text Accepted Refused (Refuses k) = (k ≡ kind.OutOfMemory)
-    ⊎ ((o : Options) × ReadsOptionsText text o × Refused o k)
-AnswersWhere text Accepted Refused RefusesOptions = (o : Options) → ¬ ReadsOptionsText text o
+AnswersWhere text Accepted Refused = AnswersBy
+    (ReadsOptionsText text) (MisreadsOne input.Options (ReadsOptionsText text))
+    (λ o. IsClaimsText (Accepted o)) Refused
 
 -- accepted is what passes every test of `decode`; a refusal has the kind of the first that fails (RFC 7519 section 7.2)
 abbrev pub AnswersHmac : List ℕ → List ℕ → List ℕ → ℕ → Answer → Type 0
 AnswersHmac text token secret now = AnswersWhere text
     (λ o. Passes (hmac_call token secret now o) decode_order)
     (λ o. FirstFailed (hmac_call token secret now o) decode_order)
+
+-- the same of `decode_with_set`; the options' text is read before that of the key set
+abbrev pub AnswersSet : List ℕ → List ℕ → List ℕ → ℕ → Answer → Type 0
+AnswersSet text token set now = AnswersBy {E = Options × List Jwk}
+    (λ e. ReadsOptionsText text e.0 × ReadsSetText set e.1)
+    (MisreadsTwo input.Options (ReadsOptionsText text) input.Set (ReadsSetText set))
+    (λ e. IsClaimsText (Passes (set_call token e.1 now e.0) set_order))
+    (λ e. FirstFailed (set_call token e.1 now e.0) set_order)
 
 -- accepted is what the verdict vouches for; a refusal has the kind of the first test of `decode` that fails
 abbrev pub AnswersVerdict : List ℕ → List ℕ → Verdict → ℕ → Answer → Type 0
@@ -121,7 +159,7 @@ abbrev pub AnswersHeader : List ℕ → Answer → Type 0
 AnswersHeader token (Gives text) = IsHeaderText token text
 AnswersHeader token (Refuses k) =
     (k ≡ kind.OutOfMemory) ⊎ FirstFailed (header_call token) header_order k
-AnswersHeader token RefusesOptions = ⊥
+AnswersHeader token (Misreads i) = ⊥
 
 -- what is left of what is signed: the header's algorithm, the length of the message, which is the front of the token,
 -- and the signature's bytes in the room (RFC 7515 section 5.1); or of a refusal
@@ -139,17 +177,12 @@ LeavesSigned token algorithm message_len status len before after =
 
 -- the answer that a refusal is, and its status
 abbrev pub answer_of : Refusal → Answer
-answer_of refused.Options = RefusesOptions
+answer_of (refused.Input i) = Misreads i
 answer_of (refused.Token e) = Refuses (kind_of e)
 
 abbrev pub refusal_status : Refusal → ℕ
-refusal_status refused.Options = bad_options
+refusal_status (refused.Input i) = input_status i
 refusal_status (refused.Token e) = number (kind_of e)
-
--- memory ran out, or the text is of no options
-abbrev pub IsOptionsFault : List ℕ → Refusal → Type 0
-IsOptionsFault text refused.Options = (o : Options) → ¬ ReadsOptionsText text o
-IsOptionsFault text (refused.Token e) = kind_of e ≡ kind.OutOfMemory
 
 -- the claims are handed out as their text, unless memory ran out, and a refusal as it is
 abbrev pub HandsOut : {D V : Type 0} → (D → Value) → (V → List ℕ)

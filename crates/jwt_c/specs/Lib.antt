@@ -1,3 +1,5 @@
 pub mod Status
+pub mod Inputs
 pub mod Calls
+pub mod Issued
 pub use Rattle.jwt_base.specs.Kind

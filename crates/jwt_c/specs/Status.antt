@@ -4,6 +4,8 @@ use Rattle.std.specs.Str.{bytes_eq}
 use Rattle.jwt_base.specs.Algorithm.{all_algorithms}
 use Rattle.jwt_base.specs.declared.algorithms.Algorithm.{Algorithm}
 use Rattle.jwt_base.specs.Kind.{Kind, InvalidToken, InvalidSignature, InvalidEcdsaKey, InvalidEddsaKey, RsaFailedSigning, InvalidAlgorithmName, UnsupportedAlgorithm, InvalidKeyFormat, ExpiredSignature, InvalidIssuer, InvalidAudience, InvalidSubject, ImmatureSignature, InvalidAlgorithm, MissingAlgorithm, MissingRequiredClaim, InvalidClaimFormat, InvalidRsaKey, Signing, Provider, Base64, Json, Utf8, OutOfMemory, ClockBeforeEpoch, InvalidCrit, NoKey}
+use Rattle.jwt_c.specs.declared.inputs.Input.{Input}
+use Rattle.jwt_c.specs.declared.inputs.Input.TheVariants as input
 
 -- ---- statuses
 
@@ -51,15 +53,20 @@ number NoKey = 25
 number (MissingRequiredClaim claim) = 26 + claim_place claim
 number (InvalidClaimFormat claim) = 32 + claim_place claim
 
--- a room is too small, options are none, a number is no status
+-- a room is too small, a number is no status
 abbrev pub no_room : ℕ
 no_room = 100
 
-abbrev pub bad_options : ℕ
-bad_options = 101
-
 abbrev pub no_status : ℕ
 no_status = 102
+
+-- a text is not of what it is to be
+abbrev pub input_status : Input → ℕ
+input_status input.Options = 101
+input_status input.Set = 103
+input_status input.Header = 104
+input_status input.Claims = 105
+input_status input.Key = 106
 
 -- the texts of the statuses from 0 on
 abbrev pub first_texts : List (List ℕ)
@@ -83,9 +90,13 @@ first_texts = codes "OK"
 abbrev pub status_text : ℕ → Option (List ℕ)
 status_text n =
     if n == no_room then Some (codes "Room too small")
-    else (if n == bad_options then Some (codes "Options not understood")
+    else (if n == input_status input.Options then Some (codes "Options not understood")
     else (if n == no_status then Some (codes "Unknown status")
-    else slice_get first_texts n))
+    else (if n == input_status input.Set then Some (codes "Key set not understood")
+    else (if n == input_status input.Header then Some (codes "Header not understood")
+    else (if n == input_status input.Claims then Some (codes "Claims not understood")
+    else (if n == input_status input.Key then Some (codes "Key not understood")
+    else slice_get first_texts n))))))
 
 -- what a status tells of the claim's name
 abbrev pub told_claim : List ℕ → List ℕ

@@ -8,70 +8,20 @@ ghost use Rattle.jwt_base.specs.KindOf.{kind_of, IsMemory};
 ghost use Rattle.jwt_header.specs.Header.{header_value};
 ghost use Rattle.jwt_validation.specs.OptionsOf.{options_of};
 ghost use Rattle.jsonwebtoken.specs.Tests.{Contents, Passes, FirstFailed, header_order, header_call};
-ghost use Rattle.jwt_c.specs.Calls.{Gives, AnswersHmac, AnswersVerdict, AnswersSaid, AnswersHeader, HandsOut, IsHeaderText, IsOptionsFault, ReadsOptionsText, answer_of};
+ghost use Rattle.jwt_c.specs.Calls.{Gives, AnswersHmac, AnswersSet, AnswersVerdict, AnswersSaid, AnswersHeader, HandsOut, IsHeaderText, answer_of};
 ghost use Rattle.jwt_c.specs.Status.{algorithm_numbered};
 
+use crate::inputs::{Input, Refusal, read_as, read_options, read_set};
 use crate::status::numbered_algorithm;
 use jsonwebtoken::crypto::hmac::HmacProvider;
 use jsonwebtoken::crypto::verdict::VerdictProvider;
 use jsonwebtoken::errors::{Error, ErrorKind, new_error};
-use jsonwebtoken::{DecodingKey, TokenData, Validation, decode, decode_by_verdict, decode_header};
-use jwt_base::serialization::json_value;
+use jsonwebtoken::{
+    DecodingKey, TokenData, decode, decode_by_verdict, decode_header, decode_with_set,
+};
 use serde_json::Value;
-use std::alloc::{AllocError, Global};
+use std::alloc::Global;
 use std::result::Result;
-
-/// Why a call gives nothing.
-#[derive(Drop)]
-pub(crate) enum Refusal {
-    Options,
-    Token(Error),
-}
-
-impl From<Error> for Refusal {
-    ghost use Rattle.jwt_c.specs.Calls.{Refuses, answer_of};
-
-    ghost from_gives = { λ e r. answer_of r ≡ Refuses (kind_of e) };
-
-    fn from(refused: Error) -> Refusal {
-        Refusal::Token(refused)
-    }
-}
-
-impl From<AllocError> for Refusal {
-    ghost use Rattle.jwt_c.specs.Calls.{Refuses, answer_of};
-
-    ghost from_gives = { λ _ r. answer_of r ≡ Refuses kind.OutOfMemory };
-
-    fn from(refused: AllocError) -> Refusal {
-        Refusal::Token(Error::from(refused))
-    }
-}
-
-fn read_options(alloc: Global, text: &[u8]) -> Result<Validation, Error>
-    ensures ok { IfOk result (λ v. ReadsOptionsText text.now (options_of v)) }
-    ensures err { IfErr result (λ e. IsMemory e ⊎ ((o : _) → ¬ ReadsOptionsText text.now o)) }
-{
-    let value = json_value(alloc, text)?;
-    let options = Validation::from_value(alloc, &value)?;
-    Ok(options)
-}
-
-fn options_in(alloc: Global, text: &[u8]) -> Result<Validation, Refusal>
-    ensures ok { IfOk result (λ v. ReadsOptionsText text.now (options_of v)) }
-    ensures err { IfErr result (IsOptionsFault text.now) }
-{
-    match read_options(alloc, text) {
-        Ok(validation) => Ok(validation),
-        Err(refused) => {
-            if *refused.kind() == ErrorKind::OutOfMemory {
-                Err(Refusal::Token(refused))
-            } else {
-                Err(Refusal::Options)
-            }
-        }
-    }
-}
 
 // The claims as their text, or the refusal.
 fn hand_out(alloc: Global, answer: Result<TokenData<Value>, Error>) -> Result<Vec<u8>, Refusal>
@@ -97,9 +47,26 @@ pub(crate) fn hmac_answer(
     ensures ok { IfOk result (λ b. AnswersHmac options.now token.now secret.now now (Gives b.items)) }
     ensures err { IfErr result (λ r. AnswersHmac options.now token.now secret.now now (answer_of r)) }
 {
-    let validation = options_in(alloc, options)?;
+    let validation = read_as(Input::Options, read_options(alloc, options))?;
     let key = DecodingKey::from_secret(alloc, secret)?;
     let answer = decode(alloc, &HmacProvider, token, &key, &validation, now);
+    hand_out(alloc, answer)
+}
+
+/// The claims of a token that is verified with the key of the set that its header names, by HMAC.
+pub(crate) fn set_answer(
+    alloc: Global,
+    token: &[u8],
+    set: &[u8],
+    options: &[u8],
+    now: u64,
+) -> Result<Vec<u8>, Refusal>
+    ensures ok { IfOk result (λ b. AnswersSet options.now token.now set.now now (Gives b.items)) }
+    ensures err { IfErr result (λ r. AnswersSet options.now token.now set.now now (answer_of r)) }
+{
+    let validation = read_as(Input::Options, read_options(alloc, options))?;
+    let keys = read_as(Input::Set, read_set(alloc, set))?;
+    let answer = decode_with_set(alloc, &HmacProvider, token, &keys, &validation, now);
     hand_out(alloc, answer)
 }
 
@@ -113,7 +80,7 @@ fn verdict_answer(
     ensures ok { IfOk result (λ b. AnswersVerdict options.now token.now verdict.now now (Gives b.items)) }
     ensures err { IfErr result (λ r. AnswersVerdict options.now token.now verdict.now now (answer_of r)) }
 {
-    let validation = options_in(alloc, options)?;
+    let validation = read_as(Input::Options, read_options(alloc, options))?;
     let answer = decode_by_verdict(alloc, token, verdict, &validation, now);
     hand_out(alloc, answer)
 }

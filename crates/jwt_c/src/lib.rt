@@ -5,14 +5,18 @@
 #![tactic(auto)]
 
 mod answers;
+mod inputs;
+mod issued;
 mod status;
 
 ghost use Rattle.std.specs.Prelude.{◌≡◌, Some, MatchOption};
 ghost use Rattle.jwt_base.specs.Kind.{Kind, text_of};
-ghost use Rattle.jwt_c.specs.Calls.{Answer, Leaves, LeavesSigned, AnswersHmac, AnswersSaid, AnswersHeader};
+ghost use Rattle.jwt_c.specs.Calls.{Answer, Leaves, LeavesSigned, AnswersHmac, AnswersSet, AnswersSaid, AnswersHeader};
+ghost use Rattle.jwt_c.specs.Issued.{AnswersEncode, AnswersThumbprint, hash_numbered};
 ghost use Rattle.jwt_c.specs.Status.{number, no_status, status_text, told, algorithm_numbered, IsGiven, IsKept};
 
-use crate::answers::{header_answer, hmac_answer, said_answer};
+use crate::answers::{header_answer, hmac_answer, said_answer, set_answer};
+use crate::issued::{encode_answer, thumbprint_answer};
 use crate::status::{algorithm_number, leave, number_of, put_bytes, text_of};
 use jsonwebtoken::signed_part;
 use std::alloc::Global;
@@ -33,6 +37,25 @@ pub extern "C" fn jwt_decode_hmac(
         × Leaves a result len.new room.old room.new }
 {
     let answer = hmac_answer(alloc, token, secret, options, now);
+    leave(answer, room, len)
+}
+
+/// The same with the key of a set that the token's header names by its `kid`: the set is a JSON text (RFC 7517 section
+/// 5), and is read after the options.
+#[unsafe(no_mangle)]
+pub extern "C" fn jwt_decode_set(
+    alloc: Global,
+    token: &[u8],
+    set: &[u8],
+    options: &[u8],
+    now: u64,
+    room: &mut [u8],
+    len: &mut usize,
+) -> u32
+    ensures { (a : Answer) × AnswersSet options.now token.now set.now now a
+        × Leaves a result len.new room.old room.new }
+{
+    let answer = set_answer(alloc, token, set, options, now);
     leave(answer, room, len)
 }
 
@@ -100,6 +123,40 @@ pub extern "C" fn jwt_decode_header(
     ensures { (a : Answer) × AnswersHeader token.now a × Leaves a result len.new room.old room.new }
 {
     let answer = header_answer(alloc, token);
+    leave(answer, room, len)
+}
+
+/// Gives the token of a header and claims, which are JSON texts of objects, signed with a secret, by HMAC.
+#[unsafe(no_mangle)]
+pub extern "C" fn jwt_encode_hmac(
+    alloc: Global,
+    header: &[u8],
+    claims: &[u8],
+    secret: &[u8],
+    room: &mut [u8],
+    len: &mut usize,
+) -> u32
+    ensures { (a : Answer) × AnswersEncode header.now claims.now secret.now a
+        × Leaves a result len.new room.old room.new }
+{
+    let answer = encode_answer(alloc, header, claims, secret);
+    leave(answer, room, len)
+}
+
+/// Gives the thumbprint (RFC 7638) of a key, which is a JSON text, by SHA-2 with so many bits. A number of no hash is
+/// `InvalidAlgorithmName`, before the key.
+#[unsafe(no_mangle)]
+pub extern "C" fn jwt_thumbprint(
+    alloc: Global,
+    key: &[u8],
+    bits: u32,
+    room: &mut [u8],
+    len: &mut usize,
+) -> u32
+    ensures { (a : Answer) × AnswersThumbprint (hash_numbered bits) key.now a
+        × Leaves a result len.new room.old room.new }
+{
+    let answer = thumbprint_answer(alloc, key, bits);
     leave(answer, room, len)
 }
 

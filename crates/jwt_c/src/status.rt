@@ -3,9 +3,9 @@
 ghost use Rattle.std.specs.Prelude.{◌≡◌, ◌≤◌, Some, IfOk, IfErr, map, option_map, slice_get};
 ghost use Rattle.jwt_base.specs.KindOf.{kind_held};
 ghost use Rattle.jwt_c.specs.Calls.{refusal_status};
-ghost use Rattle.jwt_c.specs.Status.{number, claim_place, first_texts, status_text, algorithm_numbered, IsGiven, IsKept};
+ghost use Rattle.jwt_c.specs.Status.{number, input_status, claim_place, first_texts, status_text, algorithm_numbered, IsGiven, IsKept};
 
-use crate::answers::Refusal;
+use crate::inputs::{Input, Refusal};
 use jsonwebtoken::Algorithm;
 use jsonwebtoken::errors::ErrorKind;
 
@@ -58,11 +58,23 @@ pub(crate) fn number_of(kind: &ErrorKind) -> u32
     }
 }
 
+fn input_status(input: Input) -> u32
+    ensures { result ≡ input_status input }
+{
+    match input {
+        Input::Options => 101,
+        Input::Set => 103,
+        Input::Header => 104,
+        Input::Claims => 105,
+        Input::Key => 106,
+    }
+}
+
 fn status_of(refusal: &Refusal) -> u32
     ensures { result ≡ refusal_status refusal.now }
 {
     match refusal {
-        Refusal::Options => 101,
+        Refusal::Input(input) => input_status(*input),
         Refusal::Token(refused) => number_of(refused.kind()),
     }
 }
@@ -126,6 +138,10 @@ pub(crate) fn text_of(status: u32) -> Option<&'static str>
         100 => Some("Room too small"),
         101 => Some("Options not understood"),
         102 => Some("Unknown status"),
+        103 => Some("Key set not understood"),
+        104 => Some("Header not understood"),
+        105 => Some("Claims not understood"),
+        106 => Some("Key not understood"),
         _ => first_text(status),
     }
 }

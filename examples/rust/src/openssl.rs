@@ -1,0 +1,56 @@
+//! ECDSA over P-256 by OpenSSL's libcrypto.
+
+use std::ffi::{c_int, c_long, c_void};
+use std::ptr;
+
+#[link(name = "crypto")]
+extern "C" {
+    fn d2i_PUBKEY(key: *mut *mut c_void, der: *mut *const u8, len: c_long) -> *mut c_void;
+    fn EVP_PKEY_free(key: *mut c_void);
+    fn EVP_MD_CTX_new() -> *mut c_void;
+    fn EVP_MD_CTX_free(context: *mut c_void);
+    fn EVP_sha256() -> *const c_void;
+    fn EVP_DigestVerifyInit(
+        context: *mut c_void, used: *mut *mut c_void, hash: *const c_void, engine: *mut c_void, key: *mut c_void,
+    ) -> c_int;
+    fn EVP_DigestVerify(
+        context: *mut c_void, signature: *const u8, signature_len: usize, message: *const u8, message_len: usize,
+    ) -> c_int;
+}
+
+// What stands before a point in the DER form of a public key on P-256 (RFC 5480 section 2).
+const BEFORE_POINT: [u8; 26] = [
+    0x30, 0x59, 0x30, 0x13, 6, 7, 0x2a, 0x86, 0x48, 0xce, 0x3d, 2, 1, 6, 8, 0x2a, 0x86, 0x48, 0xce, 0x3d, 3, 1, 7, 3, 0x42, 0,
+];
+
+// An unsigned number as DER has it.
+fn der_number(bytes: &[u8]) -> Vec<u8> {
+    let start = bytes.iter().position(|byte| *byte != 0).unwrap_or(bytes.len());
+    let mut number = bytes[start..].to_vec();
+    if number.first().map_or(true, |byte| *byte >= 0x80) {
+        number.insert(0, 0);
+    }
+    [vec![2, number.len() as u8], number].concat()
+}
+
+/// Whether the signature, two numbers of 32 bytes (RFC 7518 section 3.4), is that of the message by the key of this point.
+pub fn accepts(x: &[u8; 32], y: &[u8; 32], message: &[u8], signature: &[u8]) -> bool {
+    if signature.len() != 64 {
+        return false;
+    }
+    let numbers = [der_number(&signature[..32]), der_number(&signature[32..])].concat();
+    let signature = [vec![0x30, numbers.len() as u8], numbers].concat();
+    let der = [&BEFORE_POINT[..], &[4], x, y].concat();
+    unsafe {
+        let key = d2i_PUBKEY(ptr::null_mut(), &mut der.as_ptr(), der.len() as c_long);
+        let context = EVP_MD_CTX_new();
+        let is_ready = !key.is_null()
+            && !context.is_null()
+            && EVP_DigestVerifyInit(context, ptr::null_mut(), EVP_sha256(), ptr::null_mut(), key) == 1;
+        let verdict = is_ready
+            && EVP_DigestVerify(context, signature.as_ptr(), signature.len(), message.as_ptr(), message.len()) == 1;
+        EVP_MD_CTX_free(context);
+        EVP_PKEY_free(key);
+        verdict
+    }
+}
