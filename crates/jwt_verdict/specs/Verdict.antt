@@ -1,12 +1,12 @@
 -- A caller's yes or no to one signature of one message.
-use Rattle.std.specs.Prelude.{◌≡◌, ℕ, List, Bool, IsTrue, Option, None, Some, if◌then◌else◌}
+use Rattle.std.specs.Prelude.{◌≡◌, ℕ, List, Bool, IsTrue, Option, Some, if◌then◌else◌}
 use denote.Enum.Bare.{sameb}
 use Rattle.jwt_base.specs.Algorithm.{family_of}
 use Rattle.jwt_base.specs.Kind.{Kind}
 use Rattle.jwt_base.specs.Kind as kind
 use Rattle.jwt_base.specs.declared.algorithms.Algorithm.{Algorithm}
 use Rattle.jwt_base.specs.contracts.algorithms.Algorithm.{the_type as algorithms}
-use Rattle.jwt_base.specs.contracts.algorithms.AlgorithmFamily.{the_type as families}
+use Rattle.jwt_keys.specs.FamilyRefusal.{family_refusal}
 use Rattle.jwt_keys.specs.Key.{Key, key_family}
 
 -- yes or no to this signature of this message, by this algorithm
@@ -26,5 +26,5 @@ pub record IsVerified (v : Verdict) (m s : List ℕ) : Type 0 where
 abbrev pub refusal_by : Verdict → Algorithm → Key → Option Kind
 refusal_by v a k =
     if sameb algorithms v.algorithm a
-    then (if sameb families (key_family k) (family_of a) then None else Some kind.InvalidKeyFormat)
+    then family_refusal (key_family k) (family_of a)
     else Some kind.InvalidAlgorithm

@@ -9,6 +9,7 @@ use Rattle.jwt_base.specs.declared.algorithms.Algorithm.{Algorithm}
 use Rattle.jwt_base.specs.contracts.algorithms.Algorithm.{the_type as algorithms}
 use Rattle.jwt_base.specs.contracts.algorithms.AlgorithmFamily.{the_type as families}
 use Rattle.jwt_base.specs.equality.VariantsSame.{variant_decides}
+use Rattle.jwt_keys.specs.FamilyRefusal.{family_refusal, family_fits}
 use Rattle.jwt_keys.specs.Key.{Key, Plain, key_family}
 use Rattle.jwt_verdict.specs.Verdict.{Verdict, refusal_by}
 
@@ -17,16 +18,13 @@ pub record IsMade (v : Verdict) (a : Algorithm) (k : Key) : Type 0 where
   pub algorithm : a ≡ v.algorithm
   pub family : key_family k ≡ family_of a
 
-made_at : (v : Verdict) (a : Algorithm) (k : Key) (b c : Bool)
-    → Decides b (v.algorithm ≡ a) → Decides c (key_family k ≡ family_of a)
-    → (if b then (if c then None else Some kind.InvalidKeyFormat) else Some kind.InvalidAlgorithm) ≡ None → IsMade v a k
-made_at v a k true true d e h = record { algorithm = sym (d.0 refl); family = e.0 refl }
-made_at v a k true false d e h = cc
-made_at v a k false c d e h = cc
+made_at : (v : Verdict) (a : Algorithm) (k : Key) (b : Bool) → Decides b (v.algorithm ≡ a)
+    → (if b then family_refusal (key_family k) (family_of a) else Some kind.InvalidAlgorithm) ≡ None → IsMade v a k
+made_at v a k true d h = record { algorithm = sym (d.0 refl); family = family_fits (key_family k) (family_of a) h }
+made_at v a k false d h = cc
 
 pub is_made : (v : Verdict) (a : Algorithm) (k : Key) → refusal_by v a k ≡ None → IsMade v a k
-is_made v a k h = made_at v a k (sameb algorithms v.algorithm a) (sameb families (key_family k) (family_of a))
-    (variant_decides algorithms tt v.algorithm a) (variant_decides families tt (key_family k) (family_of a)) h
+is_made v a k h = made_at v a k (sameb algorithms v.algorithm a) (variant_decides algorithms tt v.algorithm a) h
 
 -- the verdict's algorithm and the key of its family without bytes make a verifier
 pub made_by_own : (v : Verdict) (a : Algorithm) → a ≡ v.algorithm

@@ -1,0 +1,5 @@
+pub mod LongSecrets
+pub mod Numbers
+pub mod Published
+pub mod Reading
+pub mod Session

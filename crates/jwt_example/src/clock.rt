@@ -1,0 +1,14 @@
+//! The moment, from the system's clock.
+
+use std::io;
+use std::time::{Clock, SystemTime, UNIX_EPOCH};
+
+/// The moment by the system's clock, in whole seconds since 1970-01-01 00:00:00 UTC. A clock that is set before then is a
+/// fault.
+pub fn moment(clock: &impl Clock) -> io::Result<u64> {
+    let now = SystemTime::now(clock)?;
+    match now.duration_since(UNIX_EPOCH) {
+        Ok(duration) => Ok(duration.as_secs()),
+        Err(_) => Err(io::Error::from(io::ErrorKind::InvalidData)),
+    }
+}

@@ -1,0 +1,122 @@
+//! A service that logs users in: sessions as tokens, keys that are changed, a renewal, and a set of keys that others fetch.
+#![tactic(auto)]
+
+mod clock;
+mod fault;
+mod long_secrets;
+mod published;
+mod reading;
+mod renewal;
+mod samples;
+mod service;
+mod session;
+
+use clock::moment;
+use fault::Fault;
+use jsonwebtoken::jwk::JwkSet;
+use jsonwebtoken::{Algorithm, DecodingKey, Text, Texts};
+use published::{publish, set_text};
+use renewal::last_moment;
+use samples::show_samples;
+use service::Service;
+use session::Session;
+use std::alloc::Global;
+use std::process::ExitCode;
+use std::rt::Runtime;
+
+/// 2026-01-01 01:00:00 UTC.
+const END: u64 = 1767229200;
+
+/// The public key of RFC 8037 appendix A.2.
+const ED_X: &str = "11qYAYKxCrfVS_7TyWQHOg7hcvPapiMlrwIaaPcHURo";
+
+/// The modulus of RFC 7638 section 3.1.
+const RSA_N: &str =
+    "0vx7agoebGcQSuuPiLJXZptN9nndrQmbXEps2aiAFbWhM78LhWx4cbbfAAtVT86zwu1RK7aPFFxuhDR1L6tSoc_BJECPebWKRXjBZCiFV4n3oknjhMstn64tZ_2W-5JsGY4Hc5n9yBXArwl93lqt7_RN5w6Cf0h4QyQ5v-65YGjQR0_FDW2QvzqY368QQMicAtaSqzs8KJZgnYb9c7d0zgdAZHzu6qMQvRL5hajrn1n91CbOpbISD08qNLyrdkt-bFTWhAI4vMQFh6WeZu0fM4lFd2NcRwr3XPksINHaQ-G_xBniIqbw0Ls1jF44-csFCur-kEgU8awapJzKnqDKgw";
+
+/// The session of Ada, who may read and write until `END`.
+fn ada(alloc: Global) -> Result<Session, Fault> {
+    Ok(Session {
+        user: Text::from_str(alloc, "ada")?,
+        roles: Some(Texts::from_slice(alloc, &["read", "write"])?),
+        ends: END,
+    })
+}
+
+/// Who is logged in by the token, or why it is refused.
+fn show<T: Runtime + AllocGlobal>(
+    rt: &T,
+    service: &Service,
+    token: &str,
+    now: u64,
+) -> Result<(), Fault> {
+    match service.read(rt.alloc(), token, now) {
+        Ok(session) => println!(rt; "{now}: {session:?}")?,
+        Err(refusal) => println!(rt; "{now}: {refusal}")?,
+    }
+    Ok(())
+}
+
+/// A session from its first token until its key is gone.
+fn show_sessions<T: Runtime + AllocGlobal>(rt: &T) -> Result<(), Fault> {
+    let alloc = rt.alloc();
+    let mut service = Service::new(alloc, "2025", b"last year's secret, of 32 bytes or more")?;
+    let session = ada(alloc)?;
+    let token = service.issue(alloc, &session)?;
+    println!(rt; "{token}")?;
+    let last = last_moment(service.validation(), &session);
+    println!(rt; "renew by {last}")?;
+    show(rt, &service, token.as_str(), last)?;
+    show(rt, &service, token.as_str(), last.saturating_add(1))?;
+    service.rotate(alloc, "2026", b"this year's secret, of 32 bytes or more")?;
+    show(rt, &service, token.as_str(), END)?;
+    let newer = service.issue(alloc, &session)?;
+    service.retire("2025");
+    show(rt, &service, token.as_str(), END)?;
+    show(rt, &service, newer.as_str(), END)?;
+    Ok(())
+}
+
+/// The set of an issuer with two public keys (RFC 8037 appendix A.2, RFC 7638 section 3.1).
+fn show_keys<T: Runtime + AllocGlobal>(rt: &T) -> Result<(), Fault> {
+    let alloc = rt.alloc();
+    let mut set = JwkSet::new(alloc);
+    let ed = DecodingKey::from_ed_components(alloc, ED_X)?;
+    publish(alloc, &mut set, &ed, Algorithm::EdDSA)?;
+    let rsa = DecodingKey::from_rsa_components(alloc, RSA_N, "AQAB")?;
+    publish(alloc, &mut set, &rsa, Algorithm::RS256)?;
+    println!(rt; "{}", set_text(alloc, &set)?)?;
+    Ok(())
+}
+
+/// A session that begins now, by the system's clock.
+fn show_moment<T: Runtime + AllocGlobal>(rt: &T) -> Result<(), Fault> {
+    let alloc = rt.alloc();
+    let service = Service::new(alloc, "2026", b"this year's secret, of 32 bytes or more")?;
+    let now = moment(rt)?;
+    let session = Session {
+        ends: now.saturating_add(3600),
+        ..ada(alloc)?
+    };
+    let token = service.issue(alloc, &session)?;
+    let session = service.read(alloc, token.as_str(), now)?;
+    println!(rt; "by the system's clock: {:?}", session.user)?;
+    Ok(())
+}
+
+fn show_all<T: Runtime + AllocGlobal>(rt: &T) -> Result<(), Fault> {
+    show_sessions(rt)?;
+    show_moment(rt)?;
+    show_keys(rt)?;
+    show_samples(rt)
+}
+
+fn main(rt: HostRuntime) -> ExitCode {
+    match show_all(&rt) {
+        Ok(()) => ExitCode::SUCCESS,
+        Err(fault) => {
+            let _ = eprintln!(rt; "{fault}");
+            ExitCode::from(1)
+        }
+    }
+}

@@ -1,0 +1,40 @@
+//! The session that a token carries.
+
+ghost use Rattle.jwt_example.specs.Reading.{reading_session};
+ghost use Rattle.jwt_validation.specs.OptionsOf.{options_of};
+ghost use Rattle.jsonwebtoken.specs.Calls.{Accepts, RefusesFirst, HasClaims};
+ghost use Rattle.jsonwebtoken.specs.Tests.{set_order};
+
+use crate::session::Session;
+use jsonwebtoken::crypto::hmac::HmacProvider;
+use jsonwebtoken::errors::Result;
+use jsonwebtoken::jwk::JwkSet;
+use jsonwebtoken::{TokenData, Validation, decode_with_set};
+use std::alloc::Global;
+
+/// The session of a token, verified at the moment `now`, in seconds since 1970-01-01 00:00:00 UTC, with the key of the set
+/// that the token names. Its contract is that of `decode_with_set`, of which a session is all that is kept.
+pub fn session_of(
+    alloc: Global,
+    token: &[u8],
+    keys: &JwkSet,
+    validation: &Validation,
+    now: u64,
+) -> Result<Session>
+    ensures accepted { Accepts
+        (reading_session token.now keys.now.keys.items (options_of validation.now) now)
+        set_order HasClaims result }
+    ensures refused { RefusesFirst
+        (reading_session token.now keys.now.keys.items (options_of validation.now) now)
+        set_order result }
+{
+    let data: TokenData<Session> = decode_with_set(
+        alloc,
+        &HmacProvider,
+        token,
+        keys,
+        validation,
+        now,
+    )?;
+    Ok(data.claims)
+}

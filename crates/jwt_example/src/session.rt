@@ -1,0 +1,65 @@
+//! The claims of a session: claims of a type of one's own.
+
+ghost use Rattle.std.specs.Prelude.{◌≡◌, Some, None, IfOk, IfErr};
+ghost use Rattle.serde_json.specs.View.{view};
+ghost use Rattle.jwt_base.specs.Kind as kind;
+ghost use Rattle.jwt_base.specs.KindOf.{RefusesAs};
+ghost use Rattle.jwt_example.specs.Numbers.{number_at};
+
+use jsonwebtoken::errors::{ErrorKind, Result, new_error};
+use jsonwebtoken::json::Claims;
+use jsonwebtoken::json::members::{optional_text, optional_texts, put_optional_texts, put_text};
+use jsonwebtoken::{Text, Texts};
+use serde_json::{Map, Value};
+use std::alloc::Global;
+
+/// What the token of a session says.
+#[derive(Debug, Drop)]
+pub struct Session {
+    /// Who is logged in, `sub`.
+    pub user: Text,
+    /// What the user may do, `roles`, where that is limited.
+    pub roles: Option<Texts>,
+    /// The end of the session, `exp`, in seconds since 1970-01-01 00:00:00 UTC.
+    pub ends: u64,
+}
+
+impl Claims for Session {
+    ghost use Rattle.jwt_example.specs.Session.{ReadsSession, session_value, written_alike};
+
+    ghost reads = { ReadsSession };
+
+    ghost written = { λ s. Some (session_value s) };
+
+    fn to_value(&self, alloc: Global) -> Result<Value> {
+        let mut members = Map::new(alloc);
+        put_optional_texts(alloc, &mut members, "roles", &self.roles)?;
+        put_text(alloc, &mut members, "sub", self.user.as_str())?;
+        serde_json::put(&mut members, alloc, "exp", Value::from(self.ends))?;
+        Ok(Value::Object(members))
+    }
+
+    fn from_value(alloc: Global, value: &Value) -> Result<Session> {
+        let Some(user) = optional_text(alloc, value, "sub")? else {
+            return Err(new_error(ErrorKind::Json));
+        };
+        Ok(Session {
+            user,
+            roles: optional_texts(alloc, value, "roles")?,
+            ends: seconds_at(value, "exp")?,
+        })
+    }
+
+    ghost decided = { written_alike };
+}
+
+/// The whole number at a member, not negative. Where there is none, the refusal is `Json`.
+fn seconds_at(value: &Value, name: &str) -> Result<u64>
+    ensures ok { IfOk result (λ n. number_at name.now (view value.now) ≡ Some n) }
+    ensures err { IfErr result (RefusesAs kind.Json (number_at name.now (view value.now) ≡ None)) }
+{
+    match value.get(name) {
+        Some(number) => number.as_u64().ok_or(new_error(ErrorKind::Json)),
+        None => Err(new_error(ErrorKind::Json)),
+    }
+}
