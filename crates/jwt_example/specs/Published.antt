@@ -1,17 +1,36 @@
--- Keys under their thumbprints.
-use Rattle.std.specs.Prelude.{◌≡◌, ℕ, List, [], ◌∷◌, ◌++◌, Some, Ok}
+-- Public keys under their thumbprints.
+use Rattle.std.specs.Prelude.{◌≡◌, ◌≢◌, ℕ, List, [], ◌∷◌, ◌++◌, Some, Ok}
 use Rattle.jwt_base.specs.Base64Url.{IsPart}
+use Rattle.jwt_base.specs.Kind as kind
+use Rattle.jwt_base.specs.declared.algorithms.Algorithm.{Algorithm}
+use Rattle.jwt_base.specs.declared.algorithms.AlgorithmFamily.TheVariants as family
+use Rattle.jwt_keys.specs.JwkOfKey.{jwk_of_key}
+use Rattle.jwt_keys.specs.Key.{Key, key_family}
+use Rattle.jwt_keys.specs.Provider.{KeyAnswers, reads_no_key}
 use Rattle.jwt_keys.specs.Thumbprint.{digested, thumb_text}
 use Rattle.jwt_keys.specs.declared.jwk.Jwk.{Jwk}
 use Rattle.jwt_hmac.specs.Hmac.{hash_bytes}
+use Rattle.jwt_hmac.specs.HmacKeys.{hash_named}
 use Rattle.jwt_hmac.specs.declared.hmac.Hash.TheVariants.{Sha256}
 
--- the id is the base64url text of the SHA-256 digest of the key's required members (RFC 7638 section 3)
-abbrev pub IsThumbprintOf : List ℕ → Jwk → Type 0
-IsThumbprintOf id key = (digest : List ℕ)
-    × ((digested (λ text. Ok (hash_bytes Sha256 text)) (thumb_text key) ≡ Ok digest) × IsPart id digest)
+-- what `HmacProvider` reads of keys in DER, which is nothing, and its digests
+abbrev pub answers : KeyAnswers
+answers = reads_no_key kind.UnsupportedAlgorithm (λ h text. Ok (hash_bytes (hash_named h) text))
 
--- the keys, and one more whose id is its thumbprint
-abbrev pub AddsNamedKey : List Jwk → List Jwk → Type 0
-AddsNamedKey old new = (key : Jwk) × ((new ≡ old ++ key ∷ [])
-    × ((id : List ℕ) × ((key.common.key_id ≡ Some id) × IsThumbprintOf id key)))
+-- the base64url text of the SHA-256 digest of the key's required members (RFC 7638 section 3)
+abbrev pub IsThumbprintOf : List ℕ → Jwk → Type 0
+IsThumbprintOf id jwk = (digest : List ℕ)
+    × ((digested (λ text. Ok (hash_bytes Sha256 text)) (thumb_text jwk) ≡ Ok digest) × IsPart id digest)
+
+-- the same under this id (RFC 7517 section 4.5)
+abbrev pub under : List ℕ → Jwk → Jwk
+under id jwk = record jwk { common = record jwk.common { key_id = Some id } }
+
+-- the keys of a set, and one more: the JSON Web Key of a key that is no secret, under its thumbprint
+pub record Publishes (a : Algorithm) (key : Key) (old new : List Jwk) : Type 0 where
+  pub jwk : Jwk
+  pub id : List ℕ
+  pub is_public : key_family key ≢ family.Hmac
+  pub is_of_key : jwk_of_key answers (Some a) key ≡ Ok jwk
+  pub is_thumbprint : IsThumbprintOf id jwk
+  pub added : new ≡ old ++ under id jwk ∷ []

@@ -77,7 +77,7 @@ fn show_sessions<T: Runtime + AllocGlobal>(rt: &T) -> Result<(), Fault> {
     Ok(())
 }
 
-/// The set of an issuer with two public keys (RFC 8037 appendix A.2, RFC 7638 section 3.1).
+/// The set of an issuer with two public keys (RFC 8037 appendix A.2, RFC 7638 section 3.1), and with no secret.
 fn show_keys<T: Runtime + AllocGlobal>(rt: &T) -> Result<(), Fault> {
     let alloc = rt.alloc();
     let mut set = JwkSet::new(alloc);
@@ -85,6 +85,10 @@ fn show_keys<T: Runtime + AllocGlobal>(rt: &T) -> Result<(), Fault> {
     publish(alloc, &mut set, &ed, Algorithm::EdDSA)?;
     let rsa = DecodingKey::from_rsa_components(alloc, RSA_N, "AQAB")?;
     publish(alloc, &mut set, &rsa, Algorithm::RS256)?;
+    let secret = DecodingKey::from_secret(alloc, b"this year's secret, of 32 bytes or more")?;
+    if let Err(refusal) = publish(alloc, &mut set, &secret, Algorithm::HS256) {
+        println!(rt; "{refusal}")?;
+    }
     println!(rt; "{}", set_text(alloc, &set)?)?;
     Ok(())
 }

@@ -1,29 +1,43 @@
 //! The keys that an issuer publishes, named by their thumbprints (RFC 7638).
 
-ghost use Rattle.std.specs.Prelude.{OnOk};
-ghost use Rattle.jwt_example.specs.Published.{AddsNamedKey};
+ghost use Rattle.std.specs.Prelude.{◌≡◌, ◌≢◌, OnOk};
+ghost use Rattle.jwt_base.specs.Kind as kind;
+ghost use Rattle.jsonwebtoken.specs.Steps.{AsksFor};
+ghost use Rattle.jwt_base.specs.declared.algorithms.AlgorithmFamily.TheVariants as family;
+ghost use Rattle.jwt_keys.specs.Key.{key_family};
+ghost use Rattle.jwt_example.specs.Published.{Publishes};
 
 use jsonwebtoken::crypto::hmac::HmacProvider;
-use jsonwebtoken::errors::Result;
-use jsonwebtoken::json::value_text;
+use jsonwebtoken::errors::{ErrorKind, Result, new_error};
 use jsonwebtoken::jwk::{Jwk, JwkSet, ThumbprintHash};
-use jsonwebtoken::{Algorithm, DecodingKey, Text};
+use jsonwebtoken::{Algorithm, AlgorithmFamily, DecodingKey, Text};
 use std::alloc::Global;
 
-/// Adds a public key to the set, for this algorithm, with its thumbprint by SHA-256 as its id. A secret has no place in a
-/// set that is published.
+/// Adds a public key to the set, for this algorithm, with its thumbprint by SHA-256 as its id. A secret is refused with
+/// `InvalidKeyFormat`, since its JSON Web Key holds it.
 pub fn publish(
     alloc: Global,
     set: &mut JwkSet,
     key: &DecodingKey,
     algorithm: Algorithm,
 ) -> Result<()>
-    ensures { OnOk result (AddsNamedKey set.old.keys.items set.new.keys.items) }
+    ensures { OnOk result (Publishes algorithm key.now set.old.keys.items set.new.keys.items) }
 {
+    refuse_secret(key)?;
     let mut jwk = Jwk::from_decoding_key(alloc, &HmacProvider, key, Some(algorithm))?;
     let thumbprint = jwk.thumbprint(alloc, &HmacProvider, ThumbprintHash::SHA256)?;
     jwk.common.key_id = Some(Text::from(thumbprint));
     set.keys.push(jwk)?;
+    Ok(())
+}
+
+/// Refuses a secret with `InvalidKeyFormat`.
+fn refuse_secret(key: &DecodingKey) -> Result<()>
+    ensures { AsksFor (key_family key.now ≢ family.Hmac) (λ k. k ≡ kind.InvalidKeyFormat) result }
+{
+    if key.family() == AlgorithmFamily::Hmac {
+        return Err(new_error(ErrorKind::InvalidKeyFormat));
+    }
     Ok(())
 }
 

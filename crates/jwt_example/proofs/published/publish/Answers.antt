@@ -1,7 +1,13 @@
-use Rattle.std.proofs.Common.{refl}
 use Rattle.jwt_example.proofs.published.publish.Goals as goal
 
 pub returns : goal.returns
 returns c =
     let ok = c.in_ok-thumbprint.ensures.ok in
-    (_, (c.in_ok-push.ensures.items, (c.from.result, (refl, (ok.0, (ok.1.0, rw c.from.ensures ok.1.1))))))
+    record {
+      jwk = c.in_ok-jwk.jwk;
+      id = c.from.result;
+      is_public = c.in_ok-refuse_secret.ensures;
+      is_of_key = c.in_ok-jwk.ensures.ok;
+      is_thumbprint = (ok.0, (ok.1.0, rw c.from.ensures ok.1.1));
+      added = c.in_ok-push.ensures.items;
+    }
