@@ -75,16 +75,22 @@ fn validation(alloc: Global) -> Result<Box<Validation>> {
 
 /// Adds the key that verifies with this secret to the set, and gives the one that signs with it.
 fn add_key(alloc: Global, set: &mut JwkSet, id: &str, secret: &[u8]) -> Result<Box<SigningKey>> {
-    let key = DecodingKey::from_secret(alloc, secret)?;
-    let mut jwk = Jwk::from_decoding_key(alloc, &HmacProvider, &key, Some(Algorithm::HS256))?;
-    jwk.common.key_id = Some(Text::from_str(alloc, id)?);
     let signing = SigningKey {
         id: Text::from_str(alloc, id)?,
         key: EncodingKey::from_secret(alloc, secret)?,
     };
     let signing = Box::new(alloc, signing)?;
-    set.keys.push(jwk)?;
+    set.keys.push(verifying_key(alloc, id, secret)?)?;
     Ok(signing)
+}
+
+/// The key that verifies with this secret, under this id.
+fn verifying_key(alloc: Global, id: &str, secret: &[u8]) -> Result<Jwk> {
+    let key = DecodingKey::from_secret(alloc, secret)?;
+    let id = Text::from_str(alloc, id)?;
+    let mut jwk = Jwk::from_decoding_key(alloc, &HmacProvider, &key, Some(Algorithm::HS256))?;
+    jwk.common.key_id = Some(id);
+    Ok(jwk)
 }
 
 fn has_id(jwk: &Jwk, id: &str) -> bool {
