@@ -5,7 +5,7 @@ ghost use Rattle.jwt_base.specs.Kind as kind;
 ghost use Rattle.jsonwebtoken.specs.Steps.{AsksFor};
 ghost use Rattle.jwt_base.specs.declared.algorithms.AlgorithmFamily.TheVariants as family;
 ghost use Rattle.jwt_keys.specs.Key.{key_family};
-ghost use Rattle.jwt_example.specs.Published.{Publishes};
+ghost use Rattle.jwt_example.specs.Published.{Publishes, under};
 
 use jsonwebtoken::crypto::hmac::HmacProvider;
 use jsonwebtoken::errors::{ErrorKind, Result, new_error};
@@ -26,9 +26,16 @@ pub fn publish(
     refuse_secret(key)?;
     let mut jwk = Jwk::from_decoding_key(alloc, &HmacProvider, key, Some(algorithm))?;
     let thumbprint = jwk.thumbprint(alloc, &HmacProvider, ThumbprintHash::SHA256)?;
-    jwk.common.key_id = Some(Text::from(thumbprint));
+    name(&mut jwk, Text::from(thumbprint));
     set.keys.push(jwk)?;
     Ok(())
+}
+
+/// Gives the key this id.
+pub fn name(jwk: &mut Jwk, id: Text)
+    ensures { jwk.new ≡ under id jwk.old }
+{
+    jwk.common.key_id = Some(id);
 }
 
 /// Refuses a secret with `InvalidKeyFormat`.

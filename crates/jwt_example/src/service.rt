@@ -1,5 +1,6 @@
 //! A service that issues the tokens of sessions, by keys that are changed from time to time.
 
+use crate::published::name;
 use crate::reading::session_of;
 use crate::session::Session;
 use jsonwebtoken::crypto::hmac::HmacProvider;
@@ -89,7 +90,7 @@ fn verifying_key(alloc: Global, id: &str, secret: &[u8]) -> Result<Jwk> {
     let key = DecodingKey::from_secret(alloc, secret)?;
     let id = Text::from_str(alloc, id)?;
     let mut jwk = Jwk::from_decoding_key(alloc, &HmacProvider, &key, Some(Algorithm::HS256))?;
-    jwk.common.key_id = Some(id);
+    name(&mut jwk, id);
     Ok(jwk)
 }
 

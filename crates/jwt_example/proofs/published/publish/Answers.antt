@@ -9,5 +9,5 @@ returns c =
       is_public = c.in_ok-refuse_secret.ensures;
       is_of_key = c.in_ok-jwk.ensures.ok;
       is_thumbprint = (ok.0, (ok.1.0, rw c.from.ensures ok.1.1));
-      added = c.in_ok-push.ensures.items;
+      added = rw (← c.name.ensures) c.in_ok-push.ensures.items;
     }
