@@ -1,6 +1,7 @@
 -- Public keys under their thumbprints.
-use Rattle.std.specs.Prelude.{◌≡◌, ◌≢◌, ℕ, List, [], ◌∷◌, ◌++◌, Some, Ok}
+use Rattle.std.specs.Prelude.{◌≡◌, ◌≢◌, ◌⊎◌, ℕ, List, [], ◌∷◌, ◌++◌, Some, Result, Ok, Err}
 use Rattle.jwt_base.specs.Base64Url.{IsPart}
+use Rattle.jwt_base.specs.Kind.{Kind}
 use Rattle.jwt_base.specs.Kind as kind
 use Rattle.jwt_base.specs.declared.algorithms.Algorithm.{Algorithm}
 use Rattle.jwt_base.specs.declared.algorithms.AlgorithmFamily.TheVariants as family
@@ -17,10 +18,13 @@ use Rattle.jwt_hmac.specs.declared.hmac.Hash.TheVariants.{Sha256}
 abbrev pub answers : KeyAnswers
 answers = reads_no_key kind.UnsupportedAlgorithm (λ h text. Ok (hash_bytes (hash_named h) text))
 
--- the base64url text of the SHA-256 digest of the key's required members (RFC 7638 section 3)
+-- the SHA-256 digest of the key's required members, or why there is none (RFC 7638 section 3)
+abbrev pub digest_of : Jwk → Result (List ℕ) Kind
+digest_of jwk = digested (λ text. Ok (hash_bytes Sha256 text)) (thumb_text jwk)
+
+-- the base64url text of that digest (RFC 7638 section 3)
 abbrev pub IsThumbprintOf : List ℕ → Jwk → Type 0
-IsThumbprintOf id jwk = (digest : List ℕ)
-    × ((digested (λ text. Ok (hash_bytes Sha256 text)) (thumb_text jwk) ≡ Ok digest) × IsPart id digest)
+IsThumbprintOf id jwk = (digest : List ℕ) × ((digest_of jwk ≡ Ok digest) × IsPart id digest)
 
 -- the same under this id (RFC 7517 section 4.5)
 abbrev pub under : List ℕ → Jwk → Jwk
@@ -34,3 +38,9 @@ pub record Publishes (a : Algorithm) (key : Key) (old new : List Jwk) : Type 0 w
   pub is_of_key : jwk_of_key answers (Some a) key ≡ Ok jwk
   pub is_thumbprint : IsThumbprintOf id jwk
   pub added : new ≡ old ++ under id jwk ∷ []
+
+-- why a key is not published: it is a secret, or it has no JSON Web Key, or that one has no thumbprint
+abbrev pub IsNotPublished : Algorithm → Key → Kind → Type 0
+IsNotPublished a key k = ((key_family key ≡ family.Hmac) × (k ≡ kind.InvalidKeyFormat))
+    ⊎ ((jwk_of_key answers (Some a) key ≡ Err k)
+    ⊎ ((jwk : Jwk) × ((jwk_of_key answers (Some a) key ≡ Ok jwk) × (digest_of jwk ≡ Err k))))

@@ -1,11 +1,11 @@
 //! The keys that an issuer publishes, named by their thumbprints (RFC 7638).
 
-ghost use Rattle.std.specs.Prelude.{◌≡◌, ◌≢◌, OnOk};
+ghost use Rattle.std.specs.Prelude.{◌≡◌, ◌≢◌, ◌⊎◌, OnOk, IfErr};
 ghost use Rattle.jwt_base.specs.Kind as kind;
-ghost use Rattle.jsonwebtoken.specs.Steps.{AsksFor};
+ghost use Rattle.jwt_base.specs.KindOf.{kind_of, IsMemory};
 ghost use Rattle.jwt_base.specs.declared.algorithms.AlgorithmFamily.TheVariants as family;
 ghost use Rattle.jwt_keys.specs.Key.{key_family};
-ghost use Rattle.jwt_example.specs.Published.{Publishes, under};
+ghost use Rattle.jwt_example.specs.Published.{Publishes, IsNotPublished, under};
 
 use jsonwebtoken::crypto::hmac::HmacProvider;
 use jsonwebtoken::errors::{ErrorKind, Result, new_error};
@@ -14,14 +14,17 @@ use jsonwebtoken::{Algorithm, AlgorithmFamily, DecodingKey, Text};
 use std::alloc::Global;
 
 /// Adds a public key to the set, for this algorithm, with its thumbprint by SHA-256 as its id. A secret is refused with
-/// `InvalidKeyFormat`, since its JSON Web Key holds it.
+/// `InvalidKeyFormat`, since its JSON Web Key holds it, and what else is refused is refused by `from_decoding_key` and
+/// `thumbprint`. The set is then as it was.
 pub fn publish(
     alloc: Global,
     set: &mut JwkSet,
     key: &DecodingKey,
     algorithm: Algorithm,
 ) -> Result<()>
-    ensures { OnOk result (Publishes algorithm key.now set.old.keys.items set.new.keys.items) }
+    ensures ok { OnOk result (Publishes algorithm key.now set.old.keys.items set.new.keys.items) }
+    ensures err { IfErr result (λ e. IsMemory e ⊎ IsNotPublished algorithm key.now (kind_of e)) }
+    ensures unchanged { IfErr result (λ _. set.new.keys.items ≡ set.old.keys.items) }
 {
     refuse_secret(key)?;
     let mut jwk = Jwk::from_decoding_key(alloc, &HmacProvider, key, Some(algorithm))?;
@@ -40,7 +43,8 @@ pub fn name(jwk: &mut Jwk, id: Text)
 
 /// Refuses a secret with `InvalidKeyFormat`.
 fn refuse_secret(key: &DecodingKey) -> Result<()>
-    ensures { AsksFor (key_family key.now ≢ family.Hmac) (λ k. k ≡ kind.InvalidKeyFormat) result }
+    ensures ok { OnOk result (key_family key.now ≢ family.Hmac) }
+    ensures err { IfErr result (λ e. (key_family key.now ≡ family.Hmac) × (kind_of e ≡ kind.InvalidKeyFormat)) }
 {
     if key.family() == AlgorithmFamily::Hmac {
         return Err(new_error(ErrorKind::InvalidKeyFormat));
