@@ -98,11 +98,16 @@ enum jwt_algorithm {
  * Verifies a token with a secret, by HMAC, at the moment `now`, in whole seconds since 1970-01-01 00:00:00 UTC. Gives the
  * claims: compact JSON of the payload's value, members in the order of their names.
  *
+ * A secret is any bytes. An empty one is a key like any other, by which anyone can sign, and zeros alone are the same key, up
+ * to 64 of them for HS256 and 128 for HS384 and HS512 (RFC 2104 section 2). RFC 7518 section 3.2 asks for at least 32 bytes for
+ * HS256, 48 for HS384 and 64 for HS512: the caller has to test the length, here, for a key set, and to issue a token.
+ *
  * The options are a JSON object, read before the token; JWT_BAD_OPTIONS where they are none. Each member may be absent or
  * null, and no other member is allowed:
  *
  *   "algorithms"                           list of names, as ["HS256"]: what is accepted; none by default
- *   "required_spec_claims"                 list of names, of which exp, nbf, aud, iss and sub count; ["exp"] by default
+ *   "required_spec_claims"                 list of names among exp, nbf, aud, iss and sub; ["exp"] by default. Any other
+ *                                          name is ignored: the claim may be missing, and the caller has to look for it
  *   "leeway"                               seconds; 60 by default
  *   "reject_tokens_expiring_in_less_than"  seconds; 0 by default
  *   "validate_exp", "validate_aud"         true by default

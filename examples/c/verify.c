@@ -1,28 +1,48 @@
-/* Verifies a token by a secret, and shows a refusal by its text. The last line counts. */
+/* Verifies a token by a secret, and shows refusals by their texts. The last line counts. */
 #include "jwt.h"
 #include <stdio.h>
 #include <string.h>
 
+/* signed by Python's hmac with the secret below */
 static const char token[] =
-    "eyJhbGciOiJIUzI1NiIsInR5cCI6IkpXVCJ9.eyJzdWIiOiJiQGIuY29tIiwiY29tcGFueSI6IkFDTUUiLCJleHAiOjI1MzI1MjQ4OTF9"
-    ".9r56oF7ZliOBlOAyiOFperTGxBtPykRQiWNFxhDCW98";
+    "eyJhbGciOiJIUzI1NiIsInR5cCI6IkpXVCJ9.eyJjb21wYW55IjoiQUNNRSIsImV4cCI6MjUzMjUyNDg5MSwic3ViIjoiYkBiLmNvbSJ9"
+    ".5n9UAJL1AIlwf4kSXHbtQDkDOXMqJ3onY44FQziHZ0o";
 static const char options[] = "{\"algorithms\":[\"HS256\"]}";
+/* Yours comes from a file, and is random. */
+static const char secret[] = "0123456789abcdef0123456789abcdef";
 
-/* whether the claims, or the refusal's text, are these */
-static bool says(const char *secret, uint64_t now, const char *wanted) {
-    uint8_t room[512];
+/* Returns whether a secret is long enough for HS256 (RFC 7518 section 3.2). The library takes a shorter one too, and even the
+   empty one, by which anyone can sign: where a file of keys can't be read, say, a secret is easily empty. */
+static bool is_long_enough(const uint8_t *bytes, size_t len) {
+    bool has_zeros_alone = true;
+    for (size_t i = 0; i < len; i++)
+        if (bytes[i] != 0) has_zeros_alone = false;
+    return len >= 32 && !has_zeros_alone;
+}
+
+/* Returns whether the claims, or the refusal's text, are these. */
+static bool says(const void *key, size_t key_len, uint64_t now, const char *wanted) {
+    uint8_t buffer[512];
     size_t len;
-    uint32_t status = jwt_decode_hmac((const uint8_t *)token, strlen(token), (const uint8_t *)secret, strlen(secret),
-                                      (const uint8_t *)options, strlen(options), now, room, sizeof room, &len);
-    if (status != JWT_OK) jwt_status_text(status, room, sizeof room, &len);
-    printf("%.*s\n", (int)len, (const char *)room);
-    return len == strlen(wanted) && memcmp(room, wanted, len) == 0;
+    if (!is_long_enough(key, key_len)) {
+        printf("the secret is too short for HS256\n");
+        return strcmp(wanted, "too short") == 0;
+    }
+    uint32_t status = jwt_decode_hmac((const uint8_t *)token, strlen(token), key, key_len, (const uint8_t *)options,
+                                      strlen(options), now, buffer, sizeof buffer, &len);
+    if (status != JWT_OK) jwt_status_text(status, buffer, sizeof buffer, &len);
+    printf("%.*s\n", (int)len, (const char *)buffer);
+    return len == strlen(wanted) && memcmp(buffer, wanted, len) == 0;
 }
 
 int main(void) {
-    int right = says("secret", 2532524951, "{\"company\":\"ACME\",\"exp\":2532524891,\"sub\":\"b@b.com\"}");
-    right += says("secret", 2532524952, "ExpiredSignature");
-    right += says("other", 2532524951, "InvalidSignature");
-    printf("%d tokens by a secret from C, %d failed\n", right, 3 - right);
-    return right != 3;
+    static const char other[] = "another secret of 32 or more bytes", zeros[32] = {0};
+    int right = says(secret, strlen(secret), 2532524951, "{\"company\":\"ACME\",\"exp\":2532524891,\"sub\":\"b@b.com\"}");
+    right += says(secret, strlen(secret), 2532524952, "ExpiredSignature");
+    right += says(other, strlen(other), 2532524951, "InvalidSignature");
+    right += says("", 0, 2532524951, "too short");
+    right += says("secret", 6, 2532524951, "too short");
+    right += says(zeros, sizeof zeros, 2532524951, "too short");
+    printf("%d tokens by a secret from C, %d failed\n", right, 6 - right);
+    return right != 6;
 }

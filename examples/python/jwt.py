@@ -1,78 +1,320 @@
-"""JSON Web Tokens (RFC 7519), read and verified by the proved library through its calls for C (include/jwt.h)."""
+"""Verifies, reads and issues JSON Web Tokens (RFC 7519) by the proved library, through its calls for C (include/jwt.h).
+
+Tokens, secrets and JSON texts are str or bytes-like: bytes, bytearray or memoryview. `now` is in whole seconds since
+1970-01-01 00:00:00 UTC; without it the clock is read. The options are those of jwt.h, as algorithms=["HS256"].
+
+A wrong argument is a TypeError or a ValueError that names it. A token that is refused raises Refused.
+"""
 import collections
 import ctypes
+import functools
 import json
 import os
 import time
 
-_library = ctypes.CDLL(os.environ.get("JWT_LIBRARY", os.path.join(os.path.dirname(os.path.abspath(__file__)), "libjwt.so")))
-_ROOM = [ctypes.c_char_p, ctypes.c_size_t, ctypes.POINTER(ctypes.c_size_t)]
-_BYTES = [ctypes.c_char_p, ctypes.c_size_t]
-_NUMBER, _LENGTH = ctypes.POINTER(ctypes.c_uint32), ctypes.POINTER(ctypes.c_size_t)
-_library.jwt_decode_hmac.argtypes = [*_BYTES, *_BYTES, *_BYTES, ctypes.c_uint64, *_ROOM]
-_library.jwt_decode_verdict.argtypes = [*_BYTES, ctypes.c_uint32, *_BYTES, *_BYTES, ctypes.c_bool, *_BYTES, ctypes.c_uint64, *_ROOM]
-_library.jwt_signed_part.argtypes = [*_BYTES, _NUMBER, _LENGTH, *_ROOM]
-_library.jwt_decode_header.argtypes = [*_BYTES, *_ROOM]
-_library.jwt_status_text.argtypes = [ctypes.c_uint32, *_ROOM]
+ALGORITHMS = ("HS256", "HS384", "HS512", "RS256", "RS384", "RS512", "PS256", "PS384", "PS512", "ES256", "ES384", "EdDSA")
+CLAIMS = ("exp", "nbf", "aud", "iss", "sub")
 
-ALGORITHMS = ["HS256", "HS384", "HS512", "RS256", "RS384", "RS512", "PS256", "PS384", "PS512", "ES256", "ES384", "EdDSA"]
-NO_ROOM = 100
+_BYTES = [ctypes.c_char_p, ctypes.c_size_t]
+_BUFFER = [ctypes.c_char_p, ctypes.c_size_t, ctypes.POINTER(ctypes.c_size_t)]
+_PROTOTYPES = {
+    "jwt_decode_hmac": [*_BYTES, *_BYTES, *_BYTES, ctypes.c_uint64, *_BUFFER],
+    "jwt_decode_set": [*_BYTES, *_BYTES, *_BYTES, ctypes.c_uint64, *_BUFFER],
+    "jwt_decode_verdict": [*_BYTES, ctypes.c_uint32, *_BYTES, *_BYTES, ctypes.c_bool, *_BYTES, ctypes.c_uint64, *_BUFFER],
+    "jwt_signed_part": [*_BYTES, ctypes.POINTER(ctypes.c_uint32), ctypes.POINTER(ctypes.c_size_t), *_BUFFER],
+    "jwt_decode_header": [*_BYTES, *_BUFFER],
+    "jwt_encode_hmac": [*_BYTES, *_BYTES, *_BYTES, *_BUFFER],
+    "jwt_thumbprint": [*_BYTES, ctypes.c_uint32, *_BUFFER],
+    "jwt_status_text": [ctypes.c_uint32, *_BUFFER],
+}
+_OUT_OF_MEMORY = 22
+_TOO_SMALL = 100
 
 # What has to be checked of a token: the algorithm that its header names, the message and the signature's bytes.
 SignedPart = collections.namedtuple("SignedPart", "algorithm message signature")
 
 
+def _load():
+    """Loads the library that JWT_LIBRARY names, or else the libjwt.so beside this file."""
+    path = os.environ.get("JWT_LIBRARY") or os.path.join(os.path.dirname(os.path.abspath(__file__)), "libjwt.so")
+    try:
+        library = ctypes.CDLL(path)
+        for name, types in _PROTOTYPES.items():
+            call = getattr(library, name)
+            call.argtypes, call.restype = types, ctypes.c_uint32
+    except (OSError, AttributeError) as error:
+        raise ImportError(
+            f"the JWT library is missing: {error}. `examples/run --build` builds it and leaves examples/out/libjwt.so;"
+            " JWT_LIBRARY names its path"
+        ) from error
+    return library
+
+
+_library = _load()
+
+
 class Refused(Exception):
-    """A refusal: its number, which is that of jwt.h, and its text, as `InvalidSignature`."""
+    """A refusal. `status` is its number in jwt.h, and its text is the library's, as `InvalidSignature`."""
 
-    def __init__(self, status):
+    def __init__(self, status, text):
+        super().__init__(status, text)
         self.status = status
-        super().__init__(_given(_library.jwt_status_text, status).decode())
+
+    def __str__(self):
+        return self.args[1]
 
 
-def _given(call, *arguments):
-    """Returns the bytes that a call gives; a room that is too small is made larger once."""
+class InvalidSignature(Refused):
+    """The signature is not that of the message by the key."""
+
+
+class InvalidAlgorithm(Refused):
+    """The algorithm is not among those accepted, or the key is for another."""
+
+
+class MissingAlgorithm(Refused):
+    """The options list no algorithm."""
+
+
+class InvalidCrit(Refused):
+    """The header's crit names a member that is not understood."""
+
+
+class NoKey(Refused):
+    """The key set has no key that the header names."""
+
+
+class ExpiredSignature(Refused):
+    """The token has expired."""
+
+
+class ImmatureSignature(Refused):
+    """The token is not valid yet."""
+
+
+class InvalidIssuer(Refused):
+    """The issuer is not among those accepted."""
+
+
+class InvalidAudience(Refused):
+    """The audience is not among those accepted."""
+
+
+class InvalidSubject(Refused):
+    """The subject is another."""
+
+
+class MissingRequiredClaim(Refused):
+    """A required claim is missing or malformed."""
+
+
+class InvalidClaimFormat(Refused):
+    """A claim that is checked is malformed."""
+
+
+_KINDS = {
+    2: InvalidSignature,
+    9: ExpiredSignature,
+    10: InvalidIssuer,
+    11: InvalidAudience,
+    12: InvalidSubject,
+    13: ImmatureSignature,
+    14: InvalidAlgorithm,
+    15: MissingAlgorithm,
+    24: InvalidCrit,
+    25: NoKey,
+    **dict.fromkeys(range(26, 32), MissingRequiredClaim),
+    **dict.fromkeys(range(32, 38), InvalidClaimFormat),
+}
+
+
+def _call(call, *arguments):
+    """Returns the bytes that a call gives. A buffer that is too small is made larger once."""
     size = ctypes.c_size_t(1024)
     for _ in range(2):
-        room = ctypes.create_string_buffer(size.value)
-        status = call(*arguments, room, len(room), ctypes.byref(size))
-        if status != NO_ROOM:
+        buffer = ctypes.create_string_buffer(size.value)
+        status = call(*arguments, buffer, len(buffer), ctypes.byref(size))
+        if status != _TOO_SMALL:
             break
     if status:
-        raise Refused(status)
-    return room.raw[: size.value]
+        raise _exception(status)
+    return buffer.raw[: size.value]
+
+
+def _exception(status):
+    if status == _OUT_OF_MEMORY:
+        return MemoryError("the JWT library is out of memory")
+    text = _call(_library.jwt_status_text, status).decode()
+    # above are those of arguments that are not understood, which say nothing of a token
+    return ValueError(text) if status > _TOO_SMALL else _KINDS.get(status, Refused)(status, text)
+
+
+def _wrong_type(name, wanted, value):
+    return TypeError(f"{name} must be {wanted}, not {type(value).__name__}")
+
+
+def _encoded(name, text):
+    try:
+        return text.encode()
+    except UnicodeEncodeError as error:
+        raise ValueError(f"{name} is not encodable as UTF-8: {error}") from error
+
+
+def _bytes(name, value):
+    if isinstance(value, str):
+        return _encoded(name, value)
+    if isinstance(value, (bytes, bytearray, memoryview)):
+        return bytes(value)
+    raise _wrong_type(name, "str or bytes-like", value)
+
+
+def _secret(value):
+    secret = _bytes("secret", value)
+    # HMAC pads a secret with zeros, so that zeros alone are the same key as none
+    if not any(secret):
+        raise ValueError("secret is empty or has zeros alone: anyone can sign with it")
+    return secret
+
+
+def _json(name, value):
+    """Returns a dict as JSON."""
+    if not isinstance(value, dict):
+        raise _wrong_type(name, "a dict", value)
+    try:
+        text = json.dumps(value, ensure_ascii=False, allow_nan=False)
+    except TypeError as error:
+        raise TypeError(f"{name} can't be written as JSON: {error}") from error
+    except ValueError as error:
+        raise ValueError(f"{name} can't be written as JSON: {error}") from error
+    return _encoded(name, text)
+
+
+def _json_or_text(name, value):
+    return _json(name, value) if isinstance(value, dict) else _bytes(name, value)
+
+
+def _moment(now):
+    if now is None:
+        now = time.time()
+    if isinstance(now, bool) or not isinstance(now, (int, float)):
+        raise _wrong_type("now", "an int or a float", now)
+    # of a float that is no number both comparisons are false
+    if not 0 <= now < 2**64:
+        raise ValueError(f"now must be from 0 to 18446744073709551615, not {now}")
+    return int(now)
+
+
+def _check_string(name, value):
+    if not isinstance(value, str):
+        raise _wrong_type(name, "a str", value)
+    _encoded(name, value)
+
+
+def _check_strings(name, value, known=None):
+    if not isinstance(value, (list, tuple, set, frozenset)):
+        raise _wrong_type(name, "a list of str", value)
+    for it in value:
+        _check_string(f"each member of {name}", it)
+        if known and it not in known:
+            raise ValueError(f"{name} has {it!r}, which is none of {', '.join(known)}")
+
+
+def _check_count(name, value):
+    if isinstance(value, bool) or not isinstance(value, int):
+        raise _wrong_type(name, "an int", value)
+    if not 0 <= value < 2**64:
+        raise ValueError(f"{name} must be from 0 to 18446744073709551615, not {value}")
+
+
+def _check_bool(name, value):
+    if not isinstance(value, bool):
+        raise _wrong_type(name, "True or False", value)
+
+
+_OPTIONS = {
+    "algorithms": functools.partial(_check_strings, known=ALGORITHMS),
+    # the library ignores the name of any other claim, which would then not be required
+    "required_spec_claims": functools.partial(_check_strings, known=CLAIMS),
+    "leeway": _check_count,
+    "reject_tokens_expiring_in_less_than": _check_count,
+    "validate_exp": _check_bool,
+    "validate_aud": _check_bool,
+    "validate_nbf": _check_bool,
+    "aud": _check_strings,
+    "iss": _check_strings,
+    "sub": _check_string,
+    "understood_crit": _check_strings,
+}
+
+
+def _options(options):
+    """Returns the options as JSON; the exception names one that is wrong. None stands for the default."""
+    for name, value in options.items():
+        if name not in _OPTIONS:
+            raise TypeError(f"{name} is no option; the options are {', '.join(_OPTIONS)}")
+        if value is not None:
+            _OPTIONS[name](name, value)
+    return json.dumps(options, default=list).encode()
 
 
 def _slices(*texts):
     """Returns pointer and length of each text, one after the other."""
-    held = [it.encode() if isinstance(it, str) else bytes(it) for it in texts]
-    return [word for it in held for word in (it, len(it))]
+    return [argument for it in texts for argument in (it, len(it))]
 
 
 def decode(token, secret, now=None, **options):
-    """Returns the claims of a token by HMAC; the options are those of jwt.h, as algorithms=["HS256"]."""
-    moment = int(time.time()) if now is None else now
-    return json.loads(_given(_library.jwt_decode_hmac, *_slices(token, secret, json.dumps(options)), moment))
+    """Returns the claims of a token that a secret verifies, by HMAC."""
+    texts = _slices(_bytes("token", token), _secret(secret), _options(options))
+    return json.loads(_call(_library.jwt_decode_hmac, *texts, _moment(now)))
+
+
+def decode_set(token, key_set, now=None, **options):
+    """Returns the claims of a token, verified by HMAC with the key that its header names of a set: a dict, or JSON."""
+    token, key_set, options, now = _bytes("token", token), _json_or_text("key_set", key_set), _options(options), _moment(now)
+    claims = _call(_library.jwt_decode_set, *_slices(token, key_set, options), now)
+    try:
+        _call(_library.jwt_decode_hmac, *_slices(token, b"", options), now)
+    except InvalidSignature:
+        return json.loads(claims)
+    raise ValueError("key_set has a key that is empty or has zeros alone: anyone can sign with it")
 
 
 def signed_part(token):
     """Returns what has to be checked of a token. Nothing is verified: its header's algorithm is its own claim."""
+    token = _bytes("token", token)
     algorithm, length = ctypes.c_uint32(), ctypes.c_size_t()
-    text, size = _slices(token)
-    signature = _given(_library.jwt_signed_part, text, size, ctypes.byref(algorithm), ctypes.byref(length))
-    return SignedPart(ALGORITHMS[algorithm.value - 1], text[: length.value], signature)
+    signature = _call(_library.jwt_signed_part, *_slices(token), ctypes.byref(algorithm), ctypes.byref(length))
+    return SignedPart(ALGORITHMS[algorithm.value - 1], token[: length.value], signature)
 
 
 def decode_by_verdict(token, part, verdict, now=None, **options):
-    """Returns the claims of a token, where the verdict is yes to this signature of this message by this algorithm."""
-    moment = int(time.time()) if now is None else now
+    """Returns the claims of a token, if the verdict is True for this signature of this message by this algorithm."""
+    if not isinstance(part, SignedPart):
+        raise _wrong_type("part", "a SignedPart", part)
+    if part.algorithm not in ALGORITHMS:
+        raise ValueError(f"part.algorithm must be one of {', '.join(ALGORITHMS)}, not {part.algorithm!r}")
+    _check_bool("verdict", verdict)
+    checked = _slices(_bytes("part.message", part.message), _bytes("part.signature", part.signature))
     number = ALGORITHMS.index(part.algorithm) + 1
-    return json.loads(_given(
-        _library.jwt_decode_verdict, *_slices(token), number, *_slices(part.message, part.signature), verdict,
-        *_slices(json.dumps(options)), moment,
-    ))
+    token, options = _slices(_bytes("token", token)), _slices(_options(options))
+    return json.loads(_call(_library.jwt_decode_verdict, *token, number, *checked, verdict, *options, _moment(now)))
 
 
 def decode_header(token):
     """Returns the header of a token. Nothing is verified."""
-    return json.loads(_given(_library.jwt_decode_header, *_slices(token)))
+    return json.loads(_call(_library.jwt_decode_header, *_slices(_bytes("token", token))))
+
+
+def encode(header, claims, secret):
+    """Returns the token of a header, as {"alg": "HS256", "typ": "JWT"}, and claims, signed with a secret, by HMAC."""
+    texts = _slices(_json("header", header), _json("claims", claims), _secret(secret))
+    return _call(_library.jwt_encode_hmac, *texts).decode()
+
+
+def thumbprint(key, bits=256):
+    """Returns the thumbprint (RFC 7638) of a key, a dict or JSON, by SHA-2 with 256, 384 or 512 bits."""
+    if isinstance(bits, bool) or not isinstance(bits, int):
+        raise _wrong_type("bits", "an int", bits)
+    if bits not in (256, 384, 512):
+        raise ValueError(f"bits must be 256, 384 or 512, not {bits}")
+    return _call(_library.jwt_thumbprint, *_slices(_json_or_text("key", key)), bits).decode()

@@ -85,6 +85,20 @@ static long hmac(const char *token, const char *secret, const char *options, uin
     return status_of(&a);
 }
 
+/* signed with an empty secret */
+#define EMPTY_HS256 "eyJhbGciOiJIUzI1NiJ9.eyJleHAiOjF9.VKicOCCIc7GH9_2Xn_TAWzILcLOwxC8r9TbwU8bVlzc"
+#define EMPTY_HS512                                                                                                   \
+    "eyJhbGciOiJIUzUxMiJ9.eyJleHAiOjF9"                                                                               \
+    ".4-ImvXBXRQF2fB0jHi_sRoe2JD0j4TIisCLcVRbN1PbLuyrAZCqFlbasaG6Go5kPlT0uXsYmaUAjhmtM1qTE0A"
+
+/* the status for a token whose secret is this many zeros */
+static long by_zeros(const char *token, size_t count, const char *options) {
+    static const uint8_t zeros[129];
+    struct answer a = fresh();
+    a.status = jwt_decode_hmac(BYTES(token), zeros, count, BYTES(options), 61, a.room, ROOM, &a.len);
+    return status_of(&a);
+}
+
 /* ---- tokens that a verdict accepts */
 
 static size_t encode(const char *text, char *part) {
@@ -139,8 +153,11 @@ static void accepted(void) {
     is("after the last moment", hmac(TOKEN, "secret", OPTIONS, LAST + 1), JWT_EXPIRED_SIGNATURE);
     is("another secret", hmac(TOKEN, "Secret", OPTIONS, LAST), JWT_INVALID_SIGNATURE);
     is("an empty secret", hmac(TOKEN, "", OPTIONS, LAST), JWT_INVALID_SIGNATURE);
-    is("signed with an empty secret",
-       hmac("eyJhbGciOiJIUzI1NiJ9.eyJleHAiOjF9.VKicOCCIc7GH9_2Xn_TAWzILcLOwxC8r9TbwU8bVlzc", "", OPTIONS, 61), JWT_OK);
+    is("signed with an empty secret", hmac(EMPTY_HS256, "", OPTIONS, 61), JWT_OK);
+    is("64 zeros for an empty secret", by_zeros(EMPTY_HS256, 64, OPTIONS), JWT_OK);
+    is("65 zeros", by_zeros(EMPTY_HS256, 65, OPTIONS), JWT_INVALID_SIGNATURE);
+    is("128 zeros for an empty secret", by_zeros(EMPTY_HS512, 128, "{\"algorithms\":[\"HS512\"]}"), JWT_OK);
+    is("129 zeros", by_zeros(EMPTY_HS512, 129, "{\"algorithms\":[\"HS512\"]}"), JWT_INVALID_SIGNATURE);
     is("a secret by a null pointer",
        jwt_decode_hmac(BYTES(TOKEN), NULL, 0, BYTES(OPTIONS), LAST, a.room, ROOM, &a.len), JWT_INVALID_SIGNATURE);
 }
@@ -178,6 +195,8 @@ static void options(void) {
         is(refused[i], hmac(TOKEN, "secret", refused[i], LAST), JWT_BAD_OPTIONS);
     is("options before the token", hmac("a", "secret", "{", LAST), JWT_BAD_OPTIONS);
     is("no algorithm", hmac(TOKEN, "secret", "{}", LAST), JWT_MISSING_ALGORITHM);
+    is("a required claim without a rule",
+       hmac(TOKEN, "secret", "{\"algorithms\":[\"HS256\"],\"required_spec_claims\":[\"exp\",\"jti\",\"EXP\"]}", LAST), JWT_OK);
     is("another algorithm", hmac(TOKEN, "secret", "{\"algorithms\":[\"HS384\"]}", LAST), JWT_INVALID_ALGORITHM);
     is("every option",
        hmac(TOKEN, "secret",

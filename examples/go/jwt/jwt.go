@@ -1,8 +1,9 @@
-// Package jwt reads, verifies and issues JSON Web Tokens (RFC 7519) by the proved library, through its calls for C
+// Package jwt verifies, reads and issues JSON Web Tokens (RFC 7519) by the proved library, through its calls for C
 // (include/jwt.h).
 //
-// Moments are in whole seconds since 1970-01-01 00:00:00 UTC. Options are the JSON object that include/jwt.h describes, as
-// {"algorithms":["HS256"]}; claims and headers are given as compact JSON.
+// Moments are in whole seconds since 1970-01-01 00:00:00 UTC. Claims, headers and keys are JSON. A secret has at least 32 bytes
+// for HS256, 48 for HS384 and 64 for HS512 (RFC 7518 section 3.2); the package refuses an empty one, and leaves the rest to the
+// caller.
 package jwt
 
 // #cgo CFLAGS: -I${SRCDIR}/../../../include
@@ -10,7 +11,32 @@ package jwt
 // #include "jwt.h"
 import "C"
 
-import "unsafe"
+import (
+	"encoding/json"
+	"errors"
+	"fmt"
+	"unsafe"
+)
+
+// The statuses of refusals that callers act on. include/jwt.h has all of them.
+const (
+	InvalidSignature  uint32 = C.JWT_INVALID_SIGNATURE
+	ExpiredSignature  uint32 = C.JWT_EXPIRED_SIGNATURE
+	InvalidIssuer     uint32 = C.JWT_INVALID_ISSUER
+	InvalidAudience   uint32 = C.JWT_INVALID_AUDIENCE
+	InvalidSubject    uint32 = C.JWT_INVALID_SUBJECT
+	ImmatureSignature uint32 = C.JWT_IMMATURE_SIGNATURE
+	InvalidAlgorithm  uint32 = C.JWT_INVALID_ALGORITHM
+	OutOfMemory       uint32 = C.JWT_OUT_OF_MEMORY
+	NoKey             uint32 = C.JWT_NO_KEY
+)
+
+// ErrEmptySecret is returned for a secret that is empty or has zeros alone, by which anyone can sign: HMAC pads a secret with
+// zeros, so that both are the same key.
+var ErrEmptySecret = errors.New("jwt: the secret is empty or has zeros alone")
+
+// ErrUnknownClaim is returned for a required claim that the library would ignore.
+var ErrUnknownClaim = errors.New("jwt: a required claim is none of exp, nbf, aud, iss and sub")
 
 // Refused is a refusal.
 type Refused struct {
@@ -19,8 +45,35 @@ type Refused struct {
 	text   string
 }
 
-// Error is the library's text of the refusal, as "InvalidSignature".
+// Error returns the library's text of the refusal, as "InvalidSignature".
 func (refused Refused) Error() string { return refused.text }
+
+// Options say what is accepted of a token. Their names are those of include/jwt.h, and so are the defaults of fields that are nil.
+type Options struct {
+	Algorithms                     []string `json:"algorithms"`
+	RequiredSpecClaims             []string `json:"required_spec_claims"`
+	Leeway                         *uint64  `json:"leeway"`
+	RejectTokensExpiringInLessThan *uint64  `json:"reject_tokens_expiring_in_less_than"`
+	ValidateExp                    *bool    `json:"validate_exp"`
+	ValidateAud                    *bool    `json:"validate_aud"`
+	ValidateNbf                    *bool    `json:"validate_nbf"`
+	Aud                            []string `json:"aud"`
+	Iss                            []string `json:"iss"`
+	Sub                            *string  `json:"sub"`
+	UnderstoodCrit                 []string `json:"understood_crit"`
+}
+
+// text returns the options as JSON. The library ignores a required claim that it has no rule for, which is an error here.
+func (options Options) text() ([]byte, error) {
+	for _, name := range options.RequiredSpecClaims {
+		switch name {
+		case "exp", "nbf", "aud", "iss", "sub":
+		default:
+			return nil, fmt.Errorf("%w: %q", ErrUnknownClaim, name)
+		}
+	}
+	return json.Marshal(options)
+}
 
 // SignedPart is what has to be checked of a token. Its algorithm is the token's own claim.
 type SignedPart struct {
@@ -34,68 +87,104 @@ var algorithms = []string{
 	"HS256", "HS384", "HS512", "RS256", "RS384", "RS512", "PS256", "PS384", "PS512", "ES256", "ES384", "EdDSA",
 }
 
-func front(bytes []byte) (*C.uint8_t, C.size_t) {
+func slice(bytes []byte) (*C.uint8_t, C.size_t) {
 	if len(bytes) == 0 {
 		return nil, 0
 	}
 	return (*C.uint8_t)(unsafe.Pointer(&bytes[0])), C.size_t(len(bytes))
 }
 
-// What a call leaves in a room, which is made larger once where it is too small.
-func left(call func(room *C.uint8_t, size C.size_t, length *C.size_t) C.uint32_t) ([]byte, C.uint32_t) {
-	room := make([]byte, 1024)
+func isEmpty(secret []byte) bool {
+	for _, it := range secret {
+		if it != 0 {
+			return false
+		}
+	}
+	return true
+}
+
+// fill returns what a call writes to a buffer, which is made larger once if it is too small.
+func fill(call func(buffer *C.uint8_t, size C.size_t, length *C.size_t) C.uint32_t) ([]byte, C.uint32_t) {
+	buffer := make([]byte, 1024)
 	var length C.size_t
-	at, size := front(room)
+	at, size := slice(buffer)
 	status := call(at, size, &length)
 	if status == C.JWT_NO_ROOM {
-		room = make([]byte, length)
-		at, size = front(room)
+		buffer = make([]byte, length)
+		at, size = slice(buffer)
 		status = call(at, size, &length)
 	}
 	if status != C.JWT_OK {
 		return nil, status
 	}
-	return room[:length], status
+	return buffer[:length], status
 }
 
-func given(call func(room *C.uint8_t, size C.size_t, length *C.size_t) C.uint32_t) ([]byte, error) {
-	bytes, status := left(call)
+func given(call func(buffer *C.uint8_t, size C.size_t, length *C.size_t) C.uint32_t) ([]byte, error) {
+	bytes, status := fill(call)
 	if status == C.JWT_OK {
 		return bytes, nil
 	}
-	text, _ := left(func(room *C.uint8_t, size C.size_t, length *C.size_t) C.uint32_t {
-		return C.jwt_status_text(status, room, size, length)
+	text, _ := fill(func(buffer *C.uint8_t, size C.size_t, length *C.size_t) C.uint32_t {
+		return C.jwt_status_text(status, buffer, size, length)
 	})
 	return nil, Refused{Status: uint32(status), text: string(text)}
 }
 
-// Decode gives the claims of a token that a secret verifies, by HMAC.
-func Decode(token, secret, options []byte, now uint64) ([]byte, error) {
-	return given(func(room *C.uint8_t, size C.size_t, length *C.size_t) C.uint32_t {
-		tokenAt, tokenLen := front(token)
-		secretAt, secretLen := front(secret)
-		optionsAt, optionsLen := front(options)
-		return C.jwt_decode_hmac(tokenAt, tokenLen, secretAt, secretLen, optionsAt, optionsLen, C.uint64_t(now), room, size, length)
+func decode(token, secret, options []byte, now uint64) ([]byte, error) {
+	return given(func(buffer *C.uint8_t, size C.size_t, length *C.size_t) C.uint32_t {
+		tokenAt, tokenLen := slice(token)
+		secretAt, secretLen := slice(secret)
+		optionsAt, optionsLen := slice(options)
+		return C.jwt_decode_hmac(tokenAt, tokenLen, secretAt, secretLen, optionsAt, optionsLen, C.uint64_t(now), buffer, size, length)
 	})
 }
 
-// DecodeWithSet gives the claims of a token that the key of a set verifies which its header names, by HMAC.
-func DecodeWithSet(token, set, options []byte, now uint64) ([]byte, error) {
-	return given(func(room *C.uint8_t, size C.size_t, length *C.size_t) C.uint32_t {
-		tokenAt, tokenLen := front(token)
-		setAt, setLen := front(set)
-		optionsAt, optionsLen := front(options)
-		return C.jwt_decode_set(tokenAt, tokenLen, setAt, setLen, optionsAt, optionsLen, C.uint64_t(now), room, size, length)
-	})
+// Decode returns the claims of a token that a secret verifies, by HMAC.
+func Decode(token, secret []byte, options Options, now uint64) ([]byte, error) {
+	if isEmpty(secret) {
+		return nil, ErrEmptySecret
+	}
+	text, err := options.text()
+	if err != nil {
+		return nil, err
+	}
+	return decode(token, secret, text, now)
 }
 
-// PartToCheck gives what has to be checked of a token. Nothing is verified.
+// DecodeWithSet returns the claims of a token, verified by HMAC with the key that its header names of a set.
+func DecodeWithSet(token, set []byte, options Options, now uint64) ([]byte, error) {
+	text, err := options.text()
+	if err != nil {
+		return nil, err
+	}
+	claims, err := given(func(buffer *C.uint8_t, size C.size_t, length *C.size_t) C.uint32_t {
+		tokenAt, tokenLen := slice(token)
+		setAt, setLen := slice(set)
+		optionsAt, optionsLen := slice(text)
+		return C.jwt_decode_set(tokenAt, tokenLen, setAt, setLen, optionsAt, optionsLen, C.uint64_t(now), buffer, size, length)
+	})
+	if err != nil {
+		return nil, err
+	}
+	// if the empty secret verifies the token too, the key of the set is that
+	_, err = decode(token, nil, text, now)
+	if err == nil {
+		return nil, ErrEmptySecret
+	}
+	if refused, isRefused := err.(Refused); isRefused && refused.Status == InvalidSignature {
+		return claims, nil
+	}
+	return nil, err
+}
+
+// PartToCheck returns what has to be checked of a token. Nothing is verified.
 func PartToCheck(token []byte) (SignedPart, error) {
 	var number C.uint32_t
 	var message C.size_t
-	signature, err := given(func(room *C.uint8_t, size C.size_t, length *C.size_t) C.uint32_t {
-		at, size0 := front(token)
-		return C.jwt_signed_part(at, size0, &number, &message, room, size, length)
+	signature, err := given(func(buffer *C.uint8_t, size C.size_t, length *C.size_t) C.uint32_t {
+		tokenAt, tokenLen := slice(token)
+		return C.jwt_signed_part(tokenAt, tokenLen, &number, &message, buffer, size, length)
 	})
 	if err != nil {
 		return SignedPart{}, err
@@ -103,46 +192,53 @@ func PartToCheck(token []byte) (SignedPart, error) {
 	return SignedPart{algorithms[number-1], token[:message], signature}, nil
 }
 
-// DecodeByVerdict gives the claims of a token, where the verdict is yes to this signature of this message by this algorithm.
-func DecodeByVerdict(token []byte, part SignedPart, verdict bool, options []byte, now uint64) ([]byte, error) {
+// DecodeByVerdict returns the claims of a token, if the verdict is true for this signature of this message by this algorithm.
+func DecodeByVerdict(token []byte, part SignedPart, verdict bool, options Options, now uint64) ([]byte, error) {
+	text, err := options.text()
+	if err != nil {
+		return nil, err
+	}
 	number := C.uint32_t(0)
 	for i, name := range algorithms {
 		if name == part.Algorithm {
 			number = C.uint32_t(i + 1)
 		}
 	}
-	return given(func(room *C.uint8_t, size C.size_t, length *C.size_t) C.uint32_t {
-		tokenAt, tokenLen := front(token)
-		messageAt, messageLen := front(part.Message)
-		signatureAt, signatureLen := front(part.Signature)
-		optionsAt, optionsLen := front(options)
+	return given(func(buffer *C.uint8_t, size C.size_t, length *C.size_t) C.uint32_t {
+		tokenAt, tokenLen := slice(token)
+		messageAt, messageLen := slice(part.Message)
+		signatureAt, signatureLen := slice(part.Signature)
+		optionsAt, optionsLen := slice(text)
 		return C.jwt_decode_verdict(tokenAt, tokenLen, number, messageAt, messageLen, signatureAt, signatureLen, C.bool(verdict),
-			optionsAt, optionsLen, C.uint64_t(now), room, size, length)
+			optionsAt, optionsLen, C.uint64_t(now), buffer, size, length)
 	})
 }
 
-// DecodeHeader gives the header of a token. Nothing is verified.
+// DecodeHeader returns the header of a token. Nothing is verified.
 func DecodeHeader(token []byte) ([]byte, error) {
-	return given(func(room *C.uint8_t, size C.size_t, length *C.size_t) C.uint32_t {
-		at, size0 := front(token)
-		return C.jwt_decode_header(at, size0, room, size, length)
+	return given(func(buffer *C.uint8_t, size C.size_t, length *C.size_t) C.uint32_t {
+		tokenAt, tokenLen := slice(token)
+		return C.jwt_decode_header(tokenAt, tokenLen, buffer, size, length)
 	})
 }
 
-// Encode gives the token of a header and claims, signed with a secret, by HMAC.
+// Encode returns the token of a header and claims, signed with a secret, by HMAC.
 func Encode(header, claims, secret []byte) ([]byte, error) {
-	return given(func(room *C.uint8_t, size C.size_t, length *C.size_t) C.uint32_t {
-		headerAt, headerLen := front(header)
-		claimsAt, claimsLen := front(claims)
-		secretAt, secretLen := front(secret)
-		return C.jwt_encode_hmac(headerAt, headerLen, claimsAt, claimsLen, secretAt, secretLen, room, size, length)
+	if isEmpty(secret) {
+		return nil, ErrEmptySecret
+	}
+	return given(func(buffer *C.uint8_t, size C.size_t, length *C.size_t) C.uint32_t {
+		headerAt, headerLen := slice(header)
+		claimsAt, claimsLen := slice(claims)
+		secretAt, secretLen := slice(secret)
+		return C.jwt_encode_hmac(headerAt, headerLen, claimsAt, claimsLen, secretAt, secretLen, buffer, size, length)
 	})
 }
 
-// Thumbprint gives the thumbprint (RFC 7638) of a key, by SHA-2 with so many bits: 256, 384 or 512.
+// Thumbprint returns the thumbprint (RFC 7638) of a key, by SHA-2 with 256, 384 or 512 bits.
 func Thumbprint(key []byte, bits uint32) ([]byte, error) {
-	return given(func(room *C.uint8_t, size C.size_t, length *C.size_t) C.uint32_t {
-		at, size0 := front(key)
-		return C.jwt_thumbprint(at, size0, C.uint32_t(bits), room, size, length)
+	return given(func(buffer *C.uint8_t, size C.size_t, length *C.size_t) C.uint32_t {
+		keyAt, keyLen := slice(key)
+		return C.jwt_thumbprint(keyAt, keyLen, C.uint32_t(bits), buffer, size, length)
 	})
 }

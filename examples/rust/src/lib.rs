@@ -1,42 +1,47 @@
-//! JSON Web Tokens (RFC 7519), read, verified and issued by the proved library through its calls for C (`include/jwt.h`).
+//! Verifies, reads and issues JSON Web Tokens (RFC 7519) by the proved library, through its calls for C (`include/jwt.h`).
 //!
-//! Moments are in whole seconds since 1970-01-01 00:00:00 UTC. Options are the JSON object that `include/jwt.h`
-//! describes, as `{"algorithms":["HS256"]}`. Claims and headers are given as compact JSON.
+//! Moments are in whole seconds since 1970-01-01 00:00:00 UTC. Claims, headers and keys are JSON. A secret has at least 32 bytes
+//! for HS256, 48 for HS384 and 64 for HS512 (RFC 7518 section 3.2); the crate refuses an empty one, and leaves the rest to the
+//! caller.
 
 use std::fmt;
+
+mod options;
+
+pub use options::{Claim, Options};
 
 mod calls {
     extern "C" {
         pub fn jwt_decode_hmac(
             token: *const u8, token_len: usize, secret: *const u8, secret_len: usize, options: *const u8, options_len: usize,
-            now: u64, room: *mut u8, room_len: usize, len: *mut usize,
+            now: u64, buffer: *mut u8, buffer_len: usize, len: *mut usize,
         ) -> u32;
         pub fn jwt_decode_set(
             token: *const u8, token_len: usize, set: *const u8, set_len: usize, options: *const u8, options_len: usize,
-            now: u64, room: *mut u8, room_len: usize, len: *mut usize,
+            now: u64, buffer: *mut u8, buffer_len: usize, len: *mut usize,
         ) -> u32;
         pub fn jwt_encode_hmac(
             header: *const u8, header_len: usize, claims: *const u8, claims_len: usize, secret: *const u8, secret_len: usize,
-            room: *mut u8, room_len: usize, len: *mut usize,
+            buffer: *mut u8, buffer_len: usize, len: *mut usize,
         ) -> u32;
         pub fn jwt_thumbprint(
-            key: *const u8, key_len: usize, bits: u32, room: *mut u8, room_len: usize, len: *mut usize,
+            key: *const u8, key_len: usize, bits: u32, buffer: *mut u8, buffer_len: usize, len: *mut usize,
         ) -> u32;
         pub fn jwt_signed_part(
             token: *const u8, token_len: usize, algorithm: *mut u32, message_len: *mut usize,
-            room: *mut u8, room_len: usize, len: *mut usize,
+            buffer: *mut u8, buffer_len: usize, len: *mut usize,
         ) -> u32;
         pub fn jwt_decode_verdict(
             token: *const u8, token_len: usize, algorithm: u32, message: *const u8, message_len: usize,
             signature: *const u8, signature_len: usize, verdict: bool, options: *const u8, options_len: usize,
-            now: u64, room: *mut u8, room_len: usize, len: *mut usize,
+            now: u64, buffer: *mut u8, buffer_len: usize, len: *mut usize,
         ) -> u32;
-        pub fn jwt_decode_header(token: *const u8, token_len: usize, room: *mut u8, room_len: usize, len: *mut usize) -> u32;
-        pub fn jwt_status_text(status: u32, room: *mut u8, room_len: usize, len: *mut usize) -> u32;
+        pub fn jwt_decode_header(token: *const u8, token_len: usize, buffer: *mut u8, buffer_len: usize, len: *mut usize) -> u32;
+        pub fn jwt_status_text(status: u32, buffer: *mut u8, buffer_len: usize, len: *mut usize) -> u32;
     }
 }
 
-const NO_ROOM: u32 = 100;
+const TOO_SMALL: u32 = 100;
 
 /// The algorithms, in the order of their numbers in `include/jwt.h`, from 1 on.
 pub const ALGORITHMS: [&str; 12] = [
@@ -46,9 +51,22 @@ pub const ALGORITHMS: [&str; 12] = [
 /// A refusal.
 #[derive(Clone, Debug, PartialEq, Eq)]
 pub struct Refused {
-    /// The number that `include/jwt.h` names.
+    /// The number that `include/jwt.h` names, as [`Refused::EXPIRED_SIGNATURE`].
     pub status: u32,
     text: String,
+}
+
+/// The statuses that callers act on; `include/jwt.h` has all of them.
+impl Refused {
+    pub const INVALID_SIGNATURE: u32 = 2;
+    pub const EXPIRED_SIGNATURE: u32 = 9;
+    pub const INVALID_ISSUER: u32 = 10;
+    pub const INVALID_AUDIENCE: u32 = 11;
+    pub const INVALID_SUBJECT: u32 = 12;
+    pub const IMMATURE_SIGNATURE: u32 = 13;
+    pub const INVALID_ALGORITHM: u32 = 14;
+    pub const OUT_OF_MEMORY: u32 = 22;
+    pub const NO_KEY: u32 = 25;
 }
 
 impl fmt::Display for Refused {
@@ -58,6 +76,36 @@ impl fmt::Display for Refused {
 }
 
 impl std::error::Error for Refused {}
+
+/// Why a call that takes a secret returned nothing, or text is no [`Claim`].
+#[derive(Clone, Debug, PartialEq, Eq)]
+pub enum Error {
+    /// The secret, or the key of the set, is empty or has zeros alone. HMAC pads a secret with zeros, so that both are the same
+    /// key, by which anyone can sign.
+    EmptySecret,
+    /// The library has no rule for a claim of this name, and would ignore that it is required.
+    UnknownClaim(String),
+    /// The library refused what it was given.
+    Refused(Refused),
+}
+
+impl From<Refused> for Error {
+    fn from(refused: Refused) -> Error {
+        Error::Refused(refused)
+    }
+}
+
+impl fmt::Display for Error {
+    fn fmt(&self, f: &mut fmt::Formatter<'_>) -> fmt::Result {
+        match self {
+            Error::EmptySecret => f.write_str("the secret is empty or has zeros alone"),
+            Error::UnknownClaim(name) => write!(f, "{name:?} is none of exp, nbf, aud, iss and sub"),
+            Error::Refused(refused) => refused.fmt(f),
+        }
+    }
+}
+
+impl std::error::Error for Error {}
 
 /// What has to be checked of a token: nothing is verified, and the algorithm is the token's own claim.
 #[derive(Clone, Debug, PartialEq, Eq)]
@@ -70,25 +118,25 @@ pub struct SignedPart<'a> {
     pub signature: Vec<u8>,
 }
 
-// What a call leaves in a room, which is made larger once where it is too small.
-fn left(call: impl Fn(*mut u8, usize, *mut usize) -> u32) -> Result<Vec<u8>, u32> {
-    let mut room = vec![0; 1024];
+// What a call writes to a buffer, which is made larger once if it is too small.
+fn written(call: impl Fn(*mut u8, usize, *mut usize) -> u32) -> Result<Vec<u8>, u32> {
+    let mut buffer = vec![0; 1024];
     let mut len = 0;
-    let mut status = call(room.as_mut_ptr(), room.len(), &mut len);
-    if status == NO_ROOM {
-        room.resize(len, 0);
-        status = call(room.as_mut_ptr(), room.len(), &mut len);
+    let mut status = call(buffer.as_mut_ptr(), buffer.len(), &mut len);
+    if status == TOO_SMALL {
+        buffer.resize(len, 0);
+        status = call(buffer.as_mut_ptr(), buffer.len(), &mut len);
     }
     if status != 0 {
         return Err(status);
     }
-    room.truncate(len);
-    Ok(room)
+    buffer.truncate(len);
+    Ok(buffer)
 }
 
 fn given(call: impl Fn(*mut u8, usize, *mut usize) -> u32) -> Result<Vec<u8>, Refused> {
-    left(call).map_err(|status| {
-        let text = left(|room, size, len| unsafe { calls::jwt_status_text(status, room, size, len) });
+    written(call).map_err(|status| {
+        let text = written(|buffer, size, len| unsafe { calls::jwt_status_text(status, buffer, size, len) });
         Refused { status, text: String::from_utf8(text.unwrap_or_default()).unwrap_or_default() }
     })
 }
@@ -97,65 +145,88 @@ fn text(bytes: Vec<u8>) -> String {
     String::from_utf8(bytes).expect("JSON that is given is UTF-8")
 }
 
-/// The claims of a token that a secret verifies, by HMAC.
-pub fn decode(token: &str, secret: &[u8], options: &str, now: u64) -> Result<String, Refused> {
-    given(|room, size, len| unsafe {
+fn is_empty(secret: &[u8]) -> bool {
+    secret.iter().all(|byte| *byte == 0)
+}
+
+fn decode_hmac(token: &str, secret: &[u8], options: &str, now: u64) -> Result<String, Refused> {
+    given(|buffer, size, len| unsafe {
         calls::jwt_decode_hmac(
-            token.as_ptr(), token.len(), secret.as_ptr(), secret.len(), options.as_ptr(), options.len(), now, room, size, len,
+            token.as_ptr(), token.len(), secret.as_ptr(), secret.len(), options.as_ptr(), options.len(), now, buffer, size, len,
         )
     })
     .map(text)
 }
 
-/// The claims of a token that the key of a set verifies which its header names, by HMAC. The set is JSON.
-pub fn decode_with_set(token: &str, set: &str, options: &str, now: u64) -> Result<String, Refused> {
-    given(|room, size, len| unsafe {
+/// Returns the claims of a token that a secret verifies, by HMAC.
+pub fn decode(token: &str, secret: &[u8], options: &Options, now: u64) -> Result<String, Error> {
+    if is_empty(secret) {
+        return Err(Error::EmptySecret);
+    }
+    Ok(decode_hmac(token, secret, &options.to_json(), now)?)
+}
+
+/// Returns the claims of a token, verified by HMAC with the key that its header names of a set, which is JSON.
+pub fn decode_with_set(token: &str, set: &str, options: &Options, now: u64) -> Result<String, Error> {
+    let options = options.to_json();
+    let claims = given(|buffer, size, len| unsafe {
         calls::jwt_decode_set(
-            token.as_ptr(), token.len(), set.as_ptr(), set.len(), options.as_ptr(), options.len(), now, room, size, len,
+            token.as_ptr(), token.len(), set.as_ptr(), set.len(), options.as_ptr(), options.len(), now, buffer, size, len,
         )
     })
-    .map(text)
+    .map(text)?;
+    // if the empty secret verifies the token too, the key of the set is that
+    match decode_hmac(token, b"", &options, now) {
+        Ok(_) => Err(Error::EmptySecret),
+        Err(refused) if refused.status == Refused::INVALID_SIGNATURE => Ok(claims),
+        Err(refused) => Err(refused.into()),
+    }
 }
 
-/// The token of a header and claims, which are JSON, signed with a secret, by HMAC.
-pub fn encode(header: &str, claims: &str, secret: &[u8]) -> Result<String, Refused> {
-    given(|room, size, len| unsafe {
+/// Returns the token of a header and claims, which are JSON, signed with a secret, by HMAC.
+pub fn encode(header: &str, claims: &str, secret: &[u8]) -> Result<String, Error> {
+    if is_empty(secret) {
+        return Err(Error::EmptySecret);
+    }
+    let token = given(|buffer, size, len| unsafe {
         calls::jwt_encode_hmac(
-            header.as_ptr(), header.len(), claims.as_ptr(), claims.len(), secret.as_ptr(), secret.len(), room, size, len,
+            header.as_ptr(), header.len(), claims.as_ptr(), claims.len(), secret.as_ptr(), secret.len(), buffer, size, len,
         )
-    })
-    .map(text)
+    })?;
+    Ok(text(token))
 }
 
-/// The thumbprint (RFC 7638) of a key, which is JSON, by SHA-2 with so many bits: 256, 384 or 512.
+/// Returns the thumbprint (RFC 7638) of a key, which is JSON, by SHA-2 with 256, 384 or 512 bits.
 pub fn thumbprint(key: &str, bits: u32) -> Result<String, Refused> {
-    given(|room, size, len| unsafe { calls::jwt_thumbprint(key.as_ptr(), key.len(), bits, room, size, len) }).map(text)
+    given(|buffer, size, len| unsafe { calls::jwt_thumbprint(key.as_ptr(), key.len(), bits, buffer, size, len) }).map(text)
 }
 
-/// What has to be checked of a token.
+/// Returns what has to be checked of a token.
 pub fn signed_part(token: &str) -> Result<SignedPart<'_>, Refused> {
     let (number, length) = (std::cell::Cell::new(0), std::cell::Cell::new(0));
-    let signature = given(|room, size, len| unsafe {
-        calls::jwt_signed_part(token.as_ptr(), token.len(), number.as_ptr(), length.as_ptr(), room, size, len)
+    let signature = given(|buffer, size, len| unsafe {
+        calls::jwt_signed_part(token.as_ptr(), token.len(), number.as_ptr(), length.as_ptr(), buffer, size, len)
     })?;
     let algorithm = ALGORITHMS[number.get() as usize - 1];
     Ok(SignedPart { algorithm, message: &token.as_bytes()[..length.get()], signature })
 }
 
-/// The claims of a token, where the verdict is yes to this signature of this message by this algorithm.
-pub fn decode_by_verdict(token: &str, part: &SignedPart, verdict: bool, options: &str, now: u64) -> Result<String, Refused> {
+/// Returns the claims of a token, if the verdict is yes to this signature of this message by this algorithm.
+pub fn decode_by_verdict(
+    token: &str, part: &SignedPart, verdict: bool, options: &Options, now: u64,
+) -> Result<String, Refused> {
     let number = 1 + ALGORITHMS.iter().position(|it| *it == part.algorithm).unwrap_or(ALGORITHMS.len()) as u32;
-    let (message, signature) = (part.message, &part.signature);
-    given(|room, size, len| unsafe {
+    let (message, signature, options) = (part.message, &part.signature, options.to_json());
+    given(|buffer, size, len| unsafe {
         calls::jwt_decode_verdict(
             token.as_ptr(), token.len(), number, message.as_ptr(), message.len(), signature.as_ptr(), signature.len(), verdict,
-            options.as_ptr(), options.len(), now, room, size, len,
+            options.as_ptr(), options.len(), now, buffer, size, len,
         )
     })
     .map(text)
 }
 
-/// The header of a token. Nothing is verified.
+/// Returns the header of a token. Nothing is verified.
 pub fn decode_header(token: &str) -> Result<String, Refused> {
-    given(|room, size, len| unsafe { calls::jwt_decode_header(token.as_ptr(), token.len(), room, size, len) }).map(text)
+    given(|buffer, size, len| unsafe { calls::jwt_decode_header(token.as_ptr(), token.len(), buffer, size, len) }).map(text)
 }

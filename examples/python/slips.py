@@ -1,0 +1,180 @@
+"""Tests that a slip of the caller is an exception that names the argument, and no accepted token. The last line counts."""
+import array
+import base64
+import copy
+import hmac
+import json
+import os
+import pickle
+import subprocess
+import sys
+
+import jwt
+
+SECRET = b"0123456789abcdef0123456789abcdef"
+OPTIONS = {"algorithms": ["HS256"], "required_spec_claims": []}
+
+
+def part(raw):
+    return base64.urlsafe_b64encode(raw).rstrip(b"=")
+
+
+def signed(claims, secret, **header):
+    """Returns a token as Python's hmac signs it."""
+    header = {"alg": "HS256", **header}
+    message = b".".join(part(json.dumps(it).encode()) for it in (header, claims))
+    return message + b"." + part(hmac.digest(secret, message, "sha256"))
+
+
+TOKEN = signed({"exp": 1000}, SECRET)
+FORGED = signed({"exp": 1000}, b"", kid="a")
+KEY = {"kty": "oct", "kid": "a"}
+PART = jwt.signed_part(TOKEN)
+
+passed = failed = 0
+
+
+def test(name, is_well):
+    global passed, failed
+    passed, failed = passed + bool(is_well), failed + (not is_well)
+    if not is_well:
+        print(f"FAILED: {name}")
+
+
+def slip(kind, named, call, *arguments, **options):
+    """Counts whether the call raises this very exception, whose text has the name of the argument."""
+    try:
+        got = call(*arguments, **options)
+    except Exception as error:
+        got = error
+    test(f"{call.__name__}: {got!r}, not {kind.__name__} of {named}: {arguments} {options}", type(got) is kind and named in str(got))
+
+
+def refused(kind, status, token, secret=SECRET, now=0, **options):
+    try:
+        got = jwt.decode(token, secret, now=now, **{**OPTIONS, **options})
+    except jwt.Refused as error:
+        got = error
+    test(f"{kind.__name__}: {got!r}", type(got) is kind and got.status == status)
+
+
+def secrets():
+    for it in (32, 0, 64, True, [], [115], None, 1.5, {}, array.array("B", SECRET)):
+        slip(TypeError, "secret", jwt.decode, FORGED, it, now=0, **OPTIONS)
+        slip(TypeError, "secret", jwt.encode, {"alg": "HS256"}, {}, it)
+    for it in ("", b"", bytearray(), memoryview(b""), bytes(32), "\0", "\ud800"):
+        slip(ValueError, "secret", jwt.decode, FORGED, it, now=0, **OPTIONS)
+        slip(ValueError, "secret", jwt.encode, {"alg": "HS256"}, {}, it)
+    for k in ("", "A" * 43):
+        for key_set in ({"keys": [{**KEY, "k": k}]}, json.dumps({"keys": [{**KEY, "k": k}]})):
+            slip(ValueError, "key_set", jwt.decode_set, FORGED, key_set, now=0, **OPTIONS)
+    for it in (SECRET, SECRET.decode(), bytearray(SECRET), memoryview(SECRET), memoryview(b"".join(bytes([it, 7]) for it in SECRET))[::2]):
+        test(f"{type(it).__name__} as secret", jwt.decode(TOKEN, it, now=0, **OPTIONS) == {"exp": 1000})
+    for it in (TOKEN.decode(), bytearray(TOKEN), memoryview(TOKEN)):
+        test(f"{type(it).__name__} as token", jwt.decode(it, SECRET, now=0, **OPTIONS) == {"exp": 1000})
+
+
+def texts():
+    for it in (5, None, True, [], {}):
+        slip(TypeError, "token", jwt.decode, it, SECRET, now=0, **OPTIONS)
+        slip(TypeError, "token", jwt.decode_set, it, {"keys": []}, now=0, **OPTIONS)
+        slip(TypeError, "token", jwt.signed_part, it)
+        slip(TypeError, "token", jwt.decode_by_verdict, it, PART, True, now=0, **OPTIONS)
+        slip(TypeError, "token", jwt.decode_header, it)
+    slip(ValueError, "token", jwt.decode, "\ud800", SECRET, now=0, **OPTIONS)
+    for it in (5, None, [KEY]):
+        slip(TypeError, "key_set", jwt.decode_set, FORGED, it, now=0, **OPTIONS)
+        slip(TypeError, "key", jwt.thumbprint, it)
+    slip(ValueError, "Key set", jwt.decode_set, FORGED, "[]", now=0, **OPTIONS)
+    slip(ValueError, "Key", jwt.thumbprint, b"[]")
+    slip(TypeError, "bits", jwt.thumbprint, KEY, "256")
+    slip(ValueError, "bits", jwt.thumbprint, KEY, 256 + 2**32)
+
+
+def issued():
+    for it in ("{}", [], None, 5):
+        slip(TypeError, "header", jwt.encode, it, {}, SECRET)
+        slip(TypeError, "claims", jwt.encode, {"alg": "HS256"}, it, SECRET)
+    slip(TypeError, "claims", jwt.encode, {"alg": "HS256"}, {"sub": b"bytes"}, SECRET)
+    slip(ValueError, "claims", jwt.encode, {"alg": "HS256"}, {"exp": float("nan")}, SECRET)
+    slip(ValueError, "claims", jwt.encode, {"alg": "HS256"}, {"sub": "\ud800"}, SECRET)
+    slip(ValueError, "Header", jwt.encode, {}, {}, SECRET)
+
+
+def verdicts():
+    for it in ("no", "", 1, 0, None, [False]):
+        slip(TypeError, "verdict", jwt.decode_by_verdict, TOKEN, PART, it, now=0, **OPTIONS)
+    slip(TypeError, "part", jwt.decode_by_verdict, TOKEN, tuple(PART), True, now=0, **OPTIONS)
+    slip(ValueError, "algorithm", jwt.decode_by_verdict, TOKEN, PART._replace(algorithm="HS257"), True, now=0, **OPTIONS)
+    slip(TypeError, "message", jwt.decode_by_verdict, TOKEN, PART._replace(message=5), True, now=0, **OPTIONS)
+    slip(TypeError, "signature", jwt.decode_by_verdict, TOKEN, PART._replace(signature=32), True, now=0, **OPTIONS)
+    test("a verdict", jwt.decode_by_verdict(TOKEN, PART, True, now=0, **OPTIONS) == {"exp": 1000})
+
+
+def moments():
+    for it in ("0", True, [], ["HS256"]):
+        slip(TypeError, "now", jwt.decode, TOKEN, SECRET, now=it, **OPTIONS)
+        slip(TypeError, "now", jwt.decode_set, TOKEN, {"keys": []}, now=it, **OPTIONS)
+        slip(TypeError, "now", jwt.decode_by_verdict, TOKEN, PART, True, now=it, **OPTIONS)
+    for it in (-1, -0.5, 2**64, 1e30, float("inf"), float("nan")):
+        slip(ValueError, "now", jwt.decode, TOKEN, SECRET, now=it, **OPTIONS)
+    test("a float is cut", jwt.decode(TOKEN, SECRET, now=1060.9, **OPTIONS) == {"exp": 1000})
+    refused(jwt.ExpiredSignature, 9, TOKEN, now=1061.0)
+    refused(jwt.ExpiredSignature, 9, TOKEN, now=2**64 - 1)
+    refused(jwt.ExpiredSignature, 9, TOKEN, now=None)
+
+
+def options():
+    wrong = [
+        (TypeError, "algorithms", "HS256"), (TypeError, "algorithms", {"HS256": 1}), (TypeError, "algorithms", [b"HS256"]),
+        (ValueError, "algorithms", ["HS257"]), (ValueError, "algorithms", ["none"]), (TypeError, "algorithm", ["HS256"]),
+        (ValueError, "required_spec_claims", ["jti"]), (ValueError, "required_spec_claims", ["exp", "EXP"]),
+        (TypeError, "required_spec_claims", "exp"), (TypeError, "leeway", 1.5), (TypeError, "leeway", True),
+        (TypeError, "leeway", "60"), (ValueError, "leeway", -1), (ValueError, "leeway", 2**64),
+        (ValueError, "reject_tokens_expiring_in_less_than", -1), (TypeError, "validate_exp", 0), (TypeError, "validate_aud", "no"),
+        (TypeError, "validate_nbf", 1), (TypeError, "aud", "me"), (TypeError, "iss", [1]), (ValueError, "iss", ["\ud800"]),
+        (TypeError, "sub", ["b"]), (TypeError, "sub", object()), (TypeError, "understood_crit", "b64"), (TypeError, "audience", ["me"]),
+    ]
+    for kind, name, value in wrong:
+        given = {**OPTIONS, name: value}
+        slip(kind, name, jwt.decode, TOKEN, SECRET, now=0, **given)
+        slip(kind, name, jwt.decode_set, TOKEN, {"keys": []}, now=0, **given)
+        slip(kind, name, jwt.decode_by_verdict, TOKEN, PART, True, now=0, **given)
+    given = dict.fromkeys(["leeway", "aud", "iss", "sub", "validate_exp", "required_spec_claims"])
+    test("None for the default", jwt.decode(TOKEN, SECRET, now=0, algorithms={"HS256"}, **given) == {"exp": 1000})
+
+
+def kinds():
+    refused(jwt.InvalidSignature, 2, TOKEN, secret="another")
+    refused(jwt.InvalidIssuer, 10, signed({"iss": "a"}, SECRET), iss=["b"])
+    refused(jwt.InvalidAudience, 11, signed({"aud": "a"}, SECRET), aud=["b"])
+    refused(jwt.InvalidSubject, 12, signed({"sub": "a"}, SECRET), sub="b")
+    refused(jwt.ImmatureSignature, 13, signed({"nbf": 1000}, SECRET), validate_nbf=True)
+    refused(jwt.InvalidAlgorithm, 14, TOKEN, algorithms=["HS384"])
+    refused(jwt.MissingAlgorithm, 15, TOKEN, algorithms=None)
+    refused(jwt.InvalidCrit, 24, signed({}, SECRET, crit=["x"], x=1))
+    refused(jwt.MissingRequiredClaim, 29, TOKEN, required_spec_claims=["iss"])
+    refused(jwt.InvalidClaimFormat, 32, signed({"exp": "1000"}, SECRET))
+    refused(jwt.Refused, 1, "abc")
+    try:
+        jwt.decode_set(TOKEN, {"keys": []}, now=0, **OPTIONS)
+    except jwt.NoKey as error:
+        for again in (pickle.loads(pickle.dumps(error)), copy.copy(error), copy.deepcopy(error)):
+            test("a copy", type(again) is jwt.NoKey and again.status == 25 and str(again) == "NoKey")
+
+
+def imports():
+    for library in ("/nowhere/libjwt.so", __file__):
+        ran = subprocess.run([sys.executable, "-B", "-c", "import jwt"], cwd=os.path.dirname(os.path.abspath(__file__)),
+                             env={**os.environ, "JWT_LIBRARY": library}, stderr=subprocess.PIPE, text=True)
+        last = ran.stderr.strip().splitlines()[-1:]
+        test(f"without a library: {last}", last and last[0].startswith("ImportError: ") and library in last[0] and "examples/run --build" in last[0])
+
+
+for tests in (secrets, texts, issued, verdicts, moments, options, kinds, imports):
+    try:
+        tests()
+    except Exception as error:
+        test(f"{tests.__name__} ends with {error!r}", False)
+print(f"{passed} slips from Python, {failed} failed")
+raise SystemExit(failed > 0)
