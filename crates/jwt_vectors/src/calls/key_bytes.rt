@@ -1,0 +1,22 @@
+//! What keys are made of, and what they hold.
+
+mod decoding;
+mod encoding;
+mod kinds;
+
+use crate::fault::Fault;
+use crate::row::Row;
+use crate::trial::Trial;
+pub use kinds::of_decoding_key;
+use serde_json::Value;
+
+/// Makes the call of this name, if it is among those of this module.
+pub fn answer(call: &str, row: Row<'_>, trial: &mut Trial) -> Result<Option<Value>, Fault> {
+    if let Some(answer) = encoding::answer(call, row, trial)? {
+        return Ok(Some(answer));
+    }
+    if let Some(answer) = decoding::answer(call, row, trial)? {
+        return Ok(Some(answer));
+    }
+    kinds::answer(call, row, trial)
+}

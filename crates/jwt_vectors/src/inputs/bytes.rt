@@ -1,0 +1,83 @@
+//! Bytes, as a row describes them: a string stands for its UTF-8 bytes, a list for its pieces joined. A piece is a string,
+//! or an object: `{"hex": ..}` for these bytes, `{"repeat": .., "times": N}` for the string this many times, and
+//! `{"base64url": ..}` for the base64url text of a string or of a list of such pieces.
+
+use crate::fault::Fault;
+use jwt_base::serialization::part_text;
+use serde_json::Value;
+use std::alloc::Global;
+
+const MALFORMED: Fault = Fault::Member("bytes");
+
+/// Returns the bytes that a value describes.
+pub fn bytes_of(alloc: Global, value: &Value) -> Result<Vec<u8>, Fault> {
+    let mut bytes = Vec::new(alloc);
+    match value {
+        Value::Array(pieces) => {
+            for piece in pieces {
+                add_piece(alloc, &mut bytes, piece)?;
+            }
+        }
+        piece => add_piece(alloc, &mut bytes, piece)?,
+    }
+    Ok(bytes)
+}
+
+fn add_piece(alloc: Global, bytes: &mut Vec<u8>, piece: &Value) -> Result<(), Fault> {
+    match piece.get("base64url") {
+        Some(inner) => {
+            let inner = plain_bytes(alloc, inner)?;
+            let text = part_text(alloc, inner.as_slice())?;
+            bytes.extend_from_slice(text.as_bytes())?;
+            Ok(())
+        }
+        None => add_plain(alloc, bytes, piece),
+    }
+}
+
+// The bytes of pieces none of which is base64url text.
+fn plain_bytes(alloc: Global, value: &Value) -> Result<Vec<u8>, Fault> {
+    let mut bytes = Vec::new(alloc);
+    match value {
+        Value::Array(pieces) => {
+            for piece in pieces {
+                add_plain(alloc, &mut bytes, piece)?;
+            }
+        }
+        piece => add_plain(alloc, &mut bytes, piece)?,
+    }
+    Ok(bytes)
+}
+
+fn add_plain(alloc: Global, bytes: &mut Vec<u8>, piece: &Value) -> Result<(), Fault> {
+    if let Value::String(text) = piece {
+        bytes.extend_from_slice(text.as_bytes())?;
+        return Ok(());
+    }
+    match piece.get("hex") {
+        Some(digits) => add_hex(alloc, bytes, digits),
+        None => add_repeated(bytes, piece),
+    }
+}
+
+fn add_hex(alloc: Global, bytes: &mut Vec<u8>, digits: &Value) -> Result<(), Fault> {
+    let Some(digits) = digits.as_str() else {
+        return Err(MALFORMED);
+    };
+    match hex::decode(alloc, digits) {
+        Ok(decoded) => Ok(bytes.extend_from_slice(decoded.as_slice())?),
+        Err(_) => Err(MALFORMED),
+    }
+}
+
+fn add_repeated(bytes: &mut Vec<u8>, piece: &Value) -> Result<(), Fault> {
+    let text = piece.get("repeat").and_then(Value::as_str);
+    let times = piece.get("times").and_then(Value::as_u64);
+    let (Some(text), Some(times)) = (text, times) else {
+        return Err(MALFORMED);
+    };
+    for _ in 0..times {
+        bytes.extend_from_slice(text.as_bytes())?;
+    }
+    Ok(())
+}
