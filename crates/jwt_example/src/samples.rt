@@ -51,13 +51,29 @@ pub fn verified_by_set(alloc: Global, token: &[u8], set: &[u8], now: u64) -> Res
     Ok(data.claims)
 }
 
-/// A token, verified with a secret that is prepared once.
-pub fn verified_quickly(alloc: Global, token: &[u8], now: u64) -> Result<Value> {
-    let key = DecodingKey::from_secret(alloc, b"secret")?;
+/// Returns a provider that has the secret prepared.
+fn prepared_secret(alloc: Global) -> Result<Box<PreparedHmac>> {
     let prepared = PreparedHmac::new(alloc, Algorithm::HS256, b"secret")?; // once; then each token takes less time
+    Ok(Box::new(alloc, prepared)?)
+}
+
+/// Returns the claims of a token, verified with the prepared secret.
+fn verified_quickly(
+    alloc: Global,
+    prepared: &PreparedHmac,
+    token: &[u8],
+    now: u64,
+) -> Result<Value> {
+    let key = DecodingKey::from_secret(alloc, b"secret")?;
     let validation = Validation::new(alloc, Algorithm::HS256)?;
-    let data: TokenData<Value> = decode(alloc, &prepared, token, &key, &validation, now)?;
+    let data: TokenData<Value> = decode(alloc, prepared, token, &key, &validation, now)?;
     Ok(data.claims)
+}
+
+/// Prepares the secret, and verifies a token with it.
+fn prepared_and_verified(alloc: Global, token: &[u8], now: u64) -> Result<Value> {
+    let prepared = prepared_secret(alloc)?;
+    verified_quickly(alloc, &prepared, token, now)
 }
 
 /// A token by a curve, whose signature is checked elsewhere.
@@ -66,10 +82,15 @@ pub fn verified_elsewhere(alloc: Global, token: &[u8], now: u64) -> Result<Value
     let signature = part.signature.as_slice();
     let yes = my_es256_accepts(part.message, signature); // with a key that is for ES256
     let verdict = VerdictProvider::new(Algorithm::ES256, part.message, signature, yes);
-    let options = Value::from_slice(alloc, b"{\"algorithms\":[\"ES256\"]}")?; // as from a file
-    let options = Validation::from_value(alloc, &options)?;
+    let options = es256_options(alloc)?;
     let data: TokenData<Value> = decode_by_verdict(alloc, token, &verdict, &options, now)?;
     Ok(data.claims)
+}
+
+/// Returns options that are read from JSON.
+fn es256_options(alloc: Global) -> Result<Box<Validation>> {
+    let options = Value::from_slice(alloc, b"{\"algorithms\":[\"ES256\"]}")?; // as from a file
+    Ok(Box::new(alloc, Validation::from_value(alloc, &options)?)?)
 }
 
 /// Stands for cryptography of the caller's: it says yes to one signature of one message, those of RFC 7515 appendix A.3.
@@ -133,7 +154,7 @@ pub fn show_samples<T: Runtime + AllocGlobal>(rt: &T) -> std::result::Result<(),
         rt,
         verified_by_set(alloc, NAMED.as_bytes(), SET.as_bytes(), 0),
     )?;
-    print(rt, verified_quickly(alloc, NAMED.as_bytes(), 0))?;
+    print(rt, prepared_and_verified(alloc, NAMED.as_bytes(), 0))?;
     print(
         rt,
         verified_elsewhere(alloc, SIGNED_BY_CURVE.as_bytes(), 1300819380),
