@@ -5,22 +5,16 @@
 //! by whoever runs the program (`refuse.c`). The last line counts.
 #![tactic(auto)]
 
-mod answer;
 mod calls;
-mod fault;
-mod inputs;
-mod json_types;
-mod row;
-mod trial;
 
-use fault::Fault;
-use row::Row;
+use jwt_rows::fault::Fault;
+use jwt_rows::row::Row;
+use jwt_rows::trial::Trial;
 use serde_json::Value;
 use std::alloc::Global;
 use std::process::ExitCode;
 use std::rt::Runtime;
 use std::{env, fs, io};
-use trial::Trial;
 
 /// No call makes as many requests for memory.
 const MOST: usize = 4_000;

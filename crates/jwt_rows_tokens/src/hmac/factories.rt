@@ -1,0 +1,178 @@
+//! Signers and verifiers.
+
+use jsonwebtoken::crypto::hmac::HmacProvider;
+use jsonwebtoken::crypto::{CryptoProvider, JwtSigner, JwtVerifier};
+use jsonwebtoken::errors;
+use jwt_rows::answer::{Answer, accepted, add_text, of_bytes, refused};
+use jwt_rows::by_provider;
+use jwt_rows::fault::Fault;
+use jwt_rows::inputs::keys::{decoding_key, encoding_key};
+use jwt_rows::inputs::providers::algorithm_of;
+use jwt_rows::row::Row;
+use jwt_rows::trial::Trial;
+use jwt_test_providers::providers::{NoProvider, YesProvider};
+use serde_json::{Map, Value};
+
+/// Makes the call of this name, if it is among those of this module.
+pub fn answer(call: &str, row: Row<'_>, trial: &mut Trial) -> Result<Option<Value>, Fault> {
+    match call {
+        "CryptoProvider::signer_factory" => Ok(Some(signer(row, trial)?)),
+        "CryptoProvider::verifier_factory" => Ok(Some(verifier(row, trial)?)),
+        "JwtSigner::sign" => Ok(Some(signed(row, trial)?)),
+        "JwtSigner::algorithm" => Ok(Some(signer_algorithm(row, trial)?)),
+        "JwtVerifier::verify" => Ok(Some(verified(row, trial)?)),
+        "JwtVerifier::algorithm" => Ok(Some(verifier_algorithm(row, trial)?)),
+        _ => Ok(None),
+    }
+}
+
+fn of_signer<S: JwtSigner>(row: Row<'_>, answer: errors::Result<S>) -> Answer {
+    match answer {
+        Ok(signer) => accepted_name(row, signer.algorithm().name()),
+        Err(refusal) => refused(row.alloc(), &refusal),
+    }
+}
+
+fn of_verifier<V: JwtVerifier>(row: Row<'_>, answer: errors::Result<V>) -> Answer {
+    match answer {
+        Ok(verifier) => accepted_name(row, verifier.algorithm().name()),
+        Err(refusal) => refused(row.alloc(), &refusal),
+    }
+}
+
+fn accepted_name(row: Row<'_>, name: &str) -> Answer {
+    let name = String::from_str(row.alloc(), name)?;
+    accepted(row.alloc(), Value::String(name))
+}
+
+fn signer_by<P: CryptoProvider>(row: Row<'_>, trial: &mut Trial, provider: &P) -> Answer {
+    let algorithm = algorithm_of(row.value("algorithm")?)?;
+    let key = encoding_key(row)?;
+    trial.begin();
+    let answer = provider.signer_factory(row.alloc(), &algorithm, &key);
+    trial.end();
+    of_signer(row, answer)
+}
+
+fn signer(row: Row<'_>, trial: &mut Trial) -> Answer {
+    row.takes(&["algorithm", "key", "provider"])?;
+    by_provider!(signer_by, row, trial)
+}
+
+fn verifier_by<P: CryptoProvider>(row: Row<'_>, trial: &mut Trial, provider: &P) -> Answer {
+    let algorithm = algorithm_of(row.value("algorithm")?)?;
+    let key = decoding_key(row)?;
+    trial.begin();
+    let answer = provider.verifier_factory(row.alloc(), &algorithm, &key);
+    trial.end();
+    of_verifier(row, answer)
+}
+
+fn verifier(row: Row<'_>, trial: &mut Trial) -> Answer {
+    row.takes(&["algorithm", "key", "provider"])?;
+    by_provider!(verifier_by, row, trial)
+}
+
+fn sign_with<S: JwtSigner>(row: Row<'_>, trial: &mut Trial, signer: &S) -> Answer {
+    let message = row.bytes("message")?;
+    trial.begin();
+    let answer = signer.sign(row.alloc(), message.as_slice());
+    trial.end();
+    of_bytes(row.alloc(), answer)
+}
+
+fn signed_by<P: CryptoProvider>(row: Row<'_>, trial: &mut Trial, provider: &P) -> Answer {
+    let algorithm = algorithm_of(row.value("algorithm")?)?;
+    let key = encoding_key(row)?;
+    match provider.signer_factory(row.alloc(), &algorithm, &key) {
+        Ok(signer) => sign_with(row, trial, &signer),
+        Err(refusal) => Err(Fault::from(refusal)),
+    }
+}
+
+fn signed(row: Row<'_>, trial: &mut Trial) -> Answer {
+    row.takes(&["algorithm", "key", "message", "provider"])?;
+    by_provider!(signed_by, row, trial)
+}
+
+fn name_signer<S: JwtSigner>(row: Row<'_>, trial: &mut Trial, signer: &S) -> Answer {
+    trial.begin();
+    let algorithm = signer.algorithm();
+    trial.end();
+    accepted_name(row, algorithm.name())
+}
+
+fn signer_algorithm_by<P: CryptoProvider>(row: Row<'_>, trial: &mut Trial, provider: &P) -> Answer {
+    let algorithm = algorithm_of(row.value("algorithm")?)?;
+    let key = encoding_key(row)?;
+    match provider.signer_factory(row.alloc(), &algorithm, &key) {
+        Ok(signer) => name_signer(row, trial, &signer),
+        Err(refusal) => Err(Fault::from(refusal)),
+    }
+}
+
+fn signer_algorithm(row: Row<'_>, trial: &mut Trial) -> Answer {
+    row.takes(&["algorithm", "key", "provider"])?;
+    by_provider!(signer_algorithm_by, row, trial)
+}
+
+// What a verifier of this algorithm says.
+fn verdict(row: Row<'_>, algorithm: &str, says_yes: bool) -> Answer {
+    let alloc = row.alloc();
+    let mut members = Map::new(alloc);
+    add_text(alloc, &mut members, "algorithm", algorithm)?;
+    members.insert(String::from_str(alloc, "verdict")?, Value::Bool(says_yes))?;
+    accepted(alloc, Value::Object(members))
+}
+
+fn verify_with<V: JwtVerifier>(row: Row<'_>, trial: &mut Trial, verifier: &V) -> Answer {
+    let message = row.bytes("message")?;
+    let signature = row.bytes("signature")?;
+    let (message, signature) = (message.as_slice(), signature.as_slice());
+    trial.begin();
+    let answer = verifier.verify(row.alloc(), message, signature);
+    trial.end();
+    match answer {
+        Ok(says_yes) => verdict(row, verifier.algorithm().name(), says_yes),
+        Err(refusal) => refused(row.alloc(), &refusal),
+    }
+}
+
+fn verified_by<P: CryptoProvider>(row: Row<'_>, trial: &mut Trial, provider: &P) -> Answer {
+    let algorithm = algorithm_of(row.value("algorithm")?)?;
+    let key = decoding_key(row)?;
+    match provider.verifier_factory(row.alloc(), &algorithm, &key) {
+        Ok(verifier) => verify_with(row, trial, &verifier),
+        Err(refusal) => Err(Fault::from(refusal)),
+    }
+}
+
+fn verified(row: Row<'_>, trial: &mut Trial) -> Answer {
+    row.takes(&["algorithm", "key", "message", "signature", "provider"])?;
+    by_provider!(verified_by, row, trial)
+}
+
+fn name_verifier<V: JwtVerifier>(row: Row<'_>, trial: &mut Trial, verifier: &V) -> Answer {
+    trial.begin();
+    let algorithm = verifier.algorithm();
+    trial.end();
+    accepted_name(row, algorithm.name())
+}
+
+fn verifier_algorithm_by<P: CryptoProvider>(
+    row: Row<'_>,
+    trial: &mut Trial,
+    provider: &P,
+) -> Answer {
+    let algorithm = algorithm_of(row.value("algorithm")?)?;
+    let key = decoding_key(row)?;
+    match provider.verifier_factory(row.alloc(), &algorithm, &key) {
+        Ok(verifier) => name_verifier(row, trial, &verifier),
+        Err(refusal) => Err(Fault::from(refusal)),
+    }
+}
+
+fn verifier_algorithm(row: Row<'_>, trial: &mut Trial) -> Answer {
+    row.takes(&["algorithm", "key", "provider"])?;
+    by_provider!(verifier_algorithm_by, row, trial)
+}

@@ -1,0 +1,144 @@
+//! What providers read of keys in DER, and their digests.
+
+use jsonwebtoken::crypto::CryptoProvider;
+use jsonwebtoken::crypto::hmac::HmacProvider;
+use jsonwebtoken::errors;
+use jsonwebtoken::jwk::EllipticCurve;
+use jwt_rows::answer::{Answer, accepted, add_bytes, of_bytes, refused};
+use jwt_rows::by_provider;
+use jwt_rows::fault::Fault;
+use jwt_rows::inputs::keys::thumbprint_hash;
+use jwt_rows::inputs::providers::algorithm_of;
+use jwt_rows::row::Row;
+use jwt_rows::trial::Trial;
+use jwt_test_providers::providers::{NoProvider, YesProvider};
+use serde_json::{Map, Value};
+use std::alloc::Global;
+
+/// Makes the call of this name, if it is among those of this module.
+pub fn answer(call: &str, row: Row<'_>, trial: &mut Trial) -> Result<Option<Value>, Fault> {
+    match call {
+        "CryptoProvider::rsa_pub_components_from_private_key" => {
+            Ok(Some(rsa_of_private(row, trial)?))
+        }
+        "CryptoProvider::rsa_pub_components_from_public_key" => {
+            Ok(Some(rsa_of_public(row, trial)?))
+        }
+        "CryptoProvider::ec_pub_components_from_private_key" => {
+            Ok(Some(ec_of_private(row, trial)?))
+        }
+        "CryptoProvider::ed_pub_components_from_private_key" => {
+            Ok(Some(ed_of_private(row, trial)?))
+        }
+        "CryptoProvider::compute_digest" => Ok(Some(digest(row, trial)?)),
+        _ => Ok(None),
+    }
+}
+
+fn numbers(alloc: Global, n: &[u8], e: &[u8]) -> Answer {
+    let mut members = Map::new(alloc);
+    add_bytes(alloc, &mut members, "n", n)?;
+    add_bytes(alloc, &mut members, "e", e)?;
+    accepted(alloc, Value::Object(members))
+}
+
+fn of_numbers(alloc: Global, answer: errors::Result<(Vec<u8>, Vec<u8>)>) -> Answer {
+    match answer {
+        Ok((n, e)) => numbers(alloc, n.as_slice(), e.as_slice()),
+        Err(refusal) => refused(alloc, &refusal),
+    }
+}
+
+fn point(alloc: Global, curve: &EllipticCurve, x: &[u8], y: &[u8]) -> Answer {
+    let curve = curve.to_value(alloc)?;
+    let mut members = Map::new(alloc);
+    members.insert(String::from_str(alloc, "crv")?, curve)?;
+    add_bytes(alloc, &mut members, "x", x)?;
+    add_bytes(alloc, &mut members, "y", y)?;
+    accepted(alloc, Value::Object(members))
+}
+
+fn of_point(alloc: Global, answer: errors::Result<(EllipticCurve, Vec<u8>, Vec<u8>)>) -> Answer {
+    match answer {
+        Ok((curve, x, y)) => point(alloc, &curve, x.as_slice(), y.as_slice()),
+        Err(refusal) => refused(alloc, &refusal),
+    }
+}
+
+fn rsa_of_private_by<P: CryptoProvider>(row: Row<'_>, trial: &mut Trial, provider: &P) -> Answer {
+    let der = row.bytes("der")?;
+    trial.begin();
+    let answer = provider.rsa_pub_components_from_private_key(row.alloc(), der.as_slice());
+    trial.end();
+    of_numbers(row.alloc(), answer)
+}
+
+fn rsa_of_private(row: Row<'_>, trial: &mut Trial) -> Answer {
+    row.takes(&["der", "provider"])?;
+    by_provider!(rsa_of_private_by, row, trial)
+}
+
+fn rsa_of_public_by<P: CryptoProvider>(row: Row<'_>, trial: &mut Trial, provider: &P) -> Answer {
+    let der = row.bytes("der")?;
+    trial.begin();
+    let answer = provider.rsa_pub_components_from_public_key(row.alloc(), der.as_slice());
+    trial.end();
+    of_numbers(row.alloc(), answer)
+}
+
+fn rsa_of_public(row: Row<'_>, trial: &mut Trial) -> Answer {
+    row.takes(&["der", "provider"])?;
+    by_provider!(rsa_of_public_by, row, trial)
+}
+
+fn ec_of_private_by<P: CryptoProvider>(row: Row<'_>, trial: &mut Trial, provider: &P) -> Answer {
+    let algorithm = algorithm_of(row.value("algorithm")?)?;
+    let der = row.bytes("der")?;
+    let der = der.as_slice();
+    trial.begin();
+    let answer = provider.ec_pub_components_from_private_key(row.alloc(), der, algorithm);
+    trial.end();
+    of_point(row.alloc(), answer)
+}
+
+fn ec_of_private(row: Row<'_>, trial: &mut Trial) -> Answer {
+    row.takes(&["der", "algorithm", "provider"])?;
+    by_provider!(ec_of_private_by, row, trial)
+}
+
+fn curve_of(row: Row<'_>) -> Result<EllipticCurve, Fault> {
+    match EllipticCurve::from_value(row.value("curve")?) {
+        Ok(curve) => Ok(curve),
+        Err(_) => Err(Fault::Member("curve")),
+    }
+}
+
+fn ed_of_private_by<P: CryptoProvider>(row: Row<'_>, trial: &mut Trial, provider: &P) -> Answer {
+    let curve = curve_of(row)?;
+    let der = row.bytes("der")?;
+    let der = der.as_slice();
+    trial.begin();
+    let answer = provider.ed_pub_components_from_private_key(row.alloc(), der, &curve);
+    trial.end();
+    of_bytes(row.alloc(), answer)
+}
+
+fn ed_of_private(row: Row<'_>, trial: &mut Trial) -> Answer {
+    row.takes(&["der", "curve", "provider"])?;
+    by_provider!(ed_of_private_by, row, trial)
+}
+
+fn digest_by<P: CryptoProvider>(row: Row<'_>, trial: &mut Trial, provider: &P) -> Answer {
+    let hash = thumbprint_hash(row)?;
+    let bytes = row.bytes("bytes")?;
+    let bytes = bytes.as_slice();
+    trial.begin();
+    let answer = provider.compute_digest(row.alloc(), bytes, hash);
+    trial.end();
+    of_bytes(row.alloc(), answer)
+}
+
+fn digest(row: Row<'_>, trial: &mut Trial) -> Answer {
+    row.takes(&["bytes", "hash", "provider"])?;
+    by_provider!(digest_by, row, trial)
+}

@@ -1,0 +1,72 @@
+//! The JSON Web Keys of keys.
+
+use jsonwebtoken::crypto::CryptoProvider;
+use jsonwebtoken::crypto::hmac::HmacProvider;
+use jsonwebtoken::jwk::Jwk;
+use jsonwebtoken::{Algorithm, errors};
+use jwt_rows::answer::{Answer, accepted, refused};
+use jwt_rows::by_provider;
+use jwt_rows::fault::Fault;
+use jwt_rows::inputs::keys::{decoding_key, encoding_key};
+use jwt_rows::inputs::providers::algorithm_of;
+use jwt_rows::row::Row;
+use jwt_rows::trial::Trial;
+use jwt_test_providers::providers::{NoProvider, YesProvider};
+use serde_json::Value;
+use std::alloc::Global;
+
+/// Makes the call of this name, if it is among those of this module.
+pub fn answer(call: &str, row: Row<'_>, trial: &mut Trial) -> Result<Option<Value>, Fault> {
+    match call {
+        "Jwk::from_encoding_key" => Ok(Some(of_encoding_key(row, trial)?)),
+        "Jwk::from_decoding_key" => Ok(Some(of_decoding_key(row, trial)?)),
+        _ => Ok(None),
+    }
+}
+
+fn jwk_answer(alloc: Global, jwk: &Jwk) -> Answer {
+    accepted(alloc, jwk.to_value(alloc)?)
+}
+
+fn of_jwk(alloc: Global, answer: errors::Result<Jwk>) -> Answer {
+    match answer {
+        Ok(jwk) => jwk_answer(alloc, &jwk),
+        Err(refusal) => refused(alloc, &refusal),
+    }
+}
+
+fn of_encoding_key_by<P: CryptoProvider>(row: Row<'_>, trial: &mut Trial, provider: &P) -> Answer {
+    let algorithm = algorithm_of(row.value("algorithm")?)?;
+    let key = encoding_key(row)?;
+    trial.begin();
+    let answer = Jwk::from_encoding_key(row.alloc(), provider, &key, algorithm);
+    trial.end();
+    of_jwk(row.alloc(), answer)
+}
+
+fn of_encoding_key(row: Row<'_>, trial: &mut Trial) -> Answer {
+    row.takes(&["key", "algorithm", "provider"])?;
+    by_provider!(of_encoding_key_by, row, trial)
+}
+
+// The algorithm that the row names, if it names one.
+fn optional_algorithm(row: Row<'_>) -> Result<Option<Algorithm>, Fault> {
+    match row.optional("algorithm") {
+        Some(name) => Ok(Some(algorithm_of(name)?)),
+        None => Ok(None),
+    }
+}
+
+fn of_decoding_key_by<P: CryptoProvider>(row: Row<'_>, trial: &mut Trial, provider: &P) -> Answer {
+    let algorithm = optional_algorithm(row)?;
+    let key = decoding_key(row)?;
+    trial.begin();
+    let answer = Jwk::from_decoding_key(row.alloc(), provider, &key, algorithm);
+    trial.end();
+    of_jwk(row.alloc(), answer)
+}
+
+fn of_decoding_key(row: Row<'_>, trial: &mut Trial) -> Answer {
+    row.takes(&["key", "algorithm", "provider"])?;
+    by_provider!(of_decoding_key_by, row, trial)
+}

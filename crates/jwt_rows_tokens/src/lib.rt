@@ -1,0 +1,80 @@
+//! Rows about keys, signatures and tokens.
+#![tactic(auto)]
+
+mod hmac;
+mod issued_tokens;
+mod jwks_of_keys;
+mod key_bytes;
+mod keys_of_jwks;
+mod prepared;
+mod signatures;
+mod sizes;
+mod thumbprints;
+mod token_parts;
+mod tokens;
+mod tokens_by_set;
+mod tokens_by_verdict;
+mod unverified_tokens;
+
+use jwt_rows::fault::Fault;
+use jwt_rows::row::Row;
+use jwt_rows::trial::Trial;
+use serde_json::Value;
+
+type Found = Result<Option<Value>, Fault>;
+
+fn of_keys(call: &str, row: Row<'_>, trial: &mut Trial) -> Found {
+    if let Some(answer) = key_bytes::answer(call, row, trial)? {
+        return Ok(Some(answer));
+    }
+    if let Some(answer) = keys_of_jwks::answer(call, row, trial)? {
+        return Ok(Some(answer));
+    }
+    if let Some(answer) = jwks_of_keys::answer(call, row, trial)? {
+        return Ok(Some(answer));
+    }
+    thumbprints::answer(call, row, trial)
+}
+
+fn of_signatures(call: &str, row: Row<'_>, trial: &mut Trial) -> Found {
+    if let Some(answer) = hmac::answer(call, row, trial)? {
+        return Ok(Some(answer));
+    }
+    if let Some(answer) = prepared::answer(call, row, trial)? {
+        return Ok(Some(answer));
+    }
+    signatures::answer(call, row, trial)
+}
+
+fn of_tokens(call: &str, row: Row<'_>, trial: &mut Trial) -> Found {
+    if let Some(answer) = tokens::answer(call, row, trial)? {
+        return Ok(Some(answer));
+    }
+    if let Some(answer) = tokens_by_set::answer(call, row, trial)? {
+        return Ok(Some(answer));
+    }
+    if let Some(answer) = tokens_by_verdict::answer(call, row, trial)? {
+        return Ok(Some(answer));
+    }
+    if let Some(answer) = token_parts::answer(call, row, trial)? {
+        return Ok(Some(answer));
+    }
+    if let Some(answer) = unverified_tokens::answer(call, row, trial)? {
+        return Ok(Some(answer));
+    }
+    if let Some(answer) = issued_tokens::answer(call, row, trial)? {
+        return Ok(Some(answer));
+    }
+    sizes::answer(call, row, trial)
+}
+
+/// Makes the call of this name with the row's inputs, if it is among those of this crate, and returns what it answers.
+pub fn answer(call: &str, row: Row<'_>, trial: &mut Trial) -> Result<Option<Value>, Fault> {
+    if let Some(answer) = of_keys(call, row, trial)? {
+        return Ok(Some(answer));
+    }
+    if let Some(answer) = of_signatures(call, row, trial)? {
+        return Ok(Some(answer));
+    }
+    of_tokens(call, row, trial)
+}

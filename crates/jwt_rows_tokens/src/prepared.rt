@@ -1,0 +1,114 @@
+//! Secrets that are prepared for HMAC.
+
+use jsonwebtoken::crypto::hmac::PreparedHmac;
+use jsonwebtoken::errors;
+use jwt_base::json::value_eq;
+use jwt_rows::answer::{Answer, accepted, changed, refused};
+use jwt_rows::fault::Fault;
+use jwt_rows::inputs::bytes::bytes_of;
+use jwt_rows::inputs::providers::{algorithm_of, prepared_provider};
+use jwt_rows::row::Row;
+use jwt_rows::trial::Trial;
+use serde_json::Value;
+use std::alloc::Global;
+
+/// Makes the call of this name, if it is among those of this module.
+pub fn answer(call: &str, row: Row<'_>, trial: &mut Trial) -> Result<Option<Value>, Fault> {
+    match call {
+        "PreparedHmac::new" => Ok(Some(made(row, trial)?)),
+        "PreparedHmac::add" => Ok(Some(added(row, trial)?)),
+        "PreparedHmac::is_prepared" => Ok(Some(is_prepared(row, trial)?)),
+        "PreparedHmac::zeroize" => Ok(Some(zeroed(row, trial)?)),
+        _ => Ok(None),
+    }
+}
+
+// Whether the provider has the secret prepared of which an algorithm and the secret are listed.
+fn has(alloc: Global, provider: &PreparedHmac, asked: &Value) -> Result<bool, Fault> {
+    let malformed = Fault::Member("asked");
+    let (Some(algorithm), Some(secret)) = (asked.get(0_usize), asked.get(1_usize)) else {
+        return Err(malformed);
+    };
+    let algorithm = algorithm_of(algorithm)?;
+    let secret = bytes_of(alloc, secret)?;
+    Ok(provider.is_prepared(algorithm, secret.as_slice()))
+}
+
+// Which of the secrets at `asked` the provider has prepared.
+fn those_prepared(row: Row<'_>, provider: &PreparedHmac) -> Answer {
+    let mut flags = Vec::new(row.alloc());
+    for asked in row.list("asked")? {
+        let flag = has(row.alloc(), provider, asked)?;
+        flags.push(Value::Bool(flag))?;
+    }
+    Ok(Value::Array(flags))
+}
+
+fn provider_answer(row: Row<'_>, provider: &PreparedHmac) -> Answer {
+    accepted(row.alloc(), those_prepared(row, provider)?)
+}
+
+fn made(row: Row<'_>, trial: &mut Trial) -> Answer {
+    row.takes(&["algorithm", "secret", "asked"])?;
+    let algorithm = algorithm_of(row.value("algorithm")?)?;
+    let secret = row.bytes("secret")?;
+    trial.begin();
+    let answer = PreparedHmac::new(row.alloc(), algorithm, secret.as_slice());
+    trial.end();
+    match answer {
+        Ok(provider) => provider_answer(row, &provider),
+        Err(refusal) => refused(row.alloc(), &refusal),
+    }
+}
+
+// What `add` came to, with what was prepared before it.
+fn of_added(
+    row: Row<'_>,
+    answer: errors::Result<()>,
+    before: &Value,
+    provider: &PreparedHmac,
+) -> Answer {
+    let after = those_prepared(row, provider)?;
+    match answer {
+        Ok(()) => accepted(row.alloc(), after),
+        Err(refusal) => {
+            if value_eq(before, &after) {
+                refused(row.alloc(), &refusal)
+            } else {
+                changed(row.alloc())
+            }
+        }
+    }
+}
+
+fn added(row: Row<'_>, trial: &mut Trial) -> Answer {
+    row.takes(&["provider", "algorithm", "secret", "asked"])?;
+    let algorithm = algorithm_of(row.value("algorithm")?)?;
+    let secret = row.bytes("secret")?;
+    let mut provider = prepared_provider(row)?;
+    let before = those_prepared(row, &provider)?;
+    trial.begin();
+    let answer = provider.add(row.alloc(), algorithm, secret.as_slice());
+    trial.end();
+    of_added(row, answer, &before, &provider)
+}
+
+fn is_prepared(row: Row<'_>, trial: &mut Trial) -> Answer {
+    row.takes(&["provider", "algorithm", "secret"])?;
+    let algorithm = algorithm_of(row.value("algorithm")?)?;
+    let secret = row.bytes("secret")?;
+    let provider = prepared_provider(row)?;
+    trial.begin();
+    let flag = provider.is_prepared(algorithm, secret.as_slice());
+    trial.end();
+    accepted(row.alloc(), Value::Bool(flag))
+}
+
+fn zeroed(row: Row<'_>, trial: &mut Trial) -> Answer {
+    row.takes(&["provider", "asked"])?;
+    let mut provider = prepared_provider(row)?;
+    trial.begin();
+    provider.zeroize();
+    trial.end();
+    provider_answer(row, &provider)
+}

@@ -1,0 +1,110 @@
+//! Tokens in parts (RFC 7515 section 7.2.2). A row describes such a token as the object of its three strings.
+
+use crate::tokens::of_token;
+use jsonwebtoken::crypto::CryptoProvider;
+use jsonwebtoken::crypto::hmac::HmacProvider;
+use jsonwebtoken::errors::Result as Outcome;
+use jsonwebtoken::jws::{self, Jws};
+use jwt_rows::answer::{Answer, accepted, refused};
+use jwt_rows::by_provider;
+use jwt_rows::fault::Fault;
+use jwt_rows::inputs::headers::header_of;
+use jwt_rows::inputs::keys::{decoding_key, encoding_key};
+use jwt_rows::inputs::validations::validation;
+use jwt_rows::row::Row;
+use jwt_rows::trial::Trial;
+use jwt_test_providers::providers::{NoProvider, YesProvider};
+use serde_json::Value;
+use std::alloc::Global;
+
+/// Makes the call of this name, if it is among those of this module.
+pub fn answer(call: &str, row: Row<'_>, trial: &mut Trial) -> Result<Option<Value>, Fault> {
+    match call {
+        "jws::decode" => Ok(Some(decoded(row, trial)?)),
+        "jws::encode" => Ok(Some(encoded(row, trial)?)),
+        "Jws::from_value" => Ok(Some(read(row, trial)?)),
+        "Jws::to_value" => Ok(Some(written(row, trial)?)),
+        "Jws::clone" => Ok(Some(copied(row, trial)?)),
+        _ => Ok(None),
+    }
+}
+
+// The token in parts at `parts`.
+fn parts(row: Row<'_>) -> Result<Box<Jws<Value>>, Fault> {
+    let token = Jws::from_value(row.alloc(), row.value("parts")?)?;
+    Ok(Box::new(row.alloc(), token)?)
+}
+
+fn of_parts(alloc: Global, answer: Outcome<Jws<Value>>) -> Answer {
+    match answer {
+        Ok(token) => accepted(alloc, token.to_value(alloc)?),
+        Err(refusal) => refused(alloc, &refusal),
+    }
+}
+
+fn decoded_by<P: CryptoProvider>(row: Row<'_>, trial: &mut Trial, provider: &P) -> Answer {
+    let token = parts(row)?;
+    let key = decoding_key(row)?;
+    let options = validation(row)?;
+    let now = row.number("now")?;
+    trial.begin();
+    let answer = jws::decode(row.alloc(), provider, &token, &key, &options, now);
+    trial.end();
+    of_token(row.alloc(), answer)
+}
+
+fn decoded(row: Row<'_>, trial: &mut Trial) -> Answer {
+    row.takes(&["parts", "key", "validation", "now", "provider"])?;
+    by_provider!(decoded_by, row, trial)
+}
+
+// The claims, if the row has them.
+fn optional_claims(row: Row<'_>) -> Result<Option<Value>, Fault> {
+    let has_claims = row.optional("claims").is_some() || row.optional("claims_json").is_some();
+    if !has_claims {
+        return Ok(None);
+    }
+    Ok(Some(row.json("claims", "claims_json")?))
+}
+
+fn encoded_by<P: CryptoProvider>(row: Row<'_>, trial: &mut Trial, provider: &P) -> Answer {
+    let header = header_of(row.alloc(), row.value("header")?)?;
+    let claims = optional_claims(row)?;
+    let key = encoding_key(row)?;
+    trial.begin();
+    let answer = jws::encode(row.alloc(), provider, &header, claims.as_ref(), &key);
+    trial.end();
+    of_parts(row.alloc(), answer)
+}
+
+fn encoded(row: Row<'_>, trial: &mut Trial) -> Answer {
+    row.takes(&["header", "claims", "claims_json", "key", "provider"])?;
+    by_provider!(encoded_by, row, trial)
+}
+
+fn read(row: Row<'_>, trial: &mut Trial) -> Answer {
+    row.takes(&["value"])?;
+    let value = row.value("value")?;
+    trial.begin();
+    let answer = Jws::from_value(row.alloc(), value);
+    trial.end();
+    of_parts(row.alloc(), answer)
+}
+
+fn written(row: Row<'_>, trial: &mut Trial) -> Answer {
+    row.takes(&["parts"])?;
+    let token = parts(row)?;
+    trial.begin();
+    let answer = token.to_value(row.alloc());
+    trial.end();
+    jwt_rows::answer::of_value(row.alloc(), answer)
+}
+
+fn copied(row: Row<'_>, trial: &mut Trial) -> Answer {
+    row.takes(&["parts"])?;
+    let token = parts(row)?;
+    trial.begin();
+    let answer = token.clone(row.alloc());
+    trial.end();
+    of_parts(row.alloc(), answer)
+}

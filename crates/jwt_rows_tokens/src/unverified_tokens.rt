@@ -1,0 +1,53 @@
+//! Tokens that are read without verification.
+
+use crate::tokens::of_token;
+use jsonwebtoken::dangerous::{insecure_decode, insecure_decode_claims};
+use jsonwebtoken::errors::Result as Outcome;
+use jsonwebtoken::json::Claims;
+use jwt_rows::answer::{Answer, of_value};
+use jwt_rows::fault::Fault;
+use jwt_rows::row::Row;
+use jwt_rows::trial::Trial;
+use serde_json::Value;
+use std::alloc::Global;
+
+/// Makes the call of this name, if it is among those of this module.
+pub fn answer(call: &str, row: Row<'_>, trial: &mut Trial) -> Result<Option<Value>, Fault> {
+    match call {
+        "dangerous::insecure_decode" => Ok(Some(whole(row, trial)?)),
+        "dangerous::insecure_decode_claims" => Ok(Some(claims(row, trial)?)),
+        "dangerous::insecure_decode_claims::<u64>" => Ok(Some(number(row, trial)?)),
+        _ => Ok(None),
+    }
+}
+
+fn whole(row: Row<'_>, trial: &mut Trial) -> Answer {
+    row.takes(&["token"])?;
+    let token = row.bytes("token")?;
+    trial.begin();
+    let answer = insecure_decode(row.alloc(), token.as_slice());
+    trial.end();
+    of_token(row.alloc(), answer)
+}
+
+fn claims(row: Row<'_>, trial: &mut Trial) -> Answer {
+    row.takes(&["token"])?;
+    let token = row.bytes("token")?;
+    trial.begin();
+    let answer = insecure_decode_claims::<Value>(row.alloc(), token.as_slice());
+    trial.end();
+    of_value(row.alloc(), answer)
+}
+
+fn number_value(alloc: Global, answer: Outcome<u64>) -> Outcome<Value> {
+    answer?.to_value(alloc)
+}
+
+fn number(row: Row<'_>, trial: &mut Trial) -> Answer {
+    row.takes(&["token"])?;
+    let token = row.bytes("token")?;
+    trial.begin();
+    let answer = insecure_decode_claims::<u64>(row.alloc(), token.as_slice());
+    trial.end();
+    of_value(row.alloc(), number_value(row.alloc(), answer))
+}

@@ -1,0 +1,77 @@
+//! Headers (RFC 7515 section 4) and their JSON values.
+
+use crate::json_types::{JsonType, call_of, of_type};
+use jsonwebtoken::{Header, errors};
+use jwt_rows::answer::{Answer, accepted, hex_value, refused};
+use jwt_rows::fault::Fault;
+use jwt_rows::inputs::headers::{header_of, shown_header};
+use jwt_rows::inputs::providers::algorithm_of;
+use jwt_rows::row::Row;
+use jwt_rows::trial::Trial;
+use serde_json::Value;
+use std::alloc::Global;
+
+impl JsonType for Header {
+    fn described(alloc: Global, value: &Value) -> Result<Box<Header>, Fault> {
+        header_of(alloc, value)
+    }
+
+    fn shown(&self, alloc: Global) -> Answer {
+        shown_header(alloc, self)
+    }
+
+    fn read(alloc: Global, value: &Value) -> errors::Result<Header> {
+        Header::from_value(alloc, value)
+    }
+
+    fn written(&self, alloc: Global) -> errors::Result<Value> {
+        self.to_value(alloc)
+    }
+
+    fn copied(&self, alloc: Global) -> errors::Result<Header> {
+        self.clone(alloc)
+    }
+}
+
+/// Makes the call of this name, if it is among those of this module.
+pub fn answer(call: &str, row: Row<'_>, trial: &mut Trial) -> Result<Option<Value>, Fault> {
+    match call.split_once("::") {
+        Some(("Header", "new")) => Ok(Some(new(row, trial)?)),
+        Some(("Header", "x5c_der")) => Ok(Some(certificates(row, trial)?)),
+        Some(("Header", call)) => call_of::<Header>(call, row, trial),
+        _ => Ok(None),
+    }
+}
+
+fn new(row: Row<'_>, trial: &mut Trial) -> Answer {
+    row.takes(&["algorithm"])?;
+    let algorithm = algorithm_of(row.value("algorithm")?)?;
+    trial.begin();
+    let answer = Header::new(row.alloc(), algorithm);
+    trial.end();
+    of_type(row, answer)
+}
+
+// What shows certificates that may be absent.
+fn shown_certificates(alloc: Global, certificates: &Option<Vec<Vec<u8>>>) -> Answer {
+    let Some(certificates) = certificates else {
+        return Ok(Value::Null);
+    };
+    let mut items = Vec::new(alloc);
+    for certificate in certificates {
+        items.push(hex_value(alloc, certificate.as_slice())?)?;
+    }
+    Ok(Value::Array(items))
+}
+
+fn certificates(row: Row<'_>, trial: &mut Trial) -> Answer {
+    row.takes(&["value"])?;
+    let header = header_of(row.alloc(), row.value("value")?)?;
+    trial.begin();
+    let answer = header.x5c_der(row.alloc());
+    trial.end();
+    match answer {
+        Ok(certificates) => accepted(row.alloc(), shown_certificates(row.alloc(), &certificates)?),
+        Err(refusal) => refused(row.alloc(), &refusal),
+    }
+}

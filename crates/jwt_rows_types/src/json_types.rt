@@ -1,0 +1,149 @@
+//! The calls that types with a JSON value have in common: `from_value`, `to_value`, `clone`, `==` and hashing.
+
+use jsonwebtoken::errors;
+use jwt_rows::answer::{Answer, accepted, of_flag, of_value, refused};
+use jwt_rows::fault::Fault;
+use jwt_rows::row::Row;
+use jwt_rows::trial::Trial;
+use serde_json::Value;
+use std::alloc::Global;
+use std::hash::{DefaultHasher, Hash, Hasher};
+
+/// A type of the library that is read from a JSON value and written as one.
+pub trait JsonType: Sized + Drop {
+    /// Returns the value that a row describes.
+    fn described(alloc: Global, value: &Value) -> Result<Box<Self>, Fault>;
+
+    /// Returns what shows the value in an answer.
+    fn shown(&self, alloc: Global) -> Answer;
+
+    /// Calls `from_value`.
+    fn read(alloc: Global, value: &Value) -> errors::Result<Self>;
+
+    /// Calls `to_value`.
+    fn written(&self, alloc: Global) -> errors::Result<Value>;
+
+    /// Calls `clone`.
+    fn copied(&self, alloc: Global) -> errors::Result<Self>;
+}
+
+/// Makes the call of this name, if it is one that all such types have.
+pub fn call_of<T: JsonType + Hash>(
+    call: &str,
+    row: Row<'_>,
+    trial: &mut Trial,
+) -> Result<Option<Value>, Fault> {
+    match call {
+        "from_value" => Ok(Some(read::<T>(row, trial)?)),
+        "to_value" => Ok(Some(written::<T>(row, trial)?)),
+        "clone" => Ok(Some(copied::<T>(row, trial)?)),
+        "eq" => Ok(Some(are_equal::<T>(row, trial)?)),
+        "hash" => Ok(Some(hash_alike::<T>(row, trial)?)),
+        _ => Ok(None),
+    }
+}
+
+// An answer's value, or its compact JSON text if the row asks for that.
+fn value_or_text(row: Row<'_>, value: Value) -> Answer {
+    match row.optional("text") {
+        Some(_) if row.flag("text")? => Ok(Value::String(value.to_string(row.alloc())?)),
+        _ => Ok(value),
+    }
+}
+
+/// Returns the answer of a call that returned a value of such a type.
+pub fn of_type<T: JsonType>(row: Row<'_>, answer: errors::Result<T>) -> Answer {
+    match answer {
+        Ok(value) => match value.shown(row.alloc()) {
+            Ok(shown) => accepted(row.alloc(), value_or_text(row, shown)?),
+            Err(fault) => Err(fault),
+        },
+        Err(refusal) => refused(row.alloc(), &refusal),
+    }
+}
+
+fn read<T: JsonType>(row: Row<'_>, trial: &mut Trial) -> Answer {
+    row.takes(&["value", "value_json", "text"])?;
+    let value = row.json("value", "value_json")?;
+    trial.begin();
+    let answer = T::read(row.alloc(), &value);
+    trial.end();
+    of_type(row, answer)
+}
+
+// The value that the row describes at `value`.
+fn described<T: JsonType>(row: Row<'_>) -> Result<Box<T>, Fault> {
+    let value = row.json("value", "value_json")?;
+    T::described(row.alloc(), &value)
+}
+
+fn written<T: JsonType>(row: Row<'_>, trial: &mut Trial) -> Answer {
+    row.takes(&["value", "value_json", "text"])?;
+    let value = described::<T>(row)?;
+    trial.begin();
+    let answer = value.written(row.alloc());
+    trial.end();
+    match answer {
+        Ok(value) => accepted(row.alloc(), value_or_text(row, value)?),
+        Err(refusal) => of_value(row.alloc(), Err(refusal)),
+    }
+}
+
+fn copied<T: JsonType + PartialEq>(row: Row<'_>, trial: &mut Trial) -> Answer {
+    row.takes(&["value", "value_json"])?;
+    let value = described::<T>(row)?;
+    trial.begin();
+    let answer = value.copied(row.alloc());
+    trial.end();
+    match answer {
+        Ok(copy) => of_flag(row.alloc(), Ok(copy == *value)),
+        Err(refusal) => refused(row.alloc(), &refusal),
+    }
+}
+
+fn are_equal<T: JsonType + PartialEq>(row: Row<'_>, trial: &mut Trial) -> Answer {
+    row.takes(&["left", "right"])?;
+    let left = T::described(row.alloc(), row.value("left")?)?;
+    let right = T::described(row.alloc(), row.value("right")?)?;
+    compared(row, trial, &*left, &*right)
+}
+
+/// Returns whether two values are equal.
+pub fn compared<T: PartialEq>(row: Row<'_>, trial: &mut Trial, left: &T, right: &T) -> Answer {
+    trial.begin();
+    let are_equal = left == right;
+    trial.end();
+    of_flag(row.alloc(), Ok(are_equal))
+}
+
+fn hash_alike<T: JsonType + Hash>(row: Row<'_>, trial: &mut Trial) -> Answer {
+    row.takes(&["left", "right"])?;
+    let left = T::described(row.alloc(), row.value("left")?)?;
+    let right = T::described(row.alloc(), row.value("right")?)?;
+    hashed(row, trial, &*left, &*right)
+}
+
+/// Returns whether two values hash alike.
+pub fn hashed<T: Hash>(row: Row<'_>, trial: &mut Trial, left: &T, right: &T) -> Answer {
+    let mut one = DefaultHasher::new();
+    let mut other = DefaultHasher::new();
+    right.hash(&mut other);
+    trial.begin();
+    left.hash(&mut one);
+    trial.end();
+    of_flag(row.alloc(), Ok(one.finish() == other.finish()))
+}
+
+/// Makes the call `default` of a type that has it.
+pub fn default_of<T: JsonType + Default>(row: Row<'_>, trial: &mut Trial) -> Answer {
+    row.takes(&[])?;
+    trial.begin();
+    let value = T::default();
+    trial.end();
+    of_type(row, Ok(value))
+}
+
+/// Puts a value behind a pointer.
+pub fn boxed<T: Drop>(alloc: Global, value: Result<T, Fault>) -> Result<Box<T>, Fault> {
+    Ok(Box::new(alloc, value?)?)
+}

@@ -1,0 +1,70 @@
+//! Sets of JSON Web Keys (RFC 7517 section 5).
+
+use crate::json_types::{JsonType, boxed, call_of, of_type};
+use jsonwebtoken::errors;
+use jsonwebtoken::jwk::{Jwk, JwkSet};
+use jwt_rows::answer::{Answer, accepted};
+use jwt_rows::fault::Fault;
+use jwt_rows::inputs::jwks::{jwk_set_of, shown_jwk, shown_jwk_set};
+use jwt_rows::row::Row;
+use jwt_rows::trial::Trial;
+use serde_json::Value;
+use std::alloc::Global;
+
+impl JsonType for JwkSet {
+    fn described(alloc: Global, value: &Value) -> Result<Box<JwkSet>, Fault> {
+        boxed(alloc, jwk_set_of(alloc, value))
+    }
+
+    fn shown(&self, alloc: Global) -> Answer {
+        shown_jwk_set(alloc, self)
+    }
+
+    fn read(alloc: Global, value: &Value) -> errors::Result<JwkSet> {
+        JwkSet::from_value(alloc, value)
+    }
+
+    fn written(&self, alloc: Global) -> errors::Result<Value> {
+        self.to_value(alloc)
+    }
+
+    fn copied(&self, alloc: Global) -> errors::Result<JwkSet> {
+        self.clone(alloc)
+    }
+}
+
+/// Makes the call of this name, if it is among those of this module.
+pub fn answer(call: &str, row: Row<'_>, trial: &mut Trial) -> Result<Option<Value>, Fault> {
+    match call.split_once("::") {
+        Some(("JwkSet", "new")) => Ok(Some(empty(row, trial)?)),
+        Some(("JwkSet", "find")) => Ok(Some(found(row, trial)?)),
+        Some(("JwkSet", call)) => call_of::<JwkSet>(call, row, trial),
+        _ => Ok(None),
+    }
+}
+
+fn empty(row: Row<'_>, trial: &mut Trial) -> Answer {
+    row.takes(&[])?;
+    trial.begin();
+    let set = JwkSet::new(row.alloc());
+    trial.end();
+    of_type(row, Ok(set))
+}
+
+// What shows a key that may be absent.
+fn shown_found(alloc: Global, found: Option<&Jwk>) -> Answer {
+    match found {
+        Some(key) => shown_jwk(alloc, key),
+        None => Ok(Value::Null),
+    }
+}
+
+fn found(row: Row<'_>, trial: &mut Trial) -> Answer {
+    row.takes(&["set", "kid"])?;
+    let set = jwk_set_of(row.alloc(), row.value("set")?)?;
+    let kid = row.text("kid")?;
+    trial.begin();
+    let found = set.find(kid);
+    trial.end();
+    accepted(row.alloc(), shown_found(row.alloc(), found)?)
+}

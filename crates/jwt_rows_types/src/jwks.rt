@@ -1,0 +1,52 @@
+//! JSON Web Keys (RFC 7517) and their JSON values.
+
+use crate::json_types::{JsonType, boxed, call_of};
+use jsonwebtoken::errors;
+use jsonwebtoken::jwk::Jwk;
+use jwt_rows::answer::{Answer, of_flag};
+use jwt_rows::fault::Fault;
+use jwt_rows::inputs::jwks::{jwk_of, key_of, shown_jwk};
+use jwt_rows::row::Row;
+use jwt_rows::trial::Trial;
+use serde_json::Value;
+use std::alloc::Global;
+
+impl JsonType for Jwk {
+    fn described(alloc: Global, value: &Value) -> Result<Box<Jwk>, Fault> {
+        boxed(alloc, key_of(alloc, value))
+    }
+
+    fn shown(&self, alloc: Global) -> Answer {
+        shown_jwk(alloc, self)
+    }
+
+    fn read(alloc: Global, value: &Value) -> errors::Result<Jwk> {
+        Jwk::from_value(alloc, value)
+    }
+
+    fn written(&self, alloc: Global) -> errors::Result<Value> {
+        self.to_value(alloc)
+    }
+
+    fn copied(&self, alloc: Global) -> errors::Result<Jwk> {
+        self.clone(alloc)
+    }
+}
+
+/// Makes the call of this name, if it is among those of this module.
+pub fn answer(call: &str, row: Row<'_>, trial: &mut Trial) -> Result<Option<Value>, Fault> {
+    match call.split_once("::") {
+        Some(("Jwk", "is_supported")) => Ok(Some(is_supported(row, trial)?)),
+        Some(("Jwk", call)) => call_of::<Jwk>(call, row, trial),
+        _ => Ok(None),
+    }
+}
+
+fn is_supported(row: Row<'_>, trial: &mut Trial) -> Answer {
+    row.takes(&["value"])?;
+    let key = jwk_of(row.alloc(), row.value("value")?)?;
+    trial.begin();
+    let is_supported = key.is_supported();
+    trial.end();
+    of_flag(row.alloc(), Ok(is_supported))
+}

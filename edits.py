@@ -1,0 +1,182 @@
+"""The edits that put a wrong body in the place of a right one, and the functions of the sources that they lie in.
+
+An edit has the form of rt's must-fail edits: 'file: src/lib.rt', 'old: TEXT', 'new: TEXT'. A line 'twin: TEXT' after a
+'new:' line is a right body in the same place, in the wrong one's form.
+"""
+import os
+import re
+
+from kit import rt
+
+# In rt fmt's layout: where a function begins, where what encloses it begins, and what else ends its lines.
+FUNCTION = re.compile(r" *(?:pub(?:\(\w+\))? )?(?:const )?(?:unsafe )?(?:extern \S+ )?fn (\w+)")
+BLOCK = re.compile(r" *(?:pub )?(?:unsafe )?(?:impl|trait)\b")
+ITEM = re.compile(
+    r" *(?:///|//!|#\[|(?:pub(?:\(\w+\))? )?(?:ghost )?(?:const|enum|extern|fn|impl|mod|static|struct|trait|type|union|unsafe|use)\b)"
+)
+# A struct or an enum, in whose module rattle names its methods.
+TYPE = re.compile(r"(?m)^(?:pub(?:\(\w+\))? )?(?:struct|enum|union) (\w+)")
+
+
+def text_of(file):
+    with open(file, encoding="utf-8") as it:
+        return it.read()
+
+
+def plain(path):
+    """Returns the parts of a path without the marks in which rattle's spelling differs from the source's."""
+    return tuple(re.sub(r"\W", "", it).lower() for it in path)
+
+
+def module_of(file):
+    """Returns the module of a source file, as the parts of its path."""
+    return [it for it in re.sub(r"^src/|\.rt$", "", file).split("/") if it not in ("lib", "main", "mod")]
+
+
+class Block:
+    """An impl or a trait: what rattle calls it, whether it is of a trait, and whether it has type parameters."""
+
+    def __init__(self, line, inner):
+        self.name, self.inner = name_of(line), inner
+        self.is_of_trait = not re.match(r" *(?:pub )?(?:unsafe )?impl\b", line) or " for " in re.sub(r"<[^<>]*>", "", line)
+        self.is_generic = bool(re.match(r".*?\b(?:impl|trait)<[^>]*[A-Z]", line))
+
+
+class Function:
+    """A function of a source file: its path below the crate, its lines, and the cycle of calls that it is in."""
+
+    def __init__(self, file, block, head, first):
+        self.file, self.block, self.name, self.cycle = file, block, FUNCTION.match(head)[1], None
+        self.spell([*module_of(file), *([block.name] if block else [])])
+        self.first = self.last = first
+        self.is_generic = bool(block and block.is_generic)
+
+    def spell(self, inside):
+        """Takes its path from where rattle names it."""
+        self.spelled = "::".join([*inside, self.name])
+        self.path = plain(self.spelled.split("::"))
+
+    def note_text(self, lines):
+        """Takes from the source's lines whether it has type parameters, a body, and a cycle of calls."""
+        text = "\n".join(lines[self.first - 1 : self.last])
+        parameters = re.search(r"\bfn \w+([^(]*)\(", text)
+        self.is_generic = self.is_generic or bool(parameters and re.search(r"[A-Z]", parameters[1]))
+        self.has_body = "{" in text and not lines[self.last - 1].endswith(";")
+        cycle = re.search(r"#\[cycle\((\w+)\)\]", text)
+        self.cycle = cycle[1] if cycle else None
+
+    def can_be_copied(self):
+        """Whether a function with the same head can stand beside it."""
+        return not self.cycle and not (self.block and self.block.is_of_trait)
+
+    def unit(self):
+        """Returns what stands for the functions of which one alone can be wrong: its cycle of calls, or itself."""
+        return self.cycle or (self.file, self.first)
+
+    def find(self, paths):
+        """Takes its path as rattle spells it: an impl may stand in another module than its type, by which rattle names it."""
+        like = [it for it in paths if it[-2:] == self.path[-2:]] if self.block else []
+        if self.path not in paths and len(like) == 1:
+            self.path = like[0]
+
+
+def name_of(block):
+    """Returns what rattle calls an impl or a trait: the type, then the trait with its arguments."""
+    kind, parameters, rest = re.match(r".*?\b(impl|trait)(?:<((?:[^<>]|<[^<>]*>)*)>)? (.*)", block).groups()
+    if kind == "trait":
+        return re.match(r"\w+", rest)[0]
+    own = set(re.findall(r"(?:^|,)\s*(?:const )?('?\w+)", parameters or ""))
+    trait, _, of = re.sub(r"\b(?:where|requires|ensures)\b.*|\{.*", "", rest).rpartition(" for ")
+    head, _, arguments = trait.partition("<")
+    words = [it for it in re.findall(r"\w+", arguments) if it not in own]
+    parts = [re.match(r"\w+", of)[0], head.split("::")[-1], *words]
+    return "".join(it[:1].upper() + it[1:] for it in parts)
+
+
+def functions_of(file, text):
+    """Returns the functions of a file, each with the lines from its first attribute to its end."""
+    found, block, now, above = [], None, None, 0
+    lines = text.split("\n")
+    for number, line in enumerate(lines, 1):
+        indent = len(line) - len(line.lstrip(" "))
+        if not line.strip():
+            continue
+        if now and (indent < now.indent or indent == now.indent and ITEM.match(line)):
+            now = None
+        if block and indent < block.inner:
+            block = None
+        if now is None and BLOCK.match(line):
+            block = Block(line, indent + 4)
+        if now is None and FUNCTION.match(line):
+            now = Function(file, block, line, above or number)
+            now.indent = indent
+            found.append(now)
+        above = (above or number) if line.lstrip().startswith("#[") else 0
+        if now:
+            now.last = number
+    for it in found:
+        it.note_text(lines)
+    return found
+
+
+def sources(crate):
+    """Returns the paths of the crate's source files below its folder."""
+    found = [f"{at}/{it}" for at, _, files in os.walk(f"{crate.folder}/src") for it in files if it.endswith(".rt")]
+    return sorted(os.path.relpath(it, crate.folder) for it in found)
+
+
+def at_home(crate, functions):
+    """Gives methods the module of their type, in which rattle names them, if the impl stands in another file. Returns the functions."""
+    homes = {}
+    for path in sources(crate):
+        homes.update(dict.fromkeys(TYPE.findall(text_of(f"{crate.folder}/{path}")), module_of(path)))
+    for it in functions:
+        types = [name for name in homes if it.block and it.block.name.startswith(name)]
+        if types:
+            it.spell([*homes[max(types, key=len)], it.block.name])
+    return functions
+
+
+class Edit:
+    """A wrong body: its texts, the function that it lies in, and what was found of it."""
+
+    def __init__(self, crate, file):
+        self.crate, self.name = crate, os.path.basename(file)[: -len(".edit")]
+        self.pairs, self.function, self.text = [], None, text_of(file)
+        self.is_refused, self.misfit, self.has_twin = False, "", False
+        why = rt.read_edit(file, crate.folder)[1] or self.place(file)
+        self.is_bad, self.said = bool(why), why or ""
+
+    def place(self, file):
+        """Reads the texts and finds their one function, or says why there is none."""
+        path = old = None
+        for line in text_of(file).split("\n"):
+            if line.startswith("file: "):
+                path = line[len("file: ") :].strip()
+            elif line.startswith("old: "):
+                old = line[len("old: ") :]
+            elif line.startswith("new:"):
+                self.pairs.append([path, old, line[len("new:") :].removeprefix(" "), old])
+            elif line.startswith("twin: "):
+                self.pairs[-1][3], self.has_twin = line[len("twin: ") :], True
+        for path, old, new, _ in self.pairs:
+            text = text_of(f"{self.crate.folder}/{path}")
+            line = text.count("\n", 0, text.find(old)) + 1
+            here = next((it for it in functions_of(path, text) if it.first <= line <= it.last), None)
+            own = self.function
+            between = "".join(text.split("\n")[own.last : line - 1]) if own and path == own.file else "-"
+            if new.lstrip().startswith("*/ ") and not between.strip(" }"):
+                continue  # the end of a comment that hides the right body
+            if here is None or own and (own.file, own.first) != (here.file, here.first):
+                return f"{path}:{line} lies in no function, or in another one than the edit's first text: such an edit goes in must-fail/"
+            self.function = here
+        return None
+
+
+def edits_of(crate, with_more):
+    """Returns the edits of a crate's folder wrong-bodies, and of the folder more/ in it if that is asked for."""
+    folders = [f"{crate.folder}/wrong-bodies", *[f"{crate.folder}/wrong-bodies/more"] * with_more]
+    files = [f"{at}/{it}" for at in folders if os.path.isdir(at) for it in sorted(os.listdir(at))]
+    edits = [Edit(crate, it) for it in files if it.endswith(".edit")]
+    at_home(crate, [it.function for it in edits if it.function])
+    return edits

@@ -1,0 +1,187 @@
+"""Checks a crate in which wrong bodies are planted: many in one check.
+
+A wrong body is a function of its own beside the right one, with the same head, clauses and proof files. A function of a
+trait, or of a cycle of calls, can have no such copy: it is changed in place, one at a time. What callers prove rests on a
+function's contract alone, so the proof of every other function is left out; but those of functions with type parameters
+are kept, since the prover takes longer over a statement about them that has no proof than over the proof.
+"""
+import os
+import re
+import shutil
+import subprocess
+import tempfile
+
+from edits import FUNCTION, at_home, functions_of, plain, sources, text_of
+from kit import rt
+
+# What rattle prints: a function's verdict, a goal that it did not prove, and an answer that is no proof.
+VERDICT = re.compile(r"fn (\S+): (.*)")
+GOAL = re.compile(r"note: (?:\./)?(src/\S+?):(\d+):\d+: (it is not proved that .*|`search` found no proof .*)")
+ANSWER = re.compile(r"(?:\./)?proofs/(\S+)/\w+\.antt:\d+:\d+: error: (.*)")
+NO_PROOF = re.compile(r"`(?:search|grind|omega|simp|cc)\b[^`]*`: no proof|found no proof|no proof of")
+NO_FUNCTION = re.compile(r"proofs/(\S+)/Proof\.antt: error: `\w+` has no function")
+PROVED = ("no holes", "depends on a hole in")
+# What rattle prints of a body that does not compile.
+ERROR = re.compile(r"(?:\./)?(src/\S+?):(\d+):\d+: error")
+# A proof that is left out.
+HOLE = """use Rattle.{crate}.proofs.{module}.Statement.{{statement}}
+
+pub {name}_spec : {{M : Type 1}} → statement M
+{name}_spec 𝓤 𝓛 𝓜 𝓡 w = ?
+"""
+
+
+def applied(edits, twins=False):
+    """Returns the texts of the files that these edits change, or None if one of them meets another."""
+    texts = {}
+    for edit in edits:
+        for path, old, new, twin in edit.pairs:
+            text = texts.get(path) or text_of(f"{edit.crate.folder}/{path}")
+            if text.count(old) != 1:
+                return None
+            texts[path] = text.replace(old, twin if twins else new)
+    return texts
+
+
+def copy_of(edit, name, twins):
+    """Returns the lines of the edited function, under another name."""
+    own = edit.function
+    lines = applied([edit], twins)[own.file].split("\n")[own.first - 1 : own.last]
+    head = next(number for number, line in enumerate(lines) if FUNCTION.match(line))
+    lines[head] = re.sub(rf"\bfn {own.name}\b", f"fn {name}", lines[head], count=1)
+    # what follows the function ends the comment that hides the right body
+    is_open = sum(it.count("/*") - it.count("*/") for it in lines) > 0
+    return [*lines, "*/"] if is_open else lines
+
+
+class Planted:
+    """A copy of a crate with edits planted: those that are tried in it, and those that are left for another one."""
+
+    def __init__(self, crate, edits, twins=False):
+        self.crate, self.twins, self.texts, self.functions, self.copies = crate, twins, {}, {}, []
+        copied = [it for it in edits if it.function.can_be_copied()]
+        in_place, self.left = [], []
+        for edit in edits:
+            if edit not in copied:
+                is_free = all(it.function.unit() != edit.function.unit() for it in in_place)
+                (in_place if is_free and applied([*in_place, edit], twins) is not None else self.left).append(edit)
+        self.tried = [*copied, *in_place]
+        self.plant(copied, in_place)
+
+    def plant(self, copied, in_place):
+        self.texts = applied(in_place, self.twins)
+        spelled = {it: it.function.spelled for it in in_place}
+        inserted = {}
+        for number, edit in enumerate(copied, 1):
+            own, name = edit.function, f"{edit.function.name}_wrong_{number}"
+            spelled[edit] = own.spelled[: -len(own.name)] + name
+            self.copies.append((own.spelled, spelled[edit]))
+            inserted.setdefault(own.file, []).append((own.last, ["", *copy_of(edit, name, self.twins)]))
+        for path, some in inserted.items():
+            lines = (self.texts.get(path) or text_of(f"{self.crate.folder}/{path}")).split("\n")
+            for last, added in sorted(some, key=lambda it: -it[0]):
+                lines[last:last] = added
+            self.texts[path] = "\n".join(lines)
+        found = []
+        for path in sources(self.crate):
+            found += functions_of(path, self.texts.get(path) or text_of(f"{self.crate.folder}/{path}"))
+        self.all_functions = at_home(self.crate, found)
+        found = {(it.file, it.spelled): it for it in self.all_functions}
+        self.functions = {it: found[it.function.file, spelled[it]] for it in self.tried}
+
+    def write(self, room, kept_proofs):
+        """Writes the crate's copy, with the proofs of the copied functions, and without those of the others but for these."""
+        for part in rt.rtlib.PARTS:
+            if os.path.isdir(f"{self.crate.folder}/{part}"):
+                shutil.copytree(f"{self.crate.folder}/{part}", f"{room}/{part}")
+        for path, text in self.texts.items():
+            with open(f"{room}/{path}", "w", encoding="utf-8") as it:
+                it.write(text)
+        for right, wrong in self.copies:
+            copy_proofs(room, right, wrong)
+        tried = set(self.functions.values())
+        for it in self.all_functions:
+            if it not in tried and it.path not in kept_proofs and it.has_body and not it.is_generic and not it.cycle:
+                leave_out(self.crate, room, it.spelled)
+
+    def check_once(self, jobs, kept, kept_proofs, only):
+        """Checks the copy, and these of its functions alone if there are any. Returns a status, and what was printed."""
+        with tempfile.TemporaryDirectory(prefix=f"rt-edit-{os.getpid()}-") as room:
+            self.write(room, kept_proofs)
+            flags = ["--jobs", str(jobs), "--allow-holes", *(word for it in only for word in ("--only", it))]
+            words = [rt.rtlib.RATTLE, "check", *self.crate.words(flags, keeps=False), *(["--incremental", kept] if kept else [])]
+            how = {"cwd": room, "stdin": subprocess.DEVNULL, "stdout": subprocess.PIPE, "stderr": subprocess.STDOUT, "errors": "replace"}
+            ran = subprocess.run([*rt.rtlib.guarded(), *words], **how)
+            return ran.returncode, ran.stdout
+
+    def check(self, jobs, kept=None):
+        """Checks the planted functions of the copy, and those that they call. Returns what was printed."""
+        only, kept_proofs = [it.spelled for it in self.functions.values()], set()
+        status, said = self.check_once(jobs, kept, kept_proofs, only)
+        # rattle may spell the path of a function of a trait in another way
+        unknown = {plain(it.split("/")) for it in NO_FUNCTION.findall(said)}
+        if unknown:
+            kept_proofs = unknown
+            status, said = self.check_once(jobs, kept, kept_proofs, only)
+        return self.check_once(jobs, kept, kept_proofs, [])[1] if status == 2 else said
+
+
+def copy_proofs(room, right, wrong):
+    """Gives a copied function the proof files of the right one."""
+    source, copy = (f"{room}/proofs/{it.replace('::', '/')}" for it in (right, wrong))
+    if not os.path.isdir(source):
+        return
+    os.makedirs(copy)
+    old, new = (it.replace("::", ".") for it in (right, wrong))
+    for name in os.listdir(source):
+        if os.path.isfile(f"{source}/{name}"):
+            text = re.sub(rf"(\.(?:proofs|contracts)\.){re.escape(old)}\b", rf"\g<1>{new}", text_of(f"{source}/{name}"))
+            text = re.sub(rf"\b{old.split('.')[-1]}_spec\b", f"{new.split('.')[-1]}_spec", text)
+            with open(f"{copy}/{name}", "w", encoding="utf-8") as it:
+                it.write(text)
+
+
+def leave_out(crate, room, path):
+    """Puts a hole in the place of a function's proof."""
+    folder = f"{room}/proofs/{path.replace('::', '/')}"
+    os.makedirs(folder, exist_ok=True)
+    for name in os.listdir(folder):
+        if os.path.isfile(f"{folder}/{name}"):
+            os.remove(f"{folder}/{name}")
+    with open(f"{folder}/Proof.antt", "w", encoding="utf-8") as it:
+        it.write(HOLE.format(crate=crate.name, module=path.replace("::", "."), name=path.split("::")[-1]))
+
+
+class Report:
+    """What a check of planted edits printed: verdicts by function, goals that it left open, and answers that are no proofs."""
+
+    def __init__(self, planted, jobs, kept=None):
+        self.lines, self.functions, self.verdicts = planted.check(jobs, kept).split("\n"), planted.functions, {}
+        for found in filter(None, map(VERDICT.match, self.lines)):
+            self.verdicts[plain(found[1].split("::")[1:])] = found[2]
+        for function in self.functions.values():
+            function.find(self.verdicts)
+        self.goals = [it for it in map(GOAL.match, self.lines) if it]
+        self.answers = [(plain(it[1].split("/")), it[2]) for it in map(ANSWER.match, self.lines) if it]
+
+    def uncompiled(self):
+        """Returns the edits whose bodies do not compile, for which no other was checked either."""
+        lines = [] if self.verdicts else [(it[1], int(it[2])) for it in map(ERROR.match, self.lines) if it]
+        has_error = lambda own: any(file == own.file and own.first <= line <= own.last for file, line in lines)
+        return [edit for edit, own in self.functions.items() if has_error(own)]
+
+    def proves(self, edit):
+        return self.verdicts.get(self.functions[edit].path, "").startswith(PROVED)
+
+    def judge(self, edit):
+        """Notes of the edit whether a goal of its own function is open, and why."""
+        own = self.functions[edit]
+        goals = [it[3] for it in self.goals if it[1] == own.file and own.first <= int(it[2]) <= own.last]
+        answers = [why for path, why in self.answers if path == own.path]
+        goals += filter(NO_PROOF.search, answers)
+        edit.misfit = "" if goals or not answers else answers[0]
+        edit.is_refused = bool(goals) and not self.proves(edit)
+        if own.path not in self.verdicts:
+            edit.said = next((it for it in self.lines if "error" in it), f"no verdict on {own.spelled}")
+        else:
+            edit.said = (goals or answers or [f"its function is {self.verdicts[own.path]}"])[0]
