@@ -1,0 +1,3 @@
+pub mod KeyTests
+pub mod Reduced
+pub mod Steps

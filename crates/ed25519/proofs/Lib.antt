@@ -1,0 +1,5 @@
+pub mod MinusOne
+pub mod Reduced
+pub mod Roots
+pub mod Signatures
+pub mod TopBit

@@ -1,0 +1,8 @@
+//! Signatures by Ed25519 (RFC 8032 section 5.1), verified. Nothing here takes memory, and nothing runs in constant time: keys,
+//! messages and signatures are public.
+#![tactic(auto)]
+
+pub mod constants;
+pub mod decoding;
+pub mod moduli;
+pub mod verification;
