@@ -1,16 +1,20 @@
 /*
- * JSON Web Tokens (RFC 7519) in their compact form, read, verified and issued by a library that is proved: what is said here of
- * each call is what its contract says for every input (crates/jwt_c/src/lib.rt).
+ * JSON Web Tokens (RFC 7519) in their compact form, read, verified and issued by a library that is
+ * proved: each call behaves as described here for every input (the contracts are in
+ * crates/jwt_c/src/lib.rt).
  *
- * Every call takes byte slices as a pointer and a length; a pointer whose length is 0 may be null. Texts need no zero
- * byte at their end. What a call gives, it writes to the front of a room of the caller's, and the length to *len:
+ * Every call takes byte slices as a pointer and a length; a pointer whose length is 0 may be null.
+ * Texts need no zero byte at their end. A call writes its result to the front of the caller's
+ * buffer, and the length of the result to *len, and returns a status:
  *
- *   JWT_OK            the bytes are in the room, *len of them, and what lies behind them is as it was;
- *   JWT_NO_ROOM       *len bytes are needed, and the room is as it was;
- *   any other status  nothing is given: *len is 0, and the room is as it was.
+ *   JWT_OK            the buffer holds *len bytes of result, and the bytes behind them are unchanged;
+ *   JWT_NO_ROOM       the buffer is too small: *len bytes are needed, and the buffer is unchanged;
+ *   any other status  there is no result: *len is 0, and the buffer is unchanged.
  *
- * The room must not overlap what else a call is given. No call keeps anything, and the library has no state: any number
- * of threads may call at once. Nothing ends the process: want of memory is JWT_OUT_OF_MEMORY.
+ * The buffer must not overlap the other arguments, and len, algorithm and message_len have to be
+ * valid and distinct. No call keeps anything, and the library has no
+ * state: any number of threads may call at once. No call ends the process: out of memory is the
+ * status JWT_OUT_OF_MEMORY.
  */
 #ifndef JWT_H
 #define JWT_H
@@ -19,11 +23,18 @@
 #include <stddef.h>
 #include <stdint.h>
 
+/* The version of the library. */
+#define JWT_VERSION "0.1.0"
+
 #ifdef __cplusplus
 extern "C" {
 #endif
 
-/* What a call answers. 1 to 37 are refusals of a token; jwt_status_text gives each its text. */
+/*
+ * The status of a call. 1 to 37 are refusals of a token, or by jwt_thumbprint of a key; jwt_status_text
+ * writes their texts. 3 to 5, 16 to 18, 21, 23, 31 and 37 are kinds of the library that no call here
+ * returns.
+ */
 enum jwt_status {
     JWT_OK = 0,
     JWT_INVALID_TOKEN = 1,
@@ -65,20 +76,20 @@ enum jwt_status {
     JWT_MALFORMED_ISS = 35,
     JWT_MALFORMED_SUB = 36,
     JWT_MALFORMED_CLAIM = 37,
-    /* the room is too small */
+    /* the buffer is too small */
     JWT_NO_ROOM = 100,
-    /* the options are no JSON object of options */
+    /* the options are not a JSON object of options */
     JWT_BAD_OPTIONS = 101,
-    /* jwt_status_text was asked for a number that is no status */
+    /* the number given to jwt_status_text is not a status */
     JWT_NO_STATUS = 102,
-    /* a JSON text that a call was given is no key set, header, object of claims, or key */
+    /* the JSON text given as a key set, a header, claims or a key is not one */
     JWT_BAD_SET = 103,
     JWT_BAD_HEADER = 104,
     JWT_BAD_CLAIMS = 105,
     JWT_BAD_KEY = 106
 };
 
-/* The algorithms (RFC 7518 section 3.1, RFC 8037 section 3.1). 0 is none. */
+/* The algorithms (RFC 7518 section 3.1, RFC 8037 section 3.1). 0 is not an algorithm. */
 enum jwt_algorithm {
     JWT_HS256 = 1,
     JWT_HS384 = 2,
@@ -95,62 +106,73 @@ enum jwt_algorithm {
 };
 
 /*
- * Verifies a token with a secret, by HMAC, at the moment `now`, in whole seconds since 1970-01-01 00:00:00 UTC. Gives the
- * claims: compact JSON of the payload's value, members in the order of their names.
+ * Verifies a token with a secret, by HMAC, at the moment `now`, in whole seconds since 1970-01-01
+ * 00:00:00 UTC, and writes its claims: compact JSON of the payload's value, with the members in the
+ * order of their names. Floats, and integers beyond 64 bits, are written as the nearest double;
+ * jwt_check_numbers refuses claims that have one.
  *
- * A secret is any bytes. An empty one is a key like any other, by which anyone can sign, and zeros alone are the same key, up
- * to 64 of them for HS256 and 128 for HS384 and HS512 (RFC 2104 section 2). RFC 7518 section 3.2 asks for at least 32 bytes for
- * HS256, 48 for HS384 and 64 for HS512: the caller has to test the length, here, for a key set, and to issue a token.
+ * A secret is any bytes. An empty secret is a key like any other, by which anyone can sign, and
+ * zeros alone are the same key, up to 64 of them for HS256 and 128 for HS384 and HS512 (RFC 2104
+ * section 2). RFC 7518 section 3.2 requires at least 32 bytes for HS256, 48 for HS384 and 64 for
+ * HS512: the caller has to test the length, for this call, for a key set, and to issue a token.
  *
- * The options are a JSON object, read before the token; JWT_BAD_OPTIONS where they are none. Each member may be absent or
- * null, and no other member is allowed:
+ * The options are a JSON object, read before the token; any other text is JWT_BAD_OPTIONS. Each
+ * member may be absent or null, and no other member is allowed:
  *
- *   "algorithms"                           list of names, as ["HS256"]: what is accepted; none by default
- *   "required_spec_claims"                 list of names among exp, nbf, aud, iss and sub; ["exp"] by default. Any other
- *                                          name is ignored: the claim may be missing, and the caller has to look for it
+ *   "algorithms"                           list of the names that are accepted, as ["HS256"]; empty by
+ *                                          default. Each has to be of the key's family (here HS256,
+ *                                          HS384 or HS512), else the status is JWT_INVALID_ALGORITHM
+ *   "required_spec_claims"                 list of names among exp, nbf, aud, iss and sub; ["exp"] by
+ *                                          default. A required claim that is malformed is told as
+ *                                          missing. Any other name is ignored: the claim may be missing,
+ *                                          and the caller has to look for it
  *   "leeway"                               seconds; 60 by default
  *   "reject_tokens_expiring_in_less_than"  seconds; 0 by default
  *   "validate_exp", "validate_aud"         true by default
  *   "validate_nbf"                         false by default
- *   "aud", "iss"                           list of texts, of which the token has to name one
- *   "sub"                                  text
+ *   "aud", "iss"                           list of strings, of which the token has to name one
+ *   "sub"                                  string
  *   "understood_crit"                      list of names that the header's crit may have
  */
 uint32_t jwt_decode_hmac(const uint8_t *token, size_t token_len,
                          const uint8_t *secret, size_t secret_len,
                          const uint8_t *options, size_t options_len,
                          uint64_t now,
-                         uint8_t *room, size_t room_len, size_t *len);
+                         uint8_t *buffer, size_t buffer_len, size_t *len);
 
 /*
- * The same as jwt_decode_hmac with the key of a set that the header names by its `kid`. The set is JSON, as
- * {"keys":[{"kty":"oct","kid":"a","k":"c2VjcmV0"}]} (RFC 7517 section 5), read after the options; JWT_BAD_SET where it is
- * none. Of several keys with that `kid` the first counts. Where the header has no `kid`, or no key has it: JWT_NO_KEY.
+ * Verifies a token like jwt_decode_hmac, with the key of a set that the header names by its `kid`.
+ * The set is JSON, as {"keys":[{"kty":"oct","kid":"a","k":"c2VjcmV0"}]} (RFC 7517 section 5), read
+ * after the options; any other text is JWT_BAD_SET. Of several keys with that `kid` the first
+ * counts. If the header has no `kid`, or no key has it, the status is JWT_NO_KEY.
  */
 uint32_t jwt_decode_set(const uint8_t *token, size_t token_len,
                         const uint8_t *set, size_t set_len,
                         const uint8_t *options, size_t options_len,
                         uint64_t now,
-                        uint8_t *room, size_t room_len, size_t *len);
+                        uint8_t *buffer, size_t buffer_len, size_t *len);
 
 /*
- * What is to be checked of a token by cryptography of the caller's: the number of the algorithm that the header names in
- * *algorithm, the length of the message in *message_len, which is the front of the token, and the signature's bytes in
- * the room. For the curves these are the two numbers one after the other (RFC 7518 section 3.4). Both numbers are given
- * where the room is too small, too; of a refused token they are 0. Nothing is verified.
+ * Writes the parts of a token that other cryptography has to check: the number of the algorithm
+ * that the header names to *algorithm, the length of the message, which is the front of the token,
+ * to *message_len, and the signature's bytes to the buffer. For the curves these are the two
+ * numbers one after the other (RFC 7518 section 3.4). Both numbers are also written if the buffer
+ * is too small; for a refused token they are 0. Nothing is verified.
  *
- * The header is the token's own claim: check the signature by the algorithm that your key is for, and with that key.
+ * The header is not verified either: check the signature by the algorithm that your key is for, and
+ * with that key.
  */
 uint32_t jwt_signed_part(const uint8_t *token, size_t token_len,
                          uint32_t *algorithm, size_t *message_len,
-                         uint8_t *room, size_t room_len, size_t *len);
+                         uint8_t *buffer, size_t buffer_len, size_t *len);
 
 /*
- * The same as jwt_decode_hmac for a token whose signature the caller has checked. `verdict` is the yes or no to this
- * signature (its bytes) of this message, by the algorithm of this number. Accepted are exactly the tokens that pass every
- * other test, where the verdict is yes, and algorithm, message and signature are the token's own. A number of no
- * algorithm is JWT_INVALID_ALGORITHM_NAME; another algorithm than the header's JWT_INVALID_ALGORITHM; a no, or another
- * message or signature, JWT_INVALID_SIGNATURE.
+ * Verifies a token like jwt_decode_hmac, but the caller has checked the signature. `verdict` is the
+ * yes or no to this signature (its bytes) of this message, by the algorithm of this number. The
+ * call accepts exactly the tokens that pass every other test, if the verdict is yes and the
+ * algorithm, the message and the signature are those of the token. A number of no algorithm is
+ * JWT_INVALID_ALGORITHM_NAME; another algorithm than the header's is JWT_INVALID_ALGORITHM; a no,
+ * or another message or signature, is JWT_INVALID_SIGNATURE.
  */
 uint32_t jwt_decode_verdict(const uint8_t *token, size_t token_len,
                             uint32_t algorithm,
@@ -159,32 +181,48 @@ uint32_t jwt_decode_verdict(const uint8_t *token, size_t token_len,
                             bool verdict,
                             const uint8_t *options, size_t options_len,
                             uint64_t now,
-                            uint8_t *room, size_t room_len, size_t *len);
-
-/* Gives the header of a token: compact JSON, members in the order of their names. Nothing is verified. */
-uint32_t jwt_decode_header(const uint8_t *token, size_t token_len,
-                           uint8_t *room, size_t room_len, size_t *len);
+                            uint8_t *buffer, size_t buffer_len, size_t *len);
 
 /*
- * Gives the token of a header and claims, signed with a secret, by HMAC. The header is JSON, as {"alg":"HS256","typ":"JWT"},
- * and so are the claims, of an object: JWT_BAD_HEADER and then JWT_BAD_CLAIMS where they are none. An algorithm of another
- * family is JWT_INVALID_ALGORITHM, and claims with a number that is no integer are JWT_JSON.
+ * Writes the header of a token: compact JSON, with the members in the order of their names. Nothing
+ * is verified.
+ */
+uint32_t jwt_decode_header(const uint8_t *token, size_t token_len,
+                           uint8_t *buffer, size_t buffer_len, size_t *len);
+
+/*
+ * Signs a header and claims with a secret, by HMAC, and writes the token. The header is JSON, as
+ * {"alg":"HS256","typ":"JWT"}; any other text is JWT_BAD_HEADER. The claims are JSON of an object,
+ * read after the header; any other text is JWT_BAD_CLAIMS. An algorithm of another family is
+ * JWT_INVALID_ALGORITHM, and claims with a number that is not an integer are JWT_JSON.
  */
 uint32_t jwt_encode_hmac(const uint8_t *header, size_t header_len,
                          const uint8_t *claims, size_t claims_len,
                          const uint8_t *secret, size_t secret_len,
-                         uint8_t *room, size_t room_len, size_t *len);
+                         uint8_t *buffer, size_t buffer_len, size_t *len);
 
 /*
- * Gives the thumbprint (RFC 7638) of a key, which is JSON (RFC 7517 section 4; JWT_BAD_KEY where it is none), by SHA-2 with
- * so many bits: 256, 384 or 512. Any other number is JWT_INVALID_ALGORITHM_NAME. A key of a kind that has no thumbprint is
- * JWT_UNSUPPORTED_ALGORITHM, and one whose curve is not of its kind JWT_INVALID_KEY_FORMAT.
+ * Writes the thumbprint (RFC 7638) of a key, which is JSON (RFC 7517 section 4; any other text is
+ * JWT_BAD_KEY), by SHA-2 with this many bits: 256, 384 or 512. Any other number is
+ * JWT_INVALID_ALGORITHM_NAME. A key of a kind that has no thumbprint is JWT_UNSUPPORTED_ALGORITHM,
+ * and one whose curve is not of its kind is JWT_INVALID_KEY_FORMAT.
  */
 uint32_t jwt_thumbprint(const uint8_t *key, size_t key_len, uint32_t bits,
-                        uint8_t *room, size_t room_len, size_t *len);
+                        uint8_t *buffer, size_t buffer_len, size_t *len);
 
-/* Gives the text of a status, as "Missing required claim: exp". */
-uint32_t jwt_status_text(uint32_t status, uint8_t *room, size_t room_len, size_t *len);
+/*
+ * Checks that every number of the claims, which are the JSON text of an object, is an integer from
+ * -2^63 to 2^64 - 1: returns JWT_OK, or JWT_JSON if another number is anywhere in them, or
+ * JWT_BAD_CLAIMS if the text is not the JSON of an object. The calls that decode write such a number, as
+ * 1.5, 1e9 or 2^64, as the nearest double.
+ */
+uint32_t jwt_check_numbers(const uint8_t *claims, size_t claims_len);
+
+/* Writes the text of a status, as "Missing required claim: exp". */
+uint32_t jwt_status_text(uint32_t status, uint8_t *buffer, size_t buffer_len, size_t *len);
+
+/* Writes the version of the library, as JWT_VERSION. */
+uint32_t jwt_version(uint8_t *buffer, size_t buffer_len, size_t *len);
 
 #ifdef __cplusplus
 }

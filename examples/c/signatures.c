@@ -1,5 +1,5 @@
 /* Verifies the tokens of RFC 7515 appendices A.2 and A.3 and of RFC 8037 appendix A.4: OpenSSL checks the signature,
-   and the library all the rest. The last line counts. */
+   and the library everything else. The last line counts. */
 #include "jwt.h"
 #include <openssl/core_names.h>
 #include <openssl/ec.h>
@@ -115,8 +115,8 @@ static bool checks(uint32_t algorithm, EVP_PKEY *key, const uint8_t *message, si
 
 /* ---- the token */
 
-/* The claims, or the refusal's text, of a token by a key that is for this algorithm. The verdict is on `signed_token`,
-   which is the token itself but where it is mixed up. */
+/* Writes the claims, or the refusal's text, of a token by a key that is for this algorithm, and returns their length. The
+   verdict is on `signed_token`: the token itself, or another one by mistake. */
 static size_t answer(const char *token, const char *signed_token, uint32_t algorithm, const char *options,
                      EVP_PKEY *key, uint64_t now, uint8_t *room, size_t room_len) {
     uint8_t signature[512];
@@ -150,7 +150,7 @@ int main(void) {
         {rs256, rs256, JWT_RS256, by_rsa, rsa, 1300819440, CLAIMS},
         {rs256, rs256, JWT_RS256, by_rsa, rsa, 1300819441, "ExpiredSignature"},
         {es256, es256, JWT_ES256, by_curve, curve, 1300819440, CLAIMS},
-        /* its payload is no JSON, which is looked at once the signature is accepted */
+        /* its payload is not JSON, which is tested once the signature is accepted */
         {eddsa, eddsa, JWT_EDDSA, by_edwards, ed, 0, "JSON error"},
         /* a token that the key did not sign */
         {"eyJhbGciOiJFZERTQSJ9.e30.AAAA", "eyJhbGciOiJFZERTQSJ9.e30.AAAA", JWT_EDDSA, by_edwards, ed, 0,

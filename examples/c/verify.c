@@ -8,11 +8,11 @@ static const char token[] =
     "eyJhbGciOiJIUzI1NiIsInR5cCI6IkpXVCJ9.eyJjb21wYW55IjoiQUNNRSIsImV4cCI6MjUzMjUyNDg5MSwic3ViIjoiYkBiLmNvbSJ9"
     ".5n9UAJL1AIlwf4kSXHbtQDkDOXMqJ3onY44FQziHZ0o";
 static const char options[] = "{\"algorithms\":[\"HS256\"]}";
-/* Yours comes from a file, and is random. */
+/* A real secret comes from a file, and is random. */
 static const char secret[] = "0123456789abcdef0123456789abcdef";
 
 /* Returns whether a secret is long enough for HS256 (RFC 7518 section 3.2). The library takes a shorter one too, and even the
-   empty one, by which anyone can sign: where a file of keys can't be read, say, a secret is easily empty. */
+   empty one, by which anyone can sign: if a file of keys can't be read, say, a secret is easily empty. */
 static bool is_long_enough(const uint8_t *bytes, size_t len) {
     bool has_zeros_alone = true;
     for (size_t i = 0; i < len; i++)

@@ -20,7 +20,7 @@ const (
 	claims  = `{"company":"ACME","exp":2532524891,"sub":"b@b.com"}`
 	last    = 2532524951
 
-	// The shortest secret for HS256 (RFC 7518 section 3.2). Yours comes from a file, and is random.
+	// The shortest secret for HS256 (RFC 7518 section 3.2). A real secret comes from a file, and is random.
 	secret = "0123456789abcdef0123456789abcdef"
 
 	// the tokens of the claims by this secret and by an empty one, as Python's hmac signs them
@@ -42,7 +42,7 @@ const (
 
 var hs256 = jwt.Options{Algorithms: []string{"HS256"}}
 
-// Returns what was given, or the text of the error.
+// Returns the result, or the text of the error.
 func shown(bytes []byte, err error) string {
 	if err != nil {
 		return err.Error()
@@ -67,7 +67,7 @@ func number(text string) *big.Int {
 	return new(big.Int).SetBytes(bytes)
 }
 
-// Checks the signature by the key of RFC 7515 appendix A.3, and returns what the verdict has accepted.
+// Checks the signature by the key of RFC 7515 appendix A.3, and returns the claims that are accepted with the verdict, or the text of the error.
 func byCurve(token, checked string) string {
 	part, err := jwt.PartToCheck([]byte(checked))
 	if err != nil {
@@ -81,7 +81,7 @@ func byCurve(token, checked string) string {
 	return shown(jwt.DecodeByVerdict([]byte(token), part, ecdsa.Verify(&key, digest[:], r, s), options, 1300819380))
 }
 
-// Rows of what was returned and what is wanted.
+// Rows of a result and the wanted one.
 func tokens() [][2]string {
 	leeway := uint64(61)
 	late := jwt.Options{Algorithms: []string{"HS256"}, Leeway: &leeway}
@@ -110,7 +110,7 @@ func tokens() [][2]string {
 	}
 }
 
-// Rows of a caller's slips, none of which has a token accepted.
+// Rows of a caller's mistakes, by none of which a token is accepted.
 func slips() [][2]string {
 	empty, unknown := jwt.ErrEmptySecret.Error(), jwt.ErrUnknownClaim.Error()
 	none := []string{}

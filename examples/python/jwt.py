@@ -30,7 +30,7 @@ _PROTOTYPES = {
 _OUT_OF_MEMORY = 22
 _TOO_SMALL = 100
 
-# What has to be checked of a token: the algorithm that its header names, the message and the signature's bytes.
+# The parts of a token that have to be checked: the algorithm that its header names, the message and the signature's bytes.
 SignedPart = collections.namedtuple("SignedPart", "algorithm message signature")
 
 
@@ -44,7 +44,7 @@ def _load():
             call.argtypes, call.restype = types, ctypes.c_uint32
     except (OSError, AttributeError) as error:
         raise ImportError(
-            f"the JWT library is missing: {error}. `examples/run --build` builds it and leaves examples/out/libjwt.so;"
+            f"the JWT library is missing: {error}. `tools/build_c` builds it and leaves out/libjwt.so;"
             " JWT_LIBRARY names its path"
         ) from error
     return library
@@ -129,7 +129,7 @@ _KINDS = {
 
 
 def _call(call, *arguments):
-    """Returns the bytes that a call gives. A buffer that is too small is made larger once."""
+    """Returns the bytes that a call writes. A buffer that is too small is made larger once."""
     size = ctypes.c_size_t(1024)
     for _ in range(2):
         buffer = ctypes.create_string_buffer(size.value)
@@ -145,7 +145,7 @@ def _exception(status):
     if status == _OUT_OF_MEMORY:
         return MemoryError("the JWT library is out of memory")
     text = _call(_library.jwt_status_text, status).decode()
-    # above are those of arguments that are not understood, which say nothing of a token
+    # the statuses above are those of arguments that are not understood, and no verdict on a token
     return ValueError(text) if status > _TOO_SMALL else _KINDS.get(status, Refused)(status, text)
 
 
@@ -198,7 +198,7 @@ def _moment(now):
         now = time.time()
     if isinstance(now, bool) or not isinstance(now, (int, float)):
         raise _wrong_type("now", "an int or a float", now)
-    # of a float that is no number both comparisons are false
+    # for a float that is not a number both comparisons are false
     if not 0 <= now < 2**64:
         raise ValueError(f"now must be from 0 to 18446744073709551615, not {now}")
     return int(now)
@@ -216,7 +216,7 @@ def _check_strings(name, value, known=None):
     for it in value:
         _check_string(f"each member of {name}", it)
         if known and it not in known:
-            raise ValueError(f"{name} has {it!r}, which is none of {', '.join(known)}")
+            raise ValueError(f"{name} has {it!r}, which is not one of {', '.join(known)}")
 
 
 def _check_count(name, value):
@@ -251,7 +251,7 @@ def _options(options):
     """Returns the options as JSON; the exception names one that is wrong. None stands for the default."""
     for name, value in options.items():
         if name not in _OPTIONS:
-            raise TypeError(f"{name} is no option; the options are {', '.join(_OPTIONS)}")
+            raise TypeError(f"{name} is not an option; the options are {', '.join(_OPTIONS)}")
         if value is not None:
             _OPTIONS[name](name, value)
     return json.dumps(options, default=list).encode()
@@ -280,7 +280,7 @@ def decode_set(token, key_set, now=None, **options):
 
 
 def signed_part(token):
-    """Returns what has to be checked of a token. Nothing is verified: its header's algorithm is its own claim."""
+    """Returns the parts of a token that have to be checked. Nothing is verified: its header names the algorithm."""
     token = _bytes("token", token)
     algorithm, length = ctypes.c_uint32(), ctypes.c_size_t()
     signature = _call(_library.jwt_signed_part, *_slices(token), ctypes.byref(algorithm), ctypes.byref(length))

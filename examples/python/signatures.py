@@ -43,7 +43,7 @@ def by_edwards(part):
 
 
 def answer(token, algorithm, verify, now=1300819380):
-    """Returns the claims or the refusal's text. The key is for one algorithm, and the token's has to be that."""
+    """Returns the claims or the refusal's text. The key is for one algorithm, which the token's must be."""
     part = jwt.signed_part(token)
     try:
         verify(part)
@@ -57,7 +57,7 @@ def answer(token, algorithm, verify, now=1300819380):
 
 
 def mixed_up():
-    """Returns what is answered where a verdict on one token is handed in for another."""
+    """Returns the result for a token with a verdict on another one."""
     part = jwt.signed_part(ES256)
     by_curve(part)
     try:
@@ -69,7 +69,7 @@ def mixed_up():
 results = [
     answer(RS256, "RS256", by_rsa) == CLAIMS,
     answer(ES256, "ES256", by_curve) == CLAIMS,
-    # its payload is no JSON, which is looked at once the signature is accepted
+    # its payload is not JSON, which is tested once the signature is accepted
     answer(EDDSA, "EdDSA", by_edwards) == "JSON error",
     answer(EDDSA.replace("hgyY", "hgyZ"), "EdDSA", by_edwards) == "InvalidSignature",
     answer(RS256, "RS256", by_rsa, now=1300819441) == "ExpiredSignature",

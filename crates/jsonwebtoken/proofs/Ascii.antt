@@ -1,4 +1,4 @@
--- A part is ASCII, and so is what is signed.
+-- A part is ASCII, and so is the message that is signed.
 use Rattle.std.proofs.Common.{◌≡◌, refl, ℕ, ◌<◌, ◌/◌, ◌%◌, ◌*◌, ◌+◌, zero, suc, List, [], ◌∷◌, Bool, true, false, ◌&&◌, slice_index, arith}
 use Rattle.std.specs.Prelude.{All, ltb}
 use Rattle.std.specs.List.{list_all}
@@ -54,7 +54,7 @@ encoded_ascii t (a ∷ b ∷ c ∷ rest) h =
 pub part_ascii : (text b : List ℕ) → IsPart text b → IsAscii text
 part_ascii text b p = rw p.1 (encoded_ascii url_characters b (ascii url_characters refl))
 
--- what is signed of two parts
+-- the message that is signed of two parts
 pub message_bytes : (p : Parts) (h b : List ℕ) → IsPart p.header h → IsPart p.payload b → IsBytes (message_of p)
 message_bytes p h b ph pb =
     bytes_of (message_of p) (IsAscii-append p.header (dot ∷ p.payload) (part_ascii p.header h ph)

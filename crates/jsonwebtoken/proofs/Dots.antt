@@ -24,7 +24,7 @@ not_dot : (x : ℕ) → one_dot x ≡ 0 → x ≢ 46
 not_dot x e is = let yes = eq-eqb x 46 is in
     let bad : 1 ≡ 0 = sym (ap (λ b. if b then 1 else 0) yes) ∙ e in omega (arith, bad)
 
--- each is no dot where there is none
+-- no character is a dot if there is none
 all_free : (xs : List ℕ) → dots xs ≡ 0 → All (λ x. x ≢ 46) xs
 unfolding dots
 all_free [] e = All-nil (λ x. x ≢ 46)

@@ -1,5 +1,5 @@
--- All that goes by cases on the tests of a token: contents that pass the same tests are the same, as far as these
--- tests know them; what passes does so under looser options and with more keys.
+-- The lemmas by cases on the tests of a token: contents that pass the same tests are the same, as
+-- far as these tests know them; contents that pass do so under looser options and with more keys.
 use Rattle.std.proofs.Common.{◌≡◌, ◌⊎◌, ℕ, List, [], ◌∷◌, ◌++◌, Bool, true, false, ◌&&◌, ◌||◌, Some, slice_get, refl, sym, ◌∙◌, Result, IfOk, IfErr, Contains, IfSome, Option, None, find, option_and_then, arith, subst}
 use Rattle.std.specs.Prelude.{MatchResult}
 use Rattle.serde_json.specs.Data.{Data, Members}
@@ -79,7 +79,7 @@ is_in = engine.has number
 abbrev pub are_in : List Test → List Test → Bool
 are_in = engine.has_all number
 
--- these tests make known what the test speaks of
+-- these tests make known the things that the test speaks of
 abbrev pub parts_known : List Test → Bool
 parts_known b = is_in HasThreeParts b
 
@@ -114,7 +114,7 @@ payload_known b = parts_known b && is_in PayloadIsPart b
 abbrev pub claims_known : List Test → Bool
 claims_known b = payload_known b && is_in PayloadIsJson b
 
--- the tests before this one make known what it speaks of
+-- the tests before this one make known the things that it speaks of
 abbrev pub ready : Bool → Test → List Test → Bool
 ready given HasThreeParts b = true
 ready given HeaderIsPart b = parts_known b
@@ -230,7 +230,7 @@ module _ {T : Type 0} (call : Call T) where
   fails_for : (b : List Test) (t s : Contents) → Passes call b t → Passes call b s → (c : Test) → ready (is_given call.keys) c b ≡ true → FailsAt call c t → Condition call c s → ⊥
   fails_for b t s p q = fails_for_these b t s p q
 
-  -- an answer that tells of an order, as the clauses say it
+  -- a result of an order, as the clauses describe it
   module _ {R : Type 0} (order : List Test) (sound : is_sound (is_given call.keys) order ≡ true) (shows : Contents → R → Type 0) (r : Result R Error) (m : Step call order (λ x. x) shows r) where
     pub accepted : IfOk r (λ y. (t : Contents) × Passes call order t × shows t y)
     accepted = engine.accepted (Condition call) (HasKind call) (FailsAt call) (ready (is_given call.keys)) fails_for order sound shows r m
@@ -242,7 +242,7 @@ module _ {T : Type 0} (call : Call T) where
         → (t : Contents) → Passes call order t → MatchResult r (λ y. shows t y) IsMemory
     exact = engine.exact (Condition call) (HasKind call) (FailsAt call) (ready (is_given call.keys)) fails_for order sound shows r m
 
-  -- what is answered does not depend on the contents
+  -- the result does not depend on the contents
   pub same_answer : (order : List Test) → header_known order ≡ true → claims_known order ≡ true → {X : Type 0} (header : X → Header) (claims : X → Data → Type 0)
       → (s t : Contents) (y : X) → Passes call order s → Passes call order t
       → (s.header ≡ header y) × claims y s.payload_value → (t.header ≡ header y) × claims y t.payload_value
@@ -299,7 +299,7 @@ module _ {T : Type 0} (call : Call T) (t : Contents) (w : Options) (l : Looser c
   looser_at ClaimsAreAnObject h = h
   looser_at ClaimRulesHold h = rules-looser call.options w t.payload_value call.now l h
 
-  -- what passes under some options passes under looser ones
+  -- contents that pass under some options pass under looser ones
   pub passes_looser : (order : List Test) → Passes call order t → Passes (record call { options = w }) order t
   passes_looser order p = each call (record call { options = w }) t looser_at order p
 
@@ -338,6 +338,6 @@ module _ {T : Type 0} (call : Call T) (t : Contents) (ks more : List Jwk) where
   kept_at ClaimsAreAnObject h = h
   kept_at ClaimRulesHold h = h
 
-  -- what passes with a set passes with more keys after those of the set
+  -- contents that pass with a set pass with more keys after those of the set
   pub kept_with_more : Passes fewer set_order t → Passes with_more set_order t
   kept_with_more p = each fewer with_more t kept_at set_order p

@@ -1,4 +1,5 @@
--- For any tests of any contents: a failed walk is the first failed test, and what fails does not pass.
+-- For any tests of any contents: a failed walk is the first failed test, and contents that fail do
+-- not pass.
 use Rattle.std.proofs.Common.{◌≡◌, ◌⊎◌, ℕ, List, [], ◌∷◌, ◌++◌, Bool, true, false, ◌&&◌, ◌||◌, eqb, Some, slice_get, inl, inr, ⊎_elim, refl, sym, ap, ◌∙◌, Result, Ok, Err, IfOk, IfErr}
 use Rattle.std.proofs.lemmas.Bool.{eqb-true}
 use Rattle.std.specs.Prelude.{MatchResult}
@@ -94,7 +95,7 @@ module _ {Test Contents : Type 0} (Condition : Test → Contents → Type 0) whe
         let q = rw f.in_order at p in
         f.fails t (front f.before (f.failed ∷ f.after) t q) (back f.before (f.failed ∷ f.after) t q).0
 
-    -- an answer that tells of an order, as the clauses say it
+    -- a result of an order, as the clauses describe it
     module _ {R : Type 0} (order : List Test) (sound : is_well_ordered ready order ≡ true) (shows : Contents → R → Type 0) where
       abbrev Tells : Result R Error → Type 0
       Tells = Meets (λ r. (x : Contents) × PassesAll Condition order x × shows x r) (λ k. (x : Contents) × FailedAt Condition HasKind FailsAt order x k)

@@ -16,7 +16,7 @@ use Rattle.jsonwebtoken.proofs.Engine.{join}
 pub not_both : {K : Type 0} (r : Option K) (k : K) → r ≡ Some k → r ≡ None → ⊥
 not_both r k e f = let both : Some k ≡ None = sym e ∙ f in cc
 
--- memory ran out, or what follows from the fault
+-- memory ran out, or a consequence of the fault
 pub or_memory : {M A B : Type 0} → (A → B) → M ⊎ A → M ⊎ B
 or_memory f (inl m) = inl m
 or_memory f (inr a) = inr (f a)
@@ -38,12 +38,13 @@ module _ {T : Type 0} (call : Call T) where
   later [] b t k p f = f
   later (c ∷ a) b t k p f = inr (p.0, later a b t k p.1 f)
 
-  -- Of an order: the tests a hold, and the tests b that follow failed. What is left of the order is computed.
+  -- Of an order: the tests a hold, and the tests b that follow failed. The rest of the order is
+  -- computed.
   pub stop : (order a b : List Test) (t : Contents) (k : Kind) → Passes call a t → Failed call b t k
       → (x : Contents) × Failed call (a ++ (b ++ drop (length a + length b) order)) x k
   stop order a b t k p f = (t, later a (b ++ drop (length a + length b) order) t k p (early b (drop (length a + length b) order) t k f))
 
-  -- a last call, by what it says of its answer and of its refusal
+  -- a last call, by its clauses on its result and on its refusal
   pub step_tail : {R : Type 0} (order : List Test) (at : Contents → Contents) (shows : Contents → R → Type 0) {P : R → Type 0} {Q : Error → Type 0} (r : Result R Error)
       → IfOk r P → IfErr r (λ e. IsMemory e ⊎ Q e)
       → ((y : R) → P y → (x : Contents) × Passes call order (at x) × shows x y)
@@ -59,7 +60,7 @@ module _ {T : Type 0} (call : Call T) where
   step_last order at shows (Err e) (inl m) f g = inl m
   step_last order at shows (Err e) (inr q) f g = inr (g (kind_of e) q)
 
--- ---- what the steps of a call that verifies tell, put together
+-- ---- the relations of the steps of a call that verifies, put together
 
 abbrev pub front : List Test
 front = HasThreeParts ∷ opening_tests
@@ -67,14 +68,14 @@ front = HasThreeParts ∷ opening_tests
 -- the parts that were found, and the header that was read of them and is understood
 module _ {T : Type 0} (call : Call T) (parts : Parts) (h : Header) (o : (x : Contents) × Passes (opening call.options) opening_tests (with_parts parts x) × (x.header ≡ h))
     (has : HasParts call.token parts) where
-  -- with the key that was found, and with what was read of the other parts
+  -- with the key that was found, and with the contents of the other parts
   abbrev pub opened : Contents → Contents → Contents
   opened n x = record o.0 { parts = parts; header = h; jwk = n.jwk; jwk_key = n.jwk_key; signature_bytes = x.signature_bytes; payload_bytes = x.payload_bytes; payload_value = x.payload_value }
 
   opened_passes : (n x : Contents) → Passes call front (opened n x)
   opened_passes n x = let p : Passes (opening call.options) opening_tests (opened n x) = rw o.2 at o.1 in (has, p)
 
-  -- what passes the rest of the order passes all of it, and so with what fails
+  -- contents that pass the rest of the order pass all of it, and the same for contents that fail
   pub opened_then : (order : List Test) (n x : Contents) → Passes call (drop (length front) order) (opened n x) → Passes call (front ++ drop (length front) order) (opened n x)
   opened_then order n x p = join (Condition call) front (drop (length front) order) (opened n x) (opened_passes n x) p
 
@@ -82,12 +83,12 @@ module _ {T : Type 0} (call : Call T) (parts : Parts) (h : Header) (o : (x : Con
       → (s : Contents) × Failed call (front ++ drop (length front) order) s k
   after_opened order n x k f = (opened n x, later call front (drop (length front) order) (opened n x) k (opened_passes n x) f)
 
--- a fault of the claim rules, and that they hold, are never both
+-- the claim rules never both hold and have a fault
 not_held : (v : Options) (d : Data) (now : ℕ) (k : Kind) → IsRuleFault v d now k → RulesHold v d now → ⊥
 not_held v d now k (missing n is) held = held.required n is
 not_held v d now k (broken none r first) held = first.fails (held.rules r)
 
--- one verifier's answers are the other's
+-- one verifier's results are the other's
 module _ {T : Type 0} (call : Call T) (A : List ℕ → List ℕ → Type 0) (t : Contents) (same : (m s : List ℕ) → A m s ↔ call.accepts t.header.alg (key_of call.keys t.jwk_key) m s) where
   abbrev by_verifier : Call T
   by_verifier = verifying_by call.reads call.options call.now A
@@ -100,7 +101,7 @@ module _ {T : Type 0} (call : Call T) (A : List ℕ → List ℕ → Type 0) (t 
   verified_failed k (inr (h, inl f)) = inr (h, inl ((λ x. f.0 ((same _ _).1 x)), f.1))
   verified_failed k (inr (h, inr (a, f))) = inr (h, inr ((same _ _).0 a, f))
 
--- what `validate` refuses fails one of the last two tests
+-- claims that `validate` refuses fail one of the last two tests
 module _ {T : Type 0} (call : Call T) (t : Contents) where
   failed_at : (k : Kind) → IsFault call.options t.payload_value call.now k → Failed call (ClaimsAreAnObject ∷ ClaimRulesHold ∷ []) t k
   failed_at k (inl (none, is)) = inl (none, is)

@@ -38,7 +38,7 @@ at_number = elim [
   | MessageIsSigned ↦ refl
 ]
 
--- these tests make the values known that are written
+-- these tests make known the values that are written
 abbrev pub written_known : List IssueTest → Bool
 written_known b = engine.has number HeaderIsWritten b && engine.has number ClaimsAreWritten b
 
@@ -64,7 +64,7 @@ module _ (issue : Issue) where
   met : (b : List IssueTest) (t : Written) → IssuePasses issue b t → (c : IssueTest) → engine.has number c b ≡ true → IssueCondition issue c t
   met = engine.holds_of number (IssueCondition issue) every_test at_number
 
-  -- values that pass the tests of what is written are the same
+  -- values that pass the tests of the written values are the same
   pub one_written : (b : List IssueTest) (t s : Written) → written_known b ≡ true → IssuePasses issue b t → IssuePasses issue b s → t ≡ s
   one_written b t s e p q =
       let k = engine.both_true (engine.has number HeaderIsWritten b) (engine.has number ClaimsAreWritten b) e in
@@ -80,7 +80,7 @@ module _ (issue : Issue) where
   fails_for b t s p q ClaimsAreWritten e none h = none s.claims_value h
   fails_for b t s p q MessageIsSigned e none h = none (rw (one_written b t s e p q) h)
 
-  -- an answer that tells of an order, as the clauses say it
+  -- a result of an order, as the clauses describe it
   module _ {R : Type 0} (order : List IssueTest) (sound : is_sound order ≡ true) (shows : Written → R → Type 0) (r : Result R Error) (m : IssueStep issue order shows r) where
     pub issue_accepted : IfOk r (λ y. (t : Written) × IssuePasses issue order t × shows t y)
     issue_accepted = engine.accepted (IssueCondition issue) (IssueKind issue) (IssueFailsAt issue) ready fails_for order sound shows r m

@@ -1,15 +1,15 @@
--- A list with no text at two places, as a walk finds it out.
+-- A list with no string at two places, as a walk finds out.
 use Rattle.std.proofs.Common.{◌≡◌, ◌≢◌, ℕ, ◌+◌, ◌<◌, ◌≤◌, List, true, false, length, get_or, take, bytes_eq, sym, ◌∙◌, arith}
 use Rattle.std.specs.List.{AllPairs}
 use Rattle.std.proofs.lemmas.List.{get_or-take, get_or_default, length-take-le}
 use Rattle.std.proofs.lemmas.Slice.Eq.{bytes_eq-Decides}
 use borrow.Author.Count.{below_more}
 
--- no text stands at two places below n
+-- no string stands at two places below n
 abbrev pub ApartBelow : List (List ℕ) → ℕ → Type 0
 ApartBelow names n = (j : ℕ) → j < n → (i : ℕ) (d : List ℕ) → i < j → get_or names i d ≢ get_or names j d
 
--- a text that stands before is repeated
+-- a string that stands before is repeated
 pub repeated : (names : List (List ℕ)) (j : ℕ) (x : List ℕ) → j < length names → x ≡ get_or names j x
     → ((k : ℕ) × (k < length (take j names)) × ((d : List ℕ) → bytes_eq (get_or (take j names) k d) x ≡ true)) → AllPairs (λ a b. a ≢ b) names → ⊥
 repeated names j x below is (k, inside, same) apart =
@@ -26,7 +26,7 @@ here_apart names j x below is none i d before same =
     let yes = (bytes_eq-Decides (get_or (take j names) i d) x).1 equal in
     let no = none i d (omega arith) inside in cc
 
--- a text that does not stand before is not repeated so far
+-- a string that does not stand before is not repeated so far
 pub still_apart : (names : List (List ℕ)) (j : ℕ) (x : List ℕ) → j < length names → x ≡ get_or names j x
     → ((k : ℕ) (d : List ℕ) → 0 ≤ k → k < length (take j names) → bytes_eq (get_or (take j names) k d) x ≡ false)
     → ApartBelow names j → ApartBelow names (j + 1)

@@ -1,4 +1,4 @@
--- What `decode` accepts with the provider of a verdict is what the verdict vouches for.
+-- `decode` with the provider of a verdict accepts exactly the tokens that the verdict vouches for.
 use Rattle.std.proofs.Common.{ℕ, List, ◌∷◌, refl}
 use Rattle.jwt_base.specs.declared.json.claims.Claims.{Ghosts as ClaimsOf}
 use Rattle.jwt_validation.specs.declared.validation.Validation.{Validation}

@@ -1,5 +1,5 @@
--- The calls that the contracts speak of: what an entry point is given, with what its provider and its type of claims
--- say, and how it answers.
+-- The calls that the contracts speak of: the arguments of an entry point, with the relations of its
+-- provider and its type of claims, and the conditions on its result.
 use Rattle.std.specs.Prelude.{◌≡◌, ℕ, List, Result}
 use Rattle.jwt_base.specs.declared.errors.Error.{Error}
 use Rattle.jwt_base.specs.declared.json.claims.Claims.{Ghosts as ClaimsOf}
@@ -37,7 +37,7 @@ module _ {P S V T : Type 0} (provider : ProviderOf P S V) (claims : ClaimsOf T) 
   decoding_parts p parts key validation now =
       verifying p (Separate parts) (Given key) validation now
 
--- ---- what an answer shows of the contents
+-- ---- how a result shows the contents
 
 -- the header and the claims
 abbrev pub Carries : {T : Type 0} → Call T → Contents → TokenData T → Type 0
@@ -57,17 +57,17 @@ HasSigned call t part = (t.header ≡ part.header)
 abbrev pub HasClaims : {T : Type 0} → Call T → Contents → T → Type 0
 HasClaims call t claims = call.reads t.payload_value claims
 
--- ---- how a call answers that makes its tests in this order
+-- ---- the result of a call that makes its tests in this order
 
 module _ {T R : Type 0} (call : Call T) (order : List Test) where
-  -- where it accepts, some contents pass every test, and are what the answer shows
+  -- if it accepts, some contents pass every test, and the result shows them
   abbrev pub Accepts : (Call T → Contents → R → Type 0) → Result R Error → Type 0
   Accepts Shows answer = AnswersOne (Condition call) order (Shows call) answer
 
-  -- whatever contents pass every test, the answer shows them, unless memory ran out
+  -- if any contents pass every test, the result shows them, unless memory ran out
   abbrev pub AcceptsEach : (Call T → Contents → R → Type 0) → Result R Error → Type 0
   AcceptsEach Shows answer = AnswersEach (Condition call) order (Shows call) answer
 
-  -- where it refuses, the kind is that of the first failed test, unless memory ran out
+  -- if it refuses, the kind is that of the first failed test, unless memory ran out
   abbrev pub RefusesFirst : Result R Error → Type 0
   RefusesFirst answer = RefusesByFirst (Condition call) (HasKind call) order answer

@@ -22,6 +22,6 @@ pub record IsUnderstoodList (names : List (List ℕ)) (extras : Members)
   pub once : AllPairs (λ a b. a ≢ b) names
   pub each : All (IsUnderstoodName extras understood) names
 
--- where the header asks for extensions, they are understood (RFC 7515 section 4.1.11)
+-- if the header asks for extensions, they are understood (RFC 7515 section 4.1.11)
 abbrev pub IsUnderstood : Texts → Header → Type 0
 IsUnderstood understood h = IfSome h.crit (λ names. IsUnderstoodList names h.extras understood)

@@ -28,7 +28,7 @@ abbrev pub payload_of : Option (Option Data) → Payload
 payload_of None = NoClaims
 payload_of (Some w) = WrittenAs w
 
--- what a call is given: its arguments, and the provider's answers
+-- the input of a call: its arguments, and the provider's results
 pub record Issue : Type 1 where
   pub header : Header
   pub payload : Payload
@@ -46,7 +46,7 @@ pub data IssueTest : Type 0 where
   ClaimsAreWritten : IssueTest
   MessageIsSigned : IssueTest
 
--- what the tests speak of: the header's value, and that of the claims where there are any
+-- the values that the tests speak of: that of the header, and that of the claims if there are any
 pub record Written : Type 0 where
   pub header_value : Data
   pub claims_value : Option Data
@@ -65,7 +65,7 @@ abbrev pub payload_part : Option Data → List ℕ
 payload_part None = []
 payload_part (Some d) = part_of d
 
--- what is signed: header part, dot, payload part (RFC 7515 section 5.1)
+-- the message that is signed: header part, dot, payload part (RFC 7515 section 5.1)
 abbrev pub message_to_sign : Written → List ℕ
 message_to_sign t = part_of t.header_value ++ dot ∷ payload_part t.claims_value
 
@@ -97,7 +97,7 @@ module _ (issue : Issue) where
   IssueFailsFirst = FailsFirst (IssueCondition) (IssueKind)
 
   -- The parts of an issued token: those of the header's and of the claims' text, and that of a
-  -- signature which the provider may answer for the two (RFC 7515 sections 5.1 and 7.1).
+  -- signature which the provider may return for the two (RFC 7515 sections 5.1 and 7.1).
   pub record AreIssued (t : Written) (p : Parts) : Type 0 where
     pub header : p.header ≡ part_of t.header_value
     pub payload : p.payload ≡ payload_part t.claims_value
@@ -147,7 +147,7 @@ AcceptsOf issue accepts key = (m s : List ℕ) → IsBytes m → IsBytes s
     → issue.signs issue.header.alg issue.key m s → accepts issue.header.alg key m s
 
 -- The text passes these tests with the header's normal form and the claims' value, and its
--- signature is accepted with each key that accepts what the issuer's key signs.
+-- signature is accepted with each key that accepts the signatures of the issuer's key.
 pub record IsReadBack (issue : Issue) (accepts : Algorithm → Key → List ℕ → List ℕ → Type 0)
     (v : Data) (x : List ℕ) : Type 0 where
   pub contents : Contents
@@ -157,7 +157,7 @@ pub record IsReadBack (issue : Issue) (accepts : Algorithm → Key → List ℕ 
   pub accepted : (key : Key) → AcceptsOf issue accepts key
       → accepts contents.header.alg key (message_of contents.parts) contents.signature_bytes
 
--- so it is where the header and the claims nest as deep as JSON is read
+-- so it is if the header and the claims nest no deeper than the reader of JSON allows
 abbrev pub ReadsBack : Issue → (Algorithm → Key → List ℕ → List ℕ → Type 0)
     → Written → List ℕ → Type 0
 ReadsBack issue accepts t x = (v : Data) → t.claims_value ≡ Some v

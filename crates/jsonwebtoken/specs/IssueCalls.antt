@@ -1,5 +1,5 @@
--- The calls that issue tokens, as the contracts speak of them: what an entry point is given, with what its provider and
--- its type of claims say, and how it answers.
+-- The calls that issue tokens, as the contracts speak of them: the arguments of an entry point,
+-- with the relations of its provider and its type of claims, and the conditions on its result.
 use Rattle.std.specs.Prelude.{List, Option, Result, option_map}
 use Rattle.std.specs.Borrow.{Bor}
 use Rattle.jwt_base.specs.declared.errors.Error.{Error}
@@ -28,17 +28,17 @@ module _ {P S V T : Type 0} (provider : ProviderOf P S V) (claims : ClaimsOf T) 
   encoding_parts p header c key =
       issuing_by p header (payload_of (option_map (λ d. claims.written d.now) c)) key
 
--- ---- how a call answers that makes its tests in this order
+-- ---- the result of a call that makes its tests in this order
 
 module _ {R : Type 0} (issue : Issue) (order : List IssueTest) where
-  -- where it issues a token, some values pass every test, and are what the answer shows
+  -- if it issues a token, some values pass every test, and the result shows them
   abbrev pub Issues : (Issue → Written → R → Type 0) → Result R Error → Type 0
   Issues Shows answer = AnswersOne (IssueCondition issue) order (Shows issue) answer
 
-  -- whatever values pass every test, the answer shows them, unless memory ran out
+  -- if any values pass every test, the result shows them, unless memory ran out
   abbrev pub IssuesEach : (Issue → Written → R → Type 0) → Result R Error → Type 0
   IssuesEach Shows answer = AnswersEach (IssueCondition issue) order (Shows issue) answer
 
-  -- where it refuses, the kind is that of the first failed test, unless memory ran out
+  -- if it refuses, the kind is that of the first failed test, unless memory ran out
   abbrev pub RefusesToIssue : Result R Error → Type 0
   RefusesToIssue answer = RefusesByFirst (IssueCondition issue) (IssueKind issue) order answer

@@ -1,4 +1,4 @@
--- For private clauses: what a step of a call that issues a token tells of its tests.
+-- For private clauses: the relation between a step of a call that issues a token and its tests.
 use Rattle.std.specs.Prelude.{◌≡◌, ℕ, List, [], Option, Some, None, Result}
 use Rattle.serde_json.specs.Data.{Data}
 use Rattle.serde_json.specs.Written.{compact_text}
@@ -16,13 +16,13 @@ pub record IsPartOf (d : Data) (text : List ℕ) : Type 0 where
   pub part : IsPart text (compact_text d)
   pub compact : IsCompact d (compact_text d)
 
--- the same of a payload, which without claims is empty
+-- the same for a payload, which is empty without claims
 abbrev pub IsPayloadOf : Option Data → List ℕ → Type 0
 IsPayloadOf None text = text ≡ []
 IsPayloadOf (Some d) text = IsPartOf d text
 
 module _ (issue : Issue) where
-  -- the test fails at these values, whatever stands in place of what it looks for
+  -- the test fails at these values, whatever the value that it looks for
   abbrev pub IssueFailsAt : IssueTest → Written → Type 0
   IssueFailsAt HeaderIsWritten t = (d : Data) → header_value issue.header ≡ Some d → ⊥
   IssueFailsAt ClaimsAreWritten t = (v : Option Data) → AreWritten issue.payload v → ⊥
@@ -31,8 +31,8 @@ module _ (issue : Issue) where
   abbrev pub IssueFailed : List IssueTest → Written → Kind → Type 0
   IssueFailed = FailedAt (IssueCondition issue) (IssueKind issue) IssueFailsAt
 
-  -- What the answer tells of these tests: some values pass them, and are what is answered; or they pass them up to
-  -- one that fails, unless memory ran out.
+  -- The meaning of a result for these tests: some values pass them, and the result shows them; or
+  -- some pass them up to one that fails, unless memory ran out.
   abbrev pub IssueStep : {R : Type 0} → List IssueTest → (Written → R → Type 0)
       → Result R Error → Type 0
   IssueStep order Shows = Meets (λ r. (t : Written) × IssuePasses issue order t × Shows t r)

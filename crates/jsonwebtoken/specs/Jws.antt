@@ -13,13 +13,13 @@ parts_of j = record {
   signature = string_bytes j.signature;
 }
 
--- the value has the three texts; its other members are ignored (RFC 7515 section 7.2.2)
+-- the value has the three strings; its other members are ignored (RFC 7515 section 7.2.2)
 pub record ReadsParts (d : Data) (p : Parts) : Type 0 where
   pub header : text_at (codes "protected") d ≡ Some p.header
   pub payload : text_at (codes "payload") d ≡ Some p.payload
   pub signature : text_at (codes "signature") d ≡ Some p.signature
 
--- the object of the three texts (RFC 7515 section 7.2.2)
+-- the object of the three strings (RFC 7515 section 7.2.2)
 abbrev pub parts_value : Parts → Data
 parts_value p = object (put (codes "payload") (string p.payload)
     (put (codes "protected") (string p.header)

@@ -1,4 +1,5 @@
--- When a token is accepted, under which options, and which tokens are, by the tests of any order.
+-- The moments at which a token is accepted, the options under which it is, and the tokens that are,
+-- by the tests of any order.
 use Rattle.std.specs.Prelude.{◌≡◌, ◌↔◌, ℕ, ◌≤◌, List, [], ◌∷◌, ◌++◌, Bool, true, false, if◌then◌else◌}
 use Rattle.jwt_base.specs.Algorithm.{family_of}
 use Rattle.jwt_keys.specs.Key.{key_family}
@@ -9,7 +10,7 @@ use Rattle.jwt_validation.specs.Moments.{RulesOfNoMoment, first_moment, last_mom
 use Rattle.jwt_validation.specs.Options.{Options}
 use Rattle.jsonwebtoken.specs.Tests.{Call, Token, Compact, Separate, Parts, InSet, key_of, text_of_parts, Test, ClaimRulesHold, Contents, Passes, decode_order, jws_order}
 
--- every test but the claim rules says nothing of the moment
+-- every test but the claim rules does not depend on the moment
 abbrev pub is_timeless : Test → Bool
 is_timeless ClaimRulesHold = false
 is_timeless _ = true
@@ -20,7 +21,7 @@ timeless [] = []
 timeless (c ∷ cs) = if is_timeless c then c ∷ timeless cs else timeless cs
 
 module _ {T : Type 0} (call : Call T) (order : List Test) where
-  -- What is asked at a moment: the tests that do not speak of it hold, and it lies from the first
+  -- The condition on a moment: the tests that do not depend on it hold, and it lies from the first
   -- moment to the last (RFC 7519 sections 4.1.4 and 4.1.5).
   pub record IsWithin (t : Contents) (m : ℕ) : Type 0 where
     pub base : Passes call (timeless order) t
@@ -28,28 +29,28 @@ module _ {T : Type 0} (call : Call T) (order : List Test) where
     pub from : first_moment call.options (claims_of t.payload_value) ≤ m
     pub until : m ≤ last_moment call.options (claims_of t.payload_value)
 
-  -- any contents pass at just these moments (RFC 7519 sections 4.1.4 and 4.1.5)
+  -- any contents pass exactly at these moments (RFC 7519 sections 4.1.4 and 4.1.5)
   abbrev pub HasMoments : Type 0
   HasMoments = (t : Contents) (m : ℕ) → m ≤ end_of_time
       → Passes (record call { now = m }) order t ↔ IsWithin t m
 
-  -- what passes does so under looser options too
+  -- contents that pass do so under looser options too
   abbrev pub KeepsLooser : Type 0
   KeepsLooser = (t : Contents) → Passes call order t
       → (w : Options) → Looser call.options w → Passes (record call { options = w }) order t
 
-  -- what passes does so with more keys after those of the set
+  -- contents that pass do so with more keys after those of the set
   abbrev pub KeepsWithMore : List Jwk → Type 0
   KeepsWithMore set = (t : Contents) → Passes call order t
       → (more : List Jwk) → Passes (record call { keys = InSet (set ++ more) }) order t
 
-  -- the key of what passes is of the family of the header's algorithm
+  -- the key of contents that pass is of the family of the header's algorithm
   abbrev pub KeyFits : Type 0
   KeyFits = (t : Contents) → Passes call order t
       → key_family (key_of call.keys t.jwk_key) ≡ family_of t.header.alg
 
-  -- Where the provider accepts one signature of a message: any token of this form that passes with the same header
-  -- bytes and payload bytes, at any moment and under any options, is this one.
+  -- If the provider accepts at most one signature of each message, any token of this form that passes
+  -- with the same header bytes and payload bytes, at any moment and under any options, is this one.
   abbrev pub FixesToken : (A : Type 0) → (A → Token) → A → Type 0
   FixesToken A form x = (t : Contents) → Passes call order t
       → HasOneSignature (call.accepts t.header.alg (key_of call.keys t.jwk_key))

@@ -1,4 +1,5 @@
--- For any tests of any contents: an order of them, what passes it, and its first failed test.
+-- For any tests of any contents: an order of them, the contents that pass it, and its first failed
+-- test.
 use Rattle.std.specs.Prelude.{◌≡◌, ◌⊎◌, List, [], ◌∷◌, ◌++◌, Result, IfOk, IfErr, MatchResult}
 use Rattle.jwt_base.specs.Kind.{Kind}
 use Rattle.jwt_base.specs.KindOf.{kind_of, IsMemory}
@@ -11,11 +12,11 @@ module _ {Test Contents : Type 0} (Condition : Test → Contents → Type 0) whe
   PassesAll (c ∷ cs) t = Condition c t × PassesAll cs t
 
   module _ {R : Type 0} (order : List Test) (Shows : Contents → R → Type 0) where
-    -- what is answered: some contents pass every test, and the answer shows them
+    -- on success, some contents pass every test, and the result shows them
     abbrev pub AnswersOne : Result R Error → Type 0
     AnswersOne r = IfOk r (λ y. (t : Contents) × PassesAll order t × Shows t y)
 
-    -- any contents that pass every test are what the answer shows, unless memory ran out
+    -- any contents that pass every test are those that the result shows, unless memory ran out
     abbrev pub AnswersEach : Result R Error → Type 0
     AnswersEach r = (t : Contents) → PassesAll order t → MatchResult r (Shows t) IsMemory
 
@@ -32,7 +33,7 @@ module _ {Test Contents : Type 0} (Condition : Test → Contents → Type 0) whe
       pub fails : (t : Contents) → PassesAll before t → Condition failed t → ⊥
       pub kind : HasKind failed contents k
 
-    -- what is refused is of the kind of the first failed test, unless memory ran out
+    -- a refusal has the kind of the first failed test, unless memory ran out
     abbrev pub RefusesByFirst : {R : Type 0} → List Test → Result R Error → Type 0
     RefusesByFirst order r = IfErr r (λ e. IsMemory e ⊎ FailsFirst order (kind_of e))
 

@@ -1,4 +1,4 @@
--- For private clauses: what a step of a call tells of its tests.
+-- For private clauses: the relation between a step of a call and its tests.
 use Rattle.std.specs.Prelude.{◌≡◌, ◌⊎◌, ℕ, List, [], Option, Some, Result, Ok, Err}
 use Rattle.serde_json.specs.Data.{Data, null, no_members}
 use Rattle.jwt_base.specs.Base64Url.{IsPart}
@@ -21,17 +21,18 @@ use Rattle.jsonwebtoken.specs.Order.{FailedAt}
 use Rattle.jsonwebtoken.specs.Tests.{Parts, HasParts, Given, InSet, set_of, named_key, Call, Test, HasThreeParts, HeaderIsPart, HeaderIsJson, HeaderReads, KeyIsFound, KeyIsUsable, SignatureIsPart, PayloadIsPart, PayloadIsJson, ClaimsRead, Contents, Condition, HasKind, Passes, header_call, insecure_call}
 use Rattle.jsonwebtoken.specs.declared.decoding.parts.TokenParts.{TokenParts}
 
--- the answer is so; or the refusal is of such a kind, unless memory ran out
+-- the result meets the first relation; or the kind of the refusal meets the second, unless memory
+-- ran out
 abbrev pub Meets : {R : Type 0} → (R → Type 0) → (Kind → Type 0) → Result R Error → Type 0
 Meets P Q (Ok r) = P r
 Meets P Q (Err e) = IsMemory e ⊎ Q (kind_of e)
 
--- the condition; where it fails, the refusal is of one of these kinds
+-- the condition; if it fails, the refusal is of one of these kinds
 abbrev pub AsksFor : {R : Type 0} → Type 0 → (Kind → Type 0) → Result R Error → Type 0
 AsksFor P K = Meets (λ _. P) (λ k. (P → ⊥) × K k)
 
 module _ {T : Type 0} (call : Call T) where
-  -- the test fails at these contents, whatever stands in place of what it looks for
+  -- the test fails at these contents, whatever the value that it looks for
   abbrev pub FailsAt : Test → Contents → Type 0
   FailsAt HasThreeParts t = (p : Parts) → HasParts call.token p → ⊥
   FailsAt HeaderIsPart t = (b : List ℕ) → IsPart t.parts.header b → ⊥
@@ -48,8 +49,8 @@ module _ {T : Type 0} (call : Call T) where
   abbrev pub Failed : List Test → Contents → Kind → Type 0
   Failed = FailedAt (Condition call) (HasKind call) FailsAt
 
-  -- What the answer tells of these tests: some contents pass them, and are what is answered; or they pass them up to
-  -- one that fails, unless memory ran out.
+  -- The meaning of a result for these tests: some contents pass them, and the result shows them; or
+  -- some pass them up to one that fails, unless memory ran out.
   abbrev pub Step : {R : Type 0} → List Test → (Contents → Contents) → (Contents → R → Type 0)
       → Result R Error → Type 0
   Step order at Shows = Meets (λ r. (x : Contents) × Passes call order (at x) × Shows x r)

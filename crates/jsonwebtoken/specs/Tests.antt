@@ -51,7 +51,7 @@ abbrev pub HasParts : Token → Parts → Type 0
 HasParts (Compact text) p = ArePartsOf text p
 HasParts (Separate q) p = p ≡ q
 
--- what is signed: header part, dot, payload part (RFC 7515 section 5.1)
+-- the message that is signed: header part, dot, payload part (RFC 7515 section 5.1)
 abbrev pub message_of : Parts → List ℕ
 message_of p = p.header ++ dot ∷ p.payload
 
@@ -76,7 +76,7 @@ abbrev pub AgreesWith : Algorithm → Jwk → Type 0
 AgreesWith a k =
     (k.common.key_algorithm ≡ None) ⊎ (k.common.key_algorithm ≡ Some (key_algorithm_of a))
 
--- what a call is given: its arguments, the provider's answers, and what reads as claims
+-- the input of a call: its arguments, the provider's results, and how claims are read
 pub record Call (T : Type 0) : Type 1 where
   pub token : Token
   pub keys : KeySource
@@ -109,7 +109,7 @@ pub data Test : Type 0 where
   ClaimsAreAnObject : Test
   ClaimRulesHold : Test
 
--- what the tests speak of
+-- the things that the tests speak of
 pub record Contents : Type 0 where
   pub parts : Parts
   pub header_bytes : List ℕ
@@ -205,7 +205,7 @@ module _ {T : Type 0} (call : Call T) where
 abbrev pub header_tests : List Test
 header_tests = HeaderIsPart ∷ HeaderIsJson ∷ HeaderReads ∷ []
 
--- of the header: what comes first of every call that verifies, once the parts are found
+-- the tests of the header, which come first in every call that verifies, once the parts are found
 abbrev pub opening_tests : List Test
 opening_tests = header_tests ++ CritIsUnderstood ∷ []
 
@@ -227,14 +227,14 @@ payload_tests = PayloadIsPart ∷ PayloadIsJson ∷ ClaimsRead ∷ []
 abbrev pub claim_tests : List Test
 claim_tests = payload_tests ++ ClaimsAreAnObject ∷ ClaimRulesHold ∷ []
 
--- of the signature and then of the claims: what comes last of every call that verifies
+-- the tests of the signature and then of the claims, which come last in every call that verifies
 abbrev pub verifying_tests : List Test
 verifying_tests = signature_tests ++ claim_tests
 
 abbrev pub header_order : List Test
 header_order = HasThreeParts ∷ header_tests
 
--- what is asked of a token before its signature is checked elsewhere
+-- the tests of a token before its signature is checked elsewhere
 abbrev pub signed_order : List Test
 signed_order = header_order ++ SignatureIsPart ∷ []
 
@@ -255,7 +255,7 @@ set_order = HasThreeParts ∷ opening_tests ++ key_tests ++ algorithm_tests ++ v
 
 -- ---- the calls
 
--- a call that verifies, by what a provider answers and by what reads as claims
+-- a call that verifies, by the results of a provider and by how claims are read
 abbrev pub verifying_call : {T : Type 0} → Token → KeySource → Options → ℕ
     → (Algorithm → Key → Option Kind) → (Algorithm → Key → List ℕ → List ℕ → Type 0)
     → (Data → T → Type 0) → Call T
@@ -269,7 +269,7 @@ verifying_call token keys options now refusal accepts reads = record {
   reads = reads;
 }
 
--- a call that verifies nothing: of what it is not given, none of its tests speak
+-- a call that verifies nothing: its tests do not depend on the arguments that it does not have
 abbrev pub insecure_call : {T : Type 0} → List ℕ → (Data → T → Type 0) → Call T
 insecure_call text reads =
     verifying_call (Compact text) (InSet []) (default_options []) 0

@@ -7,8 +7,8 @@ use Rattle.jwt_base.specs.JsonText.{IsJson}
 use Rattle.jwt_base.specs.declared.algorithms.Algorithm.{Algorithm}
 use Rattle.jwt_header.specs.Header.{ReadsHeader, new_header, header_value}
 
--- the part stands for the header with the algorithm and the type `JWT` alone, and is what is written
--- of it (RFC 7519 section 5.1)
+-- the part stands for the header with the algorithm and the type `JWT` alone, and that header is
+-- written as it (RFC 7519 section 5.1)
 pub record IsUsual (part : List ℕ) (a : Algorithm) : Type 0 where
   pub bytes : List ℕ
   pub value : Data

@@ -1,4 +1,4 @@
--- What is accepted of a token whose signature the caller has checked.
+-- The acceptance of a token whose signature the caller has checked.
 use Rattle.std.specs.Prelude.{◌≡◌, ℕ, List, [], ◌∷◌, ◌++◌, IsTrue, Result, IfOk, MatchResult}
 use Rattle.jwt_base.specs.Algorithm.{family_of}
 use Rattle.jwt_base.specs.KindOf.{IsMemory}
@@ -33,12 +33,12 @@ pub record IsVouched {T : Type 0} (call : Call T) (v : Verdict) (t : Contents) :
   pub signature : t.signature_bytes ≡ v.signature
 
 module _ {T : Type 0} (call : Call T) (v : Verdict) where
-  -- where it accepts, some contents are vouched for, and are what the answer carries
+  -- if it accepts, some contents are vouched for, and the result carries them
   abbrev pub AcceptsVouched : Result (TokenData T) Error → Type 0
   AcceptsVouched answer =
       IfOk answer (λ r. (t : Contents) × IsVouched call v t × Carries call t r)
 
-  -- whatever contents are vouched for, the answer carries them, unless memory ran out
+  -- if any contents are vouched for, the result carries them, unless memory ran out
   abbrev pub AcceptsEachVouched : Result (TokenData T) Error → Type 0
   AcceptsEachVouched answer =
       (t : Contents) → IsVouched call v t → MatchResult answer (Carries call t) IsMemory

@@ -1,5 +1,5 @@
-//! What signs and what verifies: the provider laws, the calls over any lawful provider, the built-in HMAC, a caller's
-//! own verdicts, and a comparison of signatures.
+//! Signing and verifying: the provider laws, the calls over any lawful provider, the built-in HMAC,
+//! a caller's verdicts, and a comparison of signatures.
 
 pub mod hmac;
 pub mod verdict;

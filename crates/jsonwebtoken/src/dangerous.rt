@@ -1,5 +1,5 @@
-//! Reading tokens without verifying them. What these calls answer may come from anybody: neither the signature nor
-//! the claim rules are looked at.
+//! Reading tokens without verifying them. The results of these calls may come from anybody: neither
+//! the signature nor the claim rules are tested.
 
 ghost use Rattle.std.specs.Prelude.{◌≡◌};
 ghost use Rattle.jsonwebtoken.specs.Calls.{Accepts, AcceptsEach, RefusesFirst, Carries, HasClaims};
@@ -22,11 +22,11 @@ fn insecure_decode_by_steps<T: Claims>(alloc: Global, token: &[u8]) -> Result<To
     Ok(TokenData { header, claims })
 }
 
-/// What a token in its compact form carries. Nothing of it is verified.
+/// Returns the header and the claims of a token in its compact form. Nothing is verified.
 ///
-/// A token with fewer than two dots is refused with `InvalidToken`; then a header part that is no canonical base64url
-/// with `Base64`, and bytes of it that are no JSON or no header with `Json`; then the payload part alike, whose value
-/// has to read as `T`.
+/// The tests are those of [`decode`](crate::decode) on the dots, the header part and the payload
+/// part, in the same order, without those of the header's `crit`, of the claims being an object,
+/// and of the claim rules.
 pub fn insecure_decode<T: Claims>(alloc: Global, token: &[u8]) -> Result<TokenData<T>>
     ensures accepted { Accepts (insecure_call token.now T.reads) insecure_order Carries result }
     ensures exact { AcceptsEach (insecure_call token.now T.reads) insecure_order Carries result }
@@ -44,10 +44,10 @@ fn insecure_decode_claims_by_steps<T: Claims>(alloc: Global, token: &[u8]) -> Re
     Ok(claims)
 }
 
-/// The claims of a token in its compact form. Nothing of it is verified, and the header is not looked at.
+/// Returns the claims of a token in its compact form. Nothing is verified, and the header is not
+/// read.
 ///
-/// A token with fewer than two dots is refused with `InvalidToken`, a payload part that is no canonical base64url with
-/// `Base64`, and bytes of it that are no JSON or do not read as `T` with `Json`.
+/// The tests are those of [`insecure_decode`] without those on the header part.
 pub fn insecure_decode_claims<T: Claims>(alloc: Global, token: &[u8]) -> Result<T>
     ensures accepted { Accepts (insecure_call token.now T.reads) insecure_claims_order HasClaims result }
     ensures exact { AcceptsEach (insecure_call token.now T.reads) insecure_claims_order HasClaims result }

@@ -23,7 +23,7 @@ use jwt_keys::provider::CryptoProvider;
 use jwt_validation::Validation;
 use std::alloc::Global;
 
-/// What a token carries.
+/// The contents of a token.
 #[derive(Debug, Drop)]
 pub struct TokenData<T> {
     /// The header.
@@ -51,20 +51,24 @@ fn decode_by_steps<P: CryptoProvider, T: Claims>(
     Ok(TokenData { header, claims })
 }
 
-/// What a token in its compact form carries, verified with the key at the moment `now`, in whole seconds since
-/// 1970-01-01 00:00:00 UTC.
+/// Verifies a token in its compact form with the key, at the moment `now`, in whole seconds since
+/// 1970-01-01 00:00:00 UTC, and returns its header and its claims.
 ///
-/// These tests are made in this order, and the answer to a refused token is the kind of the first that fails:
+/// These tests are made in this order, and a refused token has the kind of the first that fails:
 ///
-/// - the text has at least two dots, of which the last two cut it in three parts, else `InvalidToken`;
+/// - the text has at least two dots, of which the last two cut it in three parts, else
+///   `InvalidToken`;
 /// - the header part is canonical base64url (RFC 7515 section 2), else `Base64`;
 /// - its bytes are JSON that reads as a header, else `Json`;
-/// - the header's `crit`, where there is one, is understood (RFC 7515 section 4.1.11), else `InvalidCrit`;
-/// - `validation` lists an algorithm, else `MissingAlgorithm`, and the header's, else `InvalidAlgorithm`;
+/// - the header's `crit`, if there is one, is understood (RFC 7515 section 4.1.11), else
+///   `InvalidCrit`;
+/// - `validation` lists an algorithm, else `MissingAlgorithm`, and the header's, else
+///   `InvalidAlgorithm`;
 /// - the provider makes a verifier for that algorithm and the key, else the provider's kind;
 /// - every listed algorithm is of the same family, else `InvalidAlgorithm`;
 /// - the signature part is canonical base64url, else `Base64`;
-/// - the verifier accepts its bytes over the header part, the dot and the payload part, else `InvalidSignature`;
+/// - the verifier accepts its bytes over the header part, the dot and the payload part, else
+///   `InvalidSignature`;
 /// - the payload part is canonical base64url, else `Base64`, and its bytes are JSON, else `Json`;
 /// - that value reads as `T`, and is an object, else `Json`;
 /// - the claim rules of [`validate`](crate::validate) hold, else their kind.
@@ -89,17 +93,19 @@ pub fn decode<P: CryptoProvider, T: Claims>(
     // The key is of the family of the header's algorithm.
     ensures family { IfOk result (λ r. key_family key.now ≡ family_of r.header.alg) }
 
-    // It accepts at just the moments from the first to the last.
+    // It accepts exactly at the moments from the first to the last.
     ensures moments { HasMoments
         (decoding P.CryptoProvider T.Claims provider.now token.now key.now validation.now now)
         decode_order }
 
-    // What it accepts is accepted under every looser validation, with the same header and claims.
+    // A token that it accepts is accepted under every looser validation, with the same header and
+    // claims.
     ensures looser { KeepsLooser
         (decoding P.CryptoProvider T.Claims provider.now token.now key.now validation.now now)
         decode_order }
 
-    // Where the provider accepts one signature of a message, the header's and the payload's bytes fix the token.
+    // If the provider accepts at most one signature of each message, the header's and the payload's
+    // bytes fix the token.
     ensures one_text { FixesToken
         (decoding P.CryptoProvider T.Claims provider.now token.now key.now validation.now now)
         decode_order (List ℕ) Compact token.now }
@@ -115,11 +121,10 @@ fn decode_header_by_steps(alloc: Global, token: &[u8]) -> Result<Header>
     Ok(header)
 }
 
-/// The header of a token in its compact form. Nothing is verified: neither the payload nor the signature is looked
-/// at, beyond finding the dots before them.
+/// Returns the header of a token in its compact form. Nothing is verified: neither the payload nor
+/// the signature is read, except to find the dots before them.
 ///
-/// A token with fewer than two dots is refused with `InvalidToken`, then a header part that is no canonical base64url
-/// with `Base64`, then bytes that are no JSON or no header with `Json`.
+/// The tests are the first three of [`decode`], in the same order.
 pub fn decode_header(alloc: Global, token: &[u8]) -> Result<Header>
     ensures accepted { Accepts (header_call token.now) header_order HasHeader result }
     ensures exact { AcceptsEach (header_call token.now) header_order HasHeader result }

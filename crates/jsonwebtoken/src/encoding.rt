@@ -36,10 +36,11 @@ fn encode_by_steps<P: CryptoProvider, T: Claims>(
     Ok(token)
 }
 
-/// The token of this header and these claims, signed with the key: header part, dot, claims part, dot, signature part,
-/// where the first two are base64url of compact JSON texts (RFC 7515 section 7.1, RFC 7519 section 7.1).
+/// Signs a header and claims with the key, and returns the token: header part, dot, claims part,
+/// dot, signature part. The first two parts are base64url of compact JSON texts (RFC 7515 section
+/// 7.1, RFC 7519 section 7.1).
 ///
-/// These tests are made in this order, and the answer to a refused call is the kind of the first that fails:
+/// These tests are made in this order, and a refused call has the kind of the first that fails:
 ///
 /// - the key is of the family of the header's algorithm, else `InvalidAlgorithm`;
 /// - the provider makes a signer for that algorithm and the key, else the provider's kind;
@@ -63,8 +64,8 @@ pub fn encode<P: CryptoProvider, T: Claims>(
         (encoding P.CryptoProvider T.Claims provider.now header.now claims.now key.now)
         encode_order result }
 
-    // What is issued reads as the header's normal form and the claims' value, and its signature is accepted with each
-    // key that accepts what this key signs.
+    // An issued token is read as the header's normal form and the claims' value, and its signature
+    // is accepted with each key that accepts the signatures of this key.
     ensures read_back { let issue = encoding P.CryptoProvider T.Claims provider.now header.now claims.now key.now in
         IfOk result (λ x. (t : Written) → IssuePasses issue encode_order t
         → ReadsBack issue (P.accepts provider.now) t (string_bytes x)) }

@@ -47,7 +47,7 @@ pub struct Jws<C> {
 }
 
 impl<C> Jws<C> {
-    /// The JSON object of the three texts. The only refusal is `OutOfMemory`.
+    /// Returns the JSON object of the three strings. The only refusal is `OutOfMemory`.
     pub fn to_value(&self, alloc: Global) -> Result<Value>
         ensures ok { IfOk result (λ v. view v ≡ parts_value (parts_of self.now)) }
         ensures reads_back { IfOk result (λ v. ReadsParts (view v) (parts_of self.now)) }
@@ -60,8 +60,8 @@ impl<C> Jws<C> {
         Ok(Value::Object(members))
     }
 
-    /// The token of the three texts of a JSON object, whose further members are ignored. A value that is no object or
-    /// lacks one of the texts is refused with `Json`.
+    /// Returns the token of the three strings of a JSON object, whose further members are ignored.
+    /// A value that is not an object or lacks one of the strings is refused with `Json`.
     pub fn from_value(alloc: Global, value: &Value) -> Result<Jws<C>>
         ensures ok { IfOk result (λ j. ReadsParts (view value.now) (parts_of j)) }
         ensures err { IfErr result (RefusesAs kind.Json ((p : Parts) → ¬ ReadsParts (view value.now) p)) }
@@ -74,7 +74,7 @@ impl<C> Jws<C> {
         })
     }
 
-    /// A copy. The only refusal is `OutOfMemory`.
+    /// Returns a copy. The only refusal is `OutOfMemory`.
     pub fn clone(&self, alloc: Global) -> Result<Jws<C>>
         ensures ok { IfOk result (λ j. parts_of j ≡ parts_of self.now) }
         ensures err { IfErr result IsMemory }
@@ -125,15 +125,11 @@ fn encode_by_steps<P: CryptoProvider, T: Claims>(
     })
 }
 
-/// The token of this header and these claims in parts, signed with the key. Without claims the payload part is empty.
+/// Signs a header and claims with the key, and returns the token in parts. Without claims the
+/// payload part is empty.
 ///
-/// These tests are made in this order, and the answer to a refused call is the kind of the first that fails:
-///
-/// - the key is of the family of the header's algorithm, else `InvalidAlgorithm`;
-/// - the header can be written, else `Json`;
-/// - the claims, where there are any, can be written, and no float stands in them, else `Json`;
-/// - the provider makes a signer for that algorithm and the key, else the provider's kind;
-/// - the provider signs the header part, the dot and the payload part, else the provider's kind.
+/// The tests are those of [`encode`](crate::encode), but the signer is made after the claims are
+/// written. Absent claims are not tested.
 pub fn encode<P: CryptoProvider, T: Claims>(
     alloc: Global,
     provider: &P,
@@ -151,8 +147,8 @@ pub fn encode<P: CryptoProvider, T: Claims>(
         (encoding_parts P.CryptoProvider T.Claims provider.now header.now claims.entry key.now)
         jws_encode_order result }
 
-    // With claims, the text of the parts reads as the header's normal form and the claims' value, and its signature is
-    // accepted with each key that accepts what this key signs.
+    // With claims, the text of the parts is read as the header's normal form and the claims' value,
+    // and its signature is accepted with each key that accepts the signatures of this key.
     ensures read_back { let issue = encoding_parts P.CryptoProvider T.Claims
         provider.now header.now claims.entry key.now in
         IfOk result (λ j. (t : Written) → IssuePasses issue jws_encode_order t
@@ -161,8 +157,9 @@ pub fn encode<P: CryptoProvider, T: Claims>(
     encode_by_steps(alloc, provider, header, claims, key)
 }
 
-/// The verifier by the key and the header's algorithm, which is among those that are allowed: the tests of
-/// [`allowed_verifier`](crate::decoding::steps::allowed_verifier) in another order.
+/// Returns the verifier by the key and the header's algorithm, which is among those that are
+/// allowed: the tests of [`allowed_verifier`](crate::decoding::steps::allowed_verifier) in another
+/// order.
 fn allowed_verifier<P: CryptoProvider>(
     alloc: Global,
     provider: &P,
@@ -226,22 +223,15 @@ fn decode_by_steps<P: CryptoProvider, T: Claims>(
     Ok(data)
 }
 
-/// What a token in parts carries, verified with the key at the moment `now`, in whole seconds since
-/// 1970-01-01 00:00:00 UTC. It accepts exactly what [`decode`](crate::decode) accepts of the three texts joined by dots.
+/// Verifies a token in parts with the key, at the moment `now`, in whole seconds since 1970-01-01
+/// 00:00:00 UTC, and returns its header and its claims. It accepts exactly the parts whose texts,
+/// joined by dots, [`decode`](crate::decode) accepts.
 ///
-/// These tests are made in this order, and the answer to a refused token is the kind of the first that fails:
-///
-/// - the header part is canonical base64url (RFC 7515 section 2), else `Base64`;
-/// - its bytes are JSON that reads as a header, else `Json`;
-/// - the header's `crit`, where there is one, is understood (RFC 7515 section 4.1.11), else `InvalidCrit`;
-/// - the provider makes a verifier for the header's algorithm and the key, else the provider's kind;
-/// - `validation` lists an algorithm, else `MissingAlgorithm`;
-/// - every listed algorithm is of the same family, and the header's is listed, else `InvalidAlgorithm`;
-/// - the signature part is canonical base64url, else `Base64`;
-/// - the verifier accepts its bytes over the header part, the dot and the payload part, else `InvalidSignature`;
-/// - the payload part is canonical base64url, else `Base64`, and its bytes are JSON, else `Json`;
-/// - that value reads as `T`, and is an object, else `Json`;
-/// - the claim rules of [`validate`](crate::validate) hold, else their kind.
+/// The tests are those of [`decode`](crate::decode) except that of the dots. Those of the
+/// algorithms stand in another order: the provider makes a verifier for the header's algorithm and
+/// the key, else the provider's kind; `validation` lists an algorithm, else `MissingAlgorithm`;
+/// every listed algorithm is of the same family, and the header's is listed, else
+/// `InvalidAlgorithm`.
 pub fn decode<P: CryptoProvider, T: Claims>(
     alloc: Global,
     provider: &P,
@@ -266,25 +256,28 @@ pub fn decode<P: CryptoProvider, T: Claims>(
     // The key is of the family of the header's algorithm.
     ensures family { IfOk result (λ r. key_family key.now ≡ family_of r.header.alg) }
 
-    // It accepts at just the moments from the first to the last.
+    // It accepts exactly at the moments from the first to the last.
     ensures moments { HasMoments
         (decoding_parts P.CryptoProvider T.Claims provider.now (parts_of token.now) key.now
         validation.now now)
         jws_order }
 
-    // What it accepts is accepted under every looser validation, with the same header and claims.
+    // A token that it accepts is accepted under every looser validation, with the same header and
+    // claims.
     ensures looser { KeepsLooser
         (decoding_parts P.CryptoProvider T.Claims provider.now (parts_of token.now) key.now
         validation.now now)
         jws_order }
 
-    // Where the provider accepts one signature of a message, the header's and the payload's bytes fix the three texts.
+    // If the provider accepts at most one signature of each message, the header's and the payload's
+    // bytes fix the three parts.
     ensures one_text { FixesToken
         (decoding_parts P.CryptoProvider T.Claims provider.now (parts_of token.now) key.now
         validation.now now)
         jws_order Parts Separate (parts_of token.now) }
 
-    // Of all three texts it accepts what `decode` accepts of their text, with the same header and claims.
+    // It accepts three parts exactly if `decode` accepts their text, with the same header and
+    // claims.
     ensures agrees { (p : Parts) → AgreeOn
         (decoding_parts P.CryptoProvider T.Claims provider.now (parts_of token.now) key.now
         validation.now now) p }

@@ -16,12 +16,13 @@ use jwt_validation::Validation;
 use jwt_verdict::VerdictProvider;
 use std::alloc::Global;
 
-/// What of a token is signed, and with what.
+/// The parts of a token that a verifier elsewhere is asked about.
 #[derive(Debug, Drop)]
 pub struct SignedPart<'a> {
-    /// The header, which names the algorithm and may name the key. Nothing of it is to be trusted yet.
+    /// The header, which names the algorithm and may name the key. Nothing of it is to be trusted
+    /// yet.
     pub header: Header,
-    /// What is signed: the token's bytes before its last dot (RFC 7515 section 5.1).
+    /// The message that is signed: the token's bytes before its last dot (RFC 7515 section 5.1).
     pub message: &'a [u8],
     /// The signature's bytes.
     pub signature: Vec<u8>,
@@ -40,12 +41,12 @@ fn signed_part_by_steps(alloc: Global, token: &[u8]) -> Result<SignedPart<'_>>
     })
 }
 
-/// What a verifier elsewhere has to be asked of a token in its compact form: the header, the message that is signed, and
-/// the signature's bytes. Nothing is verified. What the verifier says goes to [`decode_by_verdict`].
+/// Returns the parts of a token in its compact form that a verifier elsewhere is asked about: the
+/// header, the message that is signed, and the signature's bytes. Nothing is verified. The
+/// verifier's verdict goes to [`decode_by_verdict`].
 ///
-/// A token with fewer than two dots is refused with `InvalidToken`; then a header part that is no canonical base64url
-/// with `Base64`, and bytes that are no JSON or no header with `Json`; then a signature part that is no canonical
-/// base64url with `Base64`.
+/// The tests are the first three of [`decode`](crate::decode), and then that the signature part is
+/// canonical base64url, else `Base64`.
 pub fn signed_part(alloc: Global, token: &[u8]) -> Result<SignedPart<'_>>
     ensures accepted { Accepts (header_call token.now) signed_order HasSigned result }
     ensures exact { AcceptsEach (header_call token.now) signed_order HasSigned result }
@@ -54,13 +55,14 @@ pub fn signed_part(alloc: Global, token: &[u8]) -> Result<SignedPart<'_>>
     signed_part_by_steps(alloc, token)
 }
 
-/// What a token in its compact form carries whose signature the caller has checked, at the moment `now`, in whole
-/// seconds since 1970-01-01 00:00:00 UTC. The verdict is about an algorithm, a message and a signature; a verdict on
-/// another token, or by another algorithm than the header's, is of no use.
+/// Verifies a token in its compact form whose signature the caller has checked, at the moment
+/// `now`, in whole seconds since 1970-01-01 00:00:00 UTC, and returns its header and its claims.
+/// The verdict is about an algorithm, a message and a signature; a verdict on another token, or by
+/// another algorithm than the header's, is of no use.
 ///
-/// It is [`decode`](crate::decode) with the provider of the verdict: the tests are made in the same order, with the same
-/// kinds. A verdict by another algorithm than the header's is `InvalidAlgorithm`; a no, or a verdict on another message
-/// or signature, is `InvalidSignature`.
+/// The tests are those of [`decode`](crate::decode) with the provider of the verdict, in the same
+/// order. A verdict by another algorithm than the header's is `InvalidAlgorithm`; a no, or a
+/// verdict on another message or signature, is `InvalidSignature`.
 pub fn decode_by_verdict<T: Claims>(
     alloc: Global,
     token: &[u8],

@@ -1,5 +1,5 @@
-//! The header parts that most tokens have, known by their texts: those that stand for an algorithm and the type `JWT`
-//! alone. Such a part needs no reading, and such a header no writing.
+//! The header parts that most tokens have, known by their texts: those that stand for an algorithm
+//! and the type `JWT` alone. Such a part need not be read, and such a header need not be written.
 
 ghost use Rattle.std.specs.Prelude.{◌≡◌, IfSome, IsTrue};
 ghost use Rattle.jwt_header.specs.Header.{new_header};
@@ -8,7 +8,7 @@ ghost use Rattle.jsonwebtoken.specs.Usual.{IsUsual};
 use jwt_base::algorithms::Algorithm;
 use jwt_header::Header;
 
-/// The part for the algorithm, where it is one of these four.
+/// Returns the part for the algorithm, if it is one of these four.
 fn usual_text(algorithm: Algorithm) -> Option<&'static str>
     ensures { IfSome result (λ t. IsUsual t.now algorithm) }
 {
@@ -30,7 +30,7 @@ fn is_usual(part: &[u8], algorithm: Algorithm) -> bool
     }
 }
 
-/// The algorithm of a part, where it is one of the four.
+/// Returns the algorithm of a part, if it is one of the four.
 pub(crate) fn usual_algorithm(part: &[u8]) -> Option<Algorithm>
     ensures { IfSome result (IsUsual part.now) }
 {
@@ -47,7 +47,7 @@ pub(crate) fn usual_algorithm(part: &[u8]) -> Option<Algorithm>
     None
 }
 
-/// Whether the header has the type `JWT` and nothing else but its algorithm.
+/// Returns whether the header has the type `JWT` and nothing else but its algorithm.
 fn has_type_alone(header: &Header) -> bool
     ensures { IsTrue result → header.now ≡ new_header header.now.alg }
 {
@@ -75,7 +75,7 @@ fn has_type_alone(header: &Header) -> bool
     typ.as_str() == "JWT" && extras.inner().is_empty()
 }
 
-/// The part of a header, where it is one of the four.
+/// Returns the part of a header, if it is one of the four.
 pub(crate) fn usual_part(header: &Header) -> Option<&'static str>
     ensures known { IfSome result (λ t. IsUsual t.now header.now.alg) }
     ensures alone { IfSome result (λ t. header.now ≡ new_header header.now.alg) }

@@ -63,6 +63,6 @@ texts_no_float : (ss : List (List ℕ)) → items_have_float (items_of (map stri
 texts_no_float [] = refl
 texts_no_float (s ∷ ss) = texts_no_float ss
 
--- texts have no float
+-- strings have no float
 pub no_float-texts_value : (ss : List (List ℕ)) → has_float (texts_value ss) ≡ false
 no_float-texts_value = texts_no_float

@@ -77,7 +77,7 @@ twice_at : (b : Bool) (names : List (List ℕ)) (l : List ℕ) (a : Data) (ms : 
 twice_at true names l a ms e same = same
 twice_at false names l a ms e same = rw e (ap (member l a) same)
 
--- what is left has none of the names
+-- the members that are left have none of the names
 pub without-without : (names : List (List ℕ)) (ms : Members) → without names (without names ms) ≡ without names ms
 without-without names no_members = refl
 without-without names (member k d ms) = twice_at _ names k d (without names ms) refl (without-without names ms)

@@ -7,3 +7,4 @@ pub mod FreeMembers
 pub mod MembersWritten
 pub mod ItemTexts
 pub mod NormalForms
+pub mod WrittenTexts

@@ -1,4 +1,4 @@
--- What stands at a name of an object that was put together.
+-- The value at a name of an object that was put together.
 use Rattle.std.proofs.Common.{◌≡◌, ℕ, List, [], ◌∷◌, Bool, true, false, cond, Option, Some, None, option_map, map, bytes_eq, true≢false, Ordering, Less, Equal, Greater, is_eq, nat_cmp, refl, sym, ap, ◌∙◌}
 use Rattle.std.specs.Option.{option_or}
 use Rattle.std.proofs.lemmas.Slice.Eq.{bytes_eq-Decides}
@@ -52,7 +52,7 @@ left_at true true false got w d e h = absurd (true≢false (sym (h refl)))
 left_at false true true got w d e h = absurd (true≢false (h refl))
 left_at false true false got w d e h = refl
 
--- a name finds in the rest what it found, unless it is one of the names
+-- a name finds the same value in the rest, unless it is one of the names
 pub get_member-without : (names : List (List ℕ)) (q : List ℕ) (ms : Members) → get_member q (without names ms) ≡ cond (is_named names q) None (get_member q ms)
 get_member-without names q no_members = cond_same _ _
 get_member-without names q (member k d ms) =
@@ -90,7 +90,7 @@ pub optional-texts_value : (o : Option (List (List ℕ))) → optional texts (op
 optional-texts_value None = refl
 optional-texts_value (Some ss) = ap (option_map Some) (item_texts-items_of ss)
 
--- a name that the members have not got finds nothing in them
+-- a name that no member has finds nothing
 pub absent : (names : List (List ℕ)) (ms : Members) → without names ms ≡ ms → (q : List ℕ) → is_named names q ≡ true → get_member q ms ≡ None
 absent names ms free q named = ap (get_member q) (sym free) ∙ get_member-without names q ms ∙ rw named
 

@@ -1,4 +1,5 @@
--- Values that are known by their texts, and members that may be absent: what was read stays as it is.
+-- Values that are known by their strings, and members that may be absent: a value that was read is
+-- its own normal form.
 use Rattle.std.proofs.Common.{◌≡◌, ℕ, List, [], ◌∷◌, Bool, true, false, cond, is_some, bytes_eq, Option, Some, None, option_map, unwrap_or, refl, sym, ap}
 use Rattle.serde_json.specs.Data.{Data}
 use Rattle.serde_json.specs.Find.{as_null, as_str}
@@ -10,7 +11,7 @@ spelled_at : {A : Type 0} (b : Bool) (text : A → List ℕ) (s : List ℕ) (a o
 spelled_at true text s a other more e later = sym (same_texts s (text a) e)
 spelled_at false text s a other more e later = later
 
--- the value that a text names keeps that text
+-- the value that a string names keeps that string
 pub spelled_text : {A : Type 0} (text : A → List ℕ) (all : List A) (s : List ℕ) (other : A) → text other ≡ s → text (unwrap_or (spelled text all s) other) ≡ s
 spelled_text text [] s other e = e
 spelled_text text (a ∷ all) s other e = spelled_at _ text s a other (spelled text all s) refl (spelled_text text all s other e)
@@ -28,7 +29,7 @@ own_present reader f same false d (Some a) e = ap Some (same d a (map_some (read
     map_some None a e = absurd (cc)
     map_some (Some b) a e = ap (λ o. unwrap_or o (Some b)) e
 
--- what was read of an optional member stays, where what its reader gives does
+-- an optional member that was read is its own normal form, if the value that its reader gives is
 pub own_optional : {A : Type 0} (reader : Data → Option A) (f : A → A) → ((d : Data) (a : A) → reader d ≡ Some a → f a ≡ a) → (o : Option Data) (x : Option A) → optional reader o ≡ Some x → option_map f x ≡ x
 own_optional reader f same None x e = let none : None ≡ x = ap (λ o. unwrap_or o x) e in rw (← none) refl
 own_optional reader f same (Some d) x e = own_present reader f same (is_some (as_null d)) d x e
@@ -37,6 +38,6 @@ own_named_at : {A : Type 0} (text : A → List ℕ) (named : List ℕ → A) →
 own_named_at text named kept None a e = absurd (cc)
 own_named_at text named kept (Some s) a e = let is : named s ≡ a = ap (λ o. unwrap_or o a) e in rw (← is) (ap named (kept s))
 
--- a value read by its text is the one that its text names
+-- a value read by its string is the one that its string names
 pub own_named : {A : Type 0} (text : A → List ℕ) (named : List ℕ → A) → ((s : List ℕ) → text (named s) ≡ s) → (d : Data) (a : A) → option_map named (as_str d) ≡ Some a → named (text a) ≡ a
 own_named text named kept d a e = own_named_at text named kept (as_str d) a e

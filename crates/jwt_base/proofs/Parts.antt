@@ -23,7 +23,7 @@ strict = (refl, refl)
 pub encode_of-url : (b : List ℕ) → encode_of url_safe_no_pad b ≡ encode_symbols url_characters b
 encode_of-url b = append-nil (encode_symbols url_characters b)
 
--- what the engine refuses is no part
+-- a text that the engine refuses is not a part
 pub no_part : (text b : List ℕ) (d : DecodeError) → decode_of url_safe_no_pad text ≡ Err d
     → (IsBytes b → text ≡ encode_of url_safe_no_pad b → decode_of url_safe_no_pad text ≡ Ok b) → IsPart text b → ⊥
 no_part text b d failed reads part =
@@ -43,7 +43,7 @@ one_part t a b pa pb =
 pub one_json : (b : List ℕ) (d e : Data) → IsJson b d → IsJson b e → d ≡ e
 one_json b d e jd je = let same : Some d ≡ Some e = sym jd.1 ∙ je.1 in cc
 
--- the engine's fault is `Base64` where the text is no part
+-- the engine's fault is `Base64` if the text is not a part
 pub part_refused : (text : List ℕ) (fault : DecodeAllocError) (e : Error) → kind_of e ≡ base64_kind fault → IsDecodeFailure url_safe_no_pad text fault
     → ((b : List ℕ) → IsBytes b → text ≡ encode_of url_safe_no_pad b → decode_of url_safe_no_pad text ≡ Ok b)
     → RefusesAs kind.Base64 ((b : List ℕ) → IsPart text b → ⊥) e

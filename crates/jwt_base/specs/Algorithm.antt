@@ -28,7 +28,7 @@ name_of ES256 = codes "ES256"
 name_of ES384 = codes "ES384"
 name_of EdDSA = codes "EdDSA"
 
--- what the algorithm signs by (RFC 7518 section 3.1, RFC 8037 section 3.1)
+-- the family of the algorithm (RFC 7518 section 3.1, RFC 8037 section 3.1)
 abbrev pub family_of : Algorithm → AlgorithmFamily
 family_of HS256 = Hmac
 family_of HS384 = Hmac
@@ -68,15 +68,15 @@ family_name_of Ed = codes "Ed"
 abbrev pub family_named : List ℕ → Option AlgorithmFamily
 family_named = spelled family_name_of (Hmac ∷ Rsa ∷ Ec ∷ Ed ∷ [])
 
--- the algorithm that a JSON text names (RFC 7515 section 4.1.1)
+-- the algorithm that a JSON string names (RFC 7515 section 4.1.1)
 abbrev pub algorithm_from : Data → Option Algorithm
 algorithm_from d = option_and_then algorithm_named (as_str d)
 
--- the family that a JSON text names
+-- the family that a JSON string names
 abbrev pub family_from : Data → Option AlgorithmFamily
 family_from d = option_and_then family_named (as_str d)
 
--- what a text is read as: what has that name, else `InvalidAlgorithmName`
+-- the result of parsing a string: the value of that name, else `InvalidAlgorithmName`
 abbrev pub ReadsName : {A : Type 0} → (List ℕ → Option A) → List ℕ → Result A Error → Type 0
 ReadsName named text r = MatchResult r (λ a. named text ≡ Some a)
     (λ e. (kind_of e ≡ kind.InvalidAlgorithmName) × (named text ≡ None))
@@ -96,8 +96,8 @@ key_algorithm_of ES256 = key.ES256
 key_algorithm_of ES384 = key.ES384
 key_algorithm_of EdDSA = key.EdDSA
 
--- the algorithm that signs by such a key; four names of keys are no such algorithm
--- (RFC 7517 section 4.4)
+-- the algorithm that signs by such a key; four algorithms of keys sign nothing (RFC 7517 section
+-- 4.4)
 abbrev pub algorithm_of : KeyAlgorithm → Option Algorithm
 algorithm_of key.HS256 = Some HS256
 algorithm_of key.HS384 = Some HS384
@@ -140,14 +140,13 @@ key_name_of key.RSA_OAEP = codes "RSA-OAEP"
 key_name_of key.RSA_OAEP_256 = codes "RSA-OAEP-256"
 key_name_of key.UNKNOWN_ALGORITHM = codes "UNKNOWN_ALGORITHM"
 
--- what is shown to a person
+-- the text that is displayed
 abbrev pub key_text_of : KeyAlgorithm → List ℕ
 key_text_of key.RSA_OAEP = codes "RSA_OAEP"
 key_text_of key.RSA_OAEP_256 = codes "RSA_OAEP_256"
 key_text_of other = key_name_of other
 
--- those with a name of their own; every other name is unknown
--- (RFC 7518 sections 3.1 and 4.1, RFC 8037 section 3.1)
+-- the known ones; every other name is unknown (RFC 7518 sections 3.1 and 4.1, RFC 8037 section 3.1)
 abbrev pub known_key_algorithms : List KeyAlgorithm
 known_key_algorithms = key.HS256 ∷ key.HS384 ∷ key.HS512 ∷ key.RS256 ∷ key.RS384 ∷ key.RS512
     ∷ key.PS256 ∷ key.PS384 ∷ key.PS512 ∷ key.ES256 ∷ key.ES384 ∷ key.EdDSA
@@ -157,7 +156,8 @@ known_key_algorithms = key.HS256 ∷ key.HS384 ∷ key.HS512 ∷ key.RS256 ∷ k
 abbrev pub key_algorithm_named : List ℕ → Option KeyAlgorithm
 key_algorithm_named = spelled key_name_of known_key_algorithms
 
--- the algorithm of a key that a JSON text names; any other text is unknown (RFC 7517 section 4.4)
+-- the algorithm of a key that a JSON string names; any other string is unknown (RFC 7517 section
+-- 4.4)
 abbrev pub key_algorithm_from : Data → Option KeyAlgorithm
 key_algorithm_from d =
     option_map (λ s. unwrap_or (key_algorithm_named s) key.UNKNOWN_ALGORITHM) (as_str d)

@@ -1,4 +1,4 @@
--- What text claims are written as, and what claims values of the plain types are read from.
+-- The text that claims are written as, and the values that claims of the plain types are read from.
 use Rattle.std.specs.Prelude.{◌≡◌, ℕ, ◌<◌, ◌≤◌, ◌^◌, List, Bool, false, ℤ, pos, Some, option_and_then, FitsSigned}
 use Rattle.std.specs.Int.{Width}
 use Rattle.serde_json.specs.Data.{Data, depth}
@@ -7,14 +7,14 @@ use Rattle.serde_json.specs.Written.{compact_text, has_float}
 use Rattle.jwt_base.specs.JsonText.{IsJson}
 use Rattle.serde_json.specs.Find.{as_str, as_bool, as_number, as_integer}
 
--- the value holds no float, and this is its JSON text without space (RFC 8259), which reads back
--- where it nests no deeper than is read
+-- the value holds no float, and this is its JSON text without space (RFC 8259), which reads back if
+-- it nests no deeper than the reader allows
 pub record IsCompact (d : Data) (text : List ℕ) : Type 0 where
   pub no_float : has_float d ≡ false
   pub is_text : text ≡ compact_text d
   pub reads_back : depth d ≤ max_depth → IsJson text d
 
--- the value is this text
+-- the value is this string
 abbrev pub IsText : Data → List ℕ → Type 0
 IsText d s = as_str d ≡ Some s
 

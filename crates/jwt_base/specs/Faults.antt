@@ -1,4 +1,4 @@
--- The kinds that the faults of the libraries below become.
+-- The kinds that the faults of the libraries below are converted to.
 use Rattle.std.specs.Prelude.{◌≡◌, ◌⊎◌}
 use Rattle.base64.specs.declared.decode.DecodeAllocError.{DecodeAllocError}
 use Rattle.base64.specs.declared.decode.DecodeAllocError.TheVariants as fault
@@ -13,6 +13,6 @@ abbrev pub base64_kind : DecodeAllocError → Kind
 base64_kind fault.OutOfMemory = kind.OutOfMemory
 base64_kind (fault.DecodeError e) = kind.Base64
 
--- want of memory stays that; every other fault of the JSON reader is `Json`
+-- out of memory stays so; every other fault of the JSON reader is `Json`
 abbrev pub IsJsonFault : json_error.Error → Error → Type 0
 IsJsonFault fault e = (json.IsMemory fault × IsMemory e) ⊎ ((¬ json.IsMemory fault) × (kind_of e ≡ kind.Json))

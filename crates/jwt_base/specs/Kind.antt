@@ -1,4 +1,4 @@
--- The kinds of errors as contracts see them: texts by their bytes.
+-- The kinds of errors as contracts see them: strings by their bytes.
 use Rattle.std.specs.Prelude.{ℕ, List, ◌++◌, codes}
 
 pub data Kind : Type 0 where
@@ -30,7 +30,7 @@ pub data Kind : Type 0 where
   InvalidCrit : Kind
   NoKey : Kind
 
--- what is shown to a person
+-- the text that is displayed
 abbrev pub text_of : Kind → List ℕ
 text_of InvalidToken = codes "InvalidToken"
 text_of InvalidSignature = codes "InvalidSignature"
@@ -60,7 +60,7 @@ text_of ClockBeforeEpoch = codes "Clock before 1970"
 text_of InvalidCrit = codes "InvalidCrit"
 text_of NoKey = codes "NoKey"
 
--- the name of the kind, without the text that it holds
+-- the name of the kind, without the string that it holds
 abbrev pub kind_name : Kind → List ℕ
 kind_name InvalidToken = codes "InvalidToken"
 kind_name InvalidSignature = codes "InvalidSignature"

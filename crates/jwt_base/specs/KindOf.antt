@@ -1,4 +1,4 @@
--- The kind of an error, and what a refusal says by it.
+-- The kind of an error, and the relations by which contracts describe a refusal.
 use Rattle.std.specs.Prelude.{◌≡◌, ◌⊎◌, Option, Some, string_bytes}
 use Rattle.jwt_base.specs.Kind.{Kind}
 use Rattle.jwt_base.specs.Kind as kind
@@ -6,7 +6,7 @@ use Rattle.jwt_base.specs.declared.errors.ErrorKind.{ErrorKind}
 use Rattle.jwt_base.specs.declared.errors.ErrorKind.TheVariants as held
 use Rattle.jwt_base.specs.declared.errors.Error.{Error}
 
--- the kind, with its text by content
+-- the kind, with its string by content
 abbrev pub kind_held : ErrorKind → Kind
 kind_held held.InvalidToken = kind.InvalidToken
 kind_held held.InvalidSignature = kind.InvalidSignature
@@ -43,7 +43,7 @@ kind_of e = kind_held e.kind
 abbrev pub IsMemory : Error → Type 0
 IsMemory e = kind_of e ≡ kind.OutOfMemory
 
--- memory ran out, or the refusal is this one (None: there is none)
+-- memory ran out, or the error has this kind; with None, memory ran out
 abbrev pub Refuses : Option Kind → Error → Type 0
 Refuses refusal e = IsMemory e ⊎ (refusal ≡ Some (kind_of e))
 

@@ -8,4 +8,5 @@ pub mod JsonText
 pub mod DataEq
 pub mod Members
 pub mod Claims
+pub mod Written
 pub mod equality

@@ -1,4 +1,4 @@
--- The members of a JSON object: what each reads as, and what is written of them.
+-- The members of a JSON object: how each is read, and how they are written.
 use Rattle.std.specs.Prelude.{◌≡◌, IsTrue, false, ℕ, List, [], ◌∷◌, ◌||◌, Bool, Option, Some, None, option_map, option_and_then, map, is_some, if◌then◌else◌}
 use Rattle.std.specs.Str.{bytes_eq}
 use Rattle.std.specs.List.{list_any}
@@ -6,12 +6,12 @@ use Rattle.serde_json.specs.Data.{Data, string, array, Items, no_items, item, Me
 use Rattle.serde_json.specs.View.{items_of}
 use Rattle.serde_json.specs.Find.{get, as_null, as_str, as_array}
 
--- an optional member: where it is absent or null, nothing is read
+-- an optional member: None if it is absent or null
 abbrev pub optional : {A : Type 0} → (Data → Option A) → Option Data → Option (Option A)
 optional reader None = Some None
 optional reader (Some d) = if is_some (as_null d) then Some None else option_map Some (reader d)
 
--- the texts of a list that has nothing else
+-- the strings of a list that holds nothing else
 abbrev pub item_texts : Items → Option (List (List ℕ))
 item_texts no_items = Some []
 item_texts (item d ds) = option_and_then (λ s. option_map (λ ss. s ∷ ss) (item_texts ds)) (as_str d)
@@ -35,28 +35,28 @@ abbrev pub has_named : List (List ℕ) → Members → Bool
 has_named names no_members = false
 has_named names (member k d ms) = is_named names k || has_named names ms
 
--- the members, with d at k where there is a d
+-- the members, with d at k if there is a d
 abbrev pub put_some : List ℕ → Option Data → Members → Members
 put_some k None ms = ms
 put_some k (Some d) ms = put k d ms
 
--- what R reads of a member, where there is one
+-- R reads the member, if there is one
 abbrev pub ReadsMember : {A : Type 0} → (Data → A → Type 0) → Option Data → Option A → Type 0
 ReadsMember R None a = a ≡ None
 ReadsMember R (Some d) None = ⊥
 ReadsMember R (Some d) (Some a) = R d a
 
--- an optional member that R reads: absent and null give nothing
+-- an optional member that R reads: None if it is absent or null
 abbrev pub ReadsOptional : {A : Type 0} → (Data → A → Type 0) → Option Data → Option A → Type 0
 ReadsOptional R None a = a ≡ None
 ReadsOptional R (Some d) None = IsTrue (is_some (as_null d))
 ReadsOptional R (Some d) (Some a) = (is_some (as_null d) ≡ false) × R d a
 
--- an optional value as a member: none where it cannot be written
+-- an optional value as a member: None if it cannot be written
 abbrev pub written_optional : {A : Type 0} → (A → Option Data) → Option A → Option (Option Data)
 written_optional writer None = Some None
 written_optional writer (Some a) = option_map Some (writer a)
 
--- the text at a member
+-- the string at a member
 abbrev pub text_at : List ℕ → Data → Option (List ℕ)
 text_at name d = option_and_then as_str (get name d)

@@ -1,4 +1,5 @@
--- That tests of equality decide what they say, and that equal values are hashed alike.
+-- Proofs that tests of equality decide the sameness that they name, and that equal values are
+-- hashed alike.
 pub mod DataCode
 pub mod DataEqLaws
 pub mod Decided

@@ -1,6 +1,6 @@
 //! The names of the algorithms, and the families that their keys belong to.
 
-ghost use Rattle.std.specs.Prelude.{◌≡◌, Some, None, IfOk, IfErr};
+ghost use Rattle.std.specs.Prelude.{◌≡◌, Ok, Some, None, IfOk, IfErr};
 ghost use Rattle.serde_json.specs.Data.{string};
 ghost use Rattle.serde_json.specs.View.{view};
 ghost use Rattle.jwt_base.specs.Kind as kind;
@@ -28,7 +28,7 @@ pub enum AlgorithmFamily {
 }
 
 impl AlgorithmFamily {
-    /// The algorithms of the family.
+    /// Returns the algorithms of the family.
     pub fn algorithms(&self) -> &'static [Algorithm]
         ensures { result.now ≡ algorithms_of self.now }
     {
@@ -47,7 +47,7 @@ impl AlgorithmFamily {
         }
     }
 
-    // The name in JSON.
+    // Returns the name in JSON.
     fn name(self) -> &'static str
         ensures { result.now ≡ family_name_of self }
     {
@@ -59,7 +59,7 @@ impl AlgorithmFamily {
         }
     }
 
-    /// The name as a JSON text. The only refusal is `OutOfMemory`.
+    /// Returns the name as a JSON string. The only refusal is `OutOfMemory`.
     pub fn to_value(&self, alloc: Global) -> Result<Value>
         ensures ok { IfOk result (λ v. view v ≡ string (family_name_of self.now)) }
         ensures reads_back { IfOk result (λ v. family_from (view v) ≡ Some self.now) }
@@ -68,7 +68,7 @@ impl AlgorithmFamily {
         Ok(Value::try_from_str(alloc, self.name())?)
     }
 
-    /// The family of that name. A value that is none of the four names is refused with `Json`.
+    /// Returns the family that a JSON string names. Any other value is refused with `Json`.
     pub fn from_value(value: &Value) -> Result<AlgorithmFamily>
         ensures ok { IfOk result (λ f. family_from (view value.now) ≡ Some f) }
         ensures err { IfErr result (λ e. (kind_of e ≡ kind.Json) × (family_from (view value.now) ≡ None)) }
@@ -122,7 +122,7 @@ pub enum Algorithm {
 }
 
 impl Algorithm {
-    /// The name in JSON.
+    /// Returns the name in JSON.
     pub fn name(self) -> &'static str
         ensures { result.now ≡ name_of self }
     {
@@ -142,7 +142,7 @@ impl Algorithm {
         }
     }
 
-    /// The family of the algorithm's keys.
+    /// Returns the family of the algorithm's keys.
     pub fn family(self) -> AlgorithmFamily
         ensures { result ≡ family_of self }
     {
@@ -159,7 +159,7 @@ impl Algorithm {
         }
     }
 
-    /// The name as a JSON text. The only refusal is `OutOfMemory`.
+    /// Returns the name as a JSON string. The only refusal is `OutOfMemory`.
     pub fn to_value(&self, alloc: Global) -> Result<Value>
         ensures ok { IfOk result (λ v. view v ≡ string (name_of self.now)) }
         ensures reads_back { IfOk result (λ v. algorithm_from (view v) ≡ Some self.now) }
@@ -168,7 +168,7 @@ impl Algorithm {
         Ok(Value::try_from_str(alloc, self.name())?)
     }
 
-    /// The algorithm of that name. A value that is none of the twelve names is refused with `Json`.
+    /// Returns the algorithm that a JSON string names. Any other value is refused with `Json`.
     pub fn from_value(value: &Value) -> Result<Algorithm>
         ensures ok { IfOk result (λ a. algorithm_from (view value.now) ≡ Some a) }
         ensures err { IfErr result (λ e. (kind_of e ≡ kind.Json) × (algorithm_from (view value.now) ≡ None)) }
@@ -208,7 +208,7 @@ fn algorithm_of_name(name: &str) -> Option<Algorithm>
     }
 }
 
-/// Reads the name in JSON. Any other text is refused with `InvalidAlgorithmName`.
+/// Parses the name in JSON. Any other string is refused with `InvalidAlgorithmName`.
 impl FromStr for Algorithm {
     type Err = Error;
 
@@ -261,7 +261,7 @@ pub enum KeyAlgorithm {
 }
 
 impl KeyAlgorithm {
-    /// The name in JSON.
+    /// Returns the name in JSON.
     pub fn name(self) -> &'static str
         ensures { result.now ≡ key_name_of self }
     {
@@ -285,7 +285,7 @@ impl KeyAlgorithm {
         }
     }
 
-    /// The name as a JSON text. The only refusal is `OutOfMemory`.
+    /// Returns the name as a JSON string. The only refusal is `OutOfMemory`.
     pub fn to_value(&self, alloc: Global) -> Result<Value>
         ensures ok { IfOk result (λ v. view v ≡ string (key_name_of self.now)) }
         ensures reads_back { IfOk result (λ v. key_algorithm_from (view v) ≡ Some self.now) }
@@ -294,8 +294,9 @@ impl KeyAlgorithm {
         Ok(Value::try_from_str(alloc, self.name())?)
     }
 
-    /// The algorithm that a JSON text names: `UNKNOWN_ALGORITHM` where it is none of the other fifteen. A value that is
-    /// no text is refused with `Json`. No memory is taken.
+    /// Returns the algorithm that a JSON string names: `UNKNOWN_ALGORITHM` for any name but the
+    /// fifteen known ones. A value that is not a string is refused with `Json`. Allocates no
+    /// memory.
     pub fn from_value(value: &Value) -> Result<KeyAlgorithm>
         ensures ok { IfOk result (λ a. key_algorithm_from (view value.now) ≡ Some a) }
         ensures err { IfErr result (λ e. (kind_of e ≡ kind.Json) × (key_algorithm_from (view value.now) ≡ None)) }
@@ -310,7 +311,7 @@ impl KeyAlgorithm {
     }
 }
 
-/// The algorithm of keys that sign by this one.
+/// Converts an algorithm to that of the keys that sign by it.
 impl From<Algorithm> for KeyAlgorithm {
     ghost from_gives = { λ a k. k ≡ key_algorithm_of a };
 
@@ -332,13 +333,19 @@ impl From<Algorithm> for KeyAlgorithm {
     }
 }
 
-/// The algorithm that signs by such a key. The four that sign nothing are refused with `UnsupportedAlgorithm`.
+/// Converts the algorithm of a key to the one that it signs by. The four that sign nothing are
+/// refused with `UnsupportedAlgorithm`.
 impl TryFrom<KeyAlgorithm> for Algorithm {
     type Error = Error;
 
     ghost try_from_gives = { ConvertsKeyAlgorithm };
 
-    fn try_from(algorithm: KeyAlgorithm) -> Result<Algorithm> {
+    fn try_from(algorithm: KeyAlgorithm) -> Result<Algorithm>
+        ensures converts { ConvertsKeyAlgorithm algorithm result }
+
+        // The key algorithm of a signing algorithm converts back to it.
+        ensures back { (a : Algorithm) → algorithm ≡ key_algorithm_of a → result ≡ Ok a }
+    {
         match algorithm {
             KeyAlgorithm::HS256 => Ok(Algorithm::HS256),
             KeyAlgorithm::HS384 => Ok(Algorithm::HS384),
@@ -383,7 +390,8 @@ fn key_algorithm_of_name(name: &str) -> Option<KeyAlgorithm>
     }
 }
 
-/// Reads the name in JSON. Any other text, `UNKNOWN_ALGORITHM` too, is refused with `InvalidAlgorithmName`.
+/// Parses the name in JSON. Any other string, including `UNKNOWN_ALGORITHM`, is refused with
+/// `InvalidAlgorithmName`.
 impl FromStr for KeyAlgorithm {
     type Err = Error;
 

@@ -1,4 +1,4 @@
-//! Why a call was refused.
+//! Errors and their kinds.
 
 ghost use Rattle.std.specs.Prelude.{◌≡◌, IfOk, IfErr, string_bytes};
 ghost use Rattle.jwt_base.specs.Kind as kind;
@@ -10,39 +10,40 @@ use std::fmt;
 use std::str::Utf8Error;
 use std::string::FromUtf8Error;
 
-/// The refusal of a call, which holds its kind.
+/// An error, which holds its kind.
 #[derive(Debug, Drop)]
 pub struct Error {
     kind: ErrorKind,
 }
 
-/// The answer of a call that can be refused.
+/// The result of a call that can be refused.
 pub type Result<T> = std::result::Result<T, Error>;
 
-/// Why a call was refused.
+/// The kind of an error.
 #[derive(Debug, Drop)]
 pub enum ErrorKind {
-    /// The token has not three parts (RFC 7515 section 7.1), or `exp` lies before the time that is to be left.
+    /// The token does not have three parts (RFC 7515 section 7.1), or `exp` is less than the time
+    /// that must be left.
     InvalidToken,
     /// The signature is not the message's.
     InvalidSignature,
-    /// The bytes are no elliptic curve key.
+    /// The bytes are not an elliptic curve key.
     InvalidEcdsaKey,
-    /// The bytes are no Edwards curve key.
+    /// The bytes are not an Edwards curve key.
     InvalidEddsaKey,
     /// A provider could not sign with an RSA key.
     RsaFailedSigning,
-    /// The text names no algorithm.
+    /// The string does not name an algorithm.
     InvalidAlgorithmName,
-    /// The call does not serve this algorithm.
+    /// The call does not support this algorithm.
     UnsupportedAlgorithm,
     /// The key is of another family or kind than the call asks for.
     InvalidKeyFormat,
     /// The token has expired (RFC 7519 section 4.1.4).
     ExpiredSignature,
-    /// The issuer is none of those that are accepted (RFC 7519 section 4.1.1).
+    /// The issuer is not one of those that are accepted (RFC 7519 section 4.1.1).
     InvalidIssuer,
-    /// The audience is none of those that are accepted (RFC 7519 section 4.1.3).
+    /// The audience is not one of those that are accepted (RFC 7519 section 4.1.3).
     InvalidAudience,
     /// The subject is not the one that is accepted (RFC 7519 section 4.1.2).
     InvalidSubject,
@@ -52,33 +53,35 @@ pub enum ErrorKind {
     InvalidAlgorithm,
     /// No algorithm is listed to choose from.
     MissingAlgorithm,
-    /// A claim of this name is required, and is not there as a value.
+    /// The claim of this name is required, and is absent or malformed.
     MissingRequiredClaim(String),
     /// The claim of this name has a wrong type.
     InvalidClaimFormat(String),
-    /// A provider found an RSA key wrong, with its reason.
+    /// A provider refused an RSA key, for this reason.
     InvalidRsaKey(String),
-    /// A provider could not sign, with its reason.
+    /// A provider could not sign, for this reason.
     Signing(String),
-    /// A provider's own reason.
+    /// A provider refused, for this reason.
     Provider(String),
-    /// The text is no canonical base64 (RFC 4648).
+    /// The text is not canonical base64 (RFC 4648).
     Base64,
-    /// The bytes or the value are not the JSON that is asked for, or a value cannot be written as JSON.
+    /// The bytes or the value are not JSON of the expected form, or a value cannot be written as
+    /// JSON.
     Json,
-    /// The bytes are no UTF-8 text.
+    /// The bytes are not UTF-8.
     Utf8,
     /// A request for memory was refused.
     OutOfMemory,
     /// A clock tells a moment before 1970-01-01 00:00:00 UTC.
     ClockBeforeEpoch,
-    /// The header's `crit` is malformed, or asks for what is not understood (RFC 7515 section 4.1.11).
+    /// The header's `crit` is malformed, or names an extension that is not understood (RFC 7515
+    /// section 4.1.11).
     InvalidCrit,
     /// No key of the set has the header's `kid`.
     NoKey,
 }
 
-/// The error of a kind.
+/// Returns the error of a kind.
 pub fn new_error(kind: ErrorKind) -> Error
     ensures held { result.kind ≡ kind }
     ensures kind { kind_of result ≡ kind_held kind }
@@ -87,7 +90,7 @@ pub fn new_error(kind: ErrorKind) -> Error
 }
 
 impl Error {
-    /// The kind that the error holds.
+    /// Returns the kind that the error holds.
     pub fn kind(&self) -> &ErrorKind
         ensures held { result.now ≡ self.now.kind }
         ensures kind { kind_held result.now ≡ kind_of self.now }
@@ -95,7 +98,7 @@ impl Error {
         &self.kind
     }
 
-    /// The kind, out of the error.
+    /// Returns the kind, out of the error.
     pub fn into_kind(self) -> ErrorKind
         ensures held { result ≡ self.kind }
         ensures kind { kind_held result ≡ kind_of self }
@@ -104,7 +107,7 @@ impl Error {
         kind
     }
 
-    /// A copy. The only refusal is `OutOfMemory`.
+    /// Returns a copy. The only refusal is `OutOfMemory`.
     pub fn clone(&self, alloc: Global) -> Result<Error>
         ensures ok { IfOk result (λ e. kind_of e ≡ kind_of self.now) }
         ensures err { IfErr result IsMemory }
@@ -116,7 +119,7 @@ impl Error {
 impl ErrorKind {
     ghost use Rattle.jwt_base.specs.Kind.{kind_name};
 
-    /// The name of the kind, as `MissingRequiredClaim`, without the text that it may hold.
+    /// Returns the name of the kind, as `MissingRequiredClaim`, without the string that it may hold.
     pub fn name(&self) -> &'static str
         ensures { result.now ≡ kind_name (kind_held self.now) }
     {
@@ -151,7 +154,7 @@ impl ErrorKind {
         }
     }
 
-    /// A copy. The only refusal is `OutOfMemory`.
+    /// Returns a copy. The only refusal is `OutOfMemory`.
     pub fn clone(&self, alloc: Global) -> Result<ErrorKind>
         ensures ok { IfOk result (λ k. kind_held k ≡ kind_held self.now) }
         ensures err { IfErr result IsMemory }
@@ -210,7 +213,7 @@ fn copied(alloc: Global, text: &str) -> Result<String>
 impl ErrorKind {
     ghost use Rattle.jwt_base.specs.equality.KindEq.{number_of_held, text_of_held};
 
-    // The place in the list of kinds, and the text that the kind holds.
+    // Returns the place in the list of kinds.
     fn number(&self) -> u8
         ensures { result ≡ number_of_held self.now }
     {
@@ -259,7 +262,7 @@ impl ErrorKind {
     }
 }
 
-/// The same kind and the same text.
+/// Compares the kinds and the strings that they hold.
 impl PartialEq for ErrorKind {
     ghost use Rattle.std.specs.Prelude.{◌≡◌, ◌↔◌, IsTrue};
     ghost use Rattle.std.specs.Cmp.{partial_equiv_from_equiv};
@@ -284,7 +287,7 @@ impl Eq for ErrorKind {
     ghost laws = { kind_eq_equiv };
 }
 
-/// The same kind and the same text.
+/// Compares the kinds and the strings that they hold.
 impl PartialEq for Error {
     ghost use Rattle.std.specs.Prelude.{◌≡◌, ◌↔◌, IsTrue};
     ghost use Rattle.std.specs.Cmp.{partial_equiv_from_equiv};

@@ -1,4 +1,5 @@
-//! JSON values: what is read from them and written as them, when two are the same, and the members of an object.
+//! JSON values: types that are read from them and written as them, their equality, and the members
+//! of an object.
 
 pub mod claims;
 pub mod equality;

@@ -1,5 +1,5 @@
-//! What every layer of the token library stands on: errors, the names of the algorithms, the base64url parts of a
-//! token and the JSON in them, and the small value types.
+//! The base of every layer of the token library: errors, the names of the algorithms, the base64url
+//! parts of a token and the JSON in them, and the small value types.
 #![tactic(auto)]
 
 pub mod algorithms;

@@ -13,8 +13,9 @@ use base64::engine::general_purpose::{STANDARD, URL_SAFE, URL_SAFE_NO_PAD};
 use serde_json::Value;
 use std::alloc::Global;
 
-/// The bytes that a part stands for (RFC 7515 section 2). Any other text is refused with `Base64`: one with a
-/// character outside the 64, with padding, of an impossible length, or with a spare bit set.
+/// Returns the bytes that a part stands for (RFC 7515 section 2). Any other text is refused with
+/// `Base64`: one with a character outside the 64, with padding, of an impossible length, or with a
+/// spare bit set.
 pub fn part_bytes(alloc: Global, text: &[u8]) -> Result<Vec<u8>>
     ensures ok { IfOk result (λ b. IsPart text.now b.items) }
     ensures err { IfErr result (RefusesAs kind.Base64 ((b : List ℕ) → ¬ IsPart text.now b)) }
@@ -22,7 +23,7 @@ pub fn part_bytes(alloc: Global, text: &[u8]) -> Result<Vec<u8>>
     Ok(URL_SAFE_NO_PAD.decode(alloc, text)?)
 }
 
-/// The part that stands for the bytes. The only refusal is `OutOfMemory`.
+/// Returns the part that stands for the bytes. The only refusal is `OutOfMemory`.
 pub fn part_text(alloc: Global, bytes: &[u8]) -> Result<String>
     ensures ok { IfOk result (λ t. IsPart (string_bytes t) bytes.now) }
     ensures err { IfErr result IsMemory }
@@ -30,8 +31,8 @@ pub fn part_text(alloc: Global, bytes: &[u8]) -> Result<String>
     Ok(URL_SAFE_NO_PAD.encode(alloc, bytes)?)
 }
 
-/// The bytes of a text in the standard alphabet with padding (RFC 4648 section 4). Any other text is refused with
-/// `Base64`.
+/// Returns the bytes of base64 text in the standard alphabet with padding (RFC 4648 section 4). Any
+/// other text is refused with `Base64`.
 pub fn standard_bytes(alloc: Global, text: &[u8]) -> Result<Vec<u8>>
     ensures ok { IfOk result (λ b. IsStandardText text.now b.items) }
     ensures err { IfErr result (RefusesAs kind.Base64 ((b : List ℕ) → ¬ IsStandardText text.now b)) }
@@ -39,7 +40,8 @@ pub fn standard_bytes(alloc: Global, text: &[u8]) -> Result<Vec<u8>>
     Ok(STANDARD.decode(alloc, text)?)
 }
 
-/// The bytes of a text in the URL alphabet with padding (RFC 4648 section 5). Any other text is refused with `Base64`.
+/// Returns the bytes of base64 text in the URL alphabet with padding (RFC 4648 section 5). Any
+/// other text is refused with `Base64`.
 pub fn url_bytes(alloc: Global, text: &[u8]) -> Result<Vec<u8>>
     ensures ok { IfOk result (λ b. IsUrlText text.now b.items) }
     ensures err { IfErr result (RefusesAs kind.Base64 ((b : List ℕ) → ¬ IsUrlText text.now b)) }
@@ -47,8 +49,8 @@ pub fn url_bytes(alloc: Global, text: &[u8]) -> Result<Vec<u8>>
     Ok(URL_SAFE.decode(alloc, text)?)
 }
 
-/// The value of JSON bytes. Bytes that are no UTF-8 or no JSON, or that nest deeper than 127 levels, are refused with
-/// `Json`.
+/// Parses the bytes as JSON, and returns the value. Bytes that are not UTF-8 or not JSON, or that
+/// nest deeper than 127 levels, are refused with `Json`.
 pub fn json_value(alloc: Global, bytes: &[u8]) -> Result<Value>
     ensures ok { IfOk result (λ v. IsJson bytes.now (view v)) }
     ensures err { IfErr result (RefusesAs kind.Json ((d : Data) → ¬ IsJson bytes.now d)) }

@@ -1,4 +1,4 @@
-//! Texts that contracts see by their content, and not by where they lie in memory.
+//! Strings that contracts see by their content, and not by where they lie in memory.
 
 ghost use Rattle.std.specs.Prelude.{◌≡◌, IfOk, IfErr, string_bytes};
 ghost use Rattle.std.specs.Str.{bytes_eq};
@@ -15,7 +15,7 @@ use std::fmt;
 use std::hash::{Hash, Hasher};
 use std::marker::Model;
 
-/// A text. A contract sees its UTF-8 bytes.
+/// A string. A contract sees its UTF-8 bytes.
 #[derive(Drop)]
 pub struct Text {
     string: String,
@@ -30,7 +30,7 @@ impl Model for Text {
 }
 
 impl Text {
-    /// A text of its own with these characters. The only refusal is `OutOfMemory`.
+    /// Returns a `Text` with these characters. The only refusal is `OutOfMemory`.
     pub fn from_str(alloc: Global, text: &str) -> Result<Text>
         ensures ok { IfOk result (λ t. t ≡ text.now) }
         ensures err { IfErr result IsMemory }
@@ -40,7 +40,7 @@ impl Text {
         })
     }
 
-    /// A copy. The only refusal is `OutOfMemory`.
+    /// Returns a copy. The only refusal is `OutOfMemory`.
     pub fn clone(&self, alloc: Global) -> Result<Text>
         ensures ok { IfOk result (λ t. t ≡ self.now) }
         ensures err { IfErr result IsMemory }
@@ -48,14 +48,14 @@ impl Text {
         Text::from_str(alloc, self.as_str())
     }
 
-    /// The characters.
+    /// Returns the characters.
     pub fn as_str(&self) -> &str
         ensures { result.now ≡ self.now }
     {
         self.string.as_str()
     }
 
-    /// The text as a `String`, which is not copied.
+    /// Returns the text as a `String`, which is not copied.
     pub fn into_string(self) -> String
         ensures { string_bytes result ≡ self }
     {
@@ -96,14 +96,14 @@ impl Hash for Text {
     }
 }
 
-/// The characters in quotes, as a `str` shows them.
+/// Shows the characters in quotes, as `str` does.
 impl fmt::Debug for Text {
     fn fmt<W: fmt::Write>(&self, f: &mut fmt::Formatter<W>) -> fmt::Result {
         fmt::Debug::fmt(self.as_str(), f)
     }
 }
 
-/// A list of texts. A contract sees the list of their bytes.
+/// A list of strings. A contract sees the list of their bytes.
 #[derive(Drop)]
 pub struct Texts {
     texts: Vec<Text>,
@@ -120,7 +120,7 @@ impl Model for Texts {
 impl Texts {
     ghost use Rattle.std.specs.Prelude.{map};
 
-    /// A list of its own of these texts, in order. The only refusal is `OutOfMemory`.
+    /// Returns the list of copies of these strings, in order. The only refusal is `OutOfMemory`.
     pub fn from_slice(alloc: Global, texts: &[&str]) -> Result<Texts>
         ensures ok { IfOk result (λ t. t ≡ map (λ s. s.now) texts.now) }
         ensures err { IfErr result IsMemory }
@@ -132,7 +132,7 @@ impl Texts {
         Ok(Texts { texts: list })
     }
 
-    /// A copy. The only refusal is `OutOfMemory`.
+    /// Returns a copy. The only refusal is `OutOfMemory`.
     pub fn clone(&self, alloc: Global) -> Result<Texts>
         ensures ok { IfOk result (λ t. t ≡ self.now) }
         ensures err { IfErr result IsMemory }
@@ -144,14 +144,14 @@ impl Texts {
         Ok(Texts { texts })
     }
 
-    /// The texts, in order.
+    /// Returns the strings, in order.
     pub fn as_slice(&self) -> &[Text]
         ensures { result.now ≡ self.now }
     {
         self.texts.as_slice()
     }
 
-    /// The texts as a `Vec`, which is not copied.
+    /// Returns the strings as a `Vec`, which is not copied.
     pub fn into_vec(self) -> Vec<Text>
         ensures { result.items ≡ self }
     {
@@ -192,14 +192,14 @@ impl Hash for Texts {
     }
 }
 
-/// The texts in brackets.
+/// Shows the strings in brackets.
 impl fmt::Debug for Texts {
     fn fmt<W: fmt::Write>(&self, f: &mut fmt::Formatter<W>) -> fmt::Result {
         fmt::Debug::fmt(self.as_slice(), f)
     }
 }
 
-/// A copy of a text that may be absent. The only refusal is `OutOfMemory`.
+/// Returns a copy of a `Text` that may be absent. The only refusal is `OutOfMemory`.
 pub fn clone_text(alloc: Global, text: &Option<Text>) -> Result<Option<Text>>
     ensures ok { IfOk result (λ t. t ≡ text.now) }
     ensures err { IfErr result IsMemory }
@@ -210,7 +210,7 @@ pub fn clone_text(alloc: Global, text: &Option<Text>) -> Result<Option<Text>>
     }
 }
 
-/// A copy of a list of texts that may be absent. The only refusal is `OutOfMemory`.
+/// Returns a copy of a `Texts` that may be absent. The only refusal is `OutOfMemory`.
 pub fn clone_texts(alloc: Global, texts: &Option<Texts>) -> Result<Option<Texts>>
     ensures ok { IfOk result (λ copy. copy ≡ texts.now) }
     ensures err { IfErr result IsMemory }

@@ -1,13 +1,13 @@
-//! Why nothing was measured.
+//! The faults of the program.
 
 use jsonwebtoken::errors::Error;
 use std::alloc::AllocError;
 use std::io;
 
-/// Why nothing was measured.
+/// The reason for which nothing was measured.
 #[derive(Debug, Drop, thiserror::Error)]
 pub enum BenchFault {
-    /// The words are none of those that the README names.
+    /// The arguments are not among those that `start` takes.
     #[error("usage: jwt_bench [decode|encode|header|prepared-decode|prepared-encode|compare-first|compare-last FILE COUNT]")]
     Words,
     /// The file, the clock or the output failed.

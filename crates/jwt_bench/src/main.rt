@@ -1,5 +1,5 @@
-//! Measures what one token costs: reading and verifying it, issuing it, or reading its header; and what it costs to
-//! compare two texts.
+//! Measures the time for one token: to read and verify it, to issue it, or to read its header; and
+//! the time to compare two strings.
 #![tactic(auto)]
 
 mod fault;
@@ -17,7 +17,8 @@ const TOKEN: &str =
 
 const CLAIMS: &str = "{\"company\":\"ACME\",\"exp\":2532524891,\"sub\":\"b@b.com\"}";
 
-/// Does the work on the text so many times, after a tenth of that to warm up, and prints the nanoseconds for one.
+/// Does the work on the text this many times, after a tenth of that to warm up, and prints the
+/// nanoseconds for one.
 fn measure<T: Runtime + AllocGlobal>(
     rt: &T,
     work: Work,
@@ -53,7 +54,7 @@ fn show<T: Runtime + AllocGlobal>(rt: &T) -> Result<(), BenchFault> {
     Ok(())
 }
 
-/// By the words after the program's name: the work, a file, and how many times.
+/// Runs the program with its arguments: the work, a file, and the number of times.
 fn start<T: Runtime + AllocGlobal>(rt: &T) -> Result<(), BenchFault> {
     let mut words = env::args(rt)?;
     let _program = words.next();

@@ -13,7 +13,7 @@ use serde_json::Value;
 use std::alloc::Global;
 use std::hint::black_box;
 
-/// What is measured.
+/// The work that is measured.
 #[derive(Clone, Copy, Debug)]
 pub enum Work {
     /// Reads and verifies a token.
@@ -26,14 +26,14 @@ pub enum Work {
     PreparedDecode,
     /// Issues the token of claims by a secret that is prepared.
     PreparedEncode,
-    /// Compares a text with one whose first byte is another.
+    /// Compares a string with one whose first byte is another.
     CompareFirst,
-    /// Compares a text with one whose last byte is another.
+    /// Compares a string with one whose last byte is another.
     CompareLast,
 }
 
 impl Work {
-    /// The work of that name.
+    /// Returns the work of that name.
     pub fn named(name: &str) -> Option<Work> {
         match name {
             "decode" => Some(Work::Decode),
@@ -48,7 +48,7 @@ impl Work {
     }
 }
 
-/// What reading needs.
+/// The values that reading needs.
 #[derive(Drop)]
 struct Reading {
     key: DecodingKey,
@@ -65,7 +65,7 @@ impl Reading {
     }
 }
 
-/// What issuing needs.
+/// The values that issuing needs.
 #[derive(Drop)]
 struct Issuing {
     key: EncodingKey,
@@ -82,7 +82,7 @@ impl Issuing {
     }
 }
 
-/// What the work needs and is not measured.
+/// The values that the work needs, whose making is not measured.
 #[derive(Drop)]
 pub struct Prepared {
     work: Work,
@@ -93,7 +93,7 @@ pub struct Prepared {
 }
 
 impl Prepared {
-    /// For this work on this text.
+    /// Returns the values for this work on this text.
     pub fn new(alloc: Global, work: Work, text: &str) -> Result<Prepared> {
         let claims = match work {
             Work::Encode | Work::PreparedEncode => json_value(alloc, text.as_bytes())?,
@@ -108,7 +108,8 @@ impl Prepared {
         })
     }
 
-    // What a call answers is looked at where it is: to move it would cost as much as a step of the call.
+    // The result of a call is tested in place: to move it would cost as much as a step of
+    // the call.
     fn decode<P: CryptoProvider>(&self, alloc: Global, provider: &P, token: &[u8]) -> bool {
         let answer: Result<TokenData<Value>> = decode(
             alloc,
@@ -144,8 +145,8 @@ impl Prepared {
     }
 }
 
-// Compares the bytes so many times with bytes that differ in one place, each time by another byte, so that no compiler
-// leaves a comparison out.
+// Compares the bytes this many times with bytes that differ in one place, each time by another
+// byte, so that no compiler leaves a comparison out.
 fn compare(
     alloc: Global,
     bytes: &[u8],
@@ -178,7 +179,7 @@ fn repeat_calls(
     Ok(())
 }
 
-/// Does the work on the text so many times.
+/// Does the work on the text this many times.
 pub fn repeat(
     alloc: Global,
     prepared: &Prepared,

@@ -1,28 +1,26 @@
-//! JSON Web Tokens for C. `include/jwt.h` says how each call is called.
+//! JSON Web Tokens for C. `include/jwt.h` describes how each is called.
 //!
-//! Each call has one clause: some answer is that of the library's own definitions, and it is what stands in the status,
-//! the length and the room. Nothing is kept between calls.
+//! Each call has one clause: the status, the length and the buffer hold a result that the library's
+//! own definitions allow. Nothing is kept between calls.
 #![tactic(auto)]
-
-mod answers;
-mod inputs;
-mod issued;
-mod status;
 
 ghost use Rattle.std.specs.Prelude.{◌≡◌, Some, MatchOption};
 ghost use Rattle.jwt_base.specs.Kind.{Kind, text_of};
-ghost use Rattle.jwt_c.specs.Calls.{Answer, Leaves, LeavesSigned, AnswersHmac, AnswersSet, AnswersSaid, AnswersHeader};
-ghost use Rattle.jwt_c.specs.Issued.{AnswersEncode, AnswersThumbprint, hash_numbered};
-ghost use Rattle.jwt_c.specs.Status.{number, no_status, status_text, told, algorithm_numbered, IsGiven, IsKept};
+ghost use Rattle.jwt_c_calls.specs.Calls.{Answer, Leaves, LeavesSigned, AnswersHmac, AnswersSet, AnswersSaid, AnswersHeader, AnswersNumbers, status_of};
+ghost use Rattle.jwt_c_calls.specs.Issued.{AnswersEncode, AnswersThumbprint, hash_numbered};
+ghost use Rattle.jwt_c_calls.specs.Status.{number, no_status, status_text, told, version, algorithm_numbered, IsGiven, IsKept};
 
-use crate::answers::{header_answer, hmac_answer, said_answer, set_answer};
-use crate::issued::{encode_answer, thumbprint_answer};
-use crate::status::{algorithm_number, leave, number_of, put_bytes, text_of};
 use jsonwebtoken::signed_part;
+use jwt_c_calls::answers::{header_answer, hmac_answer, numbers_answer, said_answer, set_answer};
+use jwt_c_calls::issued::{encode_answer, thumbprint_answer};
+use jwt_c_calls::status::{algorithm_number, leave, number_of, put_bytes, status_of, text_of};
 use std::alloc::Global;
 
-/// Verifies a token with a secret, by HMAC, at the moment `now`, and gives its claims as JSON. The options are the JSON
-/// text of [`Validation::from_value`](jsonwebtoken::Validation::from_value), and are read first.
+const VERSION: &str = "0.1.0";
+
+/// Verifies a token with a secret, by HMAC, at the moment `now`, and writes its claims as JSON. The
+/// options are the JSON text of [`Validation::from_value`](jsonwebtoken::Validation::from_value),
+/// and are read first.
 #[unsafe(no_mangle)]
 pub extern "C" fn jwt_decode_hmac(
     alloc: Global,
@@ -40,8 +38,8 @@ pub extern "C" fn jwt_decode_hmac(
     leave(answer, room, len)
 }
 
-/// The same with the key of a set that the token's header names by its `kid`: the set is a JSON text (RFC 7517 section
-/// 5), and is read after the options.
+/// Verifies a token like `jwt_decode_hmac`, with the key of a set that the token's header names by
+/// its `kid`. The set is a JSON text (RFC 7517 section 5), and is read after the options.
 #[unsafe(no_mangle)]
 pub extern "C" fn jwt_decode_set(
     alloc: Global,
@@ -59,8 +57,9 @@ pub extern "C" fn jwt_decode_set(
     leave(answer, room, len)
 }
 
-/// The same for a token whose signature the caller has checked: `verdict` is the yes or no to this signature of this
-/// message by the algorithm of this number. A number of no algorithm is `InvalidAlgorithmName`, before the options.
+/// Verifies a token whose signature the caller has checked: `verdict` is the yes or no to this
+/// signature of this message by the algorithm of this number. A number of no algorithm is refused
+/// with `InvalidAlgorithmName`, before the options are read.
 #[unsafe(no_mangle)]
 pub extern "C" fn jwt_decode_verdict(
     alloc: Global,
@@ -84,8 +83,9 @@ pub extern "C" fn jwt_decode_verdict(
     leave(answer, room, len)
 }
 
-/// What is to be checked of a token: the number of the algorithm that its header names, how many bytes at its front are
-/// the message, and the signature's bytes in the room. Nothing is verified.
+/// Writes the things that a verifier elsewhere is asked about: the number of the algorithm that the
+/// token's header names, the number of bytes at its front that are the message, and the signature's
+/// bytes in the buffer. Nothing is verified.
 #[unsafe(no_mangle)]
 pub extern "C" fn jwt_signed_part(
     alloc: Global,
@@ -112,7 +112,7 @@ pub extern "C" fn jwt_signed_part(
     }
 }
 
-/// Gives the header of a token as JSON. Nothing is verified.
+/// Writes the header of a token as JSON. Nothing is verified.
 #[unsafe(no_mangle)]
 pub extern "C" fn jwt_decode_header(
     alloc: Global,
@@ -126,7 +126,8 @@ pub extern "C" fn jwt_decode_header(
     leave(answer, room, len)
 }
 
-/// Gives the token of a header and claims, which are JSON texts of objects, signed with a secret, by HMAC.
+/// Signs a header and claims, which are JSON texts of objects, with a secret, by HMAC, and writes
+/// the token.
 #[unsafe(no_mangle)]
 pub extern "C" fn jwt_encode_hmac(
     alloc: Global,
@@ -143,8 +144,8 @@ pub extern "C" fn jwt_encode_hmac(
     leave(answer, room, len)
 }
 
-/// Gives the thumbprint (RFC 7638) of a key, which is a JSON text, by SHA-2 with so many bits. A number of no hash is
-/// `InvalidAlgorithmName`, before the key.
+/// Writes the thumbprint (RFC 7638) of a key, which is a JSON text, by SHA-2 with this many bits. A
+/// number of no hash is refused with `InvalidAlgorithmName`, before the key is read.
 #[unsafe(no_mangle)]
 pub extern "C" fn jwt_thumbprint(
     alloc: Global,
@@ -160,7 +161,19 @@ pub extern "C" fn jwt_thumbprint(
     leave(answer, room, len)
 }
 
-/// Gives the text of a status. A number that is no status is one of its own, 102.
+/// Checks that every number of the claims is an integer from -2^63 to 2^64 - 1: else it returns the
+/// status of `Json`, and for a text that is not the JSON of an object 105.
+#[unsafe(no_mangle)]
+pub extern "C" fn jwt_check_numbers(alloc: Global, claims: &[u8]) -> u32
+    ensures { (a : Answer) × AnswersNumbers claims.now a × (result ≡ status_of a) }
+{
+    match numbers_answer(alloc, claims) {
+        Ok(()) => 0,
+        Err(refusal) => status_of(&refusal),
+    }
+}
+
+/// Writes the text of a status. For a number that is not a status, it returns 102.
 #[unsafe(no_mangle)]
 pub extern "C" fn jwt_status_text(status: u32, room: &mut [u8], len: &mut usize) -> u32
     ensures text { MatchOption (status_text status) (IsKept no_status result len.new room.old room.new)
@@ -175,4 +188,12 @@ pub extern "C" fn jwt_status_text(status: u32, room: &mut [u8], len: &mut usize)
             102
         }
     }
+}
+
+/// Writes the version of the library, as `JWT_VERSION` of `include/jwt.h`.
+#[unsafe(no_mangle)]
+pub extern "C" fn jwt_version(room: &mut [u8], len: &mut usize) -> u32
+    ensures { IsGiven version result len.new room.old room.new }
+{
+    put_bytes(VERSION.as_bytes(), room, len)
 }

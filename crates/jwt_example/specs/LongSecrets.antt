@@ -1,4 +1,4 @@
--- What a provider refuses that asks for long secrets.
+-- The refusals of a provider that requires long secrets.
 use Rattle.std.specs.Prelude.{◌≡◌, ℕ, length, nat_lt, Option, None, Some, if◌then◌else◌}
 use Rattle.jwt_base.specs.Algorithm.{family_of}
 use Rattle.jwt_base.specs.Kind.{Kind}
@@ -11,7 +11,8 @@ use Rattle.jwt_keys.specs.Provider.{first_refusal}
 use Rattle.jwt_hmac.specs.HmacFamilies as hmac
 use Rattle.jwt_hmac.specs.HmacKeys.{hash_for, refusal}
 
--- how many bytes a secret has at least: as many as the algorithm's codes (RFC 7518 section 3.2)
+-- the least number of bytes of a secret: as many as the algorithm's codes have (RFC 7518 section
+-- 3.2)
 abbrev pub least_length : Algorithm → ℕ
 least_length HS256 = 32
 least_length HS384 = 48
@@ -27,7 +28,7 @@ abbrev pub secret_length : Key → ℕ
 secret_length (Plain f b) = length b
 secret_length (Components n e) = 0
 
--- too short a secret is refused first, and then what the provider of HMAC refuses
+-- a secret that is too short is refused first, and then the refusals of the provider of HMAC apply
 abbrev pub signer_refusal_of : Algorithm → SecretKey → Option Kind
 signer_refusal_of a k = first_refusal (length_refusal a (length k.bytes)) (refusal (hash_for a) k.family)
 

@@ -14,11 +14,11 @@ use Rattle.jwt_hmac.specs.Hmac.{hash_bytes}
 use Rattle.jwt_hmac.specs.HmacKeys.{hash_named}
 use Rattle.jwt_hmac.specs.declared.hmac.Hash.TheVariants.{Sha256}
 
--- what `HmacProvider` reads of keys in DER, which is nothing, and its digests
+-- the results of `HmacProvider`: it reads no keys in DER, and computes digests
 abbrev pub answers : KeyAnswers
 answers = reads_no_key kind.UnsupportedAlgorithm (λ h text. Ok (hash_bytes (hash_named h) text))
 
--- the SHA-256 digest of the key's required members, or why there is none (RFC 7638 section 3)
+-- the SHA-256 digest of the key's required members, or the kind of the refusal (RFC 7638 section 3)
 abbrev pub digest_of : Jwk → Result (List ℕ) Kind
 digest_of jwk = digested (λ text. Ok (hash_bytes Sha256 text)) (thumb_text jwk)
 
@@ -30,7 +30,8 @@ IsThumbprintOf id jwk = (digest : List ℕ) × ((digest_of jwk ≡ Ok digest) ×
 abbrev pub under : List ℕ → Jwk → Jwk
 under id jwk = record jwk { common = record jwk.common { key_id = Some id } }
 
--- the keys of a set, and one more: the JSON Web Key of a key that is no secret, under its thumbprint
+-- the keys of a set, and one more: the JSON Web Key of a key that is not a secret, under its
+-- thumbprint
 pub record Publishes (a : Algorithm) (key : Key) (old new : List Jwk) : Type 0 where
   pub jwk : Jwk
   pub id : List ℕ
@@ -39,7 +40,8 @@ pub record Publishes (a : Algorithm) (key : Key) (old new : List Jwk) : Type 0 w
   pub is_thumbprint : IsThumbprintOf id jwk
   pub added : new ≡ old ++ under id jwk ∷ []
 
--- why a key is not published: it is a secret, or it has no JSON Web Key, or that one has no thumbprint
+-- the kind with which a key is refused: it is a secret, or it has no JSON Web Key, or that one has
+-- no thumbprint
 abbrev pub IsNotPublished : Algorithm → Key → Kind → Type 0
 IsNotPublished a key k = ((key_family key ≡ family.Hmac) × (k ≡ kind.InvalidKeyFormat))
     ⊎ ((jwk_of_key answers (Some a) key ≡ Err k)

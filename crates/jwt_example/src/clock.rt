@@ -3,8 +3,8 @@
 use std::io;
 use std::time::{Clock, SystemTime, UNIX_EPOCH};
 
-/// The moment by the system's clock, in whole seconds since 1970-01-01 00:00:00 UTC. A clock that is set before then is a
-/// fault.
+/// Returns the moment by the system's clock, in whole seconds since 1970-01-01 00:00:00 UTC. A
+/// clock that is set before then is a fault.
 pub fn moment(clock: &impl Clock) -> io::Result<u64> {
     let now = SystemTime::now(clock)?;
     match now.duration_since(UNIX_EPOCH) {

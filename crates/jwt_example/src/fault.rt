@@ -1,10 +1,10 @@
-//! Why the program stopped.
+//! The faults that end the program.
 
 use jsonwebtoken::errors::Error;
 use std::alloc::AllocError;
 use std::io;
 
-/// Why the program stopped.
+/// The reason for which the program stopped.
 #[derive(Debug, Drop, thiserror::Error)]
 pub enum Fault {
     /// A call of the library was refused.

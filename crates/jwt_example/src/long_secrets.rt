@@ -1,4 +1,4 @@
-//! A provider of one's own: HMAC that asks for secrets as long as the code, as RFC 7518 section 3.2 does.
+//! A custom provider: HMAC that requires secrets as long as the code, as RFC 7518 section 3.2 does.
 
 ghost use Rattle.std.specs.Prelude.{◌≡◌, ℕ, List, Ok, None, Some, ⊤};
 ghost use Rattle.jwt_base.specs.Kind as kind;
@@ -14,7 +14,8 @@ use jsonwebtoken::jwk::{EllipticCurve, ThumbprintHash};
 use jsonwebtoken::{Algorithm, DecodingKey, EncodingKey};
 use std::alloc::Global;
 
-/// `HmacProvider`, but a secret that is shorter than the algorithm's codes is refused with `InvalidKeyFormat`.
+/// `HmacProvider`, but a secret that is shorter than the algorithm's codes is refused with
+/// `InvalidKeyFormat`.
 #[derive(Debug, Clone, Copy)]
 pub struct LongSecrets;
 
@@ -102,7 +103,7 @@ impl CryptoProvider for LongSecrets {
     ghost same_family = { λ _ a k h. family_made a k h };
 }
 
-/// How many bytes a secret has at least for this algorithm: as many as its codes.
+/// Returns the least number of bytes of a secret for this algorithm: as many as its codes have.
 fn least_length(algorithm: Algorithm) -> usize
     ensures { result ≡ least_length algorithm }
 {
@@ -114,7 +115,7 @@ fn least_length(algorithm: Algorithm) -> usize
     }
 }
 
-/// How many bytes the key has.
+/// Returns the number of bytes of the key.
 fn secret_length(key: &DecodingKey) -> usize
     ensures { result ≡ secret_length key.now }
 {

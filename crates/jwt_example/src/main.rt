@@ -1,4 +1,5 @@
-//! A service that logs users in: sessions as tokens, keys that are changed, a renewal, and a set of keys that others fetch.
+//! A service that logs users in: sessions as tokens, keys that are changed, a renewal, and a set of
+//! keys that others fetch.
 #![tactic(auto)]
 
 mod clock;
@@ -34,7 +35,7 @@ const ED_X: &str = "11qYAYKxCrfVS_7TyWQHOg7hcvPapiMlrwIaaPcHURo";
 const RSA_N: &str =
     "0vx7agoebGcQSuuPiLJXZptN9nndrQmbXEps2aiAFbWhM78LhWx4cbbfAAtVT86zwu1RK7aPFFxuhDR1L6tSoc_BJECPebWKRXjBZCiFV4n3oknjhMstn64tZ_2W-5JsGY4Hc5n9yBXArwl93lqt7_RN5w6Cf0h4QyQ5v-65YGjQR0_FDW2QvzqY368QQMicAtaSqzs8KJZgnYb9c7d0zgdAZHzu6qMQvRL5hajrn1n91CbOpbISD08qNLyrdkt-bFTWhAI4vMQFh6WeZu0fM4lFd2NcRwr3XPksINHaQ-G_xBniIqbw0Ls1jF44-csFCur-kEgU8awapJzKnqDKgw";
 
-/// The session of Ada, who may read and write until `END`.
+/// Returns the session of Ada, who may read and write until `END`.
 fn ada(alloc: Global) -> Result<Session, Fault> {
     Ok(Session {
         user: Text::from_str(alloc, "ada")?,
@@ -43,7 +44,7 @@ fn ada(alloc: Global) -> Result<Session, Fault> {
     })
 }
 
-/// Who is logged in by the token, or why it is refused.
+/// Prints who is logged in by the token, or the refusal.
 fn show<T: Runtime + AllocGlobal>(
     rt: &T,
     service: &Service,
@@ -57,7 +58,7 @@ fn show<T: Runtime + AllocGlobal>(
     Ok(())
 }
 
-/// A session from its first token until its key is gone.
+/// Shows a session from its first token until its key is gone.
 fn show_sessions<T: Runtime + AllocGlobal>(rt: &T) -> Result<(), Fault> {
     let alloc = rt.alloc();
     let mut service = Service::new(alloc, "2025", b"last year's secret, of 32 bytes or more")?;
@@ -77,7 +78,8 @@ fn show_sessions<T: Runtime + AllocGlobal>(rt: &T) -> Result<(), Fault> {
     Ok(())
 }
 
-/// The set of an issuer with two public keys (RFC 8037 appendix A.2, RFC 7638 section 3.1), and with no secret.
+/// Shows the set of an issuer with two public keys (RFC 8037 appendix A.2, RFC 7638 section 3.1),
+/// and with no secret.
 fn show_keys<T: Runtime + AllocGlobal>(rt: &T) -> Result<(), Fault> {
     let alloc = rt.alloc();
     let mut set = JwkSet::new(alloc);
@@ -93,7 +95,7 @@ fn show_keys<T: Runtime + AllocGlobal>(rt: &T) -> Result<(), Fault> {
     Ok(())
 }
 
-/// A session that begins now, by the system's clock.
+/// Shows a session that begins now, by the system's clock.
 fn show_moment<T: Runtime + AllocGlobal>(rt: &T) -> Result<(), Fault> {
     let alloc = rt.alloc();
     let service = Service::new(alloc, "2026", b"this year's secret, of 32 bytes or more")?;

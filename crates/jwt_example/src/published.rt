@@ -13,9 +13,9 @@ use jsonwebtoken::jwk::{Jwk, JwkSet, ThumbprintHash};
 use jsonwebtoken::{Algorithm, AlgorithmFamily, DecodingKey, Text};
 use std::alloc::Global;
 
-/// Adds a public key to the set, for this algorithm, with its thumbprint by SHA-256 as its id. A secret is refused with
-/// `InvalidKeyFormat`, since its JSON Web Key holds it, and what else is refused is refused by `from_decoding_key` and
-/// `thumbprint`. The set is then as it was.
+/// Adds a public key to the set, for this algorithm, with its thumbprint by SHA-256 as its id. A
+/// secret is refused with `InvalidKeyFormat`, since its JSON Web Key holds it; every other refusal
+/// is that of `from_decoding_key` or of `thumbprint`. A refusal leaves the set unchanged.
 pub fn publish(
     alloc: Global,
     set: &mut JwkSet,
@@ -34,7 +34,7 @@ pub fn publish(
     Ok(())
 }
 
-/// Gives the key this id.
+/// Sets the id of the key.
 pub fn name(jwk: &mut Jwk, id: Text)
     ensures { jwk.new ≡ under id jwk.old }
 {
@@ -52,7 +52,7 @@ fn refuse_secret(key: &DecodingKey) -> Result<()>
     Ok(())
 }
 
-/// The JSON text of the set (RFC 7517 section 5), to be served to those who verify.
+/// Returns the JSON text of the set (RFC 7517 section 5), to be served to those who verify.
 pub fn set_text(alloc: Global, set: &JwkSet) -> Result<String> {
     let value = set.to_value(alloc)?;
     Ok(value.to_string(alloc)?)

@@ -14,7 +14,7 @@ use serde_json::Value;
 use std::alloc::Global;
 use std::rt::Runtime;
 
-/// A token, verified with a secret.
+/// Returns the claims of a token, verified with a secret.
 pub fn verified(alloc: Global, token: &[u8], now: u64) -> Result<Value> {
     let key = DecodingKey::from_secret(alloc, b"secret")?;
     let mut validation = Validation::new(alloc, Algorithm::HS256)?;
@@ -23,20 +23,20 @@ pub fn verified(alloc: Global, token: &[u8], now: u64) -> Result<Value> {
     Ok(data.claims)
 }
 
-/// The name of the algorithm that a token's header names. Nothing is verified.
+/// Returns the name of the algorithm that a token's header names. Nothing is verified.
 pub fn algorithm_of(alloc: Global, token: &[u8]) -> Result<&'static str> {
     let header = decode_header(alloc, token)?; // not verified
     Ok(header.alg.name())
 }
 
-/// A token, issued with a secret.
+/// Returns a token, issued with a secret.
 pub fn issued(alloc: Global, claims: &Value) -> Result<String> {
     let key = EncodingKey::from_secret(alloc, b"secret")?;
     let header = Header::new(alloc, Algorithm::HS256)?;
     encode(alloc, &HmacProvider, &header, claims, &key)
 }
 
-/// A token, verified with the key of a set that it names.
+/// Returns the claims of a token, verified with the key of a set that it names.
 pub fn verified_by_set(alloc: Global, token: &[u8], set: &[u8], now: u64) -> Result<Value> {
     let set = JwkSet::from_value(alloc, &Value::from_slice(alloc, set)?)?;
     let validation = Validation::new(alloc, Algorithm::HS256)?;
@@ -76,7 +76,7 @@ fn prepared_and_verified(alloc: Global, token: &[u8], now: u64) -> Result<Value>
     verified_quickly(alloc, &prepared, token, now)
 }
 
-/// A token by a curve, whose signature is checked elsewhere.
+/// Returns the claims of a token by a curve, whose signature is checked elsewhere.
 pub fn verified_elsewhere(alloc: Global, token: &[u8], now: u64) -> Result<Value> {
     let part = signed_part(alloc, token)?;
     let signature = part.signature.as_slice();
@@ -93,7 +93,8 @@ fn es256_options(alloc: Global) -> Result<Box<Validation>> {
     Ok(Box::new(alloc, Validation::from_value(alloc, &options)?)?)
 }
 
-/// Stands for cryptography of the caller's: it says yes to one signature of one message, those of RFC 7515 appendix A.3.
+/// Stands for the caller's cryptography: it says yes to one signature of one message, those of RFC
+/// 7515 appendix A.3.
 fn my_es256_accepts(message: &[u8], signature: &[u8]) -> bool {
     message == MESSAGE.as_bytes() && signature == SIGNATURE.as_slice()
 }
@@ -123,7 +124,7 @@ const SIGNATURE: [u8; 64] = [
     84, 213,
 ];
 
-/// The same as `verified`, where the secret has to be as long as the codes.
+/// Verifies a token like `verified`, with a secret that must be as long as the codes.
 fn verified_by_long_secret(alloc: Global, token: &[u8], now: u64) -> Result<Value> {
     let key = DecodingKey::from_secret(alloc, b"secret")?;
     let validation = Validation::new(alloc, Algorithm::HS256)?;
@@ -131,7 +132,7 @@ fn verified_by_long_secret(alloc: Global, token: &[u8], now: u64) -> Result<Valu
     Ok(data.claims)
 }
 
-/// The claims that are accepted, or why the token is refused.
+/// Prints the claims that are accepted, or the refusal.
 fn print<T: Runtime + AllocGlobal>(
     rt: &T,
     answer: Result<Value>,
@@ -143,7 +144,7 @@ fn print<T: Runtime + AllocGlobal>(
     Ok(())
 }
 
-/// What each sample answers.
+/// Prints the result of each sample.
 pub fn show_samples<T: Runtime + AllocGlobal>(rt: &T) -> std::result::Result<(), Fault> {
     let alloc = rt.alloc();
     let claims = verified(alloc, TOKEN.as_bytes(), 0)?;

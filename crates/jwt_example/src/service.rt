@@ -9,7 +9,7 @@ use jsonwebtoken::jwk::{Jwk, JwkSet};
 use jsonwebtoken::{Algorithm, DecodingKey, EncodingKey, Header, Text, Validation, encode};
 use std::alloc::Global;
 
-/// Issues tokens with its newest key, and reads those of every key of its set.
+/// A service that issues tokens with its newest key, and reads those of every key of its set.
 #[derive(Debug, Drop)]
 pub struct Service {
     signing: Box<SigningKey>,
@@ -25,7 +25,7 @@ struct SigningKey {
 }
 
 impl Service {
-    /// With this secret as its first key.
+    /// Returns a service with this secret as its first key.
     pub fn new(alloc: Global, id: &str, secret: &[u8]) -> Result<Service> {
         let mut keys = JwkSet::new(alloc);
         let signing = add_key(alloc, &mut keys, id, secret)?;
@@ -36,45 +36,46 @@ impl Service {
         })
     }
 
-    /// What the tokens are checked against.
+    /// Returns the options that the tokens are checked against.
     pub fn validation(&self) -> &Validation {
         &self.validation
     }
 
-    /// From now on this secret signs. The tokens of the keys before it are still read. Each key has an id of its own, since
-    /// of two keys of one id the first alone is looked at.
+    /// Signs with this secret from now on. The tokens of the keys before it are still read. Keys must
+    /// have different ids, since of two keys of one id the first alone counts.
     pub fn rotate(&mut self, alloc: Global, id: &str, secret: &[u8]) -> Result<()> {
         self.signing = add_key(alloc, &mut self.keys, id, secret)?;
         Ok(())
     }
 
-    /// From now on the tokens of this key are refused with `NoKey`. A key is retired once it signs no more and the
-    /// sessions that it signed have ended.
+    /// Removes the key of this id, whose tokens are then refused with `NoKey`. A key is retired once
+    /// it signs no more and the sessions that it signed have ended.
     pub fn retire(&mut self, id: &str) {
         self.keys.keys.retain(|jwk| !has_id(jwk, id));
     }
 
-    /// The token of a session.
+    /// Returns the token of a session.
     pub fn issue(&self, alloc: Global, session: &Session) -> Result<String> {
         let mut header = Box::new(alloc, Header::new(alloc, Algorithm::HS256)?)?;
         header.kid = Some(self.signing.id.clone(alloc)?);
         encode(alloc, &HmacProvider, &header, session, &self.signing.key)
     }
 
-    /// The session of a token, at the moment `now`, in seconds since 1970-01-01 00:00:00 UTC.
+    /// Returns the session of a token, at the moment `now`, in seconds since 1970-01-01 00:00:00
+    /// UTC.
     pub fn read(&self, alloc: Global, token: &str, now: u64) -> Result<Session> {
         session_of(alloc, token.as_bytes(), &self.keys, &self.validation, now)
     }
 }
 
-/// HS256 alone; the end of the session and the user have to be there.
+/// Returns options for HS256 alone; the end of the session and the user are required.
 fn validation(alloc: Global) -> Result<Box<Validation>> {
     let mut validation = Box::new(alloc, Validation::new(alloc, Algorithm::HS256)?)?;
     validation.set_required_spec_claims(alloc, &["exp", "sub"])?;
     Ok(validation)
 }
 
-/// Adds the key that verifies with this secret to the set, and gives the one that signs with it.
+/// Adds the key that verifies with this secret to the set, and returns the one that signs with it.
 fn add_key(alloc: Global, set: &mut JwkSet, id: &str, secret: &[u8]) -> Result<Box<SigningKey>> {
     let signing = SigningKey {
         id: Text::from_str(alloc, id)?,
@@ -85,7 +86,7 @@ fn add_key(alloc: Global, set: &mut JwkSet, id: &str, secret: &[u8]) -> Result<B
     Ok(signing)
 }
 
-/// The key that verifies with this secret, under this id.
+/// Returns the key that verifies with this secret, under this id.
 fn verifying_key(alloc: Global, id: &str, secret: &[u8]) -> Result<Jwk> {
     let key = DecodingKey::from_secret(alloc, secret)?;
     let id = Text::from_str(alloc, id)?;

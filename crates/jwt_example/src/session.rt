@@ -1,4 +1,4 @@
-//! The claims of a session: claims of a type of one's own.
+//! The claims of a session: claims of a custom type.
 
 ghost use Rattle.std.specs.Prelude.{◌≡◌, Some, None, IfOk, IfErr};
 ghost use Rattle.serde_json.specs.View.{view};
@@ -13,12 +13,12 @@ use jsonwebtoken::{Text, Texts};
 use serde_json::{Map, Value};
 use std::alloc::Global;
 
-/// What the token of a session says.
+/// The claims of the token of a session.
 #[derive(Debug, Drop)]
 pub struct Session {
-    /// Who is logged in, `sub`.
+    /// The user who is logged in, `sub`.
     pub user: Text,
-    /// What the user may do, `roles`, where that is limited.
+    /// The roles that the user is limited to, `roles`, if any.
     pub roles: Option<Texts>,
     /// The end of the session, `exp`, in seconds since 1970-01-01 00:00:00 UTC.
     pub ends: u64,
@@ -53,7 +53,7 @@ impl Claims for Session {
     ghost decided = { written_alike };
 }
 
-/// The whole number at a member, not negative. Where there is none, the refusal is `Json`.
+/// Returns the whole number at a member, not negative. If there is none, the refusal is `Json`.
 fn seconds_at(value: &Value, name: &str) -> Result<u64>
     ensures ok { IfOk result (λ n. number_at name.now (view value.now) ≡ Some n) }
     ensures err { IfErr result (RefusesAs kind.Json (number_at name.now (view value.now) ≡ None)) }

@@ -1,4 +1,4 @@
--- What is written of a header reads as its normal form.
+-- A header, written and read again, is its normal form.
 use Rattle.std.proofs.Common.{◌≡◌, inl, inr, ℕ, List, [], ◌∷◌, Option, Some, None, option_map, unwrap_or, codes, true, false, is_some, true≢false, subst, refl, sym, ap, ◌∙◌}
 use Rattle.serde_json.specs.Data.{Data, Members, string, object}
 use Rattle.serde_json.specs.Find.{get, get_member, as_null, as_object}
@@ -46,7 +46,7 @@ can_write None o r = (None, refl)
 can_write (Some k) None r = absurd (cc)
 can_write (Some k) (Some d) r = let w = (read_key_is_normal d k r.1).written in (Some w.0, rw w.1 refl)
 
--- what is written of a key is an object
+-- a written key is an object
 not_null_at : (k : Jwk) (d : Data) (o : Option Members) → option_map object o ≡ Some d → is_some (as_null d) ≡ false
 not_null_at k d None is = absurd (cc)
 not_null_at k d (Some ms) is = subst (λ v. is_some (as_null v) ≡ false) (ap (λ o. unwrap_or o d) is) refl
@@ -55,7 +55,7 @@ key_present : (k : Jwk) (o : Option Data) (jwk : Option Data) → key_value k �
 key_present k None jwk e is = absurd (cc)
 key_present k (Some d) jwk e is = subst (λ x. ReadsOptional ReadsKey x (Some (normal_key k))) (ap (λ x. unwrap_or x jwk) is) (not_null_at k d (key_members k) e, reads_written_key k d e)
 
--- what is written of a key that may be absent reads as its normal form
+-- a key that may be absent, written and read again, is its normal form
 reads_jwk : (o : Option Jwk) (jwk : Option Data) → written_optional key_value o ≡ Some jwk → ReadsOptional ReadsKey jwk (option_map normal_key o)
 reads_jwk None jwk is = let none : None ≡ jwk = ap (λ x. unwrap_or x jwk) is in subst (λ x. ReadsOptional ReadsKey x None) none refl
 reads_jwk (Some k) jwk is = key_present k _ jwk refl is
@@ -103,11 +103,11 @@ named_back ES256 = refl
 named_back ES384 = refl
 named_back EdDSA = refl
 
--- a name of the header is none of the extras'
+-- a name of the header is not one of the extras'
 at_name : (h : Header) → IsExtras h.extras → (q : List ℕ) → is_named header_names q ≡ true → get_member q h.extras ≡ None
 at_name h x q named = absent header_names h.extras (without-free header_names h.extras x.free) q named
 
--- the members with what was written of the key
+-- the members with the value that the key was written as
 abbrev members_with : Header → Option Data → Members
 members_with h jwk = with_named h (put_some (codes "jwk") jwk h.extras)
 
@@ -199,7 +199,7 @@ normal_twice h =
     let jwk = again_within normal_key (λ k. (key_has_normal_form k).once) h.jwk in
     λ i. record (normal_header h) { enc = enc i; zip = zip i; jwk = jwk i }
 
--- what was read is its own normal form
+-- a header that was read is its own normal form
 pub read_is_normal : (d : Data) (h : Header) → IsExtras h.extras → ReadsHeader d h → IsNormal h
 read_is_normal d h x r =
     let enc = own_optional enc_from normal_enc (own_named enc_text enc_named enc_kept) (get (codes "enc") d) h.enc r.enc in
@@ -222,7 +222,7 @@ read_can_be_written d h r =
     let extras : IsExtras h.extras = record { free = extras_at (as_object d) h.extras r.extras; no_float = r.no_float } in
     (read_is_normal d h extras r).written
 
--- so only memory is wanting where it is written
+-- so its writing fails by memory alone
 pub memory_alone : (d : Data) (h : Header) (e : Error) → ReadsHeader d h → RefusesAs kind.Json (header_value h ≡ None) e → IsMemory e
 memory_alone d h e r (inl m) = m
 memory_alone d h e r (inr (is, none)) = let w = read_can_be_written d h r in absurd (cc (none, w.1))
@@ -290,6 +290,6 @@ no_float_at : (h : Header) (ms : Members) (o : Option (Option Data)) → IsExtra
 no_float_at h ms None x e is = absurd (cc)
 no_float_at h ms (Some jwk) x e is = subst (λ y. members_have_float y ≡ false) (ap (λ o. unwrap_or o ms) is) (named_no_float h (put_some (codes "jwk") jwk h.extras) (jwk_no_float h.jwk jwk h.extras e x.no_float))
 
--- what is written has no float
+-- a written header has no float
 pub written_no_float : (h : Header) (ms : Members) → IsExtras h.extras → header_members h ≡ Some ms → members_have_float ms ≡ false
 written_no_float h ms x is = no_float_at h ms _ x refl is

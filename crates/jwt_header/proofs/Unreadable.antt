@@ -1,4 +1,4 @@
--- A member that does not read leaves no header to read.
+-- If a member cannot be read, no header can be read.
 use Rattle.std.proofs.Common.{◌≡◌, Option, Some, None, option_and_then, codes, true, true≢false, sym, ap, ◌∙◌}
 use Rattle.serde_json.specs.Data.{Data, Members}
 use Rattle.serde_json.specs.Find.{get, as_str, as_object}
@@ -17,7 +17,7 @@ use Rattle.jwt_keys.proofs.JwkLemmas.{weaker}
 use Rattle.jwt_keys.specs.Jwk.{ReadsKey}
 use Rattle.jwt_keys.specs.declared.jwk.Jwk.{Jwk}
 
--- no header reads from the value
+-- no header can be read from the value
 abbrev pub RefusesHeader : Data → Error → Type 0
 RefusesHeader d = RefusesAs kind.Json ((h : Header) → ¬ ReadsHeader d h)
 

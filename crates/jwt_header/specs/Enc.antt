@@ -1,4 +1,4 @@
--- How content is encrypted, by its names (RFC 7518 section 5.1).
+-- The algorithms that encrypt content, by name (RFC 7518 section 5.1).
 use Rattle.std.specs.Prelude.{ℕ, List, [], ◌∷◌, Bool, true, false, Option, codes}
 use Rattle.serde_json.specs.Data.{Data}
 use Rattle.jwt_base.specs.Spelling.{Spelling, named, named_from, named_value, normal_named}

@@ -18,6 +18,7 @@ pub record IsExtras (ms : Members) : Type 0 where
 abbrev pub ReadsExtras : Data → Members → Type 0
 ReadsExtras d ms = (as_object d ≡ Some ms) × IsExtras ms
 
--- the members with that value at the name: none where the name is the header's, or there is no value, or a float is in it
+-- the members with that value at the name; None if the name is the header's, or there is no value,
+-- or a float is in it
 abbrev pub inserted : List ℕ → Option Data → Members → Option Members
 inserted name value ms = if is_named header_names name then None else option_and_then (λ d. if has_float d then None else Some (put name d ms)) value

@@ -1,4 +1,5 @@
--- What a JSON value says as a header (RFC 7515 section 4.1, RFC 7516 section 4.1, RFC 8555 section 6), and what a header is written as.
+-- How a header is read from a JSON value (RFC 7515 section 4.1, RFC 7516 section 4.1, RFC 8555
+-- section 6), and how it is written.
 use Rattle.std.specs.Prelude.{◌≡◌, false, Option, Some, None, option_map, option_and_then, codes}
 use Rattle.serde_json.specs.Data.{Data, string, object, Members, no_members, put}
 use Rattle.serde_json.specs.Find.{get, as_str, as_object}
@@ -37,7 +38,7 @@ pub record ReadsHeader (d : Data) (h : Header) : Type 0 where
 abbrev pub new_header : Algorithm → Header
 new_header a = record { alg = a; typ = Some (codes "JWT"); cty = None; jku = None; jwk = None; kid = None; x5u = None; x5t = None; x5t_s256 = None; url = None; nonce = None; x5c = None; crit = None; enc = None; zip = None; extras = no_members }
 
--- the members that are there, but for the key, beside these
+-- the members that are present, except for the key, beside these
 abbrev pub with_named : Header → Members → Members
 with_named h ms =
     put (codes "alg") (string (name_of h.alg)) (
@@ -55,7 +56,7 @@ with_named h ms =
     put_some (codes "enc") (option_map enc_value h.enc) (
     put_some (codes "zip") (option_map zip_value h.zip) ms)))))))))))))
 
--- the members that are there; none where the key cannot be written
+-- the members that are present; None if the key cannot be written
 abbrev pub header_members : Header → Option Members
 header_members h = option_map (λ jwk. with_named h (put_some (codes "jwk") jwk h.extras)) (written_optional key_value h.jwk)
 

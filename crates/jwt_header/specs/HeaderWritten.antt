@@ -1,4 +1,4 @@
--- What is written of a header and read again: its normal form.
+-- A header, written and read again: its normal form.
 use Rattle.std.specs.Prelude.{◌≡◌, ◌↔◌, Some, option_map}
 use Rattle.serde_json.specs.Data.{Data}
 use Rattle.jwt_header.specs.Enc.{normal_enc}
@@ -8,7 +8,7 @@ use Rattle.jwt_header.specs.Zip.{normal_zip}
 use Rattle.jwt_header.specs.declared.header.Header.{Header}
 use Rattle.jwt_keys.specs.JwkWritten.{normal_key}
 
--- a free text that is a known spelling becomes the known value, and the key its normal form
+-- a free string that is a known spelling becomes the known value, and the key its normal form
 abbrev pub normal_header : Header → Header
 normal_header h = record h { enc = option_map normal_enc h.enc; zip = option_map normal_zip h.zip; jwk = option_map normal_key h.jwk }
 
@@ -18,8 +18,8 @@ pub record IsNormal (h : Header) : Type 0 where
   pub extras : IsExtras h.extras
   pub written : (d : Data) × (header_value h ≡ Some d)
 
--- What is written reads as the normal form alone; a normal form stays as it is; two normal forms
--- are told apart by what is written.
+-- A written header is read as its normal form alone; a normal form is its own; and two normal forms
+-- are the same if they are written alike.
 pub record HasNormalForm (h : Header) : Type 0 where
   pub reads_back : (d : Data) → header_value h ≡ Some d
       → (g : Header) → ReadsHeader d g ↔ (g ≡ normal_header h)

@@ -1,4 +1,4 @@
--- How content is compressed, by its names (RFC 7516 section 4.1.3).
+-- The algorithms that compress content, by name (RFC 7516 section 4.1.3).
 use Rattle.std.specs.Prelude.{ℕ, List, [], ◌∷◌, Bool, true, false, Option, codes}
 use Rattle.serde_json.specs.Data.{Data}
 use Rattle.jwt_base.specs.Spelling.{Spelling, named, named_from, named_value, normal_named}

@@ -1,4 +1,4 @@
-//! Certificates as texts in standard base64.
+//! Certificates as strings in standard base64.
 
 ghost use Rattle.std.specs.Prelude.{List, ℕ, IfOk, IfErr, map};
 ghost use Rattle.std.specs.List.{AllZip};
@@ -11,7 +11,7 @@ use jwt_base::serialization::standard_bytes;
 use jwt_base::text::Text;
 use std::alloc::Global;
 
-// The bytes of each text.
+// Returns the bytes of each string.
 pub(crate) fn certificate_bytes(alloc: Global, texts: &[Text]) -> Result<Vec<Vec<u8>>>
     ensures ok { IfOk result (λ v. AllZip IsStandardText texts.now (map (λ b. b.items) v.items)) }
     ensures err { IfErr result (RefusesAs kind.Base64

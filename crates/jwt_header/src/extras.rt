@@ -43,7 +43,7 @@ impl Model for Extras {
 }
 
 impl Extras {
-    /// No members. No memory is taken.
+    /// Returns extras without members. Allocates no memory.
     pub fn new(alloc: Global) -> Extras
         ensures { result ≡ no_members }
     {
@@ -52,8 +52,8 @@ impl Extras {
         }
     }
 
-    /// What is read from the value at the name: none where the name is absent. A value that does not read is refused
-    /// as its type refuses it, with `Json`.
+    /// Returns what `T` reads from the value at the name, or `None` if the name is absent. A value
+    /// that `T` cannot be read from is refused with `Json`.
     pub fn get<T: Claims>(&self, alloc: Global, name: &str) -> Result<Option<T>>
         ensures ok { IfOk result (ReadsMember T.reads (get_member name.now self.now)) }
         ensures err { IfErr result (RefusesAs kind.Json ((d : Data) × (get_member name.now self.now ≡ Some d)
@@ -68,8 +68,8 @@ impl Extras {
         }
     }
 
-    /// Puts the value at the key, in place of one that stood there. One of the header's fifteen names, a value that
-    /// cannot be written and a value with a float are refused with `Json`.
+    /// Puts the value at the key, replacing the previous one. One of the header's fifteen names, a
+    /// value that cannot be written and a value with a float are refused with `Json`.
     pub fn insert<T: Claims>(&mut self, alloc: Global, key: &str, value: &T) -> Result<()>
         ensures ok { OnOk result (inserted key.now (T.written value.now) self.old ≡ Some self.new) }
         ensures err { IfErr result (RefusesAs kind.Json (inserted key.now (T.written value.now) self.old ≡ None)) }
@@ -86,7 +86,7 @@ impl Extras {
         Ok(())
     }
 
-    /// The members.
+    /// Returns the members.
     pub fn inner(&self) -> &BTreeMap<String, Value>
         ensures value { members_view result.now.entries ≡ self.now }
         ensures extras { IsExtras self.now }
@@ -94,7 +94,7 @@ impl Extras {
         &self.members
     }
 
-    /// The members as a JSON object. The only refusal is `OutOfMemory`.
+    /// Returns the members as a JSON object. The only refusal is `OutOfMemory`.
     pub fn to_value(&self, _alloc: Global) -> Result<Value>
         ensures ok { IfOk result (λ v. view v ≡ object self.now) }
         ensures reads_back { IfOk result (λ v. ReadsExtras (view v) self.now) }
@@ -104,8 +104,8 @@ impl Extras {
         Ok(Value::Object(members))
     }
 
-    /// The members of a JSON object. Any other value, one of the header's fifteen names and a float are refused with
-    /// `Json`.
+    /// Returns the members of a JSON object. Any other value, one of the header's fifteen names and
+    /// a float are refused with `Json`.
     pub fn from_value(_alloc: Global, value: &Value) -> Result<Extras>
         ensures ok { IfOk result (λ e. ReadsExtras (view value.now) e) }
         ensures err { IfErr result (RefusesAs kind.Json ((e : Members) → ¬ ReadsExtras (view value.now) e)) }
@@ -123,7 +123,7 @@ impl Extras {
         Ok(Extras { members })
     }
 
-    /// A copy. The only refusal is `OutOfMemory`.
+    /// Returns a copy. The only refusal is `OutOfMemory`.
     pub fn clone(&self, _alloc: Global) -> Result<Extras>
         ensures ok { IfOk result (λ e. e ≡ self.now) }
         ensures err { IfErr result IsMemory }
@@ -140,7 +140,7 @@ impl Extras {
         clone_members(&self.members)
     }
 
-    // The members of a header that have none of its names.
+    // Returns the members of a header that have none of its names.
     pub(crate) fn among(alloc: Global, members: &Map<String, Value>) -> Result<Extras>
         ensures ok { IfOk result (λ e. without header_names (members_view members.now.entries) ≡ e) }
         ensures extras { IfOk result IsExtras }
@@ -151,7 +151,7 @@ impl Extras {
         Ok(Extras { members })
     }
 
-    /// Whether there is a member of this name.
+    /// Returns whether there is a member of this name.
     pub fn contains(&self, name: &str) -> bool
         ensures { result ≡ is_some (get_member name.now self.now) }
     {
@@ -165,16 +165,16 @@ impl Extras {
     }
 }
 
-/// Whether a header has a member of this name of its own (RFC 7515 section 4.1, RFC 7516 section 4.1, RFC 8555 section
-/// 6.2), so that it is no extra.
+/// Returns whether the name is one of the fifteen that a header has fields for (RFC 7515 section
+/// 4.1, RFC 7516 section 4.1, RFC 8555 section 6.2), so that it is not an extra.
 pub fn is_header_name(name: &str) -> bool
     ensures { result ≡ is_named header_names name.now }
 {
     is_one_of(name, &header_names())
 }
 
-// The names of a header's own members (RFC 7515 section 4.1, RFC 7516 section 4.1, RFC 8555 section
-// 6).
+// Returns the names that a header has fields for (RFC 7515 section 4.1, RFC 7516 section 4.1, RFC
+// 8555 section 6).
 fn header_names() -> [&'static str; 15]
     ensures { map (λ s. s.now) result ≡ header_names }
 {
@@ -184,7 +184,7 @@ fn header_names() -> [&'static str; 15]
     ]
 }
 
-/// The same names with the same values, where any two floats count as equal.
+/// Compares the names and the values. Any two floats count as equal.
 impl PartialEq for Extras {
     ghost use Rattle.std.specs.Cmp.{partial_equiv_from_equiv};
     ghost use Rattle.jwt_base.specs.DataEq.{members_eq, members_marked};

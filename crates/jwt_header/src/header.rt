@@ -22,6 +22,7 @@ use jwt_base::errors::{ErrorKind, Result, new_error};
 use jwt_base::json::members::{
     optional_text, optional_texts, put_optional_text, put_optional_texts, put_text,
 };
+use jwt_base::json::value_text;
 use jwt_base::text::{Text, Texts, clone_text, clone_texts};
 use jwt_keys::jwk::Jwk;
 use serde_json::{Map, Value};
@@ -37,29 +38,29 @@ pub struct Header {
     pub typ: Option<Text>,
     /// The type of the payload, `cty` (section 4.1.10).
     pub cty: Option<Text>,
-    /// Where the key set is found, `jku` (section 4.1.2).
+    /// The URL of the key set, `jku` (section 4.1.2).
     pub jku: Option<Text>,
     /// The key that verifies the token, `jwk` (section 4.1.3).
     pub jwk: Option<Jwk>,
-    /// Which key signs, `kid` (section 4.1.4).
+    /// The identifier of the key, `kid` (section 4.1.4).
     pub kid: Option<Text>,
-    /// Where the certificates are found, `x5u` (section 4.1.5).
+    /// The URL of the certificates, `x5u` (section 4.1.5).
     pub x5u: Option<Text>,
     /// The SHA-1 digest of the key's certificate in base64url, `x5t` (section 4.1.7).
     pub x5t: Option<Text>,
     /// The SHA-256 digest of the key's certificate in base64url, `x5t#S256` (section 4.1.8).
     pub x5t_s256: Option<Text>,
-    /// Where the request goes, `url` (RFC 8555 section 6.4).
+    /// The URL of the request, `url` (RFC 8555 section 6.4).
     pub url: Option<Text>,
     /// The value against replay, `nonce` (RFC 8555 section 6.5).
     pub nonce: Option<Text>,
     /// The key's certificate and those that certify it, each in standard base64, `x5c` (section 4.1.6).
     pub x5c: Option<Texts>,
-    /// The names that have to be understood, `crit` (section 4.1.11).
+    /// The names that must be understood, `crit` (section 4.1.11).
     pub crit: Option<Texts>,
-    /// How the content is encrypted, `enc` (RFC 7516 section 4.1.2).
+    /// The algorithm that encrypts the content, `enc` (RFC 7516 section 4.1.2).
     pub enc: Option<Enc>,
-    /// How the content is compressed, `zip` (RFC 7516 section 4.1.3).
+    /// The algorithm that compresses the content, `zip` (RFC 7516 section 4.1.3).
     pub zip: Option<Zip>,
     /// The members that the standards do not name (section 4.3).
     pub extras: Extras,
@@ -68,10 +69,12 @@ pub struct Header {
 impl Header {
     ghost use Rattle.jwt_header.specs.Certificates.{AreCertificates};
     ghost use Rattle.jwt_header.specs.Header.{ReadsHeader, new_header, with_named, header_members, header_value};
-    ghost use Rattle.jwt_header.specs.HeaderWritten.{IsNormal, HasNormalForm};
+    ghost use Rattle.jwt_base.specs.Written.{HasText};
+    ghost use Rattle.jwt_header.specs.HeaderWritten.{normal_header, IsNormal, HasNormalForm};
     ghost use Rattle.jwt_header.specs.declared.header.Header.{Header};
 
-    /// The header with this algorithm, the type `JWT`, and nothing else. The only refusal is `OutOfMemory`.
+    /// Returns the header with this algorithm, the type `JWT`, and nothing else. The only refusal
+    /// is `OutOfMemory`.
     pub fn new(alloc: Global, algorithm: Algorithm) -> Result<Header>
         ensures ok { IfOk result (λ h. h ≡ new_header algorithm) }
         ensures err { IfErr result IsMemory }
@@ -96,9 +99,10 @@ impl Header {
         })
     }
 
-    /// The header that a JSON object reads as. `alg` has to be one of the twelve names. The other members may be absent
-    /// or null, and every further one goes to the extras with its value. A value that is no object, a member of a wrong
-    /// type, a `jwk` that is no key and a float among the extras are refused with `Json`.
+    /// Returns the header that a JSON object describes. `alg` must be one of the twelve names. The
+    /// other members may be absent or null, and every further member becomes an extra. A value that
+    /// is not an object, a member of a wrong type, a `jwk` that is not a key and a float among the
+    /// extras are refused with `Json`.
     pub fn from_value(alloc: Global, value: &Value) -> Result<Header>
         ensures ok { IfOk result (λ h. ReadsHeader (view value.now) h) }
         ensures normal { IfOk result IsNormal }
@@ -108,8 +112,8 @@ impl Header {
         Ok(header)
     }
 
-    /// The JSON object of the members that are there and the extras. A `jwk` that cannot be written is refused with
-    /// `Json`.
+    /// Returns the JSON object of the members that are present and the extras. A `jwk` that cannot
+    /// be written is refused with `Json`.
     pub fn to_value(&self, alloc: Global) -> Result<Value>
         ensures ok { IfOk result (λ v. header_value self.now ≡ Some (view v)) }
         ensures no_float { IfOk result (λ v. has_float (view v) ≡ false) }
@@ -120,8 +124,18 @@ impl Header {
         Ok(Value::Object(members))
     }
 
-    /// The bytes of each certificate of `x5c`, in order, and none where there is no `x5c`. An entry that is no text of
-    /// standard base64 with padding (RFC 4648 section 4) is refused with `Base64`.
+    /// Returns the compact JSON text of the header, as [`to_value`](Header::to_value) writes it and with its refusals.
+    pub fn to_text(&self, alloc: Global) -> Result<Vec<u8>>
+        ensures ok { IfOk result (λ text. HasText ReadsHeader header_value normal_header self.now text.items) }
+        ensures err { IfErr result (RefusesAs kind.Json (header_value self.now ≡ None)) }
+    {
+        let value = self.to_value(alloc)?;
+        value_text(alloc, &value)
+    }
+
+    /// Returns the bytes of each certificate of `x5c`, in order, or `None` if there is no `x5c`. An
+    /// entry that is not standard base64 with padding (RFC 4648 section 4) is refused with
+    /// `Base64`.
     pub fn x5c_der(&self, alloc: Global) -> Result<Option<Vec<Vec<u8>>>>
         ensures ok { IfOk result (λ o. AreCertificates self.now.x5c (option_map (λ v. map (λ b. b.items) v.items) o)) }
         ensures err { IfErr result (RefusesAs kind.Base64
@@ -136,7 +150,7 @@ impl Header {
         }
     }
 
-    /// A copy. The only refusal is `OutOfMemory`.
+    /// Returns a copy. The only refusal is `OutOfMemory`.
     pub fn clone(&self, alloc: Global) -> Result<Header>
         ensures ok { IfOk result (λ h. h ≡ self.now) }
         ensures err { IfErr result IsMemory }
@@ -201,7 +215,7 @@ impl Header {
         Ok(members)
     }
 
-    // The members with a name of their own, but for the key.
+    // Puts the members with a field of their own, except for the key.
     fn put_named(&self, alloc: Global, members: &mut Map<String, Value>) -> Result<()>
         ensures ok { OnOk result (members_view members.new.entries
             ≡ with_named self.now (members_view members.old.entries)) }
@@ -272,7 +286,7 @@ fn optional_zip(alloc: Global, value: &Value) -> Result<Option<Zip>>
     }
 }
 
-// What the key is written as, where there is one.
+// Returns the value that the key is written as, if there is one.
 fn written_jwk(alloc: Global, jwk: &Option<Jwk>) -> Result<Option<Value>>
     ensures ok { IfOk result (λ v. written_optional key_value jwk.now ≡ Some (option_map view v)) }
     ensures err { IfErr result (RefusesAs kind.Json (written_optional key_value jwk.now ≡ None)) }
@@ -357,7 +371,7 @@ fn clone_zip(alloc: Global, zip: &Option<Zip>) -> Result<Option<Zip>>
     }
 }
 
-/// The same fields, where any two floats among the extras and the members of `jwk` count as equal.
+/// Compares the fields. Any two floats among the extras and the members of `jwk` count as equal.
 impl PartialEq for Header {
     ghost use Rattle.std.specs.Cmp.{partial_equiv_from_equiv};
     ghost use Rattle.jwt_header.specs.Header.{marked_header};

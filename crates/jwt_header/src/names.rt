@@ -1,4 +1,4 @@
-//! The header values that are known by their names.
+//! Header values that are known by their names.
 
 ghost use Rattle.std.specs.Prelude.{◌≡◌, Some, None, IfOk, IfErr};
 ghost use Rattle.serde_json.specs.View.{view};
@@ -11,8 +11,8 @@ use serde_json::Value;
 use std::alloc::Global;
 use std::hash::{Hash, Hasher};
 
-/// How the content of an encrypted token is encrypted, `enc` (RFC 7518 section 5.1). It is read and written, and
-/// nothing is encrypted here.
+/// The algorithm that encrypts the content of an encrypted token, `enc` (RFC 7518 section 5.1). It
+/// is read and written; this library encrypts nothing.
 #[derive(Debug, Drop, Eq)]
 pub enum Enc {
     /// AES-128 in CBC mode with HMAC SHA-256.
@@ -34,7 +34,7 @@ pub enum Enc {
 impl Enc {
     ghost use Rattle.jwt_header.specs.Enc.{enc_text, enc_named, enc_from, enc_value, normal_enc, is_other_enc};
 
-    /// The name as a JSON text. The only refusal is `OutOfMemory`.
+    /// Returns the name as a JSON string. The only refusal is `OutOfMemory`.
     pub fn to_value(&self, alloc: Global) -> Result<Value>
         ensures ok { IfOk result (λ v. view v ≡ enc_value self.now) }
         ensures reads_back { IfOk result (λ v. enc_from (view v) ≡ Some (normal_enc self.now)) }
@@ -43,7 +43,8 @@ impl Enc {
         Ok(Value::try_from_str(alloc, self.as_str())?)
     }
 
-    /// What a JSON text names: one of the six, or `Other`. A value that is no text is refused with `Json`.
+    /// Returns the algorithm that a JSON string names: one of the six known ones, or `Other`. A
+    /// value that is not a string is refused with `Json`.
     pub fn from_value(alloc: Global, value: &Value) -> Result<Enc>
         ensures ok { IfOk result (λ e. enc_from (view value.now) ≡ Some e) }
         ensures err { IfErr result (RefusesAs kind.Json (enc_from (view value.now) ≡ None)) }
@@ -52,7 +53,7 @@ impl Enc {
         Enc::named(alloc, name)
     }
 
-    /// A copy. The only refusal is `OutOfMemory`.
+    /// Returns a copy. The only refusal is `OutOfMemory`.
     pub fn clone(&self, alloc: Global) -> Result<Enc>
         ensures ok { IfOk result (λ e. e ≡ self.now) }
         ensures err { IfErr result IsMemory }
@@ -133,8 +134,8 @@ impl Hash for Enc {
     }
 }
 
-/// How the content of an encrypted token is compressed, `zip` (RFC 7516 section 4.1.3). It is read and written, and
-/// nothing is compressed here.
+/// The algorithm that compresses the content of an encrypted token, `zip` (RFC 7516 section 4.1.3).
+/// It is read and written; this library compresses nothing.
 #[derive(Debug, Drop, Eq)]
 pub enum Zip {
     /// DEFLATE, `DEF`.
@@ -146,7 +147,7 @@ pub enum Zip {
 impl Zip {
     ghost use Rattle.jwt_header.specs.Zip.{zip_text, zip_named, zip_from, zip_value, normal_zip, is_other_zip};
 
-    /// The name as a JSON text. The only refusal is `OutOfMemory`.
+    /// Returns the name as a JSON string. The only refusal is `OutOfMemory`.
     pub fn to_value(&self, alloc: Global) -> Result<Value>
         ensures ok { IfOk result (λ v. view v ≡ zip_value self.now) }
         ensures reads_back { IfOk result (λ v. zip_from (view v) ≡ Some (normal_zip self.now)) }
@@ -155,7 +156,8 @@ impl Zip {
         Ok(Value::try_from_str(alloc, self.as_str())?)
     }
 
-    /// What a JSON text names: `DEF`, or `Other`. A value that is no text is refused with `Json`.
+    /// Returns the algorithm that a JSON string names: `DEF`, or `Other`. A value that is not a
+    /// string is refused with `Json`.
     pub fn from_value(alloc: Global, value: &Value) -> Result<Zip>
         ensures ok { IfOk result (λ z. zip_from (view value.now) ≡ Some z) }
         ensures err { IfErr result (RefusesAs kind.Json (zip_from (view value.now) ≡ None)) }
@@ -164,7 +166,7 @@ impl Zip {
         Zip::named(alloc, name)
     }
 
-    /// A copy. The only refusal is `OutOfMemory`.
+    /// Returns a copy. The only refusal is `OutOfMemory`.
     pub fn clone(&self, alloc: Global) -> Result<Zip>
         ensures ok { IfOk result (λ z. z ≡ self.now) }
         ensures err { IfErr result IsMemory }

@@ -62,7 +62,7 @@ code_of_one h k m s holds = (
   λ e l q. ∥∥₁_elim holds (Coded-set (coded_list coded_ℕ) _ _) (λ p. e ∙ one_code h k l m p q),
 )
 
--- an answer that is right for each secret that is held is right where one is
+-- a result that is right for each secret that is held is right if one is held
 pub right_answer : (h : Hashers) (m s : List ℕ) (answer : Bool) → ∥ ((k : List ℕ) × HoldSecret h k) ∥₁
     → ((k : List ℕ) → HoldSecret h k → IsTrue answer ↔ (s ≡ hmac (hash_of h) k m))
     → IsTrue answer ↔ IsCodeByHeld h m s

@@ -5,7 +5,7 @@ use Rattle.std.proofs.lemmas.List.{take-replicate, take-map}
 use Rattle.std.specs.Int.Bits.{xor_assoc, xor_self, xor_zero_r}
 use Rattle.jwt_hmac.specs.Hmac.{masked, filled}
 
--- a mask twice is none
+-- a mask twice changes nothing
 pub xor_twice : (m b : ℕ) → bit_xor (bit_xor b m) m ≡ b
 xor_twice m b = xor_assoc b m m ∙ ap (bit_xor b) (xor_self m) ∙ xor_zero_r b
 
@@ -20,6 +20,6 @@ shorter n p k h g =
     let s : n - length k ≤ p - length k = omega arith in
     rw e at (take-append-add k (replicate (p - length k) 0) (n - length k)) ∙ ap (λ ys. k ++ ys) (take-replicate (n - length k) (p - length k) 0 s)
 
--- what is masked and cut is cut and masked
+-- masking and then cutting is the same as cutting and then masking
 pub masked_block : (mask n : ℕ) (k block : List ℕ) → length k ≤ n → n ≤ 128 → block ≡ masked mask (filled 128 k) → take n block ≡ masked mask (filled n k)
 masked_block mask n k block h g e = ap (take n) e ∙ take-map (λ b. bit_xor b mask) n (filled 128 k) ∙ ap (masked mask) (shorter n 128 k h g)

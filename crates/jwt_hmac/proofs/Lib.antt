@@ -1,3 +1,4 @@
+pub mod OwnCodes
 pub mod HeldSecrets
 pub mod HmacMasks
 pub mod OneDigest256

@@ -17,7 +17,7 @@ block_len Sha256 = 64
 block_len Sha384 = 128
 block_len Sha512 = 128
 
--- the key, or its digest where it is longer than B (RFC 2104 section 2)
+-- the key, or its digest if it is longer than B (RFC 2104 section 2)
 abbrev pub short_key : Hash → List ℕ → List ℕ
 short_key h k = if nat_lt (block_len h) (length k) then hash_bytes h k else k
 

@@ -1,4 +1,4 @@
--- What the provider of HMAC makes, signs and accepts.
+-- The keys, signatures and refusals of the provider of HMAC.
 use Rattle.std.specs.Prelude.{◌≡◌, ℕ, List, Option, Some, None}
 use Rattle.jwt_base.specs.Kind.{Kind}
 use Rattle.jwt_base.specs.Kind as kind
@@ -33,7 +33,7 @@ hash_named SHA384 = Sha384
 hash_named SHA512 = Sha512
 
 -- the kind with which a factory refuses, by the algorithm's hash and the key's family; the length
--- of a secret, of which RFC 7518 section 3.2 speaks, is not looked at
+-- of a secret, which RFC 7518 section 3.2 restricts, does not matter
 abbrev pub refusal : Option Hash → AlgorithmFamily → Option Kind
 refusal None f = Some kind.UnsupportedAlgorithm
 refusal (Some h) family.Hmac = None
@@ -56,8 +56,8 @@ abbrev pub HmacAccepts : Algorithm → Key → List ℕ → List ℕ → Type 0
 HmacAccepts a (Plain f secret) message signature = IsHmacOf (hash_for a) secret message signature
 HmacAccepts a (Components n e) message signature = ⊥
 
--- What a key signs, the key to verify with of the same secret accepts; and where a signer is made
--- for the one, a verifier is made for the other.
+-- The key to verify with of a secret accepts every signature by the key to sign with of the same
+-- secret; and if a signer is made for the one, a verifier is made for the other.
 pub record AcceptsItsOwn (a : Algorithm) : Type 0 where
   pub accepted : (key : SecretKey) (m s : List ℕ) → HmacSigns a key m s
       → HmacAccepts a (Plain family.Hmac key.bytes) m s

@@ -1,4 +1,4 @@
--- Which secrets a provider keeps prepared, and what signs or verifies by one.
+-- The secrets that a provider keeps prepared, and the signers and verifiers by one of them.
 use Rattle.std.specs.Prelude.{◌≡◌, ℕ, List, Contains, map, ⊤}
 use Rattle.jwt_base.specs.declared.algorithms.Algorithm.{Algorithm}
 use Rattle.jwt_keys.specs.Key.{Key, Plain, Components, zeros}
@@ -29,11 +29,11 @@ abbrev pub IsPreparedKey : PreparedHmac → Algorithm → Key → Type 0
 IsPreparedKey p a (Plain f secret) = IsPrepared p a secret
 IsPreparedKey p a (Components n e) = ⊥
 
--- every byte of the secret made 0
+-- every byte of the secret set to 0
 abbrev pub cleared_key : Algorithm × List ℕ → Algorithm × List ℕ
 cleared_key k = (k.0, zeros k.1)
 
--- the algorithm of what signs or verifies
+-- the algorithm of a signer or a verifier
 abbrev pub algorithm_of : Keyed → Algorithm
 algorithm_of (Fresh b) = algorithm_for b.hash
 algorithm_of (Held h) = algorithm_for (hash_of h.hashers)

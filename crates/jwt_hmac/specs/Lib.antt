@@ -1,4 +1,5 @@
 pub mod Hmac
+pub mod HmacBlocks
 pub mod HmacFamilies
 pub mod HmacHashers
 pub mod HmacKeys

@@ -2,8 +2,8 @@
 
 ghost use Rattle.std.specs.Prelude.{◌≡◌, ◌↔◌, IsTrue};
 
-/// Whether the two are the same. Where their lengths are, every byte of both is read, and no branch is taken on what
-/// they hold. No memory is taken.
+/// Returns whether the two are the same. If their lengths are, every byte of both is read, and no
+/// branch depends on their bytes. Allocates no memory.
 pub fn is_same(expected: &[u8], given: &[u8]) -> bool
     ensures { IsTrue result ↔ (given.now ≡ expected.now) }
 {

@@ -1,4 +1,5 @@
-//! What is held of a secret for many messages: the hashers that have taken its two blocks in (RFC 2104 section 4).
+//! A secret that is kept for many messages: the hashers that have taken its two blocks in (RFC 2104
+//! section 4).
 
 ghost use Rattle.std.specs.Prelude.{◌≡◌, ◌↔◌, ℕ, List, ◌++◌, IfOk, IfErr, IsTrue};
 ghost use Rattle.jwt_base.specs.KindOf.{IsMemory};
@@ -21,7 +22,7 @@ pub(crate) enum Hashers {
     By512(Sha512, Sha512),
 }
 
-// The message goes into the first, and its digest into the second.
+// Feeds the message to the first hasher, and its digest to the second.
 fn finish_by<const N: usize, D: Digest<Output = [u8; N]>>(
     mut first: D,
     mut second: D,
@@ -225,7 +226,7 @@ impl PreparedKey {
         self.held.hash() == hash && is_same(secret, self.secret.as_slice())
     }
 
-    // Every byte of the secret is made 0, and the hashers are those of what it is then.
+    // Sets every byte of the secret to 0, and the hashers to those of the cleared secret.
     pub(crate) fn zeroize(&mut self)
         ensures secret { self.new.secret.items ≡ zeros self.old.secret.items }
         ensures hash { hash_of self.new.held.hashers ≡ hash_of self.old.held.hashers }

@@ -5,8 +5,9 @@ ghost use Rattle.jwt_base.specs.Kind as kind;
 ghost use Rattle.jwt_base.specs.KindOf.{kind_of, IsMemory, Refuses};
 ghost use Rattle.jwt_keys.specs.Key.{Key, Plain, SecretKey, key_family};
 ghost use Rattle.jwt_keys.specs.Provider.{HasOneSignature, reads_no_key};
-ghost use Rattle.jwt_hmac.specs.Hmac.{hash_bytes, block_len, short_key, inner_block, outer_block, filled, masked, nested, hmac, mac_by, HaveOneKey};
+ghost use Rattle.jwt_hmac.specs.Hmac.{hash_bytes, block_len, short_key, filled, masked, nested, hmac, mac_by, HaveOneKey};
 ghost use Rattle.jwt_hmac.specs.HmacKeys.{hash_for, hash_named, algorithm_for, refusal, HmacSigns, HmacAccepts, AcceptsItsOwn};
+ghost use Rattle.jwt_hmac.specs.HmacBlocks.{AreBlocksOf, AreBlocksOfKey};
 ghost use Rattle.jwt_hmac.specs.HmacFamilies.{family_made};
 
 use crate::comparison::is_same;
@@ -20,16 +21,19 @@ use jwt_params::thumbprints::ThumbprintHash;
 use sha2::{Digest, Sha256, Sha384, Sha512};
 use std::alloc::Global;
 
-// A hash function.
+/// A hash function of SHA-2 (RFC 6234).
 #[derive(Clone, Copy, PartialEq, Eq)]
-pub(crate) enum Hash {
+pub enum Hash {
+    /// SHA-256.
     Sha256,
+    /// SHA-384.
     Sha384,
+    /// SHA-512.
     Sha512,
 }
 
 impl Hash {
-    // B, the length of a block in bytes.
+    // Returns B, the length of a block in bytes.
     fn block_len(self) -> usize
         ensures { result ≡ block_len self }
     {
@@ -49,7 +53,8 @@ impl Hash {
         }
     }
 
-    fn digest(self, alloc: Global, bytes: &[u8]) -> Result<Vec<u8>>
+    /// Returns the digest of the bytes. The only refusal is `OutOfMemory`.
+    pub fn digest(self, alloc: Global, bytes: &[u8]) -> Result<Vec<u8>>
         ensures ok { IfOk result (λ d. d.items ≡ hash_bytes self bytes.now) }
         ensures err { IfErr result IsMemory }
     {
@@ -61,7 +66,7 @@ impl Hash {
     }
 }
 
-// The two hashes of the formula, each fed with a block and then with the rest.
+// Computes the two hashes of the formula, each fed with a block and then with the rest.
 fn nested_by<const N: usize, D: Digest<Output = [u8; N]>>(
     inner: &[u8],
     outer: &[u8],
@@ -97,7 +102,7 @@ fn nested_512(inner: &[u8], outer: &[u8], message: &[u8]) -> [u8; 64]
     nested_by::<64, Sha512>(inner, outer, message)
 }
 
-// The bytes, filled with zero bytes.
+// Returns the bytes, filled with zero bytes.
 fn fill(bytes: &[u8]) -> [u8; 128]
     requires { length bytes.now ≤ 128 }
     ensures { result ≡ filled 128 bytes.now }
@@ -107,7 +112,7 @@ fn fill(bytes: &[u8]) -> [u8; 128]
     key
 }
 
-// Each byte xor the mask.
+// Returns each byte xor the mask.
 fn mask_bytes(bytes: &[u8; 128], mask: u8) -> [u8; 128]
     ensures { result ≡ masked mask bytes.now }
 {
@@ -118,7 +123,7 @@ fn mask_bytes(bytes: &[u8; 128], mask: u8) -> [u8; 128]
     masked
 }
 
-// The secret, or its digest where it is longer than a block, filled with zero bytes.
+// Returns the secret, or its digest if it is longer than a block, filled with zero bytes.
 fn filled_key(hash: Hash, secret: &[u8]) -> [u8; 128]
     ensures key { result ≡ filled 128 (short_key hash secret.now) }
     ensures fits { length (short_key hash secret.now) ≤ block_len hash }
@@ -134,8 +139,8 @@ fn filled_key(hash: Hash, secret: &[u8]) -> [u8; 128]
     }
 }
 
-// What is kept of a secret: K' xor ipad and K' xor opad, of which the first B bytes count. The secret itself is not
-// kept.
+// The two blocks of a secret: K' xor ipad and K' xor opad, of which the first B bytes count. The
+// secret itself is not kept.
 #[derive(Drop)]
 pub(crate) struct Blocks {
     pub(crate) hash: Hash,
@@ -147,8 +152,7 @@ pub(crate) struct Blocks {
 impl Blocks {
     pub(crate) fn new(hash: Hash, secret: &[u8]) -> Blocks
         ensures hash { result.hash ≡ hash }
-        ensures inner { take (block_len hash) result.inner ≡ inner_block hash secret.now }
-        ensures outer { take (block_len hash) result.outer ≡ outer_block hash secret.now }
+        ensures blocks { AreBlocksOf result.hash result.inner result.outer secret.now }
         ensures mac { (m : List ℕ) → mac_by hash result.inner result.outer m ≡ hmac hash secret.now m }
     {
         let key = filled_key(hash, secret);
@@ -209,7 +213,7 @@ pub(crate) fn hash_of_algorithm(algorithm: Algorithm) -> Option<Hash>
     }
 }
 
-// The hash of an algorithm of HMAC, where the key is of its family.
+// Returns the hash of an algorithm of HMAC, if the key is of its family.
 pub(crate) fn hash_for_key(algorithm: Algorithm, family: AlgorithmFamily) -> Result<Hash>
     ensures hash { IfOk result (λ h. hash_for algorithm ≡ Some h) }
     ensures made { OnOk result (refusal (hash_for algorithm) family ≡ None) }
@@ -241,7 +245,7 @@ pub(crate) fn unsupported() -> Error
     new_error(ErrorKind::UnsupportedAlgorithm)
 }
 
-/// Signs by HMAC. The secret is not kept.
+/// A signer by HMAC. The secret is not kept.
 #[derive(Drop)]
 pub struct HmacSigner {
     blocks: Blocks,
@@ -258,13 +262,13 @@ impl JwtSigner for HmacSigner {
         self.blocks.algorithm()
     }
 
-    /// The code of the message. The only refusal is `OutOfMemory`.
+    /// Returns the code of the message. The only refusal is `OutOfMemory`.
     fn sign(&self, alloc: Global, message: &[u8]) -> Result<Vec<u8>> {
         self.blocks.sign(alloc, message)
     }
 }
 
-/// Verifies by HMAC. The secret is not kept.
+/// A verifier by HMAC. The secret is not kept.
 #[derive(Drop)]
 pub struct HmacVerifier {
     blocks: Blocks,
@@ -281,12 +285,18 @@ impl JwtVerifier for HmacVerifier {
         self.blocks.algorithm()
     }
 
-    /// Whether these bytes are the code of the message. It is never refused.
+    /// Returns whether these bytes are the code of the message. Never refuses.
     fn verify(&self, _alloc: Global, message: &[u8], signature: &[u8]) -> Result<bool>
         ensures ok { IsOk result }
         ensures verdict { IfOk result (λ yes. IsTrue yes
             ↔ ⟦<HmacVerifier as JwtVerifier>⟧.accepts self.now message.now signature.now) }
         ensures one_signature { HasOneSignature (⟦<HmacVerifier as JwtVerifier>⟧.accepts self.now) }
+
+        // It accepts the code that the signer of the same algorithm and secret gives.
+        ensures own_signatures { (key : SecretKey)
+            → AreBlocksOf self.now.blocks.hash self.now.blocks.inner self.now.blocks.outer key.bytes
+            → HmacSigns (⟦<HmacVerifier as JwtVerifier>⟧.verifies_by self.now) key message.now signature.now
+            → IfOk result IsTrue }
     {
         Ok(self.blocks.verify(message, signature))
     }
@@ -316,22 +326,33 @@ impl CryptoProvider for HmacProvider {
 
     ghost key_answers = { λ _. reads_no_key kind.UnsupportedAlgorithm (λ h bytes. Ok (hash_bytes (hash_named h) bytes)) };
 
-    /// A signer by HMAC. An algorithm of another family is refused with `UnsupportedAlgorithm`, and then a key of another
-    /// family with `InvalidKeyFormat`. No memory is taken.
+    /// Returns a signer by HMAC. An algorithm of another family is refused with
+    /// `UnsupportedAlgorithm`, and then a key of another family with `InvalidKeyFormat`. Allocates
+    /// no memory.
     fn signer_factory(
         &self,
         _alloc: Global,
         algorithm: &Algorithm,
         key: &EncodingKey,
-    ) -> Result<HmacSigner> {
+    ) -> Result<HmacSigner>
+        ensures made { OnOk result (refusal (hash_for algorithm.now) key.now.family ≡ None) }
+        ensures err { IfErr result (Refuses (refusal (hash_for algorithm.now) key.now.family)) }
+        ensures by { IfOk result (λ s. ⟦<HmacSigner as JwtSigner>⟧.signs_by s ≡ algorithm.now) }
+        ensures signs { IfOk result (λ s. (m b : List ℕ) →
+            ⟦<HmacSigner as JwtSigner>⟧.signs s m b ↔ HmacSigns algorithm.now key.now m b) }
+        ensures sparing { IfErr result (λ e. kind_of e ≢ kind.OutOfMemory) }
+        ensures blocks { IfOk result (λ s.
+            AreBlocksOf s.blocks.hash s.blocks.inner s.blocks.outer key.now.bytes) }
+    {
         let hash = hash_for_key(*algorithm, key.family())?;
         Ok(HmacSigner {
             blocks: Blocks::new(hash, key.as_bytes()),
         })
     }
 
-    /// A verifier by HMAC. An algorithm of another family is refused with `UnsupportedAlgorithm`, and then a key of
-    /// another family with `InvalidKeyFormat`. No memory is taken.
+    /// Returns a verifier by HMAC. An algorithm of another family is refused with
+    /// `UnsupportedAlgorithm`, and then a key of another family with `InvalidKeyFormat`. Allocates
+    /// no memory.
     fn verifier_factory(
         &self,
         _alloc: Global,
@@ -346,6 +367,8 @@ impl CryptoProvider for HmacProvider {
         ensures sparing { IfErr result (λ e. kind_of e ≢ kind.OutOfMemory) }
         ensures one_signature { HasOneSignature (HmacAccepts algorithm.now key.now) }
         ensures own_signatures { AcceptsItsOwn algorithm.now }
+        ensures blocks { IfOk result (λ v.
+            AreBlocksOfKey v.blocks.hash v.blocks.inner v.blocks.outer key.now) }
     {
         let hash = hash_for_key(*algorithm, key.family())?;
         let secret = key.try_get_as_bytes()?;
@@ -388,7 +411,7 @@ impl CryptoProvider for HmacProvider {
         Err(unsupported())
     }
 
-    /// The digest by SHA-2. The only refusal is `OutOfMemory`.
+    /// Returns the digest by SHA-2. The only refusal is `OutOfMemory`.
     fn compute_digest(&self, alloc: Global, bytes: &[u8], hash: ThumbprintHash) -> Result<Vec<u8>> {
         hash_of_thumbprint(hash).digest(alloc, bytes)
     }

@@ -6,5 +6,5 @@ mod held;
 mod hmac;
 mod prepared;
 
-pub use hmac::{HmacProvider, HmacSigner, HmacVerifier};
+pub use hmac::{Hash, HmacProvider, HmacSigner, HmacVerifier};
 pub use prepared::{PreparedHmac, PreparedSigner, PreparedVerifier};

@@ -23,7 +23,7 @@ use jwt_params::curves::EllipticCurve;
 use jwt_params::thumbprints::ThumbprintHash;
 use std::alloc::Global;
 
-// What signs or verifies: a secret's blocks, or the hashers that were kept.
+// The content of a signer or a verifier: a secret's blocks, or the hashers that were kept.
 #[derive(Drop)]
 enum Keyed {
     Fresh(Blocks),
@@ -60,7 +60,7 @@ impl Keyed {
     }
 }
 
-/// Signs by HMAC. The secret is not kept.
+/// A signer by HMAC. The secret is not kept.
 #[derive(Drop)]
 pub struct PreparedSigner {
     keyed: Keyed,
@@ -77,13 +77,13 @@ impl JwtSigner for PreparedSigner {
         self.keyed.algorithm()
     }
 
-    /// The code of the message. The only refusal is `OutOfMemory`.
+    /// Returns the code of the message. The only refusal is `OutOfMemory`.
     fn sign(&self, alloc: Global, message: &[u8]) -> Result<Vec<u8>> {
         self.keyed.sign(alloc, message)
     }
 }
 
-/// Verifies by HMAC. The secret is not kept.
+/// A verifier by HMAC. The secret is not kept.
 #[derive(Drop)]
 pub struct PreparedVerifier {
     keyed: Keyed,
@@ -100,7 +100,7 @@ impl JwtVerifier for PreparedVerifier {
         self.keyed.algorithm()
     }
 
-    /// Whether these bytes are the code of the message. It is never refused.
+    /// Returns whether these bytes are the code of the message. Never refuses.
     fn verify(&self, _alloc: Global, message: &[u8], signature: &[u8]) -> Result<bool>
         ensures ok { IsOk result }
         ensures verdict { IfOk result (λ yes. IsTrue yes
@@ -110,17 +110,18 @@ impl JwtVerifier for PreparedVerifier {
     }
 }
 
-/// The provider of HMAC that keeps secrets prepared, each for one algorithm: the hashers that have taken its two blocks
-/// in (RFC 2104 section 4). For every algorithm and key it means what `HmacProvider` means; where they are prepared ones
-/// it hashes two blocks less. It keeps the secrets, to tell which they are.
+/// The provider of HMAC that keeps secrets prepared, each for one algorithm: the hashers that have
+/// taken its two blocks in (RFC 2104 section 4). For every algorithm and key it returns what
+/// `HmacProvider` returns; if they are prepared ones, it hashes two blocks less. It keeps the
+/// secrets, to recognize the prepared ones.
 #[derive(Drop)]
 pub struct PreparedHmac {
     keys: Vec<PreparedKey>,
 }
 
 impl PreparedHmac {
-    /// The provider with this secret prepared for this algorithm. An algorithm of another family is refused with
-    /// `UnsupportedAlgorithm`.
+    /// Returns the provider with this secret prepared for this algorithm. An algorithm of another
+    /// family is refused with `UnsupportedAlgorithm`.
     pub fn new(alloc: Global, algorithm: Algorithm, secret: &[u8]) -> Result<PreparedHmac>
         ensures prepared { IfOk result (λ p. prepared_keys p ≡ (algorithm, secret.now) ∷ []) }
         ensures made { OnOk result (refusal (hash_for algorithm) family.Hmac ≡ None) }
@@ -134,7 +135,7 @@ impl PreparedHmac {
     }
 
     /// Prepares this secret for this algorithm, after those before it: for services whose secrets change. An algorithm
-    /// of another family is refused with `UnsupportedAlgorithm`. A refusal leaves the provider as it was.
+    /// of another family is refused with `UnsupportedAlgorithm`. A refusal leaves the provider unchanged.
     pub fn add(&mut self, alloc: Global, algorithm: Algorithm, secret: &[u8]) -> Result<()>
         ensures prepared { OnOk result (prepared_keys self.new ≡ prepared_keys self.old ++ (algorithm, secret.now) ∷ []) }
         ensures made { OnOk result (refusal (hash_for algorithm) family.Hmac ≡ None) }
@@ -149,7 +150,7 @@ impl PreparedHmac {
         Ok(())
     }
 
-    /// Whether this secret is prepared for this algorithm. No memory is taken.
+    /// Returns whether this secret is prepared for this algorithm. Allocates no memory.
     pub fn is_prepared(&self, algorithm: Algorithm, secret: &[u8]) -> bool
         ensures { IsTrue result ↔ IsPrepared self.now algorithm secret.now }
     {
@@ -159,8 +160,8 @@ impl PreparedHmac {
         }
     }
 
-    /// Makes every byte of the secrets 0, and the hashers those of what they are then. Their numbers and the algorithms
-    /// stay.
+    /// Sets every byte of the secrets to 0, and the hashers to those of the cleared secrets. The
+    /// numbers of bytes and the algorithms stay.
     pub fn zeroize(&mut self)
         ensures { prepared_keys self.new ≡ map cleared_key (prepared_keys self.old) }
     {
@@ -212,8 +213,8 @@ impl CryptoProvider for PreparedHmac {
 
     ghost key_answers = { λ _. reads_no_key kind.UnsupportedAlgorithm (λ h bytes. Ok (hash_bytes (hash_named h) bytes)) };
 
-    /// A signer by HMAC, refused as by `HmacProvider`. It is by the hashers that are kept exactly where the key's secret
-    /// is prepared for the algorithm. No memory is taken.
+    /// Returns a signer by HMAC, refused as by `HmacProvider`. It uses the hashers that are kept
+    /// exactly if the key's secret is prepared for the algorithm. Allocates no memory.
     fn signer_factory(
         &self,
         _alloc: Global,
@@ -234,8 +235,8 @@ impl CryptoProvider for PreparedHmac {
         })
     }
 
-    /// A verifier by HMAC, refused as by `HmacProvider`. It is by the hashers that are kept exactly where the key's
-    /// secret is prepared for the algorithm. No memory is taken.
+    /// Returns a verifier by HMAC, refused as by `HmacProvider`. It uses the hashers that are kept
+    /// exactly if the key's secret is prepared for the algorithm. Allocates no memory.
     fn verifier_factory(
         &self,
         _alloc: Global,
@@ -291,7 +292,7 @@ impl CryptoProvider for PreparedHmac {
         HmacProvider.ed_pub_components_from_private_key(alloc, der, curve)
     }
 
-    /// The digest by SHA-2. The only refusal is `OutOfMemory`.
+    /// Returns the digest by SHA-2. The only refusal is `OutOfMemory`.
     fn compute_digest(&self, alloc: Global, bytes: &[u8], hash: ThumbprintHash) -> Result<Vec<u8>> {
         HmacProvider.compute_digest(alloc, bytes, hash)
     }

@@ -1,4 +1,4 @@
--- What is written of a key reads as its normal form.
+-- A key, written and read again, is its normal form.
 use Rattle.std.proofs.Common.{◌≡◌, inl, inr, Bool, true, false, cond, Option, Some, None, option_map, option_and_then, unwrap_or, refl, sym, ap, ◌∙◌, subst}
 use Rattle.std.specs.Option.{option_or}
 use Rattle.serde_json.specs.Data.{Data, object, Members}
@@ -22,7 +22,7 @@ use Rattle.jwt_keys.specs.declared.jwk.Jwk.{Jwk}
 
 -- ---- reading
 
--- no key reads from the value
+-- no key can be read from the value
 abbrev pub RefusesKey : Data → Error → Type 0
 RefusesKey d = RefusesAs kind.Json ((k : Jwk) → ¬ ReadsKey d k)
 
@@ -72,7 +72,7 @@ reads_members k ms free kind = record {
   algorithm = ap (λ x. parameters_from (object x)) (without-with_common k.common ms free) ∙ kind;
 }
 
--- what was written is an object of the kind's members, which have no common name
+-- a written key is an object of the kind's members, which have no common name
 written_at : (k : Jwk) (d : Data) (b : Bool) (o : Option Members) → has_common k.algorithm ≡ b → parameters_members k.algorithm ≡ o → option_map object (cond b None (option_map (with_common k.common) o)) ≡ Some d → ReadsKey d (normal_key k)
 written_at k d true o e f is = absurd (cc)
 written_at k d false None e f is = absurd (cc)
@@ -90,7 +90,7 @@ no_float_at k ms false (Some ns) f is =
     let same : with_common k.common ns ≡ ms = ap (λ x. unwrap_or x ms) is in
     subst (λ x. members_have_float x ≡ false) same (common_no_float k.common ns (kind_no_float k.algorithm ns f))
 
--- what is written has no float
+-- a written key has no float
 pub written_no_float : (k : Jwk) (ms : Members) → key_members k ≡ Some ms → members_have_float ms ≡ false
 written_no_float k ms is = no_float_at k ms _ _ refl is
 
@@ -103,7 +103,7 @@ own_in (Some ms) a e =
     let own = kind_own ws a e in
     (ws, (own, own.free (has_named-without common_names ms)))
 
--- what was read is its own normal form, and it can be written
+-- a key that was read is its own normal form, and it can be written
 pub read_is_normal : (d : Data) (k : Jwk) → ReadsKey d k → IsNormal k
 read_is_normal d k r =
     let own = own_in (as_object d) k.algorithm r.algorithm in

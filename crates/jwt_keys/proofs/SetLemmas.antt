@@ -112,7 +112,7 @@ has_normal_set ks = record {
   told_apart = λ n ls m. (same_written ks ls n m, ap set_value);
 }
 
--- ---- no float in what is written
+-- ---- no float in a written set
 
 value_no_float : (k : Jwk) (o : Option Members) (d : Data) → key_members k ≡ o → option_map object o ≡ Some d → has_float d ≡ false
 value_no_float k None d e is = absurd (cc)

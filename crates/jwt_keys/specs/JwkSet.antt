@@ -19,7 +19,7 @@ ReadsKeys (item d ds) (k ∷ ks) = ReadsKey d k × ReadsKeys ds ks
 abbrev pub ReadsSet : Data → List Jwk → Type 0
 ReadsSet d ks = (ds : Items) × (get (codes "keys") d ≡ Some (array ds)) × ReadsKeys ds ks
 
--- the keys' values in their order; none where one cannot be written (RFC 7517 section 5.1)
+-- the keys' values in their order; None if one cannot be written (RFC 7517 section 5.1)
 abbrev pub key_values : List Jwk → Option (List Data)
 key_values [] = Some []
 key_values (k ∷ ks) =
@@ -39,8 +39,8 @@ pub record IsNormalSet (ks : List Jwk) : Type 0 where
   pub itself : normal_set ks ≡ ks
   pub written : (d : Data) × (set_value ks ≡ Some d)
 
--- What is written reads as the normal form alone; a normal form stays as it is; two normal forms
--- are told apart by what is written.
+-- A written value is read as its normal form alone; a normal form is its own; and two normal forms
+-- are the same if they are written alike.
 pub record HasNormalSet (ks : List Jwk) : Type 0 where
   pub reads_back : (d : Data) → set_value ks ≡ Some d
       → (ls : List Jwk) → ReadsSet d ls ↔ (ls ≡ normal_set ks)

@@ -1,4 +1,4 @@
--- What is written of a key and read again: its normal form.
+-- A key, written and read again: its normal form.
 use Rattle.std.specs.Prelude.{◌≡◌, ◌↔◌, Some}
 use Rattle.serde_json.specs.Data.{Data}
 use Rattle.jwt_params.specs.Common.{normal_common}
@@ -6,8 +6,8 @@ use Rattle.jwt_kinds.specs.Kinds.{normal_parameters}
 use Rattle.jwt_keys.specs.Jwk.{ReadsKey, key_value}
 use Rattle.jwt_keys.specs.declared.jwk.Jwk.{Jwk}
 
--- a free text that is a known spelling becomes the known value, and an `Other` with the members of
--- a kind becomes that kind
+-- a free string that is a known spelling becomes the known value, and an `Other` with the members
+-- of a kind becomes that kind
 abbrev pub normal_key : Jwk → Jwk
 normal_key k = record { common = normal_common k.common; algorithm = normal_parameters k.algorithm }
 
@@ -16,8 +16,8 @@ pub record IsNormal (k : Jwk) : Type 0 where
   pub itself : normal_key k ≡ k
   pub written : (d : Data) × (key_value k ≡ Some d)
 
--- What is written reads as the normal form alone; a normal form stays as it is; two normal forms
--- are told apart by what is written.
+-- A written value is read as its normal form alone; a normal form is its own; and two normal forms
+-- are the same if they are written alike.
 pub record HasNormalForm (k : Jwk) : Type 0 where
   pub reads_back : (d : Data) → key_value k ≡ Some d → (l : Jwk) → ReadsKey d l ↔ (l ≡ normal_key k)
   pub once : normal_key (normal_key k) ≡ normal_key k

@@ -14,7 +14,7 @@ pub data Key : Type 0 where
   Plain : AlgorithmFamily → List ℕ → Key
   Components : List ℕ → List ℕ → Key
 
--- what a key to verify with holds, without the family
+-- the content of a key to verify with, without the family
 pub data KeyContent : Type 0 where
   Bytes : List ℕ → KeyContent
   ModulusExponent : List ℕ → List ℕ → KeyContent

@@ -6,12 +6,12 @@ use Rattle.jwt_keys.specs.declared.decoding_key.DecodingKeyKind.{DecodingKeyKind
 use Rattle.jwt_keys.specs.declared.decoding_key.DecodingKeyKind.TheVariants.{SecretOrDer, RsaModulusExponent}
 use Rattle.jwt_keys.specs.Key.{Key, Plain, Components, KeyContent, Bytes, ModulusExponent}
 
--- what a `DecodingKeyKind` holds
+-- the content of a `DecodingKeyKind`
 abbrev pub content_of : DecodingKeyKind → KeyContent
 content_of (SecretOrDer b) = Bytes b.items
 content_of (RsaModulusExponent n e) = ModulusExponent n.items e.items
 
--- a family with what a key holds
+-- a family with the content of a key
 abbrev pub key_with : AlgorithmFamily → DecodingKeyKind → Key
 key_with f (SecretOrDer b) = Plain f b.items
 key_with f (RsaModulusExponent n e) = Components n.items e.items

@@ -5,8 +5,8 @@ use Rattle.jwt_keys.specs.Key.{Key, IsRsaOfParts, IsEcOfParts, IsEdOfPart, IsHma
 use Rattle.jwt_kinds.specs.declared.parameters.AlgorithmParameters.{AlgorithmParameters}
 use Rattle.jwt_kinds.specs.declared.parameters.AlgorithmParameters.TheVariants.{EllipticCurve, RSA, OctetKey, OctetKeyPair, Other}
 
--- the parameters are those of this key; the curve is not looked at
--- (RFC 7518 section 6, RFC 8037 section 2)
+-- the parameters are those of this key; the curve is not checked (RFC 7518 section 6, RFC 8037
+-- section 2)
 abbrev pub IsKeyOf : AlgorithmParameters → Key → Type 0
 IsKeyOf (EllipticCurve p) key = IsEcOfParts p.x p.y key
 IsKeyOf (RSA p) key = IsRsaOfParts p.n p.e key
@@ -14,7 +14,7 @@ IsKeyOf (OctetKey p) key = IsHmacOfPart p.value key
 IsKeyOf (OctetKeyPair p) key = IsEdOfPart p.x key
 IsKeyOf (Other p) key = ⊥
 
--- why parameters are those of no key
+-- the kind of the refusal of parameters that no key has
 abbrev pub refusal_of : AlgorithmParameters → Kind
 refusal_of (Other p) = kind.UnsupportedAlgorithm
 refusal_of (EllipticCurve p) = kind.Base64

@@ -17,7 +17,7 @@ use std::alloc::Global;
 use std::fmt;
 use std::marker::Model;
 
-/// What a key to verify with holds.
+/// The content of a key to verify with.
 #[derive(Drop)]
 pub enum DecodingKeyKind {
     /// A secret, or the bytes of a public key in DER.
@@ -34,7 +34,7 @@ pub enum DecodingKeyKind {
 impl DecodingKeyKind {
     ghost use Rattle.jwt_keys.specs.KeyOf.{content_of};
 
-    /// Makes every byte 0. Their numbers stay.
+    /// Sets every byte to 0. The numbers of bytes stay.
     pub fn zeroize(&mut self)
         ensures { content_of self.new ≡ cleared_content (content_of self.old) }
     {
@@ -47,7 +47,7 @@ impl DecodingKeyKind {
         }
     }
 
-    /// A copy. The only refusal is `OutOfMemory`.
+    /// Returns a copy. The only refusal is `OutOfMemory`.
     pub fn clone(&self, alloc: Global) -> Result<DecodingKeyKind>
         ensures ok { IfOk result (λ k. content_of k ≡ content_of self.now) }
         ensures err { IfErr result IsMemory }
@@ -66,7 +66,7 @@ impl DecodingKeyKind {
     }
 }
 
-/// `[redacted]` for the bytes.
+/// Shows `[redacted]` for the bytes.
 impl fmt::Debug for DecodingKeyKind {
     fn fmt<W: fmt::Write>(&self, f: &mut fmt::Formatter<W>) -> fmt::Result {
         match self {
@@ -130,7 +130,7 @@ impl DecodingKey {
         }
     }
 
-    /// The HMAC key of these bytes. The only refusal is `OutOfMemory`.
+    /// Returns the HMAC key of these bytes. The only refusal is `OutOfMemory`.
     pub fn from_secret(alloc: Global, secret: &[u8]) -> Result<DecodingKey>
         ensures ok { IfOk result (λ k. k ≡ Plain family.Hmac secret.now) }
         ensures err { IfErr result IsMemory }
@@ -138,8 +138,8 @@ impl DecodingKey {
         DecodingKey::copied(alloc, AlgorithmFamily::Hmac, secret)
     }
 
-    /// The HMAC key of the bytes that a text in the standard alphabet with padding stands for (RFC 4648 section 4).
-    /// Any other text is refused with `Base64`.
+    /// Returns the HMAC key of the bytes that base64 text in the standard alphabet with padding
+    /// stands for (RFC 4648 section 4). Any other text is refused with `Base64`.
     pub fn from_base64_secret(alloc: Global, secret: &str) -> Result<DecodingKey>
         ensures ok { IfOk result (λ k. (b : List ℕ) × (k ≡ Plain family.Hmac b) × IsStandardText secret.now b) }
         ensures err { IfErr result (RefusesAs kind.Base64 ((b : List ℕ) → ¬ IsStandardText secret.now b)) }
@@ -148,8 +148,8 @@ impl DecodingKey {
         Ok(DecodingKey::plain(AlgorithmFamily::Hmac, bytes))
     }
 
-    /// The HMAC key of the bytes that a text in the URL alphabet with padding stands for (RFC 4648 section 5). Any
-    /// other text is refused with `Base64`.
+    /// Returns the HMAC key of the bytes that base64 text in the URL alphabet with padding stands
+    /// for (RFC 4648 section 5). Any other text is refused with `Base64`.
     pub fn from_urlsafe_base64_secret(alloc: Global, secret: &str) -> Result<DecodingKey>
         ensures ok { IfOk result (λ k. (b : List ℕ) × (k ≡ Plain family.Hmac b) × IsUrlText secret.now b) }
         ensures err { IfErr result (RefusesAs kind.Base64 ((b : List ℕ) → ¬ IsUrlText secret.now b)) }
@@ -158,7 +158,8 @@ impl DecodingKey {
         Ok(DecodingKey::plain(AlgorithmFamily::Hmac, bytes))
     }
 
-    /// The RSA key of these bytes in DER, which are not looked at. The only refusal is `OutOfMemory`.
+    /// Returns the RSA key of these bytes in DER, which are not parsed. The only refusal is
+    /// `OutOfMemory`.
     pub fn from_rsa_der(alloc: Global, der: &[u8]) -> Result<DecodingKey>
         ensures ok { IfOk result (λ k. k ≡ Plain family.Rsa der.now) }
         ensures err { IfErr result IsMemory }
@@ -166,7 +167,8 @@ impl DecodingKey {
         DecodingKey::copied(alloc, AlgorithmFamily::Rsa, der)
     }
 
-    /// The elliptic curve key of these bytes in DER, which are not looked at. The only refusal is `OutOfMemory`.
+    /// Returns the elliptic curve key of these bytes in DER, which are not parsed. The only refusal
+    /// is `OutOfMemory`.
     pub fn from_ec_der(alloc: Global, der: &[u8]) -> Result<DecodingKey>
         ensures ok { IfOk result (λ k. k ≡ Plain family.Ec der.now) }
         ensures err { IfErr result IsMemory }
@@ -174,7 +176,8 @@ impl DecodingKey {
         DecodingKey::copied(alloc, AlgorithmFamily::Ec, der)
     }
 
-    /// The Edwards curve key of these bytes in DER, which are not looked at. The only refusal is `OutOfMemory`.
+    /// Returns the Edwards curve key of these bytes in DER, which are not parsed. The only refusal
+    /// is `OutOfMemory`.
     pub fn from_ed_der(alloc: Global, der: &[u8]) -> Result<DecodingKey>
         ensures ok { IfOk result (λ k. k ≡ Plain family.Ed der.now) }
         ensures err { IfErr result IsMemory }
@@ -182,8 +185,8 @@ impl DecodingKey {
         DecodingKey::copied(alloc, AlgorithmFamily::Ed, der)
     }
 
-    /// The RSA key of a modulus and an exponent, each the base64url text of a big-endian number (RFC 7518 section
-    /// 6.3.1). Where one of them is no such text: `Base64`.
+    /// Returns the RSA key of a modulus and an exponent, each the base64url text of a big-endian
+    /// number (RFC 7518 section 6.3.1). If one of them is not such a text, the refusal is `Base64`.
     pub fn from_rsa_components(alloc: Global, modulus: &str, exponent: &str) -> Result<DecodingKey>
         ensures ok { IfOk result (IsRsaOfParts modulus.now exponent.now) }
         ensures err { IfErr result (RefusesAs kind.Base64 ((k : Key) → ¬ IsRsaOfParts modulus.now exponent.now k)) }
@@ -193,7 +196,8 @@ impl DecodingKey {
         Ok(DecodingKey::components(n, e))
     }
 
-    /// The RSA key of a modulus and an exponent, each a big-endian number. The only refusal is `OutOfMemory`.
+    /// Returns the RSA key of a modulus and an exponent, each a big-endian number. The only refusal
+    /// is `OutOfMemory`.
     pub fn from_rsa_raw_components(
         alloc: Global,
         modulus: &[u8],
@@ -207,8 +211,9 @@ impl DecodingKey {
         Ok(DecodingKey::components(n, e))
     }
 
-    /// The elliptic curve key of a point: the byte 4 and then the two coordinates, each given as a base64url text
-    /// (RFC 7518 section 6.2.1). Where one of them is no such text: `Base64`.
+    /// Returns the elliptic curve key of a point: the byte 4 and then the two coordinates, each
+    /// given as a base64url text (RFC 7518 section 6.2.1). If one of them is not such a text, the
+    /// refusal is `Base64`.
     pub fn from_ec_components(alloc: Global, x: &str, y: &str) -> Result<DecodingKey>
         ensures ok { IfOk result (IsEcOfParts x.now y.now) }
         ensures err { IfErr result (RefusesAs kind.Base64 ((k : Key) → ¬ IsEcOfParts x.now y.now k)) }
@@ -222,8 +227,8 @@ impl DecodingKey {
         Ok(DecodingKey::plain(AlgorithmFamily::Ec, point))
     }
 
-    /// The Edwards curve key of a public key, given as a base64url text (RFC 8037 section 2). Any other text is refused
-    /// with `Base64`.
+    /// Returns the Edwards curve key of a public key, given as a base64url text (RFC 8037 section
+    /// 2). Any other text is refused with `Base64`.
     pub fn from_ed_components(alloc: Global, x: &str) -> Result<DecodingKey>
         ensures ok { IfOk result (IsEdOfPart x.now) }
         ensures err { IfErr result (RefusesAs kind.Base64 ((k : Key) → ¬ IsEdOfPart x.now k)) }
@@ -232,9 +237,10 @@ impl DecodingKey {
         Ok(DecodingKey::plain(AlgorithmFamily::Ed, bytes))
     }
 
-    /// The key that a JSON Web Key stands for (RFC 7518 section 6, RFC 8037 section 2): the modulus and the exponent of
-    /// an RSA key, the point of one on an elliptic curve, the public key of a pair of octet strings, a secret. The curve
-    /// is not looked at. Where a member is no base64url text: `Base64`. A key of any other kind is refused with
+    /// Returns the key that a JSON Web Key stands for (RFC 7518 section 6, RFC 8037 section 2): the
+    /// modulus and the exponent of an RSA key, the point of one on an elliptic curve, the public
+    /// key of a pair of octet strings, a secret. The curve is not checked. A member that is not
+    /// base64url text is refused with `Base64`, and a key of any other kind is refused with
     /// `UnsupportedAlgorithm`.
     pub fn from_jwk(alloc: Global, jwk: &Jwk) -> Result<DecodingKey>
         ensures ok { IfOk result (IsKeyOf jwk.now.algorithm) }
@@ -265,21 +271,22 @@ impl DecodingKey {
         Ok(DecodingKey::plain(AlgorithmFamily::Hmac, bytes))
     }
 
-    /// The family of the algorithms that the key is for.
+    /// Returns the family of the algorithms that the key is for.
     pub fn family(&self) -> AlgorithmFamily
         ensures { result ≡ key_family self.now }
     {
         self.family
     }
 
-    /// What the key holds.
+    /// Returns the content of the key.
     pub fn kind(&self) -> &DecodingKeyKind
         ensures { content_of result.now ≡ key_content self.now }
     {
         &self.kind
     }
 
-    /// The secret, or the bytes in DER. A key of components has none: `InvalidKeyFormat`.
+    /// Returns the secret, or the bytes in DER. A key of components has none, and is refused with
+    /// `InvalidKeyFormat`.
     pub fn try_get_as_bytes(&self) -> Result<&[u8]>
         ensures ok { IfOk result (λ b. self.now ≡ Plain (key_family self.now) b.now) }
         ensures err { IfErr result (λ e. (kind_of e ≡ kind.InvalidKeyFormat)
@@ -293,14 +300,14 @@ impl DecodingKey {
         }
     }
 
-    /// Makes every byte 0. Their numbers and the family stay.
+    /// Sets every byte to 0. The numbers of bytes and the family stay.
     pub fn zeroize(&mut self)
         ensures { self.new ≡ cleared self.old }
     {
         self.kind.zeroize();
     }
 
-    /// A copy. The only refusal is `OutOfMemory`.
+    /// Returns a copy. The only refusal is `OutOfMemory`.
     pub fn clone(&self, alloc: Global) -> Result<DecodingKey>
         ensures ok { IfOk result (λ k. k ≡ self.now) }
         ensures err { IfErr result IsMemory }
@@ -312,7 +319,7 @@ impl DecodingKey {
     }
 }
 
-/// The family, and `[redacted]` for the bytes.
+/// Shows the family, and `[redacted]` for the bytes.
 impl fmt::Debug for DecodingKey {
     fn fmt<W: fmt::Write>(&self, f: &mut fmt::Formatter<W>) -> fmt::Result {
         f.debug_struct("DecodingKey")

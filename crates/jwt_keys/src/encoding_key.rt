@@ -40,7 +40,7 @@ impl EncodingKey {
         })
     }
 
-    /// The HMAC key of these bytes. The only refusal is `OutOfMemory`.
+    /// Returns the HMAC key of these bytes. The only refusal is `OutOfMemory`.
     pub fn from_secret(alloc: Global, secret: &[u8]) -> Result<EncodingKey>
         ensures ok { IfOk result (λ k. k ≡ record { family = family.Hmac; bytes = secret.now }) }
         ensures err { IfErr result IsMemory }
@@ -48,8 +48,8 @@ impl EncodingKey {
         EncodingKey::new(alloc, AlgorithmFamily::Hmac, secret)
     }
 
-    /// The HMAC key of the bytes that a text in the standard alphabet with padding stands for (RFC 4648 section 4).
-    /// Any other text is refused with `Base64`.
+    /// Returns the HMAC key of the bytes that base64 text in the standard alphabet with padding
+    /// stands for (RFC 4648 section 4). Any other text is refused with `Base64`.
     pub fn from_base64_secret(alloc: Global, secret: &str) -> Result<EncodingKey>
         ensures ok { IfOk result (λ k. (k.family ≡ family.Hmac) × IsStandardText secret.now k.bytes) }
         ensures err { IfErr result (RefusesAs kind.Base64 ((b : List ℕ) → ¬ IsStandardText secret.now b)) }
@@ -60,8 +60,8 @@ impl EncodingKey {
         })
     }
 
-    /// The HMAC key of the bytes that a text in the URL alphabet with padding stands for (RFC 4648 section 5). Any
-    /// other text is refused with `Base64`.
+    /// Returns the HMAC key of the bytes that base64 text in the URL alphabet with padding stands
+    /// for (RFC 4648 section 5). Any other text is refused with `Base64`.
     pub fn from_urlsafe_base64_secret(alloc: Global, secret: &str) -> Result<EncodingKey>
         ensures ok { IfOk result (λ k. (k.family ≡ family.Hmac) × IsUrlText secret.now k.bytes) }
         ensures err { IfErr result (RefusesAs kind.Base64 ((b : List ℕ) → ¬ IsUrlText secret.now b)) }
@@ -72,7 +72,8 @@ impl EncodingKey {
         })
     }
 
-    /// The RSA key of these bytes in DER, which are not looked at. The only refusal is `OutOfMemory`.
+    /// Returns the RSA key of these bytes in DER, which are not parsed. The only refusal is
+    /// `OutOfMemory`.
     pub fn from_rsa_der(alloc: Global, der: &[u8]) -> Result<EncodingKey>
         ensures ok { IfOk result (λ k. k ≡ record { family = family.Rsa; bytes = der.now }) }
         ensures err { IfErr result IsMemory }
@@ -80,7 +81,8 @@ impl EncodingKey {
         EncodingKey::new(alloc, AlgorithmFamily::Rsa, der)
     }
 
-    /// The elliptic curve key of these bytes in DER, which are not looked at. The only refusal is `OutOfMemory`.
+    /// Returns the elliptic curve key of these bytes in DER, which are not parsed. The only refusal
+    /// is `OutOfMemory`.
     pub fn from_ec_der(alloc: Global, der: &[u8]) -> Result<EncodingKey>
         ensures ok { IfOk result (λ k. k ≡ record { family = family.Ec; bytes = der.now }) }
         ensures err { IfErr result IsMemory }
@@ -88,7 +90,8 @@ impl EncodingKey {
         EncodingKey::new(alloc, AlgorithmFamily::Ec, der)
     }
 
-    /// The Edwards curve key of these bytes in DER, which are not looked at. The only refusal is `OutOfMemory`.
+    /// Returns the Edwards curve key of these bytes in DER, which are not parsed. The only refusal
+    /// is `OutOfMemory`.
     pub fn from_ed_der(alloc: Global, der: &[u8]) -> Result<EncodingKey>
         ensures ok { IfOk result (λ k. k ≡ record { family = family.Ed; bytes = der.now }) }
         ensures err { IfErr result IsMemory }
@@ -96,28 +99,28 @@ impl EncodingKey {
         EncodingKey::new(alloc, AlgorithmFamily::Ed, der)
     }
 
-    /// The family of the algorithms that the key is for.
+    /// Returns the family of the algorithms that the key is for.
     pub fn family(&self) -> AlgorithmFamily
         ensures { result ≡ self.now.family }
     {
         self.family
     }
 
-    /// The secret, or the bytes in DER.
+    /// Returns the secret, or the bytes in DER.
     pub fn as_bytes(&self) -> &[u8]
         ensures { result.now ≡ self.now.bytes }
     {
         self.bytes.as_slice()
     }
 
-    /// Makes every byte 0. Their number and the family stay.
+    /// Sets every byte to 0. The number of bytes and the family stay.
     pub fn zeroize(&mut self)
         ensures { self.new ≡ record self.old { bytes = replicate (length self.old.bytes) 0 } }
     {
         self.bytes.fill(0);
     }
 
-    /// A copy. The only refusal is `OutOfMemory`.
+    /// Returns a copy. The only refusal is `OutOfMemory`.
     pub fn clone(&self, alloc: Global) -> Result<EncodingKey>
         ensures ok { IfOk result (λ k. k ≡ self.now) }
         ensures err { IfErr result IsMemory }
@@ -126,7 +129,7 @@ impl EncodingKey {
     }
 }
 
-/// The family, and `[redacted]` for the bytes.
+/// Shows the family, and `[redacted]` for the bytes.
 impl fmt::Debug for EncodingKey {
     fn fmt<W: fmt::Write>(&self, f: &mut fmt::Formatter<W>) -> fmt::Result {
         f.debug_struct("EncodingKey")

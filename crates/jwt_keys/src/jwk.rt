@@ -6,10 +6,12 @@ ghost use Rattle.serde_json.specs.Written.{has_float};
 ghost use Rattle.jwt_base.specs.Kind as kind;
 ghost use Rattle.jwt_base.specs.KindOf.{IsMemory, RefusesAs};
 ghost use Rattle.jwt_keys.specs.Jwk.{ReadsKey, kind_from, key_members, key_value, is_supported_key, has_id};
-ghost use Rattle.jwt_keys.specs.JwkWritten.{IsNormal, HasNormalForm};
+ghost use Rattle.jwt_base.specs.Written.{HasText};
+ghost use Rattle.jwt_keys.specs.JwkWritten.{normal_key, IsNormal, HasNormalForm};
 
 use jwt_base::algorithms::Algorithm;
 use jwt_base::errors::{ErrorKind, Result, new_error};
+use jwt_base::json::value_text;
 use jwt_kinds::free_members::FreeMembers;
 use jwt_kinds::other::OtherKeyParameters;
 use jwt_kinds::parameters::AlgorithmParameters;
@@ -21,7 +23,7 @@ use std::hash::{Hash, Hasher};
 /// A JSON Web Key (RFC 7517 section 4).
 #[derive(Debug, Drop)]
 pub struct Jwk {
-    /// What keys of every kind may have (section 4).
+    /// The parameters that keys of every kind may have (section 4).
     pub common: CommonParameters,
     /// The kind of the key with its own parameters (RFC 7518 section 6).
     pub algorithm: AlgorithmParameters,
@@ -30,10 +32,11 @@ pub struct Jwk {
 impl Jwk {
     ghost use Rattle.jwt_keys.specs.declared.jwk.Jwk.{Jwk};
 
-    /// The key that a JSON object reads as (RFC 7517 section 4). The kind is the first of the five whose parameters are
-    /// among the members that are not common to all keys; the first four ignore further members, and `Other` keeps all
-    /// that are not common. A value that is no object, a common member of a wrong type and a float that `Other` would
-    /// keep are refused with `Json`.
+    /// Returns the key that a JSON object describes (RFC 7517 section 4). The kind is the first of
+    /// the five whose parameters are among the members that are not common to all keys; the first
+    /// four ignore further members, and `Other` keeps all that are not common. A value that is not
+    /// an object, a common member of a wrong type and a float that `Other` would keep are refused
+    /// with `Json`.
     pub fn from_value(alloc: Global, value: &Value) -> Result<Jwk>
         ensures ok { IfOk result (ReadsKey (view value.now)) }
         ensures normal { IfOk result IsNormal }
@@ -43,8 +46,8 @@ impl Jwk {
         Ok(key)
     }
 
-    /// The JSON object of what is there (RFC 7517 section 4). An `Other` that holds a member that is common to all keys,
-    /// or a float, is refused with `Json`.
+    /// Returns the JSON object of the parameters that are present (RFC 7517 section 4). An `Other`
+    /// that holds a member that is common to all keys, or a float, is refused with `Json`.
     pub fn to_value(&self, alloc: Global) -> Result<Value>
         ensures ok { IfOk result (λ v. key_value self.now ≡ Some (view v)) }
         ensures no_float { IfOk result (λ v. has_float (view v) ≡ false) }
@@ -55,7 +58,17 @@ impl Jwk {
         Ok(Value::Object(members))
     }
 
-    /// Whether `alg` (RFC 7517 section 4.4) is there and is an algorithm that signs tokens. No memory is taken.
+    /// Returns the compact JSON text of the key, as [`to_value`](Jwk::to_value) writes it and with its refusals.
+    pub fn to_text(&self, alloc: Global) -> Result<Vec<u8>>
+        ensures ok { IfOk result (λ text. HasText ReadsKey key_value normal_key self.now text.items) }
+        ensures err { IfErr result (RefusesAs kind.Json (key_value self.now ≡ None)) }
+    {
+        let value = self.to_value(alloc)?;
+        value_text(alloc, &value)
+    }
+
+    /// Returns whether `alg` (RFC 7517 section 4.4) is present and is an algorithm that signs
+    /// tokens. Allocates no memory.
     pub fn is_supported(&self) -> bool
         ensures { result ≡ is_supported_key self.now }
     {
@@ -64,7 +77,7 @@ impl Jwk {
             .is_some_and(|algorithm| Algorithm::try_from(algorithm).is_ok())
     }
 
-    /// A copy. The only refusal is `OutOfMemory`.
+    /// Returns a copy. The only refusal is `OutOfMemory`.
     pub fn clone(&self, alloc: Global) -> Result<Jwk>
         ensures ok { IfOk result (λ k. k ≡ self.now) }
         ensures err { IfErr result IsMemory }
@@ -107,7 +120,7 @@ impl Jwk {
     }
 }
 
-// The kind that the members have which are not common to all keys.
+// Returns the kind of the members that are not common to all keys.
 fn read_kind(alloc: Global, value: &Value) -> Result<AlgorithmParameters>
     ensures ok { IfOk result (λ a. kind_from (view value.now) ≡ Some a) }
     ensures err { IfErr result (RefusesAs kind.Json (kind_from (view value.now) ≡ None)) }
@@ -122,7 +135,7 @@ fn read_kind(alloc: Global, value: &Value) -> Result<AlgorithmParameters>
     Ok(AlgorithmParameters::Other(OtherKeyParameters { fields }))
 }
 
-/// The same parameters, where any two floats count as equal.
+/// Compares the parameters. Any two floats count as equal.
 impl PartialEq for Jwk {
     ghost use Rattle.std.specs.Cmp.{partial_equiv_from_equiv};
     ghost use Rattle.jwt_keys.specs.Jwk.{marked_key};

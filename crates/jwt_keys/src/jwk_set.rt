@@ -6,12 +6,14 @@ ghost use Rattle.serde_json.specs.View.{view, items_view, members_view};
 ghost use Rattle.serde_json.specs.Written.{has_float};
 ghost use Rattle.jwt_base.specs.Kind as kind;
 ghost use Rattle.jwt_base.specs.KindOf.{IsMemory, RefusesAs};
+ghost use Rattle.jwt_base.specs.Written.{HasText};
 ghost use Rattle.jwt_keys.specs.Jwk.{key_value, has_id};
-ghost use Rattle.jwt_keys.specs.JwkSet.{ReadsKeys, ReadsSet, set_value, key_values, IsNormalSet, HasNormalSet};
+ghost use Rattle.jwt_keys.specs.JwkSet.{ReadsKeys, ReadsSet, set_value, key_values, normal_set, IsNormalSet, HasNormalSet};
 ghost use Rattle.jwt_keys.specs.declared.jwk.Jwk.{Jwk};
 
 use crate::jwk::Jwk;
 use jwt_base::errors::{ErrorKind, Result, new_error};
+use jwt_base::json::value_text;
 use serde_json::{Map, Value};
 use std::alloc::Global;
 use std::hash::{Hash, Hasher};
@@ -24,7 +26,7 @@ pub struct JwkSet {
 }
 
 impl JwkSet {
-    /// The set of no keys. No memory is taken.
+    /// Returns a set without keys. Allocates no memory.
     pub fn new(alloc: Global) -> JwkSet
         ensures { result.keys.items ≡ [] }
     {
@@ -33,16 +35,16 @@ impl JwkSet {
         }
     }
 
-    /// The first key whose `kid` (RFC 7517 section 4.5) is there and is this text: none exactly where there is none. No
-    /// memory is taken.
+    /// Returns the first key whose `kid` (RFC 7517 section 4.5) is this string, or `None` if there
+    /// is no such key. Allocates no memory.
     pub fn find(&self, kid: &str) -> Option<&Jwk>
         ensures { option_map (λ k. k.now) result ≡ find (has_id kid.now) self.now.keys.items }
     {
         first_of(self.keys.as_slice(), kid)
     }
 
-    /// The set that a JSON object reads as: `keys` is a list, and each of its entries reads as a key; further members
-    /// are ignored. Anything else is refused with `Json`.
+    /// Returns the set that a JSON object describes: `keys` is a list, and each of its entries
+    /// describes a key; further members are ignored. Anything else is refused with `Json`.
     pub fn from_value(alloc: Global, value: &Value) -> Result<JwkSet>
         ensures ok { IfOk result (λ s. ReadsSet (view value.now) s.keys.items) }
         ensures normal { IfOk result (λ s. IsNormalSet s.keys.items) }
@@ -52,7 +54,8 @@ impl JwkSet {
         Ok(set)
     }
 
-    /// The JSON object of the keys, in order. A key that cannot be written is refused with `Json`.
+    /// Returns the JSON object of the keys, in order. A key that cannot be written is refused with
+    /// `Json`.
     pub fn to_value(&self, alloc: Global) -> Result<Value>
         ensures ok { IfOk result (λ v. set_value self.now.keys.items ≡ Some (view v)) }
         ensures no_float { IfOk result (λ v. has_float (view v) ≡ false) }
@@ -63,7 +66,16 @@ impl JwkSet {
         Ok(Value::Object(members))
     }
 
-    /// A copy. The only refusal is `OutOfMemory`.
+    /// Returns the compact JSON text of the set, as [`to_value`](JwkSet::to_value) writes it and with its refusals.
+    pub fn to_text(&self, alloc: Global) -> Result<Vec<u8>>
+        ensures ok { IfOk result (λ text. HasText ReadsSet set_value normal_set self.now.keys.items text.items) }
+        ensures err { IfErr result (RefusesAs kind.Json (set_value self.now.keys.items ≡ None)) }
+    {
+        let value = self.to_value(alloc)?;
+        value_text(alloc, &value)
+    }
+
+    /// Returns a copy. The only refusal is `OutOfMemory`.
     pub fn clone(&self, alloc: Global) -> Result<JwkSet>
         ensures ok { IfOk result (λ s. s.keys.items ≡ self.now.keys.items) }
         ensures err { IfErr result IsMemory }
@@ -141,7 +153,7 @@ fn write_keys(alloc: Global, keys: &[Jwk]) -> Result<Vec<Value>>
     Ok(values)
 }
 
-/// The same keys in the same order, where any two floats count as equal.
+/// Compares the keys, in order. Any two floats count as equal.
 impl PartialEq for JwkSet {
     ghost use Rattle.std.specs.Cmp.{partial_equiv_from_equiv};
     ghost use Rattle.jwt_keys.specs.JwkSet.{marked_set};

@@ -1,5 +1,4 @@
-//! What signs and verifies: the traits of signers, verifiers and their providers, with the laws that every provider
-//! proves.
+//! The traits of signers, verifiers and their providers, with the laws that every provider proves.
 
 ghost use Rattle.std.specs.Prelude.{◌≡◌, ◌≢◌, ◌↔◌, ℕ, List, Option, Ok, Some, None, IfOk, IfErr, OnOk, IsOk, IsTrue, string_bytes};
 ghost use Rattle.jwt_base.specs.Kind.{Kind};
@@ -20,7 +19,7 @@ use jwt_params::curves::EllipticCurve;
 use jwt_params::thumbprints::ThumbprintHash;
 use std::alloc::Global;
 
-/// What signs messages by one algorithm and key.
+/// A signer of messages, by one algorithm and key.
 pub trait JwtSigner: Drop {
     // The algorithm that it signs by.
     ghost signs_by: { Self → Algorithm };
@@ -28,22 +27,22 @@ pub trait JwtSigner: Drop {
     // The kind with which it refuses to sign a message, if it does.
     ghost sign_refusal: { Self → List ℕ → Option Kind };
 
-    // It may answer these bytes as the message's signature.
+    // It may return these bytes as the message's signature.
     ghost signs: { Self → List ℕ → List ℕ → Type 0 };
 
-    /// The algorithm that it signs by.
+    /// Returns the algorithm that it signs by.
     fn algorithm(&self) -> Algorithm
         ensures { result ≡ signs_by self.now };
 
-    /// The bytes of a signature of the message. Whether it refuses, and with which kind, is a matter of the signer and
-    /// the message alone, but for `OutOfMemory`.
+    /// Returns the bytes of a signature of the message. `OutOfMemory` aside, the signer and the
+    /// message alone decide whether it is refused, and with which kind.
     fn sign(&self, alloc: Global, message: &[u8]) -> Result<Vec<u8>>
         ensures signed { IfOk result (λ s. signs self.now message.now s.items) }
         ensures ok { OnOk result (sign_refusal self.now message.now ≡ None) }
         ensures err { IfErr result (Refuses (sign_refusal self.now message.now)) };
 }
 
-/// What verifies signatures by one algorithm and key.
+/// A verifier of signatures, by one algorithm and key.
 pub trait JwtVerifier: Drop {
     // The algorithm that it verifies by.
     ghost verifies_by: { Self → Algorithm };
@@ -51,23 +50,24 @@ pub trait JwtVerifier: Drop {
     // It accepts this signature of the message.
     ghost accepts: { Self → List ℕ → List ℕ → Type 0 };
 
-    // It takes no memory.
+    // It allocates no memory.
     ghost is_sparing: { Self → Type 0 };
 
-    /// The algorithm that it verifies by.
+    /// Returns the algorithm that it verifies by.
     fn algorithm(&self) -> Algorithm
         ensures { result ≡ verifies_by self.now };
 
-    /// Whether these bytes are accepted as a signature of the message, which is a matter of the verifier and the two
-    /// alone. The only refusal is `OutOfMemory`.
+    /// Returns whether these bytes are accepted as a signature of the message. The verifier and the
+    /// two arguments alone decide it. The only refusal is `OutOfMemory`.
     fn verify(&self, alloc: Global, message: &[u8], signature: &[u8]) -> Result<bool>
         ensures verdict { IfOk result (λ yes. IsTrue yes ↔ accepts self.now message.now signature.now) }
         ensures memory { IfErr result IsMemory }
         ensures sparing { is_sparing self.now → IsOk result };
 }
 
-/// What makes signers and verifiers, and reads keys. Memory aside, each answer is decided by the provider and the
-/// arguments, but for which bytes a signer gives: those may be any that `signs` allows.
+/// A provider of cryptography: it makes signers and verifiers, and reads keys. Memory aside, the
+/// provider and the arguments decide each result, except for the bytes that a signer returns: those
+/// may be any that `signs` allows.
 pub trait CryptoProvider {
     type Signer: JwtSigner;
 
@@ -81,19 +81,19 @@ pub trait CryptoProvider {
     // The kind with which its signer refuses a message, if it does.
     ghost sign_refusal: { Self → Algorithm → SecretKey → List ℕ → Option Kind };
 
-    // Its signer may answer these bytes as the message's signature.
+    // Its signer may return these bytes as the message's signature.
     ghost signs: { Self → Algorithm → SecretKey → List ℕ → List ℕ → Type 0 };
 
     // Its verifier accepts this signature of the message.
     ghost accepts: { Self → Algorithm → Key → List ℕ → List ℕ → Type 0 };
 
-    // Neither its factories nor its verifiers take memory.
+    // Neither its factories nor its verifiers allocate memory.
     ghost is_sparing: { Self → Type 0 };
 
-    // What it reads of keys in DER, and the digests that it computes.
+    // The results of reading keys in DER, and the digests that it computes.
     ghost key_answers: { Self → KeyAnswers };
 
-    /// A signer by this algorithm and key.
+    /// Returns a signer by this algorithm and key.
     fn signer_factory(
         &self,
         alloc: Global,
@@ -109,7 +109,8 @@ pub trait CryptoProvider {
             Self.Signer.signs s m b ↔ signs self.now algorithm.now key.now m b) }
         ensures sparing { is_sparing self.now → IfErr result (λ e. kind_of e ≢ kind.OutOfMemory) };
 
-    /// A verifier by this algorithm and key. It is made only for a key of the algorithm's family.
+    /// Returns a verifier by this algorithm and key. It is made only for a key of the algorithm's
+    /// family.
     fn verifier_factory(
         &self,
         alloc: Global,
@@ -124,7 +125,7 @@ pub trait CryptoProvider {
         ensures sparing { is_sparing self.now → IfErr result (λ e. kind_of e ≢ kind.OutOfMemory) }
         ensures sparing_verifier { is_sparing self.now → IfOk result (λ v. Self.Verifier.is_sparing v) };
 
-    /// The modulus and the exponent of an RSA key, from a private key in DER.
+    /// Returns the modulus and the exponent of an RSA key, from a private key in DER.
     fn rsa_pub_components_from_private_key(
         &self,
         alloc: Global,
@@ -133,7 +134,7 @@ pub trait CryptoProvider {
         ensures ok { IfOk result (λ p. (key_answers self.now).rsa_private der.now ≡ Ok (p.0.items, p.1.items)) }
         ensures err { IfErr result (RefusesWith ((key_answers self.now).rsa_private der.now)) };
 
-    /// The modulus and the exponent of an RSA key, from a public key in DER.
+    /// Returns the modulus and the exponent of an RSA key, from a public key in DER.
     fn rsa_pub_components_from_public_key(
         &self,
         alloc: Global,
@@ -142,7 +143,8 @@ pub trait CryptoProvider {
         ensures ok { IfOk result (λ p. (key_answers self.now).rsa_public der.now ≡ Ok (p.0.items, p.1.items)) }
         ensures err { IfErr result (RefusesWith ((key_answers self.now).rsa_public der.now)) };
 
-    /// The curve and the two coordinates of an elliptic curve key, from a private key in DER for this algorithm.
+    /// Returns the curve and the two coordinates of an elliptic curve key, from a private key in
+    /// DER for this algorithm.
     fn ec_pub_components_from_private_key(
         &self,
         alloc: Global,
@@ -152,7 +154,7 @@ pub trait CryptoProvider {
         ensures ok { IfOk result (λ p. (key_answers self.now).ec_private der.now algorithm ≡ Ok (p.0, p.1.items, p.2.items)) }
         ensures err { IfErr result (RefusesWith ((key_answers self.now).ec_private der.now algorithm)) };
 
-    /// The public key of an Edwards curve key, from a private key in DER on this curve.
+    /// Returns the public key of an Edwards curve key, from a private key in DER on this curve.
     fn ed_pub_components_from_private_key(
         &self,
         alloc: Global,
@@ -162,7 +164,7 @@ pub trait CryptoProvider {
         ensures ok { IfOk result (λ x. (key_answers self.now).ed_private der.now curve.now ≡ Ok x.items) }
         ensures err { IfErr result (RefusesWith ((key_answers self.now).ed_private der.now curve.now)) };
 
-    /// The digest of the bytes by this hash.
+    /// Returns the digest of the bytes by this hash.
     fn compute_digest(&self, alloc: Global, bytes: &[u8], hash: ThumbprintHash) -> Result<Vec<u8>>
         ensures ok { IfOk result (λ d. (key_answers self.now).digest hash bytes.now ≡ Ok d.items) }
         ensures err { IfErr result (RefusesWith ((key_answers self.now).digest hash bytes.now)) };
@@ -171,8 +173,9 @@ pub trait CryptoProvider {
     ghost same_family: { (p : Self) (a : Algorithm) (k : Key) → verifier_refusal p a k ≡ None → key_family k ≡ family_of a };
 }
 
-/// The base64url text of a signature of the message (RFC 7515 section 5.1). Memory aside, what is refused is refused
-/// by the provider: first the signer, then the signature.
+/// Signs the message, and returns the base64url text of the signature (RFC 7515 section 5.1).
+/// `OutOfMemory` aside, every refusal is the provider's: first that of the signer, then that of the
+/// signature.
 pub fn sign<P: CryptoProvider>(
     alloc: Global,
     provider: &P,
@@ -192,9 +195,9 @@ pub fn sign<P: CryptoProvider>(
     part_text(alloc, signature.as_slice())
 }
 
-/// Whether the provider accepts the signature, given as its base64url text, of the message (RFC 7515 section 5.2).
-/// Memory aside, the provider can refuse to make a verifier; after that a text that is no canonical base64url is
-/// refused with `Base64`.
+/// Returns whether the provider accepts the signature, given as base64url text, of the message (RFC
+/// 7515 section 5.2). `OutOfMemory` aside, the provider may refuse to make a verifier; after that,
+/// text that is not canonical base64url is refused with `Base64`.
 pub fn verify<P: CryptoProvider>(
     alloc: Global,
     provider: &P,

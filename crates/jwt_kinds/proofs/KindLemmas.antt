@@ -1,4 +1,4 @@
--- What is written of a kind reads as its normal form, and what was read stays as it is.
+-- A kind, written and read again, is its normal form, and a kind that was read is its own.
 use Rattle.std.proofs.Common.{◌≡◌, ℕ, List, Bool, true, false, cond, Option, Some, None, option_map, unwrap_or, codes, refl, sym, ap, ◌∙◌, subst}
 use Rattle.std.specs.Option.{option_or}
 use Rattle.serde_json.specs.Data.{Data, null, boolean, number, string, array, object, Members}
@@ -55,7 +55,7 @@ other_read p ms false is e =
     let same : p.fields ≡ ms = cc in
     rw (← same, is) (or_other (named_from (object p.fields)) (kinds.Other p))
 
--- what is written of a kind reads as its normal form
+-- a kind, written and read again, is its normal form
 pub kind_read : (a : AlgorithmParameters) (ms : Members) → parameters_members a ≡ Some ms → parameters_from (object ms) ≡ Some (normal_parameters a)
 kind_read (kinds.EllipticCurve p) ms is = ap (λ x. parameters_from (object x)) (sym (ap (λ o. unwrap_or o ms) is)) ∙ elliptic_read p.key_type p.curve p.x p.y
 kind_read (kinds.RSA p) ms is = ap (λ x. parameters_from (object x)) (sym (ap (λ o. unwrap_or o ms) is)) ∙ rsa_read p.key_type p.n p.e
@@ -79,7 +79,7 @@ other_no_float : (p : OtherKeyParameters) (ms : Members) (b : Bool) → members_
 other_no_float p ms true is e = absurd (cc)
 other_no_float p ms false is e = let same : p.fields ≡ ms = cc in rw (← same) is
 
--- what is written of a kind has no float
+-- a written kind has no float
 pub kind_no_float : (a : AlgorithmParameters) (ms : Members) → parameters_members a ≡ Some ms → members_have_float ms ≡ false
 kind_no_float (kinds.EllipticCurve p) ms is = let same = ap (λ o. unwrap_or o ms) is in rw (← same) refl
 kind_no_float (kinds.RSA p) ms is = let same = ap (λ o. unwrap_or o ms) is in rw (← same) refl
@@ -112,7 +112,7 @@ own_of ms (Some b) a is e = subst (OwnKind ms) (ap (λ o. unwrap_or o a) e) (nam
 pub kind_own : (ms : Members) (a : AlgorithmParameters) → parameters_from (object ms) ≡ Some a → OwnKind ms a
 kind_own ms a e = own_of ms _ a refl e
 
--- what was read is its own normal form
+-- a kind that was read is its own normal form
 pub kind_stays : (d : Data) (a : AlgorithmParameters) → parameters_from d ≡ Some a → normal_parameters a ≡ a
 kind_stays null a e = absurd (cc)
 kind_stays (boolean b) a e = absurd (cc)
@@ -137,7 +137,7 @@ named_from-without ms =
     let left = get_member-without common_names in
     simp (left (codes "kty") ms, left (codes "crv") ms, left (codes "x") ms, left (codes "y") ms, left (codes "n") ms, left (codes "e") ms, left (codes "k") ms)
 
--- the parameters of a kind are none of the common members
+-- the parameters of a kind are not among the common members
 pub named-without : (d : Data) (ms : Members) → as_object d ≡ Some ms → named_from (object (without common_names ms)) ≡ named_from d
 named-without null ms e = absurd (cc)
 named-without (boolean b) ms e = absurd (cc)

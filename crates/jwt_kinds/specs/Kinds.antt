@@ -1,4 +1,5 @@
--- The kinds of keys (RFC 7518 section 6, RFC 8037 section 2): what a JSON value says as each, and what is written of it.
+-- The kinds of keys (RFC 7518 section 6, RFC 8037 section 2): how each is read from a JSON value,
+-- and how it is written.
 use Rattle.std.specs.Prelude.{ℕ, List, Bool, false, Option, Some, None, option_map, option_and_then, unwrap_or, codes, if◌then◌else◌}
 use Rattle.std.specs.Option.{option_or, option_map_or}
 use Rattle.std.specs.Str.{bytes_eq}
@@ -23,7 +24,7 @@ use Rattle.jwt_kinds.specs.declared.other.OtherKeyParameters.{OtherKeyParameters
 use Rattle.jwt_kinds.specs.declared.parameters.AlgorithmParameters.{AlgorithmParameters}
 use Rattle.jwt_kinds.specs.declared.parameters.AlgorithmParameters.TheVariants as kinds
 
--- `kty` is this text (RFC 7517 section 4.1)
+-- `kty` is this string (RFC 7517 section 4.1)
 abbrev pub is_type : List ℕ → Data → Bool
 is_type name d = option_map_or (λ s. bytes_eq s name) (text_at (codes "kty") d) false
 
@@ -62,7 +63,7 @@ pair_from d =
     (text_at (codes "x") d)) (curve_at d)
     else None
 
--- all members, where no float is in them
+-- all members, if no float is in them
 abbrev pub other_from : Data → Option OtherKeyParameters
 other_from d = option_and_then
     (λ ms. if members_have_float ms then None else Some (record { fields = ms })) (as_object d)
@@ -108,7 +109,7 @@ abbrev pub has_common : AlgorithmParameters → Bool
 has_common (kinds.Other p) = has_named common_names p.fields
 has_common own = false
 
--- all members, none where a float is in them
+-- all members; None if a float is in them
 abbrev pub other_members : OtherKeyParameters → Option Members
 other_members p = if members_have_float p.fields then None else Some p.fields
 
@@ -120,7 +121,7 @@ parameters_members (kinds.OctetKey p) = Some (octet_members p)
 parameters_members (kinds.OctetKeyPair p) = Some (pair_members p)
 parameters_members (kinds.Other p) = other_members p
 
--- the object of these (RFC 7518 section 6, RFC 8037 section 2)
+-- the object of these members (RFC 7518 section 6, RFC 8037 section 2)
 abbrev pub parameters_value : AlgorithmParameters → Option Data
 parameters_value a = option_map object (parameters_members a)
 

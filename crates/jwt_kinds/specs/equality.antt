@@ -1,3 +1,4 @@
--- That tests of equality decide what they say, and that equal values are hashed alike.
+-- Proofs that tests of equality decide the sameness that they name, and that equal values are
+-- hashed alike.
 pub mod KindsFed
 pub mod KindsSame

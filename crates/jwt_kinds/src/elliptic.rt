@@ -32,8 +32,9 @@ pub struct EllipticCurveKeyParameters {
 impl EllipticCurveKeyParameters {
     ghost use Rattle.jwt_kinds.specs.Kinds.{elliptic_from, elliptic_members};
 
-    /// The parameters that a JSON object gives; further members are ignored. A value that is no object is refused with
-    /// `Json`, and so is one where `kty` is not `EC`, `crv` is no curve, or `x` or `y` is no text.
+    /// Returns the parameters that a JSON object has; further members are ignored. Any other value
+    /// is refused with `Json`, and so is an object whose `kty` is not `EC`, whose `crv` is not a
+    /// curve, or whose `x` or `y` is not a string.
     pub fn from_value(alloc: Global, value: &Value) -> Result<EllipticCurveKeyParameters>
         ensures ok { IfOk result (λ p. elliptic_from (view value.now) ≡ Some p) }
         ensures err { IfErr result (RefusesAs kind.Json (elliptic_from (view value.now) ≡ None)) }
@@ -41,7 +42,7 @@ impl EllipticCurveKeyParameters {
         EllipticCurveKeyParameters::read(alloc, value)?.ok_or(new_error(ErrorKind::Json))
     }
 
-    /// The JSON object of the parameters. The only refusal is `OutOfMemory`.
+    /// Returns the JSON object of the parameters. The only refusal is `OutOfMemory`.
     pub fn to_value(&self, alloc: Global) -> Result<Value>
         ensures ok { IfOk result (λ v. view v ≡ object (elliptic_members self.now)) }
         ensures reads_back { IfOk result (λ v. elliptic_from (view v) ≡ Some self.now) }
@@ -51,7 +52,7 @@ impl EllipticCurveKeyParameters {
         Ok(Value::Object(members))
     }
 
-    /// A copy. The only refusal is `OutOfMemory`.
+    /// Returns a copy. The only refusal is `OutOfMemory`.
     pub fn clone(&self, alloc: Global) -> Result<EllipticCurveKeyParameters>
         ensures ok { IfOk result (λ p. p ≡ self.now) }
         ensures err { IfErr result IsMemory }
@@ -64,7 +65,7 @@ impl EllipticCurveKeyParameters {
         })
     }
 
-    // None where the value has not got the parameters.
+    // Returns `None` if the value does not have the parameters.
     pub(crate) fn read(alloc: Global, value: &Value) -> Result<Option<EllipticCurveKeyParameters>>
         ensures ok { IfOk result (λ p. p ≡ elliptic_from (view value.now)) }
         ensures err { IfErr result IsMemory }
@@ -89,7 +90,7 @@ impl EllipticCurveKeyParameters {
         }))
     }
 
-    /// The members `crv`, `kty`, `x` and `y`. The only refusal is `OutOfMemory`.
+    /// Returns the members `crv`, `kty`, `x` and `y`. The only refusal is `OutOfMemory`.
     pub fn members(&self, alloc: Global) -> Result<Map<String, Value>>
         ensures ok { IfOk result (λ m. members_view m.entries ≡ elliptic_members self.now) }
         ensures err { IfErr result IsMemory }
@@ -103,7 +104,7 @@ impl EllipticCurveKeyParameters {
     }
 }
 
-/// The same parameters.
+/// Compares the parameters.
 impl PartialEq for EllipticCurveKeyParameters {
     ghost use Rattle.std.specs.Cmp.{partial_equiv_from_equiv};
     ghost use Rattle.jwt_kinds.specs.equality.KindsSame.{elliptic_eq, elliptic_eq_equiv};

@@ -37,14 +37,14 @@ impl Model for FreeMembers {
 }
 
 impl FreeMembers {
-    /// The members.
+    /// Returns the members.
     pub fn inner(&self) -> &BTreeMap<String, Value>
         ensures { members_view result.now.entries ≡ self.now }
     {
         &self.members
     }
 
-    /// The members as a map, which is not copied.
+    /// Returns the members as a map, which is not copied.
     pub fn into_map(self) -> BTreeMap<String, Value>
         ensures { members_view result.entries ≡ self }
     {
@@ -52,7 +52,7 @@ impl FreeMembers {
         members
     }
 
-    /// A copy. The only refusal is `OutOfMemory`.
+    /// Returns a copy. The only refusal is `OutOfMemory`.
     pub fn clone(&self, _alloc: Global) -> Result<FreeMembers>
         ensures ok { IfOk result (λ f. f ≡ self.now) }
         ensures err { IfErr result IsMemory }
@@ -61,8 +61,8 @@ impl FreeMembers {
         Ok(FreeMembers { members })
     }
 
-    /// The members of a key but for those that keys of every kind may have (RFC 7517 section 4). A float among them is
-    /// refused with `Json`.
+    /// Returns the members of a key except those that keys of every kind may have (RFC 7517
+    /// section 4). A float among them is refused with `Json`.
     pub fn among(alloc: Global, members: &BTreeMap<String, Value>) -> Result<FreeMembers>
         ensures ok { IfOk result (λ f. f ≡ without common_names (members_view members.now.entries)) }
         ensures no_float { IfOk result (λ f. members_have_float f ≡ false) }
@@ -73,7 +73,8 @@ impl FreeMembers {
         Ok(FreeMembers { members })
     }
 
-    /// Whether one of them has a name that keys of every kind may have (RFC 7517 section 4).
+    /// Returns whether one of the members has a name that keys of every kind may have (RFC 7517
+    /// section 4).
     pub fn has_common_name(&self) -> bool
         ensures { result ≡ has_named common_names self.now }
     {
@@ -102,7 +103,7 @@ impl From<BTreeMap<String, Value>> for FreeMembers {
     }
 }
 
-/// The same names with the same values, where any two floats count as equal.
+/// Compares the names and the values. Any two floats count as equal.
 impl PartialEq for FreeMembers {
     ghost use Rattle.std.specs.Cmp.{partial_equiv_from_equiv};
     ghost use Rattle.jwt_base.specs.DataEq.{members_eq, members_marked};

@@ -1,4 +1,4 @@
-//! What stands at the members that the kinds of keys have.
+//! The values of the members that the kinds of keys have.
 
 ghost use Rattle.std.specs.Prelude.{◌≡◌, option_map};
 ghost use Rattle.serde_json.specs.View.{view};

@@ -27,8 +27,9 @@ pub struct OctetKeyParameters {
 impl OctetKeyParameters {
     ghost use Rattle.jwt_kinds.specs.Kinds.{octet_from, octet_members};
 
-    /// The parameters that a JSON object gives; further members are ignored. A value that is no object is refused with
-    /// `Json`, and so is one where `kty` is not `oct`, or `k` is no text.
+    /// Returns the parameters that a JSON object has; further members are ignored. Any other value
+    /// is refused with `Json`, and so is an object whose `kty` is not `oct`, or whose `k` is not a
+    /// string.
     pub fn from_value(alloc: Global, value: &Value) -> Result<OctetKeyParameters>
         ensures ok { IfOk result (λ p. octet_from (view value.now) ≡ Some p) }
         ensures err { IfErr result (RefusesAs kind.Json (octet_from (view value.now) ≡ None)) }
@@ -36,7 +37,7 @@ impl OctetKeyParameters {
         OctetKeyParameters::read(alloc, value)?.ok_or(new_error(ErrorKind::Json))
     }
 
-    /// The JSON object of the parameters. The only refusal is `OutOfMemory`.
+    /// Returns the JSON object of the parameters. The only refusal is `OutOfMemory`.
     pub fn to_value(&self, alloc: Global) -> Result<Value>
         ensures ok { IfOk result (λ v. view v ≡ object (octet_members self.now)) }
         ensures reads_back { IfOk result (λ v. octet_from (view v) ≡ Some self.now) }
@@ -46,7 +47,7 @@ impl OctetKeyParameters {
         Ok(Value::Object(members))
     }
 
-    /// A copy. The only refusal is `OutOfMemory`.
+    /// Returns a copy. The only refusal is `OutOfMemory`.
     pub fn clone(&self, alloc: Global) -> Result<OctetKeyParameters>
         ensures ok { IfOk result (λ p. p ≡ self.now) }
         ensures err { IfErr result IsMemory }
@@ -57,7 +58,7 @@ impl OctetKeyParameters {
         })
     }
 
-    // None where the value has not got the parameters.
+    // Returns `None` if the value does not have the parameters.
     pub(crate) fn read(alloc: Global, value: &Value) -> Result<Option<OctetKeyParameters>>
         ensures ok { IfOk result (λ p. p ≡ octet_from (view value.now)) }
         ensures err { IfErr result IsMemory }
@@ -74,7 +75,7 @@ impl OctetKeyParameters {
         }))
     }
 
-    /// The members `k` and `kty`. The only refusal is `OutOfMemory`.
+    /// Returns the members `k` and `kty`. The only refusal is `OutOfMemory`.
     pub fn members(&self, alloc: Global) -> Result<Map<String, Value>>
         ensures ok { IfOk result (λ m. members_view m.entries ≡ octet_members self.now) }
         ensures err { IfErr result IsMemory }
@@ -86,7 +87,7 @@ impl OctetKeyParameters {
     }
 }
 
-/// The type, and `[redacted]` for the bytes.
+/// Shows the type, and `[redacted]` for the bytes.
 impl fmt::Debug for OctetKeyParameters {
     fn fmt<W: fmt::Write>(&self, f: &mut fmt::Formatter<W>) -> fmt::Result {
         f.debug_struct("OctetKeyParameters")
@@ -96,7 +97,7 @@ impl fmt::Debug for OctetKeyParameters {
     }
 }
 
-/// The same parameters.
+/// Compares the parameters.
 impl PartialEq for OctetKeyParameters {
     ghost use Rattle.std.specs.Cmp.{partial_equiv_from_equiv};
     ghost use Rattle.jwt_kinds.specs.equality.KindsSame.{octet_eq, octet_eq_equiv};

@@ -30,8 +30,9 @@ pub struct OctetKeyPairParameters {
 impl OctetKeyPairParameters {
     ghost use Rattle.jwt_kinds.specs.Kinds.{pair_from, pair_members};
 
-    /// The parameters that a JSON object gives; further members are ignored. A value that is no object is refused with
-    /// `Json`, and so is one where `kty` is not `OKP`, `crv` is no curve, or `x` is no text.
+    /// Returns the parameters that a JSON object has; further members are ignored. Any other value
+    /// is refused with `Json`, and so is an object whose `kty` is not `OKP`, whose `crv` is not a
+    /// curve, or whose `x` is not a string.
     pub fn from_value(alloc: Global, value: &Value) -> Result<OctetKeyPairParameters>
         ensures ok { IfOk result (λ p. pair_from (view value.now) ≡ Some p) }
         ensures err { IfErr result (RefusesAs kind.Json (pair_from (view value.now) ≡ None)) }
@@ -39,7 +40,7 @@ impl OctetKeyPairParameters {
         OctetKeyPairParameters::read(alloc, value)?.ok_or(new_error(ErrorKind::Json))
     }
 
-    /// The JSON object of the parameters. The only refusal is `OutOfMemory`.
+    /// Returns the JSON object of the parameters. The only refusal is `OutOfMemory`.
     pub fn to_value(&self, alloc: Global) -> Result<Value>
         ensures ok { IfOk result (λ v. view v ≡ object (pair_members self.now)) }
         ensures reads_back { IfOk result (λ v. pair_from (view v) ≡ Some self.now) }
@@ -49,7 +50,7 @@ impl OctetKeyPairParameters {
         Ok(Value::Object(members))
     }
 
-    /// A copy. The only refusal is `OutOfMemory`.
+    /// Returns a copy. The only refusal is `OutOfMemory`.
     pub fn clone(&self, alloc: Global) -> Result<OctetKeyPairParameters>
         ensures ok { IfOk result (λ p. p ≡ self.now) }
         ensures err { IfErr result IsMemory }
@@ -61,7 +62,7 @@ impl OctetKeyPairParameters {
         })
     }
 
-    // None where the value has not got the parameters.
+    // Returns `None` if the value does not have the parameters.
     pub(crate) fn read(alloc: Global, value: &Value) -> Result<Option<OctetKeyPairParameters>>
         ensures ok { IfOk result (λ p. p ≡ pair_from (view value.now)) }
         ensures err { IfErr result IsMemory }
@@ -82,7 +83,7 @@ impl OctetKeyPairParameters {
         }))
     }
 
-    /// The members `crv`, `kty` and `x`. The only refusal is `OutOfMemory`.
+    /// Returns the members `crv`, `kty` and `x`. The only refusal is `OutOfMemory`.
     pub fn members(&self, alloc: Global) -> Result<Map<String, Value>>
         ensures ok { IfOk result (λ m. members_view m.entries ≡ pair_members self.now) }
         ensures err { IfErr result IsMemory }
@@ -95,7 +96,7 @@ impl OctetKeyPairParameters {
     }
 }
 
-/// The same parameters.
+/// Compares the parameters.
 impl PartialEq for OctetKeyPairParameters {
     ghost use Rattle.std.specs.Cmp.{partial_equiv_from_equiv};
     ghost use Rattle.jwt_kinds.specs.equality.KindsSame.{pair_eq, pair_eq_equiv};

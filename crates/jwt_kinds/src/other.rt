@@ -16,7 +16,7 @@ use std::hash::{Hash, Hasher};
 /// The members of a key whose kind is not known here, or whose parameters are not complete.
 #[derive(Debug, Drop)]
 pub struct OtherKeyParameters {
-    /// The members, but for those that keys of every kind may have (RFC 7517 section 4).
+    /// The members, except those that keys of every kind may have (RFC 7517 section 4).
     pub fields: FreeMembers,
 }
 
@@ -25,7 +25,7 @@ impl OtherKeyParameters {
     ghost use Rattle.serde_json.specs.Data.{object};
     ghost use Rattle.jwt_kinds.specs.Kinds.{other_from, other_members};
 
-    /// All members of a JSON object. Any other value and a float are refused with `Json`.
+    /// Returns all members of a JSON object. Any other value and a float are refused with `Json`.
     pub fn from_value(_alloc: Global, value: &Value) -> Result<OtherKeyParameters>
         ensures ok { IfOk result (λ p. other_from (view value.now) ≡ Some p) }
         ensures err { IfErr result (RefusesAs kind.Json (other_from (view value.now) ≡ None)) }
@@ -42,7 +42,7 @@ impl OtherKeyParameters {
         })
     }
 
-    /// The JSON object of the members. A float is refused with `Json`.
+    /// Returns the JSON object of the members. A float is refused with `Json`.
     pub fn to_value(&self, _alloc: Global) -> Result<Value>
         ensures ok { IfOk result (λ v. option_map object (other_members self.now) ≡ Some (view v)) }
         ensures reads_back { IfOk result (λ v. other_from (view v) ≡ Some self.now) }
@@ -52,7 +52,7 @@ impl OtherKeyParameters {
         Ok(Value::Object(members))
     }
 
-    /// A copy. The only refusal is `OutOfMemory`.
+    /// Returns a copy. The only refusal is `OutOfMemory`.
     pub fn clone(&self, alloc: Global) -> Result<OtherKeyParameters>
         ensures ok { IfOk result (λ p. p ≡ self.now) }
         ensures err { IfErr result IsMemory }
@@ -73,7 +73,7 @@ impl OtherKeyParameters {
     }
 }
 
-/// The same members, where any two floats count as equal.
+/// Compares the members. Any two floats count as equal.
 impl PartialEq for OtherKeyParameters {
     ghost use Rattle.std.specs.Cmp.{partial_equiv_from_equiv};
     ghost use Rattle.jwt_kinds.specs.Kinds.{marked_other};

@@ -34,9 +34,9 @@ pub enum AlgorithmParameters {
 impl AlgorithmParameters {
     ghost use Rattle.jwt_kinds.specs.Kinds.{named_from, parameters_from, parameters_members, parameters_value, normal_parameters, has_common};
 
-    /// The first of the five kinds whose parameters are among the members of a JSON object. The first four ignore further
-    /// members, and `Other` keeps all. A value that is no object and a float that `Other` would keep are refused with
-    /// `Json`.
+    /// Returns the first of the five kinds whose parameters are among the members of a JSON object.
+    /// The first four ignore further members, and `Other` keeps all. A value that is not an object
+    /// and a float that `Other` would keep are refused with `Json`.
     pub fn from_value(alloc: Global, value: &Value) -> Result<AlgorithmParameters>
         ensures ok { IfOk result (λ a. parameters_from (view value.now) ≡ Some a) }
         ensures normal { IfOk result (λ a. normal_parameters a ≡ a) }
@@ -46,8 +46,8 @@ impl AlgorithmParameters {
         Ok(algorithm)
     }
 
-    /// The first of the four kinds with parameters of their own that a JSON value has: none where it has none of them.
-    /// The only refusal is `OutOfMemory`.
+    /// Returns the first of the four known kinds whose parameters a JSON value has, or `None` if
+    /// there is no such kind. The only refusal is `OutOfMemory`.
     pub fn named(alloc: Global, value: &Value) -> Result<Option<AlgorithmParameters>>
         ensures ok { IfOk result (λ a. a ≡ named_from (view value.now)) }
         ensures err { IfErr result IsMemory }
@@ -67,7 +67,7 @@ impl AlgorithmParameters {
         Ok(None)
     }
 
-    /// The JSON object of the parameters. A float in an `Other` is refused with `Json`.
+    /// Returns the JSON object of the parameters. A float in an `Other` is refused with `Json`.
     pub fn to_value(&self, alloc: Global) -> Result<Value>
         ensures ok { IfOk result (λ v. parameters_value self.now ≡ Some (view v)) }
         ensures reads_back { IfOk result (λ v. parameters_from (view v) ≡ Some (normal_parameters self.now)) }
@@ -77,7 +77,8 @@ impl AlgorithmParameters {
         Ok(Value::Object(members))
     }
 
-    /// The members of the JSON object of the parameters. A float in an `Other` is refused with `Json`.
+    /// Returns the members of the JSON object of the parameters. A float in an `Other` is refused
+    /// with `Json`.
     pub fn members(&self, alloc: Global) -> Result<Map<String, Value>>
         ensures ok { IfOk result (λ m. parameters_members self.now ≡ Some (members_view m.entries)) }
         ensures err { IfErr result (RefusesAs kind.Json (parameters_members self.now ≡ None)) }
@@ -106,7 +107,8 @@ impl AlgorithmParameters {
         }
     }
 
-    /// Whether this is an `Other` with a member that keys of every kind may have (RFC 7517 section 4).
+    /// Returns whether this is an `Other` with a member that keys of every kind may have (RFC 7517
+    /// section 4).
     pub fn has_common_name(&self) -> bool
         ensures { result ≡ has_common self.now }
     {
@@ -116,7 +118,7 @@ impl AlgorithmParameters {
         }
     }
 
-    /// A copy. The only refusal is `OutOfMemory`.
+    /// Returns a copy. The only refusal is `OutOfMemory`.
     pub fn clone(&self, alloc: Global) -> Result<AlgorithmParameters>
         ensures ok { IfOk result (λ a. a ≡ self.now) }
         ensures err { IfErr result IsMemory }
@@ -148,7 +150,7 @@ impl AlgorithmParameters {
     }
 }
 
-/// The same kind with the same parameters, where any two floats count as equal.
+/// Compares the kinds and their parameters. Any two floats count as equal.
 impl PartialEq for AlgorithmParameters {
     ghost use Rattle.std.specs.Cmp.{partial_equiv_from_equiv};
     ghost use Rattle.jwt_kinds.specs.Kinds.{marked_parameters};

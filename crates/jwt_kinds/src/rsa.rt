@@ -28,8 +28,9 @@ pub struct RSAKeyParameters {
 impl RSAKeyParameters {
     ghost use Rattle.jwt_kinds.specs.Kinds.{rsa_from, rsa_members};
 
-    /// The parameters that a JSON object gives; further members are ignored. A value that is no object is refused with
-    /// `Json`, and so is one where `kty` is not `RSA`, or `n` or `e` is no text.
+    /// Returns the parameters that a JSON object has; further members are ignored. Any other value
+    /// is refused with `Json`, and so is an object whose `kty` is not `RSA`, or whose `n` or `e` is
+    /// not a string.
     pub fn from_value(alloc: Global, value: &Value) -> Result<RSAKeyParameters>
         ensures ok { IfOk result (λ p. rsa_from (view value.now) ≡ Some p) }
         ensures err { IfErr result (RefusesAs kind.Json (rsa_from (view value.now) ≡ None)) }
@@ -37,7 +38,7 @@ impl RSAKeyParameters {
         RSAKeyParameters::read(alloc, value)?.ok_or(new_error(ErrorKind::Json))
     }
 
-    /// The JSON object of the parameters. The only refusal is `OutOfMemory`.
+    /// Returns the JSON object of the parameters. The only refusal is `OutOfMemory`.
     pub fn to_value(&self, alloc: Global) -> Result<Value>
         ensures ok { IfOk result (λ v. view v ≡ object (rsa_members self.now)) }
         ensures reads_back { IfOk result (λ v. rsa_from (view v) ≡ Some self.now) }
@@ -47,7 +48,7 @@ impl RSAKeyParameters {
         Ok(Value::Object(members))
     }
 
-    /// A copy. The only refusal is `OutOfMemory`.
+    /// Returns a copy. The only refusal is `OutOfMemory`.
     pub fn clone(&self, alloc: Global) -> Result<RSAKeyParameters>
         ensures ok { IfOk result (λ p. p ≡ self.now) }
         ensures err { IfErr result IsMemory }
@@ -59,7 +60,7 @@ impl RSAKeyParameters {
         })
     }
 
-    // None where the value has not got the parameters.
+    // Returns `None` if the value does not have the parameters.
     pub(crate) fn read(alloc: Global, value: &Value) -> Result<Option<RSAKeyParameters>>
         ensures ok { IfOk result (λ p. p ≡ rsa_from (view value.now)) }
         ensures err { IfErr result IsMemory }
@@ -80,7 +81,7 @@ impl RSAKeyParameters {
         }))
     }
 
-    /// The members `e`, `kty` and `n`. The only refusal is `OutOfMemory`.
+    /// Returns the members `e`, `kty` and `n`. The only refusal is `OutOfMemory`.
     pub fn members(&self, alloc: Global) -> Result<Map<String, Value>>
         ensures ok { IfOk result (λ m. members_view m.entries ≡ rsa_members self.now) }
         ensures err { IfErr result IsMemory }
@@ -93,7 +94,7 @@ impl RSAKeyParameters {
     }
 }
 
-/// The same parameters.
+/// Compares the parameters.
 impl PartialEq for RSAKeyParameters {
     ghost use Rattle.std.specs.Cmp.{partial_equiv_from_equiv};
     ghost use Rattle.jwt_kinds.specs.equality.KindsSame.{rsa_eq, rsa_eq_equiv};

@@ -1,4 +1,4 @@
--- What is written of the common parameters reads as their normal form.
+-- The common parameters, written and read again, are their normal form.
 use Rattle.std.proofs.Common.{◌≡◌, ℕ, List, [], ◌∷◌, map, Option, Some, None, option_map, unwrap_or, codes, false, refl, ap}
 use Rattle.serde_json.specs.Data.{Data, Members, string, object}
 use Rattle.serde_json.specs.Find.{get, get_member}
@@ -19,7 +19,7 @@ use Rattle.jwt_params.specs.declared.operations.KeyOperations.TheVariants as ope
 use Rattle.jwt_params.specs.declared.uses.PublicKeyUse.{PublicKeyUse}
 use Rattle.jwt_params.specs.declared.uses.PublicKeyUse.TheVariants as uses
 
--- a value says one thing at most of the common parameters
+-- at most one value of the common parameters is read from a JSON value
 pub one_common : (d : Data) (c e : CommonParameters) → ReadsCommon d c → ReadsCommon d e → c ≡ e
 one_common d c e r s =
     let public_key_use : c.public_key_use ≡ e.public_key_use = cc (r.public_key_use, s.public_key_use) in
@@ -119,7 +119,7 @@ without-with_common c ms free =
     let none = without-put_some common_names in
     simp (none (codes "use") refl, none (codes "key_ops") refl, none (codes "alg") refl, none (codes "kid") refl, none (codes "x5u") refl, none (codes "x5c") refl, none (codes "x5t") refl, none (codes "x5t#S256") refl) free
 
--- what was put among free members reads as the normal form
+-- parameters that were put among free members are read as their normal form
 pub reads_with_common : (c : CommonParameters) (ms : Members) → IsFree ms → ReadsCommon (object (with_common c ms)) (normal_common c)
 reads_with_common c ms free = record {
   an_object = refl;
@@ -133,7 +133,7 @@ reads_with_common c ms free = record {
   x509_sha256_fingerprint = rw (get-x5t_s256 c ms free) (optional-string c.x509_sha256_fingerprint);
 }
 
--- what was read is its own normal form
+-- parameters that were read are their own normal form
 pub common_is_normal : (d : Data) (c : CommonParameters) → ReadsCommon d c → normal_common c ≡ c
 common_is_normal d c r =
     let public_key_use = own_optional use_from normal_use (own_named use_text use_named use_kept) (get (codes "use") d) c.public_key_use r.public_key_use in

@@ -1,4 +1,5 @@
--- What keys of every kind may have (RFC 7517 section 4): what a JSON value says of it, and what is written of it.
+-- The parameters that keys of every kind may have (RFC 7517 section 4): how they are read from a
+-- JSON value, and how they are written.
 use Rattle.std.specs.Prelude.{◌≡◌, IsTrue, ℕ, List, [], ◌∷◌, Some, None, option_map, is_some, codes}
 use Rattle.serde_json.specs.Data.{Data, string, object, Members, no_members}
 use Rattle.serde_json.specs.Find.{get, as_str, as_object}
@@ -12,7 +13,7 @@ use Rattle.jwt_params.specs.declared.common.CommonParameters.{CommonParameters}
 abbrev pub common_names : List (List ℕ)
 common_names = codes "use" ∷ codes "key_ops" ∷ codes "alg" ∷ codes "kid" ∷ codes "x5u" ∷ codes "x5c" ∷ codes "x5t" ∷ codes "x5t#S256" ∷ []
 
--- nothing is there
+-- no parameters
 abbrev pub no_common : CommonParameters
 no_common = record { public_key_use = None; key_operations = None; key_algorithm = None; key_id = None; x509_url = None; x509_chain = None; x509_sha1_fingerprint = None; x509_sha256_fingerprint = None }
 
@@ -31,7 +32,7 @@ pub record ReadsCommon (d : Data) (c : CommonParameters) : Type 0 where
 abbrev pub key_algorithm_value : KeyAlgorithm → Data
 key_algorithm_value a = string (key_name_of a)
 
--- the members, and those of the eight that are there
+-- the members, and those of the eight that are present
 abbrev pub with_common : CommonParameters → Members → Members
 with_common c ms =
     put_some (codes "use") (option_map use_value c.public_key_use) (
@@ -46,6 +47,6 @@ with_common c ms =
 abbrev pub common_value : CommonParameters → Data
 common_value c = object (with_common c no_members)
 
--- a free text that is a known spelling becomes the known value
+-- a free string that is a known spelling becomes the known value
 abbrev pub normal_common : CommonParameters → CommonParameters
 normal_common c = record c { public_key_use = option_map normal_use c.public_key_use; key_operations = option_map normal_operations c.key_operations }

@@ -1,4 +1,4 @@
--- What keys may do, by name (RFC 7517 section 4.3).
+-- The operations that keys may be used for, by name (RFC 7517 section 4.3).
 use Rattle.std.specs.Prelude.{ℕ, List, [], ◌∷◌, Bool, true, false, Option, option_map, map, codes}
 use Rattle.serde_json.specs.Data.{Data}
 use Rattle.jwt_base.specs.Members.{texts, texts_value}

@@ -1,4 +1,4 @@
--- What public keys are for, by name (RFC 7517 section 4.2).
+-- The uses of public keys, by name (RFC 7517 section 4.2).
 use Rattle.std.specs.Prelude.{ℕ, List, [], ◌∷◌, Bool, true, false, Option, codes}
 use Rattle.serde_json.specs.Data.{Data}
 use Rattle.jwt_base.specs.Spelling.{Spelling, named, named_from, named_value, normal_named}

@@ -1,4 +1,4 @@
-//! What keys of every kind may have.
+//! The parameters that keys of every kind may have.
 
 ghost use Rattle.std.specs.Prelude.{◌≡◌, ◌↔◌, IsTrue, Some, None, IfOk, IfErr, OnOk, option_map, map, codes};
 ghost use Rattle.serde_json.specs.Find.{get};
@@ -23,18 +23,18 @@ use serde_json::{Map, Value};
 use std::alloc::Global;
 use std::hash::{Hash, Hasher};
 
-/// What keys of every kind may have (RFC 7517 section 4).
+/// The parameters that keys of every kind may have (RFC 7517 section 4).
 #[derive(Debug, Drop)]
 pub struct CommonParameters {
-    /// What a public key is for, `use` (section 4.2).
+    /// The use of a public key, `use` (section 4.2).
     pub public_key_use: Option<PublicKeyUse>,
-    /// What the key may do, `key_ops` (section 4.3).
+    /// The operations that the key may be used for, `key_ops` (section 4.3).
     pub key_operations: Option<KeyOperationList>,
     /// The algorithm that the key is for, `alg` (section 4.4).
     pub key_algorithm: Option<KeyAlgorithm>,
     /// The name of the key, `kid` (section 4.5).
     pub key_id: Option<Text>,
-    /// Where the certificates are found, `x5u` (section 4.6).
+    /// The URL of the certificates, `x5u` (section 4.6).
     pub x509_url: Option<Text>,
     /// The key's certificate and those that certify it, each in standard base64, `x5c` (section 4.7).
     pub x509_chain: Option<Texts>,
@@ -48,8 +48,9 @@ impl CommonParameters {
     ghost use Rattle.jwt_params.specs.Common.{ReadsCommon, common_value, with_common, normal_common};
     ghost use Rattle.jwt_params.specs.declared.common.CommonParameters.{CommonParameters};
 
-    /// What the eight names of a JSON object give; each may be absent or null, and further members are ignored. A value
-    /// that is no object and a member of a wrong type are refused with `Json`.
+    /// Returns the parameters that a JSON object has under the eight names; each may be absent or
+    /// null, and further members are ignored. A value that is not an object and a member of a wrong
+    /// type are refused with `Json`.
     pub fn from_value(alloc: Global, value: &Value) -> Result<CommonParameters>
         ensures ok { IfOk result (ReadsCommon (view value.now)) }
         ensures normal { IfOk result (λ c. normal_common c ≡ c) }
@@ -59,7 +60,8 @@ impl CommonParameters {
         Ok(common)
     }
 
-    /// The JSON object of what is there. The only refusal is `OutOfMemory`.
+    /// Returns the JSON object of the parameters that are present. The only refusal is
+    /// `OutOfMemory`.
     pub fn to_value(&self, alloc: Global) -> Result<Value>
         ensures ok { IfOk result (λ v. view v ≡ common_value self.now) }
         ensures reads_back { IfOk result (λ v. ReadsCommon (view v) (normal_common self.now)) }
@@ -69,7 +71,8 @@ impl CommonParameters {
         Ok(Value::Object(members))
     }
 
-    /// The members, and with them what is there. The only refusal is `OutOfMemory`.
+    /// Returns the members, together with the parameters that are present. The only refusal is
+    /// `OutOfMemory`.
     pub fn with_members(
         &self,
         alloc: Global,
@@ -91,7 +94,7 @@ impl CommonParameters {
         Ok(all)
     }
 
-    /// A copy. The only refusal is `OutOfMemory`.
+    /// Returns a copy. The only refusal is `OutOfMemory`.
     pub fn clone(&self, alloc: Global) -> Result<CommonParameters>
         ensures ok { IfOk result (λ c. c ≡ self.now) }
         ensures err { IfErr result IsMemory }
@@ -128,14 +131,16 @@ impl CommonParameters {
     }
 }
 
-/// Whether keys of every kind may have a member of this name (RFC 7517 section 4), so that it is no member of a kind.
+/// Returns whether keys of every kind may have a member of this name (RFC 7517 section 4), so that
+/// it is not a member of one kind.
 pub fn is_common_name(name: &str) -> bool
     ensures { result ≡ is_named common_names name.now }
 {
     is_one_of(name, &common_names())
 }
 
-/// The names of the members that keys of every kind may have (RFC 7517 sections 4.2 to 4.9).
+/// Returns the names of the members that keys of every kind may have (RFC 7517 sections 4.2 to
+/// 4.9).
 pub fn common_names() -> [&'static str; 8]
     ensures { map (λ s. s.now) result ≡ common_names }
 {
@@ -252,7 +257,7 @@ fn clone_operations(
     }
 }
 
-/// Nothing is there.
+/// Has no parameters.
 impl Default for CommonParameters {
     ghost use Rattle.jwt_params.specs.Common.{no_common};
 
@@ -272,7 +277,7 @@ impl Default for CommonParameters {
     }
 }
 
-/// The same fields.
+/// Compares the fields.
 impl PartialEq for CommonParameters {
     ghost use Rattle.std.specs.Cmp.{partial_equiv_from_equiv};
     ghost use Rattle.jwt_params.specs.equality.CommonSame.{common_eq, common_eq_equiv};

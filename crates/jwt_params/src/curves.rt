@@ -26,7 +26,7 @@ pub enum EllipticCurve {
 }
 
 impl EllipticCurve {
-    /// The name in JSON.
+    /// Returns the name in JSON.
     pub fn name(&self) -> &'static str
         ensures { result.now ≡ curve_name self.now }
     {
@@ -38,7 +38,7 @@ impl EllipticCurve {
         }
     }
 
-    /// The JSON value, a text. The only refusal is `OutOfMemory`.
+    /// Returns the name as a JSON string. The only refusal is `OutOfMemory`.
     pub fn to_value(&self, alloc: Global) -> Result<Value>
         ensures ok { IfOk result (λ v. view v ≡ string (curve_name self.now)) }
         ensures reads_back { IfOk result (λ v. curve_from (view v) ≡ Some self.now) }
@@ -47,7 +47,8 @@ impl EllipticCurve {
         Ok(Value::String(String::from_str(alloc, self.name())?))
     }
 
-    /// The curve of a JSON value. What is none of the four texts is refused with `Json`. No memory is taken.
+    /// Returns the curve that a JSON string names. Any other value is refused with `Json`.
+    /// Allocates no memory.
     pub fn from_value(value: &Value) -> Result<EllipticCurve>
         ensures ok { IfOk result (λ c. curve_from (view value.now) ≡ Some c) }
         ensures err { IfErr result (λ e. (kind_of e ≡ kind.Json) × (curve_from (view value.now) ≡ None)) }

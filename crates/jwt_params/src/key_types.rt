@@ -19,7 +19,7 @@ pub enum EllipticCurveKeyType {
 }
 
 impl EllipticCurveKeyType {
-    /// The name in JSON.
+    /// Returns the name in JSON.
     pub fn name(self) -> &'static str
         ensures { result.now ≡ types.elliptic_type_name self }
     {
@@ -28,7 +28,7 @@ impl EllipticCurveKeyType {
         }
     }
 
-    /// The name as a JSON text. The only refusal is `OutOfMemory`.
+    /// Returns the name as a JSON string. The only refusal is `OutOfMemory`.
     pub fn to_value(&self, alloc: Global) -> Result<Value>
         ensures ok { IfOk result (λ v. view v ≡ string (types.elliptic_type_name self.now)) }
         ensures reads_back { IfOk result (λ v. types.elliptic_type_from (view v) ≡ Some self.now) }
@@ -37,7 +37,8 @@ impl EllipticCurveKeyType {
         Ok(Value::try_from_str(alloc, self.name())?)
     }
 
-    /// The type that a JSON text names. What is not the text `EC` is refused with `Json`. No memory is taken.
+    /// Returns the type that a JSON string names. Any value but the string `EC` is refused with
+    /// `Json`. Allocates no memory.
     pub fn from_value(value: &Value) -> Result<EllipticCurveKeyType>
         ensures ok { IfOk result (λ t. types.elliptic_type_from (view value.now) ≡ Some t) }
         ensures err { IfErr result (λ e. (kind_of e ≡ kind.Json) × (types.elliptic_type_from (view value.now) ≡ None)) }
@@ -76,7 +77,7 @@ pub enum RSAKeyType {
 }
 
 impl RSAKeyType {
-    /// The name in JSON.
+    /// Returns the name in JSON.
     pub fn name(self) -> &'static str
         ensures { result.now ≡ types.rsa_type_name self }
     {
@@ -85,7 +86,7 @@ impl RSAKeyType {
         }
     }
 
-    /// The name as a JSON text. The only refusal is `OutOfMemory`.
+    /// Returns the name as a JSON string. The only refusal is `OutOfMemory`.
     pub fn to_value(&self, alloc: Global) -> Result<Value>
         ensures ok { IfOk result (λ v. view v ≡ string (types.rsa_type_name self.now)) }
         ensures reads_back { IfOk result (λ v. types.rsa_type_from (view v) ≡ Some self.now) }
@@ -94,7 +95,8 @@ impl RSAKeyType {
         Ok(Value::try_from_str(alloc, self.name())?)
     }
 
-    /// The type that a JSON text names. What is not the text `RSA` is refused with `Json`. No memory is taken.
+    /// Returns the type that a JSON string names. Any value but the string `RSA` is refused with
+    /// `Json`. Allocates no memory.
     pub fn from_value(value: &Value) -> Result<RSAKeyType>
         ensures ok { IfOk result (λ t. types.rsa_type_from (view value.now) ≡ Some t) }
         ensures err { IfErr result (λ e. (kind_of e ≡ kind.Json) × (types.rsa_type_from (view value.now) ≡ None)) }
@@ -133,7 +135,7 @@ pub enum OctetKeyType {
 }
 
 impl OctetKeyType {
-    /// The name in JSON.
+    /// Returns the name in JSON.
     pub fn name(self) -> &'static str
         ensures { result.now ≡ types.octet_type_name self }
     {
@@ -142,7 +144,7 @@ impl OctetKeyType {
         }
     }
 
-    /// The name as a JSON text. The only refusal is `OutOfMemory`.
+    /// Returns the name as a JSON string. The only refusal is `OutOfMemory`.
     pub fn to_value(&self, alloc: Global) -> Result<Value>
         ensures ok { IfOk result (λ v. view v ≡ string (types.octet_type_name self.now)) }
         ensures reads_back { IfOk result (λ v. types.octet_type_from (view v) ≡ Some self.now) }
@@ -151,7 +153,8 @@ impl OctetKeyType {
         Ok(Value::try_from_str(alloc, self.name())?)
     }
 
-    /// The type that a JSON text names. What is not the text `oct` is refused with `Json`. No memory is taken.
+    /// Returns the type that a JSON string names. Any value but the string `oct` is refused with
+    /// `Json`. Allocates no memory.
     pub fn from_value(value: &Value) -> Result<OctetKeyType>
         ensures ok { IfOk result (λ t. types.octet_type_from (view value.now) ≡ Some t) }
         ensures err { IfErr result (λ e. (kind_of e ≡ kind.Json) × (types.octet_type_from (view value.now) ≡ None)) }
@@ -190,7 +193,7 @@ pub enum OctetKeyPairType {
 }
 
 impl OctetKeyPairType {
-    /// The name in JSON.
+    /// Returns the name in JSON.
     pub fn name(self) -> &'static str
         ensures { result.now ≡ types.octet_pair_type_name self }
     {
@@ -199,7 +202,7 @@ impl OctetKeyPairType {
         }
     }
 
-    /// The name as a JSON text. The only refusal is `OutOfMemory`.
+    /// Returns the name as a JSON string. The only refusal is `OutOfMemory`.
     pub fn to_value(&self, alloc: Global) -> Result<Value>
         ensures ok { IfOk result (λ v. view v ≡ string (types.octet_pair_type_name self.now)) }
         ensures reads_back { IfOk result (λ v. types.octet_pair_type_from (view v) ≡ Some self.now) }
@@ -208,7 +211,8 @@ impl OctetKeyPairType {
         Ok(Value::try_from_str(alloc, self.name())?)
     }
 
-    /// The type that a JSON text names. What is not the text `OKP` is refused with `Json`. No memory is taken.
+    /// Returns the type that a JSON string names. Any value but the string `OKP` is refused with
+    /// `Json`. Allocates no memory.
     pub fn from_value(value: &Value) -> Result<OctetKeyPairType>
         ensures ok { IfOk result (λ t. types.octet_pair_type_from (view value.now) ≡ Some t) }
         ensures err { IfErr result (λ e. (kind_of e ≡ kind.Json) × (types.octet_pair_type_from (view value.now) ≡ None)) }

@@ -1,5 +1,5 @@
-//! The parameters of JSON Web Keys (RFC 7517, RFC 7518 section 6): the values that are known by their names, and what
-//! keys of every kind may have.
+//! The parameters of JSON Web Keys (RFC 7517, RFC 7518 section 6): the values that are known by
+//! their names, and the parameters that keys of every kind may have.
 #![tactic(auto)]
 
 pub mod common;

@@ -1,4 +1,4 @@
-//! What a key may do.
+//! The operations that a key may be used for.
 
 ghost use Rattle.std.specs.Prelude.{◌≡◌, Some, None, IfOk, IfErr};
 ghost use Rattle.serde_json.specs.View.{view};
@@ -12,7 +12,7 @@ use std::alloc::Global;
 use std::hash::{Hash, Hasher};
 use std::marker::Model;
 
-/// What a key may do, an entry of `key_ops` (RFC 7517 section 4.3).
+/// An operation that a key may be used for, an entry of `key_ops` (RFC 7517 section 4.3).
 #[derive(Debug, Drop, Eq)]
 pub enum KeyOperations {
     /// Compute a signature or a MAC, `sign`.
@@ -29,7 +29,7 @@ pub enum KeyOperations {
     UnwrapKey,
     /// Derive a key, `deriveKey`.
     DeriveKey,
-    /// Derive bits that are no key, `deriveBits`.
+    /// Derive bits that are not a key, `deriveBits`.
     DeriveBits,
     /// Any other name.
     Other(Text),
@@ -38,7 +38,7 @@ pub enum KeyOperations {
 impl KeyOperations {
     ghost use Rattle.jwt_params.specs.Operation.{operation_text, operation_named, operation_from, operation_value, normal_operation, is_other_operation};
 
-    /// The name as a JSON text. The only refusal is `OutOfMemory`.
+    /// Returns the name as a JSON string. The only refusal is `OutOfMemory`.
     pub fn to_value(&self, alloc: Global) -> Result<Value>
         ensures ok { IfOk result (λ v. view v ≡ operation_value self.now) }
         ensures reads_back { IfOk result (λ v. operation_from (view v) ≡ Some (normal_operation self.now)) }
@@ -47,7 +47,8 @@ impl KeyOperations {
         Ok(Value::try_from_str(alloc, self.as_str())?)
     }
 
-    /// What a JSON text names: one of the eight, or `Other`. A value that is no text is refused with `Json`.
+    /// Returns the operation that a JSON string names: one of the eight known ones, or `Other`. A
+    /// value that is not a string is refused with `Json`.
     pub fn from_value(alloc: Global, value: &Value) -> Result<KeyOperations>
         ensures ok { IfOk result (λ o. operation_from (view value.now) ≡ Some o) }
         ensures err { IfErr result (RefusesAs kind.Json (operation_from (view value.now) ≡ None)) }
@@ -56,7 +57,7 @@ impl KeyOperations {
         KeyOperations::named(alloc, name)
     }
 
-    /// A copy. The only refusal is `OutOfMemory`.
+    /// Returns a copy. The only refusal is `OutOfMemory`.
     pub fn clone(&self, alloc: Global) -> Result<KeyOperations>
         ensures ok { IfOk result (λ o. o ≡ self.now) }
         ensures err { IfErr result IsMemory }
@@ -143,7 +144,8 @@ impl Hash for KeyOperations {
     }
 }
 
-/// What a key may do, `key_ops` (RFC 7517 section 4.3), in order. A contract sees the list.
+/// The operations that a key may be used for, `key_ops` (RFC 7517 section 4.3), in order. A
+/// contract sees the list.
 #[derive(Debug, Drop)]
 pub struct KeyOperationList {
     operations: Vec<KeyOperations>,
@@ -161,7 +163,7 @@ impl Model for KeyOperationList {
 impl KeyOperationList {
     ghost use Rattle.jwt_params.specs.Operation.{operations_from, operations_value, normal_operations};
 
-    /// A list of copies of these operations, in order. The only refusal is `OutOfMemory`.
+    /// Returns a list of copies of these operations, in order. The only refusal is `OutOfMemory`.
     pub fn from_slice(alloc: Global, operations: &[KeyOperations]) -> Result<KeyOperationList>
         ensures ok { IfOk result (λ l. l ≡ operations.now) }
         ensures err { IfErr result IsMemory }
@@ -173,14 +175,14 @@ impl KeyOperationList {
         Ok(KeyOperationList { operations: copies })
     }
 
-    /// The operations, in order.
+    /// Returns the operations, in order.
     pub fn as_slice(&self) -> &[KeyOperations]
         ensures { result.now ≡ self.now }
     {
         self.operations.as_slice()
     }
 
-    /// The operations as a `Vec`, which is not copied.
+    /// Returns the operations as a `Vec`, which is not copied.
     pub fn into_vec(self) -> Vec<KeyOperations>
         ensures { result.items ≡ self }
     {
@@ -188,7 +190,7 @@ impl KeyOperationList {
         operations
     }
 
-    /// A copy. The only refusal is `OutOfMemory`.
+    /// Returns a copy. The only refusal is `OutOfMemory`.
     pub fn clone(&self, alloc: Global) -> Result<KeyOperationList>
         ensures ok { IfOk result (λ l. l ≡ self.now) }
         ensures err { IfErr result IsMemory }
@@ -196,7 +198,7 @@ impl KeyOperationList {
         KeyOperationList::from_slice(alloc, self.as_slice())
     }
 
-    /// The names as a JSON list. The only refusal is `OutOfMemory`.
+    /// Returns the names as a JSON list. The only refusal is `OutOfMemory`.
     pub fn to_value(&self, alloc: Global) -> Result<Value>
         ensures ok { IfOk result (λ v. view v ≡ operations_value self.now) }
         ensures reads_back { IfOk result (λ v. operations_from (view v) ≡ Some (normal_operations self.now)) }
@@ -209,7 +211,8 @@ impl KeyOperationList {
         Ok(Value::Array(items))
     }
 
-    /// What a JSON list of texts names. Any other value is refused with `Json`.
+    /// Returns the operations that a JSON list of strings names. Any other value is refused with
+    /// `Json`.
     pub fn from_value(alloc: Global, value: &Value) -> Result<KeyOperationList>
         ensures ok { IfOk result (λ l. operations_from (view value.now) ≡ Some l) }
         ensures err { IfErr result (RefusesAs kind.Json (operations_from (view value.now) ≡ None)) }

@@ -1,6 +1,6 @@
 //! The hashes of thumbprints.
 
-/// A hash that a thumbprint is made with (RFC 7638 section 3.4).
+/// A hash function for thumbprints (RFC 7638 section 3.4).
 #[derive(Clone, Debug, PartialEq, Eq, Drop)]
 pub enum ThumbprintHash {
     /// SHA-256.

@@ -1,4 +1,4 @@
-//! What a public key is for.
+//! The uses of public keys.
 
 ghost use Rattle.std.specs.Prelude.{◌≡◌, Some, None, IfOk, IfErr};
 ghost use Rattle.serde_json.specs.View.{view};
@@ -11,7 +11,7 @@ use serde_json::Value;
 use std::alloc::Global;
 use std::hash::{Hash, Hasher};
 
-/// What a public key is for, `use` (RFC 7517 section 4.2).
+/// The use of a public key, `use` (RFC 7517 section 4.2).
 #[derive(Debug, Drop, Eq)]
 pub enum PublicKeyUse {
     /// Signatures, `sig`.
@@ -25,7 +25,7 @@ pub enum PublicKeyUse {
 impl PublicKeyUse {
     ghost use Rattle.jwt_params.specs.Use.{use_text, use_named, use_from, use_value, normal_use, is_other_use};
 
-    /// The name as a JSON text. The only refusal is `OutOfMemory`.
+    /// Returns the name as a JSON string. The only refusal is `OutOfMemory`.
     pub fn to_value(&self, alloc: Global) -> Result<Value>
         ensures ok { IfOk result (λ v. view v ≡ use_value self.now) }
         ensures reads_back { IfOk result (λ v. use_from (view v) ≡ Some (normal_use self.now)) }
@@ -34,7 +34,8 @@ impl PublicKeyUse {
         Ok(Value::try_from_str(alloc, self.as_str())?)
     }
 
-    /// What a JSON text names: one of the two, or `Other`. A value that is no text is refused with `Json`.
+    /// Returns the use that a JSON string names: one of the two known ones, or `Other`. A value
+    /// that is not a string is refused with `Json`.
     pub fn from_value(alloc: Global, value: &Value) -> Result<PublicKeyUse>
         ensures ok { IfOk result (λ u. use_from (view value.now) ≡ Some u) }
         ensures err { IfErr result (RefusesAs kind.Json (use_from (view value.now) ≡ None)) }
@@ -43,7 +44,7 @@ impl PublicKeyUse {
         PublicKeyUse::named(alloc, name)
     }
 
-    /// A copy. The only refusal is `OutOfMemory`.
+    /// Returns a copy. The only refusal is `OutOfMemory`.
     pub fn clone(&self, alloc: Global) -> Result<PublicKeyUse>
         ensures ok { IfOk result (λ u. u ≡ self.now) }
         ensures err { IfErr result IsMemory }

@@ -1,5 +1,5 @@
-//! Answers, as rows want them: `{"ok": ..}` with what the call returned, or `{"err": ..}` with the name of the kind, and
-//! behind it in parentheses the text that it holds.
+//! Results, as rows want them: `{"ok": ..}` with the value that the call returned, or `{"err": ..}`
+//! with the name of the kind, and behind it in parentheses the string that it holds.
 
 pub mod keys;
 
@@ -8,7 +8,7 @@ use jsonwebtoken::errors::{Error, ErrorKind, Result};
 use serde_json::{Map, Value};
 use std::alloc::Global;
 
-/// The value of an answer, or why the row could not be tried.
+/// The value of a result, or the reason for which the row could not be tried.
 pub type Answer = std::result::Result<Value, Fault>;
 
 /// Returns an object with this one member.
@@ -30,7 +30,7 @@ fn text(alloc: Global, text: &str) -> Answer {
     Ok(Value::String(String::from_str(alloc, text)?))
 }
 
-// The text that a kind holds.
+// Returns the string that a kind holds.
 fn held_text(kind: &ErrorKind) -> Option<&str> {
     match kind {
         ErrorKind::MissingRequiredClaim(text) => Some(text.as_str()),
@@ -42,7 +42,7 @@ fn held_text(kind: &ErrorKind) -> Option<&str> {
     }
 }
 
-// The name of a kind, and behind it in parentheses the text that it holds.
+// Returns the name of a kind, and behind it in parentheses the string that it holds.
 fn kind_text(alloc: Global, kind: &ErrorKind) -> std::result::Result<String, Fault> {
     let name = kind.name();
     match held_text(kind) {
@@ -51,29 +51,30 @@ fn kind_text(alloc: Global, kind: &ErrorKind) -> std::result::Result<String, Fau
     }
 }
 
-/// Returns the answer of a call that returned this kind: its name, and behind it in parentheses the text that it holds.
+/// Returns the result of a call that returned this kind: its name, and behind it in parentheses the
+/// string that it holds.
 pub fn of_kind(alloc: Global, kind: &ErrorKind) -> Answer {
     let kind = kind_text(alloc, kind)?;
     accepted(alloc, Value::String(kind))
 }
 
-/// Returns the answer of a call that returned this.
+/// Returns the result of a call that returned this.
 pub fn accepted(alloc: Global, value: Value) -> Answer {
     object(alloc, "ok", value)
 }
 
-/// Returns the answer of a call that refused.
+/// Returns the result of a call that refused.
 pub fn refused(alloc: Global, refusal: &Error) -> Answer {
     let kind = kind_text(alloc, refusal.kind())?;
     object(alloc, "err", Value::String(kind))
 }
 
-/// Returns the answer of a call that refused, and changed its receiver though it must not.
+/// Returns the result of a call that refused, and changed its receiver though it must not.
 pub fn changed(alloc: Global) -> Answer {
     object(alloc, "changed", Value::Bool(true))
 }
 
-/// Returns the answer of a call that returns a JSON value.
+/// Returns the result of a call that returns a JSON value.
 pub fn of_value(alloc: Global, answer: Result<Value>) -> Answer {
     match answer {
         Ok(value) => accepted(alloc, value),
@@ -81,7 +82,7 @@ pub fn of_value(alloc: Global, answer: Result<Value>) -> Answer {
     }
 }
 
-/// Returns the answer of a call that returns a string.
+/// Returns the result of a call that returns a string.
 pub fn of_string(alloc: Global, answer: Result<String>) -> Answer {
     match answer {
         Ok(string) => accepted(alloc, Value::String(string)),
@@ -89,7 +90,7 @@ pub fn of_string(alloc: Global, answer: Result<String>) -> Answer {
     }
 }
 
-/// Returns the answer of a call that returns a string slice.
+/// Returns the result of a call that returns a string slice.
 pub fn of_text(alloc: Global, answer: Result<&str>) -> Answer {
     match answer {
         Ok(given) => accepted(alloc, text(alloc, given)?),
@@ -102,7 +103,7 @@ pub fn hex_value(alloc: Global, bytes: &[u8]) -> Answer {
     Ok(Value::String(hex::encode(alloc, bytes)?))
 }
 
-/// Returns the answer of a call that returns bytes, in hexadecimal.
+/// Returns the result of a call that returns bytes, in hexadecimal.
 pub fn of_bytes(alloc: Global, answer: Result<Vec<u8>>) -> Answer {
     match answer {
         Ok(bytes) => accepted(alloc, hex_value(alloc, bytes.as_slice())?),
@@ -110,7 +111,7 @@ pub fn of_bytes(alloc: Global, answer: Result<Vec<u8>>) -> Answer {
     }
 }
 
-/// Returns the answer of a call that returns a truth value.
+/// Returns the result of a call that returns a truth value.
 pub fn of_flag(alloc: Global, answer: Result<bool>) -> Answer {
     match answer {
         Ok(flag) => accepted(alloc, Value::Bool(flag)),
@@ -118,7 +119,7 @@ pub fn of_flag(alloc: Global, answer: Result<bool>) -> Answer {
     }
 }
 
-/// Returns the answer of a call that returns nothing.
+/// Returns the result of a call that returns nothing.
 pub fn of_nothing(alloc: Global, answer: Result<()>) -> Answer {
     match answer {
         Ok(()) => accepted(alloc, Value::Null),

@@ -1,12 +1,12 @@
-//! Why a row could not be tried.
+//! The faults of rows.
 
 use jsonwebtoken::errors::Error;
 use std::alloc::{AllocError, AllocFailed};
 
-/// Why a row could not be tried.
+/// The reason for which a row could not be tried.
 #[derive(Debug, Drop, thiserror::Error)]
 pub enum Fault {
-    /// Memory ran out while the inputs or the answer were made.
+    /// Memory ran out while the inputs or the result were made.
     #[error("out of memory")]
     Memory,
     /// No call has the name.
@@ -15,10 +15,10 @@ pub enum Fault {
     /// A member is missing, or of a wrong type.
     #[error("the member {0} is missing or malformed")]
     Member(&'static str),
-    /// A member is none of those that the call takes.
+    /// A member is not one of those that the call takes.
     #[error("a member that the call does not take")]
     Unknown,
-    /// The library refused an input, as a key, or what it gave could not be shown.
+    /// The library refused an input, as a key, or its result could not be shown.
     #[error("an input that the library refuses: {0}")]
     Refused(&'static str),
 }

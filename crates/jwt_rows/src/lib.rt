@@ -1,4 +1,5 @@
-//! Rows of test vectors: the inputs that a row describes, the answers that it wants, and the trial of its call.
+//! Rows of test vectors: the inputs that a row describes, the results that it wants, and the trial
+//! of its call.
 //!
 //! `docs/VECTORS.md` has their form.
 #![tactic(auto)]
@@ -11,4 +12,5 @@ pub mod trial;
 
 // For the macro `by_provider`.
 pub use jwt_hmac::HmacProvider;
+pub use jwt_rsa::RsaProvider;
 pub use jwt_test_providers::providers::{NoProvider, YesProvider};

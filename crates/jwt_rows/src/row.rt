@@ -1,4 +1,4 @@
-//! Rows: the call, its inputs and the answer that is wanted.
+//! Rows: the call, its inputs and the result that is wanted.
 
 use crate::fault::Fault;
 use crate::inputs::bytes::bytes_of;
@@ -10,7 +10,7 @@ use std::alloc::Global;
 // The members that every row may have.
 const COMMON: [&str; 5] = ["id", "call", "want", "from", "requests"];
 
-/// A row: one call of the library, its inputs and the answer that is wanted.
+/// A row: one call of the library, its inputs and the result that is wanted.
 #[derive(Clone, Copy)]
 pub struct Row<'a> {
     alloc: Global,
@@ -91,7 +91,7 @@ impl<'a> Row<'a> {
         }
     }
 
-    /// Refuses a row with a member that is none of these, nor one that every row may have.
+    /// Refuses a row with a member that is not one of these, nor one that every row may have.
     pub fn takes(self, names: &[&str]) -> Result<(), Fault> {
         let Some(members) = self.value.as_object() else {
             return Err(Fault::Unknown);

@@ -1,6 +1,6 @@
 //! How a call is tried: with ample memory, or with one of its requests for memory refused.
 //!
-//! Whoever runs the program refuses the requests, as `refuse.c` beside this crate's sources does: it takes a request for
+//! Whoever runs the program refuses the requests, as `tests/refuse.c` does: it takes a request for
 //! `ORDER` bytes and N more, which no machine could meet, as the order to refuse the Nth request that comes after it.
 
 use std::alloc::Global;
@@ -43,12 +43,12 @@ impl Trial {
         self.was_refused = self.number > 0;
     }
 
-    /// Whether a request of the call was refused.
+    /// Returns whether a request of the call was refused.
     pub fn was_refused(&self) -> bool {
         self.was_refused
     }
 
-    /// Whether somebody carries the orders out.
+    /// Returns whether the orders are carried out.
     pub fn is_obeyed(&self) -> bool {
         self.order(1);
         self.is_next_refused()

@@ -1,4 +1,4 @@
-//! What providers make of keys: signers, verifiers, numbers, coordinates and digests.
+//! The results of providers: signers, verifiers, numbers, coordinates and digests.
 
 mod factories;
 mod readers;

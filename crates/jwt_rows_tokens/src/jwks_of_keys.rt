@@ -49,7 +49,7 @@ fn of_encoding_key(row: Row<'_>, trial: &mut Trial) -> Answer {
     by_provider!(of_encoding_key_by, row, trial)
 }
 
-// The algorithm that the row names, if it names one.
+// Returns the algorithm that the row names, if it names one.
 fn optional_algorithm(row: Row<'_>) -> Result<Option<Algorithm>, Fault> {
     match row.optional("algorithm") {
         Some(name) => Ok(Some(algorithm_of(name)?)),

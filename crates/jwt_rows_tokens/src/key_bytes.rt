@@ -1,4 +1,4 @@
-//! What keys are made of, and what they hold.
+//! Making keys, and their content.
 
 mod decoding;
 mod encoding;

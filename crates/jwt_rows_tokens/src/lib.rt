@@ -68,7 +68,8 @@ fn of_tokens(call: &str, row: Row<'_>, trial: &mut Trial) -> Found {
     sizes::answer(call, row, trial)
 }
 
-/// Makes the call of this name with the row's inputs, if it is among those of this crate, and returns what it answers.
+/// Makes the call of this name with the row's inputs, if it is among those of this crate, and
+/// returns its result.
 pub fn answer(call: &str, row: Row<'_>, trial: &mut Trial) -> Result<Option<Value>, Fault> {
     if let Some(answer) = of_keys(call, row, trial)? {
         return Ok(Some(answer));

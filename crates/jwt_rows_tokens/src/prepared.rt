@@ -23,7 +23,7 @@ pub fn answer(call: &str, row: Row<'_>, trial: &mut Trial) -> Result<Option<Valu
     }
 }
 
-// Whether the provider has the secret prepared of which an algorithm and the secret are listed.
+// Returns whether the provider has prepared the listed secret for the listed algorithm.
 fn has(alloc: Global, provider: &PreparedHmac, asked: &Value) -> Result<bool, Fault> {
     let malformed = Fault::Member("asked");
     let (Some(algorithm), Some(secret)) = (asked.get(0_usize), asked.get(1_usize)) else {
@@ -34,7 +34,7 @@ fn has(alloc: Global, provider: &PreparedHmac, asked: &Value) -> Result<bool, Fa
     Ok(provider.is_prepared(algorithm, secret.as_slice()))
 }
 
-// Which of the secrets at `asked` the provider has prepared.
+// Returns which of the secrets at `asked` the provider has prepared.
 fn those_prepared(row: Row<'_>, provider: &PreparedHmac) -> Answer {
     let mut flags = Vec::new(row.alloc());
     for asked in row.list("asked")? {
@@ -61,7 +61,7 @@ fn made(row: Row<'_>, trial: &mut Trial) -> Answer {
     }
 }
 
-// What `add` came to, with what was prepared before it.
+// Returns the result of `add`, with the secrets that were prepared before it.
 fn of_added(
     row: Row<'_>,
     answer: errors::Result<()>,

@@ -1,6 +1,7 @@
-//! Round trips at small and large sizes. A row gives the way (`way`), what has the size (`of`), and the first and the last size
-//! (`from_size`, `to_size`) that is tried. The answer is null, or the first size at which the token does not come back, or at which a
-//! key of another secret accepts it.
+//! Round trips at small and large sizes. A row gives the way (`way`), the thing that has the size
+//! (`of`), and the first and the last size (`from_size`, `to_size`) that is tried. The result is
+//! null, or the first size at which the token does not come back, or at which a key of another
+//! secret accepts it.
 
 mod issued;
 
@@ -44,7 +45,7 @@ fn sizes(row: Row<'_>) -> Answer {
     accepted(row.alloc(), Value::Null)
 }
 
-// Whether all is well at a size.
+// Returns whether the round trip succeeds at a size.
 fn is_well(alloc: Global, way: &str, of: &str, size: usize) -> Result<Outcome<bool>, Fault> {
     match way {
         "decode_with_set" => Ok(is_verified_by_the_last(alloc, size)),
@@ -92,12 +93,13 @@ fn decoded(alloc: Global, text: &str, secret: &str) -> Outcome<TokenData<Value>>
     decode(alloc, &HmacProvider, text.as_bytes(), &key, &validation, 0)
 }
 
-// Whether `decode_header` reads this header of the text.
+// Returns whether `decode_header` reads this header of the text.
 fn has_header(alloc: Global, text: &str, header: &Header) -> Outcome<bool> {
     Ok(decode_header(alloc, text.as_bytes())? == *header)
 }
 
-/// Whether the issued token gives back what it was made of, and is refused under another key.
+/// Returns whether the issued token reads as its header and claims, and is refused under another
+/// key.
 fn comes_back(alloc: Global, token: &Token) -> Outcome<bool> {
     let key = EncodingKey::from_secret(alloc, token.secret.as_bytes())?;
     let text = encode(alloc, &HmacProvider, &token.header, &token.claims, &key)?;
@@ -109,7 +111,7 @@ fn comes_back(alloc: Global, token: &Token) -> Outcome<bool> {
     )
 }
 
-/// The same by a provider that has its secret prepared.
+/// Returns the same by a provider that has its secret prepared.
 fn comes_back_prepared(alloc: Global, token: &Token) -> Outcome<bool> {
     let secret = token.secret.as_bytes();
     let provider = Box::new(alloc, PreparedHmac::new(alloc, Algorithm::HS256, secret)?)?;
@@ -135,7 +137,7 @@ fn decoded_parts(alloc: Global, parts: &Jws<Value>, secret: &str) -> Outcome<Tok
     jws::decode(alloc, &HmacProvider, parts, &key, &validation, 0)
 }
 
-/// The same for a token in parts.
+/// Returns the same for a token in parts.
 fn comes_back_in_parts(alloc: Global, token: &Token) -> Outcome<bool> {
     let key = EncodingKey::from_secret(alloc, token.secret.as_bytes())?;
     let claims = Some(&token.claims);
@@ -161,7 +163,7 @@ fn decoded_by_set(alloc: Global, text: &str, set: &JwkSet) -> Outcome<TokenData<
     decode_with_set(alloc, &HmacProvider, text.as_bytes(), set, &validation, 0)
 }
 
-/// Whether a token is verified by the last key of a set.
+/// Returns whether a token is verified by the last key of a set.
 fn is_verified_by_the_last(alloc: Global, count: usize) -> Outcome<bool> {
     let set = key_set(alloc, count)?;
     let token = named_token(alloc)?;
@@ -170,7 +172,7 @@ fn is_verified_by_the_last(alloc: Global, count: usize) -> Outcome<bool> {
     is_given_back(decoded_by_set(alloc, text.as_str(), &set), &token)
 }
 
-/// Whether a key whose secret has this many characters has a thumbprint.
+/// Returns whether a key whose secret has this many characters has a thumbprint.
 fn has_thumbprint(alloc: Global, size: usize) -> Outcome<bool> {
     let secret = issued::repeated(alloc, 'a', size)?;
     let text = format!(in alloc; "{{\"kty\":\"oct\",\"k\":\"{secret}\"}}")?;

@@ -25,11 +25,12 @@ pub fn answer(call: &str, row: Row<'_>, trial: &mut Trial) -> Result<Option<Valu
         "Jws::from_value" => Ok(Some(read(row, trial)?)),
         "Jws::to_value" => Ok(Some(written(row, trial)?)),
         "Jws::clone" => Ok(Some(copied(row, trial)?)),
+        "Jws::debug" => Ok(Some(debug_text(row)?)),
         _ => Ok(None),
     }
 }
 
-// The token in parts at `parts`.
+// Returns the token in parts at `parts`.
 fn parts(row: Row<'_>) -> Result<Box<Jws<Value>>, Fault> {
     let token = Jws::from_value(row.alloc(), row.value("parts")?)?;
     Ok(Box::new(row.alloc(), token)?)
@@ -58,7 +59,7 @@ fn decoded(row: Row<'_>, trial: &mut Trial) -> Answer {
     by_provider!(decoded_by, row, trial)
 }
 
-// The claims, if the row has them.
+// Returns the claims, if the row has them.
 fn optional_claims(row: Row<'_>) -> Result<Option<Value>, Fault> {
     let has_claims = row.optional("claims").is_some() || row.optional("claims_json").is_some();
     if !has_claims {
@@ -107,4 +108,11 @@ fn copied(row: Row<'_>, trial: &mut Trial) -> Answer {
     let answer = token.clone(row.alloc());
     trial.end();
     of_parts(row.alloc(), answer)
+}
+
+fn debug_text(row: Row<'_>) -> Answer {
+    row.takes(&["parts"])?;
+    let token = parts(row)?;
+    let text = format!(in row.alloc(); "{:?}", *token)?;
+    accepted(row.alloc(), Value::String(text))
 }

@@ -27,14 +27,14 @@ pub fn answer(call: &str, row: Row<'_>, trial: &mut Trial) -> Result<Option<Valu
     }
 }
 
-/// Returns what shows the header and the claims of a token.
+/// Returns the value that shows the header and the claims of a token.
 pub fn shown_token(alloc: Global, data: &TokenData<Value>) -> Answer {
     let header = data.header.to_value(alloc)?;
     let claims = data.claims.to_value(alloc)?;
     pair(alloc, ("claims", claims), ("header", header))
 }
 
-/// Returns the answer of a call that returns the header and the claims of a token.
+/// Returns the result of a call that returns the header and the claims of a token.
 pub fn of_token(alloc: Global, answer: Outcome<TokenData<Value>>) -> Answer {
     match answer {
         Ok(data) => shown_token(alloc, &data).and_then(|shown| accepted(alloc, shown)),
@@ -58,7 +58,7 @@ fn decoded(row: Row<'_>, trial: &mut Trial) -> Answer {
     by_provider!(decoded_by, row, trial)
 }
 
-// The claims alone, which are a number.
+// Returns the claims alone, which are a number.
 fn claims_value(alloc: Global, answer: Outcome<TokenData<u64>>) -> Outcome<Value> {
     answer?.claims.to_value(alloc)
 }

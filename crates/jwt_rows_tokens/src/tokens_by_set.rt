@@ -22,7 +22,7 @@ pub fn answer(call: &str, row: Row<'_>, trial: &mut Trial) -> Result<Option<Valu
     }
 }
 
-// The set at `set`.
+// Returns the set at `set`.
 fn key_set(row: Row<'_>) -> Result<Box<JwkSet>, Fault> {
     let set = JwkSet::from_value(row.alloc(), row.value("set")?)?;
     Ok(Box::new(row.alloc(), set)?)

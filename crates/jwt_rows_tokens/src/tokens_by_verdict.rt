@@ -25,7 +25,7 @@ pub fn answer(call: &str, row: Row<'_>, trial: &mut Trial) -> Result<Option<Valu
     }
 }
 
-// The header, and an object of the message as a string and the signature in hexadecimal.
+// Returns the header, and an object of the message as a string and the signature in hexadecimal.
 fn shown_part(alloc: Global, part: &SignedPart<'_>) -> Answer {
     let header = part.header.to_value(alloc)?;
     let message = hex_value(alloc, part.message)?;

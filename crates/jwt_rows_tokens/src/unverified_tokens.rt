@@ -1,10 +1,11 @@
 //! Tokens that are read without verification.
 
 use crate::tokens::of_token;
+use jsonwebtoken::TokenData;
 use jsonwebtoken::dangerous::{insecure_decode, insecure_decode_claims};
 use jsonwebtoken::errors::Result as Outcome;
 use jsonwebtoken::json::Claims;
-use jwt_rows::answer::{Answer, of_value};
+use jwt_rows::answer::{Answer, accepted, of_value, refused};
 use jwt_rows::fault::Fault;
 use jwt_rows::row::Row;
 use jwt_rows::trial::Trial;
@@ -16,6 +17,7 @@ pub fn answer(call: &str, row: Row<'_>, trial: &mut Trial) -> Result<Option<Valu
     match call {
         "dangerous::insecure_decode" => Ok(Some(whole(row, trial)?)),
         "dangerous::insecure_decode_claims" => Ok(Some(claims(row, trial)?)),
+        "TokenData::debug" => Ok(Some(debug_text(row)?)),
         "dangerous::insecure_decode_claims::<u64>" => Ok(Some(number(row, trial)?)),
         _ => Ok(None),
     }
@@ -50,4 +52,19 @@ fn number(row: Row<'_>, trial: &mut Trial) -> Answer {
     let answer = insecure_decode_claims::<u64>(row.alloc(), token.as_slice());
     trial.end();
     of_value(row.alloc(), number_value(row.alloc(), answer))
+}
+
+// The value that shows a token's data.
+fn shown(alloc: Global, data: &TokenData<Value>) -> Answer {
+    let text = format!(in alloc; "{data:?}")?;
+    accepted(alloc, Value::String(text))
+}
+
+fn debug_text(row: Row<'_>) -> Answer {
+    row.takes(&["token"])?;
+    let token = row.bytes("token")?;
+    match insecure_decode(row.alloc(), token.as_slice()) {
+        Ok(data) => shown(row.alloc(), &data),
+        Err(refusal) => refused(row.alloc(), &refusal),
+    }
 }

@@ -2,7 +2,7 @@
 
 use crate::json_types::{JsonType, call_of, of_type};
 use jsonwebtoken::{Header, errors};
-use jwt_rows::answer::{Answer, accepted, hex_value, refused};
+use jwt_rows::answer::{Answer, accepted, hex_value, of_bytes, refused};
 use jwt_rows::fault::Fault;
 use jwt_rows::inputs::headers::{header_of, shown_header};
 use jwt_rows::inputs::providers::algorithm_of;
@@ -38,6 +38,7 @@ pub fn answer(call: &str, row: Row<'_>, trial: &mut Trial) -> Result<Option<Valu
     match call.split_once("::") {
         Some(("Header", "new")) => Ok(Some(new(row, trial)?)),
         Some(("Header", "x5c_der")) => Ok(Some(certificates(row, trial)?)),
+        Some(("Header", "to_text")) => Ok(Some(text(row, trial)?)),
         Some(("Header", call)) => call_of::<Header>(call, row, trial),
         _ => Ok(None),
     }
@@ -52,7 +53,7 @@ fn new(row: Row<'_>, trial: &mut Trial) -> Answer {
     of_type(row, answer)
 }
 
-// What shows certificates that may be absent.
+// Returns the value that shows certificates that may be absent.
 fn shown_certificates(alloc: Global, certificates: &Option<Vec<Vec<u8>>>) -> Answer {
     let Some(certificates) = certificates else {
         return Ok(Value::Null);
@@ -74,4 +75,14 @@ fn certificates(row: Row<'_>, trial: &mut Trial) -> Answer {
         Ok(certificates) => accepted(row.alloc(), shown_certificates(row.alloc(), &certificates)?),
         Err(refusal) => refused(row.alloc(), &refusal),
     }
+}
+
+fn text(row: Row<'_>, trial: &mut Trial) -> Answer {
+    row.takes(&["value", "value_json"])?;
+    let described = row.json("value", "value_json")?;
+    let value = Header::described(row.alloc(), &described)?;
+    trial.begin();
+    let answer = value.to_text(row.alloc());
+    trial.end();
+    of_bytes(row.alloc(), answer)
 }

@@ -1,4 +1,4 @@
-//! The calls that types with a JSON value have in common: `from_value`, `to_value`, `clone`, `==` and hashing.
+//! The calls that types with a JSON value have in common: `from_value`, `to_value`, `clone`, `==`, hashing and `Debug`.
 
 use jsonwebtoken::errors;
 use jwt_rows::answer::{Answer, accepted, of_flag, of_value, refused};
@@ -7,6 +7,7 @@ use jwt_rows::row::Row;
 use jwt_rows::trial::Trial;
 use serde_json::Value;
 use std::alloc::Global;
+use std::fmt::Debug;
 use std::hash::{DefaultHasher, Hash, Hasher};
 
 /// A type of the library that is read from a JSON value and written as one.
@@ -14,7 +15,7 @@ pub trait JsonType: Sized + Drop {
     /// Returns the value that a row describes.
     fn described(alloc: Global, value: &Value) -> Result<Box<Self>, Fault>;
 
-    /// Returns what shows the value in an answer.
+    /// Returns the value that shows it in a result.
     fn shown(&self, alloc: Global) -> Answer;
 
     /// Calls `from_value`.
@@ -28,7 +29,7 @@ pub trait JsonType: Sized + Drop {
 }
 
 /// Makes the call of this name, if it is one that all such types have.
-pub fn call_of<T: JsonType + Hash>(
+pub fn call_of<T: JsonType + Hash + Debug>(
     call: &str,
     row: Row<'_>,
     trial: &mut Trial,
@@ -39,11 +40,12 @@ pub fn call_of<T: JsonType + Hash>(
         "clone" => Ok(Some(copied::<T>(row, trial)?)),
         "eq" => Ok(Some(are_equal::<T>(row, trial)?)),
         "hash" => Ok(Some(hash_alike::<T>(row, trial)?)),
+        "debug" => Ok(Some(debug_text::<T>(row)?)),
         _ => Ok(None),
     }
 }
 
-// An answer's value, or its compact JSON text if the row asks for that.
+// Returns a result's value, or its compact JSON text if the row asks for that.
 fn value_or_text(row: Row<'_>, value: Value) -> Answer {
     match row.optional("text") {
         Some(_) if row.flag("text")? => Ok(Value::String(value.to_string(row.alloc())?)),
@@ -51,7 +53,7 @@ fn value_or_text(row: Row<'_>, value: Value) -> Answer {
     }
 }
 
-/// Returns the answer of a call that returned a value of such a type.
+/// Returns the result of a call that returned a value of such a type.
 pub fn of_type<T: JsonType>(row: Row<'_>, answer: errors::Result<T>) -> Answer {
     match answer {
         Ok(value) => match value.shown(row.alloc()) {
@@ -71,7 +73,7 @@ fn read<T: JsonType>(row: Row<'_>, trial: &mut Trial) -> Answer {
     of_type(row, answer)
 }
 
-// The value that the row describes at `value`.
+// Returns the value that the row describes at `value`.
 fn described<T: JsonType>(row: Row<'_>) -> Result<Box<T>, Fault> {
     let value = row.json("value", "value_json")?;
     T::described(row.alloc(), &value)
@@ -87,6 +89,13 @@ fn written<T: JsonType>(row: Row<'_>, trial: &mut Trial) -> Answer {
         Ok(value) => accepted(row.alloc(), value_or_text(row, value)?),
         Err(refusal) => of_value(row.alloc(), Err(refusal)),
     }
+}
+
+fn debug_text<T: JsonType + Debug>(row: Row<'_>) -> Answer {
+    row.takes(&["value", "value_json"])?;
+    let value = described::<T>(row)?;
+    let text = format!(in row.alloc(); "{:?}", *value)?;
+    accepted(row.alloc(), Value::String(text))
 }
 
 fn copied<T: JsonType + PartialEq>(row: Row<'_>, trial: &mut Trial) -> Answer {

@@ -3,7 +3,7 @@
 use crate::json_types::{JsonType, boxed, call_of, of_type};
 use jsonwebtoken::errors;
 use jsonwebtoken::jwk::{Jwk, JwkSet};
-use jwt_rows::answer::{Answer, accepted};
+use jwt_rows::answer::{Answer, accepted, of_bytes};
 use jwt_rows::fault::Fault;
 use jwt_rows::inputs::jwks::{jwk_set_of, shown_jwk, shown_jwk_set};
 use jwt_rows::row::Row;
@@ -38,6 +38,7 @@ pub fn answer(call: &str, row: Row<'_>, trial: &mut Trial) -> Result<Option<Valu
     match call.split_once("::") {
         Some(("JwkSet", "new")) => Ok(Some(empty(row, trial)?)),
         Some(("JwkSet", "find")) => Ok(Some(found(row, trial)?)),
+        Some(("JwkSet", "to_text")) => Ok(Some(text(row, trial)?)),
         Some(("JwkSet", call)) => call_of::<JwkSet>(call, row, trial),
         _ => Ok(None),
     }
@@ -51,7 +52,7 @@ fn empty(row: Row<'_>, trial: &mut Trial) -> Answer {
     of_type(row, Ok(set))
 }
 
-// What shows a key that may be absent.
+// Returns the value that shows a key that may be absent.
 fn shown_found(alloc: Global, found: Option<&Jwk>) -> Answer {
     match found {
         Some(key) => shown_jwk(alloc, key),
@@ -67,4 +68,14 @@ fn found(row: Row<'_>, trial: &mut Trial) -> Answer {
     let found = set.find(kid);
     trial.end();
     accepted(row.alloc(), shown_found(row.alloc(), found)?)
+}
+
+fn text(row: Row<'_>, trial: &mut Trial) -> Answer {
+    row.takes(&["value", "value_json"])?;
+    let described = row.json("value", "value_json")?;
+    let value = JwkSet::described(row.alloc(), &described)?;
+    trial.begin();
+    let answer = value.to_text(row.alloc());
+    trial.end();
+    of_bytes(row.alloc(), answer)
 }

@@ -3,7 +3,7 @@
 use crate::json_types::{JsonType, boxed, call_of};
 use jsonwebtoken::errors;
 use jsonwebtoken::jwk::Jwk;
-use jwt_rows::answer::{Answer, of_flag};
+use jwt_rows::answer::{Answer, of_bytes, of_flag};
 use jwt_rows::fault::Fault;
 use jwt_rows::inputs::jwks::{jwk_of, key_of, shown_jwk};
 use jwt_rows::row::Row;
@@ -37,6 +37,7 @@ impl JsonType for Jwk {
 pub fn answer(call: &str, row: Row<'_>, trial: &mut Trial) -> Result<Option<Value>, Fault> {
     match call.split_once("::") {
         Some(("Jwk", "is_supported")) => Ok(Some(is_supported(row, trial)?)),
+        Some(("Jwk", "to_text")) => Ok(Some(text(row, trial)?)),
         Some(("Jwk", call)) => call_of::<Jwk>(call, row, trial),
         _ => Ok(None),
     }
@@ -49,4 +50,14 @@ fn is_supported(row: Row<'_>, trial: &mut Trial) -> Answer {
     let is_supported = key.is_supported();
     trial.end();
     of_flag(row.alloc(), Ok(is_supported))
+}
+
+fn text(row: Row<'_>, trial: &mut Trial) -> Answer {
+    row.takes(&["value", "value_json"])?;
+    let described = row.json("value", "value_json")?;
+    let value = Jwk::described(row.alloc(), &described)?;
+    trial.begin();
+    let answer = value.to_text(row.alloc());
+    trial.end();
+    of_bytes(row.alloc(), answer)
 }

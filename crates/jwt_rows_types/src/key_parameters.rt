@@ -15,6 +15,7 @@ use jwt_rows::row::Row;
 use jwt_rows::trial::Trial;
 use serde_json::{Map, Value};
 use std::alloc::Global;
+use std::fmt::Debug;
 use std::hash::Hash;
 
 /// A type of parameters that lists their members.
@@ -252,7 +253,7 @@ fn of_parameters(call: &str, row: Row<'_>, trial: &mut Trial) -> Result<Option<V
     }
 }
 
-fn of_membered<T: Membered + Hash>(
+fn of_membered<T: Membered + Hash + Debug>(
     call: &str,
     row: Row<'_>,
     trial: &mut Trial,
@@ -272,7 +273,7 @@ fn members<T: Membered>(row: Row<'_>, trial: &mut Trial) -> Answer {
     of_value(row.alloc(), answer.map(Value::Object))
 }
 
-// What shows parameters that may be absent.
+// Returns the value that shows parameters that may be absent.
 fn shown_found(alloc: Global, found: &Option<AlgorithmParameters>) -> Answer {
     match found {
         Some(parameters) => shown_parameters(alloc, parameters),

@@ -43,7 +43,7 @@ fn of_algorithms(call: &str, row: Row<'_>, trial: &mut Trial) -> Result<Option<V
     }
 }
 
-// The algorithm at a name.
+// Returns the algorithm at a name.
 fn given(row: Row<'_>, name: &'static str) -> Result<Algorithm, Fault> {
     algorithm_of(row.value(name)?)
 }

@@ -1,4 +1,4 @@
-//! Errors: the kinds, their texts and their equality.
+//! Errors: the kinds, their strings and their equality.
 
 mod faults;
 mod kinds;

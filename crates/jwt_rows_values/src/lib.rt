@@ -39,7 +39,8 @@ fn of_rules(call: &str, row: Row<'_>, trial: &mut Trial) -> Found {
     clock::answer(call, row, trial)
 }
 
-/// Makes the call of this name with the row's inputs, if it is among those of this crate, and returns what it answers.
+/// Makes the call of this name with the row's inputs, if it is among those of this crate, and
+/// returns its result.
 pub fn answer(call: &str, row: Row<'_>, trial: &mut Trial) -> Result<Option<Value>, Fault> {
     if let Some(answer) = of_names(call, row, trial)? {
         return Ok(Some(answer));

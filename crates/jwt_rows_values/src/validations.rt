@@ -45,7 +45,8 @@ fn of_validation(alloc: Global, answer: Outcome<Validation>) -> Answer {
     }
 }
 
-// The answer of a setter: what its receiver is afterwards. One that is refused leaves its receiver as it was.
+// Returns the result of a setter: its receiver afterwards. A setter that is refused leaves its
+// receiver unchanged.
 fn of_setter(
     alloc: Global,
     answer: Outcome<()>,

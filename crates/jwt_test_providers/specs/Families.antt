@@ -22,6 +22,6 @@ pub bytes_made : (a : Algorithm) (k : Key) → bytes_refusal_of a k ≡ None →
 bytes_made a (Plain f b) h = family_fits f (family_of a) h
 bytes_made a (Components n e) h = cc
 
--- what is refused is not made
+-- nothing that is refused is made
 pub never_made : {A : Type 0} {k : Kind} → Some k ≡ None → A
 never_made h = cc

@@ -1,4 +1,4 @@
--- What the provider of the table answers.
+-- The results of the provider of the table.
 use Rattle.std.specs.Prelude.{◌&&◌, ℕ, ◌-◌, List, [], ◌∷◌, Bool, IsTrue, length, drop, nat_lt, if◌then◌else◌, Option, Some, None, Result, Ok, Err, find, option_map, codes}
 use Rattle.std.specs.List.{list_any}
 use Rattle.std.specs.Str.{bytes_eq}
@@ -37,7 +37,7 @@ Accepts rows a (Components n e) message signature = ⊥
 abbrev pub first_signature : List Entry → Algorithm → List ℕ → List ℕ → Option (List ℕ)
 first_signature rows a key message = option_map (λ row. row.signature) (find (is_of a key message) rows)
 
--- `Signing("no row")` where there is none
+-- `Signing("no row")` if there is none
 abbrev pub no_row : Option (List ℕ) → Option Kind
 no_row None = Some (kind.Signing (codes "no row"))
 no_row (Some signature) = None

@@ -1,4 +1,5 @@
-//! What the tests stand on: providers of signatures that prove the provider laws, and what the tests ask of refusals.
+//! The base of the tests: providers of signatures that prove the provider laws, and tests of
+//! refusals.
 #![tactic(auto)]
 
 pub mod providers;

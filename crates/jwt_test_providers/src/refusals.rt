@@ -1,9 +1,9 @@
-//! What the tests ask of refusals.
+//! Tests of refusals.
 
 use jwt_base::errors::{ErrorKind, Result};
 use std::alloc::{AllocError, Global};
 
-/// Whether the answer is a refusal of this kind.
+/// Returns whether the result is a refusal of this kind.
 pub fn is_refused<T: Drop>(answer: Result<T>, kind: ErrorKind) -> bool {
     match answer {
         Ok(_given) => false,
@@ -11,7 +11,7 @@ pub fn is_refused<T: Drop>(answer: Result<T>, kind: ErrorKind) -> bool {
     }
 }
 
-/// Whether the answer is the refusal `Provider("closed")`.
+/// Returns whether the result is the refusal `Provider("closed")`.
 pub fn is_closed<T: Drop>(
     alloc: Global,
     answer: Result<T>,

@@ -1,4 +1,4 @@
-//! Tests of errors, texts and validations that can't be rows.
+//! Tests of errors, strings and validations that can't be rows.
 
 use base64::DecodeAllocError;
 use base64::engine::general_purpose::{STANDARD, URL_SAFE_NO_PAD};
@@ -65,7 +65,7 @@ fn debug_shows_every_field_of_a_validation(rt: HostRuntime) -> Result<(), Fail> 
     Ok(())
 }
 
-// Which one is named is not said, and a row wants one answer.
+// The contract does not tell which one is named, and a row wants one result.
 #[test]
 fn one_of_several_missing_claims_is_named(rt: HostRuntime) -> Result<(), Fail> {
     let alloc = rt.alloc();

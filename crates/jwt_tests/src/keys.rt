@@ -24,7 +24,7 @@ fn code_of<P: CryptoProvider>(
     signer.sign(alloc, FIRST)
 }
 
-// Whether the code is accepted as that of `FIRST`.
+// Returns whether the code is accepted as that of `FIRST`.
 fn is_accepted<P: CryptoProvider>(
     alloc: Global,
     provider: &P,
@@ -37,7 +37,8 @@ fn is_accepted<P: CryptoProvider>(
     verifier.verify(alloc, FIRST, code)
 }
 
-// One verifier says yes to the code of `FIRST` and no to it as that of `SECOND`, however often it is asked.
+// Tests that one verifier says yes to the code of `FIRST` and no to it as that of `SECOND`, each
+// time it is asked.
 fn serves_in_turn<V: JwtVerifier>(
     rt: &impl Abort,
     alloc: Global,
@@ -102,7 +103,7 @@ fn one_verifier_accepts_every_message(rt: HostRuntime) -> Result<(), Fail> {
     Ok(())
 }
 
-// The provider signs with the secret as the one that prepares none, and accepts that.
+// Tests that the provider signs with the secret as the one that prepares none, and accepts that.
 fn signs_as_hmac(
     rt: &impl Abort,
     alloc: Global,
@@ -157,34 +158,5 @@ fn a_copy_of_a_zeroed_key_holds_zeros(rt: HostRuntime) -> Result<(), Fail> {
     key.zeroize();
     let copy = key.clone(alloc)?;
     assert_eq!(rt; copy.try_get_as_bytes()?, [0; 6].as_slice());
-    Ok(())
-}
-
-#[test]
-fn debug_shows_no_bytes(rt: HostRuntime) -> Result<(), Fail> {
-    let alloc = rt.alloc();
-    let key = EncodingKey::from_secret(alloc, b"secret")?;
-    let text = format!(in alloc; "{key:?}")?;
-    assert_eq!(rt;
-        text.as_str(),
-        "EncodingKey { family: Hmac, content: \"[redacted]\" }"
-    );
-    let key = DecodingKey::from_ec_der(alloc, b"ec")?;
-    let text = format!(in alloc; "{key:?}")?;
-    assert_eq!(rt;
-        text.as_str(),
-        "DecodingKey { family: Ec, kind: SecretOrDer(\"[redacted]\") }"
-    );
-    Ok(())
-}
-
-#[test]
-fn debug_shows_no_components(rt: HostRuntime) -> Result<(), Fail> {
-    let alloc = rt.alloc();
-    let key = DecodingKey::from_rsa_components(alloc, "wP_u", "AQAB")?;
-    let kind = key.kind();
-    let text = format!(in alloc; "{kind:?}")?;
-    let expected = "RsaModulusExponent { n: \"[redacted]\", e: \"[redacted]\" }";
-    assert_eq!(rt; text.as_str(), expected);
     Ok(())
 }

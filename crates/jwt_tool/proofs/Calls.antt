@@ -1,4 +1,4 @@
--- What decode tells of the key and the validation that it was given, told of what the words ask for.
+-- The contract of `decode` for its key and its validation, in the terms of the request.
 use Rattle.std.proofs.Common.{◌≡◌, ℕ, List, [], ◌∷◌, Some, None, sym, subst, inr}
 use Rattle.serde_json.specs.View.{view}
 use Rattle.serde_json.specs.declared.value.Value.{Value}
@@ -56,7 +56,7 @@ pub set_claims_failed : (input : List ℕ) (algorithm : Algorithm) (set : List �
 set_claims_failed input algorithm set now keys options k text is_options failed =
     inr (keys, text, subst (λ o. FirstFailed (given_set_call input keys o now) set_order k) is_options failed)
 
--- a JSON text that no set reads from
+-- a JSON text that no set can be read from
 pub no_set_read : (text : List ℕ) (value : Data) → IsJson text value → ((keys : List Jwk) → ¬ ReadsSet value keys) → (keys : List Jwk) → ¬ IsSetText text keys
 no_set_read text value read none keys is = none keys (subst (λ v. ReadsSet v keys) (one_json text is.0 value is.1 read) is.2)
 

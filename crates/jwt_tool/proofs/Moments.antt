@@ -1,4 +1,4 @@
--- What `parse` reads of a text with no sign before it is the moment that the text writes.
+-- `parse` reads a string without a sign as the moment that it stands for.
 use Rattle.std.proofs.Common.{◌≡◌, refl, ap, ℕ, ◌<◌, ◌^◌, length, Bool, true, false, ◌&&◌, List, Some, None, if◌then◌else◌}
 use Rattle.std.specs.Prelude.{ltb}
 use Rattle.std.specs.Result.{OkIff, result_ok}

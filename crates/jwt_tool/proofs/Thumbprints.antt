@@ -1,4 +1,4 @@
--- What an input without a thumbprint is refused for.
+-- The refusal of an input without a thumbprint.
 use Rattle.std.proofs.Common.{◌≡◌, ◌⊎◌, inl, inr, ℕ, List, Result, Ok, Err, refl, subst}
 use Rattle.serde_json.specs.Data.{Data}
 use Rattle.jwt_base.specs.Kind.{Kind}
@@ -14,7 +14,7 @@ use Rattle.jwt_keys.specs.Thumbprint.{thumb_text, digested}
 use Rattle.jwt_keys.specs.declared.jwk.Jwk.{Jwk}
 use Rattle.jwt_tool.specs.Line.{HasThumbprintFault}
 
--- where a digest refuses nothing, there is a text
+-- if a digest refuses nothing, there is a text
 pub text_under : (h : List ℕ → List ℕ) (o : Result (List ℕ) Kind) (line d : List ℕ) → digested (λ t. Ok (h t)) o ≡ Ok d → IsPart line d → (t : List ℕ) × ((o ≡ Ok t) × IsPart line (h t))
 text_under h (Ok t) line d e is =
     let same : d ≡ h t = cc in

@@ -1,4 +1,4 @@
--- The command as what the words ask for.
+-- The request that a command stands for.
 use Rattle.jwt_tool.specs.Words.{Request, ForHeader, ForThumbprint, ForToken, ForClaims, ForClaimsBySet}
 use Rattle.jwt_tool.specs.declared.command.Command.{Command}
 use Rattle.jwt_tool.specs.declared.command.Command.TheVariants.{Header, Thumbprint, Encode, Decode, DecodeWithSet}

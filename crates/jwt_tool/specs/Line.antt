@@ -1,4 +1,4 @@
--- The line and the status for words and an input.
+-- The line and the status for arguments and an input.
 use Rattle.std.specs.Prelude.{None, ◌≡◌, ◌==◌, ◌-◌, true, false, length, take, slice_index, if◌then◌else◌, MatchOption, ℕ, List, [], ◌∷◌, ◌⊎◌, Some, Ok, Err, codes}
 use Rattle.serde_json.specs.Data.{Data}
 use Rattle.serde_json.specs.View.{view}
@@ -47,7 +47,7 @@ ValueLine value status line =
     ((has_float value ≡ false) × IsValueText value status line)
     ⊎ ((has_float value ≡ true) × IsRefusal kind.Json status line)
 
--- what the header of the input's token is written as (RFC 7515 section 4)
+-- the value that the header of the input's token is written as (RFC 7515 section 4)
 abbrev pub IsHeaderValue : List ℕ → Data → Type 0
 IsHeaderValue input value =
     (t : Contents) × Passes (header_call input) header_order t
@@ -70,21 +70,21 @@ IsThumbprint input hash thumbprint = (key : Jwk) × (IsKeyText input key
     × ((text : List ℕ) × ((thumb_text key ≡ Ok text)
     × IsPart thumbprint (hash_bytes (hash_named hash) text))))
 
--- the input is that of no key (RFC 7517 section 4), or of one that has no thumbprint for this
--- reason (RFC 7638 section 3.2)
+-- the input is not that of a key (RFC 7517 section 4), or that of one that has no thumbprint for
+-- this reason (RFC 7638 section 3.2)
 abbrev pub HasThumbprintFault : List ℕ → Kind → Type 0
 HasThumbprintFault input k =
     ((k ≡ kind.Json) × ((key : Jwk) → ¬ IsKeyText input key))
     ⊎ ((key : Jwk) × (IsKeyText input key × (thumb_text key ≡ Err k)))
 
--- the thumbprint, or why there is none (RFC 7638 section 3)
+-- the thumbprint, or the text of the refusal (RFC 7638 section 3)
 abbrev pub ThumbprintLine : List ℕ → ThumbprintHash → ℕ → List ℕ → Type 0
 ThumbprintLine input hash status line =
     (IsThumbprint input hash line × (status ≡ 0))
     ⊎ ((k : Kind) × HasThumbprintFault input k × IsRefusal k status line)
 
--- the input's token, checked by HMAC with a secret at a moment, as a validation of that one
--- algorithm asks at first
+-- the input's token, checked by HMAC with a secret at a moment, with the default options for that
+-- one algorithm
 abbrev pub hmac_call : List ℕ → Algorithm → List ℕ → ℕ → Call Value
 hmac_call input algorithm secret now =
     verifying_call (Compact input) (Given (Plain Hmac secret)) (default_options (algorithm ∷ []))
@@ -123,14 +123,15 @@ IsClaimsValueBySet input algorithm set now value = (keys : List Jwk) × IsSetTex
     × ((t : Contents) × Passes (hmac_set_call input algorithm keys now) set_order t
     × (t.payload_value ≡ value))
 
--- the text is that of no set (RFC 7517 section 5), or the first failed test has this kind
+-- the text is not that of a set (RFC 7517 section 5), or the first failed test has this kind
 abbrev pub HasSetFault : List ℕ → Algorithm → List ℕ → ℕ → Kind → Type 0
 HasSetFault input algorithm set now k =
     ((k ≡ kind.Json) × ((keys : List Jwk) → ¬ IsSetText set keys))
     ⊎ ((keys : List Jwk) × IsSetText set keys
     × FirstFailed (hmac_set_call input algorithm keys now) set_order k)
 
--- the token's claims by a set, or why there are none (RFC 7517 section 5, RFC 7519 section 7.2)
+-- the token's claims by a set, or the text of the refusal (RFC 7517 section 5, RFC 7519 section
+-- 7.2)
 abbrev pub SetClaimsLine : List ℕ → Algorithm → List ℕ → ℕ → ℕ → List ℕ → Type 0
 SetClaimsLine input algorithm set now status line =
     ((value : Data) × IsClaimsValueBySet input algorithm set now value
@@ -150,20 +151,20 @@ IsToken input algorithm secret token = (claims : Data) × IsJson input claims
     × ((t : Written) × IssuePasses (hmac_issue algorithm secret claims) encode_order t
     × IsIssued (hmac_issue algorithm secret claims) t token)
 
--- the input is no JSON text, or the first failed test of encode has this kind
+-- the input is not JSON text, or the first failed test of encode has this kind
 abbrev pub HasTokenFault : List ℕ → Algorithm → List ℕ → Kind → Type 0
 HasTokenFault input algorithm secret k =
     ((k ≡ kind.Json) × ((claims : Data) → ¬ IsJson input claims))
     ⊎ ((claims : Data) × IsJson input claims
     × IssueFailsFirst (hmac_issue algorithm secret claims) encode_order k)
 
--- the token, or why there is none (RFC 7519 section 7.1)
+-- the token, or the text of the refusal (RFC 7519 section 7.1)
 abbrev pub TokenLine : List ℕ → Algorithm → List ℕ → ℕ → List ℕ → Type 0
 TokenLine input algorithm secret status line =
     (IsToken input algorithm secret line × (status ≡ 0))
     ⊎ ((k : Kind) × HasTokenFault input algorithm secret k × IsRefusal k status line)
 
--- the line and the status for what is asked for
+-- the line and the status for a request
 abbrev pub RequestLine : Request → List ℕ → ℕ → List ℕ → Type 0
 RequestLine ForHeader input status line = HeaderLine input status line
 RequestLine (ForThumbprint hash) input status line = ThumbprintLine input hash status line
@@ -174,30 +175,30 @@ RequestLine (ForClaims algorithm secret now) input status line =
 RequestLine (ForClaimsBySet algorithm set now) input status line =
     SetClaimsLine input algorithm set now status line
 
--- the line and the status for words that ask for nothing
+-- the line and the status for arguments that ask for nothing
 abbrev pub IsUsage : ℕ → List ℕ → Type 0
 IsUsage status line = (line ≡ codes "usage") × (status ≡ 2)
 
--- the line and the status for any words
+-- the line and the status for any arguments
 abbrev pub Line : List (List ℕ) → List ℕ → ℕ → List ℕ → Type 0
 Line words input status line =
     MatchOption (request_of words) (IsUsage status line) (λ r. RequestLine r input status line)
 
--- what is answered where memory ran out
+-- the line and the status if memory ran out
 abbrev pub IsMemoryLine : ℕ → List ℕ → Type 0
 IsMemoryLine status line = (line ≡ codes "Out of memory") × (status ≡ 1)
 
--- that line, or want of memory
+-- that line, or the one for out of memory
 abbrev pub Answers : List (List ℕ) → List ℕ → ℕ → List ℕ → Type 0
 Answers words input status line = Line words input status line ⊎ IsMemoryLine status line
 
--- for private clauses: the line for what is asked for, or want of memory
+-- for private clauses: the line for a request, or the one for out of memory
 abbrev pub RequestAnswer : Request → List ℕ → ℕ → List ℕ → Type 0
 RequestAnswer request input status line =
     RequestLine request input status line ⊎ IsMemoryLine status line
 
--- for private clauses: such a line of a value that is so, or a refusal of such a kind, or want of
--- memory
+-- for private clauses: the line of such a value, or a refusal of such a kind, or the line for out
+-- of memory
 abbrev pub ValueAnswer : (Data → ℕ → List ℕ → Type 0) → (Data → Type 0) → (Kind → Type 0)
     → ℕ → List ℕ → Type 0
 ValueAnswer L P K status line =

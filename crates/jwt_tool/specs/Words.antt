@@ -1,4 +1,4 @@
--- What the words after the program's name ask for.
+-- The requests that the arguments of the program stand for.
 use Rattle.std.specs.Prelude.{◌&&◌, ◌^◌, ltb, length, if◌then◌else◌, ℕ, List, [], ◌∷◌, Option, Some, None, option_map, option_and_then, codes}
 use Rattle.std.specs.Str.{bytes_eq, all_ascii_digits}
 use Rattle.std.specs.Str.Parse.{digits_value}
@@ -17,14 +17,14 @@ pub data Request : Type 0 where
   ForClaims : Algorithm → List ℕ → ℕ → Request
   ForClaimsBySet : Algorithm → List ℕ → ℕ → Request
 
--- the number that one or more decimal digits write, where it has at most 64 bits
+-- the number that one or more decimal digits stand for, if it has at most 64 bits
 abbrev pub moment_of : List ℕ → Option ℕ
 moment_of word =
     if all_ascii_digits word && (ltb 0 (length word)
     && ltb (digits_value 10 word) (2 ^ 64)) then Some (digits_value 10 word)
     else None
 
--- what one word asks for
+-- the request of one argument
 abbrev pub request_named : List ℕ → Option Request
 request_named word = if bytes_eq word (codes "header") then Some ForHeader else None
 
@@ -63,7 +63,7 @@ decoding_request word algorithm by moment =
     else if bytes_eq word (codes "decode-set") then claims_asked ForClaimsBySet algorithm by moment
     else None
 
--- what the words ask for; words that ask for nothing are answered by the usage
+-- the request of the arguments; None if the usage is to be printed
 abbrev pub request_of : List (List ℕ) → Option Request
 request_of [] = Some ForHeader
 request_of (word ∷ []) = request_named word

@@ -1,4 +1,4 @@
-//! What the words after the program's name ask for.
+//! The command that the arguments of the program ask for.
 
 ghost use Rattle.std.specs.Prelude.{◌≡◌, option_map, map, string_bytes};
 ghost use Rattle.jwt_base.specs.Algorithm.{algorithm_named};
@@ -8,7 +8,7 @@ ghost use Rattle.jwt_tool.specs.Asked.{asked};
 use jsonwebtoken::jwk::ThumbprintHash;
 use jwt_base::algorithms::Algorithm;
 
-/// What the program does with its input.
+/// A command of the program.
 #[derive(Debug, Drop)]
 pub enum Command<'a> {
     /// Prints the header of a token.
@@ -29,7 +29,8 @@ pub enum Command<'a> {
         secret: &'a str,
         now: u64,
     },
-    /// The same with the key that the token's header names in a key set (RFC 7517 section 5), given as its JSON text.
+    /// Verifies a token by HMAC with the key that its header names in a key set (RFC 7517 section
+    /// 5), given as its JSON text, and prints its claims.
     DecodeWithSet {
         algorithm: Algorithm,
         set: &'a str,
@@ -37,7 +38,7 @@ pub enum Command<'a> {
     },
 }
 
-/// The command that the words ask for. Words that ask for none are answered by `usage`.
+/// Returns the command that the arguments ask for, or `None` if the usage is to be printed.
 pub fn requested_command(words: &[String]) -> Option<Command<'_>>
     ensures { option_map asked result ≡ request_of (map string_bytes words.now) }
 {
@@ -135,7 +136,7 @@ fn algorithm_of(name: &str) -> Option<Algorithm>
     name.parse::<Algorithm>().ok()
 }
 
-/// The number that one or more decimal digits write.
+/// Returns the number that one or more decimal digits stand for.
 fn moment(word: &str) -> Option<u64>
     ensures { result ≡ moment_of word.now }
 {

@@ -1,11 +1,11 @@
-//! Why the program gave no answer.
+//! The fault of the program.
 
 use thiserror::Error;
 
-/// Why the program gave no answer.
+/// The reason for which the program printed no result.
 #[derive(Debug, Drop, PartialEq, Eq, Error)]
 pub enum ToolFault {
-    /// The words or the input could not be had, or the input did not end.
+    /// The arguments or the input could not be read, or the input did not end.
     #[error("read failed")]
     Read,
     /// The line could not be written.

@@ -1,26 +1,31 @@
-//! The whole input.
+//! Reading the whole input.
 
-ghost use Rattle.std.specs.Prelude.{◌≡◌, IfOk, IfSome};
+ghost use Rattle.std.specs.Prelude.{◌≡◌, ◌≢◌, ℕ, List, IfOk, IfErr, IfSome};
+ghost use Rattle.std.specs.Io.KnownBytes.{Consumes};
 ghost use Rattle.jwt_tool.specs.Line.{without_final_newline};
 
 use crate::fault::ToolFault;
 use std::alloc::Global;
 use std::io::{ErrorKind, Read};
 
-/// At most so many calls of `read` are made.
+/// The greatest number of calls of `read`.
 const READS: u32 = 16_777_216;
 
-/// The bytes, less one final newline.
+/// Returns the bytes, less one final newline.
 pub fn without_newline(bytes: &[u8]) -> &[u8]
     ensures { result.now ≡ without_final_newline bytes.now }
 {
     bytes.strip_suffix(b"\n").unwrap_or(bytes)
 }
 
-/// All that is read. A reader that has not told its end after `READS` calls is refused with `Read`, as is one that
-/// fails; a call that was interrupted is made again.
+/// Reads to the end. A reader that has not ended after `READS` calls is refused with `Read`, and so
+/// is one that fails; a call that was interrupted is made again.
 pub fn gather<R: Read>(alloc: Global, reader: &mut R) -> Result<Vec<u8>, ToolFault>
-    ensures { IfOk result (λ input. IfSome (R.remaining reader.old) (λ all. input.items ≡ all)) }
+    ensures whole { IfOk result (λ input. IfSome (R.remaining reader.old) (λ all. input.items ≡ all)) }
+    ensures failed { IfErr result (λ e. e ≢ ToolFault.Write) }
+
+    // Whatever it returns, the front of the input was taken from the reader.
+    ensures taken { (front : List ℕ) × Consumes (R.remaining reader.old) (R.remaining reader.new) front }
 {
     let mut input = Vec::new(alloc);
     let mut buffer = [0u8; 4096];

@@ -1,4 +1,4 @@
-//! Answers a token on standard input with one line.
+//! The program: it reads standard input, and prints one line.
 #![tactic(auto)]
 
 mod command;
@@ -14,7 +14,7 @@ use std::process::ExitCode;
 use std::rt::Runtime;
 use std::{env, io};
 
-/// The words after the program's name, and the standard streams.
+/// Runs the program with its arguments and the standard streams.
 fn start<T: Runtime + AllocGlobal>(rt: &T) -> Result<u8, ToolFault> {
     let Ok(mut words) = env::args(rt) else {
         return Err(ToolFault::Read);

@@ -1,6 +1,6 @@
-//! From the words and the input to the line.
+//! From the arguments and the input to the line.
 
-ghost use Rattle.std.specs.Prelude.{◌≡◌, ◌⊎◌, None, false, ◌++◌, ◌∷◌, [], ℕ, List, IfOk, IfErr, IfSome, OnOk, map, string_bytes};
+ghost use Rattle.std.specs.Prelude.{◌≡◌, ◌≢◌, ◌⊎◌, None, false, ◌++◌, ◌∷◌, [], ℕ, List, IfOk, IfErr, IfSome, OnOk, map, string_bytes};
 ghost use Rattle.std.specs.Io.KnownBytes.{Appends};
 ghost use Rattle.serde_json.specs.View.{view};
 ghost use Rattle.serde_json.specs.Written.{has_float};
@@ -35,8 +35,8 @@ struct Answer {
     line: String,
 }
 
-/// Answers the words on the input with one line, and with the status to end with: 0 for success, 1 for a refusal, 2
-/// for words that ask for nothing, whose input is not read.
+/// Prints one line for the arguments and the input, and returns the exit status: 0 for success, 1
+/// for a refusal, 2 for arguments that ask for nothing, whose input is not read.
 pub fn run<R: Read, W: Write>(
     alloc: Global,
     words: &[String],
@@ -47,13 +47,16 @@ pub fn run<R: Read, W: Write>(
     ensures answered { IfOk result (λ status. IfSome (R.remaining reader.old) (λ all.
         (line : List ℕ) × Appends (W.contents writer.old) (W.contents writer.new) (line ++ 10 ∷ [])
         × Answers (map string_bytes words.now) (without_final_newline all) status line)) }
+
+    // If it fails otherwise than by the writer, nothing was written.
+    ensures unwritten { IfErr result (λ e. e ≢ ToolFault.Write → W.contents writer.new ≡ W.contents writer.old) }
 {
     let answer = answer_to(alloc, words, reader)?;
     write_line(writer, answer.line)?;
     Ok(answer.status)
 }
 
-/// The answer to the words. The input is read only where they ask for it.
+/// Returns the result for the arguments. The input is read only if they ask for it.
 fn answer_to<R: Read>(
     alloc: Global,
     words: &[String],
@@ -81,7 +84,8 @@ fn usage(alloc: Global) -> std::result::Result<Answer, ToolFault>
 
 /// Writes a text and a newline, at once.
 fn write_line<W: Write>(writer: &mut W, mut line: String) -> std::result::Result<(), ToolFault>
-    ensures { OnOk result (Appends (W.contents writer.old) (W.contents writer.new) (string_bytes line ++ 10 ∷ [])) }
+    ensures written { OnOk result (Appends (W.contents writer.old) (W.contents writer.new) (string_bytes line ++ 10 ∷ [])) }
+    ensures unwritten { IfErr result (λ e. e ≢ ToolFault.Write → W.contents writer.new ≡ W.contents writer.old) }
 {
     if line.push('\n').is_err() {
         return Err(ToolFault::Memory);
@@ -116,7 +120,7 @@ fn command_answer(
     }
 }
 
-/// The header's JSON text, or the refusal's text.
+/// Returns the header's JSON text, or the refusal's text.
 fn header_answer(alloc: Global, input: &[u8]) -> std::result::Result<Answer, ToolFault>
     ensures { IfOk result (λ a. ValueAnswer IsValueText (IsHeaderValue input.now)
         (λ k. FirstFailed (header_call input.now) header_order k) a.status (string_bytes a.line)) }
@@ -127,7 +131,7 @@ fn header_answer(alloc: Global, input: &[u8]) -> std::result::Result<Answer, Too
     }
 }
 
-/// The key's thumbprint, or the refusal's text.
+/// Returns the key's thumbprint, or the refusal's text.
 fn thumbprint_answer(
     alloc: Global,
     hash: ThumbprintHash,
@@ -142,7 +146,7 @@ fn thumbprint_answer(
     }
 }
 
-/// The issued token, or the refusal's text.
+/// Returns the issued token, or the refusal's text.
 fn token_answer(
     alloc: Global,
     algorithm: Algorithm,
@@ -158,7 +162,7 @@ fn token_answer(
     }
 }
 
-/// The claims' JSON text, or the refusal's text.
+/// Returns the claims' JSON text, or the refusal's text.
 fn claims_answer(
     alloc: Global,
     algorithm: Algorithm,
@@ -175,7 +179,8 @@ fn claims_answer(
     }
 }
 
-/// The same with a key of a set. A text that is that of no set is refused with `Json`.
+/// Returns the claims' JSON text, verified by a key of a set, or the refusal's text. A text that is
+/// not that of a set is refused with `Json`.
 fn set_claims_answer(
     alloc: Global,
     algorithm: Algorithm,
@@ -192,7 +197,8 @@ fn set_claims_answer(
     }
 }
 
-/// The value's compact JSON text. One that holds a float is answered by the text of `Json`.
+/// Returns the value's compact JSON text. For one that holds a float, it is the text of the error
+/// `Json`.
 fn value_answer(alloc: Global, value: &Value) -> std::result::Result<Answer, ToolFault>
     ensures { IfOk result (λ a. ValueLine (view value.now) a.status (string_bytes a.line)) }
 {
@@ -202,7 +208,7 @@ fn value_answer(alloc: Global, value: &Value) -> std::result::Result<Answer, Too
     text_answer(alloc, value)
 }
 
-/// The compact JSON text of a value without a float.
+/// Returns the compact JSON text of a value without a float.
 fn text_answer(alloc: Global, value: &Value) -> std::result::Result<Answer, ToolFault>
     requires { has_float (view value.now) ≡ false }
     ensures { IfOk result (λ a. IsValueText (view value.now) a.status (string_bytes a.line)) }
@@ -213,7 +219,7 @@ fn text_answer(alloc: Global, value: &Value) -> std::result::Result<Answer, Tool
     }
 }
 
-/// The error's text.
+/// Returns the error's text.
 fn refusal_answer(alloc: Global, e: &Error) -> std::result::Result<Answer, ToolFault>
     ensures { IfOk result (λ a. IsRefusal (kind_of e.now) a.status (string_bytes a.line)) }
 {
@@ -264,7 +270,7 @@ fn set_claims_value(
     Ok(data.claims)
 }
 
-/// The key set of a JSON text.
+/// Returns the key set of a JSON text.
 fn key_set(alloc: Global, text: &str) -> Result<JwkSet>
     ensures ok { IfOk result (λ s. IsSetText text.now s.keys.items) }
     ensures err { IfErr result (RefusesAs kind.Json ((keys : List Jwk) → ¬ IsSetText text.now keys)) }
@@ -284,7 +290,7 @@ fn issued_token(alloc: Global, algorithm: Algorithm, secret: &str, input: &[u8])
     Ok(token)
 }
 
-/// The thumbprint of the key that the input is the JSON text of.
+/// Returns the thumbprint of the key that the input is the JSON text of.
 fn key_thumbprint(alloc: Global, hash: ThumbprintHash, input: &[u8]) -> Result<String>
     ensures ok { IfOk result (λ t. IsThumbprint input.now hash (string_bytes t)) }
     ensures err { IfErr result (λ e. IsMemory e ⊎ HasThumbprintFault input.now (kind_of e)) }

@@ -16,7 +16,7 @@ pub item_algorithms-step : (vs : List Value) (i : ℕ) (d : Value) (done : List 
     → option_map (λ ss. done ++ ss) (item_algorithms (items_view (drop i vs))) ≡ option_map (λ ss. (done ++ s ∷ []) ++ ss) (item_algorithms (items_view (drop (i + 1) vs)))
 item_algorithms-step vs i d done s h e = rw (add-one, drop-cons vs i d h, e) (put_before done s _)
 
--- what names none ends the reading
+-- an item that names no algorithm ends the reading
 pub item_algorithms-stop : (vs : List Value) (i : ℕ) (d : Value) (done : List Algorithm) → i < length vs → algorithm_from (view (get_or vs i d)) ≡ None
     → option_map (λ ss. done ++ ss) (item_algorithms (items_view (drop i vs))) ≡ None
 item_algorithms-stop vs i d done h e = rw (drop-cons vs i d h, e) refl

@@ -1,4 +1,4 @@
--- Laws of what is accepted.
+-- Laws of accepted claims.
 use Rattle.std.proofs.Common.{◌≡◌, ℕ, ◌+◌, ◌-◌, ◌≤◌, List, Bool, true, false, IsTrue, Some, None, Option, min, arith, inl, inr, refl}
 use Rattle.std.specs.Prelude.{IfSome, IsSomeAnd, ◌⊎◌}
 use Rattle.serde_json.specs.Data.{Data}

@@ -1,4 +1,4 @@
--- Where the names and the rules stand in the lists that the code goes through.
+-- The places of the names and the rules in the lists that the code goes through.
 use Rattle.std.proofs.Common.{ℕ}
 use Rattle.jwt_validation.specs.declared.claims.Name.{Name}
 use Rattle.jwt_validation.specs.declared.claims.Name.TheVariants.{Exp, Nbf, Aud, Iss, Sub}

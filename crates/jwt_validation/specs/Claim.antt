@@ -12,7 +12,7 @@ abbrev pub time_in : Option Data → Claim ℕ
 time_in None = Absent
 time_in (Some d) = option_map_or Value (option_and_then as_u64 (as_number d)) Malformed
 
--- a member that is a text; null counts as absent (RFC 7519 section 4.1.2)
+-- a member that is a string; null counts as absent (RFC 7519 section 4.1.2)
 abbrev pub text_in : Option Data → Claim (List ℕ)
 text_in None = Absent
 text_in (Some null) = Absent
@@ -22,13 +22,13 @@ text_in (Some (string s)) = Value s
 text_in (Some (array ds)) = Malformed
 text_in (Some (object ms)) = Malformed
 
--- the items, where each is a text (RFC 7519 section 4.1.3)
+-- the items, if each is a string (RFC 7519 section 4.1.3)
 abbrev pub all_texts : Items → Option (List (List ℕ))
 all_texts no_items = Some []
 all_texts (item d ds) = option_and_then (λ s. option_map (λ ss. s ∷ ss) (all_texts ds)) (as_str d)
 
--- a member that is a text or a list of texts; null counts as absent
--- (RFC 7519 sections 4.1.1 and 4.1.3)
+-- a member that is a string or a list of strings; null counts as absent (RFC 7519 sections 4.1.1
+-- and 4.1.3)
 abbrev pub texts_in : Option Data → Claim (List (List ℕ))
 texts_in None = Absent
 texts_in (Some null) = Absent
@@ -68,7 +68,7 @@ IsPresent Absent = ⊥
 IsPresent Malformed = ⊥
 IsPresent (Value a) = ⊤
 
--- this holds of the value, where it is one
+-- this holds of the value, if it is one
 abbrev pub IfValue : {A : Type 0} → Claim A → (A → Type 0) → Type 0
 IfValue Absent P = ⊤
 IfValue Malformed P = ⊤

@@ -25,7 +25,7 @@ text Aud = codes "aud"
 text Iss = codes "iss"
 text Sub = codes "sub"
 
--- the claim of this name is there, and it is not malformed
+-- the claim of this name is present, and it is not malformed
 abbrev pub HasValue : Claims → Name → Type 0
 HasValue c Exp = IsPresent c.exp
 HasValue c Nbf = IsPresent c.nbf
@@ -49,14 +49,13 @@ place Subject = 6
 place Issuer = 7
 place Audience = 8
 
--- one of the texts is in the set (RFC 7519 section 4.1.3)
+-- one of the strings is in the set (RFC 7519 section 4.1.3)
 abbrev pub SharesMember : Texts → List (List ℕ) → Type 0
 SharesMember set = Any (λ t. IsTrue (set t))
 
--- What each rule asks (RFC 7519): `ExpFormat` and `ExpTime` by section 4.1.4, `NbfFormat` and
--- `NbfTime` by 4.1.5, `Subject` by 4.1.2, `Issuer` by 4.1.1, `Audience` by 4.1.3; `ExpReject` is a
--- rule of this library.
--- The moments themselves of `exp` and of `exp` with leeway accept.
+-- The condition of each rule (RFC 7519): `ExpFormat` and `ExpTime` by section 4.1.4, `NbfFormat`
+-- and `NbfTime` by 4.1.5, `Subject` by 4.1.2, `Issuer` by 4.1.1, `Audience` by 4.1.3; `ExpReject`
+-- is a rule of this library. The moments themselves of `exp` and of `exp` with leeway accept.
 abbrev pub Holds : Options → Claims → ℕ → Rule → Type 0
 Holds v c now ExpFormat = IsTrue v.checks_exp → IsWellFormed c.exp
 Holds v c now NbfFormat = IsTrue v.checks_nbf → IsWellFormed c.nbf
@@ -90,14 +89,14 @@ pub record IsFirstBroken (v : Options) (c : Claims) (now : ℕ) (r : Rule) : Typ
   pub fails : ¬ Holds v c now r
   pub before : (q : Rule) → place q < place r → Holds v c now q
 
--- ---- what is accepted, and the kinds of a refusal
+-- ---- accepted claims, and the kinds of a refusal
 
 -- no required claim is missing, and each rule holds (RFC 7519 section 4.1)
 pub record RulesHold (v : Options) (d : Data) (now : ℕ) : Type 0 where
   pub required : (n : Name) → ¬ IsMissing v (claims_of d) n
   pub rules : (r : Rule) → Holds v (claims_of d) now r
 
--- the kind of any missing claim; where none is missing, that of the first broken rule
+-- the kind of any missing claim; if none is missing, that of the first broken rule
 pub data IsRuleFault (v : Options) (d : Data) (now : ℕ) : Kind → Type 0 where
   missing : (n : Name) → IsMissing v (claims_of d) n
       → IsRuleFault v d now (kind.MissingRequiredClaim (text n))
@@ -105,7 +104,7 @@ pub data IsRuleFault (v : Options) (d : Data) (now : ℕ) : Kind → Type 0 wher
       → (r : Rule) → IsFirstBroken v (claims_of d) now r
       → IsRuleFault v d now (kind_of_rule (claims_of d) r)
 
--- `Json` of a value that is no object (RFC 7519 section 7.2), else the kind that the rules give
+-- `Json` of a value that is not an object (RFC 7519 section 7.2), else the kind that the rules give
 abbrev pub IsFault : Options → Data → ℕ → Kind → Type 0
 IsFault v d now k =
     ((¬ IsSome (as_object d)) × (k ≡ kind.Json))

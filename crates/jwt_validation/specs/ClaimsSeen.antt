@@ -1,4 +1,4 @@
--- For private clauses: what the borrowed claims stand for.
+-- For private clauses: the meaning of the borrowed claims.
 use Rattle.std.specs.Prelude.{ℕ, List}
 use Rattle.std.specs.List.{filter_map}
 use Rattle.serde_json.specs.Find.{as_str}
@@ -15,7 +15,7 @@ seen f claim.Absent = claim.Absent
 seen f claim.Malformed = claim.Malformed
 seen f (claim.Value a) = claim.Value (f a)
 
--- the texts of a list of values
+-- the strings of a list of values
 abbrev pub texts_among : List Value → List (List ℕ)
 texts_among = filter_map (λ v. as_str (view v))
 

@@ -28,13 +28,13 @@ IsTimeless Audience = ⊤
 abbrev pub end_of_time : ℕ
 end_of_time = 18446744073709551615
 
--- a claim's value under f, where it is checked and there is one
+-- a claim's value under f, if it is checked and there is one
 abbrev pub checked : {A B : Type 0} → Bool → Claim A → (A → B) → B → B
 checked b Absent f other = other
 checked b Malformed f other = other
 checked b (Value a) f other = if b then f a else other
 
--- `nbf` less the leeway, or 0 where that is negative (RFC 7519 section 4.1.5)
+-- `nbf` less the leeway, or 0 if that is negative (RFC 7519 section 4.1.5)
 abbrev pub first_moment : Options → Claims → ℕ
 first_moment v c = checked v.checks_nbf c.nbf (λ nbf. nbf - v.leeway) 0
 
@@ -43,7 +43,7 @@ abbrev pub last_moment : Options → Claims → ℕ
 last_moment v c =
     checked v.checks_exp c.exp (λ exp. min (exp + v.leeway - v.reject) end_of_time) end_of_time
 
--- what is asked of the claims without regard to the moment
+-- the conditions on the claims that do not depend on the moment
 pub record RulesOfNoMoment (v : Options) (d : Data) : Type 0 where
   pub required : (n : Name) → ¬ IsMissing v (claims_of d) n
   pub timeless : (r : Rule) → IsTimeless r → (now : ℕ) → Holds v (claims_of d) now r
@@ -56,7 +56,7 @@ pub record IsAcceptedWithin (v : Options) (d : Data) (now : ℕ) : Type 0 where
   pub from : first_moment v (claims_of d) ≤ now
   pub until : now ≤ last_moment v (claims_of d)
 
--- what is in the one set is in the other
+-- each member of the one set is in the other
 abbrev pub IsSubset : Texts → Texts → Type 0
 IsSubset s t = (x : List ℕ) → IsTrue (s x) → IsTrue (t x)
 

@@ -1,15 +1,15 @@
--- What a token is checked against, with sets of texts as tests of texts.
+-- The options that a token is checked against, with sets of strings as tests of strings.
 use Rattle.std.specs.Prelude.{ℕ, List, Bool, true, false, Option, None, unwrap_or, codes}
 use Rattle.std.specs.List.{list_any}
 use Rattle.std.specs.Str.{bytes_eq}
 use Rattle.jwt_base.specs.declared.algorithms.Algorithm.{Algorithm}
 
--- a set of texts
+-- a set of strings
 abbrev pub Texts : Type 0
 Texts = List ℕ → Bool
 
--- what a token is checked against
--- (RFC 7519 section 4.1, RFC 7515 section 4.1.11, RFC 8725 section 3.1)
+-- the options that a token is checked against (RFC 7519 section 4.1, RFC 7515 section 4.1.11, RFC
+-- 8725 section 3.1)
 pub record Options : Type 0 where
   pub required : Texts
   pub leeway : ℕ
@@ -26,15 +26,15 @@ pub record Options : Type 0 where
 abbrev pub no_texts : Texts
 no_texts _ = false
 
--- the set of what a list's items have for texts
+-- the set of the strings of a list's items
 abbrev pub among : {A : Type 0} → (A → List ℕ) → List A → Texts
 among text items t = list_any (λ a. bytes_eq (text a) t) items
 
--- the configured audience, of which none counts as empty (RFC 7519 section 4.1.3)
+-- the configured audience; None counts as empty (RFC 7519 section 4.1.3)
 abbrev pub audience : Options → Texts
 audience v = unwrap_or v.aud no_texts
 
--- what is checked at first
+-- the default options
 abbrev pub default_options : List Algorithm → Options
 default_options algorithms = record {
   required = bytes_eq (codes "exp");

@@ -1,4 +1,4 @@
--- What a `Validation` asks for.
+-- The options of a `Validation`.
 use Rattle.std.specs.Prelude.{option_map, string_bytes}
 use Rattle.std.specs.HashSet.{contains_text}
 use Rattle.jwt_validation.specs.Options.{Options}

@@ -1,4 +1,4 @@
--- What a JSON object says as the options of a validation.
+-- How the options of a validation are read from a JSON object.
 use Rattle.std.specs.Prelude.{◌≡◌, ℕ, List, [], ◌∷◌, ◌||◌, Bool, true, false, not, Option, Some, option_map, option_and_then, unwrap_or, codes}
 use Rattle.std.specs.Str.{bytes_eq}
 use Rattle.serde_json.specs.Data.{Data, Items, no_items, item, Members, no_members, member}
@@ -26,11 +26,11 @@ HasOptionNames d = option_map (has_other option_names) (as_object d) ≡ Some fa
 abbrev pub as_whole : Data → Option ℕ
 as_whole d = option_and_then as_u64 (as_number d)
 
--- an optional member: where it is absent or null, the default
+-- an optional member: the default if it is absent or null
 abbrev pub or_default : {A : Type 0} → A → (Data → Option A) → Option Data → Option A
 or_default a reader d = option_map (λ o. unwrap_or o a) (optional reader d)
 
--- the set of the texts of a list
+-- the set of the strings of a list
 abbrev pub text_set : Data → Option Texts
 text_set d = option_map (among (λ s. s)) (texts d)
 

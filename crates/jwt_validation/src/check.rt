@@ -1,4 +1,4 @@
-//! Whether claims pass the rules, and which they fail first.
+//! The check of claims by the rules.
 
 ghost use Rattle.std.specs.Prelude.{◌≡◌, ◌↔◌, IsOk, OnOk, IfErr, IsSome, MatchOption};
 ghost use Rattle.serde_json.specs.Find.{as_object};
@@ -19,21 +19,22 @@ use std::alloc::Global;
 
 /// Checks claims at the moment `now`, in whole seconds since 1970-01-01 00:00:00 UTC.
 ///
-/// Claims that are no JSON object are refused with `Json`. Then each required claim must be there and well formed,
-/// else the answer is `MissingRequiredClaim` of one that is not. Then the rules are tested in this order, and the
-/// answer is the error of the first that is broken:
+/// Claims that are not a JSON object are refused with `Json`. Then each required claim must be
+/// present and well formed, else the error is `MissingRequiredClaim` of one that is not. Then the
+/// rules are tested in this order, and the error is that of the first broken one:
 ///
-/// - where `exp` is checked, it is a whole number, else `InvalidClaimFormat`;
-/// - where `nbf` is checked, it is a whole number, else `InvalidClaimFormat`;
-/// - `exp` is no less than the time that must be left, else `InvalidToken`;
-/// - `exp` and the leeway are no less than `now` and the time that must be left, else `ExpiredSignature`;
-/// - `nbf` is at most `now` and the leeway, else `ImmatureSignature`;
+/// - if `exp` is checked, it is a whole number, else `InvalidClaimFormat`;
+/// - if `nbf` is checked, it is a whole number, else `InvalidClaimFormat`;
+/// - `exp` is at least the time that must be left, else `InvalidToken`;
+/// - `exp` plus the leeway is at least `now` plus the time that must be left, else `ExpiredSignature`;
+/// - `nbf` is at most `now` plus the leeway, else `ImmatureSignature`;
 /// - `sub` is the configured subject, else `InvalidSubject`;
 /// - `iss` names a configured issuer, else `InvalidIssuer`;
 /// - `aud` names a configured audience, else `InvalidAudience`.
 ///
-/// The last three are `InvalidClaimFormat` where the claim has a wrong type. A claim that is absent and not required
-/// breaks no rule. `OutOfMemory` may stand in place of `MissingRequiredClaim` and `InvalidClaimFormat` alone.
+/// The last three are `InvalidClaimFormat` if the claim has a wrong type. A claim that is absent
+/// and not required breaks no rule. `OutOfMemory` may come in place of `MissingRequiredClaim` and
+/// `InvalidClaimFormat` alone.
 pub fn validate(alloc: Global, claims: &Value, options: &Validation, now: u64) -> Result<()>
     ensures ok { IsOk result ↔ (IsSome (as_object (view claims.now))
         × RulesHold (options_of options.now) (view claims.now) now) }

@@ -28,15 +28,15 @@ pub enum Claim<T> {
 /// The claims that can be required.
 #[derive(Clone, Copy)]
 pub enum Name {
-    /// When the token expires (RFC 7519 section 4.1.4).
+    /// The time when the token expires (RFC 7519 section 4.1.4).
     Exp,
-    /// When the token begins to be valid (RFC 7519 section 4.1.5).
+    /// The time when the token begins to be valid (RFC 7519 section 4.1.5).
     Nbf,
-    /// For whom the token is (RFC 7519 section 4.1.3).
+    /// The recipients of the token (RFC 7519 section 4.1.3).
     Aud,
-    /// Who issued the token (RFC 7519 section 4.1.1).
+    /// The issuer of the token (RFC 7519 section 4.1.1).
     Iss,
-    /// Of whom the token speaks (RFC 7519 section 4.1.2).
+    /// The subject of the token (RFC 7519 section 4.1.2).
     Sub,
 }
 
@@ -44,7 +44,7 @@ pub enum Name {
 pub const NAMES: [Name; 5] = [Name::Exp, Name::Nbf, Name::Aud, Name::Iss, Name::Sub];
 
 impl Name {
-    /// The claim's name in JSON.
+    /// Returns the claim's name in JSON.
     pub fn text(self) -> &'static str
         ensures { result.now ≡ text self }
     {
@@ -82,7 +82,7 @@ impl<'a> SpecClaims<'a> {
         }
     }
 
-    /// Whether the claim of this name is there, with a value.
+    /// Returns whether the claim of this name is present, with a value.
     pub fn has_value(&self, name: Name) -> bool
         ensures { IsTrue result ↔ HasValue (claims_seen self.now) name }
     {
@@ -143,7 +143,7 @@ fn are_texts(values: &[Value]) -> bool
     values.iter().all(Value::is_string)
 }
 
-/// Whether one of the texts is in the set.
+/// Returns whether one of the strings is in the set.
 pub fn shares_member(texts: &[Value], set: &HashSet<String>) -> bool
     ensures { IsTrue result ↔ SharesMember (contains_text set.now) (texts_among texts.now) }
 {

@@ -8,15 +8,16 @@ use jwt_base::errors::{ErrorKind, Result, new_error};
 
 /// A clock.
 pub trait Clock {
-    // the answers that the clock may give
+    // The moments that the clock may return.
     ghost tells: { Self → ℤ → Type 0 };
 
-    /// The whole seconds since 1970-01-01 00:00:00 UTC, negative before then.
+    /// Returns the whole seconds since 1970-01-01 00:00:00 UTC, negative before then.
     fn seconds(&self) -> i64
         ensures { tells self.now result };
 }
 
-/// The whole seconds since 1970-01-01 00:00:00 UTC that the clock tells. Before then it is `ClockBeforeEpoch`.
+/// Returns the whole seconds since 1970-01-01 00:00:00 UTC that the clock tells. A moment before
+/// then is refused with `ClockBeforeEpoch`.
 pub fn get_current_timestamp<C: Clock>(clock: &C) -> Result<u64>
     ensures ok { IfOk result (λ n. C.tells clock.now (pos n)) }
     ensures err { IfErr result (λ e. (kind_of e ≡ kind.ClockBeforeEpoch)

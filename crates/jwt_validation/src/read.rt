@@ -23,14 +23,15 @@ use std::alloc::Global;
 use std::collections::HashSet;
 
 impl Validation {
-    /// The validation that a JSON object describes: its members are the fields of [`Validation`] by their names, with
-    /// lists for the sets, the names of RFC 7518 section 3.1 and RFC 8037 section 3.1 for the algorithms, whole numbers
-    /// of seconds for the times and `true` or `false` for the rest.
+    /// Returns the validation that a JSON object describes: its members are the fields of
+    /// [`Validation`] by their names, with lists for the sets, the names of RFC 7518 section 3.1
+    /// and RFC 8037 section 3.1 for the algorithms, whole numbers of seconds for the times and
+    /// `true` or `false` for the rest.
     ///
-    /// A member that is absent or null has the value of [`Validation::new`], but for `algorithms`, of which there is
-    /// then none: no algorithm is chosen for anybody, and `decode` refuses with `MissingAlgorithm`. An unknown member, a
-    /// member of a wrong type, an algorithm of an unknown name and what is no object are refused with `Json`; nothing
-    /// is ignored.
+    /// A member that is absent or null has the value of [`Validation::new`], except that
+    /// `algorithms` is then an empty list: no algorithm is chosen by default, and `decode` refuses with
+    /// `MissingAlgorithm`. An unknown member, a member of a wrong type, an algorithm of an unknown
+    /// name and a value that is not an object are refused with `Json`; nothing is ignored.
     pub fn from_value(alloc: Global, value: &Value) -> Result<Validation>
         ensures ok { IfOk result (λ v. ReadsOptions (view value.now) (options_of v)) }
         ensures err { IfErr result (RefusesAs kind.Json ((o : Options) → ¬ ReadsOptions (view value.now) o)) }
@@ -88,7 +89,7 @@ fn has_other(members: &Map<String, Value>) -> bool
     false
 }
 
-// Refuses with `Json` what is no object, and an object with a member of another name.
+// Refuses with `Json` a value that is not an object, and an object with a member of another name.
 fn check_names(value: &Value) -> Result<()>
     ensures { MatchResult result (λ _. HasOptionNames (view value.now))
         (λ e. RefusesAs kind.Json (¬ HasOptionNames (view value.now)) e) }

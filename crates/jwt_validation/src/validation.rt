@@ -1,4 +1,4 @@
-//! What the claims of a token are checked against.
+//! The options that the claims of a token are checked against.
 
 ghost use Rattle.std.specs.Prelude.{◌≡◌, ◌||◌, IfOk, IfErr, OnOk, OnErr, Some, None, option_map, string_bytes, ◌∷◌, []};
 ghost use Rattle.std.specs.HashSet.{contains_text};
@@ -14,15 +14,16 @@ use jwt_base::errors::Result;
 use std::alloc::Global;
 use std::collections::HashSet;
 
-/// What a token is checked against. Times are in whole seconds.
+/// The options that a token is checked against. Times are in whole seconds.
 #[derive(Debug, Drop)]
 pub struct Validation {
-    /// The claims that must be there. Of these names `exp`, `nbf`, `aud`, `iss` and `sub` count, and others are
-    /// ignored. A malformed claim counts as missing.
+    /// The claims that must be present. Of these names `exp`, `nbf`, `aud`, `iss` and `sub` count,
+    /// and others are ignored. A malformed claim counts as missing.
     pub required_spec_claims: HashSet<String>,
-    /// How far clocks may differ: a token is still accepted so long after `exp`, and already so long before `nbf`.
+    /// The leeway for clocks that differ: a token is still accepted this long after `exp`, and
+    /// already this long before `nbf`.
     pub leeway: u64,
-    /// A token is refused so long before it expires.
+    /// The time that must be left: a token is refused this long before it expires.
     pub reject_tokens_expiring_in_less_than: u64,
     /// Whether `exp` is checked (RFC 7519 section 4.1.4).
     pub validate_exp: bool,
@@ -30,11 +31,14 @@ pub struct Validation {
     pub validate_nbf: bool,
     /// Whether `aud` is checked (RFC 7519 section 4.1.3).
     pub validate_aud: bool,
-    /// The audiences of which a token's `aud` must name one. With none, a token that has an `aud` is refused.
+    /// The audiences of which a token's `aud` must name one. If there are none, a token that has an
+    /// `aud` is refused.
     pub aud: Option<HashSet<String>>,
-    /// The issuers of which a token's `iss` must name one (RFC 7519 section 4.1.1). With none, `iss` is not checked.
+    /// The issuers of which a token's `iss` must name one (RFC 7519 section 4.1.1). If this is
+    /// `None`, `iss` is not checked.
     pub iss: Option<HashSet<String>>,
-    /// What a token's `sub` must be (RFC 7519 section 4.1.2). With none, `sub` is not checked.
+    /// The required `sub` of a token (RFC 7519 section 4.1.2). If this is `None`, `sub` is
+    /// not checked.
     pub sub: Option<String>,
     /// The algorithms that are accepted.
     pub algorithms: Vec<Algorithm>,
@@ -43,8 +47,9 @@ pub struct Validation {
 }
 
 impl Validation {
-    /// The checks of one algorithm: `exp` is required and checked, with 60 seconds of leeway, and any `aud` is
-    /// refused until an audience is set. The only refusal is `OutOfMemory`.
+    /// Returns the checks of one algorithm: `exp` is required and checked, with 60 seconds of
+    /// leeway, and any `aud` is refused until an audience is set. The only refusal is
+    /// `OutOfMemory`.
     pub fn new(alloc: Global, algorithm: Algorithm) -> Result<Validation>
         ensures ok { IfOk result (λ v. options_of v ≡ default_options (algorithm ∷ [])) }
         ensures err { IfErr result IsMemory }
@@ -54,7 +59,8 @@ impl Validation {
         with_algorithms(alloc, algorithms)
     }
 
-    /// The same checks as `new`, for the algorithms of a family. The only refusal is `OutOfMemory`.
+    /// Returns the same checks as `new`, for the algorithms of a family. The only refusal is
+    /// `OutOfMemory`.
     pub fn new_for_family(alloc: Global, family: AlgorithmFamily) -> Result<Validation>
         ensures ok { IfOk result (λ v. options_of v ≡ default_options (algorithms_of family)) }
         ensures err { IfErr result IsMemory }
@@ -123,7 +129,7 @@ impl Validation {
         Ok(())
     }
 
-    /// A copy. The only refusal is `OutOfMemory`.
+    /// Returns a copy. The only refusal is `OutOfMemory`.
     pub fn clone(&self, alloc: Global) -> Result<Validation>
         ensures ok { IfOk result (λ v. options_of v ≡ options_of self.now) }
         ensures err { IfErr result IsMemory }
@@ -211,7 +217,7 @@ fn copied_text(alloc: Global, text: &Option<String>) -> Result<Option<String>>
     }
 }
 
-/// The same fields, the sets as sets.
+/// Compares the fields, sets as sets.
 impl PartialEq for Validation {
     ghost use Rattle.std.specs.Prelude.{◌≡◌, ◌↔◌, IsTrue};
     ghost use Rattle.std.specs.Cmp.{partial_equiv_from_equiv};

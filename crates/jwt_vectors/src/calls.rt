@@ -5,7 +5,7 @@ use jwt_rows::fault::Fault;
 use jwt_rows::row::Row;
 use jwt_rows::trial::Trial;
 
-/// Makes the call that the row names, with the row's inputs, and returns what it answers.
+/// Makes the call that the row names, with the row's inputs, and returns its result.
 pub fn answer(row: Row<'_>, trial: &mut Trial) -> Answer {
     let call = row.text("call")?;
     if let Some(answer) = jwt_rows_values::answer(call, row, trial)? {

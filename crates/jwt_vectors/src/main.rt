@@ -1,8 +1,9 @@
-//! Answers rows of test vectors by the library's public calls, and compares each answer with the one that the row wants.
+//! Makes the calls of rows of test vectors, and compares each result with the one that the row
+//! wants.
 //!
 //! A row is one line of JSON (`docs/VECTORS.md`). Without arguments the program reads the files `*.jsonl` of the folder
 //! that it runs in. With the argument `refused`, each row is tried with each of its requests for memory refused in turn,
-//! by whoever runs the program (`refuse.c`). The last line counts.
+//! by whoever runs the program (`tests/refuse.c`). The last line counts.
 #![tactic(auto)]
 
 mod calls;
@@ -16,19 +17,19 @@ use std::process::ExitCode;
 use std::rt::Runtime;
 use std::{env, fs, io};
 
-/// No call makes as many requests for memory.
+/// A number of requests for memory that no call makes.
 const MOST: usize = 4_000;
 
-/// How a row went.
+/// The outcome of a row.
 #[derive(Drop)]
 struct Outcome {
-    /// How many requests were refused.
+    /// The number of requests that were refused.
     refused: usize,
-    /// Why the row differs, if it does.
+    /// The difference from the wanted result, if there is one.
     difference: Option<String>,
 }
 
-/// How all rows went.
+/// The outcomes of all rows.
 #[derive(Clone, Copy)]
 struct Count {
     rows: usize,
@@ -36,7 +37,8 @@ struct Count {
     differ: usize,
 }
 
-// The compact text of what the row's call answers with the request of this number refused, and whether one was.
+// Returns the compact text of the result of the row's call with the request of this number refused,
+// and whether one was.
 fn answer_text(alloc: Global, row: Row<'_>, number: usize) -> Result<(String, bool), Fault> {
     let mut trial = Trial::new(alloc, number);
     let answer = calls::answer(row, &mut trial)?;
@@ -49,12 +51,12 @@ fn wanted_text(alloc: Global, row: Row<'_>) -> Result<String, Fault> {
     Ok(row.value("want")?.to_string(alloc)?)
 }
 
-// Whether the call is to make no request for memory.
+// Returns whether the call must make no request for memory.
 fn is_sparing(row: Row<'_>) -> bool {
     row.optional("requests").and_then(Value::as_u64) == Some(0)
 }
 
-// Why this answer is not the wanted one, if it is not.
+// Returns the difference of this result from the wanted one, if there is one.
 fn difference(
     alloc: Global,
     number: usize,
@@ -67,7 +69,7 @@ fn difference(
     Ok(Some(format!(in alloc; "wanted {wanted}, got {given} ({number})")?))
 }
 
-// With ample memory.
+// Tries a row with ample memory.
 fn try_amply(alloc: Global, row: Row<'_>) -> Result<Outcome, Fault> {
     let wanted = wanted_text(alloc, row)?;
     let (given, _) = answer_text(alloc, row, 0)?;
@@ -77,7 +79,7 @@ fn try_amply(alloc: Global, row: Row<'_>) -> Result<Outcome, Fault> {
     })
 }
 
-// With the first request refused, then the second, until none is left.
+// Tries a row with the first request refused, then the second, until none is left.
 fn try_refused(alloc: Global, row: Row<'_>) -> Result<Outcome, Fault> {
     let wanted = wanted_text(alloc, row)?;
     let mut refused = 0;
@@ -164,7 +166,7 @@ fn try_folder<T: Runtime + AllocGlobal>(
     Ok(())
 }
 
-/// Whether the argument asks for requests to be refused.
+/// Returns whether the argument asks for requests to be refused.
 fn asks_to_refuse<T: Runtime + AllocGlobal>(rt: &T) -> bool {
     let Ok(mut words) = env::args(rt) else {
         return false;

@@ -1,4 +1,5 @@
--- What follows where a verifier is made, and that one is made by the verdict's own algorithm.
+-- The consequences of a verifier being made, and a proof that one is made by the verdict's own
+-- algorithm.
 use Rattle.std.specs.Prelude.{◌≡◌, Bool, true, false, None, Some, [], refl, if◌then◌else◌}
 use Rattle.std.specs.Bool.{Decides}
 use denote.Enum.Bare.{sameb}

@@ -1,4 +1,4 @@
-//! A provider for signatures that the caller has checked with cryptography of its own.
+//! A provider for signatures that the caller has checked with other cryptography.
 #![tactic(auto)]
 
 mod verdict;

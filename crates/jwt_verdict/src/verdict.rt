@@ -19,12 +19,14 @@ use jwt_params::thumbprints::ThumbprintHash;
 use std::alloc::Global;
 use std::marker::Model;
 
-/// The caller's yes or no to one signature of one message, by one algorithm. It borrows both and copies nothing.
+/// The caller's yes or no to one signature of one message, by one algorithm. It borrows both and
+/// copies nothing.
 ///
-/// As a provider it makes a verifier by that algorithm and a key of its family, which says yes to that signature of
-/// that message where the verdict is yes, and no to everything else. Another algorithm is refused with
-/// `InvalidAlgorithm`, then a key of another family with `InvalidKeyFormat`. It signs nothing, reads no keys and
-/// computes no digests: such calls are refused with `UnsupportedAlgorithm`. It takes no memory.
+/// As a provider it makes a verifier by that algorithm and a key of its family, which says yes to
+/// that signature of that message if the verdict is yes, and no to everything else. Another
+/// algorithm is refused with `InvalidAlgorithm`, then a key of another family with
+/// `InvalidKeyFormat`. It signs nothing, reads no keys and computes no digests: such calls are
+/// refused with `UnsupportedAlgorithm`. It allocates no memory.
 #[derive(Debug, Drop)]
 pub struct VerdictProvider<'a> {
     algorithm: Algorithm,
@@ -40,8 +42,9 @@ impl<'a> Model for VerdictProvider<'a> {
 }
 
 impl<'a> VerdictProvider<'a> {
-    /// The provider of this verdict. `verdict` is what the caller's own cryptography says to the signature's bytes (not
-    /// its base64url text) of the message, by the algorithm and with the key that the caller trusts.
+    /// Returns the provider of this verdict. `verdict` is the result of checking the signature's
+    /// bytes (not its base64url text) of the message elsewhere, by the algorithm and with the key
+    /// that the caller trusts.
     pub fn new(
         algorithm: Algorithm,
         message: &'a [u8],
@@ -58,7 +61,7 @@ impl<'a> VerdictProvider<'a> {
         }
     }
 
-    // The same verdict.
+    // Returns the same verdict.
     fn again(&self) -> VerdictProvider<'a>
         ensures { result ≡ self.now }
     {
@@ -76,8 +79,8 @@ impl<'a> VerdictProvider<'a> {
         self.verdict && message == self.message && signature == self.signature
     }
 
-    /// A key of the algorithm's family, which holds no bytes: the key that counts is the one that the caller checked
-    /// the signature with. The only refusal is `OutOfMemory`.
+    /// Returns a key of the algorithm's family, which holds no bytes: the key that counts is the
+    /// one that the caller checked the signature with. The only refusal is `OutOfMemory`.
     pub fn key(&self, alloc: Global) -> Result<DecodingKey>
         ensures ok { IfOk result (λ k. k ≡ Plain (family_of self.now.algorithm) []) }
         ensures err { IfErr result IsMemory }
@@ -91,7 +94,8 @@ impl<'a> VerdictProvider<'a> {
     }
 }
 
-/// Says yes to the verdict's signature of the verdict's message, where the verdict is yes.
+/// A verifier that says yes to the verdict's signature of the verdict's message, if the verdict is
+/// yes.
 #[derive(Drop)]
 pub struct VerdictVerifier<'a> {
     verdict: VerdictProvider<'a>,
@@ -108,7 +112,8 @@ impl JwtVerifier for VerdictVerifier<'_> {
         self.verdict.algorithm
     }
 
-    /// Whether these are the verdict's message and signature, and the verdict is yes. It is never refused.
+    /// Returns whether these are the verdict's message and signature, and the verdict is yes. Never
+    /// refuses.
     fn verify(&self, _alloc: Global, message: &[u8], signature: &[u8]) -> Result<bool> {
         Ok(self.verdict.says_yes(message, signature))
     }
@@ -170,8 +175,9 @@ impl<'a> CryptoProvider for VerdictProvider<'a> {
         Err(unsupported())
     }
 
-    /// A verifier by the verdict's algorithm. Another algorithm is refused with `InvalidAlgorithm`, then a key of another
-    /// family with `InvalidKeyFormat`. No memory is taken.
+    /// Returns a verifier by the verdict's algorithm. Another algorithm is refused with
+    /// `InvalidAlgorithm`, then a key of another family with `InvalidKeyFormat`. Allocates no
+    /// memory.
     fn verifier_factory(
         &self,
         _alloc: Global,

@@ -7,7 +7,7 @@
 package jwt
 
 // #cgo CFLAGS: -I${SRCDIR}/../../../include
-// #cgo LDFLAGS: ${SRCDIR}/../../out/libjwt.a
+// #cgo LDFLAGS: ${SRCDIR}/../../../out/libjwt.a
 // #include "jwt.h"
 import "C"
 
@@ -36,7 +36,7 @@ const (
 var ErrEmptySecret = errors.New("jwt: the secret is empty or has zeros alone")
 
 // ErrUnknownClaim is returned for a required claim that the library would ignore.
-var ErrUnknownClaim = errors.New("jwt: a required claim is none of exp, nbf, aud, iss and sub")
+var ErrUnknownClaim = errors.New("jwt: a required claim is not one of exp, nbf, aud, iss and sub")
 
 // Refused is a refusal.
 type Refused struct {
@@ -48,7 +48,7 @@ type Refused struct {
 // Error returns the library's text of the refusal, as "InvalidSignature".
 func (refused Refused) Error() string { return refused.text }
 
-// Options say what is accepted of a token. Their names are those of include/jwt.h, and so are the defaults of fields that are nil.
+// Options are the conditions on a token. Their names are those of include/jwt.h, and so are the defaults of fields that are nil.
 type Options struct {
 	Algorithms                     []string `json:"algorithms"`
 	RequiredSpecClaims             []string `json:"required_spec_claims"`
@@ -75,7 +75,7 @@ func (options Options) text() ([]byte, error) {
 	return json.Marshal(options)
 }
 
-// SignedPart is what has to be checked of a token. Its algorithm is the token's own claim.
+// SignedPart has the parts of a token that have to be checked. The algorithm is the one that the token itself names.
 type SignedPart struct {
 	Algorithm string
 	Message   []byte
@@ -103,7 +103,7 @@ func isEmpty(secret []byte) bool {
 	return true
 }
 
-// fill returns what a call writes to a buffer, which is made larger once if it is too small.
+// fill returns the bytes that a call writes to a buffer, which is made larger once if it is too small.
 func fill(call func(buffer *C.uint8_t, size C.size_t, length *C.size_t) C.uint32_t) ([]byte, C.uint32_t) {
 	buffer := make([]byte, 1024)
 	var length C.size_t
@@ -178,7 +178,7 @@ func DecodeWithSet(token, set []byte, options Options, now uint64) ([]byte, erro
 	return nil, err
 }
 
-// PartToCheck returns what has to be checked of a token. Nothing is verified.
+// PartToCheck returns the parts of a token that have to be checked. Nothing is verified.
 func PartToCheck(token []byte) (SignedPart, error) {
 	var number C.uint32_t
 	var message C.size_t

@@ -77,7 +77,7 @@ impl fmt::Display for Refused {
 
 impl std::error::Error for Refused {}
 
-/// Why a call that takes a secret returned nothing, or text is no [`Claim`].
+/// The error of a call that takes a secret, or of text that is not a [`Claim`].
 #[derive(Clone, Debug, PartialEq, Eq)]
 pub enum Error {
     /// The secret, or the key of the set, is empty or has zeros alone. HMAC pads a secret with zeros, so that both are the same
@@ -85,7 +85,7 @@ pub enum Error {
     EmptySecret,
     /// The library has no rule for a claim of this name, and would ignore that it is required.
     UnknownClaim(String),
-    /// The library refused what it was given.
+    /// The library refused an argument or the token.
     Refused(Refused),
 }
 
@@ -107,7 +107,8 @@ impl fmt::Display for Error {
 
 impl std::error::Error for Error {}
 
-/// What has to be checked of a token: nothing is verified, and the algorithm is the token's own claim.
+/// The parts of a token that have to be checked. Nothing is verified, and the algorithm is the one
+/// that the token itself names.
 #[derive(Clone, Debug, PartialEq, Eq)]
 pub struct SignedPart<'a> {
     /// The name of the algorithm.
@@ -118,7 +119,7 @@ pub struct SignedPart<'a> {
     pub signature: Vec<u8>,
 }
 
-// What a call writes to a buffer, which is made larger once if it is too small.
+// Returns the bytes that a call writes to a buffer, which is made larger once if it is too small.
 fn written(call: impl Fn(*mut u8, usize, *mut usize) -> u32) -> Result<Vec<u8>, u32> {
     let mut buffer = vec![0; 1024];
     let mut len = 0;
@@ -142,7 +143,7 @@ fn given(call: impl Fn(*mut u8, usize, *mut usize) -> u32) -> Result<Vec<u8>, Re
 }
 
 fn text(bytes: Vec<u8>) -> String {
-    String::from_utf8(bytes).expect("JSON that is given is UTF-8")
+    String::from_utf8(bytes).expect("JSON from the library is UTF-8")
 }
 
 fn is_empty(secret: &[u8]) -> bool {
@@ -201,7 +202,7 @@ pub fn thumbprint(key: &str, bits: u32) -> Result<String, Refused> {
     given(|buffer, size, len| unsafe { calls::jwt_thumbprint(key.as_ptr(), key.len(), bits, buffer, size, len) }).map(text)
 }
 
-/// Returns what has to be checked of a token.
+/// Returns the parts of a token that have to be checked.
 pub fn signed_part(token: &str) -> Result<SignedPart<'_>, Refused> {
     let (number, length) = (std::cell::Cell::new(0), std::cell::Cell::new(0));
     let signature = given(|buffer, size, len| unsafe {

@@ -16,7 +16,7 @@ const CLAIMS: &str = r#"{"company":"ACME","exp":2532524891,"sub":"b@b.com"}"#;
 /// The last moment at which the claims are accepted.
 const LAST: u64 = 2532524951;
 
-/// The shortest secret for HS256 (RFC 7518 section 3.2). Yours comes from a file, and is random.
+/// The shortest secret for HS256 (RFC 7518 section 3.2). A real secret comes from a file, and is random.
 const SECRET: &[u8] = b"0123456789abcdef0123456789abcdef";
 
 const SET: &str = r#"{"keys":[{"kty":"oct","kid":"a","k":"AAAB"},{"kty":"oct","kid":"b","k":"MDEyMzQ1Njc4OWFiY2RlZjAxMjM0NTY3ODlhYmNkZWY"}]}"#;
@@ -35,7 +35,7 @@ fn hs256() -> Options {
     Options::new(&["HS256"])
 }
 
-/// What was accepted, or the text of the error.
+/// Returns the accepted claims, or the text of the error.
 fn shown(answer: Result<String, impl Display>) -> String {
     answer.unwrap_or_else(|error| error.to_string())
 }
@@ -44,7 +44,7 @@ fn by_secret(options: &Options, now: u64) -> String {
     shown(jwt::decode(NAMED, SECRET, options, now))
 }
 
-/// What `decode_by_verdict` returns for the token, with this verdict on its own signature.
+/// Returns the result of `decode_by_verdict` for the token, with this verdict on its own signature.
 fn by_verdict(verdict: bool) -> String {
     match jwt::signed_part(NAMED) {
         Ok(part) => shown(jwt::decode_by_verdict(NAMED, &part, verdict, &hs256(), 0)),
@@ -60,7 +60,7 @@ fn issued(header: &str, claims: &str) -> String {
     shown(jwt::encode(header, claims, SECRET))
 }
 
-/// The token of RFC 7515 appendix A.3, whose signature OpenSSL checks, and one with another payload.
+/// Returns rows of the token of RFC 7515 appendix A.3, whose signature OpenSSL checks, and of one with another payload.
 #[cfg(feature = "openssl")]
 fn by_curve() -> Vec<(String, &'static str)> {
     const X: [u8; 32] = [
@@ -97,7 +97,7 @@ fn by_curve() -> Vec<(String, &'static str)> {
     Vec::new()
 }
 
-/// Rows of what was returned and what is wanted.
+/// Returns rows of a result and the wanted one.
 fn tokens() -> Vec<(String, &'static str)> {
     let every = hs256().leeway(0).reject_tokens_expiring_in_less_than(10).validate_exp(true).validate_nbf(true).iss(&["i"]);
     let every = every.validate_aud(true).aud(&["\"\\\u{1f}é"]).sub("b@b.com").understood_crit(&[]).required_spec_claims(&[Claim::Sub]);
@@ -132,7 +132,7 @@ fn tokens() -> Vec<(String, &'static str)> {
     ]
 }
 
-/// Rows of a caller's slips, none of which has a token accepted.
+/// Returns rows of a caller's mistakes, by none of which a token is accepted.
 fn slips() -> Vec<(String, &'static str)> {
     let empty = "the secret is empty or has zeros alone";
     let required = |name: &str| -> Result<String, Error> {

@@ -18,12 +18,12 @@ extern "C" {
     ) -> c_int;
 }
 
-// What stands before a point in the DER form of a public key on P-256 (RFC 5480 section 2).
+// The bytes before a point in the DER form of a public key on P-256 (RFC 5480 section 2).
 const BEFORE_POINT: [u8; 26] = [
     0x30, 0x59, 0x30, 0x13, 6, 7, 0x2a, 0x86, 0x48, 0xce, 0x3d, 2, 1, 6, 8, 0x2a, 0x86, 0x48, 0xce, 0x3d, 3, 1, 7, 3, 0x42, 0,
 ];
 
-// An unsigned number as DER has it.
+// Returns an unsigned number in DER.
 fn der_number(bytes: &[u8]) -> Vec<u8> {
     let start = bytes.iter().position(|byte| *byte != 0).unwrap_or(bytes.len());
     let mut number = bytes[start..].to_vec();
@@ -33,7 +33,7 @@ fn der_number(bytes: &[u8]) -> Vec<u8> {
     [vec![2, number.len() as u8], number].concat()
 }
 
-/// Whether the signature, two numbers of 32 bytes (RFC 7518 section 3.4), is that of the message by the key of this point.
+/// Returns whether the signature, two numbers of 32 bytes (RFC 7518 section 3.4), is that of the message by the key of this point.
 pub fn accepts(x: &[u8; 32], y: &[u8; 32], message: &[u8], signature: &[u8]) -> bool {
     if signature.len() != 64 {
         return false;

@@ -32,7 +32,8 @@ pub(crate) fn check_crit(header: &Header, validation: &Validation) -> Result<()>
     }
 }
 
-// The names that are understood are the receiver's own, so a repeat is found within as many of them.
+// Repeats are tested last, among understood names: one is found after as many names as the receiver
+// understands.
 fn is_understood_list(names: &[Text], extras: &Extras, understood: &HashSet<String>) -> bool
     ensures { IsTrue result ↔ IsUnderstoodList names.now extras.now (contains_text understood.now) }
 {

@@ -1,4 +1,5 @@
-//! Reading tokens by the key that their header names in a set (RFC 7515 section 4.1.4, RFC 7517 section 5).
+//! Reading tokens by the key that their header names in a set (RFC 7515 section 4.1.4, RFC 7517
+//! section 5).
 
 ghost use Rattle.std.specs.Prelude.{◌≡◌, ℕ, List, Some, None, IfOk, IfErr};
 ghost use Rattle.jwt_base.specs.Kind as kind;
@@ -21,7 +22,8 @@ use jwt_keys::provider::CryptoProvider;
 use jwt_validation::Validation;
 use std::alloc::Global;
 
-/// The first key of the set with the header's `kid`. Where the header has none, or no key has it: `NoKey`.
+/// Returns the first key of the set with the header's `kid`. If the header has none, or no key has
+/// it, the refusal is `NoKey`.
 fn find_key<'k>(set: &'k JwkSet, header: &Header) -> Result<&'k Jwk>
     ensures ok { IfOk result (λ k. named_key set.now.keys.items header.now ≡ Some k.now) }
     ensures err { IfErr result (λ e. (kind_of e ≡ kind.NoKey) × (named_key set.now.keys.items header.now ≡ None)) }
@@ -44,7 +46,7 @@ fn check_key_algorithm(jwk: &Jwk, algorithm: Algorithm) -> Result<()>
     }
 }
 
-/// The key that the header names.
+/// Returns the key that the header names.
 fn key_in_set(alloc: Global, set: &JwkSet, header: &Header) -> Result<DecodingKey>
     ensures { Step (looking_in set.now.keys.items) key_tests (with_header header.now) (λ x k. x.jwk_key ≡ k) result }
 {
@@ -74,16 +76,18 @@ fn decode_with_set_by_steps<P: CryptoProvider, T: Claims>(
     Ok(TokenData { header, claims })
 }
 
-/// What a token in its compact form carries, verified at the moment `now`, in whole seconds since 1970-01-01 00:00:00
-/// UTC, with the key of the set that the header names.
+/// Verifies a token in its compact form with the key of the set that its header names, at the
+/// moment `now`, in whole seconds since 1970-01-01 00:00:00 UTC, and returns its header and its
+/// claims.
 ///
-/// The tests are those of [`decode`](crate::decode). After the header and its `crit`, and before the algorithms, three
-/// more are made of the key, and the answer to a token that fails one is its kind:
+/// The tests are those of [`decode`](crate::decode), in the same order, and three more of the key,
+/// which stand after that of `crit` and before those of the algorithms:
 ///
-/// - the header has a `kid`, and a key of the set has it too, else `NoKey`; of several keys with that `kid` the first
-///   is taken, and no other is looked at;
+/// - the header has a `kid`, and a key of the set has it too, else `NoKey`; of several keys with
+///   that `kid` the first alone counts;
 /// - that key has no `alg`, or the header's (RFC 7517 section 4.4), else `InvalidAlgorithm`;
-/// - [`DecodingKey::from_jwk`](jwt_keys::decoding_key::DecodingKey::from_jwk) gives a key of it, else its kind.
+/// - [`DecodingKey::from_jwk`](jwt_keys::decoding_key::DecodingKey::from_jwk) makes a key of it,
+///   else its kind.
 pub fn decode_with_set<P: CryptoProvider, T: Claims>(
     alloc: Global,
     provider: &P,
@@ -111,25 +115,28 @@ pub fn decode_with_set<P: CryptoProvider, T: Claims>(
         validation.now now)
         set_order }
 
-    // It accepts at just the moments from the first to the last.
+    // It accepts exactly at the moments from the first to the last.
     ensures moments { HasMoments
         (decoding_by_set P.CryptoProvider T.Claims provider.now token.now set.now.keys.items
         validation.now now)
         set_order }
 
-    // What it accepts is accepted under every looser validation, with the same header and claims.
+    // A token that it accepts is accepted under every looser validation, with the same header and
+    // claims.
     ensures looser { KeepsLooser
         (decoding_by_set P.CryptoProvider T.Claims provider.now token.now set.now.keys.items
         validation.now now)
         set_order }
 
-    // What it accepts is accepted with more keys after those of the set, with the same header and claims.
+    // A token that it accepts is accepted with more keys after those of the set, with the same
+    // header and claims.
     ensures more_keys { KeepsWithMore
         (decoding_by_set P.CryptoProvider T.Claims provider.now token.now set.now.keys.items
         validation.now now)
         set_order set.now.keys.items }
 
-    // Where the provider accepts one signature of a message, the header's and the payload's bytes fix the token.
+    // If the provider accepts at most one signature of each message, the header's and the payload's
+    // bytes fix the token.
     ensures one_text { FixesToken
         (decoding_by_set P.CryptoProvider T.Claims provider.now token.now set.now.keys.items
         validation.now now)

@@ -3,7 +3,7 @@
 ghost use Rattle.std.specs.Prelude.{◌≡◌, ◌++◌, ◌∷◌};
 ghost use Rattle.jsonwebtoken.specs.Tests.{dot};
 
-/// The three parts of a token, and what is signed of it.
+/// The three parts of a token, and the message that is signed.
 #[derive(Drop)]
 pub(crate) struct TokenParts<'a> {
     pub(crate) message: &'a [u8],

@@ -1,4 +1,4 @@
-//! The tests that ask for one condition, and the steps that the calls which read tokens share.
+//! The tests of one condition, and the steps that the calls that read tokens share.
 
 ghost use Rattle.std.specs.Prelude.{◌≡◌, ◌↔◌, ◌++◌, ◌∷◌, ℕ, List, IfOk, IfErr, IfSome, IfNone, Contains, [], All};
 ghost use Rattle.jwt_base.specs.Algorithm.{family_of};
@@ -59,7 +59,7 @@ pub(crate) fn check_families(validation: &Validation, algorithm: Algorithm) -> R
     }
 }
 
-/// Refuses with `InvalidSignature` what the verifier does not accept.
+/// Refuses with `InvalidSignature` a signature that the verifier does not accept.
 pub(crate) fn check_verdict<V: JwtVerifier>(
     alloc: Global,
     verifier: &V,
@@ -75,7 +75,7 @@ pub(crate) fn check_verdict<V: JwtVerifier>(
     }
 }
 
-/// What stands before the last dot, and what stands after it.
+/// Returns the bytes before the last dot, and those after it.
 fn last_dot(text: &[u8]) -> Option<(&[u8], &[u8])>
     ensures some { IfSome result (λ p. (text.now ≡ p.0.now ++ dot ∷ p.1.now) × (¬ Contains p.1.now dot)) }
     ensures none { IfNone result (¬ Contains text.now dot) }
@@ -84,7 +84,7 @@ fn last_dot(text: &[u8]) -> Option<(&[u8], &[u8])>
     Some((&text[..at], &text[at + 1..]))
 }
 
-/// The parts of the token, found from its end.
+/// Returns the parts of the token, found from its end.
 fn find_parts(token: &[u8]) -> Option<TokenParts<'_>>
     ensures some { IfSome result (λ p. ArePartsOf token.now (parts_in p)) }
     ensures none { IfNone result ((p : Parts) → ¬ ArePartsOf token.now p) }
@@ -99,7 +99,7 @@ fn find_parts(token: &[u8]) -> Option<TokenParts<'_>>
     })
 }
 
-/// The parts of the token. A text with fewer than two dots is refused with `InvalidToken`.
+/// Returns the parts of the token. A token with fewer than two dots is refused with `InvalidToken`.
 pub(crate) fn token_parts(token: &[u8]) -> Result<TokenParts<'_>>
     ensures ok { IfOk result (λ p. ArePartsOf token.now (parts_in p)) }
     ensures err { IfErr result (λ e. (kind_of e ≡ kind.InvalidToken) × ((p : Parts) → ¬ ArePartsOf token.now p)) }
@@ -107,7 +107,7 @@ pub(crate) fn token_parts(token: &[u8]) -> Result<TokenParts<'_>>
     find_parts(token).ok_or(new_error(ErrorKind::InvalidToken))
 }
 
-/// The header that a header part stands for. The usual ones are known without being read.
+/// Returns the header that a header part stands for. The usual parts are known without being read.
 pub(crate) fn read_header(alloc: Global, part: &[u8]) -> Result<Header>
     ensures { Step bare header_tests (with_header_part part.now) (λ x h. x.header ≡ h) result }
 {
@@ -119,7 +119,7 @@ pub(crate) fn read_header(alloc: Global, part: &[u8]) -> Result<Header>
     Header::from_value(alloc, &value)
 }
 
-/// The header of a token that is to be verified: its `crit` is understood.
+/// Returns the header of a token that is to be verified: its `crit` is understood.
 pub(crate) fn opened(
     alloc: Global,
     parts: &TokenParts<'_>,
@@ -135,7 +135,8 @@ pub(crate) fn opened(
     header
 }
 
-/// The verifier by the key and the header's algorithm, which is among those that are allowed.
+/// Returns the verifier by the key and the header's algorithm, which is among those that are
+/// allowed.
 pub(crate) fn allowed_verifier<P: CryptoProvider>(
     alloc: Global,
     provider: &P,
@@ -169,8 +170,8 @@ fn check_signature<V: JwtVerifier>(
     check_verdict(alloc, verifier, parts.message, bytes.as_slice())
 }
 
-/// The claims that a payload part stands for. Its one JSON value is lent to the rules and then given up to the claims,
-/// whose refusal comes first.
+/// Returns the claims that a payload part stands for. The JSON value is lent to the rules and then
+/// consumed by the claims, whose refusal comes first.
 fn read_claims<T: Claims>(
     alloc: Global,
     part: &[u8],
@@ -188,7 +189,8 @@ fn read_claims<T: Claims>(
     Ok(claims)
 }
 
-/// The claims of a token whose signature the verifier accepts, and whose claims hold at the moment.
+/// Returns the claims of a token whose signature the verifier accepts, and whose claims hold at the
+/// moment.
 pub(crate) fn verified<V: JwtVerifier, T: Claims>(
     alloc: Global,
     verifier: &V,
@@ -204,7 +206,7 @@ pub(crate) fn verified<V: JwtVerifier, T: Claims>(
     read_claims(alloc, parts.payload, validation, now)
 }
 
-/// The claims that a payload part stands for, which no rule is asked of.
+/// Returns the claims that a payload part stands for, to which no rule applies.
 pub(crate) fn read_payload<T: Claims>(alloc: Global, part: &[u8]) -> Result<T>
     ensures { Step (reading T.reads) payload_tests
         (with_payload_part part.now) (λ x c. T.reads x.payload_value c) result }

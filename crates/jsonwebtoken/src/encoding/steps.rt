@@ -1,4 +1,4 @@
-//! The steps that the calls which issue tokens share.
+//! The steps that the calls that issue tokens share.
 
 ghost use Rattle.std.specs.Prelude.{◌≡◌, ◌++◌, ◌∷◌, List, ℕ, Option, Some, None, false, IfOk, IfErr, OnOk, option_map, string_bytes};
 ghost use Rattle.serde_json.specs.Data.{Data};
@@ -36,7 +36,7 @@ pub(crate) fn check_family(key: &EncodingKey, algorithm: Algorithm) -> Result<()
     Err(new_error(ErrorKind::InvalidAlgorithm))
 }
 
-/// The part that stands for the compact text of a value without floats.
+/// Returns the part that stands for the compact text of a value without floats.
 fn value_part(alloc: Global, value: &Value) -> Result<String>
     requires { holds_float (view value.now) ≡ false }
     ensures ok { IfOk result (λ t. IsPartOf (view value.now) (string_bytes t)) }
@@ -46,7 +46,7 @@ fn value_part(alloc: Global, value: &Value) -> Result<String>
     part_text(alloc, text.as_slice())
 }
 
-/// The header part. The usual ones are known without being written.
+/// Returns the header part. The usual headers are known without being written.
 pub(crate) fn header_part(alloc: Global, header: &Header) -> Result<String>
     ensures ok { IfOk result (λ t. (d : Data)
         × ((header_value header.now ≡ Some d) × IsPartOf d (string_bytes t))) }
@@ -61,7 +61,8 @@ pub(crate) fn header_part(alloc: Global, header: &Header) -> Result<String>
     Ok(part)
 }
 
-/// The part of the claims. Claims that cannot be written and those with a float in them are refused with `Json`.
+/// Returns the part of the claims. Claims that cannot be written and those with a float in them are
+/// refused with `Json`.
 pub(crate) fn claims_part<T: Claims>(alloc: Global, claims: &T) -> Result<String>
     ensures ok { IfOk result (λ t. (d : Data)
         × ((T.written claims.now ≡ Some d) × IsPartOf d (string_bytes t))) }
@@ -73,7 +74,7 @@ pub(crate) fn claims_part<T: Claims>(alloc: Global, claims: &T) -> Result<String
     Ok(part)
 }
 
-/// The part of the claims, which is empty where there are none.
+/// Returns the part of the claims, which is empty if there are none.
 pub(crate) fn payload_part<T: Claims>(alloc: Global, claims: Option<&T>) -> Result<String>
     ensures ok { IfOk result (λ t. (v : Option Data)
         × (AreWritten (payload_of (option_map (λ c. T.written c.now) claims.entry)) v × IsPayloadOf v (string_bytes t))) }
@@ -86,7 +87,7 @@ pub(crate) fn payload_part<T: Claims>(alloc: Global, claims: Option<&T>) -> Resu
     }
 }
 
-/// The text, a dot, and the part.
+/// Returns the string, a dot, and the part.
 pub(crate) fn with_part(mut text: String, part: &str) -> Result<String>
     ensures ok { IfOk result (λ t. string_bytes t ≡ string_bytes text ++ dot ∷ part.now) }
     ensures err { IfErr result IsMemory }
@@ -96,7 +97,7 @@ pub(crate) fn with_part(mut text: String, part: &str) -> Result<String>
     Ok(text)
 }
 
-/// The part of a signature of the message.
+/// Returns the part of a signature of the message.
 fn signature_part<S: JwtSigner>(alloc: Global, signer: &S, message: &[u8]) -> Result<String>
     ensures signed { IfOk result (λ t. (b : List ℕ) × (IsPart (string_bytes t) b × S.signs signer.now message.now b)) }
     ensures ok { OnOk result (S.sign_refusal signer.now message.now ≡ None) }
@@ -107,14 +108,14 @@ fn signature_part<S: JwtSigner>(alloc: Global, signer: &S, message: &[u8]) -> Re
     Ok(part)
 }
 
-/// What is signed of a token, and the part of its signature.
+/// The message of a token that is signed, and the part of its signature.
 #[derive(Drop)]
 pub(crate) struct SignedMessage {
     pub(crate) message: String,
     pub(crate) signature: String,
 }
 
-/// The header part, a dot and the payload part, with the part of their signature.
+/// Returns the header part, a dot and the payload part, with the part of their signature.
 pub(crate) fn sign_parts<S: JwtSigner>(
     alloc: Global,
     signer: &S,

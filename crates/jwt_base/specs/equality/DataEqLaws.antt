@@ -1,4 +1,4 @@
--- `data_eq` decides whether two values are the same but for their floats.
+-- `data_eq` decides whether two values are the same except for their floats.
 use Rattle.std.specs.Prelude.{◌≡◌, ◌&&◌, Bool, true, false, refl}
 use Rattle.std.specs.Bool.{Decides}
 use Rattle.std.specs.Cmp.{IsEquivalence, unsigned_Decides, signed_Decides, booleans_Decides}

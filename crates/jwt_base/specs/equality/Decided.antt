@@ -1,4 +1,4 @@
--- Tests that decide a sameness: what they are made of, and that they are equivalences.
+-- Tests that decide a sameness: how they are composed, and proofs that they are equivalences.
 use Rattle.std.specs.Prelude.{◌≡◌, ◌&&◌, ℕ, List, [], ◌∷◌, Bool, true, false, Option, Some, None, option_map, map, refl}
 use Rattle.std.specs.Bool.{Decides, one_answer}
 use Rattle.std.specs.Cmp.{IsEquivalence}
@@ -40,7 +40,7 @@ and_decides false t p q = (λ e. absurd (true≢false (sym e)), λ h. p.1 h.0)
 pub same_as : {P Q : Type 0} (s : Bool) → Decides s P → (P → Q) → (Q → P) → Decides s Q
 same_as s d f g = (λ e. f (d.0 e), λ q. d.1 (g q))
 
--- what is fed of the marked value alone is fed alike
+-- values with the same mark feed the same bytes, if these depend on the mark alone
 module _ {K J : Type 0} (test : K → K → Bool) (f : K → J) (decides : (x y : K) → Decides (test x y) (f x ≡ f y)) where
   pub fed_by_mark : (F : K → HashWrites) (G : J → HashWrites) → ((x : K) → F x ≡ G (f x)) → Alike test F
   fed_by_mark F G same = record { fed = λ x y e. same x ∙ ap G ((decides x y).0 e) ∙ sym (same y) }

@@ -1,4 +1,4 @@
--- Sameness of errors: the same kind, and the same text.
+-- The sameness of errors: the same kind, and the same string.
 use Rattle.std.specs.Prelude.{◌≡◌, ◌&&◌, ◌==◌, ℕ, List, [], ◌∷◌, Bool, slice_get, unwrap_or, refl}
 use Rattle.std.specs.Bool.{Decides}
 use Rattle.std.specs.Cmp.{IsEquivalence}
@@ -42,7 +42,7 @@ number_of ClockBeforeEpoch = 24
 number_of InvalidCrit = 25
 number_of NoKey = 26
 
--- the text that a kind holds
+-- the string that a kind holds
 abbrev held_text : Kind → List ℕ
 held_text (MissingRequiredClaim text) = text
 held_text (InvalidClaimFormat text) = text

@@ -1,4 +1,4 @@
--- What a hasher is fed of free members: their names.
+-- The bytes that free members feed to a hasher: their names.
 use Rattle.std.specs.Prelude.{◌≡◌, ◌++◌, ◌&&◌, [], Bool, true, false, refl}
 use Rattle.std.specs.Hash.{HashWrites, Alike, str}
 use Rattle.std.specs.Str.{bytes_eq}

@@ -1,4 +1,5 @@
--- Sameness of the values of an enum without fields, which its derived `==` tests, and what its derived `hash` feeds.
+-- The sameness of the values of an enum without fields, which its derived `==` tests, and the bytes
+-- that its derived `hash` feeds.
 use Rattle.std.specs.Prelude.{◌≡◌, pos}
 use denote.Enum.Bare.{Bare, sameb, same_true, true_same}
 use denote.Enum.Declared.{Declared, tag_of}

@@ -16,8 +16,8 @@ use crate::json::equality::has_float;
 use serde_json::Value;
 use std::alloc::Global;
 
-/// Values that are read from JSON and written as JSON, as the claims of a token. What is written is fixed by the value,
-/// and what two readings of one JSON value give is written alike.
+/// Values that are read from JSON and written as JSON, as the claims of a token. The value fixes
+/// how it is written, and two values that are read from one JSON value are written alike.
 pub trait Claims: Sized + Drop {
     /// It is read from this JSON value.
     ghost reads: { Data → Self → Type 0 };
@@ -25,18 +25,18 @@ pub trait Claims: Sized + Drop {
     /// The JSON value that it is written as, if it can be written.
     ghost written: { Self → Option Data };
 
-    /// The JSON value. One that cannot be written is refused with `Json`.
+    /// Returns the JSON value. Claims that cannot be written are refused with `Json`.
     fn to_value(&self, alloc: Global) -> Result<Value>
         ensures ok { IfOk result (λ v. written self.now ≡ Some (view v)) }
         ensures err { IfErr result (RefusesAs kind.Json (written self.now ≡ None)) };
 
-    /// What is read from the JSON value. Where there is nothing to be read, the refusal is `Json`.
+    /// Returns the claims that are read from the JSON value. If none are, the refusal is `Json`.
     fn from_value(alloc: Global, value: &Value) -> Result<Self>
         ensures ok { IfOk result (λ c. reads (view value.now) c) }
         ensures err { IfErr result (RefusesAs kind.Json ((c : Self) → ¬ reads (view value.now) c)) };
 
-    /// What is read from a JSON value that is given up, and need not be copied. Where there is nothing to be read, the
-    /// refusal is `Json`.
+    /// Returns the claims that are read from a JSON value, which is consumed and need not be
+    /// copied. If none are, the refusal is `Json`.
     fn from_owned(alloc: Global, value: Value) -> Result<Self>
         ensures ok { IfOk result (λ c. reads (view value) c) }
         ensures err { IfErr result (RefusesAs kind.Json ((c : Self) → ¬ reads (view value) c)) }
@@ -44,7 +44,8 @@ pub trait Claims: Sized + Drop {
         Self::from_value(alloc, &value)
     }
 
-    /// The compact JSON text. Claims that cannot be written and those with a float in them are refused with `Json`.
+    /// Returns the compact JSON text. Claims that cannot be written and those with a float in them
+    /// are refused with `Json`.
     fn to_text(&self, alloc: Global) -> Result<Vec<u8>>
         ensures ok { IfOk result (λ t. (d : Data) × ((written self.now ≡ Some d) × IsCompact d t.items)) }
         ensures err { IfErr result (RefusesAs kind.Json ((d : Data) → written self.now ≡ Some d → holds_float d ≡ true)) }
@@ -53,11 +54,11 @@ pub trait Claims: Sized + Drop {
         value_text(alloc, &value)
     }
 
-    /// What is read from one value is written alike.
+    /// Claims that are read from one value are written alike.
     ghost decided: { (d : Data) (b c : Self) → reads d b → reads d c → written b ≡ written c };
 }
 
-/// The value's compact JSON text. A value with a float in it is refused with `Json`.
+/// Returns the value's compact JSON text. A value with a float in it is refused with `Json`.
 pub fn value_text(alloc: Global, value: &Value) -> Result<Vec<u8>>
     ensures ok { IfOk result (λ t. IsCompact (view value.now) t.items) }
     ensures err { IfErr result (RefusesAs kind.Json (holds_float (view value.now) ≡ true)) }
@@ -68,7 +69,7 @@ pub fn value_text(alloc: Global, value: &Value) -> Result<Vec<u8>>
     Ok(value.to_vec(alloc)?)
 }
 
-/// A copy, or the value itself where it is given up.
+/// Is read as a copy, or as the value itself if it is consumed.
 impl Claims for Value {
     ghost reads = { λ d v. view v ≡ d };
 
@@ -93,7 +94,7 @@ impl Claims for Value {
     ghost decided = { λ d b c p q. ap Some (p ∙ sym q) };
 }
 
-/// A text.
+/// Is read from a JSON string.
 impl Claims for String {
     ghost reads = { λ d s. IsText d (string_bytes s) };
 
@@ -117,7 +118,7 @@ impl Claims for String {
     ghost decided = { λ d b c p q. ap (option_map string) (sym p ∙ q) };
 }
 
-/// A truth value.
+/// Is read from a JSON truth value.
 impl Claims for bool {
     ghost reads = { IsTruth };
 
@@ -141,7 +142,7 @@ impl Claims for bool {
     ghost decided = { λ d b c p q. ap (option_map boolean) (sym p ∙ q) };
 }
 
-/// A whole number in the type's range.
+/// Is read from a whole number in the type's range.
 impl Claims for u32 {
     ghost reads = { IsUnsigned 32 };
 
@@ -165,7 +166,7 @@ impl Claims for u32 {
     ghost decided = { λ d m n p q. ap (option_map (λ z. number (of_integer z))) (sym p.1 ∙ q.1) };
 }
 
-/// A whole number in the type's range.
+/// Is read from a whole number in the type's range.
 impl Claims for u64 {
     ghost reads = { IsUnsigned 64 };
 
@@ -189,7 +190,7 @@ impl Claims for u64 {
     ghost decided = { λ d m n p q. ap (option_map (λ z. number (of_integer z))) (sym p.1 ∙ q.1) };
 }
 
-/// A whole number in the type's range.
+/// Is read from a whole number in the type's range.
 impl Claims for i32 {
     ghost reads = { IsSigned w32 };
 
@@ -213,7 +214,7 @@ impl Claims for i32 {
     ghost decided = { λ d y z p q. ap (option_map (λ x. number (of_integer x))) (sym p.1 ∙ q.1) };
 }
 
-/// A whole number in the type's range.
+/// Is read from a whole number in the type's range.
 impl Claims for i64 {
     ghost reads = { IsSigned w64 };
 

@@ -1,4 +1,4 @@
-//! Sameness of JSON values, in which any two floats count as equal.
+//! The equality of JSON values, in which any two floats count as equal.
 
 ghost use Rattle.std.specs.Prelude.{◌≡◌, ◌↔◌, IsTrue, fold};
 ghost use Rattle.serde_json.specs.View.{view, number_view, items_view, members_view};
@@ -9,7 +9,8 @@ ghost use Rattle.jwt_base.specs.equality.NamesFed.{names_fed};
 use serde_json::{Map, Number, Value};
 use std::hash::{Hash, Hasher};
 
-/// Whether a float stands anywhere in the value: a number that is neither a `u64` nor an `i64`.
+/// Returns whether a float stands anywhere in the value: a number that is neither a `u64` nor an
+/// `i64`.
 #[cycle(floats)]
 pub fn has_float(value: &Value) -> bool
     ensures { result ≡ holds_float (view value.now) }
@@ -34,7 +35,7 @@ fn any_item_has_float(items: &[Value]) -> bool
     false
 }
 
-/// Whether a float stands anywhere in the members.
+/// Returns whether a float stands anywhere in the members.
 #[cycle(floats)]
 pub fn any_member_has_float(members: &Map<String, Value>) -> bool
     ensures { result ≡ members_have_float (members_view members.now.entries) }
@@ -47,7 +48,8 @@ pub fn any_member_has_float(members: &Map<String, Value>) -> bool
     false
 }
 
-/// Whether two values are the same. Any two floats count as equal, since what a float is worth is not known here.
+/// Returns whether two values are the same. Any two floats count as equal, since contracts do not
+/// know the value of a float.
 pub fn value_eq(a: &Value, b: &Value) -> bool
     ensures test { result ≡ data_eq (view a.now) (view b.now) }
     ensures same { IsTrue result ↔ (marked (view a.now) ≡ marked (view b.now)) }
@@ -55,7 +57,8 @@ pub fn value_eq(a: &Value, b: &Value) -> bool
     same_values(a, b)
 }
 
-/// Whether two objects have the same names with the same values, where any two floats count as equal.
+/// Returns whether two objects have the same names with the same values. Any two floats count as
+/// equal.
 pub fn members_are_equal(a: &Map<String, Value>, b: &Map<String, Value>) -> bool
     ensures test { result ≡ members_eq (members_view a.now.entries) (members_view b.now.entries) }
     ensures same { IsTrue result

@@ -17,8 +17,8 @@ use crate::text::{Text, Texts};
 use serde_json::{Map, Value};
 use std::alloc::Global;
 
-/// The text at an optional member: none where the member is absent or null. A member of another type is refused with
-/// `Json`.
+/// Returns the string at an optional member: `None` if the member is absent or null. A member of
+/// another type is refused with `Json`.
 pub fn optional_text(alloc: Global, value: &Value, name: &str) -> Result<Option<Text>>
     ensures ok { IfOk result (λ t. optional as_str (get name.now (view value.now)) ≡ Some t) }
     ensures err { IfErr result
@@ -34,8 +34,8 @@ pub fn optional_text(alloc: Global, value: &Value, name: &str) -> Result<Option<
     }
 }
 
-/// The list of texts at an optional member: none where the member is absent or null. Anything else is refused with
-/// `Json`.
+/// Returns the list of strings at an optional member: `None` if the member is absent or null.
+/// Anything else is refused with `Json`.
 pub fn optional_texts(alloc: Global, value: &Value, name: &str) -> Result<Option<Texts>>
     ensures ok { IfOk result (λ t. optional texts (get name.now (view value.now)) ≡ Some t) }
     ensures err { IfErr result
@@ -48,7 +48,7 @@ pub fn optional_texts(alloc: Global, value: &Value, name: &str) -> Result<Option
     }
 }
 
-/// A list of texts. Any other value is refused with `Json`.
+/// Returns the list of strings that the value is. Any other value is refused with `Json`.
 pub fn read_texts(alloc: Global, value: &Value) -> Result<Texts>
     ensures ok { IfOk result (λ t. texts (view value.now) ≡ Some t) }
     ensures err { IfErr result (RefusesAs kind.Json (texts (view value.now) ≡ None)) }
@@ -66,7 +66,7 @@ pub fn read_texts(alloc: Global, value: &Value) -> Result<Texts>
     Ok(Texts::from(texts))
 }
 
-/// The texts as a JSON list. The only refusal is `OutOfMemory`.
+/// Returns the strings as a JSON list. The only refusal is `OutOfMemory`.
 pub fn write_texts(alloc: Global, texts: &Texts) -> Result<Value>
     ensures ok { IfOk result (λ v. view v ≡ texts_value texts.now) }
     ensures err { IfErr result IsMemory }
@@ -78,7 +78,7 @@ pub fn write_texts(alloc: Global, texts: &Texts) -> Result<Value>
     Ok(Value::Array(items))
 }
 
-/// Puts the text at the name. The only refusal is `OutOfMemory`.
+/// Puts the string at the name. The only refusal is `OutOfMemory`.
 pub fn put_text(
     alloc: Global,
     members: &mut Map<String, Value>,
@@ -95,7 +95,7 @@ pub fn put_text(
     Ok(())
 }
 
-/// Puts the text at the name, where there is one. The only refusal is `OutOfMemory`.
+/// Puts the string at the name, if there is one. The only refusal is `OutOfMemory`.
 pub fn put_optional_text(
     alloc: Global,
     members: &mut Map<String, Value>,
@@ -113,7 +113,7 @@ pub fn put_optional_text(
     }
 }
 
-/// Puts the list at the name, where there is one. The only refusal is `OutOfMemory`.
+/// Puts the list at the name, if there is one. The only refusal is `OutOfMemory`.
 pub fn put_optional_texts(
     alloc: Global,
     members: &mut Map<String, Value>,
@@ -135,7 +135,7 @@ pub fn put_optional_texts(
     }
 }
 
-/// A copy of the members. The only refusal is `OutOfMemory`.
+/// Returns a copy of the members. The only refusal is `OutOfMemory`.
 pub fn clone_members(members: &Map<String, Value>) -> Result<Map<String, Value>>
     ensures ok { IfOk result (λ m. members_view m.entries ≡ members_view members.now.entries) }
     ensures err { IfErr result IsMemory }
@@ -144,7 +144,8 @@ pub fn clone_members(members: &Map<String, Value>) -> Result<Map<String, Value>>
     Ok(copy)
 }
 
-/// A copy of the members but for those of these names. A float in the copy is refused with `Json`.
+/// Returns a copy of the members without those of these names. A float in the copy is
+/// refused with `Json`.
 pub fn members_without(
     alloc: Global,
     names: &[&str],
@@ -170,7 +171,7 @@ pub fn members_without(
     Ok(kept)
 }
 
-/// Whether one of the members has one of these names.
+/// Returns whether one of the members has one of these names.
 pub fn any_is_named(names: &[&str], members: &Map<String, Value>) -> bool
     ensures { result ≡ has_named (map (λ s. s.now) names.now) (members_view members.now.entries) }
 {
@@ -182,7 +183,7 @@ pub fn any_is_named(names: &[&str], members: &Map<String, Value>) -> bool
     false
 }
 
-/// Whether the name is one of these.
+/// Returns whether the name is one of these.
 pub fn is_one_of(name: &str, names: &[&str]) -> bool
     ensures { result ≡ is_named (map (λ s. s.now) names.now) name.now }
 {

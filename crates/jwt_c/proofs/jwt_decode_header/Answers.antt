@@ -1,5 +1,5 @@
-use Rattle.jwt_c.proofs.Answered.{answered}
-use Rattle.jwt_c.specs.Calls.{AnswersHeader}
+use Rattle.jwt_c_calls.proofs.Answered.{answered}
+use Rattle.jwt_c_calls.specs.Calls.{AnswersHeader}
 use Rattle.jwt_c.proofs.jwt_decode_header.Goals as goal
 
 pub returns : goal.returns

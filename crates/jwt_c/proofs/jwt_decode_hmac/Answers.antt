@@ -1,5 +1,5 @@
-use Rattle.jwt_c.proofs.Answered.{answered}
-use Rattle.jwt_c.specs.Calls.{AnswersHmac}
+use Rattle.jwt_c_calls.proofs.Answered.{answered}
+use Rattle.jwt_c_calls.specs.Calls.{AnswersHmac}
 use Rattle.jwt_c.proofs.jwt_decode_hmac.Goals as goal
 
 pub returns : goal.returns

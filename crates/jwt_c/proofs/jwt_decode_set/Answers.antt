@@ -1,5 +1,5 @@
-use Rattle.jwt_c.proofs.Answered.{answered}
-use Rattle.jwt_c.specs.Calls.{AnswersSet}
+use Rattle.jwt_c_calls.proofs.Answered.{answered}
+use Rattle.jwt_c_calls.specs.Calls.{AnswersSet}
 use Rattle.jwt_c.proofs.jwt_decode_set.Goals as goal
 
 pub returns : goal.returns

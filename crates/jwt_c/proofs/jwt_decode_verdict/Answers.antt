@@ -1,6 +1,6 @@
-use Rattle.jwt_c.proofs.Answered.{answered}
-use Rattle.jwt_c.specs.Calls.{AnswersSaid}
-use Rattle.jwt_c.specs.Status.{algorithm_numbered}
+use Rattle.jwt_c_calls.proofs.Answered.{answered}
+use Rattle.jwt_c_calls.specs.Calls.{AnswersSaid}
+use Rattle.jwt_c_calls.specs.Status.{algorithm_numbered}
 use Rattle.jwt_c.proofs.jwt_decode_verdict.Goals as goal
 
 pub returns : goal.returns

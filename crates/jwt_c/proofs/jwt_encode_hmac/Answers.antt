@@ -1,5 +1,5 @@
-use Rattle.jwt_c.proofs.Answered.{answered}
-use Rattle.jwt_c.specs.Issued.{AnswersEncode}
+use Rattle.jwt_c_calls.proofs.Answered.{answered}
+use Rattle.jwt_c_calls.specs.Issued.{AnswersEncode}
 use Rattle.jwt_c.proofs.jwt_encode_hmac.Goals as goal
 
 pub returns : goal.returns

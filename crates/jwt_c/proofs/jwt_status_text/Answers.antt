@@ -1,4 +1,4 @@
-use Rattle.jwt_c.proofs.Statuses.{kind_texts}
+use Rattle.jwt_c_calls.proofs.Statuses.{kind_texts}
 use Rattle.jwt_c.proofs.jwt_status_text.Goals as goal
 
 pub returns-in-Some-clause-kinds : goal.returns-in-Some-clause-kinds

@@ -1,5 +1,5 @@
-use Rattle.jwt_c.proofs.Answered.{answered}
-use Rattle.jwt_c.specs.Issued.{AnswersThumbprint, hash_numbered}
+use Rattle.jwt_c_calls.proofs.Answered.{answered}
+use Rattle.jwt_c_calls.specs.Issued.{AnswersThumbprint, hash_numbered}
 use Rattle.jwt_c.proofs.jwt_thumbprint.Goals as goal
 
 pub returns : goal.returns

@@ -1,4 +1,5 @@
--- Sameness of headers, where any two floats count as equal, and what a hasher is fed of one.
+-- The sameness of headers, with any two floats counted as equal, and the bytes that a header feeds
+-- to a hasher.
 use Rattle.std.specs.Prelude.{◌≡◌, ◌&&◌, ◌++◌, Bool, pos, Option, Some, None, option_map, refl}
 use denote.Enum.Bare.{sameb}
 use Rattle.std.specs.Bool.{Decides}

@@ -1,4 +1,5 @@
--- Sameness of keys and of sets, where any two floats count as equal, and what a hasher is fed of them.
+-- The sameness of keys and of sets, with any two floats counted as equal, and the bytes that they
+-- feed to a hasher.
 use Rattle.std.specs.Prelude.{◌≡◌, ◌&&◌, ◌++◌, Bool}
 use Rattle.std.specs.Bool.{Decides}
 use Rattle.std.specs.Cmp.{IsEquivalence}

@@ -1,4 +1,4 @@
--- What a hasher is fed of a key's kind: of free members their names alone.
+-- The bytes that a key's kind feeds to a hasher: of free members their names alone.
 use Rattle.std.specs.Prelude.{◌≡◌, ◌++◌, refl}
 use Rattle.std.specs.Hash.{HashWrites, Alike, str}
 use Rattle.jwt_base.specs.equality.Decided.{fed_by_mark}

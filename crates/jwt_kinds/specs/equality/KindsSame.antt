@@ -1,4 +1,4 @@
--- Sameness of the kinds of keys, where any two floats count as equal.
+-- The sameness of the kinds of keys, with any two floats counted as equal.
 use Rattle.std.specs.Prelude.{◌≡◌, ◌&&◌, Bool, false, refl}
 use denote.Enum.Bare.{sameb}
 use Rattle.std.specs.Bool.{Decides}

@@ -1,4 +1,5 @@
--- Sameness of what keys of every kind may have, and what a hasher is fed of it.
+-- The sameness of the parameters that keys of every kind may have, and the bytes that they feed to
+-- a hasher.
 use Rattle.std.specs.Prelude.{◌≡◌, ◌&&◌, ◌++◌, Bool, refl}
 use denote.Enum.Bare.{sameb}
 use Rattle.std.specs.Bool.{Decides}

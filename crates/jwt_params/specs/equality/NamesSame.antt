@@ -1,4 +1,5 @@
--- Sameness of the values that are known by their names, and what a hasher is fed of them.
+-- The sameness of the values that are known by their names, and the bytes that they feed to a
+-- hasher.
 use Rattle.std.specs.Prelude.{◌≡◌, List, Bool, refl}
 use Rattle.std.specs.Bool.{Decides}
 use Rattle.std.specs.Cmp.{IsEquivalence}

@@ -1,4 +1,4 @@
-//! Answers of calls that return keys to verify with.
+//! Results of calls that return keys to verify with.
 
 use crate::answer::{Answer, accepted, add_bytes, add_text, refused};
 use crate::fault::Fault;
@@ -7,7 +7,7 @@ use jsonwebtoken::{DecodingKey, DecodingKeyKind, errors};
 use serde_json::{Map, Value};
 use std::alloc::Global;
 
-// Adds what a key holds: its bytes, or its two numbers.
+// Adds the content of a key: its bytes, or its two numbers.
 fn add_kind(
     alloc: Global,
     members: &mut Map<String, Value>,
@@ -22,14 +22,14 @@ fn add_kind(
     }
 }
 
-/// Returns the answer of a call that returned what a key holds.
+/// Returns the result of a call that returned the content of a key.
 pub fn kind_answer(alloc: Global, kind: &DecodingKeyKind) -> Answer {
     let mut members = Map::new(alloc);
     add_kind(alloc, &mut members, kind)?;
     accepted(alloc, Value::Object(members))
 }
 
-/// Returns the answer of a call that returned this key.
+/// Returns the result of a call that returned this key.
 pub fn key_answer(alloc: Global, key: &DecodingKey) -> Answer {
     let mut members = Map::new(alloc);
     add_text(alloc, &mut members, "family", family_name(key.family()))?;
@@ -37,7 +37,7 @@ pub fn key_answer(alloc: Global, key: &DecodingKey) -> Answer {
     accepted(alloc, Value::Object(members))
 }
 
-/// Returns the answer of a call that returns a key to verify with.
+/// Returns the result of a call that returns a key to verify with.
 pub fn of_decoding_key(alloc: Global, answer: errors::Result<DecodingKey>) -> Answer {
     match answer {
         Ok(key) => key_answer(alloc, &key),

@@ -35,7 +35,7 @@ fn add_piece(alloc: Global, bytes: &mut Vec<u8>, piece: &Value) -> Result<(), Fa
     }
 }
 
-// The bytes of pieces none of which is base64url text.
+// Returns the bytes of pieces, none of which is base64url text.
 fn plain_bytes(alloc: Global, value: &Value) -> Result<Vec<u8>, Fault> {
     let mut bytes = Vec::new(alloc);
     match value {

@@ -1,6 +1,7 @@
-//! Headers and extras, as a row describes them. A header is the JSON object that reads as it, or an object whose member
-//! `header` is that object, and whose members `enc`, `zip`, `jwk` and `extras` describe what these fields are set to.
-//! Extras are the JSON object that reads as them, or a list of pairs of a name and a value, which are inserted in order.
+//! Headers and extras, as a row describes them. A header is the JSON object that reads as it, or an
+//! object whose member `header` is that object, and whose members `enc`, `zip`, `jwk` and `extras`
+//! describe the values of these fields. Extras are the JSON object that reads as them, or a list of
+//! pairs of a name and a value, which are inserted in order.
 
 use crate::answer::{Answer, pair};
 use crate::fault::Fault;
@@ -78,13 +79,13 @@ fn inserted_extras(alloc: Global, pairs: &[Value]) -> Result<Extras, Fault> {
     Ok(extras)
 }
 
-/// Returns what shows extras: the object of their members.
+/// Returns the value that shows extras: the object of their members.
 pub fn shown_extras(extras: &Extras) -> Answer {
     Ok(Value::Object(extras.inner().clone()?))
 }
 
-/// Returns what shows a header: its JSON value, or for one with a key an object of the key's kind, `jwk`, and the JSON
-/// value.
+/// Returns the value that shows a header: its JSON value, or for one with a key an object of the
+/// key's kind, `jwk`, and the JSON value.
 pub fn shown_header(alloc: Global, header: &Header) -> Answer {
     let value = header.to_value(alloc)?;
     match &header.jwk {

@@ -32,7 +32,7 @@ pub fn free_members_of(value: &Value) -> Result<FreeMembers, Fault> {
     Ok(FreeMembers::from(members_of(value)?))
 }
 
-/// Returns what shows the members of a key of the kind `Other`.
+/// Returns the value that shows the members of a key of the kind `Other`.
 pub fn shown_free_members(fields: &FreeMembers) -> Answer {
     Ok(Value::Object(fields.inner().clone()?))
 }
@@ -102,7 +102,8 @@ pub fn jwk_of(alloc: Global, value: &Value) -> Result<Box<Jwk>, Fault> {
     Ok(Box::new(alloc, key_of(alloc, value)?)?)
 }
 
-/// Returns the set that an object describes: `keys` is the list of what describes its keys.
+/// Returns the set that an object describes: `keys` is the list of the values that describe its
+/// keys.
 pub fn jwk_set_of(alloc: Global, value: &Value) -> Result<JwkSet, Fault> {
     let items = value.get("keys").and_then(Value::as_array);
     let mut set = JwkSet::new(alloc);
@@ -112,7 +113,7 @@ pub fn jwk_set_of(alloc: Global, value: &Value) -> Result<JwkSet, Fault> {
     Ok(set)
 }
 
-// The name of a kind.
+// Returns the name of a kind.
 fn kind_name(algorithm: &AlgorithmParameters) -> &'static str {
     match algorithm {
         AlgorithmParameters::EllipticCurve(_) => "EllipticCurve",
@@ -128,21 +129,21 @@ pub fn shown_kind(alloc: Global, algorithm: &AlgorithmParameters) -> Answer {
     Ok(Value::try_from_str(alloc, kind_name(algorithm))?)
 }
 
-/// Returns what shows parameters: an object of their kind and their JSON value.
+/// Returns the value that shows parameters: an object of their kind and their JSON value.
 pub fn shown_parameters(alloc: Global, algorithm: &AlgorithmParameters) -> Answer {
     let value = algorithm.to_value(alloc)?;
     let kind = shown_kind(alloc, algorithm)?;
     pair(alloc, ("kind", kind), ("value", value))
 }
 
-/// Returns what shows a key: an object of its kind and its JSON value.
+/// Returns the value that shows a key: an object of its kind and its JSON value.
 pub fn shown_jwk(alloc: Global, key: &Jwk) -> Answer {
     let value = key.to_value(alloc)?;
     let kind = shown_kind(alloc, &key.algorithm)?;
     pair(alloc, ("kind", kind), ("value", value))
 }
 
-/// Returns what shows a set: the list of what shows its keys.
+/// Returns the value that shows a set: the list of the values that show its keys.
 pub fn shown_jwk_set(alloc: Global, set: &JwkSet) -> Answer {
     let mut items = Vec::new(alloc);
     for key in &set.keys {

@@ -10,7 +10,7 @@ use std::alloc::Global;
 
 const MALFORMED: Fault = Fault::Member("key");
 
-// The name of the constructor, and what it is given.
+// Returns the name of the constructor, and its argument.
 fn constructor(value: &Value) -> Result<(&str, &Value), Fault> {
     let Some(members) = value.as_object() else {
         return Err(MALFORMED);
@@ -23,7 +23,7 @@ fn constructor(value: &Value) -> Result<(&str, &Value), Fault> {
     Err(MALFORMED)
 }
 
-// The string at a place of a list.
+// Returns the string at a place of a list.
 fn text_at(list: &Value, place: usize) -> Result<&str, Fault> {
     let text = list.get(place).and_then(Value::as_str);
     text.ok_or(MALFORMED)

@@ -10,7 +10,7 @@ use std::alloc::Global;
 
 const MALFORMED: Fault = Fault::Member("name");
 
-// The name of a kept value.
+// Returns the name of a kept value.
 fn kept_name(alloc: Global, value: &Value) -> Result<Text, Fault> {
     let name = value.get("other").and_then(Value::as_str);
     Ok(Text::from_str(alloc, name.ok_or(MALFORMED)?)?)
@@ -33,7 +33,7 @@ pub fn use_of(alloc: Global, value: &Value) -> Result<PublicKeyUse, Fault> {
     }
 }
 
-/// Returns what shows a use of public keys.
+/// Returns the value that shows a use of public keys.
 pub fn shown_use(alloc: Global, public_key_use: &PublicKeyUse) -> Answer {
     match public_key_use {
         PublicKeyUse::Signature => shown_name(alloc, "sig"),
@@ -57,7 +57,7 @@ pub fn operation_of(alloc: Global, value: &Value) -> Result<KeyOperations, Fault
     }
 }
 
-/// Returns what shows an operation.
+/// Returns the value that shows an operation.
 pub fn shown_operation(alloc: Global, operation: &KeyOperations) -> Answer {
     match operation {
         KeyOperations::Sign => shown_name(alloc, "sign"),
@@ -89,7 +89,7 @@ pub fn operation_list_of(alloc: Global, value: &Value) -> Result<KeyOperationLis
     Ok(KeyOperationList::from(operations_of(alloc, value)?))
 }
 
-/// Returns what shows operations.
+/// Returns the value that shows operations.
 pub fn shown_operations(alloc: Global, operations: &[KeyOperations]) -> Answer {
     let mut items = Vec::new(alloc);
     for operation in operations {
@@ -98,7 +98,7 @@ pub fn shown_operations(alloc: Global, operations: &[KeyOperations]) -> Answer {
     Ok(Value::Array(items))
 }
 
-/// Returns what shows a list of operations.
+/// Returns the value that shows a list of operations.
 pub fn shown_operation_list(alloc: Global, operations: &KeyOperationList) -> Answer {
     shown_operations(alloc, operations.as_slice())
 }
@@ -114,7 +114,7 @@ pub fn curve_of(value: &Value) -> Result<EllipticCurve, Fault> {
     }
 }
 
-/// Returns what shows a curve.
+/// Returns the value that shows a curve.
 pub fn shown_curve(alloc: Global, curve: &EllipticCurve) -> Answer {
     match curve {
         EllipticCurve::P256 => shown_name(alloc, "P-256"),
@@ -137,7 +137,7 @@ pub fn enc_of(alloc: Global, value: &Value) -> Result<Enc, Fault> {
     }
 }
 
-/// Returns what shows an encryption.
+/// Returns the value that shows an encryption.
 pub fn shown_enc(alloc: Global, enc: &Enc) -> Answer {
     match enc {
         Enc::A128CBC_HS256 => shown_name(alloc, "A128CBC-HS256"),
@@ -158,7 +158,7 @@ pub fn zip_of(alloc: Global, value: &Value) -> Result<Zip, Fault> {
     }
 }
 
-/// Returns what shows a compression.
+/// Returns the value that shows a compression.
 pub fn shown_zip(alloc: Global, zip: &Zip) -> Answer {
     match zip {
         Zip::Deflate => shown_name(alloc, "DEF"),

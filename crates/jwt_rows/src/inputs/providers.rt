@@ -1,7 +1,7 @@
-//! Providers of signatures, as a row describes them at `provider`: `"YesProvider"`, `"NoProvider"`,
-//! `{"prepared": [[ALGORITHM, SECRET], ..]}` for a `PreparedHmac` of these secrets, or
-//! `{"table": [[ALGORITHM, KEY, MESSAGE, SIGNATURE], ..]}` for a `TableProvider` of these rows. A row that describes none
-//! means `HmacProvider`.
+//! Providers of signatures, as a row describes them at `provider`: `"RsaProvider"`, `"YesProvider"`,
+//! `"NoProvider"`, `{"prepared": [[ALGORITHM, SECRET], ..]}` for a `PreparedHmac` of these secrets, or
+//! `{"table": [[ALGORITHM, KEY, MESSAGE, SIGNATURE], ..]}` for a `TableProvider` of these rows. A row
+//! that describes none means `HmacProvider`.
 
 use crate::fault::Fault;
 use crate::inputs::bytes::bytes_of;
@@ -19,6 +19,8 @@ const MALFORMED: Fault = Fault::Member("provider");
 pub enum Provider {
     /// `HmacProvider`.
     Hmac,
+    /// `RsaProvider`.
+    Rsa,
     /// The one that has its secrets prepared.
     Prepared(PreparedHmac),
     /// The one that looks signatures up in a table.
@@ -35,6 +37,7 @@ macro_rules! by_provider {
     ($call:ident, $row:expr, $trial:expr) => {
         match $crate::inputs::providers::provider_of($row)? {
             $crate::inputs::providers::Provider::Hmac => $call($row, $trial, &$crate::HmacProvider),
+            $crate::inputs::providers::Provider::Rsa => $call($row, $trial, &$crate::RsaProvider),
             $crate::inputs::providers::Provider::Prepared(prepared) => $call($row, $trial, &prepared),
             $crate::inputs::providers::Provider::Table(table) => $call($row, $trial, &table),
             $crate::inputs::providers::Provider::Yes => $call($row, $trial, &$crate::YesProvider),
@@ -51,7 +54,7 @@ pub fn algorithm_of(value: &Value) -> Result<Algorithm, Fault> {
     }
 }
 
-// The bytes at a place of a list.
+// Returns the bytes at a place of a list.
 fn bytes_at(alloc: Global, list: &Value, place: usize) -> Result<Vec<u8>, Fault> {
     bytes_of(alloc, list.get(place).ok_or(MALFORMED)?)
 }
@@ -117,6 +120,7 @@ pub fn provider_of(row: Row<'_>) -> Result<Provider, Fault> {
         return Ok(Provider::Table(table(row.alloc(), rows)?));
     }
     match value.as_str() {
+        Some("RsaProvider") => Ok(Provider::Rsa),
         Some("YesProvider") => Ok(Provider::Yes),
         Some("NoProvider") => Ok(Provider::No),
         _ => Err(MALFORMED),

@@ -116,7 +116,7 @@ fn signer_algorithm(row: Row<'_>, trial: &mut Trial) -> Answer {
     by_provider!(signer_algorithm_by, row, trial)
 }
 
-// What a verifier of this algorithm says.
+// Returns the result of a verifier of this algorithm.
 fn verdict(row: Row<'_>, algorithm: &str, says_yes: bool) -> Answer {
     let alloc = row.alloc();
     let mut members = Map::new(alloc);

@@ -1,4 +1,4 @@
-//! What providers read of keys in DER, and their digests.
+//! The results of providers for keys in DER, and their digests.
 
 use jsonwebtoken::crypto::CryptoProvider;
 use jsonwebtoken::crypto::hmac::HmacProvider;

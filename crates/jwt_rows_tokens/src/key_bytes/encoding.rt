@@ -23,6 +23,7 @@ pub fn answer(call: &str, row: Row<'_>, trial: &mut Trial) -> Result<Option<Valu
         "EncodingKey::as_bytes" => Ok(Some(bytes(row, trial)?)),
         "EncodingKey::clone" => Ok(Some(copied(row, trial)?)),
         "EncodingKey::zeroize" => Ok(Some(zeroed(row, trial)?)),
+        "EncodingKey::debug" => Ok(Some(debug_text(row)?)),
         _ => Ok(None),
     }
 }
@@ -129,4 +130,11 @@ fn zeroed(row: Row<'_>, trial: &mut Trial) -> Answer {
     key.zeroize();
     trial.end();
     key_answer(row.alloc(), &key)
+}
+
+fn debug_text(row: Row<'_>) -> Answer {
+    row.takes(&["key"])?;
+    let key = encoding_key(row)?;
+    let text = format!(in row.alloc(); "{:?}", *key)?;
+    accepted(row.alloc(), Value::String(text))
 }

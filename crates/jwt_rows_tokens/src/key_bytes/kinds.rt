@@ -1,4 +1,4 @@
-//! What keys to verify with hold.
+//! The content of keys to verify with.
 
 use jsonwebtoken::{AlgorithmFamily, DecodingKey, DecodingKeyKind, errors};
 use jwt_rows::answer::keys::{key_answer, kind_answer, of_decoding_key};
@@ -20,6 +20,8 @@ pub fn answer(call: &str, row: Row<'_>, trial: &mut Trial) -> Result<Option<Valu
         "DecodingKey::zeroize" => Ok(Some(zeroed(row, trial)?)),
         "DecodingKeyKind::clone" => Ok(Some(copied_kind(row, trial)?)),
         "DecodingKeyKind::zeroize" => Ok(Some(zeroed_kind(row, trial)?)),
+        "DecodingKey::debug" => Ok(Some(debug_text(row)?)),
+        "DecodingKeyKind::debug" => Ok(Some(debug_text_of_kind(row)?)),
         _ => Ok(None),
     }
 }
@@ -101,4 +103,19 @@ fn zeroed_kind(row: Row<'_>, trial: &mut Trial) -> Answer {
     kind.zeroize();
     trial.end();
     kind_answer(row.alloc(), &kind)
+}
+
+fn debug_text(row: Row<'_>) -> Answer {
+    row.takes(&["key"])?;
+    let key = decoding_key(row)?;
+    let text = format!(in row.alloc(); "{:?}", *key)?;
+    accepted(row.alloc(), Value::String(text))
+}
+
+fn debug_text_of_kind(row: Row<'_>) -> Answer {
+    row.takes(&["key"])?;
+    let key = decoding_key(row)?;
+    let kind = key.kind();
+    let text = format!(in row.alloc(); "{kind:?}")?;
+    accepted(row.alloc(), Value::String(text))
 }

@@ -23,7 +23,7 @@ pub fn repeated(alloc: Global, letter: char, count: usize) -> Result<String> {
     Ok(text)
 }
 
-// This many lists, each but the last with the next in it.
+// Returns this many lists, each but the last with the next in it.
 fn lists(alloc: Global, depth: usize) -> Result<String> {
     let opened = repeated(alloc, '[', depth)?;
     let closed = repeated(alloc, ']', depth)?;
@@ -53,7 +53,7 @@ fn token_of(alloc: Global, secret: &str, header: &Header, member: &str) -> Resul
     )?)
 }
 
-/// Returns a token with a text of this size as a claim and as the secret.
+/// Returns a token with a string of this size as a claim and as the secret.
 pub fn with_text(alloc: Global, size: usize) -> Result<Box<Token>> {
     let text = repeated(alloc, 'a', size)?;
     let member = format!(in alloc; "\"{text}\"")?;
@@ -68,7 +68,7 @@ fn set_texts(alloc: Global, header: &mut Header, text: &str) -> Result<()> {
     header.extras.insert(alloc, "own", &own)
 }
 
-/// Returns a token with a text of this size as a key id, and in a custom member of the header.
+/// Returns a token with a string of this size as a key id, and in a custom member of the header.
 pub fn with_header(alloc: Global, size: usize) -> Result<Box<Token>> {
     let text = repeated(alloc, 'a', size)?;
     let mut header = new_header(alloc)?;

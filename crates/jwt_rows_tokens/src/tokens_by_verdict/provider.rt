@@ -46,7 +46,7 @@ macro_rules! by_verdict {
 
 const MALFORMED: Fault = Fault::Member("verdict");
 
-// The bytes that a member of the verdict describes.
+// Returns the bytes that a member of the verdict describes.
 fn bytes_at(alloc: Global, described: &Value, name: &str) -> Result<Vec<u8>, Fault> {
     bytes_of(alloc, described.get(name).ok_or(MALFORMED)?)
 }
@@ -63,7 +63,7 @@ fn own_key(row: Row<'_>, trial: &mut Trial) -> Answer {
     by_verdict!(key_by, row, trial)
 }
 
-// The key at `key`, or the verdict's own if the row has none.
+// Returns the key at `key`, or the verdict's own if the row has none.
 fn key_for(row: Row<'_>, verdict: &VerdictProvider<'_>) -> Result<Box<DecodingKey>, Fault> {
     match row.optional("key") {
         Some(_) => decoding_key(row),
@@ -71,7 +71,7 @@ fn key_for(row: Row<'_>, verdict: &VerdictProvider<'_>) -> Result<Box<DecodingKe
     }
 }
 
-// Nothing, if something was made.
+// Returns nothing, if something was made.
 fn made<T: Drop>(answer: Outcome<T>) -> Outcome<()> {
     let _made = answer?;
     Ok(())

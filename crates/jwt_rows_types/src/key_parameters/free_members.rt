@@ -32,7 +32,7 @@ fn of_fields(row: Row<'_>, answer: errors::Result<FreeMembers>) -> Answer {
     }
 }
 
-// The members that the row describes at `value`.
+// Returns the members that the row describes at `value`.
 fn fields(row: Row<'_>) -> Result<FreeMembers, Fault> {
     row.takes(&["value"])?;
     free_members_of(row.value("value")?)

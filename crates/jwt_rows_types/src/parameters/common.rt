@@ -1,4 +1,4 @@
-//! What keys of every kind may have, and what a public key is for.
+//! The parameters that keys of every kind may have, and the uses of public keys.
 
 use crate::json_types::{JsonType, boxed, call_of, default_of};
 use jsonwebtoken::errors;

@@ -12,6 +12,7 @@ use jwt_rows::row::Row;
 use jwt_rows::trial::Trial;
 use serde_json::Value;
 use std::alloc::Global;
+use std::fmt::Debug;
 use std::hash::Hash;
 
 /// A type whose values have names.
@@ -160,7 +161,7 @@ impl Named for OctetKeyPairType {
     }
 }
 
-// The only value of a type, if it has this name.
+// Returns the only value of a type, if it has this name.
 fn only<T: Drop>(value: &Value, name: &str, key_type: T) -> Result<T, Fault> {
     if value.as_str() == Some(name) {
         Ok(key_type)
@@ -226,7 +227,7 @@ pub fn answer(
     }
 }
 
-fn of_named<T: Named + Hash + Default>(
+fn of_named<T: Named + Hash + Default + Debug>(
     call: &str,
     row: Row<'_>,
     trial: &mut Trial,

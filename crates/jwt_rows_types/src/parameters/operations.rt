@@ -1,4 +1,4 @@
-//! What a key may do.
+//! The operations that a key may be used for.
 
 use crate::json_types::{JsonType, boxed, call_of, of_type};
 use jsonwebtoken::errors;

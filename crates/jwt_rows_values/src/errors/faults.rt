@@ -1,5 +1,5 @@
-//! Errors that faults of other libraries become. A row names the type of the fault, and gives the bytes that are refused
-//! with it.
+//! Errors that faults of other libraries are converted to. A row names the type of the fault, and
+//! gives the bytes that are refused with it.
 
 use jsonwebtoken::errors::Error;
 use jwt_rows::answer::{Answer, of_kind};

@@ -138,7 +138,7 @@ fn texts_hash_alike(row: Row<'_>, trial: &mut Trial) -> Answer {
     hash_alike(row, trial, &left, &right)
 }
 
-// Whether both values leave a hasher with the same number.
+// Returns whether both values leave a hasher with the same number.
 fn hash_alike<T: Hash>(row: Row<'_>, trial: &mut Trial, left: &T, right: &T) -> Answer {
     let mut one = DefaultHasher::new();
     let mut other = DefaultHasher::new();

@@ -1,5 +1,5 @@
-//! What a validation holds, as the JSON object that `Validation::from_value` reads: a set as the sorted list of its
-//! members, and null for what is not configured.
+//! The content of a validation, as the JSON object that `Validation::from_value` reads: a set as
+//! the sorted list of its members, and null for a field that is not configured.
 
 use crate::algorithms::families::names_of;
 use jsonwebtoken::Validation;
@@ -93,7 +93,7 @@ fn put_names(
     Ok(())
 }
 
-/// Returns what a validation holds.
+/// Returns the content of a validation.
 pub fn members_of(alloc: Global, options: &Validation) -> Answer {
     let mut members = Map::new(alloc);
     put_flags(alloc, options, &mut members)?;

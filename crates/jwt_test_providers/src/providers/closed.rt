@@ -1,4 +1,4 @@
-//! What no provider makes, and the refusal that says so.
+//! A signer and a verifier that no provider makes, and the refusal of a provider that makes none.
 
 ghost use Rattle.std.specs.Prelude.{◌≡◌, ℕ, List, Option, Some, codes};
 ghost use Rattle.jwt_base.specs.Kind as kind;
@@ -9,7 +9,7 @@ use jwt_base::errors::{Error, ErrorKind, Result, new_error};
 use jwt_keys::provider::{JwtSigner, JwtVerifier};
 use std::alloc::Global;
 
-// The refusal `Provider("closed")`, or `OutOfMemory`.
+// Returns the error `Provider("closed")`, or `OutOfMemory`.
 pub(super) fn closed(alloc: Global) -> Error
     ensures { Refuses (Some (kind.Provider (codes "closed"))) result }
 {

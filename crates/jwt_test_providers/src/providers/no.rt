@@ -15,7 +15,7 @@ use jwt_params::curves::EllipticCurve;
 use jwt_params::thumbprints::ThumbprintHash;
 use std::alloc::Global;
 
-/// Refuses every call with `Provider("closed")`.
+/// A provider that refuses every call with `Provider("closed")`.
 #[derive(Debug, Clone, Copy)]
 pub struct NoProvider;
 

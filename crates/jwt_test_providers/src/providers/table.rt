@@ -41,7 +41,7 @@ impl Model for Row {
 }
 
 impl Row {
-    /// A row of these. The only refusal is `OutOfMemory`.
+    /// Returns a row of copies of these. The only refusal is `OutOfMemory`.
     pub fn new(
         alloc: Global,
         algorithm: Algorithm,
@@ -60,7 +60,7 @@ impl Row {
         })
     }
 
-    /// A copy. The only refusal is `OutOfMemory`.
+    /// Returns a copy. The only refusal is `OutOfMemory`.
     pub fn clone(&self, alloc: Global) -> Result<Row>
         ensures ok { IfOk result (λ r. r ≡ self.now) }
         ensures err { IfErr result IsMemory }
@@ -146,8 +146,8 @@ impl Rows {
     }
 }
 
-/// Signs as the first row of its algorithm and key for the message says; a message that is in none is refused with
-/// `Signing("no row")`.
+/// A signer that returns the signature of the first row of its algorithm and key for the message; a
+/// message that is in no such row is refused with `Signing("no row")`.
 #[derive(Debug, Drop)]
 pub struct TableSigner {
     rows: Rows,
@@ -173,7 +173,7 @@ impl JwtSigner for TableSigner {
     }
 }
 
-/// Accepts a signature of a message where a row of its algorithm and key has both.
+/// A verifier that accepts a signature of a message if a row of its algorithm and key has both.
 #[derive(Debug, Drop)]
 pub struct TableVerifier {
     rows: Rows,
@@ -195,15 +195,15 @@ impl JwtVerifier for TableVerifier {
     }
 }
 
-/// Looks signatures up in a table. A key of components, or of another family than the algorithm's, is refused with
-/// `InvalidKeyFormat`. Its digests are those of SHA-2.
+/// A provider that looks signatures up in a table. A key of components, or of another family than
+/// the algorithm's, is refused with `InvalidKeyFormat`. Its digests are those of SHA-2.
 #[derive(Debug, Drop)]
 pub struct TableProvider {
     rows: Vec<Row>,
 }
 
 impl TableProvider {
-    /// The provider of this table.
+    /// Returns the provider of this table.
     pub fn new(rows: Vec<Row>) -> TableProvider
         ensures { result.rows ≡ rows }
     {
@@ -211,7 +211,7 @@ impl TableProvider {
     }
 }
 
-// The refusal `InvalidRsaKey("no row")`, or `OutOfMemory`.
+// Returns the error `InvalidRsaKey("no row")`, or `OutOfMemory`.
 fn no_rsa_row(alloc: Global) -> Error
     ensures { Refuses (Some (kind.InvalidRsaKey (codes "no row"))) result }
 {

@@ -15,7 +15,7 @@ use jwt_params::curves::EllipticCurve;
 use jwt_params::thumbprints::ThumbprintHash;
 use std::alloc::Global;
 
-/// Accepts every signature.
+/// A verifier that accepts every signature.
 #[derive(Drop)]
 pub struct YesVerifier {
     algorithm: Algorithm,
@@ -37,8 +37,9 @@ impl JwtVerifier for YesVerifier {
     }
 }
 
-/// Makes a verifier for each key of the algorithm's family, which accepts every signature; a key of another family is
-/// refused with `InvalidKeyFormat`. Every other call is refused with `Provider("closed")`.
+/// A provider that makes a verifier for each key of the algorithm's family, which accepts every
+/// signature; a key of another family is refused with `InvalidKeyFormat`. Every other call is
+/// refused with `Provider("closed")`.
 #[derive(Debug, Clone, Copy)]
 pub struct YesProvider;
 

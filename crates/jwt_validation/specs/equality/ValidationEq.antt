@@ -1,4 +1,4 @@
--- Two `Validation`s are equal exactly where they ask for the same.
+-- Two `Validation`s are equal exactly if their options are the same.
 use Rattle.std.specs.Prelude.{◌≡◌, ◌&&◌, ◌==◌, ℕ, Bool, true, List, String, refl}
 use denote.Enum.Bare.{sameb}
 use Rattle.std.specs.declared.alloc.Global.{Global}
@@ -19,7 +19,7 @@ use Rattle.jwt_base.specs.contracts.algorithms.Algorithm.{the_type}
 use Rattle.jwt_validation.specs.OptionsOf.{options_of}
 use Rattle.jwt_validation.specs.declared.validation.Validation.{Validation}
 
--- sets of texts: each has every text of the other
+-- sets of strings: each has every string of the other
 module _ {S : Type 0} where
   texts_kept : (s t : HashSet (String Global) S) → ((q : String Global) → contains string_eq s q ≡ contains string_eq t q)
       → (bs : List ℕ) → contains_text s bs ≡ true → contains_text t bs ≡ true
@@ -35,7 +35,7 @@ module _ {S : Type 0} where
         λ e. by_keys.1 (λ q i. e i (string_bytes q)),
       )
 
--- what each field asks for is the same
+-- the meaning of each field is the same
 abbrev pub validation_eq : Validation → Validation → Bool
 validation_eq a b = hash_set_eq string_eq a.required_spec_claims b.required_spec_claims && ((a.leeway == b.leeway)
     && ((a.reject_tokens_expiring_in_less_than == b.reject_tokens_expiring_in_less_than) && (beq a.validate_exp b.validate_exp

@@ -3,6 +3,6 @@ use Rattle.serde_json.specs.View.{view}
 use Rattle.jwt_keys.specs.JwkSet.{key_values}
 use Rattle.jwt_keys.proofs.jwk_set.write_keys.Given as goal
 
--- what is left to write goes after what was written
+-- the keys that are left to write follow those that were written
 abbrev pub invariant-loop-key : goal.invariant-loop-key
 invariant-loop-key l = key_values l.keys ≡ option_map (λ more. map view l.values.items ++ more) (key_values (drop l.key-index l.keys))

@@ -10,5 +10,5 @@ returns-in_default-clause-said g c =
 
 pub returns-clause-said : goal.returns-clause-said
 returns-clause-said g c =
-    IfOk-weaker c.command_answer.result _ _ (λ a said. request_said _ (map string_bytes c.args.words.now) (asked c.in-Some.command) _ _ _ _ (sym c.requested_command.ensures ∙ ap (option_map asked) c.in-Some.is) c.in_ok-input.ensures
+    IfOk-weaker c.command_answer.result _ _ (λ a said. request_said _ (map string_bytes c.args.words.now) (asked c.in-Some.command) _ _ _ _ (sym c.requested_command.ensures ∙ ap (option_map asked) c.in-Some.is) c.in_ok-input.ensures.whole
     (rw c.deref.ensures.value at c.without_newline.ensures) said) c.command_answer.ensures

@@ -3,6 +3,6 @@ use Rattle.std.specs.HashSet.{contains_text}
 use Rattle.jwt_validation.specs.Options.{among}
 use Rattle.jwt_validation.proofs.read.set_of_texts.Given as goal
 
--- the texts so far
+-- the strings so far
 abbrev pub invariant-loop-text : goal.invariant-loop-text
 invariant-loop-text l = (t : List ℕ) → contains_text l.set t ≡ among (λ s. s) (take l.text-index l.texts) t

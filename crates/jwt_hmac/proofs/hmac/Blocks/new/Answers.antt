@@ -13,21 +13,16 @@ invariant_of-result c = record {
       ∙ sym (ap (masked 0x5c) (masked_block 0x5c n k c.mask_bytes-2.result block.fits block.block_fits (c.mask_bytes-2.ensures ∙ ap (masked 0x5c) block.key)) ∙ unmasked 0x5c (filled n k));
 }
 
-pub returns-clause-inner : goal.returns-clause-inner
+pub returns-clause-blocks : goal.returns-clause-blocks
 unfolding key_block
-returns-clause-inner c =
+returns-clause-blocks c =
     let k = short_key c.args.hash c.args.secret.now in
     let n = block_len c.args.hash in
     let block = c.filled_key-key.ensures in
-    masked_block 0x36 n k c.mask_bytes.result block.fits block.block_fits (c.mask_bytes.ensures ∙ ap (masked 0x36) block.key)
-
-pub returns-clause-outer : goal.returns-clause-outer
-unfolding key_block
-returns-clause-outer c =
-    let k = short_key c.args.hash c.args.secret.now in
-    let n = block_len c.args.hash in
-    let block = c.filled_key-key.ensures in
-    masked_block 0x5c n k c.mask_bytes-2.result block.fits block.block_fits (c.mask_bytes-2.ensures ∙ ap (masked 0x5c) block.key)
+    record {
+      first = masked_block 0x36 n k c.mask_bytes.result block.fits block.block_fits (c.mask_bytes.ensures ∙ ap (masked 0x36) block.key);
+      second = masked_block 0x5c n k c.mask_bytes-2.result block.fits block.block_fits (c.mask_bytes-2.ensures ∙ ap (masked 0x5c) block.key);
+    }
 
 pub returns-clause-mac : goal.returns-clause-mac
 unfolding hmac key_block

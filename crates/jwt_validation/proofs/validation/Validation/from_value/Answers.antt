@@ -5,7 +5,7 @@ use Rattle.jwt_base.specs.KindOf.{RefusesAs}
 use Rattle.jwt_base.specs.declared.errors.Error.{Error}
 use Rattle.jwt_validation.proofs.validation.Validation.from_value.Goals as goal
 
--- what is refused with more said
+-- a refusal, weakened
 weaker : (P Q : Type 0) (e : Error) → (P → Q) → RefusesAs kind.Json P e → RefusesAs kind.Json Q e
 weaker P Q e f (inl m) = inl m
 weaker P Q e f (inr r) = inr (r.0, f r.1)

@@ -1,0 +1,40 @@
+-- A result, and its form in status, length and buffer.
+use Rattle.std.proofs.Common.{◌≡◌, ◌⊎◌, ℕ, List, Result, Ok, Err, IfOk, IfErr, inl, inr}
+use Rattle.jwt_base.specs.Kind.{Kind}
+use Rattle.jwt_base.specs.Kind as kind
+use Rattle.jwt_base.specs.KindOf.{IsMemory, kind_of}
+use Rattle.jwt_base.specs.declared.errors.Error.{Error}
+use Rattle.jwt_c_calls.specs.Calls.{Answer, Gives, Leaves, AnswersBy, answer_of, refusal_status}
+use Rattle.jwt_c_calls.specs.Inputs.{IsReadAs}
+use Rattle.jwt_c_calls.specs.Status.{IsGiven, IsKept}
+use Rattle.jwt_c_calls.specs.declared.inputs.Input.{Input}
+use Rattle.jwt_c_calls.specs.declared.inputs.Refusal.{Refusal}
+use Rattle.jwt_c_calls.specs.declared.inputs.Refusal.TheVariants as refused
+
+kept_by : (r : Refusal) (s n : ℕ) (old new : List ℕ) → IsKept (refusal_status r) s n old new → Leaves (answer_of r) s n old new
+kept_by (refused.Input i) s n old new k = k
+kept_by (refused.Token e) s n old new k = k
+
+-- a result by its two sides
+pub answered : {V : Type 0} (items : V → List ℕ) (By : Answer → Type 0) (r : Result V Refusal) (s n : ℕ) (old new : List ℕ)
+    → IfOk r (λ b. By (Gives (items b))) → IfErr r (λ e. By (answer_of e))
+    → IfOk r (λ b. IsGiven (items b) s n old new) → IfErr r (λ e. IsKept (refusal_status e) s n old new)
+    → (a : Answer) × By a × Leaves a s n old new
+answered items By (Ok b) s n old new p q given kept = (Gives (items b), p, given)
+answered items By (Err e) s n old new p q given kept = (answer_of e, q, kept_by e s n old new kept)
+
+-- a text that could not be read has this result, if the call misreads it
+pub misread : {T E : Type 0} (Reads : E → Type 0) (MisreadAs : Input → Type 0) (G : E → List ℕ → Type 0) (R : E → Kind → Type 0)
+    (input : Input) (None : Type 0) → (None → MisreadAs input) → (r : Result T Error) (x : Result T Refusal) → IsReadAs input r x → IfErr r (λ e. IsMemory e ⊎ None)
+    → IfErr x (λ f. AnswersBy Reads MisreadAs G R (answer_of f))
+misread Reads M G R input N means (Ok v) (Ok w) p n = tt
+misread Reads M G R input N means (Ok v) (Err r) p n = absurd p
+misread Reads M G R input N means (Err e) (Ok w) p n = tt
+misread Reads M G R input N means (Err e) (Err (refused.Input i)) p (inl m) = absurd (p.1 m)
+misread Reads M G R input N means (Err e) (Err (refused.Input i)) p (inr none) = rw p.0 (means none)
+misread Reads M G R input N means (Err e) (Err (refused.Token f)) p n = inl p.1
+
+-- a value that was read is the one that is handed on
+pub read_ok : {T : Type 0} (P : T → Type 0) (input : Input) (r : Result T Error) (v : T) → IsReadAs input r (Ok v) → IfOk r P → P v
+read_ok P input (Ok w) v p q = rw p q
+read_ok P input (Err e) v p q = absurd p

@@ -1,0 +1,210 @@
+-- The results of the calls for C.
+use Rattle.std.specs.Prelude.{◌≡◌, ◌⊎◌, ◌≤◌, ℕ, List, [], Bool, true, false, length, Option, Some, None, Result, Ok, Err}
+use Rattle.json.specs.Lex.{tokens}
+use Rattle.json.specs.Print.{print}
+use Rattle.serde_json.specs.Data.{Data, depth}
+use Rattle.serde_json.specs.Read.{max_depth}
+use Rattle.serde_json.specs.View.{view}
+use Rattle.serde_json.specs.Written.{has_float, compact_text, IsInOrder}
+use Rattle.serde_json.specs.declared.value.Value.{Value}
+use Rattle.jwt_base.specs.Algorithm.{family_of}
+use Rattle.jwt_base.specs.JsonText.{IsJson}
+use Rattle.jwt_base.specs.Kind.{Kind}
+use Rattle.jwt_base.specs.Kind as kind
+use Rattle.jwt_base.specs.KindOf.{kind_of}
+use Rattle.jwt_base.specs.declared.algorithms.Algorithm.{Algorithm}
+use Rattle.jwt_base.specs.declared.algorithms.AlgorithmFamily.TheVariants.{Hmac}
+use Rattle.jwt_base.specs.declared.errors.Error.{Error}
+use Rattle.jwt_hmac.specs.HmacKeys.{HmacAccepts, hash_for, refusal}
+use Rattle.jwt_header.specs.Header.{header_value}
+use Rattle.jwt_keys.specs.Key.{Plain, key_family}
+use Rattle.jwt_keys.specs.declared.jwk.Jwk.{Jwk}
+use Rattle.jwt_validation.specs.Options.{Options}
+use Rattle.jwt_verdict.specs.Verdict.{Verdict, IsVerified, refusal_by}
+use Rattle.jsonwebtoken.specs.Tests.{Call, Compact, Contents, Given, InSet, Passes, FirstFailed, decode_order, header_order, set_order, signed_order, header_call, message_of, verifying_call}
+use Rattle.jsonwebtoken.specs.Vouched.{IsVouched}
+use Rattle.jwt_c_calls.specs.Inputs.{ReadsOptionsText, ReadsSetText, ReadsClaimsText}
+use Rattle.jwt_c_calls.specs.Status.{number, input_status, algorithm_numbered, IsGiven, IsKept}
+use Rattle.jwt_c_calls.specs.declared.inputs.Input.{Input}
+use Rattle.jwt_c_calls.specs.declared.inputs.Input.TheVariants as input
+use Rattle.jwt_c_calls.specs.declared.inputs.Refusal.{Refusal}
+use Rattle.jwt_c_calls.specs.declared.inputs.Refusal.TheVariants as refused
+
+-- ---- results
+
+-- the result of a call
+pub data Answer : Type 0 where
+  -- these bytes
+  Gives : List ℕ → Answer
+  -- the token is refused
+  Refuses : Kind → Answer
+  -- this text does not describe the value that it must
+  Misreads : Input → Answer
+
+-- its form in status, length and buffer
+abbrev pub Leaves : Answer → ℕ → ℕ → List ℕ → List ℕ → Type 0
+Leaves (Gives bytes) = IsGiven bytes
+Leaves (Refuses k) = IsKept (number k)
+Leaves (Misreads i) = IsKept (input_status i)
+
+-- ---- texts
+
+-- The text is JSON of the value, without space, with its members in the order of their names (RFC
+-- 8259). The text of a float is read back as that float.
+pub record IsTextOf (text : List ℕ) (value : Data) : Type 0 where
+  pub json : IsJson text value
+  pub compact : text ≡ print (tokens text)
+  pub order : IsInOrder text value
+  pub exact : has_float value ≡ false → text ≡ compact_text value
+
+-- ---- texts that are given
+
+-- a text that no value can be read from
+abbrev pub Misread : {X : Type 0} → (X → Type 0) → Type 0
+Misread Reads = (x : _) → ¬ Reads x
+
+-- the only text is misread
+abbrev pub MisreadsOne : {X : Type 0} → Input → (X → Type 0) → Input → Type 0
+MisreadsOne first Reads i = (i ≡ first) × Misread Reads
+
+-- the first of two texts is misread; or it is read, and the second is misread
+abbrev pub MisreadsTwo : {X Y : Type 0} → Input → (X → Type 0) → Input → (Y → Type 0) → Input → Type 0
+MisreadsTwo first Reads second ReadsToo i = MisreadsOne first Reads i
+    ⊎ (((x : _) × Reads x) × MisreadsOne second ReadsToo i)
+
+-- The result for the values that the texts are read as: the bytes that are written; or the kind
+-- with which the values are refused, or memory ran out; or a text is misread.
+abbrev pub AnswersBy : {E : Type 0} → (E → Type 0) → (Input → Type 0)
+    → (E → List ℕ → Type 0) → (E → Kind → Type 0) → Answer → Type 0
+AnswersBy Reads MisreadAs Shows Refused (Gives bytes) = (e : _) × Reads e × Shows e bytes
+AnswersBy Reads MisreadAs Shows Refused (Refuses k) = (k ≡ kind.OutOfMemory)
+    ⊎ ((e : _) × Reads e × Refused e k)
+AnswersBy Reads MisreadAs Shows Refused (Misreads i) = MisreadAs i
+
+-- ---- claims
+
+-- `decode` by HMAC with the secret
+abbrev pub hmac_call : List ℕ → List ℕ → ℕ → Options → Call Value
+hmac_call token secret now options =
+    verifying_call (Compact token) (Given (Plain Hmac secret)) options now
+    (λ a key. refusal (hash_for a) (key_family key)) HmacAccepts (λ value claims. view claims ≡ value)
+
+-- `decode` with a verdict
+abbrev pub verdict_call : List ℕ → Verdict → ℕ → Options → Call Value
+verdict_call token v now options =
+    verifying_call (Compact token) (Given (Plain (family_of v.algorithm) [])) options now
+    (refusal_by v) (λ _ _. IsVerified v) (λ value claims. view claims ≡ value)
+
+-- `decode_with_set` by HMAC
+abbrev pub set_call : List ℕ → List Jwk → ℕ → Options → Call Value
+set_call token keys now options =
+    verifying_call (Compact token) (InSet keys) options now
+    (λ a key. refusal (hash_for a) (key_family key)) HmacAccepts (λ value claims. view claims ≡ value)
+
+-- the text is that of the claims of accepted contents
+abbrev pub IsClaimsText : (Contents → Type 0) → List ℕ → Type 0
+IsClaimsText Accepted claims = (t : Contents) × Accepted t × IsTextOf claims t.payload_value
+
+-- with the options that the text describes: the claims of an accepted token, or the kind with which
+-- it is refused
+abbrev pub AnswersWhere : List ℕ → (Options → Contents → Type 0) → (Options → Kind → Type 0)
+    → Answer → Type 0
+AnswersWhere text Accepted Refused = AnswersBy
+    (ReadsOptionsText text) (MisreadsOne input.Options (ReadsOptionsText text))
+    (λ o. IsClaimsText (Accepted o)) Refused
+
+-- accepted contents pass every test of `decode`; a refusal has the kind of the first that fails
+-- (RFC 7519 section 7.2)
+abbrev pub AnswersHmac : List ℕ → List ℕ → List ℕ → ℕ → Answer → Type 0
+AnswersHmac text token secret now = AnswersWhere text
+    (λ o. Passes (hmac_call token secret now o) decode_order)
+    (λ o. FirstFailed (hmac_call token secret now o) decode_order)
+
+-- the same for `decode_with_set`; the options' text is read before that of the key set
+abbrev pub AnswersSet : List ℕ → List ℕ → List ℕ → ℕ → Answer → Type 0
+AnswersSet text token set now = AnswersBy {E = Options × List Jwk}
+    (λ e. ReadsOptionsText text e.0 × ReadsSetText set e.1)
+    (MisreadsTwo input.Options (ReadsOptionsText text) input.Set (ReadsSetText set))
+    (λ e. IsClaimsText (Passes (set_call token e.1 now e.0) set_order))
+    (λ e. FirstFailed (set_call token e.1 now e.0) set_order)
+
+-- accepted contents are those that the verdict vouches for; a refusal has the kind of the first
+-- test of `decode` that fails
+abbrev pub AnswersVerdict : List ℕ → List ℕ → Verdict → ℕ → Answer → Type 0
+AnswersVerdict text token v now = AnswersWhere text
+    (λ o. IsVouched (verdict_call token v now o) v)
+    (λ o. FirstFailed (verdict_call token v now o) decode_order)
+
+-- a caller's verdict, by the algorithm that is named by its number
+pub record Said : Type 0 where
+  pub message : List ℕ
+  pub signature : List ℕ
+  pub says_yes : Bool
+
+abbrev pub verdict_by : Said → Algorithm → Verdict
+verdict_by s a = record { algorithm = a; message = s.message; signature = s.signature; says_yes = s.says_yes }
+
+-- a number of no algorithm is refused, before the options are read
+abbrev pub AnswersSaid : Option Algorithm → List ℕ → List ℕ → Said → ℕ → Answer → Type 0
+AnswersSaid None text token s now a = a ≡ Refuses kind.InvalidAlgorithmName
+AnswersSaid (Some algorithm) text token s now a =
+    AnswersVerdict text token (verdict_by s algorithm) now a
+
+-- the claims hold no number but integers from -2^63 to 2^64 - 1, else `Json`
+abbrev pub AnswersNumbers : List ℕ → Answer → Type 0
+AnswersNumbers text = AnswersBy {E = Data}
+    (ReadsClaimsText text) (MisreadsOne input.Claims (ReadsClaimsText text))
+    (λ claims bytes. (has_float claims ≡ false) × (bytes ≡ []))
+    (λ claims k. (has_float claims ≡ true) × (k ≡ kind.Json))
+
+-- ---- the header and the message that is signed
+
+-- the compact JSON text of the header of a token (RFC 7515 section 4)
+abbrev pub IsHeaderText : List ℕ → List ℕ → Type 0
+IsHeaderText token text = (t : Contents) × Passes (header_call token) header_order t
+    × ((value : Data) × (header_value t.header ≡ Some value) × (text ≡ compact_text value))
+
+-- the header's text; or the kind of the first failed test, or memory ran out
+abbrev pub AnswersHeader : List ℕ → Answer → Type 0
+AnswersHeader token (Gives text) = IsHeaderText token text
+AnswersHeader token (Refuses k) =
+    (k ≡ kind.OutOfMemory) ⊎ FirstFailed (header_call token) header_order k
+AnswersHeader token (Misreads i) = ⊥
+
+-- the result of `jwt_signed_part`: the header's algorithm, the length of the message, which is the
+-- front of the token, and the signature's bytes in the buffer (RFC 7515 section 5.1); or a refusal
+abbrev pub LeavesSigned : List ℕ → ℕ → ℕ → ℕ → ℕ → List ℕ → List ℕ → Type 0
+LeavesSigned token algorithm message_len status len before after =
+    ((t : Contents) × Passes (header_call token) signed_order t
+    × (algorithm_numbered algorithm ≡ Some t.header.alg)
+    × (message_len ≡ length (message_of t.parts))
+    × IsGiven t.signature_bytes status len before after)
+    ⊎ ((k : Kind)
+    × ((k ≡ kind.OutOfMemory) ⊎ FirstFailed (header_call token) signed_order k)
+    × (algorithm ≡ 0) × (message_len ≡ 0) × IsKept (number k) status len before after)
+
+-- ---- for private clauses
+
+-- the result that a refusal stands for
+abbrev pub answer_of : Refusal → Answer
+answer_of (refused.Input i) = Misreads i
+answer_of (refused.Token e) = Refuses (kind_of e)
+
+-- the status of an answer without bytes
+abbrev pub status_of : Answer → ℕ
+status_of (Gives bytes) = 0
+status_of (Refuses k) = number k
+status_of (Misreads i) = input_status i
+
+abbrev pub refusal_status : Refusal → ℕ
+refusal_status (refused.Input i) = input_status i
+refusal_status (refused.Token e) = number (kind_of e)
+
+-- the claims are handed on as their text, unless memory ran out, and a refusal unchanged
+abbrev pub HandsOut : {D V : Type 0} → (D → Value) → (V → List ℕ)
+    → Result D Error → Result V Refusal → Type 0
+HandsOut claims items (Ok d) (Ok b) =
+    depth (view (claims d)) ≤ max_depth → IsTextOf (items b) (view (claims d))
+HandsOut claims items (Ok d) (Err r) = answer_of r ≡ Refuses kind.OutOfMemory
+HandsOut claims items (Err e) (Ok b) = ⊥
+HandsOut claims items (Err e) (Err r) = answer_of r ≡ Refuses (kind_of e)

@@ -1,0 +1,73 @@
+-- The results of the calls for C that issue tokens and thumbprints.
+use Rattle.std.specs.Prelude.{◌≡◌, ◌==◌, ℕ, List, Option, Some, None, Result, Ok, Err, if◌then◌else◌}
+use Rattle.serde_json.specs.Data.{Data}
+use Rattle.jwt_base.specs.Base64Url.{IsPart}
+use Rattle.jwt_base.specs.Kind.{Kind}
+use Rattle.jwt_base.specs.Kind as kind
+use Rattle.jwt_base.specs.declared.algorithms.AlgorithmFamily.TheVariants.{Hmac}
+use Rattle.jwt_header.specs.declared.header.Header.{Header}
+use Rattle.jwt_hmac.specs.Hmac.{hash_bytes}
+use Rattle.jwt_hmac.specs.HmacKeys.{HmacSigns, hash_for, hash_named, refusal}
+use Rattle.jwt_keys.specs.Thumbprint.{digested, thumb_text}
+use Rattle.jwt_keys.specs.declared.jwk.Jwk.{Jwk}
+use Rattle.jwt_params.specs.declared.thumbprints.ThumbprintHash.{ThumbprintHash}
+use Rattle.jwt_params.specs.declared.thumbprints.ThumbprintHash.TheVariants.{SHA256, SHA384, SHA512}
+use Rattle.jsonwebtoken.specs.Issue.{Issue, IssuePasses, IssueFailsFirst, IsIssued, WrittenAs, Written, encode_order, issuing}
+use Rattle.jwt_c_calls.specs.Calls.{Answer, AnswersBy, Refuses, MisreadsOne, MisreadsTwo}
+use Rattle.jwt_c_calls.specs.Inputs.{ReadsHeaderText, ReadsClaimsText, ReadsKeyText}
+use Rattle.jwt_c_calls.specs.declared.inputs.Input.TheVariants as input
+
+-- ---- tokens
+
+-- `encode` by HMAC with the secret, of claims that are written as this value
+abbrev pub hmac_issue : List ℕ → Header → Data → Issue
+hmac_issue secret header value =
+    issuing header (WrittenAs (Some value)) (record { family = Hmac; bytes = secret })
+    (λ a key. refusal (hash_for a) key.family) (λ _ _ _. None) HmacSigns
+
+-- the token is issued of values that pass every test of `encode` (RFC 7519 section 7.1)
+abbrev pub IsTokenOf : List ℕ → Header → Data → List ℕ → Type 0
+IsTokenOf secret header value token = let issue = hmac_issue secret header value in
+    (t : Written) × IssuePasses issue encode_order t × IsIssued issue t token
+
+-- a refusal has the kind of the first test of `encode` that fails
+abbrev pub IsNotIssued : List ℕ → Header → Data → Kind → Type 0
+IsNotIssued secret header value = IssueFailsFirst (hmac_issue secret header value) encode_order
+
+-- the header's text is read before that of the claims
+abbrev pub AnswersEncode : List ℕ → List ℕ → List ℕ → Answer → Type 0
+AnswersEncode header claims secret = AnswersBy {E = Header × Data}
+    (λ e. ReadsHeaderText header e.0 × ReadsClaimsText claims e.1)
+    (MisreadsTwo input.Header (ReadsHeaderText header) input.Claims (ReadsClaimsText claims))
+    (λ e. IsTokenOf secret e.0 e.1) (λ e. IsNotIssued secret e.0 e.1)
+
+-- ---- thumbprints
+
+-- the hash of this many bits (RFC 7638 section 3.4)
+abbrev pub hash_numbered : ℕ → Option ThumbprintHash
+hash_numbered n = if n == 256 then Some SHA256
+    else (if n == 384 then Some SHA384
+    else (if n == 512 then Some SHA512
+    else None))
+
+-- the thumbprint of a key, as bytes, or the kind of its refusal (RFC 7638 section 3)
+abbrev pub thumbprint_of : ThumbprintHash → Jwk → Result (List ℕ) Kind
+thumbprint_of hash key = digested (λ text. Ok (hash_bytes (hash_named hash) text)) (thumb_text key)
+
+-- the base64url text of the thumbprint, or the kind of the refusal
+abbrev pub AnswersHashed : ThumbprintHash → List ℕ → Answer → Type 0
+AnswersHashed hash text = AnswersBy
+    (ReadsKeyText text) (MisreadsOne input.Key (ReadsKeyText text))
+    (λ key part. (bytes : List ℕ) × (thumbprint_of hash key ≡ Ok bytes) × IsPart part bytes)
+    (λ key k. thumbprint_of hash key ≡ Err k)
+
+-- a number of no hash is refused, before the key is read
+abbrev pub AnswersThumbprint : Option ThumbprintHash → List ℕ → Answer → Type 0
+AnswersThumbprint None text a = a ≡ Refuses kind.InvalidAlgorithmName
+AnswersThumbprint (Some hash) text a = AnswersHashed hash text a
+
+-- for private clauses: the token, or the kind with which it is not issued, unless memory ran out
+abbrev pub AnswersIssue : List ℕ → Header → Data → Answer → Type 0
+AnswersIssue secret header value = AnswersBy {E = Header × Data}
+    (λ e. e ≡ (header, value)) (λ i. ⊥)
+    (λ e. IsTokenOf secret e.0 e.1) (λ e. IsNotIssued secret e.0 e.1)

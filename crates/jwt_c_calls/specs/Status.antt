@@ -1,0 +1,139 @@
+-- The form of a result for C: a status, a length and the bytes of a buffer.
+use Rattle.std.specs.Prelude.{◌≡◌, ◌≤◌, ◌<◌, ◌+◌, ◌-◌, ◌==◌, ℕ, List, [], ◌∷◌, ◌++◌, length, drop, Option, Some, None, slice_get, unwrap_or, codes, if◌then◌else◌}
+use Rattle.std.specs.Str.{bytes_eq}
+use Rattle.jwt_base.specs.Algorithm.{all_algorithms}
+use Rattle.jwt_base.specs.declared.algorithms.Algorithm.{Algorithm}
+use Rattle.jwt_base.specs.Kind.{Kind, InvalidToken, InvalidSignature, InvalidEcdsaKey, InvalidEddsaKey, RsaFailedSigning, InvalidAlgorithmName, UnsupportedAlgorithm, InvalidKeyFormat, ExpiredSignature, InvalidIssuer, InvalidAudience, InvalidSubject, ImmatureSignature, InvalidAlgorithm, MissingAlgorithm, MissingRequiredClaim, InvalidClaimFormat, InvalidRsaKey, Signing, Provider, Base64, Json, Utf8, OutOfMemory, ClockBeforeEpoch, InvalidCrit, NoKey}
+use Rattle.jwt_c_calls.specs.declared.inputs.Input.{Input}
+use Rattle.jwt_c_calls.specs.declared.inputs.Input.TheVariants as input
+
+-- ---- statuses
+
+-- the claims that statuses tell apart (RFC 7519 section 4.1)
+abbrev pub claim_names : List (List ℕ)
+claim_names = codes "exp" ∷ codes "nbf" ∷ codes "aud" ∷ codes "iss" ∷ codes "sub" ∷ []
+
+-- the place of a name among them; of any other name the one after them
+abbrev pub claim_place : List ℕ → ℕ
+claim_place name =
+    if bytes_eq name (codes "exp") then 0
+    else (if bytes_eq name (codes "nbf") then 1
+    else (if bytes_eq name (codes "aud") then 2
+    else (if bytes_eq name (codes "iss") then 3
+    else (if bytes_eq name (codes "sub") then 4
+    else 5))))
+
+-- the status of a refusal of this kind
+abbrev pub number : Kind → ℕ
+number InvalidToken = 1
+number InvalidSignature = 2
+number InvalidEcdsaKey = 3
+number InvalidEddsaKey = 4
+number RsaFailedSigning = 5
+number InvalidAlgorithmName = 6
+number UnsupportedAlgorithm = 7
+number InvalidKeyFormat = 8
+number ExpiredSignature = 9
+number InvalidIssuer = 10
+number InvalidAudience = 11
+number InvalidSubject = 12
+number ImmatureSignature = 13
+number InvalidAlgorithm = 14
+number MissingAlgorithm = 15
+number (InvalidRsaKey message) = 16
+number (Signing message) = 17
+number (Provider message) = 18
+number Base64 = 19
+number Json = 20
+number Utf8 = 21
+number OutOfMemory = 22
+number ClockBeforeEpoch = 23
+number InvalidCrit = 24
+number NoKey = 25
+number (MissingRequiredClaim claim) = 26 + claim_place claim
+number (InvalidClaimFormat claim) = 32 + claim_place claim
+
+-- a buffer is too small, a number is not a status
+abbrev pub no_room : ℕ
+no_room = 100
+
+abbrev pub no_status : ℕ
+no_status = 102
+
+-- a text does not describe the value that it must
+abbrev pub input_status : Input → ℕ
+input_status input.Options = 101
+input_status input.Set = 103
+input_status input.Header = 104
+input_status input.Claims = 105
+input_status input.Key = 106
+
+-- the texts of the statuses from 0 on
+abbrev pub first_texts : List (List ℕ)
+first_texts = codes "OK"
+    ∷ codes "InvalidToken" ∷ codes "InvalidSignature" ∷ codes "InvalidEcdsaKey"
+    ∷ codes "InvalidEddsaKey" ∷ codes "RsaFailedSigning" ∷ codes "InvalidAlgorithmName"
+    ∷ codes "UnsupportedAlgorithm" ∷ codes "InvalidKeyFormat" ∷ codes "ExpiredSignature"
+    ∷ codes "InvalidIssuer" ∷ codes "InvalidAudience" ∷ codes "InvalidSubject"
+    ∷ codes "ImmatureSignature" ∷ codes "InvalidAlgorithm" ∷ codes "MissingAlgorithm"
+    ∷ codes "RSA key invalid: " ∷ codes "Signing failed: " ∷ codes "Custom provider error: "
+    ∷ codes "Base64 error" ∷ codes "JSON error" ∷ codes "UTF-8 error"
+    ∷ codes "Out of memory" ∷ codes "Clock before 1970" ∷ codes "InvalidCrit" ∷ codes "NoKey"
+    ∷ codes "Missing required claim: exp" ∷ codes "Missing required claim: nbf"
+    ∷ codes "Missing required claim: aud" ∷ codes "Missing required claim: iss"
+    ∷ codes "Missing required claim: sub" ∷ codes "Missing required claim: "
+    ∷ codes "Invalid format for claim: exp" ∷ codes "Invalid format for claim: nbf"
+    ∷ codes "Invalid format for claim: aud" ∷ codes "Invalid format for claim: iss"
+    ∷ codes "Invalid format for claim: sub" ∷ codes "Invalid format for claim: " ∷ []
+
+-- the text of a status
+abbrev pub status_text : ℕ → Option (List ℕ)
+status_text n =
+    if n == no_room then Some (codes "Room too small")
+    else (if n == input_status input.Options then Some (codes "Options not understood")
+    else (if n == no_status then Some (codes "Unknown status")
+    else (if n == input_status input.Set then Some (codes "Key set not understood")
+    else (if n == input_status input.Header then Some (codes "Header not understood")
+    else (if n == input_status input.Claims then Some (codes "Claims not understood")
+    else (if n == input_status input.Key then Some (codes "Key not understood")
+    else slice_get first_texts n))))))
+
+-- the part of the claim's name that a status tells
+abbrev pub told_claim : List ℕ → List ℕ
+told_claim name = unwrap_or (slice_get claim_names (claim_place name)) []
+
+-- The part of a kind that a status tells: of a claim's name one of the five, and nothing of a
+-- provider's own reasons, with which none of these calls refuses.
+abbrev pub told : Kind → Kind
+told (MissingRequiredClaim claim) = MissingRequiredClaim (told_claim claim)
+told (InvalidClaimFormat claim) = InvalidClaimFormat (told_claim claim)
+told (InvalidRsaKey message) = InvalidRsaKey []
+told (Signing message) = Signing []
+told (Provider message) = Provider []
+told k = k
+
+-- ---- status, length and buffer
+
+-- These bytes are written: they stand at the front of the buffer, and the bytes behind them are
+-- unchanged. A buffer that is too small is unchanged. The length is that of the bytes either way.
+pub record IsGiven (bytes : List ℕ) (status len : ℕ) (before after : List ℕ) : Type 0 where
+  pub needs : len ≡ length bytes
+  pub fits : length bytes ≤ length before
+      → (status ≡ 0) × (after ≡ bytes ++ drop (length bytes) before)
+  pub small : length before < length bytes → (status ≡ no_room) × (after ≡ before)
+
+-- nothing is written, with this status
+pub record IsKept (n status len : ℕ) (before after : List ℕ) : Type 0 where
+  pub number : status ≡ n
+  pub none : len ≡ 0
+  pub room : after ≡ before
+
+-- ---- algorithms
+
+-- the algorithms by their numbers, from 1 on (RFC 7518 section 3.1, RFC 8037 section 3.1)
+abbrev pub algorithm_numbered : ℕ → Option Algorithm
+algorithm_numbered n = if n == 0 then None else slice_get all_algorithms (n - 1)
+
+-- the version of the library, as `JWT_VERSION` of `include/jwt.h`
+abbrev pub version : List ℕ
+version = codes "0.1.0"

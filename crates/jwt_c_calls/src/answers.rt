@@ -1,0 +1,149 @@
+//! The results of the calls for C, before they are written to the caller's buffer.
+
+ghost use Rattle.std.specs.Prelude.{◌≡◌, ◌⊎◌, [], Some, false, IfOk, IfErr, OnOk};
+ghost use Rattle.serde_json.specs.View.{view};
+ghost use Rattle.serde_json.specs.Written.{has_float};
+ghost use Rattle.jwt_base.specs.Kind as kind;
+ghost use Rattle.jwt_base.specs.KindOf.{kind_of, IsMemory};
+ghost use Rattle.jwt_header.specs.Header.{header_value};
+ghost use Rattle.jwt_validation.specs.OptionsOf.{options_of};
+ghost use Rattle.jsonwebtoken.specs.Tests.{Contents, Passes, FirstFailed, header_order, header_call};
+ghost use Rattle.jwt_c_calls.specs.Calls.{Gives, AnswersHmac, AnswersSet, AnswersVerdict, AnswersSaid, AnswersHeader, AnswersNumbers, HandsOut, IsHeaderText, answer_of};
+ghost use Rattle.jwt_c_calls.specs.Status.{algorithm_numbered};
+
+use crate::inputs::{Input, Refusal, read_as, read_claims, read_options, read_set};
+use crate::status::numbered_algorithm;
+use jsonwebtoken::crypto::hmac::HmacProvider;
+use jsonwebtoken::crypto::verdict::VerdictProvider;
+use jsonwebtoken::errors::{Error, ErrorKind, new_error};
+use jsonwebtoken::{
+    DecodingKey, TokenData, decode, decode_by_verdict, decode_header, decode_with_set,
+};
+use jwt_base::json::has_float;
+use serde_json::Value;
+use std::alloc::Global;
+use std::result::Result;
+
+// Returns the claims as their text, or the refusal.
+fn hand_out(alloc: Global, answer: Result<TokenData<Value>, Error>) -> Result<Vec<u8>, Refusal>
+    ensures { HandsOut (λ d. d.claims) (λ b. b.items) answer result }
+{
+    match answer {
+        Ok(data) => match data.claims.to_vec(alloc) {
+            Ok(text) => Ok(text),
+            Err(refused) => Err(Refusal::from(refused)),
+        },
+        Err(refused) => Err(Refusal::from(refused)),
+    }
+}
+
+/// Returns the claims of a token that is verified with a secret, by HMAC.
+pub fn hmac_answer(
+    alloc: Global,
+    token: &[u8],
+    secret: &[u8],
+    options: &[u8],
+    now: u64,
+) -> Result<Vec<u8>, Refusal>
+    ensures ok { IfOk result (λ b. AnswersHmac options.now token.now secret.now now (Gives b.items)) }
+    ensures err { IfErr result (λ r. AnswersHmac options.now token.now secret.now now (answer_of r)) }
+{
+    let validation = read_as(Input::Options, read_options(alloc, options))?;
+    let key = DecodingKey::from_secret(alloc, secret)?;
+    let answer = decode(alloc, &HmacProvider, token, &key, &validation, now);
+    hand_out(alloc, answer)
+}
+
+/// Returns the claims of a token that is verified with the key of the set that its header names, by
+/// HMAC.
+pub fn set_answer(
+    alloc: Global,
+    token: &[u8],
+    set: &[u8],
+    options: &[u8],
+    now: u64,
+) -> Result<Vec<u8>, Refusal>
+    ensures ok { IfOk result (λ b. AnswersSet options.now token.now set.now now (Gives b.items)) }
+    ensures err { IfErr result (λ r. AnswersSet options.now token.now set.now now (answer_of r)) }
+{
+    let validation = read_as(Input::Options, read_options(alloc, options))?;
+    let keys = read_as(Input::Set, read_set(alloc, set))?;
+    let answer = decode_with_set(alloc, &HmacProvider, token, &keys, &validation, now);
+    hand_out(alloc, answer)
+}
+
+fn verdict_answer(
+    alloc: Global,
+    token: &[u8],
+    verdict: &VerdictProvider<'_>,
+    options: &[u8],
+    now: u64,
+) -> Result<Vec<u8>, Refusal>
+    ensures ok { IfOk result (λ b. AnswersVerdict options.now token.now verdict.now now (Gives b.items)) }
+    ensures err { IfErr result (λ r. AnswersVerdict options.now token.now verdict.now now (answer_of r)) }
+{
+    let validation = read_as(Input::Options, read_options(alloc, options))?;
+    let answer = decode_by_verdict(alloc, token, verdict, &validation, now);
+    hand_out(alloc, answer)
+}
+
+/// Returns the claims of a token whose signature the caller has checked, by the algorithm of this
+/// number.
+pub fn said_answer(
+    alloc: Global,
+    token: &[u8],
+    algorithm: u32,
+    message: &[u8],
+    signature: &[u8],
+    verdict: bool,
+    options: &[u8],
+    now: u64,
+) -> Result<Vec<u8>, Refusal>
+    ensures ok { IfOk result (λ b. AnswersSaid (algorithm_numbered algorithm) options.now token.now
+        (record { message = message.now; signature = signature.now; says_yes = verdict }) now
+        (Gives b.items)) }
+    ensures err { IfErr result (λ r. AnswersSaid (algorithm_numbered algorithm) options.now token.now
+        (record { message = message.now; signature = signature.now; says_yes = verdict }) now
+        (answer_of r)) }
+{
+    match numbered_algorithm(algorithm) {
+        Some(by) => {
+            let said = VerdictProvider::new(by, message, signature, verdict);
+            verdict_answer(alloc, token, &said, options, now)
+        }
+        None => Err(Refusal::Token(new_error(ErrorKind::InvalidAlgorithmName))),
+    }
+}
+
+fn header_of(alloc: Global, token: &[u8]) -> Result<Value, Error>
+    ensures ok { IfOk result (λ v. (t : Contents) × Passes (header_call token.now) header_order t
+        × (header_value t.header ≡ Some (view v))) }
+    ensures no_float { IfOk result (λ v. has_float (view v) ≡ false) }
+    ensures err { IfErr result (λ e. IsMemory e ⊎ FirstFailed (header_call token.now) header_order (kind_of e)) }
+{
+    let header = decode_header(alloc, token)?;
+    header.to_value(alloc)
+}
+
+/// Returns the header of a token, which is not verified, as its text.
+pub fn header_answer(alloc: Global, token: &[u8]) -> Result<Vec<u8>, Refusal>
+    ensures ok { IfOk result (λ b. AnswersHeader token.now (Gives b.items)) }
+    ensures err { IfErr result (λ r. AnswersHeader token.now (answer_of r)) }
+{
+    let value = header_of(alloc, token)?;
+    let text = value.to_vec(alloc)?;
+    Ok(text)
+}
+
+/// Checks that every number of the claims, which are the JSON text of an object, is an integer from
+/// -2^63 to 2^64 - 1; else the refusal is `Json`.
+pub fn numbers_answer(alloc: Global, claims: &[u8]) -> Result<(), Refusal>
+    ensures ok { OnOk result (AnswersNumbers claims.now (Gives [])) }
+    ensures err { IfErr result (λ r. AnswersNumbers claims.now (answer_of r)) }
+{
+    let value = read_as(Input::Claims, read_claims(alloc, claims))?;
+    if has_float(&value) {
+        return Err(Refusal::Token(new_error(ErrorKind::Json)));
+    }
+    Ok(())
+}

@@ -1,0 +1,71 @@
+//! The results of the calls for C that issue tokens and thumbprints of keys.
+
+ghost use Rattle.std.specs.Prelude.{◌≡◌, IfOk, IfErr};
+ghost use Rattle.serde_json.specs.View.{view};
+ghost use Rattle.jwt_c_calls.specs.Calls.{Gives, answer_of};
+ghost use Rattle.jwt_c_calls.specs.Issued.{AnswersEncode, AnswersIssue, AnswersThumbprint, AnswersHashed, hash_numbered};
+
+use crate::inputs::{Input, Refusal, read_as, read_claims, read_header, read_key};
+use jsonwebtoken::crypto::hmac::HmacProvider;
+use jsonwebtoken::errors::{ErrorKind, new_error};
+use jsonwebtoken::{EncodingKey, Header, encode};
+use jwt_params::thumbprints::ThumbprintHash;
+use serde_json::Value;
+use std::alloc::Global;
+use std::result::Result;
+
+fn issued(alloc: Global, header: &Header, claims: &Value, secret: &[u8]) -> Result<Vec<u8>, Refusal>
+    ensures ok { IfOk result (λ b. AnswersIssue secret.now header.now (view claims.now) (Gives b.items)) }
+    ensures err { IfErr result (λ r. AnswersIssue secret.now header.now (view claims.now) (answer_of r)) }
+{
+    let key = EncodingKey::from_secret(alloc, secret)?;
+    let token = encode(alloc, &HmacProvider, header, claims, &key)?;
+    Ok(token.into_bytes())
+}
+
+/// Returns the token of a header and claims, signed with a secret, by HMAC.
+pub fn encode_answer(
+    alloc: Global,
+    header: &[u8],
+    claims: &[u8],
+    secret: &[u8],
+) -> Result<Vec<u8>, Refusal>
+    ensures ok { IfOk result (λ b. AnswersEncode header.now claims.now secret.now (Gives b.items)) }
+    ensures err { IfErr result (λ r. AnswersEncode header.now claims.now secret.now (answer_of r)) }
+{
+    let header = read_as(Input::Header, read_header(alloc, header))?;
+    let claims = read_as(Input::Claims, read_claims(alloc, claims))?;
+    issued(alloc, &header, &claims, secret)
+}
+
+/// Returns the hash of this many bits.
+pub fn numbered_hash(bits: u32) -> Option<ThumbprintHash>
+    ensures { result ≡ hash_numbered bits }
+{
+    match bits {
+        256 => Some(ThumbprintHash::SHA256),
+        384 => Some(ThumbprintHash::SHA384),
+        512 => Some(ThumbprintHash::SHA512),
+        _ => None,
+    }
+}
+
+fn hashed(alloc: Global, key: &[u8], hash: ThumbprintHash) -> Result<Vec<u8>, Refusal>
+    ensures ok { IfOk result (λ b. AnswersHashed hash key.now (Gives b.items)) }
+    ensures err { IfErr result (λ r. AnswersHashed hash key.now (answer_of r)) }
+{
+    let key = read_as(Input::Key, read_key(alloc, key))?;
+    let text = key.thumbprint(alloc, &HmacProvider, hash)?;
+    Ok(text.into_bytes())
+}
+
+/// Returns the thumbprint of a key, by the hash of this many bits.
+pub fn thumbprint_answer(alloc: Global, key: &[u8], bits: u32) -> Result<Vec<u8>, Refusal>
+    ensures ok { IfOk result (λ b. AnswersThumbprint (hash_numbered bits) key.now (Gives b.items)) }
+    ensures err { IfErr result (λ r. AnswersThumbprint (hash_numbered bits) key.now (answer_of r)) }
+{
+    match numbered_hash(bits) {
+        Some(hash) => hashed(alloc, key, hash),
+        None => Err(Refusal::Token(new_error(ErrorKind::InvalidAlgorithmName))),
+    }
+}

@@ -1,0 +1,4 @@
+pub mod Bits
+pub mod KeyTests
+pub mod Lowest
+pub mod Masks

@@ -1,0 +1,6 @@
+pub mod Rsa
+pub mod Pkcs1
+pub mod Pss
+pub mod RsaSchemes
+pub mod RsaKeys
+pub mod RsaFamilies

@@ -1,0 +1,129 @@
+//! The provider of RSA.
+
+ghost use Rattle.std.specs.Prelude.{◌≡◌, ◌↔◌, ℕ, List, Ok, Some, None, IsTrue, IfOk, IfErr, OnOk};
+ghost use Rattle.jwt_base.specs.Kind as kind;
+ghost use Rattle.jwt_base.specs.KindOf.{kind_of, IsMemory};
+ghost use Rattle.jwt_keys.specs.Provider.{reads_no_key};
+ghost use Rattle.jwt_hmac.specs.Hmac.{hash_bytes};
+ghost use Rattle.jwt_hmac.specs.HmacKeys.{hash_named};
+ghost use Rattle.jwt_rsa.specs.RsaSchemes.{scheme_for};
+ghost use Rattle.jwt_rsa.specs.RsaKeys.{refusal, RsaAccepts};
+ghost use Rattle.jwt_rsa.specs.RsaFamilies.{family_made};
+
+use crate::key::PublicKey;
+use crate::scheme::scheme_of_algorithm;
+use crate::verifier::RsaVerifier;
+use jwt_base::algorithms::Algorithm;
+use jwt_base::errors::{Error, ErrorKind, Result, new_error};
+use jwt_hmac::HmacProvider;
+use jwt_keys::decoding_key::{DecodingKey, DecodingKeyKind};
+use jwt_keys::encoding_key::EncodingKey;
+use jwt_keys::provider::CryptoProvider;
+use jwt_params::curves::EllipticCurve;
+use jwt_params::thumbprints::ThumbprintHash;
+use jwt_verdict::NoSigner;
+use std::alloc::Global;
+
+fn unsupported() -> Error
+    ensures { kind_of result ≡ kind.UnsupportedAlgorithm }
+{
+    new_error(ErrorKind::UnsupportedAlgorithm)
+}
+
+/// The provider of RSA: it verifies RS256, RS384 and RS512 by RSASSA-PKCS1-v1_5 (RFC 7518 section
+/// 3.3), and PS256, PS384 and PS512 by RSASSA-PSS (section 3.5), with keys of a modulus and an
+/// exponent. Its digests are those of SHA-2. It signs nothing and reads no keys in DER.
+#[derive(Debug, Clone, Copy)]
+pub struct RsaProvider;
+
+impl CryptoProvider for RsaProvider {
+    type Signer = NoSigner;
+
+    type Verifier = RsaVerifier;
+
+    ghost signer_refusal = { λ _ a k. Some kind.UnsupportedAlgorithm };
+
+    ghost verifier_refusal = { λ _ a k. refusal (scheme_for a) k };
+
+    ghost sign_refusal = { λ _ a k m. None };
+
+    ghost signs = { λ _ a k m s. ⊥ };
+
+    ghost accepts = { λ _ a k m s. RsaAccepts a k m s };
+
+    ghost is_sparing = { λ _. ⊥ };
+
+    ghost key_answers = { λ _. reads_no_key kind.UnsupportedAlgorithm (λ h bytes. Ok (hash_bytes (hash_named h) bytes)) };
+
+    /// Refuses with `UnsupportedAlgorithm`.
+    fn signer_factory(
+        &self,
+        _alloc: Global,
+        _algorithm: &Algorithm,
+        _key: &EncodingKey,
+    ) -> Result<NoSigner> {
+        Err(unsupported())
+    }
+
+    /// Returns a verifier by this algorithm and key. Another algorithm is refused with
+    /// `UnsupportedAlgorithm`, and then these keys with `InvalidKeyFormat`: one that is not of a
+    /// modulus and an exponent; a modulus that is even, of fewer than 2048 bits (RFC 7518 section
+    /// 3.3) or of more than 16384; an exponent that is even, below 3 or of more than 64 bits
+    /// (RFC 8017 section 3.1). Octets of 0 at the front of the two numbers count for nothing.
+    fn verifier_factory(
+        &self,
+        alloc: Global,
+        algorithm: &Algorithm,
+        key: &DecodingKey,
+    ) -> Result<RsaVerifier> {
+        let Some(scheme) = scheme_of_algorithm(*algorithm) else {
+            return Err(unsupported());
+        };
+        let DecodingKeyKind::RsaModulusExponent { n, e } = key.kind() else {
+            return Err(new_error(ErrorKind::InvalidKeyFormat));
+        };
+        let key = PublicKey::new(alloc, n, e)?;
+        Ok(RsaVerifier { scheme, key })
+    }
+
+    fn rsa_pub_components_from_private_key(
+        &self,
+        _alloc: Global,
+        _der: &[u8],
+    ) -> Result<(Vec<u8>, Vec<u8>)> {
+        Err(unsupported())
+    }
+
+    fn rsa_pub_components_from_public_key(
+        &self,
+        _alloc: Global,
+        _der: &[u8],
+    ) -> Result<(Vec<u8>, Vec<u8>)> {
+        Err(unsupported())
+    }
+
+    fn ec_pub_components_from_private_key(
+        &self,
+        _alloc: Global,
+        _der: &[u8],
+        _algorithm: Algorithm,
+    ) -> Result<(EllipticCurve, Vec<u8>, Vec<u8>)> {
+        Err(unsupported())
+    }
+
+    fn ed_pub_components_from_private_key(
+        &self,
+        _alloc: Global,
+        _der: &[u8],
+        _curve: &EllipticCurve,
+    ) -> Result<Vec<u8>> {
+        Err(unsupported())
+    }
+
+    /// Returns the digest by SHA-2. The only refusal is `OutOfMemory`.
+    fn compute_digest(&self, alloc: Global, bytes: &[u8], hash: ThumbprintHash) -> Result<Vec<u8>> {
+        HmacProvider.compute_digest(alloc, bytes, hash)
+    }
+
+    ghost same_family = { λ p a k h. family_made a k h };
+}
