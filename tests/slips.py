@@ -1,4 +1,5 @@
-"""Tests that a slip of the caller is an exception that names the argument, and no accepted token. The last line counts."""
+"""Tests examples/python/jwt.py: a mistake of the caller is an exception that names the argument, and never an accepted token. The last line counts."""
+import argparse
 import array
 import base64
 import copy
@@ -9,7 +10,14 @@ import pickle
 import subprocess
 import sys
 
-import jwt
+PYTHON = os.path.join(os.path.dirname(os.path.dirname(os.path.abspath(__file__))), "examples", "python")
+sys.path.insert(0, PYTHON)
+argparse.ArgumentParser(description=__doc__).parse_args()
+try:
+    import jwt
+except ImportError as error:
+    print(f"slips.py: {error}", file=sys.stderr)
+    sys.exit(2)
 
 SECRET = b"0123456789abcdef0123456789abcdef"
 OPTIONS = {"algorithms": ["HS256"], "required_spec_claims": []}
@@ -165,10 +173,10 @@ def kinds():
 
 def imports():
     for library in ("/nowhere/libjwt.so", __file__):
-        ran = subprocess.run([sys.executable, "-B", "-c", "import jwt"], cwd=os.path.dirname(os.path.abspath(__file__)),
+        ran = subprocess.run([sys.executable, "-B", "-c", "import jwt"], cwd=PYTHON,
                              env={**os.environ, "JWT_LIBRARY": library}, stderr=subprocess.PIPE, text=True)
         last = ran.stderr.strip().splitlines()[-1:]
-        test(f"without a library: {last}", last and last[0].startswith("ImportError: ") and library in last[0] and "examples/run --build" in last[0])
+        test(f"without a library: {last}", last and last[0].startswith("ImportError: ") and library in last[0] and "tools/build_c" in last[0])
 
 
 for tests in (secrets, texts, issued, verdicts, moments, options, kinds, imports):

@@ -1,4 +1,4 @@
-//! What jwt_bench measures, by the Rust crate jsonwebtoken over ring.
+//! The measurements of jwt_bench, by the Rust crate jsonwebtoken over ring.
 
 use jsonwebtoken::errors::Result;
 use jsonwebtoken::{decode, decode_header, encode, Algorithm, DecodingKey, EncodingKey, Header, Validation};
@@ -6,7 +6,7 @@ use serde_json::Value;
 use std::hint::black_box;
 use std::time::Instant;
 
-/// What the work needs and is not measured.
+/// The values that the work needs, whose making is not measured.
 struct Prepared {
     decoding: DecodingKey,
     encoding: EncodingKey,
@@ -26,7 +26,7 @@ impl Prepared {
         })
     }
 
-    /// Does the work on the text so many times.
+    /// Does the work on the text this many times.
     fn repeat(&self, work: &str, text: &str, count: u64) -> Result<()> {
         for _ in 0..count {
             let token = black_box(text);
@@ -40,7 +40,7 @@ impl Prepared {
     }
 }
 
-/// By the words after the program's name: the work, a file, and how many times; a tenth of that warms up.
+/// Runs the program with its arguments: the work, a file, and the number of times; a tenth of that warms up.
 fn main() -> std::result::Result<(), Box<dyn std::error::Error>> {
     let words: Vec<String> = std::env::args().collect();
     let (work, count) = (&words[1], words[3].parse()?);

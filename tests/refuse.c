@@ -1,8 +1,8 @@
 /* Refuses requests for memory, for a program that is started with this in LD_PRELOAD.
  *
  * A request for ORDER bytes and N more, which no machine could meet, is refused, and so is the Nth request after it. The
- * variable REFUSE, where it is set, is the number of a first request to refuse, counted from the program's start; that it
- * was refused is told by a byte on descriptor 3. */
+ * variable REFUSE, if it is set, is the number of a first request to refuse, counted from the program's start; a byte on
+ * descriptor 3 tells that it was refused. */
 typedef unsigned long size;
 
 extern void *__libc_malloc(size bytes);
@@ -13,7 +13,7 @@ extern long write(int descriptor, const void *bytes, size count);
 enum { NOT_ASKED, BY_REFUSE, BY_ORDER };
 
 static const size ORDER = 1UL << 47;
-static size left; /* how many requests there are until one is refused; 0 where none is */
+static size left; /* how many requests there are until one is refused; 0 if none is */
 static int by = NOT_ASKED;
 
 static void look_at_refuse(void) {

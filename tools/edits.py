@@ -6,9 +6,9 @@ An edit has the form of rt's must-fail edits: 'file: src/lib.rt', 'old: TEXT', '
 import os
 import re
 
-from kit import rt
+from kit import why_bad
 
-# In rt fmt's layout: where a function begins, where what encloses it begins, and what else ends its lines.
+# In rt fmt's layout: the line at which a function begins, that of the block around it, and other lines that end a function.
 FUNCTION = re.compile(r" *(?:pub(?:\(\w+\))? )?(?:const )?(?:unsafe )?(?:extern \S+ )?fn (\w+)")
 BLOCK = re.compile(r" *(?:pub )?(?:unsafe )?(?:impl|trait)\b")
 ITEM = re.compile(
@@ -19,18 +19,18 @@ TYPE = re.compile(r"(?m)^(?:pub(?:\(\w+\))? )?(?:struct|enum|union) (\w+)")
 
 
 def text_of(file):
-    with open(file, encoding="utf-8") as it:
-        return it.read()
+    with open(file, encoding="utf-8") as opened:
+        return opened.read()
 
 
 def plain(path):
     """Returns the parts of a path without the marks in which rattle's spelling differs from the source's."""
-    return tuple(re.sub(r"\W", "", it).lower() for it in path)
+    return tuple(re.sub(r"\W", "", part).lower() for part in path)
 
 
 def module_of(file):
     """Returns the module of a source file, as the parts of its path."""
-    return [it for it in re.sub(r"^src/|\.rt$", "", file).split("/") if it not in ("lib", "main", "mod")]
+    return [part for part in re.sub(r"^src/|\.rt$", "", file).split("/") if part not in ("lib", "main", "mod")]
 
 
 class Block:
@@ -75,7 +75,7 @@ class Function:
 
     def find(self, paths):
         """Takes its path as rattle spells it: an impl may stand in another module than its type, by which rattle names it."""
-        like = [it for it in paths if it[-2:] == self.path[-2:]] if self.block else []
+        like = [path for path in paths if path[-2:] == self.path[-2:]] if self.block else []
         if self.path not in paths and len(like) == 1:
             self.path = like[0]
 
@@ -88,9 +88,9 @@ def name_of(block):
     own = set(re.findall(r"(?:^|,)\s*(?:const )?('?\w+)", parameters or ""))
     trait, _, of = re.sub(r"\b(?:where|requires|ensures)\b.*|\{.*", "", rest).rpartition(" for ")
     head, _, arguments = trait.partition("<")
-    words = [it for it in re.findall(r"\w+", arguments) if it not in own]
+    words = [word for word in re.findall(r"\w+", arguments) if word not in own]
     parts = [re.match(r"\w+", of)[0], head.split("::")[-1], *words]
-    return "".join(it[:1].upper() + it[1:] for it in parts)
+    return "".join(part[:1].upper() + part[1:] for part in parts)
 
 
 def functions_of(file, text):
@@ -98,6 +98,8 @@ def functions_of(file, text):
     found, block, now, above = [], None, None, 0
     lines = text.split("\n")
     for number, line in enumerate(lines, 1):
+        # the end of a comment that hides a right body ends nothing else
+        line = re.sub(r"^( *)\*/ ?", r"\1", line)
         indent = len(line) - len(line.lstrip(" "))
         if not line.strip():
             continue
@@ -114,15 +116,15 @@ def functions_of(file, text):
         above = (above or number) if line.lstrip().startswith("#[") else 0
         if now:
             now.last = number
-    for it in found:
-        it.note_text(lines)
+    for function in found:
+        function.note_text(lines)
     return found
 
 
 def sources(crate):
     """Returns the paths of the crate's source files below its folder."""
-    found = [f"{at}/{it}" for at, _, files in os.walk(f"{crate.folder}/src") for it in files if it.endswith(".rt")]
-    return sorted(os.path.relpath(it, crate.folder) for it in found)
+    found = [f"{at}/{name}" for at, _, files in os.walk(f"{crate.folder}/src") for name in files if name.endswith(".rt")]
+    return sorted(os.path.relpath(path, crate.folder) for path in found)
 
 
 def at_home(crate, functions):
@@ -130,10 +132,10 @@ def at_home(crate, functions):
     homes = {}
     for path in sources(crate):
         homes.update(dict.fromkeys(TYPE.findall(text_of(f"{crate.folder}/{path}")), module_of(path)))
-    for it in functions:
-        types = [name for name in homes if it.block and it.block.name.startswith(name)]
+    for function in functions:
+        types = [name for name in homes if function.block and function.block.name.startswith(name)]
         if types:
-            it.spell([*homes[max(types, key=len)], it.block.name])
+            function.spell([*homes[max(types, key=len)], function.block.name])
     return functions
 
 
@@ -144,7 +146,7 @@ class Edit:
         self.crate, self.name = crate, os.path.basename(file)[: -len(".edit")]
         self.pairs, self.function, self.text = [], None, text_of(file)
         self.is_refused, self.misfit, self.has_twin = False, "", False
-        why = rt.read_edit(file, crate.folder)[1] or self.place(file)
+        why = why_bad(file, crate.folder) or self.place(file)
         self.is_bad, self.said = bool(why), why or ""
 
     def place(self, file):
@@ -162,7 +164,7 @@ class Edit:
         for path, old, new, _ in self.pairs:
             text = text_of(f"{self.crate.folder}/{path}")
             line = text.count("\n", 0, text.find(old)) + 1
-            here = next((it for it in functions_of(path, text) if it.first <= line <= it.last), None)
+            here = next((function for function in functions_of(path, text) if function.first <= line <= function.last), None)
             own = self.function
             between = "".join(text.split("\n")[own.last : line - 1]) if own and path == own.file else "-"
             if new.lstrip().startswith("*/ ") and not between.strip(" }"):
@@ -176,7 +178,7 @@ class Edit:
 def edits_of(crate, with_more):
     """Returns the edits of a crate's folder wrong-bodies, and of the folder more/ in it if that is asked for."""
     folders = [f"{crate.folder}/wrong-bodies", *[f"{crate.folder}/wrong-bodies/more"] * with_more]
-    files = [f"{at}/{it}" for at in folders if os.path.isdir(at) for it in sorted(os.listdir(at))]
-    edits = [Edit(crate, it) for it in files if it.endswith(".edit")]
-    at_home(crate, [it.function for it in edits if it.function])
+    files = [f"{at}/{path}" for at in folders if os.path.isdir(at) for path in sorted(os.listdir(at))]
+    edits = [Edit(crate, path) for path in files if path.endswith(".edit")]
+    at_home(crate, [edit.function for edit in edits if edit.function])
     return edits

@@ -8,20 +8,19 @@ are kept, since the prover takes longer over a statement about them that has no 
 import os
 import re
 import shutil
-import subprocess
 import tempfile
 
 from edits import FUNCTION, at_home, functions_of, plain, sources, text_of
-from kit import rt
 
-# What rattle prints: a function's verdict, a goal that it did not prove, and an answer that is no proof.
+PARTS = ("src", "specs", "proofs")
+# The lines that rattle prints: a function's verdict, a goal that it did not prove, and an answer that is not a proof.
 VERDICT = re.compile(r"fn (\S+): (.*)")
 GOAL = re.compile(r"note: (?:\./)?(src/\S+?):(\d+):\d+: (it is not proved that .*|`search` found no proof .*)")
 ANSWER = re.compile(r"(?:\./)?proofs/(\S+)/\w+\.antt:\d+:\d+: error: (.*)")
 NO_PROOF = re.compile(r"`(?:search|grind|omega|simp|cc)\b[^`]*`: no proof|found no proof|no proof of")
 NO_FUNCTION = re.compile(r"proofs/(\S+)/Proof\.antt: error: `\w+` has no function")
 PROVED = ("no holes", "depends on a hole in")
-# What rattle prints of a body that does not compile.
+# The line that rattle prints of a body that does not compile.
 ERROR = re.compile(r"(?:\./)?(src/\S+?):(\d+):\d+: error")
 # A proof that is left out.
 HOLE = """use Rattle.{crate}.proofs.{module}.Statement.{{statement}}
@@ -50,7 +49,7 @@ def copy_of(edit, name, twins):
     head = next(number for number, line in enumerate(lines) if FUNCTION.match(line))
     lines[head] = re.sub(rf"\bfn {own.name}\b", f"fn {name}", lines[head], count=1)
     # what follows the function ends the comment that hides the right body
-    is_open = sum(it.count("/*") - it.count("*/") for it in lines) > 0
+    is_open = sum(line.count("/*") - line.count("*/") for line in lines) > 0
     return [*lines, "*/"] if is_open else lines
 
 
@@ -59,18 +58,18 @@ class Planted:
 
     def __init__(self, crate, edits, twins=False):
         self.crate, self.twins, self.texts, self.functions, self.copies = crate, twins, {}, {}, []
-        copied = [it for it in edits if it.function.can_be_copied()]
+        copied = [edit for edit in edits if edit.function.can_be_copied()]
         in_place, self.left = [], []
         for edit in edits:
             if edit not in copied:
-                is_free = all(it.function.unit() != edit.function.unit() for it in in_place)
+                is_free = all(other.function.unit() != edit.function.unit() for other in in_place)
                 (in_place if is_free and applied([*in_place, edit], twins) is not None else self.left).append(edit)
         self.tried = [*copied, *in_place]
         self.plant(copied, in_place)
 
     def plant(self, copied, in_place):
         self.texts = applied(in_place, self.twins)
-        spelled = {it: it.function.spelled for it in in_place}
+        spelled = {edit: edit.function.spelled for edit in in_place}
         inserted = {}
         for number, edit in enumerate(copied, 1):
             own, name = edit.function, f"{edit.function.name}_wrong_{number}"
@@ -79,81 +78,78 @@ class Planted:
             inserted.setdefault(own.file, []).append((own.last, ["", *copy_of(edit, name, self.twins)]))
         for path, some in inserted.items():
             lines = (self.texts.get(path) or text_of(f"{self.crate.folder}/{path}")).split("\n")
-            for last, added in sorted(some, key=lambda it: -it[0]):
+            for last, added in sorted(some, key=lambda own: -own[0]):
                 lines[last:last] = added
             self.texts[path] = "\n".join(lines)
         found = []
         for path in sources(self.crate):
             found += functions_of(path, self.texts.get(path) or text_of(f"{self.crate.folder}/{path}"))
         self.all_functions = at_home(self.crate, found)
-        found = {(it.file, it.spelled): it for it in self.all_functions}
-        self.functions = {it: found[it.function.file, spelled[it]] for it in self.tried}
+        found = {(function.file, function.spelled): function for function in self.all_functions}
+        self.functions = {edit: found[edit.function.file, spelled[edit]] for edit in self.tried}
 
-    def write(self, room, kept_proofs):
+    def write(self, scratch, kept_proofs):
         """Writes the crate's copy, with the proofs of the copied functions, and without those of the others but for these."""
-        for part in rt.rtlib.PARTS:
+        for part in PARTS:
             if os.path.isdir(f"{self.crate.folder}/{part}"):
-                shutil.copytree(f"{self.crate.folder}/{part}", f"{room}/{part}")
+                shutil.copytree(f"{self.crate.folder}/{part}", f"{scratch}/{part}")
         for path, text in self.texts.items():
-            with open(f"{room}/{path}", "w", encoding="utf-8") as it:
-                it.write(text)
+            with open(f"{scratch}/{path}", "w", encoding="utf-8") as opened:
+                opened.write(text)
         for right, wrong in self.copies:
-            copy_proofs(room, right, wrong)
+            copy_proofs(scratch, right, wrong)
         tried = set(self.functions.values())
-        for it in self.all_functions:
-            if it not in tried and it.path not in kept_proofs and it.has_body and not it.is_generic and not it.cycle:
-                leave_out(self.crate, room, it.spelled)
+        for function in self.all_functions:
+            if function not in tried and function.path not in kept_proofs and function.has_body and not function.is_generic and not function.cycle:
+                leave_out(self.crate, scratch, function.spelled)
 
     def check_once(self, jobs, kept, kept_proofs, only):
         """Checks the copy, and these of its functions alone if there are any. Returns a status, and what was printed."""
-        with tempfile.TemporaryDirectory(prefix=f"rt-edit-{os.getpid()}-") as room:
-            self.write(room, kept_proofs)
-            flags = ["--jobs", str(jobs), "--allow-holes", *(word for it in only for word in ("--only", it))]
-            words = [rt.rtlib.RATTLE, "check", *self.crate.words(flags, keeps=False), *(["--incremental", kept] if kept else [])]
-            how = {"cwd": room, "stdin": subprocess.DEVNULL, "stdout": subprocess.PIPE, "stderr": subprocess.STDOUT, "errors": "replace"}
-            ran = subprocess.run([*rt.rtlib.guarded(), *words], **how)
-            return ran.returncode, ran.stdout
+        with tempfile.TemporaryDirectory(prefix=f"rt-edit-{os.getpid()}-") as scratch:
+            self.write(scratch, kept_proofs)
+            flags = ["--jobs", str(jobs), "--allow-holes", *(word for name in only for word in ("--only", name))]
+            return self.crate.check_copy(scratch, flags, kept)
 
     def check(self, jobs, kept=None):
         """Checks the planted functions of the copy, and those that they call. Returns what was printed."""
-        only, kept_proofs = [it.spelled for it in self.functions.values()], set()
+        only, kept_proofs = [function.spelled for function in self.functions.values()], set()
         status, said = self.check_once(jobs, kept, kept_proofs, only)
         # rattle may spell the path of a function of a trait in another way
-        unknown = {plain(it.split("/")) for it in NO_FUNCTION.findall(said)}
+        unknown = {plain(found.split("/")) for found in NO_FUNCTION.findall(said)}
         if unknown:
             kept_proofs = unknown
             status, said = self.check_once(jobs, kept, kept_proofs, only)
         return self.check_once(jobs, kept, kept_proofs, [])[1] if status == 2 else said
 
 
-def copy_proofs(room, right, wrong):
+def copy_proofs(scratch, right, wrong):
     """Gives a copied function the proof files of the right one."""
-    source, copy = (f"{room}/proofs/{it.replace('::', '/')}" for it in (right, wrong))
+    source, copy = (f"{scratch}/proofs/{path.replace('::', '/')}" for path in (right, wrong))
     if not os.path.isdir(source):
         return
     os.makedirs(copy)
-    old, new = (it.replace("::", ".") for it in (right, wrong))
+    old, new = (path.replace("::", ".") for path in (right, wrong))
     for name in os.listdir(source):
         if os.path.isfile(f"{source}/{name}"):
             text = re.sub(rf"(\.(?:proofs|contracts)\.){re.escape(old)}\b", rf"\g<1>{new}", text_of(f"{source}/{name}"))
             text = re.sub(rf"\b{old.split('.')[-1]}_spec\b", f"{new.split('.')[-1]}_spec", text)
-            with open(f"{copy}/{name}", "w", encoding="utf-8") as it:
-                it.write(text)
+            with open(f"{copy}/{name}", "w", encoding="utf-8") as opened:
+                opened.write(text)
 
 
-def leave_out(crate, room, path):
+def leave_out(crate, scratch, path):
     """Puts a hole in the place of a function's proof."""
-    folder = f"{room}/proofs/{path.replace('::', '/')}"
+    folder = f"{scratch}/proofs/{path.replace('::', '/')}"
     os.makedirs(folder, exist_ok=True)
     for name in os.listdir(folder):
         if os.path.isfile(f"{folder}/{name}"):
             os.remove(f"{folder}/{name}")
-    with open(f"{folder}/Proof.antt", "w", encoding="utf-8") as it:
-        it.write(HOLE.format(crate=crate.name, module=path.replace("::", "."), name=path.split("::")[-1]))
+    with open(f"{folder}/Proof.antt", "w", encoding="utf-8") as opened:
+        opened.write(HOLE.format(crate=crate.name, module=path.replace("::", "."), name=path.split("::")[-1]))
 
 
 class Report:
-    """What a check of planted edits printed: verdicts by function, goals that it left open, and answers that are no proofs."""
+    """The lines that a check of planted edits printed: verdicts by function, goals that it left open, and answers that are not proofs."""
 
     def __init__(self, planted, jobs, kept=None):
         self.lines, self.functions, self.verdicts = planted.check(jobs, kept).split("\n"), planted.functions, {}
@@ -161,12 +157,12 @@ class Report:
             self.verdicts[plain(found[1].split("::")[1:])] = found[2]
         for function in self.functions.values():
             function.find(self.verdicts)
-        self.goals = [it for it in map(GOAL.match, self.lines) if it]
-        self.answers = [(plain(it[1].split("/")), it[2]) for it in map(ANSWER.match, self.lines) if it]
+        self.goals = [found for found in map(GOAL.match, self.lines) if found]
+        self.answers = [(plain(found[1].split("/")), found[2]) for found in map(ANSWER.match, self.lines) if found]
 
     def uncompiled(self):
         """Returns the edits whose bodies do not compile, for which no other was checked either."""
-        lines = [] if self.verdicts else [(it[1], int(it[2])) for it in map(ERROR.match, self.lines) if it]
+        lines = [] if self.verdicts else [(found[1], int(found[2])) for found in map(ERROR.match, self.lines) if found]
         has_error = lambda own: any(file == own.file and own.first <= line <= own.last for file, line in lines)
         return [edit for edit, own in self.functions.items() if has_error(own)]
 
@@ -176,12 +172,12 @@ class Report:
     def judge(self, edit):
         """Notes of the edit whether a goal of its own function is open, and why."""
         own = self.functions[edit]
-        goals = [it[3] for it in self.goals if it[1] == own.file and own.first <= int(it[2]) <= own.last]
+        goals = [found[3] for found in self.goals if found[1] == own.file and own.first <= int(found[2]) <= own.last]
         answers = [why for path, why in self.answers if path == own.path]
         goals += filter(NO_PROOF.search, answers)
         edit.misfit = "" if goals or not answers else answers[0]
         edit.is_refused = bool(goals) and not self.proves(edit)
         if own.path not in self.verdicts:
-            edit.said = next((it for it in self.lines if "error" in it), f"no verdict on {own.spelled}")
+            edit.said = next((line for line in self.lines if "error" in line), f"no verdict on {own.spelled}")
         else:
             edit.said = (goals or answers or [f"its function is {self.verdicts[own.path]}"])[0]

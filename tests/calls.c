@@ -43,7 +43,7 @@ void *__wrap_calloc(size_t count, size_t size) { return refuses() ? NULL : __rea
 void *__wrap_realloc(void *block, size_t size) { return refuses() ? NULL : __real_realloc(block, size); }
 void *__wrap_aligned_alloc(size_t align, size_t size) { return refuses() ? NULL : __real_aligned_alloc(align, size); }
 
-/* ---- rooms: what was there before, and whether the bytes behind an answer are as they were */
+/* ---- buffers: their bytes before a call, and whether those behind a result are unchanged */
 
 struct answer {
     uint32_t status;
@@ -63,7 +63,7 @@ static bool is_kept(const struct answer *a, size_t from) {
     return true;
 }
 
-/* the status; a refusal has no length and leaves the room, an answer leaves what is behind it */
+/* the status; after a refusal the length is 0 and the buffer is unchanged, after a result the bytes behind it are */
 static long status_of(const struct answer *a) {
     size_t given = a->status == JWT_OK ? a->len : 0;
     if (a->status != JWT_OK && a->status != JWT_NO_ROOM && a->len != 0) return -1;
@@ -166,13 +166,13 @@ static void rooms(void) {
     size_t needed = strlen(CLAIMS);
     for (size_t room = 0; room <= needed + 9; room++) {
         struct answer a = hmac_in(TOKEN, "secret", OPTIONS, LAST, room);
-        is("a room's status", a.status, room < needed ? JWT_NO_ROOM : JWT_OK);
+        is("a buffer's status", a.status, room < needed ? JWT_NO_ROOM : JWT_OK);
         is("the length that is needed", a.len, needed);
-        is("bytes behind the answer", is_kept(&a, room < needed ? 0 : needed), 1);
+        is("bytes behind the result", is_kept(&a, room < needed ? 0 : needed), 1);
     }
     size_t len = 7;
-    is("no room", jwt_decode_hmac(BYTES(TOKEN), BYTES("secret"), BYTES(OPTIONS), LAST, NULL, 0, &len), JWT_NO_ROOM);
-    is("the length of no room", len, needed);
+    is("no buffer", jwt_decode_hmac(BYTES(TOKEN), BYTES("secret"), BYTES(OPTIONS), LAST, NULL, 0, &len), JWT_NO_ROOM);
+    is("the length without a buffer", len, needed);
 }
 
 static void options(void) {
@@ -237,8 +237,8 @@ static void kinds_of_claims(void) {
        JWT_INVALID_AUDIENCE);
     is("an audience that nobody set", claims("{\"exp\":940,\"aud\":\"a\"}", ES256_LISTED "}"), JWT_INVALID_AUDIENCE);
     is("another subject", claims("{\"exp\":940,\"sub\":\"t\"}", ES256_LISTED ",\"sub\":\"s\"}"), JWT_INVALID_SUBJECT);
-    is("claims that are no object", claims("[]", ES256_LISTED "}"), JWT_JSON);
-    is("claims that are no JSON", claims("", ES256_LISTED "}"), JWT_JSON);
+    is("claims that are not an object", claims("[]", ES256_LISTED "}"), JWT_JSON);
+    is("claims that are not JSON", claims("", ES256_LISTED "}"), JWT_JSON);
 }
 
 static void kinds_with_a_claim(void) {
@@ -315,7 +315,7 @@ static void signed_parts(void) {
     }
     a = fresh();
     a.status = jwt_signed_part(BYTES(TOKEN), &algorithm, &message, a.room, 31, &a.len);
-    is("a room too small for a signature", status_of(&a), JWT_NO_ROOM);
+    is("a buffer too small for a signature", status_of(&a), JWT_NO_ROOM);
     is("the signature's length", a.len, 32);
     is("the algorithm all the same", algorithm, JWT_HS256);
     is("the message's length all the same", message, strlen(TOKEN) - 44);
@@ -346,7 +346,7 @@ static void headers(void) {
     for (size_t room = 0; room <= 30; room++) {
         a = fresh();
         a.status = jwt_decode_header(BYTES(TOKEN), a.room, room, &a.len);
-        is("a header's room", status_of(&a), room < 27 ? JWT_NO_ROOM : JWT_OK);
+        is("a header's buffer", status_of(&a), room < 27 ? JWT_NO_ROOM : JWT_OK);
         is("a header's length", a.len, 27);
     }
     a = fresh();
@@ -400,7 +400,7 @@ static void sets(void) {
     struct answer a = by_set(NAMED, SET, OPTIONS, LAST, ROOM);
     is("claims by a set", gives(&a, CLAIMS), 1);
     a = by_set(NAMED, SET, OPTIONS, LAST, strlen(CLAIMS) - 1);
-    is("a room too small for claims by a set", status_of(&a), JWT_NO_ROOM);
+    is("a buffer too small for claims by a set", status_of(&a), JWT_NO_ROOM);
     is("the length that they need", a.len, strlen(CLAIMS));
 }
 
@@ -445,7 +445,7 @@ static void issued(void) {
         is(refused[i].header, status_of(&a), refused[i].status);
     }
     struct answer a = issued_in("{\"alg\":\"HS256\",\"kid\":\"b\"}", CLAIMS, "secret", strlen(NAMED) - 1);
-    is("a room too small for a token", status_of(&a), JWT_NO_ROOM);
+    is("a buffer too small for a token", status_of(&a), JWT_NO_ROOM);
     is("a token's length", a.len, strlen(NAMED));
 }
 
@@ -558,11 +558,11 @@ static void status_texts(void) {
     }
     a = fresh();
     a.status = jwt_status_text(2, a.room, 15, &a.len);
-    is("a room too small for a text", status_of(&a), JWT_NO_ROOM);
+    is("a buffer too small for a text", status_of(&a), JWT_NO_ROOM);
     is("the text's length", a.len, 16);
 }
 
-/* an object that nests so deep, the object itself counted */
+/* an object of this many levels, the object itself counted */
 static const char *nested(const char *member, int levels) {
     static char text[1024];
     int at = sprintf(text, "{\"%s\":", member);
@@ -577,13 +577,13 @@ static void nesting(void) {
     is("claims of 128 levels", claims(nested("a", 128), ES256_LISTED ",\"required_spec_claims\":[]}"), JWT_JSON);
     struct answer a = verdict_on(token_of(ES256, nested("a", 127)), JWT_ES256, true,
                                  ES256_LISTED ",\"required_spec_claims\":[]}", 0);
-    is("what is given of 127 levels", gives(&a, nested("a", 127)), 1);
+    is("the result of 127 levels", gives(&a, nested("a", 127)), 1);
     is("options of 128 levels", hmac(TOKEN, "secret", nested("aud", 128), LAST), JWT_BAD_OPTIONS);
 }
 
-/* ---- want of memory: every request of a call is refused in turn */
+/* ---- out of memory: every request of a call is refused in turn */
 
-/* a call, and whether what it left is right */
+/* a call, and whether its result is right */
 static bool claims_given(struct answer *a) {
     a->status = jwt_decode_hmac(BYTES(TOKEN), BYTES("secret"), BYTES(OPTIONS), LAST, a->room, ROOM, &a->len);
     return gives(a, CLAIMS);
@@ -622,7 +622,7 @@ static bool thumbprint_given(struct answer *a) {
     return gives(a, "DWBh0SEIAPYh1x5uvot4z3AhaikHkxNJa3Ada2fT-Cg");
 }
 
-/* how often the call answered want of memory, until no request was left to refuse; -1 for another answer */
+/* how often the call was out of memory, until no request was left to refuse; -1 for another status */
 static long refused_in_turn(bool (*call)(struct answer *)) {
     long seen = 0;
     for (long number = 1; number < 1000; number++) {
@@ -640,24 +640,24 @@ static long refused_in_turn(bool (*call)(struct answer *)) {
 static void refused_memory(void) {
     refused_in_turn(claims_given), refused_in_turn(header_given);
     size_t before = mallinfo2().uordblks;
-    is("claims in want of memory", refused_in_turn(claims_given) > 0, 1);
-    is("vouched claims in want of memory", refused_in_turn(vouched_claims_given) > 0, 1);
-    is("a signed part in want of memory", refused_in_turn(signed_part_given) > 0, 1);
-    is("a header in want of memory", refused_in_turn(header_given) > 0, 1);
-    is("claims by a set in want of memory", refused_in_turn(set_claims_given) > 0, 1);
-    is("a token in want of memory", refused_in_turn(token_given) > 0, 1);
-    is("a thumbprint in want of memory", refused_in_turn(thumbprint_given) > 0, 1);
+    is("claims out of memory", refused_in_turn(claims_given) > 0, 1);
+    is("vouched claims out of memory", refused_in_turn(vouched_claims_given) > 0, 1);
+    is("a signed part out of memory", refused_in_turn(signed_part_given) > 0, 1);
+    is("a header out of memory", refused_in_turn(header_given) > 0, 1);
+    is("claims by a set out of memory", refused_in_turn(set_claims_given) > 0, 1);
+    is("a token out of memory", refused_in_turn(token_given) > 0, 1);
+    is("a thumbprint out of memory", refused_in_turn(thumbprint_given) > 0, 1);
     is("memory after all that was refused", mallinfo2().uordblks <= before + 4096, 1);
 }
 
-/* ---- sizes: no call answers want of memory because of a length */
+/* ---- sizes: no call is out of memory because of a length */
 
 #define GREATEST (1 << 20)
 
 static char text[GREATEST + 100], token[3 * GREATEST + 300];
 static uint8_t big_room[2 * GREATEST];
 
-/* `before`, so many letters, and `after` */
+/* `before`, this many letters, and `after` */
 static const char *filled(const char *before, size_t count, const char *after) {
     size_t at = strlen(before);
     memcpy(text, before, at);
@@ -686,7 +686,7 @@ static long wrong_issued_at(size_t size) {
     return wrong + !is_in_room(status, given, "DWBh0SEIAPYh1x5uvot4z3AhaikHkxNJa3Ada2fT-Cg");
 }
 
-/* the claims, what is signed and the header of a token whose claims, signature, key id or options have this size */
+/* the claims, the signed part and the header of a token whose claims, signature, key id or options have this size */
 static long wrong_at(size_t size) {
     uint32_t algorithm;
     size_t len = 0, message;
@@ -730,7 +730,7 @@ static void growth(void) {
         wrong += hmac(TOKEN, "secret", OPTIONS, LAST) != JWT_OK;
         wrong += hmac(TOKEN, "other", OPTIONS, LAST) != JWT_INVALID_SIGNATURE;
     }
-    is("answers of 100000 calls", wrong, 0);
+    is("results of 100000 calls", wrong, 0);
     is("memory after 100000 calls", mallinfo2().uordblks, before);
 }
 
@@ -753,6 +753,36 @@ static void threads(void) {
     }
 }
 
+/* ---- numbers, and the version */
+
+static void numbers(void) {
+    static const struct { const char *claims; uint32_t status; } rows[] = {
+        {"{}", JWT_OK},
+        {CLAIMS, JWT_OK},
+        {"{\"a\":[18446744073709551615,-9223372036854775808,0]}", JWT_OK},
+        {"{\"a\":1.5}", JWT_JSON},
+        {"{\"a\":1e9}", JWT_JSON},
+        {"{\"a\":{\"b\":[18446744073709551616]}}", JWT_JSON},
+        {"{\"a\":-9223372036854775809}", JWT_JSON},
+        {"{\"a\":-0.0}", JWT_JSON},
+        {"[1.5]", JWT_BAD_CLAIMS},
+        {"1", JWT_BAD_CLAIMS},
+        {"{", JWT_BAD_CLAIMS},
+        {"", JWT_BAD_CLAIMS},
+    };
+    for (size_t i = 0; i < sizeof rows / sizeof *rows; i++)
+        is(rows[i].claims, jwt_check_numbers(BYTES(rows[i].claims)), rows[i].status);
+}
+
+static void version(void) {
+    struct answer a = fresh();
+    a.status = jwt_version(a.room, ROOM, &a.len);
+    is("the version", gives(&a, JWT_VERSION), 1);
+    a = fresh();
+    a.status = jwt_version(a.room, 4, &a.len);
+    is("the version in a buffer that is too small", status_of(&a) == JWT_NO_ROOM && a.len == strlen(JWT_VERSION), 1);
+}
+
 int main(void) {
     accepted();
     rooms();
@@ -767,6 +797,8 @@ int main(void) {
     issued();
     thumbprints();
     status_texts();
+    numbers();
+    version();
     nesting();
     refused_memory();
     sizes();

@@ -11,6 +11,11 @@ stop() {
     exit 2
 }
 
+# names_of_crates: those of crates.txt, on one line.
+names_of_crates() {
+    echo $(sed -n 's/^\([a-z_0-9][a-z_0-9]*\).*:.*/\1/p' "$(dirname "$(readlink -f "${BASH_SOURCE[0]}")")/../crates.txt")
+}
+
 case ${1:-} in
     -h | --help)
         usage
