@@ -1,0 +1,3 @@
+pub mod EdDsaKeys
+pub mod EcdsaKeys
+pub mod CurveFamilies
