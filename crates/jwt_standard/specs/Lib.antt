@@ -1,0 +1,3 @@
+pub mod StandardKeys
+pub mod StandardVerifiers
+pub mod StandardFamilies

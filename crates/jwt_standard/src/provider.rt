@@ -1,0 +1,142 @@
+//! The provider of all twelve algorithms.
+
+ghost use Rattle.std.specs.Prelude.{◌≡◌, ◌≢◌, ◌↔◌, ℕ, List, Ok, Some, None, IfOk, IfErr, OnOk, IsTrue};
+ghost use Rattle.jwt_base.specs.Kind as kind;
+ghost use Rattle.jwt_base.specs.KindOf.{kind_of, Refuses};
+ghost use Rattle.jwt_keys.specs.Provider.{reads_no_key};
+ghost use Rattle.jwt_hmac.specs.Hmac.{hash_bytes};
+ghost use Rattle.jwt_hmac.specs.HmacKeys as hmac;
+ghost use Rattle.jwt_standard.specs.StandardKeys.{verifier_refusal, StandardAccepts};
+ghost use Rattle.jwt_standard.specs.StandardFamilies.{family_made};
+
+use crate::verifier::StandardVerifier;
+use jwt_base::algorithms::{Algorithm, AlgorithmFamily};
+use jwt_base::errors::Result;
+use jwt_curves::{EcdsaProvider, EdDsaProvider};
+use jwt_hmac::{HmacProvider, HmacSigner};
+use jwt_keys::decoding_key::DecodingKey;
+use jwt_keys::encoding_key::EncodingKey;
+use jwt_keys::provider::CryptoProvider;
+use jwt_params::curves::EllipticCurve;
+use jwt_params::thumbprints::ThumbprintHash;
+use jwt_rsa::RsaProvider;
+use std::alloc::Global;
+
+/// The provider of all twelve algorithms. It verifies all, each exactly as the provider of its
+/// family does, and signs by HMAC:
+///
+/// | algorithms | verified as by | keys |
+/// |---|---|---|
+/// | HS256, HS384, HS512 | `HmacProvider` (RFC 7518 section 3.2) | a secret of any length |
+/// | RS256, RS384, RS512, PS256, PS384, PS512 | `RsaProvider` (RFC 7518 sections 3.3 and 3.5) | a modulus of 2048 to 16384 bits and an exponent |
+/// | ES256, ES384 | `EcdsaProvider` (RFC 7518 section 3.4) | a point of P-256 or of P-384: the byte 4 and two coordinates |
+/// | EdDSA | `EdDsaProvider` (RFC 8037 section 3.1) | the 32 bytes of a point of Ed25519 |
+///
+/// A key of another family than the algorithm's is refused, so a public key never serves as a
+/// secret (RFC 8725 section 2.1). The key of a JSON Web Key serves too, once
+/// `DecodingKey::from_jwk` has read it, but no key in DER. Digests are those of SHA-2. It signs
+/// HS256, HS384 and HS512 as `HmacProvider` does, and refuses to sign by any other algorithm.
+#[derive(Debug, Clone, Copy)]
+pub struct StandardProvider;
+
+impl CryptoProvider for StandardProvider {
+    type Signer = HmacSigner;
+
+    type Verifier = StandardVerifier;
+
+    ghost signer_refusal = { λ _ a k. hmac.refusal (hmac.hash_for a) k.family };
+
+    ghost verifier_refusal = { λ _ a k. verifier_refusal a k };
+
+    ghost sign_refusal = { λ _ a k m. None };
+
+    ghost signs = { λ _ a k m s. hmac.HmacSigns a k m s };
+
+    ghost accepts = { λ _ a k m s. StandardAccepts a k m s };
+
+    ghost is_sparing = { λ _. ⊥ };
+
+    ghost key_answers = { λ _. reads_no_key kind.UnsupportedAlgorithm (λ h bytes. Ok (hash_bytes (hmac.hash_named h) bytes)) };
+
+    /// Returns a signer by HMAC. An algorithm of another family is refused with
+    /// `UnsupportedAlgorithm`, and then a key of another family with `InvalidKeyFormat`. Allocates
+    /// no memory.
+    fn signer_factory(
+        &self,
+        alloc: Global,
+        algorithm: &Algorithm,
+        key: &EncodingKey,
+    ) -> Result<HmacSigner> {
+        HmacProvider.signer_factory(alloc, algorithm, key)
+    }
+
+    /// Returns the verifier that the provider of the algorithm's family makes. A key is refused with
+    /// `InvalidKeyFormat`: one of another family, and one that the family's provider refuses.
+    /// Allocates memory for RSA alone.
+    fn verifier_factory(
+        &self,
+        alloc: Global,
+        algorithm: &Algorithm,
+        key: &DecodingKey,
+    ) -> Result<StandardVerifier> {
+        Ok(match algorithm.family() {
+            AlgorithmFamily::Hmac => {
+                StandardVerifier::Hmac(HmacProvider.verifier_factory(alloc, algorithm, key)?)
+            }
+            AlgorithmFamily::Rsa => {
+                StandardVerifier::Rsa(RsaProvider.verifier_factory(alloc, algorithm, key)?)
+            }
+            AlgorithmFamily::Ec => {
+                StandardVerifier::Ec(EcdsaProvider.verifier_factory(alloc, algorithm, key)?)
+            }
+            AlgorithmFamily::Ed => {
+                StandardVerifier::Ed(EdDsaProvider.verifier_factory(alloc, algorithm, key)?)
+            }
+        })
+    }
+
+    /// Refuses with `UnsupportedAlgorithm`.
+    fn rsa_pub_components_from_private_key(
+        &self,
+        alloc: Global,
+        der: &[u8],
+    ) -> Result<(Vec<u8>, Vec<u8>)> {
+        HmacProvider.rsa_pub_components_from_private_key(alloc, der)
+    }
+
+    /// Refuses with `UnsupportedAlgorithm`.
+    fn rsa_pub_components_from_public_key(
+        &self,
+        alloc: Global,
+        der: &[u8],
+    ) -> Result<(Vec<u8>, Vec<u8>)> {
+        HmacProvider.rsa_pub_components_from_public_key(alloc, der)
+    }
+
+    /// Refuses with `UnsupportedAlgorithm`.
+    fn ec_pub_components_from_private_key(
+        &self,
+        alloc: Global,
+        der: &[u8],
+        algorithm: Algorithm,
+    ) -> Result<(EllipticCurve, Vec<u8>, Vec<u8>)> {
+        HmacProvider.ec_pub_components_from_private_key(alloc, der, algorithm)
+    }
+
+    /// Refuses with `UnsupportedAlgorithm`.
+    fn ed_pub_components_from_private_key(
+        &self,
+        alloc: Global,
+        der: &[u8],
+        curve: &EllipticCurve,
+    ) -> Result<Vec<u8>> {
+        HmacProvider.ed_pub_components_from_private_key(alloc, der, curve)
+    }
+
+    /// Returns the digest by SHA-2. The only refusal is `OutOfMemory`.
+    fn compute_digest(&self, alloc: Global, bytes: &[u8], hash: ThumbprintHash) -> Result<Vec<u8>> {
+        HmacProvider.compute_digest(alloc, bytes, hash)
+    }
+
+    ghost same_family = { λ _ a k h. family_made a k h };
+}
