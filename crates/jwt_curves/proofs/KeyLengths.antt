@@ -15,10 +15,12 @@ pub ed25519_length : (public : List ℕ) → is_public_key public ≡ true → l
 unfolding is_public_key
 ed25519_length public h = eqb-true (length public) 32 (first_holds _ _ h)
 
-point_length : (p b size : ℕ) (public : List ℕ) → is_key_of p b size public ≡ true → length public ≡ 1 + size + size
+point_length : (p b size : ℕ) (public : List ℕ) → is_key_of p b size public ≡ true
+    → length public ≡ 1 + size + size
 unfolding is_key_of
 point_length p b size public h =
-    eqb-true (length public) (1 + size + size) (first_holds _ _ (first_holds _ _ (first_holds _ _ (first_holds _ _ h))))
+    eqb-true (length public) (1 + size + size)
+    (first_holds _ _ (first_holds _ _ (first_holds _ _ (first_holds _ _ h))))
 
 pub p256_length : (public : List ℕ) → is_p256_key public ≡ true → length public ≡ 65
 unfolding is_p256_key

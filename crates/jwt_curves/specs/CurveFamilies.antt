@@ -40,7 +40,8 @@ ecdsa_key c (Plain family.Hmac b) h = cc
 ecdsa_key c (Components n e) h = cc
 
 -- by ECDSA
-pub ecdsa_made : (a : Algorithm) (k : Key) → ecdsa.refusal (ecdsa.curve_for a) k ≡ None → key_family k ≡ family_of a
+pub ecdsa_made : (a : Algorithm) (k : Key) → ecdsa.refusal (ecdsa.curve_for a) k ≡ None
+    → key_family k ≡ family_of a
 ecdsa_made algorithm.ES256 k h = ecdsa_key P256 k h
 ecdsa_made algorithm.ES384 k h = ecdsa_key P384 k h
 ecdsa_made algorithm.HS256 k h = cc

@@ -28,7 +28,8 @@ abbrev pub IsSignatureOn : Curve → (public message signature : List ℕ) → T
 IsSignatureOn P256 public message signature = IsEs256 public message signature
 IsSignatureOn P384 public message signature = IsEs384 public message signature
 
--- the kind with which a key is refused: a key is the bytes of a point of the curve, in the family of ECDSA
+-- the kind with which a key is refused: a key is the bytes of a point of the curve, in the family of
+-- ECDSA (RFC 7518 section 6.2.1)
 abbrev pub key_refusal : Curve → Key → Option Kind
 key_refusal c (Plain family.Ec public) = if is_key_on c public then None else Some kind.InvalidKeyFormat
 key_refusal c _ = Some kind.InvalidKeyFormat

@@ -8,7 +8,8 @@ use Rattle.jwt_base.specs.declared.algorithms.AlgorithmFamily.TheVariants as fam
 use Rattle.jwt_keys.specs.Key.{Key, Plain}
 use Rattle.ed25519.specs.Ed25519.{is_public_key, IsSignature}
 
--- the kind with which a key is refused: a key is the 32 bytes of a point of Ed25519, in the family of EdDSA (RFC 8037 section 2)
+-- the kind with which a key is refused: a key is the 32 bytes of a point of Ed25519, in the family of
+-- EdDSA (RFC 8037 section 2)
 abbrev pub key_refusal : Key → Option Kind
 key_refusal (Plain family.Ed public) = if is_public_key public then None else Some kind.InvalidKeyFormat
 key_refusal _ = Some kind.InvalidKeyFormat
@@ -18,7 +19,8 @@ abbrev pub refusal : Algorithm → Key → Option Kind
 refusal algorithm.EdDSA k = key_refusal k
 refusal _ k = Some kind.UnsupportedAlgorithm
 
--- by EdDSA the bytes of a key accept the signatures of Ed25519 (RFC 8037 section 3.1), and nothing else is accepted
+-- by EdDSA the bytes of a key accept the signatures of Ed25519, and nothing else is accepted (RFC 8037
+-- section 3.1)
 abbrev pub EdDsaAccepts : Algorithm → Key → List ℕ → List ℕ → Type 0
 EdDsaAccepts algorithm.EdDSA (Plain f public) message signature = IsSignature public message signature
 EdDsaAccepts _ _ message signature = ⊥

@@ -52,7 +52,8 @@ impl PublicKey {
     }
 
     fn verify(&self, message: &[u8], signature: &[u8]) -> bool
-        ensures { IsTrue result ↔ IsSignatureOn (curve_of self.now) (bytes_of self.now) message.now signature.now }
+        ensures { IsTrue result
+            ↔ IsSignatureOn (curve_of self.now) (bytes_of self.now) message.now signature.now }
     {
         match self {
             PublicKey::P256(public) => is_es256(public, message, signature),

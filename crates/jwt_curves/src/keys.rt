@@ -28,7 +28,8 @@ pub(crate) fn unfit_key() -> Error
 // Returns the bytes of a key of this family.
 pub(crate) fn bytes_of_family(key: &DecodingKey, family: AlgorithmFamily) -> Result<&[u8]>
     ensures ok { IfOk result (λ b. key.now ≡ Plain family b.now) }
-    ensures err { IfErr result (λ e. (kind_of e ≡ kind.InvalidKeyFormat) × ((b : List ℕ) → key.now ≢ Plain family b)) }
+    ensures err { IfErr result (λ e. (kind_of e ≡ kind.InvalidKeyFormat)
+        × ((b : List ℕ) → key.now ≢ Plain family b)) }
 {
     if key.family() != family {
         return Err(unfit_key());

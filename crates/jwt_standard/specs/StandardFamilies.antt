@@ -10,7 +10,8 @@ use Rattle.jwt_rsa.specs.RsaFamilies as rsa
 use Rattle.jwt_curves.specs.CurveFamilies.{eddsa_made, ecdsa_made}
 use Rattle.jwt_standard.specs.StandardKeys.{refusal_by, verifier_refusal}
 
-made_by : (f : AlgorithmFamily) (a : Algorithm) (k : Key) → refusal_by f a k ≡ None → key_family k ≡ family_of a
+made_by : (f : AlgorithmFamily) (a : Algorithm) (k : Key) → refusal_by f a k ≡ None
+    → key_family k ≡ family_of a
 made_by family.Hmac a k h = hmac.family_made a (key_family k) h
 made_by family.Rsa a k h = rsa.family_made a k h
 made_by family.Ec a k h = ecdsa_made a k h

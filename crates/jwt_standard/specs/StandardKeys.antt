@@ -1,4 +1,5 @@
--- What the provider of all twelve algorithms makes and accepts: of each algorithm what the provider of its family does.
+-- What the provider of all twelve algorithms makes and accepts: by each algorithm what the provider of
+-- its family makes and accepts.
 use Rattle.std.specs.Prelude.{ℕ, List, Option}
 use Rattle.jwt_base.specs.Algorithm.{family_of}
 use Rattle.jwt_base.specs.Kind.{Kind}

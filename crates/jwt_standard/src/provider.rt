@@ -1,8 +1,10 @@
 //! The provider of all twelve algorithms.
 
 ghost use Rattle.std.specs.Prelude.{◌≡◌, ◌≢◌, ◌↔◌, ℕ, List, Ok, Some, None, IfOk, IfErr, OnOk, IsTrue};
+ghost use Rattle.jwt_base.specs.Algorithm.{family_of};
 ghost use Rattle.jwt_base.specs.Kind as kind;
 ghost use Rattle.jwt_base.specs.KindOf.{kind_of, Refuses};
+ghost use Rattle.jwt_base.specs.declared.algorithms.AlgorithmFamily.TheVariants as family;
 ghost use Rattle.jwt_keys.specs.Provider.{reads_no_key};
 ghost use Rattle.jwt_hmac.specs.Hmac.{hash_bytes};
 ghost use Rattle.jwt_hmac.specs.HmacKeys as hmac;
@@ -16,7 +18,7 @@ use jwt_curves::{EcdsaProvider, EdDsaProvider};
 use jwt_hmac::{HmacProvider, HmacSigner};
 use jwt_keys::decoding_key::DecodingKey;
 use jwt_keys::encoding_key::EncodingKey;
-use jwt_keys::provider::CryptoProvider;
+use jwt_keys::provider::{CryptoProvider, JwtSigner, JwtVerifier};
 use jwt_params::curves::EllipticCurve;
 use jwt_params::thumbprints::ThumbprintHash;
 use jwt_rsa::RsaProvider;
@@ -28,9 +30,11 @@ use std::alloc::Global;
 /// | algorithms | verified as by | keys |
 /// |---|---|---|
 /// | HS256, HS384, HS512 | `HmacProvider` (RFC 7518 section 3.2) | a secret of any length |
-/// | RS256, RS384, RS512, PS256, PS384, PS512 | `RsaProvider` (RFC 7518 sections 3.3 and 3.5) | a modulus of 2048 to 16384 bits and an exponent |
-/// | ES256, ES384 | `EcdsaProvider` (RFC 7518 section 3.4) | a point of P-256 or of P-384: the byte 4 and two coordinates |
-/// | EdDSA | `EdDsaProvider` (RFC 8037 section 3.1) | the 32 bytes of a point of Ed25519 |
+/// | RS256, RS384, RS512 | `RsaProvider` (RFC 7518 section 3.3) | a modulus and an exponent |
+/// | PS256, PS384, PS512 | `RsaProvider` (RFC 7518 section 3.5) | a modulus and an exponent |
+/// | ES256 | `EcdsaProvider` (RFC 7518 section 3.4) | a point of P-256 |
+/// | ES384 | `EcdsaProvider` (RFC 7518 section 3.4) | a point of P-384 |
+/// | EdDSA | `EdDsaProvider` (RFC 8037 section 3.1) | a point of Ed25519 |
 ///
 /// A key of another family than the algorithm's is refused, so a public key never serves as a
 /// secret (RFC 8725 section 2.1). The key of a JSON Web Key serves too, once
@@ -66,7 +70,14 @@ impl CryptoProvider for StandardProvider {
         alloc: Global,
         algorithm: &Algorithm,
         key: &EncodingKey,
-    ) -> Result<HmacSigner> {
+    ) -> Result<HmacSigner>
+        ensures made { OnOk result (hmac.refusal (hmac.hash_for algorithm.now) key.now.family ≡ None) }
+        ensures err { IfErr result (Refuses (hmac.refusal (hmac.hash_for algorithm.now) key.now.family)) }
+        ensures by { IfOk result (λ s. ⟦<HmacSigner as JwtSigner>⟧.signs_by s ≡ algorithm.now) }
+        ensures signs { IfOk result (λ s. (m b : List ℕ) →
+            ⟦<HmacSigner as JwtSigner>⟧.signs s m b ↔ hmac.HmacSigns algorithm.now key.now m b) }
+        ensures sparing { IfErr result (λ e. kind_of e ≢ kind.OutOfMemory) }
+    {
         HmacProvider.signer_factory(alloc, algorithm, key)
     }
 
@@ -78,7 +89,19 @@ impl CryptoProvider for StandardProvider {
         alloc: Global,
         algorithm: &Algorithm,
         key: &DecodingKey,
-    ) -> Result<StandardVerifier> {
+    ) -> Result<StandardVerifier>
+        ensures made { OnOk result (verifier_refusal algorithm.now key.now ≡ None) }
+        ensures err { IfErr result (Refuses (verifier_refusal algorithm.now key.now)) }
+        ensures by { IfOk result (λ v. ⟦<StandardVerifier as JwtVerifier>⟧.verifies_by v ≡ algorithm.now) }
+        ensures accepts { IfOk result (λ v. (m s : List ℕ) →
+            ⟦<StandardVerifier as JwtVerifier>⟧.accepts v m s ↔ StandardAccepts algorithm.now key.now m s) }
+
+        // Without RSA neither this call nor the verifier that it makes allocates memory.
+        ensures spares { family_of algorithm.now ≢ family.Rsa
+            → IfErr result (λ e. kind_of e ≢ kind.OutOfMemory) }
+        ensures spares_verifier { family_of algorithm.now ≢ family.Rsa
+            → IfOk result (λ v. ⟦<StandardVerifier as JwtVerifier>⟧.is_sparing v) }
+    {
         Ok(match algorithm.family() {
             AlgorithmFamily::Hmac => {
                 StandardVerifier::Hmac(HmacProvider.verifier_factory(alloc, algorithm, key)?)

@@ -33,8 +33,9 @@ impl JwtVerifier for StandardVerifier {
         (λ x. ⟦<RsaVerifier as JwtVerifier>⟧.accepts x m s) (λ x. ⟦<EcdsaVerifier as JwtVerifier>⟧.accepts x m s)
         (λ x. ⟦<EdDsaVerifier as JwtVerifier>⟧.accepts x m s) v };
 
-    ghost is_sparing = { λ v. by_family ⟦<HmacVerifier as JwtVerifier>⟧.is_sparing ⟦<RsaVerifier as JwtVerifier>⟧.is_sparing
-        ⟦<EcdsaVerifier as JwtVerifier>⟧.is_sparing ⟦<EdDsaVerifier as JwtVerifier>⟧.is_sparing v };
+    ghost is_sparing = { λ v. by_family ⟦<HmacVerifier as JwtVerifier>⟧.is_sparing
+        ⟦<RsaVerifier as JwtVerifier>⟧.is_sparing ⟦<EcdsaVerifier as JwtVerifier>⟧.is_sparing
+        ⟦<EdDsaVerifier as JwtVerifier>⟧.is_sparing v };
 
     fn algorithm(&self) -> Algorithm {
         match self {
