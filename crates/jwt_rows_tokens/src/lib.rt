@@ -7,6 +7,7 @@ mod jwks_of_keys;
 mod key_bytes;
 mod keys_of_jwks;
 mod prepared;
+mod prepared_rsa;
 mod signatures;
 mod sizes;
 mod thumbprints;
@@ -41,6 +42,9 @@ fn of_signatures(call: &str, row: Row<'_>, trial: &mut Trial) -> Found {
         return Ok(Some(answer));
     }
     if let Some(answer) = prepared::answer(call, row, trial)? {
+        return Ok(Some(answer));
+    }
+    if let Some(answer) = prepared_rsa::answer(call, row, trial)? {
         return Ok(Some(answer));
     }
     signatures::answer(call, row, trial)

@@ -2,3 +2,4 @@ pub mod Bits
 pub mod KeyTests
 pub mod Lowest
 pub mod Masks
+pub mod PreparedKeys

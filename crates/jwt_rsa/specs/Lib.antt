@@ -4,3 +4,4 @@ pub mod Pss
 pub mod RsaSchemes
 pub mod RsaKeys
 pub mod RsaFamilies
+pub mod RsaPrepared

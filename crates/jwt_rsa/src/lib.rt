@@ -2,12 +2,16 @@
 //! (RFC 7518 sections 3.3 and 3.5).
 #![tactic(auto)]
 
+mod kept;
 mod key;
 mod pkcs1;
+mod prepared;
+mod prepared_provider;
 mod provider;
 mod pss;
 mod scheme;
 mod verifier;
 
+pub use prepared::{PreparedRsa, PreparedVerifier};
 pub use provider::RsaProvider;
 pub use verifier::RsaVerifier;

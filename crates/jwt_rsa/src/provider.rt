@@ -24,7 +24,7 @@ use jwt_params::thumbprints::ThumbprintHash;
 use jwt_verdict::NoSigner;
 use std::alloc::Global;
 
-fn unsupported() -> Error
+pub(crate) fn unsupported() -> Error
     ensures { kind_of result ≡ kind.UnsupportedAlgorithm }
 {
     new_error(ErrorKind::UnsupportedAlgorithm)

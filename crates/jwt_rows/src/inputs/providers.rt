@@ -1,5 +1,6 @@
 //! Providers of signatures, as a row describes them at `provider`: `"RsaProvider"`, `"YesProvider"`,
-//! `"NoProvider"`, `{"prepared": [[ALGORITHM, SECRET], ..]}` for a `PreparedHmac` of these secrets, or
+//! `"NoProvider"`, `{"prepared": [[ALGORITHM, SECRET], ..]}` for a `PreparedHmac` of these secrets,
+//! `{"prepared_rsa": [[N, E], ..]}` for a `PreparedRsa` of these keys, or
 //! `{"table": [[ALGORITHM, KEY, MESSAGE, SIGNATURE], ..]}` for a `TableProvider` of these rows. A row
 //! that describes none means `HmacProvider`.
 
@@ -8,6 +9,7 @@ use crate::inputs::bytes::bytes_of;
 use crate::row::Row;
 use jsonwebtoken::Algorithm;
 use jsonwebtoken::crypto::hmac::PreparedHmac;
+use jwt_rsa::PreparedRsa;
 use jwt_test_providers::providers::{self, TableProvider};
 use serde_json::Value;
 use std::alloc::Global;
@@ -23,6 +25,8 @@ pub enum Provider {
     Rsa,
     /// The one that has its secrets prepared.
     Prepared(PreparedHmac),
+    /// The one that has its RSA keys prepared.
+    PreparedRsa(PreparedRsa),
     /// The one that looks signatures up in a table.
     Table(TableProvider),
     /// The one that accepts every signature.
@@ -39,6 +43,7 @@ macro_rules! by_provider {
             $crate::inputs::providers::Provider::Hmac => $call($row, $trial, &$crate::HmacProvider),
             $crate::inputs::providers::Provider::Rsa => $call($row, $trial, &$crate::RsaProvider),
             $crate::inputs::providers::Provider::Prepared(prepared) => $call($row, $trial, &prepared),
+            $crate::inputs::providers::Provider::PreparedRsa(prepared) => $call($row, $trial, &&prepared),
             $crate::inputs::providers::Provider::Table(table) => $call($row, $trial, &table),
             $crate::inputs::providers::Provider::Yes => $call($row, $trial, &$crate::YesProvider),
             $crate::inputs::providers::Provider::No => $call($row, $trial, &$crate::NoProvider),
@@ -84,6 +89,24 @@ pub fn prepared(alloc: Global, secrets: &Value) -> Result<PreparedHmac, Fault> {
     Ok(prepared)
 }
 
+fn add_rsa(alloc: Global, prepared: &mut PreparedRsa, key: &Value) -> Result<(), Fault> {
+    let n = bytes_at(alloc, key, 0)?;
+    let e = bytes_at(alloc, key, 1)?;
+    Ok(prepared.add(alloc, n.as_slice(), e.as_slice())?)
+}
+
+// Returns the provider that has these RSA keys prepared.
+fn prepared_rsa(alloc: Global, keys: &Value) -> Result<PreparedRsa, Fault> {
+    let Some(keys) = keys.as_array() else {
+        return Err(MALFORMED);
+    };
+    let mut prepared = PreparedRsa::new(alloc);
+    for key in keys {
+        add_rsa(alloc, &mut prepared, key)?;
+    }
+    Ok(prepared)
+}
+
 fn table_row(alloc: Global, row: &Value) -> Result<providers::Row, Fault> {
     let key = bytes_at(alloc, row, 1)?;
     let message = bytes_at(alloc, row, 2)?;
@@ -116,6 +139,9 @@ pub fn provider_of(row: Row<'_>) -> Result<Provider, Fault> {
     if let Some(secrets) = value.get("prepared") {
         return Ok(Provider::Prepared(prepared(row.alloc(), secrets)?));
     }
+    if let Some(keys) = value.get("prepared_rsa") {
+        return Ok(Provider::PreparedRsa(prepared_rsa(row.alloc(), keys)?));
+    }
     if let Some(rows) = value.get("table") {
         return Ok(Provider::Table(table(row.alloc(), rows)?));
     }
@@ -133,4 +159,11 @@ pub fn prepared_provider(row: Row<'_>) -> Result<Box<PreparedHmac>, Fault> {
     let secrets = value.get("prepared").ok_or(MALFORMED)?;
     let provider = prepared(row.alloc(), secrets)?;
     Ok(Box::new(row.alloc(), provider)?)
+}
+
+/// Returns the provider at `provider`, which is to be one of prepared RSA keys.
+pub fn prepared_rsa_provider(row: Row<'_>) -> Result<PreparedRsa, Fault> {
+    let value = row.value("provider")?;
+    let keys = value.get("prepared_rsa").ok_or(MALFORMED)?;
+    prepared_rsa(row.alloc(), keys)
 }

@@ -1,0 +1,95 @@
+//! Keys that are prepared for RSA.
+
+use jsonwebtoken::errors;
+use jwt_base::json::value_eq;
+use jwt_rows::answer::{Answer, accepted, changed, refused};
+use jwt_rows::fault::Fault;
+use jwt_rows::inputs::bytes::bytes_of;
+use jwt_rows::inputs::providers::prepared_rsa_provider;
+use jwt_rows::row::Row;
+use jwt_rows::trial::Trial;
+use jwt_rsa::PreparedRsa;
+use serde_json::Value;
+use std::alloc::Global;
+
+/// Makes the call of this name, if it is among those of this module.
+pub fn answer(call: &str, row: Row<'_>, trial: &mut Trial) -> Result<Option<Value>, Fault> {
+    match call {
+        "PreparedRsa::new" => Ok(Some(made(row, trial)?)),
+        "PreparedRsa::add" => Ok(Some(added(row, trial)?)),
+        "PreparedRsa::is_prepared" => Ok(Some(is_prepared(row, trial)?)),
+        _ => Ok(None),
+    }
+}
+
+// Returns whether the provider has prepared the listed modulus and exponent.
+fn has(alloc: Global, provider: &PreparedRsa, asked: &Value) -> Result<bool, Fault> {
+    let malformed = Fault::Member("asked");
+    let (Some(n), Some(e)) = (asked.get(0_usize), asked.get(1_usize)) else {
+        return Err(malformed);
+    };
+    let n = bytes_of(alloc, n)?;
+    let e = bytes_of(alloc, e)?;
+    Ok(provider.is_prepared(n.as_slice(), e.as_slice()))
+}
+
+// Returns which of the keys at `asked` the provider has prepared.
+fn those_prepared(row: Row<'_>, provider: &PreparedRsa) -> Answer {
+    let mut flags = Vec::new(row.alloc());
+    for asked in row.list("asked")? {
+        let flag = has(row.alloc(), provider, asked)?;
+        flags.push(Value::Bool(flag))?;
+    }
+    Ok(Value::Array(flags))
+}
+
+fn made(row: Row<'_>, trial: &mut Trial) -> Answer {
+    row.takes(&["asked"])?;
+    trial.begin();
+    let provider = PreparedRsa::new(row.alloc());
+    trial.end();
+    accepted(row.alloc(), those_prepared(row, &provider)?)
+}
+
+// Returns the result of `add`, with the keys that were prepared before it.
+fn of_added(
+    row: Row<'_>,
+    answer: errors::Result<()>,
+    before: &Value,
+    provider: &PreparedRsa,
+) -> Answer {
+    let after = those_prepared(row, provider)?;
+    match answer {
+        Ok(()) => accepted(row.alloc(), after),
+        Err(refusal) => {
+            if value_eq(before, &after) {
+                refused(row.alloc(), &refusal)
+            } else {
+                changed(row.alloc())
+            }
+        }
+    }
+}
+
+fn added(row: Row<'_>, trial: &mut Trial) -> Answer {
+    row.takes(&["provider", "n", "e", "asked"])?;
+    let n = row.bytes("n")?;
+    let e = row.bytes("e")?;
+    let mut provider = prepared_rsa_provider(row)?;
+    let before = those_prepared(row, &provider)?;
+    trial.begin();
+    let answer = provider.add(row.alloc(), n.as_slice(), e.as_slice());
+    trial.end();
+    of_added(row, answer, &before, &provider)
+}
+
+fn is_prepared(row: Row<'_>, trial: &mut Trial) -> Answer {
+    row.takes(&["provider", "n", "e"])?;
+    let n = row.bytes("n")?;
+    let e = row.bytes("e")?;
+    let provider = prepared_rsa_provider(row)?;
+    trial.begin();
+    let flag = provider.is_prepared(n.as_slice(), e.as_slice());
+    trial.end();
+    accepted(row.alloc(), Value::Bool(flag))
+}

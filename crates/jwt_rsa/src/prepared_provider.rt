@@ -1,0 +1,123 @@
+//! The provider of RSA with keys that are prepared once.
+
+ghost use Rattle.std.specs.Prelude.{◌≡◌, ◌≢◌, ◌↔◌, ℕ, List, Ok, Some, None, IfOk, IfErr, OnOk};
+ghost use Rattle.jwt_base.specs.Kind as kind;
+ghost use Rattle.jwt_base.specs.KindOf.{kind_of, Refuses};
+ghost use Rattle.jwt_keys.specs.Provider.{reads_no_key};
+ghost use Rattle.jwt_hmac.specs.Hmac.{hash_bytes};
+ghost use Rattle.jwt_hmac.specs.HmacKeys.{hash_named};
+ghost use Rattle.jwt_rsa.specs.RsaSchemes.{scheme_for, algorithm_for};
+ghost use Rattle.jwt_rsa.specs.RsaKeys.{refusal, RsaAccepts};
+ghost use Rattle.jwt_rsa.specs.RsaFamilies.{family_made};
+ghost use Rattle.jwt_rsa.specs.RsaPrepared.{IsPreparedKey, IsSignatureBy, IsKeptVerifier};
+
+use crate::prepared::{PreparedRsa, PreparedVerifier};
+use crate::provider::{RsaProvider, unsupported};
+use crate::scheme::scheme_of_algorithm;
+use jwt_base::algorithms::Algorithm;
+use jwt_base::errors::{ErrorKind, Result, new_error};
+use jwt_keys::decoding_key::{DecodingKey, DecodingKeyKind};
+use jwt_keys::encoding_key::EncodingKey;
+use jwt_keys::provider::CryptoProvider;
+use jwt_params::curves::EllipticCurve;
+use jwt_params::thumbprints::ThumbprintHash;
+use jwt_verdict::NoSigner;
+use std::alloc::Global;
+
+impl<'a> CryptoProvider for &'a PreparedRsa {
+    type Signer = NoSigner;
+
+    type Verifier = PreparedVerifier<'a>;
+
+    ghost signer_refusal = { λ _ a k. Some kind.UnsupportedAlgorithm };
+
+    ghost verifier_refusal = { λ _ a k. refusal (scheme_for a) k };
+
+    ghost sign_refusal = { λ _ a k m. None };
+
+    ghost signs = { λ _ a k m s. ⊥ };
+
+    ghost accepts = { λ _ a k m s. RsaAccepts a k m s };
+
+    ghost is_sparing = { λ _. ⊥ };
+
+    ghost key_answers = { λ _. reads_no_key kind.UnsupportedAlgorithm (λ h bytes. Ok (hash_bytes (hash_named h) bytes)) };
+
+    /// Refuses with `UnsupportedAlgorithm`.
+    fn signer_factory(
+        &self,
+        alloc: Global,
+        algorithm: &Algorithm,
+        key: &EncodingKey,
+    ) -> Result<NoSigner> {
+        RsaProvider.signer_factory(alloc, algorithm, key)
+    }
+
+    /// Returns a verifier by this algorithm and key, refused as by `RsaProvider`. It uses the key that
+    /// is kept exactly if the key's components are prepared.
+    fn verifier_factory(
+        &self,
+        alloc: Global,
+        algorithm: &Algorithm,
+        key: &DecodingKey,
+    ) -> Result<PreparedVerifier<'a>>
+        ensures made { OnOk result (refusal (scheme_for algorithm.now) key.now ≡ None) }
+        ensures err { IfErr result (Refuses (refusal (scheme_for algorithm.now) key.now)) }
+        ensures by { IfOk result (λ v. algorithm_for v.scheme ≡ algorithm.now) }
+        ensures accepts { IfOk result (λ v. (m s : List ℕ) →
+            IsSignatureBy v.keyed v.scheme m s ↔ RsaAccepts algorithm.now key.now m s) }
+        ensures sparing { ⊥ → IfErr result (λ e. kind_of e ≢ kind.OutOfMemory) }
+        ensures sparing_verifier { ⊥ → IfOk result (λ v. ⊥) }
+        ensures kept { IfOk result (λ v. IsKeptVerifier v ↔ IsPreparedKey self.now.now key.now) }
+    {
+        let Some(scheme) = scheme_of_algorithm(*algorithm) else {
+            return Err(unsupported());
+        };
+        let DecodingKeyKind::RsaModulusExponent { n, e } = key.kind() else {
+            return Err(new_error(ErrorKind::InvalidKeyFormat));
+        };
+        let keyed = self.keyed(alloc, n, e)?;
+        Ok(PreparedVerifier { scheme, keyed })
+    }
+
+    fn rsa_pub_components_from_private_key(
+        &self,
+        alloc: Global,
+        der: &[u8],
+    ) -> Result<(Vec<u8>, Vec<u8>)> {
+        RsaProvider.rsa_pub_components_from_private_key(alloc, der)
+    }
+
+    fn rsa_pub_components_from_public_key(
+        &self,
+        alloc: Global,
+        der: &[u8],
+    ) -> Result<(Vec<u8>, Vec<u8>)> {
+        RsaProvider.rsa_pub_components_from_public_key(alloc, der)
+    }
+
+    fn ec_pub_components_from_private_key(
+        &self,
+        alloc: Global,
+        der: &[u8],
+        algorithm: Algorithm,
+    ) -> Result<(EllipticCurve, Vec<u8>, Vec<u8>)> {
+        RsaProvider.ec_pub_components_from_private_key(alloc, der, algorithm)
+    }
+
+    fn ed_pub_components_from_private_key(
+        &self,
+        alloc: Global,
+        der: &[u8],
+        curve: &EllipticCurve,
+    ) -> Result<Vec<u8>> {
+        RsaProvider.ed_pub_components_from_private_key(alloc, der, curve)
+    }
+
+    /// Returns the digest by SHA-2. The only refusal is `OutOfMemory`.
+    fn compute_digest(&self, alloc: Global, bytes: &[u8], hash: ThumbprintHash) -> Result<Vec<u8>> {
+        RsaProvider.compute_digest(alloc, bytes, hash)
+    }
+
+    ghost same_family = { λ p a k h. family_made a k h };
+}
