@@ -1,5 +1,5 @@
-//! Providers of signatures, as a row describes them at `provider`: `"RsaProvider"`, `"YesProvider"`,
-//! `"NoProvider"`, `{"prepared": [[ALGORITHM, SECRET], ..]}` for a `PreparedHmac` of these secrets,
+//! Providers of signatures, as a row describes them at `provider`: `"StandardProvider"`,
+//! `"RsaProvider"`, `"YesProvider"`, `"NoProvider"`, `{"prepared": [[ALGORITHM, SECRET], ..]}` for a `PreparedHmac` of these secrets,
 //! `{"prepared_rsa": [[N, E], ..]}` for a `PreparedRsa` of these keys, or
 //! `{"table": [[ALGORITHM, KEY, MESSAGE, SIGNATURE], ..]}` for a `TableProvider` of these rows. A row
 //! that describes none means `HmacProvider`.
@@ -21,6 +21,8 @@ const MALFORMED: Fault = Fault::Member("provider");
 pub enum Provider {
     /// `HmacProvider`.
     Hmac,
+    /// `StandardProvider`.
+    Standard,
     /// `RsaProvider`.
     Rsa,
     /// The one that has its secrets prepared.
@@ -41,6 +43,7 @@ macro_rules! by_provider {
     ($call:ident, $row:expr, $trial:expr) => {
         match $crate::inputs::providers::provider_of($row)? {
             $crate::inputs::providers::Provider::Hmac => $call($row, $trial, &$crate::HmacProvider),
+            $crate::inputs::providers::Provider::Standard => $call($row, $trial, &$crate::StandardProvider),
             $crate::inputs::providers::Provider::Rsa => $call($row, $trial, &$crate::RsaProvider),
             $crate::inputs::providers::Provider::Prepared(prepared) => $call($row, $trial, &prepared),
             $crate::inputs::providers::Provider::PreparedRsa(prepared) => $call($row, $trial, &&prepared),
@@ -146,6 +149,7 @@ pub fn provider_of(row: Row<'_>) -> Result<Provider, Fault> {
         return Ok(Provider::Table(table(row.alloc(), rows)?));
     }
     match value.as_str() {
+        Some("StandardProvider") => Ok(Provider::Standard),
         Some("RsaProvider") => Ok(Provider::Rsa),
         Some("YesProvider") => Ok(Provider::Yes),
         Some("NoProvider") => Ok(Provider::No),
