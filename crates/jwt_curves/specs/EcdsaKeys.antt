@@ -1,4 +1,4 @@
--- What the provider of ECDSA makes and accepts.
+-- The keys, signatures and refusals of the provider of ECDSA.
 use Rattle.std.specs.Prelude.{ℕ, List, Bool, Option, Some, None, if◌then◌else◌}
 use Rattle.jwt_base.specs.Kind.{Kind}
 use Rattle.jwt_base.specs.Kind as kind
@@ -49,15 +49,17 @@ abbrev pub EcdsaAccepts : Algorithm → Key → List ℕ → List ℕ → Type 0
 EcdsaAccepts a (Plain f public) message signature = IsEcdsaOf (curve_for a) public message signature
 EcdsaAccepts a (Components n e) message signature = ⊥
 
--- the curve of the key that a verifier holds, the key's bytes, and the verifier's algorithm
+-- the curve of the key that a verifier holds
 abbrev pub curve_of : PublicKey → Curve
 curve_of (held.P256 public) = P256
 curve_of (held.P384 public) = P384
 
+-- the bytes of that key
 abbrev pub bytes_of : PublicKey → List ℕ
 bytes_of (held.P256 public) = public
 bytes_of (held.P384 public) = public
 
+-- the algorithm by a curve (RFC 7518 section 3.4)
 abbrev pub algorithm_for : Curve → Algorithm
 algorithm_for P256 = algorithm.ES256
 algorithm_for P384 = algorithm.ES384

@@ -1,4 +1,4 @@
--- What the provider of EdDSA makes and accepts.
+-- The keys, signatures and refusals of the provider of EdDSA.
 use Rattle.std.specs.Prelude.{ℕ, List, Option, Some, None, if◌then◌else◌}
 use Rattle.jwt_base.specs.Kind.{Kind}
 use Rattle.jwt_base.specs.Kind as kind

@@ -1,4 +1,4 @@
--- What the provider of RSA makes and accepts.
+-- The keys, signatures and refusals of the provider of RSA.
 use Rattle.std.specs.Prelude.{ℕ, ◌%◌, List, Bool, ◌&&◌, ◌==◌, nat_le, Option, Some, None, if◌then◌else◌}
 use Rattle.modular.specs.Octets.{os2ip}
 use Rattle.jwt_base.specs.Kind.{Kind}

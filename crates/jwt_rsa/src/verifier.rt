@@ -1,4 +1,4 @@
-//! What verifies signatures by one key.
+//! The verifier of one key.
 
 ghost use Rattle.std.specs.Prelude.{◌≡◌, ◌↔◌, ℕ, List, IsTrue, IfOk, IfErr};
 ghost use Rattle.jwt_rsa.specs.RsaSchemes.{algorithm_for, IsSignature};

@@ -1,5 +1,5 @@
--- What the provider of all twelve algorithms makes and accepts: by each algorithm what the provider of
--- its family makes and accepts.
+-- The keys, signatures and refusals of the provider of all twelve algorithms: for each algorithm those of
+-- the provider of its family.
 use Rattle.std.specs.Prelude.{ℕ, List, Option}
 use Rattle.jwt_base.specs.Algorithm.{family_of}
 use Rattle.jwt_base.specs.Kind.{Kind}
