@@ -89,7 +89,8 @@ def name_of(block):
     trait, _, of = re.sub(r"\b(?:where|requires|ensures)\b.*|\{.*", "", rest).rpartition(" for ")
     head, _, arguments = trait.partition("<")
     words = [word for word in re.findall(r"\w+", arguments) if word not in own]
-    parts = [re.match(r"\w+", of)[0], head.split("::")[-1], *words]
+    reference, own_type = re.match(r"(&?)(?:'\w+ )?(\w+)", of).groups()
+    parts = ["Ref" * len(reference), own_type, head.split("::")[-1], *words]
     return "".join(part[:1].upper() + part[1:] for part in parts)
 
 
