@@ -71,6 +71,14 @@ impl<'a> Row<'a> {
         }
     }
 
+    /// Returns the list at a name.
+    pub fn list(self, name: &'static str) -> Result<&'a [Value], Fault> {
+        match self.value(name)? {
+            Value::Array(items) => Ok(items.as_slice()),
+            _ => Err(Fault::Member(name)),
+        }
+    }
+
     /// Returns the octets that the hexadecimal string at a name stands for.
     pub fn octets(self, name: &'static str) -> Result<Vec<u8>, Fault> {
         match hex::decode(self.alloc, self.text(name)?) {

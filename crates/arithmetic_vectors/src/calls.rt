@@ -2,6 +2,7 @@
 
 ghost use Rattle.std.specs.Prelude.{◌≡◌, ◌<◌, ◌≤◌, ◌%◌, IfOk, length};
 
+use crate::points::{is_multiple, right_sums};
 use crate::row::{Fault, Row};
 use modular::{Modulus, Natural, limb_from_octets};
 use serde_json::Value;
@@ -115,6 +116,8 @@ pub fn answer(row: Row<'_>) -> Result<Value, Fault> {
             let octets = limb(row, "octets")?.to_be_bytes();
             hexadecimal(row.alloc(), octets.as_slice())
         }
+        "right_sums" => right_sums(row),
+        "is_multiple" => is_multiple(row),
         _ => Err(Fault::Call),
     }
 }

@@ -1,0 +1,175 @@
+//! The calls that rows about points of P-256 and P-384 name. A point is the hexadecimal string of its uncompressed form (SEC 1 section
+//! 2.3.3), and the empty string stands for the point at infinity.
+
+ghost use Rattle.std.specs.Prelude.{◌≤◌};
+
+use crate::row::{Fault, Row};
+use ecdsa::constants::{b_256, b_384, base_256, base_384};
+use ecdsa::inverses::read;
+use ecdsa::keys::read_key;
+use ecdsa::moduli::{Field256, Field384, FieldModulus256, FieldModulus384};
+use residues::montgomery::Montgomery;
+use residues::residue::Residue;
+use serde_json::Value;
+use std::alloc::Global;
+use weierstrass::multiples::multiply_point;
+use weierstrass::points::{ProjectivePoint, add, double, point_at_infinity};
+
+// Returns the point that a value describes, on the curve with this b and with coordinates of `S` octets.
+fn point_of<F: Residue, const S: usize>(
+    alloc: Global,
+    b: F,
+    value: &Value,
+) -> Result<ProjectivePoint<F>, Fault>
+    requires { S ≤ 66 }
+{
+    let Some(digits) = value.as_str() else {
+        return Err(Fault::Member("a point"));
+    };
+    if digits.is_empty() {
+        return Ok(point_at_infinity());
+    }
+    match hex::decode(alloc, digits) {
+        Ok(octets) => read_key::<F, S>(b, octets.as_slice()).ok_or(Fault::Member("a point")),
+        Err(_) => Err(Fault::Member("a point")),
+    }
+}
+
+// Returns the points of the list at `multiples`.
+fn multiples<F: Residue, const S: usize>(
+    row: Row<'_>,
+    b: F,
+) -> Result<Vec<ProjectivePoint<F>>, Fault>
+    requires { S ≤ 66 }
+{
+    let mut points = Vec::new(row.alloc());
+    for value in row.list("multiples")? {
+        points.push(point_of::<F, S>(row.alloc(), b, value)?)?;
+    }
+    Ok(points)
+}
+
+// Returns the residue at `scale`, which is not 0.
+fn scale<F: Residue, const S: usize>(row: Row<'_>) -> Result<F, Fault> {
+    let octets = row.octets("scale")?;
+    let octets = octets.as_slice();
+    if octets.len() != S {
+        return Err(Fault::Member("scale"));
+    }
+    match read::<F, S>(octets) {
+        Some(scale) if !scale.is_same(F::zero()) => Ok(scale),
+        _ => Err(Fault::Member("scale")),
+    }
+}
+
+// Returns the same point by other coordinates.
+fn scaled<F: Residue>(point: ProjectivePoint<F>, scale: F) -> ProjectivePoint<F> {
+    ProjectivePoint {
+        x: point.x.times(scale),
+        y: point.y.times(scale),
+        z: point.z.times(scale),
+    }
+}
+
+// Whether the first is the second, whose Z is 0 or 1: x = X / Z and y = Y / Z, and at infinity only Y is not 0.
+fn is_point<F: Residue>(given: ProjectivePoint<F>, wanted: ProjectivePoint<F>) -> bool {
+    let zero = F::zero();
+    if wanted.z.is_same(zero) {
+        return given.x.is_same(zero) && !given.y.is_same(zero) && given.z.is_same(zero);
+    }
+    !given.z.is_same(zero)
+        && given.x.is_same(wanted.x.times(given.z))
+        && given.y.is_same(wanted.y.times(given.z))
+}
+
+// Whether the sum of the points at two places of a list of multiples is the one at the wanted place, and for one place twice,
+// its double too.
+fn is_sum<F: Residue>(
+    b: F,
+    points: &[ProjectivePoint<F>],
+    scale: F,
+    (place, other_place, wanted_place): (usize, usize, usize),
+) -> bool {
+    let one = points.get(place).copied();
+    let other = points.get(other_place).copied();
+    let wanted = points.get(wanted_place).copied();
+    let (Some(one), Some(other), Some(wanted)) = (one, other, wanted) else {
+        return false;
+    };
+    let one = scaled(one, scale);
+    is_point(add(b, one, other), wanted)
+        && (place != other_place || is_point(double(b, one), wanted))
+}
+
+// Counts the right sums among those of the multiples by -k to k with each other, where the list has those by -2k to 2k.
+fn count_sums<F: Residue>(b: F, points: &[ProjectivePoint<F>], scale: F) -> u64 {
+    let quarter = points.len() / 4;
+    let mut right = 0_u64;
+    for place in quarter..points.len().saturating_sub(quarter) {
+        for other_place in quarter..points.len().saturating_sub(quarter) {
+            let wanted_place = place
+                .saturating_add(other_place)
+                .saturating_sub(2 * quarter);
+            if is_sum(b, points, scale, (place, other_place, wanted_place)) {
+                right = right.saturating_add(1);
+            }
+        }
+    }
+    right
+}
+
+fn sums<F: Residue, const S: usize>(row: Row<'_>, b: F) -> Result<Value, Fault>
+    requires { S ≤ 66 }
+{
+    row.takes(&["curve", "multiples", "scale"])?;
+    let points = multiples::<F, S>(row, b)?;
+    let scale = scale::<F, S>(row)?;
+    Ok(Value::from(count_sums(b, points.as_slice(), scale)))
+}
+
+// Whether the multiple of the base point by the number at `scalar` is the point at `multiple`.
+fn multiple<F: Residue, const S: usize>(
+    row: Row<'_>,
+    b: F,
+    base: ProjectivePoint<F>,
+) -> Result<Value, Fault>
+    requires { S ≤ 66 }
+{
+    row.takes(&["curve", "scalar", "multiple"])?;
+    let mut scalar = row.octets("scalar")?;
+    scalar.as_mut_slice().reverse();
+    let wanted = point_of::<F, S>(row.alloc(), b, row.value("multiple")?)?;
+    let given = multiply_point(b, scalar.as_slice(), base);
+    Ok(Value::Bool(is_point(given, wanted)))
+}
+
+fn sums_by_curve<F: Field256, G: Field384>(row: Row<'_>) -> Result<Value, Fault> {
+    match row.text("curve")? {
+        "P-256" => sums::<F, 32>(row, b_256()),
+        "P-384" => sums::<G, 48>(row, b_384()),
+        _ => Err(Fault::Member("curve")),
+    }
+}
+
+fn multiple_by_curve<F: Field256, G: Field384>(row: Row<'_>) -> Result<Value, Fault> {
+    match row.text("curve")? {
+        "P-256" => multiple::<F, 32>(row, b_256(), base_256()),
+        "P-384" => multiple::<G, 48>(row, b_384(), base_384()),
+        _ => Err(Fault::Member("curve")),
+    }
+}
+
+type Residues256 = Montgomery<FieldModulus256, 4>;
+
+type Residues384 = Montgomery<FieldModulus384, 6>;
+
+/// Counts the right ones among the sums of the multiples of a point by -k to k with each other. `multiples` lists those by -2k to
+/// 2k, and the coordinates of the first of both points are multiplied by `scale`.
+pub fn right_sums(row: Row<'_>) -> Result<Value, Fault> {
+    sums_by_curve::<Residues256, Residues384>(row)
+}
+
+/// Returns whether the multiple of the curve's base point by the number at `scalar` is the point at `multiple`.
+pub fn is_multiple(row: Row<'_>) -> Result<Value, Fault> {
+    multiple_by_curve::<Residues256, Residues384>(row)
+}
