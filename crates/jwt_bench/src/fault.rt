@@ -8,7 +8,7 @@ use std::io;
 #[derive(Debug, Drop, thiserror::Error)]
 pub enum BenchFault {
     /// The arguments are not among those that `start` takes.
-    #[error("usage: jwt_bench [decode|encode|header|prepared-decode|prepared-encode|compare-first|compare-last FILE COUNT]")]
+    #[error("usage: jwt_bench [decode|encode|header|prepared-decode|prepared-encode|decode-jwk|compare-first|compare-last FILE COUNT]")]
     Words,
     /// The file, the clock or the output failed.
     #[error("input or output failed")]

@@ -1,4 +1,4 @@
-//! The work that is measured, by HS256 with the secret `secret`.
+//! The work that is measured by HS256 with the secret `secret`.
 
 use crate::fault::BenchFault;
 use jsonwebtoken::crypto::hmac::{HmacProvider, PreparedHmac};
@@ -51,45 +51,64 @@ impl Work {
 /// The values that reading needs.
 #[derive(Drop)]
 struct Reading {
-    key: DecodingKey,
-    validation: Validation,
+    key: Box<DecodingKey>,
+    validation: Box<Validation>,
+}
+
+fn decoding_key(alloc: Global) -> Result<Box<DecodingKey>> {
+    Ok(Box::new(alloc, DecodingKey::from_secret(alloc, b"secret")?)?)
+}
+
+fn validation(alloc: Global) -> Result<Box<Validation>> {
+    Ok(Box::new(alloc, Validation::new(alloc, Algorithm::HS256)?)?)
 }
 
 impl Reading {
-    fn new(alloc: Global) -> Result<Box<Reading>> {
-        let reading = Reading {
-            key: DecodingKey::from_secret(alloc, b"secret")?,
-            validation: Validation::new(alloc, Algorithm::HS256)?,
-        };
-        Ok(Box::new(alloc, reading)?)
+    fn new(alloc: Global) -> Result<Reading> {
+        Ok(Reading {
+            key: decoding_key(alloc)?,
+            validation: validation(alloc)?,
+        })
     }
 }
 
 /// The values that issuing needs.
 #[derive(Drop)]
 struct Issuing {
-    key: EncodingKey,
-    header: Header,
+    key: Box<EncodingKey>,
+    header: Box<Header>,
+}
+
+fn encoding_key(alloc: Global) -> Result<Box<EncodingKey>> {
+    Ok(Box::new(alloc, EncodingKey::from_secret(alloc, b"secret")?)?)
+}
+
+fn header(alloc: Global) -> Result<Box<Header>> {
+    Ok(Box::new(alloc, Header::new(alloc, Algorithm::HS256)?)?)
 }
 
 impl Issuing {
-    fn new(alloc: Global) -> Result<Box<Issuing>> {
-        let issuing = Issuing {
-            key: EncodingKey::from_secret(alloc, b"secret")?,
-            header: Header::new(alloc, Algorithm::HS256)?,
-        };
-        Ok(Box::new(alloc, issuing)?)
+    fn new(alloc: Global) -> Result<Issuing> {
+        Ok(Issuing {
+            key: encoding_key(alloc)?,
+            header: header(alloc)?,
+        })
     }
+}
+
+fn prepared_provider(alloc: Global) -> Result<Box<PreparedHmac>> {
+    let provider = PreparedHmac::new(alloc, Algorithm::HS256, b"secret")?;
+    Ok(Box::new(alloc, provider)?)
 }
 
 /// The values that the work needs, whose making is not measured.
 #[derive(Drop)]
 pub struct Prepared {
     work: Work,
-    reading: Box<Reading>,
-    issuing: Box<Issuing>,
+    reading: Reading,
+    issuing: Issuing,
     claims: Value,
-    provider: PreparedHmac,
+    provider: Box<PreparedHmac>,
 }
 
 impl Prepared {
@@ -104,7 +123,7 @@ impl Prepared {
             reading: Reading::new(alloc)?,
             issuing: Issuing::new(alloc)?,
             claims,
-            provider: PreparedHmac::new(alloc, Algorithm::HS256, b"secret")?,
+            provider: prepared_provider(alloc)?,
         })
     }
 
@@ -138,8 +157,8 @@ impl Prepared {
         match self.work {
             Work::Decode => self.decode(alloc, &HmacProvider, token),
             Work::Encode => self.encode(alloc, &HmacProvider),
-            Work::PreparedDecode => self.decode(alloc, &self.provider, token),
-            Work::PreparedEncode => self.encode(alloc, &self.provider),
+            Work::PreparedDecode => self.decode(alloc, &*self.provider, token),
+            Work::PreparedEncode => self.encode(alloc, &*self.provider),
             _ => black_box(&decode_header(alloc, token)).is_ok(),
         }
     }
