@@ -31,9 +31,8 @@ extern "C" {
 #endif
 
 /*
- * The status of a call. 1 to 37 are refusals of a token, or by jwt_thumbprint of a key; jwt_status_text
- * writes their texts. 3 to 5, 16 to 18, 21, 23, 31 and 37 are kinds of the library that no call here
- * returns.
+ * The status of a call. 1 to 37 are refusals of a token or of a key; jwt_status_text writes their
+ * texts. 3 to 5, 16 to 18, 21, 23, 31 and 37 are kinds of the library that no call here returns.
  */
 enum jwt_status {
     JWT_OK = 0,
@@ -120,8 +119,8 @@ enum jwt_algorithm {
  * member may be absent or null, and no other member is allowed:
  *
  *   "algorithms"                           list of the names that are accepted, as ["HS256"]; empty by
- *                                          default. Each has to be of the key's family (here HS256,
- *                                          HS384 or HS512), else the status is JWT_INVALID_ALGORITHM
+ *                                          default. All have to be of one family (here HS256, HS384 and
+ *                                          HS512), else the status is JWT_INVALID_ALGORITHM
  *   "required_spec_claims"                 list of names among exp, nbf, aud, iss and sub; ["exp"] by
  *                                          default. A required claim that is malformed is told as
  *                                          missing. Any other name is ignored: the claim may be missing,
@@ -141,10 +140,37 @@ uint32_t jwt_decode_hmac(const uint8_t *token, size_t token_len,
                          uint8_t *buffer, size_t buffer_len, size_t *len);
 
 /*
- * Verifies a token like jwt_decode_hmac, with the key of a set that the header names by its `kid`.
- * The set is JSON, as {"keys":[{"kty":"oct","kid":"a","k":"c2VjcmV0"}]} (RFC 7517 section 5), read
- * after the options; any other text is JWT_BAD_SET. Of several keys with that `kid` the first
- * counts. If the header has no `kid`, or no key has it, the status is JWT_NO_KEY.
+ * Verifies a token like jwt_decode_hmac, but with a key of any kind, by any of the twelve algorithms.
+ * The key is JSON of one JSON Web Key (RFC 7517 section 4), read after the options; any other text is
+ * JWT_BAD_KEY:
+ *
+ *   {"kty":"oct","k":..}                       a secret: HS256, HS384, HS512
+ *   {"kty":"RSA","n":..,"e":..}                RS256, RS384, RS512, PS256, PS384, PS512
+ *   {"kty":"EC","crv":"P-256","x":..,"y":..}   ES256
+ *   {"kty":"EC","crv":"P-384","x":..,"y":..}   ES384
+ *   {"kty":"OKP","crv":"Ed25519","x":..}       EdDSA
+ *
+ * The options have to list the algorithms that the key is for: its members alg, use, key_ops and kid
+ * have to be well formed, and are not compared with the token. A key is refused, before the token is
+ * read, with JWT_BASE64 if k, n, e, x or y is not base64url text, and with JWT_UNSUPPORTED_ALGORITHM
+ * if it is of another kind. For a token that names an algorithm among those that the options list, a
+ * key of another family is JWT_INVALID_KEY_FORMAT, and so is one that does not serve: a point that is
+ * not on the algorithm's curve, a modulus that is even or not from 2048 to 16384 bits, an exponent
+ * that is even, below 3 or beyond 64 bits. A secret may be of any length, as for jwt_decode_hmac.
+ */
+uint32_t jwt_decode_key(const uint8_t *token, size_t token_len,
+                        const uint8_t *key, size_t key_len,
+                        const uint8_t *options, size_t options_len,
+                        uint64_t now,
+                        uint8_t *buffer, size_t buffer_len, size_t *len);
+
+/*
+ * Verifies a token like jwt_decode_key, by any of the twelve algorithms, with the key of a set that
+ * the header names by its `kid`. The set is JSON, as
+ * {"keys":[{"kty":"oct","kid":"a","k":"c2VjcmV0"}]} (RFC 7517 section 5), read after the options; any
+ * other text is JWT_BAD_SET. Of several keys with that `kid` the first counts. If the header has no
+ * `kid`, or no key has it, the status is JWT_NO_KEY. If that key has an alg, and it is not the
+ * header's, the status is JWT_INVALID_ALGORITHM.
  */
 uint32_t jwt_decode_set(const uint8_t *token, size_t token_len,
                         const uint8_t *set, size_t set_len,

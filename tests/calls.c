@@ -1,6 +1,7 @@
 /* Tests of the calls for C, from C. The last line counts. Tokens signed by HMAC are worked examples, or were signed by
-   Python's hmac; the others are made here and accepted by a verdict. */
+   Python's hmac; those of keys.h are from rows; the others are made here and accepted by a verdict. */
 #include "jwt.h"
+#include "keys.h"
 #include <malloc.h>
 #include <pthread.h>
 #include <stdio.h>
@@ -404,6 +405,116 @@ static void sets(void) {
     is("the length that they need", a.len, strlen(CLAIMS));
 }
 
+/* ---- keys of every family, by the text of one key and by a set of all of them */
+
+static struct answer by_key(const char *token, const char *key, const char *options, uint64_t now, size_t room) {
+    struct answer a = fresh();
+    a.status = jwt_decode_key(BYTES(token), BYTES(key), BYTES(options), now, a.room, room, &a.len);
+    return a;
+}
+
+static long key(const char *token, const char *key, const char *options, uint64_t now) {
+    struct answer a = by_key(token, key, options, now, ROOM);
+    return status_of(&a);
+}
+
+static const struct {
+    const char *token, *key, *options;
+} by_all[] = {
+    {BY_HS256, HMAC_KEY, "{\"algorithms\":[\"HS256\"]}"}, {BY_RS256, RSA_KEY, "{\"algorithms\":[\"RS256\"]}"},
+    {BY_PS256, RSA_KEY, "{\"algorithms\":[\"PS256\"]}"},  {BY_ES256, P256_KEY, "{\"algorithms\":[\"ES256\"]}"},
+    {BY_ES384, P384_KEY, "{\"algorithms\":[\"ES384\"]}"}, {BY_EDDSA, ED_KEY, "{\"algorithms\":[\"EdDSA\"]}"},
+};
+#define ALL (sizeof by_all / sizeof *by_all)
+
+/* the token with another character at this place of its signature */
+static const char *tampered(const char *token, size_t place) {
+    strcpy(made, token);
+    char *at = strrchr(made, '.') + 1 + place;
+    *at = *at == 'A' ? 'B' : 'A';
+    return made;
+}
+
+static void keys_of_all(void) {
+    for (size_t i = 0; i < ALL; i++) {
+        const char *token = by_all[i].token, *options = by_all[i].options;
+        struct answer a = by_key(token, by_all[i].key, options, LAST, ROOM);
+        is(options, gives(&a, CLAIMS), 1);
+        a = by_set(token, ALL_KEYS, options, LAST, ROOM);
+        is(options, gives(&a, CLAIMS), 1);
+        is("after the last moment by a key", key(token, by_all[i].key, options, LAST + 1), JWT_EXPIRED_SIGNATURE);
+        for (size_t place = 0; place < 40; place += 13) {
+            is("a tampered signature", key(tampered(token, place), by_all[i].key, options, LAST), JWT_INVALID_SIGNATURE);
+            a = by_set(tampered(token, place), ALL_KEYS, options, LAST, ROOM);
+            is("a tampered signature by a set", status_of(&a), JWT_INVALID_SIGNATURE);
+        }
+        for (size_t j = 0; j < ALL; j++)
+            if (by_all[j].key != by_all[i].key)
+                is(by_all[j].key, key(token, by_all[j].key, options, LAST), JWT_INVALID_KEY_FORMAT);
+        is("another algorithm than those listed", key(token, by_all[i].key, "{\"algorithms\":[\"RS512\"]}", LAST),
+           JWT_INVALID_ALGORITHM);
+        is("no algorithm listed", key(token, by_all[i].key, "{}", LAST), JWT_MISSING_ALGORITHM);
+        is("algorithms of two families",
+           key(token, by_all[i].key, "{\"algorithms\":[\"HS256\",\"RS256\",\"PS256\",\"ES256\",\"ES384\",\"EdDSA\"]}", LAST),
+           JWT_INVALID_ALGORITHM);
+        a = by_key(token, by_all[i].key, options, LAST, strlen(CLAIMS) - 1);
+        is("a buffer too small for claims by a key", status_of(&a), JWT_NO_ROOM);
+        is("the length that they need by a key", a.len, strlen(CLAIMS));
+    }
+}
+
+static void keys_refused(void) {
+    static const struct {
+        const char *token, *key, *options;
+        uint32_t status;
+    } rows[] = {
+        {BY_HS256, "", OPTIONS, JWT_BAD_KEY},
+        {BY_HS256, "[]", OPTIONS, JWT_BAD_KEY},
+        {BY_HS256, "null", OPTIONS, JWT_BAD_KEY},
+        {BY_HS256, HMAC_KEY " x", OPTIONS, JWT_BAD_KEY},
+        {BY_HS256, BY_HS256, OPTIONS, JWT_BAD_KEY},
+        {BY_HS256, "{\"kty\":\"oct\",\"k\":\"c2VjcmV0\",\"use\":1}", OPTIONS, JWT_BAD_KEY},
+        {BY_HS256, "{\"kty\":\"oct\",\"k\":\"c2VjcmV0\",\"kid\":1}", OPTIONS, JWT_BAD_KEY},
+        /* a set is no key, and neither are parameters that are not all there */
+        {BY_HS256, "{\"keys\":[]}", OPTIONS, JWT_UNSUPPORTED_ALGORITHM},
+        {BY_HS256, "{}", OPTIONS, JWT_UNSUPPORTED_ALGORITHM},
+        {BY_HS256, "{\"kty\":\"oct\"}", OPTIONS, JWT_UNSUPPORTED_ALGORITHM},
+        {BY_RS256, "{\"kty\":\"RSA\",\"n\":\"AQAB\"}", "{\"algorithms\":[\"RS256\"]}", JWT_UNSUPPORTED_ALGORITHM},
+        {BY_HS256, "{\"kty\":\"oct\",\"k\":\"c2VjcmV0=\"}", OPTIONS, JWT_BASE64},
+        {BY_ES256, "{\"kty\":\"EC\",\"crv\":\"P-256\",\"x\":\"AAAA\",\"y\":\"*\"}", "{\"algorithms\":[\"ES256\"]}", JWT_BASE64},
+        /* keys that do not serve: a short modulus, and points that are not on the curve */
+        {BY_RS256, "{\"kty\":\"RSA\",\"n\":\"AQAB\",\"e\":\"AQAB\"}", "{\"algorithms\":[\"RS256\"]}", JWT_INVALID_KEY_FORMAT},
+        {BY_ES256,
+         "{\"kty\":\"EC\",\"crv\":\"P-256\",\"x\":\"r8PeoJDruknfmuGCQLn_UjS1Xk078kVZAfT0K3Res0Q\","
+         "\"y\":\"cNoCzyOJM488bjKBVHt5l_ZLeJVc0MznCQTwJlkzXa0\"}",
+         "{\"algorithms\":[\"ES256\"]}", JWT_INVALID_KEY_FORMAT},
+        {BY_EDDSA, "{\"kty\":\"OKP\",\"crv\":\"Ed25519\",\"x\":\"AAAA\"}", "{\"algorithms\":[\"EdDSA\"]}", JWT_INVALID_KEY_FORMAT},
+        /* the key's own alg, use, key_ops and kid are not compared */
+        {BY_HS256,
+         "{\"kty\":\"oct\",\"k\":\"YSBzZWNyZXQgb2YgdGhpcnR5LXR3byBjaGFyYWN0ZXJz\",\"kid\":\"x\",\"alg\":\"RS256\","
+         "\"use\":\"enc\",\"key_ops\":[\"wrapKey\"]}",
+         OPTIONS, JWT_OK},
+        /* the options are read before the key, and the key before the token */
+        {"a", "", "", JWT_BAD_OPTIONS},
+        {"a", "", OPTIONS, JWT_BAD_KEY},
+        {"a", "{}", OPTIONS, JWT_UNSUPPORTED_ALGORITHM},
+        {"a", HMAC_KEY, OPTIONS, JWT_INVALID_TOKEN},
+        {"e30.e30.", HMAC_KEY, OPTIONS, JWT_JSON},
+    };
+    for (size_t i = 0; i < sizeof rows / sizeof *rows; i++)
+        is(rows[i].key, key(rows[i].token, rows[i].key, rows[i].options, LAST), rows[i].status);
+    struct answer a = fresh();
+    a.status = jwt_decode_key(BYTES(BY_HS256), NULL, 0, BYTES(OPTIONS), LAST, a.room, ROOM, &a.len);
+    is("a key by a null pointer", status_of(&a), JWT_BAD_KEY);
+    a.status = jwt_decode_key(BYTES(BY_HS256), BYTES(HMAC_KEY), NULL, 0, LAST, a.room, ROOM, &a.len);
+    is("options by a null pointer, with a key", status_of(&a), JWT_BAD_OPTIONS);
+    a.status = jwt_decode_key(NULL, 0, BYTES(HMAC_KEY), BYTES(OPTIONS), LAST, a.room, ROOM, &a.len);
+    is("a token by a null pointer, with a key", status_of(&a), JWT_INVALID_TOKEN);
+    /* a key of another family under the token's id */
+    a = by_set(BY_RS256, "{\"keys\":[{\"kty\":\"oct\",\"kid\":\"rsa\",\"k\":\"c2VjcmV0\"}]}", "{\"algorithms\":[\"RS256\"]}", LAST, ROOM);
+    is("a secret for RS256", status_of(&a), JWT_INVALID_KEY_FORMAT);
+}
+
 static struct answer issued_in(const char *header, const char *claims, const char *secret, size_t room) {
     struct answer a = fresh();
     a.status = jwt_encode_hmac(BYTES(header), BYTES(claims), BYTES(secret), a.room, room, &a.len);
@@ -536,7 +647,7 @@ static void status_texts(void) {
         {JWT_MALFORMED_ISS, "Invalid format for claim: iss"},
         {JWT_MALFORMED_SUB, "Invalid format for claim: sub"},
         {JWT_MALFORMED_CLAIM, "Invalid format for claim: "},
-        {JWT_NO_ROOM, "Room too small"},
+        {JWT_NO_ROOM, "Buffer too small"},
         {JWT_BAD_OPTIONS, "Options not understood"},
         {JWT_NO_STATUS, "Unknown status"},
         {JWT_BAD_SET, "Key set not understood"},
@@ -612,6 +723,16 @@ static bool set_claims_given(struct answer *a) {
     return gives(a, CLAIMS);
 }
 
+static bool key_claims_given(struct answer *a) {
+    *a = by_key(BY_RS256, RSA_KEY, "{\"algorithms\":[\"RS256\"]}", LAST, ROOM);
+    return gives(a, CLAIMS);
+}
+
+static bool claims_by_all_keys_given(struct answer *a) {
+    *a = by_set(BY_PS256, ALL_KEYS, "{\"algorithms\":[\"PS256\"]}", LAST, ROOM);
+    return gives(a, CLAIMS);
+}
+
 static bool token_given(struct answer *a) {
     *a = issued_in("{\"alg\":\"HS256\",\"kid\":\"b\"}", CLAIMS, "secret", ROOM);
     return gives(a, NAMED);
@@ -645,6 +766,8 @@ static void refused_memory(void) {
     is("a signed part out of memory", refused_in_turn(signed_part_given) > 0, 1);
     is("a header out of memory", refused_in_turn(header_given) > 0, 1);
     is("claims by a set out of memory", refused_in_turn(set_claims_given) > 0, 1);
+    is("claims by a key out of memory", refused_in_turn(key_claims_given) > 0, 1);
+    is("claims by a set of all families out of memory", refused_in_turn(claims_by_all_keys_given) > 0, 1);
     is("a token out of memory", refused_in_turn(token_given) > 0, 1);
     is("a thumbprint out of memory", refused_in_turn(thumbprint_given) > 0, 1);
     is("memory after all that was refused", mallinfo2().uordblks <= before + 4096, 1);
@@ -670,7 +793,8 @@ static bool is_in_room(uint32_t status, size_t len, const char *wanted) {
     return status == JWT_OK && len == strlen(wanted) && memcmp(big_room, wanted, len) == 0;
 }
 
-/* Of this size: claims that are issued and read back by a set, the set's text, and the key of a thumbprint. */
+/* Of this size: claims that are issued and read back by a set, the set's text, and the key that verifies and of a
+   thumbprint. */
 static long wrong_issued_at(size_t size) {
     static uint8_t part[3 * GREATEST + 300];
     size_t len = 0, given;
@@ -682,6 +806,7 @@ static long wrong_issued_at(size_t size) {
     filled("{\"keys\":[{\"kty\":\"oct\",\"kid\":\"b\",\"k\":\"c2VjcmV0\"}],\"x\":\"", size, "\"}");
     wrong += jwt_decode_set(part, len, BYTES(text), BYTES(OPTIONS), 1000, big_room, sizeof big_room, &given) != JWT_OK;
     filled("{\"kty\":\"oct\",\"k\":\"c2VjcmV0\",\"kid\":\"", size, "\"}");
+    wrong += jwt_decode_key(part, len, BYTES(text), BYTES(OPTIONS), 1000, big_room, sizeof big_room, &given) != JWT_OK;
     status = jwt_thumbprint(BYTES(text), 256, big_room, sizeof big_room, &given);
     return wrong + !is_in_room(status, given, "DWBh0SEIAPYh1x5uvot4z3AhaikHkxNJa3Ada2fT-Cg");
 }
@@ -732,6 +857,10 @@ static void growth(void) {
     }
     is("results of 100000 calls", wrong, 0);
     is("memory after 100000 calls", mallinfo2().uordblks, before);
+    for (int i = 0; i < 1000; i++)
+        for (size_t k = 0; k < ALL; k++) wrong += key(by_all[k].token, by_all[k].key, by_all[k].options, LAST) != JWT_OK;
+    is("results of 1000 calls by each key", wrong, 0);
+    is("memory after 1000 calls by each key", mallinfo2().uordblks, before);
 }
 
 static void *many(void *wrong) {
@@ -739,6 +868,7 @@ static void *many(void *wrong) {
         struct answer a = hmac_in(TOKEN, "secret", OPTIONS, LAST, ROOM);
         *(long *)wrong += !gives(&a, CLAIMS);
         *(long *)wrong += hmac(TOKEN, "secret", OPTIONS, LAST + 1) != JWT_EXPIRED_SIGNATURE;
+        *(long *)wrong += i % 10 == 0 && key(BY_RS256, RSA_KEY, "{\"algorithms\":[\"RS256\"]}", LAST) != JWT_OK;
     }
     return NULL;
 }
@@ -794,6 +924,8 @@ int main(void) {
     signed_parts();
     headers();
     sets();
+    keys_of_all();
+    keys_refused();
     issued();
     thumbprints();
     status_texts();

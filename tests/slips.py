@@ -76,6 +76,8 @@ def secrets():
     for k in ("", "A" * 43):
         for key_set in ({"keys": [{**KEY, "k": k}]}, json.dumps({"keys": [{**KEY, "k": k}]})):
             slip(ValueError, "key_set", jwt.decode_set, FORGED, key_set, now=0, **OPTIONS)
+        for key in ({**KEY, "k": k}, json.dumps({**KEY, "k": k})):
+            slip(ValueError, "key", jwt.decode_key, FORGED, key, now=0, **OPTIONS)
     for it in (SECRET, SECRET.decode(), bytearray(SECRET), memoryview(SECRET), memoryview(b"".join(bytes([it, 7]) for it in SECRET))[::2]):
         test(f"{type(it).__name__} as secret", jwt.decode(TOKEN, it, now=0, **OPTIONS) == {"exp": 1000})
     for it in (TOKEN.decode(), bytearray(TOKEN), memoryview(TOKEN)):
@@ -86,13 +88,18 @@ def texts():
     for it in (5, None, True, [], {}):
         slip(TypeError, "token", jwt.decode, it, SECRET, now=0, **OPTIONS)
         slip(TypeError, "token", jwt.decode_set, it, {"keys": []}, now=0, **OPTIONS)
+        slip(TypeError, "token", jwt.decode_key, it, KEY, now=0, **OPTIONS)
         slip(TypeError, "token", jwt.signed_part, it)
         slip(TypeError, "token", jwt.decode_by_verdict, it, PART, True, now=0, **OPTIONS)
         slip(TypeError, "token", jwt.decode_header, it)
     slip(ValueError, "token", jwt.decode, "\ud800", SECRET, now=0, **OPTIONS)
     for it in (5, None, [KEY]):
         slip(TypeError, "key_set", jwt.decode_set, FORGED, it, now=0, **OPTIONS)
+        slip(TypeError, "key", jwt.decode_key, FORGED, it, now=0, **OPTIONS)
         slip(TypeError, "key", jwt.thumbprint, it)
+    for it in ("", b"[]", "null", FORGED):
+        slip(ValueError, "Key", jwt.decode_key, FORGED, it, now=0, **OPTIONS)
+    slip(ValueError, "key", jwt.decode_key, FORGED, {**KEY, "k": "\ud800"}, now=0, **OPTIONS)
     slip(ValueError, "Key set", jwt.decode_set, FORGED, "[]", now=0, **OPTIONS)
     slip(ValueError, "Key", jwt.thumbprint, b"[]")
     slip(TypeError, "bits", jwt.thumbprint, KEY, "256")
@@ -122,6 +129,7 @@ def verdicts():
 def moments():
     for it in ("0", True, [], ["HS256"]):
         slip(TypeError, "now", jwt.decode, TOKEN, SECRET, now=it, **OPTIONS)
+        slip(TypeError, "now", jwt.decode_key, TOKEN, KEY, now=it, **OPTIONS)
         slip(TypeError, "now", jwt.decode_set, TOKEN, {"keys": []}, now=it, **OPTIONS)
         slip(TypeError, "now", jwt.decode_by_verdict, TOKEN, PART, True, now=it, **OPTIONS)
     for it in (-1, -0.5, 2**64, 1e30, float("inf"), float("nan")):
@@ -146,13 +154,27 @@ def options():
     for kind, name, value in wrong:
         given = {**OPTIONS, name: value}
         slip(kind, name, jwt.decode, TOKEN, SECRET, now=0, **given)
+        slip(kind, name, jwt.decode_key, TOKEN, KEY, now=0, **given)
         slip(kind, name, jwt.decode_set, TOKEN, {"keys": []}, now=0, **given)
         slip(kind, name, jwt.decode_by_verdict, TOKEN, PART, True, now=0, **given)
     given = dict.fromkeys(["leeway", "aud", "iss", "sub", "validate_exp", "required_spec_claims"])
     test("None for the default", jwt.decode(TOKEN, SECRET, now=0, algorithms={"HS256"}, **given) == {"exp": 1000})
 
 
+def refused_by_key(kind, status, token, key):
+    try:
+        got = jwt.decode_key(token, key, now=0, **OPTIONS)
+    except jwt.Refused as error:
+        got = error
+    test(f"{kind.__name__} by {key}: {got!r}", type(got) is kind and got.status == status)
+
+
 def kinds():
+    for key in (KEY, {}, {"kty": "x"}, {"keys": []}):
+        refused_by_key(jwt.UnsupportedAlgorithm, 7, TOKEN, key)
+    refused_by_key(jwt.InvalidKeyFormat, 8, TOKEN, {"kty": "OKP", "crv": "Ed25519", "x": "11qYAYKxCrfVS_7TyWQHOg7hcvPapiMlrwIaaPcHURo"})
+    refused_by_key(jwt.InvalidSignature, 2, TOKEN, {**KEY, "k": "c2VjcmV0"})
+    refused_by_key(jwt.Refused, 19, TOKEN, {**KEY, "k": "c2VjcmV0="})
     refused(jwt.InvalidSignature, 2, TOKEN, secret="another")
     refused(jwt.InvalidIssuer, 10, signed({"iss": "a"}, SECRET), iss=["b"])
     refused(jwt.InvalidAudience, 11, signed({"aud": "a"}, SECRET), aud=["b"])

@@ -1,4 +1,4 @@
-// Verifies tokens by a secret, by a key set and by ECDSA, issues one, and shows refusals by their texts. The last line counts.
+// Verifies tokens by a secret, by a key, by a key set and by ECDSA, issues one, and shows refusals by their texts. The last line counts.
 package main
 
 import (
@@ -30,13 +30,15 @@ const (
 	// the key of RFC 7515 appendix A.1, and the secret
 	set = `{"keys":[{"kty":"oct","kid":"a","k":"AyM1SysPpbyDfgZld3umj1qzKObwVMkoqQ-EstJQLr_T-1qS0gZH75aKtMN3Yj0iPS4hcgUuTwjAzZr1Z9CAow"},` +
 		`{"kty":"oct","kid":"b","k":"MDEyMzQ1Njc4OWFiY2RlZjAxMjM0NTY3ODlhYmNkZWY"}]}`
-	emptySet = `{"keys":[{"kty":"oct","kid":"b","k":""}]}`
+	emptyKey = `{"kty":"oct","kid":"b","k":""}`
+	emptySet = `{"keys":[` + emptyKey + `]}`
 
 	// RFC 7515 appendix A.3
 	payload = "eyJpc3MiOiJqb2UiLA0KICJleHAiOjEzMDA4MTkzODAsDQogImh0dHA6Ly9leGFtcGxlLmNvbS9pc19yb290Ijp0cnVlfQ"
 	es256   = "eyJhbGciOiJFUzI1NiJ9." + payload + ".DtEhU3ljbEg8L38VWAfUAqOyKAM6-Xx-F4GawxaepmXFCgfTjDxw5djxLa8ISlSApmWQxfKTUJqPP3-Kg6NU1Q"
 	x       = "f83OJ3D2xF1Bg8vub9tLe1gHMzV76e8Tus9uPHvRVEU"
 	y       = "x_FEzRu9m36HLN_tue659LNpXW6pCyStikYjKIWI5a0"
+	ecKey   = `{"kty":"EC","kid":"c","crv":"P-256","x":"` + x + `","y":"` + y + `"}`
 	joe     = `{"exp":1300819380,"http://example.com/is_root":true,"iss":"joe"}`
 )
 
@@ -52,6 +54,11 @@ func shown(bytes []byte, err error) string {
 
 func bySecret(token, secret string, options jwt.Options, now uint64) string {
 	return shown(jwt.Decode([]byte(token), []byte(secret), options, now))
+}
+
+func byKey(token, key, algorithm string) string {
+	options := jwt.Options{Algorithms: []string{algorithm}}
+	return shown(jwt.DecodeWithKey([]byte(token), []byte(key), options, 1300819380))
 }
 
 func bySet(token, set string, options jwt.Options) string {
@@ -96,6 +103,13 @@ func tokens() [][2]string {
 		{bySecret(named, secret, jwt.Options{Algorithms: []string{"HS257"}}, last), "Options not understood"},
 		{bySecret(named, secret, many, last), claims},
 		{shown(jwt.DecodeHeader([]byte(named))), `{"alg":"HS256","kid":"b"}`},
+		{byKey(named, `{"kty":"oct","k":"MDEyMzQ1Njc4OWFiY2RlZjAxMjM0NTY3ODlhYmNkZWY"}`, "HS256"), claims},
+		{byKey(es256, ecKey, "ES256"), joe},
+		{byKey(strings.Replace(es256, "DtEh", "DtEi", 1), ecKey, "ES256"), "InvalidSignature"},
+		{byKey(es256, `{"kty":"oct","k":"c2VjcmV0"}`, "ES256"), "InvalidKeyFormat"},
+		{byKey(es256, `{"kty":"EC"}`, "ES256"), "UnsupportedAlgorithm"},
+		{byKey(es256, ecKey, "ES384"), "InvalidAlgorithm"},
+		{byKey(es256, "", "ES256"), "Key not understood"},
 		{bySet(named, set, hs256), claims},
 		{bySet(named, strings.Replace(set, `"b"`, `"c"`, 1), hs256), "NoKey"},
 		{bySet(example, set, hs256), "NoKey"},
@@ -121,6 +135,8 @@ func slips() [][2]string {
 	return [][2]string{
 		{bySecret(forged, "", hs256, last), empty},
 		{bySecret(forged, string(make([]byte, 32)), hs256, last), empty},
+		{byKey(forged, emptyKey, "HS256"), empty},
+		{byKey(forged, strings.Replace(emptyKey, `""`, `"AAAA"`, 1), "HS256"), empty},
 		{bySet(forged, emptySet, hs256), empty},
 		{bySet(forged, strings.Replace(emptySet, `""`, `"AAAA"`, 1), hs256), empty},
 		{issued(`{"alg":"HS256"}`, claims, ""), empty},

@@ -19,6 +19,7 @@ _BYTES = [ctypes.c_char_p, ctypes.c_size_t]
 _BUFFER = [ctypes.c_char_p, ctypes.c_size_t, ctypes.POINTER(ctypes.c_size_t)]
 _PROTOTYPES = {
     "jwt_decode_hmac": [*_BYTES, *_BYTES, *_BYTES, ctypes.c_uint64, *_BUFFER],
+    "jwt_decode_key": [*_BYTES, *_BYTES, *_BYTES, ctypes.c_uint64, *_BUFFER],
     "jwt_decode_set": [*_BYTES, *_BYTES, *_BYTES, ctypes.c_uint64, *_BUFFER],
     "jwt_decode_verdict": [*_BYTES, ctypes.c_uint32, *_BYTES, *_BYTES, ctypes.c_bool, *_BYTES, ctypes.c_uint64, *_BUFFER],
     "jwt_signed_part": [*_BYTES, ctypes.POINTER(ctypes.c_uint32), ctypes.POINTER(ctypes.c_size_t), *_BUFFER],
@@ -68,6 +69,14 @@ class InvalidSignature(Refused):
     """The signature is not that of the message by the key."""
 
 
+class UnsupportedAlgorithm(Refused):
+    """The key is of a kind by which no token is verified, or the algorithm is not one of the call."""
+
+
+class InvalidKeyFormat(Refused):
+    """The key is for algorithms of another family, or does not serve."""
+
+
 class InvalidAlgorithm(Refused):
     """The algorithm is not among those accepted, or the key is for another."""
 
@@ -114,6 +123,8 @@ class InvalidClaimFormat(Refused):
 
 _KINDS = {
     2: InvalidSignature,
+    7: UnsupportedAlgorithm,
+    8: InvalidKeyFormat,
     9: ExpiredSignature,
     10: InvalidIssuer,
     11: InvalidAudience,
@@ -268,15 +279,32 @@ def decode(token, secret, now=None, **options):
     return json.loads(_call(_library.jwt_decode_hmac, *texts, _moment(now)))
 
 
-def decode_set(token, key_set, now=None, **options):
-    """Returns the claims of a token, verified by HMAC with the key that its header names of a set: a dict, or JSON."""
-    token, key_set, options, now = _bytes("token", token), _json_or_text("key_set", key_set), _options(options), _moment(now)
-    claims = _call(_library.jwt_decode_set, *_slices(token, key_set, options), now)
+def _check_secret(name, token, options, now):
+    """Checks that a token that was accepted is not one of the empty secret, which the key would then be."""
     try:
         _call(_library.jwt_decode_hmac, *_slices(token, b"", options), now)
-    except InvalidSignature:
-        return json.loads(claims)
-    raise ValueError("key_set has a key that is empty or has zeros alone: anyone can sign with it")
+    except (InvalidSignature, UnsupportedAlgorithm):  # another secret, or no HMAC
+        return
+    raise ValueError(f"the secret of {name} is empty or has zeros alone: anyone can sign with it")
+
+
+def decode_key(token, key, now=None, **options):
+    """Returns the claims of a token that a key verifies, by any algorithm: a JSON Web Key of any kind, as a dict or JSON.
+
+    The options fix the algorithms: list those that the key is for. Its own alg, use and key_ops are not looked at.
+    """
+    token, key, options, now = _bytes("token", token), _json_or_text("key", key), _options(options), _moment(now)
+    claims = _call(_library.jwt_decode_key, *_slices(token, key, options), now)
+    _check_secret("key", token, options, now)
+    return json.loads(claims)
+
+
+def decode_set(token, key_set, now=None, **options):
+    """Returns the claims of a token, verified by any algorithm with the key that its header names of a set: a dict, or JSON."""
+    token, key_set, options, now = _bytes("token", token), _json_or_text("key_set", key_set), _options(options), _moment(now)
+    claims = _call(_library.jwt_decode_set, *_slices(token, key_set, options), now)
+    _check_secret("key_set", token, options, now)
+    return json.loads(claims)
 
 
 def signed_part(token):

@@ -6,12 +6,14 @@
 
 ghost use Rattle.std.specs.Prelude.{◌≡◌, Some, MatchOption};
 ghost use Rattle.jwt_base.specs.Kind.{Kind, text_of};
-ghost use Rattle.jwt_c_calls.specs.Calls.{Answer, Leaves, LeavesSigned, AnswersHmac, AnswersSet, AnswersSaid, AnswersHeader, AnswersNumbers, status_of};
+ghost use Rattle.jwt_c_calls.specs.Calls.{Answer, Leaves, LeavesSigned, AnswersHmac, AnswersKey, AnswersSet, AnswersSaid, AnswersHeader, AnswersNumbers, status_of};
 ghost use Rattle.jwt_c_calls.specs.Issued.{AnswersEncode, AnswersThumbprint, hash_numbered};
 ghost use Rattle.jwt_c_calls.specs.Status.{number, no_status, status_text, told, version, algorithm_numbered, IsGiven, IsKept};
 
 use jsonwebtoken::signed_part;
-use jwt_c_calls::answers::{header_answer, hmac_answer, numbers_answer, said_answer, set_answer};
+use jwt_c_calls::answers::{
+    header_answer, hmac_answer, key_answer, numbers_answer, said_answer, set_answer,
+};
 use jwt_c_calls::issued::{encode_answer, thumbprint_answer};
 use jwt_c_calls::status::{algorithm_number, leave, number_of, put_bytes, status_of, text_of};
 use std::alloc::Global;
@@ -38,8 +40,42 @@ pub extern "C" fn jwt_decode_hmac(
     leave(answer, room, len)
 }
 
-/// Verifies a token like `jwt_decode_hmac`, with the key of a set that the token's header names by
-/// its `kid`. The set is a JSON text (RFC 7517 section 5), and is read after the options.
+/// Verifies a token with a key, by any of the twelve algorithms, at the moment `now`, and writes its
+/// claims as JSON.
+///
+/// The key is the JSON text of one JSON Web Key (RFC 7517 section 4) of any kind: a secret, RSA, an
+/// elliptic curve, Ed25519. Its own `alg`, `use`, `key_ops` and `kid` are not compared with the token:
+/// the options' `algorithms` alone fix the algorithm.
+///
+/// The tests are made in this order, and a refusal has the status of the first that fails:
+///
+/// - the options' text describes options, else 101;
+/// - the key's text describes a key, else 106;
+/// - [`DecodingKey::from_jwk`](jsonwebtoken::DecodingKey::from_jwk) makes a key of it, else its kind:
+///   `Base64` for a member that is not base64url text, `UnsupportedAlgorithm` for any other kind of
+///   key;
+/// - the tests of [`decode`](jsonwebtoken::decode) by `StandardProvider`, in their order.
+#[unsafe(no_mangle)]
+pub extern "C" fn jwt_decode_key(
+    alloc: Global,
+    token: &[u8],
+    key: &[u8],
+    options: &[u8],
+    now: u64,
+    room: &mut [u8],
+    len: &mut usize,
+) -> u32
+    ensures { (a : Answer) × AnswersKey options.now token.now key.now now a
+        × Leaves a result len.new room.old room.new }
+{
+    let answer = key_answer(alloc, token, key, options, now);
+    leave(answer, room, len)
+}
+
+/// Verifies a token like `jwt_decode_key`, with the key of a set that the token's header names by
+/// its `kid`. The set is a JSON text (RFC 7517 section 5), and is read after the options; any other
+/// text is refused with 103. The tests are those of
+/// [`decode_with_set`](jsonwebtoken::decode_with_set) by `StandardProvider`.
 #[unsafe(no_mangle)]
 pub extern "C" fn jwt_decode_set(
     alloc: Global,

@@ -17,13 +17,15 @@ use Rattle.jwt_base.specs.declared.algorithms.AlgorithmFamily.TheVariants.{Hmac}
 use Rattle.jwt_base.specs.declared.errors.Error.{Error}
 use Rattle.jwt_hmac.specs.HmacKeys.{HmacAccepts, hash_for, refusal}
 use Rattle.jwt_header.specs.Header.{header_value}
-use Rattle.jwt_keys.specs.Key.{Plain, key_family}
+use Rattle.jwt_keys.specs.Key.{Key, Plain, key_family}
+use Rattle.jwt_keys.specs.KeyOfJwk.{IsKeyOf, refusal_of}
 use Rattle.jwt_keys.specs.declared.jwk.Jwk.{Jwk}
+use Rattle.jwt_standard.specs.StandardKeys.{verifier_refusal, StandardAccepts}
 use Rattle.jwt_validation.specs.Options.{Options}
 use Rattle.jwt_verdict.specs.Verdict.{Verdict, IsVerified, refusal_by}
 use Rattle.jsonwebtoken.specs.Tests.{Call, Compact, Contents, Given, InSet, Passes, FirstFailed, decode_order, header_order, set_order, signed_order, header_call, message_of, verifying_call}
 use Rattle.jsonwebtoken.specs.Vouched.{IsVouched}
-use Rattle.jwt_c_calls.specs.Inputs.{ReadsOptionsText, ReadsSetText, ReadsClaimsText}
+use Rattle.jwt_c_calls.specs.Inputs.{ReadsOptionsText, ReadsSetText, ReadsClaimsText, ReadsKeyText}
 use Rattle.jwt_c_calls.specs.Status.{number, input_status, algorithm_numbered, IsGiven, IsKept}
 use Rattle.jwt_c_calls.specs.declared.inputs.Input.{Input}
 use Rattle.jwt_c_calls.specs.declared.inputs.Input.TheVariants as input
@@ -95,11 +97,17 @@ verdict_call token v now options =
     verifying_call (Compact token) (Given (Plain (family_of v.algorithm) [])) options now
     (refusal_by v) (λ _ _. IsVerified v) (λ value claims. view claims ≡ value)
 
--- `decode_with_set` by HMAC
+-- `decode` by all twelve algorithms, with the key
+abbrev pub key_call : List ℕ → Key → ℕ → Options → Call Value
+key_call token key now options =
+    verifying_call (Compact token) (Given key) options now
+    verifier_refusal StandardAccepts (λ value claims. view claims ≡ value)
+
+-- `decode_with_set` by all twelve algorithms
 abbrev pub set_call : List ℕ → List Jwk → ℕ → Options → Call Value
 set_call token keys now options =
     verifying_call (Compact token) (InSet keys) options now
-    (λ a key. refusal (hash_for a) (key_family key)) HmacAccepts (λ value claims. view claims ≡ value)
+    verifier_refusal StandardAccepts (λ value claims. view claims ≡ value)
 
 -- the text is that of the claims of accepted contents
 abbrev pub IsClaimsText : (Contents → Type 0) → List ℕ → Type 0
@@ -119,6 +127,27 @@ abbrev pub AnswersHmac : List ℕ → List ℕ → List ℕ → ℕ → Answer �
 AnswersHmac text token secret now = AnswersWhere text
     (λ o. Passes (hmac_call token secret now o) decode_order)
     (λ o. FirstFailed (hmac_call token secret now o) decode_order)
+
+-- contents that `decode` accepts with the key that a JSON Web Key stands for (RFC 7518 section 6)
+abbrev pub PassesByJwk : List ℕ → ℕ → Options → Jwk → Contents → Type 0
+PassesByJwk token now options jwk t = (key : Key) × IsKeyOf jwk.algorithm key
+    × Passes (key_call token key now options) decode_order t
+
+-- the kind with which a JSON Web Key that stands for no key is refused; else that of the first test
+-- that fails with its key
+abbrev pub FailsByJwk : List ℕ → ℕ → Options → Jwk → Kind → Type 0
+FailsByJwk token now options jwk k =
+    ((k ≡ refusal_of jwk.algorithm) × ((key : Key) → ¬ IsKeyOf jwk.algorithm key))
+    ⊎ ((key : Key) × IsKeyOf jwk.algorithm key
+    × FirstFailed (key_call token key now options) decode_order k)
+
+-- the same for `decode` with a JSON Web Key; the options' text is read before that of the key
+abbrev pub AnswersKey : List ℕ → List ℕ → List ℕ → ℕ → Answer → Type 0
+AnswersKey text token key now = AnswersBy {E = Options × Jwk}
+    (λ e. ReadsOptionsText text e.0 × ReadsKeyText key e.1)
+    (MisreadsTwo input.Options (ReadsOptionsText text) input.Key (ReadsKeyText key))
+    (λ e. IsClaimsText (PassesByJwk token now e.0 e.1))
+    (λ e. FailsByJwk token now e.0 e.1)
 
 -- the same for `decode_with_set`; the options' text is read before that of the key set
 abbrev pub AnswersSet : List ℕ → List ℕ → List ℕ → ℕ → Answer → Type 0

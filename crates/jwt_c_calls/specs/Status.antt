@@ -89,7 +89,7 @@ first_texts = codes "OK"
 -- the text of a status
 abbrev pub status_text : ℕ → Option (List ℕ)
 status_text n =
-    if n == no_room then Some (codes "Room too small")
+    if n == no_room then Some (codes "Buffer too small")
     else (if n == input_status input.Options then Some (codes "Options not understood")
     else (if n == no_status then Some (codes "Unknown status")
     else (if n == input_status input.Set then Some (codes "Key set not understood")

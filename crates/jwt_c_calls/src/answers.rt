@@ -8,10 +8,10 @@ ghost use Rattle.jwt_base.specs.KindOf.{kind_of, IsMemory};
 ghost use Rattle.jwt_header.specs.Header.{header_value};
 ghost use Rattle.jwt_validation.specs.OptionsOf.{options_of};
 ghost use Rattle.jsonwebtoken.specs.Tests.{Contents, Passes, FirstFailed, header_order, header_call};
-ghost use Rattle.jwt_c_calls.specs.Calls.{Gives, AnswersHmac, AnswersSet, AnswersVerdict, AnswersSaid, AnswersHeader, AnswersNumbers, HandsOut, IsHeaderText, answer_of};
+ghost use Rattle.jwt_c_calls.specs.Calls.{Gives, AnswersHmac, AnswersKey, AnswersSet, AnswersVerdict, AnswersSaid, AnswersHeader, AnswersNumbers, PassesByJwk, FailsByJwk, HandsOut, IsHeaderText, answer_of};
 ghost use Rattle.jwt_c_calls.specs.Status.{algorithm_numbered};
 
-use crate::inputs::{Input, Refusal, read_as, read_claims, read_options, read_set};
+use crate::inputs::{Input, Refusal, read_as, read_claims, read_key, read_options, read_set};
 use crate::status::numbered_algorithm;
 use jsonwebtoken::crypto::hmac::HmacProvider;
 use jsonwebtoken::crypto::verdict::VerdictProvider;
@@ -20,6 +20,9 @@ use jsonwebtoken::{
     DecodingKey, TokenData, decode, decode_by_verdict, decode_header, decode_with_set,
 };
 use jwt_base::json::has_float;
+use jwt_keys::jwk::Jwk;
+use jwt_standard::StandardProvider;
+use jwt_validation::Validation;
 use serde_json::Value;
 use std::alloc::Global;
 use std::result::Result;
@@ -54,8 +57,45 @@ pub fn hmac_answer(
     hand_out(alloc, answer)
 }
 
+// Returns the claims of a token that is verified with the key that a JSON Web Key stands for, by the
+// algorithm that the header names, or the kind of the refusal.
+fn by_jwk(
+    alloc: Global,
+    token: &[u8],
+    jwk: &Jwk,
+    validation: &Validation,
+    now: u64,
+) -> Result<TokenData<Value>, Error>
+    ensures ok { IfOk result (λ d. (t : Contents)
+        × PassesByJwk token.now now (options_of validation.now) jwk.now t
+        × ((t.header ≡ d.header) × (view d.claims ≡ t.payload_value))) }
+    ensures err { IfErr result (λ e. IsMemory e
+        ⊎ FailsByJwk token.now now (options_of validation.now) jwk.now (kind_of e)) }
+{
+    let key = DecodingKey::from_jwk(alloc, jwk)?;
+    decode(alloc, &StandardProvider, token, &key, validation, now)
+}
+
+/// Returns the claims of a token that is verified with a key, which is the JSON text of one JSON Web
+/// Key (RFC 7517 section 4), by the algorithm of all twelve that the token's header names.
+pub fn key_answer(
+    alloc: Global,
+    token: &[u8],
+    key: &[u8],
+    options: &[u8],
+    now: u64,
+) -> Result<Vec<u8>, Refusal>
+    ensures ok { IfOk result (λ b. AnswersKey options.now token.now key.now now (Gives b.items)) }
+    ensures err { IfErr result (λ r. AnswersKey options.now token.now key.now now (answer_of r)) }
+{
+    let validation = read_as(Input::Options, read_options(alloc, options))?;
+    let jwk = read_as(Input::Key, read_key(alloc, key))?;
+    let answer = by_jwk(alloc, token, &jwk, &validation, now);
+    hand_out(alloc, answer)
+}
+
 /// Returns the claims of a token that is verified with the key of the set that its header names, by
-/// HMAC.
+/// the algorithm of all twelve that it names.
 pub fn set_answer(
     alloc: Global,
     token: &[u8],
@@ -68,7 +108,7 @@ pub fn set_answer(
 {
     let validation = read_as(Input::Options, read_options(alloc, options))?;
     let keys = read_as(Input::Set, read_set(alloc, set))?;
-    let answer = decode_with_set(alloc, &HmacProvider, token, &keys, &validation, now);
+    let answer = decode_with_set(alloc, &StandardProvider, token, &keys, &validation, now);
     hand_out(alloc, answer)
 }
 

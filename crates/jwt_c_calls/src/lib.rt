@@ -1,4 +1,4 @@
-//! What the calls for C return, over slices and results; `jwt_c` exports them.
+//! The calls for C over slices and results; `jwt_c` exports them.
 #![tactic(auto)]
 
 pub mod answers;

@@ -136,7 +136,7 @@ pub fn text_of(status: u32) -> Option<&'static str>
     ensures { option_map (λ t. t.now) result ≡ status_text status }
 {
     match status {
-        100 => Some("Room too small"),
+        100 => Some("Buffer too small"),
         101 => Some("Options not understood"),
         102 => Some("Unknown status"),
         103 => Some("Key set not understood"),

@@ -20,15 +20,17 @@ import (
 
 // The statuses of refusals that callers act on. include/jwt.h has all of them.
 const (
-	InvalidSignature  uint32 = C.JWT_INVALID_SIGNATURE
-	ExpiredSignature  uint32 = C.JWT_EXPIRED_SIGNATURE
-	InvalidIssuer     uint32 = C.JWT_INVALID_ISSUER
-	InvalidAudience   uint32 = C.JWT_INVALID_AUDIENCE
-	InvalidSubject    uint32 = C.JWT_INVALID_SUBJECT
-	ImmatureSignature uint32 = C.JWT_IMMATURE_SIGNATURE
-	InvalidAlgorithm  uint32 = C.JWT_INVALID_ALGORITHM
-	OutOfMemory       uint32 = C.JWT_OUT_OF_MEMORY
-	NoKey             uint32 = C.JWT_NO_KEY
+	InvalidSignature     uint32 = C.JWT_INVALID_SIGNATURE
+	UnsupportedAlgorithm uint32 = C.JWT_UNSUPPORTED_ALGORITHM
+	InvalidKeyFormat     uint32 = C.JWT_INVALID_KEY_FORMAT
+	ExpiredSignature     uint32 = C.JWT_EXPIRED_SIGNATURE
+	InvalidIssuer        uint32 = C.JWT_INVALID_ISSUER
+	InvalidAudience      uint32 = C.JWT_INVALID_AUDIENCE
+	InvalidSubject       uint32 = C.JWT_INVALID_SUBJECT
+	ImmatureSignature    uint32 = C.JWT_IMMATURE_SIGNATURE
+	InvalidAlgorithm     uint32 = C.JWT_INVALID_ALGORITHM
+	OutOfMemory          uint32 = C.JWT_OUT_OF_MEMORY
+	NoKey                uint32 = C.JWT_NO_KEY
 )
 
 // ErrEmptySecret is returned for a secret that is empty or has zeros alone, by which anyone can sign: HMAC pads a secret with
@@ -152,7 +154,40 @@ func Decode(token, secret []byte, options Options, now uint64) ([]byte, error) {
 	return decode(token, secret, text, now)
 }
 
-// DecodeWithSet returns the claims of a token, verified by HMAC with the key that its header names of a set.
+// checked returns claims that were accepted, unless the empty secret verifies the token too: the key is that secret then.
+func checked(claims, token, options []byte, now uint64) ([]byte, error) {
+	_, err := decode(token, nil, options, now)
+	if err == nil {
+		return nil, ErrEmptySecret
+	}
+	// another secret, or no HMAC
+	refused, isRefused := err.(Refused)
+	if isRefused && (refused.Status == InvalidSignature || refused.Status == UnsupportedAlgorithm) {
+		return claims, nil
+	}
+	return nil, err
+}
+
+// DecodeWithKey returns the claims of a token that a key verifies, by any algorithm: a JSON Web Key of any kind. The options fix the
+// algorithms: list those that the key is for. Its own alg, use and key_ops are not looked at.
+func DecodeWithKey(token, key []byte, options Options, now uint64) ([]byte, error) {
+	text, err := options.text()
+	if err != nil {
+		return nil, err
+	}
+	claims, err := given(func(buffer *C.uint8_t, size C.size_t, length *C.size_t) C.uint32_t {
+		tokenAt, tokenLen := slice(token)
+		keyAt, keyLen := slice(key)
+		optionsAt, optionsLen := slice(text)
+		return C.jwt_decode_key(tokenAt, tokenLen, keyAt, keyLen, optionsAt, optionsLen, C.uint64_t(now), buffer, size, length)
+	})
+	if err != nil {
+		return nil, err
+	}
+	return checked(claims, token, text, now)
+}
+
+// DecodeWithSet returns the claims of a token, verified by any algorithm with the key that its header names of a set.
 func DecodeWithSet(token, set []byte, options Options, now uint64) ([]byte, error) {
 	text, err := options.text()
 	if err != nil {
@@ -167,15 +202,7 @@ func DecodeWithSet(token, set []byte, options Options, now uint64) ([]byte, erro
 	if err != nil {
 		return nil, err
 	}
-	// if the empty secret verifies the token too, the key of the set is that
-	_, err = decode(token, nil, text, now)
-	if err == nil {
-		return nil, ErrEmptySecret
-	}
-	if refused, isRefused := err.(Refused); isRefused && refused.Status == InvalidSignature {
-		return claims, nil
-	}
-	return nil, err
+	return checked(claims, token, text, now)
 }
 
 // PartToCheck returns the parts of a token that have to be checked. Nothing is verified.

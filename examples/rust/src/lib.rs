@@ -16,6 +16,10 @@ mod calls {
             token: *const u8, token_len: usize, secret: *const u8, secret_len: usize, options: *const u8, options_len: usize,
             now: u64, buffer: *mut u8, buffer_len: usize, len: *mut usize,
         ) -> u32;
+        pub fn jwt_decode_key(
+            token: *const u8, token_len: usize, key: *const u8, key_len: usize, options: *const u8, options_len: usize,
+            now: u64, buffer: *mut u8, buffer_len: usize, len: *mut usize,
+        ) -> u32;
         pub fn jwt_decode_set(
             token: *const u8, token_len: usize, set: *const u8, set_len: usize, options: *const u8, options_len: usize,
             now: u64, buffer: *mut u8, buffer_len: usize, len: *mut usize,
@@ -59,6 +63,8 @@ pub struct Refused {
 /// The statuses that callers act on; `include/jwt.h` has all of them.
 impl Refused {
     pub const INVALID_SIGNATURE: u32 = 2;
+    pub const UNSUPPORTED_ALGORITHM: u32 = 7;
+    pub const INVALID_KEY_FORMAT: u32 = 8;
     pub const EXPIRED_SIGNATURE: u32 = 9;
     pub const INVALID_ISSUER: u32 = 10;
     pub const INVALID_AUDIENCE: u32 = 11;
@@ -77,10 +83,10 @@ impl fmt::Display for Refused {
 
 impl std::error::Error for Refused {}
 
-/// The error of a call that takes a secret, or of text that is not a [`Claim`].
+/// The error of a call that takes a secret, a key or a set of keys, or of text that is not a [`Claim`].
 #[derive(Clone, Debug, PartialEq, Eq)]
 pub enum Error {
-    /// The secret, or the key of the set, is empty or has zeros alone. HMAC pads a secret with zeros, so that both are the same
+    /// The secret, the key, or the key of the set, is empty or has zeros alone. HMAC pads a secret with zeros, so that both are the same
     /// key, by which anyone can sign.
     EmptySecret,
     /// The library has no rule for a claim of this name, and would ignore that it is required.
@@ -167,21 +173,37 @@ pub fn decode(token: &str, secret: &[u8], options: &Options, now: u64) -> Result
     Ok(decode_hmac(token, secret, &options.to_json(), now)?)
 }
 
-/// Returns the claims of a token, verified by HMAC with the key that its header names of a set, which is JSON.
+/// Returns claims that were accepted, unless the empty secret verifies the token too: the key is that secret then.
+fn checked(claims: String, token: &str, options: &str, now: u64) -> Result<String, Error> {
+    match decode_hmac(token, b"", options, now) {
+        Ok(_) => Err(Error::EmptySecret),
+        // another secret, or no HMAC
+        Err(Refused { status: Refused::INVALID_SIGNATURE | Refused::UNSUPPORTED_ALGORITHM, .. }) => Ok(claims),
+        Err(refused) => Err(refused.into()),
+    }
+}
+
+/// Returns the claims of a token that a key verifies, by any algorithm: a JSON Web Key of any kind, which is JSON. The options fix
+/// the algorithms: list those that the key is for. Its own `alg`, `use` and `key_ops` are not looked at.
+pub fn decode_with_key(token: &str, key: &str, options: &Options, now: u64) -> Result<String, Error> {
+    let options = options.to_json();
+    let claims = given(|buffer, size, len| unsafe {
+        calls::jwt_decode_key(
+            token.as_ptr(), token.len(), key.as_ptr(), key.len(), options.as_ptr(), options.len(), now, buffer, size, len,
+        )
+    })?;
+    checked(text(claims), token, &options, now)
+}
+
+/// Returns the claims of a token, verified by any algorithm with the key that its header names of a set, which is JSON.
 pub fn decode_with_set(token: &str, set: &str, options: &Options, now: u64) -> Result<String, Error> {
     let options = options.to_json();
     let claims = given(|buffer, size, len| unsafe {
         calls::jwt_decode_set(
             token.as_ptr(), token.len(), set.as_ptr(), set.len(), options.as_ptr(), options.len(), now, buffer, size, len,
         )
-    })
-    .map(text)?;
-    // if the empty secret verifies the token too, the key of the set is that
-    match decode_hmac(token, b"", &options, now) {
-        Ok(_) => Err(Error::EmptySecret),
-        Err(refused) if refused.status == Refused::INVALID_SIGNATURE => Ok(claims),
-        Err(refused) => Err(refused.into()),
-    }
+    })?;
+    checked(text(claims), token, &options, now)
 }
 
 /// Returns the token of a header and claims, which are JSON, signed with a secret, by HMAC.

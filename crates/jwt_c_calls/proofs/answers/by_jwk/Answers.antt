@@ -1,0 +1,17 @@
+use Rattle.std.proofs.Common.{◌≡◌, inl, inr}
+use Rattle.std.proofs.lemmas.Result.{IfOk-weaker, IfErr-weaker, err_from_is_err_and}
+use Rattle.jsonwebtoken.proofs.Exits.{or_memory}
+use Rattle.jwt_c_calls.proofs.answers.by_jwk.Goals as goal
+
+pub returns-in_err-key-clause-err : goal.returns-in_err-key-clause-err
+returns-in_err-key-clause-err c =
+    let p = err_from_is_err_and c.from_residual.result c.from_residual.ensures.1 in
+    rw (p.1, p.2) (or_memory (λ f. inl f) c.in_err-key.ensures.err)
+
+pub returns-clause-ok : goal.returns-clause-ok
+returns-clause-ok c =
+    IfOk-weaker c.decode.result _ _ (λ d x. (x.0, (_, c.in_ok-key.ensures.ok, x.1), x.2)) c.decode.ensures.accepted
+
+pub returns-clause-err : goal.returns-clause-err
+returns-clause-err c =
+    IfErr-weaker c.decode.result _ _ (λ e x. or_memory (λ f. inr (_, c.in_ok-key.ensures.ok, f)) x) c.decode.ensures.refused
