@@ -113,7 +113,8 @@ enum jwt_algorithm {
  * A secret is any bytes. An empty secret is a key like any other, by which anyone can sign, and
  * zeros alone are the same key, up to 64 of them for HS256 and 128 for HS384 and HS512 (RFC 2104
  * section 2). RFC 7518 section 3.2 requires at least 32 bytes for HS256, 48 for HS384 and 64 for
- * HS512: the caller has to test the length, for this call, for a key set, and to issue a token.
+ * HS512: the caller has to test the length, for this call, for a key or a key set, and to issue a
+ * token.
  *
  * The options are a JSON object, read before the token; any other text is JWT_BAD_OPTIONS. Each
  * member may be absent or null, and no other member is allowed:
@@ -150,13 +151,14 @@ uint32_t jwt_decode_hmac(const uint8_t *token, size_t token_len,
  *   {"kty":"EC","crv":"P-384","x":..,"y":..}   ES384
  *   {"kty":"OKP","crv":"Ed25519","x":..}       EdDSA
  *
- * The options have to list the algorithms that the key is for: its members alg, use, key_ops and kid
- * have to be well formed, and are not compared with the token. A key is refused, before the token is
- * read, with JWT_BASE64 if k, n, e, x or y is not base64url text, and with JWT_UNSUPPORTED_ALGORITHM
- * if it is of another kind. For a token that names an algorithm among those that the options list, a
- * key of another family is JWT_INVALID_KEY_FORMAT, and so is one that does not serve: a point that is
- * not on the algorithm's curve, a modulus that is even or not from 2048 to 16384 bits, an exponent
- * that is even, below 3 or beyond 64 bits. A secret may be of any length, as for jwt_decode_hmac.
+ * The options have to list the algorithms that the key is for: its own alg, use, key_ops and kid have
+ * to be well formed, and are not compared with the token, and the curve is that of the algorithm and
+ * not of crv. Before the token is read, a key is refused with JWT_BASE64 if k, n, e, x or y is not
+ * base64url text, and with JWT_UNSUPPORTED_ALGORITHM if it is of another kind or lacks one of the
+ * members above. Once the token names an algorithm that the options list, the status is
+ * JWT_INVALID_KEY_FORMAT if the key is of another family, or does not serve: a point that is not on
+ * the curve, a modulus that is even or does not have 2048 to 16384 bits, an exponent that is even,
+ * below 3 or beyond 64 bits. A secret may have any length, as for jwt_decode_hmac.
  */
 uint32_t jwt_decode_key(const uint8_t *token, size_t token_len,
                         const uint8_t *key, size_t key_len,
