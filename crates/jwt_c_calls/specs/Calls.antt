@@ -128,6 +128,14 @@ AnswersHmac text token secret now = AnswersWhere text
     (λ o. Passes (hmac_call token secret now o) decode_order)
     (λ o. FirstFailed (hmac_call token secret now o) decode_order)
 
+-- the same for `decode_with_set`; the options' text is read before that of the key set
+abbrev pub AnswersSet : List ℕ → List ℕ → List ℕ → ℕ → Answer → Type 0
+AnswersSet text token set now = AnswersBy {E = Options × List Jwk}
+    (λ e. ReadsOptionsText text e.0 × ReadsSetText set e.1)
+    (MisreadsTwo input.Options (ReadsOptionsText text) input.Set (ReadsSetText set))
+    (λ e. IsClaimsText (Passes (set_call token e.1 now e.0) set_order))
+    (λ e. FirstFailed (set_call token e.1 now e.0) set_order)
+
 -- contents that `decode` accepts with the key that a JSON Web Key stands for (RFC 7518 section 6)
 abbrev pub PassesByJwk : List ℕ → ℕ → Options → Jwk → Contents → Type 0
 PassesByJwk token now options jwk t = (key : Key) × IsKeyOf jwk.algorithm key
@@ -141,21 +149,14 @@ FailsByJwk token now options jwk k =
     ⊎ ((key : Key) × IsKeyOf jwk.algorithm key
     × FirstFailed (key_call token key now options) decode_order k)
 
--- the same for `decode` with a JSON Web Key; the options' text is read before that of the key
+-- `decode` with a JSON Web Key; the options' text is read before that of the key, and the key before
+-- the token
 abbrev pub AnswersKey : List ℕ → List ℕ → List ℕ → ℕ → Answer → Type 0
 AnswersKey text token key now = AnswersBy {E = Options × Jwk}
     (λ e. ReadsOptionsText text e.0 × ReadsKeyText key e.1)
     (MisreadsTwo input.Options (ReadsOptionsText text) input.Key (ReadsKeyText key))
     (λ e. IsClaimsText (PassesByJwk token now e.0 e.1))
     (λ e. FailsByJwk token now e.0 e.1)
-
--- the same for `decode_with_set`; the options' text is read before that of the key set
-abbrev pub AnswersSet : List ℕ → List ℕ → List ℕ → ℕ → Answer → Type 0
-AnswersSet text token set now = AnswersBy {E = Options × List Jwk}
-    (λ e. ReadsOptionsText text e.0 × ReadsSetText set e.1)
-    (MisreadsTwo input.Options (ReadsOptionsText text) input.Set (ReadsSetText set))
-    (λ e. IsClaimsText (Passes (set_call token e.1 now e.0) set_order))
-    (λ e. FirstFailed (set_call token e.1 now e.0) set_order)
 
 -- accepted contents are those that the verdict vouches for; a refusal has the kind of the first
 -- test of `decode` that fails
