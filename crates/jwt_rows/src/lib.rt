@@ -9,9 +9,3 @@ pub mod fault;
 pub mod inputs;
 pub mod row;
 pub mod trial;
-
-// For the macro `by_provider`.
-pub use jwt_hmac::HmacProvider;
-pub use jwt_rsa::RsaProvider;
-pub use jwt_standard::StandardProvider;
-pub use jwt_test_providers::providers::{NoProvider, YesProvider};

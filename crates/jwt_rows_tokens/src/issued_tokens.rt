@@ -1,27 +1,30 @@
 //! Tokens that are issued.
 
 use jsonwebtoken::crypto::CryptoProvider;
-use jsonwebtoken::crypto::hmac::HmacProvider;
 use jsonwebtoken::encode;
 use jwt_rows::answer::{Answer, of_string};
-use jwt_rows::by_provider;
 use jwt_rows::fault::Fault;
 use jwt_rows::inputs::headers::header_of;
 use jwt_rows::inputs::keys::encoding_key;
 use jwt_rows::row::Row;
 use jwt_rows::trial::Trial;
-use jwt_test_providers::providers::{NoProvider, YesProvider};
 use serde_json::Value;
 
 /// Makes the call of this name, if it is among those of this module.
-pub fn answer(call: &str, row: Row<'_>, trial: &mut Trial) -> Result<Option<Value>, Fault> {
+pub fn answer<P: CryptoProvider>(
+    call: &str,
+    row: Row<'_>,
+    trial: &mut Trial,
+    provider: &P,
+) -> Result<Option<Value>, Fault> {
     match call {
-        "encode" => Ok(Some(encoded(row, trial)?)),
+        "encode" => Ok(Some(encoded(row, trial, provider)?)),
         _ => Ok(None),
     }
 }
 
-fn encoded_by<P: CryptoProvider>(row: Row<'_>, trial: &mut Trial, provider: &P) -> Answer {
+fn encoded<P: CryptoProvider>(row: Row<'_>, trial: &mut Trial, provider: &P) -> Answer {
+    row.takes(&["header", "claims", "claims_json", "key", "provider"])?;
     let header = header_of(row.alloc(), row.value("header")?)?;
     let claims = row.json("claims", "claims_json")?;
     let key = encoding_key(row)?;
@@ -29,9 +32,4 @@ fn encoded_by<P: CryptoProvider>(row: Row<'_>, trial: &mut Trial, provider: &P) 
     let answer = encode(row.alloc(), provider, &header, &claims, &key);
     trial.end();
     of_string(row.alloc(), answer)
-}
-
-fn encoded(row: Row<'_>, trial: &mut Trial) -> Answer {
-    row.takes(&["header", "claims", "claims_json", "key", "provider"])?;
-    by_provider!(encoded_by, row, trial)
 }

@@ -1,25 +1,27 @@
 //! The JSON Web Keys of keys.
 
 use jsonwebtoken::crypto::CryptoProvider;
-use jsonwebtoken::crypto::hmac::HmacProvider;
 use jsonwebtoken::jwk::Jwk;
 use jsonwebtoken::{Algorithm, errors};
 use jwt_rows::answer::{Answer, accepted, refused};
-use jwt_rows::by_provider;
 use jwt_rows::fault::Fault;
 use jwt_rows::inputs::keys::{decoding_key, encoding_key};
 use jwt_rows::inputs::providers::algorithm_of;
 use jwt_rows::row::Row;
 use jwt_rows::trial::Trial;
-use jwt_test_providers::providers::{NoProvider, YesProvider};
 use serde_json::Value;
 use std::alloc::Global;
 
 /// Makes the call of this name, if it is among those of this module.
-pub fn answer(call: &str, row: Row<'_>, trial: &mut Trial) -> Result<Option<Value>, Fault> {
+pub fn answer<P: CryptoProvider>(
+    call: &str,
+    row: Row<'_>,
+    trial: &mut Trial,
+    provider: &P,
+) -> Result<Option<Value>, Fault> {
     match call {
-        "Jwk::from_encoding_key" => Ok(Some(of_encoding_key(row, trial)?)),
-        "Jwk::from_decoding_key" => Ok(Some(of_decoding_key(row, trial)?)),
+        "Jwk::from_encoding_key" => Ok(Some(of_encoding_key(row, trial, provider)?)),
+        "Jwk::from_decoding_key" => Ok(Some(of_decoding_key(row, trial, provider)?)),
         _ => Ok(None),
     }
 }
@@ -35,18 +37,14 @@ fn of_jwk(alloc: Global, answer: errors::Result<Jwk>) -> Answer {
     }
 }
 
-fn of_encoding_key_by<P: CryptoProvider>(row: Row<'_>, trial: &mut Trial, provider: &P) -> Answer {
+fn of_encoding_key<P: CryptoProvider>(row: Row<'_>, trial: &mut Trial, provider: &P) -> Answer {
+    row.takes(&["key", "algorithm", "provider"])?;
     let algorithm = algorithm_of(row.value("algorithm")?)?;
     let key = encoding_key(row)?;
     trial.begin();
     let answer = Jwk::from_encoding_key(row.alloc(), provider, &key, algorithm);
     trial.end();
     of_jwk(row.alloc(), answer)
-}
-
-fn of_encoding_key(row: Row<'_>, trial: &mut Trial) -> Answer {
-    row.takes(&["key", "algorithm", "provider"])?;
-    by_provider!(of_encoding_key_by, row, trial)
 }
 
 // Returns the algorithm that the row names, if it names one.
@@ -57,16 +55,12 @@ fn optional_algorithm(row: Row<'_>) -> Result<Option<Algorithm>, Fault> {
     }
 }
 
-fn of_decoding_key_by<P: CryptoProvider>(row: Row<'_>, trial: &mut Trial, provider: &P) -> Answer {
+fn of_decoding_key<P: CryptoProvider>(row: Row<'_>, trial: &mut Trial, provider: &P) -> Answer {
+    row.takes(&["key", "algorithm", "provider"])?;
     let algorithm = optional_algorithm(row)?;
     let key = decoding_key(row)?;
     trial.begin();
     let answer = Jwk::from_decoding_key(row.alloc(), provider, &key, algorithm);
     trial.end();
     of_jwk(row.alloc(), answer)
-}
-
-fn of_decoding_key(row: Row<'_>, trial: &mut Trial) -> Answer {
-    row.takes(&["key", "algorithm", "provider"])?;
-    by_provider!(of_decoding_key_by, row, trial)
 }

@@ -1,6 +1,7 @@
 //! Rows about keys, signatures and tokens.
 #![tactic(auto)]
 
+mod by_provider;
 mod hmac;
 mod issued_tokens;
 mod jwks_of_keys;
@@ -31,42 +32,17 @@ fn of_keys(call: &str, row: Row<'_>, trial: &mut Trial) -> Found {
     if let Some(answer) = keys_of_jwks::answer(call, row, trial)? {
         return Ok(Some(answer));
     }
-    if let Some(answer) = jwks_of_keys::answer(call, row, trial)? {
-        return Ok(Some(answer));
-    }
-    thumbprints::answer(call, row, trial)
-}
-
-fn of_signatures(call: &str, row: Row<'_>, trial: &mut Trial) -> Found {
-    if let Some(answer) = hmac::answer(call, row, trial)? {
-        return Ok(Some(answer));
-    }
     if let Some(answer) = prepared::answer(call, row, trial)? {
         return Ok(Some(answer));
     }
-    if let Some(answer) = prepared_rsa::answer(call, row, trial)? {
-        return Ok(Some(answer));
-    }
-    signatures::answer(call, row, trial)
+    prepared_rsa::answer(call, row, trial)
 }
 
 fn of_tokens(call: &str, row: Row<'_>, trial: &mut Trial) -> Found {
-    if let Some(answer) = tokens::answer(call, row, trial)? {
-        return Ok(Some(answer));
-    }
-    if let Some(answer) = tokens_by_set::answer(call, row, trial)? {
-        return Ok(Some(answer));
-    }
     if let Some(answer) = tokens_by_verdict::answer(call, row, trial)? {
         return Ok(Some(answer));
     }
-    if let Some(answer) = token_parts::answer(call, row, trial)? {
-        return Ok(Some(answer));
-    }
     if let Some(answer) = unverified_tokens::answer(call, row, trial)? {
-        return Ok(Some(answer));
-    }
-    if let Some(answer) = issued_tokens::answer(call, row, trial)? {
         return Ok(Some(answer));
     }
     sizes::answer(call, row, trial)
@@ -78,8 +54,8 @@ pub fn answer(call: &str, row: Row<'_>, trial: &mut Trial) -> Result<Option<Valu
     if let Some(answer) = of_keys(call, row, trial)? {
         return Ok(Some(answer));
     }
-    if let Some(answer) = of_signatures(call, row, trial)? {
+    if let Some(answer) = of_tokens(call, row, trial)? {
         return Ok(Some(answer));
     }
-    of_tokens(call, row, trial)
+    by_provider::answer(call, row, trial)
 }

@@ -1,28 +1,31 @@
 //! Signatures as base64url strings, and the comparison of signatures.
 
-use jsonwebtoken::crypto::hmac::HmacProvider;
 use jsonwebtoken::crypto::{CryptoProvider, is_same, sign, verify};
 use jwt_rows::answer::{Answer, accepted, of_flag, of_string};
-use jwt_rows::by_provider;
 use jwt_rows::fault::Fault;
 use jwt_rows::inputs::keys::{decoding_key, encoding_key};
 use jwt_rows::inputs::providers::algorithm_of;
 use jwt_rows::row::Row;
 use jwt_rows::trial::Trial;
-use jwt_test_providers::providers::{NoProvider, YesProvider};
 use serde_json::Value;
 
 /// Makes the call of this name, if it is among those of this module.
-pub fn answer(call: &str, row: Row<'_>, trial: &mut Trial) -> Result<Option<Value>, Fault> {
+pub fn answer<P: CryptoProvider>(
+    call: &str,
+    row: Row<'_>,
+    trial: &mut Trial,
+    provider: &P,
+) -> Result<Option<Value>, Fault> {
     match call {
-        "sign" => Ok(Some(signed(row, trial)?)),
-        "verify" => Ok(Some(verified(row, trial)?)),
+        "sign" => Ok(Some(signed(row, trial, provider)?)),
+        "verify" => Ok(Some(verified(row, trial, provider)?)),
         "is_same" => Ok(Some(compared(row, trial)?)),
         _ => Ok(None),
     }
 }
 
-fn signed_by<P: CryptoProvider>(row: Row<'_>, trial: &mut Trial, provider: &P) -> Answer {
+fn signed<P: CryptoProvider>(row: Row<'_>, trial: &mut Trial, provider: &P) -> Answer {
+    row.takes(&["message", "key", "algorithm", "provider"])?;
     let alloc = row.alloc();
     let algorithm = algorithm_of(row.value("algorithm")?)?;
     let message = row.bytes("message")?;
@@ -33,12 +36,8 @@ fn signed_by<P: CryptoProvider>(row: Row<'_>, trial: &mut Trial, provider: &P) -
     of_string(alloc, answer)
 }
 
-fn signed(row: Row<'_>, trial: &mut Trial) -> Answer {
-    row.takes(&["message", "key", "algorithm", "provider"])?;
-    by_provider!(signed_by, row, trial)
-}
-
-fn verified_by<P: CryptoProvider>(row: Row<'_>, trial: &mut Trial, provider: &P) -> Answer {
+fn verified<P: CryptoProvider>(row: Row<'_>, trial: &mut Trial, provider: &P) -> Answer {
+    row.takes(&["signature", "message", "key", "algorithm", "provider"])?;
     let alloc = row.alloc();
     let algorithm = algorithm_of(row.value("algorithm")?)?;
     let signature = row.text("signature")?;
@@ -55,11 +54,6 @@ fn verified_by<P: CryptoProvider>(row: Row<'_>, trial: &mut Trial, provider: &P)
     );
     trial.end();
     of_flag(alloc, answer)
-}
-
-fn verified(row: Row<'_>, trial: &mut Trial) -> Answer {
-    row.takes(&["signature", "message", "key", "algorithm", "provider"])?;
-    by_provider!(verified_by, row, trial)
 }
 
 fn compared(row: Row<'_>, trial: &mut Trial) -> Answer {

@@ -1,34 +1,32 @@
 //! Thumbprints (RFC 7638).
 
 use jsonwebtoken::crypto::CryptoProvider;
-use jsonwebtoken::crypto::hmac::HmacProvider;
 use jwt_rows::answer::{Answer, of_string};
-use jwt_rows::by_provider;
 use jwt_rows::fault::Fault;
 use jwt_rows::inputs::keys::{jwk, thumbprint_hash};
 use jwt_rows::row::Row;
 use jwt_rows::trial::Trial;
-use jwt_test_providers::providers::{NoProvider, YesProvider};
 use serde_json::Value;
 
 /// Makes the call of this name, if it is among those of this module.
-pub fn answer(call: &str, row: Row<'_>, trial: &mut Trial) -> Result<Option<Value>, Fault> {
+pub fn answer<P: CryptoProvider>(
+    call: &str,
+    row: Row<'_>,
+    trial: &mut Trial,
+    provider: &P,
+) -> Result<Option<Value>, Fault> {
     match call {
-        "Jwk::thumbprint" => Ok(Some(thumbprint(row, trial)?)),
+        "Jwk::thumbprint" => Ok(Some(thumbprint(row, trial, provider)?)),
         _ => Ok(None),
     }
 }
 
-fn thumbprint_by<P: CryptoProvider>(row: Row<'_>, trial: &mut Trial, provider: &P) -> Answer {
+fn thumbprint<P: CryptoProvider>(row: Row<'_>, trial: &mut Trial, provider: &P) -> Answer {
+    row.takes(&["jwk", "jwk_json", "hash", "provider"])?;
     let hash = thumbprint_hash(row)?;
     let jwk = jwk(row)?;
     trial.begin();
     let answer = jwk.thumbprint(row.alloc(), provider, hash);
     trial.end();
     of_string(row.alloc(), answer)
-}
-
-fn thumbprint(row: Row<'_>, trial: &mut Trial) -> Answer {
-    row.takes(&["jwk", "jwk_json", "hash", "provider"])?;
-    by_provider!(thumbprint_by, row, trial)
 }

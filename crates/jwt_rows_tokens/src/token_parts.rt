@@ -2,26 +2,28 @@
 
 use crate::tokens::of_token;
 use jsonwebtoken::crypto::CryptoProvider;
-use jsonwebtoken::crypto::hmac::HmacProvider;
 use jsonwebtoken::errors::Result as Outcome;
 use jsonwebtoken::jws::{self, Jws};
 use jwt_rows::answer::{Answer, accepted, refused};
-use jwt_rows::by_provider;
 use jwt_rows::fault::Fault;
 use jwt_rows::inputs::headers::header_of;
 use jwt_rows::inputs::keys::{decoding_key, encoding_key};
 use jwt_rows::inputs::validations::validation;
 use jwt_rows::row::Row;
 use jwt_rows::trial::Trial;
-use jwt_test_providers::providers::{NoProvider, YesProvider};
 use serde_json::Value;
 use std::alloc::Global;
 
 /// Makes the call of this name, if it is among those of this module.
-pub fn answer(call: &str, row: Row<'_>, trial: &mut Trial) -> Result<Option<Value>, Fault> {
+pub fn answer<P: CryptoProvider>(
+    call: &str,
+    row: Row<'_>,
+    trial: &mut Trial,
+    provider: &P,
+) -> Result<Option<Value>, Fault> {
     match call {
-        "jws::decode" => Ok(Some(decoded(row, trial)?)),
-        "jws::encode" => Ok(Some(encoded(row, trial)?)),
+        "jws::decode" => Ok(Some(decoded(row, trial, provider)?)),
+        "jws::encode" => Ok(Some(encoded(row, trial, provider)?)),
         "Jws::from_value" => Ok(Some(read(row, trial)?)),
         "Jws::to_value" => Ok(Some(written(row, trial)?)),
         "Jws::clone" => Ok(Some(copied(row, trial)?)),
@@ -43,7 +45,8 @@ fn of_parts(alloc: Global, answer: Outcome<Jws<Value>>) -> Answer {
     }
 }
 
-fn decoded_by<P: CryptoProvider>(row: Row<'_>, trial: &mut Trial, provider: &P) -> Answer {
+fn decoded<P: CryptoProvider>(row: Row<'_>, trial: &mut Trial, provider: &P) -> Answer {
+    row.takes(&["parts", "key", "validation", "now", "provider"])?;
     let token = parts(row)?;
     let key = decoding_key(row)?;
     let options = validation(row)?;
@@ -52,11 +55,6 @@ fn decoded_by<P: CryptoProvider>(row: Row<'_>, trial: &mut Trial, provider: &P) 
     let answer = jws::decode(row.alloc(), provider, &token, &key, &options, now);
     trial.end();
     of_token(row.alloc(), answer)
-}
-
-fn decoded(row: Row<'_>, trial: &mut Trial) -> Answer {
-    row.takes(&["parts", "key", "validation", "now", "provider"])?;
-    by_provider!(decoded_by, row, trial)
 }
 
 // Returns the claims, if the row has them.
@@ -68,7 +66,8 @@ fn optional_claims(row: Row<'_>) -> Result<Option<Value>, Fault> {
     Ok(Some(row.json("claims", "claims_json")?))
 }
 
-fn encoded_by<P: CryptoProvider>(row: Row<'_>, trial: &mut Trial, provider: &P) -> Answer {
+fn encoded<P: CryptoProvider>(row: Row<'_>, trial: &mut Trial, provider: &P) -> Answer {
+    row.takes(&["header", "claims", "claims_json", "key", "provider"])?;
     let header = header_of(row.alloc(), row.value("header")?)?;
     let claims = optional_claims(row)?;
     let key = encoding_key(row)?;
@@ -76,11 +75,6 @@ fn encoded_by<P: CryptoProvider>(row: Row<'_>, trial: &mut Trial, provider: &P) 
     let answer = jws::encode(row.alloc(), provider, &header, claims.as_ref(), &key);
     trial.end();
     of_parts(row.alloc(), answer)
-}
-
-fn encoded(row: Row<'_>, trial: &mut Trial) -> Answer {
-    row.takes(&["header", "claims", "claims_json", "key", "provider"])?;
-    by_provider!(encoded_by, row, trial)
 }
 
 fn read(row: Row<'_>, trial: &mut Trial) -> Answer {

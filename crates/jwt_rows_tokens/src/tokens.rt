@@ -1,27 +1,29 @@
 //! Tokens that are verified.
 
 use jsonwebtoken::crypto::CryptoProvider;
-use jsonwebtoken::crypto::hmac::HmacProvider;
 use jsonwebtoken::errors::Result as Outcome;
 use jsonwebtoken::json::Claims;
 use jsonwebtoken::{Header, TokenData, decode, decode_header};
 use jwt_rows::answer::{Answer, accepted, of_value, pair, refused};
-use jwt_rows::by_provider;
 use jwt_rows::fault::Fault;
 use jwt_rows::inputs::headers::shown_header;
 use jwt_rows::inputs::keys::decoding_key;
 use jwt_rows::inputs::validations::validation;
 use jwt_rows::row::Row;
 use jwt_rows::trial::Trial;
-use jwt_test_providers::providers::{NoProvider, YesProvider};
 use serde_json::Value;
 use std::alloc::Global;
 
 /// Makes the call of this name, if it is among those of this module.
-pub fn answer(call: &str, row: Row<'_>, trial: &mut Trial) -> Result<Option<Value>, Fault> {
+pub fn answer<P: CryptoProvider>(
+    call: &str,
+    row: Row<'_>,
+    trial: &mut Trial,
+    provider: &P,
+) -> Result<Option<Value>, Fault> {
     match call {
-        "decode" => Ok(Some(decoded(row, trial)?)),
-        "decode::<u64>" => Ok(Some(number(row, trial)?)),
+        "decode" => Ok(Some(decoded(row, trial, provider)?)),
+        "decode::<u64>" => Ok(Some(number(row, trial, provider)?)),
         "decode_header" => Ok(Some(header(row, trial)?)),
         _ => Ok(None),
     }
@@ -42,7 +44,8 @@ pub fn of_token(alloc: Global, answer: Outcome<TokenData<Value>>) -> Answer {
     }
 }
 
-fn decoded_by<P: CryptoProvider>(row: Row<'_>, trial: &mut Trial, provider: &P) -> Answer {
+fn decoded<P: CryptoProvider>(row: Row<'_>, trial: &mut Trial, provider: &P) -> Answer {
+    row.takes(&["token", "key", "validation", "now", "provider"])?;
     let token = row.bytes("token")?;
     let key = decoding_key(row)?;
     let options = validation(row)?;
@@ -53,17 +56,13 @@ fn decoded_by<P: CryptoProvider>(row: Row<'_>, trial: &mut Trial, provider: &P) 
     of_token(row.alloc(), answer)
 }
 
-fn decoded(row: Row<'_>, trial: &mut Trial) -> Answer {
-    row.takes(&["token", "key", "validation", "now", "provider"])?;
-    by_provider!(decoded_by, row, trial)
-}
-
 // Returns the claims alone, which are a number.
 fn claims_value(alloc: Global, answer: Outcome<TokenData<u64>>) -> Outcome<Value> {
     answer?.claims.to_value(alloc)
 }
 
-fn number_by<P: CryptoProvider>(row: Row<'_>, trial: &mut Trial, provider: &P) -> Answer {
+fn number<P: CryptoProvider>(row: Row<'_>, trial: &mut Trial, provider: &P) -> Answer {
+    row.takes(&["token", "key", "validation", "now", "provider"])?;
     let token = row.bytes("token")?;
     let key = decoding_key(row)?;
     let options = validation(row)?;
@@ -72,11 +71,6 @@ fn number_by<P: CryptoProvider>(row: Row<'_>, trial: &mut Trial, provider: &P) -
     let answer = decode(row.alloc(), provider, token.as_slice(), &key, &options, now);
     trial.end();
     of_value(row.alloc(), claims_value(row.alloc(), answer))
-}
-
-fn number(row: Row<'_>, trial: &mut Trial) -> Answer {
-    row.takes(&["token", "key", "validation", "now", "provider"])?;
-    by_provider!(number_by, row, trial)
 }
 
 fn of_header(alloc: Global, answer: Outcome<Header>) -> Answer {

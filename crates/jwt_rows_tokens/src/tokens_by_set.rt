@@ -2,22 +2,24 @@
 
 use crate::tokens::of_token;
 use jsonwebtoken::crypto::CryptoProvider;
-use jsonwebtoken::crypto::hmac::HmacProvider;
 use jsonwebtoken::decode_with_set;
 use jsonwebtoken::jwk::JwkSet;
 use jwt_rows::answer::Answer;
-use jwt_rows::by_provider;
 use jwt_rows::fault::Fault;
 use jwt_rows::inputs::validations::validation;
 use jwt_rows::row::Row;
 use jwt_rows::trial::Trial;
-use jwt_test_providers::providers::{NoProvider, YesProvider};
 use serde_json::Value;
 
 /// Makes the call of this name, if it is among those of this module.
-pub fn answer(call: &str, row: Row<'_>, trial: &mut Trial) -> Result<Option<Value>, Fault> {
+pub fn answer<P: CryptoProvider>(
+    call: &str,
+    row: Row<'_>,
+    trial: &mut Trial,
+    provider: &P,
+) -> Result<Option<Value>, Fault> {
     match call {
-        "decode_with_set" => Ok(Some(decoded(row, trial)?)),
+        "decode_with_set" => Ok(Some(decoded(row, trial, provider)?)),
         _ => Ok(None),
     }
 }
@@ -28,7 +30,8 @@ fn key_set(row: Row<'_>) -> Result<Box<JwkSet>, Fault> {
     Ok(Box::new(row.alloc(), set)?)
 }
 
-fn decoded_by<P: CryptoProvider>(row: Row<'_>, trial: &mut Trial, provider: &P) -> Answer {
+fn decoded<P: CryptoProvider>(row: Row<'_>, trial: &mut Trial, provider: &P) -> Answer {
+    row.takes(&["token", "set", "validation", "now", "provider"])?;
     let token = row.bytes("token")?;
     let set = key_set(row)?;
     let options = validation(row)?;
@@ -37,9 +40,4 @@ fn decoded_by<P: CryptoProvider>(row: Row<'_>, trial: &mut Trial, provider: &P) 
     let answer = decode_with_set(row.alloc(), provider, token.as_slice(), &set, &options, now);
     trial.end();
     of_token(row.alloc(), answer)
-}
-
-fn decoded(row: Row<'_>, trial: &mut Trial) -> Answer {
-    row.takes(&["token", "set", "validation", "now", "provider"])?;
-    by_provider!(decoded_by, row, trial)
 }

@@ -26,7 +26,7 @@ pub enum Provider {
     /// `RsaProvider`.
     Rsa,
     /// The one that has its secrets prepared.
-    Prepared(PreparedHmac),
+    Prepared(Box<PreparedHmac>),
     /// The one that has its RSA keys prepared.
     PreparedRsa(PreparedRsa),
     /// The one that looks signatures up in a table.
@@ -35,23 +35,6 @@ pub enum Provider {
     Yes,
     /// The one that refuses every call.
     No,
-}
-
-/// Calls `$call(row, trial, &provider)` with the provider that the row describes.
-#[macro_export]
-macro_rules! by_provider {
-    ($call:ident, $row:expr, $trial:expr) => {
-        match $crate::inputs::providers::provider_of($row)? {
-            $crate::inputs::providers::Provider::Hmac => $call($row, $trial, &$crate::HmacProvider),
-            $crate::inputs::providers::Provider::Standard => $call($row, $trial, &$crate::StandardProvider),
-            $crate::inputs::providers::Provider::Rsa => $call($row, $trial, &$crate::RsaProvider),
-            $crate::inputs::providers::Provider::Prepared(prepared) => $call($row, $trial, &prepared),
-            $crate::inputs::providers::Provider::PreparedRsa(prepared) => $call($row, $trial, &&prepared),
-            $crate::inputs::providers::Provider::Table(table) => $call($row, $trial, &table),
-            $crate::inputs::providers::Provider::Yes => $call($row, $trial, &$crate::YesProvider),
-            $crate::inputs::providers::Provider::No => $call($row, $trial, &$crate::NoProvider),
-        }
-    };
 }
 
 /// Returns the algorithm of a name.
@@ -76,16 +59,22 @@ fn add_secret(alloc: Global, prepared: &mut PreparedHmac, secret: &Value) -> Res
     Ok(prepared.add(alloc, algorithm_at(secret, 0)?, bytes.as_slice())?)
 }
 
-/// Returns the provider that has these secrets prepared.
-pub fn prepared(alloc: Global, secrets: &Value) -> Result<PreparedHmac, Fault> {
+// Returns the provider that has this secret prepared.
+fn first_prepared(alloc: Global, secret: &Value) -> Result<Box<PreparedHmac>, Fault> {
+    let bytes = bytes_at(alloc, secret, 1)?;
+    let provider = PreparedHmac::new(alloc, algorithm_at(secret, 0)?, bytes.as_slice())?;
+    Ok(Box::new(alloc, provider)?)
+}
+
+// Returns the provider that has these secrets prepared.
+fn prepared(alloc: Global, secrets: &Value) -> Result<Box<PreparedHmac>, Fault> {
     let Some(secrets) = secrets.as_array() else {
         return Err(MALFORMED);
     };
     let Some((first, others)) = secrets.split_first() else {
         return Err(MALFORMED);
     };
-    let bytes = bytes_at(alloc, first, 1)?;
-    let mut prepared = PreparedHmac::new(alloc, algorithm_at(first, 0)?, bytes.as_slice())?;
+    let mut prepared = first_prepared(alloc, first)?;
     for secret in others {
         add_secret(alloc, &mut prepared, secret)?;
     }
@@ -161,8 +150,7 @@ pub fn provider_of(row: Row<'_>) -> Result<Provider, Fault> {
 pub fn prepared_provider(row: Row<'_>) -> Result<Box<PreparedHmac>, Fault> {
     let value = row.value("provider")?;
     let secrets = value.get("prepared").ok_or(MALFORMED)?;
-    let provider = prepared(row.alloc(), secrets)?;
-    Ok(Box::new(row.alloc(), provider)?)
+    prepared(row.alloc(), secrets)
 }
 
 /// Returns the provider at `provider`, which is to be one of prepared RSA keys.

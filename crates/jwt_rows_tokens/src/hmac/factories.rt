@@ -1,27 +1,29 @@
 //! Signers and verifiers.
 
-use jsonwebtoken::crypto::hmac::HmacProvider;
 use jsonwebtoken::crypto::{CryptoProvider, JwtSigner, JwtVerifier};
 use jsonwebtoken::errors;
 use jwt_rows::answer::{Answer, accepted, add_text, of_bytes, refused};
-use jwt_rows::by_provider;
 use jwt_rows::fault::Fault;
 use jwt_rows::inputs::keys::{decoding_key, encoding_key};
 use jwt_rows::inputs::providers::algorithm_of;
 use jwt_rows::row::Row;
 use jwt_rows::trial::Trial;
-use jwt_test_providers::providers::{NoProvider, YesProvider};
 use serde_json::{Map, Value};
 
 /// Makes the call of this name, if it is among those of this module.
-pub fn answer(call: &str, row: Row<'_>, trial: &mut Trial) -> Result<Option<Value>, Fault> {
+pub fn answer<P: CryptoProvider>(
+    call: &str,
+    row: Row<'_>,
+    trial: &mut Trial,
+    provider: &P,
+) -> Result<Option<Value>, Fault> {
     match call {
-        "CryptoProvider::signer_factory" => Ok(Some(signer(row, trial)?)),
-        "CryptoProvider::verifier_factory" => Ok(Some(verifier(row, trial)?)),
-        "JwtSigner::sign" => Ok(Some(signed(row, trial)?)),
-        "JwtSigner::algorithm" => Ok(Some(signer_algorithm(row, trial)?)),
-        "JwtVerifier::verify" => Ok(Some(verified(row, trial)?)),
-        "JwtVerifier::algorithm" => Ok(Some(verifier_algorithm(row, trial)?)),
+        "CryptoProvider::signer_factory" => Ok(Some(signer(row, trial, provider)?)),
+        "CryptoProvider::verifier_factory" => Ok(Some(verifier(row, trial, provider)?)),
+        "JwtSigner::sign" => Ok(Some(signed(row, trial, provider)?)),
+        "JwtSigner::algorithm" => Ok(Some(signer_algorithm(row, trial, provider)?)),
+        "JwtVerifier::verify" => Ok(Some(verified(row, trial, provider)?)),
+        "JwtVerifier::algorithm" => Ok(Some(verifier_algorithm(row, trial, provider)?)),
         _ => Ok(None),
     }
 }
@@ -45,7 +47,8 @@ fn accepted_name(row: Row<'_>, name: &str) -> Answer {
     accepted(row.alloc(), Value::String(name))
 }
 
-fn signer_by<P: CryptoProvider>(row: Row<'_>, trial: &mut Trial, provider: &P) -> Answer {
+fn signer<P: CryptoProvider>(row: Row<'_>, trial: &mut Trial, provider: &P) -> Answer {
+    row.takes(&["algorithm", "key", "provider"])?;
     let algorithm = algorithm_of(row.value("algorithm")?)?;
     let key = encoding_key(row)?;
     trial.begin();
@@ -54,23 +57,14 @@ fn signer_by<P: CryptoProvider>(row: Row<'_>, trial: &mut Trial, provider: &P) -
     of_signer(row, answer)
 }
 
-fn signer(row: Row<'_>, trial: &mut Trial) -> Answer {
+fn verifier<P: CryptoProvider>(row: Row<'_>, trial: &mut Trial, provider: &P) -> Answer {
     row.takes(&["algorithm", "key", "provider"])?;
-    by_provider!(signer_by, row, trial)
-}
-
-fn verifier_by<P: CryptoProvider>(row: Row<'_>, trial: &mut Trial, provider: &P) -> Answer {
     let algorithm = algorithm_of(row.value("algorithm")?)?;
     let key = decoding_key(row)?;
     trial.begin();
     let answer = provider.verifier_factory(row.alloc(), &algorithm, &key);
     trial.end();
     of_verifier(row, answer)
-}
-
-fn verifier(row: Row<'_>, trial: &mut Trial) -> Answer {
-    row.takes(&["algorithm", "key", "provider"])?;
-    by_provider!(verifier_by, row, trial)
 }
 
 fn sign_with<S: JwtSigner>(row: Row<'_>, trial: &mut Trial, signer: &S) -> Answer {
@@ -81,18 +75,14 @@ fn sign_with<S: JwtSigner>(row: Row<'_>, trial: &mut Trial, signer: &S) -> Answe
     of_bytes(row.alloc(), answer)
 }
 
-fn signed_by<P: CryptoProvider>(row: Row<'_>, trial: &mut Trial, provider: &P) -> Answer {
+fn signed<P: CryptoProvider>(row: Row<'_>, trial: &mut Trial, provider: &P) -> Answer {
+    row.takes(&["algorithm", "key", "message", "provider"])?;
     let algorithm = algorithm_of(row.value("algorithm")?)?;
     let key = encoding_key(row)?;
     match provider.signer_factory(row.alloc(), &algorithm, &key) {
         Ok(signer) => sign_with(row, trial, &signer),
         Err(refusal) => Err(Fault::from(refusal)),
     }
-}
-
-fn signed(row: Row<'_>, trial: &mut Trial) -> Answer {
-    row.takes(&["algorithm", "key", "message", "provider"])?;
-    by_provider!(signed_by, row, trial)
 }
 
 fn name_signer<S: JwtSigner>(row: Row<'_>, trial: &mut Trial, signer: &S) -> Answer {
@@ -102,18 +92,14 @@ fn name_signer<S: JwtSigner>(row: Row<'_>, trial: &mut Trial, signer: &S) -> Ans
     accepted_name(row, algorithm.name())
 }
 
-fn signer_algorithm_by<P: CryptoProvider>(row: Row<'_>, trial: &mut Trial, provider: &P) -> Answer {
+fn signer_algorithm<P: CryptoProvider>(row: Row<'_>, trial: &mut Trial, provider: &P) -> Answer {
+    row.takes(&["algorithm", "key", "provider"])?;
     let algorithm = algorithm_of(row.value("algorithm")?)?;
     let key = encoding_key(row)?;
     match provider.signer_factory(row.alloc(), &algorithm, &key) {
         Ok(signer) => name_signer(row, trial, &signer),
         Err(refusal) => Err(Fault::from(refusal)),
     }
-}
-
-fn signer_algorithm(row: Row<'_>, trial: &mut Trial) -> Answer {
-    row.takes(&["algorithm", "key", "provider"])?;
-    by_provider!(signer_algorithm_by, row, trial)
 }
 
 // Returns the result of a verifier of this algorithm.
@@ -138,18 +124,14 @@ fn verify_with<V: JwtVerifier>(row: Row<'_>, trial: &mut Trial, verifier: &V) ->
     }
 }
 
-fn verified_by<P: CryptoProvider>(row: Row<'_>, trial: &mut Trial, provider: &P) -> Answer {
+fn verified<P: CryptoProvider>(row: Row<'_>, trial: &mut Trial, provider: &P) -> Answer {
+    row.takes(&["algorithm", "key", "message", "signature", "provider"])?;
     let algorithm = algorithm_of(row.value("algorithm")?)?;
     let key = decoding_key(row)?;
     match provider.verifier_factory(row.alloc(), &algorithm, &key) {
         Ok(verifier) => verify_with(row, trial, &verifier),
         Err(refusal) => Err(Fault::from(refusal)),
     }
-}
-
-fn verified(row: Row<'_>, trial: &mut Trial) -> Answer {
-    row.takes(&["algorithm", "key", "message", "signature", "provider"])?;
-    by_provider!(verified_by, row, trial)
 }
 
 fn name_verifier<V: JwtVerifier>(row: Row<'_>, trial: &mut Trial, verifier: &V) -> Answer {
@@ -159,20 +141,12 @@ fn name_verifier<V: JwtVerifier>(row: Row<'_>, trial: &mut Trial, verifier: &V) 
     accepted_name(row, algorithm.name())
 }
 
-fn verifier_algorithm_by<P: CryptoProvider>(
-    row: Row<'_>,
-    trial: &mut Trial,
-    provider: &P,
-) -> Answer {
+fn verifier_algorithm<P: CryptoProvider>(row: Row<'_>, trial: &mut Trial, provider: &P) -> Answer {
+    row.takes(&["algorithm", "key", "provider"])?;
     let algorithm = algorithm_of(row.value("algorithm")?)?;
     let key = decoding_key(row)?;
     match provider.verifier_factory(row.alloc(), &algorithm, &key) {
         Ok(verifier) => name_verifier(row, trial, &verifier),
         Err(refusal) => Err(Fault::from(refusal)),
     }
-}
-
-fn verifier_algorithm(row: Row<'_>, trial: &mut Trial) -> Answer {
-    row.takes(&["algorithm", "key", "provider"])?;
-    by_provider!(verifier_algorithm_by, row, trial)
 }

@@ -1,36 +1,38 @@
 //! The results of providers for keys in DER, and their digests.
 
 use jsonwebtoken::crypto::CryptoProvider;
-use jsonwebtoken::crypto::hmac::HmacProvider;
 use jsonwebtoken::errors;
 use jsonwebtoken::jwk::EllipticCurve;
 use jwt_rows::answer::{Answer, accepted, add_bytes, of_bytes, refused};
-use jwt_rows::by_provider;
 use jwt_rows::fault::Fault;
 use jwt_rows::inputs::keys::thumbprint_hash;
 use jwt_rows::inputs::providers::algorithm_of;
 use jwt_rows::row::Row;
 use jwt_rows::trial::Trial;
-use jwt_test_providers::providers::{NoProvider, YesProvider};
 use serde_json::{Map, Value};
 use std::alloc::Global;
 
 /// Makes the call of this name, if it is among those of this module.
-pub fn answer(call: &str, row: Row<'_>, trial: &mut Trial) -> Result<Option<Value>, Fault> {
+pub fn answer<P: CryptoProvider>(
+    call: &str,
+    row: Row<'_>,
+    trial: &mut Trial,
+    provider: &P,
+) -> Result<Option<Value>, Fault> {
     match call {
         "CryptoProvider::rsa_pub_components_from_private_key" => {
-            Ok(Some(rsa_of_private(row, trial)?))
+            Ok(Some(rsa_of_private(row, trial, provider)?))
         }
         "CryptoProvider::rsa_pub_components_from_public_key" => {
-            Ok(Some(rsa_of_public(row, trial)?))
+            Ok(Some(rsa_of_public(row, trial, provider)?))
         }
         "CryptoProvider::ec_pub_components_from_private_key" => {
-            Ok(Some(ec_of_private(row, trial)?))
+            Ok(Some(ec_of_private(row, trial, provider)?))
         }
         "CryptoProvider::ed_pub_components_from_private_key" => {
-            Ok(Some(ed_of_private(row, trial)?))
+            Ok(Some(ed_of_private(row, trial, provider)?))
         }
-        "CryptoProvider::compute_digest" => Ok(Some(digest(row, trial)?)),
+        "CryptoProvider::compute_digest" => Ok(Some(digest(row, trial, provider)?)),
         _ => Ok(None),
     }
 }
@@ -65,7 +67,8 @@ fn of_point(alloc: Global, answer: errors::Result<(EllipticCurve, Vec<u8>, Vec<u
     }
 }
 
-fn rsa_of_private_by<P: CryptoProvider>(row: Row<'_>, trial: &mut Trial, provider: &P) -> Answer {
+fn rsa_of_private<P: CryptoProvider>(row: Row<'_>, trial: &mut Trial, provider: &P) -> Answer {
+    row.takes(&["der", "provider"])?;
     let der = row.bytes("der")?;
     trial.begin();
     let answer = provider.rsa_pub_components_from_private_key(row.alloc(), der.as_slice());
@@ -73,12 +76,8 @@ fn rsa_of_private_by<P: CryptoProvider>(row: Row<'_>, trial: &mut Trial, provide
     of_numbers(row.alloc(), answer)
 }
 
-fn rsa_of_private(row: Row<'_>, trial: &mut Trial) -> Answer {
+fn rsa_of_public<P: CryptoProvider>(row: Row<'_>, trial: &mut Trial, provider: &P) -> Answer {
     row.takes(&["der", "provider"])?;
-    by_provider!(rsa_of_private_by, row, trial)
-}
-
-fn rsa_of_public_by<P: CryptoProvider>(row: Row<'_>, trial: &mut Trial, provider: &P) -> Answer {
     let der = row.bytes("der")?;
     trial.begin();
     let answer = provider.rsa_pub_components_from_public_key(row.alloc(), der.as_slice());
@@ -86,12 +85,8 @@ fn rsa_of_public_by<P: CryptoProvider>(row: Row<'_>, trial: &mut Trial, provider
     of_numbers(row.alloc(), answer)
 }
 
-fn rsa_of_public(row: Row<'_>, trial: &mut Trial) -> Answer {
-    row.takes(&["der", "provider"])?;
-    by_provider!(rsa_of_public_by, row, trial)
-}
-
-fn ec_of_private_by<P: CryptoProvider>(row: Row<'_>, trial: &mut Trial, provider: &P) -> Answer {
+fn ec_of_private<P: CryptoProvider>(row: Row<'_>, trial: &mut Trial, provider: &P) -> Answer {
+    row.takes(&["der", "algorithm", "provider"])?;
     let algorithm = algorithm_of(row.value("algorithm")?)?;
     let der = row.bytes("der")?;
     let der = der.as_slice();
@@ -101,11 +96,6 @@ fn ec_of_private_by<P: CryptoProvider>(row: Row<'_>, trial: &mut Trial, provider
     of_point(row.alloc(), answer)
 }
 
-fn ec_of_private(row: Row<'_>, trial: &mut Trial) -> Answer {
-    row.takes(&["der", "algorithm", "provider"])?;
-    by_provider!(ec_of_private_by, row, trial)
-}
-
 fn curve_of(row: Row<'_>) -> Result<EllipticCurve, Fault> {
     match EllipticCurve::from_value(row.value("curve")?) {
         Ok(curve) => Ok(curve),
@@ -113,7 +103,8 @@ fn curve_of(row: Row<'_>) -> Result<EllipticCurve, Fault> {
     }
 }
 
-fn ed_of_private_by<P: CryptoProvider>(row: Row<'_>, trial: &mut Trial, provider: &P) -> Answer {
+fn ed_of_private<P: CryptoProvider>(row: Row<'_>, trial: &mut Trial, provider: &P) -> Answer {
+    row.takes(&["der", "curve", "provider"])?;
     let curve = curve_of(row)?;
     let der = row.bytes("der")?;
     let der = der.as_slice();
@@ -123,12 +114,8 @@ fn ed_of_private_by<P: CryptoProvider>(row: Row<'_>, trial: &mut Trial, provider
     of_bytes(row.alloc(), answer)
 }
 
-fn ed_of_private(row: Row<'_>, trial: &mut Trial) -> Answer {
-    row.takes(&["der", "curve", "provider"])?;
-    by_provider!(ed_of_private_by, row, trial)
-}
-
-fn digest_by<P: CryptoProvider>(row: Row<'_>, trial: &mut Trial, provider: &P) -> Answer {
+fn digest<P: CryptoProvider>(row: Row<'_>, trial: &mut Trial, provider: &P) -> Answer {
+    row.takes(&["bytes", "hash", "provider"])?;
     let hash = thumbprint_hash(row)?;
     let bytes = row.bytes("bytes")?;
     let bytes = bytes.as_slice();
@@ -136,9 +123,4 @@ fn digest_by<P: CryptoProvider>(row: Row<'_>, trial: &mut Trial, provider: &P) -
     let answer = provider.compute_digest(row.alloc(), bytes, hash);
     trial.end();
     of_bytes(row.alloc(), answer)
-}
-
-fn digest(row: Row<'_>, trial: &mut Trial) -> Answer {
-    row.takes(&["bytes", "hash", "provider"])?;
-    by_provider!(digest_by, row, trial)
 }
