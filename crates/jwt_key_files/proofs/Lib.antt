@@ -1,0 +1,3 @@
+pub mod Identifiers
+pub mod Prefixes
+pub mod Parts

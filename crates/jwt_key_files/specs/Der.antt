@@ -1,0 +1,33 @@
+-- The distinguished encoding (ITU-T X.690 sections 8 and 10): an element is a tag, the octets of a length, and the content.
+use Rattle.std.specs.Prelude.{ℕ, ◌/◌, ◌%◌, ◌<◌, List, [], ◌∷◌, ◌++◌, length, slice_index, nat_lt, if◌then◌else◌}
+
+-- the octets of a length, the fewest that there are (sections 8.1.3.4, 8.1.3.5 and 10.1). From 0x10000 on the second number is
+-- above 255, so that no bytes have a longer content.
+unfoldable pub length_octets : (n : ℕ) → List ℕ
+length_octets n =
+    if nat_lt n 0x80 then n ∷ []
+    else if nat_lt n 0x100 then 0x81 ∷ n ∷ []
+    else 0x82 ∷ n / 0x100 ∷ n % 0x100 ∷ []
+
+-- an element (section 8.1.1)
+unfoldable pub element : (tag : ℕ) (content : List ℕ) → List ℕ
+element tag content = tag ∷ length_octets (length content) ++ content
+
+-- the number of these octets, the most significant first, is positive, and no octet is superfluous
+abbrev pub IsPositive : (octets : List ℕ) → Type 0
+IsPositive octets = 0 < slice_index octets 0
+
+-- the content of the INTEGER of such a number: its first bit is the sign, so that a 0 stands before an octet from 0x80 on
+-- (section 8.3)
+unfoldable pub signed : (octets : List ℕ) → List ℕ
+signed octets = if nat_lt (slice_index octets 0) 0x80 then octets else 0 ∷ octets
+
+-- the INTEGER, a SEQUENCE (section 8.9), and the BIT STRING of octets, of whose last no bit is unused (section 8.6)
+unfoldable pub integer : (octets : List ℕ) → List ℕ
+integer octets = element 2 (signed octets)
+
+unfoldable pub sequence : (content : List ℕ) → List ℕ
+sequence content = element 0x30 content
+
+unfoldable pub bit_string : (octets : List ℕ) → List ℕ
+bit_string octets = element 3 (0 ∷ octets)

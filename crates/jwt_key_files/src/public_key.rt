@@ -1,0 +1,92 @@
+//! Public keys, read from DER.
+
+ghost use Rattle.std.specs.Prelude.{◌≡◌, ◌⊎◌, ◌≤◌, IfOk, IfErr};
+ghost use Rattle.jwt_base.specs.Kind as kind;
+ghost use Rattle.jwt_base.specs.KindOf.{kind_of, IsMemory, RefusesAs};
+ghost use Rattle.jwt_keys.specs.Key.{Key};
+ghost use Rattle.jwt_key_files.specs.PublicKeys.{IsRsaKey, IsPoint, IsEdwardsKey, IsKeyOf, IsPublicKey, IsRefused};
+
+use crate::scheme::{Scheme, read_identifier};
+use crate::structures::{read_info, read_rsa};
+use jwt_base::errors::{Error, ErrorKind, Result, new_error};
+use jwt_keys::decoding_key::DecodingKey;
+use std::alloc::Global;
+
+fn malformed() -> Error
+    ensures { kind_of result ≡ kind.InvalidKeyFormat }
+{
+    new_error(ErrorKind::InvalidKeyFormat)
+}
+
+// Returns the key of an RSAPublicKey.
+fn rsa_key(alloc: Global, der: &[u8]) -> Result<DecodingKey>
+    ensures ok { IfOk result (IsRsaKey der.now) }
+    ensures err { IfErr result (RefusesAs kind.InvalidKeyFormat ((k : Key) → ¬ IsRsaKey der.now k)) }
+{
+    let Some((modulus, exponent)) = read_rsa(der) else {
+        return Err(malformed());
+    };
+    let key = DecodingKey::from_rsa_raw_components(alloc, modulus, exponent)?;
+    Ok(key)
+}
+
+// Returns the key of an uncompressed point, whose coordinates have this many octets.
+fn point_key(alloc: Global, size: usize, octets: &[u8]) -> Result<DecodingKey>
+    requires { size ≤ 48 }
+    ensures ok { IfOk result (IsPoint size octets.now) }
+    ensures err { IfErr result (RefusesAs kind.InvalidKeyFormat ((k : Key) → ¬ IsPoint size octets.now k)) }
+{
+    if octets.len() != 1 + size + size || octets[0] != 4 {
+        return Err(malformed());
+    }
+    let key = DecodingKey::from_ec_der(alloc, octets)?;
+    Ok(key)
+}
+
+// Returns the key of Ed25519 of these octets.
+fn edwards_key(alloc: Global, octets: &[u8]) -> Result<DecodingKey>
+    ensures ok { IfOk result (IsEdwardsKey octets.now) }
+    ensures err { IfErr result (RefusesAs kind.InvalidKeyFormat ((k : Key) → ¬ IsEdwardsKey octets.now k)) }
+{
+    if octets.len() != 32 {
+        return Err(malformed());
+    }
+    let key = DecodingKey::from_ed_der(alloc, octets)?;
+    Ok(key)
+}
+
+// Returns the key of this algorithm that the octets are.
+fn key_of(alloc: Global, scheme: Scheme, octets: &[u8]) -> Result<DecodingKey>
+    ensures ok { IfOk result (IsKeyOf scheme octets.now) }
+    ensures err { IfErr result (RefusesAs kind.InvalidKeyFormat ((k : Key) → ¬ IsKeyOf scheme octets.now k)) }
+{
+    match scheme {
+        Scheme::Rsa => rsa_key(alloc, octets),
+        Scheme::P256 => point_key(alloc, 32, octets),
+        Scheme::P384 => point_key(alloc, 48, octets),
+        Scheme::Ed25519 => edwards_key(alloc, octets),
+    }
+}
+
+/// Returns the public key that the bytes are, in DER (ITU-T X.690 section 10): a SubjectPublicKeyInfo (RFC 5280 section 4.1) of an
+/// RSA key (RFC 3279 section 2.3.1), of an uncompressed point of P-256 or P-384 (RFC 5480 section 2) or of a key of Ed25519 (RFC
+/// 8410 section 4), or an RSAPublicKey (RFC 8017 appendix A.1.1). An RSA key has its modulus and exponent, with no leading 0; an
+/// elliptic curve key is the octet 4 and the two coordinates, and one of Ed25519 32 octets, as `from_jwk` returns them. Whether the
+/// point is on its curve, and how long a modulus is, is left to the provider that verifies.
+///
+/// A SubjectPublicKeyInfo whose algorithm identifier is another one, is refused with `UnsupportedAlgorithm`, and any other bytes
+/// with `InvalidKeyFormat`: a length or a number in more octets than it needs, unused bits, bytes after the end, a private key.
+pub fn public_key_from_der(alloc: Global, der: &[u8]) -> Result<DecodingKey>
+    ensures ok { IfOk result (IsPublicKey der.now) }
+    ensures err { IfErr result (λ e. IsMemory e ⊎ IsRefused der.now (kind_of e)) }
+{
+    let Some((algorithm, octets)) = read_info(der) else {
+        let key = rsa_key(alloc, der)?;
+        return Ok(key);
+    };
+    let Some(scheme) = read_identifier(algorithm) else {
+        return Err(new_error(ErrorKind::UnsupportedAlgorithm));
+    };
+    let key = key_of(alloc, scheme, octets)?;
+    Ok(key)
+}
