@@ -1,5 +1,5 @@
 -- The identifiers of the algorithms, octet by octet, and the refusals of a key.
-use Rattle.std.proofs.Common.{◌≡◌, ◌⊎◌, inl, inr, Bool, true, false, ℕ, ◌<◌, ◌≤◌, List, [], ◌∷◌, ◌++◌, length, refl, ap, sym, subst, ◌∙◌, arith}
+use Rattle.std.proofs.Common.{◌≡◌, inl, inr, Bool, true, false, ℕ, List, [], ◌∷◌, length, refl, ap, sym, subst, ◌∙◌, arith}
 use Rattle.std.specs.Cmp.Lexicographic.{pointwise}
 use Rattle.std.proofs.Math.Dec.{eqb}
 use Rattle.std.proofs.lemmas.Bool.Decides.{Decides-eqb}
@@ -7,8 +7,8 @@ use Rattle.std.proofs.lemmas.Slice.Eq.{slice_eq-Decides}
 use Rattle.jwt_base.specs.Kind.{Kind}
 use Rattle.jwt_base.specs.Kind as kind
 use Rattle.jwt_keys.specs.Key.{Key}
-use Rattle.jwt_key_files.specs.Der.{element, length_octets, IsPositive}
-use Rattle.jwt_key_files.specs.PublicKeys.{identifier, object_identifier, subject_public_key_info, IsRsaKey, IsKeyOf, IsInfoOf, IsPublicKey, NamesAnother, IsRefused}
+use Rattle.jwt_key_files.specs.Der.{element, length_octets}
+use Rattle.jwt_key_files.specs.PublicKeys.{identifier, object_identifier, subject_public_key_info, IsRsaKey, IsKeyOf, IsRefused}
 use Rattle.jwt_key_files.specs.declared.scheme.Scheme.{Scheme}
 use Rattle.jwt_key_files.specs.declared.scheme.Scheme.TheVariants as scheme
 use Rattle.jwt_key_files.proofs.Parts.{one_info, no_two}
@@ -89,12 +89,13 @@ pub refused_another : (b : List ℕ) (x : Kind) (a o : List ℕ) → x ≡ kind.
     → ((s : Scheme) → a ≡ identifier s → ⊥) → IsRefused b x
 refused_another b x a o h e other = record {
   none = λ key p. elim p [
-    inl r ↦ no_two b a o _ _ e r.1.1.3
-    | inr i ↦ other i.algorithm (one_info b a o _ _ e i.bytes_are).algorithm ];
+    | inl r ↦ no_two b a o _ _ e r.1.1.3
+    | inr i ↦ other i.algorithm (one_info b a o _ _ e i.bytes_are).algorithm
+  ];
   why = inl (h, record { algorithm = a; octets = o; bytes_are = e; is_other = other });
 }
 
-moved : (s t : Scheme) (o p : List ℕ) (key : Key) → s ≡ t → o ≡ p → IsKeyOf t p key → IsKeyOf s o key
+pub moved : (s t : Scheme) (o p : List ℕ) (key : Key) → s ≡ t → o ≡ p → IsKeyOf t p key → IsKeyOf s o key
 moved s t o p key e f h =
     let g : IsKeyOf s p key = subst (λ (x : Scheme). IsKeyOf x p key) (sym e) h in
     subst (λ (x : List ℕ). IsKeyOf s x key) (sym f) g
@@ -103,9 +104,10 @@ pub refused_key : (b : List ℕ) (x : Kind) (s : Scheme) (a o : List ℕ) → x 
     → a ≡ identifier s → ((k : Key) → IsKeyOf s o k → ⊥) → IsRefused b x
 refused_key b x s a o h e named none = record {
   none = λ key p. elim p [
-    inl r ↦ no_two b a o _ _ e r.1.1.3
+    | inl r ↦ no_two b a o _ _ e r.1.1.3
     | inr i ↦
-      let same = one_info b a o _ _ e i.bytes_are in
-      none key (moved s i.algorithm o i.octets key (one_scheme s i.algorithm (sym named ∙ same.algorithm)) same.octets i.is_key) ];
+        let same = one_info b a o _ _ e i.bytes_are in
+        none key (moved s i.algorithm o i.octets key (one_scheme s i.algorithm (sym named ∙ same.algorithm)) same.octets i.is_key)
+  ];
   why = inr (h, λ n. n.is_other s (sym (one_info b a o _ _ e n.bytes_are).algorithm ∙ named));
 }

@@ -1,3 +1,4 @@
 pub mod Identifiers
-pub mod Prefixes
+pub mod OneKey
 pub mod Parts
+pub mod Prefixes

@@ -1,5 +1,5 @@
 -- The numbers of an RSAPublicKey, and the parts of a SubjectPublicKeyInfo.
-use Rattle.std.proofs.Common.{◌≡◌, ◌⊎◌, inl, inr, ℕ, ◌+◌, ◌<◌, ◌≤◌, List, [], ◌∷◌, ◌++◌, length, get_or, refl, ap, sym, ◌∙◌, arith}
+use Rattle.std.proofs.Common.{◌≡◌, inl, inr, ℕ, ◌<◌, ◌≤◌, List, [], ◌∷◌, ◌++◌, length, get_or, ap, sym, ◌∙◌, arith}
 use Rattle.std.specs.Prelude.{slice_index}
 use Rattle.std.proofs.lemmas.Bool.{cases_lt}
 use Rattle.std.proofs.lemmas.Bool.Decides.{nat_tests}
@@ -25,23 +25,27 @@ empty_first n e = ap (λ (x : List ℕ). get_or x 0 0) e
 -- contents that are no positive number's
 pub unsigned_nil : (c : List ℕ) → c ≡ [] → (n : List ℕ) → IsPositive n → c ≡ signed n → ⊥
 unsigned_nil c h n p e = elim (cases_lt (slice_index n 0) 0x80) [
-  inl a ↦ omega (arith, empty_first n (sym (e ∙ low n a) ∙ h))
-  | inr a ↦ let f : (0 ∷ n) ≡ [] = sym (e ∙ high n a) ∙ h in cc ]
+  | inl a ↦ omega (arith, empty_first n (sym (e ∙ low n a) ∙ h))
+  | inr a ↦ let f : (0 ∷ n) ≡ [] = sym (e ∙ high n a) ∙ h in cc
+]
 
 pub unsigned_negative : (m : ℕ) (r c : List ℕ) → c ≡ (m ∷ r) → 0x80 ≤ m → (n : List ℕ) → IsPositive n → c ≡ signed n → ⊥
 unsigned_negative m r c h l n p e = elim (cases_lt (slice_index n 0) 0x80) [
-  inl a ↦ omega (arith, first_is m n r (sym (e ∙ low n a) ∙ h))
-  | inr a ↦ let f : (0 ∷ n) ≡ (m ∷ r) = sym (e ∙ high n a) ∙ h in omega (arith, heads _ _ _ _ f) ]
+  | inl a ↦ omega (arith, first_is m n r (sym (e ∙ low n a) ∙ h))
+  | inr a ↦ let f : (0 ∷ n) ≡ (m ∷ r) = sym (e ∙ high n a) ∙ h in omega (arith, heads _ _ _ _ f)
+]
 
 pub unsigned_zero : (m : ℕ) (r c : List ℕ) → c ≡ (m ∷ r) → m ≤ 0 → r ≡ [] → (n : List ℕ) → IsPositive n → c ≡ signed n → ⊥
 unsigned_zero m r c h l q n p e = elim (cases_lt (slice_index n 0) 0x80) [
-  inl a ↦ omega (arith, first_is m n r (sym (e ∙ low n a) ∙ h))
-  | inr a ↦ let f : (0 ∷ n) ≡ (m ∷ r) = sym (e ∙ high n a) ∙ h in omega (arith, empty_first n (tails _ _ _ _ f ∙ q)) ]
+  | inl a ↦ omega (arith, first_is m n r (sym (e ∙ low n a) ∙ h))
+  | inr a ↦ let f : (0 ∷ n) ≡ (m ∷ r) = sym (e ∙ high n a) ∙ h in omega (arith, empty_first n (tails _ _ _ _ f ∙ q))
+]
 
 pub unsigned_longer : (m k : ℕ) (r q c : List ℕ) → c ≡ (m ∷ r) → m ≤ 0 → r ≡ (k ∷ q) → k < 0x80 → (n : List ℕ) → IsPositive n → c ≡ signed n → ⊥
 unsigned_longer m k r q c h l i b n p e = elim (cases_lt (slice_index n 0) 0x80) [
-  inl a ↦ omega (arith, first_is m n r (sym (e ∙ low n a) ∙ h))
-  | inr a ↦ let f : (0 ∷ n) ≡ (m ∷ r) = sym (e ∙ high n a) ∙ h in omega (arith, first_is k n q (tails _ _ _ _ f ∙ i)) ]
+  | inl a ↦ omega (arith, first_is m n r (sym (e ∙ low n a) ∙ h))
+  | inr a ↦ let f : (0 ∷ n) ≡ (m ∷ r) = sym (e ∙ high n a) ∙ h in omega (arith, first_is k n q (tails _ _ _ _ f ∙ i))
+]
 
 -- contents that are
 pub unsigned_low : (m : ℕ) (r c : List ℕ) → c ≡ (m ∷ r) → m < 0x80 → 0 < m → IsPositive c × (c ≡ signed c)
@@ -178,3 +182,27 @@ no_two b a k n e h i =
     let f = rsa_content b (element 0x30 a ++ element 3 (0 ∷ k)) n e (info_whole b a k h) i in
     let g = opens n (integer e) (element 0x30 a ++ element 3 (0 ∷ k)) f in
     omega (arith, heads _ _ _ _ (sym (opened 0x30 a (element 3 (0 ∷ k))) ∙ g ∙ opened 2 (signed n) (integer e)))
+
+-- one number has one INTEGER
+pub one_number : (m n : List ℕ) → IsPositive m → IsPositive n → signed m ≡ signed n → m ≡ n
+one_number m n p q e = elim (cases_lt (slice_index m 0) 0x80) [
+  | inl a ↦ elim (cases_lt (slice_index n 0) 0x80) [
+    | inl b ↦ sym (low m a) ∙ e ∙ low n b
+    | inr b ↦ let f : m ≡ (0 ∷ n) = sym (low m a) ∙ e ∙ high n b in absurd (omega (arith, first_is 0 m n f))
+  ]
+  | inr a ↦ elim (cases_lt (slice_index n 0) 0x80) [
+    | inl b ↦ let f : n ≡ (0 ∷ m) = sym (low n b) ∙ sym e ∙ high m a in absurd (omega (arith, first_is 0 n m f))
+    | inr b ↦ tails 0 0 m n (sym (high m a) ∙ e ∙ high n b)
+  ]
+]
+
+pub record SameNumbers (m n d e : List ℕ) : Type 0 where
+  pub modulus : m ≡ n
+  pub exponent : d ≡ e
+
+pub one_rsa_key : (b m d n e : List ℕ) → IsPositive m → IsPositive d → IsPositive n → IsPositive e
+    → b ≡ rsa_public_key m d → b ≡ rsa_public_key n e → SameNumbers m n d e
+one_rsa_key b m d n e p q r s h i =
+    let f = one_integer m n (integer d) (integer e) (rsa_content b (integer m ++ integer d) n e (rsa_whole b m d h) i) in
+    let g : (integer d ++ []) ≡ (integer e ++ []) = ap (λ (x : List ℕ). x ++ []) f.rest in
+    record { modulus = one_number m n p r f.content; exponent = one_number d e q s (one_integer d e [] [] g).content }

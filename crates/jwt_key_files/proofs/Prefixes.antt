@@ -1,5 +1,5 @@
 -- What bytes begin with: at most one length, and at most one element with a tag.
-use Rattle.std.proofs.Common.{◌≡◌, ◌⊎◌, inl, inr, ℕ, ◌+◌, ◌*◌, ◌/◌, ◌%◌, ◌<◌, ◌≤◌, Bool, true, false, List, [], ◌∷◌, ◌++◌, length, take, drop, refl, ap, sym, ◌∙◌, arith, append_assoc}
+use Rattle.std.proofs.Common.{◌≡◌, ◌⊎◌, inl, inr, ℕ, ◌+◌, ◌*◌, ◌/◌, ◌%◌, ◌<◌, ◌≤◌, List, [], ◌∷◌, ◌++◌, length, take, ap, sym, ◌∙◌, arith, append_assoc}
 use Rattle.std.proofs.lemmas.Bool.{cases_lt}
 use Rattle.std.proofs.lemmas.Bool.Decides.{nat_tests}
 use Rattle.std.proofs.lemmas.List.{append_cancel_left, append-nil, length-append}
@@ -35,10 +35,12 @@ long n a = grind (arith, nat_tests)
 
 pub forms : (n : ℕ) → Short n ⊎ (Middle n ⊎ Long n)
 forms n = elim (cases_lt n 0x80) [
-  inl s ↦ inl (record { below = s; is = short n s })
+  | inl s ↦ inl (record { below = s; is = short n s })
   | inr a ↦ elim (cases_lt n 0x100) [
-    inl s ↦ inr (inl (record { above = a; below = s; is = middle n a s }))
-  | inr b ↦ inr (inr (record { above = b; is = long n b })) ] ]
+    | inl s ↦ inr (inl (record { above = a; below = s; is = middle n a s }))
+    | inr b ↦ inr (inr (record { above = b; is = long n b }))
+  ]
+]
 
 -- bytes begin with one length
 pub record SameLength (m n : ℕ) (r s : List ℕ) : Type 0 where
@@ -56,25 +58,33 @@ of_long m n d e = omega (arith, div-add-mod m 0x100, div-add-mod n 0x100)
 
 pub one_length : (m n : ℕ) (r s : List ℕ) → (length_octets m ++ r) ≡ (length_octets n ++ s) → SameLength m n r s
 one_length m n r s e = elim (forms m) [
-  inl a ↦ elim (forms n) [
-    inl b ↦ let f : (m ∷ r) ≡ (n ∷ s) = rw (a.is, b.is) at e in record { number = cc; rest = cc }
-  | inr v ↦ elim v [
-      inl b ↦ let f : (m ∷ r) ≡ (0x81 ∷ n ∷ s) = rw (a.is, b.is) at e in absurd (omega (arith, heads _ _ _ _ f))
-    | inr b ↦ let f : (m ∷ r) ≡ (0x82 ∷ n / 0x100 ∷ n % 0x100 ∷ s) = rw (a.is, b.is) at e in absurd (omega (arith, heads _ _ _ _ f)) ] ]
+  | inl a ↦ elim (forms n) [
+    | inl b ↦ let f : (m ∷ r) ≡ (n ∷ s) = rw (a.is, b.is) at e in record { number = cc; rest = cc }
+    | inr v ↦ elim v [
+      | inl b ↦ let f : (m ∷ r) ≡ (0x81 ∷ n ∷ s) = rw (a.is, b.is) at e in absurd (omega (arith, heads _ _ _ _ f))
+      | inr b ↦ let f : (m ∷ r) ≡ (0x82 ∷ n / 0x100 ∷ n % 0x100 ∷ s) = rw (a.is, b.is) at e in absurd (omega (arith, heads _ _ _ _ f))
+    ]
+  ]
   | inr u ↦ elim u [
-    inl a ↦ elim (forms n) [
-      inl b ↦ let f : (0x81 ∷ m ∷ r) ≡ (n ∷ s) = rw (a.is, b.is) at e in absurd (omega (arith, heads _ _ _ _ f))
-    | inr v ↦ elim v [
-        inl b ↦ let f : (0x81 ∷ m ∷ r) ≡ (0x81 ∷ n ∷ s) = rw (a.is, b.is) at e in record { number = cc; rest = cc }
-      | inr b ↦ let f : (0x81 ∷ m ∷ r) ≡ (0x82 ∷ n / 0x100 ∷ n % 0x100 ∷ s) = rw (a.is, b.is) at e in absurd (omega (arith, heads _ _ _ _ f)) ] ]
-  | inr a ↦ elim (forms n) [
-      inl b ↦ let f : (0x82 ∷ m / 0x100 ∷ m % 0x100 ∷ r) ≡ (n ∷ s) = rw (a.is, b.is) at e in absurd (omega (arith, heads _ _ _ _ f))
-    | inr v ↦ elim v [
-        inl b ↦ let f : (0x82 ∷ m / 0x100 ∷ m % 0x100 ∷ r) ≡ (0x81 ∷ n ∷ s) = rw (a.is, b.is) at e in absurd (omega (arith, heads _ _ _ _ f))
-      | inr b ↦ let f : (0x82 ∷ m / 0x100 ∷ m % 0x100 ∷ r) ≡ (0x82 ∷ n / 0x100 ∷ n % 0x100 ∷ s) = rw (a.is, b.is) at e in
-          let q : m / 0x100 ≡ n / 0x100 = cc in
-          let w : m % 0x100 ≡ n % 0x100 = cc in
-          record { number = of_long m n q w; rest = cc } ] ] ] ]
+    | inl a ↦ elim (forms n) [
+      | inl b ↦ let f : (0x81 ∷ m ∷ r) ≡ (n ∷ s) = rw (a.is, b.is) at e in absurd (omega (arith, heads _ _ _ _ f))
+      | inr v ↦ elim v [
+        | inl b ↦ let f : (0x81 ∷ m ∷ r) ≡ (0x81 ∷ n ∷ s) = rw (a.is, b.is) at e in record { number = cc; rest = cc }
+        | inr b ↦ let f : (0x81 ∷ m ∷ r) ≡ (0x82 ∷ n / 0x100 ∷ n % 0x100 ∷ s) = rw (a.is, b.is) at e in absurd (omega (arith, heads _ _ _ _ f))
+      ]
+    ]
+    | inr a ↦ elim (forms n) [
+      | inl b ↦ let f : (0x82 ∷ m / 0x100 ∷ m % 0x100 ∷ r) ≡ (n ∷ s) = rw (a.is, b.is) at e in absurd (omega (arith, heads _ _ _ _ f))
+      | inr v ↦ elim v [
+        | inl b ↦ let f : (0x82 ∷ m / 0x100 ∷ m % 0x100 ∷ r) ≡ (0x81 ∷ n ∷ s) = rw (a.is, b.is) at e in absurd (omega (arith, heads _ _ _ _ f))
+        | inr b ↦ let f : (0x82 ∷ m / 0x100 ∷ m % 0x100 ∷ r) ≡ (0x82 ∷ n / 0x100 ∷ n % 0x100 ∷ s) = rw (a.is, b.is) at e in
+            let q : m / 0x100 ≡ n / 0x100 = cc in
+            let w : m % 0x100 ≡ n % 0x100 = cc in
+            record { number = of_long m n q w; rest = cc }
+      ]
+    ]
+  ]
+]
 
 -- and with one element of a tag
 pub record SameContent (c d r s : List ℕ) : Type 0 where
@@ -121,19 +131,23 @@ pub record StartsLong (m n : ℕ) (r s : List ℕ) : Type 0 where
 
 pub starts : (m n : ℕ) (r s : List ℕ) → (m ∷ r) ≡ (length_octets n ++ s) → StartsShort m n r s ⊎ (StartsMiddle m n r s ⊎ StartsLong m n r s)
 starts m n r s e = elim (forms n) [
-  inl b ↦ let f : (m ∷ r) ≡ (n ∷ s) = rw b.is at e in
-    let h : m ≡ n = cc in
-    inl (record { number = cc; below = omega (arith, b.below); rest = tails _ _ _ _ f })
+  | inl b ↦ let f : (m ∷ r) ≡ (n ∷ s) = rw b.is at e in
+      let h : m ≡ n = cc in
+      inl (record { number = cc; below = omega (arith, b.below); rest = tails _ _ _ _ f })
   | inr v ↦ elim v [
-    inl b ↦ let f : (m ∷ r) ≡ (0x81 ∷ n ∷ s) = rw b.is at e in inr (inl (record { first = heads _ _ _ _ f; above = b.above; rest = tails _ _ _ _ f }))
-  | inr b ↦ let f : (m ∷ r) ≡ (0x82 ∷ n / 0x100 ∷ n % 0x100 ∷ s) = rw b.is at e in inr (inr (record { first = heads _ _ _ _ f; above = b.above; rest = tails _ _ _ _ f })) ] ]
+    | inl b ↦ let f : (m ∷ r) ≡ (0x81 ∷ n ∷ s) = rw b.is at e in inr (inl (record { first = heads _ _ _ _ f; above = b.above; rest = tails _ _ _ _ f }))
+    | inr b ↦ let f : (m ∷ r) ≡ (0x82 ∷ n / 0x100 ∷ n % 0x100 ∷ s) = rw b.is at e in inr (inr (record { first = heads _ _ _ _ f; above = b.above; rest = tails _ _ _ _ f }))
+  ]
+]
 
 pub some_octets : (n : ℕ) (s : List ℕ) → ([] ≡ (length_octets n ++ s)) → ⊥
 some_octets n s e = elim (forms n) [
-  inl b ↦ let f : [] ≡ (n ∷ s) = rw b.is at e in cc
+  | inl b ↦ let f : [] ≡ (n ∷ s) = rw b.is at e in cc
   | inr v ↦ elim v [
-    inl b ↦ let f : [] ≡ (0x81 ∷ n ∷ s) = rw b.is at e in cc
-  | inr b ↦ let f : [] ≡ (0x82 ∷ n / 0x100 ∷ n % 0x100 ∷ s) = rw b.is at e in cc ] ]
+    | inl b ↦ let f : [] ≡ (0x81 ∷ n ∷ s) = rw b.is at e in cc
+    | inr b ↦ let f : [] ≡ (0x82 ∷ n / 0x100 ∷ n % 0x100 ∷ s) = rw b.is at e in cc
+  ]
+]
 
 -- the octets of a length, from its form
 pub octets_short : (n : ℕ) (s : List ℕ) → n < 0x80 → (n ∷ s) ≡ (length_octets n ++ s)
@@ -169,21 +183,24 @@ none_of_nil b h n s e = some_octets n s (sym h ∙ e)
 pub none_of_one : (m : ℕ) (r b : List ℕ) → b ≡ (m ∷ r) → m ≡ 0x81 → ((n : ℕ) (s : List ℕ) → 0x80 ≤ n → r ≡ (n ∷ s) → ⊥)
     → (n : ℕ) (s : List ℕ) → b ≡ (length_octets n ++ s) → ⊥
 none_of_one m r b h f none n s e = elim (starts m n r s (sym h ∙ e)) [
-  inl x ↦ omega (arith, x.below)
-  | inr v ↦ elim v [ inl x ↦ none n s x.above x.rest | inr x ↦ omega (arith, x.first) ] ]
+  | inl x ↦ omega (arith, x.below)
+  | inr v ↦ elim v [ inl x ↦ none n s x.above x.rest | inr x ↦ omega (arith, x.first) ]
+]
 
 pub none_of_two : (m : ℕ) (r b : List ℕ) → b ≡ (m ∷ r) → m ≡ 0x82
     → ((n : ℕ) (s : List ℕ) → 0x100 ≤ n → r ≡ (n / 0x100 ∷ n % 0x100 ∷ s) → ⊥)
     → (n : ℕ) (s : List ℕ) → b ≡ (length_octets n ++ s) → ⊥
 none_of_two m r b h f none n s e = elim (starts m n r s (sym h ∙ e)) [
-  inl x ↦ omega (arith, x.below)
-  | inr v ↦ elim v [ inl x ↦ omega (arith, x.first) | inr x ↦ none n s x.above x.rest ] ]
+  | inl x ↦ omega (arith, x.below)
+  | inr v ↦ elim v [ inl x ↦ omega (arith, x.first) | inr x ↦ none n s x.above x.rest ]
+]
 
 pub none_of_more : (m : ℕ) (r b : List ℕ) → b ≡ (m ∷ r) → 0x80 ≤ m → (m ≡ 0x81 → ⊥) → (m ≡ 0x82 → ⊥)
     → (n : ℕ) (s : List ℕ) → b ≡ (length_octets n ++ s) → ⊥
 none_of_more m r b h l f g n s e = elim (starts m n r s (sym h ∙ e)) [
-  inl x ↦ omega (arith, x.below)
-  | inr v ↦ elim v [ inl x ↦ f x.first | inr x ↦ g x.first ] ]
+  | inl x ↦ omega (arith, x.below)
+  | inr v ↦ elim v [ inl x ↦ f x.first | inr x ↦ g x.first ]
+]
 
 -- bytes that begin with no element of this tag
 parts : (t : ℕ) (m : ℕ) (r b c s : List ℕ) → b ≡ (m ∷ r) → b ≡ (element t c ++ s) → (m ∷ r) ≡ (t ∷ length_octets (length c) ++ (c ++ s))

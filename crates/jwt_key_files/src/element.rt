@@ -18,13 +18,13 @@ fn read_one(bytes: &[u8]) -> Option<(usize, &[u8])>
     ensures { MatchOption result ((n : ℕ) (rest : List ℕ) → 0x80 ≤ n → bytes.now ≢ n ∷ rest)
         (λ p. (0x80 ≤ p.0) × (p.0 < 0x100) × (bytes.now ≡ p.0 ∷ p.1.now)) }
 {
-    let Some((first, rest)) = next(bytes) else {
+    let Some((octet, rest)) = next(bytes) else {
         return None;
     };
-    if first < 0x80 {
+    if octet < 0x80 {
         return None;
     }
-    Some((first as usize, rest))
+    Some((octet as usize, rest))
 }
 
 // Returns a length of at least 0x100 that the first two bytes are, and the bytes after them.

@@ -5,6 +5,10 @@
 #[cfg(test)]
 mod base;
 #[cfg(test)]
+mod key_file_rows;
+#[cfg(test)]
+mod key_files;
+#[cfg(test)]
 mod keys;
 #[cfg(test)]
 mod tokens;

@@ -1,5 +1,4 @@
-use Rattle.jwt_key_files.proofs.Prefixes.{no_whole, no_whole_of_more, whole_of_nil}
-use Rattle.std.proofs.Common.{rules, arith, ◌∙◌}
+use Rattle.jwt_key_files.proofs.Prefixes.{no_whole, no_whole_of_more}
 use Rattle.jwt_key_files.proofs.element.read_all.Goals as goal
 
 pub returns-in_default : goal.returns-in_default

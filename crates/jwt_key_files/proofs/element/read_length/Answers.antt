@@ -1,5 +1,5 @@
 use Rattle.jwt_key_files.proofs.Prefixes.{none_of_nil, none_of_one, none_of_two, none_of_more, octets_short, octets_middle, octets_long}
-use Rattle.std.proofs.Common.{rules, arith, ◌∙◌}
+use Rattle.std.proofs.Common.{◌∙◌}
 use Rattle.jwt_key_files.proofs.element.read_length.Goals as goal
 
 pub returns-in_default : goal.returns-in_default
