@@ -1,7 +1,7 @@
 """Checks a crate in which wrong bodies are planted: many in one check.
 
 A wrong body is a function of its own beside the right one, with the same head, clauses and proof files. A function of a
-trait, or of a cycle of calls, can have no such copy: it is changed in place, one at a time. What callers prove rests on a
+trait, or of a cycle of calls, can have no such copy: it is changed in place, one at a time. The proofs of callers rest on a
 function's contract alone, so the proof of every other function is left out; but those of functions with type parameters
 are kept, since the prover takes longer over a statement about them that has no proof than over the proof.
 """
