@@ -101,7 +101,7 @@ fn is_sum<F: Residue>(
         && (place != other_place || is_point(double(b, one), wanted))
 }
 
-// Counts the right sums among those of the multiples by -k to k with each other, where the list has those by -2k to 2k.
+// Counts the right ones among the sums of the multiples by -k to k with each other. The list has the multiples by -2k to 2k.
 fn count_sums<F: Residue>(b: F, points: &[ProjectivePoint<F>], scale: F) -> u64 {
     let quarter = points.len() / 4;
     let mut right = 0_u64;

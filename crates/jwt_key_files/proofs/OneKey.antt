@@ -1,7 +1,7 @@
 -- Bytes are the DER of at most one key.
 use Rattle.std.proofs.Common.{◌≡◌, inl, inr, ℕ, List, ap, sym, ◌∙◌}
 use Rattle.jwt_keys.specs.Key.{Key, Components}
-use Rattle.jwt_key_files.specs.PublicKeys.{IsRsaKey, IsKeyOf, IsPublicKey}
+use Rattle.jwt_key_files.specs.PublicKeys.{identifier, subject_public_key_info, IsRsaKey, IsKeyOf, IsPublicKey}
 use Rattle.jwt_key_files.specs.declared.scheme.Scheme.{Scheme}
 use Rattle.jwt_key_files.specs.declared.scheme.Scheme.TheVariants as scheme
 use Rattle.jwt_key_files.proofs.Parts.{one_info, no_two, one_rsa_key}
@@ -32,3 +32,10 @@ one_key b k l h i = elim h [
         (moved r.algorithm s.algorithm r.octets s.octets l (one_scheme r.algorithm s.algorithm same.algorithm) same.octets s.is_key)
   ]
 ]
+
+-- the key of a SubjectPublicKeyInfo is the only one
+pub only_key : (b a o : List ℕ) (s : Scheme) (key : Key) → b ≡ subject_public_key_info a o → a ≡ identifier s → IsKeyOf s o key
+    → (k : Key) → IsPublicKey b k → k ≡ key
+only_key b a o s key e named h k p =
+    let whole = e ∙ ap (λ (x : List ℕ). subject_public_key_info x o) named in
+    one_key b k key p (inr (record { algorithm = s; octets = o; bytes_are = whole; is_key = h }))

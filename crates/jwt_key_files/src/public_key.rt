@@ -78,6 +78,7 @@ fn key_of(alloc: Global, scheme: Scheme, octets: &[u8]) -> Result<DecodingKey>
 /// with `InvalidKeyFormat`: a length or a number in more octets than it needs, unused bits, bytes after the end, a private key.
 pub fn public_key_from_der(alloc: Global, der: &[u8]) -> Result<DecodingKey>
     ensures ok { IfOk result (IsPublicKey der.now) }
+    ensures only { IfOk result (λ key. (k : Key) → IsPublicKey der.now k → k ≡ key) }
     ensures err { IfErr result (λ e. IsMemory e ⊎ IsRefused der.now (kind_of e)) }
 {
     let Some((algorithm, octets)) = read_info(der) else {

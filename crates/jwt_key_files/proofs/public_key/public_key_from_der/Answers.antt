@@ -1,6 +1,7 @@
 use Rattle.std.proofs.Common.{inl, inr}
 use Rattle.std.proofs.lemmas.Result.{err_from_is_err_and}
 use Rattle.jwt_key_files.proofs.Identifiers.{refused_rsa, refused_another, refused_key}
+use Rattle.jwt_key_files.proofs.OneKey.{one_key, only_key}
 use Rattle.jwt_key_files.proofs.public_key.public_key_from_der.Goals as goal
 
 pub returns-in_err-key-clause-err : goal.returns-in_err-key-clause-err
@@ -23,3 +24,10 @@ returns-in_err-key-2-clause-err c =
       | inl m ↦ inl m
       | inr w ↦ inr (refused_key _ _ _ _ _ w.0 c.in-Some.ensures c.in-Some-read_identifier.ensures w.1)
     ])
+
+pub returns-in_default-clause-only : goal.returns-in_default-clause-only
+returns-in_default-clause-only c = λ k p. one_key _ k _ p (inl c.in_ok-key.ensures.ok)
+
+pub returns-clause-only : goal.returns-clause-only
+returns-clause-only c =
+    only_key _ _ _ _ _ c.in-Some.ensures c.in-Some-read_identifier.ensures c.in_ok-key-2.ensures.ok
