@@ -7,5 +7,5 @@ pub mod Issued
 pub mod LawsOf
 pub mod Repeats
 pub mod UniqueParts
-pub mod UsualParts
+pub mod KnownParts
 pub mod Vouching

@@ -2,8 +2,8 @@
 use Rattle.std.proofs.Common.{ℕ, List, ◌∷◌, refl}
 use Rattle.jwt_base.specs.declared.json.claims.Claims.{Ghosts as ClaimsOf}
 use Rattle.jwt_validation.specs.declared.validation.Validation.{Validation}
-use Rattle.jwt_verdict.specs.Verdict.{Verdict}
-use Rattle.jwt_verdict.specs.VerdictMade.{is_made, made_by_own}
+use Rattle.jwt_crypto.specs.Verdict.{Verdict}
+use Rattle.jwt_crypto.specs.VerdictMade.{is_made, made_by_own}
 use Rattle.jsonwebtoken.specs.Tests.{Call, Contents, Passes, decode_order, VerifierIsMade, SignatureIsAccepted, key_of}
 use Rattle.jsonwebtoken.specs.Vouched.{IsVouched, decoding_by_verdict, unasked_order}
 use Rattle.jsonwebtoken.proofs.EachTest.{met, among}

@@ -12,7 +12,7 @@ use Rattle.jwt_validation.specs.declared.validation.Validation.{Validation}
 use Rattle.jsonwebtoken.specs.Order.{AnswersOne, AnswersEach, RefusesByFirst}
 use Rattle.jsonwebtoken.specs.Tests.{Call, Test, Contents, Condition, HasKind, Parts, Token, Compact, Separate, KeySource, Given, InSet, message_of, verifying_call}
 use Rattle.jsonwebtoken.specs.declared.decoding.TokenData.{TokenData}
-use Rattle.jsonwebtoken.specs.declared.signed.SignedPart.{SignedPart}
+use Rattle.jsonwebtoken.specs.declared.by_verdict.SignedPart.{SignedPart}
 
 -- ---- the calls
 

@@ -1,3 +1,4 @@
+pub mod ByHmac
 pub mod Calls
 pub mod Crit
 pub mod Issue
@@ -8,7 +9,7 @@ pub mod Laws
 pub mod Order
 pub mod Steps
 pub mod Tests
-pub mod Usual
+pub mod KnownHeaders
 pub mod Vouched
 pub use Rattle.jwt_base.specs.Kind
 pub use Rattle.jwt_base.specs.KindOf
@@ -21,9 +22,9 @@ pub use Rattle.jwt_keys.specs.Jwk
 pub use Rattle.jwt_keys.specs.Key
 pub use Rattle.jwt_keys.specs.KeyOfJwk
 pub use Rattle.jwt_keys.specs.Provider
-pub use Rattle.jwt_hmac.specs.Hmac
-pub use Rattle.jwt_hmac.specs.HmacKeys
-pub use Rattle.jwt_verdict.specs.Verdict
+pub use Rattle.jwt_crypto.specs.Hmac
+pub use Rattle.jwt_crypto.specs.HmacKeys
+pub use Rattle.jwt_crypto.specs.Verdict
 pub use Rattle.jwt_header.specs.Header
 pub use Rattle.jwt_header.specs.HeaderWritten
 pub use Rattle.jwt_header.specs.Extras

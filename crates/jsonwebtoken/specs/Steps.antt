@@ -14,7 +14,7 @@ use Rattle.jwt_header.specs.declared.header.Header.{Header}
 use Rattle.jwt_keys.specs.Key.{Key, Plain}
 use Rattle.jwt_keys.specs.KeyOfJwk.{IsKeyOf}
 use Rattle.jwt_keys.specs.declared.jwk.Jwk.{Jwk}
-use Rattle.jwt_kinds.specs.declared.parameters.AlgorithmParameters.TheVariants.{Other}
+use Rattle.jwt_params.specs.declared.parameters.AlgorithmParameters.TheVariants.{Other}
 use Rattle.jwt_params.specs.Common.{no_common}
 use Rattle.jwt_validation.specs.Options.{Options}
 use Rattle.jsonwebtoken.specs.Order.{FailedAt}

@@ -7,7 +7,7 @@ use Rattle.jwt_base.specs.declared.json.claims.Claims.{Ghosts as ClaimsOf}
 use Rattle.jwt_keys.specs.Key.{Plain}
 use Rattle.jwt_validation.specs.OptionsOf.{options_of}
 use Rattle.jwt_validation.specs.declared.validation.Validation.{Validation}
-use Rattle.jwt_verdict.specs.Verdict.{Verdict, IsVerified, refusal_by}
+use Rattle.jwt_crypto.specs.Verdict.{Verdict, IsVerified, refusal_by}
 use Rattle.jsonwebtoken.specs.Calls.{Carries}
 use Rattle.jsonwebtoken.specs.Tests.{Call, Compact, Given, Test, HasThreeParts, AlgorithmsAreListed, AlgorithmIsListed, FamiliesAgree, SignatureIsPart, Contents, Passes, opening_tests, claim_tests, message_of, verifying_call}
 use Rattle.jsonwebtoken.specs.declared.decoding.TokenData.{TokenData}

@@ -4,5 +4,5 @@
 pub mod hmac;
 pub mod verdict;
 
-pub use jwt_hmac::comparison::is_same;
+pub use jwt_crypto::comparison::is_same;
 pub use jwt_keys::provider::{CryptoProvider, JwtSigner, JwtVerifier, sign, verify};

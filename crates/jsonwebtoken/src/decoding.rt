@@ -14,7 +14,9 @@ pub(crate) mod parts;
 pub(crate) mod steps;
 
 pub use crate::decoding::key_set::decode_with_set;
-use crate::decoding::steps::{allowed_verifier, opened, read_header, token_parts, verified};
+use crate::decoding::steps::{
+    read_header, read_understood_header, token_parts, verifier_for, verify_and_read_claims,
+};
 use jwt_base::errors::Result;
 use jwt_base::json::Claims;
 use jwt_header::Header;
@@ -45,9 +47,9 @@ fn decode_by_steps<P: CryptoProvider, T: Claims>(
         Step call decode_order (λ x. x) (Carries call) result }
 {
     let parts = token_parts(token)?;
-    let header = opened(alloc, &parts, validation)?;
-    let verifier = allowed_verifier(alloc, provider, &header, key, validation)?;
-    let claims = verified(alloc, &verifier, &parts, validation, now)?;
+    let header = read_understood_header(alloc, &parts, validation)?;
+    let verifier = verifier_for(alloc, provider, &header, key, validation)?;
+    let claims = verify_and_read_claims(alloc, &verifier, &parts, validation, now)?;
     Ok(TokenData { header, claims })
 }
 
@@ -117,8 +119,7 @@ fn decode_header_by_steps(alloc: Global, token: &[u8]) -> Result<Header>
     ensures { Step (header_call token.now) header_order (λ x. x) (HasHeader (header_call token.now)) result }
 {
     let parts = token_parts(token)?;
-    let header = read_header(alloc, parts.header)?;
-    Ok(header)
+    read_header(alloc, parts.header)
 }
 
 /// Returns the header of a token in its compact form. Nothing is verified: neither the payload nor

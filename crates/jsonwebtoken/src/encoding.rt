@@ -32,8 +32,7 @@ fn encode_by_steps<P: CryptoProvider, T: Claims>(
     let header_text = header_part(alloc, header)?;
     let claims_text = claims_part(alloc, claims)?;
     let signed = sign_parts(alloc, &signer, header_text, claims_text.as_str())?;
-    let token = with_part(signed.message, signed.signature.as_str())?;
-    Ok(token)
+    with_part(signed.message, signed.signature.as_str())
 }
 
 /// Signs a header and claims with the key, and returns the token: header part, dot, claims part,

@@ -19,7 +19,9 @@ ghost use Rattle.jsonwebtoken.specs.Tests.{Parts, Separate, text_of_parts, jws_a
 
 use crate::decoding::TokenData;
 use crate::decoding::parts::TokenParts;
-use crate::decoding::steps::{check_families, check_listed, check_some_listed, opened, verified};
+use crate::decoding::steps::{
+    check_families, check_listed, check_some_listed, read_understood_header, verify_and_read_claims,
+};
 use crate::encoding::steps::{check_family, header_part, payload_part, sign_parts, with_part};
 use jwt_base::errors::{ErrorKind, Result, new_error};
 use jwt_base::json::Claims;
@@ -158,9 +160,9 @@ pub fn encode<P: CryptoProvider, T: Claims>(
 }
 
 /// Returns the verifier by the key and the header's algorithm, which is among those that are
-/// allowed: the tests of [`allowed_verifier`](crate::decoding::steps::allowed_verifier) in another
+/// allowed: the tests of [`verifier_for`](crate::decoding::steps::verifier_for) in another
 /// order.
-fn allowed_verifier<P: CryptoProvider>(
+fn verifier_for<P: CryptoProvider>(
     alloc: Global,
     provider: &P,
     header: &Header,
@@ -193,9 +195,9 @@ fn decode_parts<P: CryptoProvider, T: Claims>(
         provider.now (parts_in parts.now) key.now validation.now now in
         Step call jws_order (λ x. x) (Carries call) result }
 {
-    let header = opened(alloc, parts, validation)?;
-    let verifier = allowed_verifier(alloc, provider, &header, key, validation)?;
-    let claims = verified(alloc, &verifier, parts, validation, now)?;
+    let header = read_understood_header(alloc, parts, validation)?;
+    let verifier = verifier_for(alloc, provider, &header, key, validation)?;
+    let claims = verify_and_read_claims(alloc, &verifier, parts, validation, now)?;
     Ok(TokenData { header, claims })
 }
 
@@ -219,8 +221,7 @@ fn decode_by_steps<P: CryptoProvider, T: Claims>(
         payload: token.payload.as_bytes(),
         signature: token.signature.as_bytes(),
     };
-    let data = decode_parts(alloc, provider, &parts, key, validation, now)?;
-    Ok(data)
+    decode_parts(alloc, provider, &parts, key, validation, now)
 }
 
 /// Verifies a token in parts with the key, at the moment `now`, in whole seconds since 1970-01-01

@@ -1,15 +1,16 @@
 //! JSON Web Tokens (RFC 7519) in their compact form (RFC 7515).
 #![tactic(auto)]
 
+mod by_verdict;
 pub mod crypto;
 pub mod dangerous;
 mod decoding;
 mod encoding;
 pub mod jwk;
 pub mod jws;
-mod signed;
-mod usual;
+mod known_headers;
 
+pub use by_verdict::{SignedPart, decode_by_verdict, signed_part};
 pub use decoding::{TokenData, decode, decode_header, decode_with_set};
 pub use encoding::encode;
 pub use jwt_base::algorithms::{Algorithm, AlgorithmFamily};
@@ -19,4 +20,3 @@ pub use jwt_header::{Enc, Extras, Header, Zip};
 pub use jwt_keys::decoding_key::{DecodingKey, DecodingKeyKind};
 pub use jwt_keys::encoding_key::EncodingKey;
 pub use jwt_validation::{Clock, Validation, get_current_timestamp, validate};
-pub use signed::{SignedPart, decode_by_verdict, signed_part};

@@ -1,10 +1,9 @@
 pub mod Parts
+pub mod Readings
 pub mod PaddedTexts
-pub mod TextLemmas
 pub mod Copies
 pub mod Kept
 pub mod FreeMembers
 pub mod MembersWritten
-pub mod ItemTexts
 pub mod NormalForms
 pub mod WrittenTexts

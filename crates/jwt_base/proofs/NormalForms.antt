@@ -1,9 +1,9 @@
 -- Values that are known by their strings, and members that may be absent: a value that was read is
 -- its own normal form.
-use Rattle.std.proofs.Common.{◌≡◌, ℕ, List, [], ◌∷◌, Bool, true, false, cond, is_some, bytes_eq, Option, Some, None, option_map, unwrap_or, refl, sym, ap}
+use Rattle.std.proofs.Common.{◌≡◌, ℕ, List, [], ◌∷◌, Bool, true, false, cond, bytes_eq, Option, Some, None, option_map, unwrap_or, refl, sym, ap}
 use Rattle.serde_json.specs.Data.{Data}
-use Rattle.serde_json.specs.Find.{as_null, as_str}
-use Rattle.jwt_base.specs.Members.{optional}
+use Rattle.serde_json.specs.Find.{as_str}
+use Rattle.jwt_base.specs.Members.{present, read_option, optional}
 use Rattle.jwt_base.specs.Spelling.{spelled}
 use Rattle.jwt_base.proofs.MembersWritten.{same_texts}
 
@@ -20,10 +20,10 @@ pub again_within : {A : Type 0} (f : A → A) → ((a : A) → f (f a) ≡ f a) 
 again_within f same None = refl
 again_within f same (Some a) = ap Some (same a)
 
-own_present : {A : Type 0} (reader : Data → Option A) (f : A → A) → ((d : Data) (a : A) → reader d ≡ Some a → f a ≡ a) → (n : Bool) (d : Data) (x : Option A) → cond n (Some None) (option_map Some (reader d)) ≡ Some x → option_map f x ≡ x
-own_present reader f same true d x e = let none : None ≡ x = ap (λ o. unwrap_or o x) e in rw (← none) refl
-own_present reader f same false d None e = refl
-own_present reader f same false d (Some a) e = ap Some (same d a (map_some (reader d) a e))
+own_present : {A : Type 0} (reader : Data → Option A) (f : A → A) → ((d : Data) (a : A) → reader d ≡ Some a → f a ≡ a) → (o : Option Data) (x : Option A) → read_option reader o ≡ Some x → option_map f x ≡ x
+own_present reader f same None x e = let none : None ≡ x = ap (λ o. unwrap_or o x) e in rw (← none) refl
+own_present reader f same (Some d) None e = refl
+own_present reader f same (Some d) (Some a) e = ap Some (same d a (map_some (reader d) a e))
   where
     map_some : {A : Type 0} (o : Option A) (a : A) → option_map Some o ≡ Some (Some a) → o ≡ Some a
     map_some None a e = absurd (cc)
@@ -31,8 +31,7 @@ own_present reader f same false d (Some a) e = ap Some (same d a (map_some (read
 
 -- an optional member that was read is its own normal form, if the value that its reader gives is
 pub own_optional : {A : Type 0} (reader : Data → Option A) (f : A → A) → ((d : Data) (a : A) → reader d ≡ Some a → f a ≡ a) → (o : Option Data) (x : Option A) → optional reader o ≡ Some x → option_map f x ≡ x
-own_optional reader f same None x e = let none : None ≡ x = ap (λ o. unwrap_or o x) e in rw (← none) refl
-own_optional reader f same (Some d) x e = own_present reader f same (is_some (as_null d)) d x e
+own_optional reader f same o x e = own_present reader f same (present o) x e
 
 own_named_at : {A : Type 0} (text : A → List ℕ) (named : List ℕ → A) → ((s : List ℕ) → text (named s) ≡ s) → (o : Option (List ℕ)) (a : A) → option_map named o ≡ Some a → named (text a) ≡ a
 own_named_at text named kept None a e = absurd (cc)

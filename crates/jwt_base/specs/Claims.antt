@@ -3,7 +3,9 @@ use Rattle.std.specs.Prelude.{◌≡◌, ℕ, ◌<◌, ◌≤◌, ◌^◌, List,
 use Rattle.std.specs.Int.{Width}
 use Rattle.serde_json.specs.Data.{Data, depth}
 use Rattle.serde_json.specs.Read.{max_depth}
+use Rattle.serde_json.specs.View.{view}
 use Rattle.serde_json.specs.Written.{compact_text, has_float}
+use Rattle.serde_json.specs.declared.value.Value.{Value}
 use Rattle.jwt_base.specs.JsonText.{IsJson}
 use Rattle.serde_json.specs.Find.{as_str, as_bool, as_number, as_integer}
 
@@ -13,6 +15,10 @@ pub record IsCompact (d : Data) (text : List ℕ) : Type 0 where
   pub no_float : has_float d ≡ false
   pub is_text : text ≡ compact_text d
   pub reads_back : depth d ≤ max_depth → IsJson text d
+
+-- the claims are the value itself
+abbrev pub IsValue : Data → Value → Type 0
+IsValue d value = view value ≡ d
 
 -- the value is this string
 abbrev pub IsText : Data → List ℕ → Type 0

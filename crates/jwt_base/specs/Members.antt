@@ -1,15 +1,27 @@
 -- The members of a JSON object: how each is read, and how they are written.
-use Rattle.std.specs.Prelude.{◌≡◌, IsTrue, false, ℕ, List, [], ◌∷◌, ◌||◌, Bool, Option, Some, None, option_map, option_and_then, map, is_some, if◌then◌else◌}
+use Rattle.std.specs.Prelude.{◌≡◌, false, ℕ, List, [], ◌∷◌, ◌||◌, Bool, Option, Some, None, option_map, option_and_then, map, is_some, if◌then◌else◌}
 use Rattle.std.specs.Str.{bytes_eq}
 use Rattle.std.specs.List.{list_any}
 use Rattle.serde_json.specs.Data.{Data, string, array, Items, no_items, item, Members, no_members, member, put}
 use Rattle.serde_json.specs.View.{items_of}
 use Rattle.serde_json.specs.Find.{get, as_null, as_str, as_array}
 
+-- the value, unless it is null
+abbrev pub not_null : Data → Option Data
+not_null d = if is_some (as_null d) then None else Some d
+
+-- the member, unless it is null
+abbrev pub present : Option Data → Option Data
+present o = option_and_then not_null o
+
+-- the member that the reader reads, if there is one
+abbrev pub read_option : {A : Type 0} → (Data → Option A) → Option Data → Option (Option A)
+read_option reader None = Some None
+read_option reader (Some d) = option_map Some (reader d)
+
 -- an optional member: None if it is absent or null
 abbrev pub optional : {A : Type 0} → (Data → Option A) → Option Data → Option (Option A)
-optional reader None = Some None
-optional reader (Some d) = if is_some (as_null d) then Some None else option_map Some (reader d)
+optional reader o = read_option reader (present o)
 
 -- the strings of a list that holds nothing else
 abbrev pub item_texts : Items → Option (List (List ℕ))
@@ -48,9 +60,7 @@ ReadsMember R (Some d) (Some a) = R d a
 
 -- an optional member that R reads: None if it is absent or null
 abbrev pub ReadsOptional : {A : Type 0} → (Data → A → Type 0) → Option Data → Option A → Type 0
-ReadsOptional R None a = a ≡ None
-ReadsOptional R (Some d) None = IsTrue (is_some (as_null d))
-ReadsOptional R (Some d) (Some a) = (is_some (as_null d) ≡ false) × R d a
+ReadsOptional R o a = ReadsMember R (present o) a
 
 -- an optional value as a member: None if it cannot be written
 abbrev pub written_optional : {A : Type 0} → (A → Option Data) → Option A → Option (Option Data)

@@ -17,7 +17,7 @@ pub struct Error {
 }
 
 /// The result of a call that can be refused.
-pub type Result<T> = std::result::Result<T, Error>;
+pub type Result<T, E = Error> = std::result::Result<T, E>;
 
 /// The kind of an error.
 #[derive(Debug, Drop)]

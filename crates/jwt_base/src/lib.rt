@@ -3,6 +3,7 @@
 #![tactic(auto)]
 
 pub mod algorithms;
+pub mod cloning;
 pub mod errors;
 pub mod json;
 pub mod serialization;

@@ -9,6 +9,7 @@ ghost use Rattle.std.specs.Hash as fed;
 ghost use Rattle.std.proofs.lemmas.Slice.Eq.{bytes_eq-Decides};
 ghost use Rattle.jwt_base.specs.KindOf.{IsMemory};
 
+use crate::cloning::CloneIn;
 use crate::errors::Result;
 use std::alloc::Global;
 use std::fmt;
@@ -61,6 +62,12 @@ impl Text {
     {
         let Text { string } = self;
         string
+    }
+}
+
+impl CloneIn for Text {
+    fn clone_in(&self, alloc: Global) -> Result<Text> {
+        self.clone(alloc)
     }
 }
 
@@ -160,6 +167,12 @@ impl Texts {
     }
 }
 
+impl CloneIn for Texts {
+    fn clone_in(&self, alloc: Global) -> Result<Texts> {
+        self.clone(alloc)
+    }
+}
+
 impl From<Vec<Text>> for Texts {
     ghost from_gives = { λ v t. t ≡ v.items };
 
@@ -196,27 +209,5 @@ impl Hash for Texts {
 impl fmt::Debug for Texts {
     fn fmt<W: fmt::Write>(&self, f: &mut fmt::Formatter<W>) -> fmt::Result {
         fmt::Debug::fmt(self.as_slice(), f)
-    }
-}
-
-/// Returns a copy of a `Text` that may be absent. The only refusal is `OutOfMemory`.
-pub fn clone_text(alloc: Global, text: &Option<Text>) -> Result<Option<Text>>
-    ensures ok { IfOk result (λ t. t ≡ text.now) }
-    ensures err { IfErr result IsMemory }
-{
-    match text {
-        Some(text) => Ok(Some(text.clone(alloc)?)),
-        None => Ok(None),
-    }
-}
-
-/// Returns a copy of a `Texts` that may be absent. The only refusal is `OutOfMemory`.
-pub fn clone_texts(alloc: Global, texts: &Option<Texts>) -> Result<Option<Texts>>
-    ensures ok { IfOk result (λ copy. copy ≡ texts.now) }
-    ensures err { IfErr result IsMemory }
-{
-    match texts {
-        Some(texts) => Ok(Some(texts.clone(alloc)?)),
-        None => Ok(None),
     }
 }

@@ -8,24 +8,28 @@ use Rattle.serde_json.specs.View.{view}
 use Rattle.serde_json.specs.Written.{has_float, compact_text, IsInOrder}
 use Rattle.serde_json.specs.declared.value.Value.{Value}
 use Rattle.jwt_base.specs.Algorithm.{family_of}
-use Rattle.jwt_base.specs.JsonText.{IsJson}
+use Rattle.jwt_base.specs.Claims.{IsValue}
+use Rattle.jwt_base.specs.JsonText.{IsJson, ReadsText}
 use Rattle.jwt_base.specs.Kind.{Kind}
 use Rattle.jwt_base.specs.Kind as kind
 use Rattle.jwt_base.specs.KindOf.{kind_of}
 use Rattle.jwt_base.specs.declared.algorithms.Algorithm.{Algorithm}
 use Rattle.jwt_base.specs.declared.algorithms.AlgorithmFamily.TheVariants.{Hmac}
 use Rattle.jwt_base.specs.declared.errors.Error.{Error}
-use Rattle.jwt_hmac.specs.HmacKeys.{HmacAccepts, hash_for, refusal}
 use Rattle.jwt_header.specs.Header.{header_value}
-use Rattle.jwt_keys.specs.Key.{Key, Plain, key_family}
+use Rattle.jwt_keys.specs.Key.{Key, Plain}
+use Rattle.jwt_keys.specs.Jwk.{ReadsKey}
+use Rattle.jwt_keys.specs.JwkSet.{ReadsSet}
 use Rattle.jwt_keys.specs.KeyOfJwk.{IsKeyOf, refusal_of}
 use Rattle.jwt_keys.specs.declared.jwk.Jwk.{Jwk}
 use Rattle.jwt_standard.specs.StandardKeys.{verifier_refusal, StandardAccepts}
 use Rattle.jwt_validation.specs.Options.{Options}
-use Rattle.jwt_verdict.specs.Verdict.{Verdict, IsVerified, refusal_by}
+use Rattle.jwt_validation.specs.OptionsRead.{ReadsOptions}
+use Rattle.jwt_crypto.specs.Verdict.{Verdict, IsVerified, refusal_by}
+use Rattle.jsonwebtoken.specs.ByHmac.{decoding_by_hmac}
 use Rattle.jsonwebtoken.specs.Tests.{Call, Compact, Contents, Given, InSet, Passes, FirstFailed, decode_order, header_order, set_order, signed_order, header_call, message_of, verifying_call}
 use Rattle.jsonwebtoken.specs.Vouched.{IsVouched}
-use Rattle.jwt_c_calls.specs.Inputs.{ReadsOptionsText, ReadsSetText, ReadsClaimsText, ReadsKeyText}
+use Rattle.jwt_c_calls.specs.Inputs.{ReadsClaimsText}
 use Rattle.jwt_c_calls.specs.Status.{number, input_status, algorithm_numbered, IsGiven, IsKept}
 use Rattle.jwt_c_calls.specs.declared.inputs.Input.{Input}
 use Rattle.jwt_c_calls.specs.declared.inputs.Input.TheVariants as input
@@ -88,26 +92,25 @@ AnswersBy Reads MisreadAs Shows Refused (Misreads i) = MisreadAs i
 -- `decode` by HMAC with the secret
 abbrev pub hmac_call : List ℕ → List ℕ → ℕ → Options → Call Value
 hmac_call token secret now options =
-    verifying_call (Compact token) (Given (Plain Hmac secret)) options now
-    (λ a key. refusal (hash_for a) (key_family key)) HmacAccepts (λ value claims. view claims ≡ value)
+    decoding_by_hmac IsValue token (Given (Plain Hmac secret)) options now
 
 -- `decode` with a verdict
 abbrev pub verdict_call : List ℕ → Verdict → ℕ → Options → Call Value
 verdict_call token v now options =
     verifying_call (Compact token) (Given (Plain (family_of v.algorithm) [])) options now
-    (refusal_by v) (λ _ _. IsVerified v) (λ value claims. view claims ≡ value)
+    (refusal_by v) (λ _ _. IsVerified v) IsValue
 
 -- `decode` by all twelve algorithms, with the key
 abbrev pub key_call : List ℕ → Key → ℕ → Options → Call Value
 key_call token key now options =
     verifying_call (Compact token) (Given key) options now
-    verifier_refusal StandardAccepts (λ value claims. view claims ≡ value)
+    verifier_refusal StandardAccepts IsValue
 
 -- `decode_with_set` by all twelve algorithms
 abbrev pub set_call : List ℕ → List Jwk → ℕ → Options → Call Value
 set_call token keys now options =
     verifying_call (Compact token) (InSet keys) options now
-    verifier_refusal StandardAccepts (λ value claims. view claims ≡ value)
+    verifier_refusal StandardAccepts IsValue
 
 -- the text is that of the claims of accepted contents
 abbrev pub IsClaimsText : (Contents → Type 0) → List ℕ → Type 0
@@ -118,7 +121,7 @@ IsClaimsText Accepted claims = (t : Contents) × Accepted t × IsTextOf claims t
 abbrev pub AnswersWhere : List ℕ → (Options → Contents → Type 0) → (Options → Kind → Type 0)
     → Answer → Type 0
 AnswersWhere text Accepted Refused = AnswersBy
-    (ReadsOptionsText text) (MisreadsOne input.Options (ReadsOptionsText text))
+    (ReadsText ReadsOptions text) (MisreadsOne input.Options (ReadsText ReadsOptions text))
     (λ o. IsClaimsText (Accepted o)) Refused
 
 -- accepted contents pass every test of `decode`; a refusal has the kind of the first that fails
@@ -131,8 +134,8 @@ AnswersHmac text token secret now = AnswersWhere text
 -- the same for `decode_with_set`; the options' text is read before that of the key set
 abbrev pub AnswersSet : List ℕ → List ℕ → List ℕ → ℕ → Answer → Type 0
 AnswersSet text token set now = AnswersBy {E = Options × List Jwk}
-    (λ e. ReadsOptionsText text e.0 × ReadsSetText set e.1)
-    (MisreadsTwo input.Options (ReadsOptionsText text) input.Set (ReadsSetText set))
+    (λ e. ReadsText ReadsOptions text e.0 × ReadsText ReadsSet set e.1)
+    (MisreadsTwo input.Options (ReadsText ReadsOptions text) input.Set (ReadsText ReadsSet set))
     (λ e. IsClaimsText (Passes (set_call token e.1 now e.0) set_order))
     (λ e. FirstFailed (set_call token e.1 now e.0) set_order)
 
@@ -153,8 +156,8 @@ FailsByJwk token now options jwk k =
 -- the token
 abbrev pub AnswersKey : List ℕ → List ℕ → List ℕ → ℕ → Answer → Type 0
 AnswersKey text token key now = AnswersBy {E = Options × Jwk}
-    (λ e. ReadsOptionsText text e.0 × ReadsKeyText key e.1)
-    (MisreadsTwo input.Options (ReadsOptionsText text) input.Key (ReadsKeyText key))
+    (λ e. ReadsText ReadsOptions text e.0 × ReadsText ReadsKey key e.1)
+    (MisreadsTwo input.Options (ReadsText ReadsOptions text) input.Key (ReadsText ReadsKey key))
     (λ e. IsClaimsText (PassesByJwk token now e.0 e.1))
     (λ e. FailsByJwk token now e.0 e.1)
 

@@ -5,36 +5,13 @@ use Rattle.serde_json.specs.Find.{as_object}
 use Rattle.jwt_base.specs.JsonText.{IsJson}
 use Rattle.jwt_base.specs.KindOf.{IsMemory}
 use Rattle.jwt_base.specs.declared.errors.Error.{Error}
-use Rattle.jwt_header.specs.Header.{ReadsHeader}
-use Rattle.jwt_header.specs.declared.header.Header.{Header}
-use Rattle.jwt_keys.specs.Jwk.{ReadsKey}
-use Rattle.jwt_keys.specs.JwkSet.{ReadsSet}
-use Rattle.jwt_keys.specs.declared.jwk.Jwk.{Jwk}
-use Rattle.jwt_validation.specs.Options.{Options}
-use Rattle.jwt_validation.specs.OptionsRead.{ReadsOptions}
 use Rattle.jwt_c_calls.specs.declared.inputs.Input.{Input}
 use Rattle.jwt_c_calls.specs.declared.inputs.Refusal.{Refusal}
 use Rattle.jwt_c_calls.specs.declared.inputs.Refusal.TheVariants as refused
 
--- the text is JSON of an object of options
-abbrev pub ReadsOptionsText : List ℕ → Options → Type 0
-ReadsOptionsText text options = (value : Data) × IsJson text value × ReadsOptions value options
-
--- the text is JSON of a key set (RFC 7517 section 5)
-abbrev pub ReadsSetText : List ℕ → List Jwk → Type 0
-ReadsSetText text keys = (value : Data) × IsJson text value × ReadsSet value keys
-
--- the text is JSON of a header (RFC 7515 section 4)
-abbrev pub ReadsHeaderText : List ℕ → Header → Type 0
-ReadsHeaderText text header = (value : Data) × IsJson text value × ReadsHeader value header
-
 -- the text is JSON of this object (RFC 7519 section 4)
 abbrev pub ReadsClaimsText : List ℕ → Data → Type 0
 ReadsClaimsText text value = IsJson text value × IsSome (as_object value)
-
--- the text is JSON of a key (RFC 7517 section 4)
-abbrev pub ReadsKeyText : List ℕ → Jwk → Type 0
-ReadsKeyText text key = (value : Data) × IsJson text value × ReadsKey value key
 
 -- for a private clause: a value that was read is handed on; a text that could not be read is at
 -- fault, unless memory ran out

@@ -2,19 +2,23 @@
 use Rattle.std.specs.Prelude.{◌≡◌, ◌==◌, ℕ, List, Option, Some, None, Result, Ok, Err, if◌then◌else◌}
 use Rattle.serde_json.specs.Data.{Data}
 use Rattle.jwt_base.specs.Base64Url.{IsPart}
+use Rattle.jwt_base.specs.JsonText.{ReadsText}
 use Rattle.jwt_base.specs.Kind.{Kind}
 use Rattle.jwt_base.specs.Kind as kind
 use Rattle.jwt_base.specs.declared.algorithms.AlgorithmFamily.TheVariants.{Hmac}
+use Rattle.jwt_header.specs.Header.{ReadsHeader}
 use Rattle.jwt_header.specs.declared.header.Header.{Header}
-use Rattle.jwt_hmac.specs.Hmac.{hash_bytes}
-use Rattle.jwt_hmac.specs.HmacKeys.{HmacSigns, hash_for, hash_named, refusal}
+use Rattle.jwt_crypto.specs.Hmac.{hash_bytes}
+use Rattle.jwt_crypto.specs.HmacKeys.{hash_named}
+use Rattle.jwt_keys.specs.Jwk.{ReadsKey}
 use Rattle.jwt_keys.specs.Thumbprint.{digested, thumb_text}
 use Rattle.jwt_keys.specs.declared.jwk.Jwk.{Jwk}
 use Rattle.jwt_params.specs.declared.thumbprints.ThumbprintHash.{ThumbprintHash}
 use Rattle.jwt_params.specs.declared.thumbprints.ThumbprintHash.TheVariants.{SHA256, SHA384, SHA512}
-use Rattle.jsonwebtoken.specs.Issue.{Issue, IssuePasses, IssueFailsFirst, IsIssued, WrittenAs, Written, encode_order, issuing}
+use Rattle.jsonwebtoken.specs.ByHmac.{encoding_by_hmac}
+use Rattle.jsonwebtoken.specs.Issue.{Issue, IssuePasses, IssueFailsFirst, IsIssued, Written, encode_order}
 use Rattle.jwt_c_calls.specs.Calls.{Answer, AnswersBy, Refuses, MisreadsOne, MisreadsTwo}
-use Rattle.jwt_c_calls.specs.Inputs.{ReadsHeaderText, ReadsClaimsText, ReadsKeyText}
+use Rattle.jwt_c_calls.specs.Inputs.{ReadsClaimsText}
 use Rattle.jwt_c_calls.specs.declared.inputs.Input.TheVariants as input
 
 -- ---- tokens
@@ -22,8 +26,7 @@ use Rattle.jwt_c_calls.specs.declared.inputs.Input.TheVariants as input
 -- `encode` by HMAC with the secret, of claims that are written as this value
 abbrev pub hmac_issue : List ℕ → Header → Data → Issue
 hmac_issue secret header value =
-    issuing header (WrittenAs (Some value)) (record { family = Hmac; bytes = secret })
-    (λ a key. refusal (hash_for a) key.family) (λ _ _ _. None) HmacSigns
+    encoding_by_hmac header (Some value) (record { family = Hmac; bytes = secret })
 
 -- the token is issued of values that pass every test of `encode` (RFC 7519 section 7.1)
 abbrev pub IsTokenOf : List ℕ → Header → Data → List ℕ → Type 0
@@ -37,8 +40,8 @@ IsNotIssued secret header value = IssueFailsFirst (hmac_issue secret header valu
 -- the header's text is read before that of the claims
 abbrev pub AnswersEncode : List ℕ → List ℕ → List ℕ → Answer → Type 0
 AnswersEncode header claims secret = AnswersBy {E = Header × Data}
-    (λ e. ReadsHeaderText header e.0 × ReadsClaimsText claims e.1)
-    (MisreadsTwo input.Header (ReadsHeaderText header) input.Claims (ReadsClaimsText claims))
+    (λ e. ReadsText ReadsHeader header e.0 × ReadsClaimsText claims e.1)
+    (MisreadsTwo input.Header (ReadsText ReadsHeader header) input.Claims (ReadsClaimsText claims))
     (λ e. IsTokenOf secret e.0 e.1) (λ e. IsNotIssued secret e.0 e.1)
 
 -- ---- thumbprints
@@ -57,7 +60,7 @@ thumbprint_of hash key = digested (λ text. Ok (hash_bytes (hash_named hash) tex
 -- the base64url text of the thumbprint, or the kind of the refusal
 abbrev pub AnswersHashed : ThumbprintHash → List ℕ → Answer → Type 0
 AnswersHashed hash text = AnswersBy
-    (ReadsKeyText text) (MisreadsOne input.Key (ReadsKeyText text))
+    (ReadsText ReadsKey text) (MisreadsOne input.Key (ReadsText ReadsKey text))
     (λ key part. (bytes : List ℕ) × (thumbprint_of hash key ≡ Ok bytes) × IsPart part bytes)
     (λ key k. thumbprint_of hash key ≡ Err k)
 

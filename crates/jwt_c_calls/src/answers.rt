@@ -171,8 +171,7 @@ pub fn header_answer(alloc: Global, token: &[u8]) -> Result<Vec<u8>, Refusal>
     ensures err { IfErr result (λ r. AnswersHeader token.now (answer_of r)) }
 {
     let value = header_of(alloc, token)?;
-    let text = value.to_vec(alloc)?;
-    Ok(text)
+    value.to_vec(alloc)
 }
 
 /// Checks that every number of the claims, which are the JSON text of an object, is an integer from

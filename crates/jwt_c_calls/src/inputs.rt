@@ -76,8 +76,7 @@ pub fn read_options(alloc: Global, text: &[u8]) -> Result<Validation, Error>
     ensures err { IfErr result (λ e. IsMemory e ⊎ ((o : _) → ¬ ReadsOptionsText text.now o)) }
 {
     let value = json_value(alloc, text)?;
-    let options = Validation::from_value(alloc, &value)?;
-    Ok(options)
+    Validation::from_value(alloc, &value)
 }
 
 pub fn read_set(alloc: Global, text: &[u8]) -> Result<JwkSet, Error>
@@ -85,8 +84,7 @@ pub fn read_set(alloc: Global, text: &[u8]) -> Result<JwkSet, Error>
     ensures err { IfErr result (λ e. IsMemory e ⊎ ((ks : _) → ¬ ReadsSetText text.now ks)) }
 {
     let value = json_value(alloc, text)?;
-    let set = JwkSet::from_value(alloc, &value)?;
-    Ok(set)
+    JwkSet::from_value(alloc, &value)
 }
 
 pub fn read_header(alloc: Global, text: &[u8]) -> Result<Header, Error>
@@ -94,8 +92,7 @@ pub fn read_header(alloc: Global, text: &[u8]) -> Result<Header, Error>
     ensures err { IfErr result (λ e. IsMemory e ⊎ ((h : _) → ¬ ReadsHeaderText text.now h)) }
 {
     let value = json_value(alloc, text)?;
-    let header = Header::from_value(alloc, &value)?;
-    Ok(header)
+    Header::from_value(alloc, &value)
 }
 
 pub fn read_claims(alloc: Global, text: &[u8]) -> Result<Value, Error>
@@ -114,6 +111,5 @@ pub fn read_key(alloc: Global, text: &[u8]) -> Result<Jwk, Error>
     ensures err { IfErr result (λ e. IsMemory e ⊎ ((k : _) → ¬ ReadsKeyText text.now k)) }
 {
     let value = json_value(alloc, text)?;
-    let key = Jwk::from_value(alloc, &value)?;
-    Ok(key)
+    Jwk::from_value(alloc, &value)
 }

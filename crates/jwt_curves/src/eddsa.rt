@@ -1,12 +1,10 @@
 //! The provider of EdDSA.
 
-ghost use Rattle.std.specs.Prelude.{◌≡◌, ◌↔◌, ⊤, ℕ, List, Ok, None, Some, IsTrue, IfOk, IfErr};
+ghost use Rattle.std.specs.Prelude.{◌≡◌, ◌↔◌, ⊤, ℕ, List, None, Some, IsTrue, IfOk, IfErr};
 ghost use Rattle.jwt_base.specs.Kind as kind;
 ghost use Rattle.jwt_base.specs.KindOf.{kind_of};
 ghost use Rattle.jwt_base.specs.declared.algorithms.Algorithm.TheVariants as algorithm;
-ghost use Rattle.jwt_keys.specs.Provider.{reads_no_key};
-ghost use Rattle.jwt_hmac.specs.Hmac.{hash_bytes};
-ghost use Rattle.jwt_hmac.specs.HmacKeys.{hash_named};
+ghost use Rattle.jwt_crypto.specs.HmacKeys.{hmac_answers};
 ghost use Rattle.jwt_curves.specs.EdDsaKeys.{refusal, EdDsaAccepts};
 ghost use Rattle.jwt_curves.specs.CurveFamilies.{eddsa_made};
 ghost use Rattle.ed25519.specs.Ed25519.{IsSignature};
@@ -15,13 +13,12 @@ use crate::keys::{bytes_of_family, ed25519_key, unfit_key, unsupported};
 use ed25519::verification::is_signature;
 use jwt_base::algorithms::{Algorithm, AlgorithmFamily};
 use jwt_base::errors::Result;
-use jwt_hmac::HmacProvider;
+use jwt_crypto::{HmacProvider, NoSigner};
 use jwt_keys::decoding_key::DecodingKey;
 use jwt_keys::encoding_key::EncodingKey;
 use jwt_keys::provider::{CryptoProvider, JwtVerifier};
 use jwt_params::curves::EllipticCurve;
 use jwt_params::thumbprints::ThumbprintHash;
-use jwt_verdict::NoSigner;
 use std::alloc::Global;
 
 /// Verifies signatures of EdDSA with Ed25519 by one key (RFC 8032 section 5.1.7).
@@ -70,7 +67,7 @@ impl CryptoProvider for EdDsaProvider {
 
     ghost is_sparing = { λ _. ⊤ };
 
-    ghost key_answers = { λ _. reads_no_key kind.UnsupportedAlgorithm (λ h bytes. Ok (hash_bytes (hash_named h) bytes)) };
+    ghost key_answers = { λ _. hmac_answers };
 
     /// Refuses with `UnsupportedAlgorithm`.
     fn signer_factory(

@@ -1,11 +1,9 @@
 //! The provider of ECDSA.
 
-ghost use Rattle.std.specs.Prelude.{◌≡◌, ◌↔◌, ⊤, ℕ, List, Ok, None, Some, IsTrue, IfOk, IfErr, MatchOption, false, true};
+ghost use Rattle.std.specs.Prelude.{◌≡◌, ◌↔◌, ⊤, ℕ, List, None, Some, IsTrue, IfOk, IfErr, MatchOption, false, true};
 ghost use Rattle.jwt_base.specs.Kind as kind;
 ghost use Rattle.jwt_base.specs.KindOf.{kind_of};
-ghost use Rattle.jwt_keys.specs.Provider.{reads_no_key};
-ghost use Rattle.jwt_hmac.specs.Hmac.{hash_bytes};
-ghost use Rattle.jwt_hmac.specs.HmacKeys.{hash_named};
+ghost use Rattle.jwt_crypto.specs.HmacKeys.{hmac_answers};
 ghost use Rattle.jwt_curves.specs.EcdsaKeys.{curve_for, algorithm_for, curve_of, bytes_of, is_key_on, IsSignatureOn, refusal, EcdsaAccepts};
 ghost use Rattle.jwt_curves.specs.CurveFamilies.{ecdsa_made};
 
@@ -14,13 +12,12 @@ use crate::keys::{bytes_of_family, p256_key, p384_key, unfit_key, unsupported};
 use ecdsa::curves::{is_es256, is_es384};
 use jwt_base::algorithms::{Algorithm, AlgorithmFamily};
 use jwt_base::errors::Result;
-use jwt_hmac::HmacProvider;
+use jwt_crypto::{HmacProvider, NoSigner};
 use jwt_keys::decoding_key::DecodingKey;
 use jwt_keys::encoding_key::EncodingKey;
 use jwt_keys::provider::{CryptoProvider, JwtVerifier};
 use jwt_params::curves::EllipticCurve;
 use jwt_params::thumbprints::ThumbprintHash;
-use jwt_verdict::NoSigner;
 use std::alloc::Global;
 
 // The bytes of a public key on one of the curves.
@@ -108,7 +105,7 @@ impl CryptoProvider for EcdsaProvider {
 
     ghost is_sparing = { λ _. ⊤ };
 
-    ghost key_answers = { λ _. reads_no_key kind.UnsupportedAlgorithm (λ h bytes. Ok (hash_bytes (hash_named h) bytes)) };
+    ghost key_answers = { λ _. hmac_answers };
 
     /// Refuses with `UnsupportedAlgorithm`.
     fn signer_factory(

@@ -1,10 +1,8 @@
 //! A custom provider: HMAC that requires secrets as long as the code, as RFC 7518 section 3.2 does.
 
-ghost use Rattle.std.specs.Prelude.{◌≡◌, ℕ, List, Ok, None, Some, ⊤};
+ghost use Rattle.std.specs.Prelude.{◌≡◌, ℕ, List, None, Some, ⊤};
 ghost use Rattle.jwt_base.specs.Kind as kind;
-ghost use Rattle.jwt_keys.specs.Provider.{reads_no_key};
-ghost use Rattle.jwt_hmac.specs.Hmac.{hash_bytes};
-ghost use Rattle.jwt_hmac.specs.HmacKeys.{hash_named, HmacSigns, HmacAccepts};
+ghost use Rattle.jwt_crypto.specs.HmacKeys.{hmac_answers, HmacSigns, HmacAccepts};
 ghost use Rattle.jwt_example.specs.LongSecrets.{least_length, secret_length, signer_refusal_of, verifier_refusal_of, family_made};
 
 use jsonwebtoken::crypto::CryptoProvider;
@@ -36,7 +34,7 @@ impl CryptoProvider for LongSecrets {
 
     ghost is_sparing = { λ _. ⊤ };
 
-    ghost key_answers = { λ _. reads_no_key kind.UnsupportedAlgorithm (λ h bytes. Ok (hash_bytes (hash_named h) bytes)) };
+    ghost key_answers = { λ _. hmac_answers };
 
     fn signer_factory(
         &self,

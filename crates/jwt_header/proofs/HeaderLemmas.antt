@@ -1,5 +1,5 @@
 -- A header, written and read again, is its normal form.
-use Rattle.std.proofs.Common.{◌≡◌, inl, inr, ℕ, List, [], ◌∷◌, Option, Some, None, option_map, unwrap_or, codes, true, false, is_some, true≢false, subst, refl, sym, ap, ◌∙◌}
+use Rattle.std.proofs.Common.{cond, ◌≡◌, inl, inr, ℕ, List, [], ◌∷◌, Option, Some, None, option_map, unwrap_or, codes, true, false, is_some, subst, refl, sym, ap, ◌∙◌}
 use Rattle.serde_json.specs.Data.{Data, Members, string, object}
 use Rattle.serde_json.specs.Find.{get, get_member, as_null, as_object}
 use Rattle.serde_json.specs.Written.{has_float, members_have_float}
@@ -9,7 +9,7 @@ use Rattle.jwt_base.specs.declared.algorithms.Algorithm.TheVariants.{HS256, HS38
 use Rattle.jwt_base.specs.Kind as kind
 use Rattle.jwt_base.specs.KindOf.{IsMemory, RefusesAs}
 use Rattle.jwt_base.specs.declared.errors.Error.{Error}
-use Rattle.jwt_base.specs.Members.{optional, ReadsOptional, is_named, has_named, without, put_some, texts_value, written_optional}
+use Rattle.jwt_base.specs.Members.{present, optional, ReadsMember, ReadsOptional, is_named, has_named, without, put_some, texts_value, written_optional}
 use Rattle.jwt_base.proofs.FreeMembers.{has_named-without, without-free, no_float-put, no_float-put_some, no_float-texts_value}
 use Rattle.jwt_base.proofs.MembersWritten.{absent, or_none, get_member-put_at, get_member-put_some, without-put, without-put_some, optional-string, optional-texts_value}
 use Rattle.jwt_base.proofs.NormalForms.{spelled_text, again_within, own_optional, own_named}
@@ -29,22 +29,30 @@ use Rattle.jwt_header.specs.declared.names.Zip.{Zip}
 use Rattle.jwt_header.specs.declared.names.Zip.TheVariants as zip
 
 -- optional members that a relation reads
+one_member : {A : Type 0} (R : Data → A → Type 0) → ((d : Data) (a b : A) → R d a → R d b → a ≡ b) → (o : Option Data) (x y : Option A) → ReadsMember R o x → ReadsMember R o y → x ≡ y
+one_member R one None x y r s = r ∙ sym s
+one_member R one (Some d) None y r s = absurd r
+one_member R one (Some d) (Some a) None r s = absurd s
+one_member R one (Some d) (Some a) (Some b) r s = ap Some (one d a b r s)
+
 one_optional : {A : Type 0} (R : Data → A → Type 0) → ((d : Data) (a b : A) → R d a → R d b → a ≡ b) → (o : Option Data) (x y : Option A) → ReadsOptional R o x → ReadsOptional R o y → x ≡ y
-one_optional R one None x y r s = r ∙ sym s
-one_optional R one (Some d) None None r s = refl
-one_optional R one (Some d) None (Some b) r s = absurd (true≢false (sym r ∙ s.0))
-one_optional R one (Some d) (Some a) None r s = absurd (true≢false (sym s ∙ r.0))
-one_optional R one (Some d) (Some a) (Some b) r s = ap Some (one d a b r.1 s.1)
+one_optional R one o x y r s = one_member R one (present o) x y r s
+
+normal_member : {A : Type 0} (R : Data → A → Type 0) (f : A → A) → ((d : Data) (a : A) → R d a → f a ≡ a) → (o : Option Data) (x : Option A) → ReadsMember R o x → option_map f x ≡ x
+normal_member R f same None x r = subst (λ y. option_map f y ≡ y) (sym r) refl
+normal_member R f same (Some d) None r = refl
+normal_member R f same (Some d) (Some a) r = ap Some (same d a r)
 
 normal_optional : {A : Type 0} (R : Data → A → Type 0) (f : A → A) → ((d : Data) (a : A) → R d a → f a ≡ a) → (o : Option Data) (x : Option A) → ReadsOptional R o x → option_map f x ≡ x
-normal_optional R f same None x r = subst (λ y. option_map f y ≡ y) (sym r) refl
-normal_optional R f same (Some d) None r = refl
-normal_optional R f same (Some d) (Some a) r = ap Some (same d a r.1)
+normal_optional R f same o x r = normal_member R f same (present o) x r
+
+can_write_member : (x : Option Jwk) (o : Option Data) → ReadsMember ReadsKey o x → (w : Option Data) × (written_optional key_value x ≡ Some w)
+can_write_member None o r = (None, refl)
+can_write_member (Some k) None r = absurd (cc)
+can_write_member (Some k) (Some d) r = let w = (read_key_is_normal d k r).written in (Some w.0, rw w.1 refl)
 
 can_write : (x : Option Jwk) (o : Option Data) → ReadsOptional ReadsKey o x → (w : Option Data) × (written_optional key_value x ≡ Some w)
-can_write None o r = (None, refl)
-can_write (Some k) None r = absurd (cc)
-can_write (Some k) (Some d) r = let w = (read_key_is_normal d k r.1).written in (Some w.0, rw w.1 refl)
+can_write x o r = can_write_member x (present o) r
 
 -- a written key is an object
 not_null_at : (k : Jwk) (d : Data) (o : Option Members) → option_map object o ≡ Some d → is_some (as_null d) ≡ false
@@ -53,7 +61,7 @@ not_null_at k d (Some ms) is = subst (λ v. is_some (as_null v) ≡ false) (ap (
 
 key_present : (k : Jwk) (o : Option Data) (jwk : Option Data) → key_value k ≡ o → option_map Some o ≡ Some jwk → ReadsOptional ReadsKey jwk (Some (normal_key k))
 key_present k None jwk e is = absurd (cc)
-key_present k (Some d) jwk e is = subst (λ x. ReadsOptional ReadsKey x (Some (normal_key k))) (ap (λ x. unwrap_or x jwk) is) (not_null_at k d (key_members k) e, reads_written_key k d e)
+key_present k (Some d) jwk e is = subst (λ x. ReadsOptional ReadsKey x (Some (normal_key k))) (ap (λ x. unwrap_or x jwk) is) (subst (λ b. ReadsMember ReadsKey (cond b None (Some d)) (Some (normal_key k))) (sym (not_null_at k d (key_members k) e)) (reads_written_key k d e))
 
 -- a key that may be absent, written and read again, is its normal form
 reads_jwk : (o : Option Jwk) (jwk : Option Data) → written_optional key_value o ≡ Some jwk → ReadsOptional ReadsKey jwk (option_map normal_key o)

@@ -5,6 +5,7 @@ ghost use Rattle.serde_json.specs.Find.{get};
 ghost use Rattle.serde_json.specs.View.{view, members_view};
 ghost use Rattle.serde_json.specs.Written.{has_float};
 ghost use Rattle.jwt_base.specs.Algorithm.{algorithm_from};
+ghost use Rattle.jwt_base.specs.JsonText.{ReadsText};
 ghost use Rattle.jwt_base.specs.Kind as kind;
 ghost use Rattle.jwt_base.specs.KindOf.{kind_of, IsMemory, RefusesAs};
 ghost use Rattle.jwt_base.specs.Members.{optional, put_some, ReadsOptional, written_optional};
@@ -18,12 +19,14 @@ use crate::certificates::certificate_bytes;
 use crate::extras::Extras;
 use crate::names::{Enc, Zip};
 use jwt_base::algorithms::Algorithm;
+use jwt_base::cloning::clone_option;
 use jwt_base::errors::{ErrorKind, Result, new_error};
 use jwt_base::json::members::{
-    optional_text, optional_texts, put_optional_text, put_optional_texts, put_text,
+    optional_text, optional_texts, present, put_optional_text, put_optional_texts, put_text,
 };
 use jwt_base::json::value_text;
-use jwt_base::text::{Text, Texts, clone_text, clone_texts};
+use jwt_base::serialization::json_value;
+use jwt_base::text::{Text, Texts};
 use jwt_keys::jwk::Jwk;
 use serde_json::{Map, Value};
 use std::alloc::Global;
@@ -112,6 +115,18 @@ impl Header {
         Ok(header)
     }
 
+    /// Returns the header that a JSON text describes, as [`from_value`](Header::from_value) reads
+    /// it. Bytes that are not JSON, or that nest deeper than 127 levels, are refused with `Json`
+    /// too.
+    pub fn from_slice(alloc: Global, text: &[u8]) -> Result<Header>
+        ensures ok { IfOk result (ReadsText ReadsHeader text.now) }
+        ensures normal { IfOk result IsNormal }
+        ensures err { IfErr result (RefusesAs kind.Json ((h : Header) → ¬ ReadsText ReadsHeader text.now h)) }
+    {
+        let value = json_value(alloc, text)?;
+        Header::from_value(alloc, &value)
+    }
+
     /// Returns the JSON object of the members that are present and the extras. A `jwk` that cannot
     /// be written is refused with `Json`.
     pub fn to_value(&self, alloc: Global) -> Result<Value>
@@ -157,20 +172,20 @@ impl Header {
     {
         Ok(Header {
             alg: self.alg,
-            typ: clone_text(alloc, &self.typ)?,
-            cty: clone_text(alloc, &self.cty)?,
-            jku: clone_text(alloc, &self.jku)?,
-            jwk: clone_jwk(alloc, &self.jwk)?,
-            kid: clone_text(alloc, &self.kid)?,
-            x5u: clone_text(alloc, &self.x5u)?,
-            x5t: clone_text(alloc, &self.x5t)?,
-            x5t_s256: clone_text(alloc, &self.x5t_s256)?,
-            url: clone_text(alloc, &self.url)?,
-            nonce: clone_text(alloc, &self.nonce)?,
-            x5c: clone_texts(alloc, &self.x5c)?,
-            crit: clone_texts(alloc, &self.crit)?,
-            enc: clone_enc(alloc, &self.enc)?,
-            zip: clone_zip(alloc, &self.zip)?,
+            typ: clone_option(alloc, &self.typ)?,
+            cty: clone_option(alloc, &self.cty)?,
+            jku: clone_option(alloc, &self.jku)?,
+            jwk: clone_option(alloc, &self.jwk)?,
+            kid: clone_option(alloc, &self.kid)?,
+            x5u: clone_option(alloc, &self.x5u)?,
+            x5t: clone_option(alloc, &self.x5t)?,
+            x5t_s256: clone_option(alloc, &self.x5t_s256)?,
+            url: clone_option(alloc, &self.url)?,
+            nonce: clone_option(alloc, &self.nonce)?,
+            x5c: clone_option(alloc, &self.x5c)?,
+            crit: clone_option(alloc, &self.crit)?,
+            enc: clone_option(alloc, &self.enc)?,
+            zip: clone_option(alloc, &self.zip)?,
             extras: self.extras.clone(alloc)?,
         })
     }
@@ -255,9 +270,8 @@ fn optional_enc(alloc: Global, value: &Value) -> Result<Option<Enc>>
     ensures err { IfErr result
         (RefusesAs kind.Json (optional enc_from (get (codes "enc") (view value.now)) ≡ None)) }
 {
-    match value.get("enc") {
+    match present(value, "enc") {
         None => Ok(None),
-        Some(enc) if enc.is_null() => Ok(None),
         Some(enc) => Ok(Some(Enc::from_value(alloc, enc)?)),
     }
 }
@@ -267,9 +281,8 @@ fn optional_jwk(alloc: Global, value: &Value) -> Result<Option<Jwk>>
     ensures err { IfErr result (RefusesAs kind.Json
         ((k : Option Jwk) → ¬ ReadsOptional ReadsKey (get (codes "jwk") (view value.now)) k)) }
 {
-    match value.get("jwk") {
+    match present(value, "jwk") {
         None => Ok(None),
-        Some(jwk) if jwk.is_null() => Ok(None),
         Some(jwk) => Ok(Some(Jwk::from_value(alloc, jwk)?)),
     }
 }
@@ -279,9 +292,8 @@ fn optional_zip(alloc: Global, value: &Value) -> Result<Option<Zip>>
     ensures err { IfErr result
         (RefusesAs kind.Json (optional zip_from (get (codes "zip") (view value.now)) ≡ None)) }
 {
-    match value.get("zip") {
+    match present(value, "zip") {
         None => Ok(None),
-        Some(zip) if zip.is_null() => Ok(None),
         Some(zip) => Ok(Some(Zip::from_value(alloc, zip)?)),
     }
 }
@@ -338,36 +350,6 @@ fn put_zip(alloc: Global, members: &mut Map<String, Value>, zip: &Option<Zip>) -
     match zip {
         Some(zip) => put_text(alloc, members, "zip", zip.as_str()),
         None => Ok(()),
-    }
-}
-
-fn clone_jwk(alloc: Global, jwk: &Option<Jwk>) -> Result<Option<Jwk>>
-    ensures ok { IfOk result (λ copy. copy ≡ jwk.now) }
-    ensures err { IfErr result IsMemory }
-{
-    match jwk {
-        Some(jwk) => Ok(Some(jwk.clone(alloc)?)),
-        None => Ok(None),
-    }
-}
-
-fn clone_enc(alloc: Global, enc: &Option<Enc>) -> Result<Option<Enc>>
-    ensures ok { IfOk result (λ copy. copy ≡ enc.now) }
-    ensures err { IfErr result IsMemory }
-{
-    match enc {
-        Some(enc) => Ok(Some(enc.clone(alloc)?)),
-        None => Ok(None),
-    }
-}
-
-fn clone_zip(alloc: Global, zip: &Option<Zip>) -> Result<Option<Zip>>
-    ensures ok { IfOk result (λ copy. copy ≡ zip.now) }
-    ensures err { IfErr result IsMemory }
-{
-    match zip {
-        Some(zip) => Ok(Some(zip.clone(alloc)?)),
-        None => Ok(None),
     }
 }
 

@@ -5,6 +5,7 @@ ghost use Rattle.serde_json.specs.View.{view};
 ghost use Rattle.jwt_base.specs.Kind as kind;
 ghost use Rattle.jwt_base.specs.KindOf.{IsMemory, RefusesAs};
 
+use jwt_base::cloning::CloneIn;
 use jwt_base::errors::{ErrorKind, Result, new_error};
 use jwt_base::text::Text;
 use serde_json::Value;
@@ -105,6 +106,12 @@ impl Enc {
     }
 }
 
+impl CloneIn for Enc {
+    fn clone_in(&self, alloc: Global) -> Result<Enc> {
+        self.clone(alloc)
+    }
+}
+
 impl PartialEq for Enc {
     ghost use Rattle.std.specs.Prelude.{◌≡◌, ◌↔◌, IsTrue};
     ghost use Rattle.std.specs.Cmp.{partial_equiv_from_equiv};
@@ -200,6 +207,12 @@ impl Zip {
         ensures { result ≡ is_other_zip self.now }
     {
         matches!(self, Zip::Other(_))
+    }
+}
+
+impl CloneIn for Zip {
+    fn clone_in(&self, alloc: Global) -> Result<Zip> {
+        self.clone(alloc)
     }
 }
 

@@ -26,8 +26,7 @@ fn rsa_key(alloc: Global, der: &[u8]) -> Result<DecodingKey>
     let Some((modulus, exponent)) = read_rsa(der) else {
         return Err(malformed());
     };
-    let key = DecodingKey::from_rsa_raw_components(alloc, modulus, exponent)?;
-    Ok(key)
+    DecodingKey::from_rsa_raw_components(alloc, modulus, exponent)
 }
 
 // Returns the key of an uncompressed point, whose coordinates have this many octets.
@@ -39,8 +38,7 @@ fn point_key(alloc: Global, size: usize, octets: &[u8]) -> Result<DecodingKey>
     if octets.len() != 1 + size + size || octets[0] != 4 {
         return Err(malformed());
     }
-    let key = DecodingKey::from_ec_der(alloc, octets)?;
-    Ok(key)
+    DecodingKey::from_ec_der(alloc, octets)
 }
 
 // Returns the key of Ed25519 of these octets.
@@ -51,8 +49,7 @@ fn edwards_key(alloc: Global, octets: &[u8]) -> Result<DecodingKey>
     if octets.len() != 32 {
         return Err(malformed());
     }
-    let key = DecodingKey::from_ed_der(alloc, octets)?;
-    Ok(key)
+    DecodingKey::from_ed_der(alloc, octets)
 }
 
 // Returns the key of this algorithm that the octets are.
@@ -88,6 +85,5 @@ pub fn public_key_from_der(alloc: Global, der: &[u8]) -> Result<DecodingKey>
     let Some(scheme) = read_identifier(algorithm) else {
         return Err(new_error(ErrorKind::UnsupportedAlgorithm));
     };
-    let key = key_of(alloc, scheme, octets)?;
-    Ok(key)
+    key_of(alloc, scheme, octets)
 }

@@ -11,7 +11,8 @@ use Rattle.jwt_base.specs.KindOf.{RefusesAs}
 use Rattle.jwt_base.specs.declared.errors.Error.{Error}
 use Rattle.jwt_keys.specs.Jwk.{ReadsKey, key_members, key_value}
 use Rattle.jwt_keys.specs.JwkSet.{ReadsKeys, ReadsSet, key_values, set_value, normal_set, IsNormalSet, HasNormalSet}
-use Rattle.jwt_keys.proofs.JwkLemmas.{weaker, reads_written, reads_one_key, read_is_normal, has_normal_form, written_no_float}
+use Rattle.jwt_base.proofs.Readings.{weaker}
+use Rattle.jwt_keys.proofs.JwkLemmas.{reads_written, reads_one_key, read_is_normal, has_normal_form, written_no_float}
 use Rattle.jwt_keys.specs.declared.jwk.Jwk.{Jwk}
 
 more_at : (vs : List Value) (i : ℕ) (d : Value) (ks : List Jwk) (k : Jwk) → i < length vs → ReadsKeys (items_view (take i vs)) ks → ReadsKey (view (get_or vs i d)) k → ReadsKeys (items_view (take (suc i) vs)) (ks ++ k ∷ [])

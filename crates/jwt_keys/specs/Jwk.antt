@@ -7,20 +7,20 @@ use Rattle.serde_json.specs.Find.{as_object}
 use Rattle.jwt_base.specs.Algorithm.{algorithm_of}
 use Rattle.jwt_base.specs.Members.{without}
 use Rattle.jwt_params.specs.Common.{common_names, ReadsCommon, with_common}
-use Rattle.jwt_kinds.specs.Kinds.{parameters_from, parameters_members, has_common, marked_parameters}
-use Rattle.jwt_kinds.specs.declared.parameters.AlgorithmParameters.{AlgorithmParameters}
+use Rattle.jwt_params.specs.Parameters.{parameters_from, parameters_members, has_common, marked_parameters}
+use Rattle.jwt_params.specs.declared.parameters.AlgorithmParameters.{AlgorithmParameters}
 use Rattle.jwt_keys.specs.declared.jwk.Jwk.{Jwk}
 
--- the kind of the members that are not common (RFC 7517 section 4)
-abbrev pub kind_from : Data → Option AlgorithmParameters
-kind_from d =
+-- the parameters among the members that are not common (RFC 7517 section 4)
+abbrev pub own_parameters_from : Data → Option AlgorithmParameters
+own_parameters_from d =
     option_and_then (λ ms. parameters_from (object (without common_names ms))) (as_object d)
 
 -- the value is an object, the common names give the common part, and the other members have the
--- kind (RFC 7517 section 4)
+-- type (RFC 7517 section 4)
 pub record ReadsKey (d : Data) (k : Jwk) : Type 0 where
   pub common : ReadsCommon d k.common
-  pub algorithm : kind_from d ≡ Some k.algorithm
+  pub algorithm : own_parameters_from d ≡ Some k.algorithm
 
 -- all members; None if an `Other` holds a common name or a float (RFC 7517 section 4)
 abbrev pub key_members : Jwk → Option Members

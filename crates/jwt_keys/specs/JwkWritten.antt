@@ -2,12 +2,12 @@
 use Rattle.std.specs.Prelude.{◌≡◌, ◌↔◌, Some}
 use Rattle.serde_json.specs.Data.{Data}
 use Rattle.jwt_params.specs.Common.{normal_common}
-use Rattle.jwt_kinds.specs.Kinds.{normal_parameters}
+use Rattle.jwt_params.specs.Parameters.{normal_parameters}
 use Rattle.jwt_keys.specs.Jwk.{ReadsKey, key_value}
 use Rattle.jwt_keys.specs.declared.jwk.Jwk.{Jwk}
 
 -- a free string that is a known spelling becomes the known value, and an `Other` with the members
--- of a kind becomes that kind
+-- of a type becomes that type
 abbrev pub normal_key : Jwk → Jwk
 normal_key k = record { common = normal_common k.common; algorithm = normal_parameters k.algorithm }
 

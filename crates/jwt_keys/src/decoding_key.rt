@@ -12,7 +12,7 @@ use crate::jwk::Jwk;
 use jwt_base::algorithms::AlgorithmFamily;
 use jwt_base::errors::{ErrorKind, Result, new_error};
 use jwt_base::serialization::{part_bytes, standard_bytes, url_bytes};
-use jwt_kinds::parameters::AlgorithmParameters;
+use jwt_params::parameters::AlgorithmParameters;
 use std::alloc::Global;
 use std::fmt;
 use std::marker::Model;
@@ -240,7 +240,7 @@ impl DecodingKey {
     /// Returns the key that a JSON Web Key stands for (RFC 7518 section 6, RFC 8037 section 2): the
     /// modulus and the exponent of an RSA key, the point of one on an elliptic curve, the public
     /// key of a pair of octet strings, a secret. The curve is not checked. A member that is not
-    /// base64url text is refused with `Base64`, and a key of any other kind is refused with
+    /// base64url text is refused with `Base64`, and a key of any other type is refused with
     /// `UnsupportedAlgorithm`.
     pub fn from_jwk(alloc: Global, jwk: &Jwk) -> Result<DecodingKey>
         ensures ok { IfOk result (IsKeyOf jwk.now.algorithm) }

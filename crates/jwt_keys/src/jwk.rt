@@ -1,21 +1,34 @@
 //! A JSON Web Key.
 
-ghost use Rattle.std.specs.Prelude.{◌≡◌, ◌↔◌, IsTrue, Some, None, false, IfOk, IfErr};
+ghost use Rattle.std.specs.Prelude.{◌≡◌, ◌↔◌, ◌⊎◌, IsTrue, List, ℕ, Ok, Some, None, false, IfOk, IfErr, string_bytes};
 ghost use Rattle.serde_json.specs.View.{view, members_view};
 ghost use Rattle.serde_json.specs.Written.{has_float};
+ghost use Rattle.jwt_base.specs.JsonText.{ReadsText};
 ghost use Rattle.jwt_base.specs.Kind as kind;
 ghost use Rattle.jwt_base.specs.KindOf.{IsMemory, RefusesAs};
-ghost use Rattle.jwt_keys.specs.Jwk.{ReadsKey, kind_from, key_members, key_value, is_supported_key, has_id};
+ghost use Rattle.jwt_base.specs.Base64Url.{IsPart};
+ghost use Rattle.jwt_keys.specs.Jwk.{ReadsKey, own_parameters_from, key_members, key_value, is_supported_key, has_id};
 ghost use Rattle.jwt_base.specs.Written.{HasText};
 ghost use Rattle.jwt_keys.specs.JwkWritten.{normal_key, IsNormal, HasNormalForm};
+ghost use Rattle.jwt_keys.specs.JwkOfKey.{jwk_of_key, jwk_of_secret_key, IsRsaInDer, StandsFor};
+ghost use Rattle.jwt_keys.specs.Provider.{RefusesWith};
+ghost use Rattle.jwt_keys.specs.Thumbprint.{thumb_text, digested, TextFixesMembers};
 
+use crate::decoding_key::DecodingKey;
+use crate::encoding_key::EncodingKey;
+use crate::jwk_of_key::{common_with, public_parameters, secret_parameters};
+use crate::provider::CryptoProvider;
+use crate::thumbprint::digest_part;
 use jwt_base::algorithms::Algorithm;
+use jwt_base::cloning::CloneIn;
 use jwt_base::errors::{ErrorKind, Result, new_error};
 use jwt_base::json::value_text;
-use jwt_kinds::free_members::FreeMembers;
-use jwt_kinds::other::OtherKeyParameters;
-use jwt_kinds::parameters::AlgorithmParameters;
+use jwt_base::serialization::json_value;
 use jwt_params::common::CommonParameters;
+use jwt_params::free_members::FreeMembers;
+use jwt_params::other::OtherKeyParameters;
+use jwt_params::parameters::AlgorithmParameters;
+use jwt_params::thumbprints::ThumbprintHash;
 use serde_json::{Map, Value};
 use std::alloc::Global;
 use std::hash::{Hash, Hasher};
@@ -23,16 +36,16 @@ use std::hash::{Hash, Hasher};
 /// A JSON Web Key (RFC 7517 section 4).
 #[derive(Debug, Drop)]
 pub struct Jwk {
-    /// The parameters that keys of every kind may have (section 4).
+    /// The parameters that keys of every type may have (section 4).
     pub common: CommonParameters,
-    /// The kind of the key with its own parameters (RFC 7518 section 6).
+    /// The type of the key with its own parameters (RFC 7518 section 6).
     pub algorithm: AlgorithmParameters,
 }
 
 impl Jwk {
     ghost use Rattle.jwt_keys.specs.declared.jwk.Jwk.{Jwk};
 
-    /// Returns the key that a JSON object describes (RFC 7517 section 4). The kind is the first of
+    /// Returns the key that a JSON object describes (RFC 7517 section 4). The type is the first of
     /// the five whose parameters are among the members that are not common to all keys; the first
     /// four ignore further members, and `Other` keeps all that are not common. A value that is not
     /// an object, a common member of a wrong type and a float that `Other` would keep are refused
@@ -42,8 +55,18 @@ impl Jwk {
         ensures normal { IfOk result IsNormal }
         ensures err { IfErr result (RefusesAs kind.Json ((k : Jwk) → ¬ ReadsKey (view value.now) k)) }
     {
-        let key = Jwk::read(alloc, value)?;
-        Ok(key)
+        Jwk::read(alloc, value)
+    }
+
+    /// Returns the key that a JSON text describes, as [`from_value`](Jwk::from_value) reads it.
+    /// Bytes that are not JSON, or that nest deeper than 127 levels, are refused with `Json` too.
+    pub fn from_slice(alloc: Global, text: &[u8]) -> Result<Jwk>
+        ensures ok { IfOk result (ReadsText ReadsKey text.now) }
+        ensures normal { IfOk result IsNormal }
+        ensures err { IfErr result (RefusesAs kind.Json ((k : Jwk) → ¬ ReadsText ReadsKey text.now k)) }
+    {
+        let value = json_value(alloc, text)?;
+        Jwk::from_value(alloc, &value)
     }
 
     /// Returns the JSON object of the parameters that are present (RFC 7517 section 4). An `Other`
@@ -96,6 +119,66 @@ impl Jwk {
             None => false,
         }
     }
+    /// Returns the JSON Web Key of a key to sign with, for this algorithm, which is not compared
+    /// with the key's family. A secret becomes an `OctetKey` that holds it; of a private key in DER
+    /// the provider reads the public part. An Edwards curve key whose length is not 48 bytes is
+    /// refused with `InvalidEddsaKey`; every other refusal but `OutOfMemory` is the provider's.
+    pub fn from_encoding_key<P: CryptoProvider>(
+        alloc: Global,
+        provider: &P,
+        key: &EncodingKey,
+        algorithm: Algorithm,
+    ) -> Result<Jwk>
+        ensures ok { IfOk result (λ k. jwk_of_secret_key (P.key_answers provider.now) algorithm key.now ≡ Ok k) }
+        ensures err { IfErr result (RefusesWith (jwk_of_secret_key (P.key_answers provider.now) algorithm key.now)) }
+    {
+        let parameters = secret_parameters(alloc, provider, key, algorithm)?;
+        Ok(Jwk {
+            common: common_with(Some(algorithm)),
+            algorithm: parameters,
+        })
+    }
+
+    /// Returns the JSON Web Key of a key to verify with, for this algorithm if one is given. A
+    /// secret becomes an `OctetKey` that holds it; of an RSA key in DER the provider reads modulus
+    /// and exponent. The length tells the curve: 65 bytes for P-256, 97 for P-384. Any other length
+    /// and a first byte other than 4 are refused with `InvalidEcdsaKey`. An Edwards curve key whose
+    /// length is not 32 bytes is refused with `InvalidEddsaKey`. `from_jwk` returns the same key,
+    /// except for an RSA key in DER.
+    pub fn from_decoding_key<P: CryptoProvider>(
+        alloc: Global,
+        provider: &P,
+        key: &DecodingKey,
+        algorithm: Option<Algorithm>,
+    ) -> Result<Jwk>
+        ensures ok { IfOk result (λ k. jwk_of_key (P.key_answers provider.now) algorithm key.now ≡ Ok k) }
+        ensures err { IfErr result (RefusesWith (jwk_of_key (P.key_answers provider.now) algorithm key.now)) }
+        ensures way_back { IfOk result (λ k. IsRsaInDer key.now ⊎ StandsFor k.algorithm key.now) }
+    {
+        let parameters = public_parameters(alloc, provider, key)?;
+        Ok(Jwk {
+            common: common_with(algorithm),
+            algorithm: parameters,
+        })
+    }
+
+    /// Returns the thumbprint (RFC 7638): the base64url text of the digest of the JSON text of the
+    /// members that a key of its type must have. A point on Ed25519 and a pair of octet strings on
+    /// another curve are refused with `InvalidKeyFormat`, and an `Other` with
+    /// `UnsupportedAlgorithm`; every later refusal but `OutOfMemory` is the provider's.
+    pub fn thumbprint<P: CryptoProvider>(
+        &self,
+        alloc: Global,
+        provider: &P,
+        hash: ThumbprintHash,
+    ) -> Result<String>
+        ensures ok { IfOk result (λ t. (d : List ℕ)
+            × ((digested ((P.key_answers provider.now).digest hash) (thumb_text self.now) ≡ Ok d) × IsPart (string_bytes t) d)) }
+        ensures err { IfErr result (RefusesWith (digested ((P.key_answers provider.now).digest hash) (thumb_text self.now))) }
+        ensures told_apart { TextFixesMembers self.now }
+    {
+        digest_part(alloc, provider, hash, self)
+    }
 
     fn read(alloc: Global, value: &Value) -> Result<Jwk>
         ensures ok { IfOk result (ReadsKey (view value.now)) }
@@ -103,7 +186,7 @@ impl Jwk {
     {
         Ok(Jwk {
             common: CommonParameters::from_value(alloc, value)?,
-            algorithm: read_kind(alloc, value)?,
+            algorithm: read_parameters(alloc, value)?,
         })
     }
 
@@ -115,15 +198,20 @@ impl Jwk {
             return Err(new_error(ErrorKind::Json));
         }
         let members = self.algorithm.members(alloc)?;
-        let members = self.common.with_members(alloc, members)?;
-        Ok(members)
+        self.common.with_members(alloc, members)
     }
 }
 
-// Returns the kind of the members that are not common to all keys.
-fn read_kind(alloc: Global, value: &Value) -> Result<AlgorithmParameters>
-    ensures ok { IfOk result (λ a. kind_from (view value.now) ≡ Some a) }
-    ensures err { IfErr result (RefusesAs kind.Json (kind_from (view value.now) ≡ None)) }
+impl CloneIn for Jwk {
+    fn clone_in(&self, alloc: Global) -> Result<Jwk> {
+        self.clone(alloc)
+    }
+}
+
+// Returns the parameters among the members that are not common to all keys.
+fn read_parameters(alloc: Global, value: &Value) -> Result<AlgorithmParameters>
+    ensures ok { IfOk result (λ a. own_parameters_from (view value.now) ≡ Some a) }
+    ensures err { IfErr result (RefusesAs kind.Json (own_parameters_from (view value.now) ≡ None)) }
 {
     let Some(members) = value.as_object() else {
         return Err(new_error(ErrorKind::Json));

@@ -4,6 +4,7 @@ ghost use Rattle.std.specs.Prelude.{◌≡◌, ◌↔◌, IsTrue, Some, None, Li
 ghost use Rattle.serde_json.specs.Data.{object};
 ghost use Rattle.serde_json.specs.View.{view, items_view, members_view};
 ghost use Rattle.serde_json.specs.Written.{has_float};
+ghost use Rattle.jwt_base.specs.JsonText.{ReadsText};
 ghost use Rattle.jwt_base.specs.Kind as kind;
 ghost use Rattle.jwt_base.specs.KindOf.{IsMemory, RefusesAs};
 ghost use Rattle.jwt_base.specs.Written.{HasText};
@@ -14,6 +15,7 @@ ghost use Rattle.jwt_keys.specs.declared.jwk.Jwk.{Jwk};
 use crate::jwk::Jwk;
 use jwt_base::errors::{ErrorKind, Result, new_error};
 use jwt_base::json::value_text;
+use jwt_base::serialization::json_value;
 use serde_json::{Map, Value};
 use std::alloc::Global;
 use std::hash::{Hash, Hasher};
@@ -50,8 +52,18 @@ impl JwkSet {
         ensures normal { IfOk result (λ s. IsNormalSet s.keys.items) }
         ensures err { IfErr result (RefusesAs kind.Json ((ks : List Jwk) → ¬ ReadsSet (view value.now) ks)) }
     {
-        let set = JwkSet::read(alloc, value)?;
-        Ok(set)
+        JwkSet::read(alloc, value)
+    }
+
+    /// Returns the set that a JSON text describes, as [`from_value`](JwkSet::from_value) reads it.
+    /// Bytes that are not JSON, or that nest deeper than 127 levels, are refused with `Json` too.
+    pub fn from_slice(alloc: Global, text: &[u8]) -> Result<JwkSet>
+        ensures ok { IfOk result (λ s. ReadsText ReadsSet text.now s.keys.items) }
+        ensures normal { IfOk result (λ s. IsNormalSet s.keys.items) }
+        ensures err { IfErr result (RefusesAs kind.Json ((ks : List Jwk) → ¬ ReadsText ReadsSet text.now ks)) }
+    {
+        let value = json_value(alloc, text)?;
+        JwkSet::from_value(alloc, &value)
     }
 
     /// Returns the JSON object of the keys, in order. A key that cannot be written is refused with

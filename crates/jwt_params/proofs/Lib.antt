@@ -1,1 +1,2 @@
 pub mod CommonLemmas
+pub mod ParametersLemmas

@@ -1,4 +1,4 @@
--- The parameters that keys of every kind may have (RFC 7517 section 4): how they are read from a
+-- The parameters that keys of every type may have (RFC 7517 section 4): how they are read from a
 -- JSON value, and how they are written.
 use Rattle.std.specs.Prelude.{◌≡◌, IsTrue, ℕ, List, [], ◌∷◌, Some, None, option_map, is_some, codes}
 use Rattle.serde_json.specs.Data.{Data, string, object, Members, no_members}

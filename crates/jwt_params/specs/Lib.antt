@@ -2,8 +2,10 @@ pub mod Common
 pub mod Curve
 pub mod KeyType
 pub mod Operation
+pub mod Parameters
 pub mod Use
 pub mod equality
 pub use Rattle.jwt_base.specs.Kind
 pub use Rattle.jwt_base.specs.KindOf
+pub use Rattle.jwt_base.specs.Members
 pub use Rattle.jwt_base.specs.Spelling

@@ -2,3 +2,5 @@
 -- hashed alike.
 pub mod CommonSame
 pub mod NamesSame
+pub mod ParametersFed
+pub mod ParametersSame

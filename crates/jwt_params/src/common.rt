@@ -1,4 +1,4 @@
-//! The parameters that keys of every kind may have.
+//! The parameters that keys of every type may have.
 
 ghost use Rattle.std.specs.Prelude.{◌≡◌, ◌↔◌, IsTrue, Some, None, IfOk, IfErr, OnOk, option_map, map, codes};
 ghost use Rattle.serde_json.specs.Find.{get};
@@ -14,16 +14,18 @@ ghost use Rattle.jwt_params.specs.Use.{use_from, use_value};
 use crate::operations::KeyOperationList;
 use crate::uses::PublicKeyUse;
 use jwt_base::algorithms::KeyAlgorithm;
+use jwt_base::cloning::clone_option;
 use jwt_base::errors::{ErrorKind, Result, new_error};
 use jwt_base::json::members::{
-    is_one_of, optional_text, optional_texts, put_optional_text, put_optional_texts, put_text,
+    is_one_of, optional_text, optional_texts, present, put_optional_text, put_optional_texts,
+    put_text,
 };
-use jwt_base::text::{Text, Texts, clone_text, clone_texts};
+use jwt_base::text::{Text, Texts};
 use serde_json::{Map, Value};
 use std::alloc::Global;
 use std::hash::{Hash, Hasher};
 
-/// The parameters that keys of every kind may have (RFC 7517 section 4).
+/// The parameters that keys of every type may have (RFC 7517 section 4).
 #[derive(Debug, Drop)]
 pub struct CommonParameters {
     /// The use of a public key, `use` (section 4.2).
@@ -56,8 +58,7 @@ impl CommonParameters {
         ensures normal { IfOk result (λ c. normal_common c ≡ c) }
         ensures err { IfErr result (RefusesAs kind.Json ((c : CommonParameters) → ¬ ReadsCommon (view value.now) c)) }
     {
-        let common = CommonParameters::read(alloc, value)?;
-        Ok(common)
+        CommonParameters::read(alloc, value)
     }
 
     /// Returns the JSON object of the parameters that are present. The only refusal is
@@ -100,14 +101,14 @@ impl CommonParameters {
         ensures err { IfErr result IsMemory }
     {
         Ok(CommonParameters {
-            public_key_use: clone_use(alloc, &self.public_key_use)?,
-            key_operations: clone_operations(alloc, &self.key_operations)?,
+            public_key_use: clone_option(alloc, &self.public_key_use)?,
+            key_operations: clone_option(alloc, &self.key_operations)?,
             key_algorithm: self.key_algorithm,
-            key_id: clone_text(alloc, &self.key_id)?,
-            x509_url: clone_text(alloc, &self.x509_url)?,
-            x509_chain: clone_texts(alloc, &self.x509_chain)?,
-            x509_sha1_fingerprint: clone_text(alloc, &self.x509_sha1_fingerprint)?,
-            x509_sha256_fingerprint: clone_text(alloc, &self.x509_sha256_fingerprint)?,
+            key_id: clone_option(alloc, &self.key_id)?,
+            x509_url: clone_option(alloc, &self.x509_url)?,
+            x509_chain: clone_option(alloc, &self.x509_chain)?,
+            x509_sha1_fingerprint: clone_option(alloc, &self.x509_sha1_fingerprint)?,
+            x509_sha256_fingerprint: clone_option(alloc, &self.x509_sha256_fingerprint)?,
         })
     }
 
@@ -131,15 +132,15 @@ impl CommonParameters {
     }
 }
 
-/// Returns whether keys of every kind may have a member of this name (RFC 7517 section 4), so that
-/// it is not a member of one kind.
+/// Returns whether keys of every type may have a member of this name (RFC 7517 section 4), so that
+/// it is not a member of one type.
 pub fn is_common_name(name: &str) -> bool
     ensures { result ≡ is_named common_names name.now }
 {
     is_one_of(name, &common_names())
 }
 
-/// Returns the names of the members that keys of every kind may have (RFC 7517 sections 4.2 to
+/// Returns the names of the members that keys of every type may have (RFC 7517 sections 4.2 to
 /// 4.9).
 pub fn common_names() -> [&'static str; 8]
     ensures { map (λ s. s.now) result ≡ common_names }
@@ -154,9 +155,8 @@ fn optional_use(alloc: Global, value: &Value) -> Result<Option<PublicKeyUse>>
     ensures err { IfErr result
         (RefusesAs kind.Json (optional use_from (get (codes "use") (view value.now)) ≡ None)) }
 {
-    match value.get("use") {
+    match present(value, "use") {
         None => Ok(None),
-        Some(member) if member.is_null() => Ok(None),
         Some(member) => Ok(Some(PublicKeyUse::from_value(alloc, member)?)),
     }
 }
@@ -166,9 +166,8 @@ fn optional_operations(alloc: Global, value: &Value) -> Result<Option<KeyOperati
     ensures err { IfErr result
         (RefusesAs kind.Json (optional operations_from (get (codes "key_ops") (view value.now)) ≡ None)) }
 {
-    match value.get("key_ops") {
+    match present(value, "key_ops") {
         None => Ok(None),
-        Some(member) if member.is_null() => Ok(None),
         Some(member) => Ok(Some(KeyOperationList::from_value(alloc, member)?)),
     }
 }
@@ -178,9 +177,8 @@ fn optional_algorithm(value: &Value) -> Result<Option<KeyAlgorithm>>
     ensures err { IfErr result
         (RefusesAs kind.Json (optional key_algorithm_from (get (codes "alg") (view value.now)) ≡ None)) }
 {
-    match value.get("alg") {
+    match present(value, "alg") {
         None => Ok(None),
-        Some(member) if member.is_null() => Ok(None),
         Some(member) => Ok(Some(KeyAlgorithm::from_value(member)?)),
     }
 }
@@ -231,29 +229,6 @@ fn put_algorithm(
     match algorithm {
         Some(algorithm) => put_text(alloc, members, "alg", algorithm.name()),
         None => Ok(()),
-    }
-}
-
-fn clone_use(alloc: Global, public_key_use: &Option<PublicKeyUse>) -> Result<Option<PublicKeyUse>>
-    ensures ok { IfOk result (λ copy. copy ≡ public_key_use.now) }
-    ensures err { IfErr result IsMemory }
-{
-    match public_key_use {
-        Some(public_key_use) => Ok(Some(public_key_use.clone(alloc)?)),
-        None => Ok(None),
-    }
-}
-
-fn clone_operations(
-    alloc: Global,
-    operations: &Option<KeyOperationList>,
-) -> Result<Option<KeyOperationList>>
-    ensures ok { IfOk result (λ copy. copy ≡ operations.now) }
-    ensures err { IfErr result IsMemory }
-{
-    match operations {
-        Some(operations) => Ok(Some(operations.clone(alloc)?)),
-        None => Ok(None),
     }
 }
 

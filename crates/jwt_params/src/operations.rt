@@ -5,6 +5,7 @@ ghost use Rattle.serde_json.specs.View.{view};
 ghost use Rattle.jwt_base.specs.Kind as kind;
 ghost use Rattle.jwt_base.specs.KindOf.{IsMemory, RefusesAs};
 
+use jwt_base::cloning::CloneIn;
 use jwt_base::errors::{ErrorKind, Result, new_error};
 use jwt_base::text::Text;
 use serde_json::Value;
@@ -223,6 +224,12 @@ impl KeyOperationList {
             operations.push(KeyOperations::from_value(alloc, item)?)?;
         }
         Ok(KeyOperationList { operations })
+    }
+}
+
+impl CloneIn for KeyOperationList {
+    fn clone_in(&self, alloc: Global) -> Result<KeyOperationList> {
+        self.clone(alloc)
     }
 }
 

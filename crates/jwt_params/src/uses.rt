@@ -5,6 +5,7 @@ ghost use Rattle.serde_json.specs.View.{view};
 ghost use Rattle.jwt_base.specs.Kind as kind;
 ghost use Rattle.jwt_base.specs.KindOf.{IsMemory, RefusesAs};
 
+use jwt_base::cloning::CloneIn;
 use jwt_base::errors::{ErrorKind, Result, new_error};
 use jwt_base::text::Text;
 use serde_json::Value;
@@ -81,6 +82,12 @@ impl PublicKeyUse {
         ensures { result ≡ is_other_use self.now }
     {
         matches!(self, PublicKeyUse::Other(_))
+    }
+}
+
+impl CloneIn for PublicKeyUse {
+    fn clone_in(&self, alloc: Global) -> Result<PublicKeyUse> {
+        self.clone(alloc)
     }
 }
 

@@ -1,4 +1,4 @@
-//! The parameters of each kind of key.
+//! The parameters of each type of key.
 
 mod free_members;
 

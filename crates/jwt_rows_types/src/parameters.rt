@@ -1,4 +1,4 @@
-//! The parameters that keys of every kind may have, the curves, and the types of keys.
+//! The parameters that keys of every type may have, the curves, and the types of keys.
 
 mod common;
 mod curves;

@@ -3,7 +3,7 @@ use Rattle.std.proofs.Common.{◌≡◌, ◌≢◌, ◌↔◌, ℕ, zero, suc, �
 use Rattle.std.proofs.Math.Nat.{pow-le-pow_right, pow-succ'}
 use Rattle.std.proofs.lemmas.Nat.{mod_below, div-add-mod', div_below}
 use Rattle.modular.specs.Octets.{os2ip, i2osp}
-use Rattle.jwt_hmac.specs.declared.hmac.Hash.{Hash}
+use Rattle.jwt_crypto.specs.declared.hmac.Hash.{Hash}
 use Rattle.jwt_rsa.specs.Rsa.{octet_count, IsRepresentative, rsavp1}
 use Rattle.jwt_rsa.specs.Pss.{front_bits, IsConsistent, IsPssSignature}
 use Rattle.jwt_rsa.proofs.Bits.{pow_octets}

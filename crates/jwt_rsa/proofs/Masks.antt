@@ -2,8 +2,8 @@
 use Rattle.std.proofs.Common.{◌≡◌, ◌↔◌, ℕ, ◌+◌, ◌-◌, ◌*◌, ◌/◌, ◌%◌, List, ◌++◌, length, add-one, refl, sym, ap, subst, ◌∙◌, arith}
 use Rattle.std.specs.Int.{w32, to_be_bytes}
 use Rattle.modular.specs.Octets.{i2osp}
-use Rattle.jwt_hmac.specs.declared.hmac.Hash.{Hash}
-use Rattle.jwt_hmac.specs.Hmac.{hash_bytes}
+use Rattle.jwt_crypto.specs.declared.hmac.Hash.{Hash}
+use Rattle.jwt_crypto.specs.Hmac.{hash_bytes}
 use Rattle.jwt_rsa.specs.Pss.{hash_len, mask_blocks, em_digest, data_block, salted_digest, HasSalt, IsFramed, IsConsistent}
 
 -- four octets, the first the most significant

@@ -1,9 +1,9 @@
 -- RSASSA-PKCS1-v1_5 (RFC 8017 section 8.2).
 use Rattle.std.specs.Prelude.{◌≡◌, ℕ, ◌+◌, ◌-◌, List, [], ◌∷◌, ◌++◌, length, replicate}
 use Rattle.modular.specs.Octets.{os2ip, i2osp}
-use Rattle.jwt_hmac.specs.declared.hmac.Hash.{Hash}
-use Rattle.jwt_hmac.specs.declared.hmac.Hash.TheVariants.{Sha256, Sha384, Sha512}
-use Rattle.jwt_hmac.specs.Hmac.{hash_bytes}
+use Rattle.jwt_crypto.specs.declared.hmac.Hash.{Hash}
+use Rattle.jwt_crypto.specs.declared.hmac.Hash.TheVariants.{Sha256, Sha384, Sha512}
+use Rattle.jwt_crypto.specs.Hmac.{hash_bytes}
 use Rattle.jwt_rsa.specs.Rsa.{octet_count, IsRepresentative, rsavp1}
 
 -- DigestInfo in DER, without the digest at its end (RFC 8017 section 9.2 note 1)

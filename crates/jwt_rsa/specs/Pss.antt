@@ -3,9 +3,9 @@ use Rattle.std.specs.Prelude.{◌≡◌, ℕ, ◌+◌, ◌-◌, ◌*◌, ◌/◌
 use Rattle.std.specs.List.{zip}
 use Rattle.std.proofs.Common.{zero, suc}
 use Rattle.modular.specs.Octets.{os2ip, i2osp}
-use Rattle.jwt_hmac.specs.declared.hmac.Hash.{Hash}
-use Rattle.jwt_hmac.specs.declared.hmac.Hash.TheVariants.{Sha256, Sha384, Sha512}
-use Rattle.jwt_hmac.specs.Hmac.{hash_bytes}
+use Rattle.jwt_crypto.specs.declared.hmac.Hash.{Hash}
+use Rattle.jwt_crypto.specs.declared.hmac.Hash.TheVariants.{Sha256, Sha384, Sha512}
+use Rattle.jwt_crypto.specs.Hmac.{hash_bytes}
 use Rattle.jwt_rsa.specs.Rsa.{octet_count, IsRepresentative, rsavp1}
 
 -- hLen, the length of a digest in octets; sLen is the same

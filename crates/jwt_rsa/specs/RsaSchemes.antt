@@ -2,7 +2,7 @@
 use Rattle.std.specs.Prelude.{ℕ, List, Option, Some, None}
 use Rattle.jwt_base.specs.declared.algorithms.Algorithm.{Algorithm}
 use Rattle.jwt_base.specs.declared.algorithms.Algorithm.TheVariants as algorithm
-use Rattle.jwt_hmac.specs.declared.hmac.Hash.TheVariants.{Sha256, Sha384, Sha512}
+use Rattle.jwt_crypto.specs.declared.hmac.Hash.TheVariants.{Sha256, Sha384, Sha512}
 use Rattle.jwt_rsa.specs.declared.scheme.Scheme.{Scheme}
 use Rattle.jwt_rsa.specs.declared.scheme.Scheme.TheVariants.{Pkcs1, Pss}
 use Rattle.jwt_rsa.specs.Pkcs1.{IsPkcs1Signature}

@@ -13,7 +13,7 @@ use crate::pkcs1::encoded;
 use crate::pss::{front_bits, is_consistent, lowest_octets};
 use crate::scheme::Scheme;
 use jwt_base::errors::{ErrorKind, Result, new_error};
-use jwt_hmac::Hash;
+use jwt_crypto::Hash;
 use modular::{Modulus, Natural, limb_from_octets};
 use std::alloc::Global;
 
@@ -161,8 +161,7 @@ impl PublicKey {
         let Some(em) = lowest_octets(&octets, (em_bits + 7) / 8) else {
             return Ok(false);
         };
-        let yes = is_consistent(alloc, hash, front_bits(em_bits), message, em)?;
-        Ok(yes)
+        is_consistent(alloc, hash, front_bits(em_bits), message, em)
     }
 
     // Whether the signature is one of the message by this scheme.

@@ -5,7 +5,7 @@ ghost use Rattle.jwt_base.specs.KindOf.{IsMemory};
 ghost use Rattle.jwt_rsa.specs.Pkcs1.{digest_info, digest_info_of, encoded};
 
 use jwt_base::errors::Result;
-use jwt_hmac::Hash;
+use jwt_crypto::Hash;
 use std::alloc::Global;
 
 // The octets of DigestInfo before the digest.

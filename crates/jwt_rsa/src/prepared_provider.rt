@@ -1,11 +1,9 @@
 //! The provider of RSA with keys that are prepared once.
 
-ghost use Rattle.std.specs.Prelude.{◌≡◌, ◌≢◌, ◌↔◌, ℕ, List, Ok, Some, None, IfOk, IfErr, OnOk};
+ghost use Rattle.std.specs.Prelude.{◌≡◌, ◌≢◌, ◌↔◌, ℕ, List, Some, None, IfOk, IfErr, OnOk};
 ghost use Rattle.jwt_base.specs.Kind as kind;
 ghost use Rattle.jwt_base.specs.KindOf.{kind_of, Refuses};
-ghost use Rattle.jwt_keys.specs.Provider.{reads_no_key};
-ghost use Rattle.jwt_hmac.specs.Hmac.{hash_bytes};
-ghost use Rattle.jwt_hmac.specs.HmacKeys.{hash_named};
+ghost use Rattle.jwt_crypto.specs.HmacKeys.{hmac_answers};
 ghost use Rattle.jwt_rsa.specs.RsaSchemes.{scheme_for, algorithm_for};
 ghost use Rattle.jwt_rsa.specs.RsaKeys.{refusal, RsaAccepts};
 ghost use Rattle.jwt_rsa.specs.RsaFamilies.{family_made};
@@ -21,7 +19,7 @@ use jwt_keys::encoding_key::EncodingKey;
 use jwt_keys::provider::CryptoProvider;
 use jwt_params::curves::EllipticCurve;
 use jwt_params::thumbprints::ThumbprintHash;
-use jwt_verdict::NoSigner;
+use jwt_crypto::NoSigner;
 use std::alloc::Global;
 
 impl<'a> CryptoProvider for &'a PreparedRsa {
@@ -41,7 +39,7 @@ impl<'a> CryptoProvider for &'a PreparedRsa {
 
     ghost is_sparing = { λ _. ⊥ };
 
-    ghost key_answers = { λ _. reads_no_key kind.UnsupportedAlgorithm (λ h bytes. Ok (hash_bytes (hash_named h) bytes)) };
+    ghost key_answers = { λ _. hmac_answers };
 
     /// Refuses with `UnsupportedAlgorithm`.
     fn signer_factory(

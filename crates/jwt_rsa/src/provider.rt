@@ -1,11 +1,9 @@
 //! The provider of RSA.
 
-ghost use Rattle.std.specs.Prelude.{◌≡◌, ◌↔◌, ℕ, List, Ok, Some, None, IsTrue, IfOk, IfErr, OnOk};
+ghost use Rattle.std.specs.Prelude.{◌≡◌, ◌↔◌, ℕ, List, Some, None, IsTrue, IfOk, IfErr, OnOk};
 ghost use Rattle.jwt_base.specs.Kind as kind;
 ghost use Rattle.jwt_base.specs.KindOf.{kind_of, IsMemory};
-ghost use Rattle.jwt_keys.specs.Provider.{reads_no_key};
-ghost use Rattle.jwt_hmac.specs.Hmac.{hash_bytes};
-ghost use Rattle.jwt_hmac.specs.HmacKeys.{hash_named};
+ghost use Rattle.jwt_crypto.specs.HmacKeys.{hmac_answers};
 ghost use Rattle.jwt_rsa.specs.RsaSchemes.{scheme_for};
 ghost use Rattle.jwt_rsa.specs.RsaKeys.{refusal, RsaAccepts};
 ghost use Rattle.jwt_rsa.specs.RsaFamilies.{family_made};
@@ -15,13 +13,12 @@ use crate::scheme::scheme_of_algorithm;
 use crate::verifier::RsaVerifier;
 use jwt_base::algorithms::Algorithm;
 use jwt_base::errors::{Error, ErrorKind, Result, new_error};
-use jwt_hmac::HmacProvider;
+use jwt_crypto::{HmacProvider, NoSigner};
 use jwt_keys::decoding_key::{DecodingKey, DecodingKeyKind};
 use jwt_keys::encoding_key::EncodingKey;
 use jwt_keys::provider::CryptoProvider;
 use jwt_params::curves::EllipticCurve;
 use jwt_params::thumbprints::ThumbprintHash;
-use jwt_verdict::NoSigner;
 use std::alloc::Global;
 
 pub(crate) fn unsupported() -> Error
@@ -53,7 +50,7 @@ impl CryptoProvider for RsaProvider {
 
     ghost is_sparing = { λ _. ⊥ };
 
-    ghost key_answers = { λ _. reads_no_key kind.UnsupportedAlgorithm (λ h bytes. Ok (hash_bytes (hash_named h) bytes)) };
+    ghost key_answers = { λ _. hmac_answers };
 
     /// Refuses with `UnsupportedAlgorithm`.
     fn signer_factory(

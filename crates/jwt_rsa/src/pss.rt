@@ -6,7 +6,7 @@ ghost use Rattle.jwt_rsa.specs.Pss.{hash_len, mask_blocks, mgf1, xored, low_bits
 ghost use Rattle.modular.specs.Octets.{i2osp};
 
 use jwt_base::errors::Result;
-use jwt_hmac::Hash;
+use jwt_crypto::Hash;
 use std::alloc::Global;
 
 // The number of octets of a digest, and of a salt.

@@ -4,7 +4,7 @@ ghost use Rattle.std.specs.Prelude.{◌≡◌};
 ghost use Rattle.jwt_rsa.specs.RsaSchemes.{scheme_for, algorithm_for};
 
 use jwt_base::algorithms::Algorithm;
-use jwt_hmac::Hash;
+use jwt_crypto::Hash;
 
 // A signature scheme with its hash.
 #[derive(Clone, Copy)]

@@ -5,7 +5,7 @@ use Rattle.jwt_base.specs.declared.algorithms.Algorithm.{Algorithm}
 use Rattle.jwt_base.specs.declared.algorithms.AlgorithmFamily.{AlgorithmFamily}
 use Rattle.jwt_base.specs.declared.algorithms.AlgorithmFamily.TheVariants as family
 use Rattle.jwt_keys.specs.Key.{Key, key_family}
-use Rattle.jwt_hmac.specs.HmacFamilies as hmac
+use Rattle.jwt_crypto.specs.HmacFamilies as hmac
 use Rattle.jwt_rsa.specs.RsaFamilies as rsa
 use Rattle.jwt_curves.specs.CurveFamilies.{eddsa_made, ecdsa_made}
 use Rattle.jwt_standard.specs.StandardKeys.{refusal_by, verifier_refusal}

@@ -6,8 +6,8 @@ use Rattle.jwt_base.specs.Kind.{Kind}
 use Rattle.jwt_base.specs.declared.algorithms.Algorithm.{Algorithm}
 use Rattle.jwt_base.specs.declared.algorithms.AlgorithmFamily.{AlgorithmFamily}
 use Rattle.jwt_base.specs.declared.algorithms.AlgorithmFamily.TheVariants as family
-use Rattle.jwt_keys.specs.Key.{Key, key_family}
-use Rattle.jwt_hmac.specs.HmacKeys as hmac
+use Rattle.jwt_keys.specs.Key.{Key}
+use Rattle.jwt_crypto.specs.HmacKeys as hmac
 use Rattle.jwt_rsa.specs.RsaKeys as rsa
 use Rattle.jwt_rsa.specs.RsaSchemes.{scheme_for}
 use Rattle.jwt_curves.specs.EcdsaKeys as ecdsa
@@ -15,7 +15,7 @@ use Rattle.jwt_curves.specs.EdDsaKeys as eddsa
 
 -- the kind with which the provider of a family makes no verifier
 abbrev pub refusal_by : AlgorithmFamily → Algorithm → Key → Option Kind
-refusal_by family.Hmac a k = hmac.refusal (hmac.hash_for a) (key_family k)
+refusal_by family.Hmac a k = hmac.hmac_verifier_refusal a k
 refusal_by family.Rsa a k = rsa.refusal (scheme_for a) k
 refusal_by family.Ec a k = ecdsa.refusal (ecdsa.curve_for a) k
 refusal_by family.Ed a k = eddsa.refusal a k

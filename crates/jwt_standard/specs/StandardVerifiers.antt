@@ -1,6 +1,6 @@
 -- The verifiers of the four families as one: each is judged as the verifier that it is.
 use Rattle.jwt_base.specs.declared.algorithms.Algorithm.{Algorithm}
-use Rattle.jwt_hmac.specs.declared.hmac.HmacVerifier.{HmacVerifier}
+use Rattle.jwt_crypto.specs.declared.hmac.HmacVerifier.{HmacVerifier}
 use Rattle.jwt_rsa.specs.declared.verifier.RsaVerifier.{RsaVerifier}
 use Rattle.jwt_curves.specs.declared.elliptic.EcdsaVerifier.{EcdsaVerifier}
 use Rattle.jwt_curves.specs.declared.eddsa.EdDsaVerifier.{EdDsaVerifier}

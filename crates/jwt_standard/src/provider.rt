@@ -1,13 +1,11 @@
 //! The provider of all twelve algorithms.
 
-ghost use Rattle.std.specs.Prelude.{◌≡◌, ◌≢◌, ◌↔◌, ℕ, List, Ok, Some, None, IfOk, IfErr, OnOk, IsTrue};
+ghost use Rattle.std.specs.Prelude.{◌≡◌, ◌≢◌, ◌↔◌, ℕ, List, Some, None, IfOk, IfErr, OnOk, IsTrue};
 ghost use Rattle.jwt_base.specs.Algorithm.{family_of};
 ghost use Rattle.jwt_base.specs.Kind as kind;
 ghost use Rattle.jwt_base.specs.KindOf.{kind_of, Refuses};
 ghost use Rattle.jwt_base.specs.declared.algorithms.AlgorithmFamily.TheVariants as family;
-ghost use Rattle.jwt_keys.specs.Provider.{reads_no_key};
-ghost use Rattle.jwt_hmac.specs.Hmac.{hash_bytes};
-ghost use Rattle.jwt_hmac.specs.HmacKeys as hmac;
+ghost use Rattle.jwt_crypto.specs.HmacKeys as hmac;
 ghost use Rattle.jwt_standard.specs.StandardKeys.{verifier_refusal, StandardAccepts};
 ghost use Rattle.jwt_standard.specs.StandardFamilies.{family_made};
 
@@ -15,7 +13,7 @@ use crate::verifier::StandardVerifier;
 use jwt_base::algorithms::{Algorithm, AlgorithmFamily};
 use jwt_base::errors::Result;
 use jwt_curves::{EcdsaProvider, EdDsaProvider};
-use jwt_hmac::{HmacProvider, HmacSigner};
+use jwt_crypto::{HmacProvider, HmacSigner};
 use jwt_keys::decoding_key::DecodingKey;
 use jwt_keys::encoding_key::EncodingKey;
 use jwt_keys::provider::{CryptoProvider, JwtSigner, JwtVerifier};
@@ -48,9 +46,9 @@ impl CryptoProvider for StandardProvider {
 
     type Verifier = StandardVerifier;
 
-    ghost signer_refusal = { λ _ a k. hmac.refusal (hmac.hash_for a) k.family };
+    ghost signer_refusal = { λ _. hmac.hmac_signer_refusal };
 
-    ghost verifier_refusal = { λ _ a k. verifier_refusal a k };
+    ghost verifier_refusal = { λ _. verifier_refusal };
 
     ghost sign_refusal = { λ _ a k m. None };
 
@@ -60,7 +58,7 @@ impl CryptoProvider for StandardProvider {
 
     ghost is_sparing = { λ _. ⊥ };
 
-    ghost key_answers = { λ _. reads_no_key kind.UnsupportedAlgorithm (λ h bytes. Ok (hash_bytes (hmac.hash_named h) bytes)) };
+    ghost key_answers = { λ _. hmac.hmac_answers };
 
     /// Returns a signer by HMAC. An algorithm of another family is refused with
     /// `UnsupportedAlgorithm`, and then a key of another family with `InvalidKeyFormat`. Allocates
@@ -71,8 +69,8 @@ impl CryptoProvider for StandardProvider {
         algorithm: &Algorithm,
         key: &EncodingKey,
     ) -> Result<HmacSigner>
-        ensures made { OnOk result (hmac.refusal (hmac.hash_for algorithm.now) key.now.family ≡ None) }
-        ensures err { IfErr result (Refuses (hmac.refusal (hmac.hash_for algorithm.now) key.now.family)) }
+        ensures made { OnOk result (hmac.hmac_signer_refusal algorithm.now key.now ≡ None) }
+        ensures err { IfErr result (Refuses (hmac.hmac_signer_refusal algorithm.now key.now)) }
         ensures by { IfOk result (λ s. ⟦<HmacSigner as JwtSigner>⟧.signs_by s ≡ algorithm.now) }
         ensures signs { IfOk result (λ s. (m b : List ℕ) →
             ⟦<HmacSigner as JwtSigner>⟧.signs s m b ↔ hmac.HmacSigns algorithm.now key.now m b) }

@@ -2,25 +2,25 @@
 use Rattle.std.proofs.Common.{◌≡◌, ℕ, List, [], ◌∷◌, Some, None, sym, subst, inr}
 use Rattle.serde_json.specs.View.{view}
 use Rattle.serde_json.specs.declared.value.Value.{Value}
+use Rattle.jwt_base.specs.Claims.{IsValue}
 use Rattle.jwt_base.specs.Kind.{Kind}
 use Rattle.jwt_base.specs.declared.algorithms.Algorithm.{Algorithm}
 use Rattle.jwt_base.specs.declared.algorithms.AlgorithmFamily.TheVariants.{Hmac}
 use Rattle.jwt_keys.specs.declared.jwk.Jwk.{Jwk}
-use Rattle.jwt_keys.specs.Key.{Key, Plain, SecretKey, key_family}
-use Rattle.jwt_hmac.specs.HmacKeys.{hash_for, refusal, HmacAccepts, HmacSigns}
+use Rattle.jwt_keys.specs.Key.{Key, Plain, SecretKey}
 use Rattle.jwt_header.specs.declared.header.Header.{Header}
 use Rattle.jwt_validation.specs.Options.{Options, default_options}
-use Rattle.jsonwebtoken.specs.Tests.{Compact, Call, Contents, Passes, FirstFailed, Given, InSet, decode_order, verifying_call, set_order}
-use Rattle.jsonwebtoken.specs.Issue.{Issue, Written, WrittenAs, IsIssued, IssuePasses, IssueFailsFirst, encode_order, issuing}
-use Rattle.jwt_base.specs.JsonText.{IsJson}
-use Rattle.jwt_base.proofs.Parts.{one_json}
+use Rattle.jsonwebtoken.specs.ByHmac.{decoding_by_hmac, encoding_by_hmac}
+use Rattle.jsonwebtoken.specs.Tests.{Call, Contents, Passes, FirstFailed, Given, InSet, decode_order, set_order}
+use Rattle.jsonwebtoken.specs.Issue.{Issue, Written, IsIssued, IssuePasses, IssueFailsFirst, encode_order}
+use Rattle.jwt_base.specs.JsonText.{IsJson, ReadsText}
 use Rattle.jwt_keys.specs.JwkSet.{ReadsSet}
 use Rattle.jwt_header.specs.Header.{new_header}
 use Rattle.serde_json.specs.Data.{Data}
-use Rattle.jwt_tool.specs.Line.{IsClaimsValue, IsToken, HasTokenFault, hmac_call, IsSetText, IsClaimsValueBySet, HasSetFault}
+use Rattle.jwt_tool.specs.Line.{IsClaimsValue, IsToken, HasTokenFault, hmac_call, IsClaimsValueBySet, HasSetFault}
 
 abbrev given_call : List ℕ → Key → Options → ℕ → Call Value
-given_call input key options now = verifying_call (Compact input) (Given key) options now (λ a k. refusal (hash_for a) (key_family k)) HmacAccepts (λ value claims. view claims ≡ value)
+given_call input key options now = decoding_by_hmac IsValue input (Given key) options now
 
 pub claims_passed : (input : List ℕ) (algorithm : Algorithm) (secret : List ℕ) (now : ℕ) (key : Key) (options : Options) (header : Header) (claims : Value)
     → key ≡ Plain Hmac secret → options ≡ default_options (algorithm ∷ [])
@@ -41,27 +41,23 @@ claims_failed input algorithm secret now key options k is_key is_options failed 
     (subst (λ q. FirstFailed (given_call input q options now) decode_order k) is_key failed)
 
 abbrev given_set_call : List ℕ → List Jwk → Options → ℕ → Call Value
-given_set_call input keys options now = verifying_call (Compact input) (InSet keys) options now (λ a k. refusal (hash_for a) (key_family k)) HmacAccepts (λ value claims. view claims ≡ value)
+given_set_call input keys options now = decoding_by_hmac IsValue input (InSet keys) options now
 
 pub set_claims_passed : (input : List ℕ) (algorithm : Algorithm) (set : List ℕ) (now : ℕ) (keys : List Jwk) (options : Options) (header : Header) (claims : Value)
-    → IsSetText set keys → options ≡ default_options (algorithm ∷ [])
+    → ReadsText ReadsSet set keys → options ≡ default_options (algorithm ∷ [])
     → (t : Contents) × Passes (given_set_call input keys options now) set_order t × ((t.header ≡ header) × (view claims ≡ t.payload_value))
     → IsClaimsValueBySet input algorithm set now (view claims)
 set_claims_passed input algorithm set now keys options header claims text is_options found =
     (keys, text, (found.0, subst (λ o. Passes (given_set_call input keys o now) set_order found.0) is_options found.1, sym found.2.1))
 
 pub set_claims_failed : (input : List ℕ) (algorithm : Algorithm) (set : List ℕ) (now : ℕ) (keys : List Jwk) (options : Options) (k : Kind)
-    → IsSetText set keys → options ≡ default_options (algorithm ∷ [])
+    → ReadsText ReadsSet set keys → options ≡ default_options (algorithm ∷ [])
     → FirstFailed (given_set_call input keys options now) set_order k → HasSetFault input algorithm set now k
 set_claims_failed input algorithm set now keys options k text is_options failed =
     inr (keys, text, subst (λ o. FirstFailed (given_set_call input keys o now) set_order k) is_options failed)
 
--- a JSON text that no set can be read from
-pub no_set_read : (text : List ℕ) (value : Data) → IsJson text value → ((keys : List Jwk) → ¬ ReadsSet value keys) → (keys : List Jwk) → ¬ IsSetText text keys
-no_set_read text value read none keys is = none keys (subst (λ v. ReadsSet v keys) (one_json text is.0 value is.1 read) is.2)
-
 abbrev given_issue : Header → SecretKey → Data → Issue
-given_issue header key claims = issuing header (WrittenAs (Some claims)) key (λ a k. refusal (hash_for a) k.family) (λ a k message. None) HmacSigns
+given_issue header key claims = encoding_by_hmac header (Some claims) key
 
 abbrev pub secret_key : List ℕ → SecretKey
 secret_key secret = record { family = Hmac; bytes = secret }

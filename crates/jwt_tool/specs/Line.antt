@@ -1,12 +1,12 @@
 -- The line and the status for arguments and an input.
 use Rattle.std.specs.Prelude.{None, ◌≡◌, ◌==◌, ◌-◌, true, false, length, take, slice_index, if◌then◌else◌, MatchOption, ℕ, List, [], ◌∷◌, ◌⊎◌, Some, Ok, Err, codes}
 use Rattle.serde_json.specs.Data.{Data}
-use Rattle.serde_json.specs.View.{view}
 use Rattle.serde_json.specs.Written.{compact_text, has_float}
 use Rattle.serde_json.specs.declared.value.Value.{Value}
 use Rattle.jwt_base.specs.Kind.{Kind, text_of}
 use Rattle.jwt_base.specs.Kind as kind
 use Rattle.jwt_base.specs.Base64Url.{IsPart}
+use Rattle.jwt_base.specs.Claims.{IsValue}
 use Rattle.jwt_base.specs.declared.algorithms.Algorithm.{Algorithm}
 use Rattle.jwt_base.specs.declared.algorithms.AlgorithmFamily.TheVariants.{Hmac}
 use Rattle.jwt_params.specs.declared.thumbprints.ThumbprintHash.{ThumbprintHash}
@@ -14,14 +14,15 @@ use Rattle.jwt_keys.specs.Jwk.{ReadsKey}
 use Rattle.jwt_keys.specs.JwkSet.{ReadsSet}
 use Rattle.jwt_keys.specs.Thumbprint.{thumb_text}
 use Rattle.jwt_keys.specs.declared.jwk.Jwk.{Jwk}
-use Rattle.jwt_keys.specs.Key.{Plain, key_family}
-use Rattle.jwt_hmac.specs.Hmac.{hash_bytes}
-use Rattle.jwt_hmac.specs.HmacKeys.{hash_for, hash_named, refusal, HmacAccepts, HmacSigns}
+use Rattle.jwt_keys.specs.Key.{Plain}
+use Rattle.jwt_crypto.specs.Hmac.{hash_bytes}
+use Rattle.jwt_crypto.specs.HmacKeys.{hash_named}
 use Rattle.jwt_header.specs.Header.{header_value, new_header}
 use Rattle.jwt_validation.specs.Options.{default_options}
-use Rattle.jsonwebtoken.specs.Tests.{Compact, Call, Contents, Passes, FirstFailed, header_order, header_call, Given, InSet, decode_order, verifying_call, set_order}
-use Rattle.jsonwebtoken.specs.Issue.{Issue, Written, WrittenAs, IsIssued, IssuePasses, IssueFailsFirst, encode_order, issuing}
-use Rattle.jwt_base.specs.JsonText.{IsJson}
+use Rattle.jsonwebtoken.specs.ByHmac.{decoding_by_hmac, encoding_by_hmac}
+use Rattle.jsonwebtoken.specs.Tests.{Call, Contents, Passes, FirstFailed, header_order, header_call, Given, InSet, decode_order, set_order}
+use Rattle.jsonwebtoken.specs.Issue.{Issue, Written, IsIssued, IssuePasses, IssueFailsFirst, encode_order}
+use Rattle.jwt_base.specs.JsonText.{IsJson, ReadsText}
 use Rattle.jwt_tool.specs.Words.{Request, ForHeader, ForThumbprint, ForToken, ForClaims, ForClaimsBySet, request_of}
 
 -- ---- the input
@@ -59,14 +60,10 @@ HeaderLine input status line =
     ((value : Data) × IsHeaderValue input value × IsValueText value status line)
     ⊎ ((k : Kind) × FirstFailed (header_call input) header_order k × IsRefusal k status line)
 
--- the text is the JSON of this key (RFC 7517 section 4)
-abbrev pub IsKeyText : List ℕ → Jwk → Type 0
-IsKeyText text key = (value : Data) × (IsJson text value × ReadsKey value key)
-
 -- the input is that of a key, and this is the base64url text of the digest of its required members
 -- (RFC 7638 section 3)
 abbrev pub IsThumbprint : List ℕ → ThumbprintHash → List ℕ → Type 0
-IsThumbprint input hash thumbprint = (key : Jwk) × (IsKeyText input key
+IsThumbprint input hash thumbprint = (key : Jwk) × (ReadsText ReadsKey input key
     × ((text : List ℕ) × ((thumb_text key ≡ Ok text)
     × IsPart thumbprint (hash_bytes (hash_named hash) text))))
 
@@ -74,8 +71,8 @@ IsThumbprint input hash thumbprint = (key : Jwk) × (IsKeyText input key
 -- this reason (RFC 7638 section 3.2)
 abbrev pub HasThumbprintFault : List ℕ → Kind → Type 0
 HasThumbprintFault input k =
-    ((k ≡ kind.Json) × ((key : Jwk) → ¬ IsKeyText input key))
-    ⊎ ((key : Jwk) × (IsKeyText input key × (thumb_text key ≡ Err k)))
+    ((k ≡ kind.Json) × ((key : Jwk) → ¬ ReadsText ReadsKey input key))
+    ⊎ ((key : Jwk) × (ReadsText ReadsKey input key × (thumb_text key ≡ Err k)))
 
 -- the thumbprint, or the text of the refusal (RFC 7638 section 3)
 abbrev pub ThumbprintLine : List ℕ → ThumbprintHash → ℕ → List ℕ → Type 0
@@ -87,9 +84,7 @@ ThumbprintLine input hash status line =
 -- one algorithm
 abbrev pub hmac_call : List ℕ → Algorithm → List ℕ → ℕ → Call Value
 hmac_call input algorithm secret now =
-    verifying_call (Compact input) (Given (Plain Hmac secret)) (default_options (algorithm ∷ []))
-    now (λ a key. refusal (hash_for a) (key_family key)) HmacAccepts
-    (λ value claims. view claims ≡ value)
+    decoding_by_hmac IsValue input (Given (Plain Hmac secret)) (default_options (algorithm ∷ [])) now
 
 -- the claims of a token that passes every test of decode (RFC 7519 section 7.2)
 abbrev pub IsClaimsValue : List ℕ → Algorithm → List ℕ → ℕ → Data → Type 0
@@ -104,30 +99,24 @@ ClaimsLine input algorithm secret now status line =
     ⊎ ((k : Kind) × FirstFailed (hmac_call input algorithm secret now) decode_order k
     × IsRefusal k status line)
 
--- the text is the JSON of a set of these keys (RFC 7517 section 5)
-abbrev pub IsSetText : List ℕ → List Jwk → Type 0
-IsSetText text keys = (value : Data) × IsJson text value × ReadsSet value keys
-
 -- the input's token, checked by HMAC with the key of the set that its header names, under the same
 -- options
 abbrev pub hmac_set_call : List ℕ → Algorithm → List Jwk → ℕ → Call Value
 hmac_set_call input algorithm keys now =
-    verifying_call (Compact input) (InSet keys) (default_options (algorithm ∷ []))
-    now (λ a key. refusal (hash_for a) (key_family key)) HmacAccepts
-    (λ value claims. view claims ≡ value)
+    decoding_by_hmac IsValue input (InSet keys) (default_options (algorithm ∷ [])) now
 
 -- the text is that of a set by which the token passes every test, and these are its claims
 -- (RFC 7517 section 5, RFC 7519 section 7.2)
 abbrev pub IsClaimsValueBySet : List ℕ → Algorithm → List ℕ → ℕ → Data → Type 0
-IsClaimsValueBySet input algorithm set now value = (keys : List Jwk) × IsSetText set keys
+IsClaimsValueBySet input algorithm set now value = (keys : List Jwk) × ReadsText ReadsSet set keys
     × ((t : Contents) × Passes (hmac_set_call input algorithm keys now) set_order t
     × (t.payload_value ≡ value))
 
 -- the text is not that of a set (RFC 7517 section 5), or the first failed test has this kind
 abbrev pub HasSetFault : List ℕ → Algorithm → List ℕ → ℕ → Kind → Type 0
 HasSetFault input algorithm set now k =
-    ((k ≡ kind.Json) × ((keys : List Jwk) → ¬ IsSetText set keys))
-    ⊎ ((keys : List Jwk) × IsSetText set keys
+    ((k ≡ kind.Json) × ((keys : List Jwk) → ¬ ReadsText ReadsSet set keys))
+    ⊎ ((keys : List Jwk) × ReadsText ReadsSet set keys
     × FirstFailed (hmac_set_call input algorithm keys now) set_order k)
 
 -- the token's claims by a set, or the text of the refusal (RFC 7517 section 5, RFC 7519 section
@@ -141,9 +130,7 @@ SetClaimsLine input algorithm set now status line =
 -- the token of claims, under the header of the algorithm with the type `JWT` (RFC 7519 section 5.1)
 abbrev pub hmac_issue : Algorithm → List ℕ → Data → Issue
 hmac_issue algorithm secret claims =
-    issuing (new_header algorithm) (WrittenAs (Some claims))
-    (record { family = Hmac; bytes = secret })
-    (λ a key. refusal (hash_for a) key.family) (λ a key message. None) HmacSigns
+    encoding_by_hmac (new_header algorithm) (Some claims) (record { family = Hmac; bytes = secret })
 
 -- the token of the claims that the input is the JSON text of (RFC 7519 section 7.1)
 abbrev pub IsToken : List ℕ → Algorithm → List ℕ → List ℕ → Type 0

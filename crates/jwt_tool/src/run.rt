@@ -286,8 +286,7 @@ fn issued_token(alloc: Global, algorithm: Algorithm, secret: &str, input: &[u8])
     let claims = json_value(alloc, input)?;
     let key = EncodingKey::from_secret(alloc, secret.as_bytes())?;
     let header = Header::new(alloc, algorithm)?;
-    let token = encode(alloc, &HmacProvider, &header, &claims, &key)?;
-    Ok(token)
+    encode(alloc, &HmacProvider, &header, &claims, &key)
 }
 
 /// Returns the thumbprint of the key that the input is the JSON text of.
@@ -297,6 +296,5 @@ fn key_thumbprint(alloc: Global, hash: ThumbprintHash, input: &[u8]) -> Result<S
 {
     let value = json_value(alloc, input)?;
     let key = Jwk::from_value(alloc, &value)?;
-    let thumbprint = key.thumbprint(alloc, &HmacProvider, hash)?;
-    Ok(thumbprint)
+    key.thumbprint(alloc, &HmacProvider, hash)
 }

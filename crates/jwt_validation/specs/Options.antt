@@ -1,5 +1,5 @@
 -- The options that a token is checked against, with sets of strings as tests of strings.
-use Rattle.std.specs.Prelude.{ℕ, List, Bool, true, false, Option, None, unwrap_or, codes}
+use Rattle.std.specs.Prelude.{ℕ, List, [], Bool, true, false, Option, None, unwrap_or, codes}
 use Rattle.std.specs.List.{list_any}
 use Rattle.std.specs.Str.{bytes_eq}
 use Rattle.jwt_base.specs.declared.algorithms.Algorithm.{Algorithm}
@@ -49,3 +49,7 @@ default_options algorithms = record {
   algorithms = algorithms;
   understood = no_texts;
 }
+
+-- those that name no algorithm
+abbrev pub defaults : Options
+defaults = default_options []

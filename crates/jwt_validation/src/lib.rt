@@ -4,7 +4,7 @@
 mod check;
 mod claims;
 mod clock;
-mod read;
+mod from_json;
 mod rules;
 mod validation;
 

@@ -4,15 +4,33 @@ ghost use Rattle.std.specs.Prelude.{◌≡◌, ◌||◌, IfOk, IfErr, OnOk, OnEr
 ghost use Rattle.std.specs.HashSet.{contains_text};
 ghost use Rattle.std.specs.Str.{bytes_eq};
 ghost use Rattle.jwt_base.specs.Algorithm.{algorithms_of};
-ghost use Rattle.jwt_base.specs.KindOf.{IsMemory};
-ghost use Rattle.jwt_validation.specs.Options.{among, default_options};
+ghost use Rattle.jwt_base.specs.JsonText.{ReadsText};
+ghost use Rattle.jwt_base.specs.Kind as kind;
+ghost use Rattle.jwt_base.specs.KindOf.{IsMemory, RefusesAs};
+ghost use Rattle.serde_json.specs.View.{view};
+ghost use Rattle.jwt_validation.specs.Options.{Options, among, default_options};
 ghost use Rattle.jwt_validation.specs.OptionsOf.{options_of};
+ghost use Rattle.jwt_validation.specs.OptionsRead.{ReadsOptions};
 ghost use Rattle.jwt_validation.specs.equality.ValidationEq.{validation_eq};
 
+use crate::from_json::read_validation;
 use jwt_base::algorithms::{Algorithm, AlgorithmFamily};
 use jwt_base::errors::Result;
+use jwt_base::serialization::json_value;
+use serde_json::Value;
 use std::alloc::Global;
 use std::collections::HashSet;
+
+// The times, in seconds, and the checks of a validation that says nothing else.
+pub(crate) const LEEWAY: u64 = 60;
+
+pub(crate) const REJECT: u64 = 0;
+
+pub(crate) const VALIDATES_EXP: bool = true;
+
+pub(crate) const VALIDATES_NBF: bool = false;
+
+pub(crate) const VALIDATES_AUD: bool = true;
 
 /// The options that a token is checked against. Times are in whole seconds.
 #[derive(Debug, Drop)]
@@ -129,6 +147,33 @@ impl Validation {
         Ok(())
     }
 
+    /// Returns the validation that a JSON object describes: its members are the fields of
+    /// [`Validation`] by their names, with lists for the sets, the names of RFC 7518 section 3.1
+    /// and RFC 8037 section 3.1 for the algorithms, whole numbers of seconds for the times and
+    /// `true` or `false` for the rest.
+    ///
+    /// A member that is absent or null has the value of [`Validation::new`], except that
+    /// `algorithms` is then an empty list: no algorithm is chosen by default, and `decode` refuses with
+    /// `MissingAlgorithm`. An unknown member, a member of a wrong type, an algorithm of an unknown
+    /// name and a value that is not an object are refused with `Json`; nothing is ignored.
+    pub fn from_value(alloc: Global, value: &Value) -> Result<Validation>
+        ensures ok { IfOk result (λ v. ReadsOptions (view value.now) (options_of v)) }
+        ensures err { IfErr result (RefusesAs kind.Json ((o : Options) → ¬ ReadsOptions (view value.now) o)) }
+    {
+        read_validation(alloc, value)
+    }
+
+    /// Returns the validation that a JSON text describes, as
+    /// [`from_value`](Validation::from_value) reads it. Bytes that are not JSON, or that nest deeper
+    /// than 127 levels, are refused with `Json` too.
+    pub fn from_slice(alloc: Global, text: &[u8]) -> Result<Validation>
+        ensures ok { IfOk result (λ v. ReadsText ReadsOptions text.now (options_of v)) }
+        ensures err { IfErr result (RefusesAs kind.Json ((o : Options) → ¬ ReadsText ReadsOptions text.now o)) }
+    {
+        let value = json_value(alloc, text)?;
+        Validation::from_value(alloc, &value)
+    }
+
     /// Returns a copy. The only refusal is `OutOfMemory`.
     pub fn clone(&self, alloc: Global) -> Result<Validation>
         ensures ok { IfOk result (λ v. options_of v ≡ options_of self.now) }
@@ -157,11 +202,11 @@ fn with_algorithms(alloc: Global, algorithms: Vec<Algorithm>) -> Result<Validati
     let required_spec_claims = set_of(alloc, &["exp"])?;
     Ok(Validation {
         required_spec_claims,
-        leeway: 60,
-        reject_tokens_expiring_in_less_than: 0,
-        validate_exp: true,
-        validate_nbf: false,
-        validate_aud: true,
+        leeway: LEEWAY,
+        reject_tokens_expiring_in_less_than: REJECT,
+        validate_exp: VALIDATES_EXP,
+        validate_nbf: VALIDATES_NBF,
+        validate_aud: VALIDATES_AUD,
         aud: None,
         iss: None,
         sub: None,

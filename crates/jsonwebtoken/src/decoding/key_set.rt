@@ -10,7 +10,9 @@ ghost use Rattle.jsonwebtoken.specs.Steps.{AsksFor, Step, looking_in, with_heade
 ghost use Rattle.jsonwebtoken.specs.Tests.{Compact, named_key, AgreesWith, key_tests, set_order};
 
 use crate::decoding::TokenData;
-use crate::decoding::steps::{allowed_verifier, opened, token_parts, verified};
+use crate::decoding::steps::{
+    read_understood_header, token_parts, verifier_for, verify_and_read_claims,
+};
 use jwt_base::algorithms::{Algorithm, KeyAlgorithm};
 use jwt_base::errors::{ErrorKind, Result, new_error};
 use jwt_base::json::Claims;
@@ -52,8 +54,7 @@ fn key_in_set(alloc: Global, set: &JwkSet, header: &Header) -> Result<DecodingKe
 {
     let jwk = find_key(set, header)?;
     check_key_algorithm(jwk, header.alg)?;
-    let key = DecodingKey::from_jwk(alloc, jwk)?;
-    Ok(key)
+    DecodingKey::from_jwk(alloc, jwk)
 }
 
 fn decode_with_set_by_steps<P: CryptoProvider, T: Claims>(
@@ -69,10 +70,10 @@ fn decode_with_set_by_steps<P: CryptoProvider, T: Claims>(
         Step call set_order (λ x. x) (Carries call) result }
 {
     let parts = token_parts(token)?;
-    let header = opened(alloc, &parts, validation)?;
+    let header = read_understood_header(alloc, &parts, validation)?;
     let key = key_in_set(alloc, set, &header)?;
-    let verifier = allowed_verifier(alloc, provider, &header, &key, validation)?;
-    let claims = verified(alloc, &verifier, &parts, validation, now)?;
+    let verifier = verifier_for(alloc, provider, &header, &key, validation)?;
+    let claims = verify_and_read_claims(alloc, &verifier, &parts, validation, now)?;
     Ok(TokenData { header, claims })
 }
 

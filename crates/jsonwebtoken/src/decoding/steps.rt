@@ -10,7 +10,7 @@ ghost use Rattle.jsonwebtoken.specs.Tests.{dot, Parts, ArePartsOf, header_tests,
 
 use crate::decoding::crit::check_crit;
 use crate::decoding::parts::TokenParts;
-use crate::usual::usual_algorithm;
+use crate::known_headers::known_algorithm;
 use jwt_base::algorithms::Algorithm;
 use jwt_base::errors::{ErrorKind, Result, new_error};
 use jwt_base::json::Claims;
@@ -111,7 +111,7 @@ pub(crate) fn token_parts(token: &[u8]) -> Result<TokenParts<'_>>
 pub(crate) fn read_header(alloc: Global, part: &[u8]) -> Result<Header>
     ensures { Step bare header_tests (with_header_part part.now) (λ x h. x.header ≡ h) result }
 {
-    if let Some(algorithm) = usual_algorithm(part) {
+    if let Some(algorithm) = known_algorithm(part) {
         return Header::new(alloc, algorithm);
     }
     let bytes = part_bytes(alloc, part)?;
@@ -120,7 +120,7 @@ pub(crate) fn read_header(alloc: Global, part: &[u8]) -> Result<Header>
 }
 
 /// Returns the header of a token that is to be verified: its `crit` is understood.
-pub(crate) fn opened(
+pub(crate) fn read_understood_header(
     alloc: Global,
     parts: &TokenParts<'_>,
     validation: &Validation,
@@ -137,7 +137,7 @@ pub(crate) fn opened(
 
 /// Returns the verifier by the key and the header's algorithm, which is among those that are
 /// allowed.
-pub(crate) fn allowed_verifier<P: CryptoProvider>(
+pub(crate) fn verifier_for<P: CryptoProvider>(
     alloc: Global,
     provider: &P,
     header: &Header,
@@ -191,7 +191,7 @@ fn read_claims<T: Claims>(
 
 /// Returns the claims of a token whose signature the verifier accepts, and whose claims hold at the
 /// moment.
-pub(crate) fn verified<V: JwtVerifier, T: Claims>(
+pub(crate) fn verify_and_read_claims<V: JwtVerifier, T: Claims>(
     alloc: Global,
     verifier: &V,
     parts: &TokenParts<'_>,
@@ -213,6 +213,5 @@ pub(crate) fn read_payload<T: Claims>(alloc: Global, part: &[u8]) -> Result<T>
 {
     let bytes = part_bytes(alloc, part)?;
     let value = json_value(alloc, bytes.as_slice())?;
-    let claims = T::from_owned(alloc, value)?;
-    Ok(claims)
+    T::from_owned(alloc, value)
 }

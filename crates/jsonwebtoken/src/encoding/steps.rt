@@ -15,7 +15,7 @@ ghost use Rattle.jsonwebtoken.specs.IssueSteps.{IsPartOf, IsPayloadOf};
 ghost use Rattle.jsonwebtoken.specs.Steps.{AsksFor};
 ghost use Rattle.jsonwebtoken.specs.Tests.{dot};
 
-use crate::usual::usual_part;
+use crate::known_headers::known_part;
 use jwt_base::algorithms::Algorithm;
 use jwt_base::errors::{ErrorKind, Result, new_error};
 use jwt_base::json::Claims;
@@ -53,12 +53,11 @@ pub(crate) fn header_part(alloc: Global, header: &Header) -> Result<String>
     ensures err { IfErr result (RefusesAs kind.Json (header_value header.now ≡ None)) }
     ensures normal_form { HasNormalForm header.now }
 {
-    if let Some(part) = usual_part(header) {
+    if let Some(part) = known_part(header) {
         return Ok(String::from_str(alloc, part)?);
     }
     let value = header.to_value(alloc)?;
-    let part = value_part(alloc, &value)?;
-    Ok(part)
+    value_part(alloc, &value)
 }
 
 /// Returns the part of the claims. Claims that cannot be written and those with a float in them are
@@ -70,8 +69,7 @@ pub(crate) fn claims_part<T: Claims>(alloc: Global, claims: &T) -> Result<String
         ((v : Option Data) → ¬ AreWritten (WrittenAs (T.written claims.now)) v)) }
 {
     let text = claims.to_text(alloc)?;
-    let part = part_text(alloc, text.as_slice())?;
-    Ok(part)
+    part_text(alloc, text.as_slice())
 }
 
 /// Returns the part of the claims, which is empty if there are none.
@@ -104,8 +102,7 @@ fn signature_part<S: JwtSigner>(alloc: Global, signer: &S, message: &[u8]) -> Re
     ensures err { IfErr result (Refuses (S.sign_refusal signer.now message.now)) }
 {
     let signature = signer.sign(alloc, message)?;
-    let part = part_text(alloc, signature.as_slice())?;
-    Ok(part)
+    part_text(alloc, signature.as_slice())
 }
 
 /// The message of a token that is signed, and the part of its signature.

@@ -9,7 +9,7 @@ ghost use Rattle.serde_json.specs.View.{view};
 ghost use Rattle.serde_json.specs.Written.{has_float as holds_float};
 ghost use Rattle.jwt_base.specs.Kind as kind;
 ghost use Rattle.jwt_base.specs.KindOf.{IsMemory, RefusesAs};
-ghost use Rattle.jwt_base.specs.Claims.{IsCompact, IsText, IsTruth, IsUnsigned, IsSigned};
+ghost use Rattle.jwt_base.specs.Claims.{IsCompact, IsValue, IsText, IsTruth, IsUnsigned, IsSigned};
 
 use crate::errors::{ErrorKind, Result, new_error};
 use crate::json::equality::has_float;
@@ -71,7 +71,7 @@ pub fn value_text(alloc: Global, value: &Value) -> Result<Vec<u8>>
 
 /// Is read as a copy, or as the value itself if it is consumed.
 impl Claims for Value {
-    ghost reads = { λ d v. view v ≡ d };
+    ghost reads = { IsValue };
 
     ghost written = { λ v. Some (view v) };
 

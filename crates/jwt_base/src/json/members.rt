@@ -8,7 +8,7 @@ ghost use Rattle.serde_json.specs.View.{view, members_view};
 ghost use Rattle.serde_json.specs.Written.{members_have_float};
 ghost use Rattle.jwt_base.specs.Kind as kind;
 ghost use Rattle.jwt_base.specs.KindOf.{IsMemory, RefusesAs};
-ghost use Rattle.jwt_base.specs.Members.{optional, texts, put_some, texts_value};
+ghost use Rattle.jwt_base.specs.Members.{present, optional, texts, put_some, texts_value};
 ghost use Rattle.jwt_base.specs.Members.{is_named, has_named, without};
 
 use crate::errors::{ErrorKind, Result, new_error};
@@ -17,6 +17,16 @@ use crate::text::{Text, Texts};
 use serde_json::{Map, Value};
 use std::alloc::Global;
 
+/// Returns the member of this name of a JSON object, or `None` if it is absent or null.
+pub fn present<'a>(value: &'a Value, name: &str) -> Option<&'a Value>
+    ensures { option_map (λ v. view v.now) result ≡ present (get name.now (view value.now)) }
+{
+    match value.get(name) {
+        Some(member) if !member.is_null() => Some(member),
+        _ => None,
+    }
+}
+
 /// Returns the string at an optional member: `None` if the member is absent or null. A member of
 /// another type is refused with `Json`.
 pub fn optional_text(alloc: Global, value: &Value, name: &str) -> Result<Option<Text>>
@@ -24,9 +34,8 @@ pub fn optional_text(alloc: Global, value: &Value, name: &str) -> Result<Option<
     ensures err { IfErr result
         (RefusesAs kind.Json (optional as_str (get name.now (view value.now)) ≡ None)) }
 {
-    match value.get(name) {
+    match present(value, name) {
         None => Ok(None),
-        Some(member) if member.is_null() => Ok(None),
         Some(member) => match member.as_str() {
             Some(text) => Ok(Some(Text::from_str(alloc, text)?)),
             None => Err(new_error(ErrorKind::Json)),
@@ -41,9 +50,8 @@ pub fn optional_texts(alloc: Global, value: &Value, name: &str) -> Result<Option
     ensures err { IfErr result
         (RefusesAs kind.Json (optional texts (get name.now (view value.now)) ≡ None)) }
 {
-    match value.get(name) {
+    match present(value, name) {
         None => Ok(None),
-        Some(list) if list.is_null() => Ok(None),
         Some(list) => Ok(Some(read_texts(alloc, list)?)),
     }
 }

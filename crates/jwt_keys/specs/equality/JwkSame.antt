@@ -8,8 +8,8 @@ use Rattle.std.specs.Hash.{HashWrites, Alike, slice, on_Alike, items_Alike}
 use Rattle.std.proofs.Common.{ap}
 use Rattle.jwt_base.specs.equality.Decided.{and_decides, same_as, list_decides, decided_by, fed_by_mark}
 use Rattle.jwt_params.specs.equality.CommonSame.{common_eq, common_decides, common_fed}
-use Rattle.jwt_kinds.specs.equality.KindsFed.{parameters_fed, parameters_marked}
-use Rattle.jwt_kinds.specs.equality.KindsSame.{parameters_eq, parameters_decides}
+use Rattle.jwt_params.specs.equality.ParametersFed.{parameters_fed, parameters_marked}
+use Rattle.jwt_params.specs.equality.ParametersSame.{parameters_eq, parameters_decides}
 use Rattle.jwt_keys.specs.Jwk.{marked_key}
 use Rattle.jwt_keys.specs.JwkSet.{marked_set}
 use Rattle.jwt_keys.specs.declared.jwk.Jwk.{Jwk}

@@ -1,4 +1,4 @@
--- The sameness of the parameters that keys of every kind may have, and the bytes that they feed to
+-- The sameness of the parameters that keys of every type may have, and the bytes that they feed to
 -- a hasher.
 use Rattle.std.specs.Prelude.{◌≡◌, ◌&&◌, ◌++◌, Bool, refl}
 use denote.Enum.Bare.{sameb}

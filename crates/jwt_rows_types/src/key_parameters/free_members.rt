@@ -1,4 +1,4 @@
-//! The members of a key of the kind `Other`.
+//! The members of a key of the type `Other`.
 
 use crate::json_types::{compared, hashed};
 use jsonwebtoken::errors;

@@ -1,4 +1,4 @@
-//! The parameters that keys of every kind may have, and the uses of public keys.
+//! The parameters that keys of every type may have, and the uses of public keys.
 
 use crate::json_types::{JsonType, boxed, call_of, default_of};
 use jsonwebtoken::errors;

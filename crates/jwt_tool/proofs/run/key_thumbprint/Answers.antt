@@ -1,6 +1,6 @@
 use Rattle.std.proofs.lemmas.Result.{err_from_is_err_and}
-use Rattle.jwt_hmac.specs.Hmac.{hash_bytes}
-use Rattle.jwt_hmac.specs.HmacKeys.{hash_named}
+use Rattle.jwt_crypto.specs.Hmac.{hash_bytes}
+use Rattle.jwt_crypto.specs.HmacKeys.{hash_named}
 use Rattle.jwt_keys.specs.Thumbprint.{thumb_text}
 use Rattle.jwt_tool.proofs.Thumbprints.{text_under, without_value, without_key, without_text}
 use Rattle.jwt_tool.proofs.run.key_thumbprint.Goals as goal

@@ -1,4 +1,4 @@
-use Rattle.jsonwebtoken.proofs.UsualParts.{new_has_normal_form}
+use Rattle.jsonwebtoken.proofs.KnownParts.{new_has_normal_form}
 use Rattle.jsonwebtoken.proofs.encoding.steps.header_part.Goals as goal
 
 pub returns-in_err-from_str-clause-normal_form : goal.returns-in_err-from_str-clause-normal_form

@@ -1,0 +1,85 @@
+//! Reading tokens whose signature is checked by cryptography elsewhere.
+
+ghost use Rattle.std.specs.Prelude.{◌≡◌};
+ghost use Rattle.jsonwebtoken.specs.Calls.{Accepts, AcceptsEach, RefusesFirst, HasSigned};
+ghost use Rattle.jsonwebtoken.specs.Steps.{Step};
+ghost use Rattle.jsonwebtoken.specs.Tests.{decode_order, signed_order, header_call};
+ghost use Rattle.jsonwebtoken.specs.Vouched.{decoding_by_verdict, AcceptsVouched, AcceptsEachVouched};
+
+use crate::decoding::steps::{read_header, token_parts};
+use crate::decoding::{TokenData, decode};
+use jwt_base::errors::Result;
+use jwt_base::json::Claims;
+use jwt_base::serialization::part_bytes;
+use jwt_crypto::VerdictProvider;
+use jwt_header::Header;
+use jwt_validation::Validation;
+use std::alloc::Global;
+
+/// The parts of a token that a verifier elsewhere is asked about.
+#[derive(Debug, Drop)]
+pub struct SignedPart<'a> {
+    /// The header, which names the algorithm and may name the key. Nothing of it is to be trusted
+    /// yet.
+    pub header: Header,
+    /// The message that is signed: the token's bytes before its last dot (RFC 7515 section 5.1).
+    pub message: &'a [u8],
+    /// The signature's bytes.
+    pub signature: Vec<u8>,
+}
+
+fn signed_part_by_steps(alloc: Global, token: &[u8]) -> Result<SignedPart<'_>>
+    ensures { Step (header_call token.now) signed_order (λ x. x) (HasSigned (header_call token.now)) result }
+{
+    let parts = token_parts(token)?;
+    let header = read_header(alloc, parts.header)?;
+    let signature = part_bytes(alloc, parts.signature)?;
+    Ok(SignedPart {
+        header,
+        message: parts.message,
+        signature,
+    })
+}
+
+/// Returns the parts of a token in its compact form that a verifier elsewhere is asked about: the
+/// header, the message that is signed, and the signature's bytes. Nothing is verified. The
+/// verifier's verdict goes to [`decode_by_verdict`].
+///
+/// The tests are the first three of [`decode`](crate::decode), and then that the signature part is
+/// canonical base64url, else `Base64`.
+pub fn signed_part(alloc: Global, token: &[u8]) -> Result<SignedPart<'_>>
+    ensures accepted { Accepts (header_call token.now) signed_order HasSigned result }
+    ensures exact { AcceptsEach (header_call token.now) signed_order HasSigned result }
+    ensures refused { RefusesFirst (header_call token.now) signed_order result }
+{
+    signed_part_by_steps(alloc, token)
+}
+
+/// Verifies a token in its compact form whose signature the caller has checked, at the moment
+/// `now`, in whole seconds since 1970-01-01 00:00:00 UTC, and returns its header and its claims.
+/// The verdict is about an algorithm, a message and a signature; a verdict on another token, or by
+/// another algorithm than the header's, is of no use.
+///
+/// The tests are those of [`decode`](crate::decode) with the provider of the verdict, in the same
+/// order. A verdict by another algorithm than the header's is `InvalidAlgorithm`; a no, or a
+/// verdict on another message or signature, is `InvalidSignature`.
+pub fn decode_by_verdict<T: Claims>(
+    alloc: Global,
+    token: &[u8],
+    verdict: &VerdictProvider<'_>,
+    validation: &Validation,
+    now: u64,
+) -> Result<TokenData<T>>
+    ensures accepted { AcceptsVouched
+        (decoding_by_verdict T.Claims verdict.now token.now validation.now now)
+        verdict.now result }
+    ensures exact { AcceptsEachVouched
+        (decoding_by_verdict T.Claims verdict.now token.now validation.now now)
+        verdict.now result }
+    ensures refused { RefusesFirst
+        (decoding_by_verdict T.Claims verdict.now token.now validation.now now)
+        decode_order result }
+{
+    let key = verdict.key(alloc)?;
+    decode(alloc, verdict, token, &key, validation, now)
+}

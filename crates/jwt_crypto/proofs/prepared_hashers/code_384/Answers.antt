@@ -1,0 +1,10 @@
+use Rattle.std.proofs.Common.{◌++◌, ◌∙◌, ap}
+use Rattle.jwt_crypto.specs.Hmac.{nested, hmac, hash_bytes, outer_block}
+use Rattle.jwt_crypto.specs.declared.hmac.Hash.TheVariants.{Sha384}
+use Rattle.jwt_crypto.proofs.prepared_hashers.code_384.Goals as goal
+
+pub returns : goal.returns
+unfolding nested hmac
+returns c secret first second =
+    let found = c.finish_by.ensures _ _ (rw c.copy_384.ensures first) (rw c.copy_384-2.ensures second) in
+    found.2 ∙ ap (λ i. hash_bytes Sha384 (outer_block Sha384 secret ++ i)) found.1

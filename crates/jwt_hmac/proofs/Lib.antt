@@ -1,7 +1,0 @@
-pub mod OwnCodes
-pub mod HeldSecrets
-pub mod HmacMasks
-pub mod OneDigest256
-pub mod OneDigest512
-pub mod PreparedKeys
-pub mod SameBytes

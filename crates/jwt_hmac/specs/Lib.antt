@@ -1,6 +1,0 @@
-pub mod Hmac
-pub mod HmacBlocks
-pub mod HmacFamilies
-pub mod HmacHashers
-pub mod HmacKeys
-pub mod HmacPrepared

@@ -1,5 +1,0 @@
-use Rattle.jwt_kinds.specs.equality.KindsSame.{parameters_decides}
-use Rattle.jwt_kinds.proofs.parameters.AlgorithmParametersPartialEq.eq.Goals as goal
-
-pub returns-clause-same : goal.returns-clause-same
-returns-clause-same c = rw c.is_same.ensures (parameters_decides c.args.self.now c.args.other.now)

@@ -1,4 +1,0 @@
--- Proofs that tests of equality decide the sameness that they name, and that equal values are
--- hashed alike.
-pub mod KindsFed
-pub mod KindsSame
