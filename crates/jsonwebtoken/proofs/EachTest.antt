@@ -1,12 +1,11 @@
 -- The lemmas by cases on the tests of a token: contents that pass the same tests are the same, as
 -- far as these tests know them; contents that pass do so under looser options and with more keys.
-use Rattle.std.proofs.Common.{◌≡◌, ◌⊎◌, ℕ, List, [], ◌∷◌, ◌++◌, Bool, true, false, ◌&&◌, ◌||◌, Some, slice_get, refl, sym, ◌∙◌, Result, IfOk, IfErr, Contains, IfSome, Option, None, find, option_and_then, arith, subst}
-use Rattle.std.specs.Prelude.{MatchResult}
+use Rattle.std.proofs.Common.{◌≡◌, ℕ, List, [], ◌∷◌, ◌++◌, Bool, true, false, ◌&&◌, ◌||◌, Some, slice_get, refl, sym, ◌∙◌, Result, IfOk, Contains, IfSome, Option, None, find, option_and_then, arith, subst}
 use Rattle.serde_json.specs.Data.{Data, Members}
 use Rattle.jwt_base.proofs.Parts.{one_part, one_json}
-use Rattle.jwt_base.specs.KindOf.{kind_of, IsMemory}
 use Rattle.jwt_base.specs.declared.errors.Error.{Error}
-use Rattle.jsonwebtoken.specs.Tests.{Call, Given, Test, HasThreeParts, HeaderIsPart, HeaderIsJson, HeaderReads, CritIsUnderstood, KeyIsFound, KeyAlgorithmAgrees, KeyIsUsable, AlgorithmsAreListed, AlgorithmIsListed, VerifierIsMade, FamiliesAgree, SignatureIsPart, SignatureIsAccepted, PayloadIsPart, PayloadIsJson, ClaimsRead, ClaimsAreAnObject, ClaimRulesHold, Contents, Condition, HasKind, Passes, FirstFailed, InSet, set_order, KeySource, key_of, message_of}
+use Rattle.jsonwebtoken.specs.Order.{Decides, Passes}
+use Rattle.jsonwebtoken.specs.Tests.{Call, Given, Test, HasThreeParts, HeaderIsPart, HeaderIsJson, HeaderReads, CritIsUnderstood, KeyIsFound, KeyAlgorithmAgrees, KeyIsUsable, AlgorithmsAreListed, AlgorithmIsListed, VerifierIsMade, FamiliesAgree, SignatureIsPart, SignatureIsAccepted, PayloadIsPart, PayloadIsJson, ClaimsRead, ClaimsAreAnObject, ClaimRulesHold, Contents, Condition, InSet, set_order, KeySource, key_of, message_of, token_tests}
 use Rattle.jsonwebtoken.specs.Steps.{FailsAt, Step}
 use Rattle.jwt_header.specs.declared.header.Header.{Header}
 use Rattle.jsonwebtoken.proofs.Engine as engine
@@ -151,17 +150,17 @@ same_key_of (Given given) known j k e same = refl
 same_key_of (InSet ks) known j k e same = same e
 
 module _ {T : Type 0} (call : Call T) where
-  pub met : (b : List Test) (t : Contents) → Passes call b t → (c : Test) → is_in c b ≡ true → Condition call c t
-  met = engine.holds_of number (Condition call) every_test at_number
+  pub met : (b : List Test) (t : Contents) → Passes (token_tests call) b t → (c : Test) → is_in c b ≡ true → Condition call c t
+  met = engine.holds_of number (token_tests call) every_test at_number
 
   -- in whatever order they stand
-  pub among : (a b : List Test) (t : Contents) → are_in a b ≡ true → Passes call b t → Passes call a t
-  among = engine.among number (Condition call) every_test at_number
+  pub among : (a b : List Test) (t : Contents) → are_in a b ≡ true → Passes (token_tests call) b t → Passes (token_tests call) a t
+  among = engine.among number (token_tests call) every_test at_number
 
-  pub join : (a b : List Test) (t : Contents) → Passes call a t → Passes call b t → Passes call (a ++ b) t
-  join = engine.join (Condition call)
+  pub join : (a b : List Test) (t : Contents) → Passes (token_tests call) a t → Passes (token_tests call) b t → Passes (token_tests call) (a ++ b) t
+  join = engine.join (token_tests call)
 
-  module _ (b : List Test) (t s : Contents) (p : Passes call b t) (q : Passes call b s) where
+  module _ (b : List Test) (t s : Contents) (p : Passes (token_tests call) b t) (q : Passes (token_tests call) b s) where
     pub same_parts : parts_known b ≡ true → t.parts ≡ s.parts
     same_parts e = one_way call.token t.parts s.parts (met b t p HasThreeParts e) (met b s q HasThreeParts e)
 
@@ -227,29 +226,25 @@ module _ {T : Type 0} (call : Call T) where
     fails_for_these ClaimsAreAnObject e none h = none (rw (same_claims e) h)
     fails_for_these ClaimRulesHold e none h = none (rw (same_claims e) h)
 
-  fails_for : (b : List Test) (t s : Contents) → Passes call b t → Passes call b s → (c : Test) → ready (is_given call.keys) c b ≡ true → FailsAt call c t → Condition call c s → ⊥
+  fails_for : (b : List Test) (t s : Contents) → Passes (token_tests call) b t → Passes (token_tests call) b s → (c : Test) → ready (is_given call.keys) c b ≡ true → FailsAt call c t → Condition call c s → ⊥
   fails_for b t s p q = fails_for_these b t s p q
 
   -- a result of an order, as the clauses describe it
   module _ {R : Type 0} (order : List Test) (sound : is_sound (is_given call.keys) order ≡ true) (shows : Contents → R → Type 0) (r : Result R Error) (m : Step call order (λ x. x) shows r) where
-    pub accepted : IfOk r (λ y. (t : Contents) × Passes call order t × shows t y)
-    accepted = engine.accepted (Condition call) (HasKind call) (FailsAt call) (ready (is_given call.keys)) fails_for order sound shows r m
+    pub accepted : IfOk r (λ y. (t : Contents) × Passes (token_tests call) order t × shows t y)
+    accepted = engine.accepted (token_tests call) (FailsAt call) (ready (is_given call.keys)) fails_for order sound shows r m
 
-    pub refused : IfErr r (λ e. IsMemory e ⊎ FirstFailed call order (kind_of e))
-    refused = engine.refused (Condition call) (HasKind call) (FailsAt call) (ready (is_given call.keys)) fails_for order sound shows r m
-
-    pub exact : ((s t : Contents) (y : R) → Passes call order s → Passes call order t → shows s y → shows t y)
-        → (t : Contents) → Passes call order t → MatchResult r (λ y. shows t y) IsMemory
-    exact = engine.exact (Condition call) (HasKind call) (FailsAt call) (ready (is_given call.keys)) fails_for order sound shows r m
+    pub decides : ((s t : Contents) (y : R) → Passes (token_tests call) order s → Passes (token_tests call) order t → shows s y → shows t y) → Decides (token_tests call) order shows r
+    decides = engine.decides (token_tests call) (FailsAt call) (ready (is_given call.keys)) fails_for order sound shows r m
 
   -- the result does not depend on the contents
   pub same_answer : (order : List Test) → header_known order ≡ true → claims_known order ≡ true → {X : Type 0} (header : X → Header) (claims : X → Data → Type 0)
-      → (s t : Contents) (y : X) → Passes call order s → Passes call order t
+      → (s t : Contents) (y : X) → Passes (token_tests call) order s → Passes (token_tests call) order t
       → (s.header ≡ header y) × claims y s.payload_value → (t.header ≡ header y) × claims y t.payload_value
   same_answer order h c header claims s t y p q a =
       (rw (← same_header order s t p q h) a.0, rw (← same_claims order s t p q c) a.1)
 
-pub each : {T : Type 0} (call other : Call T) (t : Contents) → ((c : Test) → Condition call c t → Condition other c t) → (order : List Test) → Passes call order t → Passes other order t
+pub each : {T : Type 0} (call other : Call T) (t : Contents) → ((c : Test) → Condition call c t → Condition other c t) → (order : List Test) → Passes (token_tests call) order t → Passes (token_tests other) order t
 each call other t f [] p = tt
 each call other t f (c ∷ cs) p = (f c p.0, each call other t f cs p.1)
 
@@ -300,7 +295,7 @@ module _ {T : Type 0} (call : Call T) (t : Contents) (w : Options) (l : Looser c
   looser_at ClaimRulesHold h = rules-looser call.options w t.payload_value call.now l h
 
   -- contents that pass under some options pass under looser ones
-  pub passes_looser : (order : List Test) → Passes call order t → Passes (record call { options = w }) order t
+  pub passes_looser : (order : List Test) → Passes (token_tests call) order t → Passes (token_tests (record call { options = w })) order t
   passes_looser order p = each call (record call { options = w }) t looser_at order p
 
 -- ---- more keys
@@ -339,5 +334,5 @@ module _ {T : Type 0} (call : Call T) (t : Contents) (ks more : List Jwk) where
   kept_at ClaimRulesHold h = h
 
   -- contents that pass with a set pass with more keys after those of the set
-  pub kept_with_more : Passes fewer set_order t → Passes with_more set_order t
+  pub kept_with_more : Passes (token_tests fewer) set_order t → Passes (token_tests with_more) set_order t
   kept_with_more p = each fewer with_more t kept_at set_order p

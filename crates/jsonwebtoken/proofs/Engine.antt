@@ -6,7 +6,7 @@ use Rattle.std.specs.Prelude.{MatchResult}
 use Rattle.jwt_base.specs.Kind.{Kind}
 use Rattle.jwt_base.specs.KindOf.{kind_of, IsMemory}
 use Rattle.jwt_base.specs.declared.errors.Error.{Error}
-use Rattle.jsonwebtoken.specs.Order.{PassesAll, FailsFirst, FailedAt}
+use Rattle.jsonwebtoken.specs.Order.{Tests, Passes, FailsFirst, Decides, FailedAt}
 use Rattle.jsonwebtoken.specs.Steps.{Meets}
 
 pub both_true : (x y : Bool) → (x && y) ≡ true → (x ≡ true) × (y ≡ true)
@@ -28,17 +28,17 @@ module _ {Test : Type 0} (number : Test → ℕ) where
   has_all [] b = true
   has_all (c ∷ a) b = has c b && has_all a b
 
-  module _ {Contents : Type 0} (Condition : Test → Contents → Type 0) (every : List Test) (at_number : (c : Test) → slice_get every (number c) ≡ Some c) where
+  module _ {Contents : Type 0} (tests : Tests Test Contents) (every : List Test) (at_number : (c : Test) → slice_get every (number c) ≡ Some c) where
     same_test : (c d : Test) → number c ≡ number d → c ≡ d
     same_test c d e = let w : Some c ≡ Some d = sym (at_number c) ∙ ap (slice_get every) e ∙ at_number d in cc
 
-    pub holds_of : (b : List Test) (t : Contents) → PassesAll Condition b t → (c : Test) → has c b ≡ true → Condition c t
+    pub holds_of : (b : List Test) (t : Contents) → Passes tests b t → (c : Test) → has c b ≡ true → tests.condition c t
     holds_of [] t p c e = absurd (cc)
     holds_of (d ∷ b) t p c e = let w = either_true (eqb (number c) (number d)) (has c b) e in
         ⊎_elim (λ same. let eq : c ≡ d = same_test c d (eqb-true (number c) (number d) same) in rw eq p.0) (λ later. holds_of b t p.1 c later) w
 
     -- in whatever order they stand
-    pub among : (a b : List Test) (t : Contents) → has_all a b ≡ true → PassesAll Condition b t → PassesAll Condition a t
+    pub among : (a b : List Test) (t : Contents) → has_all a b ≡ true → Passes tests b t → Passes tests a t
     among [] b t e p = tt
     among (c ∷ a) b t e p = let k = both_true (has c b) (has_all a b) e in (holds_of b t p c k.0, among a b t k.1 p)
 
@@ -55,24 +55,24 @@ module _ {Test : Type 0} (ready : Test → List Test → Bool) where
   abbrev pub is_well_ordered : List Test → Bool
   is_well_ordered order = ready_from [] order
 
-module _ {Test Contents : Type 0} (Condition : Test → Contents → Type 0) where
-  pub join : (a b : List Test) (t : Contents) → PassesAll Condition a t → PassesAll Condition b t → PassesAll Condition (a ++ b) t
+module _ {Test Contents : Type 0} (tests : Tests Test Contents) where
+  pub join : (a b : List Test) (t : Contents) → Passes tests a t → Passes tests b t → Passes tests (a ++ b) t
   join [] b t p q = q
   join (c ∷ a) b t p q = (p.0, join a b t p.1 q)
 
-  pub front : (a b : List Test) (t : Contents) → PassesAll Condition (a ++ b) t → PassesAll Condition a t
+  pub front : (a b : List Test) (t : Contents) → Passes tests (a ++ b) t → Passes tests a t
   front [] b t p = tt
   front (c ∷ a) b t p = (p.0, front a b t p.1)
 
-  pub back : (a b : List Test) (t : Contents) → PassesAll Condition (a ++ b) t → PassesAll Condition b t
+  pub back : (a b : List Test) (t : Contents) → Passes tests (a ++ b) t → Passes tests b t
   back [] b t p = p
   back (c ∷ a) b t p = back a b t p.1
 
-  module _ (HasKind : Test → Contents → Kind → Type 0) (FailsAt : Test → Contents → Type 0)
+  module _ (FailsAt : Test → Contents → Type 0)
       (ready : Test → List Test → Bool)
-      (fails_for : (b : List Test) (t s : Contents) → PassesAll Condition b t → PassesAll Condition b s → (c : Test) → ready c b ≡ true → FailsAt c t → Condition c s → ⊥) where
-    walk : (b order : List Test) (t : Contents) (k : Kind) → ready_from ready b order ≡ true → PassesAll Condition b t → FailedAt Condition HasKind FailsAt order t k
-        → FailsFirst Condition HasKind (b ++ order) k
+      (fails_for : (b : List Test) (t s : Contents) → Passes tests b t → Passes tests b s → (c : Test) → ready c b ≡ true → FailsAt c t → tests.condition c s → ⊥) where
+    walk : (b order : List Test) (t : Contents) (k : Kind) → ready_from ready b order ≡ true → Passes tests b t → FailedAt tests FailsAt order t k
+        → FailsFirst tests (b ++ order) k
     walk b [] t k e p f = absurd f
     walk b (c ∷ cs) t k e p (inl (none, is)) = record {
       before = b;
@@ -87,10 +87,10 @@ module _ {Test Contents : Type 0} (Condition : Test → Contents → Type 0) whe
     walk b (c ∷ cs) t k e p (inr (h, f)) =
         rw (append_test b c cs) at (walk (b ++ c ∷ []) cs t k (both_true (ready c b) (ready_from ready (b ++ c ∷ []) cs) e).1 (join b (c ∷ []) t p (h, tt)) f)
 
-    pub fails_first : (order : List Test) → is_well_ordered ready order ≡ true → (t : Contents) (k : Kind) → FailedAt Condition HasKind FailsAt order t k → FailsFirst Condition HasKind order k
+    pub fails_first : (order : List Test) → is_well_ordered ready order ≡ true → (t : Contents) (k : Kind) → FailedAt tests FailsAt order t k → FailsFirst tests order k
     fails_first order e t k f = walk [] order t k e tt f
 
-    pub not_passed : (order : List Test) (k : Kind) → FailsFirst Condition HasKind order k → (t : Contents) → PassesAll Condition order t → ⊥
+    pub not_passed : (order : List Test) (k : Kind) → FailsFirst tests order k → (t : Contents) → Passes tests order t → ⊥
     not_passed order k f t p =
         let q = rw f.in_order at p in
         f.fails t (front f.before (f.failed ∷ f.after) t q) (back f.before (f.failed ∷ f.after) t q).0
@@ -98,19 +98,22 @@ module _ {Test Contents : Type 0} (Condition : Test → Contents → Type 0) whe
     -- a result of an order, as the clauses describe it
     module _ {R : Type 0} (order : List Test) (sound : is_well_ordered ready order ≡ true) (shows : Contents → R → Type 0) where
       abbrev Tells : Result R Error → Type 0
-      Tells = Meets (λ r. (x : Contents) × PassesAll Condition order x × shows x r) (λ k. (x : Contents) × FailedAt Condition HasKind FailsAt order x k)
+      Tells = Meets (λ r. (x : Contents) × Passes tests order x × shows x r) (λ k. (x : Contents) × FailedAt tests FailsAt order x k)
 
-      pub accepted : (r : Result R Error) → Tells r → IfOk r (λ y. (t : Contents) × PassesAll Condition order t × shows t y)
+      pub accepted : (r : Result R Error) → Tells r → IfOk r (λ y. (t : Contents) × Passes tests order t × shows t y)
       accepted (Ok y) m = m
       accepted (Err e) m = tt
 
-      pub refused : (r : Result R Error) → Tells r → IfErr r (λ e. IsMemory e ⊎ FailsFirst Condition HasKind order (kind_of e))
+      pub refused : (r : Result R Error) → Tells r → IfErr r (λ e. IsMemory e ⊎ FailsFirst tests order (kind_of e))
       refused (Ok y) m = tt
       refused (Err e) (inl m) = inl m
       refused (Err e) (inr (t, f)) = inr (fails_first order sound t (kind_of e) f)
 
-      pub exact : (r : Result R Error) → Tells r → ((s t : Contents) (y : R) → PassesAll Condition order s → PassesAll Condition order t → shows s y → shows t y)
-          → (t : Contents) → PassesAll Condition order t → MatchResult r (λ y. shows t y) IsMemory
+      pub exact : (r : Result R Error) → Tells r → ((s t : Contents) (y : R) → Passes tests order s → Passes tests order t → shows s y → shows t y)
+          → (t : Contents) → Passes tests order t → MatchResult r (λ y. shows t y) IsMemory
       exact (Ok y) m same t p = same m.0 t y m.1 p m.2
       exact (Err e) (inl m) same t p = m
       exact (Err e) (inr (s, g)) same t p = absurd (not_passed order (kind_of e) (fails_first order sound s (kind_of e) g) t p)
+
+      pub decides : (r : Result R Error) → Tells r → ((s t : Contents) (y : R) → Passes tests order s → Passes tests order t → shows s y → shows t y) → Decides tests order shows r
+      decides r m same = record { accepted = accepted r m; exact = exact r m same; refused = refused r m }

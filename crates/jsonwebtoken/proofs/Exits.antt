@@ -9,7 +9,8 @@ use Rattle.jwt_base.specs.declared.errors.Error.{Error}
 use Rattle.jwt_header.specs.declared.header.Header.{Header}
 use Rattle.jwt_validation.specs.ClaimRules.{IsFault, IsRuleFault, missing, broken, RulesHold, Tells}
 use Rattle.jwt_validation.specs.Options.{Options}
-use Rattle.jsonwebtoken.specs.Tests.{Call, Parts, HasParts, key_of, Test, HasThreeParts, opening_tests, Contents, Condition, Passes, verifying_tests, ClaimsAreAnObject, ClaimRulesHold}
+use Rattle.jsonwebtoken.specs.Order.{Passes}
+use Rattle.jsonwebtoken.specs.Tests.{Call, Parts, HasParts, key_of, Test, HasThreeParts, opening_tests, Contents, verifying_tests, ClaimsAreAnObject, ClaimRulesHold, token_tests}
 use Rattle.jsonwebtoken.specs.Steps.{Meets, Step, Failed, opening, with_parts, verifying_by}
 use Rattle.jsonwebtoken.proofs.Engine.{join}
 
@@ -34,20 +35,20 @@ module _ {T : Type 0} (call : Call T) where
   early (c ∷ a) b t k (inl f) = inl f
   early (c ∷ a) b t k (inr (h, f)) = inr (h, early a b t k f)
 
-  pub later : (a b : List Test) (t : Contents) (k : Kind) → Passes call a t → Failed call b t k → Failed call (a ++ b) t k
+  pub later : (a b : List Test) (t : Contents) (k : Kind) → Passes (token_tests call) a t → Failed call b t k → Failed call (a ++ b) t k
   later [] b t k p f = f
   later (c ∷ a) b t k p f = inr (p.0, later a b t k p.1 f)
 
   -- Of an order: the tests a hold, and the tests b that follow failed. The rest of the order is
   -- computed.
-  pub stop : (order a b : List Test) (t : Contents) (k : Kind) → Passes call a t → Failed call b t k
+  pub stop : (order a b : List Test) (t : Contents) (k : Kind) → Passes (token_tests call) a t → Failed call b t k
       → (x : Contents) × Failed call (a ++ (b ++ drop (length a + length b) order)) x k
   stop order a b t k p f = (t, later a (b ++ drop (length a + length b) order) t k p (early b (drop (length a + length b) order) t k f))
 
   -- a last call, by its clauses on its result and on its refusal
   pub step_tail : {R : Type 0} (order : List Test) (at : Contents → Contents) (shows : Contents → R → Type 0) {P : R → Type 0} {Q : Error → Type 0} (r : Result R Error)
       → IfOk r P → IfErr r (λ e. IsMemory e ⊎ Q e)
-      → ((y : R) → P y → (x : Contents) × Passes call order (at x) × shows x y)
+      → ((y : R) → P y → (x : Contents) × Passes (token_tests call) order (at x) × shows x y)
       → ((e : Error) → Q e → (x : Contents) × Failed call order (at x) (kind_of e)) → Step call order at shows r
   step_tail order at shows (Ok y) p q f g = f y p
   step_tail order at shows (Err e) p (inl m) f g = inl m
@@ -55,7 +56,7 @@ module _ {T : Type 0} (call : Call T) where
 
   -- the same of a call with one clause
   pub step_last : {R : Type 0} (order : List Test) (at : Contents → Contents) (shows : Contents → R → Type 0) {P : R → Type 0} {Q : Kind → Type 0} (r : Result R Error) → Meets P Q r
-      → ((y : R) → P y → (x : Contents) × Passes call order (at x) × shows x y) → ((k : Kind) → Q k → (x : Contents) × Failed call order (at x) k) → Step call order at shows r
+      → ((y : R) → P y → (x : Contents) × Passes (token_tests call) order (at x) × shows x y) → ((k : Kind) → Q k → (x : Contents) × Failed call order (at x) k) → Step call order at shows r
   step_last order at shows (Ok y) m f g = f y m
   step_last order at shows (Err e) (inl m) f g = inl m
   step_last order at shows (Err e) (inr q) f g = inr (g (kind_of e) q)
@@ -66,18 +67,18 @@ abbrev pub front : List Test
 front = HasThreeParts ∷ opening_tests
 
 -- the parts that were found, and the header that was read of them and is understood
-module _ {T : Type 0} (call : Call T) (parts : Parts) (h : Header) (o : (x : Contents) × Passes (opening call.options) opening_tests (with_parts parts x) × (x.header ≡ h))
+module _ {T : Type 0} (call : Call T) (parts : Parts) (h : Header) (o : (x : Contents) × Passes (token_tests (opening call.options)) opening_tests (with_parts parts x) × (x.header ≡ h))
     (has : HasParts call.token parts) where
   -- with the key that was found, and with the contents of the other parts
   abbrev pub opened : Contents → Contents → Contents
   opened n x = record o.0 { parts = parts; header = h; jwk = n.jwk; jwk_key = n.jwk_key; signature_bytes = x.signature_bytes; payload_bytes = x.payload_bytes; payload_value = x.payload_value }
 
-  opened_passes : (n x : Contents) → Passes call front (opened n x)
-  opened_passes n x = let p : Passes (opening call.options) opening_tests (opened n x) = rw o.2 at o.1 in (has, p)
+  opened_passes : (n x : Contents) → Passes (token_tests call) front (opened n x)
+  opened_passes n x = let p : Passes (token_tests (opening call.options)) opening_tests (opened n x) = rw o.2 at o.1 in (has, p)
 
   -- contents that pass the rest of the order pass all of it, and the same for contents that fail
-  pub opened_then : (order : List Test) (n x : Contents) → Passes call (drop (length front) order) (opened n x) → Passes call (front ++ drop (length front) order) (opened n x)
-  opened_then order n x p = join (Condition call) front (drop (length front) order) (opened n x) (opened_passes n x) p
+  pub opened_then : (order : List Test) (n x : Contents) → Passes (token_tests call) (drop (length front) order) (opened n x) → Passes (token_tests call) (front ++ drop (length front) order) (opened n x)
+  opened_then order n x p = join (token_tests call) front (drop (length front) order) (opened n x) (opened_passes n x) p
 
   pub after_opened : (order : List Test) (n x : Contents) (k : Kind) → Failed call (drop (length front) order) (opened n x) k
       → (s : Contents) × Failed call (front ++ drop (length front) order) s k
@@ -93,7 +94,7 @@ module _ {T : Type 0} (call : Call T) (A : List ℕ → List ℕ → Type 0) (t 
   abbrev by_verifier : Call T
   by_verifier = verifying_by call.reads call.options call.now A
 
-  pub verified_passes : Passes by_verifier verifying_tests t → Passes call verifying_tests t
+  pub verified_passes : Passes (token_tests by_verifier) verifying_tests t → Passes (token_tests call) verifying_tests t
   verified_passes p = (p.0, ((same _ _).0 p.1.0, p.1.1))
 
   pub verified_failed : (k : Kind) → Failed by_verifier verifying_tests t k → Failed call verifying_tests t k

@@ -1,15 +1,14 @@
 -- The tests of a token that is to be issued, and how its text is read back.
-use Rattle.std.proofs.Common.{◌≡◌, ◌⊎◌, ℕ, List, [], ◌∷◌, Bool, true, ◌&&◌, Option, Some, None, slice_get, refl, sym, ◌∙◌, Result, IfOk, IfErr}
-use Rattle.std.specs.Prelude.{MatchResult}
+use Rattle.std.proofs.Common.{◌≡◌, ℕ, List, [], ◌∷◌, Bool, true, ◌&&◌, Option, Some, None, slice_get, refl, sym, ◌∙◌, Result}
 use Rattle.serde_json.specs.Data.{Data}
 use Rattle.serde_json.specs.Written.{compact_text}
-use Rattle.jwt_base.specs.KindOf.{kind_of, IsMemory}
 use Rattle.jwt_base.specs.declared.algorithms.Algorithm.{Algorithm}
 use Rattle.jwt_base.specs.declared.errors.Error.{Error}
 use Rattle.jwt_keys.specs.Key.{Key}
 use Rattle.jwt_header.specs.Header.{ReadsHeader, header_value}
 use Rattle.jwt_header.specs.HeaderWritten.{normal_header, HasNormalForm}
-use Rattle.jsonwebtoken.specs.Issue.{Payload, NoClaims, WrittenAs, Issue, IssueTest, KeyFitsAlgorithm, SignerIsMade, HeaderIsWritten, ClaimsAreWritten, MessageIsSigned, Written, AreWritten, payload_part, IssueCondition, IssueKind, IssuePasses, IssueFailsFirst, AreIssued, ReadsBack}
+use Rattle.jsonwebtoken.specs.Order.{Decides, Passes}
+use Rattle.jsonwebtoken.specs.Issue.{Payload, NoClaims, WrittenAs, Issue, IssueTest, KeyFitsAlgorithm, SignerIsMade, HeaderIsWritten, ClaimsAreWritten, MessageIsSigned, Written, AreWritten, payload_part, IssueCondition, AreIssued, ReadsBack, issue_tests}
 use Rattle.jsonwebtoken.specs.IssueSteps.{IsPartOf, IsPayloadOf, IssueFailsAt, IssueStep}
 use Rattle.jsonwebtoken.specs.Tests.{Parts, Contents, text_of_parts}
 use Rattle.jsonwebtoken.specs.Steps.{no_contents}
@@ -61,11 +60,11 @@ one_value (WrittenAs x) v w a b =
     a.1 ∙ same ∙ sym b.1
 
 module _ (issue : Issue) where
-  met : (b : List IssueTest) (t : Written) → IssuePasses issue b t → (c : IssueTest) → engine.has number c b ≡ true → IssueCondition issue c t
-  met = engine.holds_of number (IssueCondition issue) every_test at_number
+  met : (b : List IssueTest) (t : Written) → Passes (issue_tests issue) b t → (c : IssueTest) → engine.has number c b ≡ true → IssueCondition issue c t
+  met = engine.holds_of number (issue_tests issue) every_test at_number
 
   -- values that pass the tests of the written values are the same
-  pub one_written : (b : List IssueTest) (t s : Written) → written_known b ≡ true → IssuePasses issue b t → IssuePasses issue b s → t ≡ s
+  pub one_written : (b : List IssueTest) (t s : Written) → written_known b ≡ true → Passes (issue_tests issue) b t → Passes (issue_tests issue) b s → t ≡ s
   one_written b t s e p q =
       let k = engine.both_true (engine.has number HeaderIsWritten b) (engine.has number ClaimsAreWritten b) e in
       let both : Some t.header_value ≡ Some s.header_value = sym (met b t p HeaderIsWritten k.0) ∙ met b s q HeaderIsWritten k.0 in
@@ -73,7 +72,7 @@ module _ (issue : Issue) where
       let values : t.claims_value ≡ s.claims_value = one_value issue.payload _ _ (met b t p ClaimsAreWritten k.1) (met b s q ClaimsAreWritten k.1) in
       λ i. record { header_value = headers i; claims_value = values i }
 
-  fails_for : (b : List IssueTest) (t s : Written) → IssuePasses issue b t → IssuePasses issue b s → (c : IssueTest) → ready c b ≡ true → IssueFailsAt issue c t → IssueCondition issue c s → ⊥
+  fails_for : (b : List IssueTest) (t s : Written) → Passes (issue_tests issue) b t → Passes (issue_tests issue) b s → (c : IssueTest) → ready c b ≡ true → IssueFailsAt issue c t → IssueCondition issue c s → ⊥
   fails_for b t s p q KeyFitsAlgorithm e none h = none h
   fails_for b t s p q SignerIsMade e none h = none h
   fails_for b t s p q HeaderIsWritten e none h = none s.header_value h
@@ -82,14 +81,8 @@ module _ (issue : Issue) where
 
   -- a result of an order, as the clauses describe it
   module _ {R : Type 0} (order : List IssueTest) (sound : is_sound order ≡ true) (shows : Written → R → Type 0) (r : Result R Error) (m : IssueStep issue order shows r) where
-    pub issue_accepted : IfOk r (λ y. (t : Written) × IssuePasses issue order t × shows t y)
-    issue_accepted = engine.accepted (IssueCondition issue) (IssueKind issue) (IssueFailsAt issue) ready fails_for order sound shows r m
-
-    pub issue_refused : IfErr r (λ e. IsMemory e ⊎ IssueFailsFirst issue order (kind_of e))
-    issue_refused = engine.refused (IssueCondition issue) (IssueKind issue) (IssueFailsAt issue) ready fails_for order sound shows r m
-
-    pub issue_exact : written_known order ≡ true → (t : Written) → IssuePasses issue order t → MatchResult r (λ y. shows t y) IsMemory
-    issue_exact known = engine.exact (IssueCondition issue) (IssueKind issue) (IssueFailsAt issue) ready fails_for order sound shows r m
+    pub issue_decides : written_known order ≡ true → Decides (issue_tests issue) order shows r
+    issue_decides known = engine.decides (issue_tests issue) (IssueFailsAt issue) ready fails_for order sound shows r m
         (λ s t y p q h. rw (one_written order t s known q p) h)
 
 -- ---- the text

@@ -12,7 +12,8 @@ use Rattle.jwt_keys.specs.Provider.{HasOneSignature}
 use Rattle.jwt_validation.proofs.ClaimRuleLemmas.{within, held_within}
 use Rattle.jwt_validation.specs.Options.{Options}
 use Rattle.jsonwebtoken.specs.Laws.{timeless, HasMoments, KeepsLooser, KeyFits, FixesToken, AgreeOn, on_parts, on_text}
-use Rattle.jsonwebtoken.specs.Tests.{Call, Token, Compact, Separate, HasParts, key_of, Test, Contents, Parts, message_of, Passes, decode_order, jws_order, header_order, opening_tests, jws_algorithm_tests, algorithm_tests, verifying_tests, HasThreeParts, HeaderIsPart, HeaderIsJson, HeaderReads, KeyIsFound, KeyIsUsable, VerifierIsMade, SignatureIsPart, SignatureIsAccepted, PayloadIsPart, ClaimRulesHold}
+use Rattle.jsonwebtoken.specs.Order.{Passes}
+use Rattle.jsonwebtoken.specs.Tests.{Call, Token, Compact, Separate, HasParts, key_of, Test, Contents, Parts, message_of, decode_order, jws_order, header_order, opening_tests, jws_algorithm_tests, algorithm_tests, verifying_tests, HasThreeParts, HeaderIsPart, HeaderIsJson, HeaderReads, KeyIsFound, KeyIsUsable, VerifierIsMade, SignatureIsPart, SignatureIsAccepted, PayloadIsPart, ClaimRulesHold, token_tests}
 use Rattle.jsonwebtoken.proofs.Ascii.{message_bytes}
 use Rattle.jsonwebtoken.proofs.Dots.{are_parts, same_as_parts}
 use Rattle.jsonwebtoken.proofs.EachTest.{is_in, are_in, met, among, join, passes_looser}
@@ -28,8 +29,8 @@ abbrev text_tests : List Test
 text_tests = header_order ++ SignatureIsPart ∷ SignatureIsAccepted ∷ PayloadIsPart ∷ []
 
 -- with the same header bytes and payload bytes, by the same key, two tokens have the same parts
-module _ {T : Type 0} (call : Call T) (t : Contents) (p : Passes call text_tests t) (one : HasOneSignature (call.accepts t.header.alg (key_of call.keys t.jwk_key)))
-    (token : Token) (w : Options) (m : ℕ) (u : Contents) (q : Passes (record call { token = token; options = w; now = m }) text_tests u)
+module _ {T : Type 0} (call : Call T) (t : Contents) (p : Passes (token_tests call) text_tests t) (one : HasOneSignature (call.accepts t.header.alg (key_of call.keys t.jwk_key)))
+    (token : Token) (w : Options) (m : ℕ) (u : Contents) (q : Passes (token_tests (record call { token = token; options = w; now = m })) text_tests u)
     (hb : u.header_bytes ≡ t.header_bytes) (pb : u.payload_bytes ≡ t.payload_bytes) where
   abbrev other : Call T
   other = record call { token = token; options = w; now = m }
@@ -69,7 +70,7 @@ module _ {T : Type 0} (call : Call T) (order : List Test) where
   key_fits made law t p = law t.header.alg (key_of call.keys t.jwk_key) (met call order t p VerifierIsMade made)
 
   pub moments : are_in (timeless order) order ≡ true → is_in ClaimRulesHold order ≡ true → are_in order (timeless order ++ ClaimRulesHold ∷ []) ≡ true
-      → ((t : Contents) (m : ℕ) → Passes (record call { now = m }) (timeless order) t ↔ Passes call (timeless order) t) → HasMoments call order
+      → ((t : Contents) (m : ℕ) → Passes (token_tests (record call { now = m })) (timeless order) t ↔ Passes (token_tests call) (timeless order) t) → HasMoments call order
   moments inside has outside same t m le =
       let at = record call { now = m } in (
         λ p. let w = within call.options t.payload_value m le (met at order t p ClaimRulesHold has) in
@@ -79,8 +80,8 @@ module _ {T : Type 0} (call : Call T) (order : List Test) where
       )
 
   -- the key that the header names
-  pub named_key : is_in KeyIsFound order ≡ true → is_in KeyIsUsable order ≡ true → (token : Token) (w : Options) (m : ℕ) (t u : Contents) → Passes call order t
-      → Passes (record call { token = token; options = w; now = m }) order u → u.header ≡ t.header → u.jwk_key ≡ t.jwk_key
+  pub named_key : is_in KeyIsFound order ≡ true → is_in KeyIsUsable order ≡ true → (token : Token) (w : Options) (m : ℕ) (t u : Contents) → Passes (token_tests call) order t
+      → Passes (token_tests (record call { token = token; options = w; now = m })) order u → u.header ≡ t.header → u.jwk_key ≡ t.jwk_key
   named_key found usable token w m t u p q same =
       let again = record call { token = token; options = w; now = m } in
       let of_u = rw same at (met again order u q KeyIsFound found) in
@@ -90,7 +91,7 @@ module _ {T : Type 0} (call : Call T) (order : List Test) where
 
   pub fixes : (A : Type 0) (form : A → Token) (x : A) → call.token ≡ form x → ((x y : A) (c : Parts) → HasParts (form x) c → HasParts (form y) c → y ≡ x)
       → are_in text_tests order ≡ true
-      → ((token : Token) (w : Options) (m : ℕ) (t u : Contents) → Passes call order t → Passes (record call { token = token; options = w; now = m }) order u → u.header ≡ t.header → key_of call.keys u.jwk_key ≡ key_of call.keys t.jwk_key)
+      → ((token : Token) (w : Options) (m : ℕ) (t u : Contents) → Passes (token_tests call) order t → Passes (token_tests (record call { token = token; options = w; now = m })) order u → u.header ≡ t.header → key_of call.keys u.jwk_key ≡ key_of call.keys t.jwk_key)
       → FixesToken call order A form x
   fixes A form x is_x one_form_of all one_key_of t p one y w m u q hb pb =
       let again = record call { token = form y; options = w; now = m } in

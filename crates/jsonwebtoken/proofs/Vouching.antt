@@ -4,7 +4,8 @@ use Rattle.jwt_base.specs.declared.json.claims.Claims.{Ghosts as ClaimsOf}
 use Rattle.jwt_validation.specs.declared.validation.Validation.{Validation}
 use Rattle.jwt_crypto.specs.Verdict.{Verdict}
 use Rattle.jwt_crypto.specs.VerdictMade.{is_made, made_by_own}
-use Rattle.jsonwebtoken.specs.Tests.{Call, Contents, Passes, decode_order, VerifierIsMade, SignatureIsAccepted, key_of}
+use Rattle.jsonwebtoken.specs.Order.{Passes}
+use Rattle.jsonwebtoken.specs.Tests.{Call, Contents, decode_order, VerifierIsMade, SignatureIsAccepted, key_of, token_tests}
 use Rattle.jsonwebtoken.specs.Vouched.{IsVouched, decoding_by_verdict, unasked_order}
 use Rattle.jsonwebtoken.proofs.EachTest.{met, among}
 
@@ -12,7 +13,7 @@ module _ {T : Type 0} (claims : ClaimsOf T) (v : Verdict) (text : List ℕ) (val
   abbrev call : Call T
   call = decoding_by_verdict claims v text validation now
 
-  pub vouched : Passes call decode_order t → IsVouched call v t
+  pub vouched : Passes (token_tests call) decode_order t → IsVouched call v t
   vouched p =
       let verified = met call decode_order t p SignatureIsAccepted refl in
       record {
@@ -23,6 +24,6 @@ module _ {T : Type 0} (claims : ClaimsOf T) (v : Verdict) (text : List ℕ) (val
         signature = verified.signature;
       }
 
-  pub passed : IsVouched call v t → Passes call decode_order t
+  pub passed : IsVouched call v t → Passes (token_tests call) decode_order t
   passed w = among call decode_order (VerifierIsMade ∷ SignatureIsAccepted ∷ unasked_order) t refl
       (made_by_own v t.header.alg w.algorithm, (record { yes = w.yes; message = w.message; signature = w.signature }, w.tests))

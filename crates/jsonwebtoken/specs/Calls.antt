@@ -1,7 +1,6 @@
 -- The calls that the contracts speak of: the arguments of an entry point, with the relations of its
--- provider and its type of claims, and the conditions on its result.
-use Rattle.std.specs.Prelude.{◌≡◌, ℕ, List, Result}
-use Rattle.jwt_base.specs.declared.errors.Error.{Error}
+-- provider and its type of claims, and how its result shows the contents of a token.
+use Rattle.std.specs.Prelude.{◌≡◌, ℕ, List}
 use Rattle.jwt_base.specs.declared.json.claims.Claims.{Ghosts as ClaimsOf}
 use Rattle.jwt_header.specs.declared.header.Header.{Header}
 use Rattle.jwt_keys.specs.Key.{Key}
@@ -9,8 +8,7 @@ use Rattle.jwt_keys.specs.declared.provider.CryptoProvider.{Ghosts as ProviderOf
 use Rattle.jwt_keys.specs.declared.jwk.Jwk.{Jwk}
 use Rattle.jwt_validation.specs.OptionsOf.{options_of}
 use Rattle.jwt_validation.specs.declared.validation.Validation.{Validation}
-use Rattle.jsonwebtoken.specs.Order.{AnswersOne, AnswersEach, RefusesByFirst}
-use Rattle.jsonwebtoken.specs.Tests.{Call, Test, Contents, Condition, HasKind, Parts, Token, Compact, Separate, KeySource, Given, InSet, message_of, verifying_call}
+use Rattle.jsonwebtoken.specs.Tests.{Call, Contents, Parts, Token, Compact, Separate, KeySource, Given, InSet, message_of, verifying_call}
 use Rattle.jsonwebtoken.specs.declared.decoding.TokenData.{TokenData}
 use Rattle.jsonwebtoken.specs.declared.by_verdict.SignedPart.{SignedPart}
 
@@ -56,18 +54,3 @@ HasSigned call t part = (t.header ≡ part.header)
 -- the claims alone
 abbrev pub HasClaims : {T : Type 0} → Call T → Contents → T → Type 0
 HasClaims call t claims = call.reads t.payload_value claims
-
--- ---- the result of a call that makes its tests in this order
-
-module _ {T R : Type 0} (call : Call T) (order : List Test) where
-  -- if it accepts, some contents pass every test, and the result shows them
-  abbrev pub Accepts : (Call T → Contents → R → Type 0) → Result R Error → Type 0
-  Accepts Shows answer = AnswersOne (Condition call) order (Shows call) answer
-
-  -- if any contents pass every test, the result shows them, unless memory ran out
-  abbrev pub AcceptsEach : (Call T → Contents → R → Type 0) → Result R Error → Type 0
-  AcceptsEach Shows answer = AnswersEach (Condition call) order (Shows call) answer
-
-  -- if it refuses, the kind is that of the first failed test, unless memory ran out
-  abbrev pub RefusesFirst : Result R Error → Type 0
-  RefusesFirst answer = RefusesByFirst (Condition call) (HasKind call) order answer

@@ -14,8 +14,8 @@ use Rattle.jwt_keys.specs.Key.{SecretKey, Key}
 use Rattle.jwt_header.specs.Header.{header_value}
 use Rattle.jwt_header.specs.HeaderWritten.{normal_header}
 use Rattle.jwt_header.specs.declared.header.Header.{Header}
-use Rattle.jsonwebtoken.specs.Order.{PassesAll, FailsFirst}
-use Rattle.jsonwebtoken.specs.Tests.{dot, Parts, message_of, text_of_parts, Test, HasThreeParts, SignatureIsPart, PayloadIsPart, PayloadIsJson, header_tests, Contents, Passes, header_call}
+use Rattle.jsonwebtoken.specs.Order.{Tests, Passes}
+use Rattle.jsonwebtoken.specs.Tests.{dot, Parts, message_of, text_of_parts, Test, HasThreeParts, SignatureIsPart, PayloadIsPart, PayloadIsJson, header_tests, Contents, token_tests, header_call}
 
 -- ---- a call
 
@@ -88,13 +88,9 @@ module _ (issue : Issue) where
   IssueKind MessageIsSigned t k =
       issue.sign_refusal issue.header.alg issue.key (message_to_sign t) ≡ Some k
 
-  -- every test of the order holds
-  abbrev pub IssuePasses : List IssueTest → Written → Type 0
-  IssuePasses = PassesAll (IssueCondition)
-
-  -- the order's first failed test has this kind
-  abbrev pub IssueFailsFirst : List IssueTest → Kind → Type 0
-  IssueFailsFirst = FailsFirst (IssueCondition) (IssueKind)
+  -- the tests of a token that is to be issued
+  abbrev pub issue_tests : Tests IssueTest Written
+  issue_tests = record { condition = IssueCondition; has_kind = IssueKind }
 
   -- The parts of an issued token: those of the header's and of the claims' text, and that of a
   -- signature which the provider may return for the two (RFC 7515 sections 5.1 and 7.1).
@@ -151,7 +147,7 @@ AcceptsOf issue accepts key = (m s : List ℕ) → IsBytes m → IsBytes s
 pub record IsReadBack (issue : Issue) (accepts : Algorithm → Key → List ℕ → List ℕ → Type 0)
     (v : Data) (x : List ℕ) : Type 0 where
   pub contents : Contents
-  pub passed : Passes (header_call x) issued_tests contents
+  pub passed : Passes (token_tests (header_call x)) issued_tests contents
   pub header : contents.header ≡ normal_header issue.header
   pub claims : contents.payload_value ≡ v
   pub accepted : (key : Key) → AcceptsOf issue accepts key

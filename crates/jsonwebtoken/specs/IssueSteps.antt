@@ -6,9 +6,9 @@ use Rattle.jwt_base.specs.Base64Url.{IsPart}
 use Rattle.jwt_base.specs.Claims.{IsCompact}
 use Rattle.jwt_base.specs.Kind.{Kind}
 use Rattle.jwt_base.specs.declared.errors.Error.{Error}
-use Rattle.jsonwebtoken.specs.Order.{FailedAt}
+use Rattle.jsonwebtoken.specs.Order.{Passes, FailedAt}
 use Rattle.jsonwebtoken.specs.Steps.{Meets}
-use Rattle.jsonwebtoken.specs.Issue.{Issue, IssueTest, HeaderIsWritten, ClaimsAreWritten, Written, AreWritten, IssueCondition, IssueKind, IssuePasses}
+use Rattle.jsonwebtoken.specs.Issue.{Issue, IssueTest, HeaderIsWritten, ClaimsAreWritten, Written, AreWritten, IssueCondition, issue_tests}
 use Rattle.jwt_header.specs.Header.{header_value}
 
 -- the part that stands for the value's compact text
@@ -29,11 +29,11 @@ module _ (issue : Issue) where
   IssueFailsAt c t = IssueCondition issue c t → ⊥
 
   abbrev pub IssueFailed : List IssueTest → Written → Kind → Type 0
-  IssueFailed = FailedAt (IssueCondition issue) (IssueKind issue) IssueFailsAt
+  IssueFailed = FailedAt (issue_tests issue) IssueFailsAt
 
   -- The meaning of a result for these tests: some values pass them, and the result shows them; or
   -- some pass them up to one that fails, unless memory ran out.
   abbrev pub IssueStep : {R : Type 0} → List IssueTest → (Written → R → Type 0)
       → Result R Error → Type 0
-  IssueStep order Shows = Meets (λ r. (t : Written) × IssuePasses issue order t × Shows t r)
+  IssueStep order Shows = Meets (λ r. (t : Written) × Passes (issue_tests issue) order t × Shows t r)
       (λ k. (t : Written) × IssueFailed order t k)

@@ -17,8 +17,8 @@ use Rattle.jwt_keys.specs.declared.jwk.Jwk.{Jwk}
 use Rattle.jwt_params.specs.declared.parameters.AlgorithmParameters.TheVariants.{Other}
 use Rattle.jwt_params.specs.Common.{no_common}
 use Rattle.jwt_validation.specs.Options.{Options}
-use Rattle.jsonwebtoken.specs.Order.{FailedAt}
-use Rattle.jsonwebtoken.specs.Tests.{Parts, HasParts, Given, InSet, set_of, named_key, Call, Test, HasThreeParts, HeaderIsPart, HeaderIsJson, HeaderReads, KeyIsFound, KeyIsUsable, SignatureIsPart, PayloadIsPart, PayloadIsJson, ClaimsRead, Contents, Condition, HasKind, Passes, header_call, insecure_call}
+use Rattle.jsonwebtoken.specs.Order.{Passes, FailedAt}
+use Rattle.jsonwebtoken.specs.Tests.{Parts, HasParts, Given, InSet, set_of, named_key, Call, Test, HasThreeParts, HeaderIsPart, HeaderIsJson, HeaderReads, KeyIsFound, KeyIsUsable, SignatureIsPart, PayloadIsPart, PayloadIsJson, ClaimsRead, Contents, Condition, token_tests, header_call, insecure_call}
 use Rattle.jsonwebtoken.specs.declared.decoding.parts.TokenParts.{TokenParts}
 
 -- the result meets the first relation; or the kind of the refusal meets the second, unless memory
@@ -47,13 +47,13 @@ module _ {T : Type 0} (call : Call T) where
   FailsAt c t = Condition call c t → ⊥
 
   abbrev pub Failed : List Test → Contents → Kind → Type 0
-  Failed = FailedAt (Condition call) (HasKind call) FailsAt
+  Failed = FailedAt (token_tests call) FailsAt
 
   -- The meaning of a result for these tests: some contents pass them, and the result shows them; or
   -- some pass them up to one that fails, unless memory ran out.
   abbrev pub Step : {R : Type 0} → List Test → (Contents → Contents) → (Contents → R → Type 0)
       → Result R Error → Type 0
-  Step order at Shows = Meets (λ r. (x : Contents) × Passes call order (at x) × Shows x r)
+  Step order at Shows = Meets (λ r. (x : Contents) × Passes (token_tests call) order (at x) × Shows x r)
       (λ k. (x : Contents) × Failed order (at x) k)
 
 -- ---- the contents that a step knows of

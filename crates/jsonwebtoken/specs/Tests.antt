@@ -16,7 +16,7 @@ use Rattle.jwt_validation.specs.ClaimRules.{RulesHold, IsRuleFault}
 use Rattle.jsonwebtoken.specs.Crit.{IsUnderstood}
 use Rattle.jwt_header.specs.Header.{ReadsHeader}
 use Rattle.jwt_validation.specs.Options.{Options, default_options}
-use Rattle.jsonwebtoken.specs.Order.{PassesAll, FailsFirst}
+use Rattle.jsonwebtoken.specs.Order.{Tests}
 use Rattle.jwt_header.specs.declared.header.Header.{Header}
 
 -- ---- a token
@@ -192,13 +192,9 @@ module _ {T : Type 0} (call : Call T) where
   HasKind ClaimsAreAnObject t k = k ≡ kind.Json
   HasKind ClaimRulesHold t k = IsRuleFault call.options t.payload_value call.now k
 
-  -- every test of the order holds
-  abbrev pub Passes : List Test → Contents → Type 0
-  Passes = PassesAll (Condition)
-
-  -- the order's first failed test has this kind
-  abbrev pub FirstFailed : List Test → Kind → Type 0
-  FirstFailed = FailsFirst (Condition) (HasKind)
+  -- the tests of a token
+  abbrev pub token_tests : Tests Test Contents
+  token_tests = record { condition = Condition; has_kind = HasKind }
 
 -- ---- the orders
 

@@ -1,10 +1,11 @@
 //! Reading tokens whose signature is checked by cryptography elsewhere.
 
 ghost use Rattle.std.specs.Prelude.{◌≡◌};
-ghost use Rattle.jsonwebtoken.specs.Calls.{Accepts, AcceptsEach, RefusesFirst, HasSigned};
+ghost use Rattle.jsonwebtoken.specs.Calls.{HasSigned};
+ghost use Rattle.jsonwebtoken.specs.Order.{Decides};
 ghost use Rattle.jsonwebtoken.specs.Steps.{Step};
-ghost use Rattle.jsonwebtoken.specs.Tests.{decode_order, signed_order, header_call};
-ghost use Rattle.jsonwebtoken.specs.Vouched.{decoding_by_verdict, AcceptsVouched, AcceptsEachVouched};
+ghost use Rattle.jsonwebtoken.specs.Tests.{signed_order, header_call, token_tests};
+ghost use Rattle.jsonwebtoken.specs.Vouched.{decoding_by_verdict, DecidesVouched};
 
 use crate::decoding::steps::{read_header, token_parts};
 use crate::decoding::{TokenData, decode};
@@ -48,9 +49,7 @@ fn signed_part_by_steps(alloc: Global, token: &[u8]) -> Result<SignedPart<'_>>
 /// The tests are the first three of [`decode`](crate::decode), and then that the signature part is
 /// canonical base64url, else `Base64`.
 pub fn signed_part(alloc: Global, token: &[u8]) -> Result<SignedPart<'_>>
-    ensures accepted { Accepts (header_call token.now) signed_order HasSigned result }
-    ensures exact { AcceptsEach (header_call token.now) signed_order HasSigned result }
-    ensures refused { RefusesFirst (header_call token.now) signed_order result }
+    ensures { Decides (token_tests (header_call token.now)) signed_order (HasSigned (header_call token.now)) result }
 {
     signed_part_by_steps(alloc, token)
 }
@@ -70,15 +69,7 @@ pub fn decode_by_verdict<T: Claims>(
     validation: &Validation,
     now: u64,
 ) -> Result<TokenData<T>>
-    ensures accepted { AcceptsVouched
-        (decoding_by_verdict T.Claims verdict.now token.now validation.now now)
-        verdict.now result }
-    ensures exact { AcceptsEachVouched
-        (decoding_by_verdict T.Claims verdict.now token.now validation.now now)
-        verdict.now result }
-    ensures refused { RefusesFirst
-        (decoding_by_verdict T.Claims verdict.now token.now validation.now now)
-        decode_order result }
+    ensures { DecidesVouched (decoding_by_verdict T.Claims verdict.now token.now validation.now now) verdict.now result }
 {
     let key = verdict.key(alloc)?;
     decode(alloc, verdict, token, &key, validation, now)

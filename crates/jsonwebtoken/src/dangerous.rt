@@ -2,9 +2,10 @@
 //! the signature nor the claim rules are tested.
 
 ghost use Rattle.std.specs.Prelude.{◌≡◌};
-ghost use Rattle.jsonwebtoken.specs.Calls.{Accepts, AcceptsEach, RefusesFirst, Carries, HasClaims};
+ghost use Rattle.jsonwebtoken.specs.Calls.{Carries, HasClaims};
+ghost use Rattle.jsonwebtoken.specs.Order.{Decides};
 ghost use Rattle.jsonwebtoken.specs.Steps.{Step};
-ghost use Rattle.jsonwebtoken.specs.Tests.{insecure_order, insecure_claims_order, insecure_call};
+ghost use Rattle.jsonwebtoken.specs.Tests.{insecure_order, insecure_claims_order, insecure_call, token_tests};
 
 use crate::decoding::TokenData;
 use crate::decoding::steps::{read_header, read_payload, token_parts};
@@ -28,9 +29,8 @@ fn insecure_decode_by_steps<T: Claims>(alloc: Global, token: &[u8]) -> Result<To
 /// part, in the same order, without those of the header's `crit`, of the claims being an object,
 /// and of the claim rules.
 pub fn insecure_decode<T: Claims>(alloc: Global, token: &[u8]) -> Result<TokenData<T>>
-    ensures accepted { Accepts (insecure_call token.now T.reads) insecure_order Carries result }
-    ensures exact { AcceptsEach (insecure_call token.now T.reads) insecure_order Carries result }
-    ensures refused { RefusesFirst (insecure_call token.now T.reads) insecure_order result }
+    ensures { let call = insecure_call token.now T.reads in
+        Decides (token_tests call) insecure_order (Carries call) result }
 {
     insecure_decode_by_steps(alloc, token)
 }
@@ -40,7 +40,8 @@ fn insecure_decode_claims_by_steps<T: Claims>(alloc: Global, token: &[u8]) -> Re
         (HasClaims (insecure_call token.now T.reads)) result }
 {
     let parts = token_parts(token)?;
-    read_payload(alloc, parts.payload)
+    let claims = read_payload(alloc, parts.payload)?;
+    Ok(claims)
 }
 
 /// Returns the claims of a token in its compact form. Nothing is verified, and the header is not
@@ -48,9 +49,8 @@ fn insecure_decode_claims_by_steps<T: Claims>(alloc: Global, token: &[u8]) -> Re
 ///
 /// The tests are those of [`insecure_decode`] without those on the header part.
 pub fn insecure_decode_claims<T: Claims>(alloc: Global, token: &[u8]) -> Result<T>
-    ensures accepted { Accepts (insecure_call token.now T.reads) insecure_claims_order HasClaims result }
-    ensures exact { AcceptsEach (insecure_call token.now T.reads) insecure_claims_order HasClaims result }
-    ensures refused { RefusesFirst (insecure_call token.now T.reads) insecure_claims_order result }
+    ensures { let call = insecure_call token.now T.reads in
+        Decides (token_tests call) insecure_claims_order (HasClaims call) result }
 {
     insecure_decode_claims_by_steps(alloc, token)
 }

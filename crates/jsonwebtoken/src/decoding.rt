@@ -3,10 +3,11 @@
 ghost use Rattle.std.specs.Prelude.{◌≡◌, ℕ, List, IfOk};
 ghost use Rattle.jwt_base.specs.Algorithm.{family_of};
 ghost use Rattle.jwt_keys.specs.Key.{key_family};
-ghost use Rattle.jsonwebtoken.specs.Calls.{decoding, Accepts, AcceptsEach, RefusesFirst, Carries, HasHeader};
-ghost use Rattle.jsonwebtoken.specs.Laws.{HasMoments, KeepsLooser, FixesToken};
+ghost use Rattle.jsonwebtoken.specs.Calls.{decoding, Carries, HasHeader};
+ghost use Rattle.jsonwebtoken.specs.Laws.{HasLaws};
+ghost use Rattle.jsonwebtoken.specs.Order.{Decides};
 ghost use Rattle.jsonwebtoken.specs.Steps.{Step};
-ghost use Rattle.jsonwebtoken.specs.Tests.{Compact, header_order, decode_order, header_call};
+ghost use Rattle.jsonwebtoken.specs.Tests.{Compact, header_order, decode_order, header_call, token_tests};
 
 pub(crate) mod crit;
 mod key_set;
@@ -82,33 +83,18 @@ pub fn decode<P: CryptoProvider, T: Claims>(
     validation: &Validation,
     now: u64,
 ) -> Result<TokenData<T>>
-    ensures accepted { Accepts
-        (decoding P.CryptoProvider T.Claims provider.now token.now key.now validation.now now)
-        decode_order Carries result }
-    ensures exact { AcceptsEach
-        (decoding P.CryptoProvider T.Claims provider.now token.now key.now validation.now now)
-        decode_order Carries result }
-    ensures refused { RefusesFirst
-        (decoding P.CryptoProvider T.Claims provider.now token.now key.now validation.now now)
-        decode_order result }
+    ensures decided { let call = decoding P.CryptoProvider T.Claims
+        provider.now token.now key.now validation.now now in
+        Decides (token_tests call) decode_order (Carries call) result }
 
     // The key is of the family of the header's algorithm.
     ensures family { IfOk result (λ r. key_family key.now ≡ family_of r.header.alg) }
 
-    // It accepts exactly at the moments from the first to the last.
-    ensures moments { HasMoments
-        (decoding P.CryptoProvider T.Claims provider.now token.now key.now validation.now now)
-        decode_order }
-
-    // A token that it accepts is accepted under every looser validation, with the same header and
-    // claims.
-    ensures looser { KeepsLooser
-        (decoding P.CryptoProvider T.Claims provider.now token.now key.now validation.now now)
-        decode_order }
-
-    // If the provider accepts at most one signature of each message, the header's and the payload's
-    // bytes fix the token.
-    ensures one_text { FixesToken
+    // A token is accepted exactly at the moments
+    // from the first to the last, and under every looser validation too, with the same header and
+    // claims. If the provider accepts at most one signature of each message, the header's and the
+    // payload's bytes fix the token.
+    ensures laws { HasLaws
         (decoding P.CryptoProvider T.Claims provider.now token.now key.now validation.now now)
         decode_order (List ℕ) Compact token.now }
 {
@@ -119,7 +105,8 @@ fn decode_header_by_steps(alloc: Global, token: &[u8]) -> Result<Header>
     ensures { Step (header_call token.now) header_order (λ x. x) (HasHeader (header_call token.now)) result }
 {
     let parts = token_parts(token)?;
-    read_header(alloc, parts.header)
+    let header = read_header(alloc, parts.header)?;
+    Ok(header)
 }
 
 /// Returns the header of a token in its compact form. Nothing is verified: neither the payload nor
@@ -127,9 +114,7 @@ fn decode_header_by_steps(alloc: Global, token: &[u8]) -> Result<Header>
 ///
 /// The tests are the first three of [`decode`], in the same order.
 pub fn decode_header(alloc: Global, token: &[u8]) -> Result<Header>
-    ensures accepted { Accepts (header_call token.now) header_order HasHeader result }
-    ensures exact { AcceptsEach (header_call token.now) header_order HasHeader result }
-    ensures refused { RefusesFirst (header_call token.now) header_order result }
+    ensures { Decides (token_tests (header_call token.now)) header_order (HasHeader (header_call token.now)) result }
 {
     decode_header_by_steps(alloc, token)
 }

@@ -1,8 +1,9 @@
 //! Issuing tokens in their compact form (RFC 7515 section 7.1).
 
 ghost use Rattle.std.specs.Prelude.{IfOk, string_bytes};
-ghost use Rattle.jsonwebtoken.specs.Issue.{Written, IsIssued, IssuePasses, ReadsBack, encode_order};
-ghost use Rattle.jsonwebtoken.specs.IssueCalls.{encoding, Issues, IssuesEach, RefusesToIssue};
+ghost use Rattle.jsonwebtoken.specs.Order.{Passes, Decides};
+ghost use Rattle.jsonwebtoken.specs.Issue.{Written, IsIssued, ReadsBack, encode_order, issue_tests};
+ghost use Rattle.jsonwebtoken.specs.IssueCalls.{encoding};
 ghost use Rattle.jsonwebtoken.specs.IssueSteps.{IssueStep};
 
 pub(crate) mod steps;
@@ -32,7 +33,8 @@ fn encode_by_steps<P: CryptoProvider, T: Claims>(
     let header_text = header_part(alloc, header)?;
     let claims_text = claims_part(alloc, claims)?;
     let signed = sign_parts(alloc, &signer, header_text, claims_text.as_str())?;
-    with_part(signed.message, signed.signature.as_str())
+    let token = with_part(signed.message, signed.signature.as_str())?;
+    Ok(token)
 }
 
 /// Signs a header and claims with the key, and returns the token: header part, dot, claims part,
@@ -53,20 +55,13 @@ pub fn encode<P: CryptoProvider, T: Claims>(
     claims: &T,
     key: &EncodingKey,
 ) -> Result<String>
-    ensures issued { Issues
-        (encoding P.CryptoProvider T.Claims provider.now header.now claims.now key.now)
-        encode_order (λ i t x. IsIssued i t (string_bytes x)) result }
-    ensures exact { IssuesEach
-        (encoding P.CryptoProvider T.Claims provider.now header.now claims.now key.now)
-        encode_order (λ i t x. IsIssued i t (string_bytes x)) result }
-    ensures refused { RefusesToIssue
-        (encoding P.CryptoProvider T.Claims provider.now header.now claims.now key.now)
-        encode_order result }
+    ensures decided { let issue = encoding P.CryptoProvider T.Claims provider.now header.now claims.now key.now in
+        Decides (issue_tests issue) encode_order (λ t x. IsIssued issue t (string_bytes x)) result }
 
     // An issued token is read as the header's normal form and the claims' value, and its signature
     // is accepted with each key that accepts the signatures of this key.
     ensures read_back { let issue = encoding P.CryptoProvider T.Claims provider.now header.now claims.now key.now in
-        IfOk result (λ x. (t : Written) → IssuePasses issue encode_order t
+        IfOk result (λ x. (t : Written) → Passes (issue_tests issue) encode_order t
         → ReadsBack issue (P.accepts provider.now) t (string_bytes x)) }
 {
     encode_by_steps(alloc, provider, header, claims, key)

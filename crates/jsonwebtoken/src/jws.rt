@@ -8,14 +8,15 @@ ghost use Rattle.jwt_base.specs.KindOf.{IsMemory, RefusesAs};
 ghost use Rattle.jwt_base.specs.Members.{text_at};
 ghost use Rattle.jwt_keys.specs.Key.{key_family};
 ghost use Rattle.jwt_validation.specs.OptionsOf.{options_of};
-ghost use Rattle.jsonwebtoken.specs.Calls.{decoding_parts, Accepts, AcceptsEach, RefusesFirst, Carries};
-ghost use Rattle.jsonwebtoken.specs.Issue.{Written, AreIssued, IssuePasses, ReadsBack, jws_encode_order};
-ghost use Rattle.jsonwebtoken.specs.IssueCalls.{encoding_parts, Issues, IssuesEach, RefusesToIssue};
+ghost use Rattle.jsonwebtoken.specs.Calls.{decoding_parts, Carries};
+ghost use Rattle.jsonwebtoken.specs.Order.{Passes, Decides};
+ghost use Rattle.jsonwebtoken.specs.Issue.{Written, AreIssued, ReadsBack, jws_encode_order, issue_tests};
+ghost use Rattle.jsonwebtoken.specs.IssueCalls.{encoding_parts};
 ghost use Rattle.jsonwebtoken.specs.IssueSteps.{IssueStep};
 ghost use Rattle.jsonwebtoken.specs.Jws.{parts_of, ReadsParts, parts_value};
-ghost use Rattle.jsonwebtoken.specs.Laws.{HasMoments, KeepsLooser, FixesToken, AgreeOn};
+ghost use Rattle.jsonwebtoken.specs.Laws.{HasLaws, AgreeOn};
 ghost use Rattle.jsonwebtoken.specs.Steps.{Step, parts_in, allowing, with_header};
-ghost use Rattle.jsonwebtoken.specs.Tests.{Parts, Separate, text_of_parts, jws_algorithm_tests, jws_order};
+ghost use Rattle.jsonwebtoken.specs.Tests.{Parts, Separate, text_of_parts, jws_algorithm_tests, jws_order, token_tests};
 
 use crate::decoding::TokenData;
 use crate::decoding::parts::TokenParts;
@@ -139,21 +140,15 @@ pub fn encode<P: CryptoProvider, T: Claims>(
     claims: Option<&T>,
     key: &EncodingKey,
 ) -> Result<Jws<T>>
-    ensures issued { Issues
-        (encoding_parts P.CryptoProvider T.Claims provider.now header.now claims.entry key.now)
-        jws_encode_order (λ i t j. AreIssued i t (parts_of j)) result }
-    ensures exact { IssuesEach
-        (encoding_parts P.CryptoProvider T.Claims provider.now header.now claims.entry key.now)
-        jws_encode_order (λ i t j. AreIssued i t (parts_of j)) result }
-    ensures refused { RefusesToIssue
-        (encoding_parts P.CryptoProvider T.Claims provider.now header.now claims.entry key.now)
-        jws_encode_order result }
+    ensures decided { let issue = encoding_parts P.CryptoProvider T.Claims
+        provider.now header.now claims.entry key.now in
+        Decides (issue_tests issue) jws_encode_order (λ t j. AreIssued issue t (parts_of j)) result }
 
     // With claims, the text of the parts is read as the header's normal form and the claims' value,
     // and its signature is accepted with each key that accepts the signatures of this key.
     ensures read_back { let issue = encoding_parts P.CryptoProvider T.Claims
         provider.now header.now claims.entry key.now in
-        IfOk result (λ j. (t : Written) → IssuePasses issue jws_encode_order t
+        IfOk result (λ j. (t : Written) → Passes (issue_tests issue) jws_encode_order t
         → ReadsBack issue (P.accepts provider.now) t (text_of_parts (parts_of j))) }
 {
     encode_by_steps(alloc, provider, header, claims, key)
@@ -221,7 +216,8 @@ fn decode_by_steps<P: CryptoProvider, T: Claims>(
         payload: token.payload.as_bytes(),
         signature: token.signature.as_bytes(),
     };
-    decode_parts(alloc, provider, &parts, key, validation, now)
+    let data = decode_parts(alloc, provider, &parts, key, validation, now)?;
+    Ok(data)
 }
 
 /// Verifies a token in parts with the key, at the moment `now`, in whole seconds since 1970-01-01
@@ -241,38 +237,18 @@ pub fn decode<P: CryptoProvider, T: Claims>(
     validation: &Validation,
     now: u64,
 ) -> Result<TokenData<T>>
-    ensures accepted { Accepts
-        (decoding_parts P.CryptoProvider T.Claims provider.now (parts_of token.now) key.now
-        validation.now now)
-        jws_order Carries result }
-    ensures exact { AcceptsEach
-        (decoding_parts P.CryptoProvider T.Claims provider.now (parts_of token.now) key.now
-        validation.now now)
-        jws_order Carries result }
-    ensures refused { RefusesFirst
-        (decoding_parts P.CryptoProvider T.Claims provider.now (parts_of token.now) key.now
-        validation.now now)
-        jws_order result }
+    ensures decided { let call = decoding_parts P.CryptoProvider T.Claims
+        provider.now (parts_of token.now) key.now validation.now now in
+        Decides (token_tests call) jws_order (Carries call) result }
 
     // The key is of the family of the header's algorithm.
     ensures family { IfOk result (λ r. key_family key.now ≡ family_of r.header.alg) }
 
-    // It accepts exactly at the moments from the first to the last.
-    ensures moments { HasMoments
-        (decoding_parts P.CryptoProvider T.Claims provider.now (parts_of token.now) key.now
-        validation.now now)
-        jws_order }
-
-    // A token that it accepts is accepted under every looser validation, with the same header and
-    // claims.
-    ensures looser { KeepsLooser
-        (decoding_parts P.CryptoProvider T.Claims provider.now (parts_of token.now) key.now
-        validation.now now)
-        jws_order }
-
-    // If the provider accepts at most one signature of each message, the header's and the payload's
-    // bytes fix the three parts.
-    ensures one_text { FixesToken
+    // A token is accepted exactly at the moments
+    // from the first to the last, and under every looser validation too, with the same header and
+    // claims. If the provider accepts at most one signature of each message, the header's and the
+    // payload's bytes fix the three parts.
+    ensures laws { HasLaws
         (decoding_parts P.CryptoProvider T.Claims provider.now (parts_of token.now) key.now
         validation.now now)
         jws_order Parts Separate (parts_of token.now) }

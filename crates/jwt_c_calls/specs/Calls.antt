@@ -27,7 +27,8 @@ use Rattle.jwt_validation.specs.Options.{Options}
 use Rattle.jwt_validation.specs.OptionsRead.{ReadsOptions}
 use Rattle.jwt_crypto.specs.Verdict.{Verdict, IsVerified, refusal_by}
 use Rattle.jsonwebtoken.specs.ByHmac.{decoding_by_hmac}
-use Rattle.jsonwebtoken.specs.Tests.{Call, Compact, Contents, Given, InSet, Passes, FirstFailed, decode_order, header_order, set_order, signed_order, header_call, message_of, verifying_call}
+use Rattle.jsonwebtoken.specs.Order.{Passes, FailsFirst}
+use Rattle.jsonwebtoken.specs.Tests.{Call, Compact, Contents, Given, InSet, decode_order, header_order, set_order, signed_order, header_call, message_of, verifying_call, token_tests}
 use Rattle.jsonwebtoken.specs.Vouched.{IsVouched}
 use Rattle.jwt_c_calls.specs.Inputs.{ReadsClaimsText}
 use Rattle.jwt_c_calls.specs.Status.{number, input_status, algorithm_numbered, IsGiven, IsKept}
@@ -128,21 +129,21 @@ AnswersWhere text Accepted Refused = AnswersBy
 -- (RFC 7519 section 7.2)
 abbrev pub AnswersHmac : List ℕ → List ℕ → List ℕ → ℕ → Answer → Type 0
 AnswersHmac text token secret now = AnswersWhere text
-    (λ o. Passes (hmac_call token secret now o) decode_order)
-    (λ o. FirstFailed (hmac_call token secret now o) decode_order)
+    (λ o. Passes (token_tests (hmac_call token secret now o)) decode_order)
+    (λ o. FailsFirst (token_tests (hmac_call token secret now o)) decode_order)
 
 -- the same for `decode_with_set`; the options' text is read before that of the key set
 abbrev pub AnswersSet : List ℕ → List ℕ → List ℕ → ℕ → Answer → Type 0
 AnswersSet text token set now = AnswersBy {E = Options × List Jwk}
     (λ e. ReadsText ReadsOptions text e.0 × ReadsText ReadsSet set e.1)
     (MisreadsTwo input.Options (ReadsText ReadsOptions text) input.Set (ReadsText ReadsSet set))
-    (λ e. IsClaimsText (Passes (set_call token e.1 now e.0) set_order))
-    (λ e. FirstFailed (set_call token e.1 now e.0) set_order)
+    (λ e. IsClaimsText (Passes (token_tests (set_call token e.1 now e.0)) set_order))
+    (λ e. FailsFirst (token_tests (set_call token e.1 now e.0)) set_order)
 
 -- contents that `decode` accepts with the key that a JSON Web Key stands for (RFC 7518 section 6)
 abbrev pub PassesByJwk : List ℕ → ℕ → Options → Jwk → Contents → Type 0
 PassesByJwk token now options jwk t = (key : Key) × IsKeyOf jwk.algorithm key
-    × Passes (key_call token key now options) decode_order t
+    × Passes (token_tests (key_call token key now options)) decode_order t
 
 -- the kind with which a JSON Web Key that stands for no key is refused; else that of the first test
 -- that fails with its key
@@ -150,7 +151,7 @@ abbrev pub FailsByJwk : List ℕ → ℕ → Options → Jwk → Kind → Type 0
 FailsByJwk token now options jwk k =
     ((k ≡ refusal_of jwk.algorithm) × ((key : Key) → ¬ IsKeyOf jwk.algorithm key))
     ⊎ ((key : Key) × IsKeyOf jwk.algorithm key
-    × FirstFailed (key_call token key now options) decode_order k)
+    × FailsFirst (token_tests (key_call token key now options)) decode_order k)
 
 -- `decode` with a JSON Web Key; the options' text is read before that of the key, and the key before
 -- the token
@@ -166,7 +167,7 @@ AnswersKey text token key now = AnswersBy {E = Options × Jwk}
 abbrev pub AnswersVerdict : List ℕ → List ℕ → Verdict → ℕ → Answer → Type 0
 AnswersVerdict text token v now = AnswersWhere text
     (λ o. IsVouched (verdict_call token v now o) v)
-    (λ o. FirstFailed (verdict_call token v now o) decode_order)
+    (λ o. FailsFirst (token_tests (verdict_call token v now o)) decode_order)
 
 -- a caller's verdict, by the algorithm that is named by its number
 pub record Said : Type 0 where
@@ -194,26 +195,26 @@ AnswersNumbers text = AnswersBy {E = Data}
 
 -- the compact JSON text of the header of a token (RFC 7515 section 4)
 abbrev pub IsHeaderText : List ℕ → List ℕ → Type 0
-IsHeaderText token text = (t : Contents) × Passes (header_call token) header_order t
+IsHeaderText token text = (t : Contents) × Passes (token_tests (header_call token)) header_order t
     × ((value : Data) × (header_value t.header ≡ Some value) × (text ≡ compact_text value))
 
 -- the header's text; or the kind of the first failed test, or memory ran out
 abbrev pub AnswersHeader : List ℕ → Answer → Type 0
 AnswersHeader token (Gives text) = IsHeaderText token text
 AnswersHeader token (Refuses k) =
-    (k ≡ kind.OutOfMemory) ⊎ FirstFailed (header_call token) header_order k
+    (k ≡ kind.OutOfMemory) ⊎ FailsFirst (token_tests (header_call token)) header_order k
 AnswersHeader token (Misreads i) = ⊥
 
 -- the result of `jwt_signed_part`: the header's algorithm, the length of the message, which is the
 -- front of the token, and the signature's bytes in the buffer (RFC 7515 section 5.1); or a refusal
 abbrev pub LeavesSigned : List ℕ → ℕ → ℕ → ℕ → ℕ → List ℕ → List ℕ → Type 0
 LeavesSigned token algorithm message_len status len before after =
-    ((t : Contents) × Passes (header_call token) signed_order t
+    ((t : Contents) × Passes (token_tests (header_call token)) signed_order t
     × (algorithm_numbered algorithm ≡ Some t.header.alg)
     × (message_len ≡ length (message_of t.parts))
     × IsGiven t.signature_bytes status len before after)
     ⊎ ((k : Kind)
-    × ((k ≡ kind.OutOfMemory) ⊎ FirstFailed (header_call token) signed_order k)
+    × ((k ≡ kind.OutOfMemory) ⊎ FailsFirst (token_tests (header_call token)) signed_order k)
     × (algorithm ≡ 0) × (message_len ≡ 0) × IsKept (number k) status len before after)
 
 -- ---- for private clauses

@@ -16,7 +16,8 @@ use Rattle.jwt_keys.specs.declared.jwk.Jwk.{Jwk}
 use Rattle.jwt_params.specs.declared.thumbprints.ThumbprintHash.{ThumbprintHash}
 use Rattle.jwt_params.specs.declared.thumbprints.ThumbprintHash.TheVariants.{SHA256, SHA384, SHA512}
 use Rattle.jsonwebtoken.specs.ByHmac.{encoding_by_hmac}
-use Rattle.jsonwebtoken.specs.Issue.{Issue, IssuePasses, IssueFailsFirst, IsIssued, Written, encode_order}
+use Rattle.jsonwebtoken.specs.Order.{Passes, FailsFirst}
+use Rattle.jsonwebtoken.specs.Issue.{Issue, IsIssued, Written, encode_order, issue_tests}
 use Rattle.jwt_c_calls.specs.Calls.{Answer, AnswersBy, Refuses, MisreadsOne, MisreadsTwo}
 use Rattle.jwt_c_calls.specs.Inputs.{ReadsClaimsText}
 use Rattle.jwt_c_calls.specs.declared.inputs.Input.TheVariants as input
@@ -31,11 +32,11 @@ hmac_issue secret header value =
 -- the token is issued of values that pass every test of `encode` (RFC 7519 section 7.1)
 abbrev pub IsTokenOf : List ℕ → Header → Data → List ℕ → Type 0
 IsTokenOf secret header value token = let issue = hmac_issue secret header value in
-    (t : Written) × IssuePasses issue encode_order t × IsIssued issue t token
+    (t : Written) × Passes (issue_tests issue) encode_order t × IsIssued issue t token
 
 -- a refusal has the kind of the first test of `encode` that fails
 abbrev pub IsNotIssued : List ℕ → Header → Data → Kind → Type 0
-IsNotIssued secret header value = IssueFailsFirst (hmac_issue secret header value) encode_order
+IsNotIssued secret header value = FailsFirst (issue_tests (hmac_issue secret header value)) encode_order
 
 -- the header's text is read before that of the claims
 abbrev pub AnswersEncode : List ℕ → List ℕ → List ℕ → Answer → Type 0

@@ -7,7 +7,8 @@ ghost use Rattle.jwt_base.specs.Kind as kind;
 ghost use Rattle.jwt_base.specs.KindOf.{kind_of, IsMemory};
 ghost use Rattle.jwt_header.specs.Header.{header_value};
 ghost use Rattle.jwt_validation.specs.OptionsOf.{options_of};
-ghost use Rattle.jsonwebtoken.specs.Tests.{Contents, Passes, FirstFailed, header_order, header_call};
+ghost use Rattle.jsonwebtoken.specs.Order.{Passes, FailsFirst};
+ghost use Rattle.jsonwebtoken.specs.Tests.{Contents, header_order, header_call, token_tests};
 ghost use Rattle.jwt_c_calls.specs.Calls.{Gives, AnswersHmac, AnswersKey, AnswersSet, AnswersVerdict, AnswersSaid, AnswersHeader, AnswersNumbers, PassesByJwk, FailsByJwk, HandsOut, IsHeaderText, answer_of};
 ghost use Rattle.jwt_c_calls.specs.Status.{algorithm_numbered};
 
@@ -156,10 +157,10 @@ pub fn said_answer(
 }
 
 fn header_of(alloc: Global, token: &[u8]) -> Result<Value, Error>
-    ensures ok { IfOk result (λ v. (t : Contents) × Passes (header_call token.now) header_order t
+    ensures ok { IfOk result (λ v. (t : Contents) × Passes (token_tests (header_call token.now)) header_order t
         × (header_value t.header ≡ Some (view v))) }
     ensures no_float { IfOk result (λ v. has_float (view v) ≡ false) }
-    ensures err { IfErr result (λ e. IsMemory e ⊎ FirstFailed (header_call token.now) header_order (kind_of e)) }
+    ensures err { IfErr result (λ e. IsMemory e ⊎ FailsFirst (token_tests (header_call token.now)) header_order (kind_of e)) }
 {
     let header = decode_header(alloc, token)?;
     header.to_value(alloc)

@@ -20,8 +20,9 @@ use Rattle.jwt_crypto.specs.HmacKeys.{hash_named}
 use Rattle.jwt_header.specs.Header.{header_value, new_header}
 use Rattle.jwt_validation.specs.Options.{default_options}
 use Rattle.jsonwebtoken.specs.ByHmac.{decoding_by_hmac, encoding_by_hmac}
-use Rattle.jsonwebtoken.specs.Tests.{Call, Contents, Passes, FirstFailed, header_order, header_call, Given, InSet, decode_order, set_order}
-use Rattle.jsonwebtoken.specs.Issue.{Issue, Written, IsIssued, IssuePasses, IssueFailsFirst, encode_order}
+use Rattle.jsonwebtoken.specs.Order.{Passes, FailsFirst}
+use Rattle.jsonwebtoken.specs.Tests.{Call, Contents, header_order, header_call, Given, InSet, decode_order, set_order, token_tests}
+use Rattle.jsonwebtoken.specs.Issue.{Issue, Written, IsIssued, encode_order, issue_tests}
 use Rattle.jwt_base.specs.JsonText.{IsJson, ReadsText}
 use Rattle.jwt_tool.specs.Words.{Request, ForHeader, ForThumbprint, ForToken, ForClaims, ForClaimsBySet, request_of}
 
@@ -51,14 +52,14 @@ ValueLine value status line =
 -- the value that the header of the input's token is written as (RFC 7515 section 4)
 abbrev pub IsHeaderValue : List ℕ → Data → Type 0
 IsHeaderValue input value =
-    (t : Contents) × Passes (header_call input) header_order t
+    (t : Contents) × Passes (token_tests (header_call input)) header_order t
     × (header_value t.header ≡ Some value)
 
 -- the token's header, or the kind of its first failed test (RFC 7515 section 4)
 abbrev pub HeaderLine : List ℕ → ℕ → List ℕ → Type 0
 HeaderLine input status line =
     ((value : Data) × IsHeaderValue input value × IsValueText value status line)
-    ⊎ ((k : Kind) × FirstFailed (header_call input) header_order k × IsRefusal k status line)
+    ⊎ ((k : Kind) × FailsFirst (token_tests (header_call input)) header_order k × IsRefusal k status line)
 
 -- the input is that of a key, and this is the base64url text of the digest of its required members
 -- (RFC 7638 section 3)
@@ -89,14 +90,14 @@ hmac_call input algorithm secret now =
 -- the claims of a token that passes every test of decode (RFC 7519 section 7.2)
 abbrev pub IsClaimsValue : List ℕ → Algorithm → List ℕ → ℕ → Data → Type 0
 IsClaimsValue input algorithm secret now value =
-    (t : Contents) × Passes (hmac_call input algorithm secret now) decode_order t
+    (t : Contents) × Passes (token_tests (hmac_call input algorithm secret now)) decode_order t
     × (t.payload_value ≡ value)
 
 -- the token's claims, or the kind of its first failed test (RFC 7519 section 7.2)
 abbrev pub ClaimsLine : List ℕ → Algorithm → List ℕ → ℕ → ℕ → List ℕ → Type 0
 ClaimsLine input algorithm secret now status line =
     ((value : Data) × IsClaimsValue input algorithm secret now value × ValueLine value status line)
-    ⊎ ((k : Kind) × FirstFailed (hmac_call input algorithm secret now) decode_order k
+    ⊎ ((k : Kind) × FailsFirst (token_tests (hmac_call input algorithm secret now)) decode_order k
     × IsRefusal k status line)
 
 -- the input's token, checked by HMAC with the key of the set that its header names, under the same
@@ -109,7 +110,7 @@ hmac_set_call input algorithm keys now =
 -- (RFC 7517 section 5, RFC 7519 section 7.2)
 abbrev pub IsClaimsValueBySet : List ℕ → Algorithm → List ℕ → ℕ → Data → Type 0
 IsClaimsValueBySet input algorithm set now value = (keys : List Jwk) × ReadsText ReadsSet set keys
-    × ((t : Contents) × Passes (hmac_set_call input algorithm keys now) set_order t
+    × ((t : Contents) × Passes (token_tests (hmac_set_call input algorithm keys now)) set_order t
     × (t.payload_value ≡ value))
 
 -- the text is not that of a set (RFC 7517 section 5), or the first failed test has this kind
@@ -117,7 +118,7 @@ abbrev pub HasSetFault : List ℕ → Algorithm → List ℕ → ℕ → Kind �
 HasSetFault input algorithm set now k =
     ((k ≡ kind.Json) × ((keys : List Jwk) → ¬ ReadsText ReadsSet set keys))
     ⊎ ((keys : List Jwk) × ReadsText ReadsSet set keys
-    × FirstFailed (hmac_set_call input algorithm keys now) set_order k)
+    × FailsFirst (token_tests (hmac_set_call input algorithm keys now)) set_order k)
 
 -- the token's claims by a set, or the text of the refusal (RFC 7517 section 5, RFC 7519 section
 -- 7.2)
@@ -135,7 +136,7 @@ hmac_issue algorithm secret claims =
 -- the token of the claims that the input is the JSON text of (RFC 7519 section 7.1)
 abbrev pub IsToken : List ℕ → Algorithm → List ℕ → List ℕ → Type 0
 IsToken input algorithm secret token = (claims : Data) × IsJson input claims
-    × ((t : Written) × IssuePasses (hmac_issue algorithm secret claims) encode_order t
+    × ((t : Written) × Passes (issue_tests (hmac_issue algorithm secret claims)) encode_order t
     × IsIssued (hmac_issue algorithm secret claims) t token)
 
 -- the input is not JSON text, or the first failed test of encode has this kind
@@ -143,7 +144,7 @@ abbrev pub HasTokenFault : List ℕ → Algorithm → List ℕ → Kind → Type
 HasTokenFault input algorithm secret k =
     ((k ≡ kind.Json) × ((claims : Data) → ¬ IsJson input claims))
     ⊎ ((claims : Data) × IsJson input claims
-    × IssueFailsFirst (hmac_issue algorithm secret claims) encode_order k)
+    × FailsFirst (issue_tests (hmac_issue algorithm secret claims)) encode_order k)
 
 -- the token, or the text of the refusal (RFC 7519 section 7.1)
 abbrev pub TokenLine : List ℕ → Algorithm → List ℕ → ℕ → List ℕ → Type 0

@@ -7,7 +7,8 @@ ghost use Rattle.serde_json.specs.Written.{has_float};
 ghost use Rattle.jwt_base.specs.Kind as kind;
 ghost use Rattle.jwt_base.specs.KindOf.{kind_of, IsMemory, RefusesAs};
 ghost use Rattle.jwt_keys.specs.declared.jwk.Jwk.{Jwk};
-ghost use Rattle.jsonwebtoken.specs.Tests.{FirstFailed, header_order, header_call, decode_order};
+ghost use Rattle.jsonwebtoken.specs.Order.{FailsFirst};
+ghost use Rattle.jsonwebtoken.specs.Tests.{header_order, header_call, decode_order, token_tests};
 ghost use Rattle.jwt_tool.specs.Asked.{asked};
 ghost use Rattle.jwt_tool.specs.Words.{request_of};
 ghost use Rattle.jwt_tool.specs.Line.{Answers, RequestAnswer, ValueAnswer, ValueLine, IsValueText, IsRefusal, IsHeaderValue, IsClaimsValue, hmac_call, IsSetText, IsClaimsValueBySet, HasSetFault, IsThumbprint, HasThumbprintFault, ThumbprintLine, IsToken, HasTokenFault, TokenLine, IsMemoryLine, IsUsage, without_final_newline};
@@ -123,7 +124,7 @@ fn command_answer(
 /// Returns the header's JSON text, or the refusal's text.
 fn header_answer(alloc: Global, input: &[u8]) -> std::result::Result<Answer, ToolFault>
     ensures { IfOk result (λ a. ValueAnswer IsValueText (IsHeaderValue input.now)
-        (λ k. FirstFailed (header_call input.now) header_order k) a.status (string_bytes a.line)) }
+        (λ k. FailsFirst (token_tests (header_call input.now)) header_order k) a.status (string_bytes a.line)) }
 {
     match header_value(alloc, input) {
         Ok(value) => text_answer(alloc, &value),
@@ -171,7 +172,7 @@ fn claims_answer(
     input: &[u8],
 ) -> std::result::Result<Answer, ToolFault>
     ensures { IfOk result (λ a. ValueAnswer ValueLine (IsClaimsValue input.now algorithm secret.now now)
-        (λ k. FirstFailed (hmac_call input.now algorithm secret.now now) decode_order k) a.status (string_bytes a.line)) }
+        (λ k. FailsFirst (token_tests (hmac_call input.now algorithm secret.now now)) decode_order k) a.status (string_bytes a.line)) }
 {
     match claims_value(alloc, algorithm, secret, now, input) {
         Ok(value) => value_answer(alloc, &value),
@@ -232,7 +233,7 @@ fn refusal_answer(alloc: Global, e: &Error) -> std::result::Result<Answer, ToolF
 fn header_value(alloc: Global, input: &[u8]) -> Result<Value>
     ensures ok { IfOk result (λ v. IsHeaderValue input.now (view v)) }
     ensures no_float { IfOk result (λ v. has_float (view v) ≡ false) }
-    ensures err { IfErr result (λ e. IsMemory e ⊎ FirstFailed (header_call input.now) header_order (kind_of e)) }
+    ensures err { IfErr result (λ e. IsMemory e ⊎ FailsFirst (token_tests (header_call input.now)) header_order (kind_of e)) }
 {
     let header = decode_header(alloc, input)?;
     header.to_value(alloc)
@@ -246,7 +247,7 @@ fn claims_value(
     input: &[u8],
 ) -> Result<Value>
     ensures ok { IfOk result (λ v. IsClaimsValue input.now algorithm secret.now now (view v)) }
-    ensures err { IfErr result (λ e. IsMemory e ⊎ FirstFailed (hmac_call input.now algorithm secret.now now) decode_order (kind_of e)) }
+    ensures err { IfErr result (λ e. IsMemory e ⊎ FailsFirst (token_tests (hmac_call input.now algorithm secret.now now)) decode_order (kind_of e)) }
 {
     let key = DecodingKey::from_secret(alloc, secret.as_bytes())?;
     let validation = Validation::new(alloc, algorithm)?;

@@ -4,10 +4,11 @@
 ghost use Rattle.std.specs.Prelude.{◌≡◌, ℕ, List, Some, None, IfOk, IfErr};
 ghost use Rattle.jwt_base.specs.Kind as kind;
 ghost use Rattle.jwt_base.specs.KindOf.{kind_of};
-ghost use Rattle.jsonwebtoken.specs.Calls.{decoding_by_set, Accepts, AcceptsEach, RefusesFirst, Carries};
-ghost use Rattle.jsonwebtoken.specs.Laws.{HasMoments, KeepsLooser, KeepsWithMore, KeyFits, FixesToken};
+ghost use Rattle.jsonwebtoken.specs.Calls.{decoding_by_set, Carries};
+ghost use Rattle.jsonwebtoken.specs.Laws.{HasLaws, KeepsWithMore};
+ghost use Rattle.jsonwebtoken.specs.Order.{Decides};
 ghost use Rattle.jsonwebtoken.specs.Steps.{AsksFor, Step, looking_in, with_header};
-ghost use Rattle.jsonwebtoken.specs.Tests.{Compact, named_key, AgreesWith, key_tests, set_order};
+ghost use Rattle.jsonwebtoken.specs.Tests.{Compact, named_key, AgreesWith, key_tests, set_order, token_tests};
 
 use crate::decoding::TokenData;
 use crate::decoding::steps::{
@@ -54,7 +55,8 @@ fn key_in_set(alloc: Global, set: &JwkSet, header: &Header) -> Result<DecodingKe
 {
     let jwk = find_key(set, header)?;
     check_key_algorithm(jwk, header.alg)?;
-    DecodingKey::from_jwk(alloc, jwk)
+    let key = DecodingKey::from_jwk(alloc, jwk)?;
+    Ok(key)
 }
 
 fn decode_with_set_by_steps<P: CryptoProvider, T: Claims>(
@@ -97,37 +99,18 @@ pub fn decode_with_set<P: CryptoProvider, T: Claims>(
     validation: &Validation,
     now: u64,
 ) -> Result<TokenData<T>>
-    ensures accepted { Accepts
-        (decoding_by_set P.CryptoProvider T.Claims provider.now token.now set.now.keys.items
-        validation.now now)
-        set_order Carries result }
-    ensures exact { AcceptsEach
-        (decoding_by_set P.CryptoProvider T.Claims provider.now token.now set.now.keys.items
-        validation.now now)
-        set_order Carries result }
-    ensures refused { RefusesFirst
-        (decoding_by_set P.CryptoProvider T.Claims provider.now token.now set.now.keys.items
-        validation.now now)
-        set_order result }
+    ensures decided { let call = decoding_by_set P.CryptoProvider T.Claims
+        provider.now token.now set.now.keys.items validation.now now in
+        Decides (token_tests call) set_order (Carries call) result }
 
-    // The key is of the family of the header's algorithm.
-    ensures family { KeyFits
+    // The key is of the family of the header's algorithm. A token is accepted exactly at the moments
+    // from the first to the last, and under every looser validation too, with the same header and
+    // claims. If the provider accepts at most one signature of each message, the header's and the
+    // payload's bytes fix the token.
+    ensures laws { HasLaws
         (decoding_by_set P.CryptoProvider T.Claims provider.now token.now set.now.keys.items
         validation.now now)
-        set_order }
-
-    // It accepts exactly at the moments from the first to the last.
-    ensures moments { HasMoments
-        (decoding_by_set P.CryptoProvider T.Claims provider.now token.now set.now.keys.items
-        validation.now now)
-        set_order }
-
-    // A token that it accepts is accepted under every looser validation, with the same header and
-    // claims.
-    ensures looser { KeepsLooser
-        (decoding_by_set P.CryptoProvider T.Claims provider.now token.now set.now.keys.items
-        validation.now now)
-        set_order }
+        set_order (List ℕ) Compact token.now }
 
     // A token that it accepts is accepted with more keys after those of the set, with the same
     // header and claims.
@@ -135,13 +118,6 @@ pub fn decode_with_set<P: CryptoProvider, T: Claims>(
         (decoding_by_set P.CryptoProvider T.Claims provider.now token.now set.now.keys.items
         validation.now now)
         set_order set.now.keys.items }
-
-    // If the provider accepts at most one signature of each message, the header's and the payload's
-    // bytes fix the token.
-    ensures one_text { FixesToken
-        (decoding_by_set P.CryptoProvider T.Claims provider.now token.now set.now.keys.items
-        validation.now now)
-        set_order (List ℕ) Compact token.now }
 {
     decode_with_set_by_steps(alloc, provider, token, set, validation, now)
 }

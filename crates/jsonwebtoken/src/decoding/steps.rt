@@ -213,5 +213,6 @@ pub(crate) fn read_payload<T: Claims>(alloc: Global, part: &[u8]) -> Result<T>
 {
     let bytes = part_bytes(alloc, part)?;
     let value = json_value(alloc, bytes.as_slice())?;
-    T::from_owned(alloc, value)
+    let claims = T::from_owned(alloc, value)?;
+    Ok(claims)
 }

@@ -1,7 +1,8 @@
 use Rattle.std.proofs.Common.{◌≡◌, Err, refl}
 use Rattle.std.proofs.lemmas.Result.{err_from_is_err_and}
 use Rattle.jwt_validation.specs.OptionsOf.{options_of}
-use Rattle.jsonwebtoken.specs.Tests.{Passes, FirstFailed, PayloadIsJson, decode_order}
+use Rattle.jsonwebtoken.specs.Order.{Passes, FailsFirst}
+use Rattle.jsonwebtoken.specs.Tests.{PayloadIsJson, decode_order, token_tests}
 use Rattle.jsonwebtoken.proofs.EachTest.{met}
 use Rattle.jwt_c_calls.specs.Calls.{hmac_call, MisreadsOne}
 use Rattle.jwt_c_calls.proofs.Answered.{misread, read_ok}
@@ -19,7 +20,7 @@ pub returns-clause-ok : goal.returns-clause-ok
 returns-clause-ok c =
     let call = hmac_call c.args.token.now c.args.secret.now c.args.now in
     let said = rw c.in_ok-key.ensures.ok at c.decode-answer.ensures.accepted in
-    handed_ok (λ d. d.claims) (λ b. b.items) (ReadsOptionsText c.args.options.now) (MisreadsOne input.Options (ReadsOptionsText c.args.options.now)) (λ o. Passes (call o) decode_order) (λ o. FirstFailed (call o) decode_order)
+    handed_ok (λ d. d.claims) (λ b. b.items) (ReadsOptionsText c.args.options.now) (MisreadsOne input.Options (ReadsOptionsText c.args.options.now)) (λ o. Passes (token_tests (call o)) decode_order) (λ o. FailsFirst (token_tests (call o)) decode_order)
     (λ o t p. shallow t (met (call o) decode_order t p PayloadIsJson refl)) (λ d t. t.header ≡ d.header) (options_of c.in_ok-validation.validation) (read_ok (λ v. ReadsOptionsText c.args.options.now (options_of v)) input.Options c.read_options.result _ c.in_ok-validation.ensures c.read_options.ensures.ok)
     c.decode-answer.result c.hand_out.result c.hand_out.ensures said
 
@@ -27,6 +28,6 @@ pub returns-clause-err : goal.returns-clause-err
 returns-clause-err c =
     let call = hmac_call c.args.token.now c.args.secret.now c.args.now in
     let said = rw c.in_ok-key.ensures.ok at c.decode-answer.ensures.refused in
-    handed_err (λ d. d.claims) (λ b. b.items) (ReadsOptionsText c.args.options.now) (MisreadsOne input.Options (ReadsOptionsText c.args.options.now)) (λ o. Passes (call o) decode_order) (λ o. FirstFailed (call o) decode_order)
+    handed_err (λ d. d.claims) (λ b. b.items) (ReadsOptionsText c.args.options.now) (MisreadsOne input.Options (ReadsOptionsText c.args.options.now)) (λ o. Passes (token_tests (call o)) decode_order) (λ o. FailsFirst (token_tests (call o)) decode_order)
     (λ o t p. shallow t (met (call o) decode_order t p PayloadIsJson refl)) (λ d t. t.header ≡ d.header) (options_of c.in_ok-validation.validation) (read_ok (λ v. ReadsOptionsText c.args.options.now (options_of v)) input.Options c.read_options.result _ c.in_ok-validation.ensures c.read_options.ensures.ok)
     c.decode-answer.result c.hand_out.result c.hand_out.ensures said

@@ -4,7 +4,8 @@ use Rattle.jwt_keys.specs.declared.jwk.Jwk.{Jwk}
 use Rattle.jwt_validation.specs.Options.{Options}
 use Rattle.std.proofs.lemmas.Result.{err_from_is_err_and}
 use Rattle.jwt_validation.specs.OptionsOf.{options_of}
-use Rattle.jsonwebtoken.specs.Tests.{Call, Passes, FirstFailed, PayloadIsJson, set_order}
+use Rattle.jsonwebtoken.specs.Order.{Passes, FailsFirst}
+use Rattle.jsonwebtoken.specs.Tests.{Call, PayloadIsJson, set_order, token_tests}
 use Rattle.jsonwebtoken.proofs.EachTest.{met}
 use Rattle.jwt_c_calls.specs.Calls.{set_call, MisreadsTwo}
 use Rattle.jwt_c_calls.specs.Inputs.{ReadsOptionsText, ReadsSetText}
@@ -29,7 +30,7 @@ returns-clause-ok c =
     let call : Options × List Jwk → Call Value = λ e. set_call c.args.token.now e.1 c.args.now e.0 in
     let options = read_ok (λ v. ReadsOptionsText c.args.options.now (options_of v)) input.Options c.read_options.result _ c.in_ok-validation.ensures c.read_options.ensures.ok in
     let keys = read_ok (λ s. ReadsSetText c.args.set.now s.keys.items) input.Set c.read_set.result _ c.in_ok-keys.ensures c.read_set.ensures.ok in
-    handed_ok (λ d. d.claims) (λ b. b.items) (λ (e : Options × List Jwk). ReadsOptionsText c.args.options.now e.0 × ReadsSetText c.args.set.now e.1) (MisreadsTwo input.Options (ReadsOptionsText c.args.options.now) input.Set (ReadsSetText c.args.set.now)) (λ e. Passes (call e) set_order) (λ e. FirstFailed (call e) set_order)
+    handed_ok (λ d. d.claims) (λ b. b.items) (λ (e : Options × List Jwk). ReadsOptionsText c.args.options.now e.0 × ReadsSetText c.args.set.now e.1) (MisreadsTwo input.Options (ReadsOptionsText c.args.options.now) input.Set (ReadsSetText c.args.set.now)) (λ e. Passes (token_tests (call e)) set_order) (λ e. FailsFirst (token_tests (call e)) set_order)
     (λ e t p. shallow t (met (call e) set_order t p PayloadIsJson refl)) (λ d t. t.header ≡ d.header) (options_of c.in_ok-validation.validation, c.in_ok-keys.keys.keys.items) (options, keys)
     c.decode_with_set-answer.result c.hand_out.result c.hand_out.ensures c.decode_with_set-answer.ensures.accepted
 
@@ -38,6 +39,6 @@ returns-clause-err c =
     let call : Options × List Jwk → Call Value = λ e. set_call c.args.token.now e.1 c.args.now e.0 in
     let options = read_ok (λ v. ReadsOptionsText c.args.options.now (options_of v)) input.Options c.read_options.result _ c.in_ok-validation.ensures c.read_options.ensures.ok in
     let keys = read_ok (λ s. ReadsSetText c.args.set.now s.keys.items) input.Set c.read_set.result _ c.in_ok-keys.ensures c.read_set.ensures.ok in
-    handed_err (λ d. d.claims) (λ b. b.items) (λ (e : Options × List Jwk). ReadsOptionsText c.args.options.now e.0 × ReadsSetText c.args.set.now e.1) (MisreadsTwo input.Options (ReadsOptionsText c.args.options.now) input.Set (ReadsSetText c.args.set.now)) (λ e. Passes (call e) set_order) (λ e. FirstFailed (call e) set_order)
+    handed_err (λ d. d.claims) (λ b. b.items) (λ (e : Options × List Jwk). ReadsOptionsText c.args.options.now e.0 × ReadsSetText c.args.set.now e.1) (MisreadsTwo input.Options (ReadsOptionsText c.args.options.now) input.Set (ReadsSetText c.args.set.now)) (λ e. Passes (token_tests (call e)) set_order) (λ e. FailsFirst (token_tests (call e)) set_order)
     (λ e t p. shallow t (met (call e) set_order t p PayloadIsJson refl)) (λ d t. t.header ≡ d.header) (options_of c.in_ok-validation.validation, c.in_ok-keys.keys.keys.items) (options, keys)
     c.decode_with_set-answer.result c.hand_out.result c.hand_out.ensures c.decode_with_set-answer.ensures.refused

@@ -1,7 +1,8 @@
 use Rattle.std.proofs.Common.{◌≡◌, Err, refl}
 use Rattle.std.proofs.lemmas.Result.{err_from_is_err_and}
 use Rattle.jwt_validation.specs.OptionsOf.{options_of}
-use Rattle.jsonwebtoken.specs.Tests.{FirstFailed, PayloadIsJson, decode_order}
+use Rattle.jsonwebtoken.specs.Order.{FailsFirst}
+use Rattle.jsonwebtoken.specs.Tests.{PayloadIsJson, decode_order, token_tests}
 use Rattle.jsonwebtoken.specs.Vouched.{IsVouched, unasked_order}
 use Rattle.jsonwebtoken.proofs.EachTest.{met}
 use Rattle.jwt_c_calls.specs.Calls.{verdict_call, MisreadsOne}
@@ -20,7 +21,7 @@ pub returns-clause-ok : goal.returns-clause-ok
 returns-clause-ok c =
     let v = c.args.verdict.now in
     let call = verdict_call c.args.token.now v c.args.now in
-    handed_ok (λ d. d.claims) (λ b. b.items) (ReadsOptionsText c.args.options.now) (MisreadsOne input.Options (ReadsOptionsText c.args.options.now)) (λ o. IsVouched (call o) v) (λ o. FirstFailed (call o) decode_order)
+    handed_ok (λ d. d.claims) (λ b. b.items) (ReadsOptionsText c.args.options.now) (MisreadsOne input.Options (ReadsOptionsText c.args.options.now)) (λ o. IsVouched (call o) v) (λ o. FailsFirst (token_tests (call o)) decode_order)
     (λ o t w. shallow t (met (call o) unasked_order t w.tests PayloadIsJson refl)) (λ d t. t.header ≡ d.header) (options_of c.in_ok-validation.validation) (read_ok (λ v. ReadsOptionsText c.args.options.now (options_of v)) input.Options c.read_options.result _ c.in_ok-validation.ensures c.read_options.ensures.ok)
     c.decode_by_verdict-answer.result c.hand_out.result c.hand_out.ensures c.decode_by_verdict-answer.ensures.accepted
 
@@ -28,6 +29,6 @@ pub returns-clause-err : goal.returns-clause-err
 returns-clause-err c =
     let v = c.args.verdict.now in
     let call = verdict_call c.args.token.now v c.args.now in
-    handed_err (λ d. d.claims) (λ b. b.items) (ReadsOptionsText c.args.options.now) (MisreadsOne input.Options (ReadsOptionsText c.args.options.now)) (λ o. IsVouched (call o) v) (λ o. FirstFailed (call o) decode_order)
+    handed_err (λ d. d.claims) (λ b. b.items) (ReadsOptionsText c.args.options.now) (MisreadsOne input.Options (ReadsOptionsText c.args.options.now)) (λ o. IsVouched (call o) v) (λ o. FailsFirst (token_tests (call o)) decode_order)
     (λ o t w. shallow t (met (call o) unasked_order t w.tests PayloadIsJson refl)) (λ d t. t.header ≡ d.header) (options_of c.in_ok-validation.validation) (read_ok (λ v. ReadsOptionsText c.args.options.now (options_of v)) input.Options c.read_options.result _ c.in_ok-validation.ensures c.read_options.ensures.ok)
     c.decode_by_verdict-answer.result c.hand_out.result c.hand_out.ensures c.decode_by_verdict-answer.ensures.refused

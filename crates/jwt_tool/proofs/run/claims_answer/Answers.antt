@@ -1,6 +1,7 @@
 use Rattle.std.proofs.Common.{inl}
 use Rattle.std.proofs.lemmas.Result.{IfOk-weaker}
-use Rattle.jsonwebtoken.specs.Tests.{FirstFailed, decode_order}
+use Rattle.jsonwebtoken.specs.Order.{FailsFirst}
+use Rattle.jsonwebtoken.specs.Tests.{decode_order, token_tests}
 use Rattle.jwt_tool.specs.Line.{hmac_call}
 use Rattle.jwt_tool.proofs.Said.{refused_said}
 use Rattle.jwt_tool.proofs.run.claims_answer.Goals as goal
@@ -12,4 +13,4 @@ returns-in-Ok c =
 pub returns-in-Err : goal.returns-in-Err
 returns-in-Err c =
     IfOk-weaker c.refusal_answer.result _ _ (λ a said. refused_said
-    (λ k. FirstFailed (hmac_call c.args.input.now c.args.algorithm c.args.secret.now c.args.now) decode_order k) _ _ _ c.in-Err.ensures.err said) c.refusal_answer.ensures
+    (λ k. FailsFirst (token_tests (hmac_call c.args.input.now c.args.algorithm c.args.secret.now c.args.now)) decode_order k) _ _ _ c.in-Err.ensures.err said) c.refusal_answer.ensures

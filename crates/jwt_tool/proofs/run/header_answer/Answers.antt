@@ -1,6 +1,7 @@
 use Rattle.std.proofs.Common.{inl}
 use Rattle.std.proofs.lemmas.Result.{IfOk-weaker}
-use Rattle.jsonwebtoken.specs.Tests.{FirstFailed, header_order, header_call}
+use Rattle.jsonwebtoken.specs.Order.{FailsFirst}
+use Rattle.jsonwebtoken.specs.Tests.{header_order, header_call, token_tests}
 use Rattle.jwt_tool.proofs.Said.{refused_said}
 use Rattle.jwt_tool.proofs.run.header_answer.Goals as goal
 
@@ -10,5 +11,5 @@ returns-in-Ok c =
 
 pub returns-in-Err : goal.returns-in-Err
 returns-in-Err c =
-    IfOk-weaker c.refusal_answer.result _ _ (λ a said. refused_said (λ k. FirstFailed (header_call c.args.input.now) header_order k)
+    IfOk-weaker c.refusal_answer.result _ _ (λ a said. refused_said (λ k. FailsFirst (token_tests (header_call c.args.input.now)) header_order k)
     _ _ _ c.in-Err.ensures.err said) c.refusal_answer.ensures

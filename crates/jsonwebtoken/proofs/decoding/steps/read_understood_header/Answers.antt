@@ -2,8 +2,7 @@ use Rattle.std.proofs.Common.{◌≡◌, [], ◌∷◌, inl, sym}
 use Rattle.jwt_validation.specs.OptionsOf.{options_of}
 use Rattle.jsonwebtoken.specs.Steps.{opening, with_parts, parts_in}
 use Rattle.jsonwebtoken.specs.Tests.{CritIsUnderstood, header_tests, opening_tests}
-use Rattle.jsonwebtoken.proofs.EachTest.{join}
-use Rattle.jsonwebtoken.proofs.Exits.{exit, early, later}
+use Rattle.jsonwebtoken.proofs.Exits.{exit, later}
 use Rattle.jsonwebtoken.proofs.decoding.steps.read_understood_header.Goals as goal
 
 pub returns-in_err-check_crit : goal.returns-in_err-check_crit
