@@ -177,9 +177,12 @@ class Edit:
 
 
 def edits_of(crate, with_more):
-    """Returns the edits of a crate's folder wrong-bodies, and of the folder more/ in it if that is asked for."""
-    folders = [f"{crate.folder}/wrong-bodies", *[f"{crate.folder}/wrong-bodies/more"] * with_more]
-    files = [f"{at}/{path}" for at in folders if os.path.isdir(at) for path in sorted(os.listdir(at))]
+    """Returns the edits of a crate's folder wrong-bodies, and of the folder more/ in it if that is asked for. The folders
+    in each mirror src/."""
+    top = f"{crate.folder}/wrong-bodies"
+    found = [f"{at}/{name}" for at, _, files in os.walk(top) for name in files]
+    more = [file for file in found if file.startswith(f"{top}/more/")]
+    files = sorted(set(found) - set(more)) + sorted(more) * with_more
     edits = [Edit(crate, path) for path in files if path.endswith(".edit")]
     at_home(crate, [edit.function for edit in edits if edit.function])
     return edits

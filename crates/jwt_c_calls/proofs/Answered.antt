@@ -1,8 +1,8 @@
 -- A result, and its form in status, length and buffer.
-use Rattle.std.proofs.Common.{◌≡◌, ◌⊎◌, ℕ, List, Result, Ok, Err, IfOk, IfErr, inl, inr}
+use Rattle.std.proofs.Common.{ℕ, List, Result, Ok, Err, IfOk, IfErr, inl, inr}
 use Rattle.jwt_base.specs.Kind.{Kind}
 use Rattle.jwt_base.specs.Kind as kind
-use Rattle.jwt_base.specs.KindOf.{IsMemory, kind_of}
+use Rattle.jwt_base.specs.KindOf.{RefusesAs}
 use Rattle.jwt_base.specs.declared.errors.Error.{Error}
 use Rattle.jwt_c_calls.specs.Calls.{Answer, Gives, Leaves, AnswersBy, answer_of, refusal_status}
 use Rattle.jwt_c_calls.specs.Inputs.{IsReadAs}
@@ -25,13 +25,13 @@ answered items By (Err e) s n old new p q given kept = (answer_of e, q, kept_by 
 
 -- a text that could not be read has this result, if the call misreads it
 pub misread : {T E : Type 0} (Reads : E → Type 0) (MisreadAs : Input → Type 0) (G : E → List ℕ → Type 0) (R : E → Kind → Type 0)
-    (input : Input) (None : Type 0) → (None → MisreadAs input) → (r : Result T Error) (x : Result T Refusal) → IsReadAs input r x → IfErr r (λ e. IsMemory e ⊎ None)
+    (input : Input) (None : Type 0) → (None → MisreadAs input) → (r : Result T Error) (x : Result T Refusal) → IsReadAs input r x → IfErr r (RefusesAs kind.Json None)
     → IfErr x (λ f. AnswersBy Reads MisreadAs G R (answer_of f))
 misread Reads M G R input N means (Ok v) (Ok w) p n = tt
 misread Reads M G R input N means (Ok v) (Err r) p n = absurd p
 misread Reads M G R input N means (Err e) (Ok w) p n = tt
 misread Reads M G R input N means (Err e) (Err (refused.Input i)) p (inl m) = absurd (p.1 m)
-misread Reads M G R input N means (Err e) (Err (refused.Input i)) p (inr none) = rw p.0 (means none)
+misread Reads M G R input N means (Err e) (Err (refused.Input i)) p (inr none) = rw p.0 (means none.1)
 misread Reads M G R input N means (Err e) (Err (refused.Token f)) p n = inl p.1
 
 -- a value that was read is the one that is handed on

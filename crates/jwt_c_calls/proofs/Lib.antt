@@ -1,4 +1,3 @@
 pub mod Answered
 pub mod Handed
-pub mod Readings
 pub mod Statuses

@@ -1,8 +1,8 @@
 -- The text of a refusal's status is that of its kind.
-use Rattle.std.proofs.Common.{◌≡◌, ◌+◌, ◌++◌, ℕ, List, [], Bool, true, false, Some, refl, slice_get, unwrap_or, codes, if◌then◌else◌}
+use Rattle.std.proofs.Common.{◌≡◌, ◌+◌, ◌++◌, ℕ, [], Bool, true, false, Some, refl, slice_get, unwrap_or, codes, if◌then◌else◌}
 use Rattle.std.specs.Str.{bytes_eq}
 use Rattle.jwt_base.specs.Kind.{Kind, text_of, InvalidToken, InvalidSignature, InvalidEcdsaKey, InvalidEddsaKey, RsaFailedSigning, InvalidAlgorithmName, UnsupportedAlgorithm, InvalidKeyFormat, ExpiredSignature, InvalidIssuer, InvalidAudience, InvalidSubject, ImmatureSignature, InvalidAlgorithm, MissingAlgorithm, MissingRequiredClaim, InvalidClaimFormat, InvalidRsaKey, Signing, Provider, Base64, Json, Utf8, OutOfMemory, ClockBeforeEpoch, InvalidCrit, NoKey}
-use Rattle.jwt_c_calls.specs.Status.{claim_names, claim_place, number, status_text, told}
+use Rattle.jwt_c_calls.specs.Status.{claim_names, number, status_text, told}
 
 abbrev place : Bool → Bool → Bool → Bool → Bool → ℕ
 place a b c d e = if a then 0 else (if b then 1 else (if c then 2 else (if d then 3 else (if e then 4 else 5))))

@@ -12,7 +12,7 @@ ghost use Rattle.jsonwebtoken.specs.Tests.{Contents, header_order, header_call, 
 ghost use Rattle.jwt_c_calls.specs.Calls.{Gives, AnswersHmac, AnswersKey, AnswersSet, AnswersVerdict, AnswersSaid, AnswersHeader, AnswersNumbers, PassesByJwk, FailsByJwk, HandsOut, IsHeaderText, answer_of};
 ghost use Rattle.jwt_c_calls.specs.Status.{algorithm_numbered};
 
-use crate::inputs::{Input, Refusal, read_as, read_claims, read_key, read_options, read_set};
+use crate::inputs::{Input, Refusal, read_as, read_claims};
 use crate::status::numbered_algorithm;
 use jsonwebtoken::crypto::hmac::HmacProvider;
 use jsonwebtoken::crypto::verdict::VerdictProvider;
@@ -22,6 +22,7 @@ use jsonwebtoken::{
 };
 use jwt_base::json::has_float;
 use jwt_keys::jwk::Jwk;
+use jwt_keys::jwk_set::JwkSet;
 use jwt_standard::StandardProvider;
 use jwt_validation::Validation;
 use serde_json::Value;
@@ -52,7 +53,7 @@ pub fn hmac_answer(
     ensures ok { IfOk result (λ b. AnswersHmac options.now token.now secret.now now (Gives b.items)) }
     ensures err { IfErr result (λ r. AnswersHmac options.now token.now secret.now now (answer_of r)) }
 {
-    let validation = read_as(Input::Options, read_options(alloc, options))?;
+    let validation = read_as(Input::Options, Validation::from_slice(alloc, options))?;
     let key = DecodingKey::from_secret(alloc, secret)?;
     let answer = decode(alloc, &HmacProvider, token, &key, &validation, now);
     hand_out(alloc, answer)
@@ -89,8 +90,8 @@ pub fn key_answer(
     ensures ok { IfOk result (λ b. AnswersKey options.now token.now key.now now (Gives b.items)) }
     ensures err { IfErr result (λ r. AnswersKey options.now token.now key.now now (answer_of r)) }
 {
-    let validation = read_as(Input::Options, read_options(alloc, options))?;
-    let jwk = read_as(Input::Key, read_key(alloc, key))?;
+    let validation = read_as(Input::Options, Validation::from_slice(alloc, options))?;
+    let jwk = read_as(Input::Key, Jwk::from_slice(alloc, key))?;
     let answer = by_jwk(alloc, token, &jwk, &validation, now);
     hand_out(alloc, answer)
 }
@@ -107,8 +108,8 @@ pub fn set_answer(
     ensures ok { IfOk result (λ b. AnswersSet options.now token.now set.now now (Gives b.items)) }
     ensures err { IfErr result (λ r. AnswersSet options.now token.now set.now now (answer_of r)) }
 {
-    let validation = read_as(Input::Options, read_options(alloc, options))?;
-    let keys = read_as(Input::Set, read_set(alloc, set))?;
+    let validation = read_as(Input::Options, Validation::from_slice(alloc, options))?;
+    let keys = read_as(Input::Set, JwkSet::from_slice(alloc, set))?;
     let answer = decode_with_set(alloc, &StandardProvider, token, &keys, &validation, now);
     hand_out(alloc, answer)
 }
@@ -123,7 +124,7 @@ fn verdict_answer(
     ensures ok { IfOk result (λ b. AnswersVerdict options.now token.now verdict.now now (Gives b.items)) }
     ensures err { IfErr result (λ r. AnswersVerdict options.now token.now verdict.now now (answer_of r)) }
 {
-    let validation = read_as(Input::Options, read_options(alloc, options))?;
+    let validation = read_as(Input::Options, Validation::from_slice(alloc, options))?;
     let answer = decode_by_verdict(alloc, token, verdict, &validation, now);
     hand_out(alloc, answer)
 }
@@ -172,7 +173,7 @@ pub fn header_answer(alloc: Global, token: &[u8]) -> Result<Vec<u8>, Refusal>
     ensures err { IfErr result (λ r. AnswersHeader token.now (answer_of r)) }
 {
     let value = header_of(alloc, token)?;
-    value.to_vec(alloc)
+    Ok(value.to_vec(alloc)?)
 }
 
 /// Checks that every number of the claims, which are the JSON text of an object, is an integer from

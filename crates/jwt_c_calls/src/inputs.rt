@@ -1,19 +1,15 @@
 //! The JSON texts that are arguments of calls for C, and the reasons for which a call has no
 //! result.
 
-ghost use Rattle.std.specs.Prelude.{◌≡◌, ◌⊎◌, IfOk, IfErr};
+ghost use Rattle.std.specs.Prelude.{◌≡◌, IfOk, IfErr};
 ghost use Rattle.serde_json.specs.Data.{Data};
 ghost use Rattle.serde_json.specs.View.{view};
 ghost use Rattle.jwt_base.specs.Kind as kind;
-ghost use Rattle.jwt_base.specs.KindOf.{kind_of, IsMemory};
-ghost use Rattle.jwt_validation.specs.OptionsOf.{options_of};
-ghost use Rattle.jwt_c_calls.specs.Inputs.{ReadsOptionsText, ReadsSetText, ReadsHeaderText, ReadsClaimsText, ReadsKeyText, IsReadAs};
+ghost use Rattle.jwt_base.specs.KindOf.{kind_of, RefusesAs};
+ghost use Rattle.jwt_c_calls.specs.Inputs.{ReadsClaimsText, IsReadAs};
 
 use jsonwebtoken::errors::{Error, ErrorKind, new_error};
-use jsonwebtoken::{Header, Validation};
 use jwt_base::serialization::json_value;
-use jwt_keys::jwk::Jwk;
-use jwt_keys::jwk_set::JwkSet;
 use serde_json::Value;
 use std::alloc::{AllocError, Global};
 use std::result::Result;
@@ -71,45 +67,14 @@ pub fn read_as<T>(input: Input, read: Result<T, Error>) -> Result<T, Refusal>
     }
 }
 
-pub fn read_options(alloc: Global, text: &[u8]) -> Result<Validation, Error>
-    ensures ok { IfOk result (λ v. ReadsOptionsText text.now (options_of v)) }
-    ensures err { IfErr result (λ e. IsMemory e ⊎ ((o : _) → ¬ ReadsOptionsText text.now o)) }
-{
-    let value = json_value(alloc, text)?;
-    Validation::from_value(alloc, &value)
-}
-
-pub fn read_set(alloc: Global, text: &[u8]) -> Result<JwkSet, Error>
-    ensures ok { IfOk result (λ s. ReadsSetText text.now s.keys.items) }
-    ensures err { IfErr result (λ e. IsMemory e ⊎ ((ks : _) → ¬ ReadsSetText text.now ks)) }
-{
-    let value = json_value(alloc, text)?;
-    JwkSet::from_value(alloc, &value)
-}
-
-pub fn read_header(alloc: Global, text: &[u8]) -> Result<Header, Error>
-    ensures ok { IfOk result (λ h. ReadsHeaderText text.now h) }
-    ensures err { IfErr result (λ e. IsMemory e ⊎ ((h : _) → ¬ ReadsHeaderText text.now h)) }
-{
-    let value = json_value(alloc, text)?;
-    Header::from_value(alloc, &value)
-}
-
+/// Returns the claims that are the JSON text of an object; any other text is refused with `Json`.
 pub fn read_claims(alloc: Global, text: &[u8]) -> Result<Value, Error>
     ensures ok { IfOk result (λ v. ReadsClaimsText text.now (view v)) }
-    ensures err { IfErr result (λ e. IsMemory e ⊎ ((d : Data) → ¬ ReadsClaimsText text.now d)) }
+    ensures err { IfErr result (RefusesAs kind.Json ((d : Data) → ¬ ReadsClaimsText text.now d)) }
 {
     let value = json_value(alloc, text)?;
     if !value.is_object() {
         return Err(new_error(ErrorKind::Json));
     }
     Ok(value)
-}
-
-pub fn read_key(alloc: Global, text: &[u8]) -> Result<Jwk, Error>
-    ensures ok { IfOk result (λ k. ReadsKeyText text.now k) }
-    ensures err { IfErr result (λ e. IsMemory e ⊎ ((k : _) → ¬ ReadsKeyText text.now k)) }
-{
-    let value = json_value(alloc, text)?;
-    Jwk::from_value(alloc, &value)
 }

@@ -5,10 +5,11 @@ ghost use Rattle.serde_json.specs.View.{view};
 ghost use Rattle.jwt_c_calls.specs.Calls.{Gives, answer_of};
 ghost use Rattle.jwt_c_calls.specs.Issued.{AnswersEncode, AnswersIssue, AnswersThumbprint, AnswersHashed, hash_numbered};
 
-use crate::inputs::{Input, Refusal, read_as, read_claims, read_header, read_key};
+use crate::inputs::{Input, Refusal, read_as, read_claims};
 use jsonwebtoken::crypto::hmac::HmacProvider;
 use jsonwebtoken::errors::{ErrorKind, new_error};
 use jsonwebtoken::{EncodingKey, Header, encode};
+use jwt_keys::jwk::Jwk;
 use jwt_params::thumbprints::ThumbprintHash;
 use serde_json::Value;
 use std::alloc::Global;
@@ -33,7 +34,7 @@ pub fn encode_answer(
     ensures ok { IfOk result (λ b. AnswersEncode header.now claims.now secret.now (Gives b.items)) }
     ensures err { IfErr result (λ r. AnswersEncode header.now claims.now secret.now (answer_of r)) }
 {
-    let header = read_as(Input::Header, read_header(alloc, header))?;
+    let header = read_as(Input::Header, Header::from_slice(alloc, header))?;
     let claims = read_as(Input::Claims, read_claims(alloc, claims))?;
     issued(alloc, &header, &claims, secret)
 }
@@ -54,7 +55,7 @@ fn hashed(alloc: Global, key: &[u8], hash: ThumbprintHash) -> Result<Vec<u8>, Re
     ensures ok { IfOk result (λ b. AnswersHashed hash key.now (Gives b.items)) }
     ensures err { IfErr result (λ r. AnswersHashed hash key.now (answer_of r)) }
 {
-    let key = read_as(Input::Key, read_key(alloc, key))?;
+    let key = read_as(Input::Key, Jwk::from_slice(alloc, key))?;
     let text = key.thumbprint(alloc, &HmacProvider, hash)?;
     Ok(text.into_bytes())
 }

@@ -2,8 +2,9 @@
 
 ghost use Rattle.jwt_example.specs.Reading.{reading_session};
 ghost use Rattle.jwt_validation.specs.OptionsOf.{options_of};
-ghost use Rattle.jsonwebtoken.specs.Calls.{Accepts, RefusesFirst, HasClaims};
-ghost use Rattle.jsonwebtoken.specs.Tests.{set_order};
+ghost use Rattle.jsonwebtoken.specs.Calls.{HasClaims};
+ghost use Rattle.jsonwebtoken.specs.Order.{Decides};
+ghost use Rattle.jsonwebtoken.specs.Tests.{set_order, token_tests};
 
 use crate::session::Session;
 use jsonwebtoken::crypto::hmac::HmacProvider;
@@ -22,12 +23,8 @@ pub fn session_of(
     validation: &Validation,
     now: u64,
 ) -> Result<Session>
-    ensures accepted { Accepts
-        (reading_session token.now keys.now.keys.items (options_of validation.now) now)
-        set_order HasClaims result }
-    ensures refused { RefusesFirst
-        (reading_session token.now keys.now.keys.items (options_of validation.now) now)
-        set_order result }
+    ensures { let call = reading_session token.now keys.now.keys.items (options_of validation.now) now in
+        Decides (token_tests call) set_order (HasClaims call) result }
 {
     let data: TokenData<Session> = decode_with_set(
         alloc,

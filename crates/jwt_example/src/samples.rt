@@ -40,7 +40,7 @@ pub fn issued(alloc: Global, claims: &Value) -> Result<String> {
 /// Returns the claims of an identity provider's token, verified with the key of its set that the
 /// token names.
 pub fn verified_by_set(alloc: Global, token: &[u8], set: &[u8], now: u64) -> Result<Value> {
-    let set = JwkSet::from_value(alloc, &Value::from_slice(alloc, set)?)?;
+    let set = JwkSet::from_slice(alloc, set)?;
     let mut validation = Validation::new(alloc, Algorithm::RS256)?;
     validation.set_issuer(alloc, &["https://login.example"])?;
     validation.set_audience(alloc, &["my-service"])?;
@@ -93,8 +93,8 @@ pub fn verified_elsewhere(alloc: Global, token: &[u8], now: u64) -> Result<Value
 
 /// Returns options that are read from JSON.
 fn es256_options(alloc: Global) -> Result<Box<Validation>> {
-    let options = Value::from_slice(alloc, b"{\"algorithms\":[\"ES256\"]}")?; // as from a file
-    Ok(Box::new(alloc, Validation::from_value(alloc, &options)?)?)
+    let options = b"{\"algorithms\":[\"ES256\"]}"; // as from a file
+    Ok(Box::new(alloc, Validation::from_slice(alloc, options)?)?)
 }
 
 /// Stands for the caller's cryptography: it says yes to one signature of one message, those of RFC

@@ -161,7 +161,8 @@ impl PublicKey {
         let Some(em) = lowest_octets(&octets, (em_bits + 7) / 8) else {
             return Ok(false);
         };
-        is_consistent(alloc, hash, front_bits(em_bits), message, em)
+        let yes = is_consistent(alloc, hash, front_bits(em_bits), message, em)?;
+        Ok(yes)
     }
 
     // Whether the signature is one of the message by this scheme.

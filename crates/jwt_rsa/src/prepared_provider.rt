@@ -14,12 +14,12 @@ use crate::provider::{RsaProvider, unsupported};
 use crate::scheme::scheme_of_algorithm;
 use jwt_base::algorithms::Algorithm;
 use jwt_base::errors::{ErrorKind, Result, new_error};
+use jwt_crypto::NoSigner;
 use jwt_keys::decoding_key::{DecodingKey, DecodingKeyKind};
 use jwt_keys::encoding_key::EncodingKey;
 use jwt_keys::provider::CryptoProvider;
 use jwt_params::curves::EllipticCurve;
 use jwt_params::thumbprints::ThumbprintHash;
-use jwt_crypto::NoSigner;
 use std::alloc::Global;
 
 impl<'a> CryptoProvider for &'a PreparedRsa {

@@ -5,8 +5,8 @@ ghost use Rattle.jwt_standard.specs.StandardVerifiers.{algorithm_by, by_family};
 
 use jwt_base::algorithms::Algorithm;
 use jwt_base::errors::Result;
-use jwt_curves::{EcdsaVerifier, EdDsaVerifier};
 use jwt_crypto::HmacVerifier;
+use jwt_curves::{EcdsaVerifier, EdDsaVerifier};
 use jwt_keys::provider::JwtVerifier;
 use jwt_rsa::RsaVerifier;
 use std::alloc::Global;

@@ -11,7 +11,7 @@ ghost use Rattle.jsonwebtoken.specs.Order.{FailsFirst};
 ghost use Rattle.jsonwebtoken.specs.Tests.{header_order, header_call, decode_order, token_tests};
 ghost use Rattle.jwt_tool.specs.Asked.{asked};
 ghost use Rattle.jwt_tool.specs.Words.{request_of};
-ghost use Rattle.jwt_tool.specs.Line.{Answers, RequestAnswer, ValueAnswer, ValueLine, IsValueText, IsRefusal, IsHeaderValue, IsClaimsValue, hmac_call, IsSetText, IsClaimsValueBySet, HasSetFault, IsThumbprint, HasThumbprintFault, ThumbprintLine, IsToken, HasTokenFault, TokenLine, IsMemoryLine, IsUsage, without_final_newline};
+ghost use Rattle.jwt_tool.specs.Line.{Answers, RequestAnswer, ValueAnswer, ValueLine, IsValueText, IsRefusal, IsHeaderValue, IsClaimsValue, hmac_call, IsClaimsValueBySet, HasSetFault, IsThumbprint, HasThumbprintFault, ThumbprintLine, IsToken, HasTokenFault, TokenLine, IsMemoryLine, IsUsage, without_final_newline};
 
 use crate::command::{Command, requested_command};
 use crate::fault::ToolFault;
@@ -265,19 +265,10 @@ fn set_claims_value(
     ensures ok { IfOk result (λ v. IsClaimsValueBySet input.now algorithm set.now now (view v)) }
     ensures err { IfErr result (λ e. IsMemory e ⊎ HasSetFault input.now algorithm set.now now (kind_of e)) }
 {
-    let keys = key_set(alloc, set)?;
+    let keys = JwkSet::from_slice(alloc, set.as_bytes())?;
     let rules = Validation::new(alloc, algorithm)?;
     let data: TokenData<Value> = decode_with_set(alloc, &HmacProvider, input, &keys, &rules, now)?;
     Ok(data.claims)
-}
-
-/// Returns the key set of a JSON text.
-fn key_set(alloc: Global, text: &str) -> Result<JwkSet>
-    ensures ok { IfOk result (λ s. IsSetText text.now s.keys.items) }
-    ensures err { IfErr result (RefusesAs kind.Json ((keys : List Jwk) → ¬ IsSetText text.now keys)) }
-{
-    let value = json_value(alloc, text.as_bytes())?;
-    JwkSet::from_value(alloc, &value)
 }
 
 fn issued_token(alloc: Global, algorithm: Algorithm, secret: &str, input: &[u8]) -> Result<String>
@@ -295,7 +286,6 @@ fn key_thumbprint(alloc: Global, hash: ThumbprintHash, input: &[u8]) -> Result<S
     ensures ok { IfOk result (λ t. IsThumbprint input.now hash (string_bytes t)) }
     ensures err { IfErr result (λ e. IsMemory e ⊎ HasThumbprintFault input.now (kind_of e)) }
 {
-    let value = json_value(alloc, input)?;
-    let key = Jwk::from_value(alloc, &value)?;
+    let key = Jwk::from_slice(alloc, input)?;
     key.thumbprint(alloc, &HmacProvider, hash)
 }

@@ -1,4 +1,4 @@
-use Rattle.std.proofs.Common.{◌≡◌, inl, inr}
+use Rattle.std.proofs.Common.{inl, inr}
 use Rattle.std.proofs.lemmas.Result.{IfOk-weaker, IfErr-weaker, err_from_is_err_and}
 use Rattle.jsonwebtoken.proofs.Exits.{or_memory}
 use Rattle.jwt_c_calls.proofs.answers.by_jwk.Goals as goal
@@ -10,8 +10,8 @@ returns-in_err-key-clause-err c =
 
 pub returns-clause-ok : goal.returns-clause-ok
 returns-clause-ok c =
-    IfOk-weaker c.decode.result _ _ (λ d x. (x.0, (_, c.in_ok-key.ensures.ok, x.1), x.2)) c.decode.ensures.accepted
+    IfOk-weaker c.decode.result _ _ (λ d x. (x.0, (_, c.in_ok-key.ensures.ok, x.1), x.2)) c.decode.ensures.decided.accepted
 
 pub returns-clause-err : goal.returns-clause-err
 returns-clause-err c =
-    IfErr-weaker c.decode.result _ _ (λ e x. or_memory (λ f. inr (_, c.in_ok-key.ensures.ok, f)) x) c.decode.ensures.refused
+    IfErr-weaker c.decode.result _ _ (λ e x. or_memory (λ f. inr (_, c.in_ok-key.ensures.ok, f)) x) c.decode.ensures.decided.refused

@@ -1,9 +1,7 @@
-use Rattle.std.proofs.Common.{Err, refl, inr}
+use Rattle.std.proofs.Common.{Err, refl}
 use Rattle.std.proofs.lemmas.Result.{err_from_is_err_and}
-use Rattle.serde_json.specs.View.{view}
-use Rattle.jwt_c_calls.specs.Inputs.{ReadsClaimsText}
 use Rattle.jwt_c_calls.specs.declared.inputs.Input.TheVariants as input
-use Rattle.jwt_c_calls.proofs.Answered.{misread, read_ok}
+use Rattle.jwt_c_calls.proofs.Answered.{misread}
 use Rattle.jwt_c_calls.proofs.answers.numbers_answer.Goals as goal
 
 pub returns-in_err-value-clause-err : goal.returns-in_err-value-clause-err
