@@ -1,4 +1,4 @@
--- The texts of the usual header parts, computed.
+-- The texts of the header parts that are known, computed.
 use Rattle.std.proofs.Common.{◌≡◌, refl, ℕ, List, true, Some, codes}
 use Rattle.std.specs.Prelude.{ltb}
 use Rattle.std.specs.List.{list_all}

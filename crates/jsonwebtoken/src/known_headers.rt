@@ -21,7 +21,7 @@ fn known_text(algorithm: Algorithm) -> Option<&'static str>
     }
 }
 
-fn is_usual(part: &[u8], algorithm: Algorithm) -> bool
+fn is_known(part: &[u8], algorithm: Algorithm) -> bool
     ensures { IsTrue result → IsKnownHeader part.now algorithm }
 {
     match known_text(algorithm) {
@@ -40,7 +40,7 @@ pub(crate) fn known_algorithm(part: &[u8]) -> Option<Algorithm>
         Algorithm::ES256,
         Algorithm::EdDSA,
     ] {
-        if is_usual(part, algorithm) {
+        if is_known(part, algorithm) {
             return Some(algorithm);
         }
     }

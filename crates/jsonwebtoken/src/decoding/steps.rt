@@ -107,7 +107,8 @@ pub(crate) fn token_parts(token: &[u8]) -> Result<TokenParts<'_>>
     find_parts(token).ok_or(new_error(ErrorKind::InvalidToken))
 }
 
-/// Returns the header that a header part stands for. The usual parts are known without being read.
+/// Returns the header that a header part stands for. Four parts are known by their texts, without
+/// being read.
 pub(crate) fn read_header(alloc: Global, part: &[u8]) -> Result<Header>
     ensures { Step bare header_tests (with_header_part part.now) (λ x h. x.header ≡ h) result }
 {

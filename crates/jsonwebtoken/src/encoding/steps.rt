@@ -46,7 +46,7 @@ fn value_part(alloc: Global, value: &Value) -> Result<String>
     part_text(alloc, text.as_slice())
 }
 
-/// Returns the header part. The usual headers are known without being written.
+/// Returns the header part. The part of four headers is known without being written.
 pub(crate) fn header_part(alloc: Global, header: &Header) -> Result<String>
     ensures ok { IfOk result (λ t. (d : Data)
         × ((header_value header.now ≡ Some d) × IsPartOf d (string_bytes t))) }
