@@ -26,7 +26,8 @@ fn rsa_key(alloc: Global, der: &[u8]) -> Result<DecodingKey>
     let Some((modulus, exponent)) = read_rsa(der) else {
         return Err(malformed());
     };
-    DecodingKey::from_rsa_raw_components(alloc, modulus, exponent)
+    let key = DecodingKey::from_rsa_raw_components(alloc, modulus, exponent)?;
+    Ok(key)
 }
 
 // Returns the key of an uncompressed point, whose coordinates have this many octets.
@@ -38,7 +39,8 @@ fn point_key(alloc: Global, size: usize, octets: &[u8]) -> Result<DecodingKey>
     if octets.len() != 1 + size + size || octets[0] != 4 {
         return Err(malformed());
     }
-    DecodingKey::from_ec_der(alloc, octets)
+    let key = DecodingKey::from_ec_der(alloc, octets)?;
+    Ok(key)
 }
 
 // Returns the key of Ed25519 of these octets.
@@ -49,7 +51,8 @@ fn edwards_key(alloc: Global, octets: &[u8]) -> Result<DecodingKey>
     if octets.len() != 32 {
         return Err(malformed());
     }
-    DecodingKey::from_ed_der(alloc, octets)
+    let key = DecodingKey::from_ed_der(alloc, octets)?;
+    Ok(key)
 }
 
 // Returns the key of this algorithm that the octets are.
@@ -85,5 +88,6 @@ pub fn public_key_from_der(alloc: Global, der: &[u8]) -> Result<DecodingKey>
     let Some(scheme) = read_identifier(algorithm) else {
         return Err(new_error(ErrorKind::UnsupportedAlgorithm));
     };
-    key_of(alloc, scheme, octets)
+    let key = key_of(alloc, scheme, octets)?;
+    Ok(key)
 }

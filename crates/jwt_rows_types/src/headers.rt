@@ -39,6 +39,7 @@ pub fn answer(call: &str, row: Row<'_>, trial: &mut Trial) -> Result<Option<Valu
         Some(("Header", "new")) => Ok(Some(new(row, trial)?)),
         Some(("Header", "x5c_der")) => Ok(Some(certificates(row, trial)?)),
         Some(("Header", "to_text")) => Ok(Some(text(row, trial)?)),
+        Some(("Header", "from_slice")) => Ok(Some(of_slice(row, trial)?)),
         Some(("Header", call)) => call_of::<Header>(call, row, trial),
         _ => Ok(None),
     }
@@ -85,4 +86,13 @@ fn text(row: Row<'_>, trial: &mut Trial) -> Answer {
     let answer = value.to_text(row.alloc());
     trial.end();
     of_bytes(row.alloc(), answer)
+}
+
+fn of_slice(row: Row<'_>, trial: &mut Trial) -> Answer {
+    row.takes(&["bytes"])?;
+    let bytes = row.bytes("bytes")?;
+    trial.begin();
+    let answer = Header::from_slice(row.alloc(), bytes.as_slice());
+    trial.end();
+    of_type(row, answer)
 }

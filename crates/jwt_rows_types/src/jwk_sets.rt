@@ -39,6 +39,7 @@ pub fn answer(call: &str, row: Row<'_>, trial: &mut Trial) -> Result<Option<Valu
         Some(("JwkSet", "new")) => Ok(Some(empty(row, trial)?)),
         Some(("JwkSet", "find")) => Ok(Some(found(row, trial)?)),
         Some(("JwkSet", "to_text")) => Ok(Some(text(row, trial)?)),
+        Some(("JwkSet", "from_slice")) => Ok(Some(of_slice(row, trial)?)),
         Some(("JwkSet", call)) => call_of::<JwkSet>(call, row, trial),
         _ => Ok(None),
     }
@@ -78,4 +79,13 @@ fn text(row: Row<'_>, trial: &mut Trial) -> Answer {
     let answer = value.to_text(row.alloc());
     trial.end();
     of_bytes(row.alloc(), answer)
+}
+
+fn of_slice(row: Row<'_>, trial: &mut Trial) -> Answer {
+    row.takes(&["bytes"])?;
+    let bytes = row.bytes("bytes")?;
+    trial.begin();
+    let answer = JwkSet::from_slice(row.alloc(), bytes.as_slice());
+    trial.end();
+    of_type(row, answer)
 }

@@ -1,6 +1,6 @@
 //! JSON Web Keys (RFC 7517) and their JSON values.
 
-use crate::json_types::{JsonType, boxed, call_of};
+use crate::json_types::{JsonType, boxed, call_of, of_type};
 use jsonwebtoken::errors;
 use jsonwebtoken::jwk::Jwk;
 use jwt_rows::answer::{Answer, of_bytes, of_flag};
@@ -38,6 +38,7 @@ pub fn answer(call: &str, row: Row<'_>, trial: &mut Trial) -> Result<Option<Valu
     match call.split_once("::") {
         Some(("Jwk", "is_supported")) => Ok(Some(is_supported(row, trial)?)),
         Some(("Jwk", "to_text")) => Ok(Some(text(row, trial)?)),
+        Some(("Jwk", "from_slice")) => Ok(Some(of_slice(row, trial)?)),
         Some(("Jwk", call)) => call_of::<Jwk>(call, row, trial),
         _ => Ok(None),
     }
@@ -60,4 +61,13 @@ fn text(row: Row<'_>, trial: &mut Trial) -> Answer {
     let answer = value.to_text(row.alloc());
     trial.end();
     of_bytes(row.alloc(), answer)
+}
+
+fn of_slice(row: Row<'_>, trial: &mut Trial) -> Answer {
+    row.takes(&["bytes"])?;
+    let bytes = row.bytes("bytes")?;
+    trial.begin();
+    let answer = Jwk::from_slice(row.alloc(), bytes.as_slice());
+    trial.end();
+    of_type(row, answer)
 }

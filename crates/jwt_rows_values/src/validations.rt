@@ -21,6 +21,7 @@ pub fn answer(call: &str, row: Row<'_>, trial: &mut Trial) -> Result<Option<Valu
         "Validation::new" => Ok(Some(of_algorithm(row, trial)?)),
         "Validation::new_for_family" => Ok(Some(of_family(row, trial)?)),
         "Validation::from_value" => Ok(Some(read(row, trial)?)),
+        "Validation::from_slice" => Ok(Some(read_text(row, trial)?)),
         "Validation::clone" => Ok(Some(copied(row, trial)?)),
         "Validation::eq" => Ok(Some(are_equal(row, trial)?)),
         _ => by_setting(call, row, trial),
@@ -88,6 +89,15 @@ fn read(row: Row<'_>, trial: &mut Trial) -> Answer {
     let value = row.json("value", "value_json")?;
     trial.begin();
     let answer = Validation::from_value(row.alloc(), &value);
+    trial.end();
+    of_validation(row.alloc(), answer)
+}
+
+fn read_text(row: Row<'_>, trial: &mut Trial) -> Answer {
+    row.takes(&["bytes"])?;
+    let bytes = row.bytes("bytes")?;
+    trial.begin();
+    let answer = Validation::from_slice(row.alloc(), bytes.as_slice());
     trial.end();
     of_validation(row.alloc(), answer)
 }
