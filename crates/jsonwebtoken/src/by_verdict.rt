@@ -30,7 +30,8 @@ pub struct SignedPart<'a> {
 }
 
 fn signed_part_by_steps(alloc: Global, token: &[u8]) -> Result<SignedPart<'_>>
-    ensures { Step (header_call token.now) signed_order (λ x. x) (HasSigned (header_call token.now)) result }
+    ensures { Step (header_call token.now) signed_order
+        (λ x. x) (HasSigned (header_call token.now)) result }
 {
     let parts = token_parts(token)?;
     let header = read_header(alloc, parts.header)?;
@@ -49,7 +50,8 @@ fn signed_part_by_steps(alloc: Global, token: &[u8]) -> Result<SignedPart<'_>>
 /// The tests are the first three of [`decode`](crate::decode), and then that the signature part is
 /// canonical base64url, else `Base64`.
 pub fn signed_part(alloc: Global, token: &[u8]) -> Result<SignedPart<'_>>
-    ensures { Decides (token_tests (header_call token.now)) signed_order (HasSigned (header_call token.now)) result }
+    ensures { Decides (token_tests (header_call token.now)) signed_order
+        (HasSigned (header_call token.now)) result }
 {
     signed_part_by_steps(alloc, token)
 }
@@ -69,7 +71,8 @@ pub fn decode_by_verdict<T: Claims>(
     validation: &Validation,
     now: u64,
 ) -> Result<TokenData<T>>
-    ensures { DecidesVouched (decoding_by_verdict T.Claims verdict.now token.now validation.now now) verdict.now result }
+    ensures { DecidesVouched (decoding_by_verdict T.Claims verdict.now token.now validation.now now)
+        verdict.now result }
 {
     let key = verdict.key(alloc)?;
     decode(alloc, verdict, token, &key, validation, now)

@@ -102,7 +102,8 @@ pub fn decode<P: CryptoProvider, T: Claims>(
 }
 
 fn decode_header_by_steps(alloc: Global, token: &[u8]) -> Result<Header>
-    ensures { Step (header_call token.now) header_order (λ x. x) (HasHeader (header_call token.now)) result }
+    ensures { Step (header_call token.now) header_order
+        (λ x. x) (HasHeader (header_call token.now)) result }
 {
     let parts = token_parts(token)?;
     let header = read_header(alloc, parts.header)?;
@@ -114,7 +115,8 @@ fn decode_header_by_steps(alloc: Global, token: &[u8]) -> Result<Header>
 ///
 /// The tests are the first three of [`decode`], in the same order.
 pub fn decode_header(alloc: Global, token: &[u8]) -> Result<Header>
-    ensures { Decides (token_tests (header_call token.now)) header_order (HasHeader (header_call token.now)) result }
+    ensures { Decides (token_tests (header_call token.now)) header_order
+        (HasHeader (header_call token.now)) result }
 {
     decode_header_by_steps(alloc, token)
 }

@@ -23,7 +23,8 @@ fn encode_by_steps<P: CryptoProvider, T: Claims>(
     claims: &T,
     key: &EncodingKey,
 ) -> Result<String>
-    ensures { let issue = encoding P.CryptoProvider T.Claims provider.now header.now claims.now key.now in
+    ensures { let issue = encoding P.CryptoProvider T.Claims provider.now header.now claims.now
+        key.now in
         IssueStep issue encode_order (λ t x. IsIssued issue t (string_bytes x)
         × ReadsBack issue (P.accepts provider.now) t (string_bytes x)) result }
 {
@@ -55,12 +56,14 @@ pub fn encode<P: CryptoProvider, T: Claims>(
     claims: &T,
     key: &EncodingKey,
 ) -> Result<String>
-    ensures decided { let issue = encoding P.CryptoProvider T.Claims provider.now header.now claims.now key.now in
+    ensures decided { let issue = encoding P.CryptoProvider T.Claims provider.now header.now
+        claims.now key.now in
         Decides (issue_tests issue) encode_order (λ t x. IsIssued issue t (string_bytes x)) result }
 
     // An issued token is read as the header's normal form and the claims' value, and its signature
     // is accepted with each key that accepts the signatures of this key.
-    ensures read_back { let issue = encoding P.CryptoProvider T.Claims provider.now header.now claims.now key.now in
+    ensures read_back { let issue = encoding P.CryptoProvider T.Claims provider.now header.now
+        claims.now key.now in
         IfOk result (λ x. (t : Written) → Passes (issue_tests issue) encode_order t
         → ReadsBack issue (P.accepts provider.now) t (string_bytes x)) }
 {

@@ -67,7 +67,8 @@ impl<C> Jws<C> {
     /// A value that is not an object or lacks one of the strings is refused with `Json`.
     pub fn from_value(alloc: Global, value: &Value) -> Result<Jws<C>>
         ensures ok { IfOk result (λ j. ReadsParts (view value.now) (parts_of j)) }
-        ensures err { IfErr result (RefusesAs kind.Json ((p : Parts) → ¬ ReadsParts (view value.now) p)) }
+        ensures err { IfErr result (RefusesAs kind.Json
+            ((p : Parts) → ¬ ReadsParts (view value.now) p)) }
     {
         Ok(Jws {
             protected: required_text(alloc, value, "protected")?,
@@ -142,7 +143,8 @@ pub fn encode<P: CryptoProvider, T: Claims>(
 ) -> Result<Jws<T>>
     ensures decided { let issue = encoding_parts P.CryptoProvider T.Claims
         provider.now header.now claims.entry key.now in
-        Decides (issue_tests issue) jws_encode_order (λ t j. AreIssued issue t (parts_of j)) result }
+        Decides (issue_tests issue) jws_encode_order
+        (λ t j. AreIssued issue t (parts_of j)) result }
 
     // With claims, the text of the parts is read as the header's normal form and the claims' value,
     // and its signature is accepted with each key that accepts the signatures of this key.

@@ -71,7 +71,8 @@ impl AlgorithmFamily {
     /// Returns the family that a JSON string names. Any other value is refused with `Json`.
     pub fn from_value(value: &Value) -> Result<AlgorithmFamily>
         ensures ok { IfOk result (λ f. family_from (view value.now) ≡ Some f) }
-        ensures err { IfErr result (λ e. (kind_of e ≡ kind.Json) × (family_from (view value.now) ≡ None)) }
+        ensures err { IfErr result (λ e. (kind_of e ≡ kind.Json)
+            × (family_from (view value.now) ≡ None)) }
     {
         match value.as_str().and_then(family_of_name) {
             Some(family) => Ok(family),
@@ -171,7 +172,8 @@ impl Algorithm {
     /// Returns the algorithm that a JSON string names. Any other value is refused with `Json`.
     pub fn from_value(value: &Value) -> Result<Algorithm>
         ensures ok { IfOk result (λ a. algorithm_from (view value.now) ≡ Some a) }
-        ensures err { IfErr result (λ e. (kind_of e ≡ kind.Json) × (algorithm_from (view value.now) ≡ None)) }
+        ensures err { IfErr result (λ e. (kind_of e ≡ kind.Json)
+            × (algorithm_from (view value.now) ≡ None)) }
     {
         match value.as_str().and_then(algorithm_of_name) {
             Some(algorithm) => Ok(algorithm),
@@ -299,7 +301,8 @@ impl KeyAlgorithm {
     /// memory.
     pub fn from_value(value: &Value) -> Result<KeyAlgorithm>
         ensures ok { IfOk result (λ a. key_algorithm_from (view value.now) ≡ Some a) }
-        ensures err { IfErr result (λ e. (kind_of e ≡ kind.Json) × (key_algorithm_from (view value.now) ≡ None)) }
+        ensures err { IfErr result (λ e. (kind_of e ≡ kind.Json)
+            × (key_algorithm_from (view value.now) ≡ None)) }
     {
         let Some(name) = value.as_str() else {
             return Err(new_error(ErrorKind::Json));

@@ -35,7 +35,8 @@ pub fn part_text(alloc: Global, bytes: &[u8]) -> Result<String>
 /// other text is refused with `Base64`.
 pub fn standard_bytes(alloc: Global, text: &[u8]) -> Result<Vec<u8>>
     ensures ok { IfOk result (λ b. IsStandardText text.now b.items) }
-    ensures err { IfErr result (RefusesAs kind.Base64 ((b : List ℕ) → ¬ IsStandardText text.now b)) }
+    ensures err { IfErr result (RefusesAs kind.Base64
+        ((b : List ℕ) → ¬ IsStandardText text.now b)) }
 {
     Ok(STANDARD.decode(alloc, text)?)
 }

@@ -53,7 +53,7 @@ impl Verifying {
     }
 
     /// Verifies the token this many times.
-    pub fn repeat(&self, alloc: Global, count: u64) -> std::result::Result<(), BenchFault> {
+    pub fn repeat(&self, alloc: Global, count: u64) -> Result<(), BenchFault> {
         for _ in 0..count {
             if !self.is_verified(alloc) {
                 return Err(BenchFault::Refused);

@@ -166,12 +166,7 @@ impl Prepared {
 
 // Compares the bytes this many times with bytes that differ in one place, each time by another
 // byte, so that no compiler leaves a comparison out.
-fn compare(
-    alloc: Global,
-    bytes: &[u8],
-    place: usize,
-    count: u64,
-) -> std::result::Result<(), BenchFault> {
+fn compare(alloc: Global, bytes: &[u8], place: usize, count: u64) -> Result<(), BenchFault> {
     let mut other = Vec::from_slice(alloc, bytes)?;
     for turn in 0..count {
         if let (Some(given), Some(byte)) = (other.get_mut(place), bytes.get(place)) {
@@ -189,7 +184,7 @@ fn repeat_calls(
     prepared: &Prepared,
     text: &str,
     count: u64,
-) -> std::result::Result<(), BenchFault> {
+) -> Result<(), BenchFault> {
     for _ in 0..count {
         if !prepared.is_done(alloc, black_box(text)) {
             return Err(BenchFault::Refused);
@@ -204,7 +199,7 @@ pub fn repeat(
     prepared: &Prepared,
     text: &str,
     count: u64,
-) -> std::result::Result<(), BenchFault> {
+) -> Result<(), BenchFault> {
     let bytes = text.as_bytes();
     match prepared.work {
         Work::CompareFirst => compare(alloc, bytes, 0, count),

@@ -131,7 +131,8 @@ pub extern "C" fn jwt_signed_part(
     room: &mut [u8],
     len: &mut usize,
 ) -> u32
-    ensures { LeavesSigned token.now algorithm.new message_len.new result len.new room.old room.new }
+    ensures { LeavesSigned token.now algorithm.new message_len.new result len.new room.old
+        room.new }
 {
     match signed_part(alloc, token) {
         Ok(part) => {
@@ -212,7 +213,8 @@ pub extern "C" fn jwt_check_numbers(alloc: Global, claims: &[u8]) -> u32
 /// Writes the text of a status. For a number that is not a status, it returns 102.
 #[unsafe(no_mangle)]
 pub extern "C" fn jwt_status_text(status: u32, room: &mut [u8], len: &mut usize) -> u32
-    ensures text { MatchOption (status_text status) (IsKept no_status result len.new room.old room.new)
+    ensures text { MatchOption (status_text status)
+        (IsKept no_status result len.new room.old room.new)
         (λ given. IsGiven given result len.new room.old room.new) }
     // The text of a refusal's status is that of its kind.
     ensures kinds { (k : Kind) → status_text (number k) ≡ Some (text_of (told k)) }

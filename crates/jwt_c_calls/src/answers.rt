@@ -50,8 +50,10 @@ pub fn hmac_answer(
     options: &[u8],
     now: u64,
 ) -> Result<Vec<u8>, Refusal>
-    ensures ok { IfOk result (λ b. AnswersHmac options.now token.now secret.now now (Gives b.items)) }
-    ensures err { IfErr result (λ r. AnswersHmac options.now token.now secret.now now (answer_of r)) }
+    ensures ok { IfOk result (λ b. AnswersHmac options.now token.now secret.now now
+        (Gives b.items)) }
+    ensures err { IfErr result (λ r. AnswersHmac options.now token.now secret.now now
+        (answer_of r)) }
 {
     let validation = read_as(Input::Options, Validation::from_slice(alloc, options))?;
     let key = DecodingKey::from_secret(alloc, secret)?;
@@ -121,8 +123,10 @@ fn verdict_answer(
     options: &[u8],
     now: u64,
 ) -> Result<Vec<u8>, Refusal>
-    ensures ok { IfOk result (λ b. AnswersVerdict options.now token.now verdict.now now (Gives b.items)) }
-    ensures err { IfErr result (λ r. AnswersVerdict options.now token.now verdict.now now (answer_of r)) }
+    ensures ok { IfOk result (λ b. AnswersVerdict options.now token.now verdict.now now
+        (Gives b.items)) }
+    ensures err { IfErr result (λ r. AnswersVerdict options.now token.now verdict.now now
+        (answer_of r)) }
 {
     let validation = read_as(Input::Options, Validation::from_slice(alloc, options))?;
     let answer = decode_by_verdict(alloc, token, verdict, &validation, now);
@@ -144,7 +148,8 @@ pub fn said_answer(
     ensures ok { IfOk result (λ b. AnswersSaid (algorithm_numbered algorithm) options.now token.now
         (record { message = message.now; signature = signature.now; says_yes = verdict }) now
         (Gives b.items)) }
-    ensures err { IfErr result (λ r. AnswersSaid (algorithm_numbered algorithm) options.now token.now
+    ensures err { IfErr result (λ r. AnswersSaid
+        (algorithm_numbered algorithm) options.now token.now
         (record { message = message.now; signature = signature.now; says_yes = verdict }) now
         (answer_of r)) }
 {
@@ -158,10 +163,12 @@ pub fn said_answer(
 }
 
 fn header_of(alloc: Global, token: &[u8]) -> Result<Value, Error>
-    ensures ok { IfOk result (λ v. (t : Contents) × Passes (token_tests (header_call token.now)) header_order t
+    ensures ok { IfOk result (λ v. (t : Contents)
+        × Passes (token_tests (header_call token.now)) header_order t
         × (header_value t.header ≡ Some (view v))) }
     ensures no_float { IfOk result (λ v. has_float (view v) ≡ false) }
-    ensures err { IfErr result (λ e. IsMemory e ⊎ FailsFirst (token_tests (header_call token.now)) header_order (kind_of e)) }
+    ensures err { IfErr result (λ e. IsMemory e
+        ⊎ FailsFirst (token_tests (header_call token.now)) header_order (kind_of e)) }
 {
     let header = decode_header(alloc, token)?;
     header.to_value(alloc)

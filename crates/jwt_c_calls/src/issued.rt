@@ -16,8 +16,10 @@ use std::alloc::Global;
 use std::result::Result;
 
 fn issued(alloc: Global, header: &Header, claims: &Value, secret: &[u8]) -> Result<Vec<u8>, Refusal>
-    ensures ok { IfOk result (λ b. AnswersIssue secret.now header.now (view claims.now) (Gives b.items)) }
-    ensures err { IfErr result (λ r. AnswersIssue secret.now header.now (view claims.now) (answer_of r)) }
+    ensures ok { IfOk result (λ b. AnswersIssue secret.now header.now (view claims.now)
+        (Gives b.items)) }
+    ensures err { IfErr result (λ r. AnswersIssue secret.now header.now (view claims.now)
+        (answer_of r)) }
 {
     let key = EncodingKey::from_secret(alloc, secret)?;
     let token = encode(alloc, &HmacProvider, header, claims, &key)?;

@@ -201,7 +201,7 @@ pub fn put_bytes(bytes: &[u8], room: &mut [u8], len: &mut usize) -> u32
 }
 
 /// Writes a result: its bytes, or the reason for which there are none.
-pub fn leave(answer: std::result::Result<Vec<u8>, Refusal>, room: &mut [u8], len: &mut usize) -> u32
+pub fn leave(answer: Result<Vec<u8>, Refusal>, room: &mut [u8], len: &mut usize) -> u32
     ensures given { IfOk answer (λ b. IsGiven b.items result len.new room.old room.new) }
     ensures kept { IfErr answer (λ r. IsKept (refusal_status r) result len.new room.old room.new) }
 {

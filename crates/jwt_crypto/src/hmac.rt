@@ -72,7 +72,8 @@ fn nested_by<const N: usize, D: Digest<Output = [u8; N]>>(
     outer: &[u8],
     message: &[u8],
 ) -> [u8; N]
-    ensures { (i : List ℕ) × D.digest_of (inner.now ++ message.now) i × D.digest_of (outer.now ++ i) result }
+    ensures { (i : List ℕ) × D.digest_of (inner.now ++ message.now) i
+        × D.digest_of (outer.now ++ i) result }
 {
     let mut first = D::new();
     first.update(inner);
@@ -153,7 +154,8 @@ impl Blocks {
     pub(crate) fn new(hash: Hash, secret: &[u8]) -> Blocks
         ensures hash { result.hash ≡ hash }
         ensures blocks { AreBlocksOf result.hash result.inner result.outer secret.now }
-        ensures mac { (m : List ℕ) → mac_by hash result.inner result.outer m ≡ hmac hash secret.now m }
+        ensures mac { (m : List ℕ) → mac_by hash result.inner result.outer m
+            ≡ hmac hash secret.now m }
     {
         let key = filled_key(hash, secret);
         Blocks {
@@ -170,7 +172,8 @@ impl Blocks {
     }
 
     pub(crate) fn sign(&self, alloc: Global, message: &[u8]) -> Result<Vec<u8>>
-        ensures ok { IfOk result (λ s. s.items ≡ mac_by self.now.hash self.now.inner self.now.outer message.now) }
+        ensures ok { IfOk result (λ s. s.items
+            ≡ mac_by self.now.hash self.now.inner self.now.outer message.now) }
         ensures err { IfErr result IsMemory }
     {
         Ok(match self.hash {
@@ -183,7 +186,8 @@ impl Blocks {
     }
 
     pub(crate) fn verify(&self, message: &[u8], signature: &[u8]) -> bool
-        ensures { IsTrue result ↔ (signature.now ≡ mac_by self.now.hash self.now.inner self.now.outer message.now) }
+        ensures { IsTrue result ↔ (signature.now
+            ≡ mac_by self.now.hash self.now.inner self.now.outer message.now) }
     {
         match self.hash {
             Hash::Sha256 => is_same(
@@ -295,7 +299,8 @@ impl JwtVerifier for HmacVerifier {
         // It accepts the code that the signer of the same algorithm and secret gives.
         ensures own_signatures { (key : SecretKey)
             → AreBlocksOf self.now.blocks.hash self.now.blocks.inner self.now.blocks.outer key.bytes
-            → HmacSigns (⟦<HmacVerifier as JwtVerifier>⟧.verifies_by self.now) key message.now signature.now
+            → HmacSigns (⟦<HmacVerifier as JwtVerifier>⟧.verifies_by self.now) key message.now
+            signature.now
             → IfOk result IsTrue }
     {
         Ok(self.blocks.verify(message, signature))
@@ -361,7 +366,8 @@ impl CryptoProvider for HmacProvider {
     ) -> Result<HmacVerifier>
         ensures made { OnOk result (hmac_verifier_refusal algorithm.now key.now ≡ None) }
         ensures err { IfErr result (Refuses (hmac_verifier_refusal algorithm.now key.now)) }
-        ensures by { IfOk result (λ v. ⟦<HmacVerifier as JwtVerifier>⟧.verifies_by v ≡ algorithm.now) }
+        ensures by { IfOk result (λ v. ⟦<HmacVerifier as JwtVerifier>⟧.verifies_by v
+            ≡ algorithm.now) }
         ensures accepts { IfOk result (λ v. (m s : List ℕ) →
             ⟦<HmacVerifier as JwtVerifier>⟧.accepts v m s ↔ HmacAccepts algorithm.now key.now m s) }
         ensures sparing { IfErr result (λ e. kind_of e ≢ kind.OutOfMemory) }

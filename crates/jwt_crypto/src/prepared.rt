@@ -136,7 +136,8 @@ impl PreparedHmac {
     /// Prepares this secret for this algorithm, after those before it: for services whose secrets change. An algorithm
     /// of another family is refused with `UnsupportedAlgorithm`. A refusal leaves the provider unchanged.
     pub fn add(&mut self, alloc: Global, algorithm: Algorithm, secret: &[u8]) -> Result<()>
-        ensures prepared { OnOk result (prepared_keys self.new ≡ prepared_keys self.old ++ (algorithm, secret.now) ∷ []) }
+        ensures prepared { OnOk result (prepared_keys self.new
+            ≡ prepared_keys self.old ++ (algorithm, secret.now) ∷ []) }
         ensures made { OnOk result (refusal (hash_for algorithm) family.Hmac ≡ None) }
         ensures err { IfErr result (Refuses (refusal (hash_for algorithm) family.Hmac)) }
         ensures unchanged { IfErr result (λ _. prepared_keys self.new ≡ prepared_keys self.old) }
@@ -226,7 +227,8 @@ impl CryptoProvider for PreparedHmac {
         ensures signs { IfOk result (λ s. (m b : List ℕ) →
             ⟦<PreparedSigner as JwtSigner>⟧.signs s m b ↔ HmacSigns algorithm.now key.now m b) }
         ensures sparing { IfErr result (λ e. kind_of e ≢ kind.OutOfMemory) }
-        ensures kept { IfOk result (λ s. IsKeptSigner s ↔ IsPrepared self.now algorithm.now key.now.bytes) }
+        ensures kept { IfOk result (λ s. IsKeptSigner s
+            ↔ IsPrepared self.now algorithm.now key.now.bytes) }
     {
         let hash = hash_for_key(*algorithm, key.family())?;
         Ok(PreparedSigner {
@@ -244,11 +246,14 @@ impl CryptoProvider for PreparedHmac {
     ) -> Result<PreparedVerifier>
         ensures made { OnOk result (hmac_verifier_refusal algorithm.now key.now ≡ None) }
         ensures err { IfErr result (Refuses (hmac_verifier_refusal algorithm.now key.now)) }
-        ensures by { IfOk result (λ v. ⟦<PreparedVerifier as JwtVerifier>⟧.verifies_by v ≡ algorithm.now) }
+        ensures by { IfOk result (λ v. ⟦<PreparedVerifier as JwtVerifier>⟧.verifies_by v
+            ≡ algorithm.now) }
         ensures accepts { IfOk result (λ v. (m s : List ℕ) →
-            ⟦<PreparedVerifier as JwtVerifier>⟧.accepts v m s ↔ HmacAccepts algorithm.now key.now m s) }
+            ⟦<PreparedVerifier as JwtVerifier>⟧.accepts v m s
+            ↔ HmacAccepts algorithm.now key.now m s) }
         ensures sparing { IfErr result (λ e. kind_of e ≢ kind.OutOfMemory) }
-        ensures kept { IfOk result (λ v. IsKeptVerifier v ↔ IsPreparedKey self.now algorithm.now key.now) }
+        ensures kept { IfOk result (λ v. IsKeptVerifier v
+            ↔ IsPreparedKey self.now algorithm.now key.now) }
     {
         let hash = hash_for_key(*algorithm, key.family())?;
         let secret = key.try_get_as_bytes()?;

@@ -65,21 +65,24 @@ fn copy_512(hasher: &Sha512) -> Sha512
 
 fn code_256(first: &Sha256, second: &Sha256, message: &[u8]) -> [u8; 32]
     ensures { (secret : List ℕ) → Holds256 first.now (inner_block Hash.Sha256 secret)
-        → Holds256 second.now (outer_block Hash.Sha256 secret) → result ≡ hmac Hash.Sha256 secret message.now }
+        → Holds256 second.now (outer_block Hash.Sha256 secret)
+        → result ≡ hmac Hash.Sha256 secret message.now }
 {
     finish_by::<32, Sha256>(copy_256(first), copy_256(second), message)
 }
 
 fn code_384(first: &Sha384, second: &Sha384, message: &[u8]) -> [u8; 48]
     ensures { (secret : List ℕ) → Holds384 first.now (inner_block Hash.Sha384 secret)
-        → Holds384 second.now (outer_block Hash.Sha384 secret) → result ≡ hmac Hash.Sha384 secret message.now }
+        → Holds384 second.now (outer_block Hash.Sha384 secret)
+        → result ≡ hmac Hash.Sha384 secret message.now }
 {
     finish_by::<48, Sha384>(copy_384(first), copy_384(second), message)
 }
 
 fn code_512(first: &Sha512, second: &Sha512, message: &[u8]) -> [u8; 64]
     ensures { (secret : List ℕ) → Holds512 first.now (inner_block Hash.Sha512 secret)
-        → Holds512 second.now (outer_block Hash.Sha512 secret) → result ≡ hmac Hash.Sha512 secret message.now }
+        → Holds512 second.now (outer_block Hash.Sha512 secret)
+        → result ≡ hmac Hash.Sha512 secret message.now }
 {
     finish_by::<64, Sha512>(copy_512(first), copy_512(second), message)
 }
@@ -221,7 +224,8 @@ impl PreparedKey {
     }
 
     pub(crate) fn is_for(&self, hash: Hash, secret: &[u8]) -> bool
-        ensures { IsTrue result ↔ (hash_of self.now.held.hashers ≡ hash) × (self.now.secret.items ≡ secret.now) }
+        ensures { IsTrue result ↔ (hash_of self.now.held.hashers ≡ hash)
+            × (self.now.secret.items ≡ secret.now) }
     {
         self.held.hash() == hash && is_same(secret, self.secret.as_slice())
     }

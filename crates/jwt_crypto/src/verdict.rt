@@ -39,7 +39,12 @@ pub struct VerdictProvider<'a> {
 impl<'a> Model for VerdictProvider<'a> {
     ghost Value = { Verdict };
 
-    ghost view = { λ p. record { algorithm = p.algorithm; message = p.message.now; signature = p.signature.now; says_yes = p.verdict } };
+    ghost view = { λ p. record {
+      algorithm = p.algorithm;
+      message = p.message.now;
+      signature = p.signature.now;
+      says_yes = p.verdict;
+    } };
 }
 
 impl<'a> VerdictProvider<'a> {
@@ -52,7 +57,12 @@ impl<'a> VerdictProvider<'a> {
         signature: &'a [u8],
         verdict: bool,
     ) -> VerdictProvider<'a>
-        ensures { result ≡ record { algorithm = algorithm; message = message.now; signature = signature.now; says_yes = verdict } }
+        ensures { result ≡ record {
+          algorithm = algorithm;
+          message = message.now;
+          signature = signature.now;
+          says_yes = verdict;
+        } }
     {
         VerdictProvider {
             algorithm,
@@ -159,7 +169,8 @@ impl<'a> CryptoProvider for VerdictProvider<'a> {
 
     ghost is_sparing = { λ _. ⊤ };
 
-    ghost key_answers = { λ _. reads_no_key kind.UnsupportedAlgorithm (λ h bytes. Err kind.UnsupportedAlgorithm) };
+    ghost key_answers = { λ _. reads_no_key kind.UnsupportedAlgorithm
+        (λ h bytes. Err kind.UnsupportedAlgorithm) };
 
     fn signer_factory(
         &self,

@@ -31,7 +31,8 @@ impl PublicKey {
     // Returns the key, if the bytes are a public key on the curve.
     fn new(curve: Curve, bytes: &[u8]) -> Option<PublicKey>
         ensures { MatchOption result (is_key_on curve bytes.now ≡ false)
-            (λ k. (curve_of k ≡ curve) × (bytes_of k ≡ bytes.now) × (is_key_on curve bytes.now ≡ true)) }
+            (λ k. (curve_of k ≡ curve) × (bytes_of k ≡ bytes.now)
+            × (is_key_on curve bytes.now ≡ true)) }
     {
         match curve {
             Curve::P256 => p256_key(bytes).map(PublicKey::P256),

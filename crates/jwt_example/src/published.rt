@@ -44,7 +44,8 @@ pub fn name(jwk: &mut Jwk, id: Text)
 /// Refuses a secret with `InvalidKeyFormat`.
 fn refuse_secret(key: &DecodingKey) -> Result<()>
     ensures ok { OnOk result (key_family key.now ≢ family.Hmac) }
-    ensures err { IfErr result (λ e. (key_family key.now ≡ family.Hmac) × (kind_of e ≡ kind.InvalidKeyFormat)) }
+    ensures err { IfErr result (λ e. (key_family key.now ≡ family.Hmac)
+        × (kind_of e ≡ kind.InvalidKeyFormat)) }
 {
     if key.family() == AlgorithmFamily::Hmac {
         return Err(new_error(ErrorKind::InvalidKeyFormat));

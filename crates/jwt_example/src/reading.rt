@@ -23,7 +23,8 @@ pub fn session_of(
     validation: &Validation,
     now: u64,
 ) -> Result<Session>
-    ensures { let call = reading_session token.now keys.now.keys.items (options_of validation.now) now in
+    ensures { let call = reading_session token.now keys.now.keys.items
+        (options_of validation.now) now in
         Decides (token_tests call) set_order (HasClaims call) result }
 {
     let data: TokenData<Session> = decode_with_set(

@@ -13,7 +13,8 @@ use jsonwebtoken::Validation;
 /// the laws of `decode`. It is the end of the session and the leeway, less the time that must be
 /// left.
 pub fn last_moment(validation: &Validation, session: &Session) -> u64
-    ensures { result ≡ last_moment (options_of validation.now) (claims_of (session_value session.now)) }
+    ensures { result ≡ last_moment (options_of validation.now)
+        (claims_of (session_value session.now)) }
 {
     if !validation.validate_exp {
         return u64::MAX;

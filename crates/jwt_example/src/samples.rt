@@ -142,10 +142,7 @@ fn verified_by_long_secret(alloc: Global, token: &[u8], now: u64) -> Result<Valu
 }
 
 /// Prints the claims that are accepted, or the refusal.
-fn print<T: Runtime + AllocGlobal>(
-    rt: &T,
-    answer: Result<Value>,
-) -> std::result::Result<(), Fault> {
+fn print<T: Runtime + AllocGlobal>(rt: &T, answer: Result<Value>) -> Result<(), Fault> {
     match answer {
         Ok(claims) => println!(rt; "{}", claims.to_string(rt.alloc())?)?,
         Err(refusal) => println!(rt; "{refusal}")?,
@@ -154,7 +151,7 @@ fn print<T: Runtime + AllocGlobal>(
 }
 
 /// Prints the result of each sample.
-pub fn show_samples<T: Runtime + AllocGlobal>(rt: &T) -> std::result::Result<(), Fault> {
+pub fn show_samples<T: Runtime + AllocGlobal>(rt: &T) -> Result<(), Fault> {
     let alloc = rt.alloc();
     let claims = verified(alloc, TOKEN.as_bytes(), 0)?;
     println!(rt; "{}", issued(alloc, &claims)?)?;

@@ -56,7 +56,8 @@ impl Extras {
     /// that `T` cannot be read from is refused with `Json`.
     pub fn get<T: Claims>(&self, alloc: Global, name: &str) -> Result<Option<T>>
         ensures ok { IfOk result (ReadsMember T.reads (get_member name.now self.now)) }
-        ensures err { IfErr result (RefusesAs kind.Json ((d : Data) × (get_member name.now self.now ≡ Some d)
+        ensures err { IfErr result (RefusesAs kind.Json
+            ((d : Data) × (get_member name.now self.now ≡ Some d)
             × ((c : T) → ¬ T.reads d c))) }
     {
         match self.at(name) {
@@ -72,7 +73,8 @@ impl Extras {
     /// value that cannot be written and a value with a float are refused with `Json`.
     pub fn insert<T: Claims>(&mut self, alloc: Global, key: &str, value: &T) -> Result<()>
         ensures ok { OnOk result (inserted key.now (T.written value.now) self.old ≡ Some self.new) }
-        ensures err { IfErr result (RefusesAs kind.Json (inserted key.now (T.written value.now) self.old ≡ None)) }
+        ensures err { IfErr result (RefusesAs kind.Json
+            (inserted key.now (T.written value.now) self.old ≡ None)) }
         ensures unchanged { OnErr result (self.new ≡ self.old) }
     {
         if is_header_name(key) {
@@ -108,7 +110,8 @@ impl Extras {
     /// a float are refused with `Json`.
     pub fn from_value(_alloc: Global, value: &Value) -> Result<Extras>
         ensures ok { IfOk result (λ e. ReadsExtras (view value.now) e) }
-        ensures err { IfErr result (RefusesAs kind.Json ((e : Members) → ¬ ReadsExtras (view value.now) e)) }
+        ensures err { IfErr result (RefusesAs kind.Json
+            ((e : Members) → ¬ ReadsExtras (view value.now) e)) }
     {
         let Some(members) = value.as_object() else {
             return Err(new_error(ErrorKind::Json));
@@ -142,7 +145,8 @@ impl Extras {
 
     // Returns the members of a header that have none of its names.
     pub(crate) fn among(alloc: Global, members: &Map<String, Value>) -> Result<Extras>
-        ensures ok { IfOk result (λ e. without header_names (members_view members.now.entries) ≡ e) }
+        ensures ok { IfOk result (λ e. without header_names (members_view members.now.entries)
+            ≡ e) }
         ensures extras { IfOk result IsExtras }
         ensures err { IfErr result (RefusesAs kind.Json
             (members_have_float (without header_names (members_view members.now.entries)) ≡ true)) }

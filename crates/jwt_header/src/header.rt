@@ -109,7 +109,8 @@ impl Header {
     pub fn from_value(alloc: Global, value: &Value) -> Result<Header>
         ensures ok { IfOk result (λ h. ReadsHeader (view value.now) h) }
         ensures normal { IfOk result IsNormal }
-        ensures err { IfErr result (RefusesAs kind.Json ((h : Header) → ¬ ReadsHeader (view value.now) h)) }
+        ensures err { IfErr result (RefusesAs kind.Json
+            ((h : Header) → ¬ ReadsHeader (view value.now) h)) }
     {
         let header = Header::read(alloc, value)?;
         Ok(header)
@@ -121,7 +122,8 @@ impl Header {
     pub fn from_slice(alloc: Global, text: &[u8]) -> Result<Header>
         ensures ok { IfOk result (ReadsText ReadsHeader text.now) }
         ensures normal { IfOk result IsNormal }
-        ensures err { IfErr result (RefusesAs kind.Json ((h : Header) → ¬ ReadsText ReadsHeader text.now h)) }
+        ensures err { IfErr result (RefusesAs kind.Json
+            ((h : Header) → ¬ ReadsText ReadsHeader text.now h)) }
     {
         let value = json_value(alloc, text)?;
         Header::from_value(alloc, &value)
@@ -141,7 +143,8 @@ impl Header {
 
     /// Returns the compact JSON text of the header, as [`to_value`](Header::to_value) writes it and with its refusals.
     pub fn to_text(&self, alloc: Global) -> Result<Vec<u8>>
-        ensures ok { IfOk result (λ text. HasText ReadsHeader header_value normal_header self.now text.items) }
+        ensures ok { IfOk result (λ text. HasText ReadsHeader header_value normal_header self.now
+            text.items) }
         ensures err { IfErr result (RefusesAs kind.Json (header_value self.now ≡ None)) }
     {
         let value = self.to_value(alloc)?;
@@ -152,7 +155,8 @@ impl Header {
     /// entry that is not standard base64 with padding (RFC 4648 section 4) is refused with
     /// `Base64`.
     pub fn x5c_der(&self, alloc: Global) -> Result<Option<Vec<Vec<u8>>>>
-        ensures ok { IfOk result (λ o. AreCertificates self.now.x5c (option_map (λ v. map (λ b. b.items) v.items) o)) }
+        ensures ok { IfOk result (λ o. AreCertificates self.now.x5c
+            (option_map (λ v. map (λ b. b.items) v.items) o)) }
         ensures err { IfErr result (RefusesAs kind.Base64
             ((o : Option (List (List ℕ))) → ¬ AreCertificates self.now.x5c o)) }
     {
@@ -193,7 +197,8 @@ impl Header {
     fn read(alloc: Global, value: &Value) -> Result<Header>
         ensures ok { IfOk result (λ h. ReadsHeader (view value.now) h) }
         ensures extras { IfOk result (λ h. IsExtras h.extras) }
-        ensures err { IfErr result (RefusesAs kind.Json ((h : Header) → ¬ ReadsHeader (view value.now) h)) }
+        ensures err { IfErr result (RefusesAs kind.Json
+            ((h : Header) → ¬ ReadsHeader (view value.now) h)) }
     {
         let Some(members) = value.as_object() else {
             return Err(new_error(ErrorKind::Json));
@@ -255,7 +260,8 @@ impl Header {
 }
 
 fn read_algorithm(value: &Value) -> Result<Algorithm>
-    ensures ok { IfOk result (λ a. option_and_then algorithm_from (get (codes "alg") (view value.now)) ≡ Some a) }
+    ensures ok { IfOk result (λ a. option_and_then algorithm_from
+        (get (codes "alg") (view value.now)) ≡ Some a) }
     ensures err { IfErr result (RefusesAs kind.Json
         (option_and_then algorithm_from (get (codes "alg") (view value.now)) ≡ None)) }
 {
@@ -266,7 +272,8 @@ fn read_algorithm(value: &Value) -> Result<Algorithm>
 }
 
 fn optional_enc(alloc: Global, value: &Value) -> Result<Option<Enc>>
-    ensures ok { IfOk result (λ e. optional enc_from (get (codes "enc") (view value.now)) ≡ Some e) }
+    ensures ok { IfOk result (λ e. optional enc_from (get (codes "enc") (view value.now))
+        ≡ Some e) }
     ensures err { IfErr result
         (RefusesAs kind.Json (optional enc_from (get (codes "enc") (view value.now)) ≡ None)) }
 {
@@ -288,7 +295,8 @@ fn optional_jwk(alloc: Global, value: &Value) -> Result<Option<Jwk>>
 }
 
 fn optional_zip(alloc: Global, value: &Value) -> Result<Option<Zip>>
-    ensures ok { IfOk result (λ z. optional zip_from (get (codes "zip") (view value.now)) ≡ Some z) }
+    ensures ok { IfOk result (λ z. optional zip_from (get (codes "zip") (view value.now))
+        ≡ Some z) }
     ensures err { IfErr result
         (RefusesAs kind.Json (optional zip_from (get (codes "zip") (view value.now)) ≡ None)) }
 {
@@ -333,7 +341,8 @@ fn put_written(
 
 fn put_enc(alloc: Global, members: &mut Map<String, Value>, enc: &Option<Enc>) -> Result<()>
     ensures ok { OnOk result (members_view members.new.entries
-        ≡ put_some (codes "enc") (option_map enc_value enc.now) (members_view members.old.entries)) }
+        ≡ put_some (codes "enc") (option_map enc_value enc.now)
+        (members_view members.old.entries)) }
     ensures err { IfErr result IsMemory }
 {
     match enc {
@@ -344,7 +353,8 @@ fn put_enc(alloc: Global, members: &mut Map<String, Value>, enc: &Option<Enc>) -
 
 fn put_zip(alloc: Global, members: &mut Map<String, Value>, zip: &Option<Zip>) -> Result<()>
     ensures ok { OnOk result (members_view members.new.entries
-        ≡ put_some (codes "zip") (option_map zip_value zip.now) (members_view members.old.entries)) }
+        ≡ put_some (codes "zip") (option_map zip_value zip.now)
+        (members_view members.old.entries)) }
     ensures err { IfErr result IsMemory }
 {
     match zip {

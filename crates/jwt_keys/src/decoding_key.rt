@@ -141,8 +141,10 @@ impl DecodingKey {
     /// Returns the HMAC key of the bytes that base64 text in the standard alphabet with padding
     /// stands for (RFC 4648 section 4). Any other text is refused with `Base64`.
     pub fn from_base64_secret(alloc: Global, secret: &str) -> Result<DecodingKey>
-        ensures ok { IfOk result (λ k. (b : List ℕ) × (k ≡ Plain family.Hmac b) × IsStandardText secret.now b) }
-        ensures err { IfErr result (RefusesAs kind.Base64 ((b : List ℕ) → ¬ IsStandardText secret.now b)) }
+        ensures ok { IfOk result (λ k. (b : List ℕ) × (k ≡ Plain family.Hmac b)
+            × IsStandardText secret.now b) }
+        ensures err { IfErr result (RefusesAs kind.Base64
+            ((b : List ℕ) → ¬ IsStandardText secret.now b)) }
     {
         let bytes = standard_bytes(alloc, secret.as_bytes())?;
         Ok(DecodingKey::plain(AlgorithmFamily::Hmac, bytes))
@@ -151,8 +153,10 @@ impl DecodingKey {
     /// Returns the HMAC key of the bytes that base64 text in the URL alphabet with padding stands
     /// for (RFC 4648 section 5). Any other text is refused with `Base64`.
     pub fn from_urlsafe_base64_secret(alloc: Global, secret: &str) -> Result<DecodingKey>
-        ensures ok { IfOk result (λ k. (b : List ℕ) × (k ≡ Plain family.Hmac b) × IsUrlText secret.now b) }
-        ensures err { IfErr result (RefusesAs kind.Base64 ((b : List ℕ) → ¬ IsUrlText secret.now b)) }
+        ensures ok { IfOk result (λ k. (b : List ℕ) × (k ≡ Plain family.Hmac b)
+            × IsUrlText secret.now b) }
+        ensures err { IfErr result (RefusesAs kind.Base64
+            ((b : List ℕ) → ¬ IsUrlText secret.now b)) }
     {
         let bytes = url_bytes(alloc, secret.as_bytes())?;
         Ok(DecodingKey::plain(AlgorithmFamily::Hmac, bytes))
@@ -189,7 +193,8 @@ impl DecodingKey {
     /// number (RFC 7518 section 6.3.1). If one of them is not such a text, the refusal is `Base64`.
     pub fn from_rsa_components(alloc: Global, modulus: &str, exponent: &str) -> Result<DecodingKey>
         ensures ok { IfOk result (IsRsaOfParts modulus.now exponent.now) }
-        ensures err { IfErr result (RefusesAs kind.Base64 ((k : Key) → ¬ IsRsaOfParts modulus.now exponent.now k)) }
+        ensures err { IfErr result (RefusesAs kind.Base64
+            ((k : Key) → ¬ IsRsaOfParts modulus.now exponent.now k)) }
     {
         let n = part_bytes(alloc, modulus.as_bytes())?;
         let e = part_bytes(alloc, exponent.as_bytes())?;
@@ -216,7 +221,8 @@ impl DecodingKey {
     /// refusal is `Base64`.
     pub fn from_ec_components(alloc: Global, x: &str, y: &str) -> Result<DecodingKey>
         ensures ok { IfOk result (IsEcOfParts x.now y.now) }
-        ensures err { IfErr result (RefusesAs kind.Base64 ((k : Key) → ¬ IsEcOfParts x.now y.now k)) }
+        ensures err { IfErr result (RefusesAs kind.Base64
+            ((k : Key) → ¬ IsEcOfParts x.now y.now k)) }
     {
         let x = part_bytes(alloc, x.as_bytes())?;
         let y = part_bytes(alloc, y.as_bytes())?;
@@ -244,7 +250,8 @@ impl DecodingKey {
     /// `UnsupportedAlgorithm`.
     pub fn from_jwk(alloc: Global, jwk: &Jwk) -> Result<DecodingKey>
         ensures ok { IfOk result (IsKeyOf jwk.now.algorithm) }
-        ensures err { IfErr result (RefusesAs (refusal_of jwk.now.algorithm) ((k : Key) → ¬ IsKeyOf jwk.now.algorithm k)) }
+        ensures err { IfErr result (RefusesAs (refusal_of jwk.now.algorithm)
+            ((k : Key) → ¬ IsKeyOf jwk.now.algorithm k)) }
     {
         match &jwk.algorithm {
             AlgorithmParameters::EllipticCurve(key) => {
@@ -265,7 +272,8 @@ impl DecodingKey {
 
     fn from_secret_part(alloc: Global, secret: &str) -> Result<DecodingKey>
         ensures ok { IfOk result (IsHmacOfPart secret.now) }
-        ensures err { IfErr result (RefusesAs kind.Base64 ((k : Key) → ¬ IsHmacOfPart secret.now k)) }
+        ensures err { IfErr result (RefusesAs kind.Base64
+            ((k : Key) → ¬ IsHmacOfPart secret.now k)) }
     {
         let bytes = part_bytes(alloc, secret.as_bytes())?;
         Ok(DecodingKey::plain(AlgorithmFamily::Hmac, bytes))

@@ -51,8 +51,10 @@ impl EncodingKey {
     /// Returns the HMAC key of the bytes that base64 text in the standard alphabet with padding
     /// stands for (RFC 4648 section 4). Any other text is refused with `Base64`.
     pub fn from_base64_secret(alloc: Global, secret: &str) -> Result<EncodingKey>
-        ensures ok { IfOk result (λ k. (k.family ≡ family.Hmac) × IsStandardText secret.now k.bytes) }
-        ensures err { IfErr result (RefusesAs kind.Base64 ((b : List ℕ) → ¬ IsStandardText secret.now b)) }
+        ensures ok { IfOk result (λ k. (k.family ≡ family.Hmac)
+            × IsStandardText secret.now k.bytes) }
+        ensures err { IfErr result (RefusesAs kind.Base64
+            ((b : List ℕ) → ¬ IsStandardText secret.now b)) }
     {
         Ok(EncodingKey {
             family: AlgorithmFamily::Hmac,
@@ -64,7 +66,8 @@ impl EncodingKey {
     /// for (RFC 4648 section 5). Any other text is refused with `Base64`.
     pub fn from_urlsafe_base64_secret(alloc: Global, secret: &str) -> Result<EncodingKey>
         ensures ok { IfOk result (λ k. (k.family ≡ family.Hmac) × IsUrlText secret.now k.bytes) }
-        ensures err { IfErr result (RefusesAs kind.Base64 ((b : List ℕ) → ¬ IsUrlText secret.now b)) }
+        ensures err { IfErr result (RefusesAs kind.Base64
+            ((b : List ℕ) → ¬ IsUrlText secret.now b)) }
     {
         Ok(EncodingKey {
             family: AlgorithmFamily::Hmac,

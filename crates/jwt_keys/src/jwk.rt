@@ -53,7 +53,8 @@ impl Jwk {
     pub fn from_value(alloc: Global, value: &Value) -> Result<Jwk>
         ensures ok { IfOk result (ReadsKey (view value.now)) }
         ensures normal { IfOk result IsNormal }
-        ensures err { IfErr result (RefusesAs kind.Json ((k : Jwk) → ¬ ReadsKey (view value.now) k)) }
+        ensures err { IfErr result (RefusesAs kind.Json
+            ((k : Jwk) → ¬ ReadsKey (view value.now) k)) }
     {
         Jwk::read(alloc, value)
     }
@@ -63,7 +64,8 @@ impl Jwk {
     pub fn from_slice(alloc: Global, text: &[u8]) -> Result<Jwk>
         ensures ok { IfOk result (ReadsText ReadsKey text.now) }
         ensures normal { IfOk result IsNormal }
-        ensures err { IfErr result (RefusesAs kind.Json ((k : Jwk) → ¬ ReadsText ReadsKey text.now k)) }
+        ensures err { IfErr result (RefusesAs kind.Json
+            ((k : Jwk) → ¬ ReadsText ReadsKey text.now k)) }
     {
         let value = json_value(alloc, text)?;
         Jwk::from_value(alloc, &value)
@@ -83,7 +85,8 @@ impl Jwk {
 
     /// Returns the compact JSON text of the key, as [`to_value`](Jwk::to_value) writes it and with its refusals.
     pub fn to_text(&self, alloc: Global) -> Result<Vec<u8>>
-        ensures ok { IfOk result (λ text. HasText ReadsKey key_value normal_key self.now text.items) }
+        ensures ok { IfOk result (λ text. HasText ReadsKey key_value normal_key self.now
+            text.items) }
         ensures err { IfErr result (RefusesAs kind.Json (key_value self.now ≡ None)) }
     {
         let value = self.to_value(alloc)?;
@@ -129,8 +132,10 @@ impl Jwk {
         key: &EncodingKey,
         algorithm: Algorithm,
     ) -> Result<Jwk>
-        ensures ok { IfOk result (λ k. jwk_of_secret_key (P.key_answers provider.now) algorithm key.now ≡ Ok k) }
-        ensures err { IfErr result (RefusesWith (jwk_of_secret_key (P.key_answers provider.now) algorithm key.now)) }
+        ensures ok { IfOk result (λ k. jwk_of_secret_key
+            (P.key_answers provider.now) algorithm key.now ≡ Ok k) }
+        ensures err { IfErr result (RefusesWith
+            (jwk_of_secret_key (P.key_answers provider.now) algorithm key.now)) }
     {
         let parameters = secret_parameters(alloc, provider, key, algorithm)?;
         Ok(Jwk {
@@ -151,8 +156,10 @@ impl Jwk {
         key: &DecodingKey,
         algorithm: Option<Algorithm>,
     ) -> Result<Jwk>
-        ensures ok { IfOk result (λ k. jwk_of_key (P.key_answers provider.now) algorithm key.now ≡ Ok k) }
-        ensures err { IfErr result (RefusesWith (jwk_of_key (P.key_answers provider.now) algorithm key.now)) }
+        ensures ok { IfOk result (λ k. jwk_of_key (P.key_answers provider.now) algorithm key.now
+            ≡ Ok k) }
+        ensures err { IfErr result (RefusesWith
+            (jwk_of_key (P.key_answers provider.now) algorithm key.now)) }
         ensures way_back { IfOk result (λ k. IsRsaInDer key.now ⊎ StandsFor k.algorithm key.now) }
     {
         let parameters = public_parameters(alloc, provider, key)?;
@@ -173,8 +180,10 @@ impl Jwk {
         hash: ThumbprintHash,
     ) -> Result<String>
         ensures ok { IfOk result (λ t. (d : List ℕ)
-            × ((digested ((P.key_answers provider.now).digest hash) (thumb_text self.now) ≡ Ok d) × IsPart (string_bytes t) d)) }
-        ensures err { IfErr result (RefusesWith (digested ((P.key_answers provider.now).digest hash) (thumb_text self.now))) }
+            × ((digested ((P.key_answers provider.now).digest hash) (thumb_text self.now) ≡ Ok d)
+            × IsPart (string_bytes t) d)) }
+        ensures err { IfErr result (RefusesWith
+            (digested ((P.key_answers provider.now).digest hash) (thumb_text self.now))) }
         ensures told_apart { TextFixesMembers self.now }
     {
         digest_part(alloc, provider, hash, self)
@@ -182,7 +191,8 @@ impl Jwk {
 
     fn read(alloc: Global, value: &Value) -> Result<Jwk>
         ensures ok { IfOk result (ReadsKey (view value.now)) }
-        ensures err { IfErr result (RefusesAs kind.Json ((k : Jwk) → ¬ ReadsKey (view value.now) k)) }
+        ensures err { IfErr result (RefusesAs kind.Json
+            ((k : Jwk) → ¬ ReadsKey (view value.now) k)) }
     {
         Ok(Jwk {
             common: CommonParameters::from_value(alloc, value)?,

@@ -50,7 +50,8 @@ impl JwkSet {
     pub fn from_value(alloc: Global, value: &Value) -> Result<JwkSet>
         ensures ok { IfOk result (λ s. ReadsSet (view value.now) s.keys.items) }
         ensures normal { IfOk result (λ s. IsNormalSet s.keys.items) }
-        ensures err { IfErr result (RefusesAs kind.Json ((ks : List Jwk) → ¬ ReadsSet (view value.now) ks)) }
+        ensures err { IfErr result (RefusesAs kind.Json
+            ((ks : List Jwk) → ¬ ReadsSet (view value.now) ks)) }
     {
         JwkSet::read(alloc, value)
     }
@@ -60,7 +61,8 @@ impl JwkSet {
     pub fn from_slice(alloc: Global, text: &[u8]) -> Result<JwkSet>
         ensures ok { IfOk result (λ s. ReadsText ReadsSet text.now s.keys.items) }
         ensures normal { IfOk result (λ s. IsNormalSet s.keys.items) }
-        ensures err { IfErr result (RefusesAs kind.Json ((ks : List Jwk) → ¬ ReadsText ReadsSet text.now ks)) }
+        ensures err { IfErr result (RefusesAs kind.Json
+            ((ks : List Jwk) → ¬ ReadsText ReadsSet text.now ks)) }
     {
         let value = json_value(alloc, text)?;
         JwkSet::from_value(alloc, &value)
@@ -80,7 +82,8 @@ impl JwkSet {
 
     /// Returns the compact JSON text of the set, as [`to_value`](JwkSet::to_value) writes it and with its refusals.
     pub fn to_text(&self, alloc: Global) -> Result<Vec<u8>>
-        ensures ok { IfOk result (λ text. HasText ReadsSet set_value normal_set self.now.keys.items text.items) }
+        ensures ok { IfOk result (λ text. HasText ReadsSet set_value normal_set self.now.keys.items
+            text.items) }
         ensures err { IfErr result (RefusesAs kind.Json (set_value self.now.keys.items ≡ None)) }
     {
         let value = self.to_value(alloc)?;
@@ -98,7 +101,8 @@ impl JwkSet {
 
     fn read(alloc: Global, value: &Value) -> Result<JwkSet>
         ensures ok { IfOk result (λ s. ReadsSet (view value.now) s.keys.items) }
-        ensures err { IfErr result (RefusesAs kind.Json ((ks : List Jwk) → ¬ ReadsSet (view value.now) ks)) }
+        ensures err { IfErr result (RefusesAs kind.Json
+            ((ks : List Jwk) → ¬ ReadsSet (view value.now) ks)) }
     {
         let Some(member) = value.get("keys") else {
             return Err(new_error(ErrorKind::Json));
@@ -111,7 +115,8 @@ impl JwkSet {
     }
 
     fn members(&self, alloc: Global) -> Result<Map<String, Value>>
-        ensures ok { IfOk result (λ m. set_value self.now.keys.items ≡ Some (object (members_view m.entries))) }
+        ensures ok { IfOk result (λ m. set_value self.now.keys.items
+            ≡ Some (object (members_view m.entries))) }
         ensures err { IfErr result (RefusesAs kind.Json (set_value self.now.keys.items ≡ None)) }
     {
         let values = write_keys(alloc, self.keys.as_slice())?;
@@ -145,7 +150,8 @@ fn clone_keys(alloc: Global, keys: &[Jwk]) -> Result<Vec<Jwk>>
 
 fn read_keys(alloc: Global, items: &[Value]) -> Result<Vec<Jwk>>
     ensures ok { IfOk result (λ ks. ReadsKeys (items_view items.now) ks.items) }
-    ensures err { IfErr result (RefusesAs kind.Json ((ks : List Jwk) → ¬ ReadsKeys (items_view items.now) ks)) }
+    ensures err { IfErr result (RefusesAs kind.Json
+        ((ks : List Jwk) → ¬ ReadsKeys (items_view items.now) ks)) }
 {
     let mut keys = Vec::new(alloc);
     for item in items {

@@ -60,7 +60,8 @@ pub trait JwtVerifier: Drop {
     /// Returns whether these bytes are accepted as a signature of the message. The verifier and the
     /// two arguments alone decide it. The only refusal is `OutOfMemory`.
     fn verify(&self, alloc: Global, message: &[u8], signature: &[u8]) -> Result<bool>
-        ensures verdict { IfOk result (λ yes. IsTrue yes ↔ accepts self.now message.now signature.now) }
+        ensures verdict { IfOk result (λ yes. IsTrue yes
+            ↔ accepts self.now message.now signature.now) }
         ensures memory { IfErr result IsMemory }
         ensures sparing { is_sparing self.now → IsOk result };
 }
@@ -123,7 +124,8 @@ pub trait CryptoProvider {
         ensures accepts { IfOk result (λ v. (m s : List ℕ) →
             Self.Verifier.accepts v m s ↔ accepts self.now algorithm.now key.now m s) }
         ensures sparing { is_sparing self.now → IfErr result (λ e. kind_of e ≢ kind.OutOfMemory) }
-        ensures sparing_verifier { is_sparing self.now → IfOk result (λ v. Self.Verifier.is_sparing v) };
+        ensures sparing_verifier { is_sparing self.now
+            → IfOk result (λ v. Self.Verifier.is_sparing v) };
 
     /// Returns the modulus and the exponent of an RSA key, from a private key in DER.
     fn rsa_pub_components_from_private_key(
@@ -131,7 +133,8 @@ pub trait CryptoProvider {
         alloc: Global,
         der: &[u8],
     ) -> Result<(Vec<u8>, Vec<u8>)>
-        ensures ok { IfOk result (λ p. (key_answers self.now).rsa_private der.now ≡ Ok (p.0.items, p.1.items)) }
+        ensures ok { IfOk result (λ p. (key_answers self.now).rsa_private der.now
+            ≡ Ok (p.0.items, p.1.items)) }
         ensures err { IfErr result (RefusesWith ((key_answers self.now).rsa_private der.now)) };
 
     /// Returns the modulus and the exponent of an RSA key, from a public key in DER.
@@ -140,7 +143,8 @@ pub trait CryptoProvider {
         alloc: Global,
         der: &[u8],
     ) -> Result<(Vec<u8>, Vec<u8>)>
-        ensures ok { IfOk result (λ p. (key_answers self.now).rsa_public der.now ≡ Ok (p.0.items, p.1.items)) }
+        ensures ok { IfOk result (λ p. (key_answers self.now).rsa_public der.now
+            ≡ Ok (p.0.items, p.1.items)) }
         ensures err { IfErr result (RefusesWith ((key_answers self.now).rsa_public der.now)) };
 
     /// Returns the curve and the two coordinates of an elliptic curve key, from a private key in
@@ -151,8 +155,10 @@ pub trait CryptoProvider {
         der: &[u8],
         algorithm: Algorithm,
     ) -> Result<(EllipticCurve, Vec<u8>, Vec<u8>)>
-        ensures ok { IfOk result (λ p. (key_answers self.now).ec_private der.now algorithm ≡ Ok (p.0, p.1.items, p.2.items)) }
-        ensures err { IfErr result (RefusesWith ((key_answers self.now).ec_private der.now algorithm)) };
+        ensures ok { IfOk result (λ p. (key_answers self.now).ec_private der.now algorithm
+            ≡ Ok (p.0, p.1.items, p.2.items)) }
+        ensures err { IfErr result (RefusesWith
+            ((key_answers self.now).ec_private der.now algorithm)) };
 
     /// Returns the public key of an Edwards curve key, from a private key in DER on this curve.
     fn ed_pub_components_from_private_key(
@@ -161,8 +167,10 @@ pub trait CryptoProvider {
         der: &[u8],
         curve: &EllipticCurve,
     ) -> Result<Vec<u8>>
-        ensures ok { IfOk result (λ x. (key_answers self.now).ed_private der.now curve.now ≡ Ok x.items) }
-        ensures err { IfErr result (RefusesWith ((key_answers self.now).ed_private der.now curve.now)) };
+        ensures ok { IfOk result (λ x. (key_answers self.now).ed_private der.now curve.now
+            ≡ Ok x.items) }
+        ensures err { IfErr result (RefusesWith
+            ((key_answers self.now).ed_private der.now curve.now)) };
 
     /// Returns the digest of the bytes by this hash.
     fn compute_digest(&self, alloc: Global, bytes: &[u8], hash: ThumbprintHash) -> Result<Vec<u8>>
@@ -170,7 +178,8 @@ pub trait CryptoProvider {
         ensures err { IfErr result (RefusesWith ((key_answers self.now).digest hash bytes.now)) };
 
     // A verifier is made only for a key of the algorithm's family.
-    ghost same_family: { (p : Self) (a : Algorithm) (k : Key) → verifier_refusal p a k ≡ None → key_family k ≡ family_of a };
+    ghost same_family: { (p : Self) (a : Algorithm) (k : Key) → verifier_refusal p a k ≡ None
+        → key_family k ≡ family_of a };
 }
 
 /// Signs the message, and returns the base64url text of the signature (RFC 7515 section 5.1).
@@ -187,7 +196,8 @@ pub fn sign<P: CryptoProvider>(
         × (IsPart (string_bytes t) s × P.signs provider.now algorithm key.now message.now s)) }
     ensures ok { OnOk result (first_refusal (P.signer_refusal provider.now algorithm key.now)
         (P.sign_refusal provider.now algorithm key.now message.now) ≡ None) }
-    ensures err { IfErr result (Refuses (first_refusal (P.signer_refusal provider.now algorithm key.now)
+    ensures err { IfErr result (Refuses (first_refusal
+        (P.signer_refusal provider.now algorithm key.now)
         (P.sign_refusal provider.now algorithm key.now message.now))) }
 {
     let signer = provider.signer_factory(alloc, &algorithm, key)?;
@@ -210,7 +220,8 @@ pub fn verify<P: CryptoProvider>(
         × (IsTrue yes ↔ P.accepts provider.now algorithm key.now message.now s))) }
     ensures made { OnOk result (P.verifier_refusal provider.now algorithm key.now ≡ None) }
     ensures family { OnOk result (key_family key.now ≡ family_of algorithm) }
-    ensures err { IfErr result (RefusesSignature (P.verifier_refusal provider.now algorithm key.now) signature.now) }
+    ensures err { IfErr result (RefusesSignature
+        (P.verifier_refusal provider.now algorithm key.now) signature.now) }
 {
     let verifier = provider.verifier_factory(alloc, &algorithm, key)?;
     let bytes = part_bytes(alloc, signature.as_bytes())?;

@@ -56,7 +56,8 @@ impl CommonParameters {
     pub fn from_value(alloc: Global, value: &Value) -> Result<CommonParameters>
         ensures ok { IfOk result (ReadsCommon (view value.now)) }
         ensures normal { IfOk result (λ c. normal_common c ≡ c) }
-        ensures err { IfErr result (RefusesAs kind.Json ((c : CommonParameters) → ¬ ReadsCommon (view value.now) c)) }
+        ensures err { IfErr result (RefusesAs kind.Json
+            ((c : CommonParameters) → ¬ ReadsCommon (view value.now) c)) }
     {
         CommonParameters::read(alloc, value)
     }
@@ -114,7 +115,8 @@ impl CommonParameters {
 
     fn read(alloc: Global, value: &Value) -> Result<CommonParameters>
         ensures ok { IfOk result (ReadsCommon (view value.now)) }
-        ensures err { IfErr result (RefusesAs kind.Json ((c : CommonParameters) → ¬ ReadsCommon (view value.now) c)) }
+        ensures err { IfErr result (RefusesAs kind.Json
+            ((c : CommonParameters) → ¬ ReadsCommon (view value.now) c)) }
     {
         if !value.is_object() {
             return Err(new_error(ErrorKind::Json));
@@ -151,7 +153,8 @@ pub fn common_names() -> [&'static str; 8]
 }
 
 fn optional_use(alloc: Global, value: &Value) -> Result<Option<PublicKeyUse>>
-    ensures ok { IfOk result (λ u. optional use_from (get (codes "use") (view value.now)) ≡ Some u) }
+    ensures ok { IfOk result (λ u. optional use_from (get (codes "use") (view value.now))
+        ≡ Some u) }
     ensures err { IfErr result
         (RefusesAs kind.Json (optional use_from (get (codes "use") (view value.now)) ≡ None)) }
 {
@@ -162,9 +165,11 @@ fn optional_use(alloc: Global, value: &Value) -> Result<Option<PublicKeyUse>>
 }
 
 fn optional_operations(alloc: Global, value: &Value) -> Result<Option<KeyOperationList>>
-    ensures ok { IfOk result (λ o. optional operations_from (get (codes "key_ops") (view value.now)) ≡ Some o) }
+    ensures ok { IfOk result (λ o. optional operations_from (get (codes "key_ops") (view value.now))
+        ≡ Some o) }
     ensures err { IfErr result
-        (RefusesAs kind.Json (optional operations_from (get (codes "key_ops") (view value.now)) ≡ None)) }
+        (RefusesAs kind.Json (optional operations_from (get (codes "key_ops") (view value.now))
+        ≡ None)) }
 {
     match present(value, "key_ops") {
         None => Ok(None),
@@ -173,9 +178,11 @@ fn optional_operations(alloc: Global, value: &Value) -> Result<Option<KeyOperati
 }
 
 fn optional_algorithm(value: &Value) -> Result<Option<KeyAlgorithm>>
-    ensures ok { IfOk result (λ a. optional key_algorithm_from (get (codes "alg") (view value.now)) ≡ Some a) }
+    ensures ok { IfOk result (λ a. optional key_algorithm_from (get (codes "alg") (view value.now))
+        ≡ Some a) }
     ensures err { IfErr result
-        (RefusesAs kind.Json (optional key_algorithm_from (get (codes "alg") (view value.now)) ≡ None)) }
+        (RefusesAs kind.Json (optional key_algorithm_from (get (codes "alg") (view value.now))
+        ≡ None)) }
 {
     match present(value, "alg") {
         None => Ok(None),
@@ -189,7 +196,8 @@ fn put_use(
     public_key_use: &Option<PublicKeyUse>,
 ) -> Result<()>
     ensures ok { OnOk result (members_view members.new.entries
-        ≡ put_some (codes "use") (option_map use_value public_key_use.now) (members_view members.old.entries)) }
+        ≡ put_some (codes "use") (option_map use_value public_key_use.now)
+        (members_view members.old.entries)) }
     ensures err { IfErr result IsMemory }
 {
     match public_key_use {
@@ -204,7 +212,8 @@ fn put_operations(
     operations: &Option<KeyOperationList>,
 ) -> Result<()>
     ensures ok { OnOk result (members_view members.new.entries
-        ≡ put_some (codes "key_ops") (option_map operations_value operations.now) (members_view members.old.entries)) }
+        ≡ put_some (codes "key_ops") (option_map operations_value operations.now)
+        (members_view members.old.entries)) }
     ensures err { IfErr result IsMemory }
 {
     match operations {
@@ -223,7 +232,8 @@ fn put_algorithm(
     algorithm: &Option<KeyAlgorithm>,
 ) -> Result<()>
     ensures ok { OnOk result (members_view members.new.entries
-        ≡ put_some (codes "alg") (option_map key_algorithm_value algorithm.now) (members_view members.old.entries)) }
+        ≡ put_some (codes "alg") (option_map key_algorithm_value algorithm.now)
+        (members_view members.old.entries)) }
     ensures err { IfErr result IsMemory }
 {
     match algorithm {

@@ -51,7 +51,8 @@ impl EllipticCurve {
     /// Allocates no memory.
     pub fn from_value(value: &Value) -> Result<EllipticCurve>
         ensures ok { IfOk result (λ c. curve_from (view value.now) ≡ Some c) }
-        ensures err { IfErr result (λ e. (kind_of e ≡ kind.Json) × (curve_from (view value.now) ≡ None)) }
+        ensures err { IfErr result (λ e. (kind_of e ≡ kind.Json)
+            × (curve_from (view value.now) ≡ None)) }
     {
         let curve = value.as_str().and_then(curve_of_name);
         curve.ok_or(new_error(ErrorKind::Json))

@@ -64,7 +64,8 @@ impl FreeMembers {
     /// Returns the members of a key except those that keys of every type may have (RFC 7517
     /// section 4). A float among them is refused with `Json`.
     pub fn among(alloc: Global, members: &BTreeMap<String, Value>) -> Result<FreeMembers>
-        ensures ok { IfOk result (λ f. f ≡ without common_names (members_view members.now.entries)) }
+        ensures ok { IfOk result (λ f. f ≡ without common_names
+            (members_view members.now.entries)) }
         ensures no_float { IfOk result (λ f. members_have_float f ≡ false) }
         ensures err { IfErr result (RefusesAs kind.Json
             (members_have_float (without common_names (members_view members.now.entries)) ≡ true)) }

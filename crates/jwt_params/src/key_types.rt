@@ -41,7 +41,8 @@ impl EllipticCurveKeyType {
     /// `Json`. Allocates no memory.
     pub fn from_value(value: &Value) -> Result<EllipticCurveKeyType>
         ensures ok { IfOk result (λ t. types.elliptic_type_from (view value.now) ≡ Some t) }
-        ensures err { IfErr result (λ e. (kind_of e ≡ kind.Json) × (types.elliptic_type_from (view value.now) ≡ None)) }
+        ensures err { IfErr result (λ e. (kind_of e ≡ kind.Json)
+            × (types.elliptic_type_from (view value.now) ≡ None)) }
     {
         match value.as_str().and_then(elliptic_type_of_name) {
             Some(key_type) => Ok(key_type),
@@ -99,7 +100,8 @@ impl RSAKeyType {
     /// `Json`. Allocates no memory.
     pub fn from_value(value: &Value) -> Result<RSAKeyType>
         ensures ok { IfOk result (λ t. types.rsa_type_from (view value.now) ≡ Some t) }
-        ensures err { IfErr result (λ e. (kind_of e ≡ kind.Json) × (types.rsa_type_from (view value.now) ≡ None)) }
+        ensures err { IfErr result (λ e. (kind_of e ≡ kind.Json)
+            × (types.rsa_type_from (view value.now) ≡ None)) }
     {
         match value.as_str().and_then(rsa_type_of_name) {
             Some(key_type) => Ok(key_type),
@@ -157,7 +159,8 @@ impl OctetKeyType {
     /// `Json`. Allocates no memory.
     pub fn from_value(value: &Value) -> Result<OctetKeyType>
         ensures ok { IfOk result (λ t. types.octet_type_from (view value.now) ≡ Some t) }
-        ensures err { IfErr result (λ e. (kind_of e ≡ kind.Json) × (types.octet_type_from (view value.now) ≡ None)) }
+        ensures err { IfErr result (λ e. (kind_of e ≡ kind.Json)
+            × (types.octet_type_from (view value.now) ≡ None)) }
     {
         match value.as_str().and_then(octet_type_of_name) {
             Some(key_type) => Ok(key_type),
@@ -205,7 +208,8 @@ impl OctetKeyPairType {
     /// Returns the name as a JSON string. The only refusal is `OutOfMemory`.
     pub fn to_value(&self, alloc: Global) -> Result<Value>
         ensures ok { IfOk result (λ v. view v ≡ string (types.octet_pair_type_name self.now)) }
-        ensures reads_back { IfOk result (λ v. types.octet_pair_type_from (view v) ≡ Some self.now) }
+        ensures reads_back { IfOk result (λ v. types.octet_pair_type_from (view v)
+            ≡ Some self.now) }
         ensures err { IfErr result IsMemory }
     {
         Ok(Value::try_from_str(alloc, self.name())?)
@@ -215,7 +219,8 @@ impl OctetKeyPairType {
     /// `Json`. Allocates no memory.
     pub fn from_value(value: &Value) -> Result<OctetKeyPairType>
         ensures ok { IfOk result (λ t. types.octet_pair_type_from (view value.now) ≡ Some t) }
-        ensures err { IfErr result (λ e. (kind_of e ≡ kind.Json) × (types.octet_pair_type_from (view value.now) ≡ None)) }
+        ensures err { IfErr result (λ e. (kind_of e ≡ kind.Json)
+            × (types.octet_pair_type_from (view value.now) ≡ None)) }
     {
         match value.as_str().and_then(octet_pair_type_of_name) {
             Some(key_type) => Ok(key_type),

@@ -42,7 +42,8 @@ impl KeyOperations {
     /// Returns the name as a JSON string. The only refusal is `OutOfMemory`.
     pub fn to_value(&self, alloc: Global) -> Result<Value>
         ensures ok { IfOk result (λ v. view v ≡ operation_value self.now) }
-        ensures reads_back { IfOk result (λ v. operation_from (view v) ≡ Some (normal_operation self.now)) }
+        ensures reads_back { IfOk result (λ v. operation_from (view v)
+            ≡ Some (normal_operation self.now)) }
         ensures err { IfErr result IsMemory }
     {
         Ok(Value::try_from_str(alloc, self.as_str())?)
@@ -202,7 +203,8 @@ impl KeyOperationList {
     /// Returns the names as a JSON list. The only refusal is `OutOfMemory`.
     pub fn to_value(&self, alloc: Global) -> Result<Value>
         ensures ok { IfOk result (λ v. view v ≡ operations_value self.now) }
-        ensures reads_back { IfOk result (λ v. operations_from (view v) ≡ Some (normal_operations self.now)) }
+        ensures reads_back { IfOk result (λ v. operations_from (view v)
+            ≡ Some (normal_operations self.now)) }
         ensures err { IfErr result IsMemory }
     {
         let mut items = Vec::new(alloc);

@@ -69,7 +69,8 @@ impl AlgorithmParameters {
     /// Returns the JSON object of the parameters. A float in an `Other` is refused with `Json`.
     pub fn to_value(&self, alloc: Global) -> Result<Value>
         ensures ok { IfOk result (λ v. parameters_value self.now ≡ Some (view v)) }
-        ensures reads_back { IfOk result (λ v. parameters_from (view v) ≡ Some (normal_parameters self.now)) }
+        ensures reads_back { IfOk result (λ v. parameters_from (view v)
+            ≡ Some (normal_parameters self.now)) }
         ensures err { IfErr result (RefusesAs kind.Json (parameters_value self.now ≡ None)) }
     {
         let members = self.members(alloc)?;
@@ -79,7 +80,8 @@ impl AlgorithmParameters {
     /// Returns the members of the JSON object of the parameters. A float in an `Other` is refused
     /// with `Json`.
     pub fn members(&self, alloc: Global) -> Result<Map<String, Value>>
-        ensures ok { IfOk result (λ m. parameters_members self.now ≡ Some (members_view m.entries)) }
+        ensures ok { IfOk result (λ m. parameters_members self.now
+            ≡ Some (members_view m.entries)) }
         ensures err { IfErr result (RefusesAs kind.Json (parameters_members self.now ≡ None)) }
     {
         match self {

@@ -9,7 +9,7 @@ use serde_json::{Map, Value};
 use std::alloc::Global;
 
 /// The value of a result, or the reason for which the row could not be tried.
-pub type Answer = std::result::Result<Value, Fault>;
+pub type Answer = Result<Value, Fault>;
 
 /// Returns an object with this one member.
 pub fn object(alloc: Global, name: &str, value: Value) -> Answer {
@@ -43,7 +43,7 @@ fn held_text(kind: &ErrorKind) -> Option<&str> {
 }
 
 // Returns the name of a kind, and behind it in parentheses the string that it holds.
-fn kind_text(alloc: Global, kind: &ErrorKind) -> std::result::Result<String, Fault> {
+fn kind_text(alloc: Global, kind: &ErrorKind) -> Result<String, Fault> {
     let name = kind.name();
     match held_text(kind) {
         Some(text) => Ok(format!(in alloc; "{name}({text})")?),
@@ -133,7 +133,7 @@ pub fn add_bytes(
     members: &mut Map<String, Value>,
     name: &str,
     bytes: &[u8],
-) -> std::result::Result<(), Fault> {
+) -> Result<(), Fault> {
     let digits = hex_value(alloc, bytes)?;
     members.insert(String::from_str(alloc, name)?, digits)?;
     Ok(())
@@ -145,7 +145,7 @@ pub fn add_text(
     members: &mut Map<String, Value>,
     name: &str,
     given: &str,
-) -> std::result::Result<(), Fault> {
+) -> Result<(), Fault> {
     let string = text(alloc, given)?;
     members.insert(String::from_str(alloc, name)?, string)?;
     Ok(())

@@ -106,9 +106,11 @@ impl PublicKey {
     fn opened(&self, alloc: Global, signature: &[u8]) -> Result<Option<Vec<u8>>>
         ensures some { IfOk result (λ o. IfSome o (λ v.
             IsRepresentative self.now.modulus self.now.bits signature.now
-            × (v.items ≡ i2osp (rsavp1 self.now.modulus self.now.exponent (os2ip signature.now)) (octet_count self.now.bits))
+            × (v.items ≡ i2osp (rsavp1 self.now.modulus self.now.exponent (os2ip signature.now))
+            (octet_count self.now.bits))
             × (length v.items ≡ octet_count self.now.bits))) }
-        ensures none { IfOk result (λ o. IfNone o (¬ IsRepresentative self.now.modulus self.now.bits signature.now)) }
+        ensures none { IfOk result (λ o. IfNone o
+            (¬ IsRepresentative self.now.modulus self.now.bits signature.now)) }
         ensures memory { IfErr result IsMemory }
     {
         let count = self.octet_count();
@@ -132,7 +134,8 @@ impl PublicKey {
         signature: &[u8],
     ) -> Result<bool>
         ensures verdict { IfOk result (λ yes. IsTrue yes
-            ↔ IsPkcs1Signature hash self.now.modulus self.now.exponent self.now.bits message.now signature.now) }
+            ↔ IsPkcs1Signature hash self.now.modulus self.now.exponent self.now.bits message.now
+            signature.now) }
         ensures memory { IfErr result IsMemory }
     {
         let Some(octets) = self.opened(alloc, signature)? else {
@@ -151,7 +154,8 @@ impl PublicKey {
         signature: &[u8],
     ) -> Result<bool>
         ensures verdict { IfOk result (λ yes. IsTrue yes
-            ↔ IsPssSignature hash self.now.modulus self.now.exponent self.now.bits message.now signature.now) }
+            ↔ IsPssSignature hash self.now.modulus self.now.exponent self.now.bits message.now
+            signature.now) }
         ensures memory { IfErr result IsMemory }
     {
         let Some(octets) = self.opened(alloc, signature)? else {
@@ -174,7 +178,8 @@ impl PublicKey {
         signature: &[u8],
     ) -> Result<bool>
         ensures verdict { IfOk result (λ yes. IsTrue yes
-            ↔ IsSignature scheme self.now.modulus self.now.exponent self.now.bits message.now signature.now) }
+            ↔ IsSignature scheme self.now.modulus self.now.exponent self.now.bits message.now
+            signature.now) }
         ensures memory { IfErr result IsMemory }
     {
         match scheme {

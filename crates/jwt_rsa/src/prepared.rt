@@ -32,7 +32,8 @@ impl Keyed<'_> {
         message: &[u8],
         signature: &[u8],
     ) -> Result<bool>
-        ensures verdict { IfOk result (λ yes. IsTrue yes ↔ IsSignatureBy self.now scheme message.now signature.now) }
+        ensures verdict { IfOk result (λ yes. IsTrue yes
+            ↔ IsSignatureBy self.now scheme message.now signature.now) }
         ensures memory { IfErr result IsMemory }
     {
         match self {
@@ -90,7 +91,8 @@ impl PreparedRsa {
     /// Prepares the key of this modulus and exponent, after those before it. A key that `RsaProvider`
     /// refuses is refused with `InvalidKeyFormat`. A refusal leaves the provider unchanged.
     pub fn add(&mut self, alloc: Global, n: &[u8], e: &[u8]) -> Result<()>
-        ensures prepared { OnOk result (prepared_keys self.new ≡ prepared_keys self.old ++ (n.now, e.now) ∷ []) }
+        ensures prepared { OnOk result (prepared_keys self.new
+            ≡ prepared_keys self.old ++ (n.now, e.now) ∷ []) }
         ensures made { OnOk result (components_refusal n.now e.now ≡ None) }
         ensures err { IfErr result (Refuses (components_refusal n.now e.now)) }
         ensures unchanged { IfErr result (λ _. prepared_keys self.new ≡ prepared_keys self.old) }
@@ -123,7 +125,8 @@ impl PreparedRsa {
         ensures made { OnOk result (components_refusal n.now e.now ≡ None) }
         ensures err { IfErr result (Refuses (components_refusal n.now e.now)) }
         ensures accepts { IfOk result (λ k. (scheme : Scheme) (m s : List ℕ) →
-            IsSignatureBy k scheme m s ↔ IsSignature scheme (os2ip n.now) (os2ip e.now) (bit_count n.now) m s) }
+            IsSignatureBy k scheme m s ↔ IsSignature scheme (os2ip n.now) (os2ip e.now)
+            (bit_count n.now) m s) }
         ensures kept { IfOk result (λ k. IsKept k ↔ IsPrepared self.now n.now e.now) }
     {
         if let Some(prepared) = self.find(n, e) {

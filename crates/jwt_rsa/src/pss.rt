@@ -175,9 +175,11 @@ pub(crate) fn front_bits(em_bits: usize) -> u32
 pub(crate) fn lowest_octets(octets: &[u8], count: usize) -> Option<&[u8]>
     requires least { count ≤ length octets.now }
     requires most { length octets.now ≤ count + 1 }
-    ensures some { IfSome result (λ lowest. (x : ℕ) → octets.now ≡ i2osp x (length octets.now) → x < 256 ^ length octets.now
+    ensures some { IfSome result (λ lowest. (x : ℕ) → octets.now ≡ i2osp x (length octets.now)
+        → x < 256 ^ length octets.now
         → (x < 256 ^ count) × (lowest.now ≡ i2osp x count)) }
-    ensures none { IfNone result ((x : ℕ) → octets.now ≡ i2osp x (length octets.now) → ¬ (x < 256 ^ count)) }
+    ensures none { IfNone result ((x : ℕ) → octets.now ≡ i2osp x (length octets.now)
+        → ¬ (x < 256 ^ count)) }
     ensures short { IfSome result (λ lowest. length lowest.now ≤ length octets.now) }
 {
     if octets.len() == count {

@@ -90,9 +90,11 @@ impl CryptoProvider for StandardProvider {
     ) -> Result<StandardVerifier>
         ensures made { OnOk result (verifier_refusal algorithm.now key.now ≡ None) }
         ensures err { IfErr result (Refuses (verifier_refusal algorithm.now key.now)) }
-        ensures by { IfOk result (λ v. ⟦<StandardVerifier as JwtVerifier>⟧.verifies_by v ≡ algorithm.now) }
+        ensures by { IfOk result (λ v. ⟦<StandardVerifier as JwtVerifier>⟧.verifies_by v
+            ≡ algorithm.now) }
         ensures accepts { IfOk result (λ v. (m s : List ℕ) →
-            ⟦<StandardVerifier as JwtVerifier>⟧.accepts v m s ↔ StandardAccepts algorithm.now key.now m s) }
+            ⟦<StandardVerifier as JwtVerifier>⟧.accepts v m s
+            ↔ StandardAccepts algorithm.now key.now m s) }
 
         // Without RSA neither this call nor the verifier that it makes allocates memory.
         ensures spares { family_of algorithm.now ≢ family.Rsa

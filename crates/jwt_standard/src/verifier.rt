@@ -30,7 +30,8 @@ impl JwtVerifier for StandardVerifier {
         ⟦<EdDsaVerifier as JwtVerifier>⟧.verifies_by v };
 
     ghost accepts = { λ v m s. by_family (λ x. ⟦<HmacVerifier as JwtVerifier>⟧.accepts x m s)
-        (λ x. ⟦<RsaVerifier as JwtVerifier>⟧.accepts x m s) (λ x. ⟦<EcdsaVerifier as JwtVerifier>⟧.accepts x m s)
+        (λ x. ⟦<RsaVerifier as JwtVerifier>⟧.accepts x m s)
+        (λ x. ⟦<EcdsaVerifier as JwtVerifier>⟧.accepts x m s)
         (λ x. ⟦<EdDsaVerifier as JwtVerifier>⟧.accepts x m s) v };
 
     ghost is_sparing = { λ v. by_family ⟦<HmacVerifier as JwtVerifier>⟧.is_sparing

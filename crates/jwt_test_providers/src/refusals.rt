@@ -12,10 +12,7 @@ pub fn is_refused<T: Drop>(answer: Result<T>, kind: ErrorKind) -> bool {
 }
 
 /// Returns whether the result is the refusal `Provider("closed")`.
-pub fn is_closed<T: Drop>(
-    alloc: Global,
-    answer: Result<T>,
-) -> std::result::Result<bool, AllocError> {
+pub fn is_closed<T: Drop>(alloc: Global, answer: Result<T>) -> Result<bool, AllocError> {
     let reason = String::from_str(alloc, "closed")?;
     Ok(is_refused(answer, ErrorKind::Provider(reason)))
 }

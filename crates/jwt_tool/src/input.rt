@@ -21,11 +21,13 @@ pub fn without_newline(bytes: &[u8]) -> &[u8]
 /// Reads to the end. A reader that has not ended after `READS` calls is refused with `Read`, and so
 /// is one that fails; a call that was interrupted is made again.
 pub fn gather<R: Read>(alloc: Global, reader: &mut R) -> Result<Vec<u8>, ToolFault>
-    ensures whole { IfOk result (λ input. IfSome (R.remaining reader.old) (λ all. input.items ≡ all)) }
+    ensures whole { IfOk result (λ input. IfSome (R.remaining reader.old)
+        (λ all. input.items ≡ all)) }
     ensures failed { IfErr result (λ e. e ≢ ToolFault.Write) }
 
     // Whatever it returns, the front of the input was taken from the reader.
-    ensures taken { (front : List ℕ) × Consumes (R.remaining reader.old) (R.remaining reader.new) front }
+    ensures taken { (front : List ℕ) × Consumes (R.remaining reader.old)
+        (R.remaining reader.new) front }
 {
     let mut input = Vec::new(alloc);
     let mut buffer = [0u8; 4096];

@@ -43,14 +43,16 @@ pub fn run<R: Read, W: Write>(
     words: &[String],
     reader: &mut R,
     writer: &mut W,
-) -> std::result::Result<u8, ToolFault>
-    ensures unread { request_of (map string_bytes words.now) ≡ None → R.remaining reader.new ≡ R.remaining reader.old }
+) -> Result<u8, ToolFault>
+    ensures unread { request_of (map string_bytes words.now) ≡ None
+        → R.remaining reader.new ≡ R.remaining reader.old }
     ensures answered { IfOk result (λ status. IfSome (R.remaining reader.old) (λ all.
         (line : List ℕ) × Appends (W.contents writer.old) (W.contents writer.new) (line ++ 10 ∷ [])
         × Answers (map string_bytes words.now) (without_final_newline all) status line)) }
 
     // If it fails otherwise than by the writer, nothing was written.
-    ensures unwritten { IfErr result (λ e. e ≢ ToolFault.Write → W.contents writer.new ≡ W.contents writer.old) }
+    ensures unwritten { IfErr result (λ e. e ≢ ToolFault.Write
+        → W.contents writer.new ≡ W.contents writer.old) }
 {
     let answer = answer_to(alloc, words, reader)?;
     write_line(writer, answer.line)?;
@@ -58,14 +60,12 @@ pub fn run<R: Read, W: Write>(
 }
 
 /// Returns the result for the arguments. The input is read only if they ask for it.
-fn answer_to<R: Read>(
-    alloc: Global,
-    words: &[String],
-    reader: &mut R,
-) -> std::result::Result<Answer, ToolFault>
-    ensures unread { request_of (map string_bytes words.now) ≡ None → R.remaining reader.new ≡ R.remaining reader.old }
+fn answer_to<R: Read>(alloc: Global, words: &[String], reader: &mut R) -> Result<Answer, ToolFault>
+    ensures unread { request_of (map string_bytes words.now) ≡ None
+        → R.remaining reader.new ≡ R.remaining reader.old }
     ensures said { IfOk result (λ a. IfSome (R.remaining reader.old) (λ all.
-        Answers (map string_bytes words.now) (without_final_newline all) a.status (string_bytes a.line))) }
+        Answers (map string_bytes words.now) (without_final_newline all) a.status
+        (string_bytes a.line))) }
 {
     let Some(command) = requested_command(words) else {
         return usage(alloc);
@@ -74,7 +74,7 @@ fn answer_to<R: Read>(
     command_answer(alloc, command, without_newline(&input))
 }
 
-fn usage(alloc: Global) -> std::result::Result<Answer, ToolFault>
+fn usage(alloc: Global) -> Result<Answer, ToolFault>
     ensures { IfOk result (λ a. IsUsage a.status (string_bytes a.line)) }
 {
     match String::from_str(alloc, "usage") {
@@ -84,9 +84,11 @@ fn usage(alloc: Global) -> std::result::Result<Answer, ToolFault>
 }
 
 /// Writes a text and a newline, at once.
-fn write_line<W: Write>(writer: &mut W, mut line: String) -> std::result::Result<(), ToolFault>
-    ensures written { OnOk result (Appends (W.contents writer.old) (W.contents writer.new) (string_bytes line ++ 10 ∷ [])) }
-    ensures unwritten { IfErr result (λ e. e ≢ ToolFault.Write → W.contents writer.new ≡ W.contents writer.old) }
+fn write_line<W: Write>(writer: &mut W, mut line: String) -> Result<(), ToolFault>
+    ensures written { OnOk result (Appends (W.contents writer.old) (W.contents writer.new)
+        (string_bytes line ++ 10 ∷ [])) }
+    ensures unwritten { IfErr result (λ e. e ≢ ToolFault.Write
+        → W.contents writer.new ≡ W.contents writer.old) }
 {
     if line.push('\n').is_err() {
         return Err(ToolFault::Memory);
@@ -97,12 +99,9 @@ fn write_line<W: Write>(writer: &mut W, mut line: String) -> std::result::Result
     Ok(())
 }
 
-fn command_answer(
-    alloc: Global,
-    command: Command<'_>,
-    input: &[u8],
-) -> std::result::Result<Answer, ToolFault>
-    ensures { IfOk result (λ a. RequestAnswer (asked command.entry) input.now a.status (string_bytes a.line)) }
+fn command_answer(alloc: Global, command: Command<'_>, input: &[u8]) -> Result<Answer, ToolFault>
+    ensures { IfOk result (λ a. RequestAnswer (asked command.entry) input.now a.status
+        (string_bytes a.line)) }
 {
     match command {
         Command::Header => header_answer(alloc, input),
@@ -122,9 +121,10 @@ fn command_answer(
 }
 
 /// Returns the header's JSON text, or the refusal's text.
-fn header_answer(alloc: Global, input: &[u8]) -> std::result::Result<Answer, ToolFault>
+fn header_answer(alloc: Global, input: &[u8]) -> Result<Answer, ToolFault>
     ensures { IfOk result (λ a. ValueAnswer IsValueText (IsHeaderValue input.now)
-        (λ k. FailsFirst (token_tests (header_call input.now)) header_order k) a.status (string_bytes a.line)) }
+        (λ k. FailsFirst (token_tests (header_call input.now)) header_order k) a.status
+        (string_bytes a.line)) }
 {
     match header_value(alloc, input) {
         Ok(value) => text_answer(alloc, &value),
@@ -133,11 +133,7 @@ fn header_answer(alloc: Global, input: &[u8]) -> std::result::Result<Answer, Too
 }
 
 /// Returns the key's thumbprint, or the refusal's text.
-fn thumbprint_answer(
-    alloc: Global,
-    hash: ThumbprintHash,
-    input: &[u8],
-) -> std::result::Result<Answer, ToolFault>
+fn thumbprint_answer(alloc: Global, hash: ThumbprintHash, input: &[u8]) -> Result<Answer, ToolFault>
     ensures { IfOk result (λ a. ThumbprintLine input.now hash a.status (string_bytes a.line)
         ⊎ IsMemoryLine a.status (string_bytes a.line)) }
 {
@@ -153,8 +149,9 @@ fn token_answer(
     algorithm: Algorithm,
     secret: &str,
     input: &[u8],
-) -> std::result::Result<Answer, ToolFault>
-    ensures { IfOk result (λ a. TokenLine input.now algorithm secret.now a.status (string_bytes a.line)
+) -> Result<Answer, ToolFault>
+    ensures { IfOk result (λ a. TokenLine input.now algorithm secret.now a.status
+        (string_bytes a.line)
         ⊎ IsMemoryLine a.status (string_bytes a.line)) }
 {
     match issued_token(alloc, algorithm, secret, input) {
@@ -170,9 +167,11 @@ fn claims_answer(
     secret: &str,
     now: u64,
     input: &[u8],
-) -> std::result::Result<Answer, ToolFault>
-    ensures { IfOk result (λ a. ValueAnswer ValueLine (IsClaimsValue input.now algorithm secret.now now)
-        (λ k. FailsFirst (token_tests (hmac_call input.now algorithm secret.now now)) decode_order k) a.status (string_bytes a.line)) }
+) -> Result<Answer, ToolFault>
+    ensures { IfOk result (λ a. ValueAnswer ValueLine
+        (IsClaimsValue input.now algorithm secret.now now)
+        (λ k. FailsFirst (token_tests (hmac_call input.now algorithm secret.now now)) decode_order
+        k) a.status (string_bytes a.line)) }
 {
     match claims_value(alloc, algorithm, secret, now, input) {
         Ok(value) => value_answer(alloc, &value),
@@ -188,8 +187,9 @@ fn set_claims_answer(
     set: &str,
     now: u64,
     input: &[u8],
-) -> std::result::Result<Answer, ToolFault>
-    ensures { IfOk result (λ a. ValueAnswer ValueLine (IsClaimsValueBySet input.now algorithm set.now now)
+) -> Result<Answer, ToolFault>
+    ensures { IfOk result (λ a. ValueAnswer ValueLine
+        (IsClaimsValueBySet input.now algorithm set.now now)
         (HasSetFault input.now algorithm set.now now) a.status (string_bytes a.line)) }
 {
     match set_claims_value(alloc, algorithm, set, now, input) {
@@ -200,7 +200,7 @@ fn set_claims_answer(
 
 /// Returns the value's compact JSON text. For one that holds a float, it is the text of the error
 /// `Json`.
-fn value_answer(alloc: Global, value: &Value) -> std::result::Result<Answer, ToolFault>
+fn value_answer(alloc: Global, value: &Value) -> Result<Answer, ToolFault>
     ensures { IfOk result (λ a. ValueLine (view value.now) a.status (string_bytes a.line)) }
 {
     if has_float(value) {
@@ -210,7 +210,7 @@ fn value_answer(alloc: Global, value: &Value) -> std::result::Result<Answer, Too
 }
 
 /// Returns the compact JSON text of a value without a float.
-fn text_answer(alloc: Global, value: &Value) -> std::result::Result<Answer, ToolFault>
+fn text_answer(alloc: Global, value: &Value) -> Result<Answer, ToolFault>
     requires { has_float (view value.now) ≡ false }
     ensures { IfOk result (λ a. IsValueText (view value.now) a.status (string_bytes a.line)) }
 {
@@ -221,7 +221,7 @@ fn text_answer(alloc: Global, value: &Value) -> std::result::Result<Answer, Tool
 }
 
 /// Returns the error's text.
-fn refusal_answer(alloc: Global, e: &Error) -> std::result::Result<Answer, ToolFault>
+fn refusal_answer(alloc: Global, e: &Error) -> Result<Answer, ToolFault>
     ensures { IfOk result (λ a. IsRefusal (kind_of e.now) a.status (string_bytes a.line)) }
 {
     match e.to_string(alloc) {
@@ -233,7 +233,8 @@ fn refusal_answer(alloc: Global, e: &Error) -> std::result::Result<Answer, ToolF
 fn header_value(alloc: Global, input: &[u8]) -> Result<Value>
     ensures ok { IfOk result (λ v. IsHeaderValue input.now (view v)) }
     ensures no_float { IfOk result (λ v. has_float (view v) ≡ false) }
-    ensures err { IfErr result (λ e. IsMemory e ⊎ FailsFirst (token_tests (header_call input.now)) header_order (kind_of e)) }
+    ensures err { IfErr result (λ e. IsMemory e
+        ⊎ FailsFirst (token_tests (header_call input.now)) header_order (kind_of e)) }
 {
     let header = decode_header(alloc, input)?;
     header.to_value(alloc)
@@ -247,7 +248,9 @@ fn claims_value(
     input: &[u8],
 ) -> Result<Value>
     ensures ok { IfOk result (λ v. IsClaimsValue input.now algorithm secret.now now (view v)) }
-    ensures err { IfErr result (λ e. IsMemory e ⊎ FailsFirst (token_tests (hmac_call input.now algorithm secret.now now)) decode_order (kind_of e)) }
+    ensures err { IfErr result (λ e. IsMemory e
+        ⊎ FailsFirst (token_tests (hmac_call input.now algorithm secret.now now)) decode_order
+        (kind_of e)) }
 {
     let key = DecodingKey::from_secret(alloc, secret.as_bytes())?;
     let validation = Validation::new(alloc, algorithm)?;
@@ -263,7 +266,8 @@ fn set_claims_value(
     input: &[u8],
 ) -> Result<Value>
     ensures ok { IfOk result (λ v. IsClaimsValueBySet input.now algorithm set.now now (view v)) }
-    ensures err { IfErr result (λ e. IsMemory e ⊎ HasSetFault input.now algorithm set.now now (kind_of e)) }
+    ensures err { IfErr result (λ e. IsMemory e
+        ⊎ HasSetFault input.now algorithm set.now now (kind_of e)) }
 {
     let keys = JwkSet::from_slice(alloc, set.as_bytes())?;
     let rules = Validation::new(alloc, algorithm)?;
@@ -273,7 +277,8 @@ fn set_claims_value(
 
 fn issued_token(alloc: Global, algorithm: Algorithm, secret: &str, input: &[u8]) -> Result<String>
     ensures ok { IfOk result (λ x. IsToken input.now algorithm secret.now (string_bytes x)) }
-    ensures err { IfErr result (λ e. IsMemory e ⊎ HasTokenFault input.now algorithm secret.now (kind_of e)) }
+    ensures err { IfErr result (λ e. IsMemory e
+        ⊎ HasTokenFault input.now algorithm secret.now (kind_of e)) }
 {
     let claims = json_value(alloc, input)?;
     let key = EncodingKey::from_secret(alloc, secret.as_bytes())?;

@@ -40,7 +40,8 @@ pub fn validate(alloc: Global, claims: &Value, options: &Validation, now: u64) -
         × RulesHold (options_of options.now) (view claims.now) now) }
     ensures err { IfErr result (λ e. (k : Kind)
         × IsFault (options_of options.now) (view claims.now) now k × Tells e k) }
-    ensures moments { IsOk result ↔ IsAcceptedWithin (options_of options.now) (view claims.now) now }
+    ensures moments { IsOk result ↔ IsAcceptedWithin (options_of options.now)
+        (view claims.now) now }
     ensures looser { OnOk result ((w : Options) → Looser (options_of options.now) w
         → RulesHold w (view claims.now) now) }
 {

@@ -151,7 +151,8 @@ pub fn shares_member(texts: &[Value], set: &HashSet<String>) -> bool
 }
 
 fn some_in(texts: &[Value], set: &HashSet<String>) -> bool
-    ensures { result ≡ list_any (λ v. option_map_or (contains_text set.now) (as_str (view v)) false) texts.now }
+    ensures { result ≡ list_any (λ v. option_map_or (contains_text set.now) (as_str (view v)) false)
+        texts.now }
 {
     texts.iter().any(|value| is_member(value, set))
 }

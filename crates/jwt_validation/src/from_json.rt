@@ -25,7 +25,8 @@ use std::collections::HashSet;
 // Returns the validation that a JSON object describes.
 pub(crate) fn read_validation(alloc: Global, value: &Value) -> Result<Validation>
     ensures ok { IfOk result (λ v. ReadsOptions (view value.now) (options_of v)) }
-    ensures err { IfErr result (RefusesAs kind.Json ((o : Options) → ¬ ReadsOptions (view value.now) o)) }
+    ensures err { IfErr result (RefusesAs kind.Json
+        ((o : Options) → ¬ ReadsOptions (view value.now) o)) }
 {
     check_names(value)?;
     let times = read_times(value)?;
@@ -102,7 +103,8 @@ struct Times {
 
 fn read_times(value: &Value) -> Result<Times>
     ensures ok { IfOk result
-        (λ t. ReadsTimes (view value.now) t.leeway t.reject t.checks_exp t.checks_nbf t.checks_aud) }
+        (λ t. ReadsTimes (view value.now) t.leeway t.reject t.checks_exp t.checks_nbf
+        t.checks_aud) }
     ensures err { IfErr result (RefusesAs kind.Json
         ((l r : ℕ) (e n a : Bool) → ¬ ReadsTimes (view value.now) l r e n a)) }
 {
@@ -116,7 +118,8 @@ fn read_times(value: &Value) -> Result<Times>
 }
 
 fn optional_number(value: &Value, name: &str, default: u64) -> Result<u64>
-    ensures ok { IfOk result (λ n. or_default default as_whole (get name.now (view value.now)) ≡ Some n) }
+    ensures ok { IfOk result (λ n. or_default default as_whole (get name.now (view value.now))
+        ≡ Some n) }
     ensures err { IfErr result
         (RefusesAs kind.Json (or_default default as_whole (get name.now (view value.now)) ≡ None)) }
 {
@@ -130,7 +133,8 @@ fn optional_number(value: &Value, name: &str, default: u64) -> Result<u64>
 }
 
 fn optional_flag(value: &Value, name: &str, default: bool) -> Result<bool>
-    ensures ok { IfOk result (λ b. or_default default as_bool (get name.now (view value.now)) ≡ Some b) }
+    ensures ok { IfOk result (λ b. or_default default as_bool (get name.now (view value.now))
+        ≡ Some b) }
     ensures err { IfErr result
         (RefusesAs kind.Json (or_default default as_bool (get name.now (view value.now)) ≡ None)) }
 {
@@ -157,7 +161,8 @@ fn optional_string(alloc: Global, value: &Value, name: &str) -> Result<Option<St
 
 fn optional_set(alloc: Global, value: &Value, name: &str) -> Result<Option<HashSet<String>>>
     ensures ok { IfOk result
-        (λ s. optional text_set (get name.now (view value.now)) ≡ Some (option_map contains_text s)) }
+        (λ s. optional text_set (get name.now (view value.now))
+        ≡ Some (option_map contains_text s)) }
     ensures err { IfErr result
         (RefusesAs kind.Json (optional text_set (get name.now (view value.now)) ≡ None)) }
 {
@@ -169,10 +174,12 @@ fn optional_set(alloc: Global, value: &Value, name: &str) -> Result<Option<HashS
 
 fn required_names(alloc: Global, value: &Value) -> Result<HashSet<String>>
     ensures ok { IfOk result
-        (λ s. or_default (bytes_eq (codes "exp")) text_set (get (codes "required_spec_claims") (view value.now))
+        (λ s. or_default (bytes_eq (codes "exp")) text_set
+        (get (codes "required_spec_claims") (view value.now))
         ≡ Some (contains_text s)) }
     ensures err { IfErr result
-        (RefusesAs kind.Json (optional text_set (get (codes "required_spec_claims") (view value.now)) ≡ None)) }
+        (RefusesAs kind.Json (optional text_set
+        (get (codes "required_spec_claims") (view value.now)) ≡ None)) }
 {
     match optional_set(alloc, value, "required_spec_claims")? {
         Some(names) => Ok(names),
@@ -185,7 +192,8 @@ fn understood_names(alloc: Global, value: &Value) -> Result<HashSet<String>>
         (λ s. or_default no_texts text_set (get (codes "understood_crit") (view value.now))
         ≡ Some (contains_text s)) }
     ensures err { IfErr result
-        (RefusesAs kind.Json (optional text_set (get (codes "understood_crit") (view value.now)) ≡ None)) }
+        (RefusesAs kind.Json (optional text_set (get (codes "understood_crit") (view value.now))
+        ≡ None)) }
 {
     match optional_set(alloc, value, "understood_crit")? {
         Some(names) => Ok(names),
@@ -223,9 +231,11 @@ fn one_text(alloc: Global, text: &str) -> Result<HashSet<String>>
 
 fn listed_algorithms(alloc: Global, value: &Value) -> Result<Vec<Algorithm>>
     ensures ok { IfOk result
-        (λ a. or_default [] algorithms_in (get (codes "algorithms") (view value.now)) ≡ Some a.items) }
+        (λ a. or_default [] algorithms_in (get (codes "algorithms") (view value.now))
+        ≡ Some a.items) }
     ensures err { IfErr result
-        (RefusesAs kind.Json (or_default [] algorithms_in (get (codes "algorithms") (view value.now)) ≡ None)) }
+        (RefusesAs kind.Json (or_default [] algorithms_in
+        (get (codes "algorithms") (view value.now)) ≡ None)) }
 {
     match present(value, "algorithms") {
         None => Ok(Vec::new(alloc)),

@@ -158,7 +158,8 @@ impl Validation {
     /// name and a value that is not an object are refused with `Json`; nothing is ignored.
     pub fn from_value(alloc: Global, value: &Value) -> Result<Validation>
         ensures ok { IfOk result (λ v. ReadsOptions (view value.now) (options_of v)) }
-        ensures err { IfErr result (RefusesAs kind.Json ((o : Options) → ¬ ReadsOptions (view value.now) o)) }
+        ensures err { IfErr result (RefusesAs kind.Json
+            ((o : Options) → ¬ ReadsOptions (view value.now) o)) }
     {
         read_validation(alloc, value)
     }
@@ -168,7 +169,8 @@ impl Validation {
     /// than 127 levels, are refused with `Json` too.
     pub fn from_slice(alloc: Global, text: &[u8]) -> Result<Validation>
         ensures ok { IfOk result (λ v. ReadsText ReadsOptions text.now (options_of v)) }
-        ensures err { IfErr result (RefusesAs kind.Json ((o : Options) → ¬ ReadsText ReadsOptions text.now o)) }
+        ensures err { IfErr result (RefusesAs kind.Json
+            ((o : Options) → ¬ ReadsText ReadsOptions text.now o)) }
     {
         let value = json_value(alloc, text)?;
         Validation::from_value(alloc, &value)
@@ -216,7 +218,8 @@ fn with_algorithms(alloc: Global, algorithms: Vec<Algorithm>) -> Result<Validati
 }
 
 fn set_of(alloc: Global, texts: &[&str]) -> Result<HashSet<String>>
-    ensures ok { IfOk result (λ set. (t : _) → contains_text set t ≡ among (λ s. s.now) texts.now t) }
+    ensures ok { IfOk result (λ set. (t : _)
+        → contains_text set t ≡ among (λ s. s.now) texts.now t) }
     ensures err { IfErr result IsMemory }
 {
     let mut set = HashSet::new(alloc);
@@ -227,7 +230,8 @@ fn set_of(alloc: Global, texts: &[&str]) -> Result<HashSet<String>>
 }
 
 pub(crate) fn insert_text(alloc: Global, set: &mut HashSet<String>, text: &str) -> Result<()>
-    ensures ok { OnOk result ((t : _) → contains_text set.new t ≡ (bytes_eq text.now t || contains_text set.old t)) }
+    ensures ok { OnOk result ((t : _) → contains_text set.new t
+        ≡ (bytes_eq text.now t || contains_text set.old t)) }
     ensures err { IfErr result IsMemory }
 {
     set.insert(String::from_str(alloc, text)?)?;
@@ -243,7 +247,8 @@ fn copied_set(set: &HashSet<String>) -> Result<HashSet<String>>
 }
 
 fn copied_choice(set: &Option<HashSet<String>>) -> Result<Option<HashSet<String>>>
-    ensures ok { IfOk result (λ copy. option_map contains_text copy ≡ option_map contains_text set.now) }
+    ensures ok { IfOk result (λ copy. option_map contains_text copy
+        ≡ option_map contains_text set.now) }
     ensures err { IfErr result IsMemory }
 {
     match set {
@@ -253,7 +258,8 @@ fn copied_choice(set: &Option<HashSet<String>>) -> Result<Option<HashSet<String>
 }
 
 fn copied_text(alloc: Global, text: &Option<String>) -> Result<Option<String>>
-    ensures ok { IfOk result (λ copy. option_map string_bytes copy ≡ option_map string_bytes text.now) }
+    ensures ok { IfOk result (λ copy. option_map string_bytes copy
+        ≡ option_map string_bytes text.now) }
     ensures err { IfErr result IsMemory }
 {
     match text {

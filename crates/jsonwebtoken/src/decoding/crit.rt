@@ -16,7 +16,8 @@ use std::collections::HashSet;
 
 /// Refuses with `InvalidCrit` a header whose `crit` is not understood.
 pub(crate) fn check_crit(header: &Header, validation: &Validation) -> Result<()>
-    ensures { AsksFor (IsUnderstood (options_of validation.now).understood header.now) (λ k. k ≡ kind.InvalidCrit) result }
+    ensures { AsksFor (IsUnderstood (options_of validation.now).understood header.now)
+        (λ k. k ≡ kind.InvalidCrit) result }
 {
     let Some(names) = &header.crit else {
         return Ok(());
@@ -47,7 +48,8 @@ fn is_understood_list(names: &[Text], extras: &Extras, understood: &HashSet<Stri
 }
 
 fn all_are_understood(names: &[Text], extras: &Extras, understood: &HashSet<String>) -> bool
-    ensures { IsTrue result ↔ All (IsUnderstoodName extras.now (contains_text understood.now)) names.now }
+    ensures { IsTrue result ↔ All (IsUnderstoodName extras.now (contains_text understood.now))
+        names.now }
 {
     names
         .iter()

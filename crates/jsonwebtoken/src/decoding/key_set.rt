@@ -29,7 +29,8 @@ use std::alloc::Global;
 /// it, the refusal is `NoKey`.
 fn find_key<'k>(set: &'k JwkSet, header: &Header) -> Result<&'k Jwk>
     ensures ok { IfOk result (λ k. named_key set.now.keys.items header.now ≡ Some k.now) }
-    ensures err { IfErr result (λ e. (kind_of e ≡ kind.NoKey) × (named_key set.now.keys.items header.now ≡ None)) }
+    ensures err { IfErr result (λ e. (kind_of e ≡ kind.NoKey)
+        × (named_key set.now.keys.items header.now ≡ None)) }
 {
     let Some(kid) = &header.kid else {
         return Err(new_error(ErrorKind::NoKey));
@@ -51,7 +52,8 @@ fn check_key_algorithm(jwk: &Jwk, algorithm: Algorithm) -> Result<()>
 
 /// Returns the key that the header names.
 fn key_in_set(alloc: Global, set: &JwkSet, header: &Header) -> Result<DecodingKey>
-    ensures { Step (looking_in set.now.keys.items) key_tests (with_header header.now) (λ x k. x.jwk_key ≡ k) result }
+    ensures { Step (looking_in set.now.keys.items) key_tests (with_header header.now)
+        (λ x k. x.jwk_key ≡ k) result }
 {
     let jwk = find_key(set, header)?;
     check_key_algorithm(jwk, header.alg)?;

@@ -24,7 +24,8 @@ use std::alloc::Global;
 
 /// Refuses an empty list with `MissingAlgorithm`.
 pub(crate) fn check_some_listed(validation: &Validation) -> Result<()>
-    ensures { AsksFor (¬ (validation.now.algorithms.items ≡ [])) (λ k. k ≡ kind.MissingAlgorithm) result }
+    ensures { AsksFor (¬ (validation.now.algorithms.items ≡ []))
+        (λ k. k ≡ kind.MissingAlgorithm) result }
 {
     if validation.algorithms.is_empty() {
         return Err(new_error(ErrorKind::MissingAlgorithm));
@@ -34,7 +35,8 @@ pub(crate) fn check_some_listed(validation: &Validation) -> Result<()>
 
 /// Refuses an algorithm that is not listed with `InvalidAlgorithm`.
 pub(crate) fn check_listed(validation: &Validation, algorithm: Algorithm) -> Result<()>
-    ensures { AsksFor (Contains validation.now.algorithms.items algorithm) (λ k. k ≡ kind.InvalidAlgorithm) result }
+    ensures { AsksFor (Contains validation.now.algorithms.items algorithm)
+        (λ k. k ≡ kind.InvalidAlgorithm) result }
 {
     if validation.algorithms.contains(&algorithm) {
         Ok(())
@@ -66,7 +68,8 @@ pub(crate) fn check_verdict<V: JwtVerifier>(
     message: &[u8],
     signature: &[u8],
 ) -> Result<()>
-    ensures { AsksFor (V.accepts verifier.now message.now signature.now) (λ k. k ≡ kind.InvalidSignature) result }
+    ensures { AsksFor (V.accepts verifier.now message.now signature.now)
+        (λ k. k ≡ kind.InvalidSignature) result }
 {
     if verifier.verify(alloc, message, signature)? {
         Ok(())
@@ -77,7 +80,8 @@ pub(crate) fn check_verdict<V: JwtVerifier>(
 
 /// Returns the bytes before the last dot, and those after it.
 fn last_dot(text: &[u8]) -> Option<(&[u8], &[u8])>
-    ensures some { IfSome result (λ p. (text.now ≡ p.0.now ++ dot ∷ p.1.now) × (¬ Contains p.1.now dot)) }
+    ensures some { IfSome result (λ p. (text.now ≡ p.0.now ++ dot ∷ p.1.now)
+        × (¬ Contains p.1.now dot)) }
     ensures none { IfNone result (¬ Contains text.now dot) }
 {
     let at = memrchr(b'.', text)?;
@@ -102,7 +106,8 @@ fn find_parts(token: &[u8]) -> Option<TokenParts<'_>>
 /// Returns the parts of the token. A token with fewer than two dots is refused with `InvalidToken`.
 pub(crate) fn token_parts(token: &[u8]) -> Result<TokenParts<'_>>
     ensures ok { IfOk result (λ p. ArePartsOf token.now (parts_in p)) }
-    ensures err { IfErr result (λ e. (kind_of e ≡ kind.InvalidToken) × ((p : Parts) → ¬ ArePartsOf token.now p)) }
+    ensures err { IfErr result (λ e. (kind_of e ≡ kind.InvalidToken)
+        × ((p : Parts) → ¬ ArePartsOf token.now p)) }
 {
     find_parts(token).ok_or(new_error(ErrorKind::InvalidToken))
 }
@@ -201,7 +206,8 @@ pub(crate) fn verify_and_read_claims<V: JwtVerifier, T: Claims>(
 ) -> Result<T>
     ensures { Step
         (verifying_by T.reads (options_of validation.now) now (V.accepts verifier.now))
-        verifying_tests (with_parts (parts_in parts.now)) (λ x c. T.reads x.payload_value c) result }
+        verifying_tests (with_parts (parts_in parts.now))
+        (λ x c. T.reads x.payload_value c) result }
 {
     check_signature(alloc, verifier, parts)?;
     read_claims(alloc, parts.payload, validation, now)

@@ -28,7 +28,8 @@ use std::alloc::Global;
 
 /// Refuses a key of another family than the algorithm's with `InvalidAlgorithm`.
 pub(crate) fn check_family(key: &EncodingKey, algorithm: Algorithm) -> Result<()>
-    ensures { AsksFor (key.now.family ≡ family_of algorithm) (λ k. k ≡ kind.InvalidAlgorithm) result }
+    ensures { AsksFor (key.now.family ≡ family_of algorithm)
+        (λ k. k ≡ kind.InvalidAlgorithm) result }
 {
     if key.family() == algorithm.family() {
         return Ok(());
@@ -75,9 +76,11 @@ pub(crate) fn claims_part<T: Claims>(alloc: Global, claims: &T) -> Result<String
 /// Returns the part of the claims, which is empty if there are none.
 pub(crate) fn payload_part<T: Claims>(alloc: Global, claims: Option<&T>) -> Result<String>
     ensures ok { IfOk result (λ t. (v : Option Data)
-        × (AreWritten (payload_of (option_map (λ c. T.written c.now) claims.entry)) v × IsPayloadOf v (string_bytes t))) }
+        × (AreWritten (payload_of (option_map (λ c. T.written c.now) claims.entry)) v
+        × IsPayloadOf v (string_bytes t))) }
     ensures err { IfErr result (RefusesAs kind.Json
-        ((v : Option Data) → ¬ AreWritten (payload_of (option_map (λ c. T.written c.now) claims.entry)) v)) }
+        ((v : Option Data) → ¬ AreWritten (payload_of
+        (option_map (λ c. T.written c.now) claims.entry)) v)) }
 {
     match claims {
         Some(claims) => claims_part(alloc, claims),
@@ -97,7 +100,8 @@ pub(crate) fn with_part(mut text: String, part: &str) -> Result<String>
 
 /// Returns the part of a signature of the message.
 fn signature_part<S: JwtSigner>(alloc: Global, signer: &S, message: &[u8]) -> Result<String>
-    ensures signed { IfOk result (λ t. (b : List ℕ) × (IsPart (string_bytes t) b × S.signs signer.now message.now b)) }
+    ensures signed { IfOk result (λ t. (b : List ℕ)
+        × (IsPart (string_bytes t) b × S.signs signer.now message.now b)) }
     ensures ok { OnOk result (S.sign_refusal signer.now message.now ≡ None) }
     ensures err { IfErr result (Refuses (S.sign_refusal signer.now message.now)) }
 {
@@ -119,11 +123,14 @@ pub(crate) fn sign_parts<S: JwtSigner>(
     header: String,
     payload: &str,
 ) -> Result<SignedMessage>
-    ensures message { IfOk result (λ s. string_bytes s.message ≡ string_bytes header ++ dot ∷ payload.now) }
+    ensures message { IfOk result (λ s. string_bytes s.message
+        ≡ string_bytes header ++ dot ∷ payload.now) }
     ensures signed { IfOk result (λ s. (b : List ℕ) × (IsPart (string_bytes s.signature) b
         × S.signs signer.now (string_bytes header ++ dot ∷ payload.now) b)) }
-    ensures ok { OnOk result (S.sign_refusal signer.now (string_bytes header ++ dot ∷ payload.now) ≡ None) }
-    ensures err { IfErr result (Refuses (S.sign_refusal signer.now (string_bytes header ++ dot ∷ payload.now))) }
+    ensures ok { OnOk result (S.sign_refusal signer.now (string_bytes header ++ dot ∷ payload.now)
+        ≡ None) }
+    ensures err { IfErr result (Refuses (S.sign_refusal signer.now
+        (string_bytes header ++ dot ∷ payload.now))) }
 {
     let message = with_part(header, payload)?;
     let signature = signature_part(alloc, signer, message.as_bytes())?;

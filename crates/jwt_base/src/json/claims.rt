@@ -33,7 +33,8 @@ pub trait Claims: Sized + Drop {
     /// Returns the claims that are read from the JSON value. If none are, the refusal is `Json`.
     fn from_value(alloc: Global, value: &Value) -> Result<Self>
         ensures ok { IfOk result (λ c. reads (view value.now) c) }
-        ensures err { IfErr result (RefusesAs kind.Json ((c : Self) → ¬ reads (view value.now) c)) };
+        ensures err { IfErr result (RefusesAs kind.Json
+            ((c : Self) → ¬ reads (view value.now) c)) };
 
     /// Returns the claims that are read from a JSON value, which is consumed and need not be
     /// copied. If none are, the refusal is `Json`.
@@ -47,8 +48,10 @@ pub trait Claims: Sized + Drop {
     /// Returns the compact JSON text. Claims that cannot be written and those with a float in them
     /// are refused with `Json`.
     fn to_text(&self, alloc: Global) -> Result<Vec<u8>>
-        ensures ok { IfOk result (λ t. (d : Data) × ((written self.now ≡ Some d) × IsCompact d t.items)) }
-        ensures err { IfErr result (RefusesAs kind.Json ((d : Data) → written self.now ≡ Some d → holds_float d ≡ true)) }
+        ensures ok { IfOk result (λ t. (d : Data)
+            × ((written self.now ≡ Some d) × IsCompact d t.items)) }
+        ensures err { IfErr result (RefusesAs kind.Json
+            ((d : Data) → written self.now ≡ Some d → holds_float d ≡ true)) }
     {
         let value = self.to_value(alloc)?;
         value_text(alloc, &value)

@@ -62,7 +62,8 @@ pub fn value_eq(a: &Value, b: &Value) -> bool
 pub fn members_are_equal(a: &Map<String, Value>, b: &Map<String, Value>) -> bool
     ensures test { result ≡ members_eq (members_view a.now.entries) (members_view b.now.entries) }
     ensures same { IsTrue result
-        ↔ (members_marked (members_view a.now.entries) ≡ members_marked (members_view b.now.entries)) }
+        ↔ (members_marked (members_view a.now.entries)
+        ≡ members_marked (members_view b.now.entries)) }
 {
     same_members(a, b)
 }

@@ -37,7 +37,12 @@ impl Model for Row {
 
     ghost Value = { Entry };
 
-    ghost view = { λ r. record { algorithm = r.algorithm; key = r.key.items; message = r.message.items; signature = r.signature.items } };
+    ghost view = { λ r. record {
+      algorithm = r.algorithm;
+      key = r.key.items;
+      message = r.message.items;
+      signature = r.signature.items;
+    } };
 }
 
 impl Row {
@@ -49,7 +54,12 @@ impl Row {
         message: &[u8],
         signature: &[u8],
     ) -> Result<Row>
-        ensures ok { IfOk result (λ r. r ≡ record { algorithm = algorithm; key = key.now; message = message.now; signature = signature.now }) }
+        ensures ok { IfOk result (λ r. r ≡ record {
+          algorithm = algorithm;
+          key = key.now;
+          message = message.now;
+          signature = signature.now;
+        }) }
         ensures err { IfErr result IsMemory }
     {
         Ok(Row {
@@ -129,7 +139,8 @@ impl Rows {
     }
 
     fn has(&self, message: &[u8], signature: &[u8]) -> bool
-        ensures { result ≡ list_any (is_signed self.now.algorithm self.now.key.items message.now signature.now) self.now.rows.items }
+        ensures { result ≡ list_any (is_signed self.now.algorithm self.now.key.items message.now
+            signature.now) self.now.rows.items }
     {
         self.rows.iter().any(|row| row.is_signed(
             self.algorithm,
@@ -140,7 +151,9 @@ impl Rows {
     }
 
     fn first(&self, message: &[u8]) -> Option<&Row>
-        ensures { option_map (λ row. row.now.signature) result ≡ first_signature self.now.rows.items self.now.algorithm self.now.key.items message.now }
+        ensures { option_map (λ row. row.now.signature) result
+            ≡ first_signature self.now.rows.items self.now.algorithm self.now.key.items
+            message.now }
     {
         self.rows.iter().find(|row| row.is_of(self.algorithm, self.key.as_slice(), message))
     }
@@ -156,9 +169,11 @@ pub struct TableSigner {
 impl JwtSigner for TableSigner {
     ghost signs_by = { λ s. s.rows.algorithm };
 
-    ghost sign_refusal = { λ s m. no_row (first_signature s.rows.rows.items s.rows.algorithm s.rows.key.items m) };
+    ghost sign_refusal = { λ s m. no_row
+        (first_signature s.rows.rows.items s.rows.algorithm s.rows.key.items m) };
 
-    ghost signs = { λ s m b. first_signature s.rows.rows.items s.rows.algorithm s.rows.key.items m ≡ Some b };
+    ghost signs = { λ s m b. first_signature s.rows.rows.items s.rows.algorithm s.rows.key.items m
+        ≡ Some b };
 
     fn algorithm(&self) -> Algorithm {
         self.rows.algorithm
@@ -250,7 +265,13 @@ impl CryptoProvider for TableProvider {
 
     ghost is_sparing = { λ _. ⊥ };
 
-    ghost key_answers = { λ _. record { rsa_private = rsa_answer; rsa_public = rsa_answer; ec_private = ec_answer; ed_private = ed_answer; digest = λ h bytes. Ok (hash_bytes (hash_named h) bytes) } };
+    ghost key_answers = { λ _. record {
+      rsa_private = rsa_answer;
+      rsa_public = rsa_answer;
+      ec_private = ec_answer;
+      ed_private = ed_answer;
+      digest = λ h bytes. Ok (hash_bytes (hash_named h) bytes);
+    } };
 
     fn signer_factory(
         &self,

@@ -60,7 +60,8 @@ impl CryptoProvider for YesProvider {
 
     ghost is_sparing = { λ _. ⊥ };
 
-    ghost key_answers = { λ _. reads_no_key (kind.Provider (codes "closed")) (λ h bytes. Err (kind.Provider (codes "closed"))) };
+    ghost key_answers = { λ _. reads_no_key (kind.Provider (codes "closed"))
+        (λ h bytes. Err (kind.Provider (codes "closed"))) };
 
     fn signer_factory(
         &self,
