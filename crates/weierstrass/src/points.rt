@@ -28,6 +28,7 @@ pub fn point_at_infinity<F: Residue>() -> ProjectivePoint<F>
 }
 
 /// Returns three times the residue.
+#[inline(always)]
 pub fn three_times<F: Residue>(a: F) -> F
     ensures { F.number result ≡ triple F.modulus (F.number a) }
 {
@@ -35,7 +36,8 @@ pub fn three_times<F: Residue>(a: F) -> F
 }
 
 // a * b + c * d.
-fn two_products<F: Residue>(a: F, b: F, c: F, d: F) -> F
+#[inline(always)]
+pub(crate) fn two_products<F: Residue>(a: F, b: F, c: F, d: F) -> F
     ensures { F.number result
         ≡ plus F.modulus (times F.modulus (F.number a) (F.number b)) (times F.modulus (F.number c) (F.number d)) }
 {
@@ -43,6 +45,7 @@ fn two_products<F: Residue>(a: F, b: F, c: F, d: F) -> F
 }
 
 // a * b + a * b.
+#[inline(always)]
 fn twice_product<F: Residue>(a: F, b: F) -> F
     ensures { F.number result
         ≡ plus F.modulus (times F.modulus (F.number a) (F.number b)) (times F.modulus (F.number a) (F.number b)) }
@@ -52,7 +55,8 @@ fn twice_product<F: Residue>(a: F, b: F) -> F
 }
 
 // The last six products of a sum.
-fn multiply<F: Residue>(xy: F, yz: F, yy: F, n: F, w: F, t: F) -> ProjectivePoint<F>
+#[inline(always)]
+pub(crate) fn multiply<F: Residue>(xy: F, yz: F, yy: F, n: F, w: F, t: F) -> ProjectivePoint<F>
     ensures { numbers F.number result
         ≡ products F.modulus (F.number xy) (F.number yz) (F.number yy) (F.number n) (F.number w) (F.number t) }
 {
