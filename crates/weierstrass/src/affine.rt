@@ -5,7 +5,7 @@ ghost use Rattle.weierstrass.specs.Weierstrass.{sum_of};
 ghost use Rattle.weierstrass.specs.Numbers.{numbers};
 ghost use Rattle.residues.specs.Modulo.{times};
 
-use crate::points::{ProjectivePoint, add, multiply, three_times, two_products};
+use crate::points::{ProjectivePoint, add, multiply, three_times};
 use residues::residue::Residue;
 
 // a * z, for z = 1.
@@ -30,7 +30,7 @@ fn add_affine<F: Residue>(
     let xx = one.x.times(other.x);
     let yy = one.y.times(other.y);
     let zz = times_one(one.z, other.z);
-    let xy = two_products(one.x, other.y, other.x, one.y);
+    let xy = one.x.times(other.y).plus(other.x.times(one.y));
     let xz = times_one(one.x, other.z).plus(other.x.times(one.z));
     let yz = times_one(one.y, other.z).plus(other.y.times(one.z));
     let n = three_times(xz.minus(b.times(zz)));
