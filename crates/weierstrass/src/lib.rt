@@ -2,5 +2,6 @@
 //! nothing runs in constant time.
 #![tactic(auto)]
 
+mod affine;
 pub mod multiples;
 pub mod points;

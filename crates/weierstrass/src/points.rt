@@ -28,21 +28,15 @@ pub fn point_at_infinity<F: Residue>() -> ProjectivePoint<F>
 }
 
 /// Returns three times the residue.
+#[inline(always)]
 pub fn three_times<F: Residue>(a: F) -> F
     ensures { F.number result ≡ triple F.modulus (F.number a) }
 {
     a.plus(a).plus(a)
 }
 
-// a * b + c * d.
-fn two_products<F: Residue>(a: F, b: F, c: F, d: F) -> F
-    ensures { F.number result
-        ≡ plus F.modulus (times F.modulus (F.number a) (F.number b)) (times F.modulus (F.number c) (F.number d)) }
-{
-    a.times(b).plus(c.times(d))
-}
-
 // a * b + a * b.
+#[inline(always)]
 fn twice_product<F: Residue>(a: F, b: F) -> F
     ensures { F.number result
         ≡ plus F.modulus (times F.modulus (F.number a) (F.number b)) (times F.modulus (F.number a) (F.number b)) }
@@ -52,7 +46,8 @@ fn twice_product<F: Residue>(a: F, b: F) -> F
 }
 
 // The last six products of a sum.
-fn multiply<F: Residue>(xy: F, yz: F, yy: F, n: F, w: F, t: F) -> ProjectivePoint<F>
+#[inline(always)]
+pub(crate) fn multiply<F: Residue>(xy: F, yz: F, yy: F, n: F, w: F, t: F) -> ProjectivePoint<F>
     ensures { numbers F.number result
         ≡ products F.modulus (F.number xy) (F.number yz) (F.number yy) (F.number n) (F.number w) (F.number t) }
 {
@@ -60,8 +55,8 @@ fn multiply<F: Residue>(xy: F, yz: F, yy: F, n: F, w: F, t: F) -> ProjectivePoin
     let less = yy.minus(n);
     ProjectivePoint {
         x: xy.times(more).minus(yz.times(w)),
-        y: two_products(less, more, t, w),
-        z: two_products(yz, less, xy, t),
+        y: less.times(more).plus(t.times(w)),
+        z: yz.times(less).plus(xy.times(t)),
     }
 }
 
@@ -77,9 +72,9 @@ pub fn add<F: Residue>(
     let xx = one.x.times(other.x);
     let yy = one.y.times(other.y);
     let zz = one.z.times(other.z);
-    let xy = two_products(one.x, other.y, other.x, one.y);
-    let xz = two_products(one.x, other.z, other.x, one.z);
-    let yz = two_products(one.y, other.z, other.y, one.z);
+    let xy = one.x.times(other.y).plus(other.x.times(one.y));
+    let xz = one.x.times(other.z).plus(other.x.times(one.z));
+    let yz = one.y.times(other.z).plus(other.y.times(one.z));
     let n = three_times(xz.minus(b.times(zz)));
     let w = three_times(b.times(xz).minus(xx).minus(three_times(zz)));
     let t = three_times(xx.minus(zz));
@@ -90,9 +85,9 @@ pub fn add<F: Residue>(
 pub fn double<F: Residue>(b: F, point: ProjectivePoint<F>) -> ProjectivePoint<F>
     ensures { numbers F.number result ≡ double_of F.modulus (F.number b) (numbers F.number point) }
 {
-    let xx = point.x.square();
-    let yy = point.y.square();
-    let zz = point.z.square();
+    let xx = point.x.times(point.x);
+    let yy = point.y.times(point.y);
+    let zz = point.z.times(point.z);
     let xy = twice_product(point.x, point.y);
     let xz = twice_product(point.x, point.z);
     let yz = twice_product(point.y, point.z);
