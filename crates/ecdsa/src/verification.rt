@@ -34,7 +34,8 @@ fn sum<F: Residue, N: Residue, const S: usize>(
     requires fits { N.modulus ≤ 256 ^ S }
     requires above { 2 < N.modulus }
     ensures { numbers F.number result
-        ≡ sum_for F.modulus N.modulus (F.number b) (numbers F.number base) S (numbers F.number key) (N.number e) (N.number r) (N.number s) }
+        ≡ sum_for F.modulus N.modulus (F.number b) (numbers F.number base) S (numbers F.number key)
+        (N.number e) (N.number r) (N.number s) }
 {
     let w = invert::<N, S>(s);
     let u = product_bytes::<N, S>(e, w);
@@ -49,7 +50,8 @@ fn x_bytes<F: Residue, const S: usize>(point: ProjectivePoint<F>) -> [u8; S]
     requires size { S ≤ 66 }
     requires fits { F.modulus ≤ 256 ^ S }
     requires above { 2 < F.modulus }
-    ensures { little_endian result ≡ times F.modulus (numbers F.number point).x (inverse F.modulus (numbers F.number point).z) }
+    ensures { little_endian result ≡ times F.modulus (numbers F.number point).x
+        (inverse F.modulus (numbers F.number point).z) }
 {
     bytes_of(point.x.times(invert::<F, S>(point.z)))
 }
@@ -97,7 +99,8 @@ pub fn is_signature_by<F: Residue, N: Residue, const S: usize>(
     requires order_fits { N.modulus ≤ 256 ^ S }
     requires order_above { 2 < N.modulus }
     ensures { IsTrue result
-        ↔ IsSignature F.modulus N.modulus (F.number b) (numbers F.number base) S public.now digest.now signature.now }
+        ↔ IsSignature F.modulus N.modulus (F.number b)
+        (numbers F.number base) S public.now digest.now signature.now }
 {
     let Some(key) = read_key::<F, S>(b, public) else {
         return false;

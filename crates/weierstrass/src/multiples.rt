@@ -39,7 +39,8 @@ fn steps<F: Residue>(
 ) -> ProjectivePoint<F>
     requires { IsTrue is_affine → F.number base.z ≡ 1 }
     ensures { numbers F.number result
-        ≡ steps_of F.modulus (F.number b) (numbers F.number base) count bits (numbers F.number start) }
+        ≡ steps_of F.modulus (F.number b) (numbers F.number base) count bits
+        (numbers F.number start) }
 {
     if count == 0 {
         return start;

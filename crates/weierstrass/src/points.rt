@@ -39,7 +39,8 @@ pub fn three_times<F: Residue>(a: F) -> F
 #[inline(always)]
 fn twice_product<F: Residue>(a: F, b: F) -> F
     ensures { F.number result
-        ≡ plus F.modulus (times F.modulus (F.number a) (F.number b)) (times F.modulus (F.number a) (F.number b)) }
+        ≡ plus F.modulus (times F.modulus (F.number a) (F.number b))
+        (times F.modulus (F.number a) (F.number b)) }
 {
     let product = a.times(b);
     product.plus(product)
@@ -49,7 +50,8 @@ fn twice_product<F: Residue>(a: F, b: F) -> F
 #[inline(always)]
 pub(crate) fn multiply<F: Residue>(xy: F, yz: F, yy: F, n: F, w: F, t: F) -> ProjectivePoint<F>
     ensures { numbers F.number result
-        ≡ products F.modulus (F.number xy) (F.number yz) (F.number yy) (F.number n) (F.number w) (F.number t) }
+        ≡ products F.modulus (F.number xy) (F.number yz) (F.number yy) (F.number n) (F.number w)
+        (F.number t) }
 {
     let more = yy.plus(n);
     let less = yy.minus(n);
