@@ -6,7 +6,7 @@ use Rattle.jwt_base.proofs.Parts.{one_part, one_json}
 use Rattle.jwt_base.specs.declared.errors.Error.{Error}
 use Rattle.jsonwebtoken.specs.Order.{Decides, Passes}
 use Rattle.jsonwebtoken.specs.Tests.{Call, Given, Test, HasThreeParts, HeaderIsPart, HeaderIsJson, HeaderReads, CritIsUnderstood, KeyIsFound, KeyAlgorithmAgrees, KeyIsUsable, AlgorithmsAreListed, AlgorithmIsListed, VerifierIsMade, FamiliesAgree, SignatureIsPart, SignatureIsAccepted, PayloadIsPart, PayloadIsJson, ClaimsRead, ClaimsAreAnObject, ClaimRulesHold, Contents, Condition, InSet, set_order, KeySource, key_of, message_of, token_tests}
-use Rattle.jsonwebtoken.specs.Steps.{FailsAt, Step}
+use Rattle.jsonwebtoken.specs.private_clauses.Steps.{FailsAt, Step}
 use Rattle.jwt_header.specs.declared.header.Header.{Header}
 use Rattle.jsonwebtoken.proofs.Engine as engine
 use Rattle.jwt_header.proofs.HeaderLemmas.{one_header}

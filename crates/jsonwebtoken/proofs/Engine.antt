@@ -6,8 +6,9 @@ use Rattle.std.specs.Prelude.{MatchResult}
 use Rattle.jwt_base.specs.Kind.{Kind}
 use Rattle.jwt_base.specs.KindOf.{kind_of, IsMemory}
 use Rattle.jwt_base.specs.declared.errors.Error.{Error}
-use Rattle.jsonwebtoken.specs.Order.{Tests, Passes, FailsFirst, Decides, FailedAt}
-use Rattle.jsonwebtoken.specs.Steps.{Meets}
+use Rattle.jsonwebtoken.specs.Order.{Tests, Passes, FailsFirst, Decides}
+use Rattle.jsonwebtoken.specs.private_clauses.FailedAt.{FailedAt}
+use Rattle.jsonwebtoken.specs.private_clauses.Steps.{Meets}
 
 pub both_true : (x y : Bool) → (x && y) ≡ true → (x ≡ true) × (y ≡ true)
 both_true true y e = (refl, e)

@@ -11,7 +11,7 @@ use Rattle.jwt_validation.specs.ClaimRules.{IsFault, IsRuleFault, missing, broke
 use Rattle.jwt_validation.specs.Options.{Options}
 use Rattle.jsonwebtoken.specs.Order.{Passes}
 use Rattle.jsonwebtoken.specs.Tests.{Call, Parts, HasParts, key_of, Test, HasThreeParts, opening_tests, Contents, verifying_tests, ClaimsAreAnObject, ClaimRulesHold, token_tests}
-use Rattle.jsonwebtoken.specs.Steps.{Meets, Step, Failed, opening, with_parts, verifying_by}
+use Rattle.jsonwebtoken.specs.private_clauses.Steps.{Meets, Step, Failed, opening, with_parts, verifying_by}
 use Rattle.jsonwebtoken.proofs.Engine.{join}
 
 pub not_both : {K : Type 0} (r : Option K) (k : K) → r ≡ Some k → r ≡ None → ⊥

@@ -9,9 +9,9 @@ use Rattle.jwt_header.specs.Header.{ReadsHeader, header_value}
 use Rattle.jwt_header.specs.HeaderWritten.{normal_header, HasNormalForm}
 use Rattle.jsonwebtoken.specs.Order.{Decides, Passes}
 use Rattle.jsonwebtoken.specs.Issue.{Payload, NoClaims, WrittenAs, Issue, IssueTest, KeyFitsAlgorithm, SignerIsMade, HeaderIsWritten, ClaimsAreWritten, MessageIsSigned, Written, AreWritten, payload_part, IssueCondition, AreIssued, ReadsBack, issue_tests}
-use Rattle.jsonwebtoken.specs.IssueSteps.{IsPartOf, IsPayloadOf, IssueFailsAt, IssueStep}
+use Rattle.jsonwebtoken.specs.private_clauses.IssueSteps.{IsPartOf, IsPayloadOf, IssueFailsAt, IssueStep}
 use Rattle.jsonwebtoken.specs.Tests.{Parts, Contents, text_of_parts}
-use Rattle.jsonwebtoken.specs.Steps.{no_contents}
+use Rattle.jsonwebtoken.specs.private_clauses.Steps.{no_contents}
 use Rattle.jsonwebtoken.proofs.Ascii.{message_bytes}
 use Rattle.jsonwebtoken.proofs.Dots.{are_parts}
 use Rattle.jsonwebtoken.proofs.Engine as engine

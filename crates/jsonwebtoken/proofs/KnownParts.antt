@@ -16,7 +16,7 @@ use Rattle.jwt_base.specs.declared.algorithms.Algorithm.TheVariants.{HS256, RS25
 use Rattle.jwt_header.specs.Header.{new_header, header_value}
 use Rattle.jwt_header.specs.HeaderWritten.{HasNormalForm}
 use Rattle.jwt_header.proofs.HeaderLemmas.{reads_written, has_normal_form}
-use Rattle.jsonwebtoken.specs.KnownHeaders.{IsKnownHeader}
+use Rattle.jsonwebtoken.specs.private_clauses.KnownHeaders.{IsKnownHeader}
 use Rattle.jsonwebtoken.proofs.Ascii.{ascii, bytes_of}
 
 abbrev value_of : Algorithm → Data

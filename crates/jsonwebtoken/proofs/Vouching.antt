@@ -3,7 +3,7 @@ use Rattle.std.proofs.Common.{ℕ, List, ◌∷◌, refl}
 use Rattle.jwt_base.specs.declared.json.claims.Claims.{Ghosts as ClaimsOf}
 use Rattle.jwt_validation.specs.declared.validation.Validation.{Validation}
 use Rattle.jwt_crypto.specs.Verdict.{Verdict}
-use Rattle.jwt_crypto.specs.VerdictMade.{is_made, made_by_own}
+use Rattle.jwt_crypto.specs.law_proofs.VerdictMade.{is_made, made_by_own}
 use Rattle.jsonwebtoken.specs.Order.{Passes}
 use Rattle.jsonwebtoken.specs.Tests.{Call, Contents, decode_order, VerifierIsMade, SignatureIsAccepted, key_of, token_tests}
 use Rattle.jsonwebtoken.specs.Vouched.{IsVouched, decoding_by_verdict, unasked_order}

@@ -3,14 +3,12 @@ pub mod Calls
 pub mod Crit
 pub mod Issue
 pub mod IssueCalls
-pub mod IssueSteps
 pub mod Jws
 pub mod Laws
 pub mod Order
-pub mod Steps
 pub mod Tests
-pub mod KnownHeaders
 pub mod Vouched
+pub mod private_clauses
 pub use Rattle.jwt_base.specs.Kind
 pub use Rattle.jwt_base.specs.KindOf
 pub use Rattle.jwt_base.specs.Algorithm

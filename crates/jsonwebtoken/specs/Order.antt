@@ -35,9 +35,3 @@ module _ {Test Contents : Type 0} (tests : Tests Test Contents) where
     pub accepted : IfOk r (λ y. (t : Contents) × Passes order t × Shows t y)
     pub exact : (t : Contents) → Passes order t → MatchResult r (Shows t) IsMemory
     pub refused : IfErr r (λ e. IsMemory e ⊎ FailsFirst order (kind_of e))
-
-  module _ (FailsAt : Test → Contents → Type 0) where
-    -- for private clauses: these contents pass the tests up to one that fails at them, with this kind
-    abbrev pub FailedAt : List Test → Contents → Kind → Type 0
-    FailedAt [] t k = ⊥
-    FailedAt (c ∷ cs) t k = (FailsAt c t × tests.has_kind c t k) ⊎ (tests.condition c t × FailedAt cs t k)

@@ -6,7 +6,7 @@ ghost use Rattle.jwt_keys.specs.Key.{key_family};
 ghost use Rattle.jsonwebtoken.specs.Calls.{decoding, Carries, HasHeader};
 ghost use Rattle.jsonwebtoken.specs.Laws.{HasLaws};
 ghost use Rattle.jsonwebtoken.specs.Order.{Decides};
-ghost use Rattle.jsonwebtoken.specs.Steps.{Step};
+ghost use Rattle.jsonwebtoken.specs.private_clauses.Steps.{Step};
 ghost use Rattle.jsonwebtoken.specs.Tests.{Compact, header_order, decode_order, header_call, token_tests};
 
 pub(crate) mod crit;

@@ -4,7 +4,7 @@ ghost use Rattle.std.specs.Prelude.{IfOk, string_bytes};
 ghost use Rattle.jsonwebtoken.specs.Order.{Passes, Decides};
 ghost use Rattle.jsonwebtoken.specs.Issue.{Written, IsIssued, ReadsBack, encode_order, issue_tests};
 ghost use Rattle.jsonwebtoken.specs.IssueCalls.{encoding};
-ghost use Rattle.jsonwebtoken.specs.IssueSteps.{IssueStep};
+ghost use Rattle.jsonwebtoken.specs.private_clauses.IssueSteps.{IssueStep};
 
 pub(crate) mod steps;
 

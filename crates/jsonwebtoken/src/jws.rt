@@ -12,10 +12,10 @@ ghost use Rattle.jsonwebtoken.specs.Calls.{decoding_parts, Carries};
 ghost use Rattle.jsonwebtoken.specs.Order.{Passes, Decides};
 ghost use Rattle.jsonwebtoken.specs.Issue.{Written, AreIssued, ReadsBack, jws_encode_order, issue_tests};
 ghost use Rattle.jsonwebtoken.specs.IssueCalls.{encoding_parts};
-ghost use Rattle.jsonwebtoken.specs.IssueSteps.{IssueStep};
+ghost use Rattle.jsonwebtoken.specs.private_clauses.IssueSteps.{IssueStep};
 ghost use Rattle.jsonwebtoken.specs.Jws.{parts_of, ReadsParts, parts_value};
 ghost use Rattle.jsonwebtoken.specs.Laws.{HasLaws, AgreeOn};
-ghost use Rattle.jsonwebtoken.specs.Steps.{Step, parts_in, allowing, with_header};
+ghost use Rattle.jsonwebtoken.specs.private_clauses.Steps.{Step, parts_in, allowing, with_header};
 ghost use Rattle.jsonwebtoken.specs.Tests.{Parts, Separate, text_of_parts, jws_algorithm_tests, jws_order, token_tests};
 
 use crate::decoding::TokenData;

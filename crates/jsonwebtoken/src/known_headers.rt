@@ -3,7 +3,7 @@
 
 ghost use Rattle.std.specs.Prelude.{◌≡◌, IfSome, IsTrue};
 ghost use Rattle.jwt_header.specs.Header.{new_header};
-ghost use Rattle.jsonwebtoken.specs.KnownHeaders.{IsKnownHeader};
+ghost use Rattle.jsonwebtoken.specs.private_clauses.KnownHeaders.{IsKnownHeader};
 
 use jwt_base::algorithms::Algorithm;
 use jwt_header::Header;

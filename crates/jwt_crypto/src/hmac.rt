@@ -8,7 +8,7 @@ ghost use Rattle.jwt_keys.specs.Provider.{HasOneSignature};
 ghost use Rattle.jwt_crypto.specs.Hmac.{hash_bytes, block_len, short_key, filled, masked, nested, hmac, mac_by, HaveOneKey};
 ghost use Rattle.jwt_crypto.specs.HmacKeys.{hash_for, hash_named, algorithm_for, refusal, hmac_signer_refusal, hmac_verifier_refusal, hmac_answers, HmacSigns, HmacAccepts, AcceptsItsOwn};
 ghost use Rattle.jwt_crypto.specs.HmacBlocks.{AreBlocksOf, AreBlocksOfKey};
-ghost use Rattle.jwt_crypto.specs.HmacFamilies.{family_made};
+ghost use Rattle.jwt_crypto.specs.law_proofs.HmacFamilies.{family_made};
 
 use crate::comparison::is_same;
 use jwt_base::algorithms::{Algorithm, AlgorithmFamily};

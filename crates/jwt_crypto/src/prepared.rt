@@ -8,7 +8,7 @@ ghost use Rattle.jwt_base.specs.declared.algorithms.AlgorithmFamily.TheVariants 
 ghost use Rattle.jwt_keys.specs.Key.{Key, SecretKey, key_family};
 ghost use Rattle.jwt_crypto.specs.Hmac.{hmac};
 ghost use Rattle.jwt_crypto.specs.HmacKeys.{hash_for, algorithm_for, refusal, hmac_signer_refusal, hmac_verifier_refusal, hmac_answers, HmacSigns, HmacAccepts};
-ghost use Rattle.jwt_crypto.specs.HmacFamilies.{family_made};
+ghost use Rattle.jwt_crypto.specs.law_proofs.HmacFamilies.{family_made};
 ghost use Rattle.jwt_crypto.specs.HmacPrepared.{prepared_key, prepared_keys, cleared_key, IsPrepared, IsPreparedKey, algorithm_of, IsCodeBy, IsKept, IsKeptSigner, IsKeptVerifier};
 
 use crate::hmac::{Blocks, Hash, HmacProvider, hash_for_key, hash_of_algorithm, unsupported};

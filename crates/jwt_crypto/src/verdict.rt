@@ -7,7 +7,7 @@ ghost use Rattle.jwt_base.specs.KindOf.{kind_of, IsMemory};
 ghost use Rattle.jwt_keys.specs.Key.{Plain};
 ghost use Rattle.jwt_keys.specs.Provider.{reads_no_key};
 ghost use Rattle.jwt_crypto.specs.Verdict.{Verdict, IsVerified, refusal_by};
-ghost use Rattle.jwt_crypto.specs.VerdictMade.{is_made};
+ghost use Rattle.jwt_crypto.specs.law_proofs.VerdictMade.{is_made};
 
 use crate::hmac::unsupported;
 use jwt_base::algorithms::{Algorithm, AlgorithmFamily};

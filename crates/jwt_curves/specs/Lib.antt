@@ -1,3 +1,3 @@
 pub mod EdDsaKeys
 pub mod EcdsaKeys
-pub mod CurveFamilies
+pub mod law_proofs

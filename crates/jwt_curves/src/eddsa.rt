@@ -6,7 +6,7 @@ ghost use Rattle.jwt_base.specs.KindOf.{kind_of};
 ghost use Rattle.jwt_base.specs.declared.algorithms.Algorithm.TheVariants as algorithm;
 ghost use Rattle.jwt_crypto.specs.HmacKeys.{hmac_answers};
 ghost use Rattle.jwt_curves.specs.EdDsaKeys.{refusal, EdDsaAccepts};
-ghost use Rattle.jwt_curves.specs.CurveFamilies.{eddsa_made};
+ghost use Rattle.jwt_curves.specs.law_proofs.CurveFamilies.{eddsa_made};
 ghost use Rattle.ed25519.specs.Ed25519.{IsSignature};
 
 use crate::keys::{bytes_of_family, ed25519_key, unfit_key, unsupported};

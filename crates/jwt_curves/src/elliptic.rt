@@ -5,7 +5,7 @@ ghost use Rattle.jwt_base.specs.Kind as kind;
 ghost use Rattle.jwt_base.specs.KindOf.{kind_of};
 ghost use Rattle.jwt_crypto.specs.HmacKeys.{hmac_answers};
 ghost use Rattle.jwt_curves.specs.EcdsaKeys.{curve_for, algorithm_for, curve_of, bytes_of, is_key_on, IsSignatureOn, refusal, EcdsaAccepts};
-ghost use Rattle.jwt_curves.specs.CurveFamilies.{ecdsa_made};
+ghost use Rattle.jwt_curves.specs.law_proofs.CurveFamilies.{ecdsa_made};
 
 use crate::curve::{Curve, curve_of_algorithm};
 use crate::keys::{bytes_of_family, p256_key, p384_key, unfit_key, unsupported};

@@ -8,7 +8,7 @@ use Rattle.jwt_base.specs.declared.algorithms.Algorithm.TheVariants.{HS256, HS38
 use Rattle.jwt_keys.specs.FamilyRefusal.{second_is_none}
 use Rattle.jwt_keys.specs.Key.{Key, Plain, Components, SecretKey, key_family}
 use Rattle.jwt_keys.specs.Provider.{first_refusal}
-use Rattle.jwt_crypto.specs.HmacFamilies as hmac
+use Rattle.jwt_crypto.specs.law_proofs.HmacFamilies as hmac
 use Rattle.jwt_crypto.specs.HmacKeys.{hmac_signer_refusal, hmac_verifier_refusal}
 
 -- the least number of bytes of a secret: as many as the algorithm's codes have (RFC 7518 section

@@ -6,7 +6,7 @@ ghost use Rattle.serde_json.specs.View.{view, members_view};
 ghost use Rattle.jwt_base.specs.Algorithm.{key_algorithm_from};
 ghost use Rattle.jwt_base.specs.Kind as kind;
 ghost use Rattle.jwt_base.specs.KindOf.{IsMemory, RefusesAs};
-ghost use Rattle.jwt_base.specs.Members.{optional, is_named, put_some};
+ghost use Rattle.jwt_base.specs.Members.{optional, put_some};
 ghost use Rattle.jwt_params.specs.Common.{common_names, key_algorithm_value};
 ghost use Rattle.jwt_params.specs.Operation.{operations_from, operations_value};
 ghost use Rattle.jwt_params.specs.Use.{use_from, use_value};
@@ -17,8 +17,7 @@ use jwt_base::algorithms::KeyAlgorithm;
 use jwt_base::cloning::clone_option;
 use jwt_base::errors::{ErrorKind, Result, new_error};
 use jwt_base::json::members::{
-    is_one_of, optional_text, optional_texts, present, put_optional_text, put_optional_texts,
-    put_text,
+    optional_text, optional_texts, present, put_optional_text, put_optional_texts, put_text,
 };
 use jwt_base::text::{Text, Texts};
 use serde_json::{Map, Value};
@@ -132,14 +131,6 @@ impl CommonParameters {
             x509_sha256_fingerprint: optional_text(alloc, value, "x5t#S256")?,
         })
     }
-}
-
-/// Returns whether keys of every type may have a member of this name (RFC 7517 section 4), so that
-/// it is not a member of one type.
-pub fn is_common_name(name: &str) -> bool
-    ensures { result ≡ is_named common_names name.now }
-{
-    is_one_of(name, &common_names())
 }
 
 /// Returns the names of the members that keys of every type may have (RFC 7517 sections 4.2 to

@@ -3,5 +3,5 @@ pub mod Pkcs1
 pub mod Pss
 pub mod RsaSchemes
 pub mod RsaKeys
-pub mod RsaFamilies
 pub mod RsaPrepared
+pub mod law_proofs

@@ -6,7 +6,7 @@ ghost use Rattle.jwt_base.specs.KindOf.{kind_of, IsMemory};
 ghost use Rattle.jwt_crypto.specs.HmacKeys.{hmac_answers};
 ghost use Rattle.jwt_rsa.specs.RsaSchemes.{scheme_for};
 ghost use Rattle.jwt_rsa.specs.RsaKeys.{refusal, RsaAccepts};
-ghost use Rattle.jwt_rsa.specs.RsaFamilies.{family_made};
+ghost use Rattle.jwt_rsa.specs.law_proofs.RsaFamilies.{family_made};
 
 use crate::key::PublicKey;
 use crate::scheme::scheme_of_algorithm;

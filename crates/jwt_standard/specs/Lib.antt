@@ -1,3 +1,3 @@
 pub mod StandardKeys
 pub mod StandardVerifiers
-pub mod StandardFamilies
+pub mod law_proofs

@@ -7,7 +7,7 @@ ghost use Rattle.jwt_base.specs.KindOf.{kind_of, Refuses};
 ghost use Rattle.jwt_base.specs.declared.algorithms.AlgorithmFamily.TheVariants as family;
 ghost use Rattle.jwt_crypto.specs.HmacKeys as hmac;
 ghost use Rattle.jwt_standard.specs.StandardKeys.{verifier_refusal, StandardAccepts};
-ghost use Rattle.jwt_standard.specs.StandardFamilies.{family_made};
+ghost use Rattle.jwt_standard.specs.law_proofs.StandardFamilies.{family_made};
 
 use crate::verifier::StandardVerifier;
 use jwt_base::algorithms::{Algorithm, AlgorithmFamily};

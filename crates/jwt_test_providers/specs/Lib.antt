@@ -1,5 +1,5 @@
-pub mod Families
 pub mod Table
+pub mod law_proofs
 pub use Rattle.jwt_base.specs.Kind
 pub use Rattle.jwt_base.specs.KindOf
 pub use Rattle.jwt_base.specs.Algorithm

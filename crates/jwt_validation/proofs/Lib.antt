@@ -1,4 +1,3 @@
-pub mod AlgorithmsRead
 pub mod ClaimRuleLemmas
 pub mod NamePlaces
 pub mod TextsAmong

@@ -9,7 +9,7 @@ use Rattle.serde_json.specs.Find.{as_str}
 use Rattle.serde_json.specs.declared.value.Value.{Value}
 use Rattle.jwt_validation.specs.Claim.{all_texts, texts_in}
 use Rattle.jwt_validation.specs.Options.{Texts}
-use Rattle.jwt_validation.specs.ClaimsSeen.{texts_among}
+use Rattle.jwt_validation.specs.private_clauses.ClaimsSeen.{texts_among}
 
 abbrev pub are_texts : List Value → Bool
 are_texts = list_all (λ v. is_some (as_str (view v)))

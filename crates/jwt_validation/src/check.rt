@@ -5,7 +5,7 @@ ghost use Rattle.serde_json.specs.Find.{as_object};
 ghost use Rattle.serde_json.specs.View.{view};
 ghost use Rattle.jwt_base.specs.Kind.{Kind};
 ghost use Rattle.jwt_validation.specs.ClaimRules.{IsMissing, IsFirstBroken, Holds, RulesHold, IsFault, Tells};
-ghost use Rattle.jwt_validation.specs.ClaimsSeen.{claims_seen};
+ghost use Rattle.jwt_validation.specs.private_clauses.ClaimsSeen.{claims_seen};
 ghost use Rattle.jwt_validation.specs.Moments.{IsAcceptedWithin, Looser};
 ghost use Rattle.jwt_validation.specs.Options.{Options};
 ghost use Rattle.jwt_validation.specs.OptionsOf.{options_of};

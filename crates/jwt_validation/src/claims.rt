@@ -8,7 +8,7 @@ ghost use Rattle.serde_json.specs.Find.{get, as_str};
 ghost use Rattle.serde_json.specs.View.{view};
 ghost use Rattle.jwt_validation.specs.Claim.{time_in, text_in, texts_in, claims_of};
 ghost use Rattle.jwt_validation.specs.ClaimRules.{text, HasValue, SharesMember};
-ghost use Rattle.jwt_validation.specs.ClaimsSeen.{seen, texts_among, claims_seen};
+ghost use Rattle.jwt_validation.specs.private_clauses.ClaimsSeen.{seen, texts_among, claims_seen};
 
 use serde_json::Value;
 use std::collections::HashSet;

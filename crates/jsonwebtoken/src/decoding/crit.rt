@@ -6,7 +6,7 @@ ghost use Rattle.serde_json.specs.Find.{get_member};
 ghost use Rattle.jwt_base.specs.Kind as kind;
 ghost use Rattle.jsonwebtoken.specs.Crit.{IsUnderstoodName, IsUnderstoodList, IsUnderstood};
 ghost use Rattle.jwt_validation.specs.OptionsOf.{options_of};
-ghost use Rattle.jsonwebtoken.specs.Steps.{AsksFor};
+ghost use Rattle.jsonwebtoken.specs.private_clauses.Steps.{AsksFor};
 
 use jwt_base::errors::{ErrorKind, Result, new_error};
 use jwt_base::text::Text;
@@ -38,13 +38,7 @@ pub(crate) fn check_crit(header: &Header, validation: &Validation) -> Result<()>
 fn is_understood_list(names: &[Text], extras: &Extras, understood: &HashSet<String>) -> bool
     ensures { IsTrue result ↔ IsUnderstoodList names.now extras.now (contains_text understood.now) }
 {
-    if names.is_empty() {
-        return false;
-    }
-    if !all_are_understood(names, extras, understood) {
-        return false;
-    }
-    none_is_repeated(names)
+    !names.is_empty() && all_are_understood(names, extras, understood) && none_is_repeated(names)
 }
 
 fn all_are_understood(names: &[Text], extras: &Extras, understood: &HashSet<String>) -> bool

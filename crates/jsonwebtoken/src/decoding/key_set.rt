@@ -7,7 +7,7 @@ ghost use Rattle.jwt_base.specs.KindOf.{kind_of};
 ghost use Rattle.jsonwebtoken.specs.Calls.{decoding_by_set, Carries};
 ghost use Rattle.jsonwebtoken.specs.Laws.{HasLaws, KeepsWithMore};
 ghost use Rattle.jsonwebtoken.specs.Order.{Decides};
-ghost use Rattle.jsonwebtoken.specs.Steps.{AsksFor, Step, looking_in, with_header};
+ghost use Rattle.jsonwebtoken.specs.private_clauses.Steps.{AsksFor, Step, looking_in, with_header};
 ghost use Rattle.jsonwebtoken.specs.Tests.{Compact, named_key, AgreesWith, key_tests, set_order, token_tests};
 
 use crate::decoding::TokenData;

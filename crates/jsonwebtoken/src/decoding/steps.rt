@@ -5,7 +5,7 @@ ghost use Rattle.jwt_base.specs.Algorithm.{family_of};
 ghost use Rattle.jwt_base.specs.Kind as kind;
 ghost use Rattle.jwt_base.specs.KindOf.{kind_of};
 ghost use Rattle.jwt_validation.specs.OptionsOf.{options_of};
-ghost use Rattle.jsonwebtoken.specs.Steps.{Step, bare, parts_in, with_header_part, with_payload_part, with_parts, with_header, opening, allowing, accepting, claiming, reading, verifying_by, AsksFor};
+ghost use Rattle.jsonwebtoken.specs.private_clauses.Steps.{Step, bare, parts_in, with_header_part, with_payload_part, with_parts, with_header, opening, allowing, accepting, claiming, reading, verifying_by, AsksFor};
 ghost use Rattle.jsonwebtoken.specs.Tests.{dot, Parts, ArePartsOf, header_tests, opening_tests, algorithm_tests, signature_tests, payload_tests, claim_tests, verifying_tests};
 
 use crate::decoding::crit::check_crit;

@@ -1,7 +1,7 @@
 //! A provider that refuses every call.
 
 ghost use Rattle.std.specs.Prelude.{◌≡◌, ℕ, List, Option, Err, None, Some, codes};
-ghost use Rattle.jwt_test_providers.specs.Families.{never_made};
+ghost use Rattle.jwt_test_providers.specs.law_proofs.Families.{never_made};
 ghost use Rattle.jwt_base.specs.Kind as kind;
 ghost use Rattle.jwt_keys.specs.Provider.{reads_no_key};
 

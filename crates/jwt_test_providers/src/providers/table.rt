@@ -8,7 +8,7 @@ ghost use Rattle.jwt_keys.specs.Provider.{RefusesWith};
 ghost use Rattle.jwt_crypto.specs.Hmac.{hash_bytes};
 ghost use Rattle.jwt_crypto.specs.HmacKeys.{hash_named};
 ghost use Rattle.jwt_keys.specs.FamilyRefusal.{family_refusal};
-ghost use Rattle.jwt_test_providers.specs.Families.{bytes_refusal_of, bytes_made};
+ghost use Rattle.jwt_test_providers.specs.law_proofs.Families.{bytes_refusal_of, bytes_made};
 ghost use Rattle.jwt_test_providers.specs.Table.{Entry, is_of, is_signed, HasRow, Accepts, first_signature, no_row, rsa_answer, ec_answer, ed_answer};
 ghost use Rattle.std.specs.List.{list_any};
 

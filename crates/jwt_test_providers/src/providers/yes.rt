@@ -3,7 +3,7 @@
 ghost use Rattle.std.specs.Prelude.{◌≡◌, ℕ, List, Option, Err, None, Some, ⊤, codes};
 ghost use Rattle.jwt_base.specs.Kind as kind;
 ghost use Rattle.jwt_keys.specs.Provider.{reads_no_key};
-ghost use Rattle.jwt_test_providers.specs.Families.{verifier_refusal_of, family_made};
+ghost use Rattle.jwt_test_providers.specs.law_proofs.Families.{verifier_refusal_of, family_made};
 
 use super::closed::{NoSigner, closed};
 use jwt_base::algorithms::Algorithm;

@@ -1,6 +1,6 @@
 use Rattle.std.proofs.Common.{[], ◌∷◌, inl, inr, refl, sym}
 use Rattle.jsonwebtoken.specs.Calls.{HasSigned}
-use Rattle.jsonwebtoken.specs.Steps.{no_contents, parts_in}
+use Rattle.jsonwebtoken.specs.private_clauses.Steps.{no_contents, parts_in}
 use Rattle.jsonwebtoken.specs.Tests.{HasThreeParts, SignatureIsPart, header_order, header_tests, signed_order, header_call}
 use Rattle.jsonwebtoken.proofs.EachTest.{join}
 use Rattle.jsonwebtoken.proofs.Exits.{exit, stop}

@@ -1,6 +1,6 @@
 use Rattle.std.proofs.Common.{[], ◌∷◌, inl, inr}
 use Rattle.jsonwebtoken.specs.Calls.{Carries}
-use Rattle.jsonwebtoken.specs.Steps.{no_contents, parts_in}
+use Rattle.jsonwebtoken.specs.private_clauses.Steps.{no_contents, parts_in}
 use Rattle.jsonwebtoken.specs.Tests.{HasThreeParts, header_order, header_tests, payload_tests, insecure_order, insecure_call}
 use Rattle.jsonwebtoken.proofs.EachTest.{join}
 use Rattle.jsonwebtoken.proofs.Exits.{exit, stop}

@@ -1,6 +1,6 @@
 use Rattle.std.proofs.Common.{[], ◌∷◌, inl, inr}
 use Rattle.jsonwebtoken.specs.Calls.{HasClaims}
-use Rattle.jsonwebtoken.specs.Steps.{no_contents, parts_in}
+use Rattle.jsonwebtoken.specs.private_clauses.Steps.{no_contents, parts_in}
 use Rattle.jsonwebtoken.specs.Tests.{HasThreeParts, payload_tests, insecure_claims_order, insecure_call}
 use Rattle.jsonwebtoken.proofs.Exits.{exit, stop}
 use Rattle.jsonwebtoken.proofs.dangerous.insecure_decode_claims_by_steps.Goals as goal

@@ -1,6 +1,6 @@
 use Rattle.std.proofs.Common.{[], ◌∷◌, inl, inr, refl}
 use Rattle.jsonwebtoken.specs.Calls.{decoding, Carries}
-use Rattle.jsonwebtoken.specs.Steps.{no_contents, parts_in}
+use Rattle.jsonwebtoken.specs.private_clauses.Steps.{no_contents, parts_in}
 use Rattle.jsonwebtoken.specs.Tests.{HasThreeParts, opening_tests, algorithm_tests, verifying_tests, decode_order}
 use Rattle.jsonwebtoken.proofs.EachTest.{join}
 use Rattle.jsonwebtoken.proofs.Exits.{exit, early, later, stop, opened, opened_then, after_opened, verified_passes, verified_failed}

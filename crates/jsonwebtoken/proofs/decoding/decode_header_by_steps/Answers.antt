@@ -1,6 +1,6 @@
 use Rattle.std.proofs.Common.{[], ◌∷◌, inl, inr}
 use Rattle.jsonwebtoken.specs.Calls.{HasHeader}
-use Rattle.jsonwebtoken.specs.Steps.{no_contents, parts_in}
+use Rattle.jsonwebtoken.specs.private_clauses.Steps.{no_contents, parts_in}
 use Rattle.jsonwebtoken.specs.Tests.{HasThreeParts, header_order, header_tests, header_call}
 use Rattle.jsonwebtoken.proofs.Exits.{exit, stop}
 use Rattle.jsonwebtoken.proofs.decoding.decode_header_by_steps.Goals as goal

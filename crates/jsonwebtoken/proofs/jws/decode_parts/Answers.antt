@@ -1,6 +1,6 @@
 use Rattle.std.proofs.Common.{[], ◌∷◌, refl}
 use Rattle.jsonwebtoken.specs.Calls.{decoding_parts, Carries}
-use Rattle.jsonwebtoken.specs.Steps.{no_contents, parts_in}
+use Rattle.jsonwebtoken.specs.private_clauses.Steps.{no_contents, parts_in}
 use Rattle.jsonwebtoken.specs.Tests.{HasThreeParts, opening_tests, jws_algorithm_tests, verifying_tests, jws_order}
 use Rattle.jsonwebtoken.proofs.EachTest.{join}
 use Rattle.jsonwebtoken.proofs.Exits.{exit, early, later, stop, opened, opened_then, after_opened, verified_passes, verified_failed}

@@ -1,6 +1,6 @@
 use Rattle.std.proofs.Common.{inl, inr}
 use Rattle.jwt_validation.specs.OptionsOf.{options_of}
-use Rattle.jsonwebtoken.specs.Steps.{no_contents, allowing, with_header}
+use Rattle.jsonwebtoken.specs.private_clauses.Steps.{no_contents, allowing, with_header}
 use Rattle.jsonwebtoken.specs.Tests.{jws_algorithm_tests}
 use Rattle.jsonwebtoken.proofs.Exits.{exit, not_both}
 use Rattle.jsonwebtoken.proofs.jws.verifier_for.Goals as goal

@@ -1,7 +1,7 @@
 use Rattle.std.proofs.Common.{◌≤◌}
 use Rattle.jwt_validation.specs.OptionsOf.{options_of}
 use Rattle.jwt_validation.specs.ClaimRules.{Holds, place}
-use Rattle.jwt_validation.specs.ClaimsSeen.{claims_seen}
+use Rattle.jwt_validation.specs.private_clauses.ClaimsSeen.{claims_seen}
 use Rattle.jwt_validation.specs.declared.rules.Rule.{Rule}
 use Rattle.jwt_validation.proofs.check.first_broken.Given as goal
 

@@ -2,7 +2,7 @@ use Rattle.std.proofs.Common.{◌≤◌}
 use Rattle.jwt_validation.specs.OptionsOf.{options_of}
 use Rattle.jwt_validation.specs.ClaimRules.{IsMissing}
 use Rattle.jwt_validation.proofs.NamePlaces.{name_place}
-use Rattle.jwt_validation.specs.ClaimsSeen.{claims_seen}
+use Rattle.jwt_validation.specs.private_clauses.ClaimsSeen.{claims_seen}
 use Rattle.jwt_validation.specs.declared.claims.Name.{Name}
 use Rattle.jwt_validation.proofs.check.first_missing.Given as goal
 

@@ -1,6 +1,6 @@
 use Rattle.std.proofs.Common.{[], ◌∷◌, ◌++◌, inl, inr, refl}
 use Rattle.jsonwebtoken.specs.Calls.{decoding_by_set, Carries}
-use Rattle.jsonwebtoken.specs.Steps.{no_contents, parts_in}
+use Rattle.jsonwebtoken.specs.private_clauses.Steps.{no_contents, parts_in}
 use Rattle.jsonwebtoken.specs.Order.{Passes}
 use Rattle.jsonwebtoken.specs.Tests.{HasThreeParts, opening_tests, key_tests, algorithm_tests, verifying_tests, set_order, token_tests}
 use Rattle.jsonwebtoken.proofs.EachTest.{join}

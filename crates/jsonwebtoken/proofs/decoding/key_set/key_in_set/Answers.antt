@@ -1,6 +1,6 @@
 use Rattle.std.proofs.Common.{inl, inr, refl}
 use Rattle.std.proofs.lemmas.Result.{err_from_is_err_and}
-use Rattle.jsonwebtoken.specs.Steps.{no_contents}
+use Rattle.jsonwebtoken.specs.private_clauses.Steps.{no_contents}
 use Rattle.jsonwebtoken.proofs.Exits.{not_both, or_memory}
 use Rattle.jsonwebtoken.proofs.decoding.key_set.key_in_set.Goals as goal
 

@@ -1,6 +1,6 @@
 use Rattle.std.proofs.Common.{inl, inr}
 use Rattle.std.proofs.lemmas.Result.{err_from_is_err_and}
-use Rattle.jsonwebtoken.specs.Steps.{no_contents, accepting, with_parts, parts_in}
+use Rattle.jsonwebtoken.specs.private_clauses.Steps.{no_contents, accepting, with_parts, parts_in}
 use Rattle.jsonwebtoken.specs.Tests.{signature_tests}
 use Rattle.jsonwebtoken.proofs.Exits.{or_memory, step_last}
 use Rattle.jsonwebtoken.proofs.decoding.steps.check_signature.Goals as goal

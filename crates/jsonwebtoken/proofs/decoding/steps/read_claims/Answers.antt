@@ -2,7 +2,7 @@ use Rattle.std.proofs.Common.{inl, inr, refl}
 use Rattle.std.proofs.lemmas.Result.{err_from_is_err_and}
 use Rattle.serde_json.specs.View.{view}
 use Rattle.jwt_validation.specs.OptionsOf.{options_of}
-use Rattle.jsonwebtoken.specs.Steps.{no_contents, claiming}
+use Rattle.jsonwebtoken.specs.private_clauses.Steps.{no_contents, claiming}
 use Rattle.jsonwebtoken.proofs.Exits.{or_memory, rules_failed}
 use Rattle.jsonwebtoken.proofs.decoding.steps.read_claims.Goals as goal
 

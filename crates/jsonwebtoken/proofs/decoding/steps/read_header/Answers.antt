@@ -2,7 +2,7 @@ use Rattle.std.proofs.Common.{◌≡◌, inl, inr, refl, sym}
 use Rattle.std.proofs.lemmas.Result.{err_from_is_err_and, IfErr-weaker}
 use Rattle.serde_json.specs.View.{view}
 use Rattle.jwt_header.specs.Header.{new_header}
-use Rattle.jsonwebtoken.specs.Steps.{no_contents, bare, with_header_part}
+use Rattle.jsonwebtoken.specs.private_clauses.Steps.{no_contents, bare, with_header_part}
 use Rattle.jsonwebtoken.specs.Tests.{header_tests}
 use Rattle.jsonwebtoken.proofs.Exits.{or_memory, step_tail}
 use Rattle.jsonwebtoken.proofs.decoding.steps.read_header.Goals as goal

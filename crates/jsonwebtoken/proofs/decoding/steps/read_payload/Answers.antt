@@ -1,7 +1,7 @@
 use Rattle.std.proofs.Common.{inl, inr}
 use Rattle.std.proofs.lemmas.Result.{err_from_is_err_and}
 use Rattle.serde_json.specs.View.{view}
-use Rattle.jsonwebtoken.specs.Steps.{no_contents}
+use Rattle.jsonwebtoken.specs.private_clauses.Steps.{no_contents}
 use Rattle.jsonwebtoken.proofs.Exits.{or_memory}
 use Rattle.jsonwebtoken.proofs.decoding.steps.read_payload.Goals as goal
 

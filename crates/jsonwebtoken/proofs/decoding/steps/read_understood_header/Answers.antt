@@ -1,6 +1,6 @@
 use Rattle.std.proofs.Common.{◌≡◌, [], ◌∷◌, inl, sym}
 use Rattle.jwt_validation.specs.OptionsOf.{options_of}
-use Rattle.jsonwebtoken.specs.Steps.{opening, with_parts, parts_in}
+use Rattle.jsonwebtoken.specs.private_clauses.Steps.{opening, with_parts, parts_in}
 use Rattle.jsonwebtoken.specs.Tests.{CritIsUnderstood, header_tests, opening_tests}
 use Rattle.jsonwebtoken.proofs.Exits.{exit, later}
 use Rattle.jsonwebtoken.proofs.decoding.steps.read_understood_header.Goals as goal

@@ -1,5 +1,5 @@
 use Rattle.jwt_validation.specs.OptionsOf.{options_of}
-use Rattle.jsonwebtoken.specs.Steps.{Failed, claiming, with_payload_part, verifying_by, with_parts, parts_in}
+use Rattle.jsonwebtoken.specs.private_clauses.Steps.{Failed, claiming, with_payload_part, verifying_by, with_parts, parts_in}
 use Rattle.jsonwebtoken.specs.Tests.{Contents, signature_tests, claim_tests, verifying_tests}
 use Rattle.jsonwebtoken.proofs.EachTest.{join}
 use Rattle.jsonwebtoken.proofs.Exits.{exit, step_last, early, later}

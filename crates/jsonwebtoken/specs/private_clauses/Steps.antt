@@ -17,7 +17,8 @@ use Rattle.jwt_keys.specs.declared.jwk.Jwk.{Jwk}
 use Rattle.jwt_params.specs.declared.parameters.AlgorithmParameters.TheVariants.{Other}
 use Rattle.jwt_params.specs.Common.{no_common}
 use Rattle.jwt_validation.specs.Options.{Options}
-use Rattle.jsonwebtoken.specs.Order.{Passes, FailedAt}
+use Rattle.jsonwebtoken.specs.Order.{Passes}
+use Rattle.jsonwebtoken.specs.private_clauses.FailedAt.{FailedAt}
 use Rattle.jsonwebtoken.specs.Tests.{Parts, HasParts, Given, InSet, set_of, named_key, Call, Test, HasThreeParts, HeaderIsPart, HeaderIsJson, HeaderReads, KeyIsFound, KeyIsUsable, SignatureIsPart, PayloadIsPart, PayloadIsJson, ClaimsRead, Contents, Condition, token_tests, header_call, insecure_call}
 use Rattle.jsonwebtoken.specs.declared.decoding.parts.TokenParts.{TokenParts}
 

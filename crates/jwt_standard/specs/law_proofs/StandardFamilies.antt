@@ -5,9 +5,9 @@ use Rattle.jwt_base.specs.declared.algorithms.Algorithm.{Algorithm}
 use Rattle.jwt_base.specs.declared.algorithms.AlgorithmFamily.{AlgorithmFamily}
 use Rattle.jwt_base.specs.declared.algorithms.AlgorithmFamily.TheVariants as family
 use Rattle.jwt_keys.specs.Key.{Key, key_family}
-use Rattle.jwt_crypto.specs.HmacFamilies as hmac
-use Rattle.jwt_rsa.specs.RsaFamilies as rsa
-use Rattle.jwt_curves.specs.CurveFamilies.{eddsa_made, ecdsa_made}
+use Rattle.jwt_crypto.specs.law_proofs.HmacFamilies as hmac
+use Rattle.jwt_rsa.specs.law_proofs.RsaFamilies as rsa
+use Rattle.jwt_curves.specs.law_proofs.CurveFamilies.{eddsa_made, ecdsa_made}
 use Rattle.jwt_standard.specs.StandardKeys.{refusal_by, verifier_refusal}
 
 made_by : (f : AlgorithmFamily) (a : Algorithm) (k : Key) → refusal_by f a k ≡ None

@@ -6,8 +6,9 @@ use Rattle.jwt_base.specs.Base64Url.{IsPart}
 use Rattle.jwt_base.specs.Claims.{IsCompact}
 use Rattle.jwt_base.specs.Kind.{Kind}
 use Rattle.jwt_base.specs.declared.errors.Error.{Error}
-use Rattle.jsonwebtoken.specs.Order.{Passes, FailedAt}
-use Rattle.jsonwebtoken.specs.Steps.{Meets}
+use Rattle.jsonwebtoken.specs.Order.{Passes}
+use Rattle.jsonwebtoken.specs.private_clauses.FailedAt.{FailedAt}
+use Rattle.jsonwebtoken.specs.private_clauses.Steps.{Meets}
 use Rattle.jsonwebtoken.specs.Issue.{Issue, IssueTest, HeaderIsWritten, ClaimsAreWritten, Written, AreWritten, IssueCondition, issue_tests}
 use Rattle.jwt_header.specs.Header.{header_value}
 

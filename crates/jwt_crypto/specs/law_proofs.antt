@@ -1,0 +1,3 @@
+-- Proofs of the laws of providers, which their ghosts name.
+pub mod HmacFamilies
+pub mod VerdictMade

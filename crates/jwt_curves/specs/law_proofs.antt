@@ -1,0 +1,2 @@
+-- Proofs of the laws of providers, which their ghosts name.
+pub mod CurveFamilies
