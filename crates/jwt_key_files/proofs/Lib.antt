@@ -1,4 +1,7 @@
+pub mod Blocks
 pub mod Identifiers
 pub mod OneKey
 pub mod Parts
+pub mod PemKeys
 pub mod Prefixes
+pub mod Texts

@@ -1,2 +1,5 @@
+pub mod Characters
 pub mod Der
+pub mod Pem
+pub mod PemKeys
 pub mod PublicKeys

@@ -12,14 +12,14 @@ use jwt_base::errors::{Error, ErrorKind, Result, new_error};
 use jwt_keys::decoding_key::DecodingKey;
 use std::alloc::Global;
 
-fn malformed() -> Error
+pub(crate) fn malformed() -> Error
     ensures { kind_of result ≡ kind.InvalidKeyFormat }
 {
     new_error(ErrorKind::InvalidKeyFormat)
 }
 
 // Returns the key of an RSAPublicKey.
-fn rsa_key(alloc: Global, der: &[u8]) -> Result<DecodingKey>
+pub(crate) fn rsa_key(alloc: Global, der: &[u8]) -> Result<DecodingKey>
     ensures ok { IfOk result (IsRsaKey der.now) }
     ensures err { IfErr result (RefusesAs kind.InvalidKeyFormat ((k : Key) → ¬ IsRsaKey der.now k)) }
 {
