@@ -1,5 +1,6 @@
 pub mod Blocks
 pub mod Identifiers
+pub mod Numbers
 pub mod OneKey
 pub mod Parts
 pub mod PemKeys
