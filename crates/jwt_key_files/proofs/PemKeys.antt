@@ -7,10 +7,10 @@ use Rattle.jwt_base.specs.Kind.{Kind}
 use Rattle.jwt_base.specs.Kind as kind
 use Rattle.jwt_keys.specs.Key.{Key}
 use Rattle.jwt_key_files.specs.Pem.{IsBlock, IsFirst, Begins}
-use Rattle.jwt_key_files.specs.PublicKeys.{subject_public_key_info, IsRsaKey, IsInfoOf, IsPublicKey, NamesAnother, IsRefused}
-use Rattle.jwt_key_files.specs.PemKeys.{IsBlockOf, IsPemOf, IsPrivateLabel, IsLabelled, NamesPrivate, IsBlockRefused, IsInfoRefused, private_key_text}
+use Rattle.jwt_key_files.specs.PublicKeys.{subject_public_key_info, IsRsaKey, IsInfoOf, IsPublicKey, NamesAnother, IsRefused, private_key_text}
+use Rattle.jwt_key_files.specs.PemKeys.{IsBlockOf, IsPemOf, IsPrivateLabel, IsLabelled, NamesPrivate, IsBlockRefused, IsInfoRefused}
 use Rattle.jwt_key_files.proofs.Blocks.{one_block}
-use Rattle.jwt_key_files.proofs.Parts.{no_two}
+use Rattle.jwt_key_files.proofs.Parts.{no_two, not_private_info}
 use Rattle.jwt_key_files.proofs.OneKey.{one_key}
 
 -- two texts differ at a place
@@ -74,8 +74,14 @@ not_private block f g h i p = elim p.is_private [
 pub no_info_key : (b : List ℕ) (x : Kind) → x ≡ kind.InvalidKeyFormat → ((a k : List ℕ) → b ≡ subject_public_key_info a k → ⊥) → IsInfoRefused b x
 no_info_key b x h none = record { none = λ key i. none _ _ i.bytes_are; why = inr (h, λ n. none _ _ n.bytes_are) }
 
-pub refused_info : (b : List ℕ) (x : Kind) → IsRefused b x → IsInfoRefused b x
-refused_info b x r = record { none = λ key i. r.none key (inr i); why = r.why }
+pub refused_info : (b a o : List ℕ) (x : Kind) → b ≡ subject_public_key_info a o → IsRefused b x → IsInfoRefused b x
+refused_info b a o x h r = record {
+  none = λ key i. r.none key (inr i);
+  why = elim r.why [
+    | inl p ↦ absurd (not_private_info b a o h p.1)
+    | inr w ↦ elim w [ inl v ↦ inl v | inr v ↦ inr (v.0, v.2) ]
+  ];
+}
 
 pub info_only : (b a o : List ℕ) (key : Key) → b ≡ subject_public_key_info a o → IsPublicKey b key → IsInfoOf b key
 info_only b a o key h p = elim p [ inl r ↦ absurd (no_two b a o _ _ h r.1.1.3) | inr i ↦ i ]

@@ -5,11 +5,7 @@ use Rattle.jwt_base.specs.Kind.{Kind}
 use Rattle.jwt_base.specs.Kind as kind
 use Rattle.jwt_keys.specs.Key.{Key}
 use Rattle.jwt_key_files.specs.Pem.{IsBlock, IsFirst}
-use Rattle.jwt_key_files.specs.PublicKeys.{IsRsaKey, IsInfoOf, NamesAnother}
-
--- the string of the refusal of a private key
-abbrev pub private_key_text : List ℕ
-private_key_text = codes "a private key is not read as a public key"
+use Rattle.jwt_key_files.specs.PublicKeys.{IsRsaKey, IsInfoOf, NamesAnother, private_key_text}
 
 -- the block holds these bytes, which its label says to be the key
 abbrev pub IsBlockOf : (block der : List ℕ) → Key → Type 0

@@ -1,27 +1,17 @@
 //! Public keys, read from PEM.
 
 ghost use Rattle.std.specs.Prelude.{◌≡◌, ◌⊎◌, ◌↔◌, ℕ, List, IfOk, IfErr, IsTrue};
-ghost use Rattle.jwt_base.specs.Kind as kind;
 ghost use Rattle.jwt_base.specs.KindOf.{kind_of, IsMemory};
 ghost use Rattle.jwt_keys.specs.Key.{Key};
 ghost use Rattle.jwt_key_files.specs.PublicKeys.{IsInfoOf};
-ghost use Rattle.jwt_key_files.specs.PemKeys.{private_key_text, IsBlockOf, IsPemOf, IsLabelled, NamesPrivate, IsBlockRefused, IsPemRefused, IsInfoRefused};
+ghost use Rattle.jwt_key_files.specs.PemKeys.{IsBlockOf, IsPemOf, IsLabelled, NamesPrivate, IsBlockRefused, IsPemRefused, IsInfoRefused};
 
 use crate::block::{after, block_bytes, first_block};
-use crate::public_key::{malformed, public_key_from_der, rsa_key};
+use crate::public_key::{malformed, private_key, public_key_from_der, rsa_key};
 use crate::structures::read_info;
-use jwt_base::errors::{Error, ErrorKind, Result, new_error};
+use jwt_base::errors::Result;
 use jwt_keys::decoding_key::DecodingKey;
 use std::alloc::Global;
-
-// Returns the error that refuses a private key.
-fn private_key(alloc: Global) -> Result<Error>
-    ensures ok { IfOk result (λ e. kind_of e ≡ kind.Provider private_key_text) }
-    ensures err { IfErr result IsMemory }
-{
-    let text = String::from_str(alloc, "a private key is not read as a public key")?;
-    Ok(new_error(ErrorKind::Provider(text)))
-}
 
 // Returns whether the block has this label.
 fn is_labelled(label: &[u8], block: &[u8]) -> bool
