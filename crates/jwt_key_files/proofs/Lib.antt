@@ -1,4 +1,5 @@
 pub mod Blocks
+pub mod Certificates
 pub mod Identifiers
 pub mod Numbers
 pub mod OneKey

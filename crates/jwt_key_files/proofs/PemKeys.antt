@@ -129,7 +129,7 @@ one_place text a b x y = elim (cases_lt x.place y.place) [
   ]
 ]
 
-one_first : (text a b : List ℕ) → IsFirst text a → IsFirst text b → a ≡ b
+pub one_first : (text a b : List ℕ) → IsFirst text a → IsFirst text b → a ≡ b
 one_first text a b x y =
     let f : Begins text y.place a = subst (λ (k : ℕ). Begins text k a) (one_place text a b x y) x.begins in
     append_cancel_left (codes "-----BEGIN ") a b (sym f.mark ∙ y.begins.mark)

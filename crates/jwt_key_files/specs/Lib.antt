@@ -1,3 +1,4 @@
+pub mod Certificates
 pub mod Characters
 pub mod Der
 pub mod Pem

@@ -37,7 +37,7 @@ fn names_private(block: &[u8]) -> bool
 }
 
 // Returns the key of a SubjectPublicKeyInfo.
-fn info_key(alloc: Global, der: &[u8]) -> Result<DecodingKey>
+pub(crate) fn info_key(alloc: Global, der: &[u8]) -> Result<DecodingKey>
     ensures ok { IfOk result (IsInfoOf der.now) }
     ensures err { IfErr result (λ e. IsMemory e ⊎ IsInfoRefused der.now (kind_of e)) }
 {
