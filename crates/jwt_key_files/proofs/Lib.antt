@@ -1,6 +1,7 @@
 pub mod Blocks
 pub mod Certificates
 pub mod Identifiers
+pub mod JwksOfPem
 pub mod Numbers
 pub mod OneKey
 pub mod Parts

@@ -57,11 +57,11 @@ fn bare_key(alloc: Global, der: &[u8]) -> Result<DecodingKey>
     ensures err { IfErr result (λ e. IsMemory e
         ⊎ (((k : Key) → ¬ IsRsaKey der.now k) × IsPrivateOrMalformed der.now (kind_of e))) }
 {
-    let Some((modulus, exponent)) = read_rsa(der) else {
+    let Some(_) = read_rsa(der) else {
         let error = refusal(alloc, der)?;
         return Err(error);
     };
-    let key = DecodingKey::from_rsa_raw_components(alloc, modulus, exponent)?;
+    let key = rsa_key(alloc, der)?;
     Ok(key)
 }
 
