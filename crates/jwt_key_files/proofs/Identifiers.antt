@@ -8,10 +8,10 @@ use Rattle.jwt_base.specs.Kind.{Kind}
 use Rattle.jwt_base.specs.Kind as kind
 use Rattle.jwt_keys.specs.Key.{Key}
 use Rattle.jwt_key_files.specs.Der.{element, length_octets}
-use Rattle.jwt_key_files.specs.PublicKeys.{identifier, object_identifier, subject_public_key_info, IsRsaKey, IsKeyOf, IsRefused}
+use Rattle.jwt_key_files.specs.PublicKeys.{identifier, object_identifier, subject_public_key_info, IsRsaKey, IsKeyOf, IsRefused, IsPrivateOrMalformed}
 use Rattle.jwt_key_files.specs.declared.scheme.Scheme.{Scheme}
 use Rattle.jwt_key_files.specs.declared.scheme.Scheme.TheVariants as scheme
-use Rattle.jwt_key_files.proofs.Parts.{one_info, no_two}
+use Rattle.jwt_key_files.proofs.Parts.{one_info, no_two, not_private_info}
 
 abbrev pub octets_of : Scheme → List ℕ
 octets_of scheme.Rsa = 6 ∷ 9 ∷ 0x2a ∷ 0x86 ∷ 0x48 ∷ 0x86 ∷ 0xf7 ∷ 0x0d ∷ 1 ∷ 1 ∷ 1 ∷ 5 ∷ 0 ∷ []
@@ -78,11 +78,11 @@ no_identifier xs f g h i scheme.P384 = h
 no_identifier xs f g h i scheme.Ed25519 = i
 
 -- the refusals of bytes that are no SubjectPublicKeyInfo, of one of another algorithm, and of one whose octets are no key
-pub refused_rsa : (b : List ℕ) (x : Kind) → x ≡ kind.InvalidKeyFormat → ((a k : List ℕ) → b ≡ subject_public_key_info a k → ⊥)
+pub refused_rsa : (b : List ℕ) (x : Kind) → IsPrivateOrMalformed b x → ((a k : List ℕ) → b ≡ subject_public_key_info a k → ⊥)
     → ((k : Key) → IsRsaKey b k → ⊥) → IsRefused b x
 refused_rsa b x h none rsa = record {
   none = λ key p. elim p [ inl r ↦ rsa key r | inr i ↦ none _ _ i.bytes_are ];
-  why = inr (h, λ n. none _ _ n.bytes_are);
+  why = elim h [ inl p ↦ inl p | inr m ↦ inr (inr (m.0, m.1, λ n. none _ _ n.bytes_are)) ];
 }
 
 pub refused_another : (b : List ℕ) (x : Kind) (a o : List ℕ) → x ≡ kind.UnsupportedAlgorithm → b ≡ subject_public_key_info a o
@@ -92,7 +92,7 @@ refused_another b x a o h e other = record {
     | inl r ↦ no_two b a o _ _ e r.1.1.3
     | inr i ↦ other i.algorithm (one_info b a o _ _ e i.bytes_are).algorithm
   ];
-  why = inl (h, record { algorithm = a; octets = o; bytes_are = e; is_other = other });
+  why = inr (inl (h, record { algorithm = a; octets = o; bytes_are = e; is_other = other }));
 }
 
 pub moved : (s t : Scheme) (o p : List ℕ) (key : Key) → s ≡ t → o ≡ p → IsKeyOf t p key → IsKeyOf s o key
@@ -109,5 +109,5 @@ refused_key b x s a o h e named none = record {
         let same = one_info b a o _ _ e i.bytes_are in
         none key (moved s i.algorithm o i.octets key (one_scheme s i.algorithm (sym named ∙ same.algorithm)) same.octets i.is_key)
   ];
-  why = inr (h, λ n. n.is_other s (sym (one_info b a o _ _ e n.bytes_are).algorithm ∙ named));
+  why = inr (inr (h, not_private_info b a o e, λ n. n.is_other s (sym (one_info b a o _ _ e n.bytes_are).algorithm ∙ named)));
 }

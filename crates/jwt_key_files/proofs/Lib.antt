@@ -1,4 +1,10 @@
+pub mod Blocks
+pub mod Certificates
 pub mod Identifiers
+pub mod JwksOfPem
+pub mod Numbers
 pub mod OneKey
 pub mod Parts
+pub mod PemKeys
 pub mod Prefixes
+pub mod Texts

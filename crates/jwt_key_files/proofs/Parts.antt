@@ -5,7 +5,7 @@ use Rattle.std.proofs.lemmas.Bool.{cases_lt}
 use Rattle.std.proofs.lemmas.Bool.Decides.{nat_tests}
 use Rattle.std.proofs.lemmas.List.{append-nil}
 use Rattle.jwt_key_files.specs.Der.{element, signed, integer, sequence, bit_string, IsPositive}
-use Rattle.jwt_key_files.specs.PublicKeys.{rsa_public_key, subject_public_key_info}
+use Rattle.jwt_key_files.specs.PublicKeys.{rsa_public_key, subject_public_key_info, IsPrivateKey}
 use Rattle.jwt_key_files.proofs.Prefixes.{one_element, one_whole, opened, heads, tails, SameContent}
 
 low : (n : List ℕ) → slice_index n 0 < 0x80 → signed n ≡ n
@@ -206,3 +206,43 @@ one_rsa_key b m d n e p q r s h i =
     let f = one_integer m n (integer d) (integer e) (rsa_content b (integer m ++ integer d) n e (rsa_whole b m d h) i) in
     let g : (integer d ++ []) ≡ (integer e ++ []) = ap (λ (x : List ℕ). x ++ []) f.rest in
     record { modulus = one_number m n p r f.content; exponent = one_number d e q s (one_integer d e [] [] g).content }
+
+-- private keys
+private_whole : (b : List ℕ) (x : IsPrivateKey b) → b ≡ element 0x30 (element 2 (x.version ∷ []) ++ x.rest)
+unfolding sequence
+private_whole b x = x.bytes_are
+
+whole_private : (b : List ℕ) (v : ℕ) (r : List ℕ) → v ≤ 1 → b ≡ element 0x30 (element 2 (v ∷ []) ++ r) → IsPrivateKey b
+unfolding sequence
+whole_private b v r l e = record { version = v; rest = r; is_version = l; bytes_are = e }
+
+pub not_private_info : (b a k : List ℕ) → b ≡ subject_public_key_info a k → IsPrivateKey b → ⊥
+not_private_info b a k h x =
+    let f = info_content b (element 2 (x.version ∷ []) ++ x.rest) a k (private_whole b x) h in
+    omega (arith, heads _ _ _ _ (sym (opened 2 (x.version ∷ []) x.rest) ∙ f ∙ opened 0x30 a (element 3 (0 ∷ k))))
+
+pub no_private : (b : List ℕ) → ((c : List ℕ) → b ≡ element 0x30 c → ⊥) → IsPrivateKey b → ⊥
+no_private b none x = none (element 2 (x.version ∷ []) ++ x.rest) (private_whole b x)
+
+private_content : (b c : List ℕ) → b ≡ element 0x30 c → (x : IsPrivateKey b) → c ≡ (element 2 (x.version ∷ []) ++ x.rest)
+private_content b c h x = one_whole 0x30 c (element 2 (x.version ∷ []) ++ x.rest) (sym h ∙ private_whole b x)
+
+pub no_version : (b c : List ℕ) → b ≡ element 0x30 c → ((d s : List ℕ) → c ≡ (element 2 d ++ s) → ⊥) → IsPrivateKey b → ⊥
+no_version b c h none x = none (x.version ∷ []) x.rest (private_content b c h x)
+
+pub version_is : (b c d r : List ℕ) → b ≡ element 0x30 c → c ≡ (element 2 d ++ r) → (x : IsPrivateKey b) → d ≡ (x.version ∷ [])
+version_is b c d r h i x = (one_element 2 d (x.version ∷ []) r x.rest (sym i ∙ private_content b c h x)).content
+
+pub a_private : (b c d r q : List ℕ) (m : ℕ) → b ≡ element 0x30 c → c ≡ (element 2 d ++ r) → d ≡ (m ∷ q) → m ≤ 1 → length q ≤ 0 → IsPrivateKey b
+a_private b c d r [] m h i e l z =
+    whole_private b m r l (h ∙ ap (element 0x30) (i ∙ ap (λ (s : List ℕ). element 2 s ++ r) e))
+a_private b c d r (x ∷ q) m h i e l z = absurd (omega arith)
+
+pub empty_version : (b c d r : List ℕ) → b ≡ element 0x30 c → c ≡ (element 2 d ++ r) → d ≡ [] → IsPrivateKey b → ⊥
+empty_version b c d r h i e x = let f : [] ≡ (x.version ∷ []) = sym e ∙ version_is b c d r h i x in cc
+
+pub high_version : (b c d r q : List ℕ) (m : ℕ) → b ≡ element 0x30 c → c ≡ (element 2 d ++ r) → d ≡ (m ∷ q) → 1 < m → IsPrivateKey b → ⊥
+high_version b c d r q m h i e l x = omega (arith, x.is_version, heads _ _ _ _ (sym e ∙ version_is b c d r h i x))
+
+pub long_version : (b c d r q : List ℕ) (m : ℕ) → b ≡ element 0x30 c → c ≡ (element 2 d ++ r) → d ≡ (m ∷ q) → 0 < length q → IsPrivateKey b → ⊥
+long_version b c d r q m h i e l x = omega (arith, ap length (tails _ _ _ _ (sym e ∙ version_is b c d r h i x)))

@@ -1,51 +1,11 @@
 -- What bytes begin with: at most one length, and at most one element with a tag.
-use Rattle.std.proofs.Common.{◌≡◌, ◌⊎◌, inl, inr, ℕ, ◌+◌, ◌*◌, ◌/◌, ◌%◌, ◌<◌, ◌≤◌, List, [], ◌∷◌, ◌++◌, length, take, ap, sym, ◌∙◌, arith, append_assoc}
+use Rattle.std.proofs.Common.{◌≡◌, ◌⊎◌, inl, inr, ℕ, ◌+◌, ◌-◌, ◌<◌, ◌≤◌, List, [], ◌∷◌, ◌++◌, length, take, ap, sym, ◌∙◌, arith, append_assoc}
 use Rattle.std.proofs.lemmas.Bool.{cases_lt}
 use Rattle.std.proofs.lemmas.Bool.Decides.{nat_tests}
 use Rattle.std.proofs.lemmas.List.{append_cancel_left, append-nil, length-append}
 use Rattle.std.proofs.Math.Seq.{take-append_seam}
-use Rattle.std.proofs.Math.Nat.{div-add-mod}
-use Rattle.jwt_key_files.specs.Der.{length_octets, element}
-
--- the three forms of the octets of a length
-pub record Short (n : ℕ) : Type 0 where
-  pub below : n < 0x80
-  pub is : length_octets n ≡ n ∷ []
-
-pub record Middle (n : ℕ) : Type 0 where
-  pub above : 0x80 ≤ n
-  pub below : n < 0x100
-  pub is : length_octets n ≡ 0x81 ∷ n ∷ []
-
-pub record Long (n : ℕ) : Type 0 where
-  pub above : 0x100 ≤ n
-  pub is : length_octets n ≡ 0x82 ∷ n / 0x100 ∷ n % 0x100 ∷ []
-
-short : (n : ℕ) → n < 0x80 → length_octets n ≡ n ∷ []
-unfolding length_octets
-short n s = grind (arith, nat_tests)
-
-middle : (n : ℕ) → 0x80 ≤ n → n < 0x100 → length_octets n ≡ 0x81 ∷ n ∷ []
-unfolding length_octets
-middle n a b = grind (arith, nat_tests)
-
-long : (n : ℕ) → 0x100 ≤ n → length_octets n ≡ 0x82 ∷ n / 0x100 ∷ n % 0x100 ∷ []
-unfolding length_octets
-long n a = grind (arith, nat_tests)
-
-pub forms : (n : ℕ) → Short n ⊎ (Middle n ⊎ Long n)
-forms n = elim (cases_lt n 0x80) [
-  | inl s ↦ inl (record { below = s; is = short n s })
-  | inr a ↦ elim (cases_lt n 0x100) [
-    | inl s ↦ inr (inl (record { above = a; below = s; is = middle n a s }))
-    | inr b ↦ inr (inr (record { above = b; is = long n b }))
-  ]
-]
-
--- bytes begin with one length
-pub record SameLength (m n : ℕ) (r s : List ℕ) : Type 0 where
-  pub number : m ≡ n
-  pub rest : r ≡ s
+use Rattle.jwt_key_files.specs.Der.{number_octets, length_octets, element}
+use Rattle.jwt_key_files.proofs.Numbers.{one_number_octets}
 
 pub heads : (a b : ℕ) (r s : List ℕ) → (a ∷ r) ≡ (b ∷ s) → a ≡ b
 heads a b r s e = cc
@@ -53,36 +13,57 @@ heads a b r s e = cc
 pub tails : (a b : ℕ) (r s : List ℕ) → (a ∷ r) ≡ (b ∷ s) → r ≡ s
 tails a b r s e = cc
 
-of_long : (m n : ℕ) → m / 0x100 ≡ n / 0x100 → m % 0x100 ≡ n % 0x100 → m ≡ n
-of_long m n d e = omega (arith, div-add-mod m 0x100, div-add-mod n 0x100)
+-- the octets of a length, by its form
+pub short : (n : ℕ) → n < 0x80 → length_octets n ≡ n ∷ []
+unfolding length_octets
+short n s = grind (arith, nat_tests)
+
+pub long : (n : ℕ) → 0x80 ≤ n → length_octets n ≡ (0x80 + length (number_octets n)) ∷ number_octets n
+unfolding length_octets
+long n a = grind (arith, nat_tests)
+
+-- what follows from the first byte, if bytes begin with a length
+pub record StartsShort (m n : ℕ) (r s : List ℕ) : Type 0 where
+  pub number : n ≡ m
+  pub below : m < 0x80
+  pub rest : r ≡ s
+
+pub record StartsLong (m n : ℕ) (r s : List ℕ) : Type 0 where
+  pub first : m ≡ 0x80 + length (number_octets n)
+  pub above : 0x80 ≤ n
+  pub rest : r ≡ (number_octets n ++ s)
+
+pub starts : (m n : ℕ) (r s : List ℕ) → (m ∷ r) ≡ (length_octets n ++ s) → StartsShort m n r s ⊎ StartsLong m n r s
+starts m n r s e = elim (cases_lt n 0x80) [
+  | inl b ↦ let f : (m ∷ r) ≡ (n ∷ s) = rw (short n b) at e in
+      let h : m ≡ n = cc in
+      inl (record { number = cc; below = omega (arith, b); rest = tails _ _ _ _ f })
+  | inr b ↦ let f : (m ∷ r) ≡ ((0x80 + length (number_octets n)) ∷ number_octets n ++ s) = rw (long n b) at e in
+      inr (record { first = heads _ _ _ _ f; above = b; rest = tails _ _ _ _ f })
+]
+
+pub some_octets : (n : ℕ) (s : List ℕ) → ([] ≡ (length_octets n ++ s)) → ⊥
+some_octets n s e = elim (cases_lt n 0x80) [
+  | inl b ↦ let f : [] ≡ (n ∷ s) = rw (short n b) at e in cc
+  | inr b ↦ let f : [] ≡ ((0x80 + length (number_octets n)) ∷ number_octets n ++ s) = rw (long n b) at e in cc
+]
+
+-- bytes begin with one length
+pub record SameLength (m n : ℕ) (r s : List ℕ) : Type 0 where
+  pub number : m ≡ n
+  pub rest : r ≡ s
 
 pub one_length : (m n : ℕ) (r s : List ℕ) → (length_octets m ++ r) ≡ (length_octets n ++ s) → SameLength m n r s
-one_length m n r s e = elim (forms m) [
-  | inl a ↦ elim (forms n) [
-    | inl b ↦ let f : (m ∷ r) ≡ (n ∷ s) = rw (a.is, b.is) at e in record { number = cc; rest = cc }
-    | inr v ↦ elim v [
-      | inl b ↦ let f : (m ∷ r) ≡ (0x81 ∷ n ∷ s) = rw (a.is, b.is) at e in absurd (omega (arith, heads _ _ _ _ f))
-      | inr b ↦ let f : (m ∷ r) ≡ (0x82 ∷ n / 0x100 ∷ n % 0x100 ∷ s) = rw (a.is, b.is) at e in absurd (omega (arith, heads _ _ _ _ f))
-    ]
+one_length m n r s e = elim (cases_lt m 0x80) [
+  | inl a ↦ elim (starts m n r s (rw (short m a) at e)) [
+    | inl x ↦ record { number = sym x.number; rest = x.rest }
+    | inr x ↦ absurd (omega (arith, x.first))
   ]
-  | inr u ↦ elim u [
-    | inl a ↦ elim (forms n) [
-      | inl b ↦ let f : (0x81 ∷ m ∷ r) ≡ (n ∷ s) = rw (a.is, b.is) at e in absurd (omega (arith, heads _ _ _ _ f))
-      | inr v ↦ elim v [
-        | inl b ↦ let f : (0x81 ∷ m ∷ r) ≡ (0x81 ∷ n ∷ s) = rw (a.is, b.is) at e in record { number = cc; rest = cc }
-        | inr b ↦ let f : (0x81 ∷ m ∷ r) ≡ (0x82 ∷ n / 0x100 ∷ n % 0x100 ∷ s) = rw (a.is, b.is) at e in absurd (omega (arith, heads _ _ _ _ f))
-      ]
-    ]
-    | inr a ↦ elim (forms n) [
-      | inl b ↦ let f : (0x82 ∷ m / 0x100 ∷ m % 0x100 ∷ r) ≡ (n ∷ s) = rw (a.is, b.is) at e in absurd (omega (arith, heads _ _ _ _ f))
-      | inr v ↦ elim v [
-        | inl b ↦ let f : (0x82 ∷ m / 0x100 ∷ m % 0x100 ∷ r) ≡ (0x81 ∷ n ∷ s) = rw (a.is, b.is) at e in absurd (omega (arith, heads _ _ _ _ f))
-        | inr b ↦ let f : (0x82 ∷ m / 0x100 ∷ m % 0x100 ∷ r) ≡ (0x82 ∷ n / 0x100 ∷ n % 0x100 ∷ s) = rw (a.is, b.is) at e in
-            let q : m / 0x100 ≡ n / 0x100 = cc in
-            let w : m % 0x100 ≡ n % 0x100 = cc in
-            record { number = of_long m n q w; rest = cc }
-      ]
-    ]
+  | inr a ↦ elim (starts (0x80 + length (number_octets m)) n (number_octets m ++ r) s (rw (long m a) at e)) [
+    | inl x ↦ absurd (omega (arith, x.below))
+    | inr x ↦
+        let same = one_number_octets m n r s (omega (arith, x.first)) x.rest in
+        record { number = same.number; rest = same.rest }
   ]
 ]
 
@@ -113,59 +94,6 @@ one_element t c d r s e =
 pub one_whole : (t : ℕ) (c d : List ℕ) → element t c ≡ element t d → c ≡ d
 one_whole t c d e = (one_element t c d [] [] (ap (λ (x : List ℕ). x ++ []) e)).content
 
--- what follows from the first byte, if bytes begin with a length
-pub record StartsShort (m n : ℕ) (r s : List ℕ) : Type 0 where
-  pub number : n ≡ m
-  pub below : m < 0x80
-  pub rest : r ≡ s
-
-pub record StartsMiddle (m n : ℕ) (r s : List ℕ) : Type 0 where
-  pub first : m ≡ 0x81
-  pub above : 0x80 ≤ n
-  pub rest : r ≡ (n ∷ s)
-
-pub record StartsLong (m n : ℕ) (r s : List ℕ) : Type 0 where
-  pub first : m ≡ 0x82
-  pub above : 0x100 ≤ n
-  pub rest : r ≡ (n / 0x100 ∷ n % 0x100 ∷ s)
-
-pub starts : (m n : ℕ) (r s : List ℕ) → (m ∷ r) ≡ (length_octets n ++ s) → StartsShort m n r s ⊎ (StartsMiddle m n r s ⊎ StartsLong m n r s)
-starts m n r s e = elim (forms n) [
-  | inl b ↦ let f : (m ∷ r) ≡ (n ∷ s) = rw b.is at e in
-      let h : m ≡ n = cc in
-      inl (record { number = cc; below = omega (arith, b.below); rest = tails _ _ _ _ f })
-  | inr v ↦ elim v [
-    | inl b ↦ let f : (m ∷ r) ≡ (0x81 ∷ n ∷ s) = rw b.is at e in inr (inl (record { first = heads _ _ _ _ f; above = b.above; rest = tails _ _ _ _ f }))
-    | inr b ↦ let f : (m ∷ r) ≡ (0x82 ∷ n / 0x100 ∷ n % 0x100 ∷ s) = rw b.is at e in inr (inr (record { first = heads _ _ _ _ f; above = b.above; rest = tails _ _ _ _ f }))
-  ]
-]
-
-pub some_octets : (n : ℕ) (s : List ℕ) → ([] ≡ (length_octets n ++ s)) → ⊥
-some_octets n s e = elim (forms n) [
-  | inl b ↦ let f : [] ≡ (n ∷ s) = rw b.is at e in cc
-  | inr v ↦ elim v [
-    | inl b ↦ let f : [] ≡ (0x81 ∷ n ∷ s) = rw b.is at e in cc
-    | inr b ↦ let f : [] ≡ (0x82 ∷ n / 0x100 ∷ n % 0x100 ∷ s) = rw b.is at e in cc
-  ]
-]
-
--- the octets of a length, from its form
-pub octets_short : (n : ℕ) (s : List ℕ) → n < 0x80 → (n ∷ s) ≡ (length_octets n ++ s)
-octets_short n s h = rw (short n h)
-
-pub octets_middle : (m n : ℕ) (r s : List ℕ) → m ≡ 0x81 → 0x80 ≤ n → n < 0x100 → r ≡ (n ∷ s) → (m ∷ r) ≡ (length_octets n ++ s)
-octets_middle m n r s f a b e = rw (middle n a b) cc
-
-pub octets_long : (m n : ℕ) (r s : List ℕ) → m ≡ 0x82 → 0x100 ≤ n → r ≡ (n / 0x100 ∷ n % 0x100 ∷ s) → (m ∷ r) ≡ (length_octets n ++ s)
-octets_long m n r s f a e = rw (long n a) cc
-
--- the quotient and the rest of a number of two octets
-pub first_of_two : (a b : ℕ) → b < 0x100 → (a * 0x100 + b) / 0x100 ≡ a
-first_of_two a b h = omega (arith, div-add-mod (a * 0x100 + b) 0x100)
-
-pub second_of_two : (a b : ℕ) → b < 0x100 → (a * 0x100 + b) % 0x100 ≡ b
-second_of_two a b h = omega (arith, div-add-mod (a * 0x100 + b) 0x100)
-
 -- an element from its parts, and its parts
 pub element_of : (t : ℕ) (c r b : List ℕ) → b ≡ (t ∷ length_octets (length c) ++ (c ++ r)) → b ≡ (element t c ++ r)
 element_of t c r b e = e ∙ sym (opened t c r)
@@ -180,27 +108,30 @@ appended_nil t c b e = e ∙ sym (append-nil (element t c))
 pub none_of_nil : (b : List ℕ) → b ≡ [] → (n : ℕ) (s : List ℕ) → b ≡ (length_octets n ++ s) → ⊥
 none_of_nil b h n s e = some_octets n s (sym h ∙ e)
 
-pub none_of_one : (m : ℕ) (r b : List ℕ) → b ≡ (m ∷ r) → m ≡ 0x81 → ((n : ℕ) (s : List ℕ) → 0x80 ≤ n → r ≡ (n ∷ s) → ⊥)
-    → (n : ℕ) (s : List ℕ) → b ≡ (length_octets n ++ s) → ⊥
-none_of_one m r b h f none n s e = elim (starts m n r s (sym h ∙ e)) [
+pub none_of_number : (m : ℕ) (r b : List ℕ) → b ≡ (m ∷ r) → 0x80 ≤ m
+    → ((n : ℕ) (s : List ℕ) → n ≤ length s → length (number_octets n) ≡ m - 0x80 → r ≡ (number_octets n ++ s) → ⊥)
+    → (n : ℕ) (s : List ℕ) → n ≤ length s → b ≡ (length_octets n ++ s) → ⊥
+none_of_number m r b h l none n s k e = elim (starts m n r s (sym h ∙ e)) [
   | inl x ↦ omega (arith, x.below)
-  | inr v ↦ elim v [ inl x ↦ none n s x.above x.rest | inr x ↦ omega (arith, x.first) ]
+  | inr x ↦ none n s k (omega (arith, x.first)) x.rest
 ]
 
-pub none_of_two : (m : ℕ) (r b : List ℕ) → b ≡ (m ∷ r) → m ≡ 0x82
-    → ((n : ℕ) (s : List ℕ) → 0x100 ≤ n → r ≡ (n / 0x100 ∷ n % 0x100 ∷ s) → ⊥)
+pub none_of_small : (m k : ℕ) (r q b : List ℕ) → b ≡ (m ∷ r) → 0x80 ≤ m → length (number_octets k) ≡ m - 0x80 → r ≡ (number_octets k ++ q) → k < 0x80
     → (n : ℕ) (s : List ℕ) → b ≡ (length_octets n ++ s) → ⊥
-none_of_two m r b h f none n s e = elim (starts m n r s (sym h ∙ e)) [
+none_of_small m k r q b h l c i j n s e = elim (starts m n r s (sym h ∙ e)) [
   | inl x ↦ omega (arith, x.below)
-  | inr v ↦ elim v [ inl x ↦ omega (arith, x.first) | inr x ↦ none n s x.above x.rest ]
+  | inr x ↦ omega (arith, x.above, (one_number_octets k n q s (omega (arith, x.first)) (sym i ∙ x.rest)).number)
 ]
 
-pub none_of_more : (m : ℕ) (r b : List ℕ) → b ≡ (m ∷ r) → 0x80 ≤ m → (m ≡ 0x81 → ⊥) → (m ≡ 0x82 → ⊥)
-    → (n : ℕ) (s : List ℕ) → b ≡ (length_octets n ++ s) → ⊥
-none_of_more m r b h l f g n s e = elim (starts m n r s (sym h ∙ e)) [
-  | inl x ↦ omega (arith, x.below)
-  | inr v ↦ elim v [ inl x ↦ f x.first | inr x ↦ g x.first ]
-]
+-- and with a length
+pub octets_short : (m : ℕ) (r b : List ℕ) → b ≡ (m ∷ r) → m < 0x80 → b ≡ (length_octets m ++ r)
+octets_short m r b h l = rw (short m l) h
+
+pub octets_long : (m k : ℕ) (r q b : List ℕ) → b ≡ (m ∷ r) → 0x80 ≤ m → length (number_octets k) ≡ m - 0x80 → r ≡ (number_octets k ++ q) → 0x80 ≤ k
+    → b ≡ (length_octets k ++ q)
+octets_long m k r q b h l c i a =
+    let f : m ≡ 0x80 + length (number_octets k) = omega arith in
+    rw (long k a) (h ∙ ap (λ (x : ℕ). x ∷ r) f ∙ ap (λ (x : List ℕ). (0x80 + length (number_octets k)) ∷ x) i)
 
 -- bytes that begin with no element of this tag
 parts : (t : ℕ) (m : ℕ) (r b c s : List ℕ) → b ≡ (m ∷ r) → b ≡ (element t c ++ s) → (m ∷ r) ≡ (t ∷ length_octets (length c) ++ (c ++ s))
@@ -212,9 +143,10 @@ no_element_of_nil t b h c s e = let f : [] ≡ (t ∷ length_octets (length c) +
 pub no_element_of_tag : (t m : ℕ) (r b : List ℕ) → b ≡ (m ∷ r) → (m ≡ t → ⊥) → (c s : List ℕ) → b ≡ (element t c ++ s) → ⊥
 no_element_of_tag t m r b h n c s e = n (heads _ _ _ _ (parts t m r b c s h e))
 
-pub no_element_of_length : (t m : ℕ) (r b : List ℕ) → b ≡ (m ∷ r) → ((n : ℕ) (s : List ℕ) → r ≡ (length_octets n ++ s) → ⊥)
+pub no_element_of_length : (t m : ℕ) (r b : List ℕ) → b ≡ (m ∷ r) → ((n : ℕ) (s : List ℕ) → n ≤ length s → r ≡ (length_octets n ++ s) → ⊥)
     → (c s : List ℕ) → b ≡ (element t c ++ s) → ⊥
-no_element_of_length t m r b h none c s e = none (length c) (c ++ s) (tails _ _ _ _ (parts t m r b c s h e))
+no_element_of_length t m r b h none c s e =
+    none (length c) (c ++ s) (omega (arith, length-append c s)) (tails _ _ _ _ (parts t m r b c s h e))
 
 pub no_element_of_short : (t m n : ℕ) (r b q : List ℕ) → b ≡ (m ∷ r) → r ≡ (length_octets n ++ q) → length q < n
     → (c s : List ℕ) → b ≡ (element t c ++ s) → ⊥

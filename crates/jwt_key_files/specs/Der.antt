@@ -1,13 +1,18 @@
 -- The distinguished encoding (ITU-T X.690 sections 8 and 10): an element is a tag, the octets of a length, and the content.
-use Rattle.std.specs.Prelude.{ℕ, ◌/◌, ◌%◌, ◌<◌, List, [], ◌∷◌, ◌++◌, length, slice_index, nat_lt, if◌then◌else◌}
+use Rattle.std.specs.Prelude.{ℕ, zero, suc, ◌+◌, ◌*◌, ◌/◌, ◌%◌, ◌<◌, List, [], ◌∷◌, ◌++◌, length, slice_index, nat_eq, nat_lt, if◌then◌else◌}
 
--- the octets of a length, the fewest that there are (sections 8.1.3.4, 8.1.3.5 and 10.1). From 0x10000 on the second number is
--- above 255, so that no bytes have a longer content.
+-- the last octets of a number, at most so many of them, without leading zeros
+unfoldable pub last_octets : (count n : ℕ) → List ℕ
+last_octets zero n = []
+last_octets (suc count) n = if nat_eq n 0 then [] else last_octets count (n / 0x100) ++ (n % 0x100 ∷ [])
+
+-- the octets of a number, the most significant first, the fewest that there are: no number has more octets than it counts
+unfoldable pub number_octets : (n : ℕ) → List ℕ
+number_octets n = last_octets n n
+
+-- the octets of a length: itself, or from 0x80 on how many octets the number has, and these (sections 8.1.3.4, 8.1.3.5 and 10.1)
 unfoldable pub length_octets : (n : ℕ) → List ℕ
-length_octets n =
-    if nat_lt n 0x80 then n ∷ []
-    else if nat_lt n 0x100 then 0x81 ∷ n ∷ []
-    else 0x82 ∷ n / 0x100 ∷ n % 0x100 ∷ []
+length_octets n = if nat_lt n 0x80 then n ∷ [] else (0x80 + length (number_octets n)) ∷ number_octets n
 
 -- an element (section 8.1.1)
 unfoldable pub element : (tag : ℕ) (content : List ℕ) → List ℕ
@@ -31,3 +36,8 @@ sequence content = element 0x30 content
 
 unfoldable pub bit_string : (octets : List ℕ) → List ℕ
 bit_string octets = element 3 (0 ∷ octets)
+
+-- the number of the octets that follow this number, the most significant first
+unfoldable pub number_from : (n : ℕ) (octets : List ℕ) → ℕ
+number_from n [] = n
+number_from n (octet ∷ octets) = number_from (n * 0x100 + octet) octets

@@ -1,5 +1,5 @@
 -- Public keys in DER: SubjectPublicKeyInfo (RFC 5280 section 4.1) and RSAPublicKey (RFC 8017 appendix A.1.1).
-use Rattle.std.specs.Prelude.{◌≡◌, ◌≢◌, ◌⊎◌, ℕ, ◌+◌, List, [], ◌∷◌, ◌++◌, length, slice_index}
+use Rattle.std.specs.Prelude.{◌≡◌, ◌≢◌, ◌⊎◌, ℕ, ◌+◌, ◌≤◌, List, [], ◌∷◌, ◌++◌, length, slice_index, codes}
 use Rattle.jwt_base.specs.Kind.{Kind}
 use Rattle.jwt_base.specs.Kind as kind
 use Rattle.jwt_base.specs.declared.algorithms.AlgorithmFamily.TheVariants as family
@@ -82,7 +82,26 @@ pub record NamesAnother (bytes : List ℕ) : Type 0 where
   pub bytes_are : bytes ≡ subject_public_key_info algorithm octets
   pub is_other : (s : Scheme) → algorithm ≢ identifier s
 
+-- The bytes are a SEQUENCE that begins with the INTEGER 0 or 1, as each private key does with its version: PrivateKeyInfo (RFC 5958
+-- section 2, PKCS #8), RSAPrivateKey (RFC 8017 appendix A.1.2) and ECPrivateKey (RFC 5915 section 3).
+pub record IsPrivateKey (bytes : List ℕ) : Type 0 where
+  pub version : ℕ
+  pub rest : List ℕ
+  pub is_version : version ≤ 1
+  pub bytes_are : bytes ≡ sequence (element 2 (version ∷ []) ++ rest)
+
+-- the string of the refusal of a private key
+abbrev pub private_key_text : List ℕ
+private_key_text = codes "a private key is not read as a public key"
+
 -- the bytes are the DER of no key, and this is the kind of the refusal
 pub record IsRefused (bytes : List ℕ) (refusal : Kind) : Type 0 where
   pub none : (key : Key) → ¬ IsPublicKey bytes key
-  pub why : ((refusal ≡ kind.UnsupportedAlgorithm) × NamesAnother bytes) ⊎ ((refusal ≡ kind.InvalidKeyFormat) × ¬ NamesAnother bytes)
+  pub why : ((refusal ≡ kind.Provider private_key_text) × IsPrivateKey bytes)
+      ⊎ (((refusal ≡ kind.UnsupportedAlgorithm) × NamesAnother bytes)
+      ⊎ ((refusal ≡ kind.InvalidKeyFormat) × ¬ IsPrivateKey bytes × ¬ NamesAnother bytes))
+
+-- and here of bytes that are no RSAPublicKey
+abbrev pub IsPrivateOrMalformed : (bytes : List ℕ) (refusal : Kind) → Type 0
+IsPrivateOrMalformed bytes refusal =
+    ((refusal ≡ kind.Provider private_key_text) × IsPrivateKey bytes) ⊎ ((refusal ≡ kind.InvalidKeyFormat) × ¬ IsPrivateKey bytes)

@@ -1,7 +1,7 @@
 //! Elements of DER: a tag, the octets of a length, and the content.
 
-ghost use Rattle.std.specs.Prelude.{◌≡◌, ◌≢◌, ℕ, ◌/◌, ◌%◌, ◌<◌, ◌≤◌, List, [], ◌∷◌, ◌++◌, MatchOption};
-ghost use Rattle.jwt_key_files.specs.Der.{length_octets, element};
+ghost use Rattle.std.specs.Prelude.{◌≡◌, ◌≢◌, ℕ, ◌<◌, ◌≤◌, List, [], ◌∷◌, ◌++◌, MatchOption, IsTrue, ◌↔◌, length};
+ghost use Rattle.jwt_key_files.specs.Der.{number_octets, number_from, length_octets, element};
 
 // Returns the first byte and the bytes after it.
 pub(crate) fn next(bytes: &[u8]) -> Option<(u8, &[u8])>
@@ -13,41 +13,51 @@ pub(crate) fn next(bytes: &[u8]) -> Option<(u8, &[u8])>
     }
 }
 
-// Returns a length of at least 0x80 that the first byte is, and the bytes after it.
-fn read_one(bytes: &[u8]) -> Option<(usize, &[u8])>
-    ensures { MatchOption result ((n : ℕ) (rest : List ℕ) → 0x80 ≤ n → bytes.now ≢ n ∷ rest)
-        (λ p. (0x80 ≤ p.0) × (p.0 < 0x100) × (bytes.now ≡ p.0 ∷ p.1.now)) }
+// Returns the number of the octets, unless it does not fit and so is more than this one.
+fn number(octets: &[u8], most: usize) -> Option<usize>
+    ensures { MatchOption result (most < number_from 0 octets.now) (λ n. n ≡ number_from 0 octets.now) }
 {
-    let Some((octet, rest)) = next(bytes) else {
-        return None;
-    };
-    if octet < 0x80 {
-        return None;
+    let mut n: usize = 0;
+    for octet in octets {
+        if n >= 0x100_0000_0000_0000 {
+            return None;
+        }
+        n = n * 0x100 + *octet as usize;
     }
-    Some((octet as usize, rest))
+    Some(n)
 }
 
-// Returns a length of at least 0x100 that the first two bytes are, and the bytes after them.
-fn read_two(bytes: &[u8]) -> Option<(usize, &[u8])>
+fn begins_with_0(octets: &[u8]) -> bool
+    ensures { IsTrue result ↔ ((rest : List ℕ) × (octets.now ≡ 0 ∷ rest)) }
+{
+    match next(octets) {
+        Some((first, _)) => first == 0,
+        None => false,
+    }
+}
+
+// Returns the number whose octets, so many, the bytes begin with, and the bytes after them.
+fn read_number(count: usize, bytes: &[u8]) -> Option<(usize, &[u8])>
     ensures { MatchOption result
-        ((n : ℕ) (rest : List ℕ) → 0x100 ≤ n → bytes.now ≢ n / 0x100 ∷ n % 0x100 ∷ rest)
-        (λ p. (0x100 ≤ p.0) × (bytes.now ≡ p.0 / 0x100 ∷ p.0 % 0x100 ∷ p.1.now)) }
+        ((n : ℕ) (rest : List ℕ) → n ≤ length rest → length (number_octets n) ≡ count → bytes.now ≢ number_octets n ++ rest)
+        (λ p. (length (number_octets p.0) ≡ count) × (bytes.now ≡ number_octets p.0 ++ p.1.now)) }
 {
-    let Some((first, rest)) = next(bytes) else {
-        return None;
-    };
-    let Some((second, rest)) = next(rest) else {
-        return None;
-    };
-    if first == 0 {
+    if bytes.len() < count {
         return None;
     }
-    Some((first as usize * 0x100 + second as usize, rest))
+    let (octets, rest) = bytes.split_at(count);
+    if begins_with_0(octets) {
+        return None;
+    }
+    let Some(n) = number(octets, rest.len()) else {
+        return None;
+    };
+    Some((n, rest))
 }
 
-// Returns the length whose octets the bytes begin with, and the bytes after them.
+// Returns the length whose octets the bytes begin with, and the bytes after them, if there are as many of those.
 fn read_length(bytes: &[u8]) -> Option<(usize, &[u8])>
-    ensures { MatchOption result ((n : ℕ) (rest : List ℕ) → bytes.now ≢ length_octets n ++ rest)
+    ensures { MatchOption result ((n : ℕ) (rest : List ℕ) → n ≤ length rest → bytes.now ≢ length_octets n ++ rest)
         (λ p. bytes.now ≡ length_octets p.0 ++ p.1.now) }
 {
     let Some((first, rest)) = next(bytes) else {
@@ -56,19 +66,13 @@ fn read_length(bytes: &[u8]) -> Option<(usize, &[u8])>
     if first < 0x80 {
         return Some((first as usize, rest));
     }
-    if first == 0x81 {
-        let Some((n, rest)) = read_one(rest) else {
-            return None;
-        };
-        return Some((n, rest));
+    let Some((n, rest)) = read_number((first - 0x80) as usize, rest) else {
+        return None;
+    };
+    if n < 0x80 {
+        return None;
     }
-    if first == 0x82 {
-        let Some((n, rest)) = read_two(rest) else {
-            return None;
-        };
-        return Some((n, rest));
-    }
-    None
+    Some((n, rest))
 }
 
 // Returns the content of the element with this tag that the bytes begin with, and the bytes after it.

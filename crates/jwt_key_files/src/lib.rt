@@ -1,8 +1,12 @@
 //! Public keys as files hold them: the DER (ITU-T X.690) of a SubjectPublicKeyInfo (RFC 5280 section 4.1) or of an
-//! RSAPublicKey (RFC 8017 appendix A.1.1).
+//! RSAPublicKey (RFC 8017 appendix A.1.1), the same in PEM (RFC 7468), and the key of an X.509 certificate.
 #![tactic(auto)]
 
+mod block;
+pub mod certificate;
 mod element;
+pub mod jwk;
+pub mod pem;
 pub mod public_key;
 mod scheme;
 mod structures;

@@ -4,22 +4,43 @@ ghost use Rattle.std.specs.Prelude.{◌≡◌, ◌⊎◌, ◌≤◌, IfOk, IfErr
 ghost use Rattle.jwt_base.specs.Kind as kind;
 ghost use Rattle.jwt_base.specs.KindOf.{kind_of, IsMemory, RefusesAs};
 ghost use Rattle.jwt_keys.specs.Key.{Key};
-ghost use Rattle.jwt_key_files.specs.PublicKeys.{IsRsaKey, IsPoint, IsEdwardsKey, IsKeyOf, IsPublicKey, IsRefused};
+ghost use Rattle.jwt_key_files.specs.PublicKeys.{IsRsaKey, IsPoint, IsEdwardsKey, IsKeyOf, IsPublicKey, IsRefused, IsPrivateOrMalformed, private_key_text};
 
 use crate::scheme::{Scheme, read_identifier};
-use crate::structures::{read_info, read_rsa};
+use crate::structures::{is_private, read_info, read_rsa};
 use jwt_base::errors::{Error, ErrorKind, Result, new_error};
 use jwt_keys::decoding_key::DecodingKey;
 use std::alloc::Global;
 
-fn malformed() -> Error
+pub(crate) fn malformed() -> Error
     ensures { kind_of result ≡ kind.InvalidKeyFormat }
 {
     new_error(ErrorKind::InvalidKeyFormat)
 }
 
+// Returns the error that refuses a private key.
+pub(crate) fn private_key(alloc: Global) -> Result<Error>
+    ensures ok { IfOk result (λ e. kind_of e ≡ kind.Provider private_key_text) }
+    ensures err { IfErr result IsMemory }
+{
+    let text = String::from_str(alloc, "a private key is not read as a public key")?;
+    Ok(new_error(ErrorKind::Provider(text)))
+}
+
+// Returns the error that refuses bytes that are no public key.
+fn refusal(alloc: Global, der: &[u8]) -> Result<Error>
+    ensures ok { IfOk result (λ e. IsPrivateOrMalformed der.now (kind_of e)) }
+    ensures err { IfErr result IsMemory }
+{
+    if is_private(der) {
+        let error = private_key(alloc)?;
+        return Ok(error);
+    }
+    Ok(malformed())
+}
+
 // Returns the key of an RSAPublicKey.
-fn rsa_key(alloc: Global, der: &[u8]) -> Result<DecodingKey>
+pub(crate) fn rsa_key(alloc: Global, der: &[u8]) -> Result<DecodingKey>
     ensures ok { IfOk result (IsRsaKey der.now) }
     ensures err { IfErr result (RefusesAs kind.InvalidKeyFormat ((k : Key) → ¬ IsRsaKey der.now k)) }
 {
@@ -27,6 +48,20 @@ fn rsa_key(alloc: Global, der: &[u8]) -> Result<DecodingKey>
         return Err(malformed());
     };
     let key = DecodingKey::from_rsa_raw_components(alloc, modulus, exponent)?;
+    Ok(key)
+}
+
+// Returns the key of an RSAPublicKey, and refuses a private key as such.
+fn bare_key(alloc: Global, der: &[u8]) -> Result<DecodingKey>
+    ensures ok { IfOk result (IsRsaKey der.now) }
+    ensures err { IfErr result (λ e. IsMemory e
+        ⊎ (((k : Key) → ¬ IsRsaKey der.now k) × IsPrivateOrMalformed der.now (kind_of e))) }
+{
+    let Some(_) = read_rsa(der) else {
+        let error = refusal(alloc, der)?;
+        return Err(error);
+    };
+    let key = rsa_key(alloc, der)?;
     Ok(key)
 }
 
@@ -74,15 +109,16 @@ fn key_of(alloc: Global, scheme: Scheme, octets: &[u8]) -> Result<DecodingKey>
 /// elliptic curve key is the octet 4 and the two coordinates, and one of Ed25519 32 octets, as `from_jwk` returns them. Whether the
 /// point is on its curve, and how long a modulus is, is left to the provider that verifies.
 ///
-/// A SubjectPublicKeyInfo whose algorithm identifier is another one, is refused with `UnsupportedAlgorithm`, and any other bytes
-/// with `InvalidKeyFormat`: a length or a number in more octets than it needs, unused bits, bytes after the end, a private key.
+/// A SubjectPublicKeyInfo whose algorithm identifier is another one, is refused with `UnsupportedAlgorithm`. A SEQUENCE that begins
+/// with the INTEGER 0 or 1, as each private key does, is refused with `Provider` and a string that says so. Any other bytes are
+/// refused with `InvalidKeyFormat`: a length or a number in more octets than it needs, unused bits, bytes after the end.
 pub fn public_key_from_der(alloc: Global, der: &[u8]) -> Result<DecodingKey>
     ensures ok { IfOk result (IsPublicKey der.now) }
     ensures only { IfOk result (λ key. (k : Key) → IsPublicKey der.now k → k ≡ key) }
     ensures err { IfErr result (λ e. IsMemory e ⊎ IsRefused der.now (kind_of e)) }
 {
     let Some((algorithm, octets)) = read_info(der) else {
-        let key = rsa_key(alloc, der)?;
+        let key = bare_key(alloc, der)?;
         return Ok(key);
     };
     let Some(scheme) = read_identifier(algorithm) else {

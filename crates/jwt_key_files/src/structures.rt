@@ -1,8 +1,8 @@
 //! The structures that hold public keys, in DER.
 
-ghost use Rattle.std.specs.Prelude.{◌≡◌, ◌≢◌, ℕ, List, ◌++◌, MatchOption};
+ghost use Rattle.std.specs.Prelude.{◌≡◌, ◌≢◌, ℕ, List, ◌++◌, MatchOption, IsTrue, ◌↔◌};
 ghost use Rattle.jwt_key_files.specs.Der.{signed, integer, IsPositive};
-ghost use Rattle.jwt_key_files.specs.PublicKeys.{rsa_public_key, subject_public_key_info};
+ghost use Rattle.jwt_key_files.specs.PublicKeys.{rsa_public_key, subject_public_key_info, IsPrivateKey};
 
 use crate::element::{next, read, read_all};
 
@@ -86,4 +86,26 @@ pub(crate) fn read_info(der: &[u8]) -> Option<(&[u8], &[u8])>
         return None;
     }
     Some((algorithm, key))
+}
+
+// Returns whether the bytes begin as a private key does.
+pub(crate) fn is_private(der: &[u8]) -> bool
+    ensures { IsTrue result ↔ IsPrivateKey der.now }
+{
+    let Some(content) = read_all(0x30, der) else {
+        return false;
+    };
+    let Some((version, _)) = read(2, content) else {
+        return false;
+    };
+    let Some((number, more)) = next(version) else {
+        return false;
+    };
+    if number > 1 {
+        return false;
+    }
+    if more.len() > 0 {
+        return false;
+    }
+    true
 }

@@ -6,6 +6,7 @@ mod hmac;
 mod issued_tokens;
 mod jwks_of_keys;
 mod key_bytes;
+mod key_files;
 mod keys_of_jwks;
 mod prepared;
 mod prepared_rsa;
@@ -30,6 +31,9 @@ fn of_keys(call: &str, row: Row<'_>, trial: &mut Trial) -> Found {
         return Ok(Some(answer));
     }
     if let Some(answer) = keys_of_jwks::answer(call, row, trial)? {
+        return Ok(Some(answer));
+    }
+    if let Some(answer) = key_files::answer(call, row, trial)? {
         return Ok(Some(answer));
     }
     if let Some(answer) = prepared::answer(call, row, trial)? {

@@ -5,10 +5,6 @@
 #[cfg(test)]
 mod base;
 #[cfg(test)]
-mod key_file_rows;
-#[cfg(test)]
-mod key_files;
-#[cfg(test)]
 mod keys;
 #[cfg(test)]
 mod tokens;

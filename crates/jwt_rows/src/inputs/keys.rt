@@ -5,6 +5,7 @@ use crate::inputs::bytes::bytes_of;
 use crate::row::Row;
 use jsonwebtoken::jwk::{Jwk, ThumbprintHash};
 use jsonwebtoken::{DecodingKey, EncodingKey};
+use jwt_key_files::pem::public_key_from_pem;
 use serde_json::Value;
 use std::alloc::Global;
 
@@ -35,6 +36,7 @@ fn key_of_bytes(alloc: Global, name: &str, bytes: &[u8]) -> Result<DecodingKey, 
         "rsa_der" => DecodingKey::from_rsa_der(alloc, bytes),
         "ec_der" => DecodingKey::from_ec_der(alloc, bytes),
         "ed_der" => DecodingKey::from_ed_der(alloc, bytes),
+        "pem" => public_key_from_pem(alloc, bytes),
         _ => return Err(MALFORMED),
     };
     Ok(key?)

@@ -9,7 +9,7 @@ returns-in_err-key-clause-err c =
     let p = err_from_is_err_and c.from_residual.result c.from_residual.ensures.1 in
     rw (p.1, p.2) (elim c.in_err-key.ensures.err [
       | inl m ↦ inl m
-      | inr w ↦ inr (refused_rsa _ _ w.0 c.in_default.ensures w.1)
+      | inr w ↦ inr (refused_rsa _ _ w.1 c.in_default.ensures w.0)
     ])
 
 pub returns-in_default-read_identifier-clause-err :

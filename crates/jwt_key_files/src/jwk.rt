@@ -1,0 +1,38 @@
+//! JSON Web Keys of public keys in PEM.
+
+ghost use Rattle.std.specs.Prelude.{◌≡◌, ◌⊎◌, IfOk, IfErr};
+ghost use Rattle.jwt_base.specs.KindOf.{kind_of, IsMemory};
+ghost use Rattle.jwt_keys.specs.Key.{Key};
+ghost use Rattle.jwt_keys.specs.JwkOfKey.{StandsFor};
+ghost use Rattle.jwt_key_files.specs.PemKeys.{IsPemOf, IsPemRefused};
+ghost use Rattle.jwt_key_files.specs.JwksOfPem.{IsRead, IsJwkOf, IsJwkOfPem};
+
+use crate::pem::public_key_from_pem;
+use jwt_base::errors::Result;
+use jwt_crypto::HmacProvider;
+use jwt_keys::decoding_key::DecodingKey;
+use jwt_keys::jwk::Jwk;
+use std::alloc::Global;
+
+// Returns the JSON Web Key of a key that was read. A provider is asked for other keys alone.
+fn jwk_of(alloc: Global, key: &DecodingKey) -> Result<Jwk>
+    requires { IsRead key.now }
+    ensures ok { IfOk result (IsJwkOf key.now) }
+    ensures way_back { IfOk result (λ jwk. StandsFor jwk.algorithm key.now) }
+    ensures err { IfErr result IsMemory }
+{
+    let jwk = Jwk::from_decoding_key(alloc, &HmacProvider, key, None)?;
+    Ok(jwk)
+}
+
+/// Returns the JSON Web Key of the public key that the first block of a PEM text holds, without `alg` and other common members.
+/// `from_jwk` returns the key that `public_key_from_pem` returns. The refusals are those of `public_key_from_pem`.
+pub fn jwk_from_pem(alloc: Global, pem: &[u8]) -> Result<Jwk>
+    ensures ok { IfOk result (IsJwkOfPem pem.now) }
+    ensures way_back { IfOk result (λ jwk. (key : Key) → IsPemOf pem.now key → StandsFor jwk.algorithm key) }
+    ensures err { IfErr result (λ e. IsMemory e ⊎ IsPemRefused pem.now (kind_of e)) }
+{
+    let key = public_key_from_pem(alloc, pem)?;
+    let jwk = jwk_of(alloc, &key)?;
+    Ok(jwk)
+}
