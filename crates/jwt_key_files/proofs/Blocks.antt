@@ -14,7 +14,7 @@ use Rattle.base64.specs.Rfc4648.{encode_symbols}
 use Rattle.base64.specs.GeneralPurpose.{encode_of, decode_of}
 use Rattle.base64.proofs.EngineFacts.{decode_of-encode_of}
 use Rattle.jwt_base.specs.Base64Url.{IsStandardText, standard_characters, padding}
-use Rattle.jwt_key_files.specs.Characters.{characters_of}
+use Rattle.jwt_key_files.specs.private_clauses.Characters.{characters_of}
 use Rattle.jwt_key_files.specs.Pem.{IsLineEnd, lines_of, in_lines, IsBlock, IsClosed}
 use Rattle.jwt_key_files.proofs.Prefixes.{heads, tails}
 

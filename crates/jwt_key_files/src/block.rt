@@ -4,7 +4,7 @@ ghost use Rattle.std.specs.Prelude.{◌≡◌, ◌≢◌, ℕ, ◌≤◌, List, 
 ghost use Rattle.jwt_base.specs.KindOf.{IsMemory};
 ghost use Rattle.jwt_base.specs.Base64Url.{IsStandardText};
 ghost use Rattle.jwt_key_files.specs.Pem.{IsLineEnd, IsLineBreak, in_lines, StartsLine, EndsLine, IsBlock, IsClosed, Begins, IsFirst};
-ghost use Rattle.jwt_key_files.specs.Characters.{characters_of};
+ghost use Rattle.jwt_key_files.specs.private_clauses.Characters.{characters_of};
 
 use crate::element::next;
 use jwt_base::errors::{ErrorKind, Result};
@@ -42,7 +42,8 @@ fn starts_line(text: &[u8], place: usize) -> bool
 // Returns the text after `-----BEGIN `, if a line begins with it at this place.
 fn block_at(text: &[u8], place: usize) -> Option<&[u8]>
     requires { place ≤ length text.now }
-    ensures { MatchOption result ((b : List ℕ) → ¬ Begins text.now place b) (λ b. Begins text.now place b.now) }
+    ensures { MatchOption result ((b : List ℕ) → ¬ Begins text.now place b)
+        (λ b. Begins text.now place b.now) }
 {
     if !starts_line(text, place) {
         return None;
@@ -56,7 +57,8 @@ fn block_at(text: &[u8], place: usize) -> Option<&[u8]>
 
 // Returns the text after the first `-----BEGIN ` that a line begins with.
 pub(crate) fn first_block(text: &[u8]) -> Option<&[u8]>
-    ensures { MatchOption result ((b : List ℕ) → ¬ IsFirst text.now b) (λ b. IsFirst text.now b.now) }
+    ensures { MatchOption result ((b : List ℕ) → ¬ IsFirst text.now b)
+        (λ b. IsFirst text.now b.now) }
 {
     for place in 0..text.len() {
         if let Some(block) = block_at(text, place) {
@@ -147,7 +149,8 @@ fn decoded(alloc: Global, characters: &[u8]) -> Result<Option<Vec<u8>>>
 // Returns the line end and the text after the first line, if this is the rest of the line that begins a block with the label.
 fn opened<'a>(label: &[u8], block: &'a [u8]) -> Option<(&'a [u8], &'a [u8])>
     ensures { MatchOption result
-        ((eol : List ℕ) (s : List ℕ) → IsLineEnd eol → block.now ≢ label.now ++ (codes "-----" ++ (eol ++ s)))
+        ((eol : List ℕ) (s : List ℕ) → IsLineEnd eol
+        → block.now ≢ label.now ++ (codes "-----" ++ (eol ++ s)))
         (λ p. IsLineEnd p.0.now × (block.now ≡ label.now ++ (codes "-----" ++ (p.0.now ++ p.1.now)))
         × ((s : List ℕ) → p.0.now ≡ 13 ∷ [] → p.1.now ≢ 10 ∷ s)) }
 {

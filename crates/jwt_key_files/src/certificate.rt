@@ -16,7 +16,8 @@ use std::alloc::Global;
 
 // Returns the bytes after elements of these tags.
 fn skip<'a>(tags: &[u8], bytes: &'a [u8]) -> Option<&'a [u8]>
-    ensures { MatchOption result ((rest : List ℕ) → ¬ IsAfter tags.now bytes.now rest) (λ rest. IsAfter tags.now bytes.now rest.now) }
+    ensures { MatchOption result ((rest : List ℕ) → ¬ IsAfter tags.now bytes.now rest)
+        (λ rest. IsAfter tags.now bytes.now rest.now) }
 {
     let mut rest = bytes;
     for tag in tags {
@@ -30,8 +31,10 @@ fn skip<'a>(tags: &[u8], bytes: &'a [u8]) -> Option<&'a [u8]>
 
 // Returns the element of this tag that the bytes begin with, and the bytes after it.
 fn first_element(tag: u8, bytes: &[u8]) -> Option<(&[u8], &[u8])>
-    ensures { MatchOption result ((content : List ℕ) (rest : List ℕ) → bytes.now ≢ element tag content ++ rest)
-        (λ p. ((content : List ℕ) × (p.0.now ≡ element tag content)) × (bytes.now ≡ p.0.now ++ p.1.now)) }
+    ensures { MatchOption result ((content : List ℕ) (rest : List ℕ)
+        → bytes.now ≢ element tag content ++ rest)
+        (λ p. ((content : List ℕ) × (p.0.now ≡ element tag content))
+        × (bytes.now ≡ p.0.now ++ p.1.now)) }
 {
     let Some((_, rest)) = read(tag, bytes) else {
         return None;
@@ -42,8 +45,10 @@ fn first_element(tag: u8, bytes: &[u8]) -> Option<(&[u8], &[u8])>
 // Returns the fields of a TBSCertificate from the key on.
 fn from_key(content: &[u8]) -> Option<&[u8]>
     ensures { MatchOption result
-        ((rest : List ℕ) → ¬ (IsAfter (0xa0 ∷ serial_to_subject) content.now rest ⊎ IsAfter serial_to_subject content.now rest))
-        (λ rest. IsAfter (0xa0 ∷ serial_to_subject) content.now rest.now ⊎ IsAfter serial_to_subject content.now rest.now) }
+        ((rest : List ℕ) → ¬ (IsAfter (0xa0 ∷ serial_to_subject) content.now rest
+        ⊎ IsAfter serial_to_subject content.now rest))
+        (λ rest. IsAfter (0xa0 ∷ serial_to_subject) content.now rest.now
+        ⊎ IsAfter serial_to_subject content.now rest.now) }
 {
     if let Some(rest) = skip(&[0xa0, 2, 0x30, 0x30, 0x30, 0x30], content) {
         return Some(rest);
@@ -56,7 +61,8 @@ fn from_key(content: &[u8]) -> Option<&[u8]>
 
 // Returns the SubjectPublicKeyInfo of a TBSCertificate with this content.
 fn key_info(content: &[u8]) -> Option<&[u8]>
-    ensures { MatchOption result ((info : List ℕ) → ¬ IsToBeSigned content.now info) (λ info. IsToBeSigned content.now info.now) }
+    ensures { MatchOption result ((info : List ℕ) → ¬ IsToBeSigned content.now info)
+        (λ info. IsToBeSigned content.now info.now) }
 {
     let Some(rest) = from_key(content) else {
         return None;
@@ -69,7 +75,8 @@ fn key_info(content: &[u8]) -> Option<&[u8]>
 
 // Returns the SubjectPublicKeyInfo of a certificate.
 fn read_certificate(der: &[u8]) -> Option<&[u8]>
-    ensures { MatchOption result ((info : List ℕ) → ¬ IsCertificate der.now info) (λ info. IsCertificate der.now info.now) }
+    ensures { MatchOption result ((info : List ℕ) → ¬ IsCertificate der.now info)
+        (λ info. IsCertificate der.now info.now) }
 {
     let Some(whole) = read_all(0x30, der) else {
         return None;
@@ -89,9 +96,9 @@ fn read_certificate(der: &[u8]) -> Option<&[u8]>
     Some(info)
 }
 
-/// Returns the public key of an X.509 certificate in DER (RFC 5280 section 4.1). NOTHING IS VERIFIED: not the signature, not the
-/// issuer, not the dates, not what the key may be used for. Anyone can write such a certificate; the key is only as good as the way by
-/// which the certificate came. The key is that which `public_key_from_der` reads of the SubjectPublicKeyInfo.
+/// Returns the public key of an X.509 certificate in DER (RFC 5280 section 4.1). NOTHING IS VERIFIED: not the signature, not
+/// the issuer, not the dates, not what the key may be used for. Anyone can write such a certificate; the key is only as good as
+/// the way by which the certificate came. The key is that which `public_key_from_der` reads of the SubjectPublicKeyInfo.
 ///
 /// Of the certificate's other elements only the tags are looked at, and of its extensions nothing. A key of another algorithm is
 /// refused with `UnsupportedAlgorithm`, and bytes that are no certificate, or whose key is malformed, with `InvalidKeyFormat`.
@@ -122,8 +129,9 @@ fn certificate_bytes(alloc: Global, pem: &[u8]) -> Result<Option<Vec<u8>>>
     Ok(Some(der))
 }
 
-/// Returns the public key of the X.509 certificate that the first block of a PEM text holds, under the label `CERTIFICATE` (RFC 7468
-/// section 5). As by `unverified_key_from_certificate`, NOTHING IS VERIFIED. The text is as `public_key_from_pem` reads it.
+/// Returns the public key of the X.509 certificate that the first block of a PEM text holds, under the label `CERTIFICATE` (RFC
+/// 7468 section 5). As by `unverified_key_from_certificate`, NOTHING IS VERIFIED. The text is as `public_key_from_pem` reads
+/// it.
 ///
 /// A key of another algorithm is refused with `UnsupportedAlgorithm`, and any other text with `InvalidKeyFormat`.
 pub fn unverified_key_from_certificate_pem(alloc: Global, pem: &[u8]) -> Result<DecodingKey>

@@ -15,7 +15,8 @@ pub(crate) fn next(bytes: &[u8]) -> Option<(u8, &[u8])>
 
 // Returns the number of the octets, unless it does not fit and so is more than this one.
 fn number(octets: &[u8], most: usize) -> Option<usize>
-    ensures { MatchOption result (most < number_from 0 octets.now) (λ n. n ≡ number_from 0 octets.now) }
+    ensures { MatchOption result (most < number_from 0 octets.now)
+        (λ n. n ≡ number_from 0 octets.now) }
 {
     let mut n: usize = 0;
     for octet in octets {
@@ -39,7 +40,8 @@ fn begins_with_0(octets: &[u8]) -> bool
 // Returns the number whose octets, so many, the bytes begin with, and the bytes after them.
 fn read_number(count: usize, bytes: &[u8]) -> Option<(usize, &[u8])>
     ensures { MatchOption result
-        ((n : ℕ) (rest : List ℕ) → n ≤ length rest → length (number_octets n) ≡ count → bytes.now ≢ number_octets n ++ rest)
+        ((n : ℕ) (rest : List ℕ) → n ≤ length rest → length (number_octets n) ≡ count
+        → bytes.now ≢ number_octets n ++ rest)
         (λ p. (length (number_octets p.0) ≡ count) × (bytes.now ≡ number_octets p.0 ++ p.1.now)) }
 {
     if bytes.len() < count {
@@ -57,7 +59,8 @@ fn read_number(count: usize, bytes: &[u8]) -> Option<(usize, &[u8])>
 
 // Returns the length whose octets the bytes begin with, and the bytes after them, if there are as many of those.
 fn read_length(bytes: &[u8]) -> Option<(usize, &[u8])>
-    ensures { MatchOption result ((n : ℕ) (rest : List ℕ) → n ≤ length rest → bytes.now ≢ length_octets n ++ rest)
+    ensures { MatchOption result ((n : ℕ) (rest : List ℕ) → n ≤ length rest
+        → bytes.now ≢ length_octets n ++ rest)
         (λ p. bytes.now ≡ length_octets p.0 ++ p.1.now) }
 {
     let Some((first, rest)) = next(bytes) else {
@@ -77,7 +80,8 @@ fn read_length(bytes: &[u8]) -> Option<(usize, &[u8])>
 
 // Returns the content of the element with this tag that the bytes begin with, and the bytes after it.
 pub(crate) fn read(tag: u8, bytes: &[u8]) -> Option<(&[u8], &[u8])>
-    ensures { MatchOption result ((content : List ℕ) (rest : List ℕ) → bytes.now ≢ element tag content ++ rest)
+    ensures { MatchOption result ((content : List ℕ) (rest : List ℕ)
+        → bytes.now ≢ element tag content ++ rest)
         (λ p. bytes.now ≡ element tag p.0.now ++ p.1.now) }
 {
     let Some((first, rest)) = next(bytes) else {

@@ -29,7 +29,8 @@ fn jwk_of(alloc: Global, key: &DecodingKey) -> Result<Jwk>
 /// `from_jwk` returns the key that `public_key_from_pem` returns. The refusals are those of `public_key_from_pem`.
 pub fn jwk_from_pem(alloc: Global, pem: &[u8]) -> Result<Jwk>
     ensures ok { IfOk result (IsJwkOfPem pem.now) }
-    ensures way_back { IfOk result (λ jwk. (key : Key) → IsPemOf pem.now key → StandsFor jwk.algorithm key) }
+    ensures way_back { IfOk result (λ jwk. (key : Key) → IsPemOf pem.now key
+        → StandsFor jwk.algorithm key) }
     ensures err { IfErr result (λ e. IsMemory e ⊎ IsPemRefused pem.now (kind_of e)) }
 {
     let key = public_key_from_pem(alloc, pem)?;

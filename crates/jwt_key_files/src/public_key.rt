@@ -42,7 +42,8 @@ fn refusal(alloc: Global, der: &[u8]) -> Result<Error>
 // Returns the key of an RSAPublicKey.
 pub(crate) fn rsa_key(alloc: Global, der: &[u8]) -> Result<DecodingKey>
     ensures ok { IfOk result (IsRsaKey der.now) }
-    ensures err { IfErr result (RefusesAs kind.InvalidKeyFormat ((k : Key) → ¬ IsRsaKey der.now k)) }
+    ensures err { IfErr result (RefusesAs kind.InvalidKeyFormat
+        ((k : Key) → ¬ IsRsaKey der.now k)) }
 {
     let Some((modulus, exponent)) = read_rsa(der) else {
         return Err(malformed());
@@ -69,7 +70,8 @@ fn bare_key(alloc: Global, der: &[u8]) -> Result<DecodingKey>
 fn point_key(alloc: Global, size: usize, octets: &[u8]) -> Result<DecodingKey>
     requires { size ≤ 48 }
     ensures ok { IfOk result (IsPoint size octets.now) }
-    ensures err { IfErr result (RefusesAs kind.InvalidKeyFormat ((k : Key) → ¬ IsPoint size octets.now k)) }
+    ensures err { IfErr result (RefusesAs kind.InvalidKeyFormat
+        ((k : Key) → ¬ IsPoint size octets.now k)) }
 {
     if octets.len() != 1 + size + size || octets[0] != 4 {
         return Err(malformed());
@@ -81,7 +83,8 @@ fn point_key(alloc: Global, size: usize, octets: &[u8]) -> Result<DecodingKey>
 // Returns the key of Ed25519 of these octets.
 fn edwards_key(alloc: Global, octets: &[u8]) -> Result<DecodingKey>
     ensures ok { IfOk result (IsEdwardsKey octets.now) }
-    ensures err { IfErr result (RefusesAs kind.InvalidKeyFormat ((k : Key) → ¬ IsEdwardsKey octets.now k)) }
+    ensures err { IfErr result (RefusesAs kind.InvalidKeyFormat
+        ((k : Key) → ¬ IsEdwardsKey octets.now k)) }
 {
     if octets.len() != 32 {
         return Err(malformed());
@@ -93,7 +96,8 @@ fn edwards_key(alloc: Global, octets: &[u8]) -> Result<DecodingKey>
 // Returns the key of this algorithm that the octets are.
 fn key_of(alloc: Global, scheme: Scheme, octets: &[u8]) -> Result<DecodingKey>
     ensures ok { IfOk result (IsKeyOf scheme octets.now) }
-    ensures err { IfErr result (RefusesAs kind.InvalidKeyFormat ((k : Key) → ¬ IsKeyOf scheme octets.now k)) }
+    ensures err { IfErr result (RefusesAs kind.InvalidKeyFormat
+        ((k : Key) → ¬ IsKeyOf scheme octets.now k)) }
 {
     match scheme {
         Scheme::Rsa => rsa_key(alloc, octets),
@@ -103,15 +107,16 @@ fn key_of(alloc: Global, scheme: Scheme, octets: &[u8]) -> Result<DecodingKey>
     }
 }
 
-/// Returns the public key that the bytes are, in DER (ITU-T X.690 section 10): a SubjectPublicKeyInfo (RFC 5280 section 4.1) of an
-/// RSA key (RFC 3279 section 2.3.1), of an uncompressed point of P-256 or P-384 (RFC 5480 section 2) or of a key of Ed25519 (RFC
-/// 8410 section 4), or an RSAPublicKey (RFC 8017 appendix A.1.1). An RSA key has its modulus and exponent, with no leading 0; an
-/// elliptic curve key is the octet 4 and the two coordinates, and one of Ed25519 32 octets, as `from_jwk` returns them. Whether the
-/// point is on its curve, and how long a modulus is, is left to the provider that verifies.
+/// Returns the public key that the bytes are, in DER (ITU-T X.690 section 10): a SubjectPublicKeyInfo (RFC 5280 section 4.1) of
+/// an RSA key (RFC 3279 section 2.3.1), of an uncompressed point of P-256 or P-384 (RFC 5480 section 2) or of a key of Ed25519
+/// (RFC 8410 section 4), or an RSAPublicKey (RFC 8017 appendix A.1.1). An RSA key has its modulus and exponent, with no leading
+/// 0; an elliptic curve key is the octet 4 and the two coordinates, and one of Ed25519 32 octets, as `from_jwk` returns them.
+/// Whether the point is on its curve, and how long a modulus is, is left to the provider that verifies.
 ///
-/// A SubjectPublicKeyInfo whose algorithm identifier is another one, is refused with `UnsupportedAlgorithm`. A SEQUENCE that begins
-/// with the INTEGER 0 or 1, as each private key does, is refused with `Provider` and a string that says so. Any other bytes are
-/// refused with `InvalidKeyFormat`: a length or a number in more octets than it needs, unused bits, bytes after the end.
+/// A SubjectPublicKeyInfo whose algorithm identifier is another one, is refused with `UnsupportedAlgorithm`. A SEQUENCE that
+/// begins with the INTEGER 0 or 1, as each private key does, is refused with `Provider` and a string that says so. Any other
+/// bytes are refused with `InvalidKeyFormat`: a length or a number in more octets than it needs, unused bits, bytes after the
+/// end.
 pub fn public_key_from_der(alloc: Global, der: &[u8]) -> Result<DecodingKey>
     ensures ok { IfOk result (IsPublicKey der.now) }
     ensures only { IfOk result (λ key. (k : Key) → IsPublicKey der.now k → k ≡ key) }

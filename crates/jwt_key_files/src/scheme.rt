@@ -27,7 +27,8 @@ const ED25519: [u8; 5] = [6, 3, 0x2b, 0x65, 0x70];
 
 // Returns the algorithm whose identifier has this content.
 pub(crate) fn read_identifier(content: &[u8]) -> Option<Scheme>
-    ensures { MatchOption result ((s : Scheme) → content.now ≢ identifier s) (λ s. content.now ≡ identifier s) }
+    ensures { MatchOption result ((s : Scheme) → content.now ≢ identifier s)
+        (λ s. content.now ≡ identifier s) }
 {
     if content == RSA.as_slice() {
         return Some(Scheme::Rsa);

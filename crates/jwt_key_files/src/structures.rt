@@ -31,7 +31,8 @@ fn unsigned(content: &[u8]) -> Option<&[u8]>
 
 // Returns the octets of the positive INTEGER that the bytes begin with, and the bytes after it.
 fn read_integer(bytes: &[u8]) -> Option<(&[u8], &[u8])>
-    ensures { MatchOption result ((n : List ℕ) (rest : List ℕ) → IsPositive n → bytes.now ≢ integer n ++ rest)
+    ensures { MatchOption result ((n : List ℕ) (rest : List ℕ) → IsPositive n
+        → bytes.now ≢ integer n ++ rest)
         (λ p. IsPositive p.0.now × (bytes.now ≡ integer p.0.now ++ p.1.now)) }
 {
     let Some((content, rest)) = read(2, bytes) else {
@@ -47,7 +48,8 @@ fn read_integer(bytes: &[u8]) -> Option<(&[u8], &[u8])>
 pub(crate) fn read_rsa(der: &[u8]) -> Option<(&[u8], &[u8])>
     ensures { MatchOption result
         ((n : List ℕ) (e : List ℕ) → IsPositive n → IsPositive e → der.now ≢ rsa_public_key n e)
-        (λ p. IsPositive p.0.now × IsPositive p.1.now × (der.now ≡ rsa_public_key p.0.now p.1.now)) }
+        (λ p. IsPositive p.0.now × IsPositive p.1.now
+        × (der.now ≡ rsa_public_key p.0.now p.1.now)) }
 {
     let Some(content) = read_all(0x30, der) else {
         return None;
