@@ -14,13 +14,13 @@ IsAfter [] bytes rest = bytes ≡ rest
 IsAfter (tag ∷ tags) bytes rest =
     (content : List ℕ) × ((more : List ℕ) × ((bytes ≡ element tag content ++ more) × IsAfter tags more rest))
 
--- the fields before the key: the serial number (an INTEGER), then the algorithm of the signature, the issuer, the validity and the
--- subject (SEQUENCEs)
+-- the fields before the key: the serial number (an INTEGER), then the algorithm of the signature, the issuer, the validity and
+-- the subject (SEQUENCEs)
 abbrev pub serial_to_subject : List ℕ
 serial_to_subject = 2 ∷ 0x30 ∷ 0x30 ∷ 0x30 ∷ 0x30 ∷ []
 
--- The content of a TBSCertificate, with this SubjectPublicKeyInfo: the version, which may be absent, the fields before the key, the
--- key, and the rest.
+-- The content of a TBSCertificate, with this SubjectPublicKeyInfo: the version, which may be absent, the fields before the key,
+-- the key, and the rest.
 pub record IsToBeSigned (content info : List ℕ) : Type 0 where
   pub key : List ℕ
   pub rest : List ℕ

@@ -82,8 +82,8 @@ pub record NamesAnother (bytes : List ℕ) : Type 0 where
   pub bytes_are : bytes ≡ subject_public_key_info algorithm octets
   pub is_other : (s : Scheme) → algorithm ≢ identifier s
 
--- The bytes are a SEQUENCE that begins with the INTEGER 0 or 1, as each private key does with its version: PrivateKeyInfo (RFC 5958
--- section 2, PKCS #8), RSAPrivateKey (RFC 8017 appendix A.1.2) and ECPrivateKey (RFC 5915 section 3).
+-- The bytes are a SEQUENCE that begins with the INTEGER 0 or 1, as each private key does with its version: PrivateKeyInfo (RFC
+-- 5958 section 2, PKCS #8), RSAPrivateKey (RFC 8017 appendix A.1.2) and ECPrivateKey (RFC 5915 section 3).
 pub record IsPrivateKey (bytes : List ℕ) : Type 0 where
   pub version : ℕ
   pub rest : List ℕ

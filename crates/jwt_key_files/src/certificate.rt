@@ -89,9 +89,9 @@ fn read_certificate(der: &[u8]) -> Option<&[u8]>
     Some(info)
 }
 
-/// Returns the public key of an X.509 certificate in DER (RFC 5280 section 4.1). NOTHING IS VERIFIED: not the signature, not the
-/// issuer, not the dates, not what the key may be used for. Anyone can write such a certificate; the key is only as good as the way by
-/// which the certificate came. The key is that which `public_key_from_der` reads of the SubjectPublicKeyInfo.
+/// Returns the public key of an X.509 certificate in DER (RFC 5280 section 4.1). NOTHING IS VERIFIED: not the signature, not
+/// the issuer, not the dates, not what the key may be used for. Anyone can write such a certificate; the key is only as good as
+/// the way by which the certificate came. The key is that which `public_key_from_der` reads of the SubjectPublicKeyInfo.
 ///
 /// Of the certificate's other elements only the tags are looked at, and of its extensions nothing. A key of another algorithm is
 /// refused with `UnsupportedAlgorithm`, and bytes that are no certificate, or whose key is malformed, with `InvalidKeyFormat`.
@@ -122,8 +122,9 @@ fn certificate_bytes(alloc: Global, pem: &[u8]) -> Result<Option<Vec<u8>>>
     Ok(Some(der))
 }
 
-/// Returns the public key of the X.509 certificate that the first block of a PEM text holds, under the label `CERTIFICATE` (RFC 7468
-/// section 5). As by `unverified_key_from_certificate`, NOTHING IS VERIFIED. The text is as `public_key_from_pem` reads it.
+/// Returns the public key of the X.509 certificate that the first block of a PEM text holds, under the label `CERTIFICATE` (RFC
+/// 7468 section 5). As by `unverified_key_from_certificate`, NOTHING IS VERIFIED. The text is as `public_key_from_pem` reads
+/// it.
 ///
 /// A key of another algorithm is refused with `UnsupportedAlgorithm`, and any other text with `InvalidKeyFormat`.
 pub fn unverified_key_from_certificate_pem(alloc: Global, pem: &[u8]) -> Result<DecodingKey>

@@ -103,15 +103,16 @@ fn key_of(alloc: Global, scheme: Scheme, octets: &[u8]) -> Result<DecodingKey>
     }
 }
 
-/// Returns the public key that the bytes are, in DER (ITU-T X.690 section 10): a SubjectPublicKeyInfo (RFC 5280 section 4.1) of an
-/// RSA key (RFC 3279 section 2.3.1), of an uncompressed point of P-256 or P-384 (RFC 5480 section 2) or of a key of Ed25519 (RFC
-/// 8410 section 4), or an RSAPublicKey (RFC 8017 appendix A.1.1). An RSA key has its modulus and exponent, with no leading 0; an
-/// elliptic curve key is the octet 4 and the two coordinates, and one of Ed25519 32 octets, as `from_jwk` returns them. Whether the
-/// point is on its curve, and how long a modulus is, is left to the provider that verifies.
+/// Returns the public key that the bytes are, in DER (ITU-T X.690 section 10): a SubjectPublicKeyInfo (RFC 5280 section 4.1) of
+/// an RSA key (RFC 3279 section 2.3.1), of an uncompressed point of P-256 or P-384 (RFC 5480 section 2) or of a key of Ed25519
+/// (RFC 8410 section 4), or an RSAPublicKey (RFC 8017 appendix A.1.1). An RSA key has its modulus and exponent, with no leading
+/// 0; an elliptic curve key is the octet 4 and the two coordinates, and one of Ed25519 32 octets, as `from_jwk` returns them.
+/// Whether the point is on its curve, and how long a modulus is, is left to the provider that verifies.
 ///
-/// A SubjectPublicKeyInfo whose algorithm identifier is another one, is refused with `UnsupportedAlgorithm`. A SEQUENCE that begins
-/// with the INTEGER 0 or 1, as each private key does, is refused with `Provider` and a string that says so. Any other bytes are
-/// refused with `InvalidKeyFormat`: a length or a number in more octets than it needs, unused bits, bytes after the end.
+/// A SubjectPublicKeyInfo whose algorithm identifier is another one, is refused with `UnsupportedAlgorithm`. A SEQUENCE that
+/// begins with the INTEGER 0 or 1, as each private key does, is refused with `Provider` and a string that says so. Any other
+/// bytes are refused with `InvalidKeyFormat`: a length or a number in more octets than it needs, unused bits, bytes after the
+/// end.
 pub fn public_key_from_der(alloc: Global, der: &[u8]) -> Result<DecodingKey>
     ensures ok { IfOk result (IsPublicKey der.now) }
     ensures only { IfOk result (λ key. (k : Key) → IsPublicKey der.now k → k ≡ key) }
