@@ -61,7 +61,7 @@ pub enum ErrorKind {
     InvalidRsaKey(String),
     /// A provider could not sign, for this reason.
     Signing(String),
-    /// A provider refused, for this reason.
+    /// A provider refused, or a file holds no public key, for this reason.
     Provider(String),
     /// The text is not canonical base64 (RFC 4648).
     Base64,

@@ -1,5 +1,5 @@
 -- The key of a text, and the key of its JSON Web Key.
-use Rattle.std.proofs.Common.{◌≡◌, ◌↔◌, inl, inr, List, ℕ, subst, sym}
+use Rattle.std.proofs.Common.{◌≡◌, inl, inr, List, ℕ, subst, sym}
 use Rattle.jwt_keys.specs.Key.{Key}
 use Rattle.jwt_keys.specs.JwkOfKey.{StandsFor}
 use Rattle.jwt_keys.specs.declared.jwk.Jwk.{Jwk}

@@ -5,6 +5,9 @@ pub mod JwksOfPem
 pub mod Numbers
 pub mod OneKey
 pub mod Parts
+pub mod Pairs
 pub mod PemKeys
+pub mod Pieces
 pub mod Prefixes
+pub mod RsaNumbers
 pub mod Texts

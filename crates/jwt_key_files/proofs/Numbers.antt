@@ -6,7 +6,8 @@ use Rattle.std.proofs.lemmas.Bool.Decides.{nat_tests}
 use Rattle.std.proofs.lemmas.List.{length-take, length-take-le, get_or-take, get_or_past, take_all, drop_all, take-append-drop}
 use Rattle.std.proofs.Math.Seq.{take-append_seam, drop-append_seam, drop-cons, take-suc}
 use Rattle.std.proofs.Math.Nat.{div-add-mod}
-use Rattle.jwt_key_files.specs.Der.{last_octets, number_octets, number_from}
+use Rattle.jwt_key_files.specs.Der.{last_octets, number_octets}
+use Rattle.jwt_key_files.specs.private_clauses.Numbers.{number_from}
 
 -- the number of octets
 number_nil : (n : ℕ) → number_from n [] ≡ n

@@ -8,11 +8,11 @@ use Rattle.jwt_key_files.specs.Der.{element, signed, integer, sequence, bit_stri
 use Rattle.jwt_key_files.specs.PublicKeys.{rsa_public_key, subject_public_key_info, IsPrivateKey}
 use Rattle.jwt_key_files.proofs.Prefixes.{one_element, one_whole, opened, heads, tails, SameContent}
 
-low : (n : List ℕ) → slice_index n 0 < 0x80 → signed n ≡ n
+pub low : (n : List ℕ) → slice_index n 0 < 0x80 → signed n ≡ n
 unfolding signed
 low n h = grind (arith, nat_tests)
 
-high : (n : List ℕ) → 0x80 ≤ slice_index n 0 → signed n ≡ (0 ∷ n)
+pub high : (n : List ℕ) → 0x80 ≤ slice_index n 0 → signed n ≡ (0 ∷ n)
 unfolding signed
 high n h = grind (arith, nat_tests)
 

@@ -1,5 +1,5 @@
 -- The distinguished encoding (ITU-T X.690 sections 8 and 10): an element is a tag, the octets of a length, and the content.
-use Rattle.std.specs.Prelude.{ℕ, zero, suc, ◌+◌, ◌*◌, ◌/◌, ◌%◌, ◌<◌, List, [], ◌∷◌, ◌++◌, length, slice_index, nat_eq, nat_lt, if◌then◌else◌}
+use Rattle.std.specs.Prelude.{ℕ, zero, suc, ◌+◌, ◌/◌, ◌%◌, ◌<◌, List, [], ◌∷◌, ◌++◌, length, slice_index, nat_eq, nat_lt, if◌then◌else◌}
 
 -- the last octets of a number, at most so many of them, without leading zeros
 unfoldable pub last_octets : (count n : ℕ) → List ℕ
@@ -36,8 +36,3 @@ sequence content = element 0x30 content
 
 unfoldable pub bit_string : (octets : List ℕ) → List ℕ
 bit_string octets = element 3 (0 ∷ octets)
-
--- the number of the octets that follow this number, the most significant first
-unfoldable pub number_from : (n : ℕ) (octets : List ℕ) → ℕ
-number_from n [] = n
-number_from n (octet ∷ octets) = number_from (n * 0x100 + octet) octets

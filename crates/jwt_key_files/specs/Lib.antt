@@ -1,7 +1,9 @@
 pub mod Certificates
 pub mod Der
+pub mod EcdsaSignatures
 pub mod JwksOfPem
 pub mod Pem
 pub mod PemKeys
 pub mod PublicKeys
+pub mod RsaComponents
 pub mod private_clauses

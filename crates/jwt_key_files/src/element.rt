@@ -1,7 +1,8 @@
 //! Elements of DER: a tag, the octets of a length, and the content.
 
 ghost use Rattle.std.specs.Prelude.{◌≡◌, ◌≢◌, ℕ, ◌<◌, ◌≤◌, List, [], ◌∷◌, ◌++◌, MatchOption, IsTrue, ◌↔◌, length};
-ghost use Rattle.jwt_key_files.specs.Der.{number_octets, number_from, length_octets, element};
+ghost use Rattle.jwt_key_files.specs.Der.{number_octets, length_octets, element};
+ghost use Rattle.jwt_key_files.specs.private_clauses.Numbers.{number_from};
 
 // Returns the first byte and the bytes after it.
 pub(crate) fn next(bytes: &[u8]) -> Option<(u8, &[u8])>

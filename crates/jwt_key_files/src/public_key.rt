@@ -1,10 +1,11 @@
 //! Public keys, read from DER.
 
-ghost use Rattle.std.specs.Prelude.{◌≡◌, ◌⊎◌, ◌≤◌, IfOk, IfErr};
+ghost use Rattle.std.specs.Prelude.{◌≡◌, ◌⊎◌, ◌≤◌, Some, None, IfOk, IfErr, MatchOption};
 ghost use Rattle.jwt_base.specs.Kind as kind;
 ghost use Rattle.jwt_base.specs.KindOf.{kind_of, IsMemory, RefusesAs};
-ghost use Rattle.jwt_keys.specs.Key.{Key};
+ghost use Rattle.jwt_keys.specs.Key.{Key, Components};
 ghost use Rattle.jwt_key_files.specs.PublicKeys.{IsRsaKey, IsPoint, IsEdwardsKey, IsKeyOf, IsPublicKey, IsRefused, IsPrivateOrMalformed, private_key_text};
+ghost use Rattle.jwt_key_files.specs.RsaComponents.{rsa_components};
 
 use crate::scheme::{Scheme, read_identifier};
 use crate::structures::{is_private, read_info, read_rsa};
@@ -131,4 +132,20 @@ pub fn public_key_from_der(alloc: Global, der: &[u8]) -> Result<DecodingKey>
     };
     let key = key_of(alloc, scheme, octets)?;
     Ok(key)
+}
+
+/// Returns the modulus and the exponent of the RSA key whose RSAPublicKey the bytes are (RFC 8017 appendix A.1.1), in DER (ITU-T
+/// X.690 section 10): each as the octets of its number, the most significant first, with no leading 0. How long they are, and
+/// whether a signature can be verified with them, is left to the caller. Returns `None` of any other bytes: of a
+/// SubjectPublicKeyInfo, of a private key, and of an RSAPublicKey with a byte after its end.
+pub fn rsa_components_from_der(der: &[u8]) -> Option<(&[u8], &[u8])>
+    ensures key { MatchOption result ((k : Key) → ¬ IsRsaKey der.now k)
+        (λ p. IsRsaKey der.now (Components p.0.now p.1.now)) }
+    ensures components { MatchOption result (rsa_components der.now ≡ None)
+        (λ p. rsa_components der.now ≡ Some (p.0.now, p.1.now)) }
+{
+    let Some((modulus, exponent)) = read_rsa(der) else {
+        return None;
+    };
+    Some((modulus, exponent))
 }

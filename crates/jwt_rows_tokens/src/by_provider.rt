@@ -1,8 +1,8 @@
 //! Calls that are given a provider of signatures: the one that the row describes.
 
 use crate::{
-    Found, hmac, issued_tokens, jwks_of_keys, signatures, thumbprints, token_parts, tokens,
-    tokens_by_set,
+    Found, failed_tests, hmac, issued_tokens, jwks_of_keys, moments, signatures, thumbprints,
+    token_parts, tokens, tokens_by_set,
 };
 use jsonwebtoken::crypto::CryptoProvider;
 use jsonwebtoken::crypto::hmac::HmacProvider;
@@ -32,6 +32,18 @@ fn of_signatures<P: CryptoProvider>(
     signatures::answer(call, row, trial, provider)
 }
 
+fn of_reasons<P: CryptoProvider>(
+    call: &str,
+    row: Row<'_>,
+    trial: &mut Trial,
+    provider: &P,
+) -> Found {
+    if let Some(answer) = failed_tests::answer(call, row, trial, provider)? {
+        return Ok(Some(answer));
+    }
+    moments::answer(call, row, trial, provider)
+}
+
 fn of_tokens<P: CryptoProvider>(
     call: &str,
     row: Row<'_>,
@@ -42,6 +54,9 @@ fn of_tokens<P: CryptoProvider>(
         return Ok(Some(answer));
     }
     if let Some(answer) = tokens_by_set::answer(call, row, trial, provider)? {
+        return Ok(Some(answer));
+    }
+    if let Some(answer) = of_reasons(call, row, trial, provider)? {
         return Ok(Some(answer));
     }
     if let Some(answer) = token_parts::answer(call, row, trial, provider)? {

@@ -4,4 +4,5 @@ pub mod Pss
 pub mod RsaSchemes
 pub mod RsaKeys
 pub mod RsaPrepared
+pub mod RsaAnswers
 pub mod law_proofs

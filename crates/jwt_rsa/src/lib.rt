@@ -2,6 +2,7 @@
 //! (RFC 7518 sections 3.3 and 3.5).
 #![tactic(auto)]
 
+mod components;
 mod kept;
 mod key;
 mod pkcs1;

@@ -3,7 +3,7 @@
 ghost use Rattle.std.specs.Prelude.{◌≡◌, ◌≢◌, ◌↔◌, ℕ, List, Some, None, IfOk, IfErr, OnOk};
 ghost use Rattle.jwt_base.specs.Kind as kind;
 ghost use Rattle.jwt_base.specs.KindOf.{kind_of, Refuses};
-ghost use Rattle.jwt_crypto.specs.HmacKeys.{hmac_answers};
+ghost use Rattle.jwt_rsa.specs.RsaAnswers.{rsa_answers};
 ghost use Rattle.jwt_rsa.specs.RsaSchemes.{scheme_for, algorithm_for};
 ghost use Rattle.jwt_rsa.specs.RsaKeys.{refusal, RsaAccepts};
 ghost use Rattle.jwt_rsa.specs.law_proofs.RsaFamilies.{family_made};
@@ -39,7 +39,7 @@ impl<'a> CryptoProvider for &'a PreparedRsa {
 
     ghost is_sparing = { λ _. ⊥ };
 
-    ghost key_answers = { λ _. hmac_answers };
+    ghost key_answers = { λ _. rsa_answers };
 
     /// Refuses with `UnsupportedAlgorithm`.
     fn signer_factory(
@@ -78,6 +78,7 @@ impl<'a> CryptoProvider for &'a PreparedRsa {
         Ok(PreparedVerifier { scheme, keyed })
     }
 
+    /// Refuses with `UnsupportedAlgorithm`.
     fn rsa_pub_components_from_private_key(
         &self,
         alloc: Global,
@@ -86,6 +87,7 @@ impl<'a> CryptoProvider for &'a PreparedRsa {
         RsaProvider.rsa_pub_components_from_private_key(alloc, der)
     }
 
+    /// Returns what `RsaProvider` does.
     fn rsa_pub_components_from_public_key(
         &self,
         alloc: Global,
@@ -94,6 +96,7 @@ impl<'a> CryptoProvider for &'a PreparedRsa {
         RsaProvider.rsa_pub_components_from_public_key(alloc, der)
     }
 
+    /// Refuses with `UnsupportedAlgorithm`.
     fn ec_pub_components_from_private_key(
         &self,
         alloc: Global,
@@ -103,6 +106,7 @@ impl<'a> CryptoProvider for &'a PreparedRsa {
         RsaProvider.ec_pub_components_from_private_key(alloc, der, algorithm)
     }
 
+    /// Refuses with `UnsupportedAlgorithm`.
     fn ed_pub_components_from_private_key(
         &self,
         alloc: Global,

@@ -1,13 +1,17 @@
 //! The provider of RSA.
 
-ghost use Rattle.std.specs.Prelude.{◌≡◌, ◌↔◌, ℕ, List, Some, None, IsTrue, IfOk, IfErr, OnOk};
+ghost use Rattle.std.specs.Prelude.{◌≡◌, ◌↔◌, ℕ, List, Some, None, Ok, IsTrue, IfOk, IfErr, OnOk};
 ghost use Rattle.jwt_base.specs.Kind as kind;
-ghost use Rattle.jwt_base.specs.KindOf.{kind_of, IsMemory};
-ghost use Rattle.jwt_crypto.specs.HmacKeys.{hmac_answers};
+ghost use Rattle.jwt_base.specs.KindOf.{kind_of, IsMemory, RefusesAs};
+ghost use Rattle.jwt_keys.specs.Key.{Key, Components};
+ghost use Rattle.jwt_keys.specs.Provider.{RefusesWith};
+ghost use Rattle.jwt_key_files.specs.PublicKeys.{IsRsaKey};
+ghost use Rattle.jwt_rsa.specs.RsaAnswers.{components_read, no_key_text, rsa_answers, HasJwkOf};
 ghost use Rattle.jwt_rsa.specs.RsaSchemes.{scheme_for};
 ghost use Rattle.jwt_rsa.specs.RsaKeys.{refusal, RsaAccepts};
 ghost use Rattle.jwt_rsa.specs.law_proofs.RsaFamilies.{family_made};
 
+use crate::components::components;
 use crate::key::PublicKey;
 use crate::scheme::scheme_of_algorithm;
 use crate::verifier::RsaVerifier;
@@ -29,7 +33,8 @@ pub(crate) fn unsupported() -> Error
 
 /// The provider of RSA: it verifies RS256, RS384 and RS512 by RSASSA-PKCS1-v1_5 (RFC 7518 section
 /// 3.3), and PS256, PS384 and PS512 by RSASSA-PSS (section 3.5), with keys of a modulus and an
-/// exponent. Its digests are those of SHA-2. It signs nothing and reads no keys in DER.
+/// exponent. Its digests are those of SHA-2. It reads the modulus and the exponent of a public key in
+/// DER, but a verifier is made of the two alone. It signs nothing and reads no private keys.
 #[derive(Debug, Clone, Copy)]
 pub struct RsaProvider;
 
@@ -50,7 +55,7 @@ impl CryptoProvider for RsaProvider {
 
     ghost is_sparing = { λ _. ⊥ };
 
-    ghost key_answers = { λ _. hmac_answers };
+    ghost key_answers = { λ _. rsa_answers };
 
     /// Refuses with `UnsupportedAlgorithm`.
     fn signer_factory(
@@ -83,6 +88,7 @@ impl CryptoProvider for RsaProvider {
         Ok(RsaVerifier { scheme, key })
     }
 
+    /// Refuses with `UnsupportedAlgorithm`.
     fn rsa_pub_components_from_private_key(
         &self,
         _alloc: Global,
@@ -91,14 +97,25 @@ impl CryptoProvider for RsaProvider {
         Err(unsupported())
     }
 
+    /// Returns the modulus and the exponent of an RSAPublicKey in DER (RFC 8017 appendix A.1.1), each
+    /// as its octets with no leading 0, of any length. Any other bytes, a SubjectPublicKeyInfo and a
+    /// private key among them, are refused with `InvalidRsaKey` and a string that says so.
     fn rsa_pub_components_from_public_key(
         &self,
-        _alloc: Global,
-        _der: &[u8],
-    ) -> Result<(Vec<u8>, Vec<u8>)> {
-        Err(unsupported())
+        alloc: Global,
+        der: &[u8],
+    ) -> Result<(Vec<u8>, Vec<u8>)>
+        ensures ok { IfOk result (λ p. components_read der.now ≡ Ok (p.0.items, p.1.items)) }
+        ensures err { IfErr result (RefusesWith (components_read der.now)) }
+        ensures key { IfOk result (λ p. IsRsaKey der.now (Components p.0.items p.1.items)) }
+        ensures no_key { IfErr result (RefusesAs (kind.InvalidRsaKey no_key_text)
+            ((k : Key) → ¬ IsRsaKey der.now k)) }
+        ensures jwk { IfOk result (λ p. HasJwkOf der.now p.0.items p.1.items) }
+    {
+        components(alloc, der)
     }
 
+    /// Refuses with `UnsupportedAlgorithm`.
     fn ec_pub_components_from_private_key(
         &self,
         _alloc: Global,
@@ -108,6 +125,7 @@ impl CryptoProvider for RsaProvider {
         Err(unsupported())
     }
 
+    /// Refuses with `UnsupportedAlgorithm`.
     fn ed_pub_components_from_private_key(
         &self,
         _alloc: Global,

@@ -1,11 +1,15 @@
 //! The provider of all twelve algorithms.
 
-ghost use Rattle.std.specs.Prelude.{◌≡◌, ◌≢◌, ◌↔◌, ℕ, List, Some, None, IfOk, IfErr, OnOk, IsTrue};
+ghost use Rattle.std.specs.Prelude.{◌≡◌, ◌≢◌, ◌↔◌, ℕ, List, Some, None, Ok, IfOk, IfErr, OnOk, IsTrue};
 ghost use Rattle.jwt_base.specs.Algorithm.{family_of};
 ghost use Rattle.jwt_base.specs.Kind as kind;
-ghost use Rattle.jwt_base.specs.KindOf.{kind_of, Refuses};
+ghost use Rattle.jwt_base.specs.KindOf.{kind_of, Refuses, RefusesAs};
 ghost use Rattle.jwt_base.specs.declared.algorithms.AlgorithmFamily.TheVariants as family;
+ghost use Rattle.jwt_keys.specs.Key.{Key, Components};
+ghost use Rattle.jwt_keys.specs.Provider.{RefusesWith};
 ghost use Rattle.jwt_crypto.specs.HmacKeys as hmac;
+ghost use Rattle.jwt_key_files.specs.PublicKeys.{IsRsaKey};
+ghost use Rattle.jwt_rsa.specs.RsaAnswers.{components_read, no_key_text, rsa_answers, HasJwkOf};
 ghost use Rattle.jwt_standard.specs.StandardKeys.{verifier_refusal, StandardAccepts};
 ghost use Rattle.jwt_standard.specs.law_proofs.StandardFamilies.{family_made};
 
@@ -58,7 +62,7 @@ impl CryptoProvider for StandardProvider {
 
     ghost is_sparing = { λ _. ⊥ };
 
-    ghost key_answers = { λ _. hmac.hmac_answers };
+    ghost key_answers = { λ _. rsa_answers };
 
     /// Returns a signer by HMAC. An algorithm of another family is refused with
     /// `UnsupportedAlgorithm`, and then a key of another family with `InvalidKeyFormat`. Allocates
@@ -127,13 +131,21 @@ impl CryptoProvider for StandardProvider {
         HmacProvider.rsa_pub_components_from_private_key(alloc, der)
     }
 
-    /// Refuses with `UnsupportedAlgorithm`.
+    /// Returns the modulus and the exponent of an RSAPublicKey in DER, as `RsaProvider` does (RFC 8017
+    /// appendix A.1.1). Any other bytes are refused with `InvalidRsaKey` and a string that says so.
     fn rsa_pub_components_from_public_key(
         &self,
         alloc: Global,
         der: &[u8],
-    ) -> Result<(Vec<u8>, Vec<u8>)> {
-        HmacProvider.rsa_pub_components_from_public_key(alloc, der)
+    ) -> Result<(Vec<u8>, Vec<u8>)>
+        ensures ok { IfOk result (λ p. components_read der.now ≡ Ok (p.0.items, p.1.items)) }
+        ensures err { IfErr result (RefusesWith (components_read der.now)) }
+        ensures key { IfOk result (λ p. IsRsaKey der.now (Components p.0.items p.1.items)) }
+        ensures no_key { IfErr result (RefusesAs (kind.InvalidRsaKey no_key_text)
+            ((k : Key) → ¬ IsRsaKey der.now k)) }
+        ensures jwk { IfOk result (λ p. HasJwkOf der.now p.0.items p.1.items) }
+    {
+        RsaProvider.rsa_pub_components_from_public_key(alloc, der)
     }
 
     /// Refuses with `UnsupportedAlgorithm`.

@@ -1,5 +1,5 @@
 use Rattle.std.proofs.Common.{◌≡◌, drop}
-use Rattle.jwt_key_files.specs.Der.{number_from}
+use Rattle.jwt_key_files.specs.private_clauses.Numbers.{number_from}
 use Rattle.jwt_key_files.proofs.element.number.Given as goal
 
 abbrev pub invariant-loop-octet : goal.invariant-loop-octet
