@@ -4,8 +4,9 @@ use Rattle.std.proofs.Common.{◌≡◌, ℕ, List, [], ◌∷◌, ◌++◌, Boo
 use Rattle.serde_json.specs.Data.{Data, Members}
 use Rattle.jwt_base.proofs.Parts.{one_part, one_json}
 use Rattle.jwt_base.specs.declared.errors.Error.{Error}
-use Rattle.jsonwebtoken.specs.Order.{Decides, Passes}
+use Rattle.jsonwebtoken.specs.Order.{Decides, IsFirstFailed, Passes}
 use Rattle.jsonwebtoken.specs.Tests.{Call, Given, Test, HasThreeParts, HeaderIsPart, HeaderIsJson, HeaderReads, CritIsUnderstood, KeyIsFound, KeyAlgorithmAgrees, KeyIsUsable, AlgorithmsAreListed, AlgorithmIsListed, VerifierIsMade, FamiliesAgree, SignatureIsPart, SignatureIsAccepted, PayloadIsPart, PayloadIsJson, ClaimsRead, ClaimsAreAnObject, ClaimRulesHold, Contents, Condition, InSet, set_order, KeySource, key_of, message_of, token_tests}
+use Rattle.jsonwebtoken.specs.private_clauses.FailedAt.{StopsBy}
 use Rattle.jsonwebtoken.specs.private_clauses.Steps.{FailsAt, Step}
 use Rattle.jwt_header.specs.declared.header.Header.{Header}
 use Rattle.jsonwebtoken.proofs.Engine as engine
@@ -236,6 +237,9 @@ module _ {T : Type 0} (call : Call T) where
 
     pub decides : ((s t : Contents) (y : R) → Passes (token_tests call) order s → Passes (token_tests call) order t → shows s y → shows t y) → Decides (token_tests call) order shows r
     decides = engine.decides (token_tests call) (FailsAt call) (ready (is_given call.keys)) fails_for order sound shows r m
+
+  pub first_failed : (order : List Test) → is_sound (is_given call.keys) order ≡ true → (t : Contents) (c : Test) → StopsBy (token_tests call) (FailsAt call) order t c → IsFirstFailed (token_tests call) order c
+  first_failed = engine.first_failed (token_tests call) (FailsAt call) (ready (is_given call.keys)) fails_for
 
   -- the result does not depend on the contents
   pub same_answer : (order : List Test) → header_known order ≡ true → claims_known order ≡ true → {X : Type 0} (header : X → Header) (claims : X → Data → Type 0)

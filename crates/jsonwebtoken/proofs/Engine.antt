@@ -1,13 +1,13 @@
 -- For any tests of any contents: a failed walk is the first failed test, and contents that fail do
 -- not pass.
-use Rattle.std.proofs.Common.{◌≡◌, ◌⊎◌, ℕ, List, [], ◌∷◌, ◌++◌, Bool, true, false, ◌&&◌, ◌||◌, eqb, Some, slice_get, inl, inr, ⊎_elim, refl, sym, ap, ◌∙◌, Result, Ok, Err, IfOk, IfErr}
+use Rattle.std.proofs.Common.{◌≡◌, ◌⊎◌, ℕ, List, [], ◌∷◌, ◌++◌, Bool, true, false, ◌&&◌, ◌||◌, eqb, Some, slice_get, inl, inr, ⊎_elim, refl, sym, ap, subst, ◌∙◌, Result, Ok, Err, IfOk, IfErr}
 use Rattle.std.proofs.lemmas.Bool.{eqb-true}
 use Rattle.std.specs.Prelude.{MatchResult}
 use Rattle.jwt_base.specs.Kind.{Kind}
 use Rattle.jwt_base.specs.KindOf.{kind_of, IsMemory}
 use Rattle.jwt_base.specs.declared.errors.Error.{Error}
-use Rattle.jsonwebtoken.specs.Order.{Tests, Passes, FailsFirst, Decides}
-use Rattle.jsonwebtoken.specs.private_clauses.FailedAt.{FailedAt}
+use Rattle.jsonwebtoken.specs.Order.{Tests, Passes, IsFirstFailed, FailsFirst, Decides}
+use Rattle.jsonwebtoken.specs.private_clauses.FailedAt.{StopsAt, FailedAt, StopsBy}
 use Rattle.jsonwebtoken.specs.private_clauses.Steps.{Meets}
 
 pub both_true : (x y : Bool) → (x && y) ≡ true → (x ≡ true) × (y ≡ true)
@@ -69,32 +69,41 @@ module _ {Test Contents : Type 0} (tests : Tests Test Contents) where
   back [] b t p = p
   back (c ∷ a) b t p = back a b t p.1
 
+  pub not_passed : (order : List Test) (c : Test) → IsFirstFailed tests order c → (t : Contents) → Passes tests order t → ⊥
+  not_passed order c f t p =
+      let q = rw f.in_order at p in
+      f.fails t (front f.before (c ∷ f.after) t q) (back f.before (c ∷ f.after) t q).0
+
   module _ (FailsAt : Test → Contents → Type 0)
       (ready : Test → List Test → Bool)
       (fails_for : (b : List Test) (t s : Contents) → Passes tests b t → Passes tests b s → (c : Test) → ready c b ≡ true → FailsAt c t → tests.condition c s → ⊥) where
-    walk : (b order : List Test) (t : Contents) (k : Kind) → ready_from ready b order ≡ true → Passes tests b t → FailedAt tests FailsAt order t k
-        → FailsFirst tests (b ++ order) k
-    walk b [] t k e p f = absurd f
-    walk b (c ∷ cs) t k e p (inl (none, is)) = record {
-      before = b;
-      failed = c;
-      after = cs;
-      in_order = refl;
-      contents = t;
-      passed = p;
-      fails = λ s q h. fails_for b t s p q c (both_true (ready c b) (ready_from ready (b ++ c ∷ []) cs) e).0 none h;
-      kind = is;
-    }
-    walk b (c ∷ cs) t k e p (inr (h, f)) =
-        rw (append_test b c cs) at (walk (b ++ c ∷ []) cs t k (both_true (ready c b) (ready_from ready (b ++ c ∷ []) cs) e).1 (join b (c ∷ []) t p (h, tt)) f)
+    -- the first failed test of an order, which is like this
+    abbrev Found : (Test → Contents → Type 0) → List Test → Type 0
+    Found Is order = (c : Test) × (first : IsFirstFailed tests order c) × Is c first.contents
+
+    walk : (Is : Test → Contents → Type 0) (b order : List Test) (t : Contents) → ready_from ready b order ≡ true → Passes tests b t
+        → StopsAt tests FailsAt Is order t → Found Is (b ++ order)
+    walk Is b [] t e p f = absurd f
+    walk Is b (c ∷ cs) t e p (inl (none, is)) = (
+      c,
+      record {
+        before = b;
+        after = cs;
+        in_order = refl;
+        contents = t;
+        passed = p;
+        fails = λ s q h. fails_for b t s p q c (both_true (ready c b) (ready_from ready (b ++ c ∷ []) cs) e).0 none h;
+      },
+      is,
+    )
+    walk Is b (c ∷ cs) t e p (inr (h, f)) =
+        rw (append_test b c cs) at (walk Is (b ++ c ∷ []) cs t (both_true (ready c b) (ready_from ready (b ++ c ∷ []) cs) e).1 (join b (c ∷ []) t p (h, tt)) f)
 
     pub fails_first : (order : List Test) → is_well_ordered ready order ≡ true → (t : Contents) (k : Kind) → FailedAt tests FailsAt order t k → FailsFirst tests order k
-    fails_first order e t k f = walk [] order t k e tt f
+    fails_first order e t k f = let w = walk (λ c s. tests.has_kind c s k) [] order t e tt f in record { failed = w.0; first = w.1; kind = w.2 }
 
-    pub not_passed : (order : List Test) (k : Kind) → FailsFirst tests order k → (t : Contents) → Passes tests order t → ⊥
-    not_passed order k f t p =
-        let q = rw f.in_order at p in
-        f.fails t (front f.before (f.failed ∷ f.after) t q) (back f.before (f.failed ∷ f.after) t q).0
+    pub first_failed : (order : List Test) → is_well_ordered ready order ≡ true → (t : Contents) (c : Test) → StopsBy tests FailsAt order t c → IsFirstFailed tests order c
+    first_failed order e t c f = let w = walk (λ d _. d ≡ c) [] order t e tt f in subst (IsFirstFailed tests order) w.2 w.1
 
     -- a result of an order, as the clauses describe it
     module _ {R : Type 0} (order : List Test) (sound : is_well_ordered ready order ≡ true) (shows : Contents → R → Type 0) where
@@ -114,7 +123,7 @@ module _ {Test Contents : Type 0} (tests : Tests Test Contents) where
           → (t : Contents) → Passes tests order t → MatchResult r (λ y. shows t y) IsMemory
       exact (Ok y) m same t p = same m.0 t y m.1 p m.2
       exact (Err e) (inl m) same t p = m
-      exact (Err e) (inr (s, g)) same t p = absurd (not_passed order (kind_of e) (fails_first order sound s (kind_of e) g) t p)
+      exact (Err e) (inr (s, g)) same t p = let w = fails_first order sound s (kind_of e) g in absurd (not_passed order w.failed w.first t p)
 
       pub decides : (r : Result R Error) → Tells r → ((s t : Contents) (y : R) → Passes tests order s → Passes tests order t → shows s y → shows t y) → Decides tests order shows r
       decides r m same = record { accepted = accepted r m; exact = exact r m same; refused = refused r m }

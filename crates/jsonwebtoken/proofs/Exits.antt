@@ -10,8 +10,9 @@ use Rattle.jwt_header.specs.declared.header.Header.{Header}
 use Rattle.jwt_validation.specs.ClaimRules.{IsFault, IsRuleFault, missing, broken, RulesHold, Tells}
 use Rattle.jwt_validation.specs.Options.{Options}
 use Rattle.jsonwebtoken.specs.Order.{Passes}
-use Rattle.jsonwebtoken.specs.Tests.{Call, Parts, HasParts, key_of, Test, HasThreeParts, opening_tests, Contents, verifying_tests, ClaimsAreAnObject, ClaimRulesHold, token_tests}
-use Rattle.jsonwebtoken.specs.private_clauses.Steps.{Meets, Step, Failed, opening, with_parts, verifying_by}
+use Rattle.jsonwebtoken.specs.Tests.{Call, Parts, HasParts, key_of, Test, HasThreeParts, opening_tests, Contents, HasKind, verifying_tests, ClaimsAreAnObject, ClaimRulesHold, token_tests}
+use Rattle.jsonwebtoken.specs.private_clauses.FailedAt.{StopsAt}
+use Rattle.jsonwebtoken.specs.private_clauses.Steps.{Meets, FailsAt, Step, Failed, opening, with_parts, verifying_by}
 use Rattle.jsonwebtoken.proofs.Engine.{join}
 
 pub not_both : {K : Type 0} (r : Option K) (k : K) → r ≡ Some k → r ≡ None → ⊥
@@ -29,21 +30,35 @@ module _ {T R : Type 0} (call : Call T) (order : List Test) (at : Contents → C
   exit r e is f fault = let p = err_from_is_err_and r is in rw (p.1, p.2) (or_memory f fault)
 
 module _ {T : Type 0} (call : Call T) where
+  -- contents at which a test fails, which is like this
+  abbrev pub Stops : (Test → Contents → Type 0) → List Test → Contents → Type 0
+  Stops = StopsAt (token_tests call) (FailsAt call)
+
   -- the tests failed before these, or after those that hold
+  pub stops_early : (Is : Test → Contents → Type 0) (a b : List Test) (t : Contents) → Stops Is a t → Stops Is (a ++ b) t
+  stops_early Is [] b t f = absurd f
+  stops_early Is (c ∷ a) b t (inl f) = inl f
+  stops_early Is (c ∷ a) b t (inr (h, f)) = inr (h, stops_early Is a b t f)
+
+  pub stops_later : (Is : Test → Contents → Type 0) (a b : List Test) (t : Contents) → Passes (token_tests call) a t → Stops Is b t → Stops Is (a ++ b) t
+  stops_later Is [] b t p f = f
+  stops_later Is (c ∷ a) b t p f = inr (p.0, stops_later Is a b t p.1 f)
+
   pub early : (a b : List Test) (t : Contents) (k : Kind) → Failed call a t k → Failed call (a ++ b) t k
-  early [] b t k f = absurd f
-  early (c ∷ a) b t k (inl f) = inl f
-  early (c ∷ a) b t k (inr (h, f)) = inr (h, early a b t k f)
+  early a b t k = stops_early (λ c s. HasKind call c s k) a b t
 
   pub later : (a b : List Test) (t : Contents) (k : Kind) → Passes (token_tests call) a t → Failed call b t k → Failed call (a ++ b) t k
-  later [] b t k p f = f
-  later (c ∷ a) b t k p f = inr (p.0, later a b t k p.1 f)
+  later a b t k = stops_later (λ c s. HasKind call c s k) a b t
 
   -- Of an order: the tests a hold, and the tests b that follow failed. The rest of the order is
   -- computed.
+  pub stops : (Is : Test → Contents → Type 0) (order a b : List Test) (t : Contents) → Passes (token_tests call) a t → Stops Is b t
+      → (x : Contents) × Stops Is (a ++ (b ++ drop (length a + length b) order)) x
+  stops Is order a b t p f = (t, stops_later Is a (b ++ drop (length a + length b) order) t p (stops_early Is b (drop (length a + length b) order) t f))
+
   pub stop : (order a b : List Test) (t : Contents) (k : Kind) → Passes (token_tests call) a t → Failed call b t k
       → (x : Contents) × Failed call (a ++ (b ++ drop (length a + length b) order)) x k
-  stop order a b t k p f = (t, later a (b ++ drop (length a + length b) order) t k p (early b (drop (length a + length b) order) t k f))
+  stop order a b t k = stops (λ c s. HasKind call c s k) order a b t
 
   -- a last call, by its clauses on its result and on its refusal
   pub step_tail : {R : Type 0} (order : List Test) (at : Contents → Contents) (shows : Contents → R → Type 0) {P : R → Type 0} {Q : Error → Type 0} (r : Result R Error)
@@ -80,12 +95,16 @@ module _ {T : Type 0} (call : Call T) (parts : Parts) (h : Header) (o : (x : Con
   pub opened_then : (order : List Test) (n x : Contents) → Passes (token_tests call) (drop (length front) order) (opened n x) → Passes (token_tests call) (front ++ drop (length front) order) (opened n x)
   opened_then order n x p = join (token_tests call) front (drop (length front) order) (opened n x) (opened_passes n x) p
 
+  pub stops_opened : (Is : Test → Contents → Type 0) (order : List Test) (n x : Contents) → Stops call Is (drop (length front) order) (opened n x)
+      → (s : Contents) × Stops call Is (front ++ drop (length front) order) s
+  stops_opened Is order n x f = (opened n x, stops_later call Is front (drop (length front) order) (opened n x) (opened_passes n x) f)
+
   pub after_opened : (order : List Test) (n x : Contents) (k : Kind) → Failed call (drop (length front) order) (opened n x) k
       → (s : Contents) × Failed call (front ++ drop (length front) order) s k
-  after_opened order n x k f = (opened n x, later call front (drop (length front) order) (opened n x) k (opened_passes n x) f)
+  after_opened order n x k = stops_opened (λ c s. HasKind call c s k) order n x
 
 -- the claim rules never both hold and have a fault
-not_held : (v : Options) (d : Data) (now : ℕ) (k : Kind) → IsRuleFault v d now k → RulesHold v d now → ⊥
+pub not_held : (v : Options) (d : Data) (now : ℕ) (k : Kind) → IsRuleFault v d now k → RulesHold v d now → ⊥
 not_held v d now k (missing n is) held = held.required n is
 not_held v d now k (broken none r first) held = first.fails (held.rules r)
 

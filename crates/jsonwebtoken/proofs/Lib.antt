@@ -1,3 +1,4 @@
+pub mod AcceptedMoments
 pub mod Ascii
 pub mod Dots
 pub mod EachTest
@@ -5,7 +6,9 @@ pub mod Engine
 pub mod Exits
 pub mod Issued
 pub mod LawsOf
+pub mod Naming
 pub mod Repeats
 pub mod UniqueParts
 pub mod KnownParts
 pub mod Vouching
+pub mod Giving

@@ -1,11 +1,14 @@
+pub mod Accepted
 pub mod ByHmac
 pub mod Calls
 pub mod Crit
 pub mod Issue
 pub mod IssueCalls
+pub mod IssueGiven
 pub mod Jws
 pub mod Laws
 pub mod Order
+pub mod TestName
 pub mod Tests
 pub mod Vouched
 pub mod private_clauses
@@ -22,6 +25,7 @@ pub use Rattle.jwt_keys.specs.KeyOfJwk
 pub use Rattle.jwt_keys.specs.Provider
 pub use Rattle.jwt_crypto.specs.Hmac
 pub use Rattle.jwt_crypto.specs.HmacKeys
+pub use Rattle.jwt_crypto.specs.GivenSignature
 pub use Rattle.jwt_crypto.specs.Verdict
 pub use Rattle.jwt_header.specs.Header
 pub use Rattle.jwt_header.specs.HeaderWritten

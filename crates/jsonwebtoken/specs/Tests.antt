@@ -18,6 +18,8 @@ use Rattle.jwt_header.specs.Header.{ReadsHeader}
 use Rattle.jwt_validation.specs.Options.{Options, default_options}
 use Rattle.jsonwebtoken.specs.Order.{Tests}
 use Rattle.jwt_header.specs.declared.header.Header.{Header}
+pub use Rattle.jsonwebtoken.specs.declared.first_failed.Test.{Test}
+pub use Rattle.jsonwebtoken.specs.declared.first_failed.Test.TheVariants.{HasThreeParts, HeaderIsPart, HeaderIsJson, HeaderReads, CritIsUnderstood, KeyIsFound, KeyAlgorithmAgrees, KeyIsUsable, AlgorithmsAreListed, AlgorithmIsListed, VerifierIsMade, FamiliesAgree, SignatureIsPart, SignatureIsAccepted, PayloadIsPart, PayloadIsJson, ClaimsRead, ClaimsAreAnObject, ClaimRulesHold}
 
 -- ---- a token
 
@@ -87,27 +89,6 @@ pub record Call (T : Type 0) : Type 1 where
   pub reads : Data → T → Type 0
 
 -- ---- the tests
-
-pub data Test : Type 0 where
-  HasThreeParts : Test
-  HeaderIsPart : Test
-  HeaderIsJson : Test
-  HeaderReads : Test
-  CritIsUnderstood : Test
-  KeyIsFound : Test
-  KeyAlgorithmAgrees : Test
-  KeyIsUsable : Test
-  AlgorithmsAreListed : Test
-  AlgorithmIsListed : Test
-  VerifierIsMade : Test
-  FamiliesAgree : Test
-  SignatureIsPart : Test
-  SignatureIsAccepted : Test
-  PayloadIsPart : Test
-  PayloadIsJson : Test
-  ClaimsRead : Test
-  ClaimsAreAnObject : Test
-  ClaimRulesHold : Test
 
 -- the things that the tests speak of
 pub record Contents : Type 0 where

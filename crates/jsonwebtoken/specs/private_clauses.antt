@@ -3,3 +3,4 @@ pub mod FailedAt
 pub mod IssueSteps
 pub mod KnownHeaders
 pub mod Steps
+pub mod Stops

@@ -10,7 +10,7 @@ ghost use Rattle.jsonwebtoken.specs.private_clauses.Steps.{Step};
 ghost use Rattle.jsonwebtoken.specs.Tests.{Compact, header_order, decode_order, header_call, token_tests};
 
 pub(crate) mod crit;
-mod key_set;
+pub(crate) mod key_set;
 pub(crate) mod parts;
 pub(crate) mod steps;
 

@@ -1,22 +1,30 @@
 //! JSON Web Tokens (RFC 7519) in their compact form (RFC 7515).
 #![tactic(auto)]
 
+mod accepted_moments;
+mod by_signature;
 mod by_verdict;
 pub mod crypto;
 pub mod dangerous;
 mod decoding;
 mod encoding;
+mod first_failed;
 pub mod jwk;
 pub mod jws;
 mod known_headers;
 
+pub use accepted_moments::{first_and_last_moment, first_and_last_moment_with_set};
+pub use by_signature::{SigningInput, encode_by_signature, signing_input};
 pub use by_verdict::{SignedPart, decode_by_verdict, signed_part};
 pub use decoding::{TokenData, decode, decode_header, decode_with_set};
 pub use encoding::encode;
+pub use first_failed::{Test, failed_test, failed_test_with_set};
 pub use jwt_base::algorithms::{Algorithm, AlgorithmFamily};
 pub use jwt_base::text::{Text, Texts};
 pub use jwt_base::{errors, json};
 pub use jwt_header::{Enc, Extras, Header, Zip};
 pub use jwt_keys::decoding_key::{DecodingKey, DecodingKeyKind};
 pub use jwt_keys::encoding_key::EncodingKey;
-pub use jwt_validation::{Clock, Validation, get_current_timestamp, validate};
+pub use jwt_validation::{
+    Clock, Moments, Validation, claimed_moments, get_current_timestamp, validate,
+};

@@ -1,3 +1,4 @@
+pub mod GivenSignature
 pub mod Hmac
 pub mod HmacBlocks
 pub mod HmacHashers

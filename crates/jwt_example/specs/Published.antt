@@ -10,7 +10,7 @@ use Rattle.jwt_keys.specs.Key.{Key, key_family}
 use Rattle.jwt_keys.specs.Thumbprint.{digested, thumb_text}
 use Rattle.jwt_keys.specs.declared.jwk.Jwk.{Jwk}
 use Rattle.jwt_crypto.specs.Hmac.{hash_bytes}
-use Rattle.jwt_crypto.specs.HmacKeys.{hmac_answers}
+use Rattle.jwt_rsa.specs.RsaAnswers.{rsa_answers}
 use Rattle.jwt_crypto.specs.declared.hmac.Hash.TheVariants.{Sha256}
 
 -- the SHA-256 digest of the key's required members, or the kind of the refusal (RFC 7638 section 3)
@@ -31,7 +31,7 @@ pub record Publishes (a : Algorithm) (key : Key) (old new : List Jwk) : Type 0 w
   pub jwk : Jwk
   pub id : List ℕ
   pub is_public : key_family key ≢ family.Hmac
-  pub is_of_key : jwk_of_key hmac_answers (Some a) key ≡ Ok jwk
+  pub is_of_key : jwk_of_key rsa_answers (Some a) key ≡ Ok jwk
   pub is_thumbprint : IsThumbprintOf id jwk
   pub added : new ≡ old ++ under id jwk ∷ []
 
@@ -39,5 +39,5 @@ pub record Publishes (a : Algorithm) (key : Key) (old new : List Jwk) : Type 0 w
 -- no thumbprint
 abbrev pub IsNotPublished : Algorithm → Key → Kind → Type 0
 IsNotPublished a key k = ((key_family key ≡ family.Hmac) × (k ≡ kind.InvalidKeyFormat))
-    ⊎ ((jwk_of_key hmac_answers (Some a) key ≡ Err k)
-    ⊎ ((jwk : Jwk) × ((jwk_of_key hmac_answers (Some a) key ≡ Ok jwk) × (digest_of jwk ≡ Err k))))
+    ⊎ ((jwk_of_key rsa_answers (Some a) key ≡ Err k)
+    ⊎ ((jwk : Jwk) × ((jwk_of_key rsa_answers (Some a) key ≡ Ok jwk) × (digest_of jwk ≡ Err k))))

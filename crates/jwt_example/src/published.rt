@@ -7,10 +7,10 @@ ghost use Rattle.jwt_base.specs.declared.algorithms.AlgorithmFamily.TheVariants 
 ghost use Rattle.jwt_keys.specs.Key.{key_family};
 ghost use Rattle.jwt_example.specs.Published.{Publishes, IsNotPublished, under};
 
-use jsonwebtoken::crypto::hmac::HmacProvider;
 use jsonwebtoken::errors::{ErrorKind, Result, new_error};
 use jsonwebtoken::jwk::{Jwk, JwkSet, ThumbprintHash};
 use jsonwebtoken::{Algorithm, AlgorithmFamily, DecodingKey, Text};
+use jwt_standard::StandardProvider;
 use std::alloc::Global;
 
 /// Adds a public key to the set, for this algorithm, with its thumbprint by SHA-256 as its id. A
@@ -27,8 +27,8 @@ pub fn publish(
     ensures unchanged { IfErr result (λ _. set.new.keys.items ≡ set.old.keys.items) }
 {
     refuse_secret(key)?;
-    let mut jwk = Jwk::from_decoding_key(alloc, &HmacProvider, key, Some(algorithm))?;
-    let thumbprint = jwk.thumbprint(alloc, &HmacProvider, ThumbprintHash::SHA256)?;
+    let mut jwk = Jwk::from_decoding_key(alloc, &StandardProvider, key, Some(algorithm))?;
+    let thumbprint = jwk.thumbprint(alloc, &StandardProvider, ThumbprintHash::SHA256)?;
     name(&mut jwk, Text::from(thumbprint));
     set.keys.push(jwk)?;
     Ok(())

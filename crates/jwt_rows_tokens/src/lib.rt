@@ -2,12 +2,14 @@
 #![tactic(auto)]
 
 mod by_provider;
+mod failed_tests;
 mod hmac;
 mod issued_tokens;
 mod jwks_of_keys;
 mod key_bytes;
 mod key_files;
 mod keys_of_jwks;
+mod moments;
 mod prepared;
 mod prepared_rsa;
 mod signatures;
@@ -16,6 +18,7 @@ mod thumbprints;
 mod token_parts;
 mod tokens;
 mod tokens_by_set;
+mod tokens_by_signature;
 mod tokens_by_verdict;
 mod unverified_tokens;
 
@@ -43,6 +46,9 @@ fn of_keys(call: &str, row: Row<'_>, trial: &mut Trial) -> Found {
 }
 
 fn of_tokens(call: &str, row: Row<'_>, trial: &mut Trial) -> Found {
+    if let Some(answer) = tokens_by_signature::answer(call, row, trial)? {
+        return Ok(Some(answer));
+    }
     if let Some(answer) = tokens_by_verdict::answer(call, row, trial)? {
         return Ok(Some(answer));
     }

@@ -24,8 +24,8 @@ pub fn answer<P: CryptoProvider>(
     }
 }
 
-// Returns the set at `set`.
-fn key_set(row: Row<'_>) -> Result<Box<JwkSet>, Fault> {
+/// Returns the set at `set`.
+pub fn key_set(row: Row<'_>) -> Result<Box<JwkSet>, Fault> {
     let set = JwkSet::from_value(row.alloc(), row.value("set")?)?;
     Ok(Box::new(row.alloc(), set)?)
 }

@@ -5,9 +5,11 @@ mod check;
 mod claims;
 mod clock;
 mod from_json;
+mod interval;
 mod rules;
 mod validation;
 
 pub use check::validate;
 pub use clock::{Clock, get_current_timestamp};
+pub use interval::{Moments, claimed_moments};
 pub use validation::Validation;

@@ -1,10 +1,18 @@
 -- The contents at which a test of an order fails.
-use Rattle.std.specs.Prelude.{◌⊎◌, List, [], ◌∷◌}
+use Rattle.std.specs.Prelude.{◌≡◌, ◌⊎◌, List, [], ◌∷◌}
 use Rattle.jwt_base.specs.Kind.{Kind}
 use Rattle.jsonwebtoken.specs.Order.{Tests}
 
 module _ {Test Contents : Type 0} (tests : Tests Test Contents) (FailsAt : Test → Contents → Type 0) where
-  -- these contents pass the tests up to one that fails at them, with this kind
+  -- these contents pass the tests up to one that fails at them, which is like this
+  abbrev pub StopsAt : (Test → Contents → Type 0) → List Test → Contents → Type 0
+  StopsAt Is [] t = ⊥
+  StopsAt Is (c ∷ cs) t = (FailsAt c t × Is c t) ⊎ (tests.condition c t × StopsAt Is cs t)
+
+  -- up to one that fails with this kind
   abbrev pub FailedAt : List Test → Contents → Kind → Type 0
-  FailedAt [] t k = ⊥
-  FailedAt (c ∷ cs) t k = (FailsAt c t × tests.has_kind c t k) ⊎ (tests.condition c t × FailedAt cs t k)
+  FailedAt order t k = StopsAt (λ c s. tests.has_kind c s k) order t
+
+  -- up to this one
+  abbrev pub StopsBy : List Test → Contents → Test → Type 0
+  StopsBy order t f = StopsAt (λ c _. c ≡ f) order t

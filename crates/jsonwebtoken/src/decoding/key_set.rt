@@ -27,7 +27,7 @@ use std::alloc::Global;
 
 /// Returns the first key of the set with the header's `kid`. If the header has none, or no key has
 /// it, the refusal is `NoKey`.
-fn find_key<'k>(set: &'k JwkSet, header: &Header) -> Result<&'k Jwk>
+pub(crate) fn find_key<'k>(set: &'k JwkSet, header: &Header) -> Result<&'k Jwk>
     ensures ok { IfOk result (λ k. named_key set.now.keys.items header.now ≡ Some k.now) }
     ensures err { IfErr result (λ e. (kind_of e ≡ kind.NoKey)
         × (named_key set.now.keys.items header.now ≡ None)) }
@@ -39,7 +39,7 @@ fn find_key<'k>(set: &'k JwkSet, header: &Header) -> Result<&'k Jwk>
 }
 
 /// Refuses with `InvalidAlgorithm` a key that is for another algorithm (RFC 7517 section 4.4).
-fn check_key_algorithm(jwk: &Jwk, algorithm: Algorithm) -> Result<()>
+pub(crate) fn check_key_algorithm(jwk: &Jwk, algorithm: Algorithm) -> Result<()>
     ensures { AsksFor (AgreesWith algorithm jwk.now) (λ k. k ≡ kind.InvalidAlgorithm) result }
 {
     match jwk.common.key_algorithm {

@@ -1,0 +1,81 @@
+//! The moments at which a token is accepted.
+
+ghost use Rattle.std.specs.Prelude.{◌≡◌};
+ghost use Rattle.jwt_validation.specs.OptionsOf.{options_of};
+ghost use Rattle.jsonwebtoken.specs.Accepted.{FindsMoments};
+ghost use Rattle.jsonwebtoken.specs.Calls.{decoding, decoding_by_set};
+ghost use Rattle.jsonwebtoken.specs.private_clauses.Stops.{StepNaming, AreClaimed, value_tests};
+ghost use Rattle.jsonwebtoken.specs.Tests.{decode_order, set_order, header_call};
+
+use crate::decoding::steps::token_parts;
+use crate::first_failed::steps::{Stop, or_stop};
+use crate::first_failed::{Test, failed_test, failed_test_with_set};
+use jwt_base::errors::Result;
+use jwt_base::json::Claims;
+use jwt_base::serialization::{json_value, part_bytes};
+use jwt_keys::decoding_key::DecodingKey;
+use jwt_keys::jwk_set::JwkSet;
+use jwt_keys::provider::CryptoProvider;
+use jwt_validation::{Moments, Validation, claimed_moments};
+use std::alloc::Global;
+
+/// Returns the moments that the claims of a token allow, whatever else holds of it.
+fn claimed(alloc: Global, token: &[u8], validation: &Validation) -> Result<Moments, Stop>
+    ensures { StepNaming (header_call token.now) value_tests (λ x. x)
+        (AreClaimed (options_of validation.now)) result }
+{
+    let parts = or_stop(token_parts(token), Test::HasThreeParts)?;
+    let bytes = or_stop(part_bytes(alloc, parts.payload), Test::PayloadIsPart)?;
+    let value = or_stop(json_value(alloc, bytes.as_slice()), Test::PayloadIsJson)?;
+    Ok(claimed_moments(&value, validation))
+}
+
+/// Returns the first and the last moment at which [`decode`](crate::decode) accepts the token with
+/// these arguments, in whole seconds since 1970-01-01 00:00:00 UTC, or `None` if it accepts the
+/// token at no moment. It is accepted at all moments from the first to the last, and at no other
+/// (RFC 7519 sections 4.1.4 and 4.1.5). The only refusal is `OutOfMemory`.
+pub fn first_and_last_moment<P: CryptoProvider, T: Claims>(
+    alloc: Global,
+    provider: &P,
+    token: &[u8],
+    key: &DecodingKey,
+    validation: &Validation,
+) -> Result<Option<Moments>>
+    ensures { let call = decoding P.CryptoProvider T.Claims
+        provider.now token.now key.now validation.now 0 in
+        FindsMoments call decode_order result }
+{
+    let moments = match claimed(alloc, token, validation) {
+        Ok(moments) => moments,
+        Err(Stop::Failed(_)) => return Ok(None),
+        Err(Stop::Memory(error)) => return Err(error),
+    };
+    match failed_test::<P, T>(alloc, provider, token, key, validation, moments.first)? {
+        None => Ok(Some(moments)),
+        Some(_) => Ok(None),
+    }
+}
+
+/// Returns the first and the last moment at which [`decode_with_set`](crate::decode_with_set)
+/// accepts the token with these arguments, like [`first_and_last_moment`].
+pub fn first_and_last_moment_with_set<P: CryptoProvider, T: Claims>(
+    alloc: Global,
+    provider: &P,
+    token: &[u8],
+    set: &JwkSet,
+    validation: &Validation,
+) -> Result<Option<Moments>>
+    ensures { let call = decoding_by_set P.CryptoProvider T.Claims
+        provider.now token.now set.now.keys.items validation.now 0 in
+        FindsMoments call set_order result }
+{
+    let moments = match claimed(alloc, token, validation) {
+        Ok(moments) => moments,
+        Err(Stop::Failed(_)) => return Ok(None),
+        Err(Stop::Memory(error)) => return Err(error),
+    };
+    match failed_test_with_set::<P, T>(alloc, provider, token, set, validation, moments.first)? {
+        None => Ok(Some(moments)),
+        Some(_) => Ok(None),
+    }
+}

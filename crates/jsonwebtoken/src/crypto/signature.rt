@@ -1,0 +1,3 @@
+//! A signature that other cryptography has made, as a provider.
+
+pub use jwt_crypto::{GivenSigner, NoVerifier, SignatureProvider};
