@@ -1,6 +1,6 @@
 /* Tests of the calls for C, from C. The last line counts. Tokens signed by HMAC are worked examples, or were signed by
    Python's hmac; those of keys.h are from rows; the others are made here and accepted by a verdict. */
-#include "jwt.h"
+#include "jwtproved.h"
 #include "keys.h"
 #include <malloc.h>
 #include <pthread.h>
@@ -560,6 +560,104 @@ static void issued(void) {
     is("a token's length", a.len, strlen(NAMED));
 }
 
+/* ---- tokens whose signature is made elsewhere */
+
+#define BY_CURVE_HEADER "{\"alg\":\"ES256\",\"typ\":\"JWT\"}"
+#define BY_CURVE_CLAIMS "{\"exp\":940}"
+#define BY_CURVE_MESSAGE "eyJhbGciOiJFUzI1NiIsInR5cCI6IkpXVCJ9.eyJleHAiOjk0MH0"
+/* 64 letters, and their text */
+#define LETTERS "aaaaaaaaaaaaaaaaaaaaaaaaaaaaaaaaaaaaaaaaaaaaaaaaaaaaaaaaaaaaaaaa"
+#define LETTERS_PART "YWFhYWFhYWFhYWFhYWFhYWFhYWFhYWFhYWFhYWFhYWFhYWFhYWFhYWFhYWFhYWFhYWFhYWFhYWFhYWFhYWFhYQ"
+
+static struct answer by_signature(const char *header, const char *claims, uint32_t algorithm, const char *message,
+                                  const char *signature) {
+    struct answer a = fresh();
+    a.status = jwt_encode_signature(BYTES(header), BYTES(claims), algorithm, BYTES(message), BYTES(signature), a.room, ROOM,
+                                    &a.len);
+    return a;
+}
+
+static void signing_inputs(void) {
+    uint32_t algorithm = 99;
+    struct answer a = fresh();
+    a.status = jwt_signing_input(BYTES(BY_CURVE_HEADER), BYTES(BY_CURVE_CLAIMS), &algorithm, a.room, ROOM, &a.len);
+    is("a message to be signed", gives(&a, BY_CURVE_MESSAGE), 1);
+    is("its algorithm", algorithm, JWT_ES256);
+    a = fresh(), algorithm = 99;
+    a.status = jwt_signing_input(BYTES(BY_CURVE_HEADER), BYTES(BY_CURVE_CLAIMS), &algorithm, a.room, 10, &a.len);
+    is("a buffer too small for a message", status_of(&a), JWT_NO_ROOM);
+    is("the message's length", a.len, strlen(BY_CURVE_MESSAGE));
+    is("the algorithm all the same", algorithm, JWT_ES256);
+    static const struct {
+        const char *header, *claims;
+        uint32_t status;
+    } refused[] = {{"{}", "[]", JWT_BAD_HEADER},
+                   {BY_CURVE_HEADER, "[]", JWT_BAD_CLAIMS},
+                   {BY_CURVE_HEADER, "{\"a\":1.5}", JWT_JSON}};
+    for (size_t i = 0; i < 3; i++) {
+        a = fresh(), algorithm = 99;
+        a.status = jwt_signing_input(BYTES(refused[i].header), BYTES(refused[i].claims), &algorithm, a.room, ROOM, &a.len);
+        is("no message to be signed", status_of(&a), refused[i].status);
+        is("the algorithm of no message", algorithm, 0);
+    }
+}
+
+static void issued_by_signature(void) {
+    struct answer a = by_signature(BY_CURVE_HEADER, BY_CURVE_CLAIMS, JWT_ES256, BY_CURVE_MESSAGE, LETTERS);
+    is("a token with a given signature", gives(&a, BY_CURVE_MESSAGE "." LETTERS_PART), 1);
+    static const struct {
+        const char *header, *claims;
+        uint32_t algorithm;
+        const char *message, *signature;
+        uint32_t status;
+    } refused[] = {
+        {BY_CURVE_HEADER, BY_CURVE_CLAIMS, JWT_ES256, BY_CURVE_MESSAGE, LETTERS "a", JWT_SIGNING},
+        {BY_CURVE_HEADER, BY_CURVE_CLAIMS, JWT_ES256, BY_CURVE_MESSAGE, "", JWT_SIGNING},
+        {BY_CURVE_HEADER, "{\"exp\":941}", JWT_ES256, BY_CURVE_MESSAGE, LETTERS, JWT_SIGNING},
+        {"{\"alg\":\"ES256\"}", BY_CURVE_CLAIMS, JWT_ES256, BY_CURVE_MESSAGE, LETTERS, JWT_SIGNING},
+        {BY_CURVE_HEADER, BY_CURVE_CLAIMS, JWT_ES384, BY_CURVE_MESSAGE, LETTERS, JWT_INVALID_ALGORITHM},
+        {BY_CURVE_HEADER, BY_CURVE_CLAIMS, JWT_EDDSA, BY_CURVE_MESSAGE, LETTERS, JWT_INVALID_ALGORITHM},
+        {BY_CURVE_HEADER, "{\"a\":1.5}", JWT_ES256, BY_CURVE_MESSAGE, LETTERS, JWT_JSON},
+        {BY_CURVE_HEADER, "[]", JWT_ES256, BY_CURVE_MESSAGE, LETTERS, JWT_BAD_CLAIMS},
+        {"{}", "[]", JWT_ES256, BY_CURVE_MESSAGE, LETTERS, JWT_BAD_HEADER},
+        {"{}", "[]", 0, BY_CURVE_MESSAGE, LETTERS, JWT_INVALID_ALGORITHM_NAME},
+        {"{}", "[]", 13, BY_CURVE_MESSAGE, LETTERS, JWT_INVALID_ALGORITHM_NAME},
+    };
+    for (size_t i = 0; i < sizeof refused / sizeof *refused; i++) {
+        a = by_signature(refused[i].header, refused[i].claims, refused[i].algorithm, refused[i].message, refused[i].signature);
+        is("no token with a given signature", status_of(&a), refused[i].status);
+    }
+}
+
+static struct answer numbers_of(const uint8_t *der, size_t len, uint32_t algorithm, size_t room) {
+    struct answer a = fresh();
+    a.status = jwt_ecdsa_signature(der, len, algorithm, a.room, room, &a.len);
+    return a;
+}
+
+static void pairs(void) {
+    /* the numbers 1 and 255 (ITU-T X.690 section 8.3), and a 0 too many before the first */
+    static const uint8_t der[] = {0x30, 7, 2, 1, 1, 2, 2, 0, 255}, longer[] = {0x30, 8, 2, 2, 0, 1, 2, 2, 0, 255};
+    struct answer a = numbers_of(der, sizeof der, JWT_ES256, ROOM);
+    is("two numbers", status_of(&a), JWT_OK);
+    is("their length", a.len, 64);
+    is("the first and the second", a.room[31] == 1 && a.room[63] == 255 && a.room[0] == 0 && a.room[62] == 0, 1);
+    a = numbers_of(der, sizeof der, JWT_ES384, ROOM);
+    is("their length by ES384", a.len, 96);
+    a = numbers_of(der, sizeof der, JWT_ES256, 63);
+    is("a buffer too small for two numbers", status_of(&a), JWT_NO_ROOM);
+    a = numbers_of(longer, sizeof longer, JWT_ES256, ROOM);
+    is("a 0 too many", status_of(&a), JWT_INVALID_SIGNATURE);
+    a = numbers_of(der, sizeof der - 1, JWT_ES256, ROOM);
+    is("numbers cut short", status_of(&a), JWT_INVALID_SIGNATURE);
+    a = numbers_of(NULL, 0, JWT_ES256, ROOM);
+    is("no numbers", status_of(&a), JWT_INVALID_SIGNATURE);
+    a = numbers_of(der, sizeof der, JWT_RS256, ROOM);
+    is("two numbers by RS256", status_of(&a), JWT_INVALID_ALGORITHM);
+    a = numbers_of(der, sizeof der, 0, ROOM);
+    is("two numbers by no algorithm", status_of(&a), JWT_INVALID_ALGORITHM_NAME);
+}
+
 static struct answer thumbprint(const char *key, uint32_t bits) {
     struct answer a = fresh();
     a.status = jwt_thumbprint(BYTES(key), bits, a.room, ROOM, &a.len);
@@ -692,6 +790,212 @@ static void nesting(void) {
     is("options of 128 levels", hmac(TOKEN, "secret", nested("aud", 128), LAST), JWT_BAD_OPTIONS);
 }
 
+/* ---- the first test that fails, and the moments at which a token is accepted */
+
+/* signed by Python's hmac with the secret "secret": a payload that is no part, no JSON and no object; no claims; an exp and an nbf,
+   in both orders; the greatest exp */
+#define HS256 "eyJhbGciOiJIUzI1NiJ9"
+#define NO_PART HS256 ".e30=.NcAGCHOVW_-rw9FPyaOV6cJ902LwwkC0GZk7GERxKgA"
+#define NO_JSON HS256 ".ew.XRlHx4Bzpht9oK-XmSaCubx8ZChCNflb30xYD8BG-n0"
+#define NO_OBJECT HS256 ".W10.tYdGHAF7YBfiFrnqtcsM-PIsGDradtWY3a2xM-xQiN8"
+#define NO_CLAIMS HS256 ".e30.XmNK3GpH3Ys_7wsYBfq4C3M6goz71I7dTgUkuIa5lyQ"
+#define FROM_1000_TO_2000 HS256 ".eyJleHAiOjIwMDAsIm5iZiI6MTAwMH0.IheWuM0icGboaAhSNH2zUM82Rtx8aMnINxWx3gA8ahk"
+#define FROM_2000_TO_1000 HS256 ".eyJleHAiOjEwMDAsIm5iZiI6MjAwMH0.gQ485viUWWpSiwwZqYNacsKczSeUPgwpGkoEN1_Z7Q8"
+#define TO_THE_GREATEST HS256 ".eyJleHAiOjE4NDQ2NzQ0MDczNzA5NTUxNjE1fQ.r9n6bEgfkKtyPKHGungLm-fDrFPurC8XD9pxNaUJUM4"
+#define NOT_REQUIRED "{\"algorithms\":[\"HS256\"],\"required_spec_claims\":[]"
+/* a key set with the secret under the id of NAMED, and another member */
+#define SET_WITH(member) "{\"keys\":[{\"kty\":\"oct\",\"kid\":\"b\"," member "\"k\":\"c2VjcmV0\"}]}"
+
+/* the calls by a secret, by a key and by a set, which are given alike */
+typedef uint32_t decode_call(const uint8_t *, size_t, const uint8_t *, size_t, const uint8_t *, size_t, uint64_t, uint8_t *, size_t,
+                             size_t *);
+typedef uint32_t moments_call(const uint8_t *, size_t, const uint8_t *, size_t, const uint8_t *, size_t, uint64_t *, uint64_t *);
+static const struct calls {
+    decode_call *decode, *failed_test;
+    moments_call *moments;
+} by_secret_calls = {jwt_decode_hmac, jwt_failed_test_hmac, jwt_moments_hmac},
+  by_key_calls = {jwt_decode_key, jwt_failed_test_key, jwt_moments_key},
+  by_set_calls = {jwt_decode_set, jwt_failed_test_set, jwt_moments_set};
+
+static struct answer answer_of(decode_call *call, const char *token, const char *key, const char *options, uint64_t now,
+                               size_t room) {
+    struct answer a = fresh();
+    a.status = call(BYTES(token), BYTES(key), BYTES(options), now, a.room, room, &a.len);
+    return a;
+}
+
+/* whether the first failed test has this name; if it is empty, the call that decodes accepts, else it refuses */
+static void fails(const struct calls *by, const char *token, const char *key, const char *options, uint64_t now, const char *name) {
+    struct answer a = answer_of(by->failed_test, token, key, options, now, ROOM);
+    is(*name ? name : "no test fails", gives(&a, name), 1);
+    a = answer_of(by->decode, token, key, options, now, ROOM);
+    is("whether it is accepted", status_of(&a) == JWT_OK, *name == 0);
+}
+
+/* whether the moments and the status are these; at the first and the last one the call accepts, and beside them it does not */
+static void lasts(const struct calls *by, const char *token, const char *key, const char *options, uint32_t status, uint64_t first,
+                  uint64_t last) {
+    uint64_t got_first = 5, got_last = 4;
+    is("the status of moments", by->moments(BYTES(token), BYTES(key), BYTES(options), &got_first, &got_last), status);
+    is("the first moment", got_first == first, 1);
+    is("the last moment", got_last == last, 1);
+    if (status != JWT_OK) return;
+    struct answer a = answer_of(by->decode, token, key, options, first, ROOM);
+    is("at the first moment", status_of(&a) == JWT_OK, first <= last);
+    a = answer_of(by->decode, token, key, options, last, ROOM);
+    is("at the last moment", status_of(&a) == JWT_OK, first <= last);
+    if (first != 0) {
+        a = answer_of(by->decode, token, key, options, first - 1, ROOM);
+        is("before the first moment", status_of(&a) != JWT_OK, 1);
+    }
+    if (last != UINT64_MAX) {
+        a = answer_of(by->decode, token, key, options, last + 1, ROOM);
+        is("after the last moment", status_of(&a) != JWT_OK, 1);
+    }
+}
+
+static void failed_tests(void) {
+    static const struct {
+        const char *token, *secret, *options;
+        uint64_t now;
+        const char *name;
+    } rows[] = {
+        {TOKEN, "secret", OPTIONS, LAST, ""},
+        {TOKEN, "secret", OPTIONS, LAST + 1, "ClaimRulesHold"},
+        {TOKEN, "Secret", OPTIONS, LAST, "SignatureIsAccepted"},
+        {TOKEN, "Secret", OPTIONS, LAST + 1, "SignatureIsAccepted"},
+        {"", "secret", OPTIONS, LAST, "HasThreeParts"},
+        {"e30.e30", "secret", OPTIONS, LAST, "HasThreeParts"},
+        {"e30=.e30.", "secret", OPTIONS, LAST, "HeaderIsPart"},
+        {"_w.e30.", "secret", OPTIONS, LAST, "HeaderIsJson"},
+        {"e30.e30.", "secret", OPTIONS, LAST, "HeaderReads"},
+        /* the header {"alg":"HS256","crit":["x"],"x":1} */
+        {"eyJhbGciOiJIUzI1NiIsImNyaXQiOlsieCJdLCJ4IjoxfQ.e30.", "secret", OPTIONS, LAST, "CritIsUnderstood"},
+        {TOKEN, "secret", "{}", LAST, "AlgorithmsAreListed"},
+        {TOKEN, "secret", "{\"algorithms\":[\"HS384\"]}", LAST, "AlgorithmIsListed"},
+        /* the header {"alg":"ES256"} */
+        {"eyJhbGciOiJFUzI1NiJ9.e30.", "secret", "{\"algorithms\":[\"ES256\"]}", LAST, "VerifierIsMade"},
+        {TOKEN, "secret", "{\"algorithms\":[\"HS256\",\"RS256\"]}", LAST, "FamiliesAgree"},
+        {HS256 ".e30.Y", "secret", OPTIONS, LAST, "SignatureIsPart"},
+        {NO_PART, "secret", OPTIONS, LAST, "PayloadIsPart"},
+        {NO_JSON, "secret", OPTIONS, LAST, "PayloadIsJson"},
+        {NO_OBJECT, "secret", OPTIONS, LAST, "ClaimsAreAnObject"},
+        {NO_CLAIMS, "secret", OPTIONS, LAST, "ClaimRulesHold"},
+        {NO_CLAIMS, "secret", NOT_REQUIRED "}", LAST, ""},
+    };
+    for (size_t i = 0; i < sizeof rows / sizeof *rows; i++)
+        fails(&by_secret_calls, rows[i].token, rows[i].secret, rows[i].options, rows[i].now, rows[i].name);
+    for (size_t room = 0; room <= 32; room++) {
+        struct answer a = answer_of(jwt_failed_test_hmac, TOKEN, "Secret", OPTIONS, LAST, room);
+        is("a name's buffer", status_of(&a), room < 19 ? JWT_NO_ROOM : JWT_OK);
+        is("a name's length", a.len, 19);
+    }
+    struct answer a = fresh();
+    is("no name and no buffer",
+       jwt_failed_test_hmac(BYTES(TOKEN), BYTES("secret"), BYTES(OPTIONS), LAST, NULL, 0, &a.len), JWT_OK);
+    is("the length of no name", a.len, 0);
+    is("a token by a null pointer, whose test fails",
+       jwt_failed_test_hmac(NULL, 0, BYTES("secret"), BYTES(OPTIONS), LAST, a.room, ROOM, &a.len), JWT_OK);
+    is("the length of its name", a.len, strlen("HasThreeParts"));
+}
+
+static void failed_tests_by_keys(void) {
+    for (size_t i = 0; i < ALL; i++) {
+        const char *token = by_all[i].token, *one = by_all[i].key, *options = by_all[i].options;
+        fails(&by_key_calls, token, one, options, LAST, "");
+        fails(&by_set_calls, token, ALL_KEYS, options, LAST, "");
+        fails(&by_key_calls, token, one, options, LAST + 1, "ClaimRulesHold");
+        fails(&by_set_calls, token, ALL_KEYS, options, LAST + 1, "ClaimRulesHold");
+        fails(&by_key_calls, tampered(token, 0), one, options, LAST, "SignatureIsAccepted");
+        fails(&by_set_calls, tampered(token, 0), ALL_KEYS, options, LAST, "SignatureIsAccepted");
+        fails(&by_key_calls, token, by_all[(i + 3) % ALL].key, options, LAST, "VerifierIsMade");
+        lasts(&by_key_calls, token, one, options, JWT_OK, 0, LAST);
+        lasts(&by_set_calls, token, ALL_KEYS, options, JWT_OK, 0, LAST);
+        lasts(&by_key_calls, tampered(token, 0), one, options, JWT_OK, 1, 0);
+        lasts(&by_set_calls, tampered(token, 0), ALL_KEYS, options, JWT_OK, 1, 0);
+    }
+    static const struct {
+        const char *token, *set, *name;
+    } rows[] = {
+        {NAMED, SET, ""},
+        {TOKEN, SET, "KeyIsFound"},
+        {NAMED, "{\"keys\":[]}", "KeyIsFound"},
+        {NAMED, SET_WITH("\"alg\":\"HS256\","), ""},
+        {NAMED, SET_WITH("\"alg\":\"HS512\","), "KeyAlgorithmAgrees"},
+        {NAMED, "{\"keys\":[{\"kty\":\"oct\",\"kid\":\"b\",\"k\":\"*\"}]}", "KeyIsUsable"},
+        {NAMED, "{\"keys\":[{\"kty\":\"oct\",\"kid\":\"b\",\"k\":\"AAAA\"}]}", "SignatureIsAccepted"},
+        {"a", SET, "HasThreeParts"},
+    };
+    for (size_t i = 0; i < sizeof rows / sizeof *rows; i++)
+        fails(&by_set_calls, rows[i].token, rows[i].set, OPTIONS, LAST, rows[i].name);
+    struct answer a = answer_of(jwt_failed_test_set, TOKEN, SET, OPTIONS, LAST, 9);
+    is("a buffer too small for a name by a set", status_of(&a), JWT_NO_ROOM);
+    is("the length that it needs", a.len, strlen("KeyIsFound"));
+    a = answer_of(jwt_failed_test_key, tampered(BY_HS256, 0), HMAC_KEY, OPTIONS, LAST, 18);
+    is("a buffer too small for a name by a key", status_of(&a), JWT_NO_ROOM);
+    is("the length that it needs by a key", a.len, strlen("SignatureIsAccepted"));
+}
+
+static void moments(void) {
+    static const struct {
+        const char *token, *secret, *options;
+        uint64_t first, last;
+    } rows[] = {
+        {TOKEN, "secret", OPTIONS, 0, LAST},
+        {TOKEN, "secret", "{\"algorithms\":[\"HS256\"],\"leeway\":0}", 0, LAST - 60},
+        {TOKEN, "secret", "{\"algorithms\":[\"HS256\"],\"reject_tokens_expiring_in_less_than\":10}", 0, LAST - 10},
+        {TOKEN, "Secret", OPTIONS, 1, 0},
+        {TOKEN, "secret", "{\"algorithms\":[\"HS256\"],\"sub\":\"s\"}", 1, 0},
+        {TOKEN, "secret", "{\"algorithms\":[\"HS256\"],\"required_spec_claims\":[\"exp\",\"iss\"]}", 1, 0},
+        {TOKEN, "secret", "{}", 1, 0},
+        {"", "secret", OPTIONS, 1, 0},
+        {NO_JSON, "secret", OPTIONS, 1, 0},
+        {FROM_1000_TO_2000, "secret", NOT_REQUIRED ",\"validate_nbf\":true}", 940, 2060},
+        {FROM_1000_TO_2000, "secret", NOT_REQUIRED ",\"validate_nbf\":true,\"leeway\":2000}", 0, 4000},
+        {FROM_1000_TO_2000, "secret", NOT_REQUIRED ",\"validate_exp\":false}", 0, UINT64_MAX},
+        {FROM_2000_TO_1000, "secret", NOT_REQUIRED ",\"validate_nbf\":true}", 1, 0},
+        {FROM_2000_TO_1000, "secret", NOT_REQUIRED ",\"validate_nbf\":true,\"leeway\":500}", 1500, 1500},
+        {TO_THE_GREATEST, "secret", OPTIONS, 0, UINT64_MAX},
+        {NO_CLAIMS, "secret", OPTIONS, 1, 0},
+        {NO_CLAIMS, "secret", NOT_REQUIRED "}", 0, UINT64_MAX},
+    };
+    for (size_t i = 0; i < sizeof rows / sizeof *rows; i++)
+        lasts(&by_secret_calls, rows[i].token, rows[i].secret, rows[i].options, JWT_OK, rows[i].first, rows[i].last);
+    lasts(&by_set_calls, NAMED, SET, OPTIONS, JWT_OK, 0, LAST);
+    lasts(&by_set_calls, TOKEN, SET, OPTIONS, JWT_OK, 1, 0);
+}
+
+/* texts that could not be read, and keys of which none is made, have the status of the call that decodes */
+static void tests_of_misread_texts(void) {
+    static const struct {
+        const struct calls *by;
+        const char *token, *key, *options;
+        uint32_t status;
+    } rows[] = {
+        {&by_secret_calls, TOKEN, "secret", "{", JWT_BAD_OPTIONS},
+        {&by_secret_calls, "a", "", "", JWT_BAD_OPTIONS},
+        {&by_key_calls, BY_HS256, HMAC_KEY, "[]", JWT_BAD_OPTIONS},
+        {&by_key_calls, "a", "", "", JWT_BAD_OPTIONS},
+        {&by_key_calls, "a", "", OPTIONS, JWT_BAD_KEY},
+        {&by_key_calls, BY_HS256, BY_HS256, OPTIONS, JWT_BAD_KEY},
+        {&by_key_calls, BY_HS256, "{\"kty\":\"oct\",\"k\":\"c2VjcmV0\",\"use\":1}", OPTIONS, JWT_BAD_KEY},
+        {&by_key_calls, "a", "{}", OPTIONS, JWT_UNSUPPORTED_ALGORITHM},
+        {&by_key_calls, BY_HS256, "{\"kty\":\"oct\"}", OPTIONS, JWT_UNSUPPORTED_ALGORITHM},
+        {&by_key_calls, BY_HS256, "{\"kty\":\"oct\",\"k\":\"c2VjcmV0=\"}", OPTIONS, JWT_BASE64},
+        {&by_set_calls, NAMED, SET, "null", JWT_BAD_OPTIONS},
+        {&by_set_calls, "a", "{}", "{", JWT_BAD_OPTIONS},
+        {&by_set_calls, "a", "{}", OPTIONS, JWT_BAD_SET},
+        {&by_set_calls, NAMED, "[]", OPTIONS, JWT_BAD_SET},
+    };
+    for (size_t i = 0; i < sizeof rows / sizeof *rows; i++) {
+        struct answer a = answer_of(rows[i].by->decode, rows[i].token, rows[i].key, rows[i].options, LAST, ROOM);
+        is("a misread text, to decode", status_of(&a), rows[i].status);
+        a = answer_of(rows[i].by->failed_test, rows[i].token, rows[i].key, rows[i].options, LAST, ROOM);
+        is("a misread text, for a failed test", status_of(&a), rows[i].status);
+        lasts(rows[i].by, rows[i].token, rows[i].key, rows[i].options, rows[i].status, 0, 0);
+    }
+}
+
 /* ---- out of memory: every request of a call is refused in turn */
 
 /* a call, and whether its result is right */
@@ -738,10 +1042,61 @@ static bool token_given(struct answer *a) {
     return gives(a, NAMED);
 }
 
+static bool input_given(struct answer *a) {
+    uint32_t algorithm = 99;
+    a->status = jwt_signing_input(BYTES(BY_CURVE_HEADER), BYTES(BY_CURVE_CLAIMS), &algorithm, a->room, ROOM, &a->len);
+    if (a->status != JWT_OK) a->len += algorithm;
+    return gives(a, BY_CURVE_MESSAGE) && algorithm == JWT_ES256;
+}
+
+static bool token_by_signature_given(struct answer *a) {
+    *a = by_signature(BY_CURVE_HEADER, BY_CURVE_CLAIMS, JWT_ES256, BY_CURVE_MESSAGE, LETTERS);
+    return gives(a, BY_CURVE_MESSAGE "." LETTERS_PART);
+}
+
+static bool numbers_given(struct answer *a) {
+    static const uint8_t der[] = {0x30, 6, 2, 1, 1, 2, 1, 2};
+    *a = numbers_of(der, sizeof der, JWT_ES256, ROOM);
+    return status_of(a) == JWT_OK && a->len == 64 && a->room[31] == 1 && a->room[63] == 2;
+}
+
 static bool thumbprint_given(struct answer *a) {
     *a = thumbprint("{\"kty\":\"oct\",\"k\":\"c2VjcmV0\"}", 256);
     return gives(a, "DWBh0SEIAPYh1x5uvot4z3AhaikHkxNJa3Ada2fT-Cg");
 }
+
+static bool name_given(struct answer *a) {
+    *a = answer_of(jwt_failed_test_hmac, TOKEN, "Secret", OPTIONS, LAST, ROOM);
+    return gives(a, "SignatureIsAccepted");
+}
+
+static bool name_by_a_key_given(struct answer *a) {
+    *a = answer_of(jwt_failed_test_key, BY_ES256, P256_KEY, "{\"algorithms\":[\"ES256\"]}", LAST + 1, ROOM);
+    return gives(a, "ClaimRulesHold");
+}
+
+static bool no_name_by_a_set_given(struct answer *a) {
+    *a = answer_of(jwt_failed_test_set, NAMED, SET, OPTIONS, LAST, ROOM);
+    return gives(a, "");
+}
+
+/* after a refusal both moments are 0 */
+static bool moments_given(struct answer *a, moments_call *call, const char *token, const char *key, const char *options) {
+    uint64_t first = 5, last = 4;
+    a->status = call(BYTES(token), BYTES(key), BYTES(options), &first, &last);
+    a->len = a->status == JWT_OK ? 0 : first + last;
+    return status_of(a) == JWT_OK && first == 0 && last == LAST;
+}
+
+static bool moments_by_a_secret_given(struct answer *a) {
+    return moments_given(a, jwt_moments_hmac, TOKEN, "secret", OPTIONS);
+}
+
+static bool moments_by_a_key_given(struct answer *a) {
+    return moments_given(a, jwt_moments_key, BY_EDDSA, ED_KEY, "{\"algorithms\":[\"EdDSA\"]}");
+}
+
+static bool moments_by_a_set_given(struct answer *a) { return moments_given(a, jwt_moments_set, NAMED, SET, OPTIONS); }
 
 /* how often the call was out of memory, until no request was left to refuse; -1 for another status */
 static long refused_in_turn(bool (*call)(struct answer *)) {
@@ -769,7 +1124,16 @@ static void refused_memory(void) {
     is("claims by a key out of memory", refused_in_turn(key_claims_given) > 0, 1);
     is("claims by a set of all families out of memory", refused_in_turn(claims_by_all_keys_given) > 0, 1);
     is("a token out of memory", refused_in_turn(token_given) > 0, 1);
+    is("a message to be signed out of memory", refused_in_turn(input_given) > 0, 1);
+    is("a token with a given signature out of memory", refused_in_turn(token_by_signature_given) > 0, 1);
+    is("two numbers out of memory", refused_in_turn(numbers_given) > 0, 1);
     is("a thumbprint out of memory", refused_in_turn(thumbprint_given) > 0, 1);
+    is("a name out of memory", refused_in_turn(name_given) > 0, 1);
+    is("a name by a key out of memory", refused_in_turn(name_by_a_key_given) > 0, 1);
+    is("no name by a set out of memory", refused_in_turn(no_name_by_a_set_given) > 0, 1);
+    is("moments out of memory", refused_in_turn(moments_by_a_secret_given) > 0, 1);
+    is("moments by a key out of memory", refused_in_turn(moments_by_a_key_given) > 0, 1);
+    is("moments by a set out of memory", refused_in_turn(moments_by_a_set_given) > 0, 1);
     is("memory after all that was refused", mallinfo2().uordblks <= before + 4096, 1);
 }
 
@@ -793,11 +1157,12 @@ static bool is_in_room(uint32_t status, size_t len, const char *wanted) {
     return status == JWT_OK && len == strlen(wanted) && memcmp(big_room, wanted, len) == 0;
 }
 
-/* Of this size: claims that are issued and read back by a set, the set's text, and the key that verifies and of a
-   thumbprint. */
+/* Of this size: claims that are issued and read back by a set, the set's text, and the key that verifies, of a test that fails, of
+   moments and of a thumbprint. */
 static long wrong_issued_at(size_t size) {
     static uint8_t part[3 * GREATEST + 300];
     size_t len = 0, given;
+    uint64_t first, last;
     long wrong = 0;
     filled("{\"exp\":940,\"sub\":\"", size, "\"}");
     wrong += jwt_encode_hmac(BYTES("{\"alg\":\"HS256\",\"kid\":\"b\"}"), BYTES(text), BYTES("secret"), part, sizeof part, &len) != JWT_OK;
@@ -807,6 +1172,10 @@ static long wrong_issued_at(size_t size) {
     wrong += jwt_decode_set(part, len, BYTES(text), BYTES(OPTIONS), 1000, big_room, sizeof big_room, &given) != JWT_OK;
     filled("{\"kty\":\"oct\",\"k\":\"c2VjcmV0\",\"kid\":\"", size, "\"}");
     wrong += jwt_decode_key(part, len, BYTES(text), BYTES(OPTIONS), 1000, big_room, sizeof big_room, &given) != JWT_OK;
+    status = jwt_failed_test_key(part, len, BYTES(text), BYTES(OPTIONS), 1000, big_room, sizeof big_room, &given);
+    wrong += !is_in_room(status, given, "");
+    status = jwt_moments_key(part, len, BYTES(text), BYTES(OPTIONS), &first, &last);
+    wrong += status != JWT_OK || first != 0 || last != 1000;
     status = jwt_thumbprint(BYTES(text), 256, big_room, sizeof big_room, &given);
     return wrong + !is_in_room(status, given, "DWBh0SEIAPYh1x5uvot4z3AhaikHkxNJa3Ada2fT-Cg");
 }
@@ -848,9 +1217,12 @@ static void sizes(void) {
 }
 
 static void growth(void) {
-    for (int i = 0; i < 100; i++) hmac(TOKEN, "secret", OPTIONS, LAST), hmac(TOKEN, "other", OPTIONS, LAST);
-    size_t before = mallinfo2().uordblks;
     long wrong = 0;
+    for (int i = 0; i < 100; i++) {
+        hmac(TOKEN, "secret", OPTIONS, LAST), hmac(TOKEN, "other", OPTIONS, LAST);
+        for (size_t k = 0; k < ALL; k++) key(by_all[k].token, by_all[k].key, by_all[k].options, LAST);
+    }
+    size_t before = mallinfo2().uordblks;
     for (int i = 0; i < 50000; i++) {
         wrong += hmac(TOKEN, "secret", OPTIONS, LAST) != JWT_OK;
         wrong += hmac(TOKEN, "other", OPTIONS, LAST) != JWT_INVALID_SIGNATURE;
@@ -927,11 +1299,18 @@ int main(void) {
     keys_of_all();
     keys_refused();
     issued();
+    signing_inputs();
+    issued_by_signature();
+    pairs();
     thumbprints();
     status_texts();
     numbers();
     version();
     nesting();
+    failed_tests();
+    failed_tests_by_keys();
+    moments();
+    tests_of_misread_texts();
     refused_memory();
     sizes();
     growth();

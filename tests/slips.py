@@ -126,6 +126,30 @@ def verdicts():
     test("a verdict", jwt.decode_by_verdict(TOKEN, PART, True, now=0, **OPTIONS) == {"exp": 1000})
 
 
+def signatures():
+    header, claims = {"alg": "HS256"}, {"exp": 1000}
+    part = jwt.SignedPart(*jwt.signing_input(header, claims), bytes(32))
+    for it in ("{}", [], None, 5):
+        slip(TypeError, "header", jwt.signing_input, it, {})
+        slip(TypeError, "claims", jwt.signing_input, header, it)
+        slip(TypeError, "header", jwt.encode_by_signature, it, {}, part)
+        slip(TypeError, "claims", jwt.encode_by_signature, header, it, part)
+        slip(TypeError, "part", jwt.encode_by_signature, header, claims, it)
+    slip(ValueError, "Header", jwt.signing_input, {}, {})
+    slip(TypeError, "part", jwt.encode_by_signature, header, claims, tuple(part))
+    slip(ValueError, "algorithm", jwt.encode_by_signature, header, claims, part._replace(algorithm="HS257"))
+    slip(TypeError, "message", jwt.encode_by_signature, header, claims, part._replace(message=5))
+    slip(TypeError, "signature", jwt.encode_by_signature, header, claims, part._replace(signature=32))
+    slip(jwt.Signing, "Signing", jwt.encode_by_signature, header, claims, part._replace(signature=b"s"))
+    slip(jwt.Signing, "Signing", jwt.encode_by_signature, header, {}, part)
+    for it in (5, None, [48]):
+        slip(TypeError, "der", jwt.ecdsa_signature, it, "ES256")
+    for it in ("HS257", None, 10):
+        slip(ValueError, "algorithm", jwt.ecdsa_signature, b"", it)
+    slip(jwt.InvalidSignature, "InvalidSignature", jwt.ecdsa_signature, b"", "ES256")
+    slip(jwt.InvalidAlgorithm, "InvalidAlgorithm", jwt.ecdsa_signature, b"", "RS256")
+
+
 def moments():
     for it in ("0", True, [], ["HS256"]):
         slip(TypeError, "now", jwt.decode, TOKEN, SECRET, now=it, **OPTIONS)
@@ -194,14 +218,14 @@ def kinds():
 
 
 def imports():
-    for library in ("/nowhere/libjwt.so", __file__):
+    for library in ("/nowhere/libjwtproved.so", __file__):
         ran = subprocess.run([sys.executable, "-B", "-c", "import jwt"], cwd=PYTHON,
                              env={**os.environ, "JWT_LIBRARY": library}, stderr=subprocess.PIPE, text=True)
         last = ran.stderr.strip().splitlines()[-1:]
         test(f"without a library: {last}", last and last[0].startswith("ImportError: ") and library in last[0] and "tools/build_c" in last[0])
 
 
-for tests in (secrets, texts, issued, verdicts, moments, options, kinds, imports):
+for tests in (secrets, texts, issued, verdicts, signatures, moments, options, kinds, imports):
     try:
         tests()
     except Exception as error:

@@ -1,6 +1,6 @@
 /* Verifies tokens with JSON Web Keys, as an identity provider publishes them: one key by jwt_decode_key, and a set by
    jwt_decode_set. The tokens and keys are those of RFC 7515 appendices A.2 and A.3. The last line counts. */
-#include "jwt.h"
+#include "jwtproved.h"
 #include <stdio.h>
 #include <string.h>
 

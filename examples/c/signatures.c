@@ -1,6 +1,6 @@
 /* Verifies the tokens of RFC 7515 appendices A.2 and A.3 and of RFC 8037 appendix A.4: OpenSSL checks the signature,
    and the library everything else. The last line counts. */
-#include "jwt.h"
+#include "jwtproved.h"
 #include <openssl/core_names.h>
 #include <openssl/ec.h>
 #include <openssl/evp.h>

@@ -1,5 +1,5 @@
-/* Verifies a token by a secret, and shows refusals by their texts. The last line counts. */
-#include "jwt.h"
+/* Verifies a token by a secret, and shows refusals by the tests that failed and by their texts. The last line counts. */
+#include "jwtproved.h"
 #include <stdio.h>
 #include <string.h>
 
@@ -20,6 +20,16 @@ static bool is_long_enough(const uint8_t *bytes, size_t len) {
     return len >= 32 && !has_zeros_alone;
 }
 
+/* Prints the first test that the token fails. This is for the log of those who run the verifier: whoever sent the token is told that
+   it was refused, and no more. */
+static void print_failed_test(const void *key, size_t key_len, uint64_t now) {
+    uint8_t name[32];
+    size_t len;
+    uint32_t status = jwt_failed_test_hmac((const uint8_t *)token, strlen(token), key, key_len, (const uint8_t *)options,
+                                           strlen(options), now, name, sizeof name, &len);
+    if (status == JWT_OK) printf("the test %.*s failed\n", (int)len, (const char *)name);
+}
+
 /* Returns whether the claims, or the refusal's text, are these. */
 static bool says(const void *key, size_t key_len, uint64_t now, const char *wanted) {
     uint8_t buffer[512];
@@ -30,7 +40,10 @@ static bool says(const void *key, size_t key_len, uint64_t now, const char *want
     }
     uint32_t status = jwt_decode_hmac((const uint8_t *)token, strlen(token), key, key_len, (const uint8_t *)options,
                                       strlen(options), now, buffer, sizeof buffer, &len);
-    if (status != JWT_OK) jwt_status_text(status, buffer, sizeof buffer, &len);
+    if (status != JWT_OK) {
+        print_failed_test(key, key_len, now);
+        jwt_status_text(status, buffer, sizeof buffer, &len);
+    }
     printf("%.*s\n", (int)len, (const char *)buffer);
     return len == strlen(wanted) && memcmp(buffer, wanted, len) == 0;
 }

@@ -1,9 +1,10 @@
-// Verifies tokens by a secret, by a key, by a key set and by ECDSA, issues one, and shows refusals by their texts. The last line counts.
+// Verifies tokens by a secret, by a key, by a key set and by ECDSA, issues two, and shows refusals by their texts. The last line counts.
 package main
 
 import (
 	"crypto/ecdsa"
 	"crypto/elliptic"
+	"crypto/rand"
 	"crypto/sha256"
 	"encoding/base64"
 	"fmt"
@@ -88,6 +89,33 @@ func byCurve(token, checked string) string {
 	return shown(jwt.DecodeByVerdict([]byte(token), part, ecdsa.Verify(&key, digest[:], r, s), options, 1300819380))
 }
 
+// Issues claims with a key that the library never sees, and returns those that are verified by its public key, or the text of the
+// error. With inDer the signature stays in DER, by mistake.
+func signedElsewhere(header, claims string, inDer bool) string {
+	key, err := ecdsa.GenerateKey(elliptic.P256(), rand.Reader)
+	if err != nil {
+		return err.Error()
+	}
+	input, err := jwt.InputToSign([]byte(header), []byte(claims))
+	if err != nil {
+		return err.Error()
+	}
+	digest := sha256.Sum256(input.Message)
+	signature, err := ecdsa.SignASN1(rand.Reader, key, digest[:])
+	if err == nil && !inDer {
+		signature, err = jwt.EcdsaSignature(signature, "ES256")
+	}
+	if err != nil {
+		return err.Error()
+	}
+	token, err := jwt.EncodeBySignature([]byte(header), []byte(claims), jwt.SignedPart{Algorithm: "ES256", Message: input.Message, Signature: signature})
+	if err != nil {
+		return err.Error()
+	}
+	part := func(n *big.Int) string { return base64.RawURLEncoding.EncodeToString(n.FillBytes(make([]byte, 32))) }
+	return byKey(string(token), `{"kty":"EC","crv":"P-256","x":"`+part(key.X)+`","y":"`+part(key.Y)+`"}`, "ES256")
+}
+
 // Rows of a result and the wanted one.
 func tokens() [][2]string {
 	leeway := uint64(61)
@@ -121,6 +149,10 @@ func tokens() [][2]string {
 			"kPrK_qmxVWaYVA9wwBF6Iuo3vVzz7TxHCTwXBygrS4k"},
 		{byCurve(es256, es256), joe},
 		{byCurve(strings.Replace(es256, payload, "e30", 1), es256), "InvalidSignature"},
+		{signedElsewhere(`{"alg":"ES256"}`, claims, false), claims},
+		{signedElsewhere(`{"alg":"ES256"}`, claims, true), "Signing failed: "},
+		{signedElsewhere(`{"alg":"ES384"}`, claims, false), "InvalidAlgorithm"},
+		{signedElsewhere(`{"alg":"ES256"}`, `{"exp":1.5}`, false), "JSON error"},
 	}
 }
 

@@ -1,7 +1,7 @@
-"""Verifies, reads and issues JSON Web Tokens (RFC 7519) by the proved library, through its calls for C (include/jwt.h).
+"""Verifies, reads and issues JSON Web Tokens (RFC 7519) by the proved library, through its calls for C (include/jwtproved.h).
 
 Tokens, secrets and JSON texts are str or bytes-like: bytes, bytearray or memoryview. `now` is in whole seconds since
-1970-01-01 00:00:00 UTC; without it the clock is read. The options are those of jwt.h, as algorithms=["HS256"].
+1970-01-01 00:00:00 UTC; without it the clock is read. The options are those of jwtproved.h, as algorithms=["HS256"].
 
 A wrong argument is a TypeError or a ValueError that names it. A token that is refused raises Refused.
 """
@@ -25,6 +25,9 @@ _PROTOTYPES = {
     "jwt_signed_part": [*_BYTES, ctypes.POINTER(ctypes.c_uint32), ctypes.POINTER(ctypes.c_size_t), *_BUFFER],
     "jwt_decode_header": [*_BYTES, *_BUFFER],
     "jwt_encode_hmac": [*_BYTES, *_BYTES, *_BYTES, *_BUFFER],
+    "jwt_signing_input": [*_BYTES, *_BYTES, ctypes.POINTER(ctypes.c_uint32), *_BUFFER],
+    "jwt_encode_signature": [*_BYTES, *_BYTES, ctypes.c_uint32, *_BYTES, *_BYTES, *_BUFFER],
+    "jwt_ecdsa_signature": [*_BYTES, ctypes.c_uint32, *_BUFFER],
     "jwt_thumbprint": [*_BYTES, ctypes.c_uint32, *_BUFFER],
     "jwt_status_text": [ctypes.c_uint32, *_BUFFER],
 }
@@ -34,10 +37,13 @@ _TOO_SMALL = 100
 # The parts of a token that have to be checked: the algorithm that its header names, the message and the signature's bytes.
 SignedPart = collections.namedtuple("SignedPart", "algorithm message signature")
 
+# The parts of a token that are to be signed elsewhere: the algorithm of its header, and the message.
+SigningInput = collections.namedtuple("SigningInput", "algorithm message")
+
 
 def _load():
-    """Loads the library that JWT_LIBRARY names, or else the libjwt.so beside this file."""
-    path = os.environ.get("JWT_LIBRARY") or os.path.join(os.path.dirname(os.path.abspath(__file__)), "libjwt.so")
+    """Loads the library that JWT_LIBRARY names, or else the libjwtproved.so beside this file."""
+    path = os.environ.get("JWT_LIBRARY") or os.path.join(os.path.dirname(os.path.abspath(__file__)), "libjwtproved.so")
     try:
         library = ctypes.CDLL(path)
         for name, types in _PROTOTYPES.items():
@@ -45,7 +51,7 @@ def _load():
             call.argtypes, call.restype = types, ctypes.c_uint32
     except (OSError, AttributeError) as error:
         raise ImportError(
-            f"the JWT library is missing: {error}. `tools/build_c` builds it and leaves out/libjwt.so;"
+            f"the JWT library is missing: {error}. `tools/build_c` builds it and leaves out/libjwtproved.so;"
             " JWT_LIBRARY names its path"
         ) from error
     return library
@@ -55,7 +61,7 @@ _library = _load()
 
 
 class Refused(Exception):
-    """A refusal. `status` is its number in jwt.h, and its text is the library's, as `InvalidSignature`."""
+    """A refusal. `status` is its number in jwtproved.h, and its text is the library's, as `InvalidSignature`."""
 
     def __init__(self, status, text):
         super().__init__(status, text)
@@ -87,6 +93,10 @@ class MissingAlgorithm(Refused):
 
 class InvalidCrit(Refused):
     """The header's crit names a member that is not understood."""
+
+
+class Signing(Refused):
+    """The signature is of another message, or does not have the length that its algorithm fixes."""
 
 
 class NoKey(Refused):
@@ -132,6 +142,7 @@ _KINDS = {
     13: ImmatureSignature,
     14: InvalidAlgorithm,
     15: MissingAlgorithm,
+    17: Signing,
     24: InvalidCrit,
     25: NoKey,
     **dict.fromkeys(range(26, 32), MissingRequiredClaim),
@@ -268,6 +279,12 @@ def _options(options):
     return json.dumps(options, default=list).encode()
 
 
+def _number(name, algorithm):
+    if algorithm not in ALGORITHMS:
+        raise ValueError(f"{name} must be one of {', '.join(ALGORITHMS)}, not {algorithm!r}")
+    return ALGORITHMS.index(algorithm) + 1
+
+
 def _slices(*texts):
     """Returns pointer and length of each text, one after the other."""
     return [argument for it in texts for argument in (it, len(it))]
@@ -319,11 +336,9 @@ def decode_by_verdict(token, part, verdict, now=None, **options):
     """Returns the claims of a token, if the verdict is True for this signature of this message by this algorithm."""
     if not isinstance(part, SignedPart):
         raise _wrong_type("part", "a SignedPart", part)
-    if part.algorithm not in ALGORITHMS:
-        raise ValueError(f"part.algorithm must be one of {', '.join(ALGORITHMS)}, not {part.algorithm!r}")
+    number = _number("part.algorithm", part.algorithm)
     _check_bool("verdict", verdict)
     checked = _slices(_bytes("part.message", part.message), _bytes("part.signature", part.signature))
-    number = ALGORITHMS.index(part.algorithm) + 1
     token, options = _slices(_bytes("token", token)), _slices(_options(options))
     return json.loads(_call(_library.jwt_decode_verdict, *token, number, *checked, verdict, *options, _moment(now)))
 
@@ -337,6 +352,30 @@ def encode(header, claims, secret):
     """Returns the token of a header, as {"alg": "HS256", "typ": "JWT"}, and claims, signed with a secret, by HMAC."""
     texts = _slices(_json("header", header), _json("claims", claims), _secret(secret))
     return _call(_library.jwt_encode_hmac, *texts).decode()
+
+
+def signing_input(header, claims):
+    """Returns the algorithm and the message of a token of a header and claims that is to be signed elsewhere."""
+    algorithm = ctypes.c_uint32()
+    texts = _slices(_json("header", header), _json("claims", claims))
+    message = _call(_library.jwt_signing_input, *texts, ctypes.byref(algorithm))
+    return SigningInput(ALGORITHMS[algorithm.value - 1], message)
+
+
+def encode_by_signature(header, claims, part):
+    """Returns the token of a header and claims, with the signature of their message that was made elsewhere, as a SignedPart."""
+    if not isinstance(part, SignedPart):
+        raise _wrong_type("part", "a SignedPart", part)
+    number = _number("part.algorithm", part.algorithm)
+    signed = _slices(_bytes("part.message", part.message), _bytes("part.signature", part.signature))
+    texts = _slices(_json("header", header), _json("claims", claims))
+    return _call(_library.jwt_encode_signature, *texts, number, *signed).decode()
+
+
+def ecdsa_signature(der, algorithm):
+    """Returns a signature by ES256 or ES384 as a token has it, from one in DER, as `cryptography` and a KMS make it."""
+    number = _number("algorithm", algorithm)
+    return _call(_library.jwt_ecdsa_signature, *_slices(_bytes("der", der)), number)
 
 
 def thumbprint(key, bits=256):

@@ -1,4 +1,4 @@
-//! JSON Web Tokens for C. `include/jwt.h` describes how each is called.
+//! JSON Web Tokens for C. `include/jwtproved.h` describes how each is called.
 //!
 //! Each call has one clause: the status, the length and the buffer hold a result that the library's
 //! own definitions allow. Nothing is kept between calls.
@@ -6,15 +6,21 @@
 
 ghost use Rattle.std.specs.Prelude.{◌≡◌, Some, MatchOption};
 ghost use Rattle.jwt_base.specs.Kind.{Kind, text_of};
+ghost use Rattle.jwt_c_calls.specs.BySignature.{AnswersSignature, AnswersEcdsa, LeavesInput};
 ghost use Rattle.jwt_c_calls.specs.Calls.{Answer, Leaves, LeavesSigned, AnswersHmac, AnswersKey, AnswersSet, AnswersSaid, AnswersHeader, AnswersNumbers, status_of};
+ghost use Rattle.jwt_c_calls.specs.FirstFailed.{AnswersFailedHmac, AnswersFailedKey, AnswersFailedSet};
 ghost use Rattle.jwt_c_calls.specs.Issued.{AnswersEncode, AnswersThumbprint, hash_numbered};
+ghost use Rattle.jwt_c_calls.specs.Moments.{LeavesMoments, AnswersMomentsHmac, AnswersMomentsKey, AnswersMomentsSet};
 ghost use Rattle.jwt_c_calls.specs.Status.{number, no_status, status_text, told, version, algorithm_numbered, IsGiven, IsKept};
 
 use jsonwebtoken::signed_part;
 use jwt_c_calls::answers::{
     header_answer, hmac_answer, key_answer, numbers_answer, said_answer, set_answer,
 };
+use jwt_c_calls::by_signature::{ecdsa_answer, input_answer, signature_answer};
+use jwt_c_calls::first_failed::{hmac_failed_test, key_failed_test, leave_name, set_failed_test};
 use jwt_c_calls::issued::{encode_answer, thumbprint_answer};
+use jwt_c_calls::moments::{hmac_moments, key_moments, leave_moments, set_moments};
 use jwt_c_calls::status::{algorithm_number, leave, number_of, put_bytes, status_of, text_of};
 use std::alloc::Global;
 
@@ -91,6 +97,133 @@ pub extern "C" fn jwt_decode_set(
 {
     let answer = set_answer(alloc, token, set, options, now);
     leave(answer, room, len)
+}
+
+/// Writes the name of the first test of a token that fails, as `SignatureIsAccepted`, and nothing
+/// if none fails: then `jwt_decode_hmac` accepts the token with the same arguments. The tests and
+/// their order are those of [`decode`](jsonwebtoken::decode), with a secret, by HMAC, at the moment
+/// `now`, in whole seconds since 1970-01-01 00:00:00 UTC. The options are read first, and any other
+/// text is refused with 101. The only other refusal is `OutOfMemory`.
+///
+/// Whoever issued a refused token need not be told which test failed: the answer is for those who
+/// run the verifier.
+#[unsafe(no_mangle)]
+pub extern "C" fn jwt_failed_test_hmac(
+    alloc: Global,
+    token: &[u8],
+    secret: &[u8],
+    options: &[u8],
+    now: u64,
+    room: &mut [u8],
+    len: &mut usize,
+) -> u32
+    ensures { (a : Answer) × AnswersFailedHmac options.now token.now secret.now now a
+        × Leaves a result len.new room.old room.new }
+{
+    let answer = hmac_failed_test(alloc, token, secret, options, now);
+    leave_name(answer, room, len)
+}
+
+/// Writes the name of the first test of a token that fails with a key, like `jwt_failed_test_hmac`:
+/// if none fails, `jwt_decode_key` accepts the token. The options and the key are read first, in
+/// the order of `jwt_decode_key` and with its statuses, 101 and 106. A key of which
+/// [`DecodingKey::from_jwk`](jsonwebtoken::DecodingKey::from_jwk) makes none is refused with its
+/// kind.
+#[unsafe(no_mangle)]
+pub extern "C" fn jwt_failed_test_key(
+    alloc: Global,
+    token: &[u8],
+    key: &[u8],
+    options: &[u8],
+    now: u64,
+    room: &mut [u8],
+    len: &mut usize,
+) -> u32
+    ensures { (a : Answer) × AnswersFailedKey options.now token.now key.now now a
+        × Leaves a result len.new room.old room.new }
+{
+    let answer = key_failed_test(alloc, token, key, options, now);
+    leave_name(answer, room, len)
+}
+
+/// Writes the name of the first test of a token that fails with a key set, like
+/// `jwt_failed_test_hmac`: if none fails, `jwt_decode_set` accepts the token. The tests are those
+/// of [`decode_with_set`](jsonwebtoken::decode_with_set). The options and the set are read first,
+/// in the order of `jwt_decode_set` and with its statuses, 101 and 103.
+#[unsafe(no_mangle)]
+pub extern "C" fn jwt_failed_test_set(
+    alloc: Global,
+    token: &[u8],
+    set: &[u8],
+    options: &[u8],
+    now: u64,
+    room: &mut [u8],
+    len: &mut usize,
+) -> u32
+    ensures { (a : Answer) × AnswersFailedSet options.now token.now set.now now a
+        × Leaves a result len.new room.old room.new }
+{
+    let answer = set_failed_test(alloc, token, set, options, now);
+    leave_name(answer, room, len)
+}
+
+/// Sets `first` and `last` to the first and the last moment at which `jwt_decode_hmac` accepts a
+/// token, in whole seconds since 1970-01-01 00:00:00 UTC: it is accepted at all moments from the
+/// first to the last, and at no other (RFC 7519 sections 4.1.4 and 4.1.5). If it is accepted at no
+/// moment, `first` is 1 and `last` is 0; with any other status than 0 both are 0. The options are
+/// read first, and any other text is refused with 101. The only other refusal is `OutOfMemory`.
+#[unsafe(no_mangle)]
+pub extern "C" fn jwt_moments_hmac(
+    alloc: Global,
+    token: &[u8],
+    secret: &[u8],
+    options: &[u8],
+    first: &mut u64,
+    last: &mut u64,
+) -> u32
+    ensures { LeavesMoments (AnswersMomentsHmac options.now token.now secret.now)
+        result first.new last.new }
+{
+    let answer = hmac_moments(alloc, token, secret, options);
+    leave_moments(answer, first, last)
+}
+
+/// Sets `first` and `last` to the first and the last moment at which `jwt_decode_key` accepts a
+/// token, like `jwt_moments_hmac`. The options and the key are read first, and refused as by
+/// `jwt_failed_test_key`.
+#[unsafe(no_mangle)]
+pub extern "C" fn jwt_moments_key(
+    alloc: Global,
+    token: &[u8],
+    key: &[u8],
+    options: &[u8],
+    first: &mut u64,
+    last: &mut u64,
+) -> u32
+    ensures { LeavesMoments (AnswersMomentsKey options.now token.now key.now)
+        result first.new last.new }
+{
+    let answer = key_moments(alloc, token, key, options);
+    leave_moments(answer, first, last)
+}
+
+/// Sets `first` and `last` to the first and the last moment at which `jwt_decode_set` accepts a
+/// token, like `jwt_moments_hmac`. The options and the set are read first, and refused as by
+/// `jwt_failed_test_set`.
+#[unsafe(no_mangle)]
+pub extern "C" fn jwt_moments_set(
+    alloc: Global,
+    token: &[u8],
+    set: &[u8],
+    options: &[u8],
+    first: &mut u64,
+    last: &mut u64,
+) -> u32
+    ensures { LeavesMoments (AnswersMomentsSet options.now token.now set.now)
+        result first.new last.new }
+{
+    let answer = set_moments(alloc, token, set, options);
+    leave_moments(answer, first, last)
 }
 
 /// Verifies a token whose signature the caller has checked: `verdict` is the yes or no to this
@@ -181,6 +314,71 @@ pub extern "C" fn jwt_encode_hmac(
     leave(answer, room, len)
 }
 
+/// Writes the message of a token that is to be signed elsewhere, and the number of the algorithm
+/// that its header names. The header and the claims are JSON texts of objects.
+#[unsafe(no_mangle)]
+pub extern "C" fn jwt_signing_input(
+    alloc: Global,
+    header: &[u8],
+    claims: &[u8],
+    number: &mut u32,
+    room: &mut [u8],
+    len: &mut usize,
+) -> u32
+    ensures { LeavesInput header.now claims.now number.new result len.new room.old room.new }
+{
+    match input_answer(alloc, header, claims) {
+        Ok(input) => {
+            *number = algorithm_number(input.algorithm);
+            put_bytes(input.message.as_bytes(), room, len)
+        }
+        Err(refusal) => {
+            *number = 0;
+            *len = 0;
+            status_of(&refusal)
+        }
+    }
+}
+
+/// Writes the token of a header and claims, which are JSON texts of objects, with this signature of
+/// this message, which was made elsewhere by the algorithm of this number. A number of no algorithm
+/// is refused with `InvalidAlgorithmName`, before the header is read.
+#[unsafe(no_mangle)]
+pub extern "C" fn jwt_encode_signature(
+    alloc: Global,
+    header: &[u8],
+    claims: &[u8],
+    algorithm: u32,
+    message: &[u8],
+    signature: &[u8],
+    room: &mut [u8],
+    len: &mut usize,
+) -> u32
+    ensures { (a : Answer) × AnswersSignature (algorithm_numbered algorithm)
+        message.now signature.now header.now claims.now a
+        × Leaves a result len.new room.old room.new }
+{
+    let answer = signature_answer(alloc, header, claims, algorithm, message, signature);
+    leave(answer, room, len)
+}
+
+/// Writes the two numbers of a signature in DER, by the algorithm of ECDSA with this number. A
+/// number of no algorithm is refused with `InvalidAlgorithmName`.
+#[unsafe(no_mangle)]
+pub extern "C" fn jwt_ecdsa_signature(
+    alloc: Global,
+    der: &[u8],
+    algorithm: u32,
+    room: &mut [u8],
+    len: &mut usize,
+) -> u32
+    ensures { (a : Answer) × AnswersEcdsa (algorithm_numbered algorithm) der.now a
+        × Leaves a result len.new room.old room.new }
+{
+    let answer = ecdsa_answer(alloc, der, algorithm);
+    leave(answer, room, len)
+}
+
 /// Writes the thumbprint (RFC 7638) of a key, which is a JSON text, by SHA-2 with this many bits. A
 /// number of no hash is refused with `InvalidAlgorithmName`, before the key is read.
 #[unsafe(no_mangle)]
@@ -228,7 +426,7 @@ pub extern "C" fn jwt_status_text(status: u32, room: &mut [u8], len: &mut usize)
     }
 }
 
-/// Writes the version of the library, as `JWT_VERSION` of `include/jwt.h`.
+/// Writes the version of the library, as `JWT_VERSION` of `include/jwtproved.h`.
 #[unsafe(no_mangle)]
 pub extern "C" fn jwt_version(room: &mut [u8], len: &mut usize) -> u32
     ensures { IsGiven version result len.new room.old room.new }

@@ -1,11 +1,14 @@
 -- A result, and its form in status, length and buffer.
-use Rattle.std.proofs.Common.{ℕ, List, Result, Ok, Err, IfOk, IfErr, inl, inr}
+use Rattle.std.proofs.Common.{◌≡◌, ℕ, List, [], Option, None, Result, Ok, Err, IfOk, IfErr, inl, inr}
 use Rattle.jwt_base.specs.Kind.{Kind}
 use Rattle.jwt_base.specs.Kind as kind
-use Rattle.jwt_base.specs.KindOf.{RefusesAs}
+use Rattle.jwt_base.specs.KindOf.{RefusesAs, kind_of}
 use Rattle.jwt_base.specs.declared.errors.Error.{Error}
-use Rattle.jwt_c_calls.specs.Calls.{Answer, Gives, Leaves, AnswersBy, answer_of, refusal_status}
+use Rattle.jwt_validation.specs.declared.interval.Moments.{Moments}
+use Rattle.jwt_c_calls.specs.BySignature.{AnswersInput, LeavesInput}
+use Rattle.jwt_c_calls.specs.Calls.{Answer, Gives, Refuses, Misreads, Leaves, AnswersBy, answer_of, refusal_status}
 use Rattle.jwt_c_calls.specs.Inputs.{IsReadAs}
+use Rattle.jwt_c_calls.specs.Moments.{AreLeft, LeavesMoments}
 use Rattle.jwt_c_calls.specs.Status.{IsGiven, IsKept}
 use Rattle.jwt_c_calls.specs.declared.inputs.Input.{Input}
 use Rattle.jwt_c_calls.specs.declared.inputs.Refusal.{Refusal}
@@ -38,3 +41,17 @@ misread Reads M G R input N means (Err e) (Err (refused.Token f)) p n = inl p.1
 pub read_ok : {T : Type 0} (P : T → Type 0) (input : Input) (r : Result T Error) (v : T) → IsReadAs input r (Ok v) → IfOk r P → P v
 read_ok P input (Ok w) v p q = rw p q
 read_ok P input (Err e) v p q = absurd p
+
+-- a refusal leaves no message
+pub no_message : (header claims : List ℕ) (r : Refusal) (n s len : ℕ) (old new : List ℕ) → AnswersInput header claims (answer_of r) → n ≡ 0
+    → IsKept (refusal_status r) s len old new → LeavesInput header claims n s len old new
+no_message header claims (refused.Input i) n s len old new a z k = (Misreads i, a, z, k)
+no_message header claims (refused.Token e) n s len old new a z k = (Refuses (kind_of e), a, z, k)
+
+-- moments by the two sides of a result
+pub left_moments : (Answers : Option Moments → Answer → Type 0) (r : Result (Option Moments) Refusal) (s first last : ℕ)
+    → IfOk r (λ m. Answers m (Gives [])) → IfErr r (λ e. Answers None (answer_of e))
+    → IfOk r (λ m. AreLeft m (Gives []) s first last) → IfErr r (λ e. AreLeft None (answer_of e) s first last)
+    → LeavesMoments Answers s first last
+left_moments Answers (Ok m) s first last p q found none = (m, Gives [], p, found)
+left_moments Answers (Err e) s first last p q found none = (None, answer_of e, q, none)

@@ -1,5 +1,9 @@
 pub mod Status
 pub mod Inputs
 pub mod Calls
+pub mod Keys
+pub mod FirstFailed
+pub mod Moments
+pub mod BySignature
 pub mod Issued
 pub use Rattle.jwt_base.specs.Kind

@@ -102,8 +102,8 @@ status_text n =
 abbrev pub told_claim : List ℕ → List ℕ
 told_claim name = unwrap_or (slice_get claim_names (claim_place name)) []
 
--- The part of a kind that a status tells: of a claim's name one of the five, and nothing of a
--- provider's own reasons, with which none of these calls refuses.
+-- The part of a kind that a status tells: of a claim's name one of the five, and nothing of the
+-- string of other kinds.
 abbrev pub told : Kind → Kind
 told (MissingRequiredClaim claim) = MissingRequiredClaim (told_claim claim)
 told (InvalidClaimFormat claim) = InvalidClaimFormat (told_claim claim)
@@ -134,6 +134,6 @@ pub record IsKept (n status len : ℕ) (before after : List ℕ) : Type 0 where
 abbrev pub algorithm_numbered : ℕ → Option Algorithm
 algorithm_numbered n = if n == 0 then None else slice_get all_algorithms (n - 1)
 
--- the version of the library, as `JWT_VERSION` of `include/jwt.h`
+-- the version of the library, as `JWT_VERSION` of `include/jwtproved.h`
 abbrev pub version : List ℕ
 version = codes "0.1.0"

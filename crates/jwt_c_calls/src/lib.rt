@@ -2,6 +2,10 @@
 #![tactic(auto)]
 
 pub mod answers;
+pub mod by_signature;
+pub mod first_failed;
 pub mod inputs;
 pub mod issued;
+pub mod keys;
+pub mod moments;
 pub mod status;

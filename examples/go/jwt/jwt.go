@@ -1,5 +1,5 @@
 // Package jwt verifies, reads and issues JSON Web Tokens (RFC 7519) by the proved library, through its calls for C
-// (include/jwt.h).
+// (include/jwtproved.h).
 //
 // Moments are in whole seconds since 1970-01-01 00:00:00 UTC. Claims, headers and keys are JSON. A secret has at least 32 bytes
 // for HS256, 48 for HS384 and 64 for HS512 (RFC 7518 section 3.2); the package refuses an empty one, and leaves the rest to the
@@ -7,8 +7,8 @@
 package jwt
 
 // #cgo CFLAGS: -I${SRCDIR}/../../../include
-// #cgo LDFLAGS: ${SRCDIR}/../../../out/libjwt.a
-// #include "jwt.h"
+// #cgo LDFLAGS: ${SRCDIR}/../../../out/libjwtproved.a
+// #include "jwtproved.h"
 import "C"
 
 import (
@@ -18,7 +18,7 @@ import (
 	"unsafe"
 )
 
-// The statuses of refusals that callers act on. include/jwt.h has all of them.
+// The statuses of refusals that callers act on. include/jwtproved.h has all of them.
 const (
 	InvalidSignature     uint32 = C.JWT_INVALID_SIGNATURE
 	UnsupportedAlgorithm uint32 = C.JWT_UNSUPPORTED_ALGORITHM
@@ -29,6 +29,7 @@ const (
 	InvalidSubject       uint32 = C.JWT_INVALID_SUBJECT
 	ImmatureSignature    uint32 = C.JWT_IMMATURE_SIGNATURE
 	InvalidAlgorithm     uint32 = C.JWT_INVALID_ALGORITHM
+	Signing              uint32 = C.JWT_SIGNING
 	OutOfMemory          uint32 = C.JWT_OUT_OF_MEMORY
 	NoKey                uint32 = C.JWT_NO_KEY
 )
@@ -42,7 +43,7 @@ var ErrUnknownClaim = errors.New("jwt: a required claim is not one of exp, nbf, 
 
 // Refused is a refusal.
 type Refused struct {
-	// Status is the number that include/jwt.h names.
+	// Status is the number that include/jwtproved.h names.
 	Status uint32
 	text   string
 }
@@ -50,7 +51,7 @@ type Refused struct {
 // Error returns the library's text of the refusal, as "InvalidSignature".
 func (refused Refused) Error() string { return refused.text }
 
-// Options are the conditions on a token. Their names are those of include/jwt.h, and so are the defaults of fields that are nil.
+// Options are the conditions on a token. Their names are those of include/jwtproved.h, and so are the defaults of fields that are nil.
 type Options struct {
 	Algorithms                     []string `json:"algorithms"`
 	RequiredSpecClaims             []string `json:"required_spec_claims"`
@@ -84,9 +85,25 @@ type SignedPart struct {
 	Signature []byte
 }
 
-// The algorithms, in the order of their numbers in include/jwt.h, from 1 on.
+// SigningInput has the parts of a token that are to be signed elsewhere. The algorithm is the one that the header names.
+type SigningInput struct {
+	Algorithm string
+	Message   []byte
+}
+
+// The algorithms, in the order of their numbers in include/jwtproved.h, from 1 on.
 var algorithms = []string{
 	"HS256", "HS384", "HS512", "RS256", "RS384", "RS512", "PS256", "PS384", "PS512", "ES256", "ES384", "EdDSA",
+}
+
+// numberOf returns the number of the algorithm of this name, or 0.
+func numberOf(algorithm string) C.uint32_t {
+	for i, name := range algorithms {
+		if name == algorithm {
+			return C.uint32_t(i + 1)
+		}
+	}
+	return 0
 }
 
 func slice(bytes []byte) (*C.uint8_t, C.size_t) {
@@ -225,12 +242,7 @@ func DecodeByVerdict(token []byte, part SignedPart, verdict bool, options Option
 	if err != nil {
 		return nil, err
 	}
-	number := C.uint32_t(0)
-	for i, name := range algorithms {
-		if name == part.Algorithm {
-			number = C.uint32_t(i + 1)
-		}
-	}
+	number := numberOf(part.Algorithm)
 	return given(func(buffer *C.uint8_t, size C.size_t, length *C.size_t) C.uint32_t {
 		tokenAt, tokenLen := slice(token)
 		messageAt, messageLen := slice(part.Message)
@@ -259,6 +271,42 @@ func Encode(header, claims, secret []byte) ([]byte, error) {
 		claimsAt, claimsLen := slice(claims)
 		secretAt, secretLen := slice(secret)
 		return C.jwt_encode_hmac(headerAt, headerLen, claimsAt, claimsLen, secretAt, secretLen, buffer, size, length)
+	})
+}
+
+// InputToSign returns the parts of a token of a header and claims that are to be signed elsewhere.
+func InputToSign(header, claims []byte) (SigningInput, error) {
+	var number C.uint32_t
+	message, err := given(func(buffer *C.uint8_t, size C.size_t, length *C.size_t) C.uint32_t {
+		headerAt, headerLen := slice(header)
+		claimsAt, claimsLen := slice(claims)
+		return C.jwt_signing_input(headerAt, headerLen, claimsAt, claimsLen, &number, buffer, size, length)
+	})
+	if err != nil {
+		return SigningInput{}, err
+	}
+	return SigningInput{algorithms[number-1], message}, nil
+}
+
+// EncodeBySignature returns the token of a header and claims, with the signature of their message that was made elsewhere.
+func EncodeBySignature(header, claims []byte, part SignedPart) ([]byte, error) {
+	number := numberOf(part.Algorithm)
+	return given(func(buffer *C.uint8_t, size C.size_t, length *C.size_t) C.uint32_t {
+		headerAt, headerLen := slice(header)
+		claimsAt, claimsLen := slice(claims)
+		messageAt, messageLen := slice(part.Message)
+		signatureAt, signatureLen := slice(part.Signature)
+		return C.jwt_encode_signature(headerAt, headerLen, claimsAt, claimsLen, number, messageAt, messageLen, signatureAt,
+			signatureLen, buffer, size, length)
+	})
+}
+
+// EcdsaSignature returns a signature by ES256 or ES384 as a token has it, from one in DER, as crypto/ecdsa and a KMS make it.
+func EcdsaSignature(der []byte, algorithm string) ([]byte, error) {
+	number := numberOf(algorithm)
+	return given(func(buffer *C.uint8_t, size C.size_t, length *C.size_t) C.uint32_t {
+		derAt, derLen := slice(der)
+		return C.jwt_ecdsa_signature(derAt, derLen, number, buffer, size, length)
 	})
 }
 

@@ -1,4 +1,4 @@
-//! Verifies, reads and issues JSON Web Tokens (RFC 7519) by the proved library, through its calls for C (`include/jwt.h`).
+//! Verifies, reads and issues JSON Web Tokens (RFC 7519) by the proved library, through its calls for C (`include/jwtproved.h`).
 //!
 //! Moments are in whole seconds since 1970-01-01 00:00:00 UTC. Claims, headers and keys are JSON. A secret has at least 32 bytes
 //! for HS256, 48 for HS384 and 64 for HS512 (RFC 7518 section 3.2); the crate refuses an empty one, and leaves the rest to the
@@ -28,6 +28,18 @@ mod calls {
             header: *const u8, header_len: usize, claims: *const u8, claims_len: usize, secret: *const u8, secret_len: usize,
             buffer: *mut u8, buffer_len: usize, len: *mut usize,
         ) -> u32;
+        pub fn jwt_signing_input(
+            header: *const u8, header_len: usize, claims: *const u8, claims_len: usize, algorithm: *mut u32,
+            buffer: *mut u8, buffer_len: usize, len: *mut usize,
+        ) -> u32;
+        pub fn jwt_encode_signature(
+            header: *const u8, header_len: usize, claims: *const u8, claims_len: usize, algorithm: u32,
+            message: *const u8, message_len: usize, signature: *const u8, signature_len: usize,
+            buffer: *mut u8, buffer_len: usize, len: *mut usize,
+        ) -> u32;
+        pub fn jwt_ecdsa_signature(
+            der: *const u8, der_len: usize, algorithm: u32, buffer: *mut u8, buffer_len: usize, len: *mut usize,
+        ) -> u32;
         pub fn jwt_thumbprint(
             key: *const u8, key_len: usize, bits: u32, buffer: *mut u8, buffer_len: usize, len: *mut usize,
         ) -> u32;
@@ -47,7 +59,7 @@ mod calls {
 
 const TOO_SMALL: u32 = 100;
 
-/// The algorithms, in the order of their numbers in `include/jwt.h`, from 1 on.
+/// The algorithms, in the order of their numbers in `include/jwtproved.h`, from 1 on.
 pub const ALGORITHMS: [&str; 12] = [
     "HS256", "HS384", "HS512", "RS256", "RS384", "RS512", "PS256", "PS384", "PS512", "ES256", "ES384", "EdDSA",
 ];
@@ -55,12 +67,12 @@ pub const ALGORITHMS: [&str; 12] = [
 /// A refusal.
 #[derive(Clone, Debug, PartialEq, Eq)]
 pub struct Refused {
-    /// The number that `include/jwt.h` names, as [`Refused::EXPIRED_SIGNATURE`].
+    /// The number that `include/jwtproved.h` names, as [`Refused::EXPIRED_SIGNATURE`].
     pub status: u32,
     text: String,
 }
 
-/// The statuses that callers act on; `include/jwt.h` has all of them.
+/// The statuses that callers act on; `include/jwtproved.h` has all of them.
 impl Refused {
     pub const INVALID_SIGNATURE: u32 = 2;
     pub const UNSUPPORTED_ALGORITHM: u32 = 7;
@@ -71,6 +83,7 @@ impl Refused {
     pub const INVALID_SUBJECT: u32 = 12;
     pub const IMMATURE_SIGNATURE: u32 = 13;
     pub const INVALID_ALGORITHM: u32 = 14;
+    pub const SIGNING: u32 = 17;
     pub const OUT_OF_MEMORY: u32 = 22;
     pub const NO_KEY: u32 = 25;
 }
@@ -123,6 +136,20 @@ pub struct SignedPart<'a> {
     pub message: &'a [u8],
     /// The signature's bytes.
     pub signature: Vec<u8>,
+}
+
+/// The parts of a token that are to be signed elsewhere.
+#[derive(Clone, Debug, PartialEq, Eq)]
+pub struct SigningInput {
+    /// The name of the header's algorithm.
+    pub algorithm: &'static str,
+    /// The bytes that are to be signed.
+    pub message: Vec<u8>,
+}
+
+// Returns the number of the algorithm of this name, or one that is no algorithm's.
+fn number_of(algorithm: &str) -> u32 {
+    1 + ALGORITHMS.iter().position(|it| *it == algorithm).unwrap_or(ALGORITHMS.len()) as u32
 }
 
 // Returns the bytes that a call writes to a buffer, which is made larger once if it is too small.
@@ -219,6 +246,35 @@ pub fn encode(header: &str, claims: &str, secret: &[u8]) -> Result<String, Error
     Ok(text(token))
 }
 
+/// Returns the parts of a token of a header and claims, which are JSON, that are to be signed elsewhere.
+pub fn signing_input(header: &str, claims: &str) -> Result<SigningInput, Refused> {
+    let number = std::cell::Cell::new(0);
+    let message = given(|buffer, size, len| unsafe {
+        calls::jwt_signing_input(
+            header.as_ptr(), header.len(), claims.as_ptr(), claims.len(), number.as_ptr(), buffer, size, len,
+        )
+    })?;
+    Ok(SigningInput { algorithm: ALGORITHMS[number.get() as usize - 1], message })
+}
+
+/// Returns the token of a header and claims, which are JSON, with the signature of their message that was made elsewhere.
+pub fn encode_by_signature(header: &str, claims: &str, part: &SignedPart) -> Result<String, Refused> {
+    let (message, signature) = (part.message, &part.signature);
+    given(|buffer, size, len| unsafe {
+        calls::jwt_encode_signature(
+            header.as_ptr(), header.len(), claims.as_ptr(), claims.len(), number_of(part.algorithm), message.as_ptr(),
+            message.len(), signature.as_ptr(), signature.len(), buffer, size, len,
+        )
+    })
+    .map(text)
+}
+
+/// Returns a signature by ES256 or ES384 as a token has it, from one in DER, as OpenSSL and a KMS make it.
+pub fn ecdsa_signature(der: &[u8], algorithm: &str) -> Result<Vec<u8>, Refused> {
+    let number = number_of(algorithm);
+    given(|buffer, size, len| unsafe { calls::jwt_ecdsa_signature(der.as_ptr(), der.len(), number, buffer, size, len) })
+}
+
 /// Returns the thumbprint (RFC 7638) of a key, which is JSON, by SHA-2 with 256, 384 or 512 bits.
 pub fn thumbprint(key: &str, bits: u32) -> Result<String, Refused> {
     given(|buffer, size, len| unsafe { calls::jwt_thumbprint(key.as_ptr(), key.len(), bits, buffer, size, len) }).map(text)
@@ -238,7 +294,7 @@ pub fn signed_part(token: &str) -> Result<SignedPart<'_>, Refused> {
 pub fn decode_by_verdict(
     token: &str, part: &SignedPart, verdict: bool, options: &Options, now: u64,
 ) -> Result<String, Refused> {
-    let number = 1 + ALGORITHMS.iter().position(|it| *it == part.algorithm).unwrap_or(ALGORITHMS.len()) as u32;
+    let number = number_of(part.algorithm);
     let (message, signature, options) = (part.message, &part.signature, options.to_json());
     given(|buffer, size, len| unsafe {
         calls::jwt_decode_verdict(

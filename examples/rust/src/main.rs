@@ -1,4 +1,4 @@
-//! Verifies tokens by a secret, by a key, by a key set and by a verdict, issues one, and shows refusals by their texts. The last
+//! Verifies tokens by a secret, by a key, by a key set and by a verdict, issues two, and shows refusals by their texts. The last
 //! line counts.
 
 #[cfg(feature = "openssl")]
@@ -118,6 +118,34 @@ fn by_keys() -> Vec<(String, &'static str)> {
     ]
 }
 
+/// Returns rows of a token of the claims with the signature that the key of RFC 7515 appendix A.3 made elsewhere, in DER.
+fn signed_elsewhere() -> Vec<(String, &'static str)> {
+    const HEADER: &str = r#"{"alg":"ES256","typ":"JWT"}"#;
+    const CLAIMS: &str = r#"{"aud":"my-service","exp":2532524891}"#;
+    // by Python's cryptography
+    const DER: [u8; 71] = [
+        48, 69, 2, 33, 0, 155, 158, 226, 40, 132, 85, 140, 161, 255, 196, 89, 147, 107, 4, 163, 243, 89, 78, 80, 180, 33, 91,
+        191, 254, 165, 225, 126, 63, 236, 56, 141, 28, 2, 32, 97, 18, 16, 148, 120, 60, 27, 189, 60, 135, 245, 15, 184, 142,
+        227, 19, 229, 231, 212, 48, 141, 255, 43, 37, 202, 118, 99, 158, 232, 158, 16, 223,
+    ];
+    let issued = |claims: &str, signature: Vec<u8>| {
+        let input = jwt::signing_input(HEADER, CLAIMS)?;
+        let part = jwt::SignedPart { algorithm: input.algorithm, message: &input.message, signature };
+        jwt::encode_by_signature(HEADER, claims, &part)
+    };
+    let key = r#"{"kty":"EC","crv":"P-256","x":"f83OJ3D2xF1Bg8vub9tLe1gHMzV76e8Tus9uPHvRVEU","y":"x_FEzRu9m36HLN_tue659LNpXW6pCyStikYjKIWI5a0"}"#;
+    let signature = jwt::ecdsa_signature(&DER, "ES256").unwrap_or_default();
+    let options = Options::new(&["ES256"]).aud(&["my-service"]);
+    let verified = issued(CLAIMS, signature.clone()).map(|token| shown(jwt::decode_with_key(&token, key, &options, 0)));
+    vec![
+        (shown(verified), CLAIMS),
+        (shown(issued(CLAIMS, DER.to_vec())), "Signing failed: "),
+        (shown(issued("{}", signature)), "Signing failed: "),
+        (shown(jwt::ecdsa_signature(&DER, "RS256").map(|_| String::new())), "InvalidAlgorithm"),
+        (shown(jwt::ecdsa_signature(&DER[..70], "ES256").map(|_| String::new())), "InvalidSignature"),
+    ]
+}
+
 /// Returns rows of a result and the wanted one.
 fn tokens() -> Vec<(String, &'static str)> {
     let every = hs256().leeway(0).reject_tokens_expiring_in_less_than(10).validate_exp(true).validate_nbf(true).iss(&["i"]);
@@ -176,7 +204,7 @@ fn slips() -> Vec<(String, &'static str)> {
 }
 
 fn main() {
-    let answers: Vec<_> = [tokens(), by_keys(), slips(), by_curve()].into_iter().flatten().collect();
+    let answers: Vec<_> = [tokens(), by_keys(), slips(), by_curve(), signed_elsewhere()].into_iter().flatten().collect();
     let mut failed = 0;
     for (answer, wanted) in &answers {
         println!("{answer}");

@@ -1,4 +1,4 @@
-//! The conditions on a token, as the JSON object that `include/jwt.h` describes.
+//! The conditions on a token, as the JSON object that `include/jwtproved.h` describes.
 
 use crate::Error;
 use std::collections::BTreeMap;
@@ -36,7 +36,7 @@ impl FromStr for Claim {
     }
 }
 
-/// The conditions on a token. An option that is not set has its default in `include/jwt.h`.
+/// The conditions on a token. An option that is not set has its default in `include/jwtproved.h`.
 #[derive(Clone, Debug, PartialEq, Eq)]
 pub struct Options(BTreeMap<&'static str, String>);
 
