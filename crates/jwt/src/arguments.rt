@@ -1,0 +1,340 @@
+//! The arguments of the program: its commands, and what each takes.
+
+use clap::{Arg, ArgAction, ArgGroup, Command};
+use std::alloc::{AllocError, Global};
+
+/// How often an argument may be given, and whether a value follows it.
+#[derive(Clone, Copy)]
+enum Shape {
+    /// A word that is on or off.
+    Flag,
+    /// A value, once at most.
+    Once,
+    /// A value, once.
+    Needed,
+    /// A value each time.
+    Repeated,
+    /// A value without a name before it.
+    Place,
+    /// The same, which has to be given.
+    NeededPlace,
+}
+
+/// An argument, as help shows it.
+#[derive(Clone, Copy)]
+struct Entry {
+    name: &'static str,
+    shape: Shape,
+    value: &'static str,
+    help: &'static str,
+}
+
+const fn flag(name: &'static str, help: &'static str) -> Entry {
+    Entry {
+        name,
+        shape: Shape::Flag,
+        value: "",
+        help,
+    }
+}
+
+const fn once(name: &'static str, value: &'static str, help: &'static str) -> Entry {
+    Entry {
+        name,
+        shape: Shape::Once,
+        value,
+        help,
+    }
+}
+
+const fn repeated(name: &'static str, value: &'static str, help: &'static str) -> Entry {
+    Entry {
+        name,
+        shape: Shape::Repeated,
+        value,
+        help,
+    }
+}
+
+const fn needed(name: &'static str, value: &'static str, help: &'static str) -> Entry {
+    Entry {
+        name,
+        shape: Shape::Needed,
+        value,
+        help,
+    }
+}
+
+const fn place(name: &'static str, value: &'static str, help: &'static str) -> Entry {
+    Entry {
+        name,
+        shape: Shape::NeededPlace,
+        value,
+        help,
+    }
+}
+
+const NOW: Entry = Entry {
+    name: "now",
+    shape: Shape::Once,
+    value: "TIME",
+    help: "Take this moment for now: seconds since 1970 UTC, or RFC 3339",
+};
+
+const TOKEN: Entry = Entry {
+    name: "token",
+    shape: Shape::Place,
+    value: "TOKEN",
+    help: "The token; '-', or none, reads it from standard input",
+};
+
+fn key_entries() -> [Entry; 5] {
+    [
+        once(
+            "secret-file",
+            "FILE",
+            "Verify by HMAC with the bytes of this file as the secret",
+        ),
+        once("jwk", "FILE", "Verify with this JSON Web Key (RFC 7517)"),
+        once(
+            "jwks",
+            "FILE",
+            "Verify with the key of this set that the token's 'kid' names",
+        ),
+        once(
+            "pem",
+            "FILE",
+            "Verify with this public key in PEM (RFC 7468)",
+        ),
+        flag(
+            "trim",
+            "Leave one newline at the end of the secret file out of the secret",
+        ),
+    ]
+}
+
+fn option_entries() -> [Entry; 13] {
+    [
+        repeated(
+            "alg",
+            "ALG",
+            "Accept this algorithm (default: the 'alg' of the key)",
+        ),
+        repeated(
+            "aud",
+            "AUDIENCE",
+            "Accept tokens whose 'aud' names this audience",
+        ),
+        repeated("iss", "ISSUER", "Accept tokens of this issuer only"),
+        once("sub", "SUBJECT", "Accept tokens of this subject only"),
+        once(
+            "leeway",
+            "SPAN",
+            "Accept tokens this long after 'exp' and before 'nbf' (default: 60s)",
+        ),
+        once(
+            "not-within",
+            "SPAN",
+            "Refuse tokens this long before they expire (default: 0s)",
+        ),
+        repeated(
+            "require",
+            "CLAIM",
+            "Require this claim: 'exp', 'nbf', 'aud', 'iss' or 'sub'",
+        ),
+        flag("nbf", "Check 'nbf'"),
+        flag("no-exp", "Neither require nor check 'exp'"),
+        repeated(
+            "crit",
+            "NAME",
+            "Understand this member in the header's 'crit'",
+        ),
+        once("typ", "TYPE", "Accept tokens of this 'typ' only"),
+        NOW,
+        once(
+            "options",
+            "FILE",
+            "Begin with the options of this JSON file",
+        ),
+    ]
+}
+
+fn argument<'a>(alloc: Global, entry: Entry) -> Arg<'a> {
+    let named = Arg::new(alloc, entry.name).help(entry.help);
+    match entry.shape {
+        Shape::Flag => named.long(entry.name).action(ArgAction::SetTrue),
+        Shape::Once => named
+            .long(entry.name)
+            .value_name(entry.value)
+            .action(ArgAction::Set),
+        Shape::Needed => named
+            .long(entry.name)
+            .value_name(entry.value)
+            .action(ArgAction::Set)
+            .required(true),
+        Shape::Repeated => named
+            .long(entry.name)
+            .value_name(entry.value)
+            .action(ArgAction::Append),
+        Shape::Place => named.value_name(entry.value).action(ArgAction::Set),
+        Shape::NeededPlace => named
+            .value_name(entry.value)
+            .action(ArgAction::Set)
+            .required(true),
+    }
+}
+
+fn with_entries<'a>(
+    alloc: Global,
+    command: Command<'a>,
+    entries: &[Entry],
+) -> Result<Command<'a>, AllocError> {
+    let mut command = command;
+    for entry in entries {
+        command = command.arg(argument(alloc, *entry))?;
+    }
+    Ok(command)
+}
+
+fn key_group<'a>(alloc: Global) -> Result<ArgGroup<'a>, AllocError> {
+    let group = ArgGroup::new(alloc, "key").required(true);
+    group
+        .arg("secret-file")?
+        .arg("jwk")?
+        .arg("jwks")?
+        .arg("pem")
+}
+
+fn with_keys<'a>(alloc: Global, command: Command<'a>) -> Result<Command<'a>, AllocError> {
+    let command = with_entries(alloc, command, &key_entries())?;
+    command.group(key_group(alloc)?)
+}
+
+fn checking<'a>(alloc: Global, command: Command<'a>) -> Result<Command<'a>, AllocError> {
+    let command = with_entries(alloc, command, &[TOKEN])?;
+    let command = with_keys(alloc, command)?;
+    let command = with_entries(alloc, command, &option_entries())?;
+    with_entries(
+        alloc,
+        command,
+        &[flag("json", "Write the answer as one line of JSON")],
+    )
+}
+
+fn verify<'a>(alloc: Global) -> Result<Command<'a>, AllocError> {
+    let command = Command::new(alloc, "verify").about("Verify a token and print its claims");
+    let command = checking(alloc, command)?;
+    with_entries(
+        alloc,
+        command,
+        &[
+            flag(
+                "header",
+                "Print the header too, on a line before the claims",
+            ),
+            flag(
+                "lines",
+                "Read a token a line, and answer each by a line of JSON",
+            ),
+        ],
+    )
+}
+
+fn explain<'a>(alloc: Global) -> Result<Command<'a>, AllocError> {
+    let command = Command::new(alloc, "explain").about(
+        "Explain each test of a token, and when it is accepted",
+    );
+    checking(alloc, command)
+}
+
+fn show<'a>(alloc: Global) -> Result<Command<'a>, AllocError> {
+    let command = Command::new(alloc, "show").about(
+        "Print header and claims of a token, unverified",
+    );
+    with_entries(
+        alloc,
+        command,
+        &[TOKEN, NOW, flag("json", "Write one line of JSON")],
+    )
+}
+
+fn sign_entries() -> [Entry; 10] {
+    [
+        needed(
+            "secret-file",
+            "FILE",
+            "Sign by HMAC with the bytes of this file as the secret",
+        ),
+        flag(
+            "trim",
+            "Leave one newline at the end of the secret file out of the secret",
+        ),
+        once(
+            "claims",
+            "FILE",
+            "Read the claims from this file (default: standard input)",
+        ),
+        once(
+            "alg",
+            "ALG",
+            "Sign by HS256, HS384 or HS512 (default: HS256)",
+        ),
+        once("kid", "NAME", "Write this 'kid' into the header"),
+        once(
+            "typ",
+            "TYPE",
+            "Write this 'typ' into the header (default: JWT)",
+        ),
+        once(
+            "exp-in",
+            "SPAN",
+            "Let the token expire after this span, as 15m or 12h",
+        ),
+        once("nbf-in", "SPAN", "Let the token be valid after this span"),
+        flag("iat", "Write the moment into 'iat'"),
+        NOW,
+    ]
+}
+
+fn sign<'a>(alloc: Global) -> Result<Command<'a>, AllocError> {
+    let command = Command::new(alloc, "sign").about("Sign claims, and print the token");
+    with_entries(alloc, command, &sign_entries())
+}
+
+fn keys<'a>(alloc: Global) -> Result<Command<'a>, AllocError> {
+    let command = Command::new(alloc, "keys").about("Print a table of a key set");
+    with_entries(
+        alloc,
+        command,
+        &[place("file", "FILE", "A set of JSON Web Keys (RFC 7517)")],
+    )
+}
+
+fn thumbprint<'a>(alloc: Global) -> Result<Command<'a>, AllocError> {
+    let command = Command::new(alloc, "thumbprint").about(
+        "Print the thumbprint of a key (RFC 7638)",
+    );
+    with_entries(
+        alloc,
+        command,
+        &[
+            place("file", "FILE", "A JSON Web Key, or a public key in PEM"),
+            once("hash", "HASH", "SHA256, SHA384 or SHA512 (default: SHA256)"),
+        ],
+    )
+}
+
+/// Returns the command with all that it takes.
+pub fn command<'a>(alloc: Global) -> Result<Command<'a>, AllocError> {
+    let command = Command::new(alloc, "jwt")
+        .version("0.1.0")
+        .about("Verify, explain, show and sign JSON Web Tokens")
+        .subcommand_required(true)
+        .arg_required_else_help(true);
+    let command = command.subcommand(verify(alloc)?)?;
+    let command = command.subcommand(explain(alloc)?)?;
+    let command = command.subcommand(show(alloc)?)?;
+    let command = command.subcommand(sign(alloc)?)?;
+    let command = command.subcommand(keys(alloc)?)?;
+    command.subcommand(thumbprint(alloc)?)
+}

@@ -1,0 +1,275 @@
+//! What a token has in the place of what a test asks for.
+
+use crate::claim_findings::claim_finding;
+use crate::fault::{Fault, unless_refused};
+use crate::keys::{Keys, Loaded};
+use crate::part_findings::{cut, part_finding, text_finding};
+use crate::verdict::failed;
+use jsonwebtoken::errors::Error;
+use jsonwebtoken::jwk::JwkSet;
+use jsonwebtoken::{Algorithm, AlgorithmFamily, Header, Test, Text, Validation, decode_header};
+use jwt_base::serialization::{json_value, part_bytes};
+use serde_json::Value;
+use std::alloc::{AllocError, Global};
+
+/// A token, and all that it is checked with.
+#[derive(Clone, Copy)]
+pub struct Case<'c> {
+    pub token: &'c [u8],
+    pub loaded: &'c Loaded,
+    pub validation: &'c Validation,
+    /// The moment, in seconds since 1970-01-01 00:00:00 UTC.
+    pub now: u64,
+}
+
+/// Returns the first test of the library that fails.
+pub fn first_failed(alloc: Global, case: Case<'_>) -> Result<Option<Test>, Fault<'static>> {
+    match failed(alloc, case.token, case.loaded, case.validation, case.now) {
+        Ok(test) => Ok(test),
+        Err(_) => Err(Fault::Memory),
+    }
+}
+
+/// What a test found, and what it asks for.
+#[derive(Drop)]
+pub struct Finding {
+    pub found: String,
+    pub wanted: String,
+}
+
+impl Finding {
+    /// Returns the finding of these two sentences.
+    pub fn new(alloc: Global, found: &str, wanted: &str) -> Result<Finding, Fault<'static>> {
+        Ok(Finding {
+            found: String::from_str(alloc, found)?,
+            wanted: String::from_str(alloc, wanted)?,
+        })
+    }
+}
+
+/// The number of names that a list shows.
+const SHOWN_NAMES: usize = 8;
+
+/// The number of characters of a text that are shown.
+const SHOWN_CHARACTERS: usize = 100;
+
+/// Returns a text of a token in quotes, with its control characters escaped, and cut if it is long.
+pub fn quoted(alloc: Global, text: &str) -> Result<String, AllocError> {
+    let mut start = String::new(alloc);
+    for character in text.chars().take(SHOWN_CHARACTERS) {
+        start.push(character)?;
+    }
+    if start.len() < text.len() {
+        return format!(in alloc; "{start:?}..");
+    }
+    format!(in alloc; "{start:?}")
+}
+
+/// Returns these names as a list in words: `a`, `a or b`, `a, b or c`.
+pub fn choice(alloc: Global, names: &[String]) -> Result<String, AllocError> {
+    let mut words = String::new(alloc);
+    let count = names.len();
+    for (place, name) in names.iter().take(SHOWN_NAMES).enumerate() {
+        if place > 0 {
+            words.push_str(if place + 1 == count { " or " } else { ", " })?;
+        }
+        words.push_str(name.as_str())?;
+    }
+    if count > SHOWN_NAMES {
+        words.push_str(" or another of ")?;
+        words.push_str(format!(in alloc; "{count}")?.as_str())?;
+    }
+    Ok(words)
+}
+
+fn algorithm_names(alloc: Global, algorithms: &[Algorithm]) -> Result<String, AllocError> {
+    let mut names = Vec::new(alloc);
+    for algorithm in algorithms {
+        names.push(String::from_str(alloc, algorithm.name())?)?;
+    }
+    choice(alloc, &names)
+}
+
+fn kid_names(alloc: Global, set: &JwkSet) -> Result<String, AllocError> {
+    let mut names = Vec::new(alloc);
+    for jwk in &set.keys {
+        if let Some(kid) = &jwk.common.key_id {
+            names.push(quoted(alloc, kid.as_str())?)?;
+        }
+    }
+    choice(alloc, &names)
+}
+
+fn key_name(family: AlgorithmFamily) -> &'static str {
+    match family {
+        AlgorithmFamily::Hmac => "a secret, for HS256, HS384 and HS512",
+        AlgorithmFamily::Rsa => "an RSA key, for RS256 to RS512 and PS256 to PS512",
+        AlgorithmFamily::Ec => "a key of an elliptic curve, for ES256 (P-256) or ES384 (P-384)",
+        AlgorithmFamily::Ed => "an Ed25519 key, for EdDSA",
+    }
+}
+
+fn no_such_kid(alloc: Global, kid: &Option<Text>, keys: &Keys) -> Result<Finding, Fault<'static>> {
+    let found = match kid {
+        Some(kid) => format!(in alloc; "the kid {}", quoted(alloc, kid.as_str())?)?,
+        None => String::from_str(alloc, "a header without a kid")?,
+    };
+    let names = match keys {
+        Keys::Set(set) => kid_names(alloc, set)?,
+        Keys::One(_) => String::new(alloc),
+    };
+    let wanted = if names.is_empty() {
+        String::from_str(alloc, "the kid of a key of the set, of which none has one")?
+    } else {
+        format!(in alloc; "the kid of a key of the set: {names}")?
+    };
+    Ok(Finding { found, wanted })
+}
+
+/// Returns the name of the algorithm that the key of a set is for.
+fn named_algorithm(header: &Header, keys: &Keys) -> &'static str {
+    let (Some(kid), Keys::Set(set)) = (&header.kid, keys) else {
+        return "none";
+    };
+    match set.find(kid.as_str()) {
+        Some(jwk) => match &jwk.common.key_algorithm {
+            Some(named) => named.name(),
+            None => "none",
+        },
+        None => "none",
+    }
+}
+
+fn other_algorithm(
+    alloc: Global,
+    header: &Header,
+    wanted: &str,
+) -> Result<Finding, Fault<'static>> {
+    Ok(Finding {
+        found: format!(in alloc; "the algorithm {}", header.alg.name())?,
+        wanted: String::from_str(alloc, wanted)?,
+    })
+}
+
+/// Returns the finding of an algorithm that is not listed, or that others of its list do not fit.
+fn not_listed(
+    alloc: Global,
+    header: &Header,
+    validation: &Validation,
+) -> Result<Finding, Fault<'static>> {
+    let names = algorithm_names(alloc, &validation.algorithms)?;
+    other_algorithm(alloc, header, names.as_str())
+}
+
+fn no_family(
+    alloc: Global,
+    header: &Header,
+    validation: &Validation,
+) -> Result<Finding, Fault<'static>> {
+    let names = algorithm_names(alloc, &validation.algorithms)?;
+    Ok(Finding {
+        found: format!(in alloc; "{names} are accepted, of different families")?,
+        wanted: format!(in alloc; "algorithms of the family of {} alone", header.alg.name())?,
+    })
+}
+
+fn no_verifier(alloc: Global, header: &Header, keys: &Keys) -> Result<Finding, Fault<'static>> {
+    let found = match keys {
+        Keys::One(key) => key_name(key.family()),
+        Keys::Set(_) => "a key of the set that does not fit",
+    };
+    Ok(Finding {
+        found: String::from_str(alloc, found)?,
+        wanted: format!(in alloc; "a key for {}, the token's algorithm", header.alg.name())?,
+    })
+}
+
+fn not_understood(alloc: Global, header: &Header) -> Result<Finding, Fault<'static>> {
+    let mut names = Vec::new(alloc);
+    if let Some(texts) = &header.crit {
+        for text in texts.as_slice() {
+            names.push(quoted(alloc, text.as_str())?)?;
+        }
+    }
+    Ok(Finding {
+        found: format!(in alloc; "a 'crit' that lists {}", choice(alloc, &names)?)?,
+        wanted: String::from_str(
+            alloc,
+            "names that the header has and --crit gives, each once, and no name of RFC 7515 itself",
+        )?,
+    })
+}
+
+/// Returns the finding of a test of the header's members.
+fn header_finding(
+    alloc: Global,
+    case: Case<'_>,
+    test: Test,
+    header: &Header,
+) -> Result<Finding, Fault<'static>> {
+    match test {
+        Test::CritIsUnderstood => not_understood(alloc, header),
+        Test::KeyIsFound => no_such_kid(alloc, &header.kid, &case.loaded.keys),
+        Test::KeyAlgorithmAgrees => other_algorithm(
+            alloc,
+            header,
+            named_algorithm(header, &case.loaded.keys),
+        ),
+        Test::AlgorithmIsListed => not_listed(alloc, header, case.validation),
+        Test::FamiliesAgree => no_family(alloc, header, case.validation),
+        _ => no_verifier(alloc, header, &case.loaded.keys),
+    }
+}
+
+fn by_header(alloc: Global, case: Case<'_>, test: Test) -> Result<Finding, Fault<'static>> {
+    match decode_header(alloc, case.token) {
+        Ok(header) => header_finding(alloc, case, test, &header),
+        Err(_) => Err(Fault::Memory),
+    }
+}
+
+/// Returns the value of a part, or `None` if it is no base64url or no JSON.
+pub fn part_value(alloc: Global, part: &[u8]) -> Result<Option<Value>, Fault<'static>> {
+    match unless_refused(part_bytes(alloc, part))? {
+        Some(bytes) => unless_refused(json_value(alloc, &bytes)),
+        None => Ok(None),
+    }
+}
+
+/// Returns the finding of a test that fails, whose refusal has this error.
+pub fn finding_of(
+    alloc: Global,
+    case: Case<'_>,
+    test: Test,
+    error: &Error,
+) -> Result<Finding, Fault<'static>> {
+    let Some(parts) = cut(case.token) else {
+        return text_finding(alloc, case.token);
+    };
+    match test {
+        Test::HeaderIsPart | Test::HeaderIsJson | Test::HeaderReads => {
+            part_finding(alloc, parts.header, test)
+        }
+        Test::SignatureIsPart => part_finding(alloc, parts.signature, test),
+        Test::PayloadIsPart | Test::PayloadIsJson | Test::ClaimsRead | Test::ClaimsAreAnObject => {
+            part_finding(alloc, parts.payload, test)
+        }
+        Test::KeyIsUsable => Finding::new(
+            alloc,
+            "a key whose members are malformed, or that verifies nothing here",
+            "the members of RFC 7518 section 6 or RFC 8037 section 2; 'jwt keys' says more",
+        ),
+        Test::AlgorithmsAreListed => Finding::new(
+            alloc,
+            "no algorithm that is accepted",
+            "--alg, or a key with an 'alg' of its own",
+        ),
+        Test::SignatureIsAccepted => Finding::new(
+            alloc,
+            "a signature that is not one of this header and payload by this key",
+            "the key that the token was signed with, and the token as it was issued",
+        ),
+        Test::ClaimRulesHold => claim_finding(alloc, case, parts.payload, error),
+        _ => by_header(alloc, case, test),
+    }
+}

@@ -1,0 +1,293 @@
+//! The keys that a token is verified with, from their files.
+
+ghost use Rattle.std.specs.Prelude.{◌≡◌, OnOk, IfOk, option_and_then};
+ghost use Rattle.jwt_base.specs.Algorithm.{algorithm_of};
+ghost use Rattle.jwt_validation.specs.OptionsOf.{options_of};
+ghost use Rattle.jwt.specs.LineEnd.{IsSecret};
+ghost use Rattle.jwt.specs.Own.{named_own, IsNamedBy, IsOwn, IsOwnOf};
+
+use crate::fault::{Fault, unless_refused};
+use crate::files::{file_bytes, without_line_end};
+use crate::prepared::PreparedKeys;
+use crate::request::KeyFile;
+use jsonwebtoken::errors::{Error, ErrorKind};
+use jsonwebtoken::jwk::{Jwk, JwkSet};
+use jsonwebtoken::{Algorithm, DecodingKey, Header, Validation, decode_header};
+use jwt_key_files::pem::public_key_from_pem;
+use std::alloc::Global;
+use std::rt::Files;
+
+/// The keys that a token is verified with.
+#[derive(Drop)]
+pub enum Keys {
+    /// One key.
+    One(DecodingKey),
+    /// A set, in which the header of a token names one.
+    Set(JwkSet),
+}
+
+/// Keys, with what their file says of them.
+#[derive(Drop)]
+pub struct Loaded {
+    pub keys: Keys,
+    /// The algorithm that the one key is for.
+    pub own: Option<Algorithm>,
+    /// Whether the secret ends with a newline.
+    pub has_line_end: bool,
+    /// The provider that verifies with the keys.
+    pub provider: PreparedKeys,
+}
+
+/// The number of keys of a set that are prepared: to look for one takes longer, the more there are.
+const PREPARED: usize = 16;
+
+/// Prepares a key for the algorithms that are accepted, or for its own if none is named.
+fn prepare_key(
+    alloc: Global,
+    provider: &mut PreparedKeys,
+    key: &DecodingKey,
+    own: Option<Algorithm>,
+    algorithms: &[Algorithm],
+) -> Result<(), Fault<'static>> {
+    if let (Some(algorithm), true) = (own, algorithms.is_empty()) {
+        provider.add(alloc, algorithm, key)?;
+    }
+    for algorithm in algorithms {
+        provider.add(alloc, *algorithm, key)?;
+    }
+    Ok(())
+}
+
+/// Prepares the first keys of a set. A key that is malformed is left out.
+fn prepare_set(
+    alloc: Global,
+    provider: &mut PreparedKeys,
+    set: &JwkSet,
+    algorithms: &[Algorithm],
+) -> Result<(), Fault<'static>> {
+    for jwk in set.keys.iter().take(PREPARED) {
+        if let Some(key) = unless_refused(DecodingKey::from_jwk(alloc, jwk))? {
+            prepare_key(alloc, provider, &key, own_algorithm(jwk), algorithms)?;
+        }
+    }
+    Ok(())
+}
+
+/// Prepares the keys for many tokens, by these algorithms, or by those that the keys are for if there
+/// are none.
+pub fn prepare(
+    alloc: Global,
+    loaded: &mut Loaded,
+    algorithms: &[Algorithm],
+) -> Result<(), Fault<'static>> {
+    match &loaded.keys {
+        Keys::One(key) => { prepare_key(alloc, &mut loaded.provider, key, loaded.own, algorithms) }
+        Keys::Set(set) => prepare_set(alloc, &mut loaded.provider, set, algorithms),
+    }
+}
+
+/// Returns the algorithm of signatures that a key is for, by its `alg`.
+pub fn own_algorithm(jwk: &Jwk) -> Option<Algorithm>
+    ensures { result ≡ option_and_then algorithm_of jwk.now.common.key_algorithm }
+{
+    match jwk.common.key_algorithm {
+        Some(named) => Algorithm::try_from(named).ok(),
+        None => None,
+    }
+}
+
+/// Returns whether the keys may name the algorithm of a token: one key by its own `alg`, and a set by
+/// that of the key which the token names.
+pub fn names_algorithm(loaded: &Loaded) -> bool {
+    match &loaded.keys {
+        Keys::One(_) => loaded.own.is_some(),
+        Keys::Set(_) => true,
+    }
+}
+
+/// Returns the algorithm that the key of a set which a header names is for.
+fn named_algorithm(set: &JwkSet, header: &Header) -> Option<Algorithm>
+    ensures { result ≡ named_own set.now.keys.items header.now }
+{
+    let Some(kid) = &header.kid else {
+        return None;
+    };
+    match set.find(kid.as_str()) {
+        Some(jwk) => own_algorithm(jwk),
+        None => None,
+    }
+}
+
+/// Returns the algorithm that the key of a set which a token's header names is for.
+fn set_algorithm(
+    alloc: Global,
+    set: &JwkSet,
+    token: &[u8],
+) -> Result<Option<Algorithm>, Fault<'static>>
+    ensures { IfOk result (IsNamedBy set.now.keys.items token.now) }
+{
+    let header = unless_refused(decode_header(alloc, token))?;
+    match &header {
+        Some(header) => Ok(named_algorithm(set, header)),
+        None => Ok(None),
+    }
+}
+
+/// Returns the algorithm that the key of a token is for, by the key and never by the token.
+fn algorithm_for(
+    alloc: Global,
+    loaded: &Loaded,
+    token: &[u8],
+) -> Result<Option<Algorithm>, Fault<'static>>
+    ensures { IfOk result (IsOwnOf loaded.now.keys loaded.now token.now) }
+{
+    match &loaded.keys {
+        Keys::One(_) => Ok(loaded.own),
+        Keys::Set(set) => set_algorithm(alloc, set, token),
+    }
+}
+
+/// Sets the algorithm that the key of a token is for as the only one that is accepted. If there is
+/// none, no algorithm is.
+pub fn set_own_algorithm(
+    alloc: Global,
+    validation: &mut Validation,
+    loaded: &Loaded,
+    token: &[u8],
+) -> Result<(), Fault<'static>>
+    ensures own { OnOk result (IsOwn loaded.now token.now validation.new.algorithms.items) }
+    ensures rest { OnOk result (options_of validation.new ≡ record (options_of validation.old)
+        { algorithms = validation.new.algorithms.items }) }
+{
+    validation.algorithms.clear();
+    if let Some(algorithm) = algorithm_for(alloc, loaded, token)? {
+        validation.algorithms.push(algorithm)?;
+    }
+    Ok(())
+}
+
+/// Returns the fault of a file that holds something else than keys.
+fn not_keys<'a>(path: &'a str, error: &Error, problem: &'static str) -> Fault<'a> {
+    match error.kind() {
+        ErrorKind::OutOfMemory => Fault::Memory,
+        _ => Fault::File { path, problem },
+    }
+}
+
+/// Returns the secret that a file holds.
+fn secret(bytes: &[u8], is_trimmed: bool) -> &[u8]
+    ensures { IsSecret is_trimmed bytes.now result.now }
+{
+    if is_trimmed {
+        without_line_end(bytes)
+    } else {
+        bytes
+    }
+}
+
+/// Returns the secret that a file holds, unless it is empty.
+pub fn given_secret<'a, 'b>(
+    path: &'a str,
+    bytes: &'b [u8],
+    is_trimmed: bool,
+) -> Result<&'b [u8], Fault<'a>>
+    ensures { IfOk result (λ s. IsSecret is_trimmed bytes.now s.now) }
+{
+    let secret = secret(bytes, is_trimmed);
+    if secret.is_empty() {
+        return Err(Fault::File {
+            path,
+            problem: "the secret is empty",
+        });
+    }
+    Ok(secret)
+}
+
+fn by_secret<'a>(
+    alloc: Global,
+    path: &'a str,
+    bytes: &[u8],
+    is_trimmed: bool,
+) -> Result<Loaded, Fault<'a>> {
+    let secret = given_secret(path, bytes, is_trimmed)?;
+    match DecodingKey::from_secret(alloc, secret) {
+        Ok(key) => Ok(Loaded {
+            keys: Keys::One(key),
+            own: None,
+            has_line_end: secret.ends_with(b"\n"),
+            provider: PreparedKeys::new(alloc),
+        }),
+        Err(_) => Err(Fault::Memory),
+    }
+}
+
+fn by_jwk<'a>(alloc: Global, path: &'a str, bytes: &[u8]) -> Result<Loaded, Fault<'a>> {
+    let jwk = match Jwk::from_slice(alloc, bytes) {
+        Ok(jwk) => jwk,
+        Err(error) => return Err(not_keys(path, &error, "this is no JSON Web Key")),
+    };
+    match DecodingKey::from_jwk(alloc, &jwk) {
+        Ok(key) => Ok(Loaded {
+            keys: Keys::One(key),
+            own: own_algorithm(&jwk),
+            has_line_end: false,
+            provider: PreparedKeys::new(alloc),
+        }),
+        Err(error) => Err(not_keys(path, &error, "this key cannot verify signatures")),
+    }
+}
+
+fn by_set<'a>(alloc: Global, path: &'a str, bytes: &[u8]) -> Result<Loaded, Fault<'a>> {
+    match JwkSet::from_slice(alloc, bytes) {
+        Ok(set) => Ok(Loaded {
+            keys: Keys::Set(set),
+            own: None,
+            has_line_end: false,
+            provider: PreparedKeys::new(alloc),
+        }),
+        Err(error) => Err(not_keys(path, &error, "this is no set of JSON Web Keys")),
+    }
+}
+
+fn by_pem<'a>(alloc: Global, path: &'a str, bytes: &[u8]) -> Result<Loaded, Fault<'a>> {
+    match public_key_from_pem(alloc, bytes) {
+        Ok(key) => Ok(Loaded {
+            keys: Keys::One(key),
+            own: None,
+            has_line_end: false,
+            provider: PreparedKeys::new(alloc),
+        }),
+        Err(error) => Err(not_keys(path, &error, pem_problem(&error))),
+    }
+}
+
+fn pem_problem(error: &Error) -> &'static str {
+    match error.kind() {
+        ErrorKind::UnsupportedAlgorithm =>
+            "this public key is of a kind that verifies nothing here",
+        ErrorKind::Provider(_) => "this is a private key; a public key is wanted",
+        _ => "this is no public key in PEM",
+    }
+}
+
+/// Returns the keys of a file.
+pub fn load<'a, R: Files + AllocGlobal>(rt: &R, file: KeyFile<'a>) -> Result<Loaded, Fault<'a>> {
+    match file {
+        KeyFile::Secret { path, is_trimmed } => {
+            let bytes = file_bytes(rt, path)?;
+            by_secret(rt.alloc(), path, &bytes, is_trimmed)
+        }
+        KeyFile::Jwk(path) => {
+            let bytes = file_bytes(rt, path)?;
+            by_jwk(rt.alloc(), path, &bytes)
+        }
+        KeyFile::Jwks(path) => {
+            let bytes = file_bytes(rt, path)?;
+            by_set(rt.alloc(), path, &bytes)
+        }
+        KeyFile::Pem(path) => {
+            let bytes = file_bytes(rt, path)?;
+            by_pem(rt.alloc(), path, &bytes)
+        }
+    }
+}

@@ -1,0 +1,260 @@
+//! The command `keys`.
+
+use crate::answer::Answer;
+use crate::fault::Fault;
+use jsonwebtoken::crypto::CryptoProvider;
+use jsonwebtoken::errors::{Error, ErrorKind};
+use jsonwebtoken::jwk::{
+    AlgorithmParameters, EllipticCurve, Jwk, JwkSet, PublicKeyUse, ThumbprintHash,
+};
+use jsonwebtoken::{Algorithm, DecodingKey};
+use jwt_base::serialization::part_bytes;
+use jwt_standard::StandardProvider;
+use std::alloc::{AllocError, Global};
+
+const HEADINGS: [&str; COLUMNS] = [
+    "KID",
+    "TYPE",
+    "ALG",
+    "USE",
+    "SIZE",
+    "THUMBPRINT",
+    "VERIFIES",
+];
+
+const COLUMNS: usize = 7;
+
+/// A line of the table.
+#[derive(Drop)]
+struct Row {
+    cells: Vec<String>,
+}
+
+/// Returns a text as it can be shown: with its control characters escaped.
+fn shown(alloc: Global, text: &str) -> Result<String, AllocError> {
+    if text.chars().any(char::is_control) {
+        return format!(in alloc; "{text:?}");
+    }
+    String::from_str(alloc, text)
+}
+
+/// Returns the name of the type of a key.
+fn type_name(jwk: &Jwk) -> &'static str {
+    match &jwk.algorithm {
+        AlgorithmParameters::EllipticCurve(_) => "EC",
+        AlgorithmParameters::RSA(_) => "RSA",
+        AlgorithmParameters::OctetKey(_) => "oct",
+        AlgorithmParameters::OctetKeyPair(_) => "OKP",
+        AlgorithmParameters::Other(_) => "other",
+    }
+}
+
+fn use_name(jwk: &Jwk) -> &str {
+    match &jwk.common.public_key_use {
+        Some(PublicKeyUse::Signature) => "sig",
+        Some(PublicKeyUse::Encryption) => "enc",
+        Some(PublicKeyUse::Other(name)) => name.as_str(),
+        None => "-",
+    }
+}
+
+/// Returns the number of bits of a number, without those of 0 at its front.
+fn bit_count(bytes: &[u8]) -> u64 {
+    let zeros = bytes.iter().take_while(|byte| **byte == 0).count();
+    match bytes.get(zeros) {
+        Some(first) => ((bytes.len() - zeros) as u64)
+            .saturating_mul(8)
+            .saturating_sub(first.leading_zeros() as u64),
+        None => 0,
+    }
+}
+
+/// Returns the number of bits of a number in base64url.
+fn bits_text(alloc: Global, part: &str) -> Result<String, Fault<'static>> {
+    match part_bytes(alloc, part.as_bytes()) {
+        Ok(bytes) => Ok(format!(in alloc; "{} bits", bit_count(&bytes))?),
+        Err(error) => Ok(String::from_str(alloc, unless_memory(&error, "not base64url")?)?),
+    }
+}
+
+/// Returns the number of bits of a secret in base64url.
+fn secret_text(alloc: Global, part: &str) -> Result<String, Fault<'static>> {
+    match part_bytes(alloc, part.as_bytes()) {
+        Ok(bytes) => Ok(format!(in alloc; "{} bits", (bytes.len() as u64).saturating_mul(8))?),
+        Err(error) => Ok(String::from_str(alloc, unless_memory(&error, "not base64url")?)?),
+    }
+}
+
+fn size(alloc: Global, jwk: &Jwk) -> Result<String, Fault<'static>> {
+    match &jwk.algorithm {
+        AlgorithmParameters::EllipticCurve(key) => Ok(String::from_str(alloc, key.curve.name())?),
+        AlgorithmParameters::RSA(key) => bits_text(alloc, key.n.as_str()),
+        AlgorithmParameters::OctetKey(key) => secret_text(alloc, key.value.as_str()),
+        AlgorithmParameters::OctetKeyPair(key) => Ok(String::from_str(alloc, key.curve.name())?),
+        AlgorithmParameters::Other(_) => Ok(String::from_str(alloc, "-")?),
+    }
+}
+
+fn thumbprint(alloc: Global, jwk: &Jwk) -> Result<String, Fault<'static>> {
+    match jwk.thumbprint(alloc, &StandardProvider, ThumbprintHash::SHA256) {
+        Ok(thumbprint) => Ok(thumbprint),
+        Err(error) => Ok(String::from_str(alloc, unless_memory(&error, "-")?)?),
+    }
+}
+
+/// Returns the text, unless memory ran out.
+fn unless_memory(error: &Error, text: &'static str) -> Result<&'static str, Fault<'static>> {
+    match error.kind() {
+        ErrorKind::OutOfMemory => Err(Fault::Memory),
+        _ => Ok(text),
+    }
+}
+
+fn curve_algorithm(curve: &EllipticCurve) -> Option<Algorithm> {
+    match curve {
+        EllipticCurve::P256 => Some(Algorithm::ES256),
+        EllipticCurve::P384 => Some(Algorithm::ES384),
+        EllipticCurve::P521 => None,
+        EllipticCurve::Ed25519 => Some(Algorithm::EdDSA),
+    }
+}
+
+/// Returns an algorithm by which a key may verify: its own, and else one for its type.
+fn algorithm_for(jwk: &Jwk) -> Option<Algorithm> {
+    if let Some(named) = &jwk.common.key_algorithm {
+        return named.name().parse::<Algorithm>().ok();
+    }
+    match &jwk.algorithm {
+        AlgorithmParameters::EllipticCurve(key) => curve_algorithm(&key.curve),
+        AlgorithmParameters::RSA(_) => Some(Algorithm::RS256),
+        AlgorithmParameters::OctetKey(_) => Some(Algorithm::HS256),
+        AlgorithmParameters::OctetKeyPair(key) => curve_algorithm(&key.curve),
+        AlgorithmParameters::Other(_) => None,
+    }
+}
+
+/// Returns whether a verifier by this key is made, and why not.
+fn verifies(alloc: Global, jwk: &Jwk) -> Result<&'static str, Fault<'static>> {
+    let Some(algorithm) = algorithm_for(jwk) else {
+        return Ok("no: by no algorithm that is supported here");
+    };
+    let key = match DecodingKey::from_jwk(alloc, jwk) {
+        Ok(key) => key,
+        Err(error) => return unless_memory(&error, "no: a member of the key is malformed"),
+    };
+    match StandardProvider.verifier_factory(alloc, &algorithm, &key) {
+        Ok(_) => Ok("yes"),
+        Err(error) => unless_memory(&error, "no: this is not a key of that algorithm"),
+    }
+}
+
+/// Returns whether a token can name a key of a set, and the key verifies; and why not.
+fn is_of_use(alloc: Global, earlier: &[Jwk], jwk: &Jwk) -> Result<&'static str, Fault<'static>> {
+    let Some(kid) = &jwk.common.key_id else {
+        return Ok("no: it has no kid, so no token names it");
+    };
+    let is_other = |other: &Jwk| other.common.key_id.as_ref() == Some(kid);
+    if earlier.iter().any(is_other) {
+        return Ok("no: an earlier key has its kid");
+    }
+    verifies(alloc, jwk)
+}
+
+fn kid_text(alloc: Global, jwk: &Jwk) -> Result<String, AllocError> {
+    match &jwk.common.key_id {
+        Some(kid) => shown(alloc, kid.as_str()),
+        None => String::from_str(alloc, "-"),
+    }
+}
+
+fn algorithm_text(jwk: &Jwk) -> &'static str {
+    match &jwk.common.key_algorithm {
+        Some(named) => named.name(),
+        None => "-",
+    }
+}
+
+fn row_of(alloc: Global, earlier: &[Jwk], jwk: &Jwk) -> Result<Row, Fault<'static>> {
+    let mut cells = Vec::new(alloc);
+    cells.push(kid_text(alloc, jwk)?)?;
+    cells.push(String::from_str(alloc, type_name(jwk))?)?;
+    cells.push(String::from_str(alloc, algorithm_text(jwk))?)?;
+    cells.push(shown(alloc, use_name(jwk))?)?;
+    cells.push(size(alloc, jwk)?)?;
+    cells.push(thumbprint(alloc, jwk)?)?;
+    cells.push(String::from_str(alloc, is_of_use(alloc, earlier, jwk)?)?)?;
+    Ok(Row { cells })
+}
+
+fn headings(alloc: Global) -> Result<Row, AllocError> {
+    let mut cells = Vec::new(alloc);
+    for heading in &HEADINGS {
+        cells.push(String::from_str(alloc, heading)?)?;
+    }
+    Ok(Row { cells })
+}
+
+fn width(rows: &[Row], column: usize) -> usize {
+    let mut width = 0;
+    for row in rows {
+        if let Some(cell) = row.cells.get(column) {
+            width = usize::max(width, cell.chars().count());
+        }
+    }
+    width
+}
+
+/// Adds a cell and the spaces after it.
+fn push_cell(page: &mut String, cell: &str, width: usize) -> Result<(), AllocError> {
+    page.push_str(cell)?;
+    for _ in cell.chars().count()..width {
+        page.push(' ')?;
+    }
+    Ok(())
+}
+
+fn push_row(page: &mut String, row: &Row, widths: &[usize]) -> Result<(), AllocError> {
+    for (place, cell) in row.cells.iter().enumerate() {
+        let width = widths.get(place).copied().unwrap_or(0);
+        push_cell(page, cell.as_str(), width)?;
+        page.push_str(if place + 1 < COLUMNS { "  " } else { "\n" })?;
+    }
+    Ok(())
+}
+
+fn page(alloc: Global, rows: &[Row]) -> Result<String, AllocError> {
+    let mut widths = Vec::new(alloc);
+    for column in 0..COLUMNS - 1 {
+        widths.push(width(rows, column))?;
+    }
+    let mut page = String::new(alloc);
+    for row in rows {
+        push_row(&mut page, row, &widths)?;
+    }
+    Ok(page)
+}
+
+/// Returns the set of a file, or the one key of it.
+fn read_set<'a>(alloc: Global, path: &'a str, bytes: &[u8]) -> Result<JwkSet, Fault<'a>> {
+    let problem = "this is no set of JSON Web Keys";
+    match JwkSet::from_slice(alloc, bytes) {
+        Ok(set) => Ok(set),
+        Err(error) if matches!(error.kind(), ErrorKind::OutOfMemory) => Err(Fault::Memory),
+        Err(_) => Err(Fault::File { path, problem }),
+    }
+}
+
+/// Returns the table of a key set.
+pub fn keys_answer<'a>(alloc: Global, path: &'a str, bytes: &[u8]) -> Result<Answer, Fault<'a>> {
+    let set = read_set(alloc, path, bytes)?;
+    let mut rows = Vec::new(alloc);
+    rows.push(headings(alloc)?)?;
+    for (place, jwk) in set.keys.iter().enumerate() {
+        rows.push(row_of(alloc, &set.keys[..place], jwk)?)?;
+    }
+    Ok(Answer {
+        status: 0,
+        output: page(alloc, &rows)?,
+        message: String::new(alloc),
+    })
+}

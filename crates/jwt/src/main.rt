@@ -1,0 +1,138 @@
+//! The command `jwt`: it verifies, shows and signs tokens, and lists keys.
+#![tactic(auto)]
+
+mod advice;
+mod answer;
+mod arguments;
+mod claim_findings;
+mod clock;
+mod explain;
+mod explanation;
+mod fault;
+mod files;
+mod findings;
+mod keys;
+mod keys_table;
+mod lines;
+mod moments;
+mod options;
+mod orders;
+mod part_findings;
+mod prepared;
+mod request;
+mod run;
+mod show;
+mod sign;
+mod thumbprint;
+mod times;
+mod verdict;
+mod verify;
+
+use answer::write_output;
+use arguments::command;
+use clap::ArgMatches;
+use fault::Fault;
+use request::request_asked;
+use run::answer;
+use std::alloc::{AllocError, Global};
+use std::io::ErrorKind;
+use std::process::ExitCode;
+use std::rt::{Env, Runtime};
+use std::{env, io};
+
+/// Returns the words of the command line.
+fn words<R: Env + AllocGlobal>(rt: &R) -> Result<Vec<String>, Fault<'static>> {
+    match env::args(rt) {
+        Ok(words) => Ok(words.collect::<Vec<String>>(rt.alloc())?),
+        Err(error) if error.kind() == ErrorKind::InvalidData => Err(Fault::Usage(
+            "an argument is not UTF-8",
+        )),
+        Err(_) => Err(Fault::Memory),
+    }
+}
+
+/// Returns the exit status of a fault, which is said on standard error.
+fn failed<R: Eprint>(rt: &R, fault: &Fault<'_>) -> u8 {
+    let _ = eprintln!(rt; "error: {fault}");
+    fault.status()
+}
+
+/// Writes the answer to the arguments, and returns its status.
+fn answered<T: Runtime + AllocGlobal>(rt: &T, matches: &ArgMatches<'_>) -> u8 {
+    let request = match request_asked(matches) {
+        Ok(request) => request,
+        Err(fault) => return failed(rt, &fault),
+    };
+    let answer = match answer(rt, &request) {
+        Ok(answer) => answer,
+        Err(fault) => return failed(rt, &fault),
+    };
+    if let Err(fault) = write_output(&mut io::writer(rt), answer.output.as_str()) {
+        return failed(rt, &fault);
+    }
+    let _ = rt.eprint(answer.message.as_str());
+    answer.status
+}
+
+/// Returns a sentence in place of a text that would show a word of the command line, which may be a
+/// token or a secret.
+fn sentence(alloc: Global, error: &clap::Error) -> Result<Option<&'static str>, AllocError> {
+    match error.kind() {
+        clap::error::ErrorKind::InvalidSubcommand => {
+            Ok(Some("there is no such command; 'jwt help' lists them"))
+        }
+        clap::error::ErrorKind::TooManyValues => {
+            Ok(Some("an argument is given a value that it does not take"))
+        }
+        clap::error::ErrorKind::UnknownArgument => {
+            let names_option = error.to_string(alloc)?.contains("argument '-");
+            Ok(if names_option {
+                None
+            } else {
+                Some("there is a word too many on the command line")
+            })
+        }
+        _ => Ok(None),
+    }
+}
+
+/// Prints the help or the version that is asked for, or the mistake in the arguments; returns the
+/// status.
+fn mistaken<R: Print + Eprint + AllocGlobal>(rt: &R, error: &clap::Error) -> u8 {
+    match sentence(rt.alloc(), error) {
+        Ok(Some(sentence)) => failed(rt, &Fault::Usage(sentence)),
+        Ok(None) => {
+            let is_printed = error.print(rt).is_ok();
+            printed_status(error, is_printed)
+        }
+        Err(_) => failed(rt, &Fault::Memory),
+    }
+}
+
+fn printed_status(error: &clap::Error, is_printed: bool) -> u8 {
+    match error.kind() {
+        clap::error::ErrorKind::OutOfMemory => 3,
+        _ if error.use_stderr() => 2,
+        _ if is_printed => 0,
+        _ => 3,
+    }
+}
+
+/// Runs the program with its arguments and the standard streams.
+fn start<T: Runtime + AllocGlobal>(rt: &T) -> u8 {
+    let words = match words(rt) {
+        Ok(words) => words,
+        Err(fault) => return failed(rt, &fault),
+    };
+    let Ok(command) = command(rt.alloc()) else {
+        return failed(rt, &Fault::Memory);
+    };
+    match command.try_get_matches_from(words.as_slice()) {
+        Ok(matches) => answered(rt, &matches),
+        Err(error) => mistaken(rt, &error),
+    }
+}
+
+fn main(rt: HostRuntime) -> ExitCode {
+    ExitCode::from(start(&rt))
+}

@@ -1,0 +1,140 @@
+//! What the parts of a token have in the place of what the tests ask for.
+
+use crate::fault::Fault;
+use crate::findings::{Finding, part_value, quoted};
+use jsonwebtoken::Test;
+use serde_json::Value;
+use std::alloc::{AllocError, Global};
+
+/// The three parts of a token.
+#[derive(Clone, Copy)]
+pub struct Parts<'t> {
+    pub header: &'t [u8],
+    pub payload: &'t [u8],
+    pub signature: &'t [u8],
+}
+
+/// Returns the parts between the last two dots and around them, if there are two.
+pub fn cut(token: &[u8]) -> Option<Parts<'_>> {
+    let mut parts = token.rsplitn(3, |byte| *byte == b'.');
+    let signature = parts.next()?;
+    let payload = parts.next()?;
+    let header = parts.next()?;
+    Some(Parts {
+        header,
+        payload,
+        signature,
+    })
+}
+
+/// Returns the finding of a text that is not three parts.
+pub fn text_finding(alloc: Global, token: &[u8]) -> Result<Finding, Fault<'static>> {
+    let dots = token.iter().filter(|byte| **byte == b'.').count();
+    let found = if token.is_empty() {
+        "no text"
+    } else if dots == 0 {
+        "a text without a dot"
+    } else {
+        "a text with one dot"
+    };
+    Finding::new(
+        alloc,
+        found,
+        "header, payload and signature with dots between them",
+    )
+}
+
+/// Returns whether a byte is a character of base64url.
+fn is_of_base64url(byte: u8) -> bool {
+    byte.is_ascii_alphanumeric() || byte == b'-' || byte == b'_'
+}
+
+fn byte_name(byte: u8) -> &'static str {
+    match byte {
+        b'=' => "'=', which is padding",
+        b'+' | b'/' => "'+' or '/', of the other alphabet of base64",
+        b' ' => "a space",
+        b'\r' | b'\n' => "a line end",
+        b'"' => "a quotation mark",
+        b'.' => "a dot",
+        _ => "a character that base64url does not have",
+    }
+}
+
+/// Returns why a part is no base64url.
+fn not_base64url(alloc: Global, part: &[u8]) -> Result<String, AllocError> {
+    if part.starts_with(b"Bearer ") {
+        return String::from_str(alloc, "the word Bearer before the token");
+    }
+    if let Some(place) = part.iter().position(|byte| !is_of_base64url(*byte)) {
+        let name = part.get(place).copied().map_or("", byte_name);
+        return format!(in alloc; "{name}, at byte {} of the part", place as u64 + 1);
+    }
+    if part.len() % 4 == 1 {
+        return format!(in alloc; "{} characters, a number that no bytes have", part.len());
+    }
+    String::from_str(
+        alloc,
+        "a last character whose unused bits are not 0: another text of the same bytes",
+    )
+}
+
+/// Returns the name of the type of a value.
+pub fn type_name(value: &Value) -> &'static str {
+    match value {
+        Value::Null => "null",
+        Value::Bool(_) => "a truth value",
+        Value::Number(_) => "a number",
+        Value::String(_) => "a string",
+        Value::Array(_) => "an array",
+        Value::Object(_) => "an object",
+    }
+}
+
+/// Returns why a value is no header.
+fn not_header(alloc: Global, header: &Value) -> Result<String, AllocError> {
+    if header.as_object().is_none() {
+        return String::from_str(alloc, type_name(header));
+    }
+    match header.get("alg") {
+        None => String::from_str(alloc, "no 'alg'"),
+        Some(Value::String(name)) if name.parse::<jsonwebtoken::Algorithm>().is_err() => {
+            format!(in alloc; "the algorithm {}", quoted(alloc, name.as_str())?)
+        }
+        Some(Value::String(_)) => String::from_str(alloc, "a member of another type, or a float"),
+        Some(other) => format!(in alloc; "{} as 'alg'", type_name(other)),
+    }
+}
+
+/// Returns what a test of a part asks for.
+fn wanted_of(test: Test) -> &'static str {
+    match test {
+        Test::HeaderIsPart | Test::SignatureIsPart | Test::PayloadIsPart => {
+            "base64url without padding (RFC 7515 section 2)"
+        }
+        Test::HeaderReads =>
+            "an object whose 'alg' is one of the twelve algorithms (RFC 7515 section 4.1)",
+        Test::ClaimsAreAnObject => "an object (RFC 7519 section 7.2)",
+        _ => "JSON in UTF-8 (RFC 8259)",
+    }
+}
+
+fn found_of(alloc: Global, part: &[u8], test: Test) -> Result<String, Fault<'static>> {
+    if let Test::HeaderIsPart | Test::SignatureIsPart | Test::PayloadIsPart = test {
+        return Ok(not_base64url(alloc, part)?);
+    }
+    match part_value(alloc, part)? {
+        None if part.is_empty() => Ok(String::from_str(alloc, "no bytes")?),
+        None => Ok(String::from_str(alloc, "bytes that are not JSON")?),
+        Some(value) if matches!(test, Test::HeaderReads) => Ok(not_header(alloc, &value)?),
+        Some(value) => Ok(String::from_str(alloc, type_name(&value))?),
+    }
+}
+
+/// Returns the finding of a test of a part.
+pub fn part_finding(alloc: Global, part: &[u8], test: Test) -> Result<Finding, Fault<'static>> {
+    Ok(Finding {
+        found: found_of(alloc, part, test)?,
+        wanted: String::from_str(alloc, wanted_of(test))?,
+    })
+}

@@ -1,0 +1,72 @@
+//! The command `show`.
+
+use crate::advice::refusal_line;
+use crate::answer::Answer;
+use crate::fault::Fault;
+use crate::times::claim_lines;
+use crate::verdict::Refusal;
+use jsonwebtoken::TokenData;
+use jsonwebtoken::dangerous::insecure_decode;
+use jsonwebtoken::errors::{Error, ErrorKind};
+use serde_json::Value;
+use std::alloc::{AllocError, Global};
+
+/// Returns the header and the claims for people: JSON in lines, and the moments among the claims.
+fn page(alloc: Global, header: &Value, claims: &Value, now: u64) -> Result<String, AllocError> {
+    let header = header.to_string_pretty(alloc)?;
+    let text = claims.to_string_pretty(alloc)?;
+    let times = claim_lines(alloc, claims, now)?;
+    format!(in alloc; "{header}\n{text}\n{times}")
+}
+
+/// Returns the header and the claims as one line of JSON.
+fn json_line(alloc: Global, header: &Value, claims: &Value) -> Result<String, AllocError> {
+    let header = header.to_string(alloc)?;
+    let claims = claims.to_string(alloc)?;
+    format!(in alloc; "{{\"verified\":false,\"header\":{header},\"claims\":{claims}}}\n")
+}
+
+fn shown(
+    alloc: Global,
+    data: &TokenData<Value>,
+    now: u64,
+    is_json: bool,
+) -> Result<Answer, Fault<'static>> {
+    let Ok(header) = data.header.to_value(alloc) else {
+        return Err(Fault::Memory);
+    };
+    let output = if is_json {
+        json_line(alloc, &header, &data.claims)?
+    } else {
+        page(alloc, &header, &data.claims, now)?
+    };
+    Ok(Answer {
+        status: 0,
+        output,
+        message: String::from_str(alloc, "NOT VERIFIED\n")?,
+    })
+}
+
+fn refused(alloc: Global, error: Error) -> Result<Answer, Fault<'static>> {
+    if matches!(error.kind(), ErrorKind::OutOfMemory) {
+        return Err(Fault::Memory);
+    }
+    Ok(Answer {
+        status: 1,
+        output: String::new(alloc),
+        message: refusal_line(alloc, &Refusal::Failed(error))?,
+    })
+}
+
+/// Returns header and claims of a token, of which nothing is verified.
+pub fn show_answer(
+    alloc: Global,
+    token: &[u8],
+    now: u64,
+    is_json: bool,
+) -> Result<Answer, Fault<'static>> {
+    match insecure_decode(alloc, token) {
+        Ok(data) => shown(alloc, &data, now, is_json),
+        Err(error) => refused(alloc, error),
+    }
+}

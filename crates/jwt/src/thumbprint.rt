@@ -1,0 +1,65 @@
+//! The command `thumbprint`.
+
+ghost use Rattle.std.specs.Prelude.{◌≡◌};
+
+use crate::answer::Answer;
+use crate::fault::Fault;
+use jsonwebtoken::errors::{Error, ErrorKind};
+use jsonwebtoken::jwk::{Jwk, ThumbprintHash};
+use jwt_key_files::jwk::jwk_from_pem;
+use jwt_standard::StandardProvider;
+use std::alloc::Global;
+
+fn fault_of<'a>(path: &'a str, error: &Error, problem: &'static str) -> Fault<'a> {
+    match error.kind() {
+        ErrorKind::OutOfMemory => Fault::Memory,
+        _ => Fault::File { path, problem },
+    }
+}
+
+/// Returns the key of a file: a JSON Web Key, or a public key in PEM.
+fn key<'a>(alloc: Global, path: &'a str, bytes: &[u8]) -> Result<Jwk, Fault<'a>> {
+    let problem = "this is neither a JSON Web Key nor a public key in PEM";
+    let read = if bytes.starts_with(b"-----BEGIN ") {
+        jwk_from_pem(alloc, bytes)
+    } else {
+        Jwk::from_slice(alloc, bytes)
+    };
+    match read {
+        Ok(jwk) => Ok(jwk),
+        Err(error) => Err(fault_of(path, &error, problem)),
+    }
+}
+
+/// Returns the hash again.
+fn same_hash(hash: &ThumbprintHash) -> ThumbprintHash
+    ensures { result ≡ hash.now }
+{
+    match hash {
+        ThumbprintHash::SHA256 => ThumbprintHash::SHA256,
+        ThumbprintHash::SHA384 => ThumbprintHash::SHA384,
+        ThumbprintHash::SHA512 => ThumbprintHash::SHA512,
+    }
+}
+
+/// Returns the thumbprint of the key of a file (RFC 7638 section 3).
+pub fn thumbprint_answer<'a>(
+    alloc: Global,
+    path: &'a str,
+    bytes: &[u8],
+    hash: &ThumbprintHash,
+) -> Result<Answer, Fault<'a>> {
+    let jwk = key(alloc, path, bytes)?;
+    match jwk.thumbprint(alloc, &StandardProvider, same_hash(hash)) {
+        Ok(thumbprint) => {
+            let mut output = thumbprint;
+            output.push('\n')?;
+            Ok(Answer {
+                status: 0,
+                output,
+                message: String::new(alloc),
+            })
+        }
+        Err(error) => Err(fault_of(path, &error, "a key of this type has no thumbprint")),
+    }
+}

@@ -1,0 +1,164 @@
+//! The command `verify`.
+
+ghost use Rattle.std.specs.Prelude.{◌≡◌, IfOk, option_map, string_bytes};
+ghost use Rattle.serde_json.specs.View.{view};
+ghost use Rattle.jwt_validation.specs.OptionsOf.{options_of};
+ghost use Rattle.jwt.specs.Answers.{IsLineOf, IsHeaderLine, IsAcceptedText, IsRefusedText, HasStatus, IsVerifyAnswer};
+
+use crate::advice::{refusal_lines, refusal_name, refused_claim};
+use crate::answer::Answer;
+use crate::fault::Fault;
+use crate::findings::{Case, first_failed};
+use crate::keys::Loaded;
+use crate::orders::TYPE_AGREES;
+use crate::verdict::{Refusal, judged};
+use jsonwebtoken::errors::ErrorKind;
+use jsonwebtoken::{Header, Test, TokenData, Validation};
+use serde_json::Value;
+use std::alloc::{AllocError, Global};
+
+/// How an answer is written.
+#[derive(Clone, Copy)]
+pub enum Form {
+    /// The claims as JSON.
+    Claims,
+    /// The header as JSON, and the claims as JSON.
+    HeaderAndClaims,
+    /// One line of JSON, for a refusal too.
+    Json,
+}
+
+/// Returns the exit status of a refusal: 3 if memory ran out, and else 1.
+pub fn refusal_status(refusal: &Refusal) -> u8
+    ensures { HasStatus refusal.now result }
+{
+    match refusal {
+        Refusal::Failed(error) if matches!(error.kind(), ErrorKind::OutOfMemory) => 3,
+        _ => 1,
+    }
+}
+
+/// Returns the JSON text of a value, and a newline.
+fn value_line(alloc: Global, value: &Value) -> Result<String, AllocError>
+    ensures { IfOk result (λ text. IsLineOf (view value.now) (string_bytes text)) }
+{
+    let mut line = value.to_string(alloc)?;
+    line.push('\n')?;
+    Ok(line)
+}
+
+/// Returns the JSON text of a header, and a newline.
+fn header_line(alloc: Global, header: &Header) -> Result<String, Fault<'static>>
+    ensures { IfOk result (λ text. IsHeaderLine header.now (string_bytes text)) }
+{
+    match header.to_value(alloc) {
+        Ok(value) => Ok(value_line(alloc, &value)?),
+        Err(_) => Err(Fault::Memory),
+    }
+}
+
+fn accepted_line(alloc: Global, claims: &Value) -> Result<String, AllocError> {
+    let claims = claims.to_string(alloc)?;
+    format!(in alloc; "{{\"ok\":true,\"claims\":{claims}}}\n")
+}
+
+/// Returns one line of JSON about a refusal, with the test that failed.
+fn refused_line(
+    alloc: Global,
+    refusal: &Refusal,
+    test: Option<&str>,
+) -> Result<String, AllocError> {
+    let name = refusal_name(refusal);
+    let mut line = format!(in alloc; "{{\"ok\":false,\"kind\":\"{name}\"")?;
+    if let Some(claim) = refused_claim(refusal) {
+        line.push_str(format!(in alloc; ",\"claim\":\"{claim}\"")?.as_str())?;
+    }
+    if let Some(test) = test {
+        line.push_str(format!(in alloc; ",\"test\":\"{test}\"")?.as_str())?;
+    }
+    line.push_str("}\n")?;
+    Ok(line)
+}
+
+fn accepted_text(
+    alloc: Global,
+    contents: &TokenData<Value>,
+    form: Form,
+) -> Result<String, Fault<'static>>
+    ensures { IfOk result (λ text. IsAcceptedText form contents.now.header (view contents.now.claims)
+        (string_bytes text)) }
+{
+    match form {
+        Form::Claims => Ok(value_line(alloc, &contents.claims)?),
+        Form::HeaderAndClaims => {
+            let mut text = header_line(alloc, &contents.header)?;
+            text.push_str(value_line(alloc, &contents.claims)?.as_str())?;
+            Ok(text)
+        }
+        Form::Json => Ok(accepted_line(alloc, &contents.claims)?),
+    }
+}
+
+/// Returns the name of the test that failed.
+fn failed_name(
+    alloc: Global,
+    case: Case<'_>,
+    refusal: &Refusal,
+) -> Result<Option<&'static str>, Fault<'static>> {
+    match refusal {
+        Refusal::OtherType => Ok(Some(TYPE_AGREES)),
+        Refusal::Failed(_) => Ok(first_failed(alloc, case)?.map(Test::name)),
+    }
+}
+
+fn refused_text(
+    alloc: Global,
+    case: Case<'_>,
+    refusal: &Refusal,
+    form: Form,
+) -> Result<String, Fault<'static>>
+    ensures { IfOk result (λ text. IsRefusedText form (string_bytes text)) }
+{
+    match form {
+        Form::Json => {
+            let test = failed_name(alloc, case, refusal)?;
+            Ok(refused_line(alloc, refusal, test)?)
+        }
+        _ => Ok(String::new(alloc)),
+    }
+}
+
+/// Returns the answer to a token: status 0 and its claims if it is accepted, and status 1 if it is
+/// refused.
+pub fn verify_answer(
+    alloc: Global,
+    token: &[u8],
+    loaded: &Loaded,
+    validation: &Validation,
+    now: u64,
+    typ: Option<&str>,
+    form: Form,
+) -> Result<Answer, Fault<'static>>
+    ensures { IfOk result (λ a. IsVerifyAnswer token.now loaded.now.keys
+        (options_of validation.now) now (option_map (λ s. s.now) typ.entry) form a.status
+        (string_bytes a.output)) }
+{
+    let case = Case {
+        token,
+        loaded,
+        validation,
+        now,
+    };
+    match judged(alloc, token, loaded, validation, now, typ) {
+        Ok(data) => Ok(Answer {
+            status: 0,
+            output: accepted_text(alloc, &data, form)?,
+            message: String::new(alloc),
+        }),
+        Err(refusal) => Ok(Answer {
+            status: refusal_status(&refusal),
+            output: refused_text(alloc, case, &refusal, form)?,
+            message: refusal_lines(alloc, &refusal, loaded.has_line_end)?,
+        }),
+    }
+}
