@@ -1,0 +1,3 @@
+module jwtproved
+
+go 1.19

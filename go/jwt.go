@@ -1,0 +1,222 @@
+// Package jwt verifies and issues JSON Web Tokens (RFC 7519) by a library whose contracts are proved, which pkg-config has to find
+// (docs/INSTALL.md).
+//
+//	key, err := jwt.JWKSet(text)
+//	verifier, err := jwt.NewVerifier(key, []string{"RS256"}, jwt.WithAudience("web"), jwt.WithIssuer("https://login.example"))
+//	token, err := verifier.Parse(text)
+//	if errors.Is(err, jwt.ErrExpired) { .. }
+//	err = token.Claims(&claims)
+//
+// All twelve algorithms of RFC 7518 and RFC 8037 for HMAC, RSA, P-256, P-384 and Ed25519 are verified, and HS256, HS384 and HS512 are
+// signed. Everything here may be used by any number of goroutines at once.
+package jwt
+
+import (
+	"encoding/json"
+	"fmt"
+	"time"
+)
+
+// Token is a token that was verified.
+type Token struct {
+	// Header has the members of its header.
+	Header map[string]any
+	claims []byte
+}
+
+// Claims reads the claims into a value, as json.Unmarshal does. A float, and an integer beyond 64 bits, is the nearest double.
+func (token *Token) Claims(into any) error { return json.Unmarshal(token.claims, into) }
+
+// RawClaims returns the claims as compact JSON.
+func (token *Token) RawClaims() json.RawMessage { return append(json.RawMessage(nil), token.claims...) }
+
+// options has the conditions on a token, by the names of jwtproved.h.
+type options struct {
+	Algorithms []string `json:"algorithms"`
+	Required   []string `json:"required_spec_claims"`
+	Leeway     uint64   `json:"leeway"`
+	// a token is expired at its exp, and not from the second behind it on
+	Reject      uint64   `json:"reject_tokens_expiring_in_less_than"`
+	ValidateNbf bool     `json:"validate_nbf"`
+	Audience    []string `json:"aud,omitempty"`
+	Issuer      []string `json:"iss,omitempty"`
+	Subject     *string  `json:"sub,omitempty"`
+	now         func() time.Time
+}
+
+// Option is a condition on a token.
+type Option func(*options) error
+
+func (asked *options) require(name string) {
+	for _, it := range asked.Required {
+		if it == name {
+			return
+		}
+	}
+	asked.Required = append(asked.Required, name)
+}
+
+// WithAudience asks for one of these audiences. Without it, a token that names one is refused.
+func WithAudience(audiences ...string) Option {
+	return func(asked *options) error {
+		asked.Audience = append(asked.Audience, audiences...)
+		asked.require("aud")
+		return nil
+	}
+}
+
+// WithIssuer asks for one of these issuers.
+func WithIssuer(issuers ...string) Option {
+	return func(asked *options) error {
+		asked.Issuer = append(asked.Issuer, issuers...)
+		asked.require("iss")
+		return nil
+	}
+}
+
+// WithSubject asks for this subject.
+func WithSubject(subject string) Option {
+	return func(asked *options) error {
+		asked.Subject = &subject
+		asked.require("sub")
+		return nil
+	}
+}
+
+// WithRequired asks for these claims, among exp, nbf, aud, iss and sub. exp is asked for in any case, unless WithoutExpiry says otherwise.
+func WithRequired(claims ...string) Option {
+	return func(asked *options) error {
+		for _, it := range claims {
+			switch it {
+			case "exp", "nbf", "aud", "iss", "sub":
+				asked.require(it)
+			default:
+				return fmt.Errorf("%w: the library has no rule for the claim %q", ErrOption, it)
+			}
+		}
+		return nil
+	}
+}
+
+// WithoutExpiry accepts a token without exp too. One that has exp is checked.
+func WithoutExpiry() Option {
+	return func(asked *options) error {
+		for i, it := range asked.Required {
+			if it == "exp" {
+				asked.Required = append(asked.Required[:i:i], asked.Required[i+1:]...)
+				break
+			}
+		}
+		return nil
+	}
+}
+
+// WithLeeway allows clocks to differ by this much, in whole seconds. There is none without it.
+func WithLeeway(leeway time.Duration) Option {
+	return func(asked *options) error {
+		if leeway < 0 {
+			return fmt.Errorf("%w: a leeway of %v", ErrOption, leeway)
+		}
+		asked.Leeway = uint64(leeway / time.Second)
+		return nil
+	}
+}
+
+// WithTime has the clock read by this function, and not by time.Now.
+func WithTime(now func() time.Time) Option {
+	return func(asked *options) error {
+		asked.now = now
+		return nil
+	}
+}
+
+// Verifier verifies tokens by one key under the same conditions.
+type Verifier struct {
+	key     Key
+	options []byte
+	now     func() time.Time
+}
+
+// NewVerifier returns a verifier by a key that accepts these algorithms, which have to be of one family: that of the key.
+func NewVerifier(key Key, algorithms []string, with ...Option) (*Verifier, error) {
+	asked := options{Algorithms: algorithms, Required: []string{"exp"}, Reject: 1, ValidateNbf: true, now: time.Now}
+	for _, it := range with {
+		if err := it(&asked); err != nil {
+			return nil, err
+		}
+	}
+	if len(algorithms) == 0 {
+		return nil, fmt.Errorf("%w: no algorithm", ErrOption)
+	}
+	if len(key.text) == 0 {
+		return nil, keyError("there is none")
+	}
+	text, err := json.Marshal(asked)
+	if err != nil {
+		return nil, fmt.Errorf("%w: %v", ErrOption, err)
+	}
+	if _, err := decode(key.kind, nil, key.text, text, 0); kindOf(err.(*Error).Status) == ErrOption {
+		return nil, fmt.Errorf("%w: one of the algorithms %q is not known", ErrOption, algorithms)
+	}
+	return &Verifier{key, text, asked.now}, nil
+}
+
+// Parse verifies a token. The error is nil, or of one of the kinds of this package.
+func (verifier *Verifier) Parse(token string) (*Token, error) {
+	now := verifier.now().Unix()
+	if now < 0 {
+		return nil, fmt.Errorf("%w: the clock is before 1970", ErrOption)
+	}
+	text := []byte(token)
+	claims, err := decode(verifier.key.kind, text, verifier.key.text, verifier.options, uint64(now))
+	if err != nil {
+		return nil, err
+	}
+	header, err := UnverifiedHeader(token)
+	if err != nil {
+		return nil, err
+	}
+	return &Token{header, claims}, nil
+}
+
+// Parse verifies a token by a key that accepts these algorithms. Whoever verifies several makes a Verifier.
+func Parse(token string, key Key, algorithms []string, with ...Option) (*Token, error) {
+	verifier, err := NewVerifier(key, algorithms, with...)
+	if err != nil {
+		return nil, err
+	}
+	return verifier.Parse(token)
+}
+
+// UnverifiedHeader returns the header of a token. Nothing is verified.
+func UnverifiedHeader(token string) (map[string]any, error) {
+	text, err := decodeHeader([]byte(token))
+	if err != nil {
+		return nil, err
+	}
+	var header map[string]any
+	return header, json.Unmarshal(text, &header)
+}
+
+// Sign returns the token of claims, which json.Marshal writes, signed with a secret by HS256, HS384 or HS512. Members of header other
+// than alg and typ are those of the map, which may be nil. No claim may be a float.
+func Sign(claims any, secret []byte, algorithm string, header map[string]any) (string, error) {
+	if isAnyones(secret) {
+		return "", keyError("the secret is empty or has zeros alone, so that anyone can sign with it")
+	}
+	members := map[string]any{"typ": "JWT"}
+	for name, it := range header {
+		members[name] = it
+	}
+	members["alg"] = algorithm
+	headerText, err := json.Marshal(members)
+	if err != nil {
+		return "", fmt.Errorf("%w: %v", ErrOption, err)
+	}
+	claimsText, err := json.Marshal(claims)
+	if err != nil {
+		return "", fmt.Errorf("%w: %v", ErrOption, err)
+	}
+	token, err := encode(headerText, claimsText, secret)
+	return string(token), err
+}

@@ -1,0 +1,83 @@
+package jwt
+
+// #cgo pkg-config: jwtproved
+// #include <jwtproved.h>
+import "C"
+
+import "unsafe"
+
+// slice returns pointer and length of a text.
+func slice(text []byte) (*C.uint8_t, C.size_t) {
+	if len(text) == 0 {
+		return nil, 0
+	}
+	return (*C.uint8_t)(unsafe.Pointer(&text[0])), C.size_t(len(text))
+}
+
+// a call writes its result to a buffer, and its length or the length that is needed.
+type call func(buffer *C.uint8_t, size C.size_t, length *C.size_t) C.uint32_t
+
+// fill returns the bytes that a call writes, to a buffer of at first this size.
+func fill(size int, made call) ([]byte, C.uint32_t) {
+	var length C.size_t
+	for {
+		buffer := make([]byte, size)
+		at, room := slice(buffer)
+		status := made(at, room, &length)
+		if status != C.JWT_NO_ROOM {
+			return buffer[:length], status
+		}
+		size = int(length)
+	}
+}
+
+// answer returns the bytes that a call writes, or the refusal.
+func answer(size int, made call) ([]byte, error) {
+	text, status := fill(size, made)
+	if status == C.JWT_OK {
+		return text, nil
+	}
+	return nil, refusal(status)
+}
+
+func refusal(status C.uint32_t) error {
+	text, _ := fill(64, func(buffer *C.uint8_t, size C.size_t, length *C.size_t) C.uint32_t {
+		return C.jwt_status_text(status, buffer, size, length)
+	})
+	return &Error{Status: uint32(status), text: string(text)}
+}
+
+func decodeHeader(token []byte) ([]byte, error) {
+	return answer(len(token)+64, func(buffer *C.uint8_t, size C.size_t, length *C.size_t) C.uint32_t {
+		at, tokenLen := slice(token)
+		return C.jwt_decode_header(at, tokenLen, buffer, size, length)
+	})
+}
+
+// decode has a token verified by a key of this kind.
+func decode(kind keyKind, token, key, options []byte, now uint64) ([]byte, error) {
+	return answer(len(token)+64, func(buffer *C.uint8_t, size C.size_t, length *C.size_t) C.uint32_t {
+		tokenAt, tokenLen := slice(token)
+		keyAt, keyLen := slice(key)
+		optionsAt, optionsLen := slice(options)
+		switch kind {
+		case secretKey:
+			return C.jwt_decode_hmac(tokenAt, tokenLen, keyAt, keyLen, optionsAt, optionsLen, C.uint64_t(now), buffer, size, length)
+		case singleKey:
+			return C.jwt_decode_key(tokenAt, tokenLen, keyAt, keyLen, optionsAt, optionsLen, C.uint64_t(now), buffer, size, length)
+		}
+		return C.jwt_decode_set(tokenAt, tokenLen, keyAt, keyLen, optionsAt, optionsLen, C.uint64_t(now), buffer, size, length)
+	})
+}
+
+func encode(header, claims, secret []byte) ([]byte, error) {
+	return answer(2*(len(header)+len(claims))+128, func(buffer *C.uint8_t, size C.size_t, length *C.size_t) C.uint32_t {
+		headerAt, headerLen := slice(header)
+		claimsAt, claimsLen := slice(claims)
+		secretAt, secretLen := slice(secret)
+		return C.jwt_encode_hmac(headerAt, headerLen, claimsAt, claimsLen, secretAt, secretLen, buffer, size, length)
+	})
+}
+
+// the status for a token that is none, which is told once options and key are read
+const noToken = uint32(C.JWT_INVALID_TOKEN)

@@ -1,0 +1,1133 @@
+/*
+ * Lets a request pass if it has a JSON Web Token that the proved library accepts (jwtproved.h), and answers it with 401
+ * otherwise (RFC 6750 section 3). README.md describes the directives and the variables.
+ *
+ * The key file is read, and tried with the library, when the configuration is read: a bad one stops the start, and a reload
+ * leaves the old workers as they are. A request allocates from its own pool alone, and no token is written to a log.
+ */
+#include <ngx_config.h>
+#include <ngx_core.h>
+#include <ngx_http.h>
+#include <jwtproved.h>
+
+/* A key file that is longer is refused. */
+#define NGX_HTTP_JWT_KEY_FILE_MAX (1024 * 1024)
+/* By how much claims may be longer than their token at the first try: a number can be written longer than it was. */
+#define NGX_HTTP_JWT_ROOM 64
+
+/* The room of a slot of a cache, for a token and its claims. A longer token is verified each time. */
+#define NGX_HTTP_JWT_SLOT 2000
+
+/* A token that was accepted, with the moments from the first to the last at which it is. */
+typedef struct {
+    uint64_t      first;
+    uint64_t      last;
+    uint32_t      hash;
+    uint32_t      token_len;
+    uint32_t      claims_len;
+    u_char        text[NGX_HTTP_JWT_SLOT];
+} ngx_http_jwt_slot_t;
+
+typedef struct {
+    ngx_flag_t    enabled;
+    /* the values of WWW-Authenticate: without a token, and with one that is refused */
+    ngx_str_t     challenge;
+    ngx_str_t     refusal;
+    /* the variable that has the token, or NGX_CONF_UNSET for the header Authorization */
+    ngx_int_t     token;
+    ngx_str_t     key_file;
+    ngx_str_t     key;
+    ngx_array_t  *algorithms;
+    ngx_array_t  *audiences;
+    ngx_array_t  *issuers;
+    time_t        leeway;
+    ngx_uint_t    is_set;
+    ngx_str_t     options;
+    ngx_int_t     slot_count;
+    ngx_http_jwt_slot_t  *slots;
+} ngx_http_jwt_loc_conf_t;
+
+typedef struct {
+    ngx_str_t     token;
+    uint32_t      status;
+    /* JSON of the token that was accepted; the header is read when a variable asks for it */
+    ngx_str_t     claims;
+    ngx_str_t     header;
+} ngx_http_jwt_ctx_t;
+
+static ngx_int_t ngx_http_jwt_handler(ngx_http_request_t *r);
+static ngx_int_t ngx_http_jwt_status_variable(ngx_http_request_t *r, ngx_http_variable_value_t *v, uintptr_t data);
+static ngx_int_t ngx_http_jwt_claim_variable(ngx_http_request_t *r, ngx_http_variable_value_t *v, uintptr_t data);
+static ngx_int_t ngx_http_jwt_header_variable(ngx_http_request_t *r, ngx_http_variable_value_t *v, uintptr_t data);
+static ngx_int_t ngx_http_jwt_add_variables(ngx_conf_t *cf);
+static ngx_int_t ngx_http_jwt_init(ngx_conf_t *cf);
+static void *ngx_http_jwt_create_loc_conf(ngx_conf_t *cf);
+static char *ngx_http_jwt_merge_loc_conf(ngx_conf_t *cf, void *parent, void *child);
+static char *ngx_http_jwt(ngx_conf_t *cf, ngx_command_t *cmd, void *conf);
+static char *ngx_http_jwt_key_file(ngx_conf_t *cf, ngx_command_t *cmd, void *conf);
+static char *ngx_http_jwt_list(ngx_conf_t *cf, ngx_command_t *cmd, void *conf);
+
+#define NGX_HTTP_JWT_ANY (NGX_HTTP_MAIN_CONF | NGX_HTTP_SRV_CONF | NGX_HTTP_LOC_CONF)
+
+static ngx_command_t ngx_http_jwt_commands[] = {
+
+    { ngx_string("auth_jwt"), NGX_HTTP_JWT_ANY | NGX_CONF_TAKE12,
+      ngx_http_jwt, NGX_HTTP_LOC_CONF_OFFSET, 0, NULL },
+
+    { ngx_string("auth_jwt_key_file"), NGX_HTTP_JWT_ANY | NGX_CONF_TAKE1,
+      ngx_http_jwt_key_file, NGX_HTTP_LOC_CONF_OFFSET, 0, NULL },
+
+    { ngx_string("auth_jwt_alg"), NGX_HTTP_JWT_ANY | NGX_CONF_1MORE,
+      ngx_http_jwt_list, NGX_HTTP_LOC_CONF_OFFSET, offsetof(ngx_http_jwt_loc_conf_t, algorithms), NULL },
+
+    { ngx_string("auth_jwt_aud"), NGX_HTTP_JWT_ANY | NGX_CONF_1MORE,
+      ngx_http_jwt_list, NGX_HTTP_LOC_CONF_OFFSET, offsetof(ngx_http_jwt_loc_conf_t, audiences), NULL },
+
+    { ngx_string("auth_jwt_iss"), NGX_HTTP_JWT_ANY | NGX_CONF_1MORE,
+      ngx_http_jwt_list, NGX_HTTP_LOC_CONF_OFFSET, offsetof(ngx_http_jwt_loc_conf_t, issuers), NULL },
+
+    { ngx_string("auth_jwt_leeway"), NGX_HTTP_JWT_ANY | NGX_CONF_TAKE1,
+      ngx_conf_set_sec_slot, NGX_HTTP_LOC_CONF_OFFSET, offsetof(ngx_http_jwt_loc_conf_t, leeway), NULL },
+
+    { ngx_string("auth_jwt_cache"), NGX_HTTP_JWT_ANY | NGX_CONF_TAKE1,
+      ngx_conf_set_num_slot, NGX_HTTP_LOC_CONF_OFFSET, offsetof(ngx_http_jwt_loc_conf_t, slot_count), NULL },
+
+    ngx_null_command
+};
+
+static ngx_http_module_t ngx_http_jwt_module_ctx = {
+    ngx_http_jwt_add_variables,   /* preconfiguration */
+    ngx_http_jwt_init,            /* postconfiguration */
+    NULL,                         /* create main configuration */
+    NULL,                         /* init main configuration */
+    NULL,                         /* create server configuration */
+    NULL,                         /* merge server configuration */
+    ngx_http_jwt_create_loc_conf, /* create location configuration */
+    ngx_http_jwt_merge_loc_conf   /* merge location configuration */
+};
+
+ngx_module_t ngx_http_jwt_module = {
+    NGX_MODULE_V1,
+    &ngx_http_jwt_module_ctx,
+    ngx_http_jwt_commands,
+    NGX_HTTP_MODULE,
+    NULL, NULL, NULL, NULL, NULL, NULL, NULL,
+    NGX_MODULE_V1_PADDING
+};
+
+static ngx_http_variable_t ngx_http_jwt_variables[] = {
+
+    { ngx_string("jwt_status"), NULL, ngx_http_jwt_status_variable, 0, NGX_HTTP_VAR_NOCACHEABLE, 0 },
+    { ngx_string("jwt_claim_"), NULL, ngx_http_jwt_claim_variable, 0, NGX_HTTP_VAR_NOCACHEABLE | NGX_HTTP_VAR_PREFIX, 0 },
+    { ngx_string("jwt_header_"), NULL, ngx_http_jwt_header_variable, 0, NGX_HTTP_VAR_NOCACHEABLE | NGX_HTTP_VAR_PREFIX, 0 },
+
+    ngx_http_null_variable
+};
+
+
+/* JSON that the library wrote or has read: these functions find their way in it, and read nothing behind its end. */
+
+static u_char *
+ngx_http_jwt_space(u_char *p, u_char *last)
+{
+    while (p < last && (*p == ' ' || *p == '\t' || *p == '\n' || *p == '\r')) {
+        p++;
+    }
+
+    return p;
+}
+
+
+static u_char *
+ngx_http_jwt_skip_string(u_char *p, u_char *last)
+{
+    for (p++; p < last && *p != '"'; p++) {
+        if (*p == '\\' && p + 1 < last) {
+            p++;
+        }
+    }
+
+    return p < last ? p + 1 : last;
+}
+
+
+static u_char *
+ngx_http_jwt_skip_value(u_char *p, u_char *last)
+{
+    ngx_uint_t  depth = 0;
+
+    while (p < last) {
+        if (*p == '"') {
+            p = ngx_http_jwt_skip_string(p, last);
+
+        } else if (*p == '{' || *p == '[') {
+            depth++;
+            p++;
+            continue;
+
+        } else if (*p == '}' || *p == ']') {
+            depth--;
+            p++;
+
+        } else if (depth > 0) {
+            p++;
+            continue;
+
+        } else {
+            while (p < last && ngx_strchr(",]} \t\n\r", *p) == NULL) {
+                p++;
+            }
+        }
+
+        if (depth == 0) {
+            break;
+        }
+    }
+
+    return p;
+}
+
+
+/* Finds a member of an object: the last one of this name, or else of a name that differs in case. */
+static ngx_int_t
+ngx_http_jwt_member(ngx_str_t *object, u_char *name, size_t len, ngx_str_t *value)
+{
+    u_char     *p, *last, *start, *key;
+    size_t      key_len;
+    ngx_int_t   found = NGX_DECLINED;
+
+    last = object->data + object->len;
+    p = ngx_http_jwt_space(object->data, last);
+
+    if (p == last || *p != '{') {
+        return NGX_DECLINED;
+    }
+
+    for (p = ngx_http_jwt_space(p + 1, last); p < last && *p == '"'; p = ngx_http_jwt_space(p, last)) {
+        key = p + 1;
+        p = ngx_http_jwt_skip_string(p, last);
+        key_len = p - 1 - key;
+
+        p = ngx_http_jwt_space(p, last);
+        if (p < last && *p == ':') {
+            p++;
+        }
+
+        start = ngx_http_jwt_space(p, last);
+        p = ngx_http_jwt_skip_value(start, last);
+
+        if (key_len == len && (found != NGX_OK || ngx_memcmp(key, name, len) == 0)
+            && ngx_strncasecmp(key, name, len) == 0)
+        {
+            value->data = start;
+            value->len = p - start;
+            found = ngx_memcmp(key, name, len) == 0 ? NGX_OK : NGX_AGAIN;
+        }
+
+        p = ngx_http_jwt_space(p, last);
+        if (p < last && *p == ',') {
+            p = ngx_http_jwt_space(p + 1, last);
+        }
+    }
+
+    return found == NGX_DECLINED ? NGX_DECLINED : NGX_OK;
+}
+
+
+static u_char *
+ngx_http_jwt_utf8(u_char *dst, uint32_t c)
+{
+    if (c < 0x80) {
+        *dst++ = (u_char) c;
+        return dst;
+    }
+
+    if (c < 0x800) {
+        *dst++ = (u_char) (0xc0 | (c >> 6));
+
+    } else {
+        if (c < 0x10000) {
+            *dst++ = (u_char) (0xe0 | (c >> 12));
+
+        } else {
+            *dst++ = (u_char) (0xf0 | (c >> 18));
+            *dst++ = (u_char) (0x80 | ((c >> 12) & 0x3f));
+        }
+
+        *dst++ = (u_char) (0x80 | ((c >> 6) & 0x3f));
+    }
+
+    *dst++ = (u_char) (0x80 | (c & 0x3f));
+    return dst;
+}
+
+
+/*
+ * Writes the text of a JSON string, which is never longer than the string, and returns its end. Control characters stay
+ * escaped as they are, so that a claim ends no line of a header or of a log.
+ */
+static u_char *
+ngx_http_jwt_unescape(u_char *dst, u_char *p, u_char *last)
+{
+    uint32_t  c;
+
+    while (p < last) {
+        if (*p != '\\' || last - p < 2) {
+            *dst++ = *p++;
+            continue;
+        }
+
+        if (p[1] != 'u' || last - p < 6) {
+            if (p[1] != '"' && p[1] != '\\' && p[1] != '/') {
+                *dst++ = '\\';
+            }
+
+            *dst++ = p[1];
+            p += 2;
+            continue;
+        }
+
+        c = (uint32_t) ngx_hextoi(p + 2, 4);
+
+        if (c < 0x20) {
+            dst = ngx_cpymem(dst, p, 6);
+            p += 6;
+            continue;
+        }
+
+        p += 6;
+
+        if (c >= 0xd800 && c < 0xdc00 && last - p >= 6 && p[0] == '\\' && p[1] == 'u') {
+            c = 0x10000 + ((c - 0xd800) << 10) + (((uint32_t) ngx_hextoi(p + 2, 4) - 0xdc00) & 0x3ff);
+            p += 6;
+        }
+
+        dst = ngx_http_jwt_utf8(dst, c);
+    }
+
+    return dst;
+}
+
+
+/* Sets the variable to a member of an object: the text of a string, and JSON of any other value. */
+static ngx_int_t
+ngx_http_jwt_set_member(ngx_http_request_t *r, ngx_http_variable_value_t *v, ngx_str_t *object, u_char *name, size_t len)
+{
+    u_char     *text;
+    ngx_str_t   value;
+
+    if (ngx_http_jwt_member(object, name, len, &value) != NGX_OK) {
+        v->not_found = 1;
+        return NGX_OK;
+    }
+
+    if (value.len >= 2 && value.data[0] == '"') {
+        text = ngx_pnalloc(r->pool, value.len);
+        if (text == NULL) {
+            return NGX_ERROR;
+        }
+
+        value.len = ngx_http_jwt_unescape(text, value.data + 1, value.data + value.len - 1) - text;
+        value.data = text;
+    }
+
+    v->data = value.data;
+    v->len = value.len;
+    v->valid = 1;
+    v->no_cacheable = 0;
+    v->not_found = 0;
+    return NGX_OK;
+}
+
+
+/* Returns the context of a request whose token was accepted, or NULL. */
+static ngx_http_jwt_ctx_t *
+ngx_http_jwt_accepted(ngx_http_request_t *r)
+{
+    ngx_http_jwt_ctx_t  *ctx;
+
+    ctx = ngx_http_get_module_ctx(r->main, ngx_http_jwt_module);
+    return ctx != NULL && ctx->claims.data != NULL ? ctx : NULL;
+}
+
+
+static ngx_int_t
+ngx_http_jwt_claim_variable(ngx_http_request_t *r, ngx_http_variable_value_t *v, uintptr_t data)
+{
+    ngx_str_t           *name = (ngx_str_t *) data;
+    ngx_http_jwt_ctx_t  *ctx = ngx_http_jwt_accepted(r);
+
+    if (ctx == NULL) {
+        v->not_found = 1;
+        return NGX_OK;
+    }
+
+    return ngx_http_jwt_set_member(r, v, &ctx->claims, name->data + sizeof("jwt_claim_") - 1,
+                                   name->len - (sizeof("jwt_claim_") - 1));
+}
+
+
+static ngx_int_t
+ngx_http_jwt_header_variable(ngx_http_request_t *r, ngx_http_variable_value_t *v, uintptr_t data)
+{
+    size_t               len;
+    u_char              *buffer;
+    uint32_t             status;
+    ngx_str_t           *name = (ngx_str_t *) data;
+    ngx_http_jwt_ctx_t  *ctx = ngx_http_jwt_accepted(r);
+
+    if (ctx == NULL) {
+        v->not_found = 1;
+        return NGX_OK;
+    }
+
+    for (len = ctx->token.len + NGX_HTTP_JWT_ROOM; ctx->header.data == NULL; /* void */ ) {
+        buffer = ngx_pnalloc(r->main->pool, len);
+        if (buffer == NULL) {
+            return NGX_ERROR;
+        }
+
+        status = jwt_decode_header(ctx->token.data, ctx->token.len, buffer, len, &len);
+
+        if (status == JWT_OK) {
+            ctx->header.data = buffer;
+            ctx->header.len = len;
+
+        } else if (status != JWT_NO_ROOM) {
+            return NGX_ERROR;
+        }
+    }
+
+    return ngx_http_jwt_set_member(r, v, &ctx->header, name->data + sizeof("jwt_header_") - 1,
+                                   name->len - (sizeof("jwt_header_") - 1));
+}
+
+
+/* OK, NoToken, or the library's text of the refusal, as ExpiredSignature. */
+static ngx_int_t
+ngx_http_jwt_status_variable(ngx_http_request_t *r, ngx_http_variable_value_t *v, uintptr_t data)
+{
+    size_t               len;
+    u_char              *buffer;
+    ngx_http_jwt_ctx_t  *ctx;
+
+    ctx = ngx_http_get_module_ctx(r->main, ngx_http_jwt_module);
+
+    if (ctx == NULL) {
+        v->not_found = 1;
+        return NGX_OK;
+    }
+
+    v->valid = 1;
+    v->no_cacheable = 0;
+    v->not_found = 0;
+
+    if (ctx->token.data == NULL || ctx->status == JWT_OK) {
+        v->data = (u_char *) (ctx->token.data == NULL ? "NoToken" : "OK");
+        v->len = ngx_strlen(v->data);
+        return NGX_OK;
+    }
+
+    buffer = ngx_pnalloc(r->pool, NGX_HTTP_JWT_ROOM);
+    if (buffer == NULL || jwt_status_text(ctx->status, buffer, NGX_HTTP_JWT_ROOM, &len) != JWT_OK) {
+        return NGX_ERROR;
+    }
+
+    v->data = buffer;
+    v->len = len;
+    return NGX_OK;
+}
+
+
+/* Finds the token of a request: the variable's value, or that of Authorization behind 'Bearer' (RFC 6750 section 2.1). */
+static ngx_int_t
+ngx_http_jwt_find_token(ngx_http_request_t *r, ngx_http_jwt_loc_conf_t *conf, ngx_str_t *token)
+{
+    u_char                     *p, *last;
+    ngx_table_elt_t            *header;
+    ngx_http_variable_value_t  *value;
+
+    if (conf->token != NGX_CONF_UNSET) {
+        value = ngx_http_get_indexed_variable(r, conf->token);
+        if (value == NULL || value->not_found || value->len == 0) {
+            return NGX_DECLINED;
+        }
+
+        token->data = value->data;
+        token->len = value->len;
+        return NGX_OK;
+    }
+
+    header = r->headers_in.authorization;
+    if (header == NULL || header->value.len < sizeof("Bearer ") - 1
+        || ngx_strncasecmp(header->value.data, (u_char *) "Bearer ", sizeof("Bearer ") - 1) != 0)
+    {
+        return NGX_DECLINED;
+    }
+
+    p = header->value.data + sizeof("Bearer ") - 1;
+    last = header->value.data + header->value.len;
+
+    while (p < last && *p == ' ') {
+        p++;
+    }
+
+    token->data = p;
+    token->len = last - p;
+    return NGX_OK;
+}
+
+
+/*
+ * The cache of a location, whose key and options never change: a reload makes another. It takes the place of a verification
+ * because a token is accepted at just the moments of one interval, whose last is the second before exp and the leeway, so that one
+ * which was accepted at a moment is accepted at each later one up to that.
+ */
+static ngx_http_jwt_slot_t *
+ngx_http_jwt_slot(ngx_http_jwt_loc_conf_t *conf, ngx_str_t *token, uint32_t *hash)
+{
+    if (conf->slot_count == 0) {
+        return NULL;
+    }
+
+    *hash = ngx_murmur_hash2(token->data, token->len);
+    return &conf->slots[*hash % conf->slot_count];
+}
+
+
+/* Whether two texts are the same, in a time that does not depend on where they differ. */
+static ngx_uint_t
+ngx_http_jwt_is_same(u_char *a, u_char *b, size_t len)
+{
+    u_char  differs = 0;
+
+    while (len--) {
+        differs |= *a++ ^ *b++;
+    }
+
+    return differs == 0;
+}
+
+
+/* Leaves the claims of a token that the cache knows in the context. */
+static ngx_int_t
+ngx_http_jwt_recall(ngx_http_jwt_slot_t *slot, uint32_t hash, ngx_http_jwt_ctx_t *ctx, uint64_t now, ngx_pool_t *pool)
+{
+    if (slot->hash != hash || slot->token_len != ctx->token.len || now < slot->first || now > slot->last
+        || !ngx_http_jwt_is_same(slot->text, ctx->token.data, ctx->token.len))
+    {
+        return NGX_DECLINED;
+    }
+
+    /* another request may take the slot before this one ends */
+    ctx->claims.data = ngx_pnalloc(pool, slot->claims_len);
+    if (ctx->claims.data == NULL) {
+        return NGX_ERROR;
+    }
+
+    ngx_memcpy(ctx->claims.data, slot->text + slot->token_len, slot->claims_len);
+    ctx->claims.len = slot->claims_len;
+    return NGX_OK;
+}
+
+
+/* Keeps a token that was accepted now. */
+static void
+ngx_http_jwt_keep(ngx_http_jwt_loc_conf_t *conf, ngx_http_jwt_slot_t *slot, uint32_t hash, ngx_http_jwt_ctx_t *ctx, uint64_t now)
+{
+    ngx_int_t  exp;
+    ngx_str_t  value;
+
+    if (ctx->token.len + ctx->claims.len > NGX_HTTP_JWT_SLOT
+        || ngx_http_jwt_member(&ctx->claims, (u_char *) "exp", 3, &value) != NGX_OK)
+    {
+        return;
+    }
+
+    /* an exp that is larger than ngx_atoi reads is beyond each clock, and its token is verified each time */
+    exp = ngx_atoi(value.data, value.len);
+    if (exp == NGX_ERROR) {
+        return;
+    }
+
+    slot->first = now;
+    slot->last = (uint64_t) exp + (uint64_t) conf->leeway - 1;
+    slot->hash = hash;
+    slot->token_len = ctx->token.len;
+    slot->claims_len = ctx->claims.len;
+    ngx_memcpy(slot->text, ctx->token.data, ctx->token.len);
+    ngx_memcpy(slot->text + ctx->token.len, ctx->claims.data, ctx->claims.len);
+}
+
+
+/* Has the library verify the token, and leaves its claims in the context. The status is JWT_NO_ROOM if the pool has no memory. */
+static uint32_t
+ngx_http_jwt_decode(ngx_http_jwt_loc_conf_t *conf, ngx_http_jwt_ctx_t *ctx, uint64_t now, ngx_pool_t *pool)
+{
+    size_t     size, len;
+    u_char    *buffer;
+    uint32_t   status;
+
+    for (size = ctx->token.len + NGX_HTTP_JWT_ROOM; /* void */ ; size = len) {
+        buffer = ngx_pnalloc(pool, size);
+        if (buffer == NULL) {
+            return JWT_NO_ROOM;
+        }
+
+        status = (conf->is_set ? jwt_decode_set : jwt_decode_key)
+                 (ctx->token.data, ctx->token.len, conf->key.data, conf->key.len, conf->options.data, conf->options.len,
+                  now, buffer, size, &len);
+
+        if (status != JWT_NO_ROOM) {
+            break;
+        }
+    }
+
+    if (status == JWT_OK) {
+        ctx->claims.data = buffer;
+        ctx->claims.len = len;
+    }
+
+    return status;
+}
+
+
+static uint32_t
+ngx_http_jwt_verify(ngx_http_jwt_loc_conf_t *conf, ngx_http_jwt_ctx_t *ctx, ngx_pool_t *pool)
+{
+    uint32_t              hash = 0, status;
+    uint64_t              now = (uint64_t) ngx_time();
+    ngx_int_t             known;
+    ngx_http_jwt_slot_t  *slot;
+
+    slot = ngx_http_jwt_slot(conf, &ctx->token, &hash);
+    known = slot != NULL ? ngx_http_jwt_recall(slot, hash, ctx, now, pool) : NGX_DECLINED;
+
+    if (known != NGX_DECLINED) {
+        return known == NGX_OK ? JWT_OK : JWT_NO_ROOM;
+    }
+
+    status = ngx_http_jwt_decode(conf, ctx, now, pool);
+
+    if (status == JWT_OK && slot != NULL) {
+        ngx_http_jwt_keep(conf, slot, hash, ctx, now);
+    }
+
+    return status;
+}
+
+
+static ngx_int_t
+ngx_http_jwt_refuse(ngx_http_request_t *r, ngx_str_t *challenge)
+{
+    ngx_table_elt_t  *header;
+
+    header = ngx_list_push(&r->headers_out.headers);
+    if (header == NULL) {
+        return NGX_HTTP_INTERNAL_SERVER_ERROR;
+    }
+
+    header->hash = 1;
+    ngx_str_set(&header->key, "WWW-Authenticate");
+    header->value = *challenge;
+#if (nginx_version >= 1023000)
+    header->next = NULL;
+#endif
+    r->headers_out.www_authenticate = header;
+
+    return NGX_HTTP_UNAUTHORIZED;
+}
+
+
+static ngx_int_t
+ngx_http_jwt_handler(ngx_http_request_t *r)
+{
+    ngx_http_jwt_ctx_t       *ctx;
+    ngx_http_jwt_loc_conf_t  *conf;
+
+    conf = ngx_http_get_module_loc_conf(r, ngx_http_jwt_module);
+
+    if (!conf->enabled) {
+        return NGX_DECLINED;
+    }
+
+    ctx = ngx_pcalloc(r->pool, sizeof(ngx_http_jwt_ctx_t));
+    if (ctx == NULL) {
+        return NGX_HTTP_INTERNAL_SERVER_ERROR;
+    }
+
+    ngx_http_set_ctx(r, ctx, ngx_http_jwt_module);
+
+    if (ngx_http_jwt_find_token(r, conf, &ctx->token) != NGX_OK) {
+        return ngx_http_jwt_refuse(r, &conf->challenge);
+    }
+
+    ctx->status = ngx_http_jwt_verify(conf, ctx, r->pool);
+
+    if (ctx->status == JWT_OK) {
+        return NGX_OK;
+    }
+
+    if (ctx->status == JWT_OUT_OF_MEMORY || ctx->status >= JWT_NO_ROOM) {
+        /* the log of the cycle, since that of the connection adds the request's line, which may have the token */
+        ngx_log_error(NGX_LOG_ERR, ngx_cycle->log, 0, "auth_jwt: a token could not be verified, status %uD", ctx->status);
+        return NGX_HTTP_INTERNAL_SERVER_ERROR;
+    }
+
+    return ngx_http_jwt_refuse(r, &conf->refusal);
+}
+
+
+static void *
+ngx_http_jwt_create_loc_conf(ngx_conf_t *cf)
+{
+    ngx_http_jwt_loc_conf_t  *conf;
+
+    conf = ngx_pcalloc(cf->pool, sizeof(ngx_http_jwt_loc_conf_t));
+    if (conf == NULL) {
+        return NULL;
+    }
+
+    conf->enabled = NGX_CONF_UNSET;
+    conf->token = NGX_CONF_UNSET;
+    conf->algorithms = NGX_CONF_UNSET_PTR;
+    conf->audiences = NGX_CONF_UNSET_PTR;
+    conf->issuers = NGX_CONF_UNSET_PTR;
+    conf->leeway = NGX_CONF_UNSET;
+    conf->slot_count = NGX_CONF_UNSET;
+    return conf;
+}
+
+
+/* Returns how many bytes a list takes as a member of the options. */
+static size_t
+ngx_http_jwt_list_size(ngx_array_t *list)
+{
+    size_t      size = sizeof(",\"algorithms\":[]");
+    ngx_uint_t  i;
+    ngx_str_t  *it;
+
+    for (i = 0; list != NULL && i < list->nelts; i++) {
+        it = &((ngx_str_t *) list->elts)[i];
+        size += it->len + ngx_escape_json(NULL, it->data, it->len) + sizeof("\"\",") - 1;
+    }
+
+    return size;
+}
+
+
+static u_char *
+ngx_http_jwt_put_list(u_char *p, const char *name, ngx_array_t *list)
+{
+    ngx_uint_t  i;
+    ngx_str_t  *it;
+
+    if (list == NULL) {
+        return p;
+    }
+
+    p = ngx_sprintf(p, ",\"%s\":[", name);
+
+    for (i = 0; i < list->nelts; i++) {
+        it = &((ngx_str_t *) list->elts)[i];
+        *p++ = '"';
+        p = (u_char *) ngx_escape_json(p, it->data, it->len);
+        *p++ = '"';
+        *p++ = ',';
+    }
+
+    p[-1] = ']';
+    return p;
+}
+
+
+/* A token is expired at its exp, and not from the second behind it on (RFC 7519 section 4.1.4). */
+#define NGX_HTTP_JWT_OPTIONS "{\"validate_nbf\":true,\"reject_tokens_expiring_in_less_than\":1,\"leeway\":"
+
+static ngx_int_t
+ngx_http_jwt_make_options(ngx_conf_t *cf, ngx_http_jwt_loc_conf_t *conf)
+{
+    u_char  *p;
+    size_t   size;
+
+    size = sizeof(NGX_HTTP_JWT_OPTIONS "}") + NGX_TIME_T_LEN + ngx_http_jwt_list_size(conf->algorithms)
+           + ngx_http_jwt_list_size(conf->audiences) + ngx_http_jwt_list_size(conf->issuers);
+
+    p = ngx_pnalloc(cf->pool, size);
+    if (p == NULL) {
+        return NGX_ERROR;
+    }
+
+    conf->options.data = p;
+    p = ngx_sprintf(p, NGX_HTTP_JWT_OPTIONS "%T", conf->leeway);
+    p = ngx_http_jwt_put_list(p, "algorithms", conf->algorithms);
+    p = ngx_http_jwt_put_list(p, "aud", conf->audiences);
+    p = ngx_http_jwt_put_list(p, "iss", conf->issuers);
+    *p++ = '}';
+    conf->options.len = p - conf->options.data;
+    return NGX_OK;
+}
+
+
+/* Asks the library whether it reads a key, by a token that is none. */
+static uint32_t
+ngx_http_jwt_try(ngx_http_jwt_loc_conf_t *conf, ngx_str_t *key, ngx_uint_t is_set)
+{
+    size_t  len;
+    u_char  buffer[1];
+
+    return (is_set ? jwt_decode_set : jwt_decode_key)
+           (NULL, 0, key->data, key->len, conf->options.data, conf->options.len, 0, buffer, 0, &len);
+}
+
+
+/*
+ * Whether anyone can sign by the key: it accepts a token by the empty secret. HMAC pads a secret with zeros, so that up to 128 zeros
+ * are the same key (RFC 2104 section 2).
+ */
+static ngx_uint_t
+ngx_http_jwt_is_anyones(ngx_str_t *key)
+{
+    size_t     len, token_len;
+    u_char     token[256], claims[16];
+    ngx_str_t  header = ngx_string("{\"alg\":\"HS512\"}");
+    ngx_str_t  options = ngx_string("{\"algorithms\":[\"HS512\"],\"required_spec_claims\":[]}");
+
+    return jwt_encode_hmac(header.data, header.len, (u_char *) "{}", 2, NULL, 0, token, sizeof(token), &token_len) != JWT_OK
+           || jwt_decode_key(token, token_len, key->data, key->len, options.data, options.len, 0, claims, sizeof(claims), &len)
+              == JWT_OK;
+}
+
+
+/* Returns what is wrong with a key, or NULL. */
+static const char *
+ngx_http_jwt_key_fault(ngx_http_jwt_loc_conf_t *conf, ngx_str_t *key)
+{
+    if (ngx_http_jwt_try(conf, key, 0) != JWT_INVALID_TOKEN) {
+        return "has no key by which a token is verified";
+    }
+
+    return ngx_http_jwt_is_anyones(key) ? "has a secret that is empty or has zeros alone, by which anyone can sign" : NULL;
+}
+
+
+/* Returns what is wrong with a set of keys, or NULL. Keys of kinds that are not known are left out (RFC 7517 section 5). */
+static const char *
+ngx_http_jwt_set_fault(ngx_http_jwt_loc_conf_t *conf, ngx_str_t *keys)
+{
+    u_char      *p, *last;
+    ngx_str_t    key;
+    ngx_uint_t   count = 0;
+
+    if (ngx_http_jwt_try(conf, &conf->key, 1) == JWT_BAD_SET) {
+        return "is not a JSON Web Key Set";
+    }
+
+    last = keys->data + keys->len;
+
+    for (p = ngx_http_jwt_space(keys->data + 1, last); p < last && *p == '{'; p = ngx_http_jwt_space(p, last)) {
+        key.data = p;
+        p = ngx_http_jwt_skip_value(p, last);
+        key.len = p - key.data;
+
+        if (ngx_http_jwt_is_anyones(&key)) {
+            return "has a secret that is empty or has zeros alone, by which anyone can sign";
+        }
+
+        count += ngx_http_jwt_key_fault(conf, &key) == NULL;
+        p = ngx_http_jwt_space(p, last);
+        p += p < last && *p == ',';
+    }
+
+    return count > 0 ? NULL : "has no key by which a token is verified";
+}
+
+
+/* Returns what is wrong with the algorithms, or NULL: the library lists those of one family. */
+static const char *
+ngx_http_jwt_algorithms_fault(ngx_http_jwt_loc_conf_t *conf)
+{
+    ngx_str_t    empty = ngx_string("{\"keys\":[]}");
+    ngx_str_t   *names = conf->algorithms->elts;
+    ngx_uint_t   i;
+
+    if (ngx_http_jwt_try(conf, &empty, 1) == JWT_BAD_OPTIONS) {
+        return "one of the algorithms is not known, or an audience or issuer is not UTF-8";
+    }
+
+    for (i = 1; i < conf->algorithms->nelts; i++) {
+        /* PS is of the family of RS; ES and Ed differ in their second letter */
+        if ((names[i].data[0] == 'P' ? 'R' : names[i].data[0]) != (names[0].data[0] == 'P' ? 'R' : names[0].data[0])
+            || (names[i].data[0] == 'E' && names[i].data[1] != names[0].data[1]))
+        {
+            return "the algorithms are not of one family";
+        }
+    }
+
+    return NULL;
+}
+
+
+static const char *
+ngx_http_jwt_fault(ngx_conf_t *cf, ngx_http_jwt_loc_conf_t *conf)
+{
+    ngx_str_t    keys;
+    const char  *fault;
+
+    if (conf->key.data == NULL || conf->algorithms == NULL) {
+        return "auth_jwt needs auth_jwt_key_file and auth_jwt_alg";
+    }
+
+    if (ngx_http_jwt_make_options(cf, conf) != NGX_OK) {
+        return "no memory";
+    }
+
+    fault = ngx_http_jwt_algorithms_fault(conf);
+    if (fault != NULL) {
+        return fault;
+    }
+
+    if (conf->slot_count > 0) {
+        conf->slots = ngx_pcalloc(cf->pool, conf->slot_count * sizeof(ngx_http_jwt_slot_t));
+        if (conf->slots == NULL) {
+            return "no memory";
+        }
+    }
+
+    conf->is_set = ngx_http_jwt_member(&conf->key, (u_char *) "keys", 4, &keys) == NGX_OK;
+    return conf->is_set ? ngx_http_jwt_set_fault(conf, &keys) : ngx_http_jwt_key_fault(conf, &conf->key);
+}
+
+
+static char *
+ngx_http_jwt_merge_loc_conf(ngx_conf_t *cf, void *parent, void *child)
+{
+    ngx_http_jwt_loc_conf_t  *prev = parent, *conf = child;
+    const char               *fault;
+
+    if (conf->enabled == NGX_CONF_UNSET) {
+        conf->challenge = prev->challenge;
+        conf->refusal = prev->refusal;
+        conf->token = prev->token;
+    }
+
+    if (conf->key.data == NULL) {
+        conf->key = prev->key;
+        conf->key_file = prev->key_file;
+    }
+
+    ngx_conf_merge_value(conf->enabled, prev->enabled, 0);
+    ngx_conf_merge_ptr_value(conf->algorithms, prev->algorithms, NULL);
+    ngx_conf_merge_ptr_value(conf->audiences, prev->audiences, NULL);
+    ngx_conf_merge_ptr_value(conf->issuers, prev->issuers, NULL);
+    ngx_conf_merge_sec_value(conf->leeway, prev->leeway, 0);
+    ngx_conf_merge_value(conf->slot_count, prev->slot_count, 0);
+
+    fault = conf->enabled ? ngx_http_jwt_fault(cf, conf) : NULL;
+    if (fault != NULL) {
+        ngx_conf_log_error(NGX_LOG_EMERG, cf, 0, "auth_jwt: \"%V\": %s", &conf->key_file, fault);
+        return NGX_CONF_ERROR;
+    }
+
+    return NGX_CONF_OK;
+}
+
+
+/* Makes a value of WWW-Authenticate (RFC 6750 section 3): the realm as a quoted string, and the error behind it. */
+static ngx_int_t
+ngx_http_jwt_challenge(ngx_conf_t *cf, ngx_str_t *realm, const char *error, ngx_str_t *challenge)
+{
+    u_char  *p;
+    size_t   i;
+
+    p = ngx_pnalloc(cf->pool, sizeof("Bearer realm=\"\"") + 2 * realm->len + ngx_strlen(error));
+    if (p == NULL) {
+        return NGX_ERROR;
+    }
+
+    challenge->data = p;
+    p = ngx_cpymem(p, "Bearer realm=\"", sizeof("Bearer realm=\"") - 1);
+
+    for (i = 0; i < realm->len; i++) {
+        if (realm->data[i] < 0x20 || realm->data[i] == 0x7f) {
+            return NGX_ERROR;
+        }
+
+        if (realm->data[i] == '"' || realm->data[i] == '\\') {
+            *p++ = '\\';
+        }
+
+        *p++ = realm->data[i];
+    }
+
+    *p++ = '"';
+    p = ngx_cpymem(p, error, ngx_strlen(error));
+    challenge->len = p - challenge->data;
+    return NGX_OK;
+}
+
+
+static char *
+ngx_http_jwt(ngx_conf_t *cf, ngx_command_t *cmd, void *conf)
+{
+    ngx_str_t                *value = cf->args->elts, name;
+    ngx_http_jwt_loc_conf_t  *jwt = conf;
+
+    if (jwt->enabled != NGX_CONF_UNSET) {
+        return "is duplicate";
+    }
+
+    if (cf->args->nelts == 2 && value[1].len == 3 && ngx_strncmp(value[1].data, "off", 3) == 0) {
+        jwt->enabled = 0;
+        return NGX_CONF_OK;
+    }
+
+    jwt->enabled = 1;
+
+    if (ngx_http_jwt_challenge(cf, &value[1], "", &jwt->challenge) != NGX_OK
+        || ngx_http_jwt_challenge(cf, &value[1], ", error=\"invalid_token\"", &jwt->refusal) != NGX_OK)
+    {
+        return "has a realm that can't be written";
+    }
+
+    if (cf->args->nelts == 3) {
+        if (value[2].len < sizeof("token=$x") - 1 || ngx_strncmp(value[2].data, "token=$", sizeof("token=$") - 1) != 0) {
+            return "takes token=$variable as its second argument";
+        }
+
+        name.data = value[2].data + sizeof("token=$") - 1;
+        name.len = value[2].len - (sizeof("token=$") - 1);
+        jwt->token = ngx_http_get_variable_index(cf, &name);
+
+        if (jwt->token == NGX_ERROR) {
+            return NGX_CONF_ERROR;
+        }
+    }
+
+    return NGX_CONF_OK;
+}
+
+
+static char *
+ngx_http_jwt_read_file(ngx_conf_t *cf, ngx_file_t *file, ngx_str_t *text)
+{
+    ssize_t          read;
+    ngx_file_info_t  info;
+
+    if (ngx_fd_info(file->fd, &info) == NGX_FILE_ERROR) {
+        ngx_conf_log_error(NGX_LOG_EMERG, cf, ngx_errno, ngx_fd_info_n " \"%V\" failed", &file->name);
+        return NGX_CONF_ERROR;
+    }
+
+    if (!ngx_is_file(&info) || ngx_file_size(&info) == 0 || ngx_file_size(&info) > NGX_HTTP_JWT_KEY_FILE_MAX) {
+        return "is no file, is empty or has more than 1048576 bytes";
+    }
+
+    text->len = (size_t) ngx_file_size(&info);
+    text->data = ngx_pnalloc(cf->pool, text->len);
+    if (text->data == NULL) {
+        return NGX_CONF_ERROR;
+    }
+
+    read = ngx_read_file(file, text->data, text->len, 0);
+    return read == (ssize_t) text->len ? NGX_CONF_OK : "can't be read";
+}
+
+
+static char *
+ngx_http_jwt_key_file(ngx_conf_t *cf, ngx_command_t *cmd, void *conf)
+{
+    char                     *said;
+    ngx_str_t                *value = cf->args->elts;
+    ngx_file_t                file;
+    ngx_http_jwt_loc_conf_t  *jwt = conf;
+
+    if (jwt->key.data != NULL) {
+        return "is duplicate";
+    }
+
+    if (ngx_conf_full_name(cf->cycle, &value[1], 1) != NGX_OK) {
+        return NGX_CONF_ERROR;
+    }
+
+    ngx_memzero(&file, sizeof(ngx_file_t));
+    file.name = value[1];
+    file.log = cf->log;
+    file.fd = ngx_open_file(file.name.data, NGX_FILE_RDONLY, NGX_FILE_OPEN, 0);
+
+    if (file.fd == NGX_INVALID_FILE) {
+        ngx_conf_log_error(NGX_LOG_EMERG, cf, ngx_errno, ngx_open_file_n " \"%V\" failed", &file.name);
+        return NGX_CONF_ERROR;
+    }
+
+    jwt->key_file = file.name;
+    said = ngx_http_jwt_read_file(cf, &file, &jwt->key);
+    (void) ngx_close_file(file.fd);
+    return said;
+}
+
+
+static char *
+ngx_http_jwt_list(ngx_conf_t *cf, ngx_command_t *cmd, void *conf)
+{
+    ngx_str_t     *value = cf->args->elts, *it;
+    ngx_uint_t     i;
+    ngx_array_t  **list = (ngx_array_t **) ((char *) conf + cmd->offset);
+
+    if (*list != NGX_CONF_UNSET_PTR) {
+        return "is duplicate";
+    }
+
+    *list = ngx_array_create(cf->pool, cf->args->nelts - 1, sizeof(ngx_str_t));
+    if (*list == NULL) {
+        return NGX_CONF_ERROR;
+    }
+
+    for (i = 1; i < cf->args->nelts; i++) {
+        it = ngx_array_push(*list);
+        if (it == NULL) {
+            return NGX_CONF_ERROR;
+        }
+
+        *it = value[i];
+    }
+
+    return NGX_CONF_OK;
+}
+
+
+static ngx_int_t
+ngx_http_jwt_add_variables(ngx_conf_t *cf)
+{
+    ngx_http_variable_t  *added, *it;
+
+    for (it = ngx_http_jwt_variables; it->name.len; it++) {
+        added = ngx_http_add_variable(cf, &it->name, it->flags);
+        if (added == NULL) {
+            return NGX_ERROR;
+        }
+
+        added->get_handler = it->get_handler;
+        added->data = it->data;
+    }
+
+    return NGX_OK;
+}
+
+
+static ngx_int_t
+ngx_http_jwt_init(ngx_conf_t *cf)
+{
+    ngx_http_handler_pt        *handler;
+    ngx_http_core_main_conf_t  *main;
+
+    main = ngx_http_conf_get_module_main_conf(cf, ngx_http_core_module);
+
+    handler = ngx_array_push(&main->phases[NGX_HTTP_ACCESS_PHASE].handlers);
+    if (handler == NULL) {
+        return NGX_ERROR;
+    }
+
+    *handler = ngx_http_jwt_handler;
+    return NGX_OK;
+}

@@ -1,0 +1,49 @@
+"""JSON Web Tokens (RFC 7519), verified by a library whose contracts are proved, under the names of PyJWT."""
+from ._api import PyJWT, decode, decode_complete, encode, get_unverified_header
+from ._keys import PyJWK, PyJWKSet
+from .exceptions import (
+    DecodeError,
+    ExpiredSignatureError,
+    ImmatureSignatureError,
+    InvalidAlgorithmError,
+    InvalidAudienceError,
+    InvalidIssuedAtError,
+    InvalidIssuerError,
+    InvalidKeyError,
+    InvalidSignatureError,
+    InvalidSubjectError,
+    InvalidTokenError,
+    MissingRequiredClaimError,
+    PyJWKError,
+    PyJWKSetError,
+    PyJWTError,
+    UnknownKeyError,
+)
+
+__version__ = "0.1.0"
+
+__all__ = [
+    "DecodeError",
+    "ExpiredSignatureError",
+    "ImmatureSignatureError",
+    "InvalidAlgorithmError",
+    "InvalidAudienceError",
+    "InvalidIssuedAtError",
+    "InvalidIssuerError",
+    "InvalidKeyError",
+    "InvalidSignatureError",
+    "InvalidSubjectError",
+    "InvalidTokenError",
+    "MissingRequiredClaimError",
+    "PyJWK",
+    "PyJWKError",
+    "PyJWKSet",
+    "PyJWKSetError",
+    "PyJWT",
+    "PyJWTError",
+    "UnknownKeyError",
+    "decode",
+    "decode_complete",
+    "encode",
+    "get_unverified_header",
+]

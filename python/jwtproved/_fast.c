@@ -1,0 +1,132 @@
+/*
+ * The commonest call of the package without ctypes: claims of a token by a secret. A token that is refused, and arguments that are
+ * not a text and a secret, are left to _api.py, which says why. The module holds the interpreter's lock while it verifies.
+ */
+#define _GNU_SOURCE
+#define PY_SSIZE_T_CLEAN
+#include <Python.h>
+#include <stdint.h>
+#include <string.h>
+
+/* The room for claims; longer ones are left to _api.py. */
+#define ROOM 4096
+
+/* jwt_decode_hmac of jwtproved.h */
+typedef uint32_t decode_hmac(const uint8_t *token, size_t token_len, const uint8_t *secret, size_t secret_len,
+                             const uint8_t *options, size_t options_len, uint64_t now, uint8_t *room, size_t room_len, size_t *len);
+
+static decode_hmac *verify;
+static PyObject *read_json;
+
+/* Tells the bytes of a text or of bytes; any other object has none. */
+static int
+bytes_of(PyObject *object, const uint8_t **bytes, Py_ssize_t *len)
+{
+    char *found;
+
+    if (PyUnicode_CheckExact(object)) {
+        *bytes = (const uint8_t *)PyUnicode_AsUTF8AndSize(object, len);
+        PyErr_Clear();
+        return *bytes != NULL;
+    }
+    if (PyBytes_CheckExact(object) && PyBytes_AsStringAndSize(object, &found, len) == 0) {
+        *bytes = (const uint8_t *)found;
+        return 1;
+    }
+    PyErr_Clear();
+    return 0;
+}
+
+/* Whether these bytes may be a secret: neither zeros alone, nor a key of another kind as a text. */
+static int
+is_secret(const uint8_t *bytes, Py_ssize_t len)
+{
+    Py_ssize_t place = 0;
+
+    while (place < len && bytes[place] == 0) {
+        place++;
+    }
+    return place < len && memmem(bytes, len, "-----BEGIN ", 11) == NULL && (len < 4 || memcmp(bytes, "ssh-", 4) != 0)
+           && (len < 11 || memcmp(bytes, "ecdsa-sha2-", 11) != 0);
+}
+
+/* Returns the value of a JSON text. */
+static PyObject *
+value_of(const uint8_t *text, size_t len)
+{
+    PyObject *said = PyUnicode_DecodeUTF8((const char *)text, (Py_ssize_t)len, NULL), *pair, *value;
+
+    if (said == NULL) {
+        return NULL;
+    }
+    pair = PyObject_CallFunction(read_json, "Oi", said, 0);
+    Py_DECREF(said);
+    if (pair == NULL) {
+        return NULL;
+    }
+    value = PyTuple_GetItem(pair, 0);
+    Py_XINCREF(value);
+    Py_DECREF(pair);
+    return value;
+}
+
+/* claims(token, secret, options, now): returns the claims, or None if the token is not accepted here. */
+static PyObject *
+claims(PyObject *module, PyObject *const *arguments, Py_ssize_t count)
+{
+    static uint8_t room[ROOM];
+    const uint8_t *token, *secret, *options;
+    Py_ssize_t token_len, secret_len, options_len;
+    double now;
+    size_t len;
+
+    (void)module;
+    if (count != 4) {
+        PyErr_SetString(PyExc_TypeError, "claims takes a token, a secret, options and a moment");
+        return NULL;
+    }
+    now = PyFloat_AsDouble(arguments[3]);
+    if (PyErr_Occurred()) {
+        return NULL;
+    }
+    if (verify == NULL || !(now >= 0 && now < 9007199254740992.0) || !bytes_of(arguments[0], &token, &token_len)
+        || !bytes_of(arguments[1], &secret, &secret_len) || !bytes_of(arguments[2], &options, &options_len)
+        || !is_secret(secret, secret_len)
+        || verify(token, token_len, secret, secret_len, options, options_len, (uint64_t)now, room, ROOM, &len) != 0)
+    {
+        Py_RETURN_NONE;
+    }
+    return value_of(room, len);
+}
+
+/* bind(address, read): takes the address of jwt_decode_hmac, and what reads a JSON text from a place on. */
+static PyObject *
+bind(PyObject *module, PyObject *arguments)
+{
+    unsigned long long address;
+    PyObject *read;
+
+    (void)module;
+    if (!PyArg_ParseTuple(arguments, "KO", &address, &read)) {
+        return NULL;
+    }
+    verify = (decode_hmac *)(uintptr_t)address;
+    Py_INCREF(read);
+    Py_XDECREF(read_json);
+    read_json = read;
+    Py_RETURN_NONE;
+}
+
+static PyMethodDef methods[] = {
+    { "bind", bind, METH_VARARGS, NULL },
+    { "claims", (PyCFunction)(void (*)(void))claims, METH_FASTCALL, NULL },
+    { NULL, NULL, 0, NULL }
+};
+
+static struct PyModuleDef definition = { PyModuleDef_HEAD_INIT, "_fast", NULL, -1, methods, NULL, NULL, NULL, NULL };
+
+PyMODINIT_FUNC
+PyInit__fast(void)
+{
+    return PyModule_Create(&definition);
+}

@@ -1,0 +1,72 @@
+"""The exceptions of PyJWT, by name. A token that is refused raises one below InvalidTokenError, and a key one of the others."""
+
+
+class PyJWTError(Exception):
+    """The base of all exceptions of this package."""
+
+
+class InvalidTokenError(PyJWTError):
+    """The token is refused."""
+
+
+class DecodeError(InvalidTokenError):
+    """The token, its header or its payload can't be read, or a claim that is checked is malformed."""
+
+
+class InvalidSignatureError(DecodeError):
+    """The signature is not that of the token by the key."""
+
+
+class InvalidAlgorithmError(InvalidTokenError):
+    """The algorithm that the header names is not among those that are listed and that the key is for."""
+
+
+class ExpiredSignatureError(InvalidTokenError):
+    """The token has expired: its `exp` is not after now, less the leeway."""
+
+
+class ImmatureSignatureError(InvalidTokenError):
+    """The token is not valid yet: its `nbf` or its `iat` is after now and the leeway."""
+
+
+class InvalidIssuedAtError(InvalidTokenError):
+    """The `iat` is not a whole number."""
+
+
+class InvalidAudienceError(InvalidTokenError):
+    """The `aud` has none of the audiences that are asked for, or is malformed, or is there although none is asked for."""
+
+
+class InvalidIssuerError(InvalidTokenError):
+    """The `iss` is none of the issuers that are asked for, or is malformed."""
+
+
+class InvalidSubjectError(InvalidTokenError):
+    """The `sub` is another than is asked for, or is malformed."""
+
+
+class MissingRequiredClaimError(InvalidTokenError):
+    """A claim that is required is missing. `claim` is its name."""
+
+    def __init__(self, claim: str) -> None:
+        super().__init__(claim)
+        self.claim = claim
+
+    def __str__(self) -> str:
+        return f'Token is missing the "{self.claim}" claim'
+
+
+class UnknownKeyError(InvalidTokenError):
+    """The header names no key of the set by its `kid`."""
+
+
+class InvalidKeyError(PyJWTError):
+    """The key can't be read, is for no algorithm that is listed, or is a secret by which anyone can sign."""
+
+
+class PyJWKError(PyJWTError):
+    """The JSON Web Key can't be read, or no token is verified by a key of its kind."""
+
+
+class PyJWKSetError(PyJWTError):
+    """The JSON Web Key Set can't be read, or has no key by which a token is verified."""

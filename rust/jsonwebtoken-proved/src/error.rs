@@ -1,0 +1,90 @@
+use std::fmt;
+
+/// Why there is no result. All but the last four are refusals of the token.
+#[derive(Clone, Debug, PartialEq, Eq)]
+#[non_exhaustive]
+pub enum Error {
+    /// The token, its header or its payload can't be read. The text is the library's, as `InvalidToken`.
+    Malformed(String),
+    /// The signature is not that of the token by the key.
+    Signature,
+    /// The algorithm is not among those that are accepted, or they are not all of the key's family.
+    Algorithm,
+    /// The header's `crit` names a member that is not understood (RFC 7515 section 4.1.11).
+    Crit,
+    /// The header names no key of the set.
+    UnknownKey,
+    /// The `exp` is not after now, less the leeway (RFC 7519 section 4.1.4).
+    Expired,
+    /// The `nbf` is after now and the leeway (RFC 7519 section 4.1.5).
+    NotYetValid,
+    /// The `aud` has none of the accepted audiences.
+    Audience,
+    /// The `iss` has none of the accepted issuers.
+    Issuer,
+    /// The `sub` is another.
+    Subject,
+    /// A required claim is missing or malformed: its name.
+    MissingClaim(&'static str),
+    /// A claim that is checked is malformed: its name.
+    MalformedClaim(&'static str),
+    /// The claims are not those of the type that was asked for, or can't be written.
+    Json(String),
+    /// The key can't be read, does not serve, or is a secret by which anyone can sign.
+    Key(String),
+    /// An argument is not understood: the text is the library's.
+    Argument(String),
+    /// Memory ran out in the library. This is no verdict on a token.
+    OutOfMemory,
+}
+
+const CLAIMS: [&str; 5] = ["exp", "nbf", "aud", "iss", "sub"];
+
+impl Error {
+    /// Returns the error of a status of `jwtproved.h`.
+    pub(crate) fn from_status(status: u32) -> Error {
+        let text = || crate::calls::status_text(status);
+        match status {
+            2 => Error::Signature,
+            6 | 14 | 15 => Error::Algorithm,
+            7 | 8 | 103 | 106 => Error::Key(text()),
+            9 => Error::Expired,
+            10 => Error::Issuer,
+            11 => Error::Audience,
+            12 => Error::Subject,
+            13 => Error::NotYetValid,
+            22 => Error::OutOfMemory,
+            24 => Error::Crit,
+            25 => Error::UnknownKey,
+            26..=30 => Error::MissingClaim(CLAIMS[status as usize - 26]),
+            32..=36 => Error::MalformedClaim(CLAIMS[status as usize - 32]),
+            100.. => Error::Argument(text()),
+            _ => Error::Malformed(text()),
+        }
+    }
+}
+
+impl fmt::Display for Error {
+    fn fmt(&self, f: &mut fmt::Formatter<'_>) -> fmt::Result {
+        match self {
+            Error::Malformed(text) => write!(f, "the token is malformed: {text}"),
+            Error::Signature => f.write_str("the signature is wrong"),
+            Error::Algorithm => f.write_str("the algorithm is not accepted"),
+            Error::Crit => f.write_str("crit is not understood"),
+            Error::UnknownKey => f.write_str("the set has no such key"),
+            Error::Expired => f.write_str("the token has expired"),
+            Error::NotYetValid => f.write_str("the token is not valid yet"),
+            Error::Audience => f.write_str("the audience is not accepted"),
+            Error::Issuer => f.write_str("the issuer is not accepted"),
+            Error::Subject => f.write_str("the subject is another"),
+            Error::MissingClaim(name) => write!(f, "the required claim {name} is missing"),
+            Error::MalformedClaim(name) => write!(f, "the claim {name} is malformed"),
+            Error::Json(text) => write!(f, "the claims do not fit their type: {text}"),
+            Error::Key(text) => write!(f, "the key does not serve: {text}"),
+            Error::Argument(text) => write!(f, "an argument is not understood: {text}"),
+            Error::OutOfMemory => f.write_str("out of memory"),
+        }
+    }
+}
+
+impl std::error::Error for Error {}

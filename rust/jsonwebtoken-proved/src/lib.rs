@@ -1,0 +1,106 @@
+//! JSON Web Tokens (RFC 7519), verified by a library whose contracts are proved, under names of the crate `jsonwebtoken`.
+//!
+//! All twelve algorithms of RFC 7518 and RFC 8037 for HMAC, RSA, P-256, P-384 and Ed25519 are verified, and HS256, HS384 and HS512 are
+//! signed. Moments are in whole seconds since 1970-01-01 00:00:00 UTC.
+//!
+//! ```
+//! use jsonwebtoken_proved::{decode_json, encode_json, Algorithm, DecodingKey, EncodingKey, Header, Validation};
+//!
+//! let secret = b"0123456789abcdef0123456789abcdef";
+//! let token = encode_json(&Header::new(Algorithm::HS256), r#"{"sub":"b@b.com","exp":2532524891}"#, &EncodingKey::from_secret(secret)?)?;
+//! let data = decode_json(&token, &DecodingKey::from_secret(secret)?, &Validation::new(Algorithm::HS256), 2532524890)?;
+//! assert_eq!(data.claims, r#"{"exp":2532524891,"sub":"b@b.com"}"#);
+//! # Ok::<(), jsonwebtoken_proved::Error>(())
+//! ```
+//!
+//! With the feature `serde`, `decode` and `encode` read and write claims of your own types, at the moment of the system's clock.
+#![warn(missing_docs)]
+#![deny(unsafe_op_in_unsafe_fn)]
+
+mod calls;
+mod error;
+mod json;
+mod key;
+#[cfg(feature = "serde")]
+mod typed;
+mod validation;
+
+pub use error::Error;
+pub use key::{DecodingKey, EncodingKey};
+#[cfg(feature = "serde")]
+pub use typed::{decode, encode};
+pub use validation::{Algorithm, Claim, Validation};
+
+use calls::Kind;
+use std::time::{SystemTime, UNIX_EPOCH};
+
+/// A token that was verified.
+#[derive(Clone, Debug, PartialEq, Eq)]
+pub struct TokenData<T> {
+    /// The header, as compact JSON.
+    pub header: String,
+    /// The claims.
+    pub claims: T,
+}
+
+/// The header of a token that is to be signed.
+#[derive(Clone, Debug, PartialEq, Eq)]
+pub struct Header {
+    /// The algorithm.
+    pub alg: Algorithm,
+    /// The type: `JWT` at first.
+    pub typ: Option<String>,
+    /// The id of the key, if any.
+    pub kid: Option<String>,
+}
+
+impl Header {
+    /// Returns the header `{"alg":..,"typ":"JWT"}`.
+    pub fn new(alg: Algorithm) -> Header {
+        Header { alg, typ: Some("JWT".to_string()), kid: None }
+    }
+
+    fn to_json(&self) -> String {
+        let mut members = vec![format!("\"alg\":\"{}\"", self.alg)];
+        members.extend(self.kid.as_ref().map(|it| format!("\"kid\":{}", json::string(it))));
+        members.extend(self.typ.as_ref().map(|it| format!("\"typ\":{}", json::string(it))));
+        format!("{{{}}}", members.join(","))
+    }
+}
+
+/// Verifies a token at the moment `now`, in seconds since 1970-01-01 00:00:00 UTC, and returns its claims as compact JSON. Floats, and
+/// integers beyond 64 bits, are written as the nearest double.
+pub fn decode_json(token: &str, key: &DecodingKey, validation: &Validation, now: u64) -> Result<TokenData<String>, Error> {
+    let options = validation.options();
+    let claims = calls::decode(key.kind, token.as_bytes(), &key.text, &options, now)?;
+    if key.kind != Kind::Secret {
+        refuse_of_anyone(token, &options, now)?;
+    }
+    Ok(TokenData { header: calls::decode_header(token.as_bytes())?, claims })
+}
+
+/// Refuses a token that the empty secret verifies too: a JSON Web Key is that secret then, by which anyone can sign.
+fn refuse_of_anyone(token: &str, options: &str, now: u64) -> Result<(), Error> {
+    match calls::decode(Kind::Secret, token.as_bytes(), b"", options, now) {
+        Ok(_) => Err(Error::Key("its secret is empty or has zeros alone, so that anyone can sign with it".to_string())),
+        // another secret, or no HMAC
+        Err(Error::Signature | Error::Key(_)) => Ok(()),
+        Err(error) => Err(error),
+    }
+}
+
+/// Returns the header of a token, as compact JSON. Nothing is verified.
+pub fn decode_header(token: &str) -> Result<String, Error> {
+    calls::decode_header(token.as_bytes())
+}
+
+/// Returns the token of claims, which are JSON of an object, signed by HS256, HS384 or HS512. A claim that is a float is
+/// [`Error::Malformed`], and an algorithm of another family [`Error::Algorithm`].
+pub fn encode_json(header: &Header, claims: &str, key: &EncodingKey) -> Result<String, Error> {
+    calls::encode(&header.to_json(), claims, &key.secret)
+}
+
+/// Returns the moment by the system's clock, in seconds since 1970-01-01 00:00:00 UTC; 0 if the clock is before then.
+pub fn get_current_timestamp() -> u64 {
+    SystemTime::now().duration_since(UNIX_EPOCH).map_or(0, |it| it.as_secs())
+}
