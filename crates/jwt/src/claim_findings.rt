@@ -1,4 +1,4 @@
-//! What the claims of a token have in the place of what the options ask for.
+//! Findings about claims: those that a token has, beside those that the options ask for.
 
 use crate::fault::Fault;
 use crate::findings::{Case, Finding, choice, part_value, quoted};

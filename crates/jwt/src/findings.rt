@@ -1,4 +1,4 @@
-//! What a token has in the place of what a test asks for.
+//! Findings: the contents of a token, beside those that a failed test asks for.
 
 use crate::claim_findings::claim_finding;
 use crate::fault::{Fault, unless_refused};
@@ -30,7 +30,7 @@ pub fn first_failed(alloc: Global, case: Case<'_>) -> Result<Option<Test>, Fault
     }
 }
 
-/// What a test found, and what it asks for.
+/// The contents that a test found, and those that it asks for.
 #[derive(Drop)]
 pub struct Finding {
     pub found: String,

@@ -73,8 +73,8 @@ fn prepare_set(
     Ok(())
 }
 
-/// Prepares the keys for many tokens, by these algorithms, or by those that the keys are for if there
-/// are none.
+/// Prepares the keys for many tokens, by these algorithms, or by those that the keys are for if the
+/// list is empty.
 pub fn prepare(
     alloc: Global,
     loaded: &mut Loaded,

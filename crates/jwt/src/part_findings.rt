@@ -1,4 +1,4 @@
-//! What the parts of a token have in the place of what the tests ask for.
+//! Findings about the parts of a token: their contents, beside those that a failed test asks for.
 
 use crate::fault::Fault;
 use crate::findings::{Finding, part_value, quoted};
