@@ -62,7 +62,8 @@ pub fn meaning(refusal: &Refusal) -> &'static str {
     }
 }
 
-fn is_of_memory(refusal: &Refusal) -> bool {
+/// Returns whether memory ran out, so that nothing is said of the token.
+pub fn is_of_memory(refusal: &Refusal) -> bool {
     match refusal {
         Refusal::Failed(error) => matches!(error.kind(), ErrorKind::OutOfMemory),
         Refusal::OtherType => false,

@@ -4,7 +4,7 @@ ghost use Rattle.std.specs.Prelude.{◌≡◌, IfOk, option_map};
 ghost use Rattle.jwt_validation.specs.OptionsOf.{options_of};
 ghost use Rattle.jwt.specs.Answers.{HasStatus, IsVerdict};
 
-use crate::advice::{refusal_lines, refusal_name};
+use crate::advice::{is_of_memory, refusal_lines, refusal_name};
 use crate::answer::Answer;
 use crate::explanation::{Explanation, Outcome, json_line, page};
 use crate::fault::Fault;
@@ -31,13 +31,16 @@ fn type_finding(alloc: Global, token: &[u8], typ: Option<&str>) -> Result<Findin
     Finding::new(alloc, found.as_str(), wanted.as_str())
 }
 
-/// Returns why a token is refused.
+/// Returns why a token is refused. If memory ran out, no test failed, and there is no outcome.
 fn outcome(
     alloc: Global,
     case: Case<'_>,
     typ: Option<&str>,
     refusal: &Refusal,
 ) -> Result<Outcome, Fault<'static>> {
+    if is_of_memory(refusal) {
+        return Err(Fault::Memory);
+    }
     let error = match refusal {
         Refusal::OtherType => {
             return Ok(Outcome::OtherType(type_finding(alloc, case.token, typ)?));

@@ -5,7 +5,7 @@ ghost use Rattle.serde_json.specs.View.{view};
 ghost use Rattle.jwt_validation.specs.OptionsOf.{options_of};
 ghost use Rattle.jwt.specs.Answers.{IsLineOf, IsHeaderLine, IsAcceptedText, IsRefusedText, HasStatus, IsVerifyAnswer};
 
-use crate::advice::{refusal_lines, refusal_name, refused_claim};
+use crate::advice::{is_of_memory, refusal_lines, refusal_name, refused_claim};
 use crate::answer::Answer;
 use crate::fault::Fault;
 use crate::findings::{Case, first_failed};
@@ -99,12 +99,15 @@ fn accepted_text(
     }
 }
 
-/// Returns the name of the test that failed.
+/// Returns the name of the test that failed. If memory ran out, none did.
 fn failed_name(
     alloc: Global,
     case: Case<'_>,
     refusal: &Refusal,
 ) -> Result<Option<&'static str>, Fault<'static>> {
+    if is_of_memory(refusal) {
+        return Ok(None);
+    }
     match refusal {
         Refusal::OtherType => Ok(Some(TYPE_AGREES)),
         Refusal::Failed(_) => Ok(first_failed(alloc, case)?.map(Test::name)),
