@@ -741,6 +741,11 @@ ngx_http_jwt_put_list(u_char *p, const char *name, ngx_array_t *list)
 }
 
 
+/* A token that does not name what the configuration asks for is refused, as one without exp is. */
+#define NGX_HTTP_JWT_REQUIRED ",\"required_spec_claims\":[\"exp\"%s%s]"
+#define NGX_HTTP_JWT_AUD ",\"aud\""
+#define NGX_HTTP_JWT_ISS ",\"iss\""
+
 /* A token is expired at its exp, and not from the second behind it on (RFC 7519 section 4.1.4). */
 #define NGX_HTTP_JWT_OPTIONS "{\"validate_nbf\":true,\"reject_tokens_expiring_in_less_than\":1,\"leeway\":"
 
@@ -750,7 +755,7 @@ ngx_http_jwt_make_options(ngx_conf_t *cf, ngx_http_jwt_loc_conf_t *conf)
     u_char  *p;
     size_t   size;
 
-    size = sizeof(NGX_HTTP_JWT_OPTIONS "}") + NGX_TIME_T_LEN + ngx_http_jwt_list_size(conf->algorithms)
+    size = sizeof(NGX_HTTP_JWT_OPTIONS NGX_HTTP_JWT_REQUIRED NGX_HTTP_JWT_AUD NGX_HTTP_JWT_ISS "}") + NGX_TIME_T_LEN + ngx_http_jwt_list_size(conf->algorithms)
            + ngx_http_jwt_list_size(conf->audiences) + ngx_http_jwt_list_size(conf->issuers);
 
     p = ngx_pnalloc(cf->pool, size);
@@ -760,6 +765,8 @@ ngx_http_jwt_make_options(ngx_conf_t *cf, ngx_http_jwt_loc_conf_t *conf)
 
     conf->options.data = p;
     p = ngx_sprintf(p, NGX_HTTP_JWT_OPTIONS "%T", conf->leeway);
+    p = ngx_sprintf(p, NGX_HTTP_JWT_REQUIRED, conf->audiences != NULL ? NGX_HTTP_JWT_AUD : "",
+                    conf->issuers != NULL ? NGX_HTTP_JWT_ISS : "");
     p = ngx_http_jwt_put_list(p, "algorithms", conf->algorithms);
     p = ngx_http_jwt_put_list(p, "aud", conf->audiences);
     p = ngx_http_jwt_put_list(p, "iss", conf->issuers);
