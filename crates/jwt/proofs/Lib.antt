@@ -1,2 +1,6 @@
+pub mod Numbers
 pub mod Owned
+pub mod Required
+pub mod Settled
+pub mod Shown
 pub mod Signed

@@ -1,5 +1,5 @@
 -- The algorithm of the key of a set that a token names.
-use Rattle.std.proofs.Common.{◌≡◌, ℕ, List, Option, Result, Ok, Err, inl, inr, refl, ap, sym, subst}
+use Rattle.std.proofs.Common.{ℕ, List, Option, Result, Ok, Err, inl, inr, refl, ap, sym, subst}
 use Rattle.std.specs.Prelude.{option_and_then}
 use Rattle.jwt_base.specs.declared.errors.Error.{Error}
 use Rattle.jwt_header.specs.declared.header.Header.{Header}

@@ -1,6 +1,11 @@
 pub mod Accepted
 pub mod Answers
+pub mod Arguments
+pub mod Claimed
+pub mod Commands
+pub mod FileKeys
 pub mod Kept
 pub mod LineEnd
 pub mod Own
 pub mod Prepared
+pub mod Requested

@@ -1,11 +1,11 @@
 -- The algorithm that keys are for, by their own `alg`, which takes the place of one that is given.
 use Rattle.std.specs.Prelude.{◌≡◌, ◌⊎◌, ℕ, List, [], ◌∷◌, Option, Some, None, option_and_then}
-use Rattle.jwt_base.specs.Algorithm.{algorithm_of}
 use Rattle.jwt_base.specs.declared.algorithms.Algorithm.{Algorithm}
 use Rattle.jwt_header.specs.declared.header.Header.{Header}
 use Rattle.jwt_keys.specs.declared.jwk.Jwk.{Jwk}
 use Rattle.jsonwebtoken.specs.Order.{Passes}
 use Rattle.jsonwebtoken.specs.Tests.{Contents, header_call, header_order, named_key, token_tests}
+use Rattle.jwt.specs.FileKeys.{own_of}
 use Rattle.jwt.specs.declared.keys.Keys.{Keys}
 use Rattle.jwt.specs.declared.keys.Keys.TheVariants.{One, Set}
 use Rattle.jwt.specs.declared.keys.Loaded.{Loaded}
@@ -13,7 +13,7 @@ use Rattle.jwt.specs.declared.keys.Loaded.{Loaded}
 -- the algorithm that the key which a header names is for (RFC 7517 section 4.4)
 abbrev pub named_own : List Jwk → Header → Option Algorithm
 named_own keys header =
-    option_and_then (λ jwk. option_and_then algorithm_of jwk.common.key_algorithm) (named_key keys header)
+    option_and_then own_of (named_key keys header)
 
 -- the contents have the header of the token, which is not verified
 abbrev pub HasHeaderOf : List ℕ → Contents → Type 0

@@ -1,13 +1,23 @@
 //! The keys that a token is verified with, from their files.
 
-ghost use Rattle.std.specs.Prelude.{◌≡◌, OnOk, IfOk, option_and_then};
-ghost use Rattle.jwt_base.specs.Algorithm.{algorithm_of};
+ghost use Rattle.std.specs.Prelude.{◌≡◌, ℕ, List, None, OnOk, IfOk};
+ghost use Rattle.jwt_base.specs.JsonText.{ReadsText};
+ghost use Rattle.jwt_base.specs.declared.algorithms.AlgorithmFamily.TheVariants.{Hmac};
+ghost use Rattle.jwt_key_files.specs.PemKeys.{IsPemOf};
+ghost use Rattle.jwt_keys.specs.Jwk.{ReadsKey};
+ghost use Rattle.jwt_keys.specs.JwkSet.{ReadsSet};
+ghost use Rattle.jwt_keys.specs.Key.{Key, Plain};
+ghost use Rattle.jwt_keys.specs.KeyOfJwk.{IsKeyOf};
+ghost use Rattle.jwt_keys.specs.declared.jwk.Jwk.{Jwk};
+ghost use Rattle.jwt_keys.specs.declared.jwk_set.JwkSet.{JwkSet};
 ghost use Rattle.jwt_validation.specs.OptionsOf.{options_of};
 ghost use Rattle.jwt.specs.LineEnd.{IsSecret};
+ghost use Rattle.jwt.specs.Commands.{IsSettled};
+ghost use Rattle.jwt.specs.FileKeys.{AreLoaded, own_of};
 ghost use Rattle.jwt.specs.Own.{named_own, IsNamedBy, IsOwn, IsOwnOf};
 
 use crate::fault::{Fault, unless_refused};
-use crate::files::{file_bytes, without_line_end};
+use crate::files::without_line_end;
 use crate::prepared::PreparedKeys;
 use crate::request::KeyFile;
 use jsonwebtoken::errors::{Error, ErrorKind};
@@ -15,7 +25,6 @@ use jsonwebtoken::jwk::{Jwk, JwkSet};
 use jsonwebtoken::{Algorithm, DecodingKey, Header, Validation, decode_header};
 use jwt_key_files::pem::public_key_from_pem;
 use std::alloc::Global;
-use std::rt::Files;
 
 /// The keys that a token is verified with.
 #[derive(Drop)]
@@ -79,7 +88,9 @@ pub fn prepare(
     alloc: Global,
     loaded: &mut Loaded,
     algorithms: &[Algorithm],
-) -> Result<(), Fault<'static>> {
+) -> Result<(), Fault<'static>>
+    ensures { (loaded.new.keys ≡ loaded.old.keys) × (loaded.new.own ≡ loaded.old.own) }
+{
     match &loaded.keys {
         Keys::One(key) => { prepare_key(alloc, &mut loaded.provider, key, loaded.own, algorithms) }
         Keys::Set(set) => prepare_set(alloc, &mut loaded.provider, set, algorithms),
@@ -88,7 +99,7 @@ pub fn prepare(
 
 /// Returns the algorithm of signatures that a key is for, by its `alg`.
 pub fn own_algorithm(jwk: &Jwk) -> Option<Algorithm>
-    ensures { result ≡ option_and_then algorithm_of jwk.now.common.key_algorithm }
+    ensures { result ≡ own_of jwk.now }
 {
     match jwk.common.key_algorithm {
         Some(named) => Algorithm::try_from(named).ok(),
@@ -166,6 +177,22 @@ pub fn set_own_algorithm(
     Ok(())
 }
 
+/// Sets the algorithm that the key of a token is for, if the options name none.
+pub fn settle(
+    alloc: Global,
+    validation: &mut Validation,
+    loaded: &Loaded,
+    token: &[u8],
+) -> Result<(), Fault<'static>>
+    ensures { OnOk result (IsSettled loaded.now token.now (options_of validation.old)
+        (options_of validation.new)) }
+{
+    if validation.algorithms.is_empty() {
+        set_own_algorithm(alloc, validation, loaded, token)?;
+    }
+    Ok(())
+}
+
 /// Returns the fault of a file that holds something else than keys.
 fn not_keys<'a>(path: &'a str, error: &Error, problem: &'static str) -> Fault<'a> {
     match error.kind() {
@@ -208,7 +235,10 @@ fn by_secret<'a>(
     path: &'a str,
     bytes: &[u8],
     is_trimmed: bool,
-) -> Result<Loaded, Fault<'a>> {
+) -> Result<Loaded, Fault<'a>>
+    ensures { IfOk result (λ l. (secret : List ℕ) × IsSecret is_trimmed bytes.now secret
+        × (l.keys ≡ Keys.One (Plain Hmac secret)) × (l.own ≡ None)) }
+{
     let secret = given_secret(path, bytes, is_trimmed)?;
     match DecodingKey::from_secret(alloc, secret) {
         Ok(key) => Ok(Loaded {
@@ -221,7 +251,11 @@ fn by_secret<'a>(
     }
 }
 
-fn by_jwk<'a>(alloc: Global, path: &'a str, bytes: &[u8]) -> Result<Loaded, Fault<'a>> {
+fn by_jwk<'a>(alloc: Global, path: &'a str, bytes: &[u8]) -> Result<Loaded, Fault<'a>>
+    ensures { IfOk result (λ l. (jwk : Jwk) × ReadsText ReadsKey bytes.now jwk
+        × ((key : Key) × IsKeyOf jwk.algorithm key × (l.keys ≡ Keys.One key)
+        × (l.own ≡ own_of jwk))) }
+{
     let jwk = match Jwk::from_slice(alloc, bytes) {
         Ok(jwk) => jwk,
         Err(error) => return Err(not_keys(path, &error, "this is no JSON Web Key")),
@@ -237,7 +271,10 @@ fn by_jwk<'a>(alloc: Global, path: &'a str, bytes: &[u8]) -> Result<Loaded, Faul
     }
 }
 
-fn by_set<'a>(alloc: Global, path: &'a str, bytes: &[u8]) -> Result<Loaded, Fault<'a>> {
+fn by_set<'a>(alloc: Global, path: &'a str, bytes: &[u8]) -> Result<Loaded, Fault<'a>>
+    ensures { IfOk result (λ l. (set : JwkSet) × ReadsText ReadsSet bytes.now set.keys.items
+        × (l.keys ≡ Keys.Set set) × (l.own ≡ None)) }
+{
     match JwkSet::from_slice(alloc, bytes) {
         Ok(set) => Ok(Loaded {
             keys: Keys::Set(set),
@@ -249,7 +286,10 @@ fn by_set<'a>(alloc: Global, path: &'a str, bytes: &[u8]) -> Result<Loaded, Faul
     }
 }
 
-fn by_pem<'a>(alloc: Global, path: &'a str, bytes: &[u8]) -> Result<Loaded, Fault<'a>> {
+fn by_pem<'a>(alloc: Global, path: &'a str, bytes: &[u8]) -> Result<Loaded, Fault<'a>>
+    ensures { IfOk result (λ l. (key : Key) × IsPemOf bytes.now key
+        × (l.keys ≡ Keys.One key) × (l.own ≡ None)) }
+{
     match public_key_from_pem(alloc, bytes) {
         Ok(key) => Ok(Loaded {
             keys: Keys::One(key),
@@ -270,24 +310,14 @@ fn pem_problem(error: &Error) -> &'static str {
     }
 }
 
-/// Returns the keys of a file.
-pub fn load<'a, R: Files + AllocGlobal>(rt: &R, file: KeyFile<'a>) -> Result<Loaded, Fault<'a>> {
+/// Returns the keys that the bytes of a file hold.
+pub fn load<'a>(alloc: Global, file: KeyFile<'a>, bytes: &[u8]) -> Result<Loaded, Fault<'a>>
+    ensures { IfOk result (λ l. AreLoaded file.entry bytes.now l.keys l.own) }
+{
     match file {
-        KeyFile::Secret { path, is_trimmed } => {
-            let bytes = file_bytes(rt, path)?;
-            by_secret(rt.alloc(), path, &bytes, is_trimmed)
-        }
-        KeyFile::Jwk(path) => {
-            let bytes = file_bytes(rt, path)?;
-            by_jwk(rt.alloc(), path, &bytes)
-        }
-        KeyFile::Jwks(path) => {
-            let bytes = file_bytes(rt, path)?;
-            by_set(rt.alloc(), path, &bytes)
-        }
-        KeyFile::Pem(path) => {
-            let bytes = file_bytes(rt, path)?;
-            by_pem(rt.alloc(), path, &bytes)
-        }
+        KeyFile::Secret { path, is_trimmed } => by_secret(alloc, path, bytes, is_trimmed),
+        KeyFile::Jwk(path) => by_jwk(alloc, path, bytes),
+        KeyFile::Jwks(path) => by_set(alloc, path, bytes),
+        KeyFile::Pem(path) => by_pem(alloc, path, bytes),
     }
 }

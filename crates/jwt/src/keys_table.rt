@@ -1,5 +1,7 @@
 //! The command `keys`.
 
+ghost use Rattle.std.specs.Prelude.{◌≡◌, IfOk};
+
 use crate::answer::Answer;
 use crate::fault::Fault;
 use jsonwebtoken::crypto::CryptoProvider;
@@ -245,7 +247,9 @@ fn read_set<'a>(alloc: Global, path: &'a str, bytes: &[u8]) -> Result<JwkSet, Fa
 }
 
 /// Returns the table of a key set.
-pub fn keys_answer<'a>(alloc: Global, path: &'a str, bytes: &[u8]) -> Result<Answer, Fault<'a>> {
+pub fn keys_answer<'a>(alloc: Global, path: &'a str, bytes: &[u8]) -> Result<Answer, Fault<'a>>
+    ensures { IfOk result (λ a. a.status ≡ 0) }
+{
     let set = read_set(alloc, path, bytes)?;
     let mut rows = Vec::new(alloc);
     rows.push(headings(alloc)?)?;

@@ -1,5 +1,10 @@
 //! The form of `verify` that answers each line of standard input.
 
+ghost use Rattle.std.specs.Prelude.{IfOk, OnOk};
+ghost use Rattle.jwt_validation.specs.Options.{Options};
+ghost use Rattle.jwt_validation.specs.OptionsOf.{options_of};
+ghost use Rattle.jwt.specs.Commands.{AreReused, IsLineStatus, IsLinesStatus, IsSettled};
+
 use crate::answer::Answer;
 use crate::clock::moment;
 use crate::fault::Fault;
@@ -8,8 +13,12 @@ use crate::keys::{Loaded, set_own_algorithm};
 use crate::request::Verification;
 use crate::verify::{Form, verify_answer};
 use jsonwebtoken::Validation;
+use std::alloc::Global;
 use std::io::{self, BufRead, BufReader, BufWriter, ErrorKind, Write};
 use std::rt::Clock;
+
+/// The bytes that are read and written at once: as many as a pipe holds.
+const BUFFER: usize = 65_536;
 
 /// Reads a line, in the place of the one before. Returns whether there was one.
 fn read_line<R: BufRead>(reader: &mut R, line: &mut Vec<u8>) -> Result<bool, Fault<'static>> {
@@ -35,20 +44,41 @@ fn flush<W: Write>(writer: &mut W) -> Result<(), Fault<'static>> {
     }
 }
 
-/// Returns the line of JSON for a token.
+/// Sets the algorithm that the key of a token is for in place of the last one, if the options name none.
+fn settle_again(
+    alloc: Global,
+    validation: &mut Validation,
+    loaded: &Loaded,
+    is_own: bool,
+    token: &[u8],
+) -> Result<(), Fault<'static>>
+    ensures { (options : Options) → AreReused is_own options (options_of validation.old)
+        → OnOk result (IsSettled loaded.now token.now options (options_of validation.new)
+        × AreReused is_own options (options_of validation.new)) }
+{
+    if is_own {
+        set_own_algorithm(alloc, validation, loaded, token)?;
+    }
+    Ok(())
+}
+
+/// Returns the line of JSON for a token, which may have a line end.
 fn line_answer<R: Clock + AllocGlobal>(
     rt: &R,
     request: &Verification<'_, '_>,
     loaded: &Loaded,
     validation: &mut Validation,
     is_own: bool,
-    token: &[u8],
-) -> Result<Answer, Fault<'static>> {
+    line: &[u8],
+) -> Result<Answer, Fault<'static>>
+    ensures { (options : Options) → AreReused is_own options (options_of validation.old)
+        → IfOk result (λ a. IsLineStatus request.entry.now loaded.now options a.status
+        × AreReused is_own options (options_of validation.new)) }
+{
     let alloc = rt.alloc();
     let now = moment(rt, request.now)?;
-    if is_own {
-        set_own_algorithm(alloc, validation, loaded, token)?;
-    }
+    let token = without_line_end(line);
+    settle_again(alloc, validation, loaded, is_own, token)?;
     verify_answer(
         alloc,
         token,
@@ -62,18 +92,20 @@ fn line_answer<R: Clock + AllocGlobal>(
 
 /// Answers each line of standard input, which is a token, by a line of JSON on standard output. The
 /// answers that are there are written before the program waits for more input. Returns the status: 0 if
-/// every token is accepted, and else 1.
+/// every token is accepted, and else the greatest of the tokens.
 pub fn answer_lines<R: Input + Print + Clock + AllocGlobal>(
     rt: &R,
     request: &Verification<'_, '_>,
     loaded: &Loaded,
     validation: &mut Validation,
-) -> Result<u8, Fault<'static>> {
+) -> Result<u8, Fault<'static>>
+    ensures { IfOk result (IsLinesStatus request.entry.now loaded.now (options_of validation.old)) }
+{
     let is_own = validation.algorithms.is_empty();
-    let Ok(mut reader) = BufReader::new(rt.alloc(), rt.reader()) else {
+    let Ok(mut reader) = BufReader::with_capacity(rt.alloc(), BUFFER, rt.reader()) else {
         return Err(Fault::Memory);
     };
-    let Ok(mut writer) = BufWriter::new(rt.alloc(), io::writer(rt)) else {
+    let Ok(mut writer) = BufWriter::with_capacity(rt.alloc(), BUFFER, io::writer(rt)) else {
         return Err(Fault::Memory);
     };
     let mut line = Vec::new(rt.alloc());
@@ -85,10 +117,9 @@ pub fn answer_lines<R: Input + Print + Clock + AllocGlobal>(
         if !read_line(&mut reader, &mut line)? {
             break;
         }
-        let token = without_line_end(&line);
-        let answer = line_answer(rt, request, loaded, validation, is_own, token)?;
+        let answer = line_answer(rt, request, loaded, validation, is_own, &line)?;
         write(&mut writer, answer.output.as_str())?;
-        status = u8::max(status, answer.status);
+        status = u8::max(answer.status, status);
     }
     flush(&mut writer)?;
     Ok(status)

@@ -1,6 +1,11 @@
 //! The command `jwt`: it verifies, shows and signs tokens, and lists keys.
 #![tactic(auto)]
 
+ghost use Rattle.std.specs.Prelude.{◌⊎◌};
+ghost use Rattle.jwt.specs.Arguments.{IsRequestOf};
+ghost use Rattle.jwt.specs.Commands.{IsFaultStatus, IsStatus};
+ghost use Rattle.jwt.specs.declared.request.Request.{Request};
+
 mod advice;
 mod answer;
 mod arguments;
@@ -32,7 +37,7 @@ use answer::write_output;
 use arguments::command;
 use clap::ArgMatches;
 use fault::Fault;
-use request::request_asked;
+use request::{Request, request_asked};
 use run::answer;
 use std::alloc::{AllocError, Global};
 use std::io::ErrorKind;
@@ -52,18 +57,18 @@ fn words<R: Env + AllocGlobal>(rt: &R) -> Result<Vec<String>, Fault<'static>> {
 }
 
 /// Returns the exit status of a fault, which is said on standard error.
-fn failed<R: Eprint>(rt: &R, fault: &Fault<'_>) -> u8 {
+fn failed<R: Eprint>(rt: &R, fault: &Fault<'_>) -> u8
+    ensures { IsFaultStatus result }
+{
     let _ = eprintln!(rt; "error: {fault}");
     fault.status()
 }
 
-/// Writes the answer to the arguments, and returns its status.
-fn answered<T: Runtime + AllocGlobal>(rt: &T, matches: &ArgMatches<'_>) -> u8 {
-    let request = match request_asked(matches) {
-        Ok(request) => request,
-        Err(fault) => return failed(rt, &fault),
-    };
-    let answer = match answer(rt, &request) {
+/// Writes the answer to a request, and returns its status.
+fn answered<T: Runtime + AllocGlobal>(rt: &T, request: &Request<'_, '_>) -> u8
+    ensures { IsStatus request.now result }
+{
+    let answer = match answer(rt, request) {
         Ok(answer) => answer,
         Err(fault) => return failed(rt, &fault),
     };
@@ -72,6 +77,17 @@ fn answered<T: Runtime + AllocGlobal>(rt: &T, matches: &ArgMatches<'_>) -> u8 {
     }
     let _ = rt.eprint(answer.message.as_str());
     answer.status
+}
+
+/// Writes the answer to the arguments, and returns its status.
+fn done<T: Runtime + AllocGlobal>(rt: &T, matches: &ArgMatches<'_>) -> u8
+    ensures { IsFaultStatus result
+        ⊎ ((r : Request) × IsRequestOf matches.now r × IsStatus r result) }
+{
+    match request_asked(matches) {
+        Ok(request) => answered(rt, &request),
+        Err(fault) => failed(rt, &fault),
+    }
 }
 
 /// Returns a sentence in place of a text that would show a word of the command line, which may be a
@@ -128,7 +144,7 @@ fn start<T: Runtime + AllocGlobal>(rt: &T) -> u8 {
         return failed(rt, &Fault::Memory);
     };
     match command.try_get_matches_from(words.as_slice()) {
-        Ok(matches) => answered(rt, &matches),
+        Ok(matches) => done(rt, &matches),
         Err(error) => mistaken(rt, &error),
     }
 }

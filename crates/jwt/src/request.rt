@@ -1,5 +1,10 @@
 //! The request of the arguments.
 
+ghost use Rattle.std.specs.Prelude.{◌≡◌, Some, false, IfOk, codes};
+ghost use Rattle.clap.specs.Matches.{found_of, first_value};
+ghost use Rattle.jwt_base.specs.Algorithm.{algorithm_named};
+ghost use Rattle.jwt.specs.Arguments.{AreChecks, IsChecking, IsCommand, IsFile, IsFlag, IsHash, IsKeyFile, IsNumberOf, IsRequestOf, IsShowing, IsSigningOf};
+
 use crate::fault::Fault;
 use crate::moments::{moment, seconds};
 use clap::ArgMatches;
@@ -101,7 +106,9 @@ pub enum Request<'m, 'a> {
     Thumbprint(Digesting<'a>),
 }
 
-fn time(matches: &ArgMatches<'_>, id: &str) -> Result<Option<u64>, Fault<'static>> {
+fn time(matches: &ArgMatches<'_>, id: &str) -> Result<Option<u64>, Fault<'static>>
+    ensures { IfOk result (IsNumberOf (first_value (found_of matches.now) id.now)) }
+{
     let Some(text) = matches.get_str(id) else {
         return Ok(None);
     };
@@ -117,7 +124,9 @@ fn span(
     matches: &ArgMatches<'_>,
     id: &str,
     mistake: &'static str,
-) -> Result<Option<u64>, Fault<'static>> {
+) -> Result<Option<u64>, Fault<'static>>
+    ensures { IfOk result (IsNumberOf (first_value (found_of matches.now) id.now)) }
+{
     let Some(text) = matches.get_str(id) else {
         return Ok(None);
     };
@@ -127,7 +136,9 @@ fn span(
     }
 }
 
-fn key_file<'a>(matches: &ArgMatches<'a>) -> Result<KeyFile<'a>, Fault<'static>> {
+fn key_file<'a>(matches: &ArgMatches<'a>) -> Result<KeyFile<'a>, Fault<'static>>
+    ensures { IfOk result (IsKeyFile (found_of matches.now)) }
+{
     let is_trimmed = matches.get_flag("trim");
     if let Some(path) = matches.get_str("secret-file") {
         return Ok(KeyFile::Secret { path, is_trimmed });
@@ -144,7 +155,9 @@ fn key_file<'a>(matches: &ArgMatches<'a>) -> Result<KeyFile<'a>, Fault<'static>>
     }
 }
 
-fn checks_asked<'m, 'a: 'm>(matches: &'m ArgMatches<'a>) -> Result<Checks<'m, 'a>, Fault<'static>> {
+fn checks_asked<'m, 'a: 'm>(matches: &'m ArgMatches<'a>) -> Result<Checks<'m, 'a>, Fault<'static>>
+    ensures { IfOk result (AreChecks (found_of matches.now)) }
+{
     Ok(Checks {
         options: matches.get_str("options"),
         algorithms: matches.get_strs("alg"),
@@ -167,7 +180,10 @@ fn checks_asked<'m, 'a: 'm>(matches: &'m ArgMatches<'a>) -> Result<Checks<'m, 'a
 /// Returns the arguments that `verify` and `explain` share.
 fn checking_asked<'m, 'a: 'm>(
     matches: &'m ArgMatches<'a>,
-) -> Result<Verification<'m, 'a>, Fault<'static>> {
+) -> Result<Verification<'m, 'a>, Fault<'static>>
+    ensures { IfOk result (λ v. IsChecking (found_of matches.now) v
+        × (v.has_header ≡ false) × (v.is_lines ≡ false)) }
+{
     Ok(Verification {
         token: matches.get_str("token"),
         key: key_file(matches)?,
@@ -182,7 +198,11 @@ fn checking_asked<'m, 'a: 'm>(
 
 fn verification_asked<'m, 'a: 'm>(
     matches: &'m ArgMatches<'a>,
-) -> Result<Verification<'m, 'a>, Fault<'static>> {
+) -> Result<Verification<'m, 'a>, Fault<'static>>
+    ensures { IfOk result (λ v. IsChecking (found_of matches.now) v
+        × IsFlag (found_of matches.now) (codes "header") v.has_header
+        × IsFlag (found_of matches.now) (codes "lines") v.is_lines) }
+{
     let mut request = checking_asked(matches)?;
     request.has_header = matches.get_flag("header");
     request.is_lines = matches.get_flag("lines");
@@ -190,7 +210,9 @@ fn verification_asked<'m, 'a: 'm>(
 }
 
 /// Returns the algorithm of a name.
-pub fn algorithm(name: &str) -> Result<Algorithm, Fault<'static>> {
+pub fn algorithm(name: &str) -> Result<Algorithm, Fault<'static>>
+    ensures { IfOk result (λ a. algorithm_named name.now ≡ Some a) }
+{
     match name.parse::<Algorithm>() {
         Ok(algorithm) => Ok(algorithm),
         Err(_) => Err(Fault::Usage(
@@ -199,7 +221,9 @@ pub fn algorithm(name: &str) -> Result<Algorithm, Fault<'static>> {
     }
 }
 
-fn signing_asked<'a>(matches: &ArgMatches<'a>) -> Result<Signing<'a>, Fault<'static>> {
+fn signing_asked<'a>(matches: &ArgMatches<'a>) -> Result<Signing<'a>, Fault<'static>>
+    ensures { IfOk result (IsSigningOf (found_of matches.now)) }
+{
     let Some(secret) = matches.get_str("secret-file") else {
         return Err(Fault::Usage("--secret-file is needed"));
     };
@@ -225,7 +249,9 @@ fn signing_asked<'a>(matches: &ArgMatches<'a>) -> Result<Signing<'a>, Fault<'sta
     })
 }
 
-fn hash(matches: &ArgMatches<'_>) -> Result<ThumbprintHash, Fault<'static>> {
+fn hash(matches: &ArgMatches<'_>) -> Result<ThumbprintHash, Fault<'static>>
+    ensures { IfOk result (IsHash (first_value (found_of matches.now) (codes "hash"))) }
+{
     match matches.get_str("hash") {
         None | Some("SHA256") => Ok(ThumbprintHash::SHA256),
         Some("SHA384") => Ok(ThumbprintHash::SHA384),
@@ -234,7 +260,9 @@ fn hash(matches: &ArgMatches<'_>) -> Result<ThumbprintHash, Fault<'static>> {
     }
 }
 
-fn showing_asked<'a>(matches: &ArgMatches<'a>) -> Result<Showing<'a>, Fault<'static>> {
+fn showing_asked<'a>(matches: &ArgMatches<'a>) -> Result<Showing<'a>, Fault<'static>>
+    ensures { IfOk result (IsShowing (found_of matches.now)) }
+{
     Ok(Showing {
         token: matches.get_str("token"),
         now: time(matches, "now")?,
@@ -242,24 +270,41 @@ fn showing_asked<'a>(matches: &ArgMatches<'a>) -> Result<Showing<'a>, Fault<'sta
     })
 }
 
-fn file<'a>(matches: &ArgMatches<'a>) -> &'a str {
+fn file<'a>(matches: &ArgMatches<'a>) -> &'a str
+    ensures { IsFile (found_of matches.now) result }
+{
     matches.get_str("file").unwrap_or("")
+}
+
+/// Returns the request of a command and its arguments.
+fn command_asked<'m, 'a: 'm>(
+    name: &str,
+    found: &'m ArgMatches<'a>,
+) -> Result<Request<'m, 'a>, Fault<'static>>
+    ensures { IfOk result (IsCommand name.now (found_of found.now)) }
+{
+    match name {
+        "verify" => Ok(Request::Verify(verification_asked(found)?)),
+        "explain" => Ok(Request::Explain(checking_asked(found)?)),
+        "show" => Ok(Request::Show(showing_asked(found)?)),
+        "sign" => Ok(Request::Sign(signing_asked(found)?)),
+        "keys" => Ok(Request::Keys(Listing { file: file(found) })),
+        "thumbprint" => Ok(Request::Thumbprint(Digesting {
+            file: file(found),
+            hash: hash(found)?,
+        })),
+        _ => Err(Fault::Usage("a command is needed")),
+    }
 }
 
 /// Returns the request of the arguments.
 pub fn request_asked<'m, 'a: 'm>(
     matches: &'m ArgMatches<'a>,
-) -> Result<Request<'m, 'a>, Fault<'static>> {
+) -> Result<Request<'m, 'a>, Fault<'static>>
+    ensures { IfOk result (IsRequestOf matches.now) }
+{
     match matches.subcommand() {
-        Some(("verify", found)) => Ok(Request::Verify(verification_asked(found)?)),
-        Some(("explain", found)) => Ok(Request::Explain(checking_asked(found)?)),
-        Some(("show", found)) => Ok(Request::Show(showing_asked(found)?)),
-        Some(("sign", found)) => Ok(Request::Sign(signing_asked(found)?)),
-        Some(("keys", found)) => Ok(Request::Keys(Listing { file: file(found) })),
-        Some(("thumbprint", found)) => Ok(Request::Thumbprint(Digesting {
-            file: file(found),
-            hash: hash(found)?,
-        })),
-        _ => Err(Fault::Usage("a command is needed")),
+        Some((name, found)) => command_asked(name, found),
+        None => Err(Fault::Usage("a command is needed")),
     }
 }

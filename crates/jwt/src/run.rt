@@ -1,17 +1,21 @@
 //! From a request to its answer.
 
+ghost use Rattle.std.specs.Prelude.{◌≡◌, IfOk, string_bytes};
+ghost use Rattle.jwt_validation.specs.OptionsOf.{options_of};
+ghost use Rattle.jwt.specs.Commands.{ArePrepared, AreVerified, IsAnswer, IsExplanation, IsGivenToken, IsShown, IsSigned, IsSigning, IsTokenAnswer, IsTokenVerdict, IsVerification, form_asked};
+
 use crate::answer::Answer;
 use crate::clock::moment;
 use crate::explain::explain_answer;
 use crate::fault::Fault;
 use crate::files::{file_bytes, input_bytes, without_line_end};
-use crate::keys::{Loaded, given_secret, load, names_algorithm, prepare, set_own_algorithm};
+use crate::keys::{Loaded, given_secret, load, names_algorithm, prepare, settle};
 use crate::keys_table::keys_answer;
 use crate::lines::answer_lines;
 use crate::options::validation;
-use crate::request::{Digesting, Listing, Request, Showing, Signing, Verification};
+use crate::request::{Digesting, KeyFile, Listing, Request, Showing, Signing, Verification};
 use crate::show::show_answer;
-use crate::sign::{claims, header, sign_answer};
+use crate::sign::{claims, claims_answer};
 use crate::thumbprint::thumbprint_answer;
 use crate::verify::{Form, verify_answer};
 use jsonwebtoken::Validation;
@@ -22,14 +26,18 @@ use std::rt::{Clock, Files};
 fn token_bytes<R: Input + AllocGlobal>(
     rt: &R,
     given: Option<&str>,
-) -> Result<Vec<u8>, Fault<'static>> {
+) -> Result<Vec<u8>, Fault<'static>>
+    ensures { IfOk result (λ b. IsGivenToken given.entry b.items) }
+{
     match given {
         None | Some("-") => input_bytes(rt),
         Some(token) => Ok(token.as_bytes().to_vec(rt.alloc())?),
     }
 }
 
-fn form(request: &Verification<'_, '_>) -> Form {
+fn form(request: &Verification<'_, '_>) -> Form
+    ensures { result ≡ form_asked request.entry.now }
+{
     if request.is_json {
         Form::Json
     } else if request.has_header {
@@ -39,83 +47,155 @@ fn form(request: &Verification<'_, '_>) -> Form {
     }
 }
 
+/// Returns the path of a file of keys.
+fn path_of<'a>(file: KeyFile<'a>) -> &'a str {
+    match file {
+        KeyFile::Secret {
+            path,
+            is_trimmed: _,
+        } => path,
+        KeyFile::Jwk(path) | KeyFile::Jwks(path) | KeyFile::Pem(path) => path,
+    }
+}
+
+/// Returns the bytes of the file of options, if the arguments have one.
+fn options_bytes<'a, R: Files + AllocGlobal>(
+    rt: &R,
+    path: Option<&'a str>,
+) -> Result<Option<Vec<u8>>, Fault<'a>> {
+    match path {
+        Some(path) => Ok(Some(file_bytes(rt, path)?)),
+        None => Ok(None),
+    }
+}
+
 /// Returns the keys and the options that tokens are checked with. If neither the arguments nor a file
 /// name an algorithm, the keys have to.
-fn checks<'a, R: Files + AllocGlobal>(
+fn prepared<'a, R: Files + AllocGlobal>(
     rt: &R,
     request: &Verification<'_, 'a>,
-) -> Result<(Loaded, Validation), Fault<'a>> {
-    let validation = validation(rt, &request.checks)?;
-    let loaded = load(rt, request.key)?;
+) -> Result<(Loaded, Validation), Fault<'a>>
+    ensures { IfOk result (λ p. ArePrepared request.entry.now p.0 (options_of p.1)) }
+{
+    let options = options_bytes(rt, request.checks.options)?;
+    let validation = validation(rt.alloc(), &request.checks, options.as_deref())?;
+    let key = file_bytes(rt, path_of(request.key))?;
+    let loaded = load(rt.alloc(), request.key, &key)?;
     if validation.algorithms.is_empty() && !names_algorithm(&loaded) {
         return Err(Fault::Usage("--alg is needed: the key has no 'alg' of its own"));
     }
     Ok((loaded, validation))
 }
 
-/// Returns the answer of a command that has written its output itself.
-fn silent(alloc: Global, status: u8) -> Result<Answer, Fault<'static>> {
-    Ok(Answer {
-        status,
-        output: String::new(alloc),
-        message: String::new(alloc),
-    })
+/// Returns the answer of `verify` to the bytes of a token and a line end.
+fn token_answer(
+    alloc: Global,
+    request: &Verification<'_, '_>,
+    loaded: &Loaded,
+    validation: Validation,
+    bytes: &[u8],
+    now: u64,
+    form: Form,
+) -> Result<Answer, Fault<'static>>
+    ensures { IfOk result (λ a. IsTokenAnswer request.entry.now loaded.now (options_of validation)
+        bytes.now now form a.status (string_bytes a.output)) }
+{
+    let token = without_line_end(bytes);
+    let mut settled = validation;
+    settle(alloc, &mut settled, loaded, token)?;
+    verify_answer(alloc, token, loaded, &settled, now, request.typ, form)
 }
 
-fn verify<'a, R: Files + Input + Print + Clock + AllocGlobal>(
-    rt: &R,
-    request: &Verification<'_, 'a>,
-) -> Result<Answer, Fault<'a>> {
-    let (mut loaded, mut validation) = checks(rt, request)?;
-    if request.is_lines {
-        prepare(rt.alloc(), &mut loaded, &validation.algorithms)?;
-        let status = answer_lines(rt, request, &loaded, &mut validation)?;
-        return silent(rt.alloc(), status);
-    }
-    let now = moment(rt, request.now)?;
-    let input = token_bytes(rt, request.token)?;
-    let token = without_line_end(&input);
-    if validation.algorithms.is_empty() {
-        set_own_algorithm(rt.alloc(), &mut validation, &loaded, token)?;
-    }
-    let form = form(request);
-    verify_answer(
-        rt.alloc(),
-        token,
-        &loaded,
-        &validation,
-        now,
-        request.typ,
-        form,
-    )
-}
-
-fn explain<'a, R: Files + Input + Clock + AllocGlobal>(
-    rt: &R,
-    request: &Verification<'_, 'a>,
-) -> Result<Answer, Fault<'a>> {
-    let (loaded, mut validation) = checks(rt, request)?;
-    let now = moment(rt, request.now)?;
-    let input = token_bytes(rt, request.token)?;
-    let token = without_line_end(&input);
-    if validation.algorithms.is_empty() {
-        set_own_algorithm(rt.alloc(), &mut validation, &loaded, token)?;
-    }
+/// Returns the answer of `explain` to the bytes of a token and a line end.
+fn token_explanation(
+    alloc: Global,
+    request: &Verification<'_, '_>,
+    loaded: &Loaded,
+    validation: Validation,
+    bytes: &[u8],
+    now: u64,
+) -> Result<Answer, Fault<'static>>
+    ensures { IfOk result (λ a. IsTokenVerdict request.entry.now loaded.now (options_of validation)
+        bytes.now now a.status) }
+{
+    let token = without_line_end(bytes);
+    let mut settled = validation;
+    settle(alloc, &mut settled, loaded, token)?;
     explain_answer(
-        rt.alloc(),
+        alloc,
         token,
-        &loaded,
-        &validation,
+        loaded,
+        &settled,
         now,
         request.typ,
         request.is_json,
     )
 }
 
+fn verify<'a, R: Files + Input + Clock + AllocGlobal>(
+    rt: &R,
+    request: &Verification<'_, 'a>,
+) -> Result<Answer, Fault<'a>>
+    ensures { IfOk result (λ a. IsVerification request.entry.now a.status (string_bytes a.output)) }
+{
+    let (loaded, validation) = prepared(rt, request)?;
+    let now = moment(rt, request.now)?;
+    let bytes = token_bytes(rt, request.token)?;
+    let form = form(request);
+    token_answer(rt.alloc(), request, &loaded, validation, &bytes, now, form)
+}
+
+/// Answers each line of standard input, and returns the status. The answers are written by then.
+fn verify_lines<'a, R: Files + Input + Print + Clock + AllocGlobal>(
+    rt: &R,
+    request: &Verification<'_, 'a>,
+) -> Result<Answer, Fault<'a>>
+    ensures { IfOk result (λ a. AreVerified request.entry.now a.status) }
+{
+    let (mut loaded, mut validation) = prepared(rt, request)?;
+    prepare(rt.alloc(), &mut loaded, &validation.algorithms)?;
+    let status = answer_lines(rt, request, &loaded, &mut validation)?;
+    Ok(Answer {
+        status,
+        output: String::new(rt.alloc()),
+        message: String::new(rt.alloc()),
+    })
+}
+
+fn explain<'a, R: Files + Input + Clock + AllocGlobal>(
+    rt: &R,
+    request: &Verification<'_, 'a>,
+) -> Result<Answer, Fault<'a>>
+    ensures { IfOk result (λ a. IsExplanation request.entry.now a.status) }
+{
+    let (loaded, validation) = prepared(rt, request)?;
+    let now = moment(rt, request.now)?;
+    let bytes = token_bytes(rt, request.token)?;
+    token_explanation(rt.alloc(), request, &loaded, validation, &bytes, now)
+}
+
+/// Returns the answer of `sign` for the bytes of the secret's file and of the claims.
+fn signed<'a>(
+    alloc: Global,
+    request: &Signing<'a>,
+    key: &[u8],
+    text: &[u8],
+    now: u64,
+) -> Result<Answer, Fault<'a>>
+    ensures { IfOk result (λ a. IsSigned request.entry.now key.now text.now now a.status
+        (string_bytes a.output)) }
+{
+    let claims = claims(alloc, text, request, now)?;
+    let secret = given_secret(request.secret, key, request.is_trimmed)?;
+    claims_answer(alloc, request, &claims, secret)
+}
+
 fn show<'a, R: Input + Clock + AllocGlobal>(
     rt: &R,
     request: &Showing<'a>,
-) -> Result<Answer, Fault<'a>> {
+) -> Result<Answer, Fault<'a>>
+    ensures { IfOk result (λ a. IsShown request.entry.now a.status) }
+{
     let now = moment(rt, request.now)?;
     let input = token_bytes(rt, request.token)?;
     show_answer(rt.alloc(), without_line_end(&input), now, request.is_json)
@@ -124,31 +204,28 @@ fn show<'a, R: Input + Clock + AllocGlobal>(
 fn sign<'a, R: Files + Input + Clock + AllocGlobal>(
     rt: &R,
     request: &Signing<'a>,
-) -> Result<Answer, Fault<'a>> {
-    let alloc = rt.alloc();
+) -> Result<Answer, Fault<'a>>
+    ensures { IfOk result (λ a. IsSigning request.entry.now a.status (string_bytes a.output)) }
+{
     let now = moment(rt, request.now)?;
     let key = file_bytes(rt, request.secret)?;
     let text = match request.claims {
         Some(path) => file_bytes(rt, path)?,
         None => input_bytes(rt)?,
     };
-    let claims = claims(alloc, &text, request, now)?;
-    let Ok(header) = header(alloc, request.algorithm, request.kid, request.typ) else {
-        return Err(Fault::Memory);
-    };
-    let secret = given_secret(request.secret, &key, request.is_trimmed)?;
-    sign_answer(alloc, &header, &claims, secret)
+    signed(rt.alloc(), request, &key, &text, now)
 }
 
-fn list<'a, R: Files + AllocGlobal>(rt: &R, request: &Listing<'a>) -> Result<Answer, Fault<'a>> {
+fn list<'a, R: Files + AllocGlobal>(rt: &R, request: &Listing<'a>) -> Result<Answer, Fault<'a>>
+    ensures { IfOk result (λ a. a.status ≡ 0) }
+{
     let bytes = file_bytes(rt, request.file)?;
     keys_answer(rt.alloc(), request.file, &bytes)
 }
 
-fn digest<'a, R: Files + AllocGlobal>(
-    rt: &R,
-    request: &Digesting<'a>,
-) -> Result<Answer, Fault<'a>> {
+fn digest<'a, R: Files + AllocGlobal>(rt: &R, request: &Digesting<'a>) -> Result<Answer, Fault<'a>>
+    ensures { IfOk result (λ a. a.status ≡ 0) }
+{
     let bytes = file_bytes(rt, request.file)?;
     thumbprint_answer(rt.alloc(), request.file, &bytes, &request.hash)
 }
@@ -157,8 +234,11 @@ fn digest<'a, R: Files + AllocGlobal>(
 pub fn answer<'a, R: Files + Input + Print + Clock + AllocGlobal>(
     rt: &R,
     request: &Request<'_, 'a>,
-) -> Result<Answer, Fault<'a>> {
+) -> Result<Answer, Fault<'a>>
+    ensures { IfOk result (λ a. IsAnswer request.now a.status (string_bytes a.output)) }
+{
     match request {
+        Request::Verify(request) if request.is_lines => verify_lines(rt, request),
         Request::Verify(request) => verify(rt, request),
         Request::Explain(request) => explain(rt, request),
         Request::Show(request) => show(rt, request),

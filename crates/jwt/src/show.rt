@@ -1,5 +1,10 @@
 //! The command `show`.
 
+ghost use Rattle.std.specs.Prelude.{◌≡◌, ◌≢◌, IfOk};
+ghost use Rattle.jwt_base.specs.Kind as kind;
+ghost use Rattle.jwt_base.specs.KindOf.{kind_of};
+ghost use Rattle.jwt.specs.Commands.{IsReadable};
+
 use crate::advice::refusal_line;
 use crate::answer::Answer;
 use crate::fault::Fault;
@@ -31,7 +36,9 @@ fn shown(
     data: &TokenData<Value>,
     now: u64,
     is_json: bool,
-) -> Result<Answer, Fault<'static>> {
+) -> Result<Answer, Fault<'static>>
+    ensures { IfOk result (λ a. a.status ≡ 0) }
+{
     let Ok(header) = data.header.to_value(alloc) else {
         return Err(Fault::Memory);
     };
@@ -47,7 +54,9 @@ fn shown(
     })
 }
 
-fn refused(alloc: Global, error: Error) -> Result<Answer, Fault<'static>> {
+fn refused(alloc: Global, error: Error) -> Result<Answer, Fault<'static>>
+    ensures { IfOk result (λ a. (kind_of error ≢ kind.OutOfMemory) × (a.status ≡ 1)) }
+{
     if matches!(error.kind(), ErrorKind::OutOfMemory) {
         return Err(Fault::Memory);
     }
@@ -58,13 +67,16 @@ fn refused(alloc: Global, error: Error) -> Result<Answer, Fault<'static>> {
     })
 }
 
-/// Returns header and claims of a token, of which nothing is verified.
+/// Returns header and claims of a token, of which nothing is verified, with status 0; or status 1 if they
+/// can't be read.
 pub fn show_answer(
     alloc: Global,
     token: &[u8],
     now: u64,
     is_json: bool,
-) -> Result<Answer, Fault<'static>> {
+) -> Result<Answer, Fault<'static>>
+    ensures { IfOk result (λ a. IsReadable token.now a.status) }
+{
     match insecure_decode(alloc, token) {
         Ok(data) => shown(alloc, &data, now, is_json),
         Err(error) => refused(alloc, error),

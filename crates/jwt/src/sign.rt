@@ -1,10 +1,14 @@
 //! The command `sign`.
 
-ghost use Rattle.std.specs.Prelude.{◌≡◌, ◌≢◌, ◌+◌, [], ◌∷◌, ◌++◌, IfOk, string_bytes};
-ghost use Rattle.serde_json.specs.View.{view};
+ghost use Rattle.std.specs.Prelude.{◌≡◌, ◌≢◌, ◌+◌, [], ◌∷◌, ◌++◌, Some, None, IfOk, OnOk, option_map, if◌then◌else◌, codes, string_bytes};
+ghost use Rattle.serde_json.specs.Data.{Members, object};
+ghost use Rattle.serde_json.specs.View.{view, members_view};
+ghost use Rattle.jwt_base.specs.JsonText.{IsJson};
 ghost use Rattle.jwt_base.specs.Kind as kind;
 ghost use Rattle.jwt_base.specs.KindOf.{kind_of};
+ghost use Rattle.jwt_base.specs.Members.{put_some};
 ghost use Rattle.jwt.specs.Answers.{IsSignAnswer};
+ghost use Rattle.jwt.specs.Claimed.{header_asked, numeric_date, with_moments};
 
 use crate::advice::refusal_line;
 use crate::answer::Answer;
@@ -12,39 +16,32 @@ use crate::fault::Fault;
 use crate::request::Signing;
 use crate::verdict::Refusal;
 use jsonwebtoken::errors::{Error, ErrorKind, Result as Checked};
-use jsonwebtoken::{Algorithm, EncodingKey, Header, Text, encode};
+use jsonwebtoken::{EncodingKey, Header, Text, encode};
 use jwt_base::serialization::json_value;
 use jwt_standard::StandardProvider;
 use serde_json::{Map, Value};
-use std::alloc::{AllocError, Global};
+use std::alloc::Global;
 
-/// Returns the header of a token that is signed by this algorithm, of the type `JWT` if no other is
-/// given.
-pub fn header(
-    alloc: Global,
-    algorithm: Algorithm,
-    kid: Option<&str>,
-    typ: Option<&str>,
-) -> Checked<Header> {
-    let mut header = Header::new(alloc, algorithm)?;
-    if let Some(kid) = kid {
-        header.kid = Some(Text::from_str(alloc, kid)?);
-    }
-    if let Some(typ) = typ {
-        header.typ = Some(Text::from_str(alloc, typ)?);
+/// Returns the header of a token that is signed as the arguments ask for, of the type `JWT` if they name
+/// no other.
+fn header(alloc: Global, request: &Signing<'_>) -> Checked<Header>
+    ensures { IfOk result (λ h. h ≡ header_asked request.entry.now) }
+{
+    let mut header = Header::new(alloc, request.algorithm)?;
+    header.kid = text(alloc, request.kid)?;
+    if request.typ.is_some() {
+        header.typ = text(alloc, request.typ)?;
     }
     Ok(header)
 }
 
-/// Puts a moment in the place of a claim.
-fn put_moment(
-    alloc: Global,
-    claims: &mut Map<String, Value>,
-    name: &str,
-    moment: u64,
-) -> Result<(), AllocError> {
-    claims.insert(String::from_str(alloc, name)?, Value::from(moment))?;
-    Ok(())
+fn text(alloc: Global, given: Option<&str>) -> Checked<Option<Text>>
+    ensures { IfOk result (λ t. t ≡ option_map (λ s. s.now) given.entry) }
+{
+    match given {
+        Some(given) => Ok(Some(Text::from_str(alloc, given)?)),
+        None => Ok(None),
+    }
 }
 
 /// Returns the moment that is this many seconds later.
@@ -57,22 +54,54 @@ fn later(now: u64, seconds: u64) -> Result<u64, Fault<'static>>
     }
 }
 
+/// Puts the moment that is this many seconds later in the place of a claim, if there is a number.
+fn put_later(
+    alloc: Global,
+    claims: &mut Map<String, Value>,
+    name: &str,
+    now: u64,
+    seconds: Option<u64>,
+) -> Result<(), Fault<'static>>
+    ensures { OnOk result (members_view claims.new.entries ≡ put_some name.now
+        (option_map (λ seconds. numeric_date (now + seconds)) seconds)
+        (members_view claims.old.entries)) }
+{
+    if let Some(seconds) = seconds {
+        let moment = later(now, seconds)?;
+        serde_json::put(claims, alloc, name, Value::from(moment))?;
+    }
+    Ok(())
+}
+
+/// Puts the moment of signing in the place of the claim `iat`, if it is asked for.
+fn put_now(
+    alloc: Global,
+    claims: &mut Map<String, Value>,
+    now: u64,
+    has_iat: bool,
+) -> Result<(), Fault<'static>>
+    ensures { OnOk result (members_view claims.new.entries ≡ put_some (codes "iat")
+        (if has_iat then Some (numeric_date now) else None) (members_view claims.old.entries)) }
+{
+    if has_iat {
+        serde_json::put(claims, alloc, "iat", Value::from(now))?;
+    }
+    Ok(())
+}
+
 /// Puts the moments that the arguments ask for among the claims.
 fn put_moments(
     alloc: Global,
     claims: &mut Map<String, Value>,
     request: &Signing<'_>,
     now: u64,
-) -> Result<(), Fault<'static>> {
-    if let Some(seconds) = request.exp_in {
-        put_moment(alloc, claims, "exp", later(now, seconds)?)?;
-    }
-    if let Some(seconds) = request.nbf_in {
-        put_moment(alloc, claims, "nbf", later(now, seconds)?)?;
-    }
-    if request.has_iat {
-        put_moment(alloc, claims, "iat", now)?;
-    }
+) -> Result<(), Fault<'static>>
+    ensures { OnOk result (members_view claims.new.entries
+        ≡ with_moments request.entry.now now (members_view claims.old.entries)) }
+{
+    put_later(alloc, claims, "exp", now, request.exp_in)?;
+    put_later(alloc, claims, "nbf", now, request.nbf_in)?;
+    put_now(alloc, claims, now, request.has_iat)?;
     Ok(())
 }
 
@@ -83,16 +112,19 @@ pub fn claims(
     text: &[u8],
     request: &Signing<'_>,
     now: u64,
-) -> Result<Value, Fault<'static>> {
-    let mut value = match json_value(alloc, text) {
-        Ok(value) => value,
-        Err(error) => return Err(not_claims(&error)),
-    };
-    match value.as_object_mut() {
-        Some(members) => put_moments(alloc, members, request, now)?,
-        None => return Err(Fault::Usage("the claims have to be a JSON object")),
+) -> Result<Value, Fault<'static>>
+    ensures { IfOk result (λ v. (members : Members) × IsJson text.now (object members)
+        × (view v ≡ object (with_moments request.entry.now now members))) }
+{
+    match json_value(alloc, text) {
+        Ok(Value::Object(members)) => {
+            let mut members = members;
+            put_moments(alloc, &mut members, request, now)?;
+            Ok(Value::Object(members))
+        }
+        Ok(_) => Err(Fault::Usage("the claims have to be a JSON object")),
+        Err(error) => Err(not_claims(&error)),
     }
-    Ok(value)
 }
 
 fn not_claims(error: &Error) -> Fault<'static> {
@@ -103,7 +135,7 @@ fn not_claims(error: &Error) -> Fault<'static> {
 }
 
 /// Returns the answer for claims: status 0 and the token, or status 1 if `encode` refuses.
-pub fn sign_answer(
+fn sign_answer(
     alloc: Global,
     header: &Header,
     claims: &Value,
@@ -118,6 +150,22 @@ pub fn sign_answer(
     match encode(alloc, &StandardProvider, header, claims, &key) {
         Ok(token) => token_answer(alloc, token),
         Err(error) => refused(alloc, error),
+    }
+}
+
+/// Returns the answer for claims, under the header that the arguments ask for.
+pub fn claims_answer(
+    alloc: Global,
+    request: &Signing<'_>,
+    claims: &Value,
+    secret: &[u8],
+) -> Result<Answer, Fault<'static>>
+    ensures { IfOk result (λ a. IsSignAnswer (header_asked request.entry.now) (view claims.now)
+        secret.now a.status (string_bytes a.output)) }
+{
+    match header(alloc, request) {
+        Ok(header) => sign_answer(alloc, &header, claims, secret),
+        Err(_) => Err(Fault::Memory),
     }
 }
 

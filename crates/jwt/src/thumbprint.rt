@@ -1,6 +1,6 @@
 //! The command `thumbprint`.
 
-ghost use Rattle.std.specs.Prelude.{◌≡◌};
+ghost use Rattle.std.specs.Prelude.{◌≡◌, IfOk};
 
 use crate::answer::Answer;
 use crate::fault::Fault;
@@ -48,7 +48,9 @@ pub fn thumbprint_answer<'a>(
     path: &'a str,
     bytes: &[u8],
     hash: &ThumbprintHash,
-) -> Result<Answer, Fault<'a>> {
+) -> Result<Answer, Fault<'a>>
+    ensures { IfOk result (λ a. a.status ≡ 0) }
+{
     let jwk = key(alloc, path, bytes)?;
     match jwk.thumbprint(alloc, &StandardProvider, same_hash(hash)) {
         Ok(thumbprint) => {

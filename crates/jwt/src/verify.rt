@@ -17,6 +17,9 @@ use jsonwebtoken::{Header, Test, TokenData, Validation};
 use serde_json::Value;
 use std::alloc::{AllocError, Global};
 
+/// The room for what a line has beside the claims.
+const LINE: usize = 24;
+
 /// How an answer is written.
 #[derive(Clone, Copy)]
 pub enum Form {
@@ -57,9 +60,14 @@ fn header_line(alloc: Global, header: &Header) -> Result<String, Fault<'static>>
     }
 }
 
+/// Returns one line of JSON with the claims.
 fn accepted_line(alloc: Global, claims: &Value) -> Result<String, AllocError> {
     let claims = claims.to_string(alloc)?;
-    format!(in alloc; "{{\"ok\":true,\"claims\":{claims}}}\n")
+    let mut line = String::with_capacity(alloc, claims.len() + LINE)?;
+    line.push_str("{\"ok\":true,\"claims\":")?;
+    line.push_str(claims.as_str())?;
+    line.push_str("}\n")?;
+    Ok(line)
 }
 
 /// Returns one line of JSON about a refusal, with the test that failed.

@@ -1,0 +1,36 @@
+-- The keys that a token is verified with, by the bytes of their file.
+use Rattle.std.specs.Prelude.{◌≡◌, ℕ, List, Option, None, option_and_then}
+use Rattle.jwt_base.specs.Algorithm.{algorithm_of}
+use Rattle.jwt_base.specs.JsonText.{ReadsText}
+use Rattle.jwt_base.specs.declared.algorithms.Algorithm.{Algorithm}
+use Rattle.jwt_base.specs.declared.algorithms.AlgorithmFamily.TheVariants.{Hmac}
+use Rattle.jwt_key_files.specs.PemKeys.{IsPemOf}
+use Rattle.jwt_keys.specs.Jwk.{ReadsKey}
+use Rattle.jwt_keys.specs.JwkSet.{ReadsSet}
+use Rattle.jwt_keys.specs.Key.{Key, Plain}
+use Rattle.jwt_keys.specs.KeyOfJwk.{IsKeyOf}
+use Rattle.jwt_keys.specs.declared.jwk.Jwk.{Jwk}
+use Rattle.jwt_keys.specs.declared.jwk_set.JwkSet.{JwkSet}
+use Rattle.jwt.specs.LineEnd.{IsSecret}
+use Rattle.jwt.specs.declared.keys.Keys.{Keys}
+use Rattle.jwt.specs.declared.keys.Keys.TheVariants.{One, Set}
+use Rattle.jwt.specs.declared.request.KeyFile.{KeyFile}
+use Rattle.jwt.specs.declared.request.KeyFile.TheVariants as file
+
+-- the algorithm that a key is for, by its `alg` (RFC 7517 section 4.4)
+abbrev pub own_of : Jwk → Option Algorithm
+own_of jwk = option_and_then algorithm_of jwk.common.key_algorithm
+
+-- the bytes of the file hold these keys, and the one key is for this algorithm: a secret, a JSON Web Key
+-- (RFC 7517 section 4), a set of these (RFC 7517 section 5), or a public key in PEM (RFC 7468 section 13)
+abbrev pub AreLoaded : KeyFile → List ℕ → Keys → Option Algorithm → Type 0
+AreLoaded (file.Secret path is_trimmed) bytes keys own =
+    (secret : List ℕ) × IsSecret is_trimmed bytes secret
+    × (keys ≡ One (Plain Hmac secret)) × (own ≡ None)
+AreLoaded (file.Jwk path) bytes keys own =
+    (jwk : Jwk) × ReadsText ReadsKey bytes jwk
+    × ((key : Key) × IsKeyOf jwk.algorithm key × (keys ≡ One key) × (own ≡ own_of jwk))
+AreLoaded (file.Jwks path) bytes keys own =
+    (set : JwkSet) × ReadsText ReadsSet bytes set.keys.items × (keys ≡ Set set) × (own ≡ None)
+AreLoaded (file.Pem path) bytes keys own =
+    (key : Key) × IsPemOf bytes key × (keys ≡ One key) × (own ≡ None)
