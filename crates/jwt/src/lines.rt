@@ -13,21 +13,38 @@ use crate::keys::{Loaded, set_own_algorithm};
 use crate::request::Verification;
 use crate::verify::{Form, verify_answer};
 use jsonwebtoken::Validation;
+use memchr::memchr;
 use std::alloc::Global;
 use std::io::{self, BufRead, BufReader, BufWriter, ErrorKind, Write};
 use std::rt::Clock;
 
-/// The bytes that are read and written at once: as many as a pipe holds.
-const BUFFER: usize = 65_536;
+/// Reads on, to the end of the line if the reader has it in its buffer. Returns whether the line, or the
+/// input, has ended.
+fn read_part<R: BufRead>(reader: &mut R, line: &mut Vec<u8>) -> Result<bool, Fault<'static>> {
+    let buffer = match reader.fill_buf() {
+        Ok(buffer) => buffer,
+        Err(error) if error.kind() == ErrorKind::Interrupted => return Ok(false),
+        Err(error) if error.kind() == ErrorKind::OutOfMemory => return Err(Fault::Memory),
+        Err(_) => return Err(Fault::Input),
+    };
+    let (count, has_ended) = match memchr(b'\n', buffer) {
+        Some(place) => (place + 1, true),
+        None => (buffer.len(), buffer.is_empty()),
+    };
+    line.extend_from_slice(&buffer[..count])?;
+    reader.consume(count);
+    Ok(has_ended)
+}
 
 /// Reads a line, in the place of the one before. Returns whether there was one.
 fn read_line<R: BufRead>(reader: &mut R, line: &mut Vec<u8>) -> Result<bool, Fault<'static>> {
     line.clear();
-    match reader.read_until(b'\n', line) {
-        Ok(count) => Ok(count > 0),
-        Err(error) if error.kind() == ErrorKind::OutOfMemory => Err(Fault::Memory),
-        Err(_) => Err(Fault::Input),
+    for _ in 0..u64::MAX {
+        if read_part(reader, line)? {
+            break;
+        }
     }
+    Ok(!line.is_empty())
 }
 
 fn write<W: Write>(writer: &mut W, text: &str) -> Result<(), Fault<'static>> {
@@ -102,10 +119,10 @@ pub fn answer_lines<R: Input + Print + Clock + AllocGlobal>(
     ensures { IfOk result (IsLinesStatus request.entry.now loaded.now (options_of validation.old)) }
 {
     let is_own = validation.algorithms.is_empty();
-    let Ok(mut reader) = BufReader::with_capacity(rt.alloc(), BUFFER, rt.reader()) else {
+    let Ok(mut reader) = BufReader::new(rt.alloc(), rt.reader()) else {
         return Err(Fault::Memory);
     };
-    let Ok(mut writer) = BufWriter::with_capacity(rt.alloc(), BUFFER, io::writer(rt)) else {
+    let Ok(mut writer) = BufWriter::new(rt.alloc(), io::writer(rt)) else {
         return Err(Fault::Memory);
     };
     let mut line = Vec::new(rt.alloc());
