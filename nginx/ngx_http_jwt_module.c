@@ -17,16 +17,39 @@
 
 /* The room of a slot of a cache, for a token and its claims. A longer token is verified each time. */
 #define NGX_HTTP_JWT_SLOT 2000
+/* How many slots a cache has, and at most. */
+#define NGX_HTTP_JWT_SLOTS 1024
+#define NGX_HTTP_JWT_SLOTS_MAX 1048576
+/* In how many neighbouring slots a token may be. */
+#define NGX_HTTP_JWT_WAYS 4
 
 /* A token that was accepted, with the moments from the first to the last at which it is. */
 typedef struct {
     uint64_t      first;
     uint64_t      last;
+    /* the verifier's count of uses at its last one */
+    uint64_t      used;
     uint32_t      hash;
+    /* 0 in a free slot, and of no token that is looked for */
     uint32_t      token_len;
     uint32_t      claims_len;
     u_char        text[NGX_HTTP_JWT_SLOT];
 } ngx_http_jwt_slot_t;
+
+/*
+ * All that the library is given beside a token and the moment, and the tokens that it accepted by just this. Locations that say
+ * the same share one, and no others, so that what one of them accepts tells nothing to a location of other rules.
+ */
+typedef struct {
+    ngx_str_t     key;
+    ngx_uint_t    is_set;
+    ngx_str_t     options;
+    /* that of the options */
+    time_t        leeway;
+    ngx_int_t     slot_count;
+    ngx_http_jwt_slot_t  *slots;
+    uint64_t      uses;
+} ngx_http_jwt_verifier_t;
 
 typedef struct {
     ngx_flag_t    enabled;
@@ -41,10 +64,8 @@ typedef struct {
     ngx_array_t  *audiences;
     ngx_array_t  *issuers;
     time_t        leeway;
-    ngx_uint_t    is_set;
-    ngx_str_t     options;
     ngx_int_t     slot_count;
-    ngx_http_jwt_slot_t  *slots;
+    ngx_http_jwt_verifier_t  *verifier;
 } ngx_http_jwt_loc_conf_t;
 
 typedef struct {
@@ -61,6 +82,7 @@ static ngx_int_t ngx_http_jwt_claim_variable(ngx_http_request_t *r, ngx_http_var
 static ngx_int_t ngx_http_jwt_header_variable(ngx_http_request_t *r, ngx_http_variable_value_t *v, uintptr_t data);
 static ngx_int_t ngx_http_jwt_add_variables(ngx_conf_t *cf);
 static ngx_int_t ngx_http_jwt_init(ngx_conf_t *cf);
+static void *ngx_http_jwt_create_main_conf(ngx_conf_t *cf);
 static void *ngx_http_jwt_create_loc_conf(ngx_conf_t *cf);
 static char *ngx_http_jwt_merge_loc_conf(ngx_conf_t *cf, void *parent, void *child);
 static char *ngx_http_jwt(ngx_conf_t *cf, ngx_command_t *cmd, void *conf);
@@ -68,6 +90,8 @@ static char *ngx_http_jwt_key_file(ngx_conf_t *cf, ngx_command_t *cmd, void *con
 static char *ngx_http_jwt_list(ngx_conf_t *cf, ngx_command_t *cmd, void *conf);
 
 #define NGX_HTTP_JWT_ANY (NGX_HTTP_MAIN_CONF | NGX_HTTP_SRV_CONF | NGX_HTTP_LOC_CONF)
+
+static ngx_conf_num_bounds_t ngx_http_jwt_slot_bounds = { ngx_conf_check_num_bounds, 0, NGX_HTTP_JWT_SLOTS_MAX };
 
 static ngx_command_t ngx_http_jwt_commands[] = {
 
@@ -90,20 +114,21 @@ static ngx_command_t ngx_http_jwt_commands[] = {
       ngx_conf_set_sec_slot, NGX_HTTP_LOC_CONF_OFFSET, offsetof(ngx_http_jwt_loc_conf_t, leeway), NULL },
 
     { ngx_string("auth_jwt_cache"), NGX_HTTP_JWT_ANY | NGX_CONF_TAKE1,
-      ngx_conf_set_num_slot, NGX_HTTP_LOC_CONF_OFFSET, offsetof(ngx_http_jwt_loc_conf_t, slot_count), NULL },
+      ngx_conf_set_num_slot, NGX_HTTP_LOC_CONF_OFFSET, offsetof(ngx_http_jwt_loc_conf_t, slot_count),
+      &ngx_http_jwt_slot_bounds },
 
     ngx_null_command
 };
 
 static ngx_http_module_t ngx_http_jwt_module_ctx = {
-    ngx_http_jwt_add_variables,   /* preconfiguration */
-    ngx_http_jwt_init,            /* postconfiguration */
-    NULL,                         /* create main configuration */
-    NULL,                         /* init main configuration */
-    NULL,                         /* create server configuration */
-    NULL,                         /* merge server configuration */
-    ngx_http_jwt_create_loc_conf, /* create location configuration */
-    ngx_http_jwt_merge_loc_conf   /* merge location configuration */
+    ngx_http_jwt_add_variables,    /* preconfiguration */
+    ngx_http_jwt_init,             /* postconfiguration */
+    ngx_http_jwt_create_main_conf, /* create main configuration */
+    NULL,                          /* init main configuration */
+    NULL,                          /* create server configuration */
+    NULL,                          /* merge server configuration */
+    ngx_http_jwt_create_loc_conf,  /* create location configuration */
+    ngx_http_jwt_merge_loc_conf    /* merge location configuration */
 };
 
 ngx_module_t ngx_http_jwt_module = {
@@ -472,26 +497,13 @@ ngx_http_jwt_find_token(ngx_http_request_t *r, ngx_http_jwt_loc_conf_t *conf, ng
         p++;
     }
 
+    if (p == last) {
+        return NGX_DECLINED;
+    }
+
     token->data = p;
     token->len = last - p;
     return NGX_OK;
-}
-
-
-/*
- * The cache of a location, whose key and options never change: a reload makes another. It takes the place of a verification
- * because a token is accepted at just the moments of one interval, whose last is the second before exp and the leeway, so that one
- * which was accepted at a moment is accepted at each later one up to that.
- */
-static ngx_http_jwt_slot_t *
-ngx_http_jwt_slot(ngx_http_jwt_loc_conf_t *conf, ngx_str_t *token, uint32_t *hash)
-{
-    if (conf->slot_count == 0) {
-        return NULL;
-    }
-
-    *hash = ngx_murmur_hash2(token->data, token->len);
-    return &conf->slots[*hash % conf->slot_count];
 }
 
 
@@ -509,31 +521,58 @@ ngx_http_jwt_is_same(u_char *a, u_char *b, size_t len)
 }
 
 
-/* Leaves the claims of a token that the cache knows in the context. */
-static ngx_int_t
-ngx_http_jwt_recall(ngx_http_jwt_slot_t *slot, uint32_t hash, ngx_http_jwt_ctx_t *ctx, uint64_t now, ngx_pool_t *pool)
+/*
+ * The cache of a verifier, whose key and options never change: a reload makes another. It takes the place of a verification
+ * because a token is accepted at just the moments of one interval, whose last is the second before exp and the leeway, so that one
+ * which was accepted at a moment is accepted at each later one up to that.
+ *
+ * Returns the slot that has the token, or else, of those that may, the one that was used the longest ago.
+ */
+static ngx_http_jwt_slot_t *
+ngx_http_jwt_find_slot(ngx_http_jwt_verifier_t *verifier, ngx_str_t *token, uint32_t hash, ngx_uint_t *is_found)
 {
-    if (slot->hash != hash || slot->token_len != ctx->token.len || now < slot->first || now > slot->last
-        || !ngx_http_jwt_is_same(slot->text, ctx->token.data, ctx->token.len))
-    {
-        return NGX_DECLINED;
+    ngx_uint_t            i;
+    ngx_http_jwt_slot_t  *slot, *oldest = NULL;
+
+    for (i = 0; i < NGX_HTTP_JWT_WAYS; i++) {
+        slot = &verifier->slots[(hash + i) % (ngx_uint_t) verifier->slot_count];
+
+        if (slot->hash == hash && slot->token_len == token->len && ngx_http_jwt_is_same(slot->text, token->data, token->len)) {
+            *is_found = 1;
+            return slot;
+        }
+
+        if (oldest == NULL || slot->used < oldest->used) {
+            oldest = slot;
+        }
     }
 
+    *is_found = 0;
+    return oldest;
+}
+
+
+/* Leaves the claims of a token that the cache knows in the context. The status is JWT_NO_ROOM if the pool has no memory. */
+static uint32_t
+ngx_http_jwt_recall(ngx_http_jwt_verifier_t *verifier, ngx_http_jwt_slot_t *slot, ngx_http_jwt_ctx_t *ctx, ngx_pool_t *pool)
+{
     /* another request may take the slot before this one ends */
     ctx->claims.data = ngx_pnalloc(pool, slot->claims_len);
     if (ctx->claims.data == NULL) {
-        return NGX_ERROR;
+        return JWT_NO_ROOM;
     }
 
     ngx_memcpy(ctx->claims.data, slot->text + slot->token_len, slot->claims_len);
     ctx->claims.len = slot->claims_len;
-    return NGX_OK;
+    slot->used = ++verifier->uses;
+    return JWT_OK;
 }
 
 
 /* Keeps a token that was accepted now. */
 static void
-ngx_http_jwt_keep(ngx_http_jwt_loc_conf_t *conf, ngx_http_jwt_slot_t *slot, uint32_t hash, ngx_http_jwt_ctx_t *ctx, uint64_t now)
+ngx_http_jwt_keep(ngx_http_jwt_verifier_t *verifier, ngx_http_jwt_slot_t *slot, uint32_t hash, ngx_http_jwt_ctx_t *ctx,
+    uint64_t now)
 {
     ngx_int_t  exp;
     ngx_str_t  value;
@@ -551,7 +590,8 @@ ngx_http_jwt_keep(ngx_http_jwt_loc_conf_t *conf, ngx_http_jwt_slot_t *slot, uint
     }
 
     slot->first = now;
-    slot->last = (uint64_t) exp + (uint64_t) conf->leeway - 1;
+    slot->last = (uint64_t) exp + (uint64_t) verifier->leeway - 1;
+    slot->used = ++verifier->uses;
     slot->hash = hash;
     slot->token_len = ctx->token.len;
     slot->claims_len = ctx->claims.len;
@@ -562,7 +602,7 @@ ngx_http_jwt_keep(ngx_http_jwt_loc_conf_t *conf, ngx_http_jwt_slot_t *slot, uint
 
 /* Has the library verify the token, and leaves its claims in the context. The status is JWT_NO_ROOM if the pool has no memory. */
 static uint32_t
-ngx_http_jwt_decode(ngx_http_jwt_loc_conf_t *conf, ngx_http_jwt_ctx_t *ctx, uint64_t now, ngx_pool_t *pool)
+ngx_http_jwt_decode(ngx_http_jwt_verifier_t *verifier, ngx_http_jwt_ctx_t *ctx, uint64_t now, ngx_pool_t *pool)
 {
     size_t     size, len;
     u_char    *buffer;
@@ -574,9 +614,9 @@ ngx_http_jwt_decode(ngx_http_jwt_loc_conf_t *conf, ngx_http_jwt_ctx_t *ctx, uint
             return JWT_NO_ROOM;
         }
 
-        status = (conf->is_set ? jwt_decode_set : jwt_decode_key)
-                 (ctx->token.data, ctx->token.len, conf->key.data, conf->key.len, conf->options.data, conf->options.len,
-                  now, buffer, size, &len);
+        status = (verifier->is_set ? jwt_decode_set : jwt_decode_key)
+                 (ctx->token.data, ctx->token.len, verifier->key.data, verifier->key.len, verifier->options.data,
+                  verifier->options.len, now, buffer, size, &len);
 
         if (status != JWT_NO_ROOM) {
             break;
@@ -593,24 +633,28 @@ ngx_http_jwt_decode(ngx_http_jwt_loc_conf_t *conf, ngx_http_jwt_ctx_t *ctx, uint
 
 
 static uint32_t
-ngx_http_jwt_verify(ngx_http_jwt_loc_conf_t *conf, ngx_http_jwt_ctx_t *ctx, ngx_pool_t *pool)
+ngx_http_jwt_verify(ngx_http_jwt_verifier_t *verifier, ngx_http_jwt_ctx_t *ctx, ngx_pool_t *pool)
 {
-    uint32_t              hash = 0, status;
+    uint32_t              hash, status;
     uint64_t              now = (uint64_t) ngx_time();
-    ngx_int_t             known;
+    ngx_uint_t            is_found;
     ngx_http_jwt_slot_t  *slot;
 
-    slot = ngx_http_jwt_slot(conf, &ctx->token, &hash);
-    known = slot != NULL ? ngx_http_jwt_recall(slot, hash, ctx, now, pool) : NGX_DECLINED;
-
-    if (known != NGX_DECLINED) {
-        return known == NGX_OK ? JWT_OK : JWT_NO_ROOM;
+    if (verifier->slots == NULL) {
+        return ngx_http_jwt_decode(verifier, ctx, now, pool);
     }
 
-    status = ngx_http_jwt_decode(conf, ctx, now, pool);
+    hash = ngx_murmur_hash2(ctx->token.data, ctx->token.len);
+    slot = ngx_http_jwt_find_slot(verifier, &ctx->token, hash, &is_found);
 
-    if (status == JWT_OK && slot != NULL) {
-        ngx_http_jwt_keep(conf, slot, hash, ctx, now);
+    if (is_found && slot->first <= now && now <= slot->last) {
+        return ngx_http_jwt_recall(verifier, slot, ctx, pool);
+    }
+
+    status = ngx_http_jwt_decode(verifier, ctx, now, pool);
+
+    if (status == JWT_OK) {
+        ngx_http_jwt_keep(verifier, slot, hash, ctx, now);
     }
 
     return status;
@@ -662,7 +706,7 @@ ngx_http_jwt_handler(ngx_http_request_t *r)
         return ngx_http_jwt_refuse(r, &conf->challenge);
     }
 
-    ctx->status = ngx_http_jwt_verify(conf, ctx, r->pool);
+    ctx->status = ngx_http_jwt_verify(conf->verifier, ctx, r->pool);
 
     if (ctx->status == JWT_OK) {
         return NGX_OK;
@@ -675,6 +719,14 @@ ngx_http_jwt_handler(ngx_http_request_t *r)
     }
 
     return ngx_http_jwt_refuse(r, &conf->refusal);
+}
+
+
+/* The verifiers that have been made of this configuration. */
+static void *
+ngx_http_jwt_create_main_conf(ngx_conf_t *cf)
+{
+    return ngx_array_create(cf->pool, 4, sizeof(ngx_http_jwt_verifier_t *));
 }
 
 
@@ -750,20 +802,21 @@ ngx_http_jwt_put_list(u_char *p, const char *name, ngx_array_t *list)
 #define NGX_HTTP_JWT_OPTIONS "{\"validate_nbf\":true,\"reject_tokens_expiring_in_less_than\":1,\"leeway\":"
 
 static ngx_int_t
-ngx_http_jwt_make_options(ngx_conf_t *cf, ngx_http_jwt_loc_conf_t *conf)
+ngx_http_jwt_make_options(ngx_conf_t *cf, ngx_http_jwt_loc_conf_t *conf, ngx_str_t *options)
 {
     u_char  *p;
     size_t   size;
 
-    size = sizeof(NGX_HTTP_JWT_OPTIONS NGX_HTTP_JWT_REQUIRED NGX_HTTP_JWT_AUD NGX_HTTP_JWT_ISS "}") + NGX_TIME_T_LEN + ngx_http_jwt_list_size(conf->algorithms)
-           + ngx_http_jwt_list_size(conf->audiences) + ngx_http_jwt_list_size(conf->issuers);
+    size = sizeof(NGX_HTTP_JWT_OPTIONS NGX_HTTP_JWT_REQUIRED NGX_HTTP_JWT_AUD NGX_HTTP_JWT_ISS "}") + NGX_TIME_T_LEN
+           + ngx_http_jwt_list_size(conf->algorithms) + ngx_http_jwt_list_size(conf->audiences)
+           + ngx_http_jwt_list_size(conf->issuers);
 
     p = ngx_pnalloc(cf->pool, size);
     if (p == NULL) {
         return NGX_ERROR;
     }
 
-    conf->options.data = p;
+    options->data = p;
     p = ngx_sprintf(p, NGX_HTTP_JWT_OPTIONS "%T", conf->leeway);
     p = ngx_sprintf(p, NGX_HTTP_JWT_REQUIRED, conf->audiences != NULL ? NGX_HTTP_JWT_AUD : "",
                     conf->issuers != NULL ? NGX_HTTP_JWT_ISS : "");
@@ -771,20 +824,20 @@ ngx_http_jwt_make_options(ngx_conf_t *cf, ngx_http_jwt_loc_conf_t *conf)
     p = ngx_http_jwt_put_list(p, "aud", conf->audiences);
     p = ngx_http_jwt_put_list(p, "iss", conf->issuers);
     *p++ = '}';
-    conf->options.len = p - conf->options.data;
+    options->len = p - options->data;
     return NGX_OK;
 }
 
 
 /* Asks the library whether it reads a key, by a token that is none. */
 static uint32_t
-ngx_http_jwt_try(ngx_http_jwt_loc_conf_t *conf, ngx_str_t *key, ngx_uint_t is_set)
+ngx_http_jwt_try(ngx_http_jwt_verifier_t *verifier, ngx_str_t *key, ngx_uint_t is_set)
 {
     size_t  len;
     u_char  buffer[1];
 
     return (is_set ? jwt_decode_set : jwt_decode_key)
-           (NULL, 0, key->data, key->len, conf->options.data, conf->options.len, 0, buffer, 0, &len);
+           (NULL, 0, key->data, key->len, verifier->options.data, verifier->options.len, 0, buffer, 0, &len);
 }
 
 
@@ -808,9 +861,9 @@ ngx_http_jwt_is_anyones(ngx_str_t *key)
 
 /* Returns what is wrong with a key, or NULL. */
 static const char *
-ngx_http_jwt_key_fault(ngx_http_jwt_loc_conf_t *conf, ngx_str_t *key)
+ngx_http_jwt_key_fault(ngx_http_jwt_verifier_t *verifier, ngx_str_t *key)
 {
-    if (ngx_http_jwt_try(conf, key, 0) != JWT_INVALID_TOKEN) {
+    if (ngx_http_jwt_try(verifier, key, 0) != JWT_INVALID_TOKEN) {
         return "has no key by which a token is verified";
     }
 
@@ -820,13 +873,13 @@ ngx_http_jwt_key_fault(ngx_http_jwt_loc_conf_t *conf, ngx_str_t *key)
 
 /* Returns what is wrong with a set of keys, or NULL. Keys of kinds that are not known are left out (RFC 7517 section 5). */
 static const char *
-ngx_http_jwt_set_fault(ngx_http_jwt_loc_conf_t *conf, ngx_str_t *keys)
+ngx_http_jwt_set_fault(ngx_http_jwt_verifier_t *verifier, ngx_str_t *keys)
 {
     u_char      *p, *last;
     ngx_str_t    key;
     ngx_uint_t   count = 0;
 
-    if (ngx_http_jwt_try(conf, &conf->key, 1) == JWT_BAD_SET) {
+    if (ngx_http_jwt_try(verifier, &verifier->key, 1) == JWT_BAD_SET) {
         return "is not a JSON Web Key Set";
     }
 
@@ -841,7 +894,7 @@ ngx_http_jwt_set_fault(ngx_http_jwt_loc_conf_t *conf, ngx_str_t *keys)
             return "has a secret that is empty or has zeros alone, by which anyone can sign";
         }
 
-        count += ngx_http_jwt_key_fault(conf, &key) == NULL;
+        count += ngx_http_jwt_key_fault(verifier, &key) == NULL;
         p = ngx_http_jwt_space(p, last);
         p += p < last && *p == ',';
     }
@@ -852,17 +905,17 @@ ngx_http_jwt_set_fault(ngx_http_jwt_loc_conf_t *conf, ngx_str_t *keys)
 
 /* Returns what is wrong with the algorithms, or NULL: the library lists those of one family. */
 static const char *
-ngx_http_jwt_algorithms_fault(ngx_http_jwt_loc_conf_t *conf)
+ngx_http_jwt_algorithms_fault(ngx_http_jwt_verifier_t *verifier, ngx_array_t *algorithms)
 {
     ngx_str_t    empty = ngx_string("{\"keys\":[]}");
-    ngx_str_t   *names = conf->algorithms->elts;
+    ngx_str_t   *names = algorithms->elts;
     ngx_uint_t   i;
 
-    if (ngx_http_jwt_try(conf, &empty, 1) == JWT_BAD_OPTIONS) {
+    if (ngx_http_jwt_try(verifier, &empty, 1) == JWT_BAD_OPTIONS) {
         return "one of the algorithms is not known, or an audience or issuer is not UTF-8";
     }
 
-    for (i = 1; i < conf->algorithms->nelts; i++) {
+    for (i = 1; i < algorithms->nelts; i++) {
         /* PS is of the family of RS; ES and Ed differ in their second letter */
         if ((names[i].data[0] == 'P' ? 'R' : names[i].data[0]) != (names[0].data[0] == 'P' ? 'R' : names[0].data[0])
             || (names[i].data[0] == 'E' && names[i].data[1] != names[0].data[1]))
@@ -875,34 +928,106 @@ ngx_http_jwt_algorithms_fault(ngx_http_jwt_loc_conf_t *conf)
 }
 
 
+/* Returns what is wrong with the algorithms or the keys, or NULL. */
 static const char *
-ngx_http_jwt_fault(ngx_conf_t *cf, ngx_http_jwt_loc_conf_t *conf)
+ngx_http_jwt_verifier_fault(ngx_http_jwt_verifier_t *verifier, ngx_array_t *algorithms)
 {
     ngx_str_t    keys;
     const char  *fault;
+
+    fault = ngx_http_jwt_algorithms_fault(verifier, algorithms);
+    if (fault != NULL) {
+        return fault;
+    }
+
+    verifier->is_set = ngx_http_jwt_member(&verifier->key, (u_char *) "keys", 4, &keys) == NGX_OK;
+    return verifier->is_set ? ngx_http_jwt_set_fault(verifier, &keys) : ngx_http_jwt_key_fault(verifier, &verifier->key);
+}
+
+
+/* Returns the verifier among those made already that has the key, the options and as many slots, or NULL. */
+static ngx_http_jwt_verifier_t *
+ngx_http_jwt_find_verifier(ngx_array_t *made, ngx_http_jwt_verifier_t *wanted)
+{
+    ngx_uint_t                i;
+    ngx_http_jwt_verifier_t  *it;
+
+    for (i = 0; i < made->nelts; i++) {
+        it = ((ngx_http_jwt_verifier_t **) made->elts)[i];
+
+        if (it->slot_count == wanted->slot_count
+            && it->options.len == wanted->options.len
+            && ngx_memcmp(it->options.data, wanted->options.data, wanted->options.len) == 0
+            && it->key.len == wanted->key.len
+            && ngx_memcmp(it->key.data, wanted->key.data, wanted->key.len) == 0)
+        {
+            return it;
+        }
+    }
+
+    return NULL;
+}
+
+
+/* Adds a verifier with the cache that it needs, and returns it, or NULL if there is no memory. */
+static ngx_http_jwt_verifier_t *
+ngx_http_jwt_add_verifier(ngx_conf_t *cf, ngx_array_t *made, ngx_http_jwt_verifier_t *wanted)
+{
+    ngx_http_jwt_verifier_t  *verifier, **place;
+
+    verifier = ngx_palloc(cf->pool, sizeof(ngx_http_jwt_verifier_t));
+    place = ngx_array_push(made);
+    if (verifier == NULL || place == NULL) {
+        return NULL;
+    }
+
+    *verifier = *wanted;
+    *place = verifier;
+
+    if (verifier->slot_count > 0) {
+        verifier->slots = ngx_pcalloc(cf->pool, verifier->slot_count * sizeof(ngx_http_jwt_slot_t));
+        if (verifier->slots == NULL) {
+            return NULL;
+        }
+    }
+
+    return verifier;
+}
+
+
+/* Finds or makes the verifier of a location, and returns what is wrong with its directives, or NULL. */
+static const char *
+ngx_http_jwt_set_verifier(ngx_conf_t *cf, ngx_http_jwt_loc_conf_t *conf)
+{
+    const char               *fault;
+    ngx_array_t              *made = ngx_http_conf_get_module_main_conf(cf, ngx_http_jwt_module);
+    ngx_http_jwt_verifier_t   wanted;
 
     if (conf->key.data == NULL || conf->algorithms == NULL) {
         return "auth_jwt needs auth_jwt_key_file and auth_jwt_alg";
     }
 
-    if (ngx_http_jwt_make_options(cf, conf) != NGX_OK) {
+    ngx_memzero(&wanted, sizeof(ngx_http_jwt_verifier_t));
+    wanted.key = conf->key;
+    wanted.leeway = conf->leeway;
+    wanted.slot_count = conf->slot_count;
+
+    if (ngx_http_jwt_make_options(cf, conf, &wanted.options) != NGX_OK) {
         return "no memory";
     }
 
-    fault = ngx_http_jwt_algorithms_fault(conf);
+    conf->verifier = ngx_http_jwt_find_verifier(made, &wanted);
+    if (conf->verifier != NULL) {
+        return NULL;
+    }
+
+    fault = ngx_http_jwt_verifier_fault(&wanted, conf->algorithms);
     if (fault != NULL) {
         return fault;
     }
 
-    if (conf->slot_count > 0) {
-        conf->slots = ngx_pcalloc(cf->pool, conf->slot_count * sizeof(ngx_http_jwt_slot_t));
-        if (conf->slots == NULL) {
-            return "no memory";
-        }
-    }
-
-    conf->is_set = ngx_http_jwt_member(&conf->key, (u_char *) "keys", 4, &keys) == NGX_OK;
-    return conf->is_set ? ngx_http_jwt_set_fault(conf, &keys) : ngx_http_jwt_key_fault(conf, &conf->key);
+    conf->verifier = ngx_http_jwt_add_verifier(cf, made, &wanted);
+    return conf->verifier != NULL ? NULL : "no memory";
 }
 
 
@@ -928,9 +1053,9 @@ ngx_http_jwt_merge_loc_conf(ngx_conf_t *cf, void *parent, void *child)
     ngx_conf_merge_ptr_value(conf->audiences, prev->audiences, NULL);
     ngx_conf_merge_ptr_value(conf->issuers, prev->issuers, NULL);
     ngx_conf_merge_sec_value(conf->leeway, prev->leeway, 0);
-    ngx_conf_merge_value(conf->slot_count, prev->slot_count, 0);
+    ngx_conf_merge_value(conf->slot_count, prev->slot_count, NGX_HTTP_JWT_SLOTS);
 
-    fault = conf->enabled ? ngx_http_jwt_fault(cf, conf) : NULL;
+    fault = conf->enabled ? ngx_http_jwt_set_verifier(cf, conf) : NULL;
     if (fault != NULL) {
         ngx_conf_log_error(NGX_LOG_EMERG, cf, 0, "auth_jwt: \"%V\": %s", &conf->key_file, fault);
         return NGX_CONF_ERROR;

@@ -2,9 +2,10 @@
 """Tests the module in a real nginx on the loopback. The last line counts.
 
 MODULE is ngx_http_jwt_module.so. With --load it is measured by wrk instead, beside the same server without it, in turns of this many
-seconds, and its memory is read after each 100,000 requests up to a million. With --valgrind the requests of the tests are sent to
-an nginx under valgrind. Tokens by a secret are signed here, by Python's hmac; the others are those of
-crates/jwt_vectors/data/standard.jsonl, which Python's cryptography signed.
+seconds, and its memory is read after each 100,000 requests up to a million. With --valgrind the requests of the
+tests are sent to an nginx under valgrind. Tokens by a secret are signed here, by Python's hmac; the others are those of
+crates/jwt_vectors/data/standard.jsonl, which Python's cryptography signed. The tests of the cache run behind watch.c, which a C
+compiler makes: it sets the time of day, and counts what the library is asked.
 """
 import argparse
 import base64
@@ -13,6 +14,7 @@ import hmac
 import http.client
 import json
 import os
+import random
 import re
 import shutil
 import signal
@@ -45,7 +47,7 @@ http {{
     keepalive_requests 1000000;
     {http}
     server {{
-        listen 127.0.0.1:{port};
+        listen 127.0.0.1:{port} default_server;
         root {work}/root;
         {server}
     }}
@@ -68,6 +70,7 @@ SERVER = """
         location /cookie {{ auth_jwt site token=$cookie_auth; }}
         location /any {{ satisfy any; allow 127.0.0.1; deny all; }}
         location /cached {{ auth_jwt_cache 4; }}
+        location /anew {{ auth_jwt_cache 0; }}
         location /one {{ auth_jwt_key_file {work}/key.json; }}
         location /rsa {{ auth_jwt_key_file {work}/standard.json; auth_jwt_alg RS256 RS384 RS512 PS256 PS384 PS512; }}
         location /ec {{ auth_jwt_key_file {work}/standard.json; auth_jwt_alg ES256 ES384; }}
@@ -118,15 +121,15 @@ def free_port():
 class Server:
     """An nginx in a folder of its own."""
 
-    def __init__(self, module, work, server=SERVER, workers=2, http_conf="", before=()):
+    def __init__(self, module, work, server=SERVER, workers=2, http_conf="", before=(), env=None):
         self.work, self.port, self.module = work, free_port(), module
         self.names = {"module": os.path.abspath(module), "work": work, "workers": workers, "port": self.port}
         os.makedirs(f"{work}/root", exist_ok=True)
-        for name in ("index.html", "open", "parties", "leeway", "cookie", "cached", "any", "one", "rsa", "ec", "ed"):
-            with open(f"{work}/root/{name}", "w", encoding="utf-8") as file:
-                file.write("served\n")
+        for name in ("index.html", *re.findall(r"location (?:= )?/(\w[\w.]*)", server + http_conf)):
+            self.write(f"root/{name}", "served\n")
         self.configure(server, http_conf)
         self.before = list(before)
+        self.env = {**os.environ, **(env or {})}
 
     def write(self, name, value):
         with open(f"{self.work}/{name}", "w", encoding="utf-8") as file:
@@ -146,7 +149,7 @@ class Server:
         return [NGINX, "-p", self.work, "-c", f"{self.work}/nginx.conf", "-e", f"{self.work}/error.log", *words]
 
     def start(self):
-        self.process = subprocess.Popen([*self.before, *self.words()])
+        self.process = subprocess.Popen([*self.before, *self.words()], env=self.env)
         for _ in range(600):
             with contextlib.suppress(OSError), socket.create_connection(("127.0.0.1", self.port), 1):
                 return
@@ -259,30 +262,31 @@ def verdicts(server, rows):
         test(f"{name}: {got}", got == status)
 
 
-def cached(server):
-    """A cache changes no verdict: tokens are told apart by each byte, and end at their time."""
+def again(server, path):
+    """A token that comes again has the same answer: tokens are told apart by each byte, and end at their time."""
     for size in (0, 100, 3000):
         token = signed({**PASS, "sub": "b@b.com", "text": "x" * size})
         for _ in range(3):
-            got, headers = server.get("/cached", token)
-            test(f"a token of the cache: {got}", got == 200 and headers["X-Sub"] == "b@b.com" and headers["X-Kid"] == "a")
-        for place in (3, len(token) // 2, len(token) - 3):
+            got, headers = server.get(path, token)
+            test(f"a token again: {got}", got == 200 and headers["X-Sub"] == "b@b.com" and headers["X-Kid"] == "a")
+        for place in (3, len(token) // 2, len(token) - 3, len(token) - 1):
             other = token[:place] + ("A" if token[place] != "A" else "B") + token[place + 1 :]
-            test("another token than that of the cache", server.get("/cached", other)[0] == 401)
+            test("another token than that before it", server.get(path, other)[0] == 401)
+        test("a part of the token before it", server.get(path, token[:-1])[0] == 401)
     tokens = [signed({**PASS, "sub": str(n)}) for n in range(40)] * 2
-    test("more tokens than slots", all(server.get("/cached", it)[1]["X-Sub"] == str(n % 40) for n, it in enumerate(tokens)))
+    test("many tokens", all(server.get(path, it)[1]["X-Sub"] == str(n % 40) for n, it in enumerate(tokens)))
     end = int(time.time()) + 3
     token = signed({"exp": end, "sub": "short"})
     wrong, seen = [], set()
     while time.time() < end + 1:
         before = time.time()
-        status = server.get("/cached", token)[0]
+        status = server.get(path, token)[0]
         seen.add(status)
         # nginx's clock may be that of a moment ago
         if (time.time() < end or before > end + 0.5) and status != (200 if before < end else 401):
             wrong.append((status, before - end))
         time.sleep(0.1)
-    test(f"a token of the cache ends: {seen} {wrong}", seen == {200, 401} and not wrong)
+    test(f"a token that comes again ends: {seen} {wrong}", seen == {200, 401} and not wrong)
 
 
 def variables(server):
@@ -310,6 +314,12 @@ BAD = [
     ("an unknown variable", "auth_jwt r token=$nosuch; auth_jwt_key_file {work}/keys.json; auth_jwt_alg HS256;", "nosuch"),
     ("twice", "auth_jwt r; auth_jwt r; auth_jwt_key_file {work}/keys.json; auth_jwt_alg HS256;", "duplicate"),
     ("a leeway", "auth_jwt r; auth_jwt_leeway x; auth_jwt_key_file {work}/keys.json; auth_jwt_alg HS256;", "leeway"),
+    ("a cache of fewer than none", "auth_jwt_cache -1;", '"auth_jwt_cache" directive invalid number'),
+    ("a cache of no number", "auth_jwt_cache on;", '"auth_jwt_cache" directive invalid number'),
+    ("a cache of more than 64 bits", "auth_jwt_cache 18446744073709551617;", '"auth_jwt_cache" directive invalid number'),
+    ("a cache of 63 bits", "auth_jwt_cache 9223372036854775807;", "value must be between 0 and 1048576"),
+    ("too large a cache", "auth_jwt_cache 1048577;", "value must be between 0 and 1048576"),
+    ("two caches", "auth_jwt_cache 1; auth_jwt_cache 1;", "duplicate"),
 ]
 BAD_KEYS = [
     ("", "is empty"),
@@ -336,13 +346,15 @@ def configurations(server):
         server.write("bad.json", keys)
         status, text = server.check("auth_jwt r; auth_jwt_key_file {work}/bad.json; auth_jwt_alg HS256;")
         test(f"{keys[:40]}: {status} {text[-300:]}", status == 1 and said in text)
-    status, text = server.check(SERVER)
-    test(f"the right one: {text[-300:]}", status == 0)
+    for conf in (SERVER, "auth_jwt_cache 1048576;"):
+        status, text = server.check(conf)
+        test(f"a right one: {text[-300:]}", status == 0)
 
 
 def reloads(server):
     """Under load, a new key takes the place of the old one, no request is lost, and a bad key file changes nothing."""
     old, new = signed(PASS), signed(PASS, b"a new secret of more than 32 bytes")
+    test("the old key counts", all(server.get("/", old)[0] == 200 and server.get("/", new)[0] == 401 for _ in range(20)))
     done, lost, served = threading.Event(), [], [0]
 
     def load():
@@ -388,22 +400,314 @@ def logs(server):
     test(f"no alert: {[it for it in texts.splitlines() if '[alert]' in it or '[crit]' in it][:3]}", "[alert]" not in texts and "[crit]" not in texts)
 
 
-def run_tests(module):
+RULES = """
+    auth_jwt "the site";
+    auth_jwt_key_file {work}/keys.json;
+    auth_jwt_alg HS256;
+    auth_jwt_aud web;
+    auth_jwt_iss https://login.example;
+    auth_jwt_leeway 10s;
+"""
+WATCHED = """
+        add_header X-Status "$jwt_status" always;
+        add_header X-Sub "$jwt_claim_sub" always;
+        location /same {{ }}
+        location /realm {{ auth_jwt "another realm" token=$http_x_token; }}
+        location /audience {{
+            auth_jwt_aud app;
+            location /audience_below {{ }}
+            location /audience_back {{ auth_jwt_aud web; }}
+        }}
+        location /issuer {{ auth_jwt_iss https://other.example; }}
+        location /algorithm {{ auth_jwt_alg HS384; }}
+        location /leeway {{ auth_jwt_leeway 0s; }}
+        location /key {{ auth_jwt_key_file {work}/other.json; }}
+        location /file {{ auth_jwt_key_file {work}/same.json; }}
+        location /off {{ auth_jwt off; location /off_on {{ auth_jwt "on again"; }} }}
+        location /anew {{ auth_jwt_cache 0; }}
+        location /few {{ auth_jwt_cache 4; }}
+        location /single {{ auth_jwt_cache 1; }}
+"""
+SECOND = (
+    RULES
+    + """
+    server {{
+        listen 127.0.0.1:{port};
+        server_name second;
+        root {work}/root;
+        location /audience {{ auth_jwt_aud app; }}
+    }}
+    server {{
+        listen 127.0.0.1:{port};
+        server_name third;
+        root {work}/root;
+        auth_jwt_aud app;
+        location /audience {{ auth_jwt_aud web; }}
+    }}
+"""
+)
+# the claims of a token that RULES accept
+WEB = {"exp": NOW, "aud": "web", "iss": "https://login.example"}
+OTHER_SECRET = b"another secret, of the same kid, of 32 or more bytes"
+
+
+class Watched(Server):
+    """An nginx of one worker behind watch.c, whose time of day is set, and which counts what the library is asked."""
+
+    def __init__(self, module, work, server, http_conf=""):
+        super().__init__(module, work, server, 1, http_conf, env={"LD_PRELOAD": f"{work}/watch.so"})
+        flags = subprocess.run(["pkg-config", "--cflags", "jwtproved"], capture_output=True, text=True, check=True).stdout.split()
+        words = [os.environ.get("CC", "cc"), "-shared", "-fPIC", "-O1", "-Wall", "-Wextra", "-Werror", *flags]
+        words += [f'-DMOMENT="{work}/moment"', f'-DCALLS="{work}/calls"', f"{TOP}/nginx/watch.c", "-o", f"{work}/watch.so"]
+        subprocess.run(words, check=True)
+        self.write("calls", "")
+        self.at(NOW - 100)
+        self.write("keys.json", {"keys": [oct_key("a")]})
+        self.write("same.json", {"keys": [oct_key("a")]})
+        self.write("other.json", {"keys": [oct_key("a", OTHER_SECRET)]})
+
+    def at(self, moment):
+        self.write("moment.new", str(moment))
+        os.replace(f"{self.work}/moment.new", f"{self.work}/moment")
+
+    def ask(self, path, token, **headers):
+        """Returns the status of a request, and how often the library was asked about a token."""
+        before = os.path.getsize(f"{self.work}/calls")
+        status, _ = self.get(path, token, **headers)
+        return status, os.path.getsize(f"{self.work}/calls") - before
+
+
+def apart(server):
+    """A token that one location has accepted is asked about anew by each other of other rules."""
+    server.at(NOW - 100)
+    web, app = signed({**WEB, "sub": "apart"}), signed({**WEB, "sub": "apart", "aud": "app"})
+    other = signed({**WEB, "sub": "apart"}, OTHER_SECRET)
+    for token, path, host, wanted in (
+        (web, "/same", "", (200, 1)),
+        (web, "/same", "", (200, 0)),
+        (web, "/audience", "", (401, 1)),
+        (web, "/audience_below", "", (401, 1)),
+        (web, "/issuer", "", (401, 1)),
+        (web, "/algorithm", "", (401, 1)),
+        (web, "/key", "", (401, 1)),
+        (web, "/audience", "second", (401, 1)),
+        (web, "/same", "third", (401, 1)),
+        (web, "/leeway", "", (200, 1)),
+        (web, "/few", "", (200, 1)),
+        (web, "/anew", "", (200, 1)),
+        (web, "/anew", "", (200, 1)),
+        # and the other way round
+        (app, "/audience", "", (200, 1)),
+        (app, "/audience_below", "", (200, 0)),
+        (app, "/same", "", (401, 1)),
+        (app, "/audience_back", "", (401, 1)),
+        (app, "/audience", "third", (401, 1)),
+        (other, "/key", "", (200, 1)),
+        (other, "/same", "", (401, 1)),
+        # rules that are the same have one cache
+        (web, "/realm", "", (401, 0)),
+        (web, "/file", "", (200, 0)),
+        (web, "/off_on", "", (200, 0)),
+        (web, "/audience_back", "", (200, 0)),
+        (web, "/same", "second", (200, 0)),
+        (web, "/audience", "third", (200, 0)),
+        (app, "/audience", "second", (200, 0)),
+        (app, "/same", "third", (200, 0)),
+    ):
+        got = server.ask(path, token, **({"Host": host} if host else {}))
+        test(f"{path} of {host or 'the first'}, where another location accepted a token: {got}, wanted {wanted}", got == wanted)
+    got = server.ask("/realm", None, **{"X-Token": web})
+    test(f"a token from another place: {got}", got == (200, 0))
+
+
+def moments(server):
+    """A token is accepted from the cache from the moment when it was accepted to the second before exp and the leeway."""
+    token, early = signed({**WEB, "sub": "moments"}), signed({**WEB, "sub": "early", "nbf": NOW - 50})
+    for kind, path, text, moment, wanted in (
+        ("the first time", "/same", token, -60, (200, 1)),
+        ("again", "/same", token, -60, (200, 0)),
+        ("at its exp", "/same", token, 0, (200, 0)),
+        ("the last moment", "/same", token, 9, (200, 0)),
+        ("the end", "/same", token, 10, (401, 1)),
+        ("long after", "/same", token, 10**9, (401, 1)),
+        ("back before the end", "/same", token, 9, (200, 0)),
+        ("back before it came", "/same", token, -61, (200, 1)),
+        ("after that", "/same", token, -60, (200, 0)),
+        ("without leeway", "/leeway", token, -2, (200, 1)),
+        ("the last moment without leeway", "/leeway", token, -1, (200, 0)),
+        ("the end without leeway", "/leeway", token, 0, (401, 1)),
+        ("before nbf", "/same", early, -61, (401, 1)),
+        ("the first moment", "/same", early, -60, (200, 1)),
+        ("back before nbf", "/same", early, -61, (401, 1)),
+        ("the first moment again", "/same", early, -60, (200, 0)),
+    ):
+        server.at(NOW + moment)
+        got = server.ask(path, text)
+        test(f"{kind}: {got}, wanted {wanted}", got == wanted)
+
+
+def same_verdicts(server):
+    """At every moment, in any order, a token has the same answer with a cache and without: also one that says exp in an odd way."""
+    rest = f'"aud":"web","iss":"https://login.example","sub":"{{}}"}}'
+    far = NOW + 1000
+    payloads = [
+        f'{{"exp":{NOW},' + rest,
+        f'{{"exp":{far},"exp":{NOW},' + rest,
+        f'{{"exp":{NOW},"exp":{far},' + rest,
+        f'{{"exp":{NOW},"EXP":{far},"Exp":{far},' + rest,
+        f'{{"EXP":{far},"exp":{NOW},' + rest,
+        f'{{"EXP":{far},' + rest,
+        f'{{"\\u0065xp":{NOW},"ex\\u0050":{far},' + rest,
+        f'{{"a":{{"exp":{far}}},"exp":{NOW},"b":[{{"exp":{far}}}],' + rest,
+        f'{{"a":"\\",\\"exp\\":{far},","exp":{NOW},"b":",\\"exp\\":{far}",' + rest,
+        f'{{ "exp" : {NOW} ,\r\n\t' + rest,
+        f'{{"exp":{NOW}.0,' + rest,
+        f'{{"exp":{NOW}.5,' + rest,
+        f'{{"exp":{NOW}e0,' + rest,
+        f'{{"exp":0{NOW},' + rest,
+        f'{{"exp":"{NOW}",' + rest,
+        f'{{"exp":-{NOW},' + rest,
+        f'{{"exp":{NOW},"nbf":{NOW - 5},' + rest,
+        f'{{"exp":{2**63 - 1},' + rest,
+        f'{{"exp":{2**63},' + rest,
+        f'{{"exp":{2**64 - 1},' + rest,
+        f'{{"exp":{2**64 + NOW},' + rest,
+    ]
+    tokens = [signed(it.replace("{}", f"n{n}").encode()) for n, it in enumerate(payloads)]
+    order = [*range(-20, 20), 990, 1009, 1010]
+    random.Random(1).shuffle(order)
+    wrong, seen = [], set()
+    for moment in order:
+        server.at(NOW + moment)
+        for payload, token in zip(payloads, tokens):
+            answers = [[status, headers["X-Status"], headers["X-Sub"]] for status, headers in (server.get(it, token) for it in ("/same", "/anew"))]
+            seen.add(answers[0][0])
+            if answers[0] != answers[1]:
+                wrong.append((moment, payload, answers))
+    test(f"{len(order) * len(tokens)} verdicts with a cache and without: {wrong[:3]}", not wrong and seen == {200, 401})
+
+
+def murmur(text, start):
+    """Returns the state of nginx's hash of a token, a word of 32 bits, after some words of four bytes."""
+    for at in range(0, len(text), 4):
+        word = int.from_bytes(text[at : at + 4], "little") * 0x5BD1E995 & 0xFFFFFFFF
+        start = (start * 0x5BD1E995 ^ (word ^ word >> 24) * 0x5BD1E995) & 0xFFFFFFFF
+    return start
+
+
+def collision(token, place):
+    """Returns another token of the same length and hash, with other letters in the eight bytes at this place."""
+    raw, inverse = token.encode(), pow(0x5BD1E995, -1, 2**32)
+    before = murmur(raw[:place], len(raw))
+    end = murmur(raw[place : place + 8], before)
+    for n in range(2**20):
+        first = part(n.to_bytes(3, "big")).encode()
+        word = (end ^ murmur(first, before) * 0x5BD1E995) * inverse & 0xFFFFFFFF
+        other = ((word ^ word >> 24) * inverse & 0xFFFFFFFF).to_bytes(4, "little")
+        if re.fullmatch(rb"[\w-]{4}", other) and first + other != raw[place : place + 8]:
+            changed = raw[:place] + first + other + raw[place + 8 :]
+            assert murmur(changed, len(raw)) == murmur(raw, len(raw))
+            return changed.decode()
+    raise AssertionError("no collision")
+
+
+def slots(server):
+    """Tokens of one slot are told apart, one that is refused takes no slot, and the least used one gives way."""
+    server.at(NOW - 100)
+    texts = [signed({**WEB, "text": "x" * (n % 3)}, more="x" * (n // 3)) for n in range(9)]
+    token = next(it for it in texts if len(it) % 4 == 0)
+    test("a token of the slot", [server.ask("/same", token) for _ in range(2)] == [(200, 1), (200, 0)])
+    for place in (0, 4, len(token) // 8 * 4, len(token) - 60, len(token) - 12, len(token) - 8):
+        got = server.ask("/same", collision(token, place))
+        test(f"a token of the same hash, other at {place}: {got}", got == (401, 1))
+    test("the slot has the token", server.ask("/same", token) == (200, 0))
+    for path, count in (("/few", 4), ("/single", 1)):
+        tokens = [signed({**WEB, "sub": f"{path} {n}"}) for n in range(count + 1)]
+        got = [server.ask(path, it)[1] for it in tokens[:count] * 2]
+        test(f"{path}, as many tokens as slots: {got}", got == [1] * count + [0] * count)
+        for _ in range(20):
+            server.ask(path, signed({**WEB, "sub": "refused"}, b"x" * 32))
+            server.ask(path, signed({**WEB, "exp": 1}))
+        got = [server.ask(path, it)[1] for it in tokens[1:count] + tokens[:1] + tokens[count:] + tokens[2:count] + tokens[:1]]
+        wanted = [0] * count + [1] + [0] * (count - 1) if count > 1 else [0, 1, 1]
+        test(f"{path}, one more: {got}", got == wanted)
+    long = signed({**WEB, "text": "x" * 2000})
+    test("a long token", [server.ask("/same", long) for _ in range(3)] == [(200, 1)] * 3)
+    tokens = [signed({**WEB, "sub": f"many {n}"}) for n in range(500)]
+    calls = sum(server.ask("/off_on", it)[1] for it in tokens * 2)
+    # about 50 of the second 500; it would be more than 200 if each token had one slot alone
+    test(f"500 tokens twice, by default: {calls} calls", 500 <= calls <= 600)
+
+
+def many_locations(module):
+    """Locations that say the same cost neither tries of keys nor memory."""
+    found = []
+    for count in (1, 300):
+        with tempfile.TemporaryDirectory(prefix="nginx-jwt-") as work:
+            places = "".join(f"location /p{n} {{{{ auth_jwt r{n}; }}}}\n" for n in range(count))
+            server = Watched(module, work, RULES.replace('auth_jwt "the site";', "") + places)
+            process = subprocess.Popen(server.words("-t"), env=server.env, stderr=subprocess.DEVNULL)
+            _, status, usage = os.wait4(process.pid, 0)
+            test(f"nginx -t of {count} locations: {status}", status == 0)
+            found.append((os.path.getsize(f"{work}/calls"), usage.ru_maxrss))
+    (calls, memory), (more_calls, more_memory) = found
+    test(f"calls and KiB of 1 and of 300 locations: {found}", 0 < calls == more_calls and more_memory < memory + 20 * 1024)
+
+
+def run_cache(module):
+    with tempfile.TemporaryDirectory(prefix="nginx-jwt-") as work:
+        server = Watched(module, work, WATCHED, http_conf=SECOND)
+        with started(server):
+            apart(server)
+            moments(server)
+            same_verdicts(server)
+            slots(server)
+    many_locations(module)
+
+
+@contextlib.contextmanager
+def started(server):
+    """Runs an nginx, and tests how it ended."""
+    server.start()
+    try:
+        yield server
+    finally:
+        status = server.stop()
+    test(f"nginx ended with {status}", status == 0)
+    logs(server)
+
+
+def run_default(module):
+    """By default a cache answers what was asked before."""
     with tempfile.TemporaryDirectory(prefix="nginx-jwt-") as work:
         server = Server(module, work)
         rows = write_keys(server)
-        server.start()
-        try:
-            verdicts(server, rows)
-            variables(server)
-            cached(server)
+        with started(server):
+            for _ in range(3):
+                verdicts(server, rows)
+                variables(server)
+            again(server, "/")
+            again(server, "/cached")
             reloads(server)
-        finally:
-            status = server.stop()
-        test(f"nginx ended with {status}", status == 0)
-        logs(server)
         write_keys(server)
         configurations(server)
+
+
+def run_anew(module):
+    """Without a cache each answer is the same."""
+    with tempfile.TemporaryDirectory(prefix="nginx-jwt-") as work:
+        server = Server(module, work, "auth_jwt_cache 0;" + SERVER)
+        rows = write_keys(server)
+        with started(server):
+            verdicts(server, rows)
+            variables(server)
+            again(server, "/")
+
+
+def run_tests(module):
+    run_default(module)
+    run_anew(module)
+    run_cache(module)
     print(f"{passed} tests of the nginx module, {failed} failed")
     sys.exit(failed > 0)
 
@@ -418,9 +722,12 @@ def run_valgrind(module):
         rows = write_keys(server)
         server.write("nginx.conf", server.read("nginx.conf").replace("daemon off;", "daemon off; master_process off;"))
         server.start()
-        verdicts(server, rows)
-        variables(server)
-        cached(server)
+        for _ in range(2):
+            verdicts(server, rows)
+            variables(server)
+        again(server, "/")
+        again(server, "/cached")
+        again(server, "/anew")
         status = server.stop()
         said = "".join(server.read(name) for name in os.listdir(work) if name.startswith("valgrind."))
         print(said)

@@ -1,0 +1,73 @@
+/*
+ * For test.py, in front of the libraries of an nginx (LD_PRELOAD): the time of day is the number in the file MOMENT, and each token
+ * that the library is asked about adds a byte to the file CALLS.
+ */
+#define _GNU_SOURCE
+#include <dlfcn.h>
+#include <fcntl.h>
+#include <jwtproved.h>
+#include <stdlib.h>
+#include <sys/time.h>
+#include <unistd.h>
+
+typedef uint32_t decode(const uint8_t *, size_t, const uint8_t *, size_t, const uint8_t *, size_t, uint64_t, uint8_t *, size_t,
+                        size_t *);
+
+static ssize_t
+with_file(const char *name, int flags, char *text, size_t len)
+{
+    int      file = open(name, flags | O_CLOEXEC, 0600);
+    ssize_t  done;
+
+    if (file < 0) {
+        return -1;
+    }
+
+    done = flags == O_RDONLY ? read(file, text, len) : write(file, text, len);
+    close(file);
+    return done;
+}
+
+
+int
+gettimeofday(struct timeval *restrict now, void *restrict zone)
+{
+    char  text[32] = "";
+
+    (void) zone;
+    (void) with_file(MOMENT, O_RDONLY, text, sizeof(text) - 1);
+    now->tv_sec = atoll(text);
+    now->tv_usec = 0;
+    return 0;
+}
+
+
+/* The library's own call: it is loaded with the module, so that this file does not see it by itself. */
+static decode *
+behind(const char *name, size_t token_len)
+{
+    char   call = '.';
+    void  *library = dlopen("libjwtproved.so.0", RTLD_NOW | RTLD_NOLOAD);
+
+    if (library == NULL || (token_len > 0 && with_file(CALLS, O_WRONLY | O_APPEND | O_CREAT, &call, 1) != 1)) {
+        abort();
+    }
+
+    return (decode *) dlsym(library, name);
+}
+
+
+uint32_t
+jwt_decode_set(const uint8_t *token, size_t token_len, const uint8_t *set, size_t set_len, const uint8_t *options,
+               size_t options_len, uint64_t now, uint8_t *buffer, size_t buffer_len, size_t *len)
+{
+    return behind("jwt_decode_set", token_len)(token, token_len, set, set_len, options, options_len, now, buffer, buffer_len, len);
+}
+
+
+uint32_t
+jwt_decode_key(const uint8_t *token, size_t token_len, const uint8_t *key, size_t key_len, const uint8_t *options,
+               size_t options_len, uint64_t now, uint8_t *buffer, size_t buffer_len, size_t *len)
+{
+    return behind("jwt_decode_key", token_len)(token, token_len, key, key_len, options, options_len, now, buffer, buffer_len, len);
+}
