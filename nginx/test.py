@@ -1,8 +1,8 @@
 #!/usr/bin/env -S python3 -B
 """Tests the module in a real nginx on the loopback. The last line counts.
 
-MODULE is ngx_http_jwt_module.so. With --load it is measured by wrk instead, beside the same server without it, in turns of this many
-seconds, and its memory is read after each 100,000 requests up to a million. With --valgrind the requests of the
+MODULE is ngx_http_jwt_module.so. With --load it is measured by wrk instead, beside the same server without it, in turns that take
+this many seconds in sum, and its memory is read after each 100,000 requests up to a million. With --valgrind the requests of the
 tests are sent to an nginx under valgrind. Tokens by a secret are signed here, by Python's hmac; the others are those of
 crates/jwt_vectors/data/standard.jsonl, which Python's cryptography signed. The tests of the cache run behind watch.c, which a C
 compiler makes: it sets the time of day, and counts what the library is asked.
@@ -756,27 +756,44 @@ def resident(server):
     return [int(it) for it in found.stdout.split()]
 
 
-def wrk(server, path, seconds, token):
+# asks for the path with each token of a file in turn
+SCRIPT = """
+local requests, at = {}, 0
+
+function init(args)
+    for token in io.lines(args[1]) do
+        requests[#requests + 1] = wrk.format("GET", nil, { ["Host"] = "localhost", ["Authorization"] = "Bearer " .. token })
+    end
+end
+
+function request()
+    at = at % #requests + 1
+    return requests[at]
+end
+"""
+
+
+def wrk(server, path, tokens, seconds):
     """Returns how many requests were answered, how many in a second, and how many microseconds of a processor each took the workers."""
-    words = ["wrk", "-t2", "-c32", f"-d{seconds}s", "-H", f"Authorization: Bearer {token}", f"http://127.0.0.1:{server.port}{path}"]
+    words = ["wrk", "-t2", "-c32", f"-d{seconds}s", "-s", f"{server.work}/wrk.lua", f"http://127.0.0.1:{server.port}{path}"]
     before = processor_seconds(server)
-    said = subprocess.run(words, capture_output=True, text=True, check=True).stdout
+    said = subprocess.run([*words, "--", f"{server.work}/{tokens}"], capture_output=True, text=True, check=True).stdout
     spent = processor_seconds(server) - before
-    if "Non-2xx" in said:
+    if "Non-2xx" in said or "Socket errors" in said:
         raise SystemExit(said)
     count = int(re.search(r"(\d+) requests in", said)[1])
     return count, float(re.search(r"Requests/sec:\s+([\d.]+)", said)[1]), spent / count * 1e6
 
 
 LOAD = """
-        location = /cached.html {{ auth_jwt r; auth_jwt_key_file {work}/keys.json; auth_jwt_alg HS256; auth_jwt_cache 128; }}
-        location = /with.html {{ auth_jwt r; auth_jwt_key_file {work}/keys.json; auth_jwt_alg HS256; }}
-        location = /without.html {{ }}
-        location = /proxied-with {{ auth_jwt r; auth_jwt_key_file {work}/keys.json; auth_jwt_alg HS256; proxy_pass http://up/without.html; }}
-        location = /proxied-cached {{
-            auth_jwt r; auth_jwt_key_file {work}/keys.json; auth_jwt_alg HS256; auth_jwt_cache 128; proxy_pass http://up/without.html;
+        location = /without {{ }}
+        location = /with {{ auth_jwt r; auth_jwt_key_file {work}/keys.json; auth_jwt_alg HS256; }}
+        location = /anew {{ auth_jwt r; auth_jwt_key_file {work}/keys.json; auth_jwt_alg HS256; auth_jwt_cache 0; }}
+        location = /proxy_without {{ proxy_pass http://up/without; }}
+        location = /proxy_with {{ auth_jwt r; auth_jwt_key_file {work}/keys.json; auth_jwt_alg HS256; proxy_pass http://up/without; }}
+        location = /proxy_anew {{
+            auth_jwt r; auth_jwt_key_file {work}/keys.json; auth_jwt_alg HS256; auth_jwt_cache 0; proxy_pass http://up/without;
         }}
-        location = /proxied-without {{ proxy_pass http://up/without.html; }}
 """
 UPSTREAM = """
     access_log off;
@@ -784,18 +801,37 @@ UPSTREAM = """
     proxy_http_version 1.1;
     proxy_set_header Connection "";
 """
+# what is measured: of which location, and with how many tokens in turn
+MEASURED = [
+    ("without the module", "without", 1),
+    ("by default, one token", "with", 1),
+    ("by default, 500 tokens in turn", "with", 500),
+    ("by default, 20000 tokens in turn", "with", 20000),
+    ("auth_jwt_cache 0", "anew", 1),
+]
 
 
-def compare(server, kind, paths, turns, token):
-    """Measures paths in turns of two seconds each, and prints the medians beside those of the first."""
-    found = {path: [] for path in paths}
-    for _ in range(turns):
-        for path in paths:
-            found[path].append(wrk(server, path, 2, token)[1:])
-    medians = [[statistics.median(it) for it in zip(*found[path])] for path in paths]
-    print(f"{kind}, a token of {len(token)} bytes, {turns} turns; requests a second, and microseconds of a processor:")
-    for path, (rate, cost) in zip(paths, medians):
-        print(f"  {path}: {rate:.0f} ({rate / medians[0][0]:.2f}), {cost:.1f} ({medians[0][1] / cost:.2f})", flush=True)
+def token_of_400(number):
+    """Returns a token of 400 bytes, or of 399, as base64 has its lengths."""
+    claims = {**PASS, "sub": f"{number:05}@b.com", "text": "x" * 200}
+    longer = (400 - len(signed(claims))) * 3 // 4
+    claims["text"] += "x" * longer
+    return signed(claims)
+
+
+def compare(server, kind, prefix, turns):
+    """Measures in turns of two seconds each, and prints the medians beside those of the first."""
+    found = [[] for _ in MEASURED]
+    for turn in range(turns):
+        # each turn in another order
+        for at in (*range(turn % len(MEASURED), len(MEASURED)), *range(turn % len(MEASURED))):
+            _, path, count = MEASURED[at]
+            found[at].append(wrk(server, f"/{prefix}{path}", f"tokens{count}", 2)[1:])
+    medians = [[statistics.median(it) for it in zip(*rows)] for rows in found]
+    print(f"{kind}, {turns} turns; requests a second, and microseconds of a processor:")
+    for (name, _, _), (rate, cost), rows in zip(MEASURED, medians, found):
+        least, most = min(it[0] for it in rows), max(it[0] for it in rows)
+        print(f"  {name}: {rate:.0f} ({rate / medians[0][0]:.2f}; {least:.0f} to {most:.0f}), {cost:.1f} ({medians[0][1] / cost:.2f})", flush=True)
 
 
 def run_load(module, seconds):
@@ -804,23 +840,20 @@ def run_load(module, seconds):
         server = Server(module, work, LOAD, http_conf=UPSTREAM)
         write_keys(server)
         server.write("keys.json", {"keys": [oct_key("a")]})
-        for name in ("with.html", "cached.html", "without.html"):
+        server.write("wrk.lua", SCRIPT)
+        for name in ("with", "anew", "without"):
             server.write(f"root/{name}", "x" * 1024)
-        claims = {**PASS, "sub": "b@b.com", "text": ""}
-        claims["text"] = "x" * (400 - len(signed(claims)))
-        while len(signed(claims)) > 400:
-            claims["text"] = claims["text"][1:]
-        token = signed(claims)
+        tokens = [token_of_400(n) for n in range(MEASURED[3][2])]
+        for _, _, count in MEASURED:
+            server.write(f"tokens{count}", "\n".join(tokens[:count]) + "\n")
+        print(f"tokens of {min(map(len, tokens))} to {max(map(len, tokens))} bytes, {os.cpu_count()} processors, load {os.getloadavg()}")
         server.start()
         try:
-            for kind, paths in (
-                ("a file", ("/without.html", "/with.html", "/cached.html")),
-                ("a proxy", ("/proxied-without", "/proxied-with", "/proxied-cached")),
-            ):
-                compare(server, kind, paths, max(1, seconds // 6), token)
+            for kind, prefix in (("a file", ""), ("a proxy", "proxy_")):
+                compare(server, kind, prefix, max(1, seconds // (2 * len(MEASURED))))
             sent = 0
             while sent < 1_000_000:
-                sent += wrk(server, "/with.html", 5, token)[0]
+                sent += wrk(server, "/with", "tokens20000", 5)[0]
                 print(f"{sent} requests, {resident(server)} KiB", flush=True)
         finally:
             server.stop()
