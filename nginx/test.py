@@ -421,6 +421,8 @@ WATCHED = """
         location /issuer {{ auth_jwt_iss https://other.example; }}
         location /algorithm {{ auth_jwt_alg HS384; }}
         location /leeway {{ auth_jwt_leeway 0s; }}
+        location /later {{ auth_jwt_leeway 20s; }}
+        location /if {{ if ($http_x_token) {{ add_header X-If "$jwt_status"; }} }}
         location /key {{ auth_jwt_key_file {work}/other.json; }}
         location /file {{ auth_jwt_key_file {work}/same.json; }}
         location /off {{ auth_jwt off; location /off_on {{ auth_jwt "on again"; }} }}
@@ -448,7 +450,7 @@ SECOND = (
 )
 # the claims of a token that RULES accept
 WEB = {"exp": NOW, "aud": "web", "iss": "https://login.example"}
-OTHER_SECRET = b"another secret, of the same kid, of 32 or more bytes"
+OTHER_SECRET = SECRET[::-1]
 
 
 class Watched(Server):
@@ -518,6 +520,8 @@ def apart(server):
         test(f"{path} of {host or 'the first'}, where another location accepted a token: {got}, wanted {wanted}", got == wanted)
     got = server.ask("/realm", None, **{"X-Token": web})
     test(f"a token from another place: {got}", got == (200, 0))
+    got = [server.ask("/if", it, **{"X-Token": "x"}) for it in (web, app)]
+    test(f"a block of a location: {got}", got == [(200, 0), (401, 1)])
 
 
 def moments(server):
@@ -536,6 +540,10 @@ def moments(server):
         ("without leeway", "/leeway", token, -2, (200, 1)),
         ("the last moment without leeway", "/leeway", token, -1, (200, 0)),
         ("the end without leeway", "/leeway", token, 0, (401, 1)),
+        ("more leeway", "/later", token, 15, (200, 1)),
+        ("after that, with less", "/same", token, 15, (401, 1)),
+        ("the last moment of more leeway", "/later", token, 19, (200, 0)),
+        ("the end of more leeway", "/later", token, 20, (401, 1)),
         ("before nbf", "/same", early, -61, (401, 1)),
         ("the first moment", "/same", early, -60, (200, 1)),
         ("back before nbf", "/same", early, -61, (401, 1)),
@@ -812,26 +820,26 @@ MEASURED = [
 
 
 def token_of_400(number):
-    """Returns a token of 400 bytes, or of 399, as base64 has its lengths."""
-    claims = {**PASS, "sub": f"{number:05}@b.com", "text": "x" * 200}
-    longer = (400 - len(signed(claims))) * 3 // 4
-    claims["text"] += "x" * longer
+    """Returns a token of 400 bytes, or of a few less, since base64 has not every length."""
+    claims = {**PASS, "sub": f"{number:05}@b.com", "text": ""}
+    claims["text"] = "x" * ((400 - len(signed(claims))) * 3 // 4)
     return signed(claims)
 
 
 def compare(server, kind, prefix, turns):
-    """Measures in turns of two seconds each, and prints the medians beside those of the first."""
+    """Measures in turns of two seconds each, and prints medians, also of what each turn has of the first."""
     found = [[] for _ in MEASURED]
     for turn in range(turns):
         # each turn in another order
         for at in (*range(turn % len(MEASURED), len(MEASURED)), *range(turn % len(MEASURED))):
             _, path, count = MEASURED[at]
             found[at].append(wrk(server, f"/{prefix}{path}", f"tokens{count}", 2)[1:])
-    medians = [[statistics.median(it) for it in zip(*rows)] for rows in found]
-    print(f"{kind}, {turns} turns; requests a second, and microseconds of a processor:")
-    for (name, _, _), (rate, cost), rows in zip(MEASURED, medians, found):
-        least, most = min(it[0] for it in rows), max(it[0] for it in rows)
-        print(f"  {name}: {rate:.0f} ({rate / medians[0][0]:.2f}; {least:.0f} to {most:.0f}), {cost:.1f} ({medians[0][1] / cost:.2f})", flush=True)
+    print(f"{kind}, {turns} turns; requests a second, of those without, microseconds of a processor, without to with:")
+    for (name, _, _), rows in zip(MEASURED, found):
+        rate, cost = (statistics.median(it) for it in zip(*rows))
+        of_rates = statistics.median(it[0] / first[0] for it, first in zip(rows, found[0]))
+        of_costs = statistics.median(first[1] / it[1] for it, first in zip(rows, found[0]))
+        print(f"  {name}: {rate:.0f}, {of_rates:.2f}, {cost:.1f}, {of_costs:.2f}", flush=True)
 
 
 def run_load(module, seconds):
