@@ -2,8 +2,8 @@
 """Tests the module in a real nginx on the loopback. The last line counts.
 
 MODULE is ngx_http_jwt_module.so. With --load it is measured by wrk instead, beside the same server without it, in turns that take
-this many seconds in sum, and its memory is read after each 100,000 requests up to a million. With --valgrind the requests of the
-tests are sent to an nginx under valgrind. Tokens by a secret are signed here, by Python's hmac; the others are those of
+this many seconds for a file, and as many for a proxy, and then its memory is read during a million requests. With --valgrind the
+requests of the tests are sent to an nginx under valgrind. Tokens by a secret are signed here, by Python's hmac; the others are those of
 crates/jwt_vectors/data/standard.jsonl, which Python's cryptography signed. The tests of the cache run behind watch.c, which a C
 compiler makes: it sets the time of day, and counts what the library is asked.
 """
