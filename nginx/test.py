@@ -764,14 +764,20 @@ def resident(server):
     return [int(it) for it in found.stdout.split()]
 
 
-# asks for the path with each token of a file in turn
+# asks for the path with each token of a file in turn; the two threads begin half the file apart, so that none repeats the other
 SCRIPT = """
-local requests, at = {}, 0
+local threads, requests = 0, {}
+
+function setup(thread)
+    thread:set("begins", threads / 2)
+    threads = threads + 1
+end
 
 function init(args)
     for token in io.lines(args[1]) do
         requests[#requests + 1] = wrk.format("GET", nil, { ["Host"] = "localhost", ["Authorization"] = "Bearer " .. token })
     end
+    at = math.floor(begins * #requests)
 end
 
 function request()
