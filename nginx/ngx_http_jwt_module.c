@@ -16,7 +16,7 @@
 #define NGX_HTTP_JWT_ROOM 64
 
 /* The room of a slot of a cache, for a token and its claims. A longer token is verified each time. */
-#define NGX_HTTP_JWT_SLOT 2000
+#define NGX_HTTP_JWT_SLOT 4000
 /* How many slots a cache has, and at most. */
 #define NGX_HTTP_JWT_SLOTS 1024
 #define NGX_HTTP_JWT_SLOTS_MAX 1048576
