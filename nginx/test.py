@@ -639,8 +639,9 @@ def slots(server):
         got = [server.ask(path, it)[1] for it in tokens[1:count] + tokens[:1] + tokens[count:] + tokens[2:count] + tokens[:1]]
         wanted = [0] * count + [1] + [0] * (count - 1) if count > 1 else [0, 1, 1]
         test(f"{path}, one more: {got}", got == wanted)
-    long = signed({**WEB, "text": "x" * 2000})
-    test("a long token", [server.ask("/same", long) for _ in range(3)] == [(200, 1)] * 3)
+    for size, calls in ((1400, 0), (2000, 1)):
+        long = signed({**WEB, "text": "x" * size})
+        test(f"a token of {len(long)} bytes", [server.ask("/same", long) for _ in range(3)] == [(200, 1)] + [(200, calls)] * 2)
     tokens = [signed({**WEB, "sub": f"many {n}"}) for n in range(500)]
     calls = sum(server.ask("/off_on", it)[1] for it in tokens * 2)
     # about 50 of the second 500; it would be more than 200 if each token had one slot alone
