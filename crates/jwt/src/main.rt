@@ -79,8 +79,9 @@ fn answered<T: Runtime + AllocGlobal>(rt: &T, request: &Request<'_, '_>) -> u8
     answer.status
 }
 
-/// Writes the answer to the arguments, and returns its status.
-fn done<T: Runtime + AllocGlobal>(rt: &T, matches: &ArgMatches<'_>) -> u8
+/// Writes the answer to the arguments, and returns the exit status: that of the answer, or 2 for arguments
+/// that ask for nothing that can be done, and 3 for files, streams, the clock and memory.
+pub fn run_command<T: Runtime + AllocGlobal>(rt: &T, matches: &ArgMatches<'_>) -> u8
     ensures { IsFaultStatus result
         ⊎ ((r : Request) × IsRequestOf matches.now r × IsStatus r result) }
 {
@@ -144,7 +145,7 @@ fn start<T: Runtime + AllocGlobal>(rt: &T) -> u8 {
         return failed(rt, &Fault::Memory);
     };
     match command.try_get_matches_from(words.as_slice()) {
-        Ok(matches) => done(rt, &matches),
+        Ok(matches) => run_command(rt, &matches),
         Err(error) => mistaken(rt, &error),
     }
 }
