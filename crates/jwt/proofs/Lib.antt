@@ -4,3 +4,4 @@ pub mod Required
 pub mod Settled
 pub mod Shown
 pub mod Signed
+pub mod Unread

@@ -1,10 +1,11 @@
 -- The keys that a token is verified with, by the bytes of their file.
-use Rattle.std.specs.Prelude.{◌≡◌, ℕ, List, Option, None, option_and_then}
+use Rattle.std.specs.Prelude.{◌≡◌, ◌⊎◌, ℕ, List, [], Option, None, option_and_then}
 use Rattle.jwt_base.specs.Algorithm.{algorithm_of}
 use Rattle.jwt_base.specs.JsonText.{ReadsText}
+use Rattle.jwt_base.specs.Kind.{Kind}
 use Rattle.jwt_base.specs.declared.algorithms.Algorithm.{Algorithm}
 use Rattle.jwt_base.specs.declared.algorithms.AlgorithmFamily.TheVariants.{Hmac}
-use Rattle.jwt_key_files.specs.PemKeys.{IsPemOf}
+use Rattle.jwt_key_files.specs.PemKeys.{IsPemOf, IsPemRefused}
 use Rattle.jwt_keys.specs.Jwk.{ReadsKey}
 use Rattle.jwt_keys.specs.JwkSet.{ReadsSet}
 use Rattle.jwt_keys.specs.Key.{Key, Plain}
@@ -34,3 +35,13 @@ AreLoaded (file.Jwks path) bytes keys own =
     (set : JwkSet) × ReadsText ReadsSet bytes set.keys.items × (keys ≡ Set set) × (own ≡ None)
 AreLoaded (file.Pem path) bytes keys own =
     (key : Key) × IsPemOf bytes key × (keys ≡ One key) × (own ≡ None)
+
+-- why the bytes of the file hold no keys: the secret is empty; they are no JSON Web Key, or one that verifies
+-- nothing (RFC 7517 section 4); they are no set of these (RFC 7517 section 5); or no public key in PEM
+abbrev pub HasKeysFault : KeyFile → List ℕ → Type 0
+HasKeysFault (file.Secret path is_trimmed) bytes = IsSecret is_trimmed bytes []
+HasKeysFault (file.Jwk path) bytes =
+    ((jwk : Jwk) → ¬ ReadsText ReadsKey bytes jwk)
+    ⊎ ((jwk : Jwk) × ReadsText ReadsKey bytes jwk × ((key : Key) → ¬ IsKeyOf jwk.algorithm key))
+HasKeysFault (file.Jwks path) bytes = (keys : List Jwk) → ¬ ReadsText ReadsSet bytes keys
+HasKeysFault (file.Pem path) bytes = (k : Kind) × IsPemRefused bytes k

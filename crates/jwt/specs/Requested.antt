@@ -53,6 +53,11 @@ abbrev pub IsBase : Option (List ℕ) → Options → Type 0
 IsBase None options = options ≡ default_options []
 IsBase (Some bytes) options = ReadsText ReadsOptions bytes options
 
+-- the bytes of a file are no options
+abbrev pub IsNoBase : Option (List ℕ) → Type 0
+IsNoBase None = ⊥
+IsNoBase (Some bytes) = (options : Options) → ¬ ReadsText ReadsOptions bytes options
+
 -- the algorithms of these names (RFC 7518 section 3.1)
 abbrev pub AreNamed : List (Bor (List ℕ)) → List Algorithm → Type 0
 AreNamed names algorithms = map (λ s. algorithm_named s.now) names ≡ map Some algorithms

@@ -1,9 +1,11 @@
 //! The keys that a token is verified with, from their files.
 
-ghost use Rattle.std.specs.Prelude.{◌≡◌, ℕ, List, None, OnOk, IfOk};
+ghost use Rattle.std.specs.Prelude.{◌≡◌, ◌⊎◌, ℕ, List, [], None, OnOk, IfOk, IfErr, IsErr};
 ghost use Rattle.jwt_base.specs.JsonText.{ReadsText};
+ghost use Rattle.jwt_base.specs.Kind.{Kind};
+ghost use Rattle.jwt_base.specs.KindOf.{IsMemory};
 ghost use Rattle.jwt_base.specs.declared.algorithms.AlgorithmFamily.TheVariants.{Hmac};
-ghost use Rattle.jwt_key_files.specs.PemKeys.{IsPemOf};
+ghost use Rattle.jwt_key_files.specs.PemKeys.{IsPemOf, IsPemRefused};
 ghost use Rattle.jwt_keys.specs.Jwk.{ReadsKey};
 ghost use Rattle.jwt_keys.specs.JwkSet.{ReadsSet};
 ghost use Rattle.jwt_keys.specs.Key.{Key, Plain};
@@ -13,7 +15,7 @@ ghost use Rattle.jwt_keys.specs.declared.jwk_set.JwkSet.{JwkSet};
 ghost use Rattle.jwt_validation.specs.OptionsOf.{options_of};
 ghost use Rattle.jwt.specs.LineEnd.{IsSecret};
 ghost use Rattle.jwt.specs.Commands.{IsSettled};
-ghost use Rattle.jwt.specs.FileKeys.{AreLoaded, own_of};
+ghost use Rattle.jwt.specs.FileKeys.{AreLoaded, HasKeysFault, own_of};
 ghost use Rattle.jwt.specs.Own.{named_own, IsNamedBy, IsOwn, IsOwnOf};
 
 use crate::fault::{Fault, unless_refused};
@@ -193,8 +195,10 @@ pub fn settle(
     Ok(())
 }
 
-/// Returns the fault of a file that holds something else than keys.
-fn not_keys<'a>(path: &'a str, error: &Error, problem: &'static str) -> Fault<'a> {
+/// Returns the fault of a file that holds something else than keys, unless memory ran out.
+fn not_keys<'a>(path: &'a str, error: &Error, problem: &'static str) -> Fault<'a>
+    ensures { IsMemory error.now → result ≡ Fault.Memory }
+{
     match error.kind() {
         ErrorKind::OutOfMemory => Fault::Memory,
         _ => Fault::File { path, problem },
@@ -218,7 +222,8 @@ pub fn given_secret<'a, 'b>(
     bytes: &'b [u8],
     is_trimmed: bool,
 ) -> Result<&'b [u8], Fault<'a>>
-    ensures { IfOk result (λ s. IsSecret is_trimmed bytes.now s.now) }
+    ensures ok { IfOk result (λ s. IsSecret is_trimmed bytes.now s.now) }
+    ensures err { IsErr result → IsSecret is_trimmed bytes.now [] }
 {
     let secret = secret(bytes, is_trimmed);
     if secret.is_empty() {
@@ -236,8 +241,9 @@ fn by_secret<'a>(
     bytes: &[u8],
     is_trimmed: bool,
 ) -> Result<Loaded, Fault<'a>>
-    ensures { IfOk result (λ l. (secret : List ℕ) × IsSecret is_trimmed bytes.now secret
+    ensures ok { IfOk result (λ l. (secret : List ℕ) × IsSecret is_trimmed bytes.now secret
         × (l.keys ≡ Keys.One (Plain Hmac secret)) × (l.own ≡ None)) }
+    ensures err { IfErr result (λ e. (e ≡ Fault.Memory) ⊎ IsSecret is_trimmed bytes.now []) }
 {
     let secret = given_secret(path, bytes, is_trimmed)?;
     match DecodingKey::from_secret(alloc, secret) {
@@ -252,9 +258,13 @@ fn by_secret<'a>(
 }
 
 fn by_jwk<'a>(alloc: Global, path: &'a str, bytes: &[u8]) -> Result<Loaded, Fault<'a>>
-    ensures { IfOk result (λ l. (jwk : Jwk) × ReadsText ReadsKey bytes.now jwk
+    ensures ok { IfOk result (λ l. (jwk : Jwk) × ReadsText ReadsKey bytes.now jwk
         × ((key : Key) × IsKeyOf jwk.algorithm key × (l.keys ≡ Keys.One key)
         × (l.own ≡ own_of jwk))) }
+    ensures err { IfErr result (λ e. (e ≡ Fault.Memory)
+        ⊎ (((jwk : Jwk) → ¬ ReadsText ReadsKey bytes.now jwk)
+        ⊎ ((jwk : Jwk) × ReadsText ReadsKey bytes.now jwk
+        × ((key : Key) → ¬ IsKeyOf jwk.algorithm key)))) }
 {
     let jwk = match Jwk::from_slice(alloc, bytes) {
         Ok(jwk) => jwk,
@@ -272,8 +282,10 @@ fn by_jwk<'a>(alloc: Global, path: &'a str, bytes: &[u8]) -> Result<Loaded, Faul
 }
 
 fn by_set<'a>(alloc: Global, path: &'a str, bytes: &[u8]) -> Result<Loaded, Fault<'a>>
-    ensures { IfOk result (λ l. (set : JwkSet) × ReadsText ReadsSet bytes.now set.keys.items
+    ensures ok { IfOk result (λ l. (set : JwkSet) × ReadsText ReadsSet bytes.now set.keys.items
         × (l.keys ≡ Keys.Set set) × (l.own ≡ None)) }
+    ensures err { IfErr result (λ e. (e ≡ Fault.Memory)
+        ⊎ ((keys : List Jwk) → ¬ ReadsText ReadsSet bytes.now keys)) }
 {
     match JwkSet::from_slice(alloc, bytes) {
         Ok(set) => Ok(Loaded {
@@ -287,8 +299,10 @@ fn by_set<'a>(alloc: Global, path: &'a str, bytes: &[u8]) -> Result<Loaded, Faul
 }
 
 fn by_pem<'a>(alloc: Global, path: &'a str, bytes: &[u8]) -> Result<Loaded, Fault<'a>>
-    ensures { IfOk result (λ l. (key : Key) × IsPemOf bytes.now key
+    ensures ok { IfOk result (λ l. (key : Key) × IsPemOf bytes.now key
         × (l.keys ≡ Keys.One key) × (l.own ≡ None)) }
+    ensures err { IfErr result (λ e. (e ≡ Fault.Memory)
+        ⊎ ((k : Kind) × IsPemRefused bytes.now k)) }
 {
     match public_key_from_pem(alloc, bytes) {
         Ok(key) => Ok(Loaded {
@@ -312,7 +326,8 @@ fn pem_problem(error: &Error) -> &'static str {
 
 /// Returns the keys that the bytes of a file hold.
 pub fn load<'a>(alloc: Global, file: KeyFile<'a>, bytes: &[u8]) -> Result<Loaded, Fault<'a>>
-    ensures { IfOk result (λ l. AreLoaded file.entry bytes.now l.keys l.own) }
+    ensures ok { IfOk result (λ l. AreLoaded file.entry bytes.now l.keys l.own) }
+    ensures err { IfErr result (λ e. (e ≡ Fault.Memory) ⊎ HasKeysFault file.entry bytes.now) }
 {
     match file {
         KeyFile::Secret { path, is_trimmed } => by_secret(alloc, path, bytes, is_trimmed),

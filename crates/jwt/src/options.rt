@@ -1,12 +1,13 @@
 //! The options that a token is checked against, from the arguments.
 
-ghost use Rattle.std.specs.Prelude.{◌≡◌, ◌&&◌, ◌||◌, [], IfOk, OnOk, option_map, unwrap_or, not};
+ghost use Rattle.std.specs.Prelude.{◌≡◌, ◌⊎◌, ◌&&◌, ◌||◌, [], IfOk, IfErr, OnOk, option_map, unwrap_or, not};
 ghost use Rattle.std.specs.Option.{option_or};
 ghost use Rattle.std.specs.HashSet.{contains_text};
 ghost use Rattle.std.specs.Str.{bytes_eq};
+ghost use Rattle.jwt_base.specs.KindOf.{IsMemory};
 ghost use Rattle.jwt_validation.specs.Options.{among, default_options};
 ghost use Rattle.jwt_validation.specs.OptionsOf.{options_of};
-ghost use Rattle.jwt.specs.Requested.{AreNamed, AreRequested, IsBase, changed, given, given_or, kept, required};
+ghost use Rattle.jwt.specs.Requested.{AreNamed, AreRequested, IsBase, IsNoBase, changed, given, given_or, kept, required};
 
 use crate::fault::Fault;
 use crate::request::{Checks, algorithm};
@@ -35,7 +36,9 @@ fn base<'a>(
     path: Option<&'a str>,
     bytes: Option<&[u8]>,
 ) -> Result<Validation, Fault<'a>>
-    ensures { IfOk result (λ v. IsBase (option_map (λ b. b.now) bytes.entry) (options_of v)) }
+    ensures ok { IfOk result (λ v. IsBase (option_map (λ b. b.now) bytes.entry) (options_of v)) }
+    ensures err { IfErr result (λ e. (e ≡ Fault.Memory)
+        ⊎ IsNoBase (option_map (λ b. b.now) bytes.entry)) }
 {
     let Some(bytes) = bytes else {
         return plain(alloc);
@@ -48,7 +51,8 @@ fn base<'a>(
 
 /// Returns the default options, with no algorithm.
 fn plain(alloc: Global) -> Result<Validation, Fault<'static>>
-    ensures { IfOk result (λ v. options_of v ≡ default_options []) }
+    ensures ok { IfOk result (λ v. options_of v ≡ default_options []) }
+    ensures err { IfErr result (λ e. e ≡ Fault.Memory) }
 {
     match Validation::new(alloc, Algorithm::HS256) {
         Ok(mut validation) => {
@@ -59,7 +63,10 @@ fn plain(alloc: Global) -> Result<Validation, Fault<'static>>
     }
 }
 
-fn not_options<'a>(path: &'a str, error: &Error) -> Fault<'a> {
+/// Returns the fault of a file that holds something else than options, unless memory ran out.
+fn not_options<'a>(path: &'a str, error: &Error) -> Fault<'a>
+    ensures { IsMemory error.now → result ≡ Fault.Memory }
+{
     match error.kind() {
         ErrorKind::OutOfMemory => Fault::Memory,
         _ => Fault::File {
