@@ -1,5 +1,5 @@
 -- The exit status and the output of the commands, by the arguments and by the bytes that a command reads.
-use Rattle.std.specs.Prelude.{◌≡◌, ◌≢◌, ◌⊎◌, ⊤, ℕ, max, List, [], ◌∷◌, Bool, true, false, Option, Some, None, option_map, if◌then◌else◌, codes}
+use Rattle.std.specs.Prelude.{◌≡◌, ◌≢◌, ◌⊎◌, ⊤, ℕ, max, List, [], ◌∷◌, Bool, true, false, Option, Some, None, option_map, is_some, if◌then◌else◌, codes}
 use Rattle.std.specs.Borrow.{Bor}
 use Rattle.serde_json.specs.Data.{Members, object}
 use Rattle.jwt_base.specs.Claims.{IsValue}
@@ -74,7 +74,8 @@ IsTokenVerdict v loaded options bytes now status =
 abbrev pub ArePrepared : Verification → Loaded → Options → Type 0
 ArePrepared v loaded options =
     (key : List ℕ) × AreLoaded v.key key loaded.keys loaded.own
-    × ((file : Option (List ℕ)) × AreRequested v.checks file options)
+    × ((file : Option (List ℕ)) × (is_some file ≡ is_some v.checks.options)
+    × AreRequested v.checks file options)
 
 -- the answer of `verify` to a token
 abbrev pub IsVerification : Verification → ℕ → List ℕ → Type 0

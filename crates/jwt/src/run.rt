@@ -1,6 +1,6 @@
 //! From a request to its answer.
 
-ghost use Rattle.std.specs.Prelude.{◌≡◌, IfOk, string_bytes};
+ghost use Rattle.std.specs.Prelude.{◌≡◌, IfOk, is_some, string_bytes};
 ghost use Rattle.jwt_validation.specs.OptionsOf.{options_of};
 ghost use Rattle.jwt.specs.Commands.{ArePrepared, AreVerified, IsAnswer, IsExplanation, IsGivenToken, IsShown, IsSigned, IsSigning, IsTokenAnswer, IsTokenVerdict, IsVerification, form_asked};
 
@@ -62,7 +62,9 @@ fn path_of<'a>(file: KeyFile<'a>) -> &'a str {
 fn options_bytes<'a, R: Files + AllocGlobal>(
     rt: &R,
     path: Option<&'a str>,
-) -> Result<Option<Vec<u8>>, Fault<'a>> {
+) -> Result<Option<Vec<u8>>, Fault<'a>>
+    ensures { IfOk result (λ bytes. is_some bytes ≡ is_some path.entry) }
+{
     match path {
         Some(path) => Ok(Some(file_bytes(rt, path)?)),
         None => Ok(None),
