@@ -122,7 +122,7 @@ abbrev pub Each : (ℕ → Type 0) → List ℕ → Type 0
 Each P [] = ⊤
 Each P (n ∷ ns) = P n × Each P ns
 
--- the greatest status of the lines
+-- the greatest status of some lines; that these are all lines of the input, it can't say
 abbrev pub IsLinesStatus : Verification → Loaded → Options → ℕ → Type 0
 IsLinesStatus v loaded options status =
     (statuses : List ℕ) × Each (IsLineStatus v loaded options) statuses

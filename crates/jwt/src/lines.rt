@@ -109,7 +109,8 @@ fn line_answer<R: Clock + AllocGlobal>(
 
 /// Answers each line of standard input, which is a token, by a line of JSON on standard output. The
 /// answers that are there are written before the program waits for more input. Returns the status: 0 if
-/// every token is accepted, and else the greatest of the tokens.
+/// every token is accepted, and else the greatest of the tokens' statuses. That each line is judged, the
+/// contract can't say: no contract of the kit says what standard input holds.
 pub fn answer_lines<R: Input + Print + Clock + AllocGlobal>(
     rt: &R,
     request: &Verification<'_, '_>,
