@@ -1,6 +1,7 @@
 -- The exit status and the output of the commands, by the arguments and by the bytes that a command reads.
 use Rattle.std.specs.Prelude.{◌≡◌, ◌≢◌, ◌⊎◌, ⊤, ℕ, max, List, [], ◌∷◌, Bool, true, false, Option, Some, None, option_map, is_some, if◌then◌else◌, codes}
 use Rattle.std.specs.Borrow.{Bor}
+use Rattle.std.specs.Io.KnownBytes.{Appends}
 use Rattle.serde_json.specs.Data.{Members, object}
 use Rattle.jwt_base.specs.Claims.{IsValue}
 use Rattle.jwt_base.specs.JsonText.{IsJson}
@@ -164,6 +165,8 @@ IsAnswer (Thumbprint d) status output = status ≡ 0
 abbrev pub IsFaultStatus : ℕ → Type 0
 IsFaultStatus status = (status ≡ 2) ⊎ (status ≡ 3)
 
--- the status of the command for a request
-abbrev pub IsStatus : Request → ℕ → Type 0
-IsStatus r status = IsFaultStatus status ⊎ ((output : List ℕ) × IsAnswer r status output)
+-- the status of the command for a request, and what it appends to what was written, if that is known
+abbrev pub IsStatus : Request → Option (List ℕ) → Option (List ℕ) → ℕ → Type 0
+IsStatus r before after status =
+    IsFaultStatus status
+    ⊎ ((output : List ℕ) × IsAnswer r status output × Appends before after output)

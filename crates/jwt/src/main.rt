@@ -40,7 +40,7 @@ use fault::Fault;
 use request::{Request, request_asked};
 use run::answer;
 use std::alloc::{AllocError, Global};
-use std::io::ErrorKind;
+use std::io::{ErrorKind, Write};
 use std::process::ExitCode;
 use std::rt::{Env, Runtime};
 use std::{env, io};
@@ -65,14 +65,18 @@ fn failed<R: Eprint>(rt: &R, fault: &Fault<'_>) -> u8
 }
 
 /// Writes the answer to a request, and returns its status.
-fn answered<T: Runtime + AllocGlobal>(rt: &T, request: &Request<'_, '_>) -> u8
-    ensures { IsStatus request.now result }
+fn answered<T: Runtime + AllocGlobal, W: Write>(
+    rt: &T,
+    request: &Request<'_, '_>,
+    writer: &mut W,
+) -> u8
+    ensures { IsStatus request.now (W.contents writer.old) (W.contents writer.new) result }
 {
     let answer = match answer(rt, request) {
         Ok(answer) => answer,
         Err(fault) => return failed(rt, &fault),
     };
-    if let Err(fault) = write_output(&mut io::writer(rt), answer.output.as_str()) {
+    if let Err(fault) = write_output(writer, answer.output.as_str()) {
         return failed(rt, &fault);
     }
     let _ = rt.eprint(answer.message.as_str());
@@ -81,12 +85,16 @@ fn answered<T: Runtime + AllocGlobal>(rt: &T, request: &Request<'_, '_>) -> u8
 
 /// Writes the answer to the arguments, and returns the exit status: that of the answer, or 2 for arguments
 /// that ask for nothing that can be done, and 3 for files, streams, the clock and memory.
-pub fn run_command<T: Runtime + AllocGlobal>(rt: &T, matches: &ArgMatches<'_>) -> u8
-    ensures { IsFaultStatus result
-        ⊎ ((r : Request) × IsRequestOf matches.now r × IsStatus r result) }
+pub fn run_command<T: Runtime + AllocGlobal, W: Write>(
+    rt: &T,
+    matches: &ArgMatches<'_>,
+    writer: &mut W,
+) -> u8
+    ensures { IsFaultStatus result ⊎ ((r : Request) × IsRequestOf matches.now r
+        × IsStatus r (W.contents writer.old) (W.contents writer.new) result) }
 {
     match request_asked(matches) {
-        Ok(request) => answered(rt, &request),
+        Ok(request) => answered(rt, &request, writer),
         Err(fault) => failed(rt, &fault),
     }
 }
@@ -145,7 +153,7 @@ fn start<T: Runtime + AllocGlobal>(rt: &T) -> u8 {
         return failed(rt, &Fault::Memory);
     };
     match command.try_get_matches_from(words.as_slice()) {
-        Ok(matches) => run_command(rt, &matches),
+        Ok(matches) => run_command(rt, &matches, &mut io::writer(rt)),
         Err(error) => mistaken(rt, &error),
     }
 }
