@@ -2,8 +2,7 @@
 
 A wrong body is a function of its own beside the right one, with the same head, clauses and proof files. A function of a
 trait, or of a cycle of calls, can have no such copy: it is changed in place, one at a time. The proofs of callers rest on a
-function's contract alone, so the proof of every other function is left out; but those of functions with type parameters
-are kept, since the prover takes longer over a statement about them that has no proof than over the proof.
+function's contract alone, so every other function loses its body, which would have to be read, and its proof.
 """
 import os
 import re
@@ -22,12 +21,14 @@ NO_FUNCTION = re.compile(r"proofs/(\S+)/Proof\.antt: error: `\w+` has no functio
 PROVED = ("no holes", "depends on a hole in")
 # The line that rattle prints of a body that does not compile.
 ERROR = re.compile(r"(?:\./)?(src/\S+?):(\d+):\d+: error")
-# A proof that is left out.
+# A proof that is left out. Without names for the statement's variables the prover prints no goal of it, which takes long.
 HOLE = """use Rattle.{crate}.proofs.{module}.Statement.{{statement}}
 
 pub {name}_spec : {{M : Type 1}} → statement M
-{name}_spec 𝓤 𝓛 𝓜 𝓡 w = ?
+{name}_spec = ?
 """
+# A body that is left out: it is of every type.
+NO_BODY = "loop {}"
 
 
 def applied(edits, twins=False):
@@ -89,19 +90,22 @@ class Planted:
         self.functions = {edit: found[edit.function.file, spelled[edit]] for edit in self.tried}
 
     def write(self, scratch, kept_proofs):
-        """Writes the crate's copy, with the proofs of the copied functions, and without those of the others but for these."""
+        """Writes the crate's copy, with the copied functions, and without bodies and proofs of the others but for these."""
         for part in PARTS:
             if os.path.isdir(f"{self.crate.folder}/{part}"):
                 shutil.copytree(f"{self.crate.folder}/{part}", f"{scratch}/{part}")
-        for path, text in self.texts.items():
-            with open(f"{scratch}/{path}", "w", encoding="utf-8") as opened:
-                opened.write(text)
         for right, wrong in self.copies:
             copy_proofs(scratch, right, wrong)
-        tried = set(self.functions.values())
-        for function in self.all_functions:
-            if function not in tried and function.path not in kept_proofs and function.has_body and not function.is_generic and not function.cycle:
-                leave_out(self.crate, scratch, function.spelled)
+        kept = {function.path for function in self.functions.values()} | kept_proofs
+        left_out = [own for own in self.all_functions if own.has_body and not own.cycle and own.path not in kept]
+        for function in left_out:
+            leave_out(self.crate, scratch, function.spelled)
+        for path in sources(self.crate):
+            lines = (self.texts.get(path) or text_of(f"{self.crate.folder}/{path}")).split("\n")
+            for function in sorted((own for own in left_out if own.file == path), key=lambda own: -own.first):
+                lines[function.first - 1 : function.last] = without_body(lines[function.first - 1 : function.last])
+            with open(f"{scratch}/{path}", "w", encoding="utf-8") as opened:
+                opened.write("\n".join(lines))
 
     def check_once(self, jobs, kept, kept_proofs, only):
         """Checks the copy, and these of its functions alone if there are any. Returns a status, and what was printed."""
@@ -135,6 +139,18 @@ def copy_proofs(scratch, right, wrong):
             text = re.sub(rf"\b{old.split('.')[-1]}_spec\b", f"{new.split('.')[-1]}_spec", text)
             with open(f"{copy}/{name}", "w", encoding="utf-8") as opened:
                 opened.write(text)
+
+
+def without_body(lines):
+    """Returns as many lines of the function with another body, if they are in rt fmt's layout: a body stands between lines as far
+    in as the head."""
+    head = next(number for number, line in enumerate(lines) if FUNCTION.match(line))
+    inner = re.match(" *", lines[head])[0]
+    opens = (number for number, line in enumerate(lines) if number >= head and re.fullmatch(rf"{inner}\S.*{{|{inner}{{", line))
+    first = next(opens, None)
+    if first is None or lines[-1] != f"{inner}}}" or re.search(r"\bconst fn\b", lines[head]):
+        return lines
+    return [*lines[: first + 1], f"{inner}    {NO_BODY}", *[""] * (len(lines) - first - 3), lines[-1]]
 
 
 def leave_out(crate, scratch, path):

@@ -5,8 +5,6 @@ mod command;
 mod fault;
 mod input;
 mod run;
-#[cfg(test)]
-mod tests;
 
 use fault::ToolFault;
 use run::run;
