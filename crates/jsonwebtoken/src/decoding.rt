@@ -16,7 +16,7 @@ pub(crate) mod steps;
 
 pub use crate::decoding::key_set::decode_with_set;
 use crate::decoding::steps::{
-    read_header, read_understood_header, token_parts, verifier_for, verify_and_read_claims,
+    read_claims_by_key, read_header, read_understood_header, token_parts,
 };
 use jwt_base::errors::Result;
 use jwt_base::json::Claims;
@@ -49,8 +49,7 @@ fn decode_by_steps<P: CryptoProvider, T: Claims>(
 {
     let parts = token_parts(token)?;
     let header = read_understood_header(alloc, &parts, validation)?;
-    let verifier = verifier_for(alloc, provider, &header, key, validation)?;
-    let claims = verify_and_read_claims(alloc, &verifier, &parts, validation, now)?;
+    let claims = read_claims_by_key(alloc, provider, &parts, &header, key, validation, now)?;
     Ok(TokenData { header, claims })
 }
 

@@ -91,6 +91,10 @@ with_parts p x = record x { parts = p }
 abbrev pub with_header : Header → Contents → Contents
 with_header h x = record x { header = h }
 
+-- the parts, and the header that was read of them
+abbrev pub with_opening : Parts → Header → Contents → Contents
+with_opening p h x = record x { parts = p; header = h }
+
 -- ---- the calls that a step knows of
 
 -- of claims alone

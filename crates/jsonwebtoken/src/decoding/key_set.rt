@@ -1,19 +1,18 @@
 //! Reading tokens by the key that their header names in a set (RFC 7515 section 4.1.4, RFC 7517
 //! section 5).
 
-ghost use Rattle.std.specs.Prelude.{◌≡◌, ℕ, List, Some, None, IfOk, IfErr};
+ghost use Rattle.std.specs.Prelude.{◌≡◌, ◌++◌, ℕ, List, [], Some, None, IfOk, IfErr};
 ghost use Rattle.jwt_base.specs.Kind as kind;
 ghost use Rattle.jwt_base.specs.KindOf.{kind_of};
 ghost use Rattle.jsonwebtoken.specs.Calls.{decoding_by_set, Carries};
 ghost use Rattle.jsonwebtoken.specs.Laws.{HasLaws, KeepsWithMore};
 ghost use Rattle.jsonwebtoken.specs.Order.{Decides};
-ghost use Rattle.jsonwebtoken.specs.private_clauses.Steps.{AsksFor, Step, looking_in, with_header};
-ghost use Rattle.jsonwebtoken.specs.Tests.{Compact, named_key, AgreesWith, key_tests, set_order, token_tests};
+ghost use Rattle.jsonwebtoken.specs.private_clauses.Steps.{AsksFor, Step, looking_in, parts_in, with_header, with_opening};
+ghost use Rattle.jsonwebtoken.specs.Tests.{Compact, named_key, AgreesWith, key_tests, algorithm_tests, verifying_tests, set_order, token_tests};
 
 use crate::decoding::TokenData;
-use crate::decoding::steps::{
-    read_understood_header, token_parts, verifier_for, verify_and_read_claims,
-};
+use crate::decoding::parts::TokenParts;
+use crate::decoding::steps::{read_claims_by_key, read_understood_header, token_parts};
 use jwt_base::algorithms::{Algorithm, KeyAlgorithm};
 use jwt_base::errors::{ErrorKind, Result, new_error};
 use jwt_base::json::Claims;
@@ -61,6 +60,27 @@ fn key_in_set(alloc: Global, set: &JwkSet, header: &Header) -> Result<DecodingKe
     Ok(key)
 }
 
+/// Returns the claims of a token that passes, by the key of the set that its header names, the tests
+/// that follow those of the header.
+fn read_claims_by_set<P: CryptoProvider, T: Claims>(
+    alloc: Global,
+    provider: &P,
+    parts: &TokenParts<'_>,
+    header: &Header,
+    set: &JwkSet,
+    validation: &Validation,
+    now: u64,
+) -> Result<T>
+    ensures { let call = decoding_by_set P.CryptoProvider T.Claims
+        provider.now [] set.now.keys.items validation.now now in
+        Step call (key_tests ++ (algorithm_tests ++ verifying_tests))
+        (with_opening (parts_in parts.now) header.now) (λ x c. T.reads x.payload_value c) result }
+{
+    let key = key_in_set(alloc, set, header)?;
+    let claims = read_claims_by_key(alloc, provider, parts, header, &key, validation, now)?;
+    Ok(claims)
+}
+
 fn decode_with_set_by_steps<P: CryptoProvider, T: Claims>(
     alloc: Global,
     provider: &P,
@@ -75,9 +95,7 @@ fn decode_with_set_by_steps<P: CryptoProvider, T: Claims>(
 {
     let parts = token_parts(token)?;
     let header = read_understood_header(alloc, &parts, validation)?;
-    let key = key_in_set(alloc, set, &header)?;
-    let verifier = verifier_for(alloc, provider, &header, &key, validation)?;
-    let claims = verify_and_read_claims(alloc, &verifier, &parts, validation, now)?;
+    let claims = read_claims_by_set(alloc, provider, &parts, &header, set, validation, now)?;
     Ok(TokenData { header, claims })
 }
 

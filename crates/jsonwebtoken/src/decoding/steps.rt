@@ -5,7 +5,8 @@ ghost use Rattle.jwt_base.specs.Algorithm.{family_of};
 ghost use Rattle.jwt_base.specs.Kind as kind;
 ghost use Rattle.jwt_base.specs.KindOf.{kind_of};
 ghost use Rattle.jwt_validation.specs.OptionsOf.{options_of};
-ghost use Rattle.jsonwebtoken.specs.private_clauses.Steps.{Step, bare, parts_in, with_header_part, with_payload_part, with_parts, with_header, opening, allowing, accepting, claiming, reading, verifying_by, AsksFor};
+ghost use Rattle.jsonwebtoken.specs.Calls.{decoding};
+ghost use Rattle.jsonwebtoken.specs.private_clauses.Steps.{Step, bare, parts_in, with_header_part, with_payload_part, with_parts, with_header, with_opening, opening, allowing, accepting, claiming, reading, verifying_by, AsksFor};
 ghost use Rattle.jsonwebtoken.specs.Tests.{dot, Parts, ArePartsOf, header_tests, opening_tests, algorithm_tests, signature_tests, payload_tests, claim_tests, verifying_tests};
 
 use crate::decoding::crit::check_crit;
@@ -221,5 +222,25 @@ pub(crate) fn read_payload<T: Claims>(alloc: Global, part: &[u8]) -> Result<T>
     let bytes = part_bytes(alloc, part)?;
     let value = json_value(alloc, bytes.as_slice())?;
     let claims = T::from_owned(alloc, value)?;
+    Ok(claims)
+}
+
+/// Returns the claims of a token that passes, by the key, the tests that follow those of its header.
+pub(crate) fn read_claims_by_key<P: CryptoProvider, T: Claims>(
+    alloc: Global,
+    provider: &P,
+    parts: &TokenParts<'_>,
+    header: &Header,
+    key: &DecodingKey,
+    validation: &Validation,
+    now: u64,
+) -> Result<T>
+    ensures { let call = decoding P.CryptoProvider T.Claims
+        provider.now [] key.now validation.now now in
+        Step call (algorithm_tests ++ verifying_tests) (with_opening (parts_in parts.now) header.now)
+        (λ x c. T.reads x.payload_value c) result }
+{
+    let verifier = verifier_for(alloc, provider, header, key, validation)?;
+    let claims = verify_and_read_claims(alloc, &verifier, parts, validation, now)?;
     Ok(claims)
 }

@@ -1,16 +1,16 @@
 //! The steps of the calls that look for the first failed test. Each makes some tests of an order
 //! that stand one after the other, and names the one that fails.
 
-ghost use Rattle.std.specs.Prelude.{◌≡◌, ◌↔◌, ℕ, List, IfOk, IsSome};
+ghost use Rattle.std.specs.Prelude.{◌≡◌, ◌↔◌, ◌++◌, ℕ, List, [], IfOk, IsSome};
 ghost use Rattle.serde_json.specs.Data.{Data};
 ghost use Rattle.serde_json.specs.Find.{as_object};
 ghost use Rattle.serde_json.specs.View.{view};
 ghost use Rattle.jwt_base.specs.Kind as kind;
 ghost use Rattle.jwt_validation.specs.OptionsOf.{options_of};
 ghost use Rattle.jsonwebtoken.specs.Calls.{decoding, decoding_by_set};
-ghost use Rattle.jsonwebtoken.specs.private_clauses.Steps.{AsksFor, bare, parts_in, with_header_part, with_payload_part, with_parts, with_header, opening, looking_in, allowing, accepting, claiming};
+ghost use Rattle.jsonwebtoken.specs.private_clauses.Steps.{AsksFor, bare, parts_in, with_header_part, with_payload_part, with_parts, with_header, with_opening, opening, looking_in, allowing, accepting, claiming};
 ghost use Rattle.jsonwebtoken.specs.private_clauses.Stops.{IsNamed, StepNaming, IsAnswer};
-ghost use Rattle.jsonwebtoken.specs.Tests.{header_tests, opening_tests, key_tests, algorithm_tests, signature_tests, claim_tests, decode_order, set_order};
+ghost use Rattle.jsonwebtoken.specs.Tests.{header_tests, opening_tests, key_tests, algorithm_tests, signature_tests, claim_tests, verifying_tests, decode_order, set_order};
 
 use crate::decoding::crit::check_crit;
 use crate::decoding::key_set::{check_key_algorithm, find_key};
@@ -176,6 +176,45 @@ fn try_claims<T: Claims>(
     )
 }
 
+/// Makes by the key the tests that follow those of the header.
+fn try_by_key<P: CryptoProvider, T: Claims>(
+    alloc: Global,
+    provider: &P,
+    parts: &TokenParts<'_>,
+    header: &Header,
+    key: &DecodingKey,
+    validation: &Validation,
+    now: u64,
+) -> Result<(), Stop>
+    ensures { let call = decoding P.CryptoProvider T.Claims
+        provider.now [] key.now validation.now now in
+        StepNaming call (algorithm_tests ++ verifying_tests)
+        (with_opening (parts_in parts.now) header.now) (λ _ _. Unit {0}) result }
+{
+    let verifier = verifier_of(alloc, provider, header, key, validation)?;
+    try_signature(alloc, &verifier, parts)?;
+    try_claims::<T>(alloc, parts.payload, validation, now)
+}
+
+/// Makes by the set the tests that follow those of the header.
+fn try_by_set<P: CryptoProvider, T: Claims>(
+    alloc: Global,
+    provider: &P,
+    parts: &TokenParts<'_>,
+    header: &Header,
+    set: &JwkSet,
+    validation: &Validation,
+    now: u64,
+) -> Result<(), Stop>
+    ensures { let call = decoding_by_set P.CryptoProvider T.Claims
+        provider.now [] set.now.keys.items validation.now now in
+        StepNaming call (key_tests ++ (algorithm_tests ++ verifying_tests))
+        (with_opening (parts_in parts.now) header.now) (λ _ _. Unit {0}) result }
+{
+    let key = key_of(alloc, set, header)?;
+    try_by_key::<P, T>(alloc, provider, parts, header, &key, validation, now)
+}
+
 /// Makes the tests of `decode`.
 pub(crate) fn failed_test_by_steps<P: CryptoProvider, T: Claims>(
     alloc: Global,
@@ -191,9 +230,7 @@ pub(crate) fn failed_test_by_steps<P: CryptoProvider, T: Claims>(
 {
     let parts = or_stop(token_parts(token), Test::HasThreeParts)?;
     let header = understood_header_of(alloc, &parts, validation)?;
-    let verifier = verifier_of(alloc, provider, &header, key, validation)?;
-    try_signature(alloc, &verifier, &parts)?;
-    try_claims::<T>(alloc, parts.payload, validation, now)
+    try_by_key::<P, T>(alloc, provider, &parts, &header, key, validation, now)
 }
 
 /// Makes the tests of `decode_with_set`.
@@ -211,8 +248,5 @@ pub(crate) fn failed_test_with_set_by_steps<P: CryptoProvider, T: Claims>(
 {
     let parts = or_stop(token_parts(token), Test::HasThreeParts)?;
     let header = understood_header_of(alloc, &parts, validation)?;
-    let key = key_of(alloc, set, &header)?;
-    let verifier = verifier_of(alloc, provider, &header, &key, validation)?;
-    try_signature(alloc, &verifier, &parts)?;
-    try_claims::<T>(alloc, parts.payload, validation, now)
+    try_by_set::<P, T>(alloc, provider, &parts, &header, set, validation, now)
 }

@@ -1,9 +1,8 @@
 use Rattle.std.proofs.Common.{[], ◌∷◌, inl, inr, refl}
 use Rattle.jsonwebtoken.specs.Calls.{decoding, Carries}
 use Rattle.jsonwebtoken.specs.private_clauses.Steps.{no_contents, parts_in}
-use Rattle.jsonwebtoken.specs.Tests.{HasThreeParts, opening_tests, algorithm_tests, verifying_tests, decode_order}
-use Rattle.jsonwebtoken.proofs.EachTest.{join}
-use Rattle.jsonwebtoken.proofs.Exits.{exit, early, later, stop, opened, opened_then, after_opened, verified_passes, verified_failed}
+use Rattle.jsonwebtoken.specs.Tests.{HasThreeParts, opening_tests, decode_order}
+use Rattle.jsonwebtoken.proofs.Exits.{exit, stop, opened, opened_then, after_opened}
 use Rattle.jsonwebtoken.proofs.decoding.decode_by_steps.Goals as goal
 
 pub returns-in_err-parts : goal.returns-in_err-parts
@@ -18,26 +17,17 @@ returns-in_err-header g c =
     exit call decode_order (λ x. x) (Carries call) _ _ c.from_residual-in_err-header.ensures.1
     (λ f. stop call decode_order (HasThreeParts ∷ []) opening_tests (record f.0 { parts = parts_in c.in_ok-parts.parts }) _ (c.in_ok-parts.ensures.ok, tt) f.1) c.in_err-header.ensures
 
-pub returns-in_err-verifier : goal.returns-in_err-verifier
-returns-in_err-verifier g c =
-    let call = decoding g.P.CryptoProvider g.T.Claims c.args.provider.now c.args.token.now c.args.key.now c.args.validation.now c.args.now in
-    let at = opened call _ _ c.in_ok-header.ensures c.in_ok-parts.ensures.ok no_contents no_contents in
-    exit call decode_order (λ x. x) (Carries call) _ _ c.from_residual-in_err-verifier.ensures.1
-    (λ f. after_opened call _ _ c.in_ok-header.ensures c.in_ok-parts.ensures.ok decode_order no_contents no_contents _
-    (early call algorithm_tests verifying_tests at _ f.1)) c.in_err-verifier.ensures.tests
-
 pub returns-in_err-claims : goal.returns-in_err-claims
 returns-in_err-claims g c =
     let call = decoding g.P.CryptoProvider g.T.Claims c.args.provider.now c.args.token.now c.args.key.now c.args.validation.now c.args.now in
-    let at = opened call _ _ c.in_ok-header.ensures c.in_ok-parts.ensures.ok no_contents in
     exit call decode_order (λ x. x) (Carries call) _ _ c.from_residual-in_err-claims.ensures.1
-    (λ f. after_opened call _ _ c.in_ok-header.ensures c.in_ok-parts.ensures.ok decode_order no_contents f.0 _
-    (later call algorithm_tests verifying_tests (at f.0) _ c.in_ok-verifier.ensures.tests.1 (verified_failed call _ (at f.0) c.in_ok-verifier.ensures.accepts _ f.1))) c.in_err-claims.ensures
+    (λ f. after_opened call _ _ c.in_ok-header.ensures c.in_ok-parts.ensures.ok decode_order no_contents f.0 _ f.1) c.in_err-claims.ensures
 
 pub returns : goal.returns
 returns g c =
     let call = decoding g.P.CryptoProvider g.T.Claims c.args.provider.now c.args.token.now c.args.key.now c.args.validation.now c.args.now in
-    let f = c.in_ok-claims.ensures in
-    let s = opened call _ _ c.in_ok-header.ensures c.in_ok-parts.ensures.ok no_contents f.0 in
-    let verified = join call algorithm_tests verifying_tests s c.in_ok-verifier.ensures.tests.1 (verified_passes call _ s c.in_ok-verifier.ensures.accepts f.1) in
-    (s, opened_then call _ _ c.in_ok-header.ensures c.in_ok-parts.ensures.ok decode_order no_contents f.0 verified, (refl, f.2))
+    let f = c.in_ok-claims.ensures in (
+      opened call _ _ c.in_ok-header.ensures c.in_ok-parts.ensures.ok no_contents f.0,
+      opened_then call _ _ c.in_ok-header.ensures c.in_ok-parts.ensures.ok decode_order no_contents f.0 f.1,
+      (refl, f.2),
+    )

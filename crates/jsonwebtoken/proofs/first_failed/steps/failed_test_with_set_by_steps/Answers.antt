@@ -1,12 +1,10 @@
-use Rattle.std.proofs.Common.{◌≡◌, [], ◌∷◌, ◌++◌, inl, inr, refl}
+use Rattle.std.proofs.Common.{◌≡◌, [], ◌∷◌, inl, inr, refl}
 use Rattle.std.proofs.lemmas.Result.{IfErr-weaker}
 use Rattle.jsonwebtoken.specs.Calls.{decoding_by_set}
-use Rattle.jsonwebtoken.specs.Order.{Passes}
 use Rattle.jsonwebtoken.specs.private_clauses.Steps.{no_contents, parts_in}
-use Rattle.jsonwebtoken.specs.Tests.{Contents, HasThreeParts, opening_tests, key_tests, algorithm_tests, signature_tests, claim_tests, verifying_tests, set_order, token_tests}
-use Rattle.jsonwebtoken.proofs.EachTest.{join}
-use Rattle.jsonwebtoken.proofs.Exits.{stops, stops_early, stops_later, stops_opened, opened, opened_then}
-use Rattle.jsonwebtoken.proofs.Naming.{exit_test, exit_step, last_step, of_ok, signed_passes, signed_ends}
+use Rattle.jsonwebtoken.specs.Tests.{HasThreeParts, opening_tests, set_order}
+use Rattle.jsonwebtoken.proofs.Exits.{stops, stops_opened, opened, opened_then}
+use Rattle.jsonwebtoken.proofs.Naming.{exit_test, exit_step, last_step, of_ok}
 use Rattle.jsonwebtoken.proofs.first_failed.steps.failed_test_with_set_by_steps.Goals as goal
 
 pub returns-in_err-parts : goal.returns-in_err-parts
@@ -22,58 +20,10 @@ returns-in_err-header g c =
     exit_step call set_order (λ x. x) (λ _ _. Unit {0}) _ _ c.from_residual-in_err-header.ensures.1 c.in_err-header.ensures
     (λ d f. stops call (λ b _. b ≡ d) set_order (HasThreeParts ∷ []) opening_tests (record f.0 { parts = parts_in c.in_ok-parts.parts }) (parts, tt) f.1)
 
-pub returns-in_err-key : goal.returns-in_err-key
-returns-in_err-key g c =
-    let call = decoding_by_set g.P.CryptoProvider g.T.Claims c.args.provider.now c.args.token.now c.args.set.now.keys.items c.args.validation.now c.args.now in
-    let parts = of_ok _ _ _ c.in_ok-parts.ensures c.token_parts.ensures.ok in
-    let at = opened call _ _ c.in_ok-header.ensures parts in
-    exit_step call set_order (λ x. x) (λ _ _. Unit {0}) _ _ c.from_residual-in_err-key.ensures.1 c.in_err-key.ensures
-    (λ d f. stops_opened call _ _ c.in_ok-header.ensures parts (λ b _. b ≡ d) set_order f.0 no_contents
-    (stops_early call (λ b _. b ≡ d) key_tests (algorithm_tests ++ verifying_tests) (at f.0 no_contents) f.1))
-
-pub returns-in_err-verifier : goal.returns-in_err-verifier
-returns-in_err-verifier g c =
-    let call = decoding_by_set g.P.CryptoProvider g.T.Claims c.args.provider.now c.args.token.now c.args.set.now.keys.items c.args.validation.now c.args.now in
-    let parts = of_ok _ _ _ c.in_ok-parts.ensures c.token_parts.ensures.ok in
-    let n = record c.in_ok-key.ensures.0 { jwk_key = c.in_ok-key.key } in
-    let at = opened call _ _ c.in_ok-header.ensures parts n no_contents in
-    let found : Passes (token_tests call) key_tests at = rw c.in_ok-key.ensures.2 at c.in_ok-key.ensures.1 in
-    exit_step call set_order (λ x. x) (λ _ _. Unit {0}) _ _ c.from_residual-in_err-verifier.ensures.1 c.in_err-verifier.ensures.tests
-    (λ d f. stops_opened call _ _ c.in_ok-header.ensures parts (λ b _. b ≡ d) set_order n no_contents
-    (stops_later call (λ b _. b ≡ d) key_tests (algorithm_tests ++ verifying_tests) at found
-    (stops_early call (λ b _. b ≡ d) algorithm_tests verifying_tests at f.1)))
-
-pub returns-in_err-try_signature : goal.returns-in_err-try_signature
-returns-in_err-try_signature g c =
-    let call = decoding_by_set g.P.CryptoProvider g.T.Claims c.args.provider.now c.args.token.now c.args.set.now.keys.items c.args.validation.now c.args.now in
-    let parts = of_ok _ _ _ c.in_ok-parts.ensures c.token_parts.ensures.ok in
-    let n = record c.in_ok-key.ensures.0 { jwk_key = c.in_ok-key.key } in
-    let at = opened call _ _ c.in_ok-header.ensures parts n in
-    let found : Passes (token_tests call) key_tests (at no_contents) = rw c.in_ok-key.ensures.2 at c.in_ok-key.ensures.1 in
-    exit_step call set_order (λ x. x) (λ _ _. Unit {0}) _ _ c.from_residual-in_err-try_signature.ensures.1 c.in_err-try_signature.ensures
-    (λ d f. stops_opened call _ _ c.in_ok-header.ensures parts (λ b _. b ≡ d) set_order n f.0
-    (stops_later call (λ b _. b ≡ d) key_tests (algorithm_tests ++ verifying_tests) (at f.0) found
-    (stops_later call (λ b _. b ≡ d) algorithm_tests verifying_tests (at f.0) c.in_ok-verifier.ensures.tests.1
-    (stops_early call (λ b _. b ≡ d) signature_tests claim_tests (at f.0) (signed_ends call _ (at f.0) c.in_ok-verifier.ensures.accepts d f.1)))))
-
 pub returns : goal.returns
 returns g c =
     let call = decoding_by_set g.P.CryptoProvider g.T.Claims c.args.provider.now c.args.token.now c.args.set.now.keys.items c.args.validation.now c.args.now in
     let parts = of_ok _ _ _ c.in_ok-parts.ensures c.token_parts.ensures.ok in
-    let s = c.in_ok-try_signature.ensures in
-    let n = record c.in_ok-key.ensures.0 { jwk_key = c.in_ok-key.key } in
-    let at = λ (x : Contents). opened call _ _ c.in_ok-header.ensures parts n (record x { signature_bytes = s.0.signature_bytes }) in
-    let found : Passes (token_tests call) key_tests (at no_contents) = rw c.in_ok-key.ensures.2 at c.in_ok-key.ensures.1 in
-    let signed : (x : Contents) → Passes (token_tests call) signature_tests (at x) = λ x. signed_passes call _ (at x) c.in_ok-verifier.ensures.accepts s.1 in
-    last_step call set_order (λ x. x) (λ _ _. Unit {0}) _ c.try_claims.ensures
-    (λ y f. (
-      at f.0,
-      opened_then call _ _ c.in_ok-header.ensures parts set_order n (record f.0 { signature_bytes = s.0.signature_bytes })
-          (join call key_tests (algorithm_tests ++ verifying_tests) (at f.0) found (join call algorithm_tests verifying_tests (at f.0) c.in_ok-verifier.ensures.tests.1
-          (join call signature_tests claim_tests (at f.0) (signed f.0) f.1))),
-      tt,
-    ))
-    (λ d f. stops_opened call _ _ c.in_ok-header.ensures parts (λ b _. b ≡ d) set_order n (record f.0 { signature_bytes = s.0.signature_bytes })
-    (stops_later call (λ b _. b ≡ d) key_tests (algorithm_tests ++ verifying_tests) (at f.0) found
-    (stops_later call (λ b _. b ≡ d) algorithm_tests verifying_tests (at f.0) c.in_ok-verifier.ensures.tests.1
-    (stops_later call (λ b _. b ≡ d) signature_tests claim_tests (at f.0) (signed f.0) f.1))))
+    last_step call set_order (λ x. x) (λ _ _. Unit {0}) _ c.try_by_set.ensures
+    (λ y f. (opened call _ _ c.in_ok-header.ensures parts f.0 f.0, opened_then call _ _ c.in_ok-header.ensures parts set_order f.0 f.0 f.1, tt))
+    (λ d f. stops_opened call _ _ c.in_ok-header.ensures parts (λ b _. b ≡ d) set_order f.0 f.0 f.1)
