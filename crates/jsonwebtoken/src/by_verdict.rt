@@ -7,7 +7,7 @@ ghost use Rattle.jsonwebtoken.specs.private_clauses.Steps.{Step};
 ghost use Rattle.jsonwebtoken.specs.Tests.{signed_order, header_call, token_tests};
 ghost use Rattle.jsonwebtoken.specs.Vouched.{decoding_by_verdict, DecidesVouched};
 
-use crate::decoding::steps::{read_header, token_parts};
+use crate::decoding::steps::{beside, read_header, token_parts};
 use crate::decoding::{TokenData, decode};
 use jwt_base::errors::Result;
 use jwt_base::json::Claims;
@@ -35,7 +35,7 @@ fn signed_part_by_steps(alloc: Global, token: &[u8]) -> Result<SignedPart<'_>>
 {
     let parts = token_parts(token)?;
     let header = read_header(alloc, parts.header)?;
-    let signature = part_bytes(alloc, parts.signature)?;
+    let (header, signature) = beside(header, part_bytes(alloc, parts.signature))?;
     Ok(SignedPart {
         header,
         message: parts.message,

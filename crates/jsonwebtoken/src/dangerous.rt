@@ -8,7 +8,7 @@ ghost use Rattle.jsonwebtoken.specs.private_clauses.Steps.{Step};
 ghost use Rattle.jsonwebtoken.specs.Tests.{insecure_order, insecure_claims_order, insecure_call, token_tests};
 
 use crate::decoding::TokenData;
-use crate::decoding::steps::{read_header, read_payload, token_parts};
+use crate::decoding::steps::{beside, read_header, read_payload, token_parts};
 use jwt_base::errors::Result;
 use jwt_base::json::Claims;
 use std::alloc::Global;
@@ -19,7 +19,7 @@ fn insecure_decode_by_steps<T: Claims>(alloc: Global, token: &[u8]) -> Result<To
 {
     let parts = token_parts(token)?;
     let header = read_header(alloc, parts.header)?;
-    let claims = read_payload(alloc, parts.payload)?;
+    let (header, claims) = beside(header, read_payload(alloc, parts.payload))?;
     Ok(TokenData { header, claims })
 }
 

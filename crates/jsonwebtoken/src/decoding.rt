@@ -16,7 +16,7 @@ pub(crate) mod steps;
 
 pub use crate::decoding::key_set::decode_with_set;
 use crate::decoding::steps::{
-    read_claims_by_key, read_header, read_understood_header, token_parts,
+    beside, read_claims_by_key, read_header, read_understood_header, token_parts,
 };
 use jwt_base::errors::Result;
 use jwt_base::json::Claims;
@@ -49,7 +49,8 @@ fn decode_by_steps<P: CryptoProvider, T: Claims>(
 {
     let parts = token_parts(token)?;
     let header = read_understood_header(alloc, &parts, validation)?;
-    let claims = read_claims_by_key(alloc, provider, &parts, &header, key, validation, now)?;
+    let claims = read_claims_by_key(alloc, provider, &parts, &header, key, validation, now);
+    let (header, claims) = beside(header, claims)?;
     Ok(TokenData { header, claims })
 }
 

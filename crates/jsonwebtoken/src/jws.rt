@@ -1,6 +1,6 @@
 //! Tokens in parts, as the members of the flattened JSON form (RFC 7515 section 7.2.2).
 
-ghost use Rattle.std.specs.Prelude.{◌≡◌, ◌↔◌, ℕ, List, Some, None, IfOk, IfErr, string_bytes};
+ghost use Rattle.std.specs.Prelude.{◌≡◌, ◌↔◌, ◌++◌, ℕ, List, Some, None, IfOk, IfErr, string_bytes};
 ghost use Rattle.serde_json.specs.View.{view};
 ghost use Rattle.jwt_base.specs.Algorithm.{family_of};
 ghost use Rattle.jwt_base.specs.Kind as kind;
@@ -15,13 +15,14 @@ ghost use Rattle.jsonwebtoken.specs.IssueCalls.{encoding_parts};
 ghost use Rattle.jsonwebtoken.specs.private_clauses.IssueSteps.{IssueStep};
 ghost use Rattle.jsonwebtoken.specs.Jws.{parts_of, ReadsParts, parts_value};
 ghost use Rattle.jsonwebtoken.specs.Laws.{HasLaws, AgreeOn};
-ghost use Rattle.jsonwebtoken.specs.private_clauses.Steps.{Step, parts_in, allowing, with_header};
-ghost use Rattle.jsonwebtoken.specs.Tests.{Parts, Separate, text_of_parts, jws_algorithm_tests, jws_order, token_tests};
+ghost use Rattle.jsonwebtoken.specs.private_clauses.Steps.{Step, parts_in, allowing, with_header, with_opening};
+ghost use Rattle.jsonwebtoken.specs.Tests.{Parts, Separate, text_of_parts, jws_algorithm_tests, verifying_tests, jws_order, token_tests};
 
 use crate::decoding::TokenData;
 use crate::decoding::parts::TokenParts;
 use crate::decoding::steps::{
-    check_families, check_listed, check_some_listed, read_understood_header, verify_and_read_claims,
+    beside, check_families, check_listed, check_some_listed, read_understood_header,
+    verify_and_read_claims,
 };
 use crate::encoding::steps::{check_family, header_part, payload_part, sign_parts, with_part};
 use jwt_base::errors::{ErrorKind, Result, new_error};
@@ -180,6 +181,26 @@ fn verifier_for<P: CryptoProvider>(
     Ok(verifier)
 }
 
+/// Returns the claims of a token that passes, by the key, the tests that follow those of its header.
+fn read_claims_by_key<P: CryptoProvider, T: Claims>(
+    alloc: Global,
+    provider: &P,
+    parts: &TokenParts<'_>,
+    header: &Header,
+    key: &DecodingKey,
+    validation: &Validation,
+    now: u64,
+) -> Result<T>
+    ensures { let call = decoding_parts P.CryptoProvider T.Claims
+        provider.now (parts_in parts.now) key.now validation.now now in
+        Step call (jws_algorithm_tests ++ verifying_tests)
+        (with_opening (parts_in parts.now) header.now) (λ x c. T.reads x.payload_value c) result }
+{
+    let verifier = verifier_for(alloc, provider, header, key, validation)?;
+    let claims = verify_and_read_claims(alloc, &verifier, parts, validation, now)?;
+    Ok(claims)
+}
+
 fn decode_parts<P: CryptoProvider, T: Claims>(
     alloc: Global,
     provider: &P,
@@ -193,8 +214,8 @@ fn decode_parts<P: CryptoProvider, T: Claims>(
         Step call jws_order (λ x. x) (Carries call) result }
 {
     let header = read_understood_header(alloc, parts, validation)?;
-    let verifier = verifier_for(alloc, provider, &header, key, validation)?;
-    let claims = verify_and_read_claims(alloc, &verifier, parts, validation, now)?;
+    let claims = read_claims_by_key(alloc, provider, parts, &header, key, validation, now);
+    let (header, claims) = beside(header, claims)?;
     Ok(TokenData { header, claims })
 }
 

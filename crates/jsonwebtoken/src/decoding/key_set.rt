@@ -12,7 +12,7 @@ ghost use Rattle.jsonwebtoken.specs.Tests.{Compact, named_key, AgreesWith, key_t
 
 use crate::decoding::TokenData;
 use crate::decoding::parts::TokenParts;
-use crate::decoding::steps::{read_claims_by_key, read_understood_header, token_parts};
+use crate::decoding::steps::{beside, read_claims_by_key, read_understood_header, token_parts};
 use jwt_base::algorithms::{Algorithm, KeyAlgorithm};
 use jwt_base::errors::{ErrorKind, Result, new_error};
 use jwt_base::json::Claims;
@@ -95,7 +95,8 @@ fn decode_with_set_by_steps<P: CryptoProvider, T: Claims>(
 {
     let parts = token_parts(token)?;
     let header = read_understood_header(alloc, &parts, validation)?;
-    let claims = read_claims_by_set(alloc, provider, &parts, &header, set, validation, now)?;
+    let claims = read_claims_by_set(alloc, provider, &parts, &header, set, validation, now);
+    let (header, claims) = beside(header, claims)?;
     Ok(TokenData { header, claims })
 }
 

@@ -1,6 +1,6 @@
 //! The tests of one condition, and the steps that the calls that read tokens share.
 
-ghost use Rattle.std.specs.Prelude.{◌≡◌, ◌↔◌, ◌++◌, ◌∷◌, ℕ, List, IfOk, IfErr, IfSome, IfNone, Contains, [], All};
+ghost use Rattle.std.specs.Prelude.{◌≡◌, ◌↔◌, ◌++◌, ◌∷◌, ℕ, List, Ok, Err, IfOk, IfErr, IfSome, IfNone, Contains, [], All};
 ghost use Rattle.jwt_base.specs.Algorithm.{family_of};
 ghost use Rattle.jwt_base.specs.Kind as kind;
 ghost use Rattle.jwt_base.specs.KindOf.{kind_of};
@@ -126,6 +126,18 @@ pub(crate) fn read_header(alloc: Global, part: &[u8]) -> Result<Header>
     Header::from_value(alloc, &value)
 }
 
+/// Returns the header beside what was found, or the refusal of that. So the header is dropped here,
+/// and not in each function that looks for something after it.
+pub(crate) fn beside<T, E>(header: Header, found: Result<T, E>) -> Result<(Header, T), E>
+    ensures ok { IfOk result (λ pair. (header ≡ pair.0) × (found ≡ Ok pair.1)) }
+    ensures err { IfErr result (λ e. found ≡ Err e) }
+{
+    match found {
+        Ok(value) => Ok((header, value)),
+        Err(error) => Err(error),
+    }
+}
+
 /// Returns the header of a token that is to be verified: its `crit` is understood.
 pub(crate) fn read_understood_header(
     alloc: Global,
@@ -135,11 +147,10 @@ pub(crate) fn read_understood_header(
     ensures { Step (opening (options_of validation.now)) opening_tests
         (with_parts (parts_in parts.now)) (λ x h. x.header ≡ h) result }
 {
-    let header = read_header(alloc, parts.header);
-    if let Ok(header) = &header {
-        check_crit(header, validation)?;
-    }
-    header
+    let header = read_header(alloc, parts.header)?;
+    let understood = check_crit(&header, validation);
+    let (header, ()) = beside(header, understood)?;
+    Ok(header)
 }
 
 /// Returns the verifier by the key and the header's algorithm, which is among those that are

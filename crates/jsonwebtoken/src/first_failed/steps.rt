@@ -16,7 +16,7 @@ use crate::decoding::crit::check_crit;
 use crate::decoding::key_set::{check_key_algorithm, find_key};
 use crate::decoding::parts::TokenParts;
 use crate::decoding::steps::{
-    check_families, check_listed, check_some_listed, check_verdict, token_parts,
+    beside, check_families, check_listed, check_some_listed, check_verdict, token_parts,
 };
 use crate::first_failed::Test;
 use jwt_base::errors::{Error, ErrorKind, Result, new_error};
@@ -80,11 +80,10 @@ fn understood_header_of(
     ensures { StepNaming (opening (options_of validation.now)) opening_tests
         (with_parts (parts_in parts.now)) (λ x h. x.header ≡ h) result }
 {
-    let header = header_of(alloc, parts.header);
-    if let Ok(header) = &header {
-        or_stop(check_crit(header, validation), Test::CritIsUnderstood)?;
-    }
-    header
+    let header = header_of(alloc, parts.header)?;
+    let understood = or_stop(check_crit(&header, validation), Test::CritIsUnderstood);
+    let (header, ()) = beside(header, understood)?;
+    Ok(header)
 }
 
 /// Makes the tests of the key that the header names, and returns the key.
@@ -230,7 +229,9 @@ pub(crate) fn failed_test_by_steps<P: CryptoProvider, T: Claims>(
 {
     let parts = or_stop(token_parts(token), Test::HasThreeParts)?;
     let header = understood_header_of(alloc, &parts, validation)?;
-    try_by_key::<P, T>(alloc, provider, &parts, &header, key, validation, now)
+    let tried = try_by_key::<P, T>(alloc, provider, &parts, &header, key, validation, now);
+    drop(header);
+    tried
 }
 
 /// Makes the tests of `decode_with_set`.
@@ -248,5 +249,7 @@ pub(crate) fn failed_test_with_set_by_steps<P: CryptoProvider, T: Claims>(
 {
     let parts = or_stop(token_parts(token), Test::HasThreeParts)?;
     let header = understood_header_of(alloc, &parts, validation)?;
-    try_by_set::<P, T>(alloc, provider, &parts, &header, set, validation, now)
+    let tried = try_by_set::<P, T>(alloc, provider, &parts, &header, set, validation, now);
+    drop(header);
+    tried
 }

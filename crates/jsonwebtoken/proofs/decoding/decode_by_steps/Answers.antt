@@ -1,4 +1,4 @@
-use Rattle.std.proofs.Common.{[], ◌∷◌, inl, inr, refl}
+use Rattle.std.proofs.Common.{[], ◌∷◌, inl, inr}
 use Rattle.jsonwebtoken.specs.Calls.{decoding, Carries}
 use Rattle.jsonwebtoken.specs.private_clauses.Steps.{no_contents, parts_in}
 use Rattle.jsonwebtoken.specs.Tests.{HasThreeParts, opening_tests, decode_order}
@@ -17,17 +17,19 @@ returns-in_err-header g c =
     exit call decode_order (λ x. x) (Carries call) _ _ c.from_residual-in_err-header.ensures.1
     (λ f. stop call decode_order (HasThreeParts ∷ []) opening_tests (record f.0 { parts = parts_in c.in_ok-parts.parts }) _ (c.in_ok-parts.ensures.ok, tt) f.1) c.in_err-header.ensures
 
-pub returns-in_err-claims : goal.returns-in_err-claims
-returns-in_err-claims g c =
+pub returns-in_err-header-2 : goal.returns-in_err-header-2
+returns-in_err-header-2 g c =
     let call = decoding g.P.CryptoProvider g.T.Claims c.args.provider.now c.args.token.now c.args.key.now c.args.validation.now c.args.now in
-    exit call decode_order (λ x. x) (Carries call) _ _ c.from_residual-in_err-claims.ensures.1
-    (λ f. after_opened call _ _ c.in_ok-header.ensures c.in_ok-parts.ensures.ok decode_order no_contents f.0 _ f.1) c.in_err-claims.ensures
+    let refused = rw c.in_err-header-2.ensures.err at c.read_claims_by_key-claims.ensures in
+    exit call decode_order (λ x. x) (Carries call) _ _ c.from_residual-in_err-header-2.ensures.1
+    (λ f. after_opened call _ _ c.in_ok-header.ensures c.in_ok-parts.ensures.ok decode_order no_contents f.0 _ f.1) refused
 
 pub returns : goal.returns
 returns g c =
     let call = decoding g.P.CryptoProvider g.T.Claims c.args.provider.now c.args.token.now c.args.key.now c.args.validation.now c.args.now in
-    let f = c.in_ok-claims.ensures in (
+    let made = c.in_ok-header-2.ensures.ok in
+    let f = rw made.1 at c.read_claims_by_key-claims.ensures in (
       opened call _ _ c.in_ok-header.ensures c.in_ok-parts.ensures.ok no_contents f.0,
       opened_then call _ _ c.in_ok-header.ensures c.in_ok-parts.ensures.ok decode_order no_contents f.0 f.1,
-      (refl, f.2),
+      (made.0, f.2),
     )

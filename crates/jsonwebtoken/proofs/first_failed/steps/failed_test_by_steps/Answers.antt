@@ -24,6 +24,6 @@ pub returns : goal.returns
 returns g c =
     let call = decoding g.P.CryptoProvider g.T.Claims c.args.provider.now c.args.token.now c.args.key.now c.args.validation.now c.args.now in
     let parts = of_ok _ _ _ c.in_ok-parts.ensures c.token_parts.ensures.ok in
-    last_step call decode_order (λ x. x) (λ _ _. Unit {0}) _ c.try_by_key.ensures
+    last_step call decode_order (λ x. x) (λ _ _. Unit {0}) _ c.try_by_key-tried.ensures
     (λ y f. (opened call _ _ c.in_ok-header.ensures parts no_contents f.0, opened_then call _ _ c.in_ok-header.ensures parts decode_order no_contents f.0 f.1, tt))
     (λ d f. stops_opened call _ _ c.in_ok-header.ensures parts (λ b _. b ≡ d) decode_order no_contents f.0 f.1)
