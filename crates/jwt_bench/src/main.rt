@@ -7,6 +7,7 @@ mod verifying;
 mod work;
 
 use fault::BenchFault;
+use std::alloc::Global;
 use std::process::ExitCode;
 use std::rt::Runtime;
 use std::time::{Duration, Instant};
@@ -30,11 +31,22 @@ fn measure<T: Runtime + AllocGlobal>(
     text: &str,
     count: u64,
 ) -> Result<(), BenchFault> {
+    let prepared = Prepared::new(rt.alloc(), work, text)?;
+    let measured = measure_prepared(rt, &prepared, text, count);
+    drop(prepared);
+    measured
+}
+
+fn measure_prepared<T: Runtime + AllocGlobal>(
+    rt: &T,
+    prepared: &Prepared,
+    text: &str,
+    count: u64,
+) -> Result<(), BenchFault> {
     let alloc = rt.alloc();
-    let prepared = Prepared::new(alloc, work, text)?;
-    repeat(alloc, &prepared, text, count / 10)?;
+    repeat(alloc, prepared, text, count / 10)?;
     let start = Instant::now(rt)?;
-    repeat(alloc, &prepared, text, count)?;
+    repeat(alloc, prepared, text, count)?;
     print_mean(rt, start.elapsed(rt)?, count)
 }
 
@@ -45,8 +57,18 @@ fn measure_verifying<T: Runtime + AllocGlobal>(
     text: &str,
     count: u64,
 ) -> Result<(), BenchFault> {
+    let verifying = Verifying::new(rt.alloc(), text)?;
+    let measured = measure_read(rt, &verifying, count);
+    drop(verifying);
+    measured
+}
+
+fn measure_read<T: Runtime + AllocGlobal>(
+    rt: &T,
+    verifying: &Verifying,
+    count: u64,
+) -> Result<(), BenchFault> {
     let alloc = rt.alloc();
-    let verifying = Verifying::new(alloc, text)?;
     verifying.repeat(alloc, count / 10)?;
     let start = Instant::now(rt)?;
     verifying.repeat(alloc, count)?;
@@ -73,6 +95,20 @@ fn measure_named<T: Runtime + AllocGlobal>(
     measure(rt, work, text, count)
 }
 
+fn work_once(alloc: Global, work: Work, text: &str) -> Result<(), BenchFault> {
+    let prepared = Prepared::new(alloc, work, text)?;
+    let done = repeat(alloc, &prepared, text, 1);
+    drop(prepared);
+    done
+}
+
+fn verify_once(alloc: Global, text: &str) -> Result<(), BenchFault> {
+    let verifying = Verifying::new(alloc, text)?;
+    let done = verifying.repeat(alloc, 1);
+    drop(verifying);
+    done
+}
+
 /// Does one of each, and prints a line that is always the same.
 fn show<T: Runtime + AllocGlobal>(rt: &T) -> Result<(), BenchFault> {
     let alloc = rt.alloc();
@@ -85,10 +121,9 @@ fn show<T: Runtime + AllocGlobal>(rt: &T) -> Result<(), BenchFault> {
         (Work::CompareFirst, TOKEN),
         (Work::CompareLast, TOKEN),
     ] {
-        let prepared = Prepared::new(alloc, work, text)?;
-        repeat(alloc, &prepared, text, 1)?;
+        work_once(alloc, work, text)?;
     }
-    Verifying::new(alloc, WITH_JWK)?.repeat(alloc, 1)?;
+    verify_once(alloc, WITH_JWK)?;
     println!(rt; "one decode, one encode, one header, one decode by a key, two comparisons")?;
     Ok(())
 }

@@ -72,6 +72,8 @@ impl Verifying {
             &self.validation,
             0,
         );
-        black_box(&answer).is_ok()
+        let is_ok = black_box(&answer).is_ok();
+        drop(answer);
+        is_ok
     }
 }

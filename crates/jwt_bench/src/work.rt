@@ -138,7 +138,9 @@ impl Prepared {
             &self.reading.validation,
             0,
         );
-        black_box(&answer).is_ok()
+        let is_ok = black_box(&answer).is_ok();
+        drop(answer);
+        is_ok
     }
 
     fn encode<P: CryptoProvider>(&self, alloc: Global, provider: &P) -> bool {
@@ -149,7 +151,9 @@ impl Prepared {
             black_box(&self.claims),
             &self.issuing.key,
         );
-        black_box(&answer).is_ok()
+        let is_ok = black_box(&answer).is_ok();
+        drop(answer);
+        is_ok
     }
 
     fn is_done(&self, alloc: Global, text: &str) -> bool {
@@ -159,9 +163,16 @@ impl Prepared {
             Work::Encode => self.encode(alloc, &HmacProvider),
             Work::PreparedDecode => self.decode(alloc, &*self.provider, token),
             Work::PreparedEncode => self.encode(alloc, &*self.provider),
-            _ => black_box(&decode_header(alloc, token)).is_ok(),
+            _ => has_header(alloc, token),
         }
     }
+}
+
+fn has_header(alloc: Global, token: &[u8]) -> bool {
+    let answer = decode_header(alloc, token);
+    let is_ok = black_box(&answer).is_ok();
+    drop(answer);
+    is_ok
 }
 
 // Compares the bytes this many times with bytes that differ in one place, each time by another
