@@ -35,12 +35,12 @@ const ED_X: &str = "11qYAYKxCrfVS_7TyWQHOg7hcvPapiMlrwIaaPcHURo";
 const RSA_N: &str =
     "0vx7agoebGcQSuuPiLJXZptN9nndrQmbXEps2aiAFbWhM78LhWx4cbbfAAtVT86zwu1RK7aPFFxuhDR1L6tSoc_BJECPebWKRXjBZCiFV4n3oknjhMstn64tZ_2W-5JsGY4Hc5n9yBXArwl93lqt7_RN5w6Cf0h4QyQ5v-65YGjQR0_FDW2QvzqY368QQMicAtaSqzs8KJZgnYb9c7d0zgdAZHzu6qMQvRL5hajrn1n91CbOpbISD08qNLyrdkt-bFTWhAI4vMQFh6WeZu0fM4lFd2NcRwr3XPksINHaQ-G_xBniIqbw0Ls1jF44-csFCur-kEgU8awapJzKnqDKgw";
 
-/// Returns the session of Ada, who may read and write until `END`.
-fn ada(alloc: Global) -> Result<Session, Fault> {
+/// Returns the session of Ada, who may read and write until then.
+fn ada(alloc: Global, ends: u64) -> Result<Session, Fault> {
     Ok(Session {
         user: Text::from_str(alloc, "ada")?,
         roles: Some(Texts::from_slice(alloc, &["read", "write"])?),
-        ends: END,
+        ends,
     })
 }
 
@@ -51,31 +51,63 @@ fn show<T: Runtime + AllocGlobal>(
     token: &str,
     now: u64,
 ) -> Result<(), Fault> {
-    match service.read(rt.alloc(), token, now) {
-        Ok(session) => println!(rt; "{now}: {session:?}")?,
-        Err(refusal) => println!(rt; "{now}: {refusal}")?,
-    }
-    Ok(())
+    let printed = match service.read(rt.alloc(), token, now) {
+        Ok(session) => println!(rt; "{now}: {session:?}"),
+        Err(refusal) => println!(rt; "{now}: {refusal}"),
+    };
+    Ok(printed?)
 }
 
 /// Shows a session from its first token until its key is gone.
+fn show_session<T: Runtime + AllocGlobal>(
+    rt: &T,
+    service: &mut Service,
+    session: &Session,
+) -> Result<(), Fault> {
+    let alloc = rt.alloc();
+    let token = service.issue(alloc, session)?;
+    println!(rt; "{token}")?;
+    let last = last_moment(service.validation(), session);
+    println!(rt; "renew by {last}")?;
+    show(rt, service, token.as_str(), last)?;
+    show(rt, service, token.as_str(), last.saturating_add(1))?;
+    service.rotate(alloc, "2026", b"this year's secret, of 32 bytes or more")?;
+    show(rt, service, token.as_str(), END)?;
+    let newer = service.issue(alloc, session)?;
+    service.retire("2025");
+    show(rt, service, token.as_str(), END)?;
+    show(rt, service, newer.as_str(), END)
+}
+
+/// Shows the sessions of a service whose key is changed.
 fn show_sessions<T: Runtime + AllocGlobal>(rt: &T) -> Result<(), Fault> {
     let alloc = rt.alloc();
     let mut service = Service::new(alloc, "2025", b"last year's secret, of 32 bytes or more")?;
-    let session = ada(alloc)?;
-    let token = service.issue(alloc, &session)?;
-    println!(rt; "{token}")?;
-    let last = last_moment(service.validation(), &session);
-    println!(rt; "renew by {last}")?;
-    show(rt, &service, token.as_str(), last)?;
-    show(rt, &service, token.as_str(), last.saturating_add(1))?;
-    service.rotate(alloc, "2026", b"this year's secret, of 32 bytes or more")?;
-    show(rt, &service, token.as_str(), END)?;
-    let newer = service.issue(alloc, &session)?;
-    service.retire("2025");
-    show(rt, &service, token.as_str(), END)?;
-    show(rt, &service, newer.as_str(), END)?;
-    Ok(())
+    let session = ada(alloc, END)?;
+    show_session(rt, &mut service, &session)
+}
+
+/// Publishes the key of RFC 8037 appendix A.2.
+fn publish_ed(alloc: Global, set: &mut JwkSet) -> Result<(), Fault> {
+    let key = DecodingKey::from_ed_components(alloc, ED_X)?;
+    Ok(publish(alloc, set, &key, Algorithm::EdDSA)?)
+}
+
+/// Publishes the key of RFC 7638 section 3.1.
+fn publish_rsa(alloc: Global, set: &mut JwkSet) -> Result<(), Fault> {
+    let key = DecodingKey::from_rsa_components(alloc, RSA_N, "AQAB")?;
+    Ok(publish(alloc, set, &key, Algorithm::RS256)?)
+}
+
+/// Shows that a secret is not published.
+fn show_refusal<T: Runtime + AllocGlobal>(rt: &T, set: &mut JwkSet) -> Result<(), Fault> {
+    let alloc = rt.alloc();
+    let key = DecodingKey::from_secret(alloc, b"this year's secret, of 32 bytes or more")?;
+    let printed = match publish(alloc, set, &key, Algorithm::HS256) {
+        Ok(()) => Ok(()),
+        Err(refusal) => println!(rt; "{refusal}"),
+    };
+    Ok(printed?)
 }
 
 /// Shows the set of an issuer with two public keys (RFC 8037 appendix A.2, RFC 7638 section 3.1),
@@ -83,31 +115,33 @@ fn show_sessions<T: Runtime + AllocGlobal>(rt: &T) -> Result<(), Fault> {
 fn show_keys<T: Runtime + AllocGlobal>(rt: &T) -> Result<(), Fault> {
     let alloc = rt.alloc();
     let mut set = JwkSet::new(alloc);
-    let ed = DecodingKey::from_ed_components(alloc, ED_X)?;
-    publish(alloc, &mut set, &ed, Algorithm::EdDSA)?;
-    let rsa = DecodingKey::from_rsa_components(alloc, RSA_N, "AQAB")?;
-    publish(alloc, &mut set, &rsa, Algorithm::RS256)?;
-    let secret = DecodingKey::from_secret(alloc, b"this year's secret, of 32 bytes or more")?;
-    if let Err(refusal) = publish(alloc, &mut set, &secret, Algorithm::HS256) {
-        println!(rt; "{refusal}")?;
-    }
+    publish_ed(alloc, &mut set)?;
+    publish_rsa(alloc, &mut set)?;
+    show_refusal(rt, &mut set)?;
     println!(rt; "{}", set_text(alloc, &set)?)?;
     Ok(())
 }
 
-/// Shows a session that begins now, by the system's clock.
+/// Returns the session that the service reads of its own token, at a moment at which it begins.
+fn session_from(alloc: Global, service: &Service, now: u64) -> Result<Session, Fault> {
+    let session = ada(alloc, now.saturating_add(3600))?;
+    let token = service.issue(alloc, &session)?;
+    Ok(service.read(alloc, token.as_str(), now)?)
+}
+
+/// Shows a session of the service that begins now, by the system's clock.
+fn show_now<T: Runtime + AllocGlobal>(rt: &T, service: &Service) -> Result<(), Fault> {
+    let now = moment(rt)?;
+    let session = session_from(rt.alloc(), service, now)?;
+    println!(rt; "by the system's clock: {:?}", session.user)?;
+    Ok(())
+}
+
+/// Shows a session of a new service that begins now.
 fn show_moment<T: Runtime + AllocGlobal>(rt: &T) -> Result<(), Fault> {
     let alloc = rt.alloc();
     let service = Service::new(alloc, "2026", b"this year's secret, of 32 bytes or more")?;
-    let now = moment(rt)?;
-    let session = Session {
-        ends: now.saturating_add(3600),
-        ..ada(alloc)?
-    };
-    let token = service.issue(alloc, &session)?;
-    let session = service.read(alloc, token.as_str(), now)?;
-    println!(rt; "by the system's clock: {:?}", session.user)?;
-    Ok(())
+    show_now(rt, &service)
 }
 
 fn show_all<T: Runtime + AllocGlobal>(rt: &T) -> Result<(), Fault> {

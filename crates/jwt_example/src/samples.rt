@@ -2,6 +2,7 @@
 
 use crate::fault::Fault;
 use crate::long_secrets::LongSecrets;
+use jsonwebtoken::crypto::CryptoProvider;
 use jsonwebtoken::crypto::hmac::{HmacProvider, PreparedHmac};
 use jsonwebtoken::crypto::signature::SignatureProvider;
 use jsonwebtoken::crypto::verdict::VerdictProvider;
@@ -82,38 +83,36 @@ pub fn verified_by_set(alloc: Global, token: &[u8], set: &[u8], now: u64) -> Res
 
 /// Returns a provider that has the secret prepared.
 fn prepared_secret(alloc: Global) -> Result<Box<PreparedHmac>> {
-    let prepared = PreparedHmac::new(alloc, Algorithm::HS256, b"secret")?; // once; then each token takes less time
-    Ok(Box::new(alloc, prepared)?)
+    let provider = PreparedHmac::new(alloc, Algorithm::HS256, b"secret")?; // once; then each token takes less time
+    Ok(Box::new(alloc, provider)?)
 }
 
-/// Returns the claims of a token, verified with the prepared secret.
-fn verified_quickly(
+/// Returns the header and claims of a token, verified with the secret by a provider.
+fn verified_by<P: CryptoProvider>(
     alloc: Global,
-    prepared: &PreparedHmac,
+    provider: &P,
     token: &[u8],
     now: u64,
-) -> Result<Value> {
+) -> Result<TokenData<Value>> {
     let key = DecodingKey::from_secret(alloc, b"secret")?;
     let validation = Validation::new(alloc, Algorithm::HS256)?;
-    let data: TokenData<Value> = decode(alloc, prepared, token, &key, &validation, now)?;
-    Ok(data.claims)
+    decode(alloc, provider, token, &key, &validation, now)
 }
 
 /// Prepares the secret, and verifies a token with it.
-fn prepared_and_verified(alloc: Global, token: &[u8], now: u64) -> Result<Value> {
+fn prepared_and_verified(alloc: Global, token: &[u8], now: u64) -> Result<TokenData<Value>> {
     let prepared = prepared_secret(alloc)?;
-    verified_quickly(alloc, &prepared, token, now)
+    verified_by(alloc, &*prepared, token, now)
 }
 
-/// Returns the claims of a token by a curve, whose signature is checked elsewhere.
-pub fn verified_elsewhere(alloc: Global, token: &[u8], now: u64) -> Result<Value> {
-    let part = signed_part(alloc, token)?;
+/// Returns the header and claims of a token by a curve, whose signature is checked elsewhere.
+pub fn verified_elsewhere(alloc: Global, token: &[u8], now: u64) -> Result<TokenData<Value>> {
+    let part = Box::new(alloc, signed_part(alloc, token)?)?;
     let signature = part.signature.as_slice();
     let yes = my_es256_accepts(part.message, signature); // with a key that is for ES256
     let verdict = VerdictProvider::new(Algorithm::ES256, part.message, signature, yes);
     let options = es256_options(alloc)?;
-    let data: TokenData<Value> = decode_by_verdict(alloc, token, &verdict, &options, now)?;
-    Ok(data.claims)
+    decode_by_verdict(alloc, token, &verdict, &options, now)
 }
 
 /// Returns options that are read from JSON.
@@ -189,20 +188,23 @@ const SIGNATURE: [u8; 64] = [
     84, 213,
 ];
 
-/// Verifies a token like `verified`, with a secret that must be as long as the codes.
-fn verified_by_long_secret(alloc: Global, token: &[u8], now: u64) -> Result<Value> {
-    let key = DecodingKey::from_secret(alloc, b"secret")?;
-    let validation = Validation::new(alloc, Algorithm::HS256)?;
-    let data: TokenData<Value> = decode(alloc, &LongSecrets, token, &key, &validation, now)?;
-    Ok(data.claims)
+/// Returns the claims alone, or the refusal.
+fn claims_of(answer: Result<TokenData<Value>>) -> Result<Value> {
+    Ok(answer?.claims)
+}
+
+/// Returns the claims that are accepted as a text, or the refusal.
+fn shown(alloc: Global, answer: Result<Value>) -> Result<String> {
+    match answer {
+        Ok(claims) => Ok(claims.to_string(alloc)?),
+        Err(refusal) => Ok(format!(in alloc; "{refusal}")?),
+    }
 }
 
 /// Prints the claims that are accepted, or the refusal.
 fn print<T: Runtime + AllocGlobal>(rt: &T, answer: Result<Value>) -> Result<(), Fault> {
-    match answer {
-        Ok(claims) => println!(rt; "{}", claims.to_string(rt.alloc())?)?,
-        Err(refusal) => println!(rt; "{refusal}")?,
-    }
+    let text = shown(rt.alloc(), answer)?;
+    println!(rt; "{text}")?;
     Ok(())
 }
 
@@ -217,23 +219,32 @@ fn show_reasons<T: Runtime + AllocGlobal>(rt: &T) -> Result<(), Fault> {
     Ok(())
 }
 
+/// Prints the tokens that are issued for claims, and the algorithm that a header names.
+fn show_issued<T: Runtime + AllocGlobal>(rt: &T, claims: &Value) -> Result<(), Fault> {
+    let alloc = rt.alloc();
+    println!(rt; "{}", issued(alloc, claims)?)?;
+    println!(rt; "{}", issued_elsewhere(alloc, claims)?)?;
+    println!(rt; "{}", algorithm_of(alloc, TOKEN.as_bytes())?)?;
+    Ok(())
+}
+
+/// Prints the claims that are verified by the key of a set, by a verdict and by two providers, one
+/// of which refuses the secret.
+fn show_verified<T: Runtime + AllocGlobal>(rt: &T) -> Result<(), Fault> {
+    let alloc = rt.alloc();
+    let (by_set, named) = (BY_RSA.as_bytes(), NAMED.as_bytes());
+    print(rt, verified_by_set(alloc, by_set, SET.as_bytes(), 0))?;
+    print(rt, claims_of(prepared_and_verified(alloc, named, 0)))?;
+    let elsewhere = verified_elsewhere(alloc, SIGNED_BY_CURVE.as_bytes(), 1300819380);
+    print(rt, claims_of(elsewhere))?;
+    print(rt, claims_of(verified_by(alloc, &LongSecrets, named, 0)))
+}
+
 /// Prints the result of each sample.
 pub fn show_samples<T: Runtime + AllocGlobal>(rt: &T) -> Result<(), Fault> {
-    let alloc = rt.alloc();
-    let claims = verified(alloc, TOKEN.as_bytes(), 0)?;
-    println!(rt; "{}", issued(alloc, &claims)?)?;
-    println!(rt; "{}", issued_elsewhere(alloc, &claims)?)?;
-    println!(rt; "{}", algorithm_of(alloc, TOKEN.as_bytes())?)?;
+    let claims = verified(rt.alloc(), TOKEN.as_bytes(), 0)?;
+    show_issued(rt, &claims)?;
     print(rt, Ok(claims))?;
-    print(
-        rt,
-        verified_by_set(alloc, BY_RSA.as_bytes(), SET.as_bytes(), 0),
-    )?;
-    print(rt, prepared_and_verified(alloc, NAMED.as_bytes(), 0))?;
-    print(
-        rt,
-        verified_elsewhere(alloc, SIGNED_BY_CURVE.as_bytes(), 1300819380),
-    )?;
-    print(rt, verified_by_long_secret(alloc, NAMED.as_bytes(), 0))?;
+    show_verified(rt)?;
     show_reasons(rt)
 }
