@@ -1,9 +1,6 @@
 //! Calls that are given a provider of signatures: the one that the row describes.
 
-use crate::{
-    Found, failed_tests, hmac, issued_tokens, jwks_of_keys, moments, signatures, thumbprints,
-    token_parts, tokens, tokens_by_set,
-};
+use crate::{Found, failed_tests, hmac, jwks_of_keys, moments, signatures, token_parts, tokens};
 use jsonwebtoken::crypto::CryptoProvider;
 use jsonwebtoken::crypto::hmac::HmacProvider;
 use jwt_rows::inputs::providers::{Provider, provider_of};
@@ -12,13 +9,6 @@ use jwt_rows::trial::Trial;
 use jwt_rsa::RsaProvider;
 use jwt_standard::StandardProvider;
 use jwt_test_providers::providers::{NoProvider, YesProvider};
-
-fn of_keys<P: CryptoProvider>(call: &str, row: Row<'_>, trial: &mut Trial, provider: &P) -> Found {
-    if let Some(answer) = jwks_of_keys::answer(call, row, trial, provider)? {
-        return Ok(Some(answer));
-    }
-    thumbprints::answer(call, row, trial, provider)
-}
 
 fn of_signatures<P: CryptoProvider>(
     call: &str,
@@ -53,16 +43,10 @@ fn of_tokens<P: CryptoProvider>(
     if let Some(answer) = tokens::answer(call, row, trial, provider)? {
         return Ok(Some(answer));
     }
-    if let Some(answer) = tokens_by_set::answer(call, row, trial, provider)? {
-        return Ok(Some(answer));
-    }
     if let Some(answer) = of_reasons(call, row, trial, provider)? {
         return Ok(Some(answer));
     }
-    if let Some(answer) = token_parts::answer(call, row, trial, provider)? {
-        return Ok(Some(answer));
-    }
-    issued_tokens::answer(call, row, trial, provider)
+    token_parts::answer(call, row, trial, provider)
 }
 
 fn answer_by<P: CryptoProvider>(
@@ -71,7 +55,7 @@ fn answer_by<P: CryptoProvider>(
     trial: &mut Trial,
     provider: &P,
 ) -> Found {
-    if let Some(answer) = of_keys(call, row, trial, provider)? {
+    if let Some(answer) = jwks_of_keys::answer(call, row, trial, provider)? {
         return Ok(Some(answer));
     }
     if let Some(answer) = of_signatures(call, row, trial, provider)? {

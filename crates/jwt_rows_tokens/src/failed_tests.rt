@@ -1,13 +1,12 @@
 //! The first failed tests of tokens.
 
-use crate::tokens_by_set::key_set;
+use crate::inputs::{with_key, with_set};
 use jsonwebtoken::crypto::CryptoProvider;
 use jsonwebtoken::errors::Result as Outcome;
+use jsonwebtoken::json::Claims;
 use jsonwebtoken::{Test, failed_test, failed_test_with_set};
 use jwt_rows::answer::{Answer, accepted, refused};
 use jwt_rows::fault::Fault;
-use jwt_rows::inputs::keys::decoding_key;
-use jwt_rows::inputs::validations::validation;
 use jwt_rows::row::Row;
 use jwt_rows::trial::Trial;
 use serde_json::Value;
@@ -20,12 +19,13 @@ pub fn answer<P: CryptoProvider>(
     trial: &mut Trial,
     provider: &P,
 ) -> Result<Option<Value>, Fault> {
-    match call {
-        "failed_test" => Ok(Some(by_key(row, trial, provider)?)),
-        "failed_test::<u64>" => Ok(Some(of_number(row, trial, provider)?)),
-        "failed_test_with_set" => Ok(Some(by_set(row, trial, provider)?)),
-        _ => Ok(None),
-    }
+    let answer = match call {
+        "failed_test" => by_key::<P, Value>(row, trial, provider),
+        "failed_test::<u64>" => by_key::<P, u64>(row, trial, provider),
+        "failed_test_with_set" => by_set(row, trial, provider),
+        _ => return Ok(None),
+    };
+    Ok(Some(answer?))
 }
 
 // Returns the result of a call that returns a test, or none.
@@ -40,38 +40,16 @@ fn of_test(alloc: Global, answer: Outcome<Option<Test>>) -> Answer {
     }
 }
 
-fn by_key<P: CryptoProvider>(row: Row<'_>, trial: &mut Trial, provider: &P) -> Answer {
-    row.takes(&["token", "key", "validation", "now", "provider"])?;
-    let token = row.bytes("token")?;
-    let key = decoding_key(row)?;
-    let options = validation(row)?;
+fn by_key<P: CryptoProvider, T: Claims>(row: Row<'_>, trial: &mut Trial, provider: &P) -> Answer {
+    let inputs = with_key(row, &["token", "key", "validation", "now", "provider"])?;
     let now = row.number("now")?;
     trial.begin();
-    let answer = failed_test::<P, Value>(
+    let answer = failed_test::<P, T>(
         row.alloc(),
         provider,
-        token.as_slice(),
-        &key,
-        &options,
-        now,
-    );
-    trial.end();
-    of_test(row.alloc(), answer)
-}
-
-fn of_number<P: CryptoProvider>(row: Row<'_>, trial: &mut Trial, provider: &P) -> Answer {
-    row.takes(&["token", "key", "validation", "now", "provider"])?;
-    let token = row.bytes("token")?;
-    let key = decoding_key(row)?;
-    let options = validation(row)?;
-    let now = row.number("now")?;
-    trial.begin();
-    let answer = failed_test::<P, u64>(
-        row.alloc(),
-        provider,
-        token.as_slice(),
-        &key,
-        &options,
+        inputs.token.as_slice(),
+        &inputs.key,
+        &inputs.options,
         now,
     );
     trial.end();
@@ -79,18 +57,15 @@ fn of_number<P: CryptoProvider>(row: Row<'_>, trial: &mut Trial, provider: &P) -
 }
 
 fn by_set<P: CryptoProvider>(row: Row<'_>, trial: &mut Trial, provider: &P) -> Answer {
-    row.takes(&["token", "set", "validation", "now", "provider"])?;
-    let token = row.bytes("token")?;
-    let set = key_set(row)?;
-    let options = validation(row)?;
+    let inputs = with_set(row, &["token", "set", "validation", "now", "provider"])?;
     let now = row.number("now")?;
     trial.begin();
     let answer = failed_test_with_set::<P, Value>(
         row.alloc(),
         provider,
-        token.as_slice(),
-        &set,
-        &options,
+        inputs.token.as_slice(),
+        &inputs.set,
+        &inputs.options,
         now,
     );
     trial.end();

@@ -4,6 +4,7 @@
 mod by_provider;
 mod failed_tests;
 mod hmac;
+mod inputs;
 mod issued_tokens;
 mod jwks_of_keys;
 mod key_bytes;
@@ -31,9 +32,6 @@ type Found = Result<Option<Value>, Fault>;
 
 fn of_keys(call: &str, row: Row<'_>, trial: &mut Trial) -> Found {
     if let Some(answer) = key_bytes::answer(call, row, trial)? {
-        return Ok(Some(answer));
-    }
-    if let Some(answer) = keys_of_jwks::answer(call, row, trial)? {
         return Ok(Some(answer));
     }
     if let Some(answer) = key_files::answer(call, row, trial)? {

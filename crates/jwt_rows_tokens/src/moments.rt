@@ -1,14 +1,14 @@
 //! The moments at which tokens are accepted.
 
-use crate::tokens_by_set::key_set;
+use crate::inputs::{with_key, with_set};
 use jsonwebtoken::crypto::CryptoProvider;
 use jsonwebtoken::errors::Result as Outcome;
+use jsonwebtoken::json::Claims;
 use jsonwebtoken::{
     Moments, claimed_moments, first_and_last_moment, first_and_last_moment_with_set,
 };
 use jwt_rows::answer::{Answer, accepted, pair, refused};
 use jwt_rows::fault::Fault;
-use jwt_rows::inputs::keys::decoding_key;
 use jwt_rows::inputs::validations::validation;
 use jwt_rows::row::Row;
 use jwt_rows::trial::Trial;
@@ -22,13 +22,14 @@ pub fn answer<P: CryptoProvider>(
     trial: &mut Trial,
     provider: &P,
 ) -> Result<Option<Value>, Fault> {
-    match call {
-        "claimed_moments" => Ok(Some(of_claims(row, trial)?)),
-        "first_and_last_moment" => Ok(Some(by_key(row, trial, provider)?)),
-        "first_and_last_moment::<u64>" => Ok(Some(of_number(row, trial, provider)?)),
-        "first_and_last_moment_with_set" => Ok(Some(by_set(row, trial, provider)?)),
-        _ => Ok(None),
-    }
+    let answer = match call {
+        "claimed_moments" => of_claims(row, trial),
+        "first_and_last_moment" => by_key::<P, Value>(row, trial, provider),
+        "first_and_last_moment::<u64>" => by_key::<P, u64>(row, trial, provider),
+        "first_and_last_moment_with_set" => by_set(row, trial, provider),
+        _ => return Ok(None),
+    };
+    Ok(Some(answer?))
 }
 
 fn of_moments(alloc: Global, answer: Outcome<Option<Moments>>) -> Answer {
@@ -55,52 +56,29 @@ fn of_claims(row: Row<'_>, trial: &mut Trial) -> Answer {
     of_moments(row.alloc(), Ok(Some(answer)))
 }
 
-fn by_key<P: CryptoProvider>(row: Row<'_>, trial: &mut Trial, provider: &P) -> Answer {
-    row.takes(&["token", "key", "validation", "provider"])?;
-    let token = row.bytes("token")?;
-    let key = decoding_key(row)?;
-    let options = validation(row)?;
+fn by_key<P: CryptoProvider, T: Claims>(row: Row<'_>, trial: &mut Trial, provider: &P) -> Answer {
+    let inputs = with_key(row, &["token", "key", "validation", "provider"])?;
     trial.begin();
-    let answer = first_and_last_moment::<P, Value>(
+    let answer = first_and_last_moment::<P, T>(
         row.alloc(),
         provider,
-        token.as_slice(),
-        &key,
-        &options,
-    );
-    trial.end();
-    of_moments(row.alloc(), answer)
-}
-
-fn of_number<P: CryptoProvider>(row: Row<'_>, trial: &mut Trial, provider: &P) -> Answer {
-    row.takes(&["token", "key", "validation", "provider"])?;
-    let token = row.bytes("token")?;
-    let key = decoding_key(row)?;
-    let options = validation(row)?;
-    trial.begin();
-    let answer = first_and_last_moment::<P, u64>(
-        row.alloc(),
-        provider,
-        token.as_slice(),
-        &key,
-        &options,
+        inputs.token.as_slice(),
+        &inputs.key,
+        &inputs.options,
     );
     trial.end();
     of_moments(row.alloc(), answer)
 }
 
 fn by_set<P: CryptoProvider>(row: Row<'_>, trial: &mut Trial, provider: &P) -> Answer {
-    row.takes(&["token", "set", "validation", "provider"])?;
-    let token = row.bytes("token")?;
-    let set = key_set(row)?;
-    let options = validation(row)?;
+    let inputs = with_set(row, &["token", "set", "validation", "provider"])?;
     trial.begin();
     let answer = first_and_last_moment_with_set::<P, Value>(
         row.alloc(),
         provider,
-        token.as_slice(),
-        &set,
-        &options,
+        inputs.token.as_slice(),
+        &inputs.set,
+        &inputs.options,
     );
     trial.end();
     of_moments(row.alloc(), answer)

@@ -1,5 +1,6 @@
 //! Secrets that are prepared for HMAC.
 
+use crate::inputs::{algorithm, bytes_among};
 use jsonwebtoken::crypto::hmac::PreparedHmac;
 use jsonwebtoken::errors;
 use jwt_base::json::value_eq;
@@ -14,13 +15,14 @@ use std::alloc::Global;
 
 /// Makes the call of this name, if it is among those of this module.
 pub fn answer(call: &str, row: Row<'_>, trial: &mut Trial) -> Result<Option<Value>, Fault> {
-    match call {
-        "PreparedHmac::new" => Ok(Some(made(row, trial)?)),
-        "PreparedHmac::add" => Ok(Some(added(row, trial)?)),
-        "PreparedHmac::is_prepared" => Ok(Some(is_prepared(row, trial)?)),
-        "PreparedHmac::zeroize" => Ok(Some(zeroed(row, trial)?)),
-        _ => Ok(None),
-    }
+    let answer = match call {
+        "PreparedHmac::new" => made(row, trial),
+        "PreparedHmac::add" => added(row, trial),
+        "PreparedHmac::is_prepared" => is_prepared(row, trial),
+        "PreparedHmac::zeroize" => zeroed(row, trial),
+        _ => return Ok(None),
+    };
+    Ok(Some(answer?))
 }
 
 // Returns whether the provider has prepared the listed secret for the listed algorithm.
@@ -49,9 +51,8 @@ fn provider_answer(row: Row<'_>, provider: &PreparedHmac) -> Answer {
 }
 
 fn made(row: Row<'_>, trial: &mut Trial) -> Answer {
-    row.takes(&["algorithm", "secret", "asked"])?;
-    let algorithm = algorithm_of(row.value("algorithm")?)?;
-    let secret = row.bytes("secret")?;
+    let secret = bytes_among(row, &["algorithm", "secret", "asked"], "secret")?;
+    let algorithm = algorithm(row)?;
     trial.begin();
     let answer = PreparedHmac::new(row.alloc(), algorithm, secret.as_slice());
     trial.end();
@@ -82,9 +83,8 @@ fn of_added(
 }
 
 fn added(row: Row<'_>, trial: &mut Trial) -> Answer {
-    row.takes(&["provider", "algorithm", "secret", "asked"])?;
-    let algorithm = algorithm_of(row.value("algorithm")?)?;
-    let secret = row.bytes("secret")?;
+    let secret = bytes_among(row, &["provider", "algorithm", "secret", "asked"], "secret")?;
+    let algorithm = algorithm(row)?;
     let mut provider = prepared_provider(row)?;
     let before = those_prepared(row, &provider)?;
     trial.begin();
@@ -94,9 +94,8 @@ fn added(row: Row<'_>, trial: &mut Trial) -> Answer {
 }
 
 fn is_prepared(row: Row<'_>, trial: &mut Trial) -> Answer {
-    row.takes(&["provider", "algorithm", "secret"])?;
-    let algorithm = algorithm_of(row.value("algorithm")?)?;
-    let secret = row.bytes("secret")?;
+    let secret = bytes_among(row, &["provider", "algorithm", "secret"], "secret")?;
+    let algorithm = algorithm(row)?;
     let provider = prepared_provider(row)?;
     trial.begin();
     let flag = provider.is_prepared(algorithm, secret.as_slice());

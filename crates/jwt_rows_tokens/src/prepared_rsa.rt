@@ -1,5 +1,6 @@
 //! Keys that are prepared for RSA.
 
+use crate::inputs::bytes_among;
 use jsonwebtoken::errors;
 use jwt_base::json::value_eq;
 use jwt_rows::answer::{Answer, accepted, changed, refused};
@@ -14,12 +15,13 @@ use std::alloc::Global;
 
 /// Makes the call of this name, if it is among those of this module.
 pub fn answer(call: &str, row: Row<'_>, trial: &mut Trial) -> Result<Option<Value>, Fault> {
-    match call {
-        "PreparedRsa::new" => Ok(Some(made(row, trial)?)),
-        "PreparedRsa::add" => Ok(Some(added(row, trial)?)),
-        "PreparedRsa::is_prepared" => Ok(Some(is_prepared(row, trial)?)),
-        _ => Ok(None),
-    }
+    let answer = match call {
+        "PreparedRsa::new" => made(row, trial),
+        "PreparedRsa::add" => added(row, trial),
+        "PreparedRsa::is_prepared" => is_prepared(row, trial),
+        _ => return Ok(None),
+    };
+    Ok(Some(answer?))
 }
 
 // Returns whether the provider has prepared the listed modulus and exponent.
@@ -72,8 +74,7 @@ fn of_added(
 }
 
 fn added(row: Row<'_>, trial: &mut Trial) -> Answer {
-    row.takes(&["provider", "n", "e", "asked"])?;
-    let n = row.bytes("n")?;
+    let n = bytes_among(row, &["provider", "n", "e", "asked"], "n")?;
     let e = row.bytes("e")?;
     let mut provider = prepared_rsa_provider(row)?;
     let before = those_prepared(row, &provider)?;
@@ -84,8 +85,7 @@ fn added(row: Row<'_>, trial: &mut Trial) -> Answer {
 }
 
 fn is_prepared(row: Row<'_>, trial: &mut Trial) -> Answer {
-    row.takes(&["provider", "n", "e"])?;
-    let n = row.bytes("n")?;
+    let n = bytes_among(row, &["provider", "n", "e"], "n")?;
     let e = row.bytes("e")?;
     let provider = prepared_rsa_provider(row)?;
     trial.begin();

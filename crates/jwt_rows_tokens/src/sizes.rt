@@ -75,27 +75,29 @@ fn comes_back_by(alloc: Global, way: &str, token: &Token) -> Result<Outcome<bool
     }
 }
 
-fn is_given_back(answer: Outcome<TokenData<Value>>, token: &Token) -> Outcome<bool> {
+fn is_given_back(answer: Outcome<Box<TokenData<Value>>>, token: &Token) -> Outcome<bool> {
     let data = answer?;
     Ok(value_eq(&data.claims, &token.claims) && data.header == token.header)
 }
 
-fn is_forged(answer: Outcome<TokenData<Value>>) -> bool {
+fn is_forged(answer: Outcome<Box<TokenData<Value>>>) -> bool {
     match answer {
         Ok(_data) => false,
         Err(refusal) => *refusal.kind() == ErrorKind::InvalidSignature,
     }
 }
 
-fn decoded(alloc: Global, text: &str, secret: &str) -> Outcome<TokenData<Value>> {
+fn decoded(alloc: Global, text: &str, secret: &str) -> Outcome<Box<TokenData<Value>>> {
     let key = DecodingKey::from_secret(alloc, secret.as_bytes())?;
     let validation = Validation::new(alloc, Algorithm::HS256)?;
-    decode(alloc, &HmacProvider, text.as_bytes(), &key, &validation, 0)
+    let data = decode(alloc, &HmacProvider, text.as_bytes(), &key, &validation, 0)?;
+    Ok(Box::new(alloc, data)?)
 }
 
 // Returns whether `decode_header` reads this header of the text.
 fn has_header(alloc: Global, text: &str, header: &Header) -> Outcome<bool> {
-    Ok(decode_header(alloc, text.as_bytes())? == *header)
+    let read = Box::new(alloc, decode_header(alloc, text.as_bytes())?)?;
+    Ok(*read == *header)
 }
 
 /// Returns whether the issued token reads as its header and claims, and is refused under another
@@ -125,16 +127,22 @@ fn decoded_by(
     provider: &PreparedHmac,
     text: &str,
     secret: &[u8],
-) -> Outcome<TokenData<Value>> {
+) -> Outcome<Box<TokenData<Value>>> {
     let key = DecodingKey::from_secret(alloc, secret)?;
     let validation = Validation::new(alloc, Algorithm::HS256)?;
-    decode(alloc, provider, text.as_bytes(), &key, &validation, 0)
+    let data = decode(alloc, provider, text.as_bytes(), &key, &validation, 0)?;
+    Ok(Box::new(alloc, data)?)
 }
 
-fn decoded_parts(alloc: Global, parts: &Jws<Value>, secret: &str) -> Outcome<TokenData<Value>> {
+fn decoded_parts(
+    alloc: Global,
+    parts: &Jws<Value>,
+    secret: &str,
+) -> Outcome<Box<TokenData<Value>>> {
     let key = DecodingKey::from_secret(alloc, secret.as_bytes())?;
     let validation = Validation::new(alloc, Algorithm::HS256)?;
-    jws::decode(alloc, &HmacProvider, parts, &key, &validation, 0)
+    let data = jws::decode(alloc, &HmacProvider, parts, &key, &validation, 0)?;
+    Ok(Box::new(alloc, data)?)
 }
 
 /// Returns the same for a token in parts.
@@ -158,9 +166,10 @@ fn key_set(alloc: Global, count: usize) -> Outcome<Box<JwkSet>> {
     Ok(Box::new(alloc, JwkSet::from_value(alloc, &value)?)?)
 }
 
-fn decoded_by_set(alloc: Global, text: &str, set: &JwkSet) -> Outcome<TokenData<Value>> {
+fn decoded_by_set(alloc: Global, text: &str, set: &JwkSet) -> Outcome<Box<TokenData<Value>>> {
     let validation = Validation::new(alloc, Algorithm::HS256)?;
-    decode_with_set(alloc, &HmacProvider, text.as_bytes(), set, &validation, 0)
+    let data = decode_with_set(alloc, &HmacProvider, text.as_bytes(), set, &validation, 0)?;
+    Ok(Box::new(alloc, data)?)
 }
 
 /// Returns whether a token is verified by the last key of a set.

@@ -21,15 +21,16 @@ pub fn answer<P: CryptoProvider>(
     trial: &mut Trial,
     provider: &P,
 ) -> Result<Option<Value>, Fault> {
-    match call {
-        "jws::decode" => Ok(Some(decoded(row, trial, provider)?)),
-        "jws::encode" => Ok(Some(encoded(row, trial, provider)?)),
-        "Jws::from_value" => Ok(Some(read(row, trial)?)),
-        "Jws::to_value" => Ok(Some(written(row, trial)?)),
-        "Jws::clone" => Ok(Some(copied(row, trial)?)),
-        "Jws::debug" => Ok(Some(debug_text(row)?)),
-        _ => Ok(None),
-    }
+    let answer = match call {
+        "jws::decode" => decoded(row, trial, provider),
+        "jws::encode" => encoded(row, trial, provider),
+        "Jws::from_value" => read(row, trial),
+        "Jws::to_value" => written(row, trial),
+        "Jws::clone" => copied(row, trial),
+        "Jws::debug" => debug_text(row),
+        _ => return Ok(None),
+    };
+    Ok(Some(answer?))
 }
 
 // Returns the token in parts at `parts`.
@@ -38,9 +39,19 @@ fn parts(row: Row<'_>) -> Result<Box<Jws<Value>>, Fault> {
     Ok(Box::new(row.alloc(), token)?)
 }
 
+// Returns the token in parts at `parts`, of a row that has no other input.
+fn only_parts(row: Row<'_>) -> Result<Box<Jws<Value>>, Fault> {
+    row.takes(&["parts"])?;
+    parts(row)
+}
+
+fn parts_answer(alloc: Global, token: &Jws<Value>) -> Answer {
+    accepted(alloc, token.to_value(alloc)?)
+}
+
 fn of_parts(alloc: Global, answer: Outcome<Jws<Value>>) -> Answer {
     match answer {
-        Ok(token) => accepted(alloc, token.to_value(alloc)?),
+        Ok(token) => parts_answer(alloc, &*Box::new(alloc, token)?),
         Err(refusal) => refused(alloc, &refusal),
     }
 }
@@ -69,8 +80,8 @@ fn optional_claims(row: Row<'_>) -> Result<Option<Value>, Fault> {
 fn encoded<P: CryptoProvider>(row: Row<'_>, trial: &mut Trial, provider: &P) -> Answer {
     row.takes(&["header", "claims", "claims_json", "key", "provider"])?;
     let header = header_of(row.alloc(), row.value("header")?)?;
-    let claims = optional_claims(row)?;
     let key = encoding_key(row)?;
+    let claims = optional_claims(row)?;
     trial.begin();
     let answer = jws::encode(row.alloc(), provider, &header, claims.as_ref(), &key);
     trial.end();
@@ -87,8 +98,7 @@ fn read(row: Row<'_>, trial: &mut Trial) -> Answer {
 }
 
 fn written(row: Row<'_>, trial: &mut Trial) -> Answer {
-    row.takes(&["parts"])?;
-    let token = parts(row)?;
+    let token = only_parts(row)?;
     trial.begin();
     let answer = token.to_value(row.alloc());
     trial.end();
@@ -96,8 +106,7 @@ fn written(row: Row<'_>, trial: &mut Trial) -> Answer {
 }
 
 fn copied(row: Row<'_>, trial: &mut Trial) -> Answer {
-    row.takes(&["parts"])?;
-    let token = parts(row)?;
+    let token = only_parts(row)?;
     trial.begin();
     let answer = token.clone(row.alloc());
     trial.end();
@@ -105,8 +114,7 @@ fn copied(row: Row<'_>, trial: &mut Trial) -> Answer {
 }
 
 fn debug_text(row: Row<'_>) -> Answer {
-    row.takes(&["parts"])?;
-    let token = parts(row)?;
+    let token = only_parts(row)?;
     let text = format!(in row.alloc(); "{:?}", *token)?;
     accepted(row.alloc(), Value::String(text))
 }

@@ -3,13 +3,13 @@
 
 mod provider;
 
+use crate::inputs::{algorithm, only_bytes};
 use crate::tokens::of_token;
 use jsonwebtoken::crypto::verdict::VerdictProvider;
 use jsonwebtoken::errors::Result as Outcome;
 use jsonwebtoken::{SignedPart, decode_by_verdict, signed_part};
 use jwt_rows::answer::{Answer, accepted, hex_value, pair, refused};
 use jwt_rows::fault::Fault;
-use jwt_rows::inputs::providers::algorithm_of;
 use jwt_rows::inputs::validations::validation;
 use jwt_rows::row::Row;
 use jwt_rows::trial::Trial;
@@ -18,32 +18,32 @@ use std::alloc::Global;
 
 /// Makes the call of this name, if it is among those of this module.
 pub fn answer(call: &str, row: Row<'_>, trial: &mut Trial) -> Result<Option<Value>, Fault> {
-    match call {
-        "signed_part" => Ok(Some(part(row, trial)?)),
-        "decode_by_verdict" => Ok(Some(decoded(row, trial)?)),
-        _ => provider::answer(call, row, trial),
-    }
+    let answer = match call {
+        "signed_part" => part(row, trial),
+        "decode_by_verdict" => decoded(row, trial),
+        _ => return provider::answer(call, row, trial),
+    };
+    Ok(Some(answer?))
 }
 
 // Returns the header, and an object of the message as a string and the signature in hexadecimal.
-fn shown_part(alloc: Global, part: &SignedPart<'_>) -> Answer {
-    let header = part.header.to_value(alloc)?;
+fn part_answer(alloc: Global, part: &SignedPart<'_>) -> Answer {
     let message = hex_value(alloc, part.message)?;
     let signature = hex_value(alloc, part.signature.as_slice())?;
     let signed = pair(alloc, ("message", message), ("signature", signature))?;
-    pair(alloc, ("header", header), ("signed", signed))
+    let header = part.header.to_value(alloc)?;
+    accepted(alloc, pair(alloc, ("header", header), ("signed", signed))?)
 }
 
 fn of_part(alloc: Global, answer: Outcome<SignedPart<'_>>) -> Answer {
     match answer {
-        Ok(part) => shown_part(alloc, &part).and_then(|shown| accepted(alloc, shown)),
+        Ok(part) => part_answer(alloc, &*Box::new(alloc, part)?),
         Err(refusal) => refused(alloc, &refusal),
     }
 }
 
 fn part(row: Row<'_>, trial: &mut Trial) -> Answer {
-    row.takes(&["token"])?;
-    let token = row.bytes("token")?;
+    let token = only_bytes(row, "token")?;
     trial.begin();
     let answer = signed_part(row.alloc(), token.as_slice());
     trial.end();
@@ -60,10 +60,10 @@ fn decoded(row: Row<'_>, trial: &mut Trial) -> Answer {
         "validation",
         "now",
     ])?;
+    let algorithm = algorithm(row)?;
+    let yes = row.flag("verdict")?;
     let message = row.bytes("message")?;
     let signature = row.bytes("signature")?;
-    let algorithm = algorithm_of(row.value("algorithm")?)?;
-    let yes = row.flag("verdict")?;
     let verdict = VerdictProvider::new(algorithm, message.as_slice(), signature.as_slice(), yes);
     decoded_by(row, trial, &verdict)
 }

@@ -1,5 +1,6 @@
 //! Tokens that are read without verification.
 
+use crate::inputs::only_bytes;
 use crate::tokens::of_token;
 use jsonwebtoken::TokenData;
 use jsonwebtoken::dangerous::{insecure_decode, insecure_decode_claims};
@@ -14,18 +15,18 @@ use std::alloc::Global;
 
 /// Makes the call of this name, if it is among those of this module.
 pub fn answer(call: &str, row: Row<'_>, trial: &mut Trial) -> Result<Option<Value>, Fault> {
-    match call {
-        "dangerous::insecure_decode" => Ok(Some(whole(row, trial)?)),
-        "dangerous::insecure_decode_claims" => Ok(Some(claims(row, trial)?)),
-        "TokenData::debug" => Ok(Some(debug_text(row)?)),
-        "dangerous::insecure_decode_claims::<u64>" => Ok(Some(number(row, trial)?)),
-        _ => Ok(None),
-    }
+    let answer = match call {
+        "dangerous::insecure_decode" => whole(row, trial),
+        "dangerous::insecure_decode_claims" => claims(row, trial),
+        "TokenData::debug" => debug_text(row),
+        "dangerous::insecure_decode_claims::<u64>" => number(row, trial),
+        _ => return Ok(None),
+    };
+    Ok(Some(answer?))
 }
 
 fn whole(row: Row<'_>, trial: &mut Trial) -> Answer {
-    row.takes(&["token"])?;
-    let token = row.bytes("token")?;
+    let token = only_bytes(row, "token")?;
     trial.begin();
     let answer = insecure_decode(row.alloc(), token.as_slice());
     trial.end();
@@ -33,8 +34,7 @@ fn whole(row: Row<'_>, trial: &mut Trial) -> Answer {
 }
 
 fn claims(row: Row<'_>, trial: &mut Trial) -> Answer {
-    row.takes(&["token"])?;
-    let token = row.bytes("token")?;
+    let token = only_bytes(row, "token")?;
     trial.begin();
     let answer = insecure_decode_claims::<Value>(row.alloc(), token.as_slice());
     trial.end();
@@ -46,8 +46,7 @@ fn number_value(alloc: Global, answer: Outcome<u64>) -> Outcome<Value> {
 }
 
 fn number(row: Row<'_>, trial: &mut Trial) -> Answer {
-    row.takes(&["token"])?;
-    let token = row.bytes("token")?;
+    let token = only_bytes(row, "token")?;
     trial.begin();
     let answer = insecure_decode_claims::<u64>(row.alloc(), token.as_slice());
     trial.end();
@@ -61,10 +60,9 @@ fn shown(alloc: Global, data: &TokenData<Value>) -> Answer {
 }
 
 fn debug_text(row: Row<'_>) -> Answer {
-    row.takes(&["token"])?;
-    let token = row.bytes("token")?;
+    let token = only_bytes(row, "token")?;
     match insecure_decode(row.alloc(), token.as_slice()) {
-        Ok(data) => shown(row.alloc(), &data),
+        Ok(data) => shown(row.alloc(), &*Box::new(row.alloc(), data)?),
         Err(refusal) => refused(row.alloc(), &refusal),
     }
 }

@@ -1,11 +1,10 @@
 //! Signers and verifiers.
 
+use crate::inputs::{signing_of, verifying_of};
 use jsonwebtoken::crypto::{CryptoProvider, JwtSigner, JwtVerifier};
 use jsonwebtoken::errors;
 use jwt_rows::answer::{Answer, accepted, add_text, of_bytes, refused};
 use jwt_rows::fault::Fault;
-use jwt_rows::inputs::keys::{decoding_key, encoding_key};
-use jwt_rows::inputs::providers::algorithm_of;
 use jwt_rows::row::Row;
 use jwt_rows::trial::Trial;
 use serde_json::{Map, Value};
@@ -17,15 +16,16 @@ pub fn answer<P: CryptoProvider>(
     trial: &mut Trial,
     provider: &P,
 ) -> Result<Option<Value>, Fault> {
-    match call {
-        "CryptoProvider::signer_factory" => Ok(Some(signer(row, trial, provider)?)),
-        "CryptoProvider::verifier_factory" => Ok(Some(verifier(row, trial, provider)?)),
-        "JwtSigner::sign" => Ok(Some(signed(row, trial, provider)?)),
-        "JwtSigner::algorithm" => Ok(Some(signer_algorithm(row, trial, provider)?)),
-        "JwtVerifier::verify" => Ok(Some(verified(row, trial, provider)?)),
-        "JwtVerifier::algorithm" => Ok(Some(verifier_algorithm(row, trial, provider)?)),
-        _ => Ok(None),
-    }
+    let answer = match call {
+        "CryptoProvider::signer_factory" => signer(row, trial, provider),
+        "CryptoProvider::verifier_factory" => verifier(row, trial, provider),
+        "JwtSigner::sign" => signed(row, trial, provider),
+        "JwtSigner::algorithm" => signer_algorithm(row, trial, provider),
+        "JwtVerifier::verify" => verified(row, trial, provider),
+        "JwtVerifier::algorithm" => verifier_algorithm(row, trial, provider),
+        _ => return Ok(None),
+    };
+    Ok(Some(answer?))
 }
 
 fn of_signer<S: JwtSigner>(row: Row<'_>, answer: errors::Result<S>) -> Answer {
@@ -48,21 +48,17 @@ fn accepted_name(row: Row<'_>, name: &str) -> Answer {
 }
 
 fn signer<P: CryptoProvider>(row: Row<'_>, trial: &mut Trial, provider: &P) -> Answer {
-    row.takes(&["algorithm", "key", "provider"])?;
-    let algorithm = algorithm_of(row.value("algorithm")?)?;
-    let key = encoding_key(row)?;
+    let inputs = signing_of(row, &["algorithm", "key", "provider"])?;
     trial.begin();
-    let answer = provider.signer_factory(row.alloc(), &algorithm, &key);
+    let answer = provider.signer_factory(row.alloc(), &inputs.algorithm, &inputs.key);
     trial.end();
     of_signer(row, answer)
 }
 
 fn verifier<P: CryptoProvider>(row: Row<'_>, trial: &mut Trial, provider: &P) -> Answer {
-    row.takes(&["algorithm", "key", "provider"])?;
-    let algorithm = algorithm_of(row.value("algorithm")?)?;
-    let key = decoding_key(row)?;
+    let inputs = verifying_of(row, &["algorithm", "key", "provider"])?;
     trial.begin();
-    let answer = provider.verifier_factory(row.alloc(), &algorithm, &key);
+    let answer = provider.verifier_factory(row.alloc(), &inputs.algorithm, &inputs.key);
     trial.end();
     of_verifier(row, answer)
 }
@@ -76,10 +72,8 @@ fn sign_with<S: JwtSigner>(row: Row<'_>, trial: &mut Trial, signer: &S) -> Answe
 }
 
 fn signed<P: CryptoProvider>(row: Row<'_>, trial: &mut Trial, provider: &P) -> Answer {
-    row.takes(&["algorithm", "key", "message", "provider"])?;
-    let algorithm = algorithm_of(row.value("algorithm")?)?;
-    let key = encoding_key(row)?;
-    match provider.signer_factory(row.alloc(), &algorithm, &key) {
+    let inputs = signing_of(row, &["algorithm", "key", "message", "provider"])?;
+    match provider.signer_factory(row.alloc(), &inputs.algorithm, &inputs.key) {
         Ok(signer) => sign_with(row, trial, &signer),
         Err(refusal) => Err(Fault::from(refusal)),
     }
@@ -93,10 +87,8 @@ fn name_signer<S: JwtSigner>(row: Row<'_>, trial: &mut Trial, signer: &S) -> Ans
 }
 
 fn signer_algorithm<P: CryptoProvider>(row: Row<'_>, trial: &mut Trial, provider: &P) -> Answer {
-    row.takes(&["algorithm", "key", "provider"])?;
-    let algorithm = algorithm_of(row.value("algorithm")?)?;
-    let key = encoding_key(row)?;
-    match provider.signer_factory(row.alloc(), &algorithm, &key) {
+    let inputs = signing_of(row, &["algorithm", "key", "provider"])?;
+    match provider.signer_factory(row.alloc(), &inputs.algorithm, &inputs.key) {
         Ok(signer) => name_signer(row, trial, &signer),
         Err(refusal) => Err(Fault::from(refusal)),
     }
@@ -125,10 +117,11 @@ fn verify_with<V: JwtVerifier>(row: Row<'_>, trial: &mut Trial, verifier: &V) ->
 }
 
 fn verified<P: CryptoProvider>(row: Row<'_>, trial: &mut Trial, provider: &P) -> Answer {
-    row.takes(&["algorithm", "key", "message", "signature", "provider"])?;
-    let algorithm = algorithm_of(row.value("algorithm")?)?;
-    let key = decoding_key(row)?;
-    match provider.verifier_factory(row.alloc(), &algorithm, &key) {
+    let inputs = verifying_of(
+        row,
+        &["algorithm", "key", "message", "signature", "provider"],
+    )?;
+    match provider.verifier_factory(row.alloc(), &inputs.algorithm, &inputs.key) {
         Ok(verifier) => verify_with(row, trial, &verifier),
         Err(refusal) => Err(Fault::from(refusal)),
     }
@@ -142,10 +135,8 @@ fn name_verifier<V: JwtVerifier>(row: Row<'_>, trial: &mut Trial, verifier: &V) 
 }
 
 fn verifier_algorithm<P: CryptoProvider>(row: Row<'_>, trial: &mut Trial, provider: &P) -> Answer {
-    row.takes(&["algorithm", "key", "provider"])?;
-    let algorithm = algorithm_of(row.value("algorithm")?)?;
-    let key = decoding_key(row)?;
-    match provider.verifier_factory(row.alloc(), &algorithm, &key) {
+    let inputs = verifying_of(row, &["algorithm", "key", "provider"])?;
+    match provider.verifier_factory(row.alloc(), &inputs.algorithm, &inputs.key) {
         Ok(verifier) => name_verifier(row, trial, &verifier),
         Err(refusal) => Err(Fault::from(refusal)),
     }

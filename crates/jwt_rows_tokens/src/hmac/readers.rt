@@ -1,16 +1,20 @@
 //! The results of providers for keys in DER, and their digests.
 
+use crate::inputs::{algorithm, bytes_among};
 use jsonwebtoken::crypto::CryptoProvider;
 use jsonwebtoken::errors;
 use jsonwebtoken::jwk::EllipticCurve;
 use jwt_rows::answer::{Answer, accepted, add_bytes, of_bytes, refused};
 use jwt_rows::fault::Fault;
 use jwt_rows::inputs::keys::thumbprint_hash;
-use jwt_rows::inputs::providers::algorithm_of;
 use jwt_rows::row::Row;
 use jwt_rows::trial::Trial;
 use serde_json::{Map, Value};
 use std::alloc::Global;
+
+const RSA_PRIVATE: &str = "CryptoProvider::rsa_pub_components_from_private_key";
+
+const RSA_PUBLIC: &str = "CryptoProvider::rsa_pub_components_from_public_key";
 
 /// Makes the call of this name, if it is among those of this module.
 pub fn answer<P: CryptoProvider>(
@@ -19,22 +23,14 @@ pub fn answer<P: CryptoProvider>(
     trial: &mut Trial,
     provider: &P,
 ) -> Result<Option<Value>, Fault> {
-    match call {
-        "CryptoProvider::rsa_pub_components_from_private_key" => {
-            Ok(Some(rsa_of_private(row, trial, provider)?))
-        }
-        "CryptoProvider::rsa_pub_components_from_public_key" => {
-            Ok(Some(rsa_of_public(row, trial, provider)?))
-        }
-        "CryptoProvider::ec_pub_components_from_private_key" => {
-            Ok(Some(ec_of_private(row, trial, provider)?))
-        }
-        "CryptoProvider::ed_pub_components_from_private_key" => {
-            Ok(Some(ed_of_private(row, trial, provider)?))
-        }
-        "CryptoProvider::compute_digest" => Ok(Some(digest(row, trial, provider)?)),
-        _ => Ok(None),
-    }
+    let answer = match call {
+        RSA_PRIVATE | RSA_PUBLIC => rsa_numbers(call, row, trial, provider),
+        "CryptoProvider::ec_pub_components_from_private_key" => ec_of_private(row, trial, provider),
+        "CryptoProvider::ed_pub_components_from_private_key" => ed_of_private(row, trial, provider),
+        "CryptoProvider::compute_digest" => digest(row, trial, provider),
+        _ => return Ok(None),
+    };
+    Ok(Some(answer?))
 }
 
 fn numbers(alloc: Global, n: &[u8], e: &[u8]) -> Answer {
@@ -67,28 +63,27 @@ fn of_point(alloc: Global, answer: errors::Result<(EllipticCurve, Vec<u8>, Vec<u
     }
 }
 
-fn rsa_of_private<P: CryptoProvider>(row: Row<'_>, trial: &mut Trial, provider: &P) -> Answer {
-    row.takes(&["der", "provider"])?;
-    let der = row.bytes("der")?;
+fn rsa_numbers<P: CryptoProvider>(
+    call: &str,
+    row: Row<'_>,
+    trial: &mut Trial,
+    provider: &P,
+) -> Answer {
+    let der = bytes_among(row, &["der", "provider"], "der")?;
+    let der = der.as_slice();
     trial.begin();
-    let answer = provider.rsa_pub_components_from_private_key(row.alloc(), der.as_slice());
-    trial.end();
-    of_numbers(row.alloc(), answer)
-}
-
-fn rsa_of_public<P: CryptoProvider>(row: Row<'_>, trial: &mut Trial, provider: &P) -> Answer {
-    row.takes(&["der", "provider"])?;
-    let der = row.bytes("der")?;
-    trial.begin();
-    let answer = provider.rsa_pub_components_from_public_key(row.alloc(), der.as_slice());
+    let answer = if call == RSA_PRIVATE {
+        provider.rsa_pub_components_from_private_key(row.alloc(), der)
+    } else {
+        provider.rsa_pub_components_from_public_key(row.alloc(), der)
+    };
     trial.end();
     of_numbers(row.alloc(), answer)
 }
 
 fn ec_of_private<P: CryptoProvider>(row: Row<'_>, trial: &mut Trial, provider: &P) -> Answer {
-    row.takes(&["der", "algorithm", "provider"])?;
-    let algorithm = algorithm_of(row.value("algorithm")?)?;
-    let der = row.bytes("der")?;
+    let der = bytes_among(row, &["der", "algorithm", "provider"], "der")?;
+    let algorithm = algorithm(row)?;
     let der = der.as_slice();
     trial.begin();
     let answer = provider.ec_pub_components_from_private_key(row.alloc(), der, algorithm);
@@ -104,9 +99,8 @@ fn curve_of(row: Row<'_>) -> Result<EllipticCurve, Fault> {
 }
 
 fn ed_of_private<P: CryptoProvider>(row: Row<'_>, trial: &mut Trial, provider: &P) -> Answer {
-    row.takes(&["der", "curve", "provider"])?;
+    let der = bytes_among(row, &["der", "curve", "provider"], "der")?;
     let curve = curve_of(row)?;
-    let der = row.bytes("der")?;
     let der = der.as_slice();
     trial.begin();
     let answer = provider.ed_pub_components_from_private_key(row.alloc(), der, &curve);
@@ -115,9 +109,8 @@ fn ed_of_private<P: CryptoProvider>(row: Row<'_>, trial: &mut Trial, provider: &
 }
 
 fn digest<P: CryptoProvider>(row: Row<'_>, trial: &mut Trial, provider: &P) -> Answer {
-    row.takes(&["bytes", "hash", "provider"])?;
+    let bytes = bytes_among(row, &["bytes", "hash", "provider"], "bytes")?;
     let hash = thumbprint_hash(row)?;
-    let bytes = row.bytes("bytes")?;
     let bytes = bytes.as_slice();
     trial.begin();
     let answer = provider.compute_digest(row.alloc(), bytes, hash);

@@ -1,5 +1,6 @@
 //! Keys to sign with.
 
+use crate::inputs::{only_bytes, only_text};
 use jsonwebtoken::{EncodingKey, errors};
 use jwt_rows::answer::{Answer, accepted, add_bytes, add_text, hex_value, refused};
 use jwt_rows::fault::Fault;
@@ -12,20 +13,22 @@ use std::alloc::Global;
 
 /// Makes the call of this name, if it is among those of this module.
 pub fn answer(call: &str, row: Row<'_>, trial: &mut Trial) -> Result<Option<Value>, Fault> {
-    match call {
-        "EncodingKey::from_secret" => Ok(Some(of_secret(row, trial)?)),
-        "EncodingKey::from_base64_secret" => Ok(Some(of_base64(row, trial)?)),
-        "EncodingKey::from_urlsafe_base64_secret" => Ok(Some(of_urlsafe_base64(row, trial)?)),
-        "EncodingKey::from_rsa_der" => Ok(Some(of_rsa_der(row, trial)?)),
-        "EncodingKey::from_ec_der" => Ok(Some(of_ec_der(row, trial)?)),
-        "EncodingKey::from_ed_der" => Ok(Some(of_ed_der(row, trial)?)),
-        "EncodingKey::family" => Ok(Some(family(row, trial)?)),
-        "EncodingKey::as_bytes" => Ok(Some(bytes(row, trial)?)),
-        "EncodingKey::clone" => Ok(Some(copied(row, trial)?)),
-        "EncodingKey::zeroize" => Ok(Some(zeroed(row, trial)?)),
-        "EncodingKey::debug" => Ok(Some(debug_text(row)?)),
-        _ => Ok(None),
-    }
+    let answer = match call {
+        "EncodingKey::from_secret"
+        | "EncodingKey::from_rsa_der"
+        | "EncodingKey::from_ec_der"
+        | "EncodingKey::from_ed_der" => of_bytes(call, row, trial),
+        "EncodingKey::from_base64_secret" | "EncodingKey::from_urlsafe_base64_secret" => {
+            of_text(call, row, trial)
+        }
+        "EncodingKey::family" => family(row, trial),
+        "EncodingKey::as_bytes" => bytes(row, trial),
+        "EncodingKey::clone" => copied(row, trial),
+        "EncodingKey::zeroize" => zeroed(row, trial),
+        "EncodingKey::debug" => debug_text(row),
+        _ => return Ok(None),
+    };
+    Ok(Some(answer?))
 }
 
 fn key_answer(alloc: Global, key: &EncodingKey) -> Answer {
@@ -42,63 +45,46 @@ fn of_key(alloc: Global, answer: errors::Result<EncodingKey>) -> Answer {
     }
 }
 
-fn of_secret(row: Row<'_>, trial: &mut Trial) -> Answer {
-    row.takes(&["bytes"])?;
-    let bytes = row.bytes("bytes")?;
+fn made_of_bytes(alloc: Global, call: &str, bytes: &[u8]) -> errors::Result<EncodingKey> {
+    match call {
+        "EncodingKey::from_rsa_der" => EncodingKey::from_rsa_der(alloc, bytes),
+        "EncodingKey::from_ec_der" => EncodingKey::from_ec_der(alloc, bytes),
+        "EncodingKey::from_ed_der" => EncodingKey::from_ed_der(alloc, bytes),
+        _ => EncodingKey::from_secret(alloc, bytes),
+    }
+}
+
+fn of_bytes(call: &str, row: Row<'_>, trial: &mut Trial) -> Answer {
+    let bytes = only_bytes(row, "bytes")?;
     trial.begin();
-    let answer = EncodingKey::from_secret(row.alloc(), bytes.as_slice());
+    let answer = made_of_bytes(row.alloc(), call, bytes.as_slice());
     trial.end();
     of_key(row.alloc(), answer)
 }
 
-fn of_base64(row: Row<'_>, trial: &mut Trial) -> Answer {
-    row.takes(&["text"])?;
-    let text = row.text("text")?;
+fn made_of_text(alloc: Global, call: &str, text: &str) -> errors::Result<EncodingKey> {
+    match call {
+        "EncodingKey::from_base64_secret" => EncodingKey::from_base64_secret(alloc, text),
+        _ => EncodingKey::from_urlsafe_base64_secret(alloc, text),
+    }
+}
+
+fn of_text(call: &str, row: Row<'_>, trial: &mut Trial) -> Answer {
+    let text = only_text(row, "text")?;
     trial.begin();
-    let answer = EncodingKey::from_base64_secret(row.alloc(), text);
+    let answer = made_of_text(row.alloc(), call, text);
     trial.end();
     of_key(row.alloc(), answer)
 }
 
-fn of_urlsafe_base64(row: Row<'_>, trial: &mut Trial) -> Answer {
-    row.takes(&["text"])?;
-    let text = row.text("text")?;
-    trial.begin();
-    let answer = EncodingKey::from_urlsafe_base64_secret(row.alloc(), text);
-    trial.end();
-    of_key(row.alloc(), answer)
-}
-
-fn of_rsa_der(row: Row<'_>, trial: &mut Trial) -> Answer {
-    row.takes(&["bytes"])?;
-    let bytes = row.bytes("bytes")?;
-    trial.begin();
-    let answer = EncodingKey::from_rsa_der(row.alloc(), bytes.as_slice());
-    trial.end();
-    of_key(row.alloc(), answer)
-}
-
-fn of_ec_der(row: Row<'_>, trial: &mut Trial) -> Answer {
-    row.takes(&["bytes"])?;
-    let bytes = row.bytes("bytes")?;
-    trial.begin();
-    let answer = EncodingKey::from_ec_der(row.alloc(), bytes.as_slice());
-    trial.end();
-    of_key(row.alloc(), answer)
-}
-
-fn of_ed_der(row: Row<'_>, trial: &mut Trial) -> Answer {
-    row.takes(&["bytes"])?;
-    let bytes = row.bytes("bytes")?;
-    trial.begin();
-    let answer = EncodingKey::from_ed_der(row.alloc(), bytes.as_slice());
-    trial.end();
-    of_key(row.alloc(), answer)
+// Returns the key at `key`, of a row that has no other input.
+fn only_key(row: Row<'_>) -> Result<Box<EncodingKey>, Fault> {
+    row.takes(&["key"])?;
+    encoding_key(row)
 }
 
 fn family(row: Row<'_>, trial: &mut Trial) -> Answer {
-    row.takes(&["key"])?;
-    let key = encoding_key(row)?;
+    let key = only_key(row)?;
     trial.begin();
     let family = key.family();
     trial.end();
@@ -106,8 +92,7 @@ fn family(row: Row<'_>, trial: &mut Trial) -> Answer {
 }
 
 fn bytes(row: Row<'_>, trial: &mut Trial) -> Answer {
-    row.takes(&["key"])?;
-    let key = encoding_key(row)?;
+    let key = only_key(row)?;
     trial.begin();
     let bytes = key.as_bytes();
     trial.end();
@@ -115,8 +100,7 @@ fn bytes(row: Row<'_>, trial: &mut Trial) -> Answer {
 }
 
 fn copied(row: Row<'_>, trial: &mut Trial) -> Answer {
-    row.takes(&["key"])?;
-    let key = encoding_key(row)?;
+    let key = only_key(row)?;
     trial.begin();
     let answer = key.clone(row.alloc());
     trial.end();
@@ -124,8 +108,7 @@ fn copied(row: Row<'_>, trial: &mut Trial) -> Answer {
 }
 
 fn zeroed(row: Row<'_>, trial: &mut Trial) -> Answer {
-    row.takes(&["key"])?;
-    let mut key = encoding_key(row)?;
+    let mut key = only_key(row)?;
     trial.begin();
     key.zeroize();
     trial.end();
@@ -133,8 +116,7 @@ fn zeroed(row: Row<'_>, trial: &mut Trial) -> Answer {
 }
 
 fn debug_text(row: Row<'_>) -> Answer {
-    row.takes(&["key"])?;
-    let key = encoding_key(row)?;
+    let key = only_key(row)?;
     let text = format!(in row.alloc(); "{:?}", *key)?;
     accepted(row.alloc(), Value::String(text))
 }

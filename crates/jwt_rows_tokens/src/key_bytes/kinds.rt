@@ -12,18 +12,25 @@ use std::alloc::Global;
 
 /// Makes the call of this name, if it is among those of this module.
 pub fn answer(call: &str, row: Row<'_>, trial: &mut Trial) -> Result<Option<Value>, Fault> {
-    match call {
-        "DecodingKey::family" => Ok(Some(family(row, trial)?)),
-        "DecodingKey::try_get_as_bytes" => Ok(Some(bytes(row, trial)?)),
-        "DecodingKey::kind" => Ok(Some(kind(row, trial)?)),
-        "DecodingKey::clone" => Ok(Some(copied(row, trial)?)),
-        "DecodingKey::zeroize" => Ok(Some(zeroed(row, trial)?)),
-        "DecodingKeyKind::clone" => Ok(Some(copied_kind(row, trial)?)),
-        "DecodingKeyKind::zeroize" => Ok(Some(zeroed_kind(row, trial)?)),
-        "DecodingKey::debug" => Ok(Some(debug_text(row)?)),
-        "DecodingKeyKind::debug" => Ok(Some(debug_text_of_kind(row)?)),
-        _ => Ok(None),
-    }
+    let answer = match call {
+        "DecodingKey::family" => family(row, trial),
+        "DecodingKey::try_get_as_bytes" => bytes(row, trial),
+        "DecodingKey::kind" => kind(row, trial),
+        "DecodingKey::clone" => copied(row, trial),
+        "DecodingKey::zeroize" => zeroed(row, trial),
+        "DecodingKeyKind::clone" => copied_kind(row, trial),
+        "DecodingKeyKind::zeroize" => zeroed_kind(row, trial),
+        "DecodingKey::debug" => debug_text(row),
+        "DecodingKeyKind::debug" => debug_text_of_kind(row),
+        _ => return Ok(None),
+    };
+    Ok(Some(answer?))
+}
+
+// Returns the key at `key`, of a row that has no other input.
+fn only_key(row: Row<'_>) -> Result<Box<DecodingKey>, Fault> {
+    row.takes(&["key"])?;
+    decoding_key(row)
 }
 
 fn of_kind(alloc: Global, answer: errors::Result<DecodingKeyKind>) -> Answer {
@@ -41,8 +48,7 @@ fn of_slice(alloc: Global, answer: errors::Result<&[u8]>) -> Answer {
 }
 
 fn family(row: Row<'_>, trial: &mut Trial) -> Answer {
-    row.takes(&["key"])?;
-    let key = decoding_key(row)?;
+    let key = only_key(row)?;
     trial.begin();
     let family = key.family();
     trial.end();
@@ -50,8 +56,7 @@ fn family(row: Row<'_>, trial: &mut Trial) -> Answer {
 }
 
 fn bytes(row: Row<'_>, trial: &mut Trial) -> Answer {
-    row.takes(&["key"])?;
-    let key = decoding_key(row)?;
+    let key = only_key(row)?;
     trial.begin();
     let answer = key.try_get_as_bytes();
     trial.end();
@@ -59,8 +64,7 @@ fn bytes(row: Row<'_>, trial: &mut Trial) -> Answer {
 }
 
 fn kind(row: Row<'_>, trial: &mut Trial) -> Answer {
-    row.takes(&["key"])?;
-    let key = decoding_key(row)?;
+    let key = only_key(row)?;
     trial.begin();
     let kind = key.kind();
     trial.end();
@@ -68,8 +72,7 @@ fn kind(row: Row<'_>, trial: &mut Trial) -> Answer {
 }
 
 fn copied(row: Row<'_>, trial: &mut Trial) -> Answer {
-    row.takes(&["key"])?;
-    let key = decoding_key(row)?;
+    let key = only_key(row)?;
     trial.begin();
     let answer = key.clone(row.alloc());
     trial.end();
@@ -77,8 +80,7 @@ fn copied(row: Row<'_>, trial: &mut Trial) -> Answer {
 }
 
 fn zeroed(row: Row<'_>, trial: &mut Trial) -> Answer {
-    row.takes(&["key"])?;
-    let mut key = decoding_key(row)?;
+    let mut key = only_key(row)?;
     trial.begin();
     key.zeroize();
     trial.end();
@@ -86,8 +88,7 @@ fn zeroed(row: Row<'_>, trial: &mut Trial) -> Answer {
 }
 
 fn copied_kind(row: Row<'_>, trial: &mut Trial) -> Answer {
-    row.takes(&["key"])?;
-    let key = decoding_key(row)?;
+    let key = only_key(row)?;
     trial.begin();
     let answer = key.kind().clone(row.alloc());
     trial.end();
@@ -95,8 +96,7 @@ fn copied_kind(row: Row<'_>, trial: &mut Trial) -> Answer {
 }
 
 fn zeroed_kind(row: Row<'_>, trial: &mut Trial) -> Answer {
-    row.takes(&["key"])?;
-    let key = decoding_key(row)?;
+    let key = only_key(row)?;
     let kind = key.kind().clone(row.alloc())?;
     let mut kind = Box::new(row.alloc(), kind)?;
     trial.begin();
@@ -106,15 +106,13 @@ fn zeroed_kind(row: Row<'_>, trial: &mut Trial) -> Answer {
 }
 
 fn debug_text(row: Row<'_>) -> Answer {
-    row.takes(&["key"])?;
-    let key = decoding_key(row)?;
+    let key = only_key(row)?;
     let text = format!(in row.alloc(); "{:?}", *key)?;
     accepted(row.alloc(), Value::String(text))
 }
 
 fn debug_text_of_kind(row: Row<'_>) -> Answer {
-    row.takes(&["key"])?;
-    let key = decoding_key(row)?;
+    let key = only_key(row)?;
     let kind = key.kind();
     let text = format!(in row.alloc(); "{kind:?}")?;
     accepted(row.alloc(), Value::String(text))

@@ -1,6 +1,7 @@
 //! Keys by the places of their octets in the bytes that they are read of.
 
 use super::read;
+use crate::inputs::bytes_among;
 use jsonwebtoken::DecodingKeyKind;
 use jwt_rows::answer::{Answer, accepted};
 use jwt_rows::fault::Fault;
@@ -11,12 +12,13 @@ use std::alloc::Global;
 
 /// Makes the call of this name, if it is among those of this module. Of these no request for memory is refused.
 pub fn answer(call: &str, row: Row<'_>) -> Result<Option<Value>, Fault> {
-    match call {
-        "place" => Ok(Some(place(row)?)),
-        "each_cut" => Ok(Some(each_cut(row)?)),
-        "each_change" => Ok(Some(each_change(row)?)),
-        _ => Ok(None),
-    }
+    let answer = match call {
+        "place" => place(row),
+        "each_cut" => each_cut(row),
+        "each_change" => each_change(row),
+        _ => return Ok(None),
+    };
+    Ok(Some(answer?))
 }
 
 // Texts in a row, each with the number of times that it stands there.
@@ -102,23 +104,25 @@ fn place_text(alloc: Global, call: &str, bytes: &[u8]) -> Result<String, Fault> 
     }
 }
 
+// Adds the family and the places of the key that the row's call reads of the bytes.
+fn add_place(row: Row<'_>, runs: &mut Runs, bytes: &[u8]) -> Result<(), Fault> {
+    let text = place_text(row.alloc(), row.text("of")?, bytes)?;
+    runs.add(row.alloc(), text)
+}
+
 fn place(row: Row<'_>) -> Answer {
-    row.takes(&["of", "der"])?;
-    let der = row.bytes("der")?;
+    let der = bytes_among(row, &["of", "der"], "der")?;
     let mut runs = Runs::new(row.alloc())?;
-    let text = place_text(row.alloc(), row.text("of")?, der.as_slice())?;
-    runs.add(row.alloc(), text)?;
+    add_place(row, &mut runs, der.as_slice())?;
     runs.into_answer(row.alloc())
 }
 
 fn each_cut(row: Row<'_>) -> Answer {
-    row.takes(&["of", "der"])?;
-    let der = row.bytes("der")?;
+    let der = bytes_among(row, &["of", "der"], "der")?;
     let mut runs = Runs::new(row.alloc())?;
     for end in 0..der.len() {
         let (bytes, _) = der.as_slice().split_at(end);
-        let text = place_text(row.alloc(), row.text("of")?, bytes)?;
-        runs.add(row.alloc(), text)?;
+        add_place(row, &mut runs, bytes)?;
     }
     runs.into_answer(row.alloc())
 }
@@ -132,14 +136,12 @@ fn changed(alloc: Global, der: &[u8], at: usize, mask: u8) -> Result<Vec<u8>, Fa
 }
 
 fn each_change(row: Row<'_>) -> Answer {
-    row.takes(&["of", "der", "mask"])?;
-    let der = row.bytes("der")?;
+    let der = bytes_among(row, &["of", "der", "mask"], "der")?;
     let mask = u8::try_from(row.number("mask")?).unwrap_or(0);
     let mut runs = Runs::new(row.alloc())?;
     for at in 0..der.len() {
         let bytes = changed(row.alloc(), der.as_slice(), at, mask)?;
-        let text = place_text(row.alloc(), row.text("of")?, bytes.as_slice())?;
-        runs.add(row.alloc(), text)?;
+        add_place(row, &mut runs, bytes.as_slice())?;
     }
     runs.into_answer(row.alloc())
 }

@@ -1,13 +1,14 @@
 //! A given signature as a provider.
 
-use jsonwebtoken::EncodingKey;
+use crate::inputs::{algorithm, verifying_of};
 use jsonwebtoken::crypto::signature::SignatureProvider;
 use jsonwebtoken::crypto::{CryptoProvider, JwtSigner};
 use jsonwebtoken::errors::Result as Outcome;
+use jsonwebtoken::{Algorithm, EncodingKey};
 use jwt_rows::answer::{Answer, accepted, add_bytes, add_text, of_bytes, of_nothing, refused};
 use jwt_rows::fault::Fault;
 use jwt_rows::inputs::bytes::bytes_of;
-use jwt_rows::inputs::keys::{decoding_key, encoding_key};
+use jwt_rows::inputs::keys::encoding_key;
 use jwt_rows::inputs::names::family_name;
 use jwt_rows::inputs::providers::algorithm_of;
 use jwt_rows::row::Row;
@@ -17,32 +18,51 @@ use std::alloc::Global;
 
 /// Makes the call of this name, if it is among those of this module.
 pub fn answer(call: &str, row: Row<'_>, trial: &mut Trial) -> Result<Option<Value>, Fault> {
-    match call {
-        "SignatureProvider::key" => Ok(Some(own_key(row, trial)?)),
-        "SignatureProvider::signer_factory" => Ok(Some(signer(row, trial)?)),
-        "SignatureProvider::signer_factory, sign" => Ok(Some(signed(row, trial)?)),
-        "SignatureProvider::verifier_factory" => Ok(Some(verifier(row, trial)?)),
-        _ => Ok(None),
-    }
-}
-
-/// Makes a provider of the members of a row at `given`, and calls `$call(row, trial, &provider)`.
-macro_rules! by_signature {
-    ($call:ident, $row:expr, $trial:expr) => {{
-        let described = $row.value("given")?;
-        let message = bytes_at($row.alloc(), described, "message")?;
-        let signature = bytes_at($row.alloc(), described, "signature")?;
-        let algorithm = algorithm_of(described.get("algorithm").ok_or(MALFORMED)?)?;
-        let given = SignatureProvider::new(algorithm, message.as_slice(), signature.as_slice());
-        $call($row, $trial, &given)
-    }};
+    let answer = match call {
+        "SignatureProvider::key" => own_key(row, trial),
+        "SignatureProvider::signer_factory" => signer(row, trial),
+        "SignatureProvider::signer_factory, sign" => signed(row, trial),
+        "SignatureProvider::verifier_factory" => verifier(row, trial),
+        _ => return Ok(None),
+    };
+    Ok(Some(answer?))
 }
 
 const MALFORMED: Fault = Fault::Member("given");
 
+/// A signature that was made elsewhere, and what it signs.
+#[derive(Drop)]
+struct Given {
+    algorithm: Algorithm,
+    message: Vec<u8>,
+    signature: Vec<u8>,
+}
+
 // Returns the bytes that a member of the given signature describes.
 fn bytes_at(alloc: Global, described: &Value, name: &str) -> Result<Vec<u8>, Fault> {
     bytes_of(alloc, described.get(name).ok_or(MALFORMED)?)
+}
+
+// Returns the signature at `given`.
+fn given_at(row: Row<'_>, names: &[&str]) -> Result<Box<Given>, Fault> {
+    row.takes(names)?;
+    let described = row.value("given")?;
+    let algorithm = algorithm_of(described.get("algorithm").ok_or(MALFORMED)?)?;
+    let message = bytes_at(row.alloc(), described, "message")?;
+    let signature = bytes_at(row.alloc(), described, "signature")?;
+    let given = Given {
+        algorithm,
+        message,
+        signature,
+    };
+    Ok(Box::new(row.alloc(), given)?)
+}
+
+impl Given {
+    fn provider(&self) -> SignatureProvider<'_> {
+        let (message, signature) = (self.message.as_slice(), self.signature.as_slice());
+        SignatureProvider::new(self.algorithm, message, signature)
+    }
 }
 
 fn shown_key(alloc: Global, key: &EncodingKey) -> Answer {
@@ -52,19 +72,20 @@ fn shown_key(alloc: Global, key: &EncodingKey) -> Answer {
     accepted(alloc, Value::Object(members))
 }
 
-fn key_by(row: Row<'_>, trial: &mut Trial, given: &SignatureProvider<'_>) -> Answer {
-    trial.begin();
-    let answer = given.key(row.alloc());
-    trial.end();
+fn of_key(alloc: Global, answer: Outcome<EncodingKey>) -> Answer {
     match answer {
-        Ok(key) => shown_key(row.alloc(), &key),
-        Err(refusal) => refused(row.alloc(), &refusal),
+        Ok(key) => shown_key(alloc, &key),
+        Err(refusal) => refused(alloc, &refusal),
     }
 }
 
 fn own_key(row: Row<'_>, trial: &mut Trial) -> Answer {
-    row.takes(&["given"])?;
-    by_signature!(key_by, row, trial)
+    let given = given_at(row, &["given"])?;
+    let provider = given.provider();
+    trial.begin();
+    let answer = provider.key(row.alloc());
+    trial.end();
+    of_key(row.alloc(), answer)
 }
 
 // Returns the key at `key`, or the given signature's own if the row has none.
@@ -81,25 +102,19 @@ fn made<T: Drop>(answer: Outcome<T>) -> Outcome<()> {
     Ok(())
 }
 
-fn signer_by(row: Row<'_>, trial: &mut Trial, given: &SignatureProvider<'_>) -> Answer {
-    let key = key_for(row, given)?;
-    let algorithm = algorithm_of(row.value("algorithm")?)?;
+fn signer(row: Row<'_>, trial: &mut Trial) -> Answer {
+    let given = given_at(row, &["given", "algorithm", "key"])?;
+    let provider = given.provider();
+    let key = key_for(row, &provider)?;
+    let algorithm = algorithm(row)?;
     trial.begin();
-    let answer = given.signer_factory(row.alloc(), &algorithm, &key);
+    let answer = provider.signer_factory(row.alloc(), &algorithm, &key);
     trial.end();
     of_nothing(row.alloc(), made(answer))
 }
 
-fn signer(row: Row<'_>, trial: &mut Trial) -> Answer {
-    row.takes(&["given", "algorithm", "key"])?;
-    by_signature!(signer_by, row, trial)
-}
-
-fn signed_by(row: Row<'_>, trial: &mut Trial, given: &SignatureProvider<'_>) -> Answer {
-    let key = key_for(row, given)?;
-    let algorithm = algorithm_of(row.value("algorithm")?)?;
+fn sign_with<S: JwtSigner>(row: Row<'_>, trial: &mut Trial, signer: &S) -> Answer {
     let message = row.bytes("message")?;
-    let signer = given.signer_factory(row.alloc(), &algorithm, &key)?;
     trial.begin();
     let answer = signer.sign(row.alloc(), message.as_slice());
     trial.end();
@@ -107,20 +122,19 @@ fn signed_by(row: Row<'_>, trial: &mut Trial, given: &SignatureProvider<'_>) -> 
 }
 
 fn signed(row: Row<'_>, trial: &mut Trial) -> Answer {
-    row.takes(&["given", "algorithm", "key", "message"])?;
-    by_signature!(signed_by, row, trial)
-}
-
-fn verifier_by(row: Row<'_>, trial: &mut Trial, given: &SignatureProvider<'_>) -> Answer {
-    let key = decoding_key(row)?;
-    let algorithm = algorithm_of(row.value("algorithm")?)?;
-    trial.begin();
-    let answer = given.verifier_factory(row.alloc(), &algorithm, &key);
-    trial.end();
-    of_nothing(row.alloc(), made(answer))
+    let given = given_at(row, &["given", "algorithm", "key", "message"])?;
+    let provider = given.provider();
+    let key = key_for(row, &provider)?;
+    let signer = provider.signer_factory(row.alloc(), &algorithm(row)?, &key)?;
+    sign_with(row, trial, &signer)
 }
 
 fn verifier(row: Row<'_>, trial: &mut Trial) -> Answer {
-    row.takes(&["given", "algorithm", "key"])?;
-    by_signature!(verifier_by, row, trial)
+    let inputs = verifying_of(row, &["given", "algorithm", "key"])?;
+    let given = given_at(row, &["given", "algorithm", "key"])?;
+    let provider = given.provider();
+    trial.begin();
+    let answer = provider.verifier_factory(row.alloc(), &inputs.algorithm, &inputs.key);
+    trial.end();
+    of_nothing(row.alloc(), made(answer))
 }
