@@ -3,18 +3,18 @@
 pub mod families;
 mod of_keys;
 
+use crate::inputs::{compared, hashed, only_text, only_value};
 use jsonwebtoken::Algorithm;
 use jsonwebtoken::errors::{Error, Result as Outcome};
-use jwt_rows::answer::{Answer, of_flag, of_text, of_value};
+use jwt_rows::answer::{Answer, of_text, of_value};
 use jwt_rows::fault::Fault;
 use jwt_rows::inputs::names::family_name;
 use jwt_rows::inputs::providers::algorithm_of;
 use jwt_rows::row::Row;
 use jwt_rows::trial::Trial;
-use of_keys::key_algorithm;
+use of_keys::only_key_algorithm;
 use serde_json::Value;
 use std::alloc::{AllocError, Global};
-use std::hash::{DefaultHasher, Hash, Hasher};
 
 /// Makes the call of this name, if it is among those of this module.
 pub fn answer(call: &str, row: Row<'_>, trial: &mut Trial) -> Result<Option<Value>, Fault> {
@@ -28,19 +28,20 @@ pub fn answer(call: &str, row: Row<'_>, trial: &mut Trial) -> Result<Option<Valu
 }
 
 fn of_algorithms(call: &str, row: Row<'_>, trial: &mut Trial) -> Result<Option<Value>, Fault> {
-    match call {
-        "Algorithm::name" => Ok(Some(name(row, trial)?)),
-        "Algorithm::family" => Ok(Some(family(row, trial)?)),
-        "Algorithm::from_str" => Ok(Some(parsed(row, trial)?)),
-        "Algorithm::from_value" => Ok(Some(read(row, trial)?)),
-        "Algorithm::to_value" => Ok(Some(written(row, trial)?)),
-        "Algorithm::try_from" => Ok(Some(converted(row, trial)?)),
-        "Algorithm::default" => Ok(Some(first(row, trial)?)),
-        "Algorithm::clone" => Ok(Some(copied(row, trial)?)),
-        "Algorithm::eq" => Ok(Some(are_equal(row, trial)?)),
-        "Algorithm::hash" => Ok(Some(hash_alike(row, trial)?)),
-        _ => Ok(None),
-    }
+    let answer = match call {
+        "Algorithm::name" => name(row, trial),
+        "Algorithm::family" => family(row, trial),
+        "Algorithm::from_str" => parsed(row, trial),
+        "Algorithm::from_value" => read(row, trial),
+        "Algorithm::to_value" => written(row, trial),
+        "Algorithm::try_from" => converted(row, trial),
+        "Algorithm::default" => first(row, trial),
+        "Algorithm::clone" => copied(row, trial),
+        "Algorithm::eq" => are_equal(row, trial),
+        "Algorithm::hash" => hash_alike(row, trial),
+        _ => return Ok(None),
+    };
+    Ok(Some(answer?))
 }
 
 // Returns the algorithm at a name.
@@ -48,13 +49,25 @@ fn given(row: Row<'_>, name: &'static str) -> Result<Algorithm, Fault> {
     algorithm_of(row.value(name)?)
 }
 
+/// Returns the algorithm at `algorithm`, of a row that has no other input.
+pub fn only_given(row: Row<'_>) -> Result<Algorithm, Fault> {
+    row.takes(&["algorithm"])?;
+    given(row, "algorithm")
+}
+
+// Returns the algorithms at `left` and `right`.
+fn two_given(row: Row<'_>) -> Result<(Algorithm, Algorithm), Fault> {
+    row.takes(&["left", "right"])?;
+    let left = given(row, "left")?;
+    Ok((left, given(row, "right")?))
+}
+
 fn of_algorithm(alloc: Global, answer: Outcome<Algorithm>) -> Answer {
     of_text(alloc, answer.map(Algorithm::name))
 }
 
 fn name(row: Row<'_>, trial: &mut Trial) -> Answer {
-    row.takes(&["algorithm"])?;
-    let algorithm = given(row, "algorithm")?;
+    let algorithm = only_given(row)?;
     trial.begin();
     let name = algorithm.name();
     trial.end();
@@ -62,8 +75,7 @@ fn name(row: Row<'_>, trial: &mut Trial) -> Answer {
 }
 
 fn family(row: Row<'_>, trial: &mut Trial) -> Answer {
-    row.takes(&["algorithm"])?;
-    let algorithm = given(row, "algorithm")?;
+    let algorithm = only_given(row)?;
     trial.begin();
     let family = algorithm.family();
     trial.end();
@@ -71,8 +83,7 @@ fn family(row: Row<'_>, trial: &mut Trial) -> Answer {
 }
 
 fn parsed(row: Row<'_>, trial: &mut Trial) -> Answer {
-    row.takes(&["text"])?;
-    let text = row.text("text")?;
+    let text = only_text(row, "text")?;
     trial.begin();
     let answer = text.parse::<Algorithm>();
     trial.end();
@@ -80,8 +91,7 @@ fn parsed(row: Row<'_>, trial: &mut Trial) -> Answer {
 }
 
 fn read(row: Row<'_>, trial: &mut Trial) -> Answer {
-    row.takes(&["value"])?;
-    let value = row.value("value")?;
+    let value = only_value(row)?;
     trial.begin();
     let answer = Algorithm::from_value(value);
     trial.end();
@@ -89,8 +99,7 @@ fn read(row: Row<'_>, trial: &mut Trial) -> Answer {
 }
 
 fn written(row: Row<'_>, trial: &mut Trial) -> Answer {
-    row.takes(&["algorithm"])?;
-    let algorithm = given(row, "algorithm")?;
+    let algorithm = only_given(row)?;
     trial.begin();
     let answer = algorithm.to_value(row.alloc());
     trial.end();
@@ -98,8 +107,7 @@ fn written(row: Row<'_>, trial: &mut Trial) -> Answer {
 }
 
 fn converted(row: Row<'_>, trial: &mut Trial) -> Answer {
-    row.takes(&["key_algorithm"])?;
-    let algorithm = key_algorithm(row, "key_algorithm")?;
+    let algorithm = only_key_algorithm(row)?;
     trial.begin();
     let answer = Algorithm::try_from(algorithm);
     trial.end();
@@ -115,8 +123,7 @@ fn first(row: Row<'_>, trial: &mut Trial) -> Answer {
 }
 
 fn copied(row: Row<'_>, trial: &mut Trial) -> Answer {
-    row.takes(&["algorithm"])?;
-    let algorithm = given(row, "algorithm")?;
+    let algorithm = only_given(row)?;
     trial.begin();
     let copy: Result<Algorithm, AllocError> = algorithm.clone();
     trial.end();
@@ -124,24 +131,11 @@ fn copied(row: Row<'_>, trial: &mut Trial) -> Answer {
 }
 
 fn are_equal(row: Row<'_>, trial: &mut Trial) -> Answer {
-    row.takes(&["left", "right"])?;
-    let left = given(row, "left")?;
-    let right = given(row, "right")?;
-    trial.begin();
-    let are_equal = left == right;
-    trial.end();
-    of_flag(row.alloc(), Ok(are_equal))
+    let (left, right) = two_given(row)?;
+    compared(row, trial, &left, &right)
 }
 
 fn hash_alike(row: Row<'_>, trial: &mut Trial) -> Answer {
-    row.takes(&["left", "right"])?;
-    let left = given(row, "left")?;
-    let right = given(row, "right")?;
-    let mut one = DefaultHasher::new();
-    let mut other = DefaultHasher::new();
-    right.hash(&mut other);
-    trial.begin();
-    left.hash(&mut one);
-    trial.end();
-    of_flag(row.alloc(), Ok(one.finish() == other.finish()))
+    let (left, right) = two_given(row)?;
+    hashed(row, trial, &left, &right)
 }

@@ -3,8 +3,9 @@
 mod faults;
 mod kinds;
 
+use crate::inputs::compared;
 use jsonwebtoken::errors::{Error, ErrorKind, Result as Outcome, new_error};
-use jwt_rows::answer::{Answer, of_flag, of_kind, of_string, of_text, refused};
+use jwt_rows::answer::{Answer, of_kind, of_string, of_text, refused};
 use jwt_rows::fault::Fault;
 use jwt_rows::row::Row;
 use jwt_rows::trial::Trial;
@@ -14,31 +15,56 @@ use std::alloc::Global;
 
 /// Makes the call of this name, if it is among those of this module.
 pub fn answer(call: &str, row: Row<'_>, trial: &mut Trial) -> Result<Option<Value>, Fault> {
-    match call {
-        "ErrorKind::name" => Ok(Some(name(row, trial)?)),
-        "ErrorKind::to_string" => Ok(Some(kind_to_string(row, trial)?)),
-        "ErrorKind::clone" => Ok(Some(kind_copy(row, trial)?)),
-        "ErrorKind::eq" => Ok(Some(kinds_are_equal(row, trial)?)),
-        _ => of_errors(call, row, trial),
-    }
+    let answer = match call {
+        "ErrorKind::name" => name(row, trial),
+        "ErrorKind::to_string" => kind_to_string(row, trial),
+        "ErrorKind::clone" => kind_copy(row, trial),
+        "ErrorKind::eq" => kinds_are_equal(row, trial),
+        _ => return of_errors(call, row, trial),
+    };
+    Ok(Some(answer?))
 }
 
 fn of_errors(call: &str, row: Row<'_>, trial: &mut Trial) -> Result<Option<Value>, Fault> {
-    match call {
-        "new_error" => Ok(Some(made(row, trial)?)),
-        "Error::from" => Ok(Some(converted(row, trial)?)),
-        "Error::kind" => Ok(Some(lent_kind(row, trial)?)),
-        "Error::into_kind" => Ok(Some(owned_kind(row, trial)?)),
-        "Error::to_string" => Ok(Some(error_to_string(row, trial)?)),
-        "Error::clone" => Ok(Some(error_copy(row, trial)?)),
-        "Error::eq" => Ok(Some(errors_are_equal(row, trial)?)),
-        _ => Ok(None),
-    }
+    let answer = match call {
+        "new_error" => made(row, trial),
+        "Error::from" => converted(row, trial),
+        "Error::kind" => lent_kind(row, trial),
+        "Error::into_kind" => owned_kind(row, trial),
+        "Error::to_string" => error_to_string(row, trial),
+        "Error::clone" => error_copy(row, trial),
+        "Error::eq" => errors_are_equal(row, trial),
+        _ => return Ok(None),
+    };
+    Ok(Some(answer?))
+}
+
+// Returns the kind at `kind`, of a row that has no other input.
+fn only_kind(row: Row<'_>) -> Result<Box<ErrorKind>, Fault> {
+    row.takes(&["kind"])?;
+    Ok(Box::new(row.alloc(), kind_at(row, "kind")?)?)
+}
+
+// Returns an error of the kind at a name.
+fn error_at(row: Row<'_>, name: &'static str) -> Result<Error, Fault> {
+    Ok(new_error(kind_at(row, name)?))
+}
+
+// Returns an error of the kind at `kind`, of a row that has no other input.
+fn only_error(row: Row<'_>) -> Result<Error, Fault> {
+    row.takes(&["kind"])?;
+    error_at(row, "kind")
+}
+
+// Returns errors of the kinds at `left` and `right`.
+fn two_errors(row: Row<'_>) -> Result<(Error, Error), Fault> {
+    row.takes(&["left", "right"])?;
+    let left = error_at(row, "left")?;
+    Ok((left, error_at(row, "right")?))
 }
 
 fn name(row: Row<'_>, trial: &mut Trial) -> Answer {
-    row.takes(&["kind"])?;
-    let kind = kind_at(row, "kind")?;
+    let kind = only_kind(row)?;
     trial.begin();
     let name = kind.name();
     trial.end();
@@ -46,8 +72,7 @@ fn name(row: Row<'_>, trial: &mut Trial) -> Answer {
 }
 
 fn kind_to_string(row: Row<'_>, trial: &mut Trial) -> Answer {
-    row.takes(&["kind"])?;
-    let kind = kind_at(row, "kind")?;
+    let kind = only_kind(row)?;
     trial.begin();
     let text = kind.to_string(row.alloc());
     trial.end();
@@ -62,8 +87,7 @@ fn of_copy(alloc: Global, copy: Outcome<ErrorKind>) -> Answer {
 }
 
 fn kind_copy(row: Row<'_>, trial: &mut Trial) -> Answer {
-    row.takes(&["kind"])?;
-    let kind = kind_at(row, "kind")?;
+    let kind = only_kind(row)?;
     trial.begin();
     let copy = kind.clone(row.alloc());
     trial.end();
@@ -71,13 +95,8 @@ fn kind_copy(row: Row<'_>, trial: &mut Trial) -> Answer {
 }
 
 fn kinds_are_equal(row: Row<'_>, trial: &mut Trial) -> Answer {
-    row.takes(&["left", "right"])?;
-    let left = kind_at(row, "left")?;
-    let right = kind_at(row, "right")?;
-    trial.begin();
-    let are_equal = left == right;
-    trial.end();
-    of_flag(row.alloc(), Ok(are_equal))
+    let (left, right) = two_errors(row)?;
+    compared(row, trial, left.kind(), right.kind())
 }
 
 fn made(row: Row<'_>, trial: &mut Trial) -> Answer {
@@ -102,8 +121,7 @@ fn converted(row: Row<'_>, trial: &mut Trial) -> Answer {
 }
 
 fn lent_kind(row: Row<'_>, trial: &mut Trial) -> Answer {
-    row.takes(&["kind"])?;
-    let error = new_error(kind_at(row, "kind")?);
+    let error = only_error(row)?;
     trial.begin();
     let kind = error.kind();
     trial.end();
@@ -111,8 +129,7 @@ fn lent_kind(row: Row<'_>, trial: &mut Trial) -> Answer {
 }
 
 fn owned_kind(row: Row<'_>, trial: &mut Trial) -> Answer {
-    row.takes(&["kind"])?;
-    let error = new_error(kind_at(row, "kind")?);
+    let error = only_error(row)?;
     trial.begin();
     let kind = error.into_kind();
     trial.end();
@@ -120,8 +137,7 @@ fn owned_kind(row: Row<'_>, trial: &mut Trial) -> Answer {
 }
 
 fn error_to_string(row: Row<'_>, trial: &mut Trial) -> Answer {
-    row.takes(&["kind"])?;
-    let error = new_error(kind_at(row, "kind")?);
+    let error = only_error(row)?;
     trial.begin();
     let text = error.to_string(row.alloc());
     trial.end();
@@ -129,8 +145,7 @@ fn error_to_string(row: Row<'_>, trial: &mut Trial) -> Answer {
 }
 
 fn error_copy(row: Row<'_>, trial: &mut Trial) -> Answer {
-    row.takes(&["kind"])?;
-    let error = new_error(kind_at(row, "kind")?);
+    let error = only_error(row)?;
     trial.begin();
     let copy = error.clone(row.alloc());
     trial.end();
@@ -138,11 +153,6 @@ fn error_copy(row: Row<'_>, trial: &mut Trial) -> Answer {
 }
 
 fn errors_are_equal(row: Row<'_>, trial: &mut Trial) -> Answer {
-    row.takes(&["left", "right"])?;
-    let left = new_error(kind_at(row, "left")?);
-    let right = new_error(kind_at(row, "right")?);
-    trial.begin();
-    let are_equal = left == right;
-    trial.end();
-    of_flag(row.alloc(), Ok(are_equal))
+    let (left, right) = two_errors(row)?;
+    compared(row, trial, &left, &right)
 }

@@ -3,6 +3,7 @@
 mod plain;
 mod texts;
 
+use crate::inputs::only_json;
 use jsonwebtoken::json::{has_float, value_eq, value_text};
 use jwt_rows::answer::{Answer, of_bytes, of_flag};
 use jwt_rows::fault::Fault;
@@ -12,12 +13,13 @@ use serde_json::Value;
 
 /// Makes the call of this name, if it is among those of this module.
 pub fn answer(call: &str, row: Row<'_>, trial: &mut Trial) -> Result<Option<Value>, Fault> {
-    match call {
-        "value_eq" => Ok(Some(are_equal(row, trial)?)),
-        "has_float" => Ok(Some(float_is_there(row, trial)?)),
-        "value_text" => Ok(Some(compact_text(row, trial)?)),
-        _ => of_types(call, row, trial),
-    }
+    let answer = match call {
+        "value_eq" => are_equal(row, trial),
+        "has_float" => float_is_there(row, trial),
+        "value_text" => compact_text(row, trial),
+        _ => return of_types(call, row, trial),
+    };
+    Ok(Some(answer?))
 }
 
 fn of_types(call: &str, row: Row<'_>, trial: &mut Trial) -> Result<Option<Value>, Fault> {
@@ -38,8 +40,7 @@ fn are_equal(row: Row<'_>, trial: &mut Trial) -> Answer {
 }
 
 fn float_is_there(row: Row<'_>, trial: &mut Trial) -> Answer {
-    row.takes(&["value", "value_json"])?;
-    let value = row.json("value", "value_json")?;
+    let value = only_json(row)?;
     trial.begin();
     let is_there = has_float(&value);
     trial.end();
@@ -47,8 +48,7 @@ fn float_is_there(row: Row<'_>, trial: &mut Trial) -> Answer {
 }
 
 fn compact_text(row: Row<'_>, trial: &mut Trial) -> Answer {
-    row.takes(&["value", "value_json"])?;
-    let value = row.json("value", "value_json")?;
+    let value = only_json(row)?;
     trial.begin();
     let text = value_text(row.alloc(), &value);
     trial.end();

@@ -5,6 +5,7 @@ mod algorithms;
 mod claim_rules;
 mod clock;
 mod errors;
+mod inputs;
 mod json_values;
 mod parts;
 mod validations;

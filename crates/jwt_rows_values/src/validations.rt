@@ -2,12 +2,13 @@
 
 mod shown;
 
-use crate::algorithms::families::family_at;
+use crate::algorithms::families::only_family;
+use crate::algorithms::only_given;
+use crate::inputs::{compared, only_bytes, only_json};
 use jsonwebtoken::Validation;
 use jsonwebtoken::errors::Result as Outcome;
-use jwt_rows::answer::{Answer, accepted, changed, of_flag, refused};
+use jwt_rows::answer::{Answer, accepted, changed, refused};
 use jwt_rows::fault::Fault;
-use jwt_rows::inputs::providers::algorithm_of;
 use jwt_rows::inputs::validations::{read_validation, validation};
 use jwt_rows::row::Row;
 use jwt_rows::trial::Trial;
@@ -17,31 +18,37 @@ use std::alloc::Global;
 
 /// Makes the call of this name, if it is among those of this module.
 pub fn answer(call: &str, row: Row<'_>, trial: &mut Trial) -> Result<Option<Value>, Fault> {
-    match call {
-        "Validation::new" => Ok(Some(of_algorithm(row, trial)?)),
-        "Validation::new_for_family" => Ok(Some(of_family(row, trial)?)),
-        "Validation::from_value" => Ok(Some(read(row, trial)?)),
-        "Validation::from_slice" => Ok(Some(read_text(row, trial)?)),
-        "Validation::clone" => Ok(Some(copied(row, trial)?)),
-        "Validation::eq" => Ok(Some(are_equal(row, trial)?)),
-        _ => by_setting(call, row, trial),
-    }
+    let answer = match call {
+        "Validation::new" => of_algorithm(row, trial),
+        "Validation::new_for_family" => of_family(row, trial),
+        "Validation::from_value" => read(row, trial),
+        "Validation::from_slice" => read_text(row, trial),
+        "Validation::clone" => copied(row, trial),
+        "Validation::eq" => are_equal(row, trial),
+        _ => return by_setting(call, row, trial),
+    };
+    Ok(Some(answer?))
 }
 
 fn by_setting(call: &str, row: Row<'_>, trial: &mut Trial) -> Result<Option<Value>, Fault> {
-    match call {
-        "Validation::set_audience" => Ok(Some(set_audience(row, trial)?)),
-        "Validation::set_issuer" => Ok(Some(set_issuer(row, trial)?)),
-        "Validation::set_subject" => Ok(Some(set_subject(row, trial)?)),
-        "Validation::set_required_spec_claims" => Ok(Some(set_required(row, trial)?)),
-        "Validation::set_understood_crit" => Ok(Some(set_understood(row, trial)?)),
-        _ => Ok(None),
-    }
+    let answer = match call {
+        "Validation::set_subject" => set_subject(row, trial),
+        "Validation::set_audience"
+        | "Validation::set_issuer"
+        | "Validation::set_required_spec_claims"
+        | "Validation::set_understood_crit" => set_texts(call, row, trial),
+        _ => return Ok(None),
+    };
+    Ok(Some(answer?))
+}
+
+fn options_answer(alloc: Global, options: &Validation) -> Answer {
+    accepted(alloc, members_of(alloc, options)?)
 }
 
 fn of_validation(alloc: Global, answer: Outcome<Validation>) -> Answer {
     match answer {
-        Ok(options) => members_of(alloc, &options).and_then(|members| accepted(alloc, members)),
+        Ok(options) => options_answer(alloc, &*Box::new(alloc, options)?),
         Err(refusal) => refused(alloc, &refusal),
     }
 }
@@ -55,7 +62,7 @@ fn of_setter(
     after: &Validation,
 ) -> Answer {
     match answer {
-        Ok(()) => accepted(alloc, members_of(alloc, after)?),
+        Ok(()) => options_answer(alloc, after),
         Err(refusal) => {
             if before == after {
                 refused(alloc, &refusal)
@@ -67,8 +74,7 @@ fn of_setter(
 }
 
 fn of_algorithm(row: Row<'_>, trial: &mut Trial) -> Answer {
-    row.takes(&["algorithm"])?;
-    let algorithm = algorithm_of(row.value("algorithm")?)?;
+    let algorithm = only_given(row)?;
     trial.begin();
     let answer = Validation::new(row.alloc(), algorithm);
     trial.end();
@@ -76,8 +82,7 @@ fn of_algorithm(row: Row<'_>, trial: &mut Trial) -> Answer {
 }
 
 fn of_family(row: Row<'_>, trial: &mut Trial) -> Answer {
-    row.takes(&["family"])?;
-    let family = family_at(row, "family")?;
+    let family = only_family(row)?;
     trial.begin();
     let answer = Validation::new_for_family(row.alloc(), family);
     trial.end();
@@ -85,8 +90,7 @@ fn of_family(row: Row<'_>, trial: &mut Trial) -> Answer {
 }
 
 fn read(row: Row<'_>, trial: &mut Trial) -> Answer {
-    row.takes(&["value", "value_json"])?;
-    let value = row.json("value", "value_json")?;
+    let value = only_json(row)?;
     trial.begin();
     let answer = Validation::from_value(row.alloc(), &value);
     trial.end();
@@ -94,8 +98,7 @@ fn read(row: Row<'_>, trial: &mut Trial) -> Answer {
 }
 
 fn read_text(row: Row<'_>, trial: &mut Trial) -> Answer {
-    row.takes(&["bytes"])?;
-    let bytes = row.bytes("bytes")?;
+    let bytes = only_bytes(row, "bytes")?;
     trial.begin();
     let answer = Validation::from_slice(row.alloc(), bytes.as_slice());
     trial.end();
@@ -115,40 +118,29 @@ fn are_equal(row: Row<'_>, trial: &mut Trial) -> Answer {
     row.takes(&["left", "right"])?;
     let left = read_validation(row, "left")?;
     let right = read_validation(row, "right")?;
+    compared(row, trial, &*left, &*right)
+}
+
+// Calls the setter of this name.
+fn set(alloc: Global, call: &str, options: &mut Validation, texts: &[&str]) -> Outcome<()> {
+    match call {
+        "Validation::set_audience" => options.set_audience(alloc, texts),
+        "Validation::set_issuer" => options.set_issuer(alloc, texts),
+        "Validation::set_understood_crit" => options.set_understood_crit(alloc, texts),
+        _ => options.set_required_spec_claims(alloc, texts),
+    }
+}
+
+// Calls the setter of this name with the strings that the row lists.
+fn set_texts(call: &str, row: Row<'_>, trial: &mut Trial) -> Answer {
+    row.takes(&["validation", "texts"])?;
+    let texts = row.texts("texts")?;
+    let before = validation(row)?;
+    let mut after = validation(row)?;
     trial.begin();
-    let are_equal = *left == *right;
+    let answer = set(row.alloc(), call, &mut after, texts.as_slice());
     trial.end();
-    of_flag(row.alloc(), Ok(are_equal))
-}
-
-/// Calls the setter of this name with the strings that the row lists.
-macro_rules! set_to_texts {
-    ($row:expr, $trial:expr, $set:ident) => {{
-        $row.takes(&["validation", "texts"])?;
-        let texts = $row.texts("texts")?;
-        let before = validation($row)?;
-        let mut after = validation($row)?;
-        $trial.begin();
-        let answer = after.$set($row.alloc(), texts.as_slice());
-        $trial.end();
-        of_setter($row.alloc(), answer, &before, &after)
-    }};
-}
-
-fn set_audience(row: Row<'_>, trial: &mut Trial) -> Answer {
-    set_to_texts!(row, trial, set_audience)
-}
-
-fn set_issuer(row: Row<'_>, trial: &mut Trial) -> Answer {
-    set_to_texts!(row, trial, set_issuer)
-}
-
-fn set_required(row: Row<'_>, trial: &mut Trial) -> Answer {
-    set_to_texts!(row, trial, set_required_spec_claims)
-}
-
-fn set_understood(row: Row<'_>, trial: &mut Trial) -> Answer {
-    set_to_texts!(row, trial, set_understood_crit)
+    of_setter(row.alloc(), answer, &before, &after)
 }
 
 fn set_subject(row: Row<'_>, trial: &mut Trial) -> Answer {

@@ -1,8 +1,9 @@
 //! The families of algorithms.
 
+use crate::inputs::{compared, only_value};
 use jsonwebtoken::errors::{Error, Result as Outcome};
 use jsonwebtoken::{Algorithm, AlgorithmFamily};
-use jwt_rows::answer::{Answer, accepted, of_flag, of_text, of_value};
+use jwt_rows::answer::{Answer, accepted, of_text, of_value};
 use jwt_rows::fault::Fault;
 use jwt_rows::inputs::names::family_name;
 use jwt_rows::row::Row;
@@ -12,18 +13,19 @@ use std::alloc::{AllocError, Global};
 
 /// Makes the call of this name, if it is among those of this module.
 pub fn answer(call: &str, row: Row<'_>, trial: &mut Trial) -> Result<Option<Value>, Fault> {
-    match call {
-        "AlgorithmFamily::algorithms" => Ok(Some(members(row, trial)?)),
-        "AlgorithmFamily::from_value" => Ok(Some(read(row, trial)?)),
-        "AlgorithmFamily::to_value" => Ok(Some(written(row, trial)?)),
-        "AlgorithmFamily::clone" => Ok(Some(copied(row, trial)?)),
-        "AlgorithmFamily::eq" => Ok(Some(are_equal(row, trial)?)),
-        _ => Ok(None),
-    }
+    let answer = match call {
+        "AlgorithmFamily::algorithms" => members(row, trial),
+        "AlgorithmFamily::from_value" => read(row, trial),
+        "AlgorithmFamily::to_value" => written(row, trial),
+        "AlgorithmFamily::clone" => copied(row, trial),
+        "AlgorithmFamily::eq" => are_equal(row, trial),
+        _ => return Ok(None),
+    };
+    Ok(Some(answer?))
 }
 
-/// Returns the family at a name.
-pub fn family_at(row: Row<'_>, name: &'static str) -> Result<AlgorithmFamily, Fault> {
+// Returns the family at a name.
+fn family_at(row: Row<'_>, name: &'static str) -> Result<AlgorithmFamily, Fault> {
     match row.text(name)? {
         "Hmac" => Ok(AlgorithmFamily::Hmac),
         "Rsa" => Ok(AlgorithmFamily::Rsa),
@@ -31,6 +33,12 @@ pub fn family_at(row: Row<'_>, name: &'static str) -> Result<AlgorithmFamily, Fa
         "Ed" => Ok(AlgorithmFamily::Ed),
         _ => Err(Fault::Member(name)),
     }
+}
+
+/// Returns the family at `family`, of a row that has no other input.
+pub fn only_family(row: Row<'_>) -> Result<AlgorithmFamily, Fault> {
+    row.takes(&["family"])?;
+    family_at(row, "family")
 }
 
 /// Returns the list of the names of these algorithms.
@@ -47,8 +55,7 @@ fn of_family(alloc: Global, answer: Outcome<AlgorithmFamily>) -> Answer {
 }
 
 fn members(row: Row<'_>, trial: &mut Trial) -> Answer {
-    row.takes(&["family"])?;
-    let family = family_at(row, "family")?;
+    let family = only_family(row)?;
     trial.begin();
     let algorithms = family.algorithms();
     trial.end();
@@ -56,8 +63,7 @@ fn members(row: Row<'_>, trial: &mut Trial) -> Answer {
 }
 
 fn read(row: Row<'_>, trial: &mut Trial) -> Answer {
-    row.takes(&["value"])?;
-    let value = row.value("value")?;
+    let value = only_value(row)?;
     trial.begin();
     let answer = AlgorithmFamily::from_value(value);
     trial.end();
@@ -65,8 +71,7 @@ fn read(row: Row<'_>, trial: &mut Trial) -> Answer {
 }
 
 fn written(row: Row<'_>, trial: &mut Trial) -> Answer {
-    row.takes(&["family"])?;
-    let family = family_at(row, "family")?;
+    let family = only_family(row)?;
     trial.begin();
     let answer = family.to_value(row.alloc());
     trial.end();
@@ -74,8 +79,7 @@ fn written(row: Row<'_>, trial: &mut Trial) -> Answer {
 }
 
 fn copied(row: Row<'_>, trial: &mut Trial) -> Answer {
-    row.takes(&["family"])?;
-    let family = family_at(row, "family")?;
+    let family = only_family(row)?;
     trial.begin();
     let copy: Result<AlgorithmFamily, AllocError> = family.clone();
     trial.end();
@@ -86,8 +90,5 @@ fn are_equal(row: Row<'_>, trial: &mut Trial) -> Answer {
     row.takes(&["left", "right"])?;
     let left = family_at(row, "left")?;
     let right = family_at(row, "right")?;
-    trial.begin();
-    let are_equal = left == right;
-    trial.end();
-    of_flag(row.alloc(), Ok(are_equal))
+    compared(row, trial, &left, &right)
 }

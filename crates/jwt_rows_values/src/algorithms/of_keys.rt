@@ -1,30 +1,31 @@
 //! The algorithms of keys (RFC 7517 section 4.4).
 
-use crate::algorithms::given;
+use crate::algorithms::only_given;
+use crate::inputs::{compared, hashed, only_text, only_value};
 use jsonwebtoken::errors::{Error, Result as Outcome};
 use jsonwebtoken::jwk::KeyAlgorithm;
-use jwt_rows::answer::{Answer, of_flag, of_string, of_text, of_value};
+use jwt_rows::answer::{Answer, of_string, of_text, of_value};
 use jwt_rows::fault::Fault;
 use jwt_rows::row::Row;
 use jwt_rows::trial::Trial;
 use serde_json::Value;
 use std::alloc::{AllocError, Global};
-use std::hash::{DefaultHasher, Hash, Hasher};
 
 /// Makes the call of this name, if it is among those of this module.
 pub fn answer(call: &str, row: Row<'_>, trial: &mut Trial) -> Result<Option<Value>, Fault> {
-    match call {
-        "KeyAlgorithm::name" => Ok(Some(name(row, trial)?)),
-        "KeyAlgorithm::to_string" => Ok(Some(shown(row, trial)?)),
-        "KeyAlgorithm::from_str" => Ok(Some(parsed(row, trial)?)),
-        "KeyAlgorithm::from_value" => Ok(Some(read(row, trial)?)),
-        "KeyAlgorithm::to_value" => Ok(Some(written(row, trial)?)),
-        "KeyAlgorithm::from" => Ok(Some(converted(row, trial)?)),
-        "KeyAlgorithm::clone" => Ok(Some(copied(row, trial)?)),
-        "KeyAlgorithm::eq" => Ok(Some(are_equal(row, trial)?)),
-        "KeyAlgorithm::hash" => Ok(Some(hash_alike(row, trial)?)),
-        _ => Ok(None),
-    }
+    let answer = match call {
+        "KeyAlgorithm::name" => name(row, trial),
+        "KeyAlgorithm::to_string" => shown(row, trial),
+        "KeyAlgorithm::from_str" => parsed(row, trial),
+        "KeyAlgorithm::from_value" => read(row, trial),
+        "KeyAlgorithm::to_value" => written(row, trial),
+        "KeyAlgorithm::from" => converted(row, trial),
+        "KeyAlgorithm::clone" => copied(row, trial),
+        "KeyAlgorithm::eq" => are_equal(row, trial),
+        "KeyAlgorithm::hash" => hash_alike(row, trial),
+        _ => return Ok(None),
+    };
+    Ok(Some(answer?))
 }
 
 fn that_signs(name: &str) -> Option<KeyAlgorithm> {
@@ -55,8 +56,8 @@ fn that_encrypts(name: &str) -> Option<KeyAlgorithm> {
     }
 }
 
-/// Returns the algorithm of keys at a name.
-pub fn key_algorithm(row: Row<'_>, name: &'static str) -> Result<KeyAlgorithm, Fault> {
+// Returns the algorithm of keys at a name.
+fn key_algorithm(row: Row<'_>, name: &'static str) -> Result<KeyAlgorithm, Fault> {
     let text = row.text(name)?;
     match that_signs(text) {
         Some(algorithm) => Ok(algorithm),
@@ -64,13 +65,25 @@ pub fn key_algorithm(row: Row<'_>, name: &'static str) -> Result<KeyAlgorithm, F
     }
 }
 
+/// Returns the algorithm of keys at `key_algorithm`, of a row that has no other input.
+pub fn only_key_algorithm(row: Row<'_>) -> Result<KeyAlgorithm, Fault> {
+    row.takes(&["key_algorithm"])?;
+    key_algorithm(row, "key_algorithm")
+}
+
+// Returns the algorithms of keys at `left` and `right`.
+fn two_key_algorithms(row: Row<'_>) -> Result<(KeyAlgorithm, KeyAlgorithm), Fault> {
+    row.takes(&["left", "right"])?;
+    let left = key_algorithm(row, "left")?;
+    Ok((left, key_algorithm(row, "right")?))
+}
+
 fn of_key_algorithm(alloc: Global, answer: Outcome<KeyAlgorithm>) -> Answer {
     of_text(alloc, answer.map(KeyAlgorithm::name))
 }
 
 fn name(row: Row<'_>, trial: &mut Trial) -> Answer {
-    row.takes(&["key_algorithm"])?;
-    let algorithm = key_algorithm(row, "key_algorithm")?;
+    let algorithm = only_key_algorithm(row)?;
     trial.begin();
     let name = algorithm.name();
     trial.end();
@@ -78,8 +91,7 @@ fn name(row: Row<'_>, trial: &mut Trial) -> Answer {
 }
 
 fn shown(row: Row<'_>, trial: &mut Trial) -> Answer {
-    row.takes(&["key_algorithm"])?;
-    let algorithm = key_algorithm(row, "key_algorithm")?;
+    let algorithm = only_key_algorithm(row)?;
     trial.begin();
     let text = algorithm.to_string(row.alloc());
     trial.end();
@@ -87,8 +99,7 @@ fn shown(row: Row<'_>, trial: &mut Trial) -> Answer {
 }
 
 fn parsed(row: Row<'_>, trial: &mut Trial) -> Answer {
-    row.takes(&["text"])?;
-    let text = row.text("text")?;
+    let text = only_text(row, "text")?;
     trial.begin();
     let answer = text.parse::<KeyAlgorithm>();
     trial.end();
@@ -96,8 +107,7 @@ fn parsed(row: Row<'_>, trial: &mut Trial) -> Answer {
 }
 
 fn read(row: Row<'_>, trial: &mut Trial) -> Answer {
-    row.takes(&["value"])?;
-    let value = row.value("value")?;
+    let value = only_value(row)?;
     trial.begin();
     let answer = KeyAlgorithm::from_value(value);
     trial.end();
@@ -105,8 +115,7 @@ fn read(row: Row<'_>, trial: &mut Trial) -> Answer {
 }
 
 fn written(row: Row<'_>, trial: &mut Trial) -> Answer {
-    row.takes(&["key_algorithm"])?;
-    let algorithm = key_algorithm(row, "key_algorithm")?;
+    let algorithm = only_key_algorithm(row)?;
     trial.begin();
     let answer = algorithm.to_value(row.alloc());
     trial.end();
@@ -114,8 +123,7 @@ fn written(row: Row<'_>, trial: &mut Trial) -> Answer {
 }
 
 fn converted(row: Row<'_>, trial: &mut Trial) -> Answer {
-    row.takes(&["algorithm"])?;
-    let algorithm = given(row, "algorithm")?;
+    let algorithm = only_given(row)?;
     trial.begin();
     let converted = KeyAlgorithm::from(algorithm);
     trial.end();
@@ -123,8 +131,7 @@ fn converted(row: Row<'_>, trial: &mut Trial) -> Answer {
 }
 
 fn copied(row: Row<'_>, trial: &mut Trial) -> Answer {
-    row.takes(&["key_algorithm"])?;
-    let algorithm = key_algorithm(row, "key_algorithm")?;
+    let algorithm = only_key_algorithm(row)?;
     trial.begin();
     let copy: Result<KeyAlgorithm, AllocError> = algorithm.clone();
     trial.end();
@@ -132,24 +139,11 @@ fn copied(row: Row<'_>, trial: &mut Trial) -> Answer {
 }
 
 fn are_equal(row: Row<'_>, trial: &mut Trial) -> Answer {
-    row.takes(&["left", "right"])?;
-    let left = key_algorithm(row, "left")?;
-    let right = key_algorithm(row, "right")?;
-    trial.begin();
-    let are_equal = left == right;
-    trial.end();
-    of_flag(row.alloc(), Ok(are_equal))
+    let (left, right) = two_key_algorithms(row)?;
+    compared(row, trial, &left, &right)
 }
 
 fn hash_alike(row: Row<'_>, trial: &mut Trial) -> Answer {
-    row.takes(&["left", "right"])?;
-    let left = key_algorithm(row, "left")?;
-    let right = key_algorithm(row, "right")?;
-    let mut one = DefaultHasher::new();
-    let mut other = DefaultHasher::new();
-    right.hash(&mut other);
-    trial.begin();
-    left.hash(&mut one);
-    trial.end();
-    of_flag(row.alloc(), Ok(one.finish() == other.finish()))
+    let (left, right) = two_key_algorithms(row)?;
+    hashed(row, trial, &left, &right)
 }

@@ -1,5 +1,6 @@
 //! Claims of the plain types: strings, truth values, whole numbers and JSON values.
 
+use crate::inputs::only_json;
 use jsonwebtoken::errors::Result as Outcome;
 use jsonwebtoken::json::Claims;
 use jwt_rows::answer::{Answer, accepted, of_bytes, of_value, refused};
@@ -17,62 +18,56 @@ pub fn answer(call: &str, row: Row<'_>, trial: &mut Trial) -> Result<Option<Valu
     match method {
         "from_value" => by_reading(name, row, trial),
         "from_owned" => by_taking(name, row, trial),
-        "to_value" => by_writing(name, row, trial),
-        "to_text" => by_printing(name, row, trial),
+        "to_value" | "to_text" => by_writing(method, name, row, trial),
         _ => Ok(None),
     }
 }
 
 fn by_reading(name: &str, row: Row<'_>, trial: &mut Trial) -> Result<Option<Value>, Fault> {
-    match name {
-        "String" => Ok(Some(read::<String>(row, trial)?)),
-        "bool" => Ok(Some(read::<bool>(row, trial)?)),
-        "u32" => Ok(Some(read::<u32>(row, trial)?)),
-        "u64" => Ok(Some(read::<u64>(row, trial)?)),
-        "i32" => Ok(Some(read::<i32>(row, trial)?)),
-        "i64" => Ok(Some(read::<i64>(row, trial)?)),
-        "Value" => Ok(Some(read::<Value>(row, trial)?)),
-        _ => Ok(None),
-    }
+    let answer = match name {
+        "String" => read::<String>(row, trial),
+        "bool" => read::<bool>(row, trial),
+        "u32" => read::<u32>(row, trial),
+        "u64" => read::<u64>(row, trial),
+        "i32" => read::<i32>(row, trial),
+        "i64" => read::<i64>(row, trial),
+        "Value" => read::<Value>(row, trial),
+        _ => return Ok(None),
+    };
+    Ok(Some(answer?))
 }
 
 fn by_taking(name: &str, row: Row<'_>, trial: &mut Trial) -> Result<Option<Value>, Fault> {
-    match name {
-        "String" => Ok(Some(taken::<String>(row, trial)?)),
-        "bool" => Ok(Some(taken::<bool>(row, trial)?)),
-        "u32" => Ok(Some(taken::<u32>(row, trial)?)),
-        "u64" => Ok(Some(taken::<u64>(row, trial)?)),
-        "i32" => Ok(Some(taken::<i32>(row, trial)?)),
-        "i64" => Ok(Some(taken::<i64>(row, trial)?)),
-        "Value" => Ok(Some(taken::<Value>(row, trial)?)),
-        _ => Ok(None),
-    }
+    let answer = match name {
+        "String" => taken::<String>(row, trial),
+        "bool" => taken::<bool>(row, trial),
+        "u32" => taken::<u32>(row, trial),
+        "u64" => taken::<u64>(row, trial),
+        "i32" => taken::<i32>(row, trial),
+        "i64" => taken::<i64>(row, trial),
+        "Value" => taken::<Value>(row, trial),
+        _ => return Ok(None),
+    };
+    Ok(Some(answer?))
 }
 
-fn by_writing(name: &str, row: Row<'_>, trial: &mut Trial) -> Result<Option<Value>, Fault> {
-    match name {
-        "String" => Ok(Some(written(row, trial, &string(row)?)?)),
-        "bool" => Ok(Some(written(row, trial, &row.flag("value")?)?)),
-        "u32" => Ok(Some(written(row, trial, &small(row)?)?)),
-        "u64" => Ok(Some(written(row, trial, &row.number("value")?)?)),
-        "i32" => Ok(Some(written(row, trial, &small_signed(row)?)?)),
-        "i64" => Ok(Some(written(row, trial, &signed(row)?)?)),
-        "Value" => Ok(Some(written(row, trial, &any_value(row)?)?)),
-        _ => Ok(None),
-    }
-}
-
-fn by_printing(name: &str, row: Row<'_>, trial: &mut Trial) -> Result<Option<Value>, Fault> {
-    match name {
-        "String" => Ok(Some(printed(row, trial, &string(row)?)?)),
-        "bool" => Ok(Some(printed(row, trial, &row.flag("value")?)?)),
-        "u32" => Ok(Some(printed(row, trial, &small(row)?)?)),
-        "u64" => Ok(Some(printed(row, trial, &row.number("value")?)?)),
-        "i32" => Ok(Some(printed(row, trial, &small_signed(row)?)?)),
-        "i64" => Ok(Some(printed(row, trial, &signed(row)?)?)),
-        "Value" => Ok(Some(printed(row, trial, &any_value(row)?)?)),
-        _ => Ok(None),
-    }
+fn by_writing(
+    method: &str,
+    name: &str,
+    row: Row<'_>,
+    trial: &mut Trial,
+) -> Result<Option<Value>, Fault> {
+    let answer = match name {
+        "String" => written(method, row, trial, &string(row)?),
+        "bool" => written(method, row, trial, &row.flag("value")?),
+        "u32" => written(method, row, trial, &small(row)?),
+        "u64" => written(method, row, trial, &row.number("value")?),
+        "i32" => written(method, row, trial, &small_signed(row)?),
+        "i64" => written(method, row, trial, &signed(row)?),
+        "Value" => written(method, row, trial, &any_value(row)?),
+        _ => return Ok(None),
+    };
+    Ok(Some(answer?))
 }
 
 fn any_value(row: Row<'_>) -> Result<Value, Fault> {
@@ -110,8 +105,7 @@ fn of_claims<T: Claims + Into<Value>>(alloc: Global, answer: Outcome<T>) -> Answ
 }
 
 fn read<T: Claims + Into<Value>>(row: Row<'_>, trial: &mut Trial) -> Answer {
-    row.takes(&["value", "value_json"])?;
-    let value = any_value(row)?;
+    let value = only_json(row)?;
     trial.begin();
     let answer = T::from_value(row.alloc(), &value);
     trial.end();
@@ -119,26 +113,32 @@ fn read<T: Claims + Into<Value>>(row: Row<'_>, trial: &mut Trial) -> Answer {
 }
 
 fn taken<T: Claims + Into<Value>>(row: Row<'_>, trial: &mut Trial) -> Answer {
-    row.takes(&["value", "value_json"])?;
-    let value = any_value(row)?;
+    let value = only_json(row)?;
     trial.begin();
     let answer = T::from_owned(row.alloc(), value);
     trial.end();
     of_claims(row.alloc(), answer)
 }
 
-fn written<T: Claims>(row: Row<'_>, trial: &mut Trial, claims: &T) -> Answer {
-    row.takes(&["value", "value_json"])?;
+fn value_written<T: Claims>(row: Row<'_>, trial: &mut Trial, claims: &T) -> Answer {
     trial.begin();
     let answer = claims.to_value(row.alloc());
     trial.end();
     of_value(row.alloc(), answer)
 }
 
-fn printed<T: Claims>(row: Row<'_>, trial: &mut Trial, claims: &T) -> Answer {
-    row.takes(&["value", "value_json"])?;
+fn text_written<T: Claims>(row: Row<'_>, trial: &mut Trial, claims: &T) -> Answer {
     trial.begin();
     let answer = claims.to_text(row.alloc());
     trial.end();
     of_bytes(row.alloc(), answer)
+}
+
+fn written<T: Claims>(method: &str, row: Row<'_>, trial: &mut Trial, claims: &T) -> Answer {
+    row.takes(&["value", "value_json"])?;
+    if method == "to_value" {
+        value_written(row, trial, claims)
+    } else {
+        text_written(row, trial, claims)
+    }
 }

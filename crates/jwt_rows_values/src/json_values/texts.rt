@@ -1,40 +1,42 @@
 //! `Text` and `Texts`.
 
+use crate::inputs::{compared, hashed, only_text};
 use jsonwebtoken::errors::Result as Outcome;
 use jsonwebtoken::{Text, Texts};
-use jwt_rows::answer::{Answer, accepted, of_flag, of_text, refused};
+use jwt_rows::answer::{Answer, accepted, of_text, refused};
 use jwt_rows::fault::Fault;
 use jwt_rows::row::Row;
 use jwt_rows::trial::Trial;
 use serde_json::Value;
 use std::alloc::Global;
-use std::hash::{DefaultHasher, Hash, Hasher};
 
 /// Makes the call of this name, if it is among those of this module.
 pub fn answer(call: &str, row: Row<'_>, trial: &mut Trial) -> Result<Option<Value>, Fault> {
-    match call {
-        "Text::from_str" => Ok(Some(text_made(row, trial)?)),
-        "Text::from" => Ok(Some(text_of_string(row, trial)?)),
-        "Text::as_str" => Ok(Some(text_lent(row, trial)?)),
-        "Text::into_string" => Ok(Some(string_of_text(row, trial)?)),
-        "Text::clone" => Ok(Some(text_copied(row, trial)?)),
-        "Text::eq" => Ok(Some(texts_are_equal(row, trial)?)),
-        "Text::hash" => Ok(Some(texts_hash_alike(row, trial)?)),
-        _ => of_lists(call, row, trial),
-    }
+    let answer = match call {
+        "Text::from_str" => text_made(row, trial),
+        "Text::from" => text_of_string(row, trial),
+        "Text::as_str" => text_lent(row, trial),
+        "Text::into_string" => string_of_text(row, trial),
+        "Text::clone" => text_copied(row, trial),
+        "Text::eq" => texts_are_equal(row, trial),
+        "Text::hash" => texts_hash_alike(row, trial),
+        _ => return of_lists(call, row, trial),
+    };
+    Ok(Some(answer?))
 }
 
 fn of_lists(call: &str, row: Row<'_>, trial: &mut Trial) -> Result<Option<Value>, Fault> {
-    match call {
-        "Texts::from_slice" => Ok(Some(list_made(row, trial)?)),
-        "Texts::from" => Ok(Some(list_of_vec(row, trial)?)),
-        "Texts::as_slice" => Ok(Some(list_lent(row, trial)?)),
-        "Texts::into_vec" => Ok(Some(vec_of_list(row, trial)?)),
-        "Texts::clone" => Ok(Some(list_copied(row, trial)?)),
-        "Texts::eq" => Ok(Some(lists_are_equal(row, trial)?)),
-        "Texts::hash" => Ok(Some(lists_hash_alike(row, trial)?)),
-        _ => Ok(None),
-    }
+    let answer = match call {
+        "Texts::from_slice" => list_made(row, trial),
+        "Texts::from" => list_of_vec(row, trial),
+        "Texts::as_slice" => list_lent(row, trial),
+        "Texts::into_vec" => vec_of_list(row, trial),
+        "Texts::clone" => list_copied(row, trial),
+        "Texts::eq" => lists_are_equal(row, trial),
+        "Texts::hash" => lists_hash_alike(row, trial),
+        _ => return Ok(None),
+    };
+    Ok(Some(answer?))
 }
 
 fn text_at(row: Row<'_>, name: &'static str) -> Result<Text, Fault> {
@@ -52,6 +54,32 @@ fn vec_at(row: Row<'_>, name: &'static str) -> Result<Vec<Text>, Fault> {
 
 fn list_at(row: Row<'_>, name: &'static str) -> Result<Texts, Fault> {
     Ok(Texts::from(vec_at(row, name)?))
+}
+
+// Returns the text at `text`, of a row that has no other input.
+fn one_text(row: Row<'_>) -> Result<Text, Fault> {
+    row.takes(&["text"])?;
+    text_at(row, "text")
+}
+
+// Returns the texts at `left` and `right`.
+fn two_texts(row: Row<'_>) -> Result<(Text, Text), Fault> {
+    row.takes(&["left", "right"])?;
+    let left = text_at(row, "left")?;
+    Ok((left, text_at(row, "right")?))
+}
+
+// Returns the list at `texts`, of a row that has no other input.
+fn one_list(row: Row<'_>) -> Result<Texts, Fault> {
+    row.takes(&["texts"])?;
+    list_at(row, "texts")
+}
+
+// Returns the lists at `left` and `right`.
+fn two_lists(row: Row<'_>) -> Result<(Texts, Texts), Fault> {
+    row.takes(&["left", "right"])?;
+    let left = list_at(row, "left")?;
+    Ok((left, list_at(row, "right")?))
 }
 
 fn of_one(alloc: Global, answer: Outcome<Text>) -> Answer {
@@ -77,8 +105,7 @@ fn of_list(alloc: Global, answer: Outcome<Texts>) -> Answer {
 }
 
 fn text_made(row: Row<'_>, trial: &mut Trial) -> Answer {
-    row.takes(&["text"])?;
-    let text = row.text("text")?;
+    let text = only_text(row, "text")?;
     trial.begin();
     let answer = Text::from_str(row.alloc(), text);
     trial.end();
@@ -86,8 +113,7 @@ fn text_made(row: Row<'_>, trial: &mut Trial) -> Answer {
 }
 
 fn text_of_string(row: Row<'_>, trial: &mut Trial) -> Answer {
-    row.takes(&["text"])?;
-    let string = String::from_str(row.alloc(), row.text("text")?)?;
+    let string = String::from_str(row.alloc(), only_text(row, "text")?)?;
     trial.begin();
     let text = Text::from(string);
     trial.end();
@@ -95,8 +121,7 @@ fn text_of_string(row: Row<'_>, trial: &mut Trial) -> Answer {
 }
 
 fn text_lent(row: Row<'_>, trial: &mut Trial) -> Answer {
-    row.takes(&["text"])?;
-    let text = text_at(row, "text")?;
+    let text = one_text(row)?;
     trial.begin();
     let characters = text.as_str();
     trial.end();
@@ -104,8 +129,7 @@ fn text_lent(row: Row<'_>, trial: &mut Trial) -> Answer {
 }
 
 fn string_of_text(row: Row<'_>, trial: &mut Trial) -> Answer {
-    row.takes(&["text"])?;
-    let text = text_at(row, "text")?;
+    let text = one_text(row)?;
     trial.begin();
     let string = text.into_string();
     trial.end();
@@ -113,8 +137,7 @@ fn string_of_text(row: Row<'_>, trial: &mut Trial) -> Answer {
 }
 
 fn text_copied(row: Row<'_>, trial: &mut Trial) -> Answer {
-    row.takes(&["text"])?;
-    let text = text_at(row, "text")?;
+    let text = one_text(row)?;
     trial.begin();
     let answer = text.clone(row.alloc());
     trial.end();
@@ -122,31 +145,13 @@ fn text_copied(row: Row<'_>, trial: &mut Trial) -> Answer {
 }
 
 fn texts_are_equal(row: Row<'_>, trial: &mut Trial) -> Answer {
-    row.takes(&["left", "right"])?;
-    let left = text_at(row, "left")?;
-    let right = text_at(row, "right")?;
-    trial.begin();
-    let are_equal = left == right;
-    trial.end();
-    of_flag(row.alloc(), Ok(are_equal))
+    let (left, right) = two_texts(row)?;
+    compared(row, trial, &left, &right)
 }
 
 fn texts_hash_alike(row: Row<'_>, trial: &mut Trial) -> Answer {
-    row.takes(&["left", "right"])?;
-    let left = text_at(row, "left")?;
-    let right = text_at(row, "right")?;
-    hash_alike(row, trial, &left, &right)
-}
-
-// Returns whether both values leave a hasher with the same number.
-fn hash_alike<T: Hash>(row: Row<'_>, trial: &mut Trial, left: &T, right: &T) -> Answer {
-    let mut one = DefaultHasher::new();
-    let mut other = DefaultHasher::new();
-    right.hash(&mut other);
-    trial.begin();
-    left.hash(&mut one);
-    trial.end();
-    of_flag(row.alloc(), Ok(one.finish() == other.finish()))
+    let (left, right) = two_texts(row)?;
+    hashed(row, trial, &left, &right)
 }
 
 fn list_made(row: Row<'_>, trial: &mut Trial) -> Answer {
@@ -168,8 +173,7 @@ fn list_of_vec(row: Row<'_>, trial: &mut Trial) -> Answer {
 }
 
 fn list_lent(row: Row<'_>, trial: &mut Trial) -> Answer {
-    row.takes(&["texts"])?;
-    let list = list_at(row, "texts")?;
+    let list = one_list(row)?;
     trial.begin();
     let texts = list.as_slice();
     trial.end();
@@ -177,8 +181,7 @@ fn list_lent(row: Row<'_>, trial: &mut Trial) -> Answer {
 }
 
 fn vec_of_list(row: Row<'_>, trial: &mut Trial) -> Answer {
-    row.takes(&["texts"])?;
-    let list = list_at(row, "texts")?;
+    let list = one_list(row)?;
     trial.begin();
     let texts = list.into_vec();
     trial.end();
@@ -186,8 +189,7 @@ fn vec_of_list(row: Row<'_>, trial: &mut Trial) -> Answer {
 }
 
 fn list_copied(row: Row<'_>, trial: &mut Trial) -> Answer {
-    row.takes(&["texts"])?;
-    let list = list_at(row, "texts")?;
+    let list = one_list(row)?;
     trial.begin();
     let answer = list.clone(row.alloc());
     trial.end();
@@ -195,18 +197,11 @@ fn list_copied(row: Row<'_>, trial: &mut Trial) -> Answer {
 }
 
 fn lists_are_equal(row: Row<'_>, trial: &mut Trial) -> Answer {
-    row.takes(&["left", "right"])?;
-    let left = list_at(row, "left")?;
-    let right = list_at(row, "right")?;
-    trial.begin();
-    let are_equal = left == right;
-    trial.end();
-    of_flag(row.alloc(), Ok(are_equal))
+    let (left, right) = two_lists(row)?;
+    compared(row, trial, &left, &right)
 }
 
 fn lists_hash_alike(row: Row<'_>, trial: &mut Trial) -> Answer {
-    row.takes(&["left", "right"])?;
-    let left = list_at(row, "left")?;
-    let right = list_at(row, "right")?;
-    hash_alike(row, trial, &left, &right)
+    let (left, right) = two_lists(row)?;
+    hashed(row, trial, &left, &right)
 }
