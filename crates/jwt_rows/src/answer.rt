@@ -5,7 +5,7 @@ pub mod keys;
 
 use crate::fault::Fault;
 use jsonwebtoken::errors::{Error, ErrorKind, Result};
-use serde_json::{Map, Value};
+use serde_json::{Map, Value, put};
 use std::alloc::Global;
 
 /// The value of a result, or the reason for which the row could not be tried.
@@ -14,15 +14,15 @@ pub type Answer = Result<Value, Fault>;
 /// Returns an object with this one member.
 pub fn object(alloc: Global, name: &str, value: Value) -> Answer {
     let mut members = Map::new(alloc);
-    members.insert(String::from_str(alloc, name)?, value)?;
+    put(&mut members, alloc, name, value)?;
     Ok(Value::Object(members))
 }
 
 /// Returns an object with these two members.
 pub fn pair(alloc: Global, first: (&str, Value), second: (&str, Value)) -> Answer {
     let mut members = Map::new(alloc);
-    members.insert(String::from_str(alloc, first.0)?, first.1)?;
-    members.insert(String::from_str(alloc, second.0)?, second.1)?;
+    put(&mut members, alloc, first.0, first.1)?;
+    put(&mut members, alloc, second.0, second.1)?;
     Ok(Value::Object(members))
 }
 
@@ -135,7 +135,7 @@ pub fn add_bytes(
     bytes: &[u8],
 ) -> Result<(), Fault> {
     let digits = hex_value(alloc, bytes)?;
-    members.insert(String::from_str(alloc, name)?, digits)?;
+    put(members, alloc, name, digits)?;
     Ok(())
 }
 
@@ -147,6 +147,6 @@ pub fn add_text(
     given: &str,
 ) -> Result<(), Fault> {
     let string = text(alloc, given)?;
-    members.insert(String::from_str(alloc, name)?, string)?;
+    put(members, alloc, name, string)?;
     Ok(())
 }
