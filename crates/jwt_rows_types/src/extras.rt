@@ -16,8 +16,8 @@ impl JsonType for Extras {
         boxed(alloc, extras_of(alloc, value))
     }
 
-    fn shown(&self, alloc: Global) -> Answer {
-        shown_own(alloc, self)
+    fn shown(&self, _alloc: Global) -> Answer {
+        shown_extras(self)
     }
 
     fn read(alloc: Global, value: &Value) -> errors::Result<Extras> {
@@ -33,21 +33,18 @@ impl JsonType for Extras {
     }
 }
 
-fn shown_own(_alloc: Global, extras: &Extras) -> Answer {
-    shown_extras(extras)
-}
-
 /// Makes the call of this name, if it is among those of this module.
 pub fn answer(call: &str, row: Row<'_>, trial: &mut Trial) -> Result<Option<Value>, Fault> {
-    match call.split_once("::") {
-        Some(("Extras", "new")) => Ok(Some(new(row, trial)?)),
-        Some(("Extras", "inner")) => Ok(Some(lent(row, trial)?)),
-        Some(("Extras", "contains")) => Ok(Some(contains(row, trial)?)),
-        Some(("Extras", "get")) => Ok(Some(got_as(row, trial)?)),
-        Some(("Extras", "insert")) => Ok(Some(inserted_as(row, trial)?)),
-        Some(("Extras", call)) => call_of::<Extras>(call, row, trial),
-        _ => Ok(None),
-    }
+    let answer = match call.split_once("::") {
+        Some(("Extras", "new")) => new(row, trial),
+        Some(("Extras", "inner")) => lent(row, trial),
+        Some(("Extras", "contains")) => contains(row, trial),
+        Some(("Extras", "get")) => got_as(row, trial),
+        Some(("Extras", "insert")) => inserted_as(row, trial),
+        Some(("Extras", call)) => return call_of::<Extras>(call, row, trial),
+        _ => return Ok(None),
+    };
+    Ok(Some(answer?))
 }
 
 fn new(row: Row<'_>, trial: &mut Trial) -> Answer {
@@ -58,9 +55,14 @@ fn new(row: Row<'_>, trial: &mut Trial) -> Answer {
     of_type(row, Ok(extras))
 }
 
+// Returns the extras at a name.
+fn extras_at(row: Row<'_>, name: &'static str) -> Result<Box<Extras>, Fault> {
+    Extras::described(row.alloc(), row.value(name)?)
+}
+
 fn lent(row: Row<'_>, trial: &mut Trial) -> Answer {
     row.takes(&["value"])?;
-    let extras = extras_of(row.alloc(), row.value("value")?)?;
+    let extras = extras_at(row, "value")?;
     trial.begin();
     let members = extras.inner();
     trial.end();
@@ -69,8 +71,8 @@ fn lent(row: Row<'_>, trial: &mut Trial) -> Answer {
 
 fn contains(row: Row<'_>, trial: &mut Trial) -> Answer {
     row.takes(&["extras", "name"])?;
-    let extras = extras_of(row.alloc(), row.value("extras")?)?;
     let name = row.text("name")?;
+    let extras = extras_at(row, "extras")?;
     trial.begin();
     let is_there = extras.contains(name);
     trial.end();
@@ -92,15 +94,19 @@ fn got_as(row: Row<'_>, trial: &mut Trial) -> Answer {
 
 fn got<T: Claims>(row: Row<'_>, trial: &mut Trial) -> Answer {
     row.takes(&["extras", "name", "as"])?;
-    let extras = extras_of(row.alloc(), row.value("extras")?)?;
     let name = row.text("name")?;
+    let extras = extras_at(row, "extras")?;
     trial.begin();
     let answer = extras.get::<T>(row.alloc(), name);
     trial.end();
+    of_found(row.alloc(), answer)
+}
+
+fn of_found<T: Claims>(alloc: Global, answer: errors::Result<Option<T>>) -> Answer {
     match answer {
-        Ok(Some(value)) => shown_some(row.alloc(), &value),
-        Ok(None) => accepted(row.alloc(), Value::Null),
-        Err(refusal) => refused(row.alloc(), &refusal),
+        Ok(Some(value)) => shown_some(alloc, &value),
+        Ok(None) => accepted(alloc, Value::Null),
+        Err(refusal) => refused(alloc, &refusal),
     }
 }
 
@@ -122,19 +128,33 @@ fn inserted_as(row: Row<'_>, trial: &mut Trial) -> Answer {
     }
 }
 
-fn inserted<T: Claims>(row: Row<'_>, trial: &mut Trial) -> Answer {
-    row.takes(&["extras", "name", "as", "value"])?;
-    let alloc = row.alloc();
-    let name = row.text("name")?;
-    let value = T::from_value(alloc, row.value("value")?)?;
-    let before = extras_of(alloc, row.value("extras")?)?;
-    let mut extras = extras_of(alloc, row.value("extras")?)?;
-    trial.begin();
-    let answer = extras.insert(alloc, name, &value);
-    trial.end();
+// Returns the result of an insertion: its receiver afterwards. One that is refused leaves its
+// receiver unchanged.
+fn of_inserted(
+    alloc: Global,
+    answer: errors::Result<()>,
+    before: &Extras,
+    after: &Extras,
+) -> Answer {
     match answer {
-        Ok(()) => accepted(alloc, shown_extras(&extras)?),
-        Err(_refusal) if extras != before => changed(alloc),
+        Ok(()) => accepted(alloc, shown_extras(after)?),
+        Err(_refusal) if before != after => changed(alloc),
         Err(refusal) => refused(alloc, &refusal),
     }
+}
+
+fn insert<T: Claims>(row: Row<'_>, trial: &mut Trial, value: &T) -> Answer {
+    let name = row.text("name")?;
+    let before = extras_at(row, "extras")?;
+    let mut extras = extras_at(row, "extras")?;
+    trial.begin();
+    let answer = extras.insert(row.alloc(), name, value);
+    trial.end();
+    of_inserted(row.alloc(), answer, &before, &extras)
+}
+
+fn inserted<T: Claims>(row: Row<'_>, trial: &mut Trial) -> Answer {
+    row.takes(&["extras", "name", "as", "value"])?;
+    let value = T::from_value(row.alloc(), row.value("value")?)?;
+    insert(row, trial, &value)
 }

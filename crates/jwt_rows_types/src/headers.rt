@@ -1,6 +1,8 @@
 //! Headers (RFC 7515 section 4) and their JSON values.
 
-use crate::json_types::{JsonType, call_of, of_type};
+use crate::json_types::{
+    JsonType, call_of, described_by_json, of_type, only_bytes, only_described,
+};
 use jsonwebtoken::{Header, errors};
 use jwt_rows::answer::{Answer, accepted, hex_value, of_bytes, refused};
 use jwt_rows::fault::Fault;
@@ -35,14 +37,15 @@ impl JsonType for Header {
 
 /// Makes the call of this name, if it is among those of this module.
 pub fn answer(call: &str, row: Row<'_>, trial: &mut Trial) -> Result<Option<Value>, Fault> {
-    match call.split_once("::") {
-        Some(("Header", "new")) => Ok(Some(new(row, trial)?)),
-        Some(("Header", "x5c_der")) => Ok(Some(certificates(row, trial)?)),
-        Some(("Header", "to_text")) => Ok(Some(text(row, trial)?)),
-        Some(("Header", "from_slice")) => Ok(Some(of_slice(row, trial)?)),
-        Some(("Header", call)) => call_of::<Header>(call, row, trial),
-        _ => Ok(None),
-    }
+    let answer = match call.split_once("::") {
+        Some(("Header", "new")) => new(row, trial),
+        Some(("Header", "x5c_der")) => certificates(row, trial),
+        Some(("Header", "to_text")) => text(row, trial),
+        Some(("Header", "from_slice")) => of_slice(row, trial),
+        Some(("Header", call)) => return call_of::<Header>(call, row, trial),
+        _ => return Ok(None),
+    };
+    Ok(Some(answer?))
 }
 
 fn new(row: Row<'_>, trial: &mut Trial) -> Answer {
@@ -66,22 +69,23 @@ fn shown_certificates(alloc: Global, certificates: &Option<Vec<Vec<u8>>>) -> Ans
     Ok(Value::Array(items))
 }
 
-fn certificates(row: Row<'_>, trial: &mut Trial) -> Answer {
-    row.takes(&["value"])?;
-    let header = header_of(row.alloc(), row.value("value")?)?;
-    trial.begin();
-    let answer = header.x5c_der(row.alloc());
-    trial.end();
+fn of_certificates(alloc: Global, answer: errors::Result<Option<Vec<Vec<u8>>>>) -> Answer {
     match answer {
-        Ok(certificates) => accepted(row.alloc(), shown_certificates(row.alloc(), &certificates)?),
-        Err(refusal) => refused(row.alloc(), &refusal),
+        Ok(certificates) => accepted(alloc, shown_certificates(alloc, &certificates)?),
+        Err(refusal) => refused(alloc, &refusal),
     }
 }
 
+fn certificates(row: Row<'_>, trial: &mut Trial) -> Answer {
+    let header = only_described::<Header>(row)?;
+    trial.begin();
+    let answer = header.x5c_der(row.alloc());
+    trial.end();
+    of_certificates(row.alloc(), answer)
+}
+
 fn text(row: Row<'_>, trial: &mut Trial) -> Answer {
-    row.takes(&["value", "value_json"])?;
-    let described = row.json("value", "value_json")?;
-    let value = Header::described(row.alloc(), &described)?;
+    let value = described_by_json::<Header>(row)?;
     trial.begin();
     let answer = value.to_text(row.alloc());
     trial.end();
@@ -89,8 +93,7 @@ fn text(row: Row<'_>, trial: &mut Trial) -> Answer {
 }
 
 fn of_slice(row: Row<'_>, trial: &mut Trial) -> Answer {
-    row.takes(&["bytes"])?;
-    let bytes = row.bytes("bytes")?;
+    let bytes = only_bytes(row)?;
     trial.begin();
     let answer = Header::from_slice(row.alloc(), bytes.as_slice());
     trial.end();

@@ -34,15 +34,16 @@ pub fn call_of<T: JsonType + Hash + Debug>(
     row: Row<'_>,
     trial: &mut Trial,
 ) -> Result<Option<Value>, Fault> {
-    match call {
-        "from_value" => Ok(Some(read::<T>(row, trial)?)),
-        "to_value" => Ok(Some(written::<T>(row, trial)?)),
-        "clone" => Ok(Some(copied::<T>(row, trial)?)),
-        "eq" => Ok(Some(are_equal::<T>(row, trial)?)),
-        "hash" => Ok(Some(hash_alike::<T>(row, trial)?)),
-        "debug" => Ok(Some(debug_text::<T>(row)?)),
-        _ => Ok(None),
-    }
+    let answer = match call {
+        "from_value" => read::<T>(row, trial),
+        "to_value" => written::<T>(row, trial),
+        "clone" => copied::<T>(row, trial),
+        "eq" => are_equal::<T>(row, trial),
+        "hash" => hash_alike::<T>(row, trial),
+        "debug" => debug_text::<T>(row),
+        _ => return Ok(None),
+    };
+    Ok(Some(answer?))
 }
 
 // Returns a result's value, or its compact JSON text if the row asks for that.
@@ -64,24 +65,52 @@ pub fn of_type<T: JsonType>(row: Row<'_>, answer: errors::Result<T>) -> Answer {
     }
 }
 
+// Returns the JSON value at `value`, or that of the text which `value_json` describes.
+fn json_among(row: Row<'_>, names: &[&str]) -> Result<Value, Fault> {
+    row.takes(names)?;
+    row.json("value", "value_json")
+}
+
 fn read<T: JsonType>(row: Row<'_>, trial: &mut Trial) -> Answer {
-    row.takes(&["value", "value_json", "text"])?;
-    let value = row.json("value", "value_json")?;
+    let value = json_among(row, &["value", "value_json", "text"])?;
     trial.begin();
     let answer = T::read(row.alloc(), &value);
     trial.end();
     of_type(row, answer)
 }
 
-// Returns the value that the row describes at `value`.
-fn described<T: JsonType>(row: Row<'_>) -> Result<Box<T>, Fault> {
-    let value = row.json("value", "value_json")?;
+// Returns the value that the row describes at `value` or `value_json`.
+fn described_among<T: JsonType>(row: Row<'_>, names: &[&str]) -> Result<Box<T>, Fault> {
+    let value = json_among(row, names)?;
     T::described(row.alloc(), &value)
 }
 
+/// Returns the value that the row describes at `value` or `value_json`, of a row that has no other input.
+pub fn described_by_json<T: JsonType>(row: Row<'_>) -> Result<Box<T>, Fault> {
+    described_among(row, &["value", "value_json"])
+}
+
+/// Returns the value that the row describes at `value`, of a row that has no other input.
+pub fn only_described<T: JsonType>(row: Row<'_>) -> Result<Box<T>, Fault> {
+    row.takes(&["value"])?;
+    T::described(row.alloc(), row.value("value")?)
+}
+
+// Returns the values that the row describes at `left` and `right`.
+fn two_described<T: JsonType>(row: Row<'_>) -> Result<(Box<T>, Box<T>), Fault> {
+    row.takes(&["left", "right"])?;
+    let left = T::described(row.alloc(), row.value("left")?)?;
+    Ok((left, T::described(row.alloc(), row.value("right")?)?))
+}
+
+/// Returns the bytes at `bytes`, of a row that has no other input.
+pub fn only_bytes(row: Row<'_>) -> Result<Vec<u8>, Fault> {
+    row.takes(&["bytes"])?;
+    row.bytes("bytes")
+}
+
 fn written<T: JsonType>(row: Row<'_>, trial: &mut Trial) -> Answer {
-    row.takes(&["value", "value_json", "text"])?;
-    let value = described::<T>(row)?;
+    let value = described_among::<T>(row, &["value", "value_json", "text"])?;
     trial.begin();
     let answer = value.written(row.alloc());
     trial.end();
@@ -92,15 +121,13 @@ fn written<T: JsonType>(row: Row<'_>, trial: &mut Trial) -> Answer {
 }
 
 fn debug_text<T: JsonType + Debug>(row: Row<'_>) -> Answer {
-    row.takes(&["value", "value_json"])?;
-    let value = described::<T>(row)?;
+    let value = described_by_json::<T>(row)?;
     let text = format!(in row.alloc(); "{:?}", *value)?;
     accepted(row.alloc(), Value::String(text))
 }
 
 fn copied<T: JsonType + PartialEq>(row: Row<'_>, trial: &mut Trial) -> Answer {
-    row.takes(&["value", "value_json"])?;
-    let value = described::<T>(row)?;
+    let value = described_by_json::<T>(row)?;
     trial.begin();
     let answer = value.copied(row.alloc());
     trial.end();
@@ -111,9 +138,7 @@ fn copied<T: JsonType + PartialEq>(row: Row<'_>, trial: &mut Trial) -> Answer {
 }
 
 fn are_equal<T: JsonType + PartialEq>(row: Row<'_>, trial: &mut Trial) -> Answer {
-    row.takes(&["left", "right"])?;
-    let left = T::described(row.alloc(), row.value("left")?)?;
-    let right = T::described(row.alloc(), row.value("right")?)?;
+    let (left, right) = two_described::<T>(row)?;
     compared(row, trial, &*left, &*right)
 }
 
@@ -126,9 +151,7 @@ pub fn compared<T: PartialEq>(row: Row<'_>, trial: &mut Trial, left: &T, right: 
 }
 
 fn hash_alike<T: JsonType + Hash>(row: Row<'_>, trial: &mut Trial) -> Answer {
-    row.takes(&["left", "right"])?;
-    let left = T::described(row.alloc(), row.value("left")?)?;
-    let right = T::described(row.alloc(), row.value("right")?)?;
+    let (left, right) = two_described::<T>(row)?;
     hashed(row, trial, &*left, &*right)
 }
 

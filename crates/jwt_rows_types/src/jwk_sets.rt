@@ -1,6 +1,6 @@
 //! Sets of JSON Web Keys (RFC 7517 section 5).
 
-use crate::json_types::{JsonType, boxed, call_of, of_type};
+use crate::json_types::{JsonType, boxed, call_of, described_by_json, of_type, only_bytes};
 use jsonwebtoken::errors;
 use jsonwebtoken::jwk::{Jwk, JwkSet};
 use jwt_rows::answer::{Answer, accepted, of_bytes};
@@ -35,14 +35,15 @@ impl JsonType for JwkSet {
 
 /// Makes the call of this name, if it is among those of this module.
 pub fn answer(call: &str, row: Row<'_>, trial: &mut Trial) -> Result<Option<Value>, Fault> {
-    match call.split_once("::") {
-        Some(("JwkSet", "new")) => Ok(Some(empty(row, trial)?)),
-        Some(("JwkSet", "find")) => Ok(Some(found(row, trial)?)),
-        Some(("JwkSet", "to_text")) => Ok(Some(text(row, trial)?)),
-        Some(("JwkSet", "from_slice")) => Ok(Some(of_slice(row, trial)?)),
-        Some(("JwkSet", call)) => call_of::<JwkSet>(call, row, trial),
-        _ => Ok(None),
-    }
+    let answer = match call.split_once("::") {
+        Some(("JwkSet", "new")) => empty(row, trial),
+        Some(("JwkSet", "find")) => found(row, trial),
+        Some(("JwkSet", "to_text")) => text(row, trial),
+        Some(("JwkSet", "from_slice")) => of_slice(row, trial),
+        Some(("JwkSet", call)) => return call_of::<JwkSet>(call, row, trial),
+        _ => return Ok(None),
+    };
+    Ok(Some(answer?))
 }
 
 fn empty(row: Row<'_>, trial: &mut Trial) -> Answer {
@@ -72,9 +73,7 @@ fn found(row: Row<'_>, trial: &mut Trial) -> Answer {
 }
 
 fn text(row: Row<'_>, trial: &mut Trial) -> Answer {
-    row.takes(&["value", "value_json"])?;
-    let described = row.json("value", "value_json")?;
-    let value = JwkSet::described(row.alloc(), &described)?;
+    let value = described_by_json::<JwkSet>(row)?;
     trial.begin();
     let answer = value.to_text(row.alloc());
     trial.end();
@@ -82,8 +81,7 @@ fn text(row: Row<'_>, trial: &mut Trial) -> Answer {
 }
 
 fn of_slice(row: Row<'_>, trial: &mut Trial) -> Answer {
-    row.takes(&["bytes"])?;
-    let bytes = row.bytes("bytes")?;
+    let bytes = only_bytes(row)?;
     trial.begin();
     let answer = JwkSet::from_slice(row.alloc(), bytes.as_slice());
     trial.end();

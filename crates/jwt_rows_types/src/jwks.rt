@@ -1,11 +1,13 @@
 //! JSON Web Keys (RFC 7517) and their JSON values.
 
-use crate::json_types::{JsonType, boxed, call_of, of_type};
+use crate::json_types::{
+    JsonType, boxed, call_of, described_by_json, of_type, only_bytes, only_described,
+};
 use jsonwebtoken::errors;
 use jsonwebtoken::jwk::Jwk;
 use jwt_rows::answer::{Answer, of_bytes, of_flag};
 use jwt_rows::fault::Fault;
-use jwt_rows::inputs::jwks::{jwk_of, key_of, shown_jwk};
+use jwt_rows::inputs::jwks::{key_of, shown_jwk};
 use jwt_rows::row::Row;
 use jwt_rows::trial::Trial;
 use serde_json::Value;
@@ -35,18 +37,18 @@ impl JsonType for Jwk {
 
 /// Makes the call of this name, if it is among those of this module.
 pub fn answer(call: &str, row: Row<'_>, trial: &mut Trial) -> Result<Option<Value>, Fault> {
-    match call.split_once("::") {
-        Some(("Jwk", "is_supported")) => Ok(Some(is_supported(row, trial)?)),
-        Some(("Jwk", "to_text")) => Ok(Some(text(row, trial)?)),
-        Some(("Jwk", "from_slice")) => Ok(Some(of_slice(row, trial)?)),
-        Some(("Jwk", call)) => call_of::<Jwk>(call, row, trial),
-        _ => Ok(None),
-    }
+    let answer = match call.split_once("::") {
+        Some(("Jwk", "is_supported")) => is_supported(row, trial),
+        Some(("Jwk", "to_text")) => text(row, trial),
+        Some(("Jwk", "from_slice")) => of_slice(row, trial),
+        Some(("Jwk", call)) => return call_of::<Jwk>(call, row, trial),
+        _ => return Ok(None),
+    };
+    Ok(Some(answer?))
 }
 
 fn is_supported(row: Row<'_>, trial: &mut Trial) -> Answer {
-    row.takes(&["value"])?;
-    let key = jwk_of(row.alloc(), row.value("value")?)?;
+    let key = only_described::<Jwk>(row)?;
     trial.begin();
     let is_supported = key.is_supported();
     trial.end();
@@ -54,9 +56,7 @@ fn is_supported(row: Row<'_>, trial: &mut Trial) -> Answer {
 }
 
 fn text(row: Row<'_>, trial: &mut Trial) -> Answer {
-    row.takes(&["value", "value_json"])?;
-    let described = row.json("value", "value_json")?;
-    let value = Jwk::described(row.alloc(), &described)?;
+    let value = described_by_json::<Jwk>(row)?;
     trial.begin();
     let answer = value.to_text(row.alloc());
     trial.end();
@@ -64,8 +64,7 @@ fn text(row: Row<'_>, trial: &mut Trial) -> Answer {
 }
 
 fn of_slice(row: Row<'_>, trial: &mut Trial) -> Answer {
-    row.takes(&["bytes"])?;
-    let bytes = row.bytes("bytes")?;
+    let bytes = only_bytes(row)?;
     trial.begin();
     let answer = Jwk::from_slice(row.alloc(), bytes.as_slice());
     trial.end();

@@ -2,7 +2,7 @@
 
 mod free_members;
 
-use crate::json_types::{JsonType, boxed, call_of};
+use crate::json_types::{JsonType, boxed, call_of, only_described};
 use jsonwebtoken::errors;
 use jsonwebtoken::jwk::{
     AlgorithmParameters, EllipticCurveKeyParameters, OctetKeyPairParameters, OctetKeyParameters,
@@ -26,11 +26,11 @@ trait Membered: JsonType {
 
 impl JsonType for EllipticCurveKeyParameters {
     fn described(alloc: Global, value: &Value) -> Result<Box<EllipticCurveKeyParameters>, Fault> {
-        boxed(alloc, elliptic_of(alloc, value))
+        Ok(Box::new(alloc, EllipticCurveKeyParameters::from_value(alloc, value)?)?)
     }
 
     fn shown(&self, alloc: Global) -> Answer {
-        shown_elliptic(alloc, self)
+        Ok(self.to_value(alloc)?)
     }
 
     fn read(alloc: Global, value: &Value) -> errors::Result<EllipticCurveKeyParameters> {
@@ -48,11 +48,11 @@ impl JsonType for EllipticCurveKeyParameters {
 
 impl JsonType for RSAKeyParameters {
     fn described(alloc: Global, value: &Value) -> Result<Box<RSAKeyParameters>, Fault> {
-        boxed(alloc, rsa_of(alloc, value))
+        Ok(Box::new(alloc, RSAKeyParameters::from_value(alloc, value)?)?)
     }
 
     fn shown(&self, alloc: Global) -> Answer {
-        shown_rsa(alloc, self)
+        Ok(self.to_value(alloc)?)
     }
 
     fn read(alloc: Global, value: &Value) -> errors::Result<RSAKeyParameters> {
@@ -70,11 +70,11 @@ impl JsonType for RSAKeyParameters {
 
 impl JsonType for OctetKeyParameters {
     fn described(alloc: Global, value: &Value) -> Result<Box<OctetKeyParameters>, Fault> {
-        boxed(alloc, octet_of(alloc, value))
+        Ok(Box::new(alloc, OctetKeyParameters::from_value(alloc, value)?)?)
     }
 
     fn shown(&self, alloc: Global) -> Answer {
-        shown_octet(alloc, self)
+        Ok(self.to_value(alloc)?)
     }
 
     fn read(alloc: Global, value: &Value) -> errors::Result<OctetKeyParameters> {
@@ -92,11 +92,11 @@ impl JsonType for OctetKeyParameters {
 
 impl JsonType for OctetKeyPairParameters {
     fn described(alloc: Global, value: &Value) -> Result<Box<OctetKeyPairParameters>, Fault> {
-        boxed(alloc, octet_pair_of(alloc, value))
+        Ok(Box::new(alloc, OctetKeyPairParameters::from_value(alloc, value)?)?)
     }
 
     fn shown(&self, alloc: Global) -> Answer {
-        shown_octet_pair(alloc, self)
+        Ok(self.to_value(alloc)?)
     }
 
     fn read(alloc: Global, value: &Value) -> errors::Result<OctetKeyPairParameters> {
@@ -114,11 +114,11 @@ impl JsonType for OctetKeyPairParameters {
 
 impl JsonType for OtherKeyParameters {
     fn described(alloc: Global, value: &Value) -> Result<Box<OtherKeyParameters>, Fault> {
-        boxed(alloc, described_other(alloc, value))
+        boxed(alloc, other_of(value))
     }
 
     fn shown(&self, alloc: Global) -> Answer {
-        shown_other(alloc, self)
+        Ok(self.to_value(alloc)?)
     }
 
     fn read(alloc: Global, value: &Value) -> errors::Result<OtherKeyParameters> {
@@ -186,46 +186,6 @@ impl Membered for AlgorithmParameters {
     }
 }
 
-fn elliptic_of(alloc: Global, value: &Value) -> Result<EllipticCurveKeyParameters, Fault> {
-    Ok(EllipticCurveKeyParameters::from_value(alloc, value)?)
-}
-
-fn rsa_of(alloc: Global, value: &Value) -> Result<RSAKeyParameters, Fault> {
-    Ok(RSAKeyParameters::from_value(alloc, value)?)
-}
-
-fn octet_of(alloc: Global, value: &Value) -> Result<OctetKeyParameters, Fault> {
-    Ok(OctetKeyParameters::from_value(alloc, value)?)
-}
-
-fn octet_pair_of(alloc: Global, value: &Value) -> Result<OctetKeyPairParameters, Fault> {
-    Ok(OctetKeyPairParameters::from_value(alloc, value)?)
-}
-
-fn described_other(_alloc: Global, value: &Value) -> Result<OtherKeyParameters, Fault> {
-    other_of(value)
-}
-
-fn shown_elliptic(alloc: Global, parameters: &EllipticCurveKeyParameters) -> Answer {
-    Ok(parameters.to_value(alloc)?)
-}
-
-fn shown_rsa(alloc: Global, parameters: &RSAKeyParameters) -> Answer {
-    Ok(parameters.to_value(alloc)?)
-}
-
-fn shown_octet(alloc: Global, parameters: &OctetKeyParameters) -> Answer {
-    Ok(parameters.to_value(alloc)?)
-}
-
-fn shown_octet_pair(alloc: Global, parameters: &OctetKeyPairParameters) -> Answer {
-    Ok(parameters.to_value(alloc)?)
-}
-
-fn shown_other(alloc: Global, parameters: &OtherKeyParameters) -> Answer {
-    Ok(parameters.to_value(alloc)?)
-}
-
 /// Makes the call of this name, if it is among those of this module.
 pub fn answer(call: &str, row: Row<'_>, trial: &mut Trial) -> Result<Option<Value>, Fault> {
     let Some((name, call)) = call.split_once("::") else {
@@ -246,11 +206,12 @@ pub fn answer(call: &str, row: Row<'_>, trial: &mut Trial) -> Result<Option<Valu
 }
 
 fn of_parameters(call: &str, row: Row<'_>, trial: &mut Trial) -> Result<Option<Value>, Fault> {
-    match call {
-        "named" => Ok(Some(named(row, trial)?)),
-        "has_common_name" => Ok(Some(has_common_name(row, trial)?)),
-        _ => of_membered::<AlgorithmParameters>(call, row, trial),
-    }
+    let answer = match call {
+        "named" => named(row, trial),
+        "has_common_name" => has_common_name(row, trial),
+        _ => return of_membered::<AlgorithmParameters>(call, row, trial),
+    };
+    Ok(Some(answer?))
 }
 
 fn of_membered<T: Membered + Hash + Debug>(
@@ -265,8 +226,7 @@ fn of_membered<T: Membered + Hash + Debug>(
 }
 
 fn members<T: Membered>(row: Row<'_>, trial: &mut Trial) -> Answer {
-    row.takes(&["value"])?;
-    let parameters = T::described(row.alloc(), row.value("value")?)?;
+    let parameters = only_described::<T>(row)?;
     trial.begin();
     let answer = parameters.listed(row.alloc());
     trial.end();
@@ -281,6 +241,10 @@ fn shown_found(alloc: Global, found: &Option<AlgorithmParameters>) -> Answer {
     }
 }
 
+fn found_answer(alloc: Global, found: &Option<AlgorithmParameters>) -> Answer {
+    accepted(alloc, shown_found(alloc, found)?)
+}
+
 fn named(row: Row<'_>, trial: &mut Trial) -> Answer {
     row.takes(&["value"])?;
     let value = row.value("value")?;
@@ -288,17 +252,13 @@ fn named(row: Row<'_>, trial: &mut Trial) -> Answer {
     let answer = AlgorithmParameters::named(row.alloc(), value);
     trial.end();
     match answer {
-        Ok(found) => match shown_found(row.alloc(), &found) {
-            Ok(shown) => accepted(row.alloc(), shown),
-            Err(fault) => Err(fault),
-        },
+        Ok(found) => found_answer(row.alloc(), &*Box::new(row.alloc(), found)?),
         Err(refusal) => refused(row.alloc(), &refusal),
     }
 }
 
 fn has_common_name(row: Row<'_>, trial: &mut Trial) -> Answer {
-    row.takes(&["value"])?;
-    let parameters = AlgorithmParameters::described(row.alloc(), row.value("value")?)?;
+    let parameters = only_described::<AlgorithmParameters>(row)?;
     trial.begin();
     let has_one = parameters.has_common_name();
     trial.end();

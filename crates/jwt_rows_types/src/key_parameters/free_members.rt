@@ -8,21 +8,22 @@ use jwt_rows::fault::Fault;
 use jwt_rows::inputs::jwks::{free_members_of, members_of, shown_free_members};
 use jwt_rows::row::Row;
 use jwt_rows::trial::Trial;
-use serde_json::Value;
+use serde_json::{Map, Value};
 
 /// Makes the call of this name of `FreeMembers`, if it is among those of this module.
 pub fn answer(call: &str, row: Row<'_>, trial: &mut Trial) -> Result<Option<Value>, Fault> {
-    match call {
-        "from" => Ok(Some(of_map(row, trial)?)),
-        "inner" => Ok(Some(lent(row, trial)?)),
-        "into_map" => Ok(Some(given(row, trial)?)),
-        "clone" => Ok(Some(copied(row, trial)?)),
-        "among" => Ok(Some(among(row, trial)?)),
-        "has_common_name" => Ok(Some(has_common_name(row, trial)?)),
-        "eq" => Ok(Some(are_equal(row, trial)?)),
-        "hash" => Ok(Some(hash_alike(row, trial)?)),
-        _ => Ok(None),
-    }
+    let answer = match call {
+        "from" => of_map(row, trial),
+        "inner" => lent(row, trial),
+        "into_map" => given(row, trial),
+        "clone" => copied(row, trial),
+        "among" => among(row, trial),
+        "has_common_name" => has_common_name(row, trial),
+        "eq" => are_equal(row, trial),
+        "hash" => hash_alike(row, trial),
+        _ => return Ok(None),
+    };
+    Ok(Some(answer?))
 }
 
 fn of_fields(row: Row<'_>, answer: errors::Result<FreeMembers>) -> Answer {
@@ -38,9 +39,21 @@ fn fields(row: Row<'_>) -> Result<FreeMembers, Fault> {
     free_members_of(row.value("value")?)
 }
 
-fn of_map(row: Row<'_>, trial: &mut Trial) -> Answer {
+// Returns the members of the object at `value`.
+fn members(row: Row<'_>) -> Result<Map<String, Value>, Fault> {
     row.takes(&["value"])?;
-    let members = members_of(row.value("value")?)?;
+    members_of(row.value("value")?)
+}
+
+// Returns the members that the row describes at `left` and `right`.
+fn two_fields(row: Row<'_>) -> Result<(FreeMembers, FreeMembers), Fault> {
+    row.takes(&["left", "right"])?;
+    let left = free_members_of(row.value("left")?)?;
+    Ok((left, free_members_of(row.value("right")?)?))
+}
+
+fn of_map(row: Row<'_>, trial: &mut Trial) -> Answer {
+    let members = members(row)?;
     trial.begin();
     let fields = FreeMembers::from(members);
     trial.end();
@@ -72,8 +85,7 @@ fn copied(row: Row<'_>, trial: &mut Trial) -> Answer {
 }
 
 fn among(row: Row<'_>, trial: &mut Trial) -> Answer {
-    row.takes(&["value"])?;
-    let members = members_of(row.value("value")?)?;
+    let members = members(row)?;
     trial.begin();
     let answer = FreeMembers::among(row.alloc(), &members);
     trial.end();
@@ -89,15 +101,11 @@ fn has_common_name(row: Row<'_>, trial: &mut Trial) -> Answer {
 }
 
 fn are_equal(row: Row<'_>, trial: &mut Trial) -> Answer {
-    row.takes(&["left", "right"])?;
-    let left = free_members_of(row.value("left")?)?;
-    let right = free_members_of(row.value("right")?)?;
+    let (left, right) = two_fields(row)?;
     compared(row, trial, &left, &right)
 }
 
 fn hash_alike(row: Row<'_>, trial: &mut Trial) -> Answer {
-    row.takes(&["left", "right"])?;
-    let left = free_members_of(row.value("left")?)?;
-    let right = free_members_of(row.value("right")?)?;
+    let (left, right) = two_fields(row)?;
     hashed(row, trial, &left, &right)
 }

@@ -71,11 +71,12 @@ pub fn answer(
 }
 
 fn of_common(call: &str, row: Row<'_>, trial: &mut Trial) -> Result<Option<Value>, Fault> {
-    match call {
-        "default" => Ok(Some(default_of::<CommonParameters>(row, trial)?)),
-        "with_members" => Ok(Some(with_members(row, trial)?)),
-        _ => call_of::<CommonParameters>(call, row, trial),
-    }
+    let answer = match call {
+        "default" => default_of::<CommonParameters>(row, trial),
+        "with_members" => with_members(row, trial),
+        _ => return call_of::<CommonParameters>(call, row, trial),
+    };
+    Ok(Some(answer?))
 }
 
 fn with_members(row: Row<'_>, trial: &mut Trial) -> Answer {

@@ -1,6 +1,6 @@
 //! The curves, the types of keys, and the hashes of thumbprints.
 
-use crate::json_types::{JsonType, boxed, call_of, default_of};
+use crate::json_types::{JsonType, boxed, call_of, default_of, only_described};
 use jsonwebtoken::errors;
 use jsonwebtoken::jwk::{
     EllipticCurve, EllipticCurveKeyType, OctetKeyPairType, OctetKeyType, RSAKeyType,
@@ -51,11 +51,11 @@ impl Named for EllipticCurve {
 
 impl JsonType for EllipticCurveKeyType {
     fn described(alloc: Global, value: &Value) -> Result<Box<EllipticCurveKeyType>, Fault> {
-        boxed(alloc, elliptic_type_of(value))
+        boxed(alloc, only(value, "EC", EllipticCurveKeyType::EC))
     }
 
     fn shown(&self, alloc: Global) -> Answer {
-        shown_elliptic_type(alloc, self)
+        Ok(Value::try_from_str(alloc, "EC")?)
     }
 
     fn read(_alloc: Global, value: &Value) -> errors::Result<EllipticCurveKeyType> {
@@ -79,11 +79,11 @@ impl Named for EllipticCurveKeyType {
 
 impl JsonType for RSAKeyType {
     fn described(alloc: Global, value: &Value) -> Result<Box<RSAKeyType>, Fault> {
-        boxed(alloc, rsa_type_of(value))
+        boxed(alloc, only(value, "RSA", RSAKeyType::RSA))
     }
 
     fn shown(&self, alloc: Global) -> Answer {
-        shown_rsa_type(alloc, self)
+        Ok(Value::try_from_str(alloc, "RSA")?)
     }
 
     fn read(_alloc: Global, value: &Value) -> errors::Result<RSAKeyType> {
@@ -107,11 +107,11 @@ impl Named for RSAKeyType {
 
 impl JsonType for OctetKeyType {
     fn described(alloc: Global, value: &Value) -> Result<Box<OctetKeyType>, Fault> {
-        boxed(alloc, octet_type_of(value))
+        boxed(alloc, only(value, "oct", OctetKeyType::Octet))
     }
 
     fn shown(&self, alloc: Global) -> Answer {
-        shown_octet_type(alloc, self)
+        Ok(Value::try_from_str(alloc, "oct")?)
     }
 
     fn read(_alloc: Global, value: &Value) -> errors::Result<OctetKeyType> {
@@ -135,11 +135,11 @@ impl Named for OctetKeyType {
 
 impl JsonType for OctetKeyPairType {
     fn described(alloc: Global, value: &Value) -> Result<Box<OctetKeyPairType>, Fault> {
-        boxed(alloc, octet_pair_type_of(value))
+        boxed(alloc, only(value, "OKP", OctetKeyPairType::OctetKeyPair))
     }
 
     fn shown(&self, alloc: Global) -> Answer {
-        shown_octet_pair_type(alloc, self)
+        Ok(Value::try_from_str(alloc, "OKP")?)
     }
 
     fn read(_alloc: Global, value: &Value) -> errors::Result<OctetKeyPairType> {
@@ -170,46 +170,6 @@ fn only<T: Drop>(value: &Value, name: &str, key_type: T) -> Result<T, Fault> {
     }
 }
 
-fn elliptic_type_of(value: &Value) -> Result<EllipticCurveKeyType, Fault> {
-    only(value, "EC", EllipticCurveKeyType::EC)
-}
-
-fn rsa_type_of(value: &Value) -> Result<RSAKeyType, Fault> {
-    only(value, "RSA", RSAKeyType::RSA)
-}
-
-fn octet_type_of(value: &Value) -> Result<OctetKeyType, Fault> {
-    only(value, "oct", OctetKeyType::Octet)
-}
-
-fn octet_pair_type_of(value: &Value) -> Result<OctetKeyPairType, Fault> {
-    only(value, "OKP", OctetKeyPairType::OctetKeyPair)
-}
-
-fn shown_elliptic_type(alloc: Global, key_type: &EllipticCurveKeyType) -> Answer {
-    match key_type {
-        EllipticCurveKeyType::EC => Ok(Value::try_from_str(alloc, "EC")?),
-    }
-}
-
-fn shown_rsa_type(alloc: Global, key_type: &RSAKeyType) -> Answer {
-    match key_type {
-        RSAKeyType::RSA => Ok(Value::try_from_str(alloc, "RSA")?),
-    }
-}
-
-fn shown_octet_type(alloc: Global, key_type: &OctetKeyType) -> Answer {
-    match key_type {
-        OctetKeyType::Octet => Ok(Value::try_from_str(alloc, "oct")?),
-    }
-}
-
-fn shown_octet_pair_type(alloc: Global, key_type: &OctetKeyPairType) -> Answer {
-    match key_type {
-        OctetKeyPairType::OctetKeyPair => Ok(Value::try_from_str(alloc, "OKP")?),
-    }
-}
-
 /// Makes the call of this name of a type, if it is among those of this module.
 pub fn answer(
     name: &str,
@@ -232,16 +192,16 @@ fn of_named<T: Named + Hash + Default + Debug>(
     row: Row<'_>,
     trial: &mut Trial,
 ) -> Result<Option<Value>, Fault> {
-    match call {
-        "name" => Ok(Some(name_of::<T>(row, trial)?)),
-        "default" => Ok(Some(default_of::<T>(row, trial)?)),
-        _ => call_of::<T>(call, row, trial),
-    }
+    let answer = match call {
+        "name" => name_of::<T>(row, trial),
+        "default" => default_of::<T>(row, trial),
+        _ => return call_of::<T>(call, row, trial),
+    };
+    Ok(Some(answer?))
 }
 
 fn name_of<T: Named>(row: Row<'_>, trial: &mut Trial) -> Answer {
-    row.takes(&["value"])?;
-    let value = T::described(row.alloc(), row.value("value")?)?;
+    let value = only_described::<T>(row)?;
     trial.begin();
     let name = value.own_name();
     trial.end();

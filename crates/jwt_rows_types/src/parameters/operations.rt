@@ -73,13 +73,14 @@ pub fn answer(
 }
 
 fn of_list(call: &str, row: Row<'_>, trial: &mut Trial) -> Result<Option<Value>, Fault> {
-    match call {
-        "from" => Ok(Some(list_of_vec(row, trial)?)),
-        "from_slice" => Ok(Some(list_of_slice(row, trial)?)),
-        "as_slice" => Ok(Some(lent_operations(row, trial)?)),
-        "into_vec" => Ok(Some(given_operations(row, trial)?)),
-        _ => call_of::<KeyOperationList>(call, row, trial),
-    }
+    let answer = match call {
+        "from" => list_of_vec(row, trial),
+        "from_slice" => list_of_slice(row, trial),
+        "as_slice" => lent_operations(row, trial),
+        "into_vec" => given_operations(row, trial),
+        _ => return call_of::<KeyOperationList>(call, row, trial),
+    };
+    Ok(Some(answer?))
 }
 
 fn operations(row: Row<'_>) -> Result<Vec<KeyOperations>, Fault> {
