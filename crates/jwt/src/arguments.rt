@@ -324,6 +324,14 @@ fn thumbprint<'a>(alloc: Global) -> Result<Command<'a>, AllocError> {
     )
 }
 
+/// Adds a command to the others, if there was memory for it.
+fn with_subcommand<'a>(
+    command: Command<'a>,
+    added: Result<Command<'a>, AllocError>,
+) -> Result<Command<'a>, AllocError> {
+    command.subcommand(added?)
+}
+
 /// Returns the command with all that it takes.
 pub fn command<'a>(alloc: Global) -> Result<Command<'a>, AllocError> {
     let command = Command::new(alloc, "jwt")
@@ -331,10 +339,10 @@ pub fn command<'a>(alloc: Global) -> Result<Command<'a>, AllocError> {
         .about("Verify, explain, show and sign JSON Web Tokens")
         .subcommand_required(true)
         .arg_required_else_help(true);
-    let command = command.subcommand(verify(alloc)?)?;
-    let command = command.subcommand(explain(alloc)?)?;
-    let command = command.subcommand(show(alloc)?)?;
-    let command = command.subcommand(sign(alloc)?)?;
-    let command = command.subcommand(keys(alloc)?)?;
-    command.subcommand(thumbprint(alloc)?)
+    let command = with_subcommand(command, verify(alloc))?;
+    let command = with_subcommand(command, explain(alloc))?;
+    let command = with_subcommand(command, show(alloc))?;
+    let command = with_subcommand(command, sign(alloc))?;
+    let command = with_subcommand(command, keys(alloc))?;
+    with_subcommand(command, thumbprint(alloc))
 }

@@ -15,20 +15,39 @@ use crate::part_findings::cut;
 use crate::times::claim_lines;
 use crate::verdict::{Refusal, accepted_moments, refusal_of};
 use crate::verify::refusal_status;
-use jsonwebtoken::{Moments, Test, Validation, decode_header};
-use std::alloc::Global;
+use jsonwebtoken::{Header, Moments, Test, Validation, decode_header};
+use std::alloc::{AllocError, Global};
+
+/// Returns the type of a header, as a finding says it.
+fn type_found(alloc: Global, header: &Header) -> Result<String, AllocError> {
+    match &header.typ {
+        Some(found) => format!(in alloc; "the type {}", quoted(alloc, found.as_str())?),
+        None => String::from_str(alloc, "no type"),
+    }
+}
+
+/// Returns the finding of a header whose type is not the one that is asked for.
+fn other_type(
+    alloc: Global,
+    header: &Header,
+    typ: Option<&str>,
+) -> Result<Finding, Fault<'static>> {
+    Ok(Finding {
+        found: type_found(alloc, header)?,
+        wanted: quoted(alloc, typ.unwrap_or(""))?,
+    })
+}
 
 /// Returns the finding of a type that is not the one that is asked for.
 fn type_finding(alloc: Global, token: &[u8], typ: Option<&str>) -> Result<Finding, Fault<'static>> {
-    let Ok(header) = decode_header(alloc, token) else {
-        return Err(Fault::Memory);
-    };
-    let found = match &header.typ {
-        Some(found) => format!(in alloc; "the type {}", quoted(alloc, found.as_str())?)?,
-        None => String::from_str(alloc, "no type")?,
-    };
-    let wanted = quoted(alloc, typ.unwrap_or(""))?;
-    Finding::new(alloc, found.as_str(), wanted.as_str())
+    match decode_header(alloc, token) {
+        Ok(header) => {
+            let finding = other_type(alloc, &header, typ);
+            drop(header);
+            finding
+        }
+        Err(_) => Err(Fault::Memory),
+    }
 }
 
 /// Returns why a token is refused. If memory ran out, no test failed, and there is no outcome.

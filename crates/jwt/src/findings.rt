@@ -223,7 +223,11 @@ fn header_finding(
 
 fn by_header(alloc: Global, case: Case<'_>, test: Test) -> Result<Finding, Fault<'static>> {
     match decode_header(alloc, case.token) {
-        Ok(header) => header_finding(alloc, case, test, &header),
+        Ok(header) => {
+            let finding = header_finding(alloc, case, test, &header);
+            drop(header);
+            finding
+        }
         Err(_) => Err(Fault::Memory),
     }
 }

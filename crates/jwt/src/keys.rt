@@ -139,9 +139,12 @@ fn set_algorithm(
 ) -> Result<Option<Algorithm>, Fault<'static>>
     ensures { IfOk result (IsNamedBy set.now.keys.items token.now) }
 {
-    let header = unless_refused(decode_header(alloc, token))?;
-    match &header {
-        Some(header) => Ok(named_algorithm(set, header)),
+    match unless_refused(decode_header(alloc, token))? {
+        Some(header) => {
+            let algorithm = named_algorithm(set, &header);
+            drop(header);
+            Ok(algorithm)
+        }
         None => Ok(None),
     }
 }
@@ -270,10 +273,13 @@ fn by_jwk<'a>(alloc: Global, path: &'a str, bytes: &[u8]) -> Result<Loaded, Faul
         Ok(jwk) => jwk,
         Err(error) => return Err(not_keys(path, &error, "this is no JSON Web Key")),
     };
-    match DecodingKey::from_jwk(alloc, &jwk) {
+    let own = own_algorithm(&jwk);
+    let read = DecodingKey::from_jwk(alloc, &jwk);
+    drop(jwk);
+    match read {
         Ok(key) => Ok(Loaded {
             keys: Keys::One(key),
-            own: own_algorithm(&jwk),
+            own,
             has_line_end: false,
             provider: PreparedKeys::new(alloc),
         }),

@@ -27,10 +27,12 @@ use std::alloc::Global;
 fn header(alloc: Global, request: &Signing<'_>) -> Checked<Header>
     ensures { IfOk result (λ h. h ≡ header_asked request.entry.now) }
 {
+    let kid = text(alloc, request.kid)?;
+    let typ = text(alloc, request.typ)?;
     let mut header = Header::new(alloc, request.algorithm)?;
-    header.kid = text(alloc, request.kid)?;
-    if request.typ.is_some() {
-        header.typ = text(alloc, request.typ)?;
+    header.kid = kid;
+    if typ.is_some() {
+        header.typ = typ;
     }
     Ok(header)
 }
@@ -164,7 +166,11 @@ pub fn claims_answer(
         secret.now a.status (string_bytes a.output)) }
 {
     match header(alloc, request) {
-        Ok(header) => sign_answer(alloc, &header, claims, secret),
+        Ok(header) => {
+            let answer = sign_answer(alloc, &header, claims, secret);
+            drop(header);
+            answer
+        }
         Err(_) => Err(Fault::Memory),
     }
 }

@@ -42,16 +42,14 @@ fn same_hash(hash: &ThumbprintHash) -> ThumbprintHash
     }
 }
 
-/// Returns the thumbprint of the key of a file (RFC 7638 section 3).
-pub fn thumbprint_answer<'a>(
+fn key_answer<'a>(
     alloc: Global,
     path: &'a str,
-    bytes: &[u8],
+    jwk: &Jwk,
     hash: &ThumbprintHash,
 ) -> Result<Answer, Fault<'a>>
     ensures { IfOk result (λ a. a.status ≡ 0) }
 {
-    let jwk = key(alloc, path, bytes)?;
     match jwk.thumbprint(alloc, &StandardProvider, same_hash(hash)) {
         Ok(thumbprint) => {
             let mut output = thumbprint;
@@ -64,4 +62,19 @@ pub fn thumbprint_answer<'a>(
         }
         Err(error) => Err(fault_of(path, &error, "a key of this type has no thumbprint")),
     }
+}
+
+/// Returns the thumbprint of the key of a file (RFC 7638 section 3).
+pub fn thumbprint_answer<'a>(
+    alloc: Global,
+    path: &'a str,
+    bytes: &[u8],
+    hash: &ThumbprintHash,
+) -> Result<Answer, Fault<'a>>
+    ensures { IfOk result (λ a. a.status ≡ 0) }
+{
+    let jwk = key(alloc, path, bytes)?;
+    let answer = key_answer(alloc, path, &jwk, hash);
+    drop(jwk);
+    answer
 }

@@ -126,6 +126,7 @@ pub fn judged(
         Err(error) => return Err(Refusal::Failed(error)),
     };
     if !has_type(&data.header, typ) {
+        drop(data);
         return Err(Refusal::OtherType);
     }
     Ok(data)

@@ -139,6 +139,40 @@ fn refused_text(
     }
 }
 
+/// Returns the answer to a token that is accepted.
+fn accepted_answer(
+    alloc: Global,
+    contents: &TokenData<Value>,
+    form: Form,
+) -> Result<Answer, Fault<'static>>
+    ensures { IfOk result (λ a. (a.status ≡ 0) × IsAcceptedText form contents.now.header
+        (view contents.now.claims) (string_bytes a.output)) }
+{
+    Ok(Answer {
+        status: 0,
+        output: accepted_text(alloc, contents, form)?,
+        message: String::new(alloc),
+    })
+}
+
+/// Returns the answer to a token that is refused.
+fn refused_answer(
+    alloc: Global,
+    case: Case<'_>,
+    refusal: &Refusal,
+    form: Form,
+) -> Result<Answer, Fault<'static>>
+    ensures { IfOk result (λ a. HasStatus refusal.now a.status
+        × IsRefusedText form (string_bytes a.output)) }
+{
+    let output = refused_text(alloc, case, refusal, form)?;
+    Ok(Answer {
+        status: refusal_status(refusal),
+        output,
+        message: refusal_lines(alloc, refusal, case.loaded.has_line_end)?,
+    })
+}
+
 /// Returns the answer to a token: status 0 and its claims if it is accepted, and status 1 if it is
 /// refused.
 pub fn verify_answer(
@@ -161,15 +195,11 @@ pub fn verify_answer(
         now,
     };
     match judged(alloc, token, loaded, validation, now, typ) {
-        Ok(data) => Ok(Answer {
-            status: 0,
-            output: accepted_text(alloc, &data, form)?,
-            message: String::new(alloc),
-        }),
-        Err(refusal) => Ok(Answer {
-            status: refusal_status(&refusal),
-            output: refused_text(alloc, case, &refusal, form)?,
-            message: refusal_lines(alloc, &refusal, loaded.has_line_end)?,
-        }),
+        Ok(data) => {
+            let answer = accepted_answer(alloc, &data, form);
+            drop(data);
+            answer
+        }
+        Err(refusal) => refused_answer(alloc, case, &refusal, form),
     }
 }
