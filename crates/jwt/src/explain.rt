@@ -129,9 +129,11 @@ fn accepted(alloc: Global, case: Case<'_>, is_json: bool) -> Result<Answer, Faul
     ensures { IfOk result (λ a. a.status ≡ 0) }
 {
     let explanation = explanation(alloc, case, Outcome::Accepted, None)?;
+    let output = written(alloc, &explanation, is_json);
+    drop(explanation);
     Ok(Answer {
         status: 0,
-        output: written(alloc, &explanation, is_json)?,
+        output: output?,
         message: String::new(alloc),
     })
 }
@@ -148,9 +150,11 @@ fn refused(
 {
     let outcome = outcome(alloc, case, typ, refusal)?;
     let explanation = explanation(alloc, case, outcome, Some(refusal_name(refusal)))?;
+    let output = written(alloc, &explanation, is_json);
+    drop(explanation);
     Ok(Answer {
         status: refusal_status(refusal),
-        output: written(alloc, &explanation, is_json)?,
+        output: output?,
         message: refusal_lines(alloc, refusal, has_line_end)?,
     })
 }

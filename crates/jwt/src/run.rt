@@ -1,8 +1,9 @@
 //! From a request to its answer.
 
-ghost use Rattle.std.specs.Prelude.{◌≡◌, IfOk, is_some, string_bytes};
+ghost use Rattle.std.specs.Prelude.{◌≡◌, ℕ, List, IfOk, is_some, string_bytes};
 ghost use Rattle.jwt_validation.specs.OptionsOf.{options_of};
-ghost use Rattle.jwt.specs.Commands.{ArePrepared, AreVerified, IsAnswer, IsExplanation, IsGivenToken, IsShown, IsSigned, IsSigning, IsTokenAnswer, IsTokenVerdict, IsVerification, form_asked};
+ghost use Rattle.jwt.specs.Commands.{ArePrepared, AreVerified, IsAnswer, IsExplanation, IsGiven, IsGivenToken, IsLinesStatus, IsShown, IsSigned, IsSigning, IsTokenAnswer, IsTokenVerdict, IsVerification, form_asked};
+ghost use Rattle.jwt.specs.FileKeys.{AreLoaded};
 
 use crate::answer::Answer;
 use crate::clock::moment;
@@ -71,6 +72,24 @@ fn options_bytes<'a, R: Files + AllocGlobal>(
     }
 }
 
+/// Returns the keys that the arguments name. If the options name no algorithm, the keys have to.
+fn keys_for<'a, R: Files + AllocGlobal>(
+    rt: &R,
+    request: &Verification<'_, 'a>,
+    validation: &Validation,
+) -> Result<Loaded, Fault<'a>>
+    ensures { IfOk result (λ l. (key : List ℕ)
+        × AreLoaded request.entry.now.key key l.keys l.own) }
+{
+    let key = file_bytes(rt, path_of(request.key))?;
+    let loaded = load(rt.alloc(), request.key, &key)?;
+    if validation.algorithms.is_empty() && !names_algorithm(&loaded) {
+        drop(loaded);
+        return Err(Fault::Usage("--alg is needed: the key has no 'alg' of its own"));
+    }
+    Ok(loaded)
+}
+
 /// Returns the keys and the options that tokens are checked with. If neither the arguments nor a file
 /// name an algorithm, the keys have to.
 fn prepared<'a, R: Files + AllocGlobal>(
@@ -81,12 +100,13 @@ fn prepared<'a, R: Files + AllocGlobal>(
 {
     let options = options_bytes(rt, request.checks.options)?;
     let validation = validation(rt.alloc(), &request.checks, options.as_deref())?;
-    let key = file_bytes(rt, path_of(request.key))?;
-    let loaded = load(rt.alloc(), request.key, &key)?;
-    if validation.algorithms.is_empty() && !names_algorithm(&loaded) {
-        return Err(Fault::Usage("--alg is needed: the key has no 'alg' of its own"));
+    match keys_for(rt, request, &validation) {
+        Ok(loaded) => Ok((loaded, validation)),
+        Err(fault) => {
+            drop(validation);
+            Err(fault)
+        }
     }
-    Ok((loaded, validation))
 }
 
 /// Returns the answer of `verify` to the bytes of a token and a line end.
@@ -94,18 +114,17 @@ fn token_answer(
     alloc: Global,
     request: &Verification<'_, '_>,
     loaded: &Loaded,
-    validation: Validation,
+    validation: &mut Validation,
     bytes: &[u8],
     now: u64,
     form: Form,
 ) -> Result<Answer, Fault<'static>>
-    ensures { IfOk result (λ a. IsTokenAnswer request.entry.now loaded.now (options_of validation)
-        bytes.now now form a.status (string_bytes a.output)) }
+    ensures { IfOk result (λ a. IsTokenAnswer request.entry.now loaded.now
+        (options_of validation.old) bytes.now now form a.status (string_bytes a.output)) }
 {
     let token = without_line_end(bytes);
-    let mut settled = validation;
-    settle(alloc, &mut settled, loaded, token)?;
-    verify_answer(alloc, token, loaded, &settled, now, request.typ, form)
+    settle(alloc, validation, loaded, token)?;
+    verify_answer(alloc, token, loaded, validation, now, request.typ, form)
 }
 
 /// Returns the answer of `explain` to the bytes of a token and a line end.
@@ -113,25 +132,42 @@ fn token_explanation(
     alloc: Global,
     request: &Verification<'_, '_>,
     loaded: &Loaded,
-    validation: Validation,
+    validation: &mut Validation,
     bytes: &[u8],
     now: u64,
 ) -> Result<Answer, Fault<'static>>
-    ensures { IfOk result (λ a. IsTokenVerdict request.entry.now loaded.now (options_of validation)
-        bytes.now now a.status) }
+    ensures { IfOk result (λ a. IsTokenVerdict request.entry.now loaded.now
+        (options_of validation.old) bytes.now now a.status) }
 {
     let token = without_line_end(bytes);
-    let mut settled = validation;
-    settle(alloc, &mut settled, loaded, token)?;
+    settle(alloc, validation, loaded, token)?;
     explain_answer(
         alloc,
         token,
         loaded,
-        &settled,
+        validation,
         now,
         request.typ,
         request.is_json,
     )
+}
+
+/// Returns the answer of `verify` under these keys and options.
+fn verified<R: Input + Clock + AllocGlobal>(
+    rt: &R,
+    request: &Verification<'_, '_>,
+    loaded: &Loaded,
+    validation: &mut Validation,
+) -> Result<Answer, Fault<'static>>
+    ensures { IfOk result (λ a. (bytes : List ℕ) × IsGivenToken request.entry.now.token bytes
+        × ((now : ℕ) × IsGiven request.entry.now.now now
+        × IsTokenAnswer request.entry.now loaded.now (options_of validation.old) bytes now
+        (form_asked request.entry.now) a.status (string_bytes a.output))) }
+{
+    let now = moment(rt, request.now)?;
+    let bytes = token_bytes(rt, request.token)?;
+    let form = form(request);
+    token_answer(rt.alloc(), request, loaded, validation, &bytes, now, form)
 }
 
 fn verify<'a, R: Files + Input + Clock + AllocGlobal>(
@@ -140,11 +176,26 @@ fn verify<'a, R: Files + Input + Clock + AllocGlobal>(
 ) -> Result<Answer, Fault<'a>>
     ensures { IfOk result (λ a. IsVerification request.entry.now a.status (string_bytes a.output)) }
 {
-    let (loaded, validation) = prepared(rt, request)?;
-    let now = moment(rt, request.now)?;
-    let bytes = token_bytes(rt, request.token)?;
-    let form = form(request);
-    token_answer(rt.alloc(), request, &loaded, validation, &bytes, now, form)
+    let (loaded, mut validation) = prepared(rt, request)?;
+    let answer = verified(rt, request, &loaded, &mut validation);
+    drop(loaded);
+    drop(validation);
+    answer
+}
+
+/// Prepares the keys, answers each line of standard input, and returns the status.
+fn lines_status<R: Input + Print + Clock + AllocGlobal>(
+    rt: &R,
+    request: &Verification<'_, '_>,
+    loaded: &mut Loaded,
+    validation: &mut Validation,
+) -> Result<u8, Fault<'static>>
+    ensures { IfOk result (λ status. (loaded.new.keys ≡ loaded.old.keys)
+        × (loaded.new.own ≡ loaded.old.own)
+        × IsLinesStatus request.entry.now loaded.new (options_of validation.old) status) }
+{
+    prepare(rt.alloc(), loaded, &validation.algorithms)?;
+    answer_lines(rt, request, loaded, validation)
 }
 
 /// Answers each line of standard input, and returns the status. The answers are written by then.
@@ -155,13 +206,31 @@ fn verify_lines<'a, R: Files + Input + Print + Clock + AllocGlobal>(
     ensures { IfOk result (λ a. AreVerified request.entry.now a.status) }
 {
     let (mut loaded, mut validation) = prepared(rt, request)?;
-    prepare(rt.alloc(), &mut loaded, &validation.algorithms)?;
-    let status = answer_lines(rt, request, &loaded, &mut validation)?;
+    let status = lines_status(rt, request, &mut loaded, &mut validation);
+    drop(loaded);
+    drop(validation);
     Ok(Answer {
-        status,
+        status: status?,
         output: String::new(rt.alloc()),
         message: String::new(rt.alloc()),
     })
+}
+
+/// Returns the answer of `explain` under these keys and options.
+fn explained<R: Input + Clock + AllocGlobal>(
+    rt: &R,
+    request: &Verification<'_, '_>,
+    loaded: &Loaded,
+    validation: &mut Validation,
+) -> Result<Answer, Fault<'static>>
+    ensures { IfOk result (λ a. (bytes : List ℕ) × IsGivenToken request.entry.now.token bytes
+        × ((now : ℕ) × IsGiven request.entry.now.now now
+        × IsTokenVerdict request.entry.now loaded.now (options_of validation.old) bytes now
+        a.status)) }
+{
+    let now = moment(rt, request.now)?;
+    let bytes = token_bytes(rt, request.token)?;
+    token_explanation(rt.alloc(), request, loaded, validation, &bytes, now)
 }
 
 fn explain<'a, R: Files + Input + Clock + AllocGlobal>(
@@ -170,10 +239,11 @@ fn explain<'a, R: Files + Input + Clock + AllocGlobal>(
 ) -> Result<Answer, Fault<'a>>
     ensures { IfOk result (λ a. IsExplanation request.entry.now a.status) }
 {
-    let (loaded, validation) = prepared(rt, request)?;
-    let now = moment(rt, request.now)?;
-    let bytes = token_bytes(rt, request.token)?;
-    token_explanation(rt.alloc(), request, &loaded, validation, &bytes, now)
+    let (loaded, mut validation) = prepared(rt, request)?;
+    let answer = explained(rt, request, &loaded, &mut validation);
+    drop(loaded);
+    drop(validation);
+    answer
 }
 
 /// Returns the answer of `sign` for the bytes of the secret's file and of the claims.

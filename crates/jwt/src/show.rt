@@ -78,7 +78,11 @@ pub fn show_answer(
     ensures { IfOk result (λ a. IsReadable token.now a.status) }
 {
     match insecure_decode(alloc, token) {
-        Ok(data) => shown(alloc, &data, now, is_json),
+        Ok(data) => {
+            let answer = shown(alloc, &data, now, is_json);
+            drop(data);
+            answer
+        }
         Err(error) => refused(alloc, error),
     }
 }

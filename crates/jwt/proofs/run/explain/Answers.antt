@@ -1,26 +1,9 @@
-use Rattle.std.proofs.Common.{subst}
 use Rattle.std.proofs.lemmas.Result.{IfOk-weaker}
 use Rattle.jwt_validation.specs.OptionsOf.{options_of}
-use Rattle.jwt.specs.Commands.{IsTokenVerdict}
 use Rattle.jwt.proofs.run.explain.Goals as goal
 
 pub returns : goal.returns
 returns g c =
-    IfOk-weaker c.token_explanation.result _ _
-    (λ a says. (
-      c.in_ok-bytes.bytes.items,
-      c.in_ok-bytes.ensures,
-      (
-        c.in_ok-now.now,
-        c.in_ok-now.ensures,
-        (
-          c.in_ok-loaded.loaded,
-          (
-            options_of c.in_ok-loaded.validation,
-            c.in_ok-loaded.ensures,
-            subst (λ b. IsTokenVerdict c.args.request.now c.in_ok-loaded.loaded (options_of c.in_ok-loaded.validation) b c.in_ok-now.now a.status) c.deref.ensures.value says,
-          ),
-        ),
-      ),
-    ))
-    c.token_explanation.ensures
+    IfOk-weaker c.explained-answer.result _ _
+    (λ a says. (says.0, says.1, (says.2.0, says.2.1, (c.in_ok-loaded.loaded, (options_of c.in_ok-loaded.validation, c.in_ok-loaded.ensures, says.2.2)))))
+    c.explained-answer.ensures
