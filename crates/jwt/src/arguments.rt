@@ -329,7 +329,13 @@ fn with_subcommand<'a>(
     command: Command<'a>,
     added: Result<Command<'a>, AllocError>,
 ) -> Result<Command<'a>, AllocError> {
-    command.subcommand(added?)
+    match added {
+        Ok(added) => command.subcommand(added),
+        Err(error) => {
+            drop(command);
+            Err(error)
+        }
+    }
 }
 
 /// Returns the command with all that it takes.
