@@ -56,14 +56,24 @@ fn found_texts(alloc: Global, claims: &Value, name: &str) -> Result<String, Allo
     }
 }
 
+/// Returns the name of a claim and its value, which is no moment.
+fn found_value(alloc: Global, claims: &Value, name: &str) -> Result<String, AllocError> {
+    match claims.get(name) {
+        Some(value) => format!(in alloc; "{name} {}", value.to_string(alloc)?),
+        None => format!(in alloc; "no {name}"),
+    }
+}
+
 /// Returns the name of a claim and its moment.
 fn found_moment(alloc: Global, claims: &Value, name: &str, now: u64) -> Result<String, AllocError> {
-    let Some(seconds) = claims.get(name).and_then(Value::as_u64) else {
-        return match claims.get(name) {
-            Some(value) => format!(in alloc; "{name} {}", value.to_string(alloc)?),
-            None => format!(in alloc; "no {name}"),
-        };
-    };
+    match claims.get(name).and_then(Value::as_u64) {
+        Some(seconds) => found_seconds(alloc, name, seconds, now),
+        None => found_value(alloc, claims, name),
+    }
+}
+
+/// Returns the name of a claim and the moment of its number of seconds.
+fn found_seconds(alloc: Global, name: &str, seconds: u64, now: u64) -> Result<String, AllocError> {
     if is_likely_milliseconds(seconds) {
         return format!(in alloc; "{name} {seconds}, which looks like milliseconds");
     }
@@ -186,7 +196,11 @@ pub fn claim_finding(
     error: &Error,
 ) -> Result<Finding, Fault<'static>> {
     match part_value(alloc, payload)? {
-        Some(claims) => Ok(rule_finding(alloc, case, &claims, error)?),
+        Some(claims) => {
+            let finding = rule_finding(alloc, case, &claims, error);
+            drop(claims);
+            Ok(finding?)
+        }
         None => Err(Fault::Memory),
     }
 }

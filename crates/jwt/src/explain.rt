@@ -86,7 +86,9 @@ fn times(alloc: Global, case: Case<'_>, outcome: &Outcome) -> Result<String, Fau
         && let Some(parts) = cut(case.token)
         && let Some(claims) = part_value(alloc, parts.payload)?
     {
-        return Ok(claim_lines(alloc, &claims, case.now)?);
+        let lines = claim_lines(alloc, &claims, case.now);
+        drop(claims);
+        return Ok(lines?);
     }
     Ok(String::new(alloc))
 }

@@ -184,15 +184,19 @@ fn no_verifier(alloc: Global, header: &Header, keys: &Keys) -> Result<Finding, F
     })
 }
 
-fn not_understood(alloc: Global, header: &Header) -> Result<Finding, Fault<'static>> {
+fn crit_names(alloc: Global, header: &Header) -> Result<String, AllocError> {
     let mut names = Vec::new(alloc);
     if let Some(texts) = &header.crit {
         for text in texts.as_slice() {
             names.push(quoted(alloc, text.as_str())?)?;
         }
     }
+    choice(alloc, &names)
+}
+
+fn not_understood(alloc: Global, header: &Header) -> Result<Finding, Fault<'static>> {
     Ok(Finding {
-        found: format!(in alloc; "a 'crit' that lists {}", choice(alloc, &names)?)?,
+        found: format!(in alloc; "a 'crit' that lists {}", crit_names(alloc, header)?)?,
         wanted: String::from_str(
             alloc,
             "names that the header has and --crit gives, each once, and no name of RFC 7515 itself",

@@ -74,16 +74,24 @@ fn bit_count(bytes: &[u8]) -> u64 {
 /// Returns the number of bits of a number in base64url.
 fn bits_text(alloc: Global, part: &str) -> Result<String, Fault<'static>> {
     match part_bytes(alloc, part.as_bytes()) {
-        Ok(bytes) => Ok(format!(in alloc; "{} bits", bit_count(&bytes))?),
-        Err(error) => Ok(String::from_str(alloc, unless_memory(&error, "not base64url")?)?),
+        Ok(bytes) => {
+            let count = bit_count(&bytes);
+            drop(bytes);
+            Ok(format!(in alloc; "{count} bits")?)
+        }
+        Err(error) => text_instead(alloc, &error, "not base64url"),
     }
 }
 
 /// Returns the number of bits of a secret in base64url.
 fn secret_text(alloc: Global, part: &str) -> Result<String, Fault<'static>> {
     match part_bytes(alloc, part.as_bytes()) {
-        Ok(bytes) => Ok(format!(in alloc; "{} bits", (bytes.len() as u64).saturating_mul(8))?),
-        Err(error) => Ok(String::from_str(alloc, unless_memory(&error, "not base64url")?)?),
+        Ok(bytes) => {
+            let count = (bytes.len() as u64).saturating_mul(8);
+            drop(bytes);
+            Ok(format!(in alloc; "{count} bits")?)
+        }
+        Err(error) => text_instead(alloc, &error, "not base64url"),
     }
 }
 
@@ -100,7 +108,7 @@ fn size(alloc: Global, jwk: &Jwk) -> Result<String, Fault<'static>> {
 fn thumbprint(alloc: Global, jwk: &Jwk) -> Result<String, Fault<'static>> {
     match jwk.thumbprint(alloc, &StandardProvider, ThumbprintHash::SHA256) {
         Ok(thumbprint) => Ok(thumbprint),
-        Err(error) => Ok(String::from_str(alloc, unless_memory(&error, "-")?)?),
+        Err(error) => text_instead(alloc, &error, "-"),
     }
 }
 
@@ -110,6 +118,15 @@ fn unless_memory(error: &Error, text: &'static str) -> Result<&'static str, Faul
         ErrorKind::OutOfMemory => Err(Fault::Memory),
         _ => Ok(text),
     }
+}
+
+/// Returns the text in place of one that this error refuses, unless memory ran out.
+fn text_instead(
+    alloc: Global,
+    error: &Error,
+    text: &'static str,
+) -> Result<String, Fault<'static>> {
+    Ok(String::from_str(alloc, unless_memory(error, text)?)?)
 }
 
 fn curve_algorithm(curve: &EllipticCurve) -> Option<Algorithm> {
@@ -144,8 +161,13 @@ fn verifies(alloc: Global, jwk: &Jwk) -> Result<&'static str, Fault<'static>> {
         Ok(key) => key,
         Err(error) => return unless_memory(&error, "no: a member of the key is malformed"),
     };
-    match StandardProvider.verifier_factory(alloc, &algorithm, &key) {
-        Ok(_) => Ok("yes"),
+    let made = StandardProvider.verifier_factory(alloc, &algorithm, &key);
+    drop(key);
+    match made {
+        Ok(verifier) => {
+            drop(verifier);
+            Ok("yes")
+        }
         Err(error) => unless_memory(&error, "no: this is not a key of that algorithm"),
     }
 }

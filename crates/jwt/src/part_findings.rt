@@ -119,6 +119,13 @@ fn wanted_of(test: Test) -> &'static str {
     }
 }
 
+fn found_value(alloc: Global, value: &Value, test: Test) -> Result<String, AllocError> {
+    match test {
+        Test::HeaderReads => not_header(alloc, value),
+        _ => String::from_str(alloc, type_name(value)),
+    }
+}
+
 fn found_of(alloc: Global, part: &[u8], test: Test) -> Result<String, Fault<'static>> {
     if let Test::HeaderIsPart | Test::SignatureIsPart | Test::PayloadIsPart = test {
         return Ok(not_base64url(alloc, part)?);
@@ -126,8 +133,11 @@ fn found_of(alloc: Global, part: &[u8], test: Test) -> Result<String, Fault<'sta
     match part_value(alloc, part)? {
         None if part.is_empty() => Ok(String::from_str(alloc, "no bytes")?),
         None => Ok(String::from_str(alloc, "bytes that are not JSON")?),
-        Some(value) if matches!(test, Test::HeaderReads) => Ok(not_header(alloc, &value)?),
-        Some(value) => Ok(String::from_str(alloc, type_name(&value))?),
+        Some(value) => {
+            let found = found_value(alloc, &value, test);
+            drop(value);
+            Ok(found?)
+        }
     }
 }
 

@@ -276,6 +276,16 @@ fn file<'a>(matches: &ArgMatches<'a>) -> &'a str
     matches.get_str("file").unwrap_or("")
 }
 
+fn digesting_asked<'a>(matches: &ArgMatches<'a>) -> Result<Digesting<'a>, Fault<'static>>
+    ensures { IfOk result (λ d. IsFile (found_of matches.now) d.file
+        × IsHash (first_value (found_of matches.now) (codes "hash")) d.hash) }
+{
+    Ok(Digesting {
+        file: file(matches),
+        hash: hash(matches)?,
+    })
+}
+
 /// Returns the request of a command and its arguments.
 fn command_asked<'m, 'a: 'm>(
     name: &str,
@@ -284,15 +294,12 @@ fn command_asked<'m, 'a: 'm>(
     ensures { IfOk result (IsCommand name.now (found_of found.now)) }
 {
     match name {
-        "verify" => Ok(Request::Verify(verification_asked(found)?)),
-        "explain" => Ok(Request::Explain(checking_asked(found)?)),
-        "show" => Ok(Request::Show(showing_asked(found)?)),
-        "sign" => Ok(Request::Sign(signing_asked(found)?)),
+        "verify" => verification_asked(found).map(Request::Verify),
+        "explain" => checking_asked(found).map(Request::Explain),
+        "show" => showing_asked(found).map(Request::Show),
+        "sign" => signing_asked(found).map(Request::Sign),
         "keys" => Ok(Request::Keys(Listing { file: file(found) })),
-        "thumbprint" => Ok(Request::Thumbprint(Digesting {
-            file: file(found),
-            hash: hash(found)?,
-        })),
+        "thumbprint" => digesting_asked(found).map(Request::Thumbprint),
         _ => Err(Fault::Usage("a command is needed")),
     }
 }

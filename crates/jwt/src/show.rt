@@ -31,6 +31,20 @@ fn json_line(alloc: Global, header: &Value, claims: &Value) -> Result<String, Al
     format!(in alloc; "{{\"verified\":false,\"header\":{header},\"claims\":{claims}}}\n")
 }
 
+fn written(
+    alloc: Global,
+    header: &Value,
+    claims: &Value,
+    now: u64,
+    is_json: bool,
+) -> Result<String, AllocError> {
+    if is_json {
+        json_line(alloc, header, claims)
+    } else {
+        page(alloc, header, claims, now)
+    }
+}
+
 fn shown(
     alloc: Global,
     data: &TokenData<Value>,
@@ -42,14 +56,11 @@ fn shown(
     let Ok(header) = data.header.to_value(alloc) else {
         return Err(Fault::Memory);
     };
-    let output = if is_json {
-        json_line(alloc, &header, &data.claims)?
-    } else {
-        page(alloc, &header, &data.claims, now)?
-    };
+    let output = written(alloc, &header, &data.claims, now, is_json);
+    drop(header);
     Ok(Answer {
         status: 0,
-        output,
+        output: output?,
         message: String::from_str(alloc, "NOT VERIFIED\n")?,
     })
 }
@@ -58,12 +69,16 @@ fn refused(alloc: Global, error: Error) -> Result<Answer, Fault<'static>>
     ensures { IfOk result (λ a. (kind_of error ≢ kind.OutOfMemory) × (a.status ≡ 1)) }
 {
     if matches!(error.kind(), ErrorKind::OutOfMemory) {
+        drop(error);
         return Err(Fault::Memory);
     }
+    let refusal = Refusal::Failed(error);
+    let message = refusal_line(alloc, &refusal);
+    drop(refusal);
     Ok(Answer {
         status: 1,
         output: String::new(alloc),
-        message: refusal_line(alloc, &Refusal::Failed(error))?,
+        message: message?,
     })
 }
 

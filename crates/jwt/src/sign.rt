@@ -193,11 +193,15 @@ fn refused(alloc: Global, error: Error) -> Result<Answer, Fault<'static>>
         × (string_bytes a.output ≡ [])) }
 {
     if matches!(error.kind(), ErrorKind::OutOfMemory) {
+        drop(error);
         return Err(Fault::Memory);
     }
+    let refusal = Refusal::Failed(error);
+    let message = refusal_line(alloc, &refusal);
+    drop(refusal);
     Ok(Answer {
         status: 1,
         output: String::new(alloc),
-        message: refusal_line(alloc, &Refusal::Failed(error))?,
+        message: message?,
     })
 }

@@ -53,6 +53,19 @@ pub fn distance_text(alloc: Global, seconds: u64, now: u64) -> Result<String, Al
     }
 }
 
+/// Returns the line of a claim that is this number of seconds.
+fn seconds_line(alloc: Global, name: &str, seconds: u64, now: u64) -> Result<String, AllocError> {
+    if is_likely_milliseconds(seconds) {
+        let meant = moment_text(alloc, seconds / 1000)?;
+        return format!(in alloc;
+            "{name}: {seconds} looks like milliseconds, {meant}; JWT times are in seconds\n"
+        );
+    }
+    let moment = moment_text(alloc, seconds)?;
+    let distance = distance_text(alloc, seconds, now)?;
+    format!(in alloc; "{name}: {moment}, {distance}\n")
+}
+
 /// Returns the line of a claim that is a moment, if there is one.
 fn claim_line(
     alloc: Global,
@@ -60,18 +73,10 @@ fn claim_line(
     name: &str,
     now: u64,
 ) -> Result<Option<String>, AllocError> {
-    let Some(seconds) = claims.get(name).and_then(Value::as_u64) else {
-        return Ok(None);
-    };
-    if is_likely_milliseconds(seconds) {
-        let meant = moment_text(alloc, seconds / 1000)?;
-        return Ok(Some(format!(in alloc;
-            "{name}: {seconds} looks like milliseconds, {meant}; JWT times are in seconds\n"
-        )?));
+    match claims.get(name).and_then(Value::as_u64) {
+        Some(seconds) => Ok(Some(seconds_line(alloc, name, seconds, now)?)),
+        None => Ok(None),
     }
-    let moment = moment_text(alloc, seconds)?;
-    let distance = distance_text(alloc, seconds, now)?;
-    Ok(Some(format!(in alloc; "{name}: {moment}, {distance}\n")?))
 }
 
 /// Returns the lines of the claims that are moments.

@@ -70,21 +70,39 @@ fn accepted_line(alloc: Global, claims: &Value) -> Result<String, AllocError> {
     Ok(line)
 }
 
+/// Adds a member, neither of whose texts needs an escape.
+fn push_member(line: &mut String, name: &str, text: &str) -> Result<(), AllocError> {
+    line.push_str(",\"")?;
+    line.push_str(name)?;
+    line.push_str("\":\"")?;
+    line.push_str(text)?;
+    line.push('"')
+}
+
+/// Adds the members about a refusal, with the test that failed.
+fn push_refusal(
+    line: &mut String,
+    refusal: &Refusal,
+    test: Option<&str>,
+) -> Result<(), AllocError> {
+    push_member(line, "kind", refusal_name(refusal))?;
+    if let Some(claim) = refused_claim(refusal) {
+        push_member(line, "claim", claim)?;
+    }
+    if let Some(test) = test {
+        push_member(line, "test", test)?;
+    }
+    line.push_str("}\n")
+}
+
 /// Returns one line of JSON about a refusal, with the test that failed.
 fn refused_line(
     alloc: Global,
     refusal: &Refusal,
     test: Option<&str>,
 ) -> Result<String, AllocError> {
-    let name = refusal_name(refusal);
-    let mut line = format!(in alloc; "{{\"ok\":false,\"kind\":\"{name}\"")?;
-    if let Some(claim) = refused_claim(refusal) {
-        line.push_str(format!(in alloc; ",\"claim\":\"{claim}\"")?.as_str())?;
-    }
-    if let Some(test) = test {
-        line.push_str(format!(in alloc; ",\"test\":\"{test}\"")?.as_str())?;
-    }
-    line.push_str("}\n")?;
+    let mut line = String::from_str(alloc, "{\"ok\":false")?;
+    push_refusal(&mut line, refusal, test)?;
     Ok(line)
 }
 
