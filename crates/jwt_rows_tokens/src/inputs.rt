@@ -1,15 +1,18 @@
 //! Inputs that several calls take together. Each function refuses a row with a member that is not among the names that it
 //! is given.
 
+use jsonwebtoken::errors::Result as Outcome;
 use jsonwebtoken::jwk::JwkSet;
 use jsonwebtoken::{Algorithm, DecodingKey, EncodingKey, Header, Validation};
 use jwt_rows::fault::Fault;
+use jwt_rows::inputs::bytes::bytes_of;
 use jwt_rows::inputs::headers::header_of;
 use jwt_rows::inputs::keys::{decoding_key, encoding_key};
 use jwt_rows::inputs::providers::algorithm_of;
 use jwt_rows::inputs::validations::validation;
 use jwt_rows::row::Row;
 use serde_json::Value;
+use std::alloc::Global;
 
 /// Returns the algorithm at `algorithm`.
 pub fn algorithm(row: Row<'_>) -> Result<Algorithm, Fault> {
@@ -128,4 +131,38 @@ pub fn unsigned_of(row: Row<'_>, names: &[&str]) -> Result<Box<Unsigned>, Fault>
     let header = header_of(row.alloc(), row.value("header")?)?;
     let claims = row.json("claims", "claims_json")?;
     Ok(Box::new(row.alloc(), Unsigned { header, claims })?)
+}
+
+/// A signature that is made or checked elsewhere, and what it signs.
+#[derive(Drop)]
+pub struct Elsewhere {
+    pub algorithm: Algorithm,
+    pub message: Vec<u8>,
+    pub signature: Vec<u8>,
+}
+
+const MALFORMED: Fault = Fault::Member("signature");
+
+// Returns the bytes that a member describes.
+fn bytes_at(alloc: Global, described: &Value, name: &str) -> Result<Vec<u8>, Fault> {
+    bytes_of(alloc, described.get(name).ok_or(MALFORMED)?)
+}
+
+/// Returns the signature that an object describes.
+pub fn elsewhere_of(alloc: Global, described: &Value) -> Result<Box<Elsewhere>, Fault> {
+    let algorithm = algorithm_of(described.get("algorithm").ok_or(MALFORMED)?)?;
+    let message = bytes_at(alloc, described, "message")?;
+    let signature = bytes_at(alloc, described, "signature")?;
+    let signed = Elsewhere {
+        algorithm,
+        message,
+        signature,
+    };
+    Ok(Box::new(alloc, signed)?)
+}
+
+/// Returns nothing, if something was made.
+pub fn made<T: Drop>(answer: Outcome<T>) -> Outcome<()> {
+    let _made = answer?;
+    Ok(())
 }

@@ -1,7 +1,7 @@
 //! Making keys, and their content.
 
 mod decoding;
-mod encoding;
+pub mod encoding;
 mod kinds;
 
 use jwt_rows::fault::Fault;

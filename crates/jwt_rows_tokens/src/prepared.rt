@@ -62,23 +62,12 @@ fn made(row: Row<'_>, trial: &mut Trial) -> Answer {
     }
 }
 
-// Returns the result of `add`, with the secrets that were prepared before it.
-fn of_added(
-    row: Row<'_>,
-    answer: errors::Result<()>,
-    before: &Value,
-    provider: &PreparedHmac,
-) -> Answer {
-    let after = those_prepared(row, provider)?;
+/// Returns the result of `add`, with the secrets or keys that were prepared before it and after it.
+pub fn of_added(alloc: Global, answer: errors::Result<()>, before: &Value, after: Value) -> Answer {
     match answer {
-        Ok(()) => accepted(row.alloc(), after),
-        Err(refusal) => {
-            if value_eq(before, &after) {
-                refused(row.alloc(), &refusal)
-            } else {
-                changed(row.alloc())
-            }
-        }
+        Ok(()) => accepted(alloc, after),
+        Err(_refusal) if !value_eq(before, &after) => changed(alloc),
+        Err(refusal) => refused(alloc, &refusal),
     }
 }
 
@@ -90,7 +79,8 @@ fn added(row: Row<'_>, trial: &mut Trial) -> Answer {
     trial.begin();
     let answer = provider.add(row.alloc(), algorithm, secret.as_slice());
     trial.end();
-    of_added(row, answer, &before, &provider)
+    let after = those_prepared(row, &provider)?;
+    of_added(row.alloc(), answer, &before, after)
 }
 
 fn is_prepared(row: Row<'_>, trial: &mut Trial) -> Answer {

@@ -1,9 +1,8 @@
 //! Keys that are prepared for RSA.
 
 use crate::inputs::bytes_among;
-use jsonwebtoken::errors;
-use jwt_base::json::value_eq;
-use jwt_rows::answer::{Answer, accepted, changed, refused};
+use crate::prepared::of_added;
+use jwt_rows::answer::{Answer, accepted};
 use jwt_rows::fault::Fault;
 use jwt_rows::inputs::bytes::bytes_of;
 use jwt_rows::inputs::providers::prepared_rsa_provider;
@@ -53,26 +52,6 @@ fn made(row: Row<'_>, trial: &mut Trial) -> Answer {
     accepted(row.alloc(), those_prepared(row, &provider)?)
 }
 
-// Returns the result of `add`, with the keys that were prepared before it.
-fn of_added(
-    row: Row<'_>,
-    answer: errors::Result<()>,
-    before: &Value,
-    provider: &PreparedRsa,
-) -> Answer {
-    let after = those_prepared(row, provider)?;
-    match answer {
-        Ok(()) => accepted(row.alloc(), after),
-        Err(refusal) => {
-            if value_eq(before, &after) {
-                refused(row.alloc(), &refusal)
-            } else {
-                changed(row.alloc())
-            }
-        }
-    }
-}
-
 fn added(row: Row<'_>, trial: &mut Trial) -> Answer {
     let n = bytes_among(row, &["provider", "n", "e", "asked"], "n")?;
     let e = row.bytes("e")?;
@@ -81,7 +60,8 @@ fn added(row: Row<'_>, trial: &mut Trial) -> Answer {
     trial.begin();
     let answer = provider.add(row.alloc(), n.as_slice(), e.as_slice());
     trial.end();
-    of_added(row, answer, &before, &provider)
+    let after = those_prepared(row, &provider)?;
+    of_added(row.alloc(), answer, &before, after)
 }
 
 fn is_prepared(row: Row<'_>, trial: &mut Trial) -> Answer {

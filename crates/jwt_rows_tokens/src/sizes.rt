@@ -87,11 +87,16 @@ fn is_forged(answer: Outcome<Box<TokenData<Value>>>) -> bool {
     }
 }
 
+// Puts what was read behind a pointer.
+fn boxed(alloc: Global, answer: Outcome<TokenData<Value>>) -> Outcome<Box<TokenData<Value>>> {
+    Ok(Box::new(alloc, answer?)?)
+}
+
 fn decoded(alloc: Global, text: &str, secret: &str) -> Outcome<Box<TokenData<Value>>> {
     let key = DecodingKey::from_secret(alloc, secret.as_bytes())?;
     let validation = Validation::new(alloc, Algorithm::HS256)?;
-    let data = decode(alloc, &HmacProvider, text.as_bytes(), &key, &validation, 0)?;
-    Ok(Box::new(alloc, data)?)
+    let answer = decode(alloc, &HmacProvider, text.as_bytes(), &key, &validation, 0);
+    boxed(alloc, answer)
 }
 
 // Returns whether `decode_header` reads this header of the text.
@@ -130,8 +135,8 @@ fn decoded_by(
 ) -> Outcome<Box<TokenData<Value>>> {
     let key = DecodingKey::from_secret(alloc, secret)?;
     let validation = Validation::new(alloc, Algorithm::HS256)?;
-    let data = decode(alloc, provider, text.as_bytes(), &key, &validation, 0)?;
-    Ok(Box::new(alloc, data)?)
+    let answer = decode(alloc, provider, text.as_bytes(), &key, &validation, 0);
+    boxed(alloc, answer)
 }
 
 fn decoded_parts(
@@ -141,8 +146,8 @@ fn decoded_parts(
 ) -> Outcome<Box<TokenData<Value>>> {
     let key = DecodingKey::from_secret(alloc, secret.as_bytes())?;
     let validation = Validation::new(alloc, Algorithm::HS256)?;
-    let data = jws::decode(alloc, &HmacProvider, parts, &key, &validation, 0)?;
-    Ok(Box::new(alloc, data)?)
+    let answer = jws::decode(alloc, &HmacProvider, parts, &key, &validation, 0);
+    boxed(alloc, answer)
 }
 
 /// Returns the same for a token in parts.
@@ -168,8 +173,8 @@ fn key_set(alloc: Global, count: usize) -> Outcome<Box<JwkSet>> {
 
 fn decoded_by_set(alloc: Global, text: &str, set: &JwkSet) -> Outcome<Box<TokenData<Value>>> {
     let validation = Validation::new(alloc, Algorithm::HS256)?;
-    let data = decode_with_set(alloc, &HmacProvider, text.as_bytes(), set, &validation, 0)?;
-    Ok(Box::new(alloc, data)?)
+    let answer = decode_with_set(alloc, &HmacProvider, text.as_bytes(), set, &validation, 0);
+    boxed(alloc, answer)
 }
 
 /// Returns whether a token is verified by the last key of a set.

@@ -1,6 +1,7 @@
 //! Tokens in parts (RFC 7515 section 7.2.2). A row describes such a token as the object of its three strings.
 
 use crate::tokens::of_token;
+use jsonwebtoken::Header;
 use jsonwebtoken::crypto::CryptoProvider;
 use jsonwebtoken::errors::Result as Outcome;
 use jsonwebtoken::jws::{self, Jws};
@@ -33,16 +34,11 @@ pub fn answer<P: CryptoProvider>(
     Ok(Some(answer?))
 }
 
-// Returns the token in parts at `parts`.
-fn parts(row: Row<'_>) -> Result<Box<Jws<Value>>, Fault> {
+// Returns the token in parts at `parts`, of a row that has no inputs but these.
+fn parts(row: Row<'_>, names: &[&str]) -> Result<Box<Jws<Value>>, Fault> {
+    row.takes(names)?;
     let token = Jws::from_value(row.alloc(), row.value("parts")?)?;
     Ok(Box::new(row.alloc(), token)?)
-}
-
-// Returns the token in parts at `parts`, of a row that has no other input.
-fn only_parts(row: Row<'_>) -> Result<Box<Jws<Value>>, Fault> {
-    row.takes(&["parts"])?;
-    parts(row)
 }
 
 fn parts_answer(alloc: Global, token: &Jws<Value>) -> Answer {
@@ -57,8 +53,7 @@ fn of_parts(alloc: Global, answer: Outcome<Jws<Value>>) -> Answer {
 }
 
 fn decoded<P: CryptoProvider>(row: Row<'_>, trial: &mut Trial, provider: &P) -> Answer {
-    row.takes(&["parts", "key", "validation", "now", "provider"])?;
-    let token = parts(row)?;
+    let token = parts(row, &["parts", "key", "validation", "now", "provider"])?;
     let key = decoding_key(row)?;
     let options = validation(row)?;
     let now = row.number("now")?;
@@ -77,9 +72,13 @@ fn optional_claims(row: Row<'_>) -> Result<Option<Value>, Fault> {
     Ok(Some(row.json("claims", "claims_json")?))
 }
 
+fn header_at(row: Row<'_>, names: &[&str]) -> Result<Box<Header>, Fault> {
+    row.takes(names)?;
+    header_of(row.alloc(), row.value("header")?)
+}
+
 fn encoded<P: CryptoProvider>(row: Row<'_>, trial: &mut Trial, provider: &P) -> Answer {
-    row.takes(&["header", "claims", "claims_json", "key", "provider"])?;
-    let header = header_of(row.alloc(), row.value("header")?)?;
+    let header = header_at(row, &["header", "claims", "claims_json", "key", "provider"])?;
     let key = encoding_key(row)?;
     let claims = optional_claims(row)?;
     trial.begin();
@@ -98,7 +97,7 @@ fn read(row: Row<'_>, trial: &mut Trial) -> Answer {
 }
 
 fn written(row: Row<'_>, trial: &mut Trial) -> Answer {
-    let token = only_parts(row)?;
+    let token = parts(row, &["parts"])?;
     trial.begin();
     let answer = token.to_value(row.alloc());
     trial.end();
@@ -106,7 +105,7 @@ fn written(row: Row<'_>, trial: &mut Trial) -> Answer {
 }
 
 fn copied(row: Row<'_>, trial: &mut Trial) -> Answer {
-    let token = only_parts(row)?;
+    let token = parts(row, &["parts"])?;
     trial.begin();
     let answer = token.clone(row.alloc());
     trial.end();
@@ -114,7 +113,7 @@ fn copied(row: Row<'_>, trial: &mut Trial) -> Answer {
 }
 
 fn debug_text(row: Row<'_>) -> Answer {
-    let token = only_parts(row)?;
+    let token = parts(row, &["parts"])?;
     let text = format!(in row.alloc(); "{:?}", *token)?;
     accepted(row.alloc(), Value::String(text))
 }

@@ -7,7 +7,7 @@ use jwt_rows::answer::{Answer, accepted, add_text, of_bytes, refused};
 use jwt_rows::fault::Fault;
 use jwt_rows::row::Row;
 use jwt_rows::trial::Trial;
-use serde_json::{Map, Value};
+use serde_json::{Map, Value, put};
 
 /// Makes the call of this name, if it is among those of this module.
 pub fn answer<P: CryptoProvider>(
@@ -99,7 +99,7 @@ fn verdict(row: Row<'_>, algorithm: &str, says_yes: bool) -> Answer {
     let alloc = row.alloc();
     let mut members = Map::new(alloc);
     add_text(alloc, &mut members, "algorithm", algorithm)?;
-    members.insert(String::from_str(alloc, "verdict")?, Value::Bool(says_yes))?;
+    put(&mut members, alloc, "verdict", Value::Bool(says_yes))?;
     accepted(alloc, Value::Object(members))
 }
 

@@ -9,7 +9,7 @@ use jwt_rows::fault::Fault;
 use jwt_rows::inputs::keys::thumbprint_hash;
 use jwt_rows::row::Row;
 use jwt_rows::trial::Trial;
-use serde_json::{Map, Value};
+use serde_json::{Map, Value, put};
 use std::alloc::Global;
 
 const RSA_PRIVATE: &str = "CryptoProvider::rsa_pub_components_from_private_key";
@@ -50,7 +50,7 @@ fn of_numbers(alloc: Global, answer: errors::Result<(Vec<u8>, Vec<u8>)>) -> Answ
 fn point(alloc: Global, curve: &EllipticCurve, x: &[u8], y: &[u8]) -> Answer {
     let curve = curve.to_value(alloc)?;
     let mut members = Map::new(alloc);
-    members.insert(String::from_str(alloc, "crv")?, curve)?;
+    put(&mut members, alloc, "crv", curve)?;
     add_bytes(alloc, &mut members, "x", x)?;
     add_bytes(alloc, &mut members, "y", y)?;
     accepted(alloc, Value::Object(members))

@@ -38,7 +38,8 @@ fn key_answer(alloc: Global, key: &EncodingKey) -> Answer {
     accepted(alloc, Value::Object(members))
 }
 
-fn of_key(alloc: Global, answer: errors::Result<EncodingKey>) -> Answer {
+/// Returns the result of a call that returns a key to sign with.
+pub fn of_key(alloc: Global, answer: errors::Result<EncodingKey>) -> Answer {
     match answer {
         Ok(key) => key_answer(alloc, &key),
         Err(refusal) => refused(alloc, &refusal),

@@ -1,20 +1,16 @@
 //! A verdict as a provider.
 
-use crate::inputs::{algorithm, signing_of};
+use crate::inputs::{Elsewhere, algorithm, elsewhere_of, made, signing_of};
+use jsonwebtoken::DecodingKey;
 use jsonwebtoken::crypto::verdict::VerdictProvider;
 use jsonwebtoken::crypto::{CryptoProvider, JwtVerifier};
-use jsonwebtoken::errors::Result as Outcome;
-use jsonwebtoken::{Algorithm, DecodingKey};
 use jwt_rows::answer::keys::of_decoding_key;
 use jwt_rows::answer::{Answer, of_flag, of_nothing};
 use jwt_rows::fault::Fault;
-use jwt_rows::inputs::bytes::bytes_of;
 use jwt_rows::inputs::keys::decoding_key;
-use jwt_rows::inputs::providers::algorithm_of;
 use jwt_rows::row::Row;
 use jwt_rows::trial::Trial;
 use serde_json::Value;
-use std::alloc::Global;
 
 /// Makes the call of this name, if it is among those of this module.
 pub fn answer(call: &str, row: Row<'_>, trial: &mut Trial) -> Result<Option<Value>, Fault> {
@@ -33,41 +29,27 @@ const MALFORMED: Fault = Fault::Member("verdict");
 /// A verdict on a signature.
 #[derive(Drop)]
 struct Said {
-    algorithm: Algorithm,
-    message: Vec<u8>,
-    signature: Vec<u8>,
+    signed: Box<Elsewhere>,
     yes: bool,
 }
 
-// Returns the bytes that a member of the verdict describes.
-fn bytes_at(alloc: Global, described: &Value, name: &str) -> Result<Vec<u8>, Fault> {
-    bytes_of(alloc, described.get(name).ok_or(MALFORMED)?)
-}
-
 // Returns the verdict at `verdict`.
-fn said_at(row: Row<'_>, names: &[&str]) -> Result<Box<Said>, Fault> {
+fn said_at(row: Row<'_>, names: &[&str]) -> Result<Said, Fault> {
     row.takes(names)?;
     let described = row.value("verdict")?;
-    let algorithm = algorithm_of(described.get("algorithm").ok_or(MALFORMED)?)?;
     let yes = described
         .get("yes")
         .and_then(Value::as_bool)
         .ok_or(MALFORMED)?;
-    let message = bytes_at(row.alloc(), described, "message")?;
-    let signature = bytes_at(row.alloc(), described, "signature")?;
-    let said = Said {
-        algorithm,
-        message,
-        signature,
-        yes,
-    };
-    Ok(Box::new(row.alloc(), said)?)
+    let signed = elsewhere_of(row.alloc(), described)?;
+    Ok(Said { signed, yes })
 }
 
 impl Said {
     fn provider(&self) -> VerdictProvider<'_> {
-        let (message, signature) = (self.message.as_slice(), self.signature.as_slice());
-        VerdictProvider::new(self.algorithm, message, signature, self.yes)
+        let message = self.signed.message.as_slice();
+        let signature = self.signed.signature.as_slice();
+        VerdictProvider::new(self.signed.algorithm, message, signature, self.yes)
     }
 }
 
@@ -86,12 +68,6 @@ fn key_for(row: Row<'_>, verdict: &VerdictProvider<'_>) -> Result<Box<DecodingKe
         Some(_) => decoding_key(row),
         None => Ok(Box::new(row.alloc(), verdict.key(row.alloc())?)?),
     }
-}
-
-// Returns nothing, if something was made.
-fn made<T: Drop>(answer: Outcome<T>) -> Outcome<()> {
-    let _made = answer?;
-    Ok(())
 }
 
 fn verifier(row: Row<'_>, trial: &mut Trial) -> Answer {
