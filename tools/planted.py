@@ -21,7 +21,7 @@ NO_FUNCTION = re.compile(r"proofs/(\S+)/Proof\.antt: error: `\w+` has no functio
 PROVED = ("no holes", "depends on a hole in")
 # The line that rattle prints of a body that does not compile.
 ERROR = re.compile(r"(?:\./)?(src/\S+?):(\d+):\d+: error")
-# A proof that is left out. Without names for the statement's variables the prover prints no goal of it, which takes long.
+# A proof that is left out. With names for the statement's variables, the goal of some generic functions takes minutes.
 HOLE = """use Rattle.{crate}.proofs.{module}.Statement.{{statement}}
 
 pub {name}_spec : {{M : Type 1}} → statement M
