@@ -1,12 +1,12 @@
 """The edits that put a wrong body in the place of a right one, and the functions of the sources that they lie in.
 
-An edit has the form of rt's must-fail edits: 'file: src/lib.rt', 'old: TEXT', 'new: TEXT'. A line 'twin: TEXT' after a
-'new:' line is a right body in the same place, in the wrong one's form.
+A file wrong-bodies/PATH.edits of a crate has the edits of its module src/PATH.rt. Each begins with a line '# TITLE', and has
+pairs of lines 'old: TEXT' and 'new: TEXT'. A line 'twin: TEXT' after a 'new:' line is a right body in the same place, in the
+wrong one's form. A line 'file: src/other.rt' stands before pairs that change another file. The edits after a line '## More' are
+tried before a release alone.
 """
 import os
 import re
-
-from kit import why_bad
 
 # In rt fmt's layout: the line at which a function begins, that of the block around it, and other lines that end a function.
 FUNCTION = re.compile(r" *(?:pub(?:\(\w+\))? )?(?:const )?(?:unsafe )?(?:extern \S+ )?fn (\w+)")
@@ -16,6 +16,8 @@ ITEM = re.compile(
 )
 # A struct or an enum, in whose module rattle names its methods.
 TYPE = re.compile(r"(?m)^(?:pub(?:\(\w+\))? )?(?:struct|enum|union) (\w+)")
+# The line below which a file has the edits that are tried before a release alone.
+MORE = "## More"
 
 
 def text_of(file):
@@ -140,49 +142,127 @@ def at_home(crate, functions):
     return functions
 
 
+def slug(title):
+    """Returns the words of a title as they stand in a name."""
+    return "_".join(re.findall(r"[a-z0-9]+", title.lower()))
+
+
+class Written:
+    """An edit as it is written: its module, its title, its lines, and whether it stands after the line '## More'."""
+
+    def __init__(self, module, title, is_more):
+        self.module, self.title, self.is_more, self.lines = module, title, is_more, []
+        self.name = f"{module}/{slug(title)}"
+        self.said = "" if slug(title) else "it has no title"
+
+
+def written_in(module, text):
+    """Returns the edits of a text, in its order. One whose title stands above another one says so."""
+    found, own, is_more, names = [], None, False, set()
+    for line in text.split("\n"):
+        if line.rstrip() == MORE:
+            own, is_more = None, True
+            continue
+        begins = re.match(r"#(?: |$)", line)
+        if begins or own is None and line.strip():
+            own = Written(module, line[1:].strip() if begins else "", is_more)
+            found.append(own)
+            own.said = own.said or "its title stands above another edit of the file too" * (own.name in names)
+            names.add(own.name)
+        if not begins and line.strip():
+            own.lines.append(line)
+    return found
+
+
+def written_below(folder):
+    """Returns the edits of a crate's folder as they are written, by file."""
+    top = f"{folder}/wrong-bodies"
+    files = sorted(f"{at}/{name}" for at, _, names in os.walk(top) for name in names if name.endswith(".edits"))
+    return [own for file in files for own in written_in(os.path.relpath(file, top)[: -len(".edits")], text_of(file))]
+
+
 class Edit:
     """A wrong body: its texts, the function that it lies in, and what was found of it."""
 
-    def __init__(self, crate, file):
-        self.crate, self.name = crate, os.path.basename(file)[: -len(".edit")]
-        self.pairs, self.function, self.text = [], None, text_of(file)
+    def __init__(self, crate, written):
+        self.crate, self.name, self.title, self.is_more = crate, written.name, written.title, written.is_more
+        self.text = "\n".join([f"# {written.title}", *written.lines])
+        self.pairs, self.function = [], None
         self.is_refused, self.misfit, self.has_twin = False, "", False
-        why = why_bad(file, crate.folder) or self.place(file)
-        self.is_bad, self.said = bool(why), why or ""
+        self.said = written.said or self.read(written) or self.place()
+        self.is_bad = bool(self.said)
 
-    def place(self, file):
-        """Reads the texts and finds their one function, or says why there is none."""
-        path = old = None
-        for line in text_of(file).split("\n"):
-            if line.startswith("file: "):
-                path = line[len("file: ") :].strip()
-            elif line.startswith("old: "):
-                old = line[len("old: ") :]
-            elif line.startswith("new:"):
-                self.pairs.append([path, old, line[len("new:") :].removeprefix(" "), old])
-            elif line.startswith("twin: "):
-                self.pairs[-1][3], self.has_twin = line[len("twin: ") :], True
+    def read(self, written):
+        """Reads the pairs of texts. Returns why it can't, or an empty text."""
+        path, old = f"src/{written.module}.rt", None
+        for line in written.lines:
+            word, _, text = line.partition(":")
+            text = text.removeprefix(" ")
+            if word == "file" and old is None:
+                path = text.strip()
+            elif word == "old" and old is None:
+                old = text
+            elif word == "new" and old is not None:
+                self.pairs.append([path, old, text, old])
+                old = None
+            elif word == "new":
+                return "a 'new:' line stands before an 'old:' line"
+            elif word == "twin" and self.pairs and old is None:
+                self.pairs[-1][3], self.has_twin = text, True
+            else:
+                return f"a line can't stand where it does: {line}"
+        if old is not None:
+            return "an 'old:' line has no 'new:' line"
+        return "" if self.pairs else "it has no pair of an 'old:' and a 'new:' line"
+
+    def place(self):
+        """Applies the pairs and finds their one function. Returns why it can't, or an empty text."""
+        right, changed = {}, {}
         for path, old, new, _ in self.pairs:
-            text = text_of(f"{self.crate.folder}/{path}")
-            line = text.count("\n", 0, text.find(old)) + 1
-            here = next((function for function in functions_of(path, text) if function.first <= line <= function.last), None)
-            own = self.function
-            between = "".join(text.split("\n")[own.last : line - 1]) if own and path == own.file else "-"
-            if new.lstrip().startswith("*/ ") and not between.strip(" }"):
-                continue  # the end of a comment that hides the right body
-            if here is None or own and (own.file, own.first) != (here.file, here.first):
-                return f"{path}:{line} lies in no function, or in another one than the edit's first text: such an edit goes in must-fail/"
-            self.function = here
-        return None
+            if path not in right:
+                if not os.path.isfile(f"{self.crate.folder}/{path}"):
+                    return f"there is no file {path}"
+                right[path] = changed[path] = text_of(f"{self.crate.folder}/{path}")
+            found = changed[path].count(old)
+            if found != 1:
+                return f"an 'old:' text is in {path} {found} times, and not once"
+            if new == old:
+                return "a pair changes nothing"
+            line = changed[path].count("\n", 0, changed[path].find(old)) + 1
+            changed[path] = changed[path].replace(old, new)
+            if not self.lies_at(path, right[path], line, new):
+                return f"{path}:{line} lies in no function, or in another one than the edit's first text"
+        return ""
+
+    def lies_at(self, path, text, line, new):
+        """Takes the function at this line of the right text for the edit's own. Returns whether it can."""
+        here = next((function for function in functions_of(path, text) if function.first <= line <= function.last), None)
+        own = self.function
+        between = "".join(text.split("\n")[own.last : line - 1]) if own and path == own.file else "-"
+        if new.lstrip().startswith("*/ ") and not between.strip(" }"):
+            return True  # the end of a comment that hides the right body
+        if here is None or own and (own.file, own.first) != (here.file, here.first):
+            return False
+        self.function = here
+        return True
+
+    def must_fail_text(self, twins=False):
+        """Returns the edit in the form of rt's must-fail edits; with twins, each twin stands in the place of its wrong text."""
+        lines, last = [], None
+        for path, old, new, twin in self.pairs:
+            lines += [f"file: {path}"] * (path != last) + [f"old: {old}", f"new: {twin if twins else new}"]
+            last = path
+        return "\n".join(lines) + "\n"
 
 
 def edits_of(crate, with_more):
-    """Returns the edits of a crate's folder wrong-bodies, and of the folder more/ in it if that is asked for. The folders
-    in each mirror src/."""
-    top = f"{crate.folder}/wrong-bodies"
-    found = [f"{at}/{name}" for at, _, files in os.walk(top) for name in files]
-    more = [file for file in found if file.startswith(f"{top}/more/")]
-    files = sorted(set(found) - set(more)) + sorted(more) * with_more
-    edits = [Edit(crate, path) for path in files if path.endswith(".edit")]
+    """Returns the edits of a crate's folder wrong-bodies, and those after a line '## More' if that is asked for."""
+    edits = [Edit(crate, written) for written in written_below(crate.folder) if with_more or not written.is_more]
     at_home(crate, [edit.function for edit in edits if edit.function])
     return edits
+
+
+def counts(folder):
+    """Returns how many edits of a crate's folder the gate tries, and how many stand after a line '## More'."""
+    found = [written.is_more for written in written_below(folder)]
+    return found.count(False), found.count(True)
