@@ -222,7 +222,7 @@ def imports():
         ran = subprocess.run([sys.executable, "-B", "-c", "import jwt"], cwd=PYTHON,
                              env={**os.environ, "JWT_LIBRARY": library}, stderr=subprocess.PIPE, text=True)
         last = ran.stderr.strip().splitlines()[-1:]
-        test(f"without a library: {last}", last and last[0].startswith("ImportError: ") and library in last[0] and "tools/build_c" in last[0])
+        test(f"without a library: {last}", last and last[0].startswith("ImportError: ") and library in last[0] and "tools/prove library" in last[0])
 
 
 for tests in (secrets, texts, issued, verdicts, signatures, moments, options, kinds, imports):

@@ -51,7 +51,7 @@ def _load():
             call.argtypes, call.restype = types, ctypes.c_uint32
     except (OSError, AttributeError) as error:
         raise ImportError(
-            f"the JWT library is missing: {error}. `tools/build_c` builds it and leaves out/libjwtproved.so;"
+            f"the JWT library is missing: {error}. `tools/prove library` builds it and leaves out/libjwtproved.so;"
             " JWT_LIBRARY names its path"
         ) from error
     return library

@@ -1,4 +1,4 @@
-//! Links libjwtproved.a, which `tools/build_c` puts into the folder that JWT_FOLDER names.
+//! Links libjwtproved.a, which `tools/prove library` puts into the folder that JWT_FOLDER names.
 
 fn main() {
     println!("cargo:rerun-if-env-changed=JWT_FOLDER");

@@ -1,4 +1,4 @@
-"""Builds the wheel (PEP 517), with the shared library in it, which tools/build_c proves and builds if it has changed.
+"""Builds the wheel (PEP 517), with the shared library in it, which tools/prove library proves and builds if it has changed.
 
 With Python's headers and a C compiler, the call that most programs make is compiled too (_fast.c); without, ctypes makes it.
 """
@@ -28,10 +28,10 @@ def _read(path):
 
 def _library():
     """Returns the bytes of the shared library."""
-    build = f"{TOP}/tools/build_c"
+    build = f"{TOP}/tools/prove"
     if not os.path.isfile(build):
         raise FileNotFoundError(f"{build} is missing: the package is built in a checkout of its repository, which proves the library")
-    subprocess.run([build], check=True)
+    subprocess.run([build, "library"], check=True)
     return _read(f"{TOP}/out/libjwtproved.so")
 
 

@@ -1,9 +1,9 @@
 //! Makes the calls of rows of test vectors about numbers (crate `modular`) and points (crates `weierstrass` and `ecdsa`), and compares
 //! each result with the one that the row wants.
 //!
-//! The program reads the files `*.jsonl` of the folder that it runs in, which `tools/modular_rows` and `tools/point_rows` write. A
-//! row is one line of JSON with the members `id`, `call`, those of the call's inputs, `want`, and `from`, the source of the result
-//! that is wanted. A row that differs is printed, and the last line counts.
+//! The program reads the files `*.jsonl` of the folder that it runs in, which the programs of `tools/rows` write. A row is one line of
+//! JSON with the members `id`, `call`, those of the call's inputs, `want`, and `from`, the source of the result that is wanted. A row
+//! that differs is printed, and the last line counts.
 #![tactic(auto)]
 
 mod calls;

@@ -1,18 +1,16 @@
-#!/usr/bin/env -S python3 -B
 """Shows which functions of a crate take longest to prove, and which kinds of modules the prover spends its time on.
 
 The crate is checked from nothing, with one job, over the libraries below it as they are built. The prover writes a file for each
 module that it is done with, so the times of these files tell how long each took; a function has some twenty modules.
 """
-import argparse
 import collections
 import os
 import re
-import sys
 import tempfile
 import time
 
-from kit import TOP, crate_name, crates
+from proving import checks
+from proving.crates import crates
 
 # The name of a module's file: its library, its path, and what it has of the function or type at that path.
 MODULE = re.compile(r"Rattle-\w+-(?:proofs|specs)\.(.+)\.(\w+)\.oantt")
@@ -32,7 +30,7 @@ def check(crate):
     of_functions, of_kinds = collections.Counter(), collections.Counter()
     with tempfile.TemporaryDirectory(prefix="costs-") as kept:
         start = time.time()
-        status, said = crate.check_copy(crate.folder, ["--jobs", "1"], kept)
+        status, said = checks.check(crate, crate.folder, ["--jobs", "1", "--incremental", kept])
         for name, seconds in times_below(kept, start):
             found = MODULE.fullmatch(name)
             of_functions[found[1] if found else "(the crate as a whole)"] += seconds
@@ -46,21 +44,13 @@ def show(title, seconds, most):
         print(f"{spent:8.1f}  {name}")
 
 
-def main():
-    parser = argparse.ArgumentParser(description=__doc__, formatter_class=argparse.RawDescriptionHelpFormatter)
-    parser.add_argument("--most", type=int, default=30, help="how many functions are shown")
-    parser.add_argument("crate", metavar="CRATE", type=crate_name)
-    given = parser.parse_args()
-    os.chdir(TOP)
-    crate = next(crate for crate in crates() if crate.name == given.crate)
+def show_costs(given):
+    """Prints what the functions of a crate took. Returns whether the crate is proved."""
+    crate = crates()[given.crate]
     status, said, of_functions, of_kinds = check(crate)
     if status:
         print(said)
     show("seconds by kind of module", of_kinds, 8)
     show("seconds by function or type", of_functions, given.most)
     print(f"{crate.name}: {sum(of_functions.values()):.1f} s for {len(of_functions)} functions and types")
-    return 1 if status else 0
-
-
-if __name__ == "__main__":
-    sys.exit(main())
+    return not status

@@ -5,7 +5,7 @@ import os
 import random
 import sys
 
-DATA = f"{os.path.dirname(os.path.dirname(os.path.realpath(__file__)))}/crates/arithmetic_vectors/data"
+DATA = f"{os.path.dirname(os.path.dirname(os.path.dirname(os.path.realpath(__file__))))}/crates/arithmetic_vectors/data"
 
 
 class Rows:

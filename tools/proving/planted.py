@@ -9,7 +9,8 @@ import re
 import shutil
 import tempfile
 
-from edits import FUNCTION, at_home, functions_of, plain, sources, text_of
+from proving import checks
+from proving.edits import FUNCTION, at_home, functions_of, plain, sources, text_of
 
 PARTS = ("src", "specs", "proofs")
 # The lines that rattle prints: a function's verdict, a goal that it did not prove, and an answer that is not a proof.
@@ -107,23 +108,24 @@ class Planted:
             with open(f"{scratch}/{path}", "w", encoding="utf-8") as opened:
                 opened.write("\n".join(lines))
 
-    def check_once(self, jobs, kept, kept_proofs, only):
-        """Checks the copy, and these of its functions alone if there are any. Returns a status, and what was printed."""
-        with tempfile.TemporaryDirectory(prefix=f"rt-edit-{os.getpid()}-") as scratch:
+    def check_once(self, work, kept_proofs, only):
+        """Checks the copy, and these of its functions alone if there are any, over what the folder `work` holds of earlier checks. Returns
+        a status, and what was printed."""
+        with tempfile.TemporaryDirectory(prefix="edits-") as scratch:
             self.write(scratch, kept_proofs)
-            flags = ["--jobs", str(jobs), "--allow-holes", *(word for name in only for word in ("--only", name))]
-            return self.crate.check_copy(scratch, flags, kept)
+            flags = ["--jobs", "1", "--allow-holes", *(word for name in only for word in ("--only", name))]
+            return checks.check(self.crate, scratch, [*flags, *(["--incremental", work] if work else [])])
 
-    def check(self, jobs, kept=None):
+    def check(self, work=None):
         """Checks the planted functions of the copy, and those that they call. Returns what was printed."""
         only, kept_proofs = [function.spelled for function in self.functions.values()], set()
-        status, said = self.check_once(jobs, kept, kept_proofs, only)
+        status, said = self.check_once(work, kept_proofs, only)
         # rattle may spell the path of a function of a trait in another way
         unknown = {plain(found.split("/")) for found in NO_FUNCTION.findall(said)}
         if unknown:
             kept_proofs = unknown
-            status, said = self.check_once(jobs, kept, kept_proofs, only)
-        return self.check_once(jobs, kept, kept_proofs, [])[1] if status == 2 else said
+            status, said = self.check_once(work, kept_proofs, only)
+        return self.check_once(work, kept_proofs, [])[1] if status == 2 else said
 
 
 def copy_proofs(scratch, right, wrong):
@@ -167,8 +169,8 @@ def leave_out(crate, scratch, path):
 class Report:
     """The lines that a check of planted edits printed: verdicts by function, goals that it left open, and answers that are not proofs."""
 
-    def __init__(self, planted, jobs, kept=None):
-        self.lines, self.functions, self.verdicts = planted.check(jobs, kept).split("\n"), planted.functions, {}
+    def __init__(self, planted, work=None):
+        self.lines, self.functions, self.verdicts = planted.check(work).split("\n"), planted.functions, {}
         for found in filter(None, map(VERDICT.match, self.lines)):
             self.verdicts[plain(found[1].split("::")[1:])] = found[2]
         for function in self.functions.values():

@@ -1,0 +1,36 @@
+"""Tells by contents, not by times, whether a file was built from a crate's sources as they are."""
+import hashlib
+import os
+
+from proving.crates import with_those_below
+
+
+def sum_of_file(path):
+    with open(path, "rb") as file:
+        return hashlib.sha256(file.read()).hexdigest()
+
+
+def sum_of_sources(crate):
+    """Returns a sum of the sources of the crate and of those below it."""
+    parts = [(part.line.split(), [(path, sum_of_file(f"{part.folder}/{path}")) for path in part.sources()]) for part in with_those_below([crate])]
+    return hashlib.sha256(repr(parts).encode()).hexdigest()
+
+
+def sum_of(crate, files):
+    """Returns a sum of the crate's sources and of what was built from them."""
+    return hashlib.sha256(repr((sum_of_sources(crate), [sum_of_file(path) for path in files])).encode()).hexdigest()
+
+
+def note(crate, *files):
+    """Notes beside the first file that these were built from the crate's sources."""
+    with open(f"{files[0]}.sum", "w", encoding="utf-8") as file:
+        file.write(f"{sum_of(crate, files)}\n")
+
+
+def is_built(crate, *files):
+    """Returns whether these files were built from the crate's sources as they are."""
+    noted = f"{files[0]}.sum"
+    if not all(map(os.path.isfile, [*files, noted])):
+        return False
+    with open(noted, encoding="utf-8") as file:
+        return file.read().strip() == sum_of(crate, files)

@@ -1,0 +1,95 @@
+"""Builds the library for C, and all that calls it: out/libjwtproved.a to link, and out/libjwtproved.so to load, each with the parts of
+the kit that it needs. Both export the names jwt_* alone."""
+import os
+import re
+import shutil
+import subprocess
+import tempfile
+
+from proving import built, checks, kit
+from proving.crates import crates
+from proving.kit import TOP, stop, tell
+
+CRATE = "jwt_c"
+OUT = f"{TOP}/out"
+
+
+def build(crate, is_plain):
+    """Builds the static library of the crate, over the libraries that rt ci built below it, or by rt lib. Returns whether it is built."""
+    if is_plain or not checks.are_built([crate]):
+        return kit.rt("lib", cwd=crate.folder).returncode == 0
+    words = [*crate.check_words(), "--jobs", "1", "--toolchain", f"{kit.folder()}/toolchain", "--backend", "llvm"]
+    words = [kit.program("rattle"), "build", *words, "-o", f"out/lib{crate.name}.a"]
+    ran = subprocess.run(words, cwd=crate.folder, stdin=subprocess.DEVNULL, stdout=subprocess.PIPE, stderr=subprocess.STDOUT, text=True)
+    is_proved = ran.returncode == 0 and re.search(r"^logic=proved ", ran.stdout, re.M)
+    if not is_proved:
+        print(ran.stdout)
+    return bool(is_proved)
+
+
+def version():
+    with open(f"{TOP}/include/jwtproved.h", encoding="utf-8") as file:
+        return re.search(r'^#define JWT_VERSION "(.*)"$', file.read(), re.M)[1]
+
+
+def names():
+    """Returns the paths of the static library, and of the shared one with its other names."""
+    number = version()
+    shared = f"{OUT}/libjwtproved.so"
+    return f"{OUT}/libjwtproved.a", f"{shared}.{number}", [f"{shared}.{number.split('.')[0]}", shared]
+
+
+def is_current():
+    """Returns whether all of these files are built from the sources as they are."""
+    static, shared, others = names()
+    return built.is_built(crates()[CRATE], static, shared, *others)
+
+
+def link(library, compiler):
+    """Links the library for C from the static library of the crate. Returns whether that went well."""
+    static, shared, others = names()
+    major = version().split(".")[0]
+    os.makedirs(OUT, exist_ok=True)
+    with tempfile.TemporaryDirectory(dir=OUT) as scratch:
+        whole, linked, exports = f"{scratch}/jwtproved.o", f"{scratch}/shared", f"{scratch}/exports.map"
+        # the version of the names keeps them apart from those of another library in the same process
+        with open(exports, "w", encoding="utf-8") as file:
+            file.write(f"JWTPROVED_{major} {{ global: jwt_*; local: *; }};\n")
+        commands = [
+            ["ld", "-r", "-o", whole, "--whole-archive", library, "--no-whole-archive", f"{kit.folder()}/c/liblibc_c.a"],
+            ["objcopy", "--wildcard", "--keep-global-symbol=jwt_*", whole],
+            ["ar", "rcsD", f"{scratch}/static", whole],
+            [compiler, "-shared", "-o", linked, f"-Wl,-soname,libjwtproved.so.{major}", "-Wl,-z,relro,-z,now", f"-Wl,--version-script={exports}", whole],
+        ]
+        if any(subprocess.run(command).returncode for command in commands):
+            return False
+        os.replace(f"{scratch}/static", static)
+        os.replace(linked, shared)
+    # names of one file, and no symbolic links: rt ci refuses these in a checkout
+    for other in others:
+        if os.path.lexists(other):
+            os.remove(other)
+        os.link(shared, other)
+    return True
+
+
+def make(prove):
+    """Builds the library for C if its sources have changed; `prove` proves its crate. Returns whether it is built."""
+    compiler, crate = os.environ.get("CC", "cc"), crates()[CRATE]
+    if is_current():
+        return True
+    if not shutil.which(compiler):
+        stop(f"there is no C compiler {compiler}; the variable CC names one")
+    library = f"{crate.folder}/out/lib{CRATE}.a"
+    kit.tell_logic()
+    if not built.is_built(crate, library):
+        tell("proving and building the library for C: half an hour on four cores, or minutes if rt kept the proofs")
+        if not prove():
+            return False
+    sources = built.sum_of_sources(crate)
+    if not link(library, compiler):
+        return False
+    if built.sum_of_sources(crate) == sources:
+        static, shared, others = names()
+        built.note(crate, static, shared, *others)
+    return True

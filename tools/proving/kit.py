@@ -1,0 +1,91 @@
+"""The Rattle kit, as this repository uses it: by the documented commands of `rt`, and by the kit's other programs by their path.
+
+Nothing of the kit is imported. Kits that print the same line of `rt version` differ inside; `tests/kits` tries several.
+"""
+import functools
+import os
+import shutil
+import subprocess
+import sys
+
+TOP = os.path.dirname(os.path.dirname(os.path.dirname(os.path.realpath(__file__))))
+# The logic by which everything here was proved.
+LOGIC = "dac8208d650f15bf"
+MISSING = "the Rattle kit is missing: no `rt` of a kit is on the PATH; 'The kit' in README.md says what needs it"
+
+
+def stop(why):
+    print(f"{os.path.basename(sys.argv[0])}: {why}", file=sys.stderr)
+    sys.exit(2)
+
+
+def tell(text):
+    print(text, file=sys.stderr, flush=True)
+
+
+@functools.cache
+def folder():
+    """Returns the kit's folder; ends the program if there is no kit."""
+    found = shutil.which("rt")
+    path = os.path.dirname(os.path.realpath(found)) if found else ""
+    # another program may have the same name
+    if not os.path.isfile(f"{path}/rattle"):
+        stop(MISSING)
+    return os.path.dirname(path)
+
+
+def program(name):
+    return f"{folder()}/bin/{name}"
+
+
+def rt(*words, **how):
+    """Runs a command of rt. Returns what `subprocess.run` does."""
+    return subprocess.run([program("rt"), *words], **how)
+
+
+def text_of_rt(*words):
+    return rt(*words, stdin=subprocess.DEVNULL, capture_output=True, text=True, errors="replace").stdout
+
+
+@functools.cache
+def version():
+    return text_of_rt("version").strip()
+
+
+def tell_logic():
+    """Says so if the kit has another logic than the one by which all was proved; the verdict is then this kit's."""
+    own = version().rpartition("logic ")[2].strip() or "it does not say which"
+    if own != LOGIC:
+        tell(f"note: everything here was proved by logic {LOGIC}, and this kit has another: {own}; the verdict is this kit's")
+
+
+def ci_words(is_anew):
+    """Returns the command that proves everything, anew if rt keeps what it proved earlier and can leave it."""
+    said = text_of_rt("help").partition("\n  rt ci ")[2].partition("\n  rt must-fail")[0]
+    return ["ci", *["--anew"] * (is_anew and "--anew" in said)]
+
+
+@functools.cache
+def help_of_check():
+    """Returns the help of rattle's check, which names its flags."""
+    ran = subprocess.run([program("rattle"), "check", "--help"], stdin=subprocess.DEVNULL, capture_output=True, text=True)
+    return ran.stdout
+
+
+def processors():
+    return len(os.sched_getaffinity(0))
+
+
+def free_memory():
+    """Returns the memory in bytes that is free."""
+    with open("/proc/meminfo", encoding="ascii") as file:
+        sizes = dict(line.split(":") for line in file)
+    return 1024 * int(sizes["MemAvailable"].split()[0])
+
+
+def one_job_each(environment):
+    """Returns the environment in which rt gives each check one job: several jobs of one check take a sixth more time of the processors
+    in all. A kit whose rt does not know RT_JOBS decides by itself."""
+    most_memory = 4_000_000_000
+    jobs = max(1, min(processors(), free_memory() // most_memory))
+    return {"RT_JOBS": str(jobs), **environment}
