@@ -16,11 +16,17 @@ OUT = f"{TOP}/out"
 
 def build(crate, is_plain):
     """Builds the static library of the crate, over the libraries that rt ci built below it, or by rt lib. Returns whether it is built."""
+    def by_rt():
+        return kit.rt("lib", cwd=crate.folder, stdin=subprocess.DEVNULL).returncode == 0
+
     if is_plain or not checks.are_built([crate]):
-        return kit.rt("lib", cwd=crate.folder).returncode == 0
+        return by_rt()
     words = [*crate.check_words(), "--jobs", "1", "--toolchain", f"{kit.folder()}/toolchain", "--backend", "llvm"]
     words = [kit.program("rattle"), "build", *words, "-o", f"out/lib{crate.name}.a"]
     ran = subprocess.run(words, cwd=crate.folder, stdin=subprocess.DEVNULL, stdout=subprocess.PIPE, stderr=subprocess.STDOUT, text=True)
+    if ran.returncode == 2:
+        # this kit's rattle takes other words
+        return by_rt()
     is_proved = ran.returncode == 0 and re.search(r"^logic=proved ", ran.stdout, re.M)
     if not is_proved:
         print(ran.stdout)

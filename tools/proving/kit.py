@@ -44,7 +44,9 @@ def rt(*words, **how):
 
 
 def text_of_rt(*words):
-    return rt(*words, stdin=subprocess.DEVNULL, capture_output=True, text=True, errors="replace").stdout
+    """Returns what a command of rt says: some kits' rt prints its help as an error."""
+    how = {"stdin": subprocess.DEVNULL, "stdout": subprocess.PIPE, "stderr": subprocess.STDOUT, "text": True, "errors": "replace"}
+    return rt(*words, **how).stdout
 
 
 @functools.cache
