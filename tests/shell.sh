@@ -3,6 +3,8 @@
 
 passed=0
 failed=()
+# What is said right before the last line.
+remark=
 
 # usage: prints it.
 usage() {
@@ -52,6 +54,7 @@ leave_out() {
 # finish: prints the last line, 'N passed, M failed', and ends.
 finish() {
     [ ${#failed[@]} -eq 0 ] || printf 'FAILED: %s\n' "${failed[@]}"
+    [ -z "$remark" ] || echo "$remark"
     echo "$passed passed, ${#failed[@]} failed"
     [ ${#failed[@]} -eq 0 ]
     exit

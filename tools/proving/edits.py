@@ -246,11 +246,11 @@ class Edit:
         self.function = here
         return True
 
-    def must_fail_text(self, twins=False):
-        """Returns the edit in the form of rt's must-fail edits; with twins, each twin stands in the place of its wrong text."""
+    def must_fail_text(self):
+        """Returns the edit in the form of rt's must-fail edits."""
         lines, last = [], None
-        for path, old, new, twin in self.pairs:
-            lines += [f"file: {path}"] * (path != last) + [f"old: {old}", f"new: {twin if twins else new}"]
+        for path, old, new, _ in self.pairs:
+            lines += [f"file: {path}"] * (path != last) + [f"old: {old}", f"new: {new}"]
             last = path
         return "\n".join(lines) + "\n"
 
@@ -260,9 +260,3 @@ def edits_of(crate, with_more):
     edits = [Edit(crate, written) for written in written_below(crate.folder) if with_more or not written.is_more]
     at_home(crate, [edit.function for edit in edits if edit.function])
     return edits
-
-
-def counts(folder):
-    """Returns how many edits of a crate's folder the gate tries, and how many stand after a line '## More'."""
-    found = [written.is_more for written in written_below(folder)]
-    return found.count(False), found.count(True)

@@ -11,7 +11,7 @@ import sys
 TOP = os.path.dirname(os.path.dirname(os.path.dirname(os.path.realpath(__file__))))
 # The logic by which everything here was proved.
 LOGIC = "dac8208d650f15bf"
-MISSING = "the Rattle kit is missing: no `rt` of a kit is on the PATH; 'The kit' in README.md says what needs it"
+MISSING = "the Rattle kit is missing: put the folder bin of a kit on the PATH; 'The kit' in README.md says how to get one"
 
 
 def stop(why):
@@ -26,21 +26,23 @@ def tell(text):
 @functools.cache
 def folder():
     """Returns the kit's folder; ends the program if there is no kit."""
-    found = shutil.which("rt")
-    path = os.path.dirname(os.path.realpath(found)) if found else ""
-    # another program may have the same name
-    if not os.path.isfile(f"{path}/rattle"):
-        stop(MISSING)
-    return os.path.dirname(path)
+    found = shutil.which("rt") or stop(MISSING)
+    # rt may be a link, or a script that runs it; and another program may have the same name
+    for find in (lambda: os.path.dirname(os.path.realpath(found)), lambda: f"{os.path.dirname(text_of_rt('doc').strip())}/bin"):
+        path = find()
+        if os.path.isfile(f"{path}/rattle"):
+            return os.path.dirname(path)
+    return stop(MISSING)
 
 
 def program(name):
+    """Returns the path of a program of the kit."""
     return f"{folder()}/bin/{name}"
 
 
 def rt(*words, **how):
     """Runs a command of rt. Returns what `subprocess.run` does."""
-    return subprocess.run([program("rt"), *words], **how)
+    return subprocess.run(["rt", *words], **how)
 
 
 def text_of_rt(*words):
@@ -56,6 +58,7 @@ def version():
 
 def tell_logic():
     """Says so if the kit has another logic than the one by which all was proved; the verdict is then this kit's."""
+    folder()
     own = version().rpartition("logic ")[2].strip() or "it does not say which"
     if own != LOGIC:
         tell(f"note: everything here was proved by logic {LOGIC}, and this kit has another: {own}; the verdict is this kit's")

@@ -20,7 +20,7 @@ def run_rt_ci(copy, is_anew, is_plain):
     environment = dict(os.environ) if is_plain else kit.one_job_each(os.environ)
     how = {"cwd": copy, "env": environment, "stdin": subprocess.DEVNULL, "stdout": subprocess.PIPE, "stderr": subprocess.STDOUT}
     said = []
-    with subprocess.Popen([kit.program("rt"), *kit.ci_words(is_anew)], text=True, errors="replace", **how) as ran:
+    with subprocess.Popen(["rt", *kit.ci_words(is_anew)], text=True, errors="replace", **how) as ran:
         for line in ran.stdout:
             said.append(line)
             if OF_RT.match(line):
