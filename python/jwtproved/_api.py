@@ -10,6 +10,7 @@ from . import _keys, _library, exceptions
 from ._keys import HMAC, PyJWK, PyJWKSet
 from ._library import ALGORITHMS, Refusal, answer, slices, verified
 from ._rules import DEFAULTS, options_of, rules_for, seconds, strings, wrong_type
+from ._status import Status
 
 Key = Union[str, bytes, bytearray, memoryview, Dict[str, Any], PyJWK, PyJWKSet, Any]
 Token = Union[str, bytes, bytearray, memoryview]
@@ -30,31 +31,41 @@ except ImportError:
     # the wheel was built without Python's headers
     _claims = None
 
-# The statuses of jwtproved.h that are an exception of their own, and its text.
-_STATUSES = {
-    2: (exceptions.InvalidSignatureError, "Signature verification failed"),
-    7: (exceptions.InvalidKeyError, "no token is verified by a key of this kind"),
-    8: (exceptions.InvalidKeyError, "the key is for algorithms of another family, or does not serve"),
-    9: (exceptions.ExpiredSignatureError, "Signature has expired"),
-    10: (exceptions.InvalidIssuerError, "Invalid issuer"),
-    11: (exceptions.InvalidAudienceError, "Invalid audience"),
-    12: (exceptions.InvalidSubjectError, "Invalid subject"),
-    13: (exceptions.ImmatureSignatureError, "The token is not yet valid (nbf)"),
-    14: (exceptions.InvalidAlgorithmError, "The specified alg value is not allowed"),
-    19: (exceptions.DecodeError, "a part of the token is not base64url"),
-    20: (exceptions.DecodeError, "Invalid header string: must be a json object with the alg of a signature that is known"),
-    24: (exceptions.DecodeError, "the header's crit names what is not understood"),
-    25: (exceptions.UnknownKeyError, "the header names no key of the set"),
-    32: (exceptions.DecodeError, "Expiration Time claim (exp) must be an integer."),
-    33: (exceptions.DecodeError, "Not Before claim (nbf) must be an integer."),
-    34: (exceptions.InvalidAudienceError, "Invalid claim format in token"),
-    35: (exceptions.InvalidIssuerError, "Invalid claim format in token"),
-    36: (exceptions.InvalidSubjectError, "Invalid claim format in token"),
-    101: (ValueError, "algorithms, audience, issuer or subject has what the library does not read"),
-    103: (exceptions.InvalidKeyError, "the set has a member that the library does not read"),
-    106: (exceptions.InvalidKeyError, "the key has a member that the library does not read"),
+# The statuses that are an exception of their own, and its text; each other one is a DecodeError with the library's text.
+_EXCEPTIONS: Dict[int, Tuple[Type[Exception], str]] = {
+    Status.INVALID_SIGNATURE: (exceptions.InvalidSignatureError, "Signature verification failed"),
+    Status.UNSUPPORTED_ALGORITHM: (exceptions.InvalidKeyError, "no token is verified by a key of this kind"),
+    Status.INVALID_KEY_FORMAT: (exceptions.InvalidKeyError, "the key is for algorithms of another family, or does not serve"),
+    Status.EXPIRED_SIGNATURE: (exceptions.ExpiredSignatureError, "Signature has expired"),
+    Status.INVALID_ISSUER: (exceptions.InvalidIssuerError, "Invalid issuer"),
+    Status.INVALID_AUDIENCE: (exceptions.InvalidAudienceError, "Invalid audience"),
+    Status.INVALID_SUBJECT: (exceptions.InvalidSubjectError, "Invalid subject"),
+    Status.IMMATURE_SIGNATURE: (exceptions.ImmatureSignatureError, "The token is not yet valid (nbf)"),
+    Status.INVALID_ALGORITHM: (exceptions.InvalidAlgorithmError, "The specified alg value is not allowed"),
+    Status.BASE64: (exceptions.DecodeError, "a part of the token is not base64url"),
+    Status.JSON: (exceptions.DecodeError, "Invalid header string: must be a json object with the alg of a signature that is known"),
+    Status.INVALID_CRIT: (exceptions.DecodeError, "the header's crit names what is not understood"),
+    Status.NO_KEY: (exceptions.UnknownKeyError, "the header names no key of the set"),
+    Status.MALFORMED_EXP: (exceptions.DecodeError, "Expiration Time claim (exp) must be an integer."),
+    Status.MALFORMED_NBF: (exceptions.DecodeError, "Not Before claim (nbf) must be an integer."),
+    Status.MALFORMED_AUD: (exceptions.InvalidAudienceError, "Invalid claim format in token"),
+    Status.MALFORMED_ISS: (exceptions.InvalidIssuerError, "Invalid claim format in token"),
+    Status.MALFORMED_SUB: (exceptions.InvalidSubjectError, "Invalid claim format in token"),
+    Status.BAD_OPTIONS: (ValueError, "algorithms, audience, issuer or subject has what the library does not read"),
+    Status.BAD_SET: (exceptions.InvalidKeyError, "the set has a member that the library does not read"),
+    Status.BAD_KEY: (exceptions.InvalidKeyError, "the key has a member that the library does not read"),
 }
-_MISSING = {26: "exp", 27: "nbf", 28: "aud", 29: "iss", 30: "sub"}
+_MISSING: Dict[int, str] = {
+    Status.MISSING_EXP: "exp",
+    Status.MISSING_NBF: "nbf",
+    Status.MISSING_AUD: "aud",
+    Status.MISSING_ISS: "iss",
+    Status.MISSING_SUB: "sub",
+}
+_UNSIGNABLE: Dict[int, str] = {
+    Status.JSON: "payload has a number that is not an integer from -2^63 to 2^64 - 1",
+    Status.BAD_HEADER: "headers has a member of a wrong type",
+}
 
 
 def _has_header(token: bytes) -> bool:
@@ -69,15 +80,15 @@ def _raise(refusal: Refusal, token: bytes) -> NoReturn:
     status = refusal.status
     if status in _MISSING:
         raise exceptions.MissingRequiredClaimError(_MISSING[status]) from None
-    if status == 1:
+    if status == Status.INVALID_TOKEN:
         if token.count(b".") < 2:
             raise exceptions.DecodeError("Not enough segments") from None
         # an exp of 0 is before each moment
-        status = 9
-    if status == 20 and _has_header(token):
+        status = Status.EXPIRED_SIGNATURE
+    if status == Status.JSON and _has_header(token):
         raise exceptions.DecodeError("Invalid payload string: must be a json object") from None
-    kind, text = _STATUSES.get(status, (exceptions.DecodeError, None))
-    raise kind(text or _library.text_of(status)) from None
+    kind, text = _EXCEPTIONS.get(status) or (exceptions.DecodeError, _library.text_of(status))
+    raise kind(text) from None
 
 
 def _bytes(name: str, value: Any) -> bytes:
@@ -246,8 +257,7 @@ class PyJWT:
         try:
             return str(answer(_library.encode_hmac, *slices(*texts)), "utf-8")
         except Refusal as refusal:
-            why = {20: "payload has a number that is not an integer from -2^63 to 2^64 - 1", 104: "headers has a member of a wrong type"}
-            raise ValueError(why.get(refusal.status) or _library.text_of(refusal.status)) from None
+            raise ValueError(_UNSIGNABLE.get(refusal.status) or _library.text_of(refusal.status)) from None
 
 
 def _headers(headers: Optional[Mapping[str, Any]]) -> Mapping[str, Any]:

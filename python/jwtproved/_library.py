@@ -3,9 +3,9 @@ import ctypes
 import os
 from typing import Any, List, Tuple, Union
 
+from ._status import Status
+
 ALGORITHMS = ("HS256", "HS384", "HS512", "RS256", "RS384", "RS512", "PS256", "PS384", "PS512", "ES256", "ES384", "EdDSA")
-OUT_OF_MEMORY = 22
-NO_ROOM = 100
 
 _NAMES = (
     "jwt_decode_hmac",
@@ -103,12 +103,12 @@ def answer(call: Any, *arguments: Any) -> bytes:
 def _again(room: _Room, status: int, call: Any, *arguments: Any) -> bytes:
     """Returns what a call writes to a larger buffer, if that is what it asked for."""
     text = b""
-    if status == NO_ROOM:
+    if status == Status.NO_ROOM:
         large = _Room(room.length.value)
         status = call(*arguments, large.buffer, large.size, large.to_length)
         text = bytes(large.view[: large.length.value])
     _free.append(room)
-    if status == OUT_OF_MEMORY:
+    if status == Status.OUT_OF_MEMORY:
         raise MemoryError("the library of jwtproved is out of memory")
     if status:
         raise Refusal(status)

@@ -1,6 +1,6 @@
 //! The calls for C, as `jwtproved.h` declares them.
 
-use crate::Error;
+use crate::{status, Error};
 
 mod declared {
     extern "C" {
@@ -25,8 +25,6 @@ mod declared {
     }
 }
 
-const NO_ROOM: u32 = 100;
-
 /// A call that takes three texts, and the moment.
 type Decode = unsafe extern "C" fn(
     *const u8, usize, *const u8, usize, *const u8, usize, u64, *mut u8, usize, *mut usize,
@@ -39,11 +37,11 @@ fn written(size: usize, call: impl Fn(*mut u8, usize, *mut usize) -> u32) -> Res
     loop {
         let status = call(buffer.as_mut_ptr(), buffer.len(), &mut len);
         match status {
-            0 => {
+            status::OK => {
                 buffer.truncate(len);
                 return Ok(buffer);
             }
-            NO_ROOM => buffer.resize(len, 0),
+            status::NO_ROOM => buffer.resize(len, 0),
             _ => return Err(status),
         }
     }

@@ -1,3 +1,4 @@
+use crate::status;
 use std::fmt;
 
 /// Why there is no result. All but the last four are refusals of the token.
@@ -38,27 +39,33 @@ pub enum Error {
     OutOfMemory,
 }
 
-const CLAIMS: [&str; 5] = ["exp", "nbf", "aud", "iss", "sub"];
-
 impl Error {
     /// Returns the error of a status of `jwtproved.h`.
     pub(crate) fn from_status(status: u32) -> Error {
         let text = || crate::calls::status_text(status);
         match status {
-            2 => Error::Signature,
-            6 | 14 | 15 => Error::Algorithm,
-            7 | 8 | 103 | 106 => Error::Key(text()),
-            9 => Error::Expired,
-            10 => Error::Issuer,
-            11 => Error::Audience,
-            12 => Error::Subject,
-            13 => Error::NotYetValid,
-            22 => Error::OutOfMemory,
-            24 => Error::Crit,
-            25 => Error::UnknownKey,
-            26..=30 => Error::MissingClaim(CLAIMS[status as usize - 26]),
-            32..=36 => Error::MalformedClaim(CLAIMS[status as usize - 32]),
-            100.. => Error::Argument(text()),
+            status::INVALID_SIGNATURE => Error::Signature,
+            status::INVALID_ALGORITHM_NAME | status::INVALID_ALGORITHM | status::MISSING_ALGORITHM => Error::Algorithm,
+            status::UNSUPPORTED_ALGORITHM | status::INVALID_KEY_FORMAT | status::BAD_SET | status::BAD_KEY => Error::Key(text()),
+            status::EXPIRED_SIGNATURE => Error::Expired,
+            status::INVALID_ISSUER => Error::Issuer,
+            status::INVALID_AUDIENCE => Error::Audience,
+            status::INVALID_SUBJECT => Error::Subject,
+            status::IMMATURE_SIGNATURE => Error::NotYetValid,
+            status::OUT_OF_MEMORY => Error::OutOfMemory,
+            status::INVALID_CRIT => Error::Crit,
+            status::NO_KEY => Error::UnknownKey,
+            status::MISSING_EXP => Error::MissingClaim("exp"),
+            status::MISSING_NBF => Error::MissingClaim("nbf"),
+            status::MISSING_AUD => Error::MissingClaim("aud"),
+            status::MISSING_ISS => Error::MissingClaim("iss"),
+            status::MISSING_SUB => Error::MissingClaim("sub"),
+            status::MALFORMED_EXP => Error::MalformedClaim("exp"),
+            status::MALFORMED_NBF => Error::MalformedClaim("nbf"),
+            status::MALFORMED_AUD => Error::MalformedClaim("aud"),
+            status::MALFORMED_ISS => Error::MalformedClaim("iss"),
+            status::MALFORMED_SUB => Error::MalformedClaim("sub"),
+            status::NO_ROOM.. => Error::Argument(text()),
             _ => Error::Malformed(text()),
         }
     }

@@ -21,6 +21,7 @@ mod calls;
 mod error;
 mod json;
 mod key;
+mod status;
 #[cfg(feature = "serde")]
 mod typed;
 mod validation;
@@ -103,4 +104,16 @@ pub fn encode_json(header: &Header, claims: &str, key: &EncodingKey) -> Result<S
 /// Returns the moment by the system's clock, in seconds since 1970-01-01 00:00:00 UTC; 0 if the clock is before then.
 pub fn get_current_timestamp() -> u64 {
     SystemTime::now().duration_since(UNIX_EPOCH).map_or(0, |it| it.as_secs())
+}
+
+#[cfg(test)]
+mod tests {
+    use std::path::{Path, PathBuf};
+
+    /// Returns the text of a file of the repository, of which JWT_ROWS names one for a copy of the crate.
+    pub fn file_of_repository(path: &str) -> String {
+        let ours = concat!(env!("CARGO_MANIFEST_DIR"), "/../..");
+        let named = std::env::var("JWT_ROWS").ok().and_then(|it| Path::new(&it).ancestors().nth(4).map(Path::to_path_buf));
+        std::fs::read_to_string(named.unwrap_or_else(|| PathBuf::from(ours)).join(path)).unwrap()
+    }
 }

@@ -1,0 +1,52 @@
+"""The statuses of the library's calls (jwtproved.h)."""
+import enum
+
+
+class Status(enum.IntEnum):
+    """A status, under the name that it has in jwtproved.h behind `JWT_`."""
+
+    OK = 0
+    INVALID_TOKEN = 1
+    INVALID_SIGNATURE = 2
+    INVALID_ECDSA_KEY = 3
+    INVALID_EDDSA_KEY = 4
+    RSA_FAILED_SIGNING = 5
+    INVALID_ALGORITHM_NAME = 6
+    UNSUPPORTED_ALGORITHM = 7
+    INVALID_KEY_FORMAT = 8
+    EXPIRED_SIGNATURE = 9
+    INVALID_ISSUER = 10
+    INVALID_AUDIENCE = 11
+    INVALID_SUBJECT = 12
+    IMMATURE_SIGNATURE = 13
+    INVALID_ALGORITHM = 14
+    MISSING_ALGORITHM = 15
+    INVALID_RSA_KEY = 16
+    SIGNING = 17
+    PROVIDER = 18
+    BASE64 = 19
+    JSON = 20
+    UTF8 = 21
+    OUT_OF_MEMORY = 22
+    CLOCK_BEFORE_EPOCH = 23
+    INVALID_CRIT = 24
+    NO_KEY = 25
+    MISSING_EXP = 26
+    MISSING_NBF = 27
+    MISSING_AUD = 28
+    MISSING_ISS = 29
+    MISSING_SUB = 30
+    MISSING_CLAIM = 31
+    MALFORMED_EXP = 32
+    MALFORMED_NBF = 33
+    MALFORMED_AUD = 34
+    MALFORMED_ISS = 35
+    MALFORMED_SUB = 36
+    MALFORMED_CLAIM = 37
+    NO_ROOM = 100
+    BAD_OPTIONS = 101
+    NO_STATUS = 102
+    BAD_SET = 103
+    BAD_HEADER = 104
+    BAD_CLAIMS = 105
+    BAD_KEY = 106

@@ -1,0 +1,75 @@
+//! The statuses of the calls for C, under the names that they have in `jwtproved.h` behind `JWT_`.
+
+macro_rules! statuses {
+    ($($name:ident = $number:literal,)*) => {
+        $(#[allow(dead_code)] pub const $name: u32 = $number;)*
+        /// All statuses, by name and number.
+        #[cfg(test)]
+        const ALL: &[(&str, u32)] = &[$((stringify!($name), $number)),*];
+    };
+}
+
+statuses! {
+    OK = 0,
+    INVALID_TOKEN = 1,
+    INVALID_SIGNATURE = 2,
+    INVALID_ECDSA_KEY = 3,
+    INVALID_EDDSA_KEY = 4,
+    RSA_FAILED_SIGNING = 5,
+    INVALID_ALGORITHM_NAME = 6,
+    UNSUPPORTED_ALGORITHM = 7,
+    INVALID_KEY_FORMAT = 8,
+    EXPIRED_SIGNATURE = 9,
+    INVALID_ISSUER = 10,
+    INVALID_AUDIENCE = 11,
+    INVALID_SUBJECT = 12,
+    IMMATURE_SIGNATURE = 13,
+    INVALID_ALGORITHM = 14,
+    MISSING_ALGORITHM = 15,
+    INVALID_RSA_KEY = 16,
+    SIGNING = 17,
+    PROVIDER = 18,
+    BASE64 = 19,
+    JSON = 20,
+    UTF8 = 21,
+    OUT_OF_MEMORY = 22,
+    CLOCK_BEFORE_EPOCH = 23,
+    INVALID_CRIT = 24,
+    NO_KEY = 25,
+    MISSING_EXP = 26,
+    MISSING_NBF = 27,
+    MISSING_AUD = 28,
+    MISSING_ISS = 29,
+    MISSING_SUB = 30,
+    MISSING_CLAIM = 31,
+    MALFORMED_EXP = 32,
+    MALFORMED_NBF = 33,
+    MALFORMED_AUD = 34,
+    MALFORMED_ISS = 35,
+    MALFORMED_SUB = 36,
+    MALFORMED_CLAIM = 37,
+    NO_ROOM = 100,
+    BAD_OPTIONS = 101,
+    NO_STATUS = 102,
+    BAD_SET = 103,
+    BAD_HEADER = 104,
+    BAD_CLAIMS = 105,
+    BAD_KEY = 106,
+}
+
+#[cfg(test)]
+mod tests {
+    #[test]
+    fn the_statuses_are_those_of_the_header_file() {
+        let header = crate::tests::file_of_repository("include/jwtproved.h");
+        let (_, declared) = header.split_once("enum jwt_status {").unwrap();
+        let (declared, _) = declared.split_once("};").unwrap();
+        let of_line = |line: &str| {
+            let (name, number) = line.trim().strip_prefix("JWT_")?.split_once(" = ")?;
+            Some((name.to_string(), number.trim_end_matches(',').parse().unwrap()))
+        };
+        let declared: Vec<(String, u32)> = declared.lines().filter_map(of_line).collect();
+        let ours: Vec<_> = super::ALL.iter().map(|(name, number)| (name.to_string(), *number)).collect();
+        assert_eq!(ours, declared);
+    }
+}
