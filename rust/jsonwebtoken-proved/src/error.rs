@@ -1,7 +1,7 @@
 use crate::status;
 use std::fmt;
 
-/// Why there is no result. All but the last four are refusals of the token.
+/// Why there is no result. All but the last five are refusals of the token.
 #[derive(Clone, Debug, PartialEq, Eq)]
 #[non_exhaustive]
 pub enum Error {
@@ -37,6 +37,8 @@ pub enum Error {
     Argument(String),
     /// Memory ran out in the library. This is no verdict on a token.
     OutOfMemory,
+    /// The system's clock is before 1970-01-01 00:00:00 UTC, so that no token can be judged.
+    ClockBeforeEpoch,
 }
 
 impl Error {
@@ -53,6 +55,7 @@ impl Error {
             status::INVALID_SUBJECT => Error::Subject,
             status::IMMATURE_SIGNATURE => Error::NotYetValid,
             status::OUT_OF_MEMORY => Error::OutOfMemory,
+            status::CLOCK_BEFORE_EPOCH => Error::ClockBeforeEpoch,
             status::INVALID_CRIT => Error::Crit,
             status::NO_KEY => Error::UnknownKey,
             status::MISSING_EXP => Error::MissingClaim("exp"),
@@ -90,6 +93,7 @@ impl fmt::Display for Error {
             Error::Key(text) => write!(f, "the key does not serve: {text}"),
             Error::Argument(text) => write!(f, "an argument is not understood: {text}"),
             Error::OutOfMemory => f.write_str("out of memory"),
+            Error::ClockBeforeEpoch => f.write_str("the system's clock is before 1970"),
         }
     }
 }

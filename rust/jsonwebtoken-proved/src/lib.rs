@@ -101,19 +101,36 @@ pub fn encode_json(header: &Header, claims: &str, key: &EncodingKey) -> Result<S
     calls::encode(&header.to_json(), claims, &key.secret)
 }
 
-/// Returns the moment by the system's clock, in seconds since 1970-01-01 00:00:00 UTC; 0 if the clock is before then.
-pub fn get_current_timestamp() -> u64 {
-    SystemTime::now().duration_since(UNIX_EPOCH).map_or(0, |it| it.as_secs())
+/// Returns the moment by the system's clock, in seconds since 1970-01-01 00:00:00 UTC. A clock that is before then is
+/// [`Error::ClockBeforeEpoch`].
+pub fn get_current_timestamp() -> Result<u64, Error> {
+    seconds_of(SystemTime::now())
+}
+
+fn seconds_of(time: SystemTime) -> Result<u64, Error> {
+    time.duration_since(UNIX_EPOCH).map(|it| it.as_secs()).map_err(|_| Error::ClockBeforeEpoch)
 }
 
 #[cfg(test)]
 mod tests {
+    use super::{get_current_timestamp, seconds_of, Error};
     use std::path::{Path, PathBuf};
+    use std::time::{Duration, UNIX_EPOCH};
 
     /// Returns the text of a file of the repository, of which JWT_ROWS names one for a copy of the crate.
     pub fn file_of_repository(path: &str) -> String {
         let ours = concat!(env!("CARGO_MANIFEST_DIR"), "/../..");
         let named = std::env::var("JWT_ROWS").ok().and_then(|it| Path::new(&it).ancestors().nth(4).map(Path::to_path_buf));
         std::fs::read_to_string(named.unwrap_or_else(|| PathBuf::from(ours)).join(path)).unwrap()
+    }
+
+    #[test]
+    fn a_clock_before_1970_tells_no_time() {
+        for early in [Duration::from_nanos(1), Duration::from_secs(1), Duration::from_secs(86400 * 365)] {
+            assert_eq!(seconds_of(UNIX_EPOCH - early), Err(Error::ClockBeforeEpoch));
+        }
+        assert_eq!(seconds_of(UNIX_EPOCH), Ok(0));
+        assert_eq!(seconds_of(UNIX_EPOCH + Duration::from_millis(1999)), Ok(1));
+        assert!(get_current_timestamp().unwrap() > 1_700_000_000);
     }
 }

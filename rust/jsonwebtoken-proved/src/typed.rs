@@ -5,9 +5,9 @@ use serde::de::DeserializeOwned;
 use serde::Serialize;
 
 /// Verifies a token at the moment of the system's clock, and returns its claims. Claims that are accepted, and are not those of the
-/// type, are [`Error::Json`].
+/// type, are [`Error::Json`]. A clock before 1970-01-01 00:00:00 UTC is [`Error::ClockBeforeEpoch`].
 pub fn decode<T: DeserializeOwned>(token: &str, key: &DecodingKey, validation: &Validation) -> Result<TokenData<T>, Error> {
-    let data = decode_json(token, key, validation, get_current_timestamp())?;
+    let data = decode_json(token, key, validation, get_current_timestamp()?)?;
     let claims = serde_json::from_str(&data.claims).map_err(|error| Error::Json(error.to_string()))?;
     Ok(TokenData { header: data.header, claims })
 }
