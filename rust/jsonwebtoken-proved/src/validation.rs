@@ -69,7 +69,8 @@ impl Claim {
 pub struct Validation {
     /// The algorithms that are accepted, all of the key's family.
     pub algorithms: Vec<Algorithm>,
-    /// The claims that have to be there: `exp` alone at first.
+    /// The claims that have to be there, `exp` alone at first. A claim that `audiences`, `issuers` or `subject` asks for has to be
+    /// there too.
     pub required: Vec<Claim>,
     /// By how many seconds clocks may differ: 60 at first.
     pub leeway: u64,
@@ -81,16 +82,16 @@ pub struct Validation {
     pub validate_nbf: bool,
     /// Whether `aud` is checked: at first it is, so that a token that names one is refused if no audience is accepted.
     pub validate_aud: bool,
-    /// The audiences of which the token has to name one, if it names any.
+    /// The audiences of which the token has to name one.
     pub audiences: Option<Vec<String>>,
-    /// The issuers of which the token has to name one, if it names any.
+    /// The issuers of which the token has to name one.
     pub issuers: Option<Vec<String>>,
-    /// The subject that the token has to name, if it names any.
+    /// The subject that the token has to name.
     pub subject: Option<String>,
 }
 
 impl Validation {
-    /// Accepts this algorithm, with the defaults of the crate `jsonwebtoken`.
+    /// Accepts this algorithm, with the defaults of the crate `jsonwebtoken`. Unlike there, a claim that is asked for is required.
     pub fn new(algorithm: Algorithm) -> Validation {
         Validation {
             algorithms: vec![algorithm],
@@ -106,26 +107,39 @@ impl Validation {
         }
     }
 
-    /// Accepts tokens for one of these audiences.
+    /// Accepts tokens for one of these audiences, and requires `aud`: a token that names none is
+    /// [`Error::MissingClaim`](crate::Error::MissingClaim).
     pub fn set_audience(&mut self, audiences: &[impl ToString]) {
         self.audiences = Some(audiences.iter().map(ToString::to_string).collect());
     }
 
-    /// Accepts tokens of one of these issuers.
+    /// Accepts tokens of one of these issuers, and requires `iss`: a token that names none is
+    /// [`Error::MissingClaim`](crate::Error::MissingClaim).
     pub fn set_issuer(&mut self, issuers: &[impl ToString]) {
         self.issuers = Some(issuers.iter().map(ToString::to_string).collect());
     }
 
-    /// Requires these claims and no other.
+    /// Requires these claims and no other, besides those that `audiences`, `issuers` and `subject` ask for.
     pub fn set_required(&mut self, claims: &[Claim]) {
         self.required = claims.to_vec();
+    }
+
+    /// Returns the claims that have to be there: those that are required, and those that are asked for.
+    fn all_required(&self) -> Vec<Claim> {
+        let asked = [
+            (Claim::Aud, self.validate_aud && self.audiences.is_some()),
+            (Claim::Iss, self.issuers.is_some()),
+            (Claim::Sub, self.subject.is_some()),
+        ];
+        let asked = asked.into_iter().filter(|it| it.1).map(|it| it.0);
+        self.required.iter().copied().chain(asked).collect()
     }
 
     /// Returns the options of `jwtproved.h`, as JSON.
     pub(crate) fn options(&self) -> String {
         let mut members = vec![
             format!("\"algorithms\":{}", json::list(self.algorithms.iter().map(ToString::to_string))),
-            format!("\"required_spec_claims\":{}", json::list(self.required.iter().map(|it| it.name()))),
+            format!("\"required_spec_claims\":{}", json::list(self.all_required().into_iter().map(Claim::name))),
             format!("\"leeway\":{}", self.leeway),
             format!("\"reject_tokens_expiring_in_less_than\":{}", self.reject_tokens_expiring_in_less_than),
             format!("\"validate_exp\":{}", self.validate_exp),
