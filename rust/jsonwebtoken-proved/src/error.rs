@@ -31,7 +31,7 @@ pub enum Error {
     MalformedClaim(&'static str),
     /// The claims are not those of the type that was asked for, or can't be written.
     Json(String),
-    /// The key can't be read, does not serve, or is a secret by which anyone can sign.
+    /// The key can't be read, does not serve, or is a secret that anyone may know.
     Key(String),
     /// An argument is not understood: the text is the library's.
     Argument(String),

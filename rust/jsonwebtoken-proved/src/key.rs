@@ -1,13 +1,6 @@
 use crate::calls::{self, Kind};
-use crate::Error;
+use crate::{secret, Error};
 use std::fmt;
-
-const ANYONE: &str = "the secret is empty or has zeros alone, so that anyone can sign with it";
-
-/// HMAC pads a secret with zeros, so that zeros alone are the same key as none.
-fn is_anyones(secret: &[u8]) -> bool {
-    secret.iter().all(|byte| *byte == 0)
-}
 
 /// A key that tokens are verified by.
 #[derive(Clone, PartialEq, Eq)]
@@ -17,22 +10,22 @@ pub struct DecodingKey {
 }
 
 impl DecodingKey {
-    /// Returns a secret as a key, for HS256, HS384 and HS512. RFC 7518 section 3.2 requires at least 32, 48 and 64 bytes. An empty
-    /// secret, and one of zeros alone, is [`Error::Key`].
+    /// Returns a secret as a key, for HS256, HS384 and HS512. RFC 7518 section 3.2 requires at least 32, 48 and 64 bytes.
+    ///
+    /// A secret that anyone may know is [`Error::Key`]: an empty one, one of zeros alone, and the text of a key of another kind, which is
+    /// one of SSH, in PEM, in DER or JSON of a JSON Web Key or of a set of them, or base64 of such a text.
     pub fn from_secret(secret: &[u8]) -> Result<DecodingKey, Error> {
-        if is_anyones(secret) {
-            return Err(Error::Key(ANYONE.to_string()));
-        }
-        Ok(DecodingKey { kind: Kind::Secret, text: secret.to_vec() })
+        Ok(DecodingKey { kind: Kind::Secret, text: secret::checked(secret)? })
     }
 
-    /// Returns a JSON Web Key of any kind as a key (RFC 7517 section 4). One that can't be read is [`Error::Key`].
+    /// Returns a JSON Web Key of any kind as a key (RFC 7517 section 4). One that can't be read is [`Error::Key`], and so is a secret
+    /// that [`DecodingKey::from_secret`] refuses.
     pub fn from_jwk(jwk: &str) -> Result<DecodingKey, Error> {
         tried(Kind::Jwk, jwk)
     }
 
     /// Returns a JSON Web Key Set as a key (RFC 7517 section 5), of which a token names one by its `kid`. One that can't be read is
-    /// [`Error::Key`].
+    /// [`Error::Key`], and so is one with a secret that [`DecodingKey::from_secret`] refuses.
     pub fn from_jwk_set(set: &str) -> Result<DecodingKey, Error> {
         tried(Kind::Set, set)
     }
@@ -42,7 +35,10 @@ impl DecodingKey {
 fn tried(kind: Kind, text: &str) -> Result<DecodingKey, Error> {
     match calls::decode(kind, b"", text.as_bytes(), "{}", 0) {
         Err(Error::Malformed(text)) if text != "InvalidToken" => Err(Error::Key(text)),
-        Err(Error::Malformed(_)) => Ok(DecodingKey { kind, text: text.as_bytes().to_vec() }),
+        Err(Error::Malformed(_)) => {
+            secret::check_keys(text)?;
+            Ok(DecodingKey { kind, text: text.as_bytes().to_vec() })
+        }
         Err(error) => Err(error),
         Ok(_) => Err(Error::Key("it accepts an empty token".to_string())),
     }
@@ -61,12 +57,9 @@ pub struct EncodingKey {
 }
 
 impl EncodingKey {
-    /// Returns a secret as a key. An empty secret, and one of zeros alone, is [`Error::Key`].
+    /// Returns a secret as a key. One that [`DecodingKey::from_secret`] refuses is [`Error::Key`].
     pub fn from_secret(secret: &[u8]) -> Result<EncodingKey, Error> {
-        if is_anyones(secret) {
-            return Err(Error::Key(ANYONE.to_string()));
-        }
-        Ok(EncodingKey { secret: secret.to_vec() })
+        Ok(EncodingKey { secret: secret::checked(secret)? })
     }
 }
 

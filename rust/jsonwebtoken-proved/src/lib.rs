@@ -21,6 +21,7 @@ mod calls;
 mod error;
 mod json;
 mod key;
+mod secret;
 mod status;
 #[cfg(feature = "serde")]
 mod typed;
@@ -32,7 +33,6 @@ pub use key::{DecodingKey, EncodingKey};
 pub use typed::{decode, encode};
 pub use validation::{Algorithm, Claim, Validation};
 
-use calls::Kind;
 use std::time::{SystemTime, UNIX_EPOCH};
 
 /// A token that was verified.
@@ -72,22 +72,8 @@ impl Header {
 /// Verifies a token at the moment `now`, in seconds since 1970-01-01 00:00:00 UTC, and returns its claims as compact JSON. Floats, and
 /// integers beyond 64 bits, are written as the nearest double.
 pub fn decode_json(token: &str, key: &DecodingKey, validation: &Validation, now: u64) -> Result<TokenData<String>, Error> {
-    let options = validation.options();
-    let claims = calls::decode(key.kind, token.as_bytes(), &key.text, &options, now)?;
-    if key.kind != Kind::Secret {
-        refuse_of_anyone(token, &options, now)?;
-    }
+    let claims = calls::decode(key.kind, token.as_bytes(), &key.text, &validation.options(), now)?;
     Ok(TokenData { header: calls::decode_header(token.as_bytes())?, claims })
-}
-
-/// Refuses a token that the empty secret verifies too: a JSON Web Key is that secret then, by which anyone can sign.
-fn refuse_of_anyone(token: &str, options: &str, now: u64) -> Result<(), Error> {
-    match calls::decode(Kind::Secret, token.as_bytes(), b"", options, now) {
-        Ok(_) => Err(Error::Key("its secret is empty or has zeros alone, so that anyone can sign with it".to_string())),
-        // another secret, or no HMAC
-        Err(Error::Signature | Error::Key(_)) => Ok(()),
-        Err(error) => Err(error),
-    }
 }
 
 /// Returns the header of a token, as compact JSON. Nothing is verified.
