@@ -6,7 +6,7 @@ import json
 import time
 from typing import Any, Callable, Dict, Iterable, Mapping, NoReturn, Optional, Tuple, Type, Union
 
-from . import _keys, _library, exceptions
+from . import _keys, _library, _secrets, exceptions
 from ._keys import HMAC, PyJWK, PyJWKSet
 from ._library import ALGORITHMS, Refusal, answer, slices, verified
 from ._rules import DEFAULTS, options_of, rules_for, seconds, strings, wrong_type
@@ -103,12 +103,13 @@ def _bytes(name: str, value: Any) -> bytes:
 def _key(key: Key) -> Union[bytes, PyJWK, PyJWKSet]:
     """Returns a key as a secret, a JSON Web Key or a set of them."""
     if isinstance(key, _TEXTS):
-        secret = key if key.__class__ is bytes else key.encode("utf-8", "surrogatepass") if isinstance(key, str) else bytes(key)
-        if b"-----BEGIN " in secret:
-            return _keys.of_pem(secret)
-        if not secret.strip(b"\0") or secret.startswith(_keys.SSH):
-            raise exceptions.InvalidKeyError(_keys.why_no_secret(secret))
-        return secret
+        text = key if key.__class__ is bytes else _bytes("key", key)
+        if _secrets.PEM in text:
+            return _keys.of_pem(text)
+        why = _secrets.why_none(text)
+        if why is not None:
+            raise exceptions.InvalidKeyError(why)
+        return text
     if isinstance(key, (PyJWK, PyJWKSet)):
         return key
     if isinstance(key, dict):

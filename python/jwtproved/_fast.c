@@ -10,6 +10,8 @@
 
 /* The room for claims; longer ones are left to _api.py. */
 #define ROOM 4096
+/* The longest secret; what is longer is left to _api.py. */
+#define LONGEST 1024
 
 /* jwt_decode_hmac of jwtproved.h */
 typedef uint32_t decode_hmac(const uint8_t *token, size_t token_len, const uint8_t *secret, size_t secret_len,
@@ -37,7 +39,73 @@ bytes_of(PyObject *object, const uint8_t **bytes, Py_ssize_t *len)
     return 0;
 }
 
-/* Whether these bytes may be a secret: neither zeros alone, nor a key of another kind as a text. */
+/* Whether these bytes may be the text of a key: where SSH or PEM is named, or JSON or DER begins. _secrets.py tells it exactly. */
+static int
+may_be_key(const uint8_t *bytes, size_t len)
+{
+    static const char *const names[] = { "ssh-", "ecdsa-sha2-nistp", "-cert-v01@openssh.com", "---- BEGIN ", "-----BEGIN " };
+    size_t place, name;
+
+    /* each of the names has one */
+    if (memchr(bytes, '-', len) != NULL) {
+        for (name = 0; name < sizeof names / sizeof *names; name++) {
+            if (memmem(bytes, len, names[name], strlen(names[name])) != NULL) {
+                return 1;
+            }
+        }
+    }
+    /* a SEQUENCE whose length has more than one byte, or is that of the bytes behind it */
+    if (len > 1 && bytes[0] == 0x30 && (bytes[1] >= 0x80 || bytes[1] == len - 2)) {
+        return 1;
+    }
+    /* blanks and a byte order mark may stand before JSON */
+    for (place = 0; place < len && memchr(" \t\r\n\xef\xbb\xbf", bytes[place], 7) != NULL; place++) {
+    }
+    return place < len && bytes[place] == '{';
+}
+
+/* Returns the number that a sign of base64 or base64url stands for; 64 for padding and blanks, and 65 for any other byte. */
+static unsigned
+number_of(uint8_t sign)
+{
+    if (sign >= 'A' && sign <= 'Z') {
+        return sign - 'A';
+    }
+    if (sign >= 'a' && sign <= 'z') {
+        return sign - 'a' + 26;
+    }
+    if (sign >= '0' && sign <= '9') {
+        return sign - '0' + 52;
+    }
+    return sign == '+' || sign == '-' ? 62 : sign == '/' || sign == '_' ? 63 : sign != 0 && strchr("= \t\r\n", sign) != NULL ? 64 : 65;
+}
+
+/* Whether these bytes may be the text of a key in base64 or base64url. */
+static int
+may_be_base64_of_key(const uint8_t *bytes, size_t len)
+{
+    uint8_t decoded[LONGEST];
+    size_t place, written = 0;
+    unsigned number, bits = 0, count = 0;
+
+    for (place = 0; place < len; place++) {
+        number = number_of(bytes[place]);
+        if (number == 65) {
+            return 0;
+        }
+        if (number < 64) {
+            bits = bits << 6 | number;
+            count += 6;
+        }
+        if (count >= 8) {
+            count -= 8;
+            decoded[written++] = (uint8_t)(bits >> count);
+        }
+    }
+    return may_be_key(decoded, written);
+}
+
+/* Whether these bytes are a secret without a doubt: neither zeros alone, nor of a length or a kind that _secrets.py has to look at. */
 static int
 is_secret(const uint8_t *bytes, Py_ssize_t len)
 {
@@ -46,8 +114,7 @@ is_secret(const uint8_t *bytes, Py_ssize_t len)
     while (place < len && bytes[place] == 0) {
         place++;
     }
-    return place < len && memmem(bytes, len, "-----BEGIN ", 11) == NULL && (len < 4 || memcmp(bytes, "ssh-", 4) != 0)
-           && (len < 11 || memcmp(bytes, "ecdsa-sha2-", 11) != 0);
+    return place < len && len <= LONGEST && !may_be_key(bytes, (size_t)len) && !may_be_base64_of_key(bytes, (size_t)len);
 }
 
 /* Returns the value of a JSON text. */

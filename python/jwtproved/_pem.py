@@ -24,10 +24,12 @@ def _element(data: bytes, tag: int) -> Tuple[bytes, bytes]:
     if len(data) < 2 or data[0] != tag:
         raise _refused("is not a public key")
     length, start = data[1], 2
+    if length == 0x80:
+        raise _refused("has an element without a length")
     if length > 0x80:
         start += length - 0x80
         length = int.from_bytes(data[2:start], "big")
-    if length == 0x80 or len(data) < start + length:
+    if len(data) < start + length:
         raise _refused("ends too early")
     return data[start : start + length], data[start + length :]
 
@@ -40,6 +42,15 @@ def _elements(data: bytes, *tags: int) -> List[bytes]:
         found.append(content)
     if data:
         raise _refused("has bytes behind its end")
+    return found
+
+
+def tags(data: bytes) -> bytes:
+    """Returns the tags of the first elements of a SEQUENCE that is all of the data, of eleven at most: no key has so many."""
+    content, found = _elements(data, _SEQUENCE)[0], b""
+    while content and len(found) < 11:
+        found += content[:1]
+        content = _element(content, content[0])[1]
     return found
 
 
