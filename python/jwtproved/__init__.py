@@ -2,6 +2,7 @@
 from ._api import PyJWT, decode, decode_complete, encode, get_unverified_header
 from ._keys import PyJWK, PyJWKSet
 from .exceptions import (
+    ClockError,
     DecodeError,
     ExpiredSignatureError,
     ImmatureSignatureError,
@@ -23,6 +24,7 @@ from .exceptions import (
 __version__ = "0.1.0"
 
 __all__ = [
+    "ClockError",
     "DecodeError",
     "ExpiredSignatureError",
     "ImmatureSignatureError",

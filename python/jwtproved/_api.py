@@ -120,6 +120,15 @@ def _key(key: Key) -> Union[bytes, PyJWK, PyJWKSet]:
     raise wrong_type("key", "a secret, a key in PEM, a JSON Web Key or a set of them", key)
 
 
+def _now() -> int:
+    """Returns the time by the clock, in whole seconds since 1970-01-01 00:00:00 UTC."""
+    now = _clock()
+    # for a float that is not a number both comparisons are false
+    if not 0 <= now < 2**64:
+        raise exceptions.ClockError(f"the clock must tell from 0 to 18446744073709551615 seconds since 1970, not {now}")
+    return int(now)
+
+
 def _frozen(options: Dict[str, Any]) -> Tuple[Tuple[str, Any], ...]:
     return tuple((name, tuple(value) if name == "require" else value) for name, value in options.items())
 
@@ -199,7 +208,7 @@ class PyJWT:
                 return self._unverified(token, asked, audience, issuer, subject, leeway)
         if not algorithms:
             raise exceptions.DecodeError('It is required that you pass in a value for the "algorithms" argument when calling decode().')
-        now = int(_clock())
+        now = _now()
         secret = _key(key)
         family, call, text = (HMAC, _decode_hmac, secret) if secret.__class__ is bytes else _call_by(secret, token)
         rules = rules_for(family, algorithms, asked, audience, issuer, subject, leeway)
@@ -222,7 +231,7 @@ class PyJWT:
 
     def _unverified(self, token: bytes, asked: Any, audience: Any, issuer: Any, subject: Any, leeway: Any) -> Dict[str, Any]:
         """Returns the claims of a token whose signature is not verified."""
-        now = int(_clock())
+        now = _now()
         unless_asked = tuple((name, False) for name in DEFAULTS if name.startswith("verify_"))
         try:
             number, length, signature = _library.parts(token)

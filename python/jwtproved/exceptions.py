@@ -70,3 +70,7 @@ class PyJWKError(PyJWTError):
 
 class PyJWKSetError(PyJWTError):
     """The JSON Web Key Set can't be read, or has no key by which a token is verified."""
+
+
+class ClockError(PyJWTError):
+    """The system's clock tells a time before 1970, or none at all, so that no token can be judged. PyJWT has no such exception."""
