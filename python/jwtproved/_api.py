@@ -9,7 +9,7 @@ from typing import Any, Callable, Dict, Iterable, Mapping, NoReturn, Optional, T
 from . import _keys, _library, _secrets, exceptions
 from ._keys import HMAC, PyJWK, PyJWKSet
 from ._library import ALGORITHMS, Refusal, answer, slices, verified
-from ._rules import DEFAULTS, options_of, rules_for, seconds, strings, wrong_type
+from ._rules import DEFAULTS, options_of, plain, rules_for, seconds, strings, wrong_type
 from ._status import Status
 
 Key = Union[str, bytes, bytearray, memoryview, Dict[str, Any], PyJWK, PyJWKSet, Any]
@@ -94,7 +94,7 @@ def _raise(refusal: Refusal, token: bytes) -> NoReturn:
 def _bytes(name: str, value: Any) -> bytes:
     if isinstance(value, str):
         # a lone surrogate becomes bytes that are in no token
-        return value.encode("utf-8", "surrogatepass")
+        return plain(value).encode("utf-8", "surrogatepass")
     if isinstance(value, (bytes, bytearray, memoryview)):
         return bytes(value)
     raise wrong_type(name, "a string or bytes", value)
@@ -137,6 +137,7 @@ def _checked(audience: Any, issuer: Any, subject: Any, leeway: Any) -> Tuple[Any
     """Returns the arguments about claims, once each is of its type."""
     if subject is not None and not isinstance(subject, str):
         raise wrong_type("subject", "a string", subject)
+    subject = None if subject is None else plain(subject)
     return strings("audience", audience), strings("issuer", issuer), subject, seconds(leeway)
 
 
@@ -155,8 +156,9 @@ class PyJWT:
     """Issues and verifies tokens under options of its own, which each call may change."""
 
     def __init__(self, options: Optional[Dict[str, Any]] = None) -> None:
-        self.options = {**DEFAULTS, **options_of(options)}
-        self._own = _frozen(options_of(options))
+        own = options_of(options)
+        self.options = {**DEFAULTS, **own}
+        self._own = _frozen(own)
         # the rules of a token by a secret under these options alone, by its algorithm
         self._rules: Dict[str, Any] = {}
 
@@ -203,7 +205,8 @@ class PyJWT:
             audience, issuer, subject, leeway = _checked(audience, issuer, subject, leeway)
         asked = self._own
         if options is not None:
-            asked += _frozen(options_of(options))
+            options = options_of(options)
+            asked += _frozen(options)
             if options.get("verify_signature") is False:
                 return self._unverified(token, asked, audience, issuer, subject, leeway)
         if not algorithms:
