@@ -31,7 +31,7 @@ except ImportError:
     # the wheel was built without Python's headers
     _claims = None
 
-# The statuses that are an exception of their own, and its text; each other one is a DecodeError with the library's text.
+# The statuses that have an exception and a text of their own. Any other is a DecodeError with the library's text.
 _EXCEPTIONS: Dict[int, Tuple[Type[Exception], str]] = {
     Status.INVALID_SIGNATURE: (exceptions.InvalidSignatureError, "Signature verification failed"),
     Status.UNSUPPORTED_ALGORITHM: (exceptions.InvalidKeyError, "no token is verified by a key of this kind"),
@@ -106,7 +106,7 @@ def _key(key: Key) -> Union[bytes, PyJWK, PyJWKSet]:
         text = key if key.__class__ is bytes else _bytes("key", key)
         if _secrets.PEM in text:
             return _keys.of_pem(text)
-        why = _secrets.why_none(text)
+        why = _secrets.why_refused(text)
         if why is not None:
             raise exceptions.InvalidKeyError(why)
         return text
@@ -121,11 +121,11 @@ def _key(key: Key) -> Union[bytes, PyJWK, PyJWKSet]:
 
 
 def _now() -> int:
-    """Returns the time by the clock, in whole seconds since 1970-01-01 00:00:00 UTC."""
+    """Returns the time of the system clock, in whole seconds since 1970-01-01 00:00:00 UTC."""
     now = _clock()
-    # for a float that is not a number both comparisons are false
+    # NaN fails both comparisons
     if not 0 <= now < 2**64:
-        raise exceptions.ClockError(f"the clock must tell from 0 to 18446744073709551615 seconds since 1970, not {now}")
+        raise exceptions.ClockError(f"the system clock must be from 0 to 18446744073709551615 seconds since 1970-01-01, not {now}")
     return int(now)
 
 

@@ -10,7 +10,7 @@
 
 /* The room for claims; longer ones are left to _api.py. */
 #define ROOM 4096
-/* The longest secret; what is longer is left to _api.py. */
+/* The longest secret; longer ones are left to _api.py. */
 #define LONGEST 1024
 
 /* jwt_decode_hmac of jwtproved.h */
@@ -39,14 +39,14 @@ bytes_of(PyObject *object, const uint8_t **bytes, Py_ssize_t *len)
     return 0;
 }
 
-/* Whether these bytes may be the text of a key: where SSH or PEM is named, or JSON or DER begins. _secrets.py tells it exactly. */
+/* Whether these bytes may be the text of a key: if they name SSH or PEM, or begin like JSON or DER. _secrets.py decides. */
 static int
 may_be_key(const uint8_t *bytes, size_t len)
 {
     static const char *const names[] = { "ssh-", "ecdsa-sha2-nistp", "-cert-v01@openssh.com", "---- BEGIN ", "-----BEGIN " };
     size_t place, name;
 
-    /* each of the names has one */
+    /* each of the names has a hyphen */
     if (memchr(bytes, '-', len) != NULL) {
         for (name = 0; name < sizeof names / sizeof *names; name++) {
             if (memmem(bytes, len, names[name], strlen(names[name])) != NULL) {
@@ -54,30 +54,36 @@ may_be_key(const uint8_t *bytes, size_t len)
             }
         }
     }
-    /* a SEQUENCE whose length has more than one byte, or is that of the bytes behind it */
+    /* a SEQUENCE whose length has several bytes, or is that of the bytes after it */
     if (len > 1 && bytes[0] == 0x30 && (bytes[1] >= 0x80 || bytes[1] == len - 2)) {
         return 1;
     }
-    /* blanks and a byte order mark may stand before JSON */
+    /* white space and a byte order mark may precede JSON */
     for (place = 0; place < len && memchr(" \t\r\n\xef\xbb\xbf", bytes[place], 7) != NULL; place++) {
     }
     return place < len && bytes[place] == '{';
 }
 
-/* Returns the number that a sign of base64 or base64url stands for; 64 for padding and blanks, and 65 for any other byte. */
+/* Returns the value of a digit of base64 or base64url; 64 for padding and white space, and 65 for any other byte. */
 static unsigned
-number_of(uint8_t sign)
+digit_value(uint8_t digit)
 {
-    if (sign >= 'A' && sign <= 'Z') {
-        return sign - 'A';
+    if (digit >= 'A' && digit <= 'Z') {
+        return digit - 'A';
     }
-    if (sign >= 'a' && sign <= 'z') {
-        return sign - 'a' + 26;
+    if (digit >= 'a' && digit <= 'z') {
+        return digit - 'a' + 26;
     }
-    if (sign >= '0' && sign <= '9') {
-        return sign - '0' + 52;
+    if (digit >= '0' && digit <= '9') {
+        return digit - '0' + 52;
     }
-    return sign == '+' || sign == '-' ? 62 : sign == '/' || sign == '_' ? 63 : sign != 0 && strchr("= \t\r\n", sign) != NULL ? 64 : 65;
+    if (digit == '+' || digit == '-') {
+        return 62;
+    }
+    if (digit == '/' || digit == '_') {
+        return 63;
+    }
+    return memchr("= \t\r\n", digit, 5) != NULL ? 64 : 65;
 }
 
 /* Whether these bytes may be the text of a key in base64 or base64url. */
@@ -86,15 +92,15 @@ may_be_base64_of_key(const uint8_t *bytes, size_t len)
 {
     uint8_t decoded[LONGEST];
     size_t place, written = 0;
-    unsigned number, bits = 0, count = 0;
+    unsigned value, bits = 0, count = 0;
 
     for (place = 0; place < len; place++) {
-        number = number_of(bytes[place]);
-        if (number == 65) {
+        value = digit_value(bytes[place]);
+        if (value == 65) {
             return 0;
         }
-        if (number < 64) {
-            bits = bits << 6 | number;
+        if (value < 64) {
+            bits = bits << 6 | value;
             count += 6;
         }
         if (count >= 8) {
@@ -105,7 +111,7 @@ may_be_base64_of_key(const uint8_t *bytes, size_t len)
     return may_be_key(decoded, written);
 }
 
-/* Whether these bytes are a secret without a doubt: neither zeros alone, nor of a length or a kind that _secrets.py has to look at. */
+/* Whether these bytes are surely a secret: neither zeros alone, nor too long, nor bytes that _secrets.py has to look at. */
 static int
 is_secret(const uint8_t *bytes, Py_ssize_t len)
 {

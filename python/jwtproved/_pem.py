@@ -46,7 +46,7 @@ def _elements(data: bytes, *tags: int) -> List[bytes]:
 
 
 def tags(data: bytes) -> bytes:
-    """Returns the tags of the first elements of a SEQUENCE that is all of the data, of eleven at most: no key has so many."""
+    """Returns the tags of the elements of a SEQUENCE that is all of the data. It stops after eleven: no key has as many."""
     content, found = _elements(data, _SEQUENCE)[0], b""
     while content and len(found) < 11:
         found += content[:1]

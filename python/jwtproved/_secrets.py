@@ -1,4 +1,4 @@
-"""Secrets of HMAC, and the texts that are none: keys of other kinds. A public key is known, so that anyone could sign with its text."""
+"""Tells secrets of HMAC from keys of other kinds. A public key is known, so that anyone could sign with its text as a secret."""
 import binascii
 import functools
 import json
@@ -32,11 +32,11 @@ _DER = re.compile(rb"\x30\x03|\x30\x30\x03|\x30\x04|\x02\x30\x04.*|\x02\x02|\x02
 _OF_URL = bytes.maketrans(b"-_", b"+/")
 
 
-# a program mostly has one secret, which need not be looked at again for each token
+# most programs have one secret, which is then checked once, and not for each token
 @functools.lru_cache(maxsize=1)
-def why_none(secret: bytes) -> Optional[str]:
-    """Returns why these bytes are no secret, and None if they are one."""
-    # HMAC pads a secret with zeros, so that zeros alone are the same key as none
+def why_refused(secret: bytes) -> Optional[str]:
+    """Returns why these bytes are refused as a secret, or None if they are not."""
+    # HMAC pads a secret with zeros, so zeros alone are the same key as the empty secret
     if not secret.strip(b"\0"):
         return ANYONE
     kind = _kind(secret)
@@ -49,8 +49,8 @@ def why_none(secret: bytes) -> Optional[str]:
 
 
 def _kind(text: bytes) -> Optional[str]:
-    """Returns of which kind the key is whose text this is, and None if it is the text of no key."""
-    # each name of SSH and each begin of PEM has one
+    """Returns the kind of the key that this is the text of, or None if it is not a key."""
+    # every name of SSH, and the beginning of PEM, has a hyphen
     if b"-" in text:
         if PEM in text:
             return "a key in PEM"
@@ -82,9 +82,9 @@ def _is_der(data: bytes) -> bool:
 
 
 def _of_base64(text: bytes) -> bytes:
-    """Returns the bytes behind base64 or base64url, with or without padding and blanks (RFC 4648); none if the text is neither."""
-    signs = text.translate(_OF_URL, _BLANKS).rstrip(b"=")
+    """Decodes base64 or base64url (RFC 4648), with or without padding and white space. Returns no bytes if the text is neither."""
+    digits = text.translate(_OF_URL, _BLANKS).rstrip(b"=")
     try:
-        return binascii.a2b_base64(signs + b"=" * (-len(signs) % 4), strict_mode=True)
+        return binascii.a2b_base64(digits + b"=" * (-len(digits) % 4), strict_mode=True)
     except binascii.Error:
         return b""

@@ -3,7 +3,7 @@ import enum
 
 
 class Status(enum.IntEnum):
-    """A status, under the name that it has in jwtproved.h behind `JWT_`."""
+    """A status, named as in jwtproved.h without the prefix `JWT_`."""
 
     OK = 0
     INVALID_TOKEN = 1

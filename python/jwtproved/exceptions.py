@@ -73,4 +73,4 @@ class PyJWKSetError(PyJWTError):
 
 
 class ClockError(PyJWTError):
-    """The system's clock tells a time before 1970, or none at all, so that no token can be judged. PyJWT has no such exception."""
+    """The system clock is before 1970-01-01, or not a number, so that no token can be judged. PyJWT has no such exception."""

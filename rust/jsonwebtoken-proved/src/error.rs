@@ -31,13 +31,13 @@ pub enum Error {
     MalformedClaim(&'static str),
     /// The claims are not those of the type that was asked for, or can't be written.
     Json(String),
-    /// The key can't be read, does not serve, or is a secret that anyone may know.
+    /// The key can't be read, does not serve, or is a secret that others may know.
     Key(String),
     /// An argument is not understood: the text is the library's.
     Argument(String),
     /// Memory ran out in the library. This is no verdict on a token.
     OutOfMemory,
-    /// The system's clock is before 1970-01-01 00:00:00 UTC, so that no token can be judged.
+    /// The system clock is before 1970-01-01 00:00:00 UTC, so that no token can be judged.
     ClockBeforeEpoch,
 }
 
@@ -93,7 +93,7 @@ impl fmt::Display for Error {
             Error::Key(text) => write!(f, "the key does not serve: {text}"),
             Error::Argument(text) => write!(f, "an argument is not understood: {text}"),
             Error::OutOfMemory => f.write_str("out of memory"),
-            Error::ClockBeforeEpoch => f.write_str("the system's clock is before 1970"),
+            Error::ClockBeforeEpoch => f.write_str("the system clock is before 1970-01-01"),
         }
     }
 }

@@ -16,7 +16,7 @@ pub fn list<T: AsRef<str>>(texts: impl IntoIterator<Item = T>) -> String {
     format!("[{}]", members.join(","))
 }
 
-/// A value as far as a key is told by it.
+/// A JSON value, without the value of a number.
 #[derive(Debug, PartialEq, Eq)]
 pub enum Value {
     /// The members of an object, in the order of the text; a name may stand there more than once.
@@ -29,7 +29,7 @@ pub enum Value {
 }
 
 impl Value {
-    /// Returns the values of the members of this name; a value that is no object has none.
+    /// Returns the values of the members with this name. A value other than an object has no members.
     pub fn members(&self, name: &str) -> Vec<&Value> {
         match self {
             Value::Object(members) => members.iter().filter(|it| it.0 == name).map(|it| &it.1).collect(),
@@ -37,7 +37,7 @@ impl Value {
         }
     }
 
-    /// Returns the values of a list; another value has none.
+    /// Returns the values of a list. Another value has none.
     pub fn values(&self) -> &[Value] {
         if let Value::List(values) = self { values } else { &[] }
     }
@@ -48,7 +48,7 @@ impl Value {
     }
 }
 
-/// How deep lists and objects may lie in one another, as in the library.
+/// How deep lists and objects may be nested, as in the library.
 const DEEPEST: usize = 127;
 
 /// Returns the value of a text, or `None` if it is not JSON.
@@ -59,7 +59,7 @@ pub fn read(text: &[u8]) -> Option<Value> {
     rest.text.is_empty().then_some(value)
 }
 
-/// What is still to be read: UTF-8, but that a character may have begun already.
+/// The bytes that are still to be read.
 struct Rest<'a> {
     text: &'a [u8],
 }
@@ -87,17 +87,17 @@ impl Rest<'_> {
         Some(())
     }
 
-    /// Takes this from the front, behind blanks.
-    fn take_sign(&mut self, sign: &str) -> Option<()> {
+    /// Takes white space, and then this, from the front.
+    fn take_after_blanks(&mut self, front: &str) -> Option<()> {
         self.skip_blanks();
-        self.take(sign)
+        self.take(front)
     }
 
     fn members(&mut self, depth: usize) -> Option<Vec<(String, Value)>> {
         let member = |rest: &mut Self| {
             rest.skip_blanks();
             let name = rest.string()?;
-            rest.take_sign(":")?;
+            rest.take_after_blanks(":")?;
             Some((name, rest.value(depth)?))
         };
         self.between("{", "}", member)
@@ -107,16 +107,16 @@ impl Rest<'_> {
         self.between("[", "]", |rest| rest.value(depth))
     }
 
-    /// Takes what stands between these signs, with a comma between one and the next.
-    fn between<T>(&mut self, begin: &str, end: &str, mut one: impl FnMut(&mut Self) -> Option<T>) -> Option<Vec<T>> {
+    /// Takes a list of elements that are separated by commas, between these delimiters.
+    fn between<T>(&mut self, begin: &str, end: &str, mut element: impl FnMut(&mut Self) -> Option<T>) -> Option<Vec<T>> {
         self.take(begin)?;
         let mut found = Vec::new();
-        if self.take_sign(end).is_some() {
+        if self.take_after_blanks(end).is_some() {
             return Some(found);
         }
         loop {
-            found.push(one(self)?);
-            if self.take_sign(end).is_some() {
+            found.push(element(self)?);
+            if self.take_after_blanks(end).is_some() {
                 return Some(found);
             }
             self.take(",")?;
@@ -161,7 +161,7 @@ impl Rest<'_> {
         }
     }
 
-    /// Takes what stands behind a reverse solidus.
+    /// Takes the rest of an escape sequence, after its reverse solidus.
     fn escaped(&mut self) -> Option<char> {
         let (first, rest) = self.text.split_first()?;
         self.text = rest;
@@ -177,19 +177,19 @@ impl Rest<'_> {
         })
     }
 
-    /// Takes four digits, or the two fours of a character beyond U+FFFF. Half of such a pair is U+FFFD.
+    /// Takes the hexadecimal digits of a character, which are two groups of four beyond U+FFFF. An unpaired surrogate is U+FFFD.
     fn code_point(&mut self) -> Option<char> {
         let first = self.four_digits()?;
         if !(0xd800..=0xdbff).contains(&first) {
             return Some(char::from_u32(first).unwrap_or(char::REPLACEMENT_CHARACTER));
         }
-        let behind = self.text;
+        let rest = self.text;
         if self.take("\\u").is_some() {
             let second = self.four_digits()?;
             if (0xdc00..=0xdfff).contains(&second) {
                 return char::from_u32(0x10000 + ((first - 0xd800) << 10) + (second - 0xdc00));
             }
-            self.text = behind;
+            self.text = rest;
         }
         Some(char::REPLACEMENT_CHARACTER)
     }

@@ -12,8 +12,9 @@ pub struct DecodingKey {
 impl DecodingKey {
     /// Returns a secret as a key, for HS256, HS384 and HS512. RFC 7518 section 3.2 requires at least 32, 48 and 64 bytes.
     ///
-    /// A secret that anyone may know is [`Error::Key`]: an empty one, one of zeros alone, and the text of a key of another kind, which is
-    /// one of SSH, in PEM, in DER or JSON of a JSON Web Key or of a set of them, or base64 of such a text.
+    /// A secret that others may know is [`Error::Key`]: a secret that is empty or has only zeros, and the text of a key of another
+    /// kind: a text that contains an SSH key or PEM, the JSON of a JSON Web Key or a set, a key or a certificate in DER, or base64 of
+    /// any of these.
     pub fn from_secret(secret: &[u8]) -> Result<DecodingKey, Error> {
         Ok(DecodingKey { kind: Kind::Secret, text: secret::checked(secret)? })
     }

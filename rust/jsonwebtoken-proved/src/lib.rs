@@ -87,7 +87,7 @@ pub fn encode_json(header: &Header, claims: &str, key: &EncodingKey) -> Result<S
     calls::encode(&header.to_json(), claims, &key.secret)
 }
 
-/// Returns the moment by the system's clock, in seconds since 1970-01-01 00:00:00 UTC. A clock that is before then is
+/// Returns the moment by the system's clock, in seconds since 1970-01-01 00:00:00 UTC. A clock before that time is
 /// [`Error::ClockBeforeEpoch`].
 pub fn get_current_timestamp() -> Result<u64, Error> {
     seconds_of(SystemTime::now())
@@ -103,7 +103,7 @@ mod tests {
     use std::path::{Path, PathBuf};
     use std::time::{Duration, UNIX_EPOCH};
 
-    /// Returns the text of a file of the repository, of which JWT_ROWS names one for a copy of the crate.
+    /// Returns the text of a file of the repository. In a copy of the crate, JWT_ROWS names a file of the repository.
     pub fn file_of_repository(path: &str) -> String {
         let ours = concat!(env!("CARGO_MANIFEST_DIR"), "/../..");
         let named = std::env::var("JWT_ROWS").ok().and_then(|it| Path::new(&it).ancestors().nth(4).map(Path::to_path_buf));
@@ -111,7 +111,7 @@ mod tests {
     }
 
     #[test]
-    fn a_clock_before_1970_tells_no_time() {
+    fn a_clock_before_1970_is_an_error() {
         for early in [Duration::from_nanos(1), Duration::from_secs(1), Duration::from_secs(86400 * 365)] {
             assert_eq!(seconds_of(UNIX_EPOCH - early), Err(Error::ClockBeforeEpoch));
         }

@@ -1,10 +1,10 @@
-//! Secrets of HMAC, and the texts that are none: keys of other kinds. A public key is known, so that anyone could sign with its text.
+//! Tells secrets of HMAC from keys of other kinds. A public key is known, so that anyone could sign with its text as a secret.
 
 use crate::json::{self, Value};
 use crate::Error;
 
-/// The names of public keys and certificates of SSH (OpenSSH's PROTOCOL.u2f, PROTOCOL.certkeys and sshkey.c; RFC 8709), and the begin
-/// of a key by RFC 4716.
+/// The names of public keys and certificates of SSH (OpenSSH's PROTOCOL.u2f, PROTOCOL.certkeys and sshkey.c; RFC 8709), and the
+/// beginning of a key in the format of RFC 4716.
 const SSH: [&str; 10] = [
     "ssh-rsa",
     "ssh-dss",
@@ -21,9 +21,9 @@ const PEM: &str = "-----BEGIN ";
 const BYTE_ORDER_MARK: &[u8] = b"\xef\xbb\xbf";
 const SEQUENCE: u8 = 0x30;
 
-/// Returns these bytes as a secret, or [`Error::Key`] if they are none.
+/// Returns these bytes, or [`Error::Key`] if they are refused as a secret.
 pub fn checked(secret: &[u8]) -> Result<Vec<u8>, Error> {
-    // HMAC pads a secret with zeros, so that zeros alone are the same key as none
+    // HMAC pads a secret with zeros, so zeros alone are the same key as the empty secret
     if secret.iter().all(|it| *it == 0) {
         return Err(Error::Key("the secret is empty or has zeros alone, so that anyone can sign with it".to_string()));
     }
@@ -50,7 +50,7 @@ fn check_key(key: &Value) -> Result<(), Error> {
     secrets.map(|it| checked(&it)).try_for_each(|it| it.map(|_| ()))
 }
 
-/// Returns of which kind the key is whose text this is, or `None` if it is the text of no key.
+/// Returns the kind of the key that this is the text of, or `None` if it is not a key.
 fn kind_of(text: &[u8]) -> Option<&'static str> {
     let has = |name: &str| text.windows(name.len()).any(|it| it == name.as_bytes());
     if has(PEM) {
@@ -92,20 +92,20 @@ fn is_der(data: &[u8]) -> bool {
 fn tags(mut data: &[u8]) -> Option<Vec<u8>> {
     let mut found = Vec::new();
     while !data.is_empty() {
-        let (tag, _, behind) = element(data)?;
+        let (tag, _, rest) = element(data)?;
         found.push(tag);
-        data = behind;
+        data = rest;
     }
     Some(found)
 }
 
-/// Returns the tag and the content of the element that the data begin with, and the data behind it (X.690 section 8.1).
+/// Returns the tag and the content of the first element, and the data after it (X.690 section 8.1).
 fn element(data: &[u8]) -> Option<(u8, &[u8], &[u8])> {
     let (tag, data) = data.split_first()?;
     let (first, data) = data.split_first()?;
     let (size, data) = match first {
         0..=0x7f => (usize::from(*first), data),
-        // without a length of its own
+        // an indefinite length, which DER does not have
         0x80 => return None,
         _ => {
             let count = usize::from(*first & 0x7f);
@@ -116,33 +116,33 @@ fn element(data: &[u8]) -> Option<(u8, &[u8], &[u8])> {
     (size <= data.len()).then(|| (*tag, &data[..size], &data[size..]))
 }
 
-/// Returns the bytes behind base64 or base64url, with or without padding and blanks (RFC 4648).
+/// Decodes base64 or base64url (RFC 4648), with or without padding and white space.
 fn from_base64(text: &[u8]) -> Option<Vec<u8>> {
-    let signs: Vec<u8> = text.iter().copied().filter(|it| !b" \t\r\n".contains(it)).collect();
-    let padding = signs.iter().rev().take_while(|it| **it == b'=').count();
-    let signs = &signs[..signs.len() - padding];
-    if signs.len() % 4 == 1 {
+    let digits: Vec<u8> = text.iter().copied().filter(|it| !b" \t\r\n".contains(it)).collect();
+    let padding = digits.iter().rev().take_while(|it| **it == b'=').count();
+    let digits = &digits[..digits.len() - padding];
+    if digits.len() % 4 == 1 {
         return None;
     }
-    let numbers = signs.iter().map(|it| sextet(*it)).collect::<Option<Vec<u32>>>()?;
-    let bytes = numbers.chunks(4).flat_map(|four| {
+    let values = digits.iter().map(|it| digit_value(*it)).collect::<Option<Vec<u32>>>()?;
+    let bytes = values.chunks(4).flat_map(|four| {
         let bits = four.iter().fold(0, |bits, it| bits << 6 | it) << (6 * (4 - four.len()));
         bits.to_be_bytes().into_iter().skip(1).take(four.len() - 1)
     });
     Some(bytes.collect())
 }
 
-/// Returns the number that a sign of base64 or base64url stands for.
-fn sextet(sign: u8) -> Option<u32> {
-    let number = match sign {
-        b'A'..=b'Z' => sign - b'A',
-        b'a'..=b'z' => sign - b'a' + 26,
-        b'0'..=b'9' => sign - b'0' + 52,
+/// Returns the value of a digit of base64 or base64url.
+fn digit_value(digit: u8) -> Option<u32> {
+    let value = match digit {
+        b'A'..=b'Z' => digit - b'A',
+        b'a'..=b'z' => digit - b'a' + 26,
+        b'0'..=b'9' => digit - b'0' + 52,
         b'+' | b'-' => 62,
         b'/' | b'_' => 63,
         _ => return None,
     };
-    Some(u32::from(number))
+    Some(u32::from(value))
 }
 
 #[cfg(test)]
@@ -165,14 +165,14 @@ mod tests {
     }
 
     fn base64url(bytes: &[u8]) -> String {
-        let signs = b"ABCDEFGHIJKLMNOPQRSTUVWXYZabcdefghijklmnopqrstuvwxyz0123456789-_";
+        let digits = b"ABCDEFGHIJKLMNOPQRSTUVWXYZabcdefghijklmnopqrstuvwxyz0123456789-_";
         let bit = |at: usize| bytes.get(at / 8).map_or(0, |it| it >> (7 - at % 8) & 1);
-        let sign = |at| signs[(at..at + 6).fold(0, |number, at| number << 1 | usize::from(bit(at)))] as char;
-        (0..bytes.len() * 8).step_by(6).map(sign).collect()
+        let digit = |at| digits[(at..at + 6).fold(0, |number, at| number << 1 | usize::from(bit(at)))] as char;
+        (0..bytes.len() * 8).step_by(6).map(digit).collect()
     }
 
     #[test]
-    fn keys_of_ssh_that_are_seldom_are_no_secrets() {
+    fn rare_ssh_keys_are_no_secrets() {
         for text in ["ssh-ed448 AAAACXNzaC1lZDQ0OA== ada@example", "# Ada\nssh-xmss@openssh.com AAAAFHNzaC14bXNzQG9wZW5zc2guY29t"] {
             assert!(matches!(DecodingKey::from_secret(text.as_bytes()), Err(Error::Key(_))), "{text}");
         }

@@ -1,4 +1,4 @@
-//! The statuses of the calls for C, under the names that they have in `jwtproved.h` behind `JWT_`.
+//! The statuses of the calls for C, named as in `jwtproved.h` without the prefix `JWT_`.
 
 macro_rules! statuses {
     ($($name:ident = $number:literal,)*) => {

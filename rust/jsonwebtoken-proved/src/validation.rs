@@ -91,7 +91,8 @@ pub struct Validation {
 }
 
 impl Validation {
-    /// Accepts this algorithm, with the defaults of the crate `jsonwebtoken`. Unlike there, a claim that is asked for is required.
+    /// Accepts this algorithm, with the defaults of the crate `jsonwebtoken`. Unlike in that crate, a claim that is asked for is
+    /// required.
     pub fn new(algorithm: Algorithm) -> Validation {
         Validation {
             algorithms: vec![algorithm],
