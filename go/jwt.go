@@ -25,7 +25,18 @@ type Token struct {
 }
 
 // Claims reads the claims into a value, as json.Unmarshal does. A float, and an integer beyond 64 bits, is the nearest double.
-func (token *Token) Claims(into any) error { return json.Unmarshal(token.claims, into) }
+//
+// json.Unmarshal matches names to the fields of a struct in any case, and with the other letters of Unicode's simple folding: without
+// a further check it would read "SUB" or "\u017fub" as sub, which the library did not check. So Claims returns ErrMalformed, and reads
+// nothing, if two claims have the same name but for folding, or if a claim has the name of exp, nbf, iat, aud, iss, sub or jti but for
+// folding. The names of each nested object are compared with one another too, unless into points to a map of any or to an any that is
+// nil: these keep every name as it is.
+func (token *Token) Claims(into any) error {
+	if err := checkNames(token.claims, mayFold(into)); err != nil {
+		return fmt.Errorf("%w: %v", ErrMalformed, err)
+	}
+	return json.Unmarshal(token.claims, into)
+}
 
 // RawClaims returns the claims as compact JSON.
 func (token *Token) RawClaims() json.RawMessage { return append(json.RawMessage(nil), token.claims...) }
