@@ -14,6 +14,7 @@ package jwt
 import (
 	"encoding/json"
 	"fmt"
+	"io"
 	"time"
 )
 
@@ -148,6 +149,11 @@ type Verifier struct {
 	now     func() time.Time
 }
 
+// Format shows neither the key nor the options, whatever the verb.
+func (Verifier) Format(state fmt.State, _ rune) {
+	_, _ = io.WriteString(state, "jwt.Verifier([redacted])")
+}
+
 // NewVerifier returns a verifier by a key that accepts these algorithms, which have to be of one family: that of the key.
 func NewVerifier(key Key, algorithms []string, with ...Option) (*Verifier, error) {
 	asked := options{Algorithms: algorithms, Required: []string{"exp"}, Reject: 1, ValidateNbf: true, now: time.Now}
@@ -159,14 +165,14 @@ func NewVerifier(key Key, algorithms []string, with ...Option) (*Verifier, error
 	if len(algorithms) == 0 {
 		return nil, fmt.Errorf("%w: no algorithm", ErrOption)
 	}
-	if len(key.text) == 0 {
+	if key.bytes == nil {
 		return nil, keyError("there is none")
 	}
 	text, err := json.Marshal(asked)
 	if err != nil {
 		return nil, fmt.Errorf("%w: %v", ErrOption, err)
 	}
-	if _, err := decode(key.kind, nil, key.text, text, 0); kindOf(err.(*Error).Status) == ErrOption {
+	if _, err := decode(key, nil, text, 0); kindOf(err.(*Error).Status) == ErrOption {
 		return nil, fmt.Errorf("%w: one of the algorithms %q is not known", ErrOption, algorithms)
 	}
 	return &Verifier{key, text, asked.now}, nil
@@ -178,8 +184,7 @@ func (verifier *Verifier) Parse(token string) (*Token, error) {
 	if now < 0 {
 		return nil, fmt.Errorf("%w: the clock is before 1970", ErrOption)
 	}
-	text := []byte(token)
-	claims, err := decode(verifier.key.kind, text, verifier.key.text, verifier.options, uint64(now))
+	claims, err := decode(verifier.key, []byte(token), verifier.options, uint64(now))
 	if err != nil {
 		return nil, err
 	}
@@ -212,8 +217,8 @@ func UnverifiedHeader(token string) (map[string]any, error) {
 // Sign returns the token of claims, which json.Marshal writes, signed with a secret by HS256, HS384 or HS512. Members of header other
 // than alg and typ are those of the map, which may be nil. No claim may be a float.
 func Sign(claims any, secret []byte, algorithm string, header map[string]any) (string, error) {
-	if isAnyones(secret) {
-		return "", keyError("the secret is empty or has zeros alone, so that anyone can sign with it")
+	if err := checkSecret(secret); err != nil {
+		return "", err
 	}
 	members := map[string]any{"typ": "JWT"}
 	for name, it := range header {

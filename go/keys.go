@@ -1,7 +1,6 @@
 package jwt
 
 import (
-	"bytes"
 	"crypto"
 	"crypto/ecdsa"
 	"crypto/ed25519"
@@ -12,7 +11,9 @@ import (
 	"encoding/pem"
 	"errors"
 	"fmt"
+	"io"
 	"math/big"
+	"unicode/utf8"
 )
 
 type keyKind int
@@ -26,83 +27,112 @@ const (
 // Key is what tokens are verified by: a secret, a public key or a set of keys. Its kind decides by which algorithms.
 type Key struct {
 	kind keyKind
-	text []byte
+	// bytes returns the text of the key. In a field that is not exported fmt does not call Format; it shows what a pointer points to for
+	// some verbs, and of a func its address alone.
+	bytes func() []byte
+}
+
+func newKey(kind keyKind, text []byte) Key {
+	text = append([]byte(nil), text...)
+	return Key{kind, func() []byte { return text }}
+}
+
+// Format does not show the key, whatever the verb.
+func (key Key) Format(state fmt.State, verb rune) {
+	text := key.String()
+	if verb == 'v' && state.Flag('#') {
+		text = "jwt.Key(" + text + ")"
+	}
+	_, _ = io.WriteString(state, text)
 }
 
 // String does not show the key.
 func (Key) String() string { return "[redacted]" }
 
-// GoString does not show the key.
-func (Key) GoString() string { return "jwt.Key([redacted])" }
-
 func keyError(why string, arguments ...any) error {
 	return fmt.Errorf("%w: %s", ErrKey, fmt.Sprintf(why, arguments...))
 }
 
-// isAnyones returns whether anyone can sign by a secret: HMAC pads it with zeros, so that zeros alone are the same key as none.
-func isAnyones(secret []byte) bool { return len(bytes.Trim(secret, "\x00")) == 0 }
-
-// Secret returns a secret as a key, for HS256, HS384 and HS512. RFC 7518 section 3.2 requires at least 32, 48 and 64 bytes.
+// Secret returns a secret as a key, for HS256, HS384 and HS512. RFC 7518 section 3.2 requires at least 32, 48 and 64 bytes. A secret that
+// anyone may have is refused: one that is empty or has zeros alone, a key of SSH, in PEM, in DER, or in JSON, and base64 of these two.
 func Secret(secret []byte) (Key, error) {
-	if isAnyones(secret) {
-		return Key{}, keyError("the secret is empty or has zeros alone, so that anyone can sign with it")
+	if err := checkSecret(secret); err != nil {
+		return Key{}, err
 	}
-	return Key{secretKey, append([]byte(nil), secret...)}, nil
+	return newKey(secretKey, secret), nil
 }
 
-// a member of a key that both the library and this package look at.
-type jwk struct {
-	Kty string `json:"kty"`
-	K   string `json:"k"`
-}
-
-func (key jwk) check() error {
-	secret, err := base64.RawURLEncoding.DecodeString(key.K)
-	if key.Kty == "oct" && (err != nil || isAnyones(secret)) {
+// checkJWK returns an error if anyone can sign by a key. It reads the members by their very names, as the library does.
+func checkJWK(members map[string]json.RawMessage) error {
+	var kty, k string
+	if json.Unmarshal(members["kty"], &kty) != nil || kty != "oct" {
+		return nil // the library says what it is
+	}
+	if err := json.Unmarshal(members["k"], &k); err != nil {
+		return keyError("the member k of a secret is no text")
+	}
+	if secret, err := base64.RawURLEncoding.DecodeString(k); err != nil || isAnyones(secret) {
 		return keyError("a secret is empty, has zeros alone, so that anyone can sign with it, or is not base64url")
 	}
 	return nil
 }
 
+// textError is the refusal of a key's text that is not UTF-8: that of an argument, and of a key.
+type textError string
+
+func (err textError) Error() string {
+	return ErrKey.Error() + ": the text of the " + string(err) + " is not UTF-8"
+}
+
+func (err textError) Is(kind error) bool { return kind == ErrKey || kind == ErrOption }
+
 // JWK returns a JSON Web Key (RFC 7517 section 4) of any kind as a key.
 func JWK(text []byte) (Key, error) {
-	var read jwk
-	if err := json.Unmarshal(text, &read); err != nil {
+	var members map[string]json.RawMessage
+	if !utf8.Valid(text) {
+		return Key{}, textError("JSON Web Key")
+	}
+	if err := json.Unmarshal(text, &members); err != nil {
 		return Key{}, keyError("%v", err)
 	}
-	if err := read.check(); err != nil {
+	if err := checkJWK(members); err != nil {
 		return Key{}, err
 	}
-	return tried(Key{singleKey, append([]byte(nil), text...)})
+	return tried(newKey(singleKey, text))
 }
 
 // JWKSet returns a JSON Web Key Set (RFC 7517 section 5) as a key. A token names one of its keys by its kid.
 func JWKSet(text []byte) (Key, error) {
-	var read struct {
-		Keys []jwk `json:"keys"`
+	var members map[string]json.RawMessage
+	var keys []map[string]json.RawMessage
+	if !utf8.Valid(text) {
+		return Key{}, textError("JSON Web Key Set")
 	}
-	if err := json.Unmarshal(text, &read); err != nil {
+	if err := json.Unmarshal(text, &members); err != nil {
 		return Key{}, keyError("%v", err)
 	}
-	if len(read.Keys) == 0 {
-		return Key{}, keyError("the set has no key")
+	if err := json.Unmarshal(members["keys"], &keys); err != nil || len(keys) == 0 {
+		return Key{}, keyError("the set has no list of keys, or no key")
 	}
-	for _, it := range read.Keys {
-		if err := it.check(); err != nil {
+	for _, it := range keys {
+		if err := checkJWK(it); err != nil {
 			return Key{}, err
 		}
 	}
-	return tried(Key{keySet, append([]byte(nil), text...)})
+	return tried(newKey(keySet, text))
 }
 
-// tried returns a key that the library reads. It reads options and key before the token, which is none here.
+// tried returns a key that the library reads. It reads the options and the key before the token, which is empty here.
 func tried(key Key) (Key, error) {
-	_, err := decode(key.kind, nil, key.text, []byte("{}"), 0)
+	_, err := decode(key, nil, []byte("{}"), 0)
 	var refused *Error
-	if errors.As(err, &refused) && refused.Status != noToken {
-		return Key{}, keyError("%v", err)
+	if !errors.As(err, &refused) || refused.Status == noToken {
+		return key, nil
 	}
-	return key, nil
+	if errors.Is(err, ErrOutOfMemory) {
+		return Key{}, err
+	}
+	return Key{}, keyError("%v", err)
 }
 
 // PEM returns a public key of RSA, P-256, P-384 or Ed25519 in PEM as a key.
@@ -137,24 +167,42 @@ func Public(public crypto.PublicKey) (Key, error) {
 	if err != nil {
 		return Key{}, keyError("%v", err)
 	}
-	return tried(Key{singleKey, text})
+	return tried(newKey(singleKey, text))
 }
 
 func membersOf(public crypto.PublicKey) (map[string]string, error) {
 	part := base64.RawURLEncoding.EncodeToString
 	switch key := public.(type) {
 	case *rsa.PublicKey:
+		if key == nil || key.N == nil || key.N.Sign() <= 0 || key.E <= 0 {
+			return nil, keyError("the RSA key has no modulus or exponent")
+		}
 		return map[string]string{"kty": "RSA", "n": part(key.N.Bytes()), "e": part(big.NewInt(int64(key.E)).Bytes())}, nil
 	case *ecdsa.PublicKey:
-		name := key.Curve.Params().Name
-		if name != "P-256" && name != "P-384" {
-			return nil, keyError("no token is verified by %s", name)
-		}
-		size := (key.Curve.Params().BitSize + 7) / 8
-		x, y := key.X.FillBytes(make([]byte, size)), key.Y.FillBytes(make([]byte, size))
-		return map[string]string{"kty": "EC", "crv": name, "x": part(x), "y": part(y)}, nil
+		return membersOfPoint(key)
 	case ed25519.PublicKey:
+		if len(key) != ed25519.PublicKeySize {
+			return nil, keyError("the Ed25519 key has %d bytes", len(key))
+		}
 		return map[string]string{"kty": "OKP", "crv": "Ed25519", "x": part(key)}, nil
 	}
 	return nil, keyError("no token is verified by a %T", public)
+}
+
+func membersOfPoint(key *ecdsa.PublicKey) (map[string]string, error) {
+	if key == nil || key.Curve == nil || key.X == nil || key.Y == nil {
+		return nil, keyError("the ECDSA key has no curve or point")
+	}
+	name, bits := key.Curve.Params().Name, key.Curve.Params().BitSize
+	if name != "P-256" && name != "P-384" {
+		return nil, keyError("no token is verified by %s", name)
+	}
+	coordinates := [2]string{}
+	for i, it := range []*big.Int{key.X, key.Y} {
+		if it.Sign() < 0 || it.BitLen() > bits {
+			return nil, keyError("the point of the ECDSA key is not on %s", name)
+		}
+		coordinates[i] = base64.RawURLEncoding.EncodeToString(it.FillBytes(make([]byte, bits/8)))
+	}
+	return map[string]string{"kty": "EC", "crv": name, "x": coordinates[0], "y": coordinates[1]}, nil
 }

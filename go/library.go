@@ -54,13 +54,13 @@ func decodeHeader(token []byte) ([]byte, error) {
 	})
 }
 
-// decode has a token verified by a key of this kind.
-func decode(kind keyKind, token, key, options []byte, now uint64) ([]byte, error) {
+// decode has a token verified by a key, as its kind asks.
+func decode(key Key, token, options []byte, now uint64) ([]byte, error) {
 	return answer(len(token)+64, func(buffer *C.uint8_t, size C.size_t, length *C.size_t) C.uint32_t {
 		tokenAt, tokenLen := slice(token)
-		keyAt, keyLen := slice(key)
+		keyAt, keyLen := slice(key.bytes())
 		optionsAt, optionsLen := slice(options)
-		switch kind {
+		switch key.kind {
 		case secretKey:
 			return C.jwt_decode_hmac(tokenAt, tokenLen, keyAt, keyLen, optionsAt, optionsLen, C.uint64_t(now), buffer, size, length)
 		case singleKey:
@@ -79,5 +79,5 @@ func encode(header, claims, secret []byte) ([]byte, error) {
 	})
 }
 
-// the status for a token that is none, which is told once options and key are read
+// noToken is the status for the empty token, once the options and the key are read.
 const noToken = uint32(C.JWT_INVALID_TOKEN)
