@@ -12,10 +12,13 @@
 package jwt
 
 import (
+	"bytes"
 	"encoding/json"
+	"errors"
 	"fmt"
 	"io"
 	"time"
+	"unicode/utf8"
 )
 
 // Token is a token that was verified.
@@ -53,49 +56,79 @@ type options struct {
 	Audience    []string `json:"aud,omitempty"`
 	Issuer      []string `json:"iss,omitempty"`
 	Subject     *string  `json:"sub,omitempty"`
+	noExpiry    bool
 	now         func() time.Time
 }
 
 // Option is a condition on a token.
 type Option func(*options) error
 
-func (asked *options) require(name string) {
+func (asked *options) requires(name string) bool {
 	for _, it := range asked.Required {
 		if it == name {
-			return
+			return true
 		}
 	}
-	asked.Required = append(asked.Required, name)
+	return false
 }
 
-// WithAudience asks for one of these audiences. Without it, a token that names one is refused.
+func (asked *options) require(name string) {
+	if !asked.requires(name) {
+		asked.Required = append(asked.Required, name)
+	}
+}
+
+func optionError(why string, arguments ...any) error {
+	return fmt.Errorf("%w: %s", ErrOption, fmt.Sprintf(why, arguments...))
+}
+
+// checkTexts returns an error if an argument has no text, an empty one, or one that is not UTF-8. An empty list and an empty text come
+// from a setting that is not there, and would ask for nothing.
+func checkTexts(argument string, texts ...string) error {
+	if len(texts) == 0 {
+		return optionError("%s has no text", argument)
+	}
+	for _, it := range texts {
+		if it == "" {
+			return optionError("%s has an empty text", argument)
+		}
+		if !utf8.ValidString(it) {
+			return optionError("%s has %q, which is not UTF-8", argument, it)
+		}
+	}
+	return nil
+}
+
+// WithAudience asks for one of these audiences, of which there has to be one, and none may be empty. Without it, a token that names
+// an audience is refused.
 func WithAudience(audiences ...string) Option {
 	return func(asked *options) error {
 		asked.Audience = append(asked.Audience, audiences...)
 		asked.require("aud")
-		return nil
+		return checkTexts("WithAudience", audiences...)
 	}
 }
 
-// WithIssuer asks for one of these issuers.
+// WithIssuer asks for one of these issuers, of which there has to be one, and none may be empty.
 func WithIssuer(issuers ...string) Option {
 	return func(asked *options) error {
 		asked.Issuer = append(asked.Issuer, issuers...)
 		asked.require("iss")
-		return nil
+		return checkTexts("WithIssuer", issuers...)
 	}
 }
 
-// WithSubject asks for this subject.
+// WithSubject asks for this subject, which may not be empty.
 func WithSubject(subject string) Option {
 	return func(asked *options) error {
 		asked.Subject = &subject
 		asked.require("sub")
-		return nil
+		return checkTexts("WithSubject", subject)
 	}
 }
 
-// WithRequired asks for these claims, among exp, nbf, aud, iss and sub. exp is asked for in any case, unless WithoutExpiry says otherwise.
+// WithRequired asks for these claims, among exp, nbf, aud, iss and sub, of which there has to be one. exp is asked for in any case,
+// unless WithoutExpiry is given; both contradict each other.
 func WithRequired(claims ...string) Option {
 	return func(asked *options) error {
 		for _, it := range claims {
@@ -103,31 +136,26 @@ func WithRequired(claims ...string) Option {
 			case "exp", "nbf", "aud", "iss", "sub":
 				asked.require(it)
 			default:
-				return fmt.Errorf("%w: the library has no rule for the claim %q", ErrOption, it)
+				return optionError("WithRequired: the library has no rule for the claim %q", it)
 			}
 		}
-		return nil
+		return checkTexts("WithRequired", claims...)
 	}
 }
 
 // WithoutExpiry accepts a token without exp too. One that has exp is checked.
 func WithoutExpiry() Option {
 	return func(asked *options) error {
-		for i, it := range asked.Required {
-			if it == "exp" {
-				asked.Required = append(asked.Required[:i:i], asked.Required[i+1:]...)
-				break
-			}
-		}
+		asked.noExpiry = true
 		return nil
 	}
 }
 
-// WithLeeway allows clocks to differ by this much, in whole seconds. There is none without it.
+// WithLeeway allows clocks to differ by this many whole seconds. There is none without it.
 func WithLeeway(leeway time.Duration) Option {
 	return func(asked *options) error {
-		if leeway < 0 {
-			return fmt.Errorf("%w: a leeway of %v", ErrOption, leeway)
+		if leeway < 0 || leeway%time.Second != 0 {
+			return optionError("WithLeeway: %v is not a number of whole seconds from 0 on", leeway)
 		}
 		asked.Leeway = uint64(leeway / time.Second)
 		return nil
@@ -137,9 +165,34 @@ func WithLeeway(leeway time.Duration) Option {
 // WithTime has the clock read by this function, and not by time.Now.
 func WithTime(now func() time.Time) Option {
 	return func(asked *options) error {
+		if now == nil {
+			return optionError("WithTime has no function")
+		}
 		asked.now = now
 		return nil
 	}
+}
+
+// conditions returns what the arguments of NewVerifier ask for.
+func conditions(algorithms []string, with []Option) (*options, error) {
+	if err := checkTexts("algorithms", algorithms...); err != nil {
+		return nil, err
+	}
+	asked := &options{Algorithms: algorithms, Required: []string{}, Reject: 1, ValidateNbf: true, now: time.Now}
+	for i, it := range with {
+		if it == nil {
+			return nil, optionError("the option at place %d is nil", i)
+		}
+		if err := it(asked); err != nil {
+			return nil, err
+		}
+	}
+	if !asked.noExpiry {
+		asked.require("exp")
+	} else if asked.requires("exp") {
+		return nil, optionError("WithoutExpiry and WithRequired(%q) contradict each other", "exp")
+	}
+	return asked, nil
 }
 
 // Verifier verifies tokens by one key under the same conditions.
@@ -156,33 +209,36 @@ func (Verifier) Format(state fmt.State, _ rune) {
 
 // NewVerifier returns a verifier by a key that accepts these algorithms, which have to be of one family: that of the key.
 func NewVerifier(key Key, algorithms []string, with ...Option) (*Verifier, error) {
-	asked := options{Algorithms: algorithms, Required: []string{"exp"}, Reject: 1, ValidateNbf: true, now: time.Now}
-	for _, it := range with {
-		if err := it(&asked); err != nil {
-			return nil, err
-		}
-	}
-	if len(algorithms) == 0 {
-		return nil, fmt.Errorf("%w: no algorithm", ErrOption)
+	asked, err := conditions(algorithms, with)
+	if err != nil {
+		return nil, err
 	}
 	if key.bytes == nil {
 		return nil, keyError("there is none")
 	}
 	text, err := json.Marshal(asked)
 	if err != nil {
-		return nil, fmt.Errorf("%w: %v", ErrOption, err)
+		return nil, optionError("%v", err)
 	}
-	if _, err := decode(key, nil, text, 0); kindOf(err.(*Error).Status) == ErrOption {
-		return nil, fmt.Errorf("%w: one of the algorithms %q is not known", ErrOption, algorithms)
+	// the library reads the options and the key before the token
+	_, err = decode(key, nil, text, 0)
+	if errors.Is(err, ErrOption) {
+		return nil, optionError("one of the algorithms %q is not known", algorithms)
+	}
+	if errors.Is(err, ErrOutOfMemory) {
+		return nil, err
 	}
 	return &Verifier{key, text, asked.now}, nil
 }
 
 // Parse verifies a token. The error is nil, or of one of the kinds of this package.
 func (verifier *Verifier) Parse(token string) (*Token, error) {
+	if verifier == nil || verifier.now == nil {
+		return nil, optionError("NewVerifier did not make this Verifier")
+	}
 	now := verifier.now().Unix()
 	if now < 0 {
-		return nil, fmt.Errorf("%w: the clock is before 1970", ErrOption)
+		return nil, optionError("the clock is before 1970")
 	}
 	claims, err := decode(verifier.key, []byte(token), verifier.options, uint64(now))
 	if err != nil {
@@ -211,11 +267,15 @@ func UnverifiedHeader(token string) (map[string]any, error) {
 		return nil, err
 	}
 	var header map[string]any
-	return header, json.Unmarshal(text, &header)
+	if err := json.Unmarshal(text, &header); err != nil {
+		return nil, fmt.Errorf("%w: %v", ErrMalformed, err)
+	}
+	return header, nil
 }
 
 // Sign returns the token of claims, which json.Marshal writes, signed with a secret by HS256, HS384 or HS512. Members of header other
-// than alg and typ are those of the map, which may be nil. No claim may be a float.
+// than alg and typ are those of the map, which may be nil and may not name another alg. No claim may be a float. A text that is not
+// UTF-8 is ErrOption, and a secret that Secret refuses is ErrKey.
 func Sign(claims any, secret []byte, algorithm string, header map[string]any) (string, error) {
 	if err := checkSecret(secret); err != nil {
 		return "", err
@@ -224,15 +284,43 @@ func Sign(claims any, secret []byte, algorithm string, header map[string]any) (s
 	for name, it := range header {
 		members[name] = it
 	}
-	members["alg"] = algorithm
-	headerText, err := json.Marshal(members)
-	if err != nil {
-		return "", fmt.Errorf("%w: %v", ErrOption, err)
+	if it, is := header["alg"]; is && it != algorithm {
+		return "", optionError("header has the alg %v, and algorithm is %q", it, algorithm)
 	}
-	claimsText, err := json.Marshal(claims)
+	members["alg"] = algorithm
+	headerText, err := marshal("header", members)
 	if err != nil {
-		return "", fmt.Errorf("%w: %v", ErrOption, err)
+		return "", err
+	}
+	claimsText, err := marshal("claims", claims)
+	if err != nil {
+		return "", err
 	}
 	token, err := encode(headerText, claimsText, secret)
 	return string(token), err
+}
+
+// marshal returns the JSON of an argument, whose texts have to be UTF-8.
+func marshal(argument string, value any) ([]byte, error) {
+	text, err := json.Marshal(value)
+	if err != nil {
+		return nil, optionError("%s: %v", argument, err)
+	}
+	if !utf8.Valid(text) || isReplaced(text) {
+		return nil, optionError("%s has a text that is not UTF-8", argument)
+	}
+	return text, nil
+}
+
+// isReplaced returns whether JSON has the escape that json.Marshal writes for bytes that are not UTF-8. It writes U+FFFD itself as it is.
+func isReplaced(text []byte) bool {
+	for i := 0; i < len(text); i++ {
+		if text[i] == '\\' {
+			if bytes.HasPrefix(text[i:], []byte(`\ufffd`)) {
+				return true
+			}
+			i++
+		}
+	}
+	return false
 }
