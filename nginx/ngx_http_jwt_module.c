@@ -912,7 +912,7 @@ ngx_http_jwt_algorithms_fault(ngx_http_jwt_verifier_t *verifier, ngx_array_t *al
     ngx_uint_t   i;
 
     if (ngx_http_jwt_try(verifier, &empty, 1) == JWT_BAD_OPTIONS) {
-        return "one of the algorithms is not known, or an audience or issuer is not UTF-8";
+        return "one of the algorithms of auth_jwt_alg is not known, or a name of auth_jwt_aud or auth_jwt_iss is not UTF-8";
     }
 
     for (i = 1; i < algorithms->nelts; i++) {
@@ -920,7 +920,7 @@ ngx_http_jwt_algorithms_fault(ngx_http_jwt_verifier_t *verifier, ngx_array_t *al
         if ((names[i].data[0] == 'P' ? 'R' : names[i].data[0]) != (names[0].data[0] == 'P' ? 'R' : names[0].data[0])
             || (names[i].data[0] == 'E' && names[i].data[1] != names[0].data[1]))
         {
-            return "the algorithms are not of one family";
+            return "the algorithms of auth_jwt_alg are not of one family";
         }
     }
 
@@ -1151,8 +1151,12 @@ ngx_http_jwt_read_file(ngx_conf_t *cf, ngx_file_t *file, ngx_str_t *text)
         return NGX_CONF_ERROR;
     }
 
-    if (!ngx_is_file(&info) || ngx_file_size(&info) == 0 || ngx_file_size(&info) > NGX_HTTP_JWT_KEY_FILE_MAX) {
-        return "is no file, is empty or has more than 1048576 bytes";
+    if (!ngx_is_file(&info)) {
+        return "does not name a regular file";
+    }
+
+    if (ngx_file_size(&info) == 0 || ngx_file_size(&info) > NGX_HTTP_JWT_KEY_FILE_MAX) {
+        return "names a file that is empty or has more than 1048576 bytes";
     }
 
     text->len = (size_t) ngx_file_size(&info);
@@ -1162,7 +1166,7 @@ ngx_http_jwt_read_file(ngx_conf_t *cf, ngx_file_t *file, ngx_str_t *text)
     }
 
     read = ngx_read_file(file, text->data, text->len, 0);
-    return read == (ssize_t) text->len ? NGX_CONF_OK : "can't be read";
+    return read == (ssize_t) text->len ? NGX_CONF_OK : "names a file that can't be read";
 }
 
 
@@ -1185,7 +1189,8 @@ ngx_http_jwt_key_file(ngx_conf_t *cf, ngx_command_t *cmd, void *conf)
     ngx_memzero(&file, sizeof(ngx_file_t));
     file.name = value[1];
     file.log = cf->log;
-    file.fd = ngx_open_file(file.name.data, NGX_FILE_RDONLY, NGX_FILE_OPEN, 0);
+    /* a FIFO does not wait for a writer, and is refused */
+    file.fd = ngx_open_file(file.name.data, NGX_FILE_RDONLY | NGX_FILE_NONBLOCK, NGX_FILE_OPEN, 0);
 
     if (file.fd == NGX_INVALID_FILE) {
         ngx_conf_log_error(NGX_LOG_EMERG, cf, ngx_errno, ngx_open_file_n " \"%V\" failed", &file.name);
@@ -1216,6 +1221,10 @@ ngx_http_jwt_list(ngx_conf_t *cf, ngx_command_t *cmd, void *conf)
     }
 
     for (i = 1; i < cf->args->nelts; i++) {
+        if (value[i].len == 0) {
+            return "has an empty name";
+        }
+
         it = ngx_array_push(*list);
         if (it == NULL) {
             return NGX_CONF_ERROR;
