@@ -751,80 +751,97 @@ ngx_http_jwt_create_loc_conf(ngx_conf_t *cf)
 }
 
 
-/* Returns how many bytes a list takes as a member of the options. */
-static size_t
-ngx_http_jwt_list_size(ngx_array_t *list)
-{
-    size_t      size = sizeof(",\"algorithms\":[]");
-    ngx_uint_t  i;
-    ngx_str_t  *it;
+/*
+ * The options are written by one function, twice: without data it adds up their length, and then it writes them to just as much
+ * memory.
+ */
 
-    for (i = 0; list != NULL && i < list->nelts; i++) {
-        it = &((ngx_str_t *) list->elts)[i];
-        size += it->len + ngx_escape_json(NULL, it->data, it->len) + sizeof("\"\",") - 1;
+static void
+ngx_http_jwt_put(ngx_str_t *text, const char *data)
+{
+    size_t  len = ngx_strlen(data);
+
+    if (text->data != NULL) {
+        ngx_memcpy(text->data + text->len, data, len);
     }
 
-    return size;
+    text->len += len;
 }
 
 
-static u_char *
-ngx_http_jwt_put_list(u_char *p, const char *name, ngx_array_t *list)
+static void
+ngx_http_jwt_put_string(ngx_str_t *text, ngx_str_t *value)
+{
+    ngx_http_jwt_put(text, "\"");
+
+    if (text->data != NULL) {
+        (void) ngx_escape_json(text->data + text->len, value->data, value->len);
+    }
+
+    text->len += value->len + ngx_escape_json(NULL, value->data, value->len);
+    ngx_http_jwt_put(text, "\"");
+}
+
+
+static void
+ngx_http_jwt_put_list(ngx_str_t *text, const char *name, ngx_array_t *list)
 {
     ngx_uint_t  i;
-    ngx_str_t  *it;
 
     if (list == NULL) {
-        return p;
+        return;
     }
 
-    p = ngx_sprintf(p, ",\"%s\":[", name);
+    ngx_http_jwt_put(text, ",\"");
+    ngx_http_jwt_put(text, name);
+    ngx_http_jwt_put(text, "\":[");
 
     for (i = 0; i < list->nelts; i++) {
-        it = &((ngx_str_t *) list->elts)[i];
-        *p++ = '"';
-        p = (u_char *) ngx_escape_json(p, it->data, it->len);
-        *p++ = '"';
-        *p++ = ',';
+        ngx_http_jwt_put(text, i > 0 ? "," : "");
+        ngx_http_jwt_put_string(text, &((ngx_str_t *) list->elts)[i]);
     }
 
-    p[-1] = ']';
-    return p;
+    ngx_http_jwt_put(text, "]");
 }
 
 
-/* A token that does not name what the configuration asks for is refused, as one without exp is. */
-#define NGX_HTTP_JWT_REQUIRED ",\"required_spec_claims\":[\"exp\"%s%s]"
-#define NGX_HTTP_JWT_AUD ",\"aud\""
-#define NGX_HTTP_JWT_ISS ",\"iss\""
+static void
+ngx_http_jwt_put_options(ngx_str_t *text, ngx_http_jwt_loc_conf_t *conf)
+{
+    u_char  leeway[NGX_TIME_T_LEN + 1];
 
-/* A token is expired at its exp, and not from the second behind it on (RFC 7519 section 4.1.4). */
-#define NGX_HTTP_JWT_OPTIONS "{\"validate_nbf\":true,\"reject_tokens_expiring_in_less_than\":1,\"leeway\":"
+    *ngx_sprintf(leeway, "%T", conf->leeway) = '\0';
+
+    /* a token is expired at its exp, and not from the second after it on (RFC 7519 section 4.1.4) */
+    ngx_http_jwt_put(text, "{\"validate_nbf\":true,\"reject_tokens_expiring_in_less_than\":1,\"leeway\":");
+    ngx_http_jwt_put(text, (char *) leeway);
+
+    /* a token that does not name what the configuration asks for is refused, as one without exp is */
+    ngx_http_jwt_put(text, ",\"required_spec_claims\":[\"exp\"");
+    ngx_http_jwt_put(text, conf->audiences != NULL ? ",\"aud\"" : "");
+    ngx_http_jwt_put(text, conf->issuers != NULL ? ",\"iss\"" : "");
+    ngx_http_jwt_put(text, "]");
+
+    ngx_http_jwt_put_list(text, "algorithms", conf->algorithms);
+    ngx_http_jwt_put_list(text, "aud", conf->audiences);
+    ngx_http_jwt_put_list(text, "iss", conf->issuers);
+    ngx_http_jwt_put(text, "}");
+}
+
 
 static ngx_int_t
 ngx_http_jwt_make_options(ngx_conf_t *cf, ngx_http_jwt_loc_conf_t *conf, ngx_str_t *options)
 {
-    u_char  *p;
-    size_t   size;
+    ngx_str_null(options);
+    ngx_http_jwt_put_options(options, conf);
 
-    size = sizeof(NGX_HTTP_JWT_OPTIONS NGX_HTTP_JWT_REQUIRED NGX_HTTP_JWT_AUD NGX_HTTP_JWT_ISS "}") + NGX_TIME_T_LEN
-           + ngx_http_jwt_list_size(conf->algorithms) + ngx_http_jwt_list_size(conf->audiences)
-           + ngx_http_jwt_list_size(conf->issuers);
-
-    p = ngx_pnalloc(cf->pool, size);
-    if (p == NULL) {
+    options->data = ngx_pnalloc(cf->pool, options->len);
+    if (options->data == NULL) {
         return NGX_ERROR;
     }
 
-    options->data = p;
-    p = ngx_sprintf(p, NGX_HTTP_JWT_OPTIONS "%T", conf->leeway);
-    p = ngx_sprintf(p, NGX_HTTP_JWT_REQUIRED, conf->audiences != NULL ? NGX_HTTP_JWT_AUD : "",
-                    conf->issuers != NULL ? NGX_HTTP_JWT_ISS : "");
-    p = ngx_http_jwt_put_list(p, "algorithms", conf->algorithms);
-    p = ngx_http_jwt_put_list(p, "aud", conf->audiences);
-    p = ngx_http_jwt_put_list(p, "iss", conf->issuers);
-    *p++ = '}';
-    options->len = p - options->data;
+    options->len = 0;
+    ngx_http_jwt_put_options(options, conf);
     return NGX_OK;
 }
 
