@@ -473,7 +473,7 @@ ngx_http_jwt_find_token(ngx_http_request_t *r, ngx_http_jwt_loc_conf_t *conf, ng
     ngx_http_variable_value_t  *value;
 
     if (conf->token != NGX_CONF_UNSET) {
-        value = ngx_http_get_indexed_variable(r, conf->token);
+        value = ngx_http_get_flushed_variable(r, (ngx_uint_t) conf->token);
         if (value == NULL || value->not_found || value->len == 0) {
             return NGX_DECLINED;
         }
