@@ -88,6 +88,7 @@ static char *ngx_http_jwt_merge_loc_conf(ngx_conf_t *cf, void *parent, void *chi
 static char *ngx_http_jwt(ngx_conf_t *cf, ngx_command_t *cmd, void *conf);
 static char *ngx_http_jwt_key_file(ngx_conf_t *cf, ngx_command_t *cmd, void *conf);
 static char *ngx_http_jwt_list(ngx_conf_t *cf, ngx_command_t *cmd, void *conf);
+static char *ngx_http_jwt_claim(ngx_conf_t *cf, ngx_command_t *cmd, void *conf);
 
 #define NGX_HTTP_JWT_ANY (NGX_HTTP_MAIN_CONF | NGX_HTTP_SRV_CONF | NGX_HTTP_LOC_CONF)
 
@@ -116,6 +117,9 @@ static ngx_command_t ngx_http_jwt_commands[] = {
     { ngx_string("auth_jwt_cache"), NGX_HTTP_JWT_ANY | NGX_CONF_TAKE1,
       ngx_conf_set_num_slot, NGX_HTTP_LOC_CONF_OFFSET, offsetof(ngx_http_jwt_loc_conf_t, slot_count),
       &ngx_http_jwt_slot_bounds },
+
+    { ngx_string("auth_jwt_claim"), NGX_HTTP_MAIN_CONF | NGX_CONF_TAKE2,
+      ngx_http_jwt_claim, NGX_HTTP_MAIN_CONF_OFFSET, 0, NULL },
 
     ngx_null_command
 };
@@ -213,7 +217,7 @@ ngx_http_jwt_skip_value(u_char *p, u_char *last)
 }
 
 
-/* Finds a member of an object: the last one of this name, or else of a name that differs in case. */
+/* Finds the last member of an object that has just this name, which is written as in JSON. */
 static ngx_int_t
 ngx_http_jwt_member(ngx_str_t *object, u_char *name, size_t len, ngx_str_t *value)
 {
@@ -234,19 +238,14 @@ ngx_http_jwt_member(ngx_str_t *object, u_char *name, size_t len, ngx_str_t *valu
         key_len = p - 1 - key;
 
         p = ngx_http_jwt_space(p, last);
-        if (p < last && *p == ':') {
-            p++;
-        }
-
+        p += p < last && *p == ':';
         start = ngx_http_jwt_space(p, last);
         p = ngx_http_jwt_skip_value(start, last);
 
-        if (key_len == len && (found != NGX_OK || ngx_memcmp(key, name, len) == 0)
-            && ngx_strncasecmp(key, name, len) == 0)
-        {
+        if (key_len == len && ngx_memcmp(key, name, len) == 0) {
             value->data = start;
             value->len = p - start;
-            found = ngx_memcmp(key, name, len) == 0 ? NGX_OK : NGX_AGAIN;
+            found = NGX_OK;
         }
 
         p = ngx_http_jwt_space(p, last);
@@ -255,7 +254,7 @@ ngx_http_jwt_member(ngx_str_t *object, u_char *name, size_t len, ngx_str_t *valu
         }
     }
 
-    return found == NGX_DECLINED ? NGX_DECLINED : NGX_OK;
+    return found;
 }
 
 
@@ -288,8 +287,8 @@ ngx_http_jwt_utf8(u_char *dst, uint32_t c)
 
 
 /*
- * Writes the text of a JSON string, which is never longer than the string, and returns its end. Control characters stay
- * escaped as they are, so that a claim ends no line of a header or of a log.
+ * Writes the text of a JSON string, which is never longer than the string, and returns its end, or NULL if it has a control
+ * character.
  */
 static u_char *
 ngx_http_jwt_unescape(u_char *dst, u_char *p, u_char *last)
@@ -302,22 +301,20 @@ ngx_http_jwt_unescape(u_char *dst, u_char *p, u_char *last)
             continue;
         }
 
-        if (p[1] != 'u' || last - p < 6) {
-            if (p[1] != '"' && p[1] != '\\' && p[1] != '/') {
-                *dst++ = '\\';
-            }
-
+        if (p[1] == '"' || p[1] == '\\' || p[1] == '/') {
             *dst++ = p[1];
             p += 2;
             continue;
         }
 
+        if (p[1] != 'u' || last - p < 6) {
+            return NULL;
+        }
+
         c = (uint32_t) ngx_hextoi(p + 2, 4);
 
         if (c < 0x20) {
-            dst = ngx_cpymem(dst, p, 6);
-            p += 6;
-            continue;
+            return NULL;
         }
 
         p += 6;
@@ -334,26 +331,86 @@ ngx_http_jwt_unescape(u_char *dst, u_char *p, u_char *last)
 }
 
 
+/*
+ * Replaces the JSON of a string by its text. JSON stays if the text has a control character, so that no claim ends a line of a
+ * header or of a log, and if it begins with a quotation mark, so that it is not the JSON of another string: two strings never
+ * become one value.
+ */
+static ngx_int_t
+ngx_http_jwt_read_string(ngx_http_request_t *r, ngx_str_t *value)
+{
+    u_char  *text, *end;
+
+    text = ngx_pnalloc(r->pool, value->len);
+    if (text == NULL) {
+        return NGX_ERROR;
+    }
+
+    end = ngx_http_jwt_unescape(text, value->data + 1, value->data + value->len - 1);
+
+    if (end != NULL && (end == text || *text != '"')) {
+        value->data = text;
+        value->len = end - text;
+    }
+
+    return NGX_OK;
+}
+
+
+/*
+ * Returns NGX_DECLINED if a JSON value has a number that is no integer of 64 bits: the library writes the nearest double, which is
+ * that of other numbers too.
+ */
+static ngx_int_t
+ngx_http_jwt_check_numbers(ngx_http_request_t *r, ngx_str_t *value)
+{
+    u_char    *p, *object;
+    uint32_t   status;
+
+    object = ngx_pnalloc(r->pool, value->len + sizeof("{\"a\":}") - 1);
+    if (object == NULL) {
+        return NGX_ERROR;
+    }
+
+    p = ngx_cpymem(object, "{\"a\":", sizeof("{\"a\":") - 1);
+    p = ngx_cpymem(p, value->data, value->len);
+    *p++ = '}';
+
+    status = jwt_check_numbers(object, p - object);
+
+    if (status == JWT_OUT_OF_MEMORY) {
+        return NGX_ERROR;
+    }
+
+    return status == JWT_OK ? NGX_OK : NGX_DECLINED;
+}
+
+
 /* Sets the variable to a member of an object: the text of a string, and JSON of any other value. */
 static ngx_int_t
 ngx_http_jwt_set_member(ngx_http_request_t *r, ngx_http_variable_value_t *v, ngx_str_t *object, u_char *name, size_t len)
 {
-    u_char     *text;
+    ngx_int_t   rc;
     ngx_str_t   value;
 
-    if (ngx_http_jwt_member(object, name, len, &value) != NGX_OK) {
-        v->not_found = 1;
-        return NGX_OK;
+    rc = ngx_http_jwt_member(object, name, len, &value);
+
+    if (rc == NGX_OK) {
+        if (value.len >= 2 && value.data[0] == '"') {
+            rc = ngx_http_jwt_read_string(r, &value);
+
+        } else {
+            rc = ngx_http_jwt_check_numbers(r, &value);
+        }
     }
 
-    if (value.len >= 2 && value.data[0] == '"') {
-        text = ngx_pnalloc(r->pool, value.len);
-        if (text == NULL) {
-            return NGX_ERROR;
-        }
+    if (rc == NGX_ERROR) {
+        return NGX_ERROR;
+    }
 
-        value.len = ngx_http_jwt_unescape(text, value.data + 1, value.data + value.len - 1) - text;
-        value.data = text;
+    if (rc == NGX_DECLINED) {
+        v->not_found = 1;
+        return NGX_OK;
     }
 
     v->data = value.data;
@@ -369,45 +426,50 @@ ngx_http_jwt_set_member(ngx_http_request_t *r, ngx_http_variable_value_t *v, ngx
 static ngx_http_jwt_ctx_t *
 ngx_http_jwt_accepted(ngx_http_request_t *r)
 {
-    ngx_http_jwt_ctx_t  *ctx;
+    ngx_http_jwt_ctx_t  *ctx = ngx_http_get_module_ctx(r->main, ngx_http_jwt_module);
 
-    ctx = ngx_http_get_module_ctx(r->main, ngx_http_jwt_module);
     return ctx != NULL && ctx->claims.data != NULL ? ctx : NULL;
+}
+
+
+/* Sets a variable of auth_jwt_claim; its data is the claim's name. */
+static ngx_int_t
+ngx_http_jwt_bound_variable(ngx_http_request_t *r, ngx_http_variable_value_t *v, uintptr_t data)
+{
+    ngx_str_t           *name = (ngx_str_t *) data;
+    ngx_http_jwt_ctx_t  *ctx = ngx_http_jwt_accepted(r);
+
+    if (ctx == NULL) {
+        v->not_found = 1;
+        return NGX_OK;
+    }
+
+    return ngx_http_jwt_set_member(r, v, &ctx->claims, name->data, name->len);
 }
 
 
 static ngx_int_t
 ngx_http_jwt_claim_variable(ngx_http_request_t *r, ngx_http_variable_value_t *v, uintptr_t data)
 {
-    ngx_str_t           *name = (ngx_str_t *) data;
-    ngx_http_jwt_ctx_t  *ctx = ngx_http_jwt_accepted(r);
+    ngx_str_t  name = *(ngx_str_t *) data;
 
-    if (ctx == NULL) {
-        v->not_found = 1;
-        return NGX_OK;
-    }
+    name.data += sizeof("jwt_claim_") - 1;
+    name.len -= sizeof("jwt_claim_") - 1;
 
-    return ngx_http_jwt_set_member(r, v, &ctx->claims, name->data + sizeof("jwt_claim_") - 1,
-                                   name->len - (sizeof("jwt_claim_") - 1));
+    return ngx_http_jwt_bound_variable(r, v, (uintptr_t) &name);
 }
 
 
+/* Reads the header of a token that was accepted, once. */
 static ngx_int_t
-ngx_http_jwt_header_variable(ngx_http_request_t *r, ngx_http_variable_value_t *v, uintptr_t data)
+ngx_http_jwt_read_header(ngx_http_request_t *r, ngx_http_jwt_ctx_t *ctx)
 {
-    size_t               len;
-    u_char              *buffer;
-    uint32_t             status;
-    ngx_str_t           *name = (ngx_str_t *) data;
-    ngx_http_jwt_ctx_t  *ctx = ngx_http_jwt_accepted(r);
-
-    if (ctx == NULL) {
-        v->not_found = 1;
-        return NGX_OK;
-    }
+    size_t     len;
+    u_char    *buffer;
+    uint32_t   status;
 
     for (len = ctx->token.len + NGX_HTTP_JWT_ROOM; ctx->header.data == NULL; /* void */ ) {
-        buffer = ngx_pnalloc(r->main->pool, len);
+        buffer = ngx_pnalloc(r->pool, len);
         if (buffer == NULL) {
             return NGX_ERROR;
         }
@@ -423,20 +485,37 @@ ngx_http_jwt_header_variable(ngx_http_request_t *r, ngx_http_variable_value_t *v
         }
     }
 
+    return NGX_OK;
+}
+
+
+static ngx_int_t
+ngx_http_jwt_header_variable(ngx_http_request_t *r, ngx_http_variable_value_t *v, uintptr_t data)
+{
+    ngx_str_t           *name = (ngx_str_t *) data;
+    ngx_http_jwt_ctx_t  *ctx = ngx_http_jwt_accepted(r);
+
+    if (ctx == NULL) {
+        v->not_found = 1;
+        return NGX_OK;
+    }
+
+    if (ngx_http_jwt_read_header(r, ctx) != NGX_OK) {
+        return NGX_ERROR;
+    }
+
     return ngx_http_jwt_set_member(r, v, &ctx->header, name->data + sizeof("jwt_header_") - 1,
                                    name->len - (sizeof("jwt_header_") - 1));
 }
 
 
-/* OK, NoToken, or the library's text of the refusal, as ExpiredSignature. */
+/* OK, NoToken, or the library's text of the refusal, for example ExpiredSignature. */
 static ngx_int_t
 ngx_http_jwt_status_variable(ngx_http_request_t *r, ngx_http_variable_value_t *v, uintptr_t data)
 {
     size_t               len;
     u_char              *buffer;
-    ngx_http_jwt_ctx_t  *ctx;
-
-    ctx = ngx_http_get_module_ctx(r->main, ngx_http_jwt_module);
+    ngx_http_jwt_ctx_t  *ctx = ngx_http_get_module_ctx(r->main, ngx_http_jwt_module);
 
     if (ctx == NULL) {
         v->not_found = 1;
@@ -464,7 +543,10 @@ ngx_http_jwt_status_variable(ngx_http_request_t *r, ngx_http_variable_value_t *v
 }
 
 
-/* Finds the token of a request: the variable's value, or that of Authorization behind 'Bearer' (RFC 6750 section 2.1). */
+/*
+ * Finds the token of a request: the value that the variable has now, as a rewrite may have changed it since another directive
+ * read it, or that of Authorization after 'Bearer' (RFC 6750 section 2.1).
+ */
 static ngx_int_t
 ngx_http_jwt_find_token(ngx_http_request_t *r, ngx_http_jwt_loc_conf_t *conf, ngx_str_t *token)
 {
@@ -1250,6 +1332,106 @@ ngx_http_jwt_list(ngx_conf_t *cf, ngx_command_t *cmd, void *conf)
         *it = value[i];
     }
 
+    return NGX_CONF_OK;
+}
+
+
+/* Whether a text is UTF-8 without control characters, and not empty. */
+static ngx_uint_t
+ngx_http_jwt_is_name(ngx_str_t *text)
+{
+    u_char  *p, *last;
+
+    last = text->data + text->len;
+
+    for (p = text->data; p < last; /* void */ ) {
+        if (*p < 0x20 || *p == 0x7f) {
+            return 0;
+        }
+
+        if (*p < 0x80) {
+            p++;
+
+        } else if (ngx_utf8_decode(&p, last - p) > 0x10ffff) {
+            return 0;
+        }
+    }
+
+    return text->len > 0;
+}
+
+
+/* Returns a name as it is written in JSON, or NULL if there is no memory. */
+static ngx_str_t *
+ngx_http_jwt_json_name(ngx_conf_t *cf, ngx_str_t *name)
+{
+    ngx_str_t  *json;
+
+    json = ngx_palloc(cf->pool, sizeof(ngx_str_t));
+    if (json == NULL) {
+        return NULL;
+    }
+
+    json->len = name->len + ngx_escape_json(NULL, name->data, name->len);
+    json->data = ngx_pnalloc(cf->pool, json->len);
+    if (json->data == NULL) {
+        return NULL;
+    }
+
+    (void) ngx_escape_json(json->data, name->data, name->len);
+    return json;
+}
+
+
+/* Whether a text is the name of a variable: letters, digits and _ after $. */
+static ngx_uint_t
+ngx_http_jwt_is_variable(ngx_str_t *text)
+{
+    size_t  i;
+    u_char  c;
+
+    for (i = 1; i < text->len; i++) {
+        c = ngx_tolower(text->data[i]);
+
+        if ((c < 'a' || c > 'z') && (c < '0' || c > '9') && c != '_') {
+            return 0;
+        }
+    }
+
+    return text->len > 1 && text->data[0] == '$';
+}
+
+
+/* Binds a variable to the claim of a name, in which capitals count. */
+static char *
+ngx_http_jwt_claim(ngx_conf_t *cf, ngx_command_t *cmd, void *conf)
+{
+    ngx_str_t            *value = cf->args->elts, name, *claim;
+    ngx_http_variable_t  *variable;
+
+    if (!ngx_http_jwt_is_variable(&value[1])) {
+        return "takes $variable, of letters, digits and _, as its first argument";
+    }
+
+    if (!ngx_http_jwt_is_name(&value[2])) {
+        return "takes the name of a claim as its second argument: UTF-8 without control characters, and not empty";
+    }
+
+    name.data = value[1].data + 1;
+    name.len = value[1].len - 1;
+    claim = ngx_http_jwt_json_name(cf, &value[2]);
+    variable = ngx_http_add_variable(cf, &name, NGX_HTTP_VAR_NOCACHEABLE);
+
+    if (claim == NULL || variable == NULL) {
+        return NGX_CONF_ERROR;
+    }
+
+    if (variable->get_handler != NULL) {
+        return "has a variable that another directive sets";
+    }
+
+    variable->get_handler = ngx_http_jwt_bound_variable;
+    variable->data = (uintptr_t) claim;
     return NGX_CONF_OK;
 }
 
