@@ -1,6 +1,6 @@
 /*
  * Lets a request pass if it has a JSON Web Token that the proved library accepts (jwtproved.h), and answers it with 401
- * otherwise (RFC 6750 section 3). README.md describes the directives and the variables.
+ * otherwise (RFC 6750 section 3). A subrequest is verified like a request. README.md describes the directives and the variables.
  *
  * The key file is read, and tried with the library, when the configuration is read: a bad one stops the start, and a reload
  * leaves the old workers as they are. A request allocates from its own pool alone, and no token is written to a log.
@@ -68,7 +68,9 @@ typedef struct {
     ngx_http_jwt_verifier_t  *verifier;
 } ngx_http_jwt_loc_conf_t;
 
+/* The verdict on the token of a request or of a subrequest. */
 typedef struct {
+    ngx_http_request_t  *request;
     ngx_str_t     token;
     uint32_t      status;
     /* JSON of the token that was accepted; the header is read when a variable asks for it */
@@ -77,6 +79,7 @@ typedef struct {
 } ngx_http_jwt_ctx_t;
 
 static ngx_int_t ngx_http_jwt_handler(ngx_http_request_t *r);
+static ngx_int_t ngx_http_jwt_subrequest_handler(ngx_http_request_t *r);
 static ngx_int_t ngx_http_jwt_status_variable(ngx_http_request_t *r, ngx_http_variable_value_t *v, uintptr_t data);
 static ngx_int_t ngx_http_jwt_claim_variable(ngx_http_request_t *r, ngx_http_variable_value_t *v, uintptr_t data);
 static ngx_int_t ngx_http_jwt_header_variable(ngx_http_request_t *r, ngx_http_variable_value_t *v, uintptr_t data);
@@ -143,6 +146,8 @@ ngx_module_t ngx_http_jwt_module = {
     NULL, NULL, NULL, NULL, NULL, NULL, NULL,
     NGX_MODULE_V1_PADDING
 };
+
+static ngx_http_output_header_filter_pt  ngx_http_jwt_next_header_filter;
 
 static ngx_http_variable_t ngx_http_jwt_variables[] = {
 
@@ -422,11 +427,108 @@ ngx_http_jwt_set_member(ngx_http_request_t *r, ngx_http_variable_value_t *v, ngx
 }
 
 
+/* The mark of a context among the cleanups of a pool: there is nothing to give back. */
+static void
+ngx_http_jwt_cleanup(void *data)
+{
+}
+
+
+/* Makes the context of a request. It stays in the pool's list of cleanups if an internal redirect takes it from the request. */
+static ngx_http_jwt_ctx_t *
+ngx_http_jwt_add_ctx(ngx_http_request_t *r)
+{
+    ngx_http_jwt_ctx_t  *ctx;
+    ngx_pool_cleanup_t  *cleanup;
+
+    cleanup = ngx_pool_cleanup_add(r->pool, sizeof(ngx_http_jwt_ctx_t));
+    if (cleanup == NULL) {
+        return NULL;
+    }
+
+    ctx = cleanup->data;
+    ngx_memzero(ctx, sizeof(ngx_http_jwt_ctx_t));
+    ctx->request = r;
+    cleanup->handler = ngx_http_jwt_cleanup;
+    ngx_http_set_ctx(r, ctx, ngx_http_jwt_module);
+    return ctx;
+}
+
+
+/* Returns the last context that an internal redirect took from the request, or NULL. Subrequests have the same pool. */
+static ngx_http_jwt_ctx_t *
+ngx_http_jwt_kept_ctx(ngx_http_request_t *r)
+{
+    ngx_http_jwt_ctx_t  *ctx;
+    ngx_pool_cleanup_t  *cleanup;
+
+    if (!r->internal && !r->filter_finalize) {
+        return NULL;
+    }
+
+    for (cleanup = r->pool->cleanup; cleanup != NULL; cleanup = cleanup->next) {
+        ctx = cleanup->data;
+
+        if (cleanup->handler == ngx_http_jwt_cleanup && ctx->request == r) {
+            return ctx;
+        }
+    }
+
+    return NULL;
+}
+
+
+/*
+ * Whether a subrequest without a context goes on in the content phase of the request that made it (NGX_HTTP_SUBREQUEST_CLONE), so
+ * that it is verified with it: any other has its own context before that phase.
+ */
+static ngx_uint_t
+ngx_http_jwt_is_clone(ngx_http_request_t *r)
+{
+    ngx_http_core_main_conf_t  *main = ngx_http_get_module_main_conf(r, ngx_http_core_module);
+
+    return main->phase_engine.handlers[r->phase_handler].checker == ngx_http_core_content_phase;
+}
+
+
+/*
+ * Returns the context that tells of the token of a request, or NULL. A location that asks for a token tells of the one that it has
+ * verified, and nothing before that: not of a token that was verified before an internal redirect, unless the answer is sent, and
+ * not of that of the request that made a subrequest. Any other location tells of both.
+ */
+static ngx_http_jwt_ctx_t *
+ngx_http_jwt_find_ctx(ngx_http_request_t *r)
+{
+    ngx_http_jwt_ctx_t       *ctx;
+    ngx_http_jwt_loc_conf_t  *conf;
+
+    for ( ;; ) {
+        ctx = ngx_http_get_module_ctx(r, ngx_http_jwt_module);
+        if (ctx != NULL) {
+            return ctx;
+        }
+
+        conf = ngx_http_get_module_loc_conf(r, ngx_http_jwt_module);
+
+        ctx = ngx_http_jwt_kept_ctx(r);
+        if (ctx != NULL) {
+            return !conf->enabled || r->header_sent ? ctx : NULL;
+        }
+
+        if (r == r->main || (conf->enabled && !ngx_http_jwt_is_clone(r))) {
+            return NULL;
+        }
+
+        r = r->parent;
+    }
+}
+
+
 /* Returns the context of a request whose token was accepted, or NULL. */
 static ngx_http_jwt_ctx_t *
 ngx_http_jwt_accepted(ngx_http_request_t *r)
 {
-    ngx_http_jwt_ctx_t  *ctx = ngx_http_get_module_ctx(r->main, ngx_http_jwt_module);
+    ngx_http_jwt_ctx_t  *ctx = ngx_http_jwt_find_ctx(r);
 
     return ctx != NULL && ctx->claims.data != NULL ? ctx : NULL;
 }
@@ -515,7 +617,7 @@ ngx_http_jwt_status_variable(ngx_http_request_t *r, ngx_http_variable_value_t *v
 {
     size_t               len;
     u_char              *buffer;
-    ngx_http_jwt_ctx_t  *ctx = ngx_http_get_module_ctx(r->main, ngx_http_jwt_module);
+    ngx_http_jwt_ctx_t  *ctx = ngx_http_jwt_find_ctx(r);
 
     if (ctx == NULL) {
         v->not_found = 1;
@@ -765,6 +867,7 @@ ngx_http_jwt_refuse(ngx_http_request_t *r, ngx_str_t *challenge)
 }
 
 
+/* Verifies the token of a request or of a subrequest as its location asks. */
 static ngx_int_t
 ngx_http_jwt_handler(ngx_http_request_t *r)
 {
@@ -777,12 +880,10 @@ ngx_http_jwt_handler(ngx_http_request_t *r)
         return NGX_DECLINED;
     }
 
-    ctx = ngx_pcalloc(r->pool, sizeof(ngx_http_jwt_ctx_t));
+    ctx = ngx_http_jwt_add_ctx(r);
     if (ctx == NULL) {
         return NGX_HTTP_INTERNAL_SERVER_ERROR;
     }
-
-    ngx_http_set_ctx(r, ctx, ngx_http_jwt_module);
 
     if (ngx_http_jwt_find_token(r, conf, &ctx->token) != NGX_OK) {
         return ngx_http_jwt_refuse(r, &conf->challenge);
@@ -801,6 +902,48 @@ ngx_http_jwt_handler(ngx_http_request_t *r)
     }
 
     return ngx_http_jwt_refuse(r, &conf->refusal);
+}
+
+
+/* Verifies a subrequest in the preaccess phase, since nginx leaves out the access phase for it. */
+static ngx_int_t
+ngx_http_jwt_subrequest_handler(ngx_http_request_t *r)
+{
+    ngx_int_t  rc;
+
+    if (r == r->main) {
+        return NGX_DECLINED;
+    }
+
+    rc = ngx_http_jwt_handler(r);
+
+    /* NGX_OK would leave out the other handlers of the phase */
+    return rc == NGX_OK ? NGX_DECLINED : rc;
+}
+
+
+/*
+ * Verifies a subrequest that is answered before the preaccess phase, for example by return: auth_request would take that answer for
+ * the consent of a location with auth_jwt.
+ */
+static ngx_int_t
+ngx_http_jwt_header_filter(ngx_http_request_t *r)
+{
+    ngx_int_t  rc;
+
+    if (r != r->main
+        && r->headers_out.status < NGX_HTTP_SPECIAL_RESPONSE
+        && ngx_http_get_module_ctx(r, ngx_http_jwt_module) == NULL
+        && !ngx_http_jwt_is_clone(r))
+    {
+        rc = ngx_http_jwt_handler(r);
+
+        if (rc != NGX_OK && rc != NGX_DECLINED) {
+            return rc;
+        }
+    }
+
+    return ngx_http_jwt_next_header_filter(r);
 }
 
 
@@ -1456,18 +1599,31 @@ ngx_http_jwt_add_variables(ngx_conf_t *cf)
 
 
 static ngx_int_t
-ngx_http_jwt_init(ngx_conf_t *cf)
+ngx_http_jwt_add_handler(ngx_http_core_main_conf_t *main, ngx_http_phases phase, ngx_http_handler_pt added)
 {
-    ngx_http_handler_pt        *handler;
-    ngx_http_core_main_conf_t  *main;
+    ngx_http_handler_pt  *handler;
 
-    main = ngx_http_conf_get_module_main_conf(cf, ngx_http_core_module);
-
-    handler = ngx_array_push(&main->phases[NGX_HTTP_ACCESS_PHASE].handlers);
+    handler = ngx_array_push(&main->phases[phase].handlers);
     if (handler == NULL) {
         return NGX_ERROR;
     }
 
-    *handler = ngx_http_jwt_handler;
+    *handler = added;
     return NGX_OK;
+}
+
+
+static ngx_int_t
+ngx_http_jwt_init(ngx_conf_t *cf)
+{
+    ngx_http_core_main_conf_t  *main = ngx_http_conf_get_module_main_conf(cf, ngx_http_core_module);
+
+    if (ngx_http_jwt_add_handler(main, NGX_HTTP_PREACCESS_PHASE, ngx_http_jwt_subrequest_handler) != NGX_OK) {
+        return NGX_ERROR;
+    }
+
+    ngx_http_jwt_next_header_filter = ngx_http_top_header_filter;
+    ngx_http_top_header_filter = ngx_http_jwt_header_filter;
+
+    return ngx_http_jwt_add_handler(main, NGX_HTTP_ACCESS_PHASE, ngx_http_jwt_handler);
 }

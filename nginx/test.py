@@ -132,7 +132,7 @@ class Server:
         self.env = {**os.environ, **(env or {})}
 
     def write(self, name, value):
-        with open(f"{self.work}/{name}", "w", encoding="utf-8") as file:
+        with open(f"{self.work}/{name}", "w", encoding="utf-8", errors="surrogateescape") as file:
             file.write(value if isinstance(value, str) else json.dumps(value))
 
     def read(self, name):
@@ -165,23 +165,32 @@ class Server:
         self.process.kill()
         return self.process.wait()
 
-    def check(self, server):
-        """Returns the status of nginx's test of a configuration, and what it says."""
-        self.configure(server)
-        ran = subprocess.run(self.words("-t"), capture_output=True, text=True)
-        self.configure(SERVER)
+    def check(self, server, http_conf=""):
+        """Returns the status of nginx's test of a configuration, and what it says; None if it does not end."""
+        self.configure(server, http_conf)
+        self.write("error.log", "")
+        try:
+            ran = subprocess.run(self.words("-t"), capture_output=True, text=True, timeout=60)
+        except subprocess.TimeoutExpired:
+            return None, ""
+        finally:
+            self.configure(SERVER)
         return ran.returncode, ran.stderr + self.read("error.log")
 
-    def get(self, path="/", token=None, **headers):
-        """Returns the status of a request, and the headers of its answer."""
+    def fetch(self, path, token=None, **headers):
+        """Returns the status of a request, the headers of its answer, and its text."""
         if token is not None:
             headers["Authorization"] = f"Bearer {token}"
         connection = http.client.HTTPConnection("127.0.0.1", self.port, timeout=60)
         connection.request("GET", path, headers=headers)
         answer = connection.getresponse()
-        answer.read()
+        text = answer.read().decode("utf-8", "replace")
         connection.close()
-        return answer.status, answer.headers
+        return answer.status, answer.headers, text
+
+    def get(self, path="/", token=None, **headers):
+        """Returns the status of a request, and the headers of its answer."""
+        return self.fetch(path, token, **headers)[:2]
 
 
 def standard_rows():
@@ -292,9 +301,9 @@ def again(server, path):
 def variables(server):
     claims = {**PASS, "sub": "caf\u00e9 \\ \"x\" \U0001f600 \r\nX-User: 8 \u0001", "list": [1, {"a": "]"}], "userId": 7, "nested": {"sub": "no"}}
     _, headers = server.get("/", signed(claims))
-    test(f"a text: {headers['X-Sub']!r}", headers["X-Sub"].encode("latin-1").decode() == 'café \\ "x" \U0001f600 \\r\\nX-User: 8 \\u0001')
+    test(f"a text: {headers['X-Sub']!r}", headers["X-Sub"].encode("latin-1").decode() == '"café \\\\ \\"x\\" \U0001f600 \\r\\nX-User: 8 \\u0001"')
     test(f"a list: {headers['X-List']}", headers["X-List"] == '[1,{"a":"]"}]')
-    test(f"another case: {headers['X-User']}", headers["X-User"] == "7")
+    test(f"another case: {headers['X-User']}", not headers["X-User"])
     test(f"the header: {headers['X-Kid']} {headers['X-Alg']}", (headers["X-Kid"], headers["X-Alg"]) == ("a", "HS256"))
     _, headers = server.get("/", signed({**PASS, "sub": "b@b.com"}, b"x" * 32))
     test("no claim of a refused token", not headers["X-Sub"] and not headers["X-Kid"])
@@ -320,6 +329,29 @@ BAD = [
     ("a cache of 63 bits", "auth_jwt_cache 9223372036854775807;", "value must be between 0 and 1048576"),
     ("too large a cache", "auth_jwt_cache 1048577;", "value must be between 0 and 1048576"),
     ("two caches", "auth_jwt_cache 1; auth_jwt_cache 1;", "duplicate"),
+    ("an empty audience", 'auth_jwt_aud web "";', '"auth_jwt_aud" directive has an empty name'),
+    ("an empty issuer", 'auth_jwt_iss "";', '"auth_jwt_iss" directive has an empty name'),
+    ("an empty algorithm", 'auth_jwt_alg "";', '"auth_jwt_alg" directive has an empty name'),
+    ("an audience that is not UTF-8", "auth_jwt r; auth_jwt_key_file {work}/keys.json; auth_jwt_alg HS256; auth_jwt_aud \udcff;", "a name of auth_jwt_aud"),
+    ("a FIFO", "auth_jwt_key_file {work}/fifo;", '"auth_jwt_key_file" directive does not name a regular file'),
+    ("a folder", "auth_jwt_key_file {work}/root;", '"auth_jwt_key_file" directive does not name a regular file'),
+    ("a device", "auth_jwt_key_file /dev/zero;", '"auth_jwt_key_file" directive does not name a regular file'),
+    ("a claim of a server", "auth_jwt_claim $user sub;", '"auth_jwt_claim" directive is not allowed here'),
+]
+BAD_CLAIMS = [
+    ("auth_jwt_claim $user;", "invalid number of arguments"),
+    ("auth_jwt_claim user sub;", '"auth_jwt_claim" directive takes $variable'),
+    ("auth_jwt_claim $ sub;", '"auth_jwt_claim" directive takes $variable'),
+    ("auth_jwt_claim $a.b sub;", '"auth_jwt_claim" directive takes $variable'),
+    ('auth_jwt_claim $user "";', '"auth_jwt_claim" directive takes the name of a claim'),
+    ('auth_jwt_claim $user "a\nb";', '"auth_jwt_claim" directive takes the name of a claim'),
+    ("auth_jwt_claim $user \udcff;", '"auth_jwt_claim" directive takes the name of a claim'),
+    ("auth_jwt_claim $user userId; auth_jwt_claim $user userid;", 'the duplicate "user" variable'),
+    ("auth_jwt_claim $user userId; auth_jwt_claim $USER userid;", 'the duplicate "USER" variable'),
+    ("auth_jwt_claim $host userId;", 'the duplicate "host" variable'),
+    ("auth_jwt_claim $args userId;", '"auth_jwt_claim" directive has a variable that another directive sets'),
+    ("map $host $user {{ default x; }} auth_jwt_claim $user userId;", '"auth_jwt_claim" directive has a variable that another directive sets'),
+    ("auth_jwt_claim $user userId; map $host $user {{ default x; }}", 'the duplicate "user" variable'),
 ]
 BAD_KEYS = [
     ("", "is empty"),
@@ -339,9 +371,13 @@ BAD_KEYS = [
 
 def configurations(server):
     """A configuration that can't be right is refused, and says why."""
+    os.mkfifo(f"{server.work}/fifo")
     for name, conf, said in BAD:
         status, text = server.check(conf)
         test(f"{name}: {status} {text[-300:]}", status == 1 and said in text)
+    for conf, said in BAD_CLAIMS:
+        status, text = server.check("", conf)
+        test(f"{conf}: {status} {text[-300:]}", status == 1 and said in text)
     for keys, said in BAD_KEYS:
         server.write("bad.json", keys)
         status, text = server.check("auth_jwt r; auth_jwt_key_file {work}/bad.json; auth_jwt_alg HS256;")
@@ -595,6 +631,226 @@ def same_verdicts(server):
     test(f"{len(order) * len(tokens)} verdicts with a cache and without: {wrong[:3]}", not wrong and seen == {200, 401})
 
 
+NAMES = """
+    auth_jwt_claim $user userId;
+    auth_jwt_claim $role https://login.example/Role;
+    auth_jwt_claim $odd "a\\"b\\\\c caf\u00e9";
+    auth_jwt_claim $jwt_claim_given givenName;
+    map $jwt_claim_sub $early {{ default other; ada known; }}
+    map $jwt_claim_sub $late {{ default other; ada known; }}
+    map $jwt_claim_sub $each {{ volatile; default other; ada known; }}
+    limit_req_zone $jwt_claim_sub zone=subs:1m rate=1r/m;
+    log_format hits '$uri $http_x_user $http_range $arg_token';
+    log_format ends '$uri $status $jwt_status $jwt_claim_sub $jwt_header_kid';
+"""
+PLACES = """
+        auth_jwt_key_file {work}/keys.json;
+        auth_jwt_alg HS256;
+        # what the others pass requests on to
+        location = /echo {{ add_header X-Echo "$http_x_user"; return 204; }}
+        location = /hit {{ access_log {work}/hits.log hits; return 204; }}
+        location = /ranged {{ access_log {work}/hits.log hits; }}
+        # a request that a subrequest lets pass
+        auth_request_set $gate "$jwt_status $jwt_claim_sub";
+        auth_request_set $echo $upstream_http_x_echo;
+        add_header X-Gate "$gate" always;
+        add_header X-Gate-Echo "$echo" always;
+        add_header X-Status "$jwt_status" always;
+        add_header X-Sub "$jwt_claim_sub" always;
+        location = /by_return {{ auth_request /gate_return; }}
+        location = /by_gif {{ auth_request /gate_gif; }}
+        location = /by_file {{ auth_request /gate_file; }}
+        location = /by_proxy {{ auth_request /gate_proxy; }}
+        location = /by_if {{ auth_request /gate_if; }}
+        location = /by_rewrite {{ auth_request /gate_rewrite; }}
+        location = /by_two {{ auth_jwt outer; auth_jwt_aud web; auth_request /gate_app; }}
+        location = /by_open {{ auth_jwt outer; auth_request /gate_open; }}
+        location = /by_any {{ satisfy any; deny all; auth_request /gate_return; }}
+        location = /gate_return {{ internal; auth_jwt gate; return 204; }}
+        location = /gate_gif {{ internal; auth_jwt gate; empty_gif; }}
+        location = /gate_file {{ internal; auth_jwt gate; }}
+        location = /gate_proxy {{ internal; auth_jwt gate; proxy_pass http://127.0.0.1:{port}/echo; proxy_set_header X-User $jwt_claim_sub; }}
+        location = /gate_if {{ internal; auth_jwt gate; if ($request_method = GET) {{ return 204; }} }}
+        location = /gate_rewrite {{ internal; rewrite ^ /gate_return last; }}
+        location = /gate_app {{ internal; auth_jwt gate; auth_jwt_aud app; return 204; }}
+        location = /gate_open {{ internal; proxy_pass http://127.0.0.1:{port}/echo; proxy_set_header X-User $jwt_claim_sub; }}
+        # parts of a page, a mirror and slices
+        location = /page {{ ssi on; ssi_types *; }}
+        location = /part {{ auth_jwt part token=$arg_t; ssi on; ssi_types *; }}
+        location = /part_return {{ auth_jwt part token=$arg_t; return 200 "returned"; }}
+        location = /mirrored {{ mirror /copy; mirror_request_body off; }}
+        location = /copy {{ internal; auth_jwt copy; proxy_pass http://127.0.0.1:{port}/hit; proxy_set_header X-User $jwt_claim_sub; }}
+        location = /sliced {{
+            auth_jwt slices; slice 4; proxy_pass http://127.0.0.1:{port}/ranged;
+            proxy_set_header Range $slice_range; proxy_set_header X-User $jwt_claim_sub;
+        }}
+        # a token in the address, which a rewrite changes
+        location = /fresh {{ auth_jwt fresh token=$arg_t; proxy_pass http://127.0.0.1:{port}/hit?token=$arg_t; }}
+        location = /stale {{ if ($arg_t = "") {{ return 400; }} rewrite ^ /fresh?t=$http_x_other? last; }}
+        # redirects to a location of other rules, of none, and of one that answers at once
+        location = /tried {{ auth_jwt tried; try_files /nosuch @none; access_log off; }}
+        location @none {{ rewrite ^ /echo break; proxy_pass http://127.0.0.1:{port}; access_log {work}/ends.log ends; }}
+        location = /refused {{ auth_jwt refused; error_page 401 /none; }}
+        location = /refused_at_once {{ auth_jwt refused; error_page 401 /at_once; }}
+        location = /to_other {{ auth_jwt first; try_files /nosuch /other; }}
+        location = /none {{ internal; access_log {work}/ends.log ends; }}
+        location = /at_once {{ internal; auth_jwt other; auth_jwt_aud app; access_log {work}/ends.log ends; return 401 "refused"; }}
+        location = /other {{
+            internal; auth_jwt other; auth_jwt_aud app; access_log {work}/ends.log ends;
+            if ($jwt_status) {{ return 418; }}
+            if ($jwt_claim_sub) {{ return 418; }}
+        }}
+        # what is asked before the token is verified
+        location = /early {{
+            auth_jwt early; limit_req zone=subs;
+            if ($jwt_claim_sub = "ada") {{ return 403; }}
+            if ($early = "known") {{ return 403; }}
+            if ($each = "known") {{ return 403; }}
+            add_header X-Maps "$early $late $each";
+        }}
+        # claims
+        location = /long {{ auth_jwt long; auth_jwt_aud @LONG@; }}
+        location = /claims {{
+            auth_jwt claims;
+            add_header X-User "$user"; add_header X-Role "$role"; add_header X-Odd "$odd"; add_header X-Given "$jwt_claim_given";
+            add_header X-Lower "$jwt_claim_userid"; add_header X-Value "$jwt_claim_value"; add_header X-Kid "$jwt_header_kid";
+        }}
+"""
+
+# names that JSON writes with escapes
+LONG = [f'caf\u00e9 "{n}" \\ ' + "x" * n for n in range(100)]
+PLACES = PLACES.replace("@LONG@", " ".join('"' + it.replace("\\", "\\\\").replace('"', '\\"') + '"' for it in LONG))
+
+
+def gates(server):
+    """A subrequest is verified as its own location asks, and its variables tell of its own token."""
+    good, ended = signed({**PASS, "sub": "ada"}), signed({"exp": NOW - 5, "sub": "ada"})
+    for path in ("/by_return", "/by_gif", "/by_file", "/by_proxy", "/by_if", "/by_rewrite", "/by_any"):
+        for name, token, status, gate, challenge in (
+            ("no token", None, 401, "NoToken ", 'Bearer realm="gate"'),
+            ("an expired token", ended, 401, "ExpiredSignature ", 'Bearer realm="gate", error="invalid_token"'),
+            ("another signature", signed(PASS, b"x" * 32), 401, "InvalidSignature ", 'Bearer realm="gate", error="invalid_token"'),
+            ("a token", good, 200, "OK ada", None),
+        ):
+            got, headers = server.get(path, token)
+            wanted = (status, gate, challenge)
+            said = (got, headers["X-Gate"], headers["WWW-Authenticate"])
+            test(f"{path}, {name}: {said}", said == wanted)
+            test(f"{path}, {name}: the request itself has no token", not headers["X-Status"] and not headers["X-Sub"])
+    _, headers = server.get("/by_proxy", good)
+    test(f"what the gate passes on: {headers['X-Gate-Echo']}", headers["X-Gate-Echo"] == "ada")
+    for audience, status, gate in ((["web"], 401, "InvalidAudience "), (["app"], 401, None), (["web", "app"], 200, "OK ada")):
+        got, headers = server.get("/by_two", signed({**PASS, "aud": audience, "sub": "ada"}))
+        test(f"two rules, {audience}: {got} {headers['X-Gate']}", got == status and gate in (None, headers["X-Gate"]))
+    got, headers = server.get("/by_open", good)
+    test(f"a subrequest that asks for no token: {got} {headers['X-Gate-Echo']}", got == 200 and headers["X-Gate-Echo"] == "ada")
+    test("a subrequest that asks for no token, without one", server.get("/by_open")[0] == 401)
+
+
+def parts(server):
+    """Parts of a page, a mirror and slices."""
+    tokens = [signed({**PASS, "sub": it}) for it in ("ada", "ben")]
+    server.write("root/part", 'secret of <!--#echo var="jwt_claim_sub" -->, <!--#echo var="jwt_status" -->\n')
+    server.write(
+        "root/page",
+        "".join(f'<!--#include virtual="/part?t={it}" -->' for it in (*tokens, "none"))
+        + '<!--#include virtual="/part" --><!--#include virtual="/part_return?t=none" -->'
+        + f'<!--#include virtual="/part_return?t={tokens[0]}" -->page <!--#echo var="jwt_status" default="without" -->\n',
+    )
+    got, _, text = server.fetch("/page")
+    secrets = re.findall("secret of .*", text)
+    test(f"a page: {got} {text}", got == 200 and secrets == ["secret of ada, OK", "secret of ben, OK"])
+    test(f"a page: {text}", text.count("returned") == 1 and "page without" in text)
+    server.get("/mirrored")
+    server.get("/mirrored", signed(PASS, b"x" * 32))
+    server.get("/mirrored", signed({**PASS, "sub": "mirrored"}))
+    found = eventually(lambda: "mirrored" in server.read("hits.log"))
+    test(f"a mirror: {server.read('hits.log')}", found and server.read("hits.log").count("/hit") == 1)
+    server.write("root/ranged", "0123456789")
+    got, _, text = server.fetch("/sliced", signed({**PASS, "sub": "sliced"}))
+    slices = eventually(lambda: server.read("hits.log").count("/ranged sliced bytes=") == 3)
+    test(f"slices: {got} {text} {server.read('hits.log')}", got == 200 and text == "0123456789" and slices)
+    test("slices without a token", server.get("/sliced")[0] == 401)
+
+
+def rewritten(server):
+    """The token that is verified is the one that the same variable has when the request is passed on."""
+    good, other = signed({**PASS, "sub": "good"}), signed({**PASS, "sub": "forged"}, b"x" * 32)
+    for before, after, status in ((good, other, 401), (other, good, 204), (good, good, 204), (good, "", 401)):
+        server.write("hits.log", "")
+        got, _ = server.get(f"/stale?t={before}", **{"X-Other": after})
+        sent = eventually(lambda: "/hit" in server.read("hits.log")) if status == 204 else True
+        test(f"a token that is rewritten: {got}", got == status and sent)
+        test("the token that is sent", (f" {after}\n" in server.read("hits.log")) == (status == 204))
+
+
+def redirected(server):
+    """After an internal redirect the log has the verdict, and no location of other rules has it before its own."""
+    good, ended = signed({**PASS, "sub": "ada"}), signed({"exp": NOW - 5, "sub": "ada"})
+    for path, token, status, log, headers_of in (
+        ("/tried", good, 204, "/echo 204 OK ada a", ("OK", "ada")),
+        ("/refused", ended, 401, "/none 401 ExpiredSignature - -", ("ExpiredSignature", None)),
+        ("/refused", None, 401, "/none 401 NoToken - -", ("NoToken", None)),
+        ("/refused", good, 200, None, ("OK", "ada")),
+        ("/refused_at_once", ended, 401, "/at_once 401 ExpiredSignature - -", (None, None)),
+        ("/to_other", good, 401, None, None),
+        ("/to_other", signed({**PASS, "sub": "ada", "aud": "app"}), 401, None, None),
+    ):
+        server.write("ends.log", "")
+        got, headers = server.get(path, token)
+        said = tuple(headers[it] or None for it in ("X-Status", "X-Sub"))
+        test(f"{path}: {got} {said}", got == status and headers_of in (None, said))
+        if log is not None:
+            found = eventually(lambda: log in server.read("ends.log").splitlines())
+            test(f"{path}: {server.read('ends.log')}", found)
+
+
+def early(server):
+    """What nginx asks before the token is verified has no claims, as README.md says."""
+    for _ in range(3):
+        got, headers = server.get("/early", signed({**PASS, "sub": "ada"}))
+        test(f"before a token is verified: {got} {headers['X-Maps']}", got == 200 and headers["X-Maps"] == "other known known")
+    for it in (0, 1, 50, 99):
+        got, _ = server.get("/long", signed({**PASS, "aud": LONG[it]}))
+        test(f"audience {it} of {len(LONG)}: {got}", got == 200)
+    test("another audience than these", server.get("/long", signed({**PASS, "aud": LONG[5] + "x"}))[0] == 401)
+
+
+def claims(server):
+    """A variable has the claim of just its name, and no two strings become one value."""
+
+    def ask(**members):
+        _, headers = server.get("/claims", signed({**PASS, **members}))
+        return {name: (headers[f"X-{name}"] or "").encode("latin-1").decode() for name in ("User", "Role", "Odd", "Given", "Lower", "Value")}
+
+    got = ask(**{"userId": "ada", "https://login.example/Role": "admin", 'a"b\\c café': "odd", "givenName": "Ada"})
+    test(f"names: {got}", got == {"User": "ada", "Role": "admin", "Odd": "odd", "Given": "Ada", "Lower": "", "Value": ""})
+    got = ask(**{"USERID": "a", "UserId": "b", "userid": "c", "https://login.example/role": "d", "givenname": "e", "given": "f", "VALUE": "g", "Value": "h"})
+    test(f"names of another case: {got}", got == {"User": "", "Role": "", "Odd": "", "Given": "", "Lower": "c", "Value": ""})
+    strings = ["a\nb", "a\\nb", "a\\\\nb", '"a\\nb"', '"a\nb"', "a\u0001b", "a\\u0001b", '"a\\u0001b"', "DOMAIN\\user", "DOMAIN\\nick", '"', '""', "\\", "\n", "\\n", '\\"', "a", '"a"', '"a', 'a"', "é", "\u2028"]
+    got = [ask(value=it)["Value"] for it in strings]
+    test(f"two strings of one value: {got}", len(set(got)) == len(strings) and not any(re.search("[\x00-\x1f]", it) for it in got))
+    plain = {it: text for it, text in zip(strings, got) if not re.search("[\x00-\x1f]", it) and it[0] != '"'}
+    test(f"texts: {plain}", all(it == text for it, text in plain.items()))
+    for value, text in (
+        (7, "7"), (-7, "-7"), (2**64 - 1, str(2**64 - 1)), (-(2**63), str(-(2**63))), (True, "true"), (None, "null"), ([1, {"a": "]"}], '[1,{"a":"]"}]'),
+        (2**64, ""), (18446744073709551617, ""), (18446744073709551999, ""), (-(2**63) - 1, ""), (1.5, ""), ([1, 2**64], ""), ({"a": [{"b": 1e30}]}, ""), ("1e30", "1e30"),
+    ):
+        got = ask(value=value)["Value"]
+        test(f"a claim {value}: {got}", got == text)
+
+
+def places(server):
+    for name in ("hits.log", "ends.log"):
+        server.write(name, "")
+    gates(server)
+    parts(server)
+    rewritten(server)
+    redirected(server)
+    early(server)
+    claims(server)
+
+
 def murmur(text, start):
     """Returns the state of nginx's hash of a token, a word of 32 bits, after some words of four bytes."""
     for at in range(0, len(text), 4):
@@ -713,34 +969,58 @@ def run_anew(module):
             again(server, "/")
 
 
+def run_places(module):
+    """Subrequests, redirects and claims, with a cache and without."""
+    for conf in (PLACES, "auth_jwt_cache 0;" + PLACES):
+        with tempfile.TemporaryDirectory(prefix="nginx-jwt-") as work:
+            server = Server(module, work, conf, http_conf=NAMES)
+            write_keys(server)
+            server.start()
+            places(server)
+            test("nginx ends", server.stop() == 0)
+            alerts = [it for it in server.read("error.log").splitlines() if "[alert]" in it or "[crit]" in it]
+            test(f"no alert: {alerts[:3]}", not alerts)
+
+
 def run_tests(module):
     run_default(module)
+    run_places(module)
     run_anew(module)
     run_cache(module)
     print(f"{passed} tests of the nginx module, {failed} failed")
     sys.exit(failed > 0)
 
 
-def run_valgrind(module):
-    """One process under valgrind, which counts errors and lost memory."""
+@contextlib.contextmanager
+def under_valgrind(module, server=SERVER, http_conf=""):
+    """Runs an nginx of one process under valgrind, and tests that it has no errors and no lost memory."""
     with tempfile.TemporaryDirectory(prefix="nginx-jwt-") as work:
         words = ["valgrind", "-q", "--error-exitcode=99", "--leak-check=full", "--show-leak-kinds=definite"]
         words += ["--errors-for-leak-kinds=definite", f"--suppressions={work}/known", f"--log-file={work}/valgrind.%p"]
-        server = Server(module, work, before=words)
+        server = Server(module, work, server, http_conf=http_conf, before=words)
         server.write("known", KNOWN)
-        rows = write_keys(server)
         server.write("nginx.conf", server.read("nginx.conf").replace("daemon off;", "daemon off; master_process off;"))
+        server.rows = write_keys(server)
         server.start()
-        for _ in range(2):
-            verdicts(server, rows)
-            variables(server)
-        again(server, "/")
-        again(server, "/cached")
-        again(server, "/anew")
+        yield server
         status = server.stop()
         said = "".join(server.read(name) for name in os.listdir(work) if name.startswith("valgrind."))
         print(said)
         test(f"valgrind ended with {status}", status == 0 and not said.strip())
+
+
+def run_valgrind(module):
+    """The requests of the tests, to processes under valgrind."""
+    with under_valgrind(module) as server:
+        for _ in range(2):
+            verdicts(server, server.rows)
+            variables(server)
+        again(server, "/")
+        again(server, "/cached")
+        again(server, "/anew")
+    with under_valgrind(module, PLACES, NAMES) as server:
+        for _ in range(2):
+            places(server)
     print(f"{passed} tests of the nginx module under valgrind, {failed} failed")
     sys.exit(failed > 0)
 
