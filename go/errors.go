@@ -7,7 +7,7 @@ import "errors"
 
 // The kinds of refusals: errors.Is(err, jwt.ErrExpired) tells one from the others. Each but the last three is about the token.
 var (
-	// ErrMalformed is a token, a header or a payload that can't be read.
+	// ErrMalformed is a token, a header or a payload that can't be read, or claims whose names differ by folding alone (Claims).
 	ErrMalformed = errors.New("jwt: the token is malformed")
 	// ErrSignature is a signature that is not that of the token by the key.
 	ErrSignature = errors.New("jwt: the signature is wrong")
