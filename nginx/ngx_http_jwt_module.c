@@ -427,7 +427,7 @@ ngx_http_jwt_set_member(ngx_http_request_t *r, ngx_http_variable_value_t *v, ngx
 }
 
 
-/* The mark of a context among the cleanups of a pool: there is nothing to give back. */
+/* Marks a context among the cleanups of a pool. There is nothing to give back. */
 static void
 ngx_http_jwt_cleanup(void *data)
 {
@@ -479,8 +479,8 @@ ngx_http_jwt_kept_ctx(ngx_http_request_t *r)
 
 
 /*
- * Whether a subrequest without a context goes on in the content phase of the request that made it (NGX_HTTP_SUBREQUEST_CLONE), so
- * that it is verified with it: any other has its own context before that phase.
+ * Returns whether a subrequest without a context goes on in the content phase of the request that made it
+ * (NGX_HTTP_SUBREQUEST_CLONE), so that it is verified with it: any other has its own context before that phase.
  */
 static ngx_uint_t
 ngx_http_jwt_is_clone(ngx_http_request_t *r)
@@ -492,9 +492,9 @@ ngx_http_jwt_is_clone(ngx_http_request_t *r)
 
 
 /*
- * Returns the context that tells of the token of a request, or NULL. A location that asks for a token tells of the one that it has
- * verified, and nothing before that: not of a token that was verified before an internal redirect, unless the answer is sent, and
- * not of that of the request that made a subrequest. Any other location tells of both.
+ * Returns the context that the variables of a request are read from, or NULL. In a location that asks for a token it is that of the
+ * token that was verified there, and none before that. In any other location it is that of before an internal redirect, or of the
+ * request that made a subrequest. Once the answer is sent, as for the log, that of before an internal redirect is read anywhere.
  */
 static ngx_http_jwt_ctx_t *
 ngx_http_jwt_find_ctx(ngx_http_request_t *r)
@@ -1479,7 +1479,7 @@ ngx_http_jwt_list(ngx_conf_t *cf, ngx_command_t *cmd, void *conf)
 }
 
 
-/* Whether a text is UTF-8 without control characters, and not empty. */
+/* Returns whether a text is UTF-8 without control characters, and not empty. */
 static ngx_uint_t
 ngx_http_jwt_is_name(ngx_str_t *text)
 {
@@ -1526,7 +1526,7 @@ ngx_http_jwt_json_name(ngx_conf_t *cf, ngx_str_t *name)
 }
 
 
-/* Whether a text is the name of a variable: letters, digits and _ after $. */
+/* Returns whether a text is the name of a variable: letters, digits and _ after $. */
 static ngx_uint_t
 ngx_http_jwt_is_variable(ngx_str_t *text)
 {
