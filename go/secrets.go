@@ -11,7 +11,7 @@ import (
 )
 
 // marks finds what the texts of keys have: the name of an SSH key, or the beginning of PEM (RFC 7468) or of RFC 4716.
-var marks = regexp.MustCompile(`ssh-rsa|ssh-dss|ssh-ed25519|ecdsa-sha2-nistp|sk-ssh-ed25519@openssh\.com` +
+var marks = regexp.MustCompile(`ssh-rsa|ssh-dss|ssh-ed25519|ssh-ed448|ssh-xmss|ecdsa-sha2-nistp|sk-ssh-ed25519@openssh\.com` +
 	`|sk-ecdsa-sha2-nistp256@openssh\.com|-cert-v01@openssh\.com|----[- ]BEGIN `)
 
 // sequences finds the tags in the SEQUENCE of a key in DER: SubjectPublicKeyInfo (RFC 5280 section 4.1), a certificate, RSAPublicKey and

@@ -8,9 +8,7 @@ crates/jwt_vectors/data/standard.jsonl, which Python's cryptography signed. The 
 compiler makes: it sets the time of day, and counts what the library is asked.
 """
 import argparse
-import base64
 import contextlib
-import hmac
 import http.client
 import json
 import os
@@ -27,6 +25,9 @@ import threading
 import time
 
 TOP = os.path.dirname(os.path.dirname(os.path.abspath(__file__)))
+sys.path.append(f"{TOP}/tests")
+import tokens as made
+
 SECRET = b"0123456789abcdef0123456789abcdef"
 NGINX = shutil.which("nginx") or "/usr/sbin/nginx"
 NOW = int(time.time())
@@ -108,13 +109,11 @@ def test(name, is_well):
 
 
 def part(raw):
-    return base64.urlsafe_b64encode(raw).rstrip(b"=").decode()
+    return made.part(raw).decode()
 
 
 def signed(claims, secret=SECRET, digest="sha256", **header):
-    header = {"alg": "HS256", "kid": "a", **header}
-    message = ".".join(part(it if isinstance(it, bytes) else json.dumps(it).encode()) for it in (header, claims))
-    return message + "." + part(hmac.digest(secret, message.encode(), digest))
+    return made.signed({"alg": "HS256", "kid": "a", **header}, claims, secret, digest).decode()
 
 
 def oct_key(kid, secret=SECRET):
