@@ -14,12 +14,13 @@ CRATE = "jwt_c"
 OUT = f"{TOP}/out"
 
 
-def build(crate, is_plain):
-    """Builds the static library of the crate, over the libraries that rt ci built below it, or by rt lib. Returns whether it is built."""
+def build(crate):
+    """Builds the static library of the crate, by rattle over the libraries that rt ci built below it, or else by rt lib, which proves these
+    again. Returns whether it is built."""
     def by_rt():
         return kit.rt("lib", cwd=crate.folder, stdin=subprocess.DEVNULL).returncode == 0
 
-    if is_plain or not checks.are_built([crate]):
+    if not checks.are_built([crate]) or checks.lacking_in_kit():
         return by_rt()
     words = [*crate.check_words(), "--jobs", "1", "--toolchain", f"{kit.folder()}/toolchain", "--backend", "llvm"]
     words = [kit.program("rattle"), "build", *words, "-o", f"out/lib{crate.name}.a"]

@@ -1,7 +1,7 @@
 """Checks of copies of a crate, by the kit's rattle over the libraries that rt built.
 
 This is what makes the tests quick, and it rests on more of the kit than the commands of rt: on flags of rattle, which its help
-names, and on the places of what rt builds. If something is not there, the tests go by rt alone.
+names, and on the places of what rt builds. If something is not there, rt does the same, which takes longer.
 """
 import os
 import subprocess
@@ -9,7 +9,7 @@ import subprocess
 from proving import kit
 
 FLAGS = "--crate-name --extern --antt-project --logic-built --links --jobs --crate-type --incremental --only --allow-holes".split()
-# An environment variable that has the tests go by rt alone.
+# An environment variable that has rt try each wrong body by itself.
 PLAIN = "JWT_TESTS_PLAIN"
 
 
@@ -21,12 +21,12 @@ def lacking_in_kit():
 
 
 def is_plain():
-    """Returns whether the tests go by rt alone, because it is asked for or because the kit lacks something, and says so if it does."""
+    """Returns whether rt tries each wrong body by itself, because it is asked for or because the kit lacks something, and says so then."""
     if os.environ.get(PLAIN):
         return True
     lacking = lacking_in_kit()
     if lacking:
-        kit.tell(f"this kit has no {', no '.join(lacking[:3])}: the tests go by rt alone, which takes longer")
+        kit.tell(f"this kit has no {', no '.join(lacking[:3])}: rt tries each wrong body by itself, which takes longer")
     return bool(lacking)
 
 

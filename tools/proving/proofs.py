@@ -47,7 +47,7 @@ def prove_copy(copies, is_anew, is_plain):
     if passed not in (None, expected):
         print(f"rt ci passed {passed}, and not {expected}")
         return None
-    is_well = passed is not None and all(c_library.build(crate, is_plain) for crate in copies.values() if crate.is_static)
+    is_well = passed is not None and all(c_library.build(crate) for crate in copies.values() if crate.is_static)
     return passed if is_well else None
 
 
