@@ -29,6 +29,8 @@ from proving.planted import Planted, Report
 MISFIT = "its answer no longer fits, while it fits the twin"
 NO_TWIN = "only an answer no longer fits, as it might under a right body"
 REFUSED = "refused, as it must be"
+# The modules that decide what is refused.
+PROGRAMS = ("wrong_bodies", "planted", "edits", "checks", "crates")
 
 
 def try_edits(crate, edits):
@@ -61,7 +63,7 @@ class Earlier:
     def sum_now(self):
         """Returns the sum of all that a try of an edit reads, but for the edit."""
         own = os.path.dirname(os.path.realpath(__file__))
-        programs = [built.sum_of_file(f"{own}/{name}") for name in sorted(os.listdir(own)) if name.endswith(".py")]
+        programs = [built.sum_of_file(f"{own}/{name}.py") for name in PROGRAMS]
         return key_of(kit.version(), built.sum_of_file(kit.program("rattle")), built.sum_of_sources(self.crate), programs)
 
     def place(self, edit):
