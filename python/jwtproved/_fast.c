@@ -111,16 +111,11 @@ may_be_base64_of_key(const uint8_t *bytes, size_t len)
     return may_be_key(decoded, written);
 }
 
-/* Whether these bytes are surely a secret: neither zeros alone, nor too long, nor bytes that _secrets.py has to look at. */
+/* Whether these bytes are surely a secret. One that is empty, begins with a zero, is too long or may be a key is left to _secrets.py. */
 static int
 is_secret(const uint8_t *bytes, Py_ssize_t len)
 {
-    Py_ssize_t place = 0;
-
-    while (place < len && bytes[place] == 0) {
-        place++;
-    }
-    return place < len && len <= LONGEST && !may_be_key(bytes, (size_t)len) && !may_be_base64_of_key(bytes, (size_t)len);
+    return len > 0 && bytes[0] != 0 && len <= LONGEST && !may_be_key(bytes, (size_t)len) && !may_be_base64_of_key(bytes, (size_t)len);
 }
 
 /* Returns the value of a JSON text. */

@@ -15,6 +15,8 @@ _NAMES = (
     "jwt_signed_part",
     "jwt_decode_header",
     "jwt_encode_hmac",
+    "jwt_check_secret",
+    "jwt_check_key",
     "jwt_status_text",
 )
 _FILE = "libjwtproved.so"
@@ -37,9 +39,18 @@ def _load() -> ctypes.CDLL:
 
 
 _library = _load()
-decode_hmac, decode_key, decode_set, decode_verdict, signed_part, decode_header, encode_hmac, status_text = (
-    getattr(_library, name) for name in _NAMES
-)
+(
+    decode_hmac,
+    decode_key,
+    decode_set,
+    decode_verdict,
+    signed_part,
+    decode_header,
+    encode_hmac,
+    check_secret,
+    check_key,
+    status_text,
+) = (getattr(_library, name) for name in _NAMES)
 
 
 class _Room:
@@ -108,11 +119,25 @@ def _again(room: _Room, status: int, call: Any, *arguments: Any) -> bytes:
         status = call(*arguments, large.buffer, large.size, large.to_length)
         text = bytes(large.view[: large.length.value])
     _free.append(room)
+    _check(status)
+    return text
+
+
+def _check(status: int) -> None:
+    """Raises Refusal, or MemoryError, for a status other than JWT_OK."""
     if status == Status.OUT_OF_MEMORY:
         raise MemoryError("the library of jwtproved is out of memory")
     if status:
         raise Refusal(status)
-    return text
+
+
+def is_blank(call: Any, text: bytes) -> bool:
+    """Returns whether anyone can sign with a secret or for a key, by the call that takes it. Raises Refusal, or MemoryError."""
+    status = call(text, ctypes.c_size_t(len(text)))
+    if status == Status.BLANK_KEY:
+        return True
+    _check(status)
+    return False
 
 
 def text_of(status: int) -> str:

@@ -5,7 +5,7 @@ import json
 import re
 from typing import Optional
 
-from . import _pem
+from . import _library, _pem
 from .exceptions import InvalidKeyError
 
 ANYONE = "the secret is empty or has zeros alone: anyone can sign with it"
@@ -36,8 +36,7 @@ _OF_URL = bytes.maketrans(b"-_", b"+/")
 @functools.lru_cache(maxsize=1)
 def why_refused(secret: bytes) -> Optional[str]:
     """Returns why these bytes are refused as a secret, or None if they are not."""
-    # HMAC pads a secret with zeros, so zeros alone are the same key as the empty secret
-    if not secret.strip(b"\0"):
+    if _library.is_blank(_library.check_secret, secret):
         return ANYONE
     kind = _kind(secret)
     if kind is None:

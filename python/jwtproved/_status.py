@@ -50,3 +50,4 @@ class Status(enum.IntEnum):
     BAD_HEADER = 104
     BAD_CLAIMS = 105
     BAD_KEY = 106
+    BLANK_KEY = 107
