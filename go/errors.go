@@ -72,7 +72,7 @@ func kindOf(status uint32) error {
 		return ErrIssuer
 	case C.JWT_INVALID_SUBJECT:
 		return ErrSubject
-	case C.JWT_UNSUPPORTED_ALGORITHM, C.JWT_INVALID_KEY_FORMAT, C.JWT_BAD_KEY, C.JWT_BAD_SET:
+	case C.JWT_UNSUPPORTED_ALGORITHM, C.JWT_INVALID_KEY_FORMAT, C.JWT_BAD_KEY, C.JWT_BAD_SET, C.JWT_BLANK_KEY:
 		return ErrKey
 	case C.JWT_OUT_OF_MEMORY:
 		return ErrOutOfMemory

@@ -62,21 +62,6 @@ func Secret(secret []byte) (Key, error) {
 	return newKey(secretKey, secret), nil
 }
 
-// checkJWK returns an error if anyone can sign by a key. It reads the members by their very names, as the library does.
-func checkJWK(members map[string]json.RawMessage) error {
-	var kty, k string
-	if json.Unmarshal(members["kty"], &kty) != nil || kty != "oct" {
-		return nil // the library says what it is
-	}
-	if err := json.Unmarshal(members["k"], &k); err != nil {
-		return keyError("the member k of a secret is no text")
-	}
-	if secret, err := base64.RawURLEncoding.DecodeString(k); err != nil || isAnyones(secret) {
-		return keyError("a secret is empty, has zeros alone, so that anyone can sign with it, or is not base64url")
-	}
-	return nil
-}
-
 // textError is the refusal of a key's text that is not UTF-8: that of an argument, and of a key.
 type textError string
 
@@ -86,25 +71,19 @@ func (err textError) Error() string {
 
 func (err textError) Is(kind error) bool { return kind == ErrKey || kind == ErrOption }
 
-// JWK returns a JSON Web Key (RFC 7517 section 4) of any kind as a key.
+// JWK returns a JSON Web Key (RFC 7517 section 4) of any kind as a key. A secret that is empty or has zeros alone is refused.
 func JWK(text []byte) (Key, error) {
-	var members map[string]json.RawMessage
 	if !utf8.Valid(text) {
 		return Key{}, textError("JSON Web Key")
-	}
-	if err := json.Unmarshal(text, &members); err != nil {
-		return Key{}, keyError("%v", err)
-	}
-	if err := checkJWK(members); err != nil {
-		return Key{}, err
 	}
 	return tried(newKey(singleKey, text))
 }
 
-// JWKSet returns a JSON Web Key Set (RFC 7517 section 5) as a key. A token names one of its keys by its kid.
+// JWKSet returns a JSON Web Key Set (RFC 7517 section 5) as a key. A token names one of its keys by its kid. A set with a secret that is
+// empty or has zeros alone is refused.
 func JWKSet(text []byte) (Key, error) {
 	var members map[string]json.RawMessage
-	var keys []map[string]json.RawMessage
+	var keys []json.RawMessage
 	if !utf8.Valid(text) {
 		return Key{}, textError("JSON Web Key Set")
 	}
@@ -114,16 +93,15 @@ func JWKSet(text []byte) (Key, error) {
 	if err := json.Unmarshal(members["keys"], &keys); err != nil || len(keys) == 0 {
 		return Key{}, keyError("the set has no list of keys, or no key")
 	}
-	for _, it := range keys {
-		if err := checkJWK(it); err != nil {
-			return Key{}, err
-		}
-	}
 	return tried(newKey(keySet, text))
 }
 
-// tried returns a key that the library reads. It reads the options and the key before the token, which is empty here.
+// tried returns a key that the library reads, unless anyone can sign for it. The library reads the options and the key before the
+// token, which is empty here.
 func tried(key Key) (Key, error) {
+	if err := checkBlank(key.kind, key.bytes()); err != nil {
+		return Key{}, err
+	}
 	_, err := decode(key, nil, []byte("{}"), 0)
 	var refused *Error
 	if !errors.As(err, &refused) || refused.Status == noToken {

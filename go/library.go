@@ -4,7 +4,10 @@ package jwt
 // #include <jwtproved.h>
 import "C"
 
-import "unsafe"
+import (
+	"fmt"
+	"unsafe"
+)
 
 // slice returns pointer and length of a text.
 func slice(text []byte) (*C.uint8_t, C.size_t) {
@@ -45,6 +48,27 @@ func refusal(status C.uint32_t) error {
 		return C.jwt_status_text(status, buffer, size, length)
 	})
 	return &Error{Status: uint32(status), text: string(text)}
+}
+
+// checkBlank returns an error if anyone can sign with a secret, or for a key or a key of a set.
+func checkBlank(kind keyKind, text []byte) error {
+	var status C.uint32_t
+	at, length := slice(text)
+	switch kind {
+	case secretKey:
+		status = C.jwt_check_secret(at, length)
+	case singleKey:
+		status = C.jwt_check_key(at, length)
+	default:
+		status = C.jwt_check_set(at, length)
+	}
+	switch status {
+	case C.JWT_OK:
+		return nil
+	case C.JWT_BLANK_KEY:
+		return fmt.Errorf("%w: a secret is empty or has zeros alone", refusal(status))
+	}
+	return refusal(status)
 }
 
 func decodeHeader(token []byte) ([]byte, error) {

@@ -21,17 +21,14 @@ var sequences = regexp.MustCompile(`^(30 03 |30 30 03 |02 02 |(02 ){9}|02 30 04 
 // checkSecret returns an error if others may have a secret: if it is empty, has zeros alone, or is the text of a key of another kind.
 // Whoever has a public key could sign with its text, if HS256, HS384 or HS512 are accepted.
 func checkSecret(secret []byte) error {
-	if isAnyones(secret) {
-		return keyError("the secret is empty or has zeros alone, so that anyone can sign with it")
+	if err := checkBlank(secretKey, secret); err != nil {
+		return err
 	}
 	if isKey(secret) || isKey(decodedBase64(secret)) {
 		return keyError("the secret is a key of another kind: of SSH, in PEM, in DER, or a JSON Web Key or a set of them")
 	}
 	return nil
 }
-
-// isAnyones returns whether anyone can sign by a secret: HMAC pads it with zeros, so that zeros alone are the same key as none.
-func isAnyones(secret []byte) bool { return len(bytes.Trim(secret, "\x00")) == 0 }
 
 // isKey returns whether a text is that of a key of SSH, in PEM, in DER or in JSON, or of a set of keys.
 func isKey(text []byte) bool {

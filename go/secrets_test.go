@@ -51,7 +51,43 @@ func TestSecretsOfOthers(t *testing.T) {
 	}
 }
 
-// TestKeysThatAnyoneHas has secrets in JSON by which anyone can sign, behind members of other names: the library reads the very names.
+// jwkOf returns the JSON Web Key of a secret, with the kid "a".
+func jwkOf(secret []byte) string { return `{"kty":"oct","kid":"a","k":"` + part(secret) + `"}` }
+
+// isBlank returns whether an error is the library's refusal of a secret by which anyone can sign.
+func isBlank(err error) bool {
+	var refused *Error
+	return errors.Is(err, ErrKey) && errors.As(err, &refused) && refused.Status == 107
+}
+
+// TestZeros has secrets of zeros, as bytes, as a key and in a set: HMAC fills a shorter secret up with zeros, so that anyone has them.
+func TestZeros(t *testing.T) {
+	for _, size := range []int{0, 1, 2, 31, 32, 64, 65, 128, 129, 300, 5000} {
+		zeros, almost := make([]byte, size), append(make([]byte, size), 1)
+		for i, err := range madeWith(zeros) {
+			if !isBlank(err) {
+				t.Errorf("%d zeros, %d: %v", size, i, err)
+			}
+		}
+		for i, err := range madeWith(almost) {
+			if err != nil {
+				t.Errorf("%d zeros and a byte, %d: %v", size, i, err)
+			}
+		}
+	}
+}
+
+// madeWith returns the errors of the calls that take a secret, as bytes, as a key and in a set.
+func madeWith(made []byte) []error {
+	_, bySecret := Secret(made)
+	_, byJWK := JWK([]byte(jwkOf(made)))
+	_, bySet := JWKSet([]byte(`{"keys":[` + jwkOf(secret) + `,` + jwkOf(made) + `,` + jwkOf(secret) + `]}`))
+	_, signing := Sign(map[string]any{}, made, "HS256", nil)
+	return []error{bySecret, byJWK, bySet, signing}
+}
+
+// TestKeysThatAnyoneHas has secrets in JSON by which anyone can sign, behind members of other names. The library reads the very names,
+// and the last value of a name.
 func TestKeysThatAnyoneHas(t *testing.T) {
 	for _, it := range []string{
 		`{"kty":"oct","k":"","K":"c2VjcmV0"}`,
@@ -61,10 +97,10 @@ func TestKeysThatAnyoneHas(t *testing.T) {
 		`{"kty":"oct","k":"","\u212aty":"RSA"}`,
 		`{"kty":"RSA","k":"","kty":"oct"}`,
 		`{"kty":"oct","k":"c2VjcmV0","k":""}`,
-		`{"kty":"oct","K":"c2VjcmV0"}`,
+		`{"kty":"oct","k":"c2VjcmV0","\u006b":""}`,
 		`{"\u006bty":"\u006fct","\u006b":"\u0041AAA"}`,
 	} {
-		if key, err := JWK([]byte(it)); !errors.Is(err, ErrKey) {
+		if key, err := JWK([]byte(it)); !isBlank(err) {
 			t.Errorf("%s: %v, %v", it, key, err)
 		}
 		for _, set := range []string{
@@ -72,14 +108,51 @@ func TestKeysThatAnyoneHas(t *testing.T) {
 			`{"keys":[` + it + `],"KEYS":[{"kty":"oct","kid":"a","k":"c2VjcmV0"}]}`,
 			`{"keys":[{"kty":"oct","kid":"a","k":"c2VjcmV0"},` + it + `],"\u212aeys":[]}`,
 		} {
-			if key, err := JWKSet([]byte(set)); !errors.Is(err, ErrKey) {
+			if key, err := JWKSet([]byte(set)); !isBlank(err) {
 				t.Errorf("%s: %v, %v", set, key, err)
 			}
+		}
+	}
+	keys, blank := "["+jwkOf(secret)+"]", "["+jwkOf(nil)+"]"
+	for _, it := range []string{
+		`{"keys":` + blank + `,"KEYS":` + keys + `}`,
+		`{"keys":` + keys + `,"keys":` + blank + `}`,
+		`{"keys":` + keys + `,"\u006beys":` + blank + `}`,
+	} {
+		if key, err := JWKSet([]byte(it)); !isBlank(err) {
+			t.Errorf("%s: %v, %v", it, key, err)
 		}
 	}
 	for _, it := range []string{`{"KEYS":[{"kty":"oct","kid":"a","k":"c2VjcmV0"}]}`, `{"keys":{}}`, `{"keys":[5]}`, `[]`, `null`, `{}`} {
 		if key, err := JWKSet([]byte(it)); !errors.Is(err, ErrKey) {
 			t.Errorf("%s: %v, %v", it, key, err)
+		}
+	}
+}
+
+// TestKeysThatNobodyHas has keys that are not blank: the last value of a member counts, and a key without a secret verifies no token.
+func TestKeysThatNobodyHas(t *testing.T) {
+	token := signed(`{"alg":"HS256","kid":"a"}`, `{"exp":1700000001}`, secret)
+	for _, it := range []struct {
+		key  string
+		want error
+	}{
+		{`{"kty":"oct","kid":"a","k":"","k":"` + part(secret) + `"}`, nil},
+		{`{"kty":"RSA","kty":"oct","kid":"a","k":"` + part(secret) + `","K":""}`, nil},
+		{`{"kty":"oct","kid":"a","K":"` + part(secret) + `"}`, ErrKey},
+		{`{"kty":"oct","kid":"a"}`, ErrKey},
+		{`{"kty":"oct","kid":"a","k":5}`, ErrKey},
+	} {
+		key, err := JWK([]byte(it.key))
+		if err == nil {
+			_, err = parse(t, token, key, []string{"HS256"})
+		}
+		set, bySet := JWKSet([]byte(`{"keys":[` + it.key + `]}`))
+		if bySet == nil {
+			_, bySet = parse(t, token, set, []string{"HS256"})
+		}
+		if !errors.Is(err, it.want) || !errors.Is(bySet, it.want) {
+			t.Errorf("%s: %v, %v, not %v", it.key, err, bySet, it.want)
 		}
 	}
 }
