@@ -20,6 +20,9 @@ mod declared {
             header: *const u8, header_len: usize, claims: *const u8, claims_len: usize, secret: *const u8, secret_len: usize,
             buffer: *mut u8, buffer_len: usize, len: *mut usize,
         ) -> u32;
+        pub fn jwt_check_secret(secret: *const u8, secret_len: usize) -> u32;
+        pub fn jwt_check_key(key: *const u8, key_len: usize) -> u32;
+        pub fn jwt_check_set(set: *const u8, set_len: usize) -> u32;
         pub fn jwt_decode_header(token: *const u8, token_len: usize, buffer: *mut u8, buffer_len: usize, len: *mut usize) -> u32;
         pub fn jwt_status_text(status: u32, buffer: *mut u8, buffer_len: usize, len: *mut usize) -> u32;
     }
@@ -29,6 +32,9 @@ mod declared {
 type Decode = unsafe extern "C" fn(
     *const u8, usize, *const u8, usize, *const u8, usize, u64, *mut u8, usize, *mut usize,
 ) -> u32;
+
+/// A call that takes a key.
+type Check = unsafe extern "C" fn(*const u8, usize) -> u32;
 
 /// Returns the bytes that a call writes to a buffer of at first this size, or its status.
 fn written(size: usize, call: impl Fn(*mut u8, usize, *mut usize) -> u32) -> Result<Vec<u8>, u32> {
@@ -65,6 +71,20 @@ pub enum Kind {
     Secret,
     Jwk,
     Set,
+}
+
+/// Checks that not everybody can sign with a secret, or for a key or a key of a set.
+pub fn check(kind: Kind, key: &[u8]) -> Result<(), Error> {
+    let call: Check = match kind {
+        Kind::Secret => declared::jwt_check_secret,
+        Kind::Jwk => declared::jwt_check_key,
+        Kind::Set => declared::jwt_check_set,
+    };
+    // SAFETY: the slice has the length that is given
+    match unsafe { call(key.as_ptr(), key.len()) } {
+        status::OK => Ok(()),
+        status => Err(Error::from_status(status)),
+    }
 }
 
 pub fn decode(kind: Kind, token: &[u8], key: &[u8], options: &str, now: u64) -> Result<String, Error> {

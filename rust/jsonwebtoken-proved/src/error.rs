@@ -49,6 +49,7 @@ impl Error {
             status::INVALID_SIGNATURE => Error::Signature,
             status::INVALID_ALGORITHM_NAME | status::INVALID_ALGORITHM | status::MISSING_ALGORITHM => Error::Algorithm,
             status::UNSUPPORTED_ALGORITHM | status::INVALID_KEY_FORMAT | status::BAD_SET | status::BAD_KEY => Error::Key(text()),
+            status::BLANK_KEY => Error::Key("a secret is empty or has zeros alone, so that anyone can sign with it".to_string()),
             status::EXPIRED_SIGNATURE => Error::Expired,
             status::INVALID_ISSUER => Error::Issuer,
             status::INVALID_AUDIENCE => Error::Audience,

@@ -32,8 +32,10 @@ impl DecodingKey {
     }
 }
 
-/// Returns a key that the library reads. It reads options and key before the token, which is none here.
+/// Returns a key that the library reads, unless anyone can sign for it. The library reads options and key before the token, which is
+/// empty here.
 fn tried(kind: Kind, text: &str) -> Result<DecodingKey, Error> {
+    calls::check(kind, text.as_bytes())?;
     match calls::decode(kind, b"", text.as_bytes(), "{}", 0) {
         Err(Error::Malformed(text)) if text != "InvalidToken" => Err(Error::Key(text)),
         Err(Error::Malformed(_)) => {

@@ -1,5 +1,6 @@
 //! Tells secrets of HMAC from keys of other kinds. A public key is known, so that anyone could sign with its text as a secret.
 
+use crate::calls::{self, Kind};
 use crate::json::{self, Value};
 use crate::Error;
 
@@ -23,31 +24,34 @@ const SEQUENCE: u8 = 0x30;
 
 /// Returns these bytes, or [`Error::Key`] if they are refused as a secret.
 pub fn checked(secret: &[u8]) -> Result<Vec<u8>, Error> {
-    // HMAC pads a secret with zeros, so zeros alone are the same key as the empty secret
-    if secret.iter().all(|it| *it == 0) {
-        return Err(Error::Key("the secret is empty or has zeros alone, so that anyone can sign with it".to_string()));
-    }
+    calls::check(Kind::Secret, secret)?;
+    check_text(secret)?;
+    Ok(secret.to_vec())
+}
+
+/// Checks that a secret is not the text of a key of another kind.
+fn check_text(secret: &[u8]) -> Result<(), Error> {
     let kind = kind_of(secret).map(str::to_string);
     match kind.or_else(|| Some(format!("base64 of {}", kind_of(&from_base64(secret)?)?))) {
         Some(kind) => Err(Error::Key(format!("the secret is {kind}; a public key is given as a JSON Web Key"))),
-        None => Ok(secret.to_vec()),
+        None => Ok(()),
     }
 }
 
-/// Checks the secrets of a JSON Web Key, or of a set of them.
+/// Checks that no secret of a JSON Web Key, or of a set of them, is the text of a key of another kind.
 pub fn check_keys(text: &str) -> Result<(), Error> {
     let read = json::read(text.as_bytes()).ok_or_else(|| Error::Key("it is not JSON".to_string()))?;
     check_key(&read)?;
     read.members("keys").into_iter().flat_map(Value::values).try_for_each(check_key)
 }
 
-/// Checks the secret of a JSON Web Key. If a member is repeated, each of its values counts.
+/// Checks the secret of a JSON Web Key likewise. If a member is repeated, each of its values counts.
 fn check_key(key: &Value) -> Result<(), Error> {
     if key.members("kty").into_iter().all(|it| it.text() != Some("oct")) {
         return Ok(());
     }
-    let secrets = key.members("k").into_iter().filter_map(|it| from_base64(it.text()?.as_bytes()));
-    secrets.map(|it| checked(&it)).try_for_each(|it| it.map(|_| ()))
+    let mut secrets = key.members("k").into_iter().filter_map(|it| from_base64(it.text()?.as_bytes()));
+    secrets.try_for_each(|it| check_text(&it))
 }
 
 /// Returns the kind of the key that this is the text of, or `None` if it is not a key.

@@ -55,6 +55,7 @@ statuses! {
     BAD_HEADER = 104,
     BAD_CLAIMS = 105,
     BAD_KEY = 106,
+    BLANK_KEY = 107,
 }
 
 #[cfg(test)]
