@@ -1083,21 +1083,27 @@ ngx_http_jwt_try(ngx_http_jwt_verifier_t *verifier, ngx_str_t *key, ngx_uint_t i
 }
 
 
-/*
- * Whether anyone can sign by the key: it accepts a token by the empty secret. HMAC pads a secret with zeros, so that up to 128 zeros
- * are the same key (RFC 2104 section 2).
- */
-static ngx_uint_t
-ngx_http_jwt_is_anyones(ngx_str_t *key)
+/* Returns what is wrong with the key file, whatever the options, or NULL. */
+static const char *
+ngx_http_jwt_file_fault(ngx_http_jwt_verifier_t *verifier)
 {
-    size_t     len, token_len;
-    u_char     token[256], claims[16];
-    ngx_str_t  header = ngx_string("{\"alg\":\"HS512\"}");
-    ngx_str_t  options = ngx_string("{\"algorithms\":[\"HS512\"],\"required_spec_claims\":[]}");
+    switch ((verifier->is_set ? jwt_check_set : jwt_check_key)(verifier->key.data, verifier->key.len)) {
 
-    return jwt_encode_hmac(header.data, header.len, (u_char *) "{}", 2, NULL, 0, token, sizeof(token), &token_len) != JWT_OK
-           || jwt_decode_key(token, token_len, key->data, key->len, options.data, options.len, 0, claims, sizeof(claims), &len)
-              == JWT_OK;
+    case JWT_OK:
+        return NULL;
+
+    case JWT_BLANK_KEY:
+        return "has a secret that is empty or has zeros alone, by which anyone can sign";
+
+    case JWT_BAD_SET:
+        return "is not a JSON Web Key Set";
+
+    case JWT_OUT_OF_MEMORY:
+        return "no memory";
+
+    default:
+        return "has no key by which a token is verified";
+    }
 }
 
 
@@ -1105,11 +1111,7 @@ ngx_http_jwt_is_anyones(ngx_str_t *key)
 static const char *
 ngx_http_jwt_key_fault(ngx_http_jwt_verifier_t *verifier, ngx_str_t *key)
 {
-    if (ngx_http_jwt_try(verifier, key, 0) != JWT_INVALID_TOKEN) {
-        return "has no key by which a token is verified";
-    }
-
-    return ngx_http_jwt_is_anyones(key) ? "has a secret that is empty or has zeros alone, by which anyone can sign" : NULL;
+    return ngx_http_jwt_try(verifier, key, 0) == JWT_INVALID_TOKEN ? NULL : "has no key by which a token is verified";
 }
 
 
@@ -1121,20 +1123,12 @@ ngx_http_jwt_set_fault(ngx_http_jwt_verifier_t *verifier, ngx_str_t *keys)
     ngx_str_t    key;
     ngx_uint_t   count = 0;
 
-    if (ngx_http_jwt_try(verifier, &verifier->key, 1) == JWT_BAD_SET) {
-        return "is not a JSON Web Key Set";
-    }
-
     last = keys->data + keys->len;
 
     for (p = ngx_http_jwt_space(keys->data + 1, last); p < last && *p == '{'; p = ngx_http_jwt_space(p, last)) {
         key.data = p;
         p = ngx_http_jwt_skip_value(p, last);
         key.len = p - key.data;
-
-        if (ngx_http_jwt_is_anyones(&key)) {
-            return "has a secret that is empty or has zeros alone, by which anyone can sign";
-        }
 
         count += ngx_http_jwt_key_fault(verifier, &key) == NULL;
         p = ngx_http_jwt_space(p, last);
@@ -1183,6 +1177,12 @@ ngx_http_jwt_verifier_fault(ngx_http_jwt_verifier_t *verifier, ngx_array_t *algo
     }
 
     verifier->is_set = ngx_http_jwt_member(&verifier->key, (u_char *) "keys", 4, &keys) == NGX_OK;
+
+    fault = ngx_http_jwt_file_fault(verifier);
+    if (fault != NULL) {
+        return fault;
+    }
+
     return verifier->is_set ? ngx_http_jwt_set_fault(verifier, &keys) : ngx_http_jwt_key_fault(verifier, &verifier->key);
 }
 

@@ -374,8 +374,23 @@ BAD_KEYS = [
     ('{"keys":[{"kty":"oct","kid":"b","k":"YQ"},{"kty":"oct","kid":"a","k":"AAAA"}]}', "anyone can sign"),
     ('{"kty":"oct","k":"AA"}', "anyone can sign"),
     ('{"kty":"\\u006fct","\\u006b":"AA"}', "anyone can sign"),
+    ('{"kty":"oct","k":"","K":"c2VjcmV0"}', "anyone can sign"),
+    ('{"kty":"oct","k":"","KTY":"RSA"}', "anyone can sign"),
+    ('{"kty":"oct","k":"c2VjcmV0","\\u006b":""}', "anyone can sign"),
+    ('{"kty":"RSA","k":"","kty":"oct"}', "anyone can sign"),
+    ('{"keys":[{"kty":"oct","kid":"a","k":"YQ"}],"\\u006beys":[{"kty":"oct","kid":"a","k":""}]}', "anyone can sign"),
     ('{"kty":"oct","k":"a b"}', "no key by which"),
     ("x" * 1048577, "1048576 bytes"),
+]
+for zeros in (bytes(size) for size in (1, 64, 65, 128, 129, 300)):
+    BAD_KEYS.append((json.dumps(oct_key("a", zeros)), "anyone can sign"))
+    BAD_KEYS.append((json.dumps({"keys": [oct_key("b"), oct_key("a", zeros), oct_key("c")]}), "anyone can sign"))
+# the last value of a member counts, and one byte that is not 0
+GOOD_KEYS = [
+    '{"kty":"oct","k":"","k":"YQ"}',
+    '{"keys":[{"kty":"oct","kid":"a","k":""}],"keys":[{"kty":"oct","kid":"a","k":"YQ"}]}',
+    '{"keys":[{"kty":"oct","kid":"b","k":"AA="},{"kty":"oct","kid":"a","k":"YQ"}]}',
+    json.dumps(oct_key("a", bytes(300) + b"a")),
 ]
 
 
@@ -392,6 +407,10 @@ def configurations(server):
         server.write("bad.json", keys)
         status, text = server.check("auth_jwt r; auth_jwt_key_file {work}/bad.json; auth_jwt_alg HS256;")
         test(f"{keys[:40]}: {status} {text[-300:]}", status == 1 and said in text)
+    for keys in GOOD_KEYS:
+        server.write("good.json", keys)
+        status, text = server.check("auth_jwt r; auth_jwt_key_file {work}/good.json; auth_jwt_alg HS256;")
+        test(f"{keys[:40]}: {status} {text[-300:]}", status == 0)
     for conf in (SERVER, "auth_jwt_cache 1048576;"):
         status, text = server.check(conf)
         test(f"a right one: {text[-300:]}", status == 0)
