@@ -66,15 +66,28 @@ def secrets():
     for it in ("", b"", bytearray(), memoryview(b""), bytes(32), "\0", "\ud800"):
         slip(ValueError, "secret", jwt.decode, FORGED, it, now=0, **OPTIONS)
         slip(ValueError, "secret", jwt.encode, {"alg": "HS256"}, {}, it)
-    for k in ("", "A" * 43):
-        for key_set in ({"keys": [{**KEY, "k": k}]}, json.dumps({"keys": [{**KEY, "k": k}]})):
-            slip(ValueError, "key_set", jwt.decode_set, FORGED, key_set, now=0, **OPTIONS)
-        for key in ({**KEY, "k": k}, json.dumps({**KEY, "k": k})):
-            slip(ValueError, "key", jwt.decode_key, FORGED, key, now=0, **OPTIONS)
+    for zeros in map(bytes, (0, 1, 64, 65, 129, 300)):
+        slip(ValueError, "secret", jwt.decode, FORGED, zeros, now=0, **OPTIONS)
+        slip(ValueError, "secret", jwt.encode, {"alg": "HS256"}, {}, zeros)
+        for key in ({**KEY, "k": tokens.part(zeros).decode()}, {**KEY, "k": tokens.part(zeros).decode(), "K": "c2VjcmV0", "KTY": "RSA"}):
+            blank_keys(key)
+    for it in ('{"kty":"oct","kid":"a","k":"c2VjcmV0","k":""}', '{"kty":"RSA","kid":"a","k":"c2VjcmV0","\\u006b":"","kty":"oct"}'):
+        slip(ValueError, "secret of key", jwt.decode_key, FORGED, it, now=0, **OPTIONS)
+    refused_by_key(jwt.InvalidSignature, 2, FORGED, '{"kty":"oct","kid":"a","k":"","k":"c2VjcmV0"}')
     for it in (SECRET, SECRET.decode(), bytearray(SECRET), memoryview(SECRET), memoryview(b"".join(bytes([it, 7]) for it in SECRET))[::2]):
         test(f"{type(it).__name__} as secret", jwt.decode(TOKEN, it, now=0, **OPTIONS) == {"exp": 1000})
     for it in (TOKEN.decode(), bytearray(TOKEN), memoryview(TOKEN)):
         test(f"{type(it).__name__} as token", jwt.decode(it, SECRET, now=0, **OPTIONS) == {"exp": 1000})
+
+
+def blank_keys(key):
+    """Counts whether a key is refused by which anyone can sign, and a set that has it among others."""
+    other = {"kty": "oct", "kid": "b", "k": "c2VjcmV0"}
+    for it in (key, json.dumps(key)):
+        slip(ValueError, "secret of key", jwt.decode_key, FORGED, it, now=0, **OPTIONS)
+    for it in ({"keys": [key]}, {"keys": [other, key, other]}):
+        slip(ValueError, "secret of key_set", jwt.decode_set, FORGED, it, now=0, **OPTIONS)
+        slip(ValueError, "secret of key_set", jwt.decode_set, signed({"exp": 1000}, b"secret", kid="b"), json.dumps(it), now=0, **OPTIONS)
 
 
 def texts():

@@ -28,10 +28,20 @@ static const char set[] = "{\"keys\":[{\"kty\":\"OKP\",\"kid\":\"ed\",\"crv\":\"
 static const char eddsa[] = "eyJhbGciOiJFZERTQSIsImtpZCI6ImVkIiwidHlwIjoiSldUIn0"
                             ".eyJzdWIiOiJiQGIuY29tIiwiY29tcGFueSI6IkFDTUUiLCJleHAiOjI1MzI1MjQ4OTF9"
                             ".V2f0xjCRmHrHKsWhMzrp91OvOYSkwrdUIAjseMaWsY8Asjt9PsiSUrdH4sW2H_e7eJ_Xc2pFoN_vAUCvw2njAw";
+/* a token by the empty secret, as Python's hmac signed it, and keys of zeros alone, which verify it too (RFC 2104 section 2) */
+static const char hs256[] = "eyJhbGciOiAiSFMyNTYiLCAia2lkIjogImEifQ.eyJleHAiOjEzMDA4MTkzODB9"
+                            ".eRrCS5DjEElEBX68rPx8LXOQ1KnmkWd3CciR1QXTRZ4";
+static const char zeros_key[] = "{\"kty\":\"oct\",\"kid\":\"a\",\"k\":\"AAAA\"}";
+static const char zeros_set[] = "{\"keys\":[{\"kty\":\"oct\",\"kid\":\"a\",\"k\":\"AAAA\"}]}";
 
 /* The form of jwt_decode_key and of jwt_decode_set. */
 typedef uint32_t decoder(const uint8_t *, size_t, const uint8_t *, size_t, const uint8_t *, size_t, uint64_t, uint8_t *,
                          size_t, size_t *);
+
+/* Returns JWT_OK, or the status of a key or a set by which anyone can sign. Once is enough, when the keys are read. */
+static uint32_t check(decoder *decode, const char *keys) {
+    return (decode == jwt_decode_set ? jwt_check_set : jwt_check_key)((const uint8_t *)keys, strlen(keys));
+}
 
 /* Returns whether the claims, or the refusal's text, are these. The options list the algorithm that the key is for: the
    library compares neither the key's own alg nor its use with the token. */
@@ -40,8 +50,10 @@ static bool says(decoder *decode, const char *token, const char *keys, const cha
     uint8_t buffer[512];
     size_t len;
     int options_len = snprintf(options, sizeof options, "{\"algorithms\":[\"%s\"]}", algorithm);
-    uint32_t status = decode((const uint8_t *)token, strlen(token), (const uint8_t *)keys, strlen(keys),
-                             (const uint8_t *)options, (size_t)options_len, 1300819380, buffer, sizeof buffer, &len);
+    uint32_t status = check(decode, keys);
+    if (status == JWT_OK)
+        status = decode((const uint8_t *)token, strlen(token), (const uint8_t *)keys, strlen(keys), (const uint8_t *)options,
+                        (size_t)options_len, 1300819380, buffer, sizeof buffer, &len);
     if (status != JWT_OK) jwt_status_text(status, buffer, sizeof buffer, &len);
     printf("%.*s\n", (int)len, (const char *)buffer);
     return len == strlen(wanted) && memcmp(buffer, wanted, len) == 0;
@@ -56,6 +68,8 @@ int main(void) {
     right += says(jwt_decode_key, rs256, rsa_key, "PS256", "InvalidAlgorithm");
     right += says(jwt_decode_set, rs256, set, "RS256", "NoKey");
     right += says(jwt_decode_key, rs256, "", "RS256", "Key not understood");
-    printf("%d tokens by keys from C, %d failed\n", right, 7 - right);
-    return right != 7;
+    right += says(jwt_decode_key, hs256, zeros_key, "HS256", "Anyone can sign");
+    right += says(jwt_decode_set, hs256, zeros_set, "HS256", "Anyone can sign");
+    printf("%d tokens by keys from C, %d failed\n", right, 9 - right);
+    return right != 9;
 }

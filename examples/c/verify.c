@@ -11,13 +11,10 @@ static const char options[] = "{\"algorithms\":[\"HS256\"]}";
 /* A real secret comes from a file, and is random. */
 static const char secret[] = "0123456789abcdef0123456789abcdef";
 
-/* Returns whether a secret is long enough for HS256 (RFC 7518 section 3.2). The library takes a shorter one too, and even the
-   empty one, by which anyone can sign: if a file of keys can't be read, say, a secret is easily empty. */
-static bool is_long_enough(const uint8_t *bytes, size_t len) {
-    bool has_zeros_alone = true;
-    for (size_t i = 0; i < len; i++)
-        if (bytes[i] != 0) has_zeros_alone = false;
-    return len >= 32 && !has_zeros_alone;
+/* Returns whether a secret serves for HS256: it is long enough (RFC 7518 section 3.2), and not everybody can sign with it. The
+   calls that verify take any: if a file of keys can't be read, say, a secret is easily empty. */
+static bool serves(const uint8_t *bytes, size_t len) {
+    return len >= 32 && jwt_check_secret(bytes, len) == JWT_OK;
 }
 
 /* Prints the first test that the token fails. This is for the log of those who run the verifier: whoever sent the token is told that
@@ -34,9 +31,9 @@ static void print_failed_test(const void *key, size_t key_len, uint64_t now) {
 static bool says(const void *key, size_t key_len, uint64_t now, const char *wanted) {
     uint8_t buffer[512];
     size_t len;
-    if (!is_long_enough(key, key_len)) {
-        printf("the secret is too short for HS256\n");
-        return strcmp(wanted, "too short") == 0;
+    if (!serves(key, key_len)) {
+        printf("the secret is too short for HS256, or anyone can sign with it\n");
+        return strcmp(wanted, "bad secret") == 0;
     }
     uint32_t status = jwt_decode_hmac((const uint8_t *)token, strlen(token), key, key_len, (const uint8_t *)options,
                                       strlen(options), now, buffer, sizeof buffer, &len);
@@ -49,13 +46,14 @@ static bool says(const void *key, size_t key_len, uint64_t now, const char *want
 }
 
 int main(void) {
-    static const char other[] = "another secret of 32 or more bytes", zeros[32] = {0};
+    static const char other[] = "another secret of 32 or more bytes", zeros[300] = {0};
     int right = says(secret, strlen(secret), 2532524951, "{\"company\":\"ACME\",\"exp\":2532524891,\"sub\":\"b@b.com\"}");
     right += says(secret, strlen(secret), 2532524952, "ExpiredSignature");
     right += says(other, strlen(other), 2532524951, "InvalidSignature");
-    right += says("", 0, 2532524951, "too short");
-    right += says("secret", 6, 2532524951, "too short");
-    right += says(zeros, sizeof zeros, 2532524951, "too short");
-    printf("%d tokens by a secret from C, %d failed\n", right, 6 - right);
-    return right != 6;
+    right += says("", 0, 2532524951, "bad secret");
+    right += says("secret", 6, 2532524951, "bad secret");
+    right += says(zeros, 32, 2532524951, "bad secret");
+    right += says(zeros, sizeof zeros, 2532524951, "bad secret");
+    printf("%d tokens by a secret from C, %d failed\n", right, 7 - right);
+    return right != 7;
 }

@@ -32,7 +32,6 @@ const (
 	set = `{"keys":[{"kty":"oct","kid":"a","k":"AyM1SysPpbyDfgZld3umj1qzKObwVMkoqQ-EstJQLr_T-1qS0gZH75aKtMN3Yj0iPS4hcgUuTwjAzZr1Z9CAow"},` +
 		`{"kty":"oct","kid":"b","k":"MDEyMzQ1Njc4OWFiY2RlZjAxMjM0NTY3ODlhYmNkZWY"}]}`
 	emptyKey = `{"kty":"oct","kid":"b","k":""}`
-	emptySet = `{"keys":[` + emptyKey + `]}`
 
 	// RFC 7515 appendix A.3
 	payload = "eyJpc3MiOiJqb2UiLA0KICJleHAiOjEzMDA4MTkzODAsDQogImh0dHA6Ly9leGFtcGxlLmNvbS9pc19yb290Ijp0cnVlfQ"
@@ -164,22 +163,29 @@ func slips() [][2]string {
 	upper := jwt.Options{Algorithms: []string{"HS256"}, RequiredSpecClaims: []string{"EXP"}}
 	noExp := jwt.Options{Algorithms: []string{"HS256"}, RequiredSpecClaims: none}
 	part, _ := jwt.PartToCheck([]byte(named))
-	return [][2]string{
-		{bySecret(forged, "", hs256, last), empty},
-		{bySecret(forged, string(make([]byte, 32)), hs256, last), empty},
-		{byKey(forged, emptyKey, "HS256"), empty},
-		{byKey(forged, strings.Replace(emptyKey, `""`, `"AAAA"`, 1), "HS256"), empty},
-		{bySet(forged, emptySet, hs256), empty},
-		{bySet(forged, strings.Replace(emptySet, `""`, `"AAAA"`, 1), hs256), empty},
-		{issued(`{"alg":"HS256"}`, claims, ""), empty},
-		{issued(`{"alg":"HS256"}`, claims, string(make([]byte, 32))), empty},
+	rows := [][2]string{}
+	for _, size := range []int{0, 1, 32, 64, 65, 129, 300} {
+		zeros := make([]byte, size)
+		key := strings.Replace(emptyKey, `""`, `"`+base64.RawURLEncoding.EncodeToString(zeros)+`"`, 1)
+		rows = append(rows, [][2]string{
+			{bySecret(forged, string(zeros), hs256, last), empty},
+			{byKey(forged, key, "HS256"), empty},
+			{bySet(forged, `{"keys":[`+key+`]}`, hs256), empty},
+			{bySet(named, strings.Replace(set, `},`, `},`+key+`,`, 1), hs256), empty},
+			{issued(`{"alg":"HS256"}`, claims, string(zeros)), empty},
+		}...)
+	}
+	return append(rows, [][2]string{
+		{byKey(forged, `{"kty":"oct","k":"","K":"c2VjcmV0"}`, "HS256"), empty},
+		{byKey(forged, `{"kty":"oct","k":"c2VjcmV0","k":""}`, "HS256"), empty},
+		{byKey(forged, `{"kty":"oct","k":"","k":"c2VjcmV0"}`, "HS256"), "InvalidSignature"},
 		{bySecret(named, secret, jti, last), unknown + `: "jti"`},
 		{bySecret(named, secret, upper, last), unknown + `: "EXP"`},
 		{bySet(named, set, jti), unknown + `: "jti"`},
 		{shown(jwt.DecodeByVerdict([]byte(named), part, true, jti, last)), unknown + `: "jti"`},
 		{bySecret(issued(`{"alg":"HS256"}`, `{}`, secret), secret, hs256, last), "Missing required claim: exp"},
 		{bySecret(issued(`{"alg":"HS256"}`, `{}`, secret), secret, noExp, last), "{}"},
-	}
+	}...)
 }
 
 func main() {

@@ -29,10 +29,14 @@ _PROTOTYPES = {
     "jwt_encode_signature": [*_BYTES, *_BYTES, ctypes.c_uint32, *_BYTES, *_BYTES, *_BUFFER],
     "jwt_ecdsa_signature": [*_BYTES, ctypes.c_uint32, *_BUFFER],
     "jwt_thumbprint": [*_BYTES, ctypes.c_uint32, *_BUFFER],
+    "jwt_check_secret": _BYTES,
+    "jwt_check_key": _BYTES,
+    "jwt_check_set": _BYTES,
     "jwt_status_text": [ctypes.c_uint32, *_BUFFER],
 }
 _OUT_OF_MEMORY = 22
 _TOO_SMALL = 100
+_BLANK_KEY = 107
 
 # The parts of a token that have to be checked: the algorithm that its header names, the message and the signature's bytes.
 SignedPart = collections.namedtuple("SignedPart", "algorithm message signature")
@@ -190,12 +194,26 @@ def _bytes(name, value):
     raise _wrong_type(name, "str or bytes-like", value)
 
 
+def _checked(call, name, value):
+    """Returns a secret, or JSON of a key or a set, by which not everybody can sign: the library tells, by the call that takes it."""
+    status = call(value, len(value))
+    if status == _BLANK_KEY:
+        raise ValueError(f"{name} is empty or has zeros alone: anyone can sign with it")
+    if status:
+        raise _exception(status)
+    return value
+
+
 def _secret(value):
-    secret = _bytes("secret", value)
-    # HMAC pads a secret with zeros, so that zeros alone are the same key as none
-    if not any(secret):
-        raise ValueError("secret is empty or has zeros alone: anyone can sign with it")
-    return secret
+    return _checked(_library.jwt_check_secret, "secret", _bytes("secret", value))
+
+
+def _key(value):
+    return _checked(_library.jwt_check_key, "the secret of key", _json_or_text("key", value))
+
+
+def _key_set(value):
+    return _checked(_library.jwt_check_set, "a secret of key_set", _json_or_text("key_set", value))
 
 
 def _json(name, value):
@@ -296,32 +314,19 @@ def decode(token, secret, now=None, **options):
     return json.loads(_call(_library.jwt_decode_hmac, *texts, _moment(now)))
 
 
-def _check_secret(name, token, options, now):
-    """Checks that a token that was accepted is not one of the empty secret, which the key would then be."""
-    try:
-        _call(_library.jwt_decode_hmac, *_slices(token, b"", options), now)
-    except (InvalidSignature, UnsupportedAlgorithm):  # another secret, or no HMAC
-        return
-    raise ValueError(f"the secret of {name} is empty or has zeros alone: anyone can sign with it")
-
-
 def decode_key(token, key, now=None, **options):
     """Returns the claims of a token that a key verifies, by any algorithm: a JSON Web Key of any kind, as a dict or JSON.
 
     The options fix the algorithms: list those that the key is for. Its own alg, use and key_ops are not looked at.
     """
-    token, key, options, now = _bytes("token", token), _json_or_text("key", key), _options(options), _moment(now)
-    claims = _call(_library.jwt_decode_key, *_slices(token, key, options), now)
-    _check_secret("key", token, options, now)
-    return json.loads(claims)
+    texts = _slices(_bytes("token", token), _key(key), _options(options))
+    return json.loads(_call(_library.jwt_decode_key, *texts, _moment(now)))
 
 
 def decode_set(token, key_set, now=None, **options):
     """Returns the claims of a token, verified by any algorithm with the key that its header names of a set: a dict, or JSON."""
-    token, key_set, options, now = _bytes("token", token), _json_or_text("key_set", key_set), _options(options), _moment(now)
-    claims = _call(_library.jwt_decode_set, *_slices(token, key_set, options), now)
-    _check_secret("key_set", token, options, now)
-    return json.loads(claims)
+    texts = _slices(_bytes("token", token), _key_set(key_set), _options(options))
+    return json.loads(_call(_library.jwt_decode_set, *texts, _moment(now)))
 
 
 def signed_part(token):

@@ -34,8 +34,7 @@ const (
 	NoKey                uint32 = C.JWT_NO_KEY
 )
 
-// ErrEmptySecret is returned for a secret that is empty or has zeros alone, by which anyone can sign: HMAC pads a secret with
-// zeros, so that both are the same key.
+// ErrEmptySecret is returned for a secret that is empty or has zeros alone, by which anyone can sign, as such or in a key or a set.
 var ErrEmptySecret = errors.New("jwt: the secret is empty or has zeros alone")
 
 // ErrUnknownClaim is returned for a required claim that the library would ignore.
@@ -113,15 +112,6 @@ func slice(bytes []byte) (*C.uint8_t, C.size_t) {
 	return (*C.uint8_t)(unsafe.Pointer(&bytes[0])), C.size_t(len(bytes))
 }
 
-func isEmpty(secret []byte) bool {
-	for _, it := range secret {
-		if it != 0 {
-			return false
-		}
-	}
-	return true
-}
-
 // fill returns the bytes that a call writes to a buffer, which is made larger once if it is too small.
 func fill(call func(buffer *C.uint8_t, size C.size_t, length *C.size_t) C.uint32_t) ([]byte, C.uint32_t) {
 	buffer := make([]byte, 1024)
@@ -141,85 +131,94 @@ func fill(call func(buffer *C.uint8_t, size C.size_t, length *C.size_t) C.uint32
 
 func given(call func(buffer *C.uint8_t, size C.size_t, length *C.size_t) C.uint32_t) ([]byte, error) {
 	bytes, status := fill(call)
-	if status == C.JWT_OK {
-		return bytes, nil
+	if err := errorOf(status); err != nil {
+		return nil, err
+	}
+	return bytes, nil
+}
+
+// errorOf returns the error of a status, which is nil for JWT_OK.
+func errorOf(status C.uint32_t) error {
+	switch status {
+	case C.JWT_OK:
+		return nil
+	case C.JWT_BLANK_KEY:
+		return ErrEmptySecret
 	}
 	text, _ := fill(func(buffer *C.uint8_t, size C.size_t, length *C.size_t) C.uint32_t {
 		return C.jwt_status_text(status, buffer, size, length)
 	})
-	return nil, Refused{Status: uint32(status), text: string(text)}
+	return Refused{Status: uint32(status), text: string(text)}
 }
 
-func decode(token, secret, options []byte, now uint64) ([]byte, error) {
-	return given(func(buffer *C.uint8_t, size C.size_t, length *C.size_t) C.uint32_t {
-		tokenAt, tokenLen := slice(token)
-		secretAt, secretLen := slice(secret)
-		optionsAt, optionsLen := slice(options)
-		return C.jwt_decode_hmac(tokenAt, tokenLen, secretAt, secretLen, optionsAt, optionsLen, C.uint64_t(now), buffer, size, length)
-	})
+// checkSecret returns ErrEmptySecret if anyone can sign with a secret, as the library tells.
+func checkSecret(secret []byte) error {
+	at, length := slice(secret)
+	return errorOf(C.jwt_check_secret(at, length))
+}
+
+// checkKey returns ErrEmptySecret if anyone can sign for a key.
+func checkKey(key []byte) error {
+	at, length := slice(key)
+	return errorOf(C.jwt_check_key(at, length))
+}
+
+// checkSet returns ErrEmptySecret if anyone can sign for a key of a set.
+func checkSet(set []byte) error {
+	at, length := slice(set)
+	return errorOf(C.jwt_check_set(at, length))
 }
 
 // Decode returns the claims of a token that a secret verifies, by HMAC.
 func Decode(token, secret []byte, options Options, now uint64) ([]byte, error) {
-	if isEmpty(secret) {
-		return nil, ErrEmptySecret
+	if err := checkSecret(secret); err != nil {
+		return nil, err
 	}
 	text, err := options.text()
 	if err != nil {
 		return nil, err
 	}
-	return decode(token, secret, text, now)
-}
-
-// checked returns claims that were accepted, unless the empty secret verifies the token too: the key is that secret then.
-func checked(claims, token, options []byte, now uint64) ([]byte, error) {
-	_, err := decode(token, nil, options, now)
-	if err == nil {
-		return nil, ErrEmptySecret
-	}
-	// another secret, or no HMAC
-	refused, isRefused := err.(Refused)
-	if isRefused && (refused.Status == InvalidSignature || refused.Status == UnsupportedAlgorithm) {
-		return claims, nil
-	}
-	return nil, err
+	return given(func(buffer *C.uint8_t, size C.size_t, length *C.size_t) C.uint32_t {
+		tokenAt, tokenLen := slice(token)
+		secretAt, secretLen := slice(secret)
+		optionsAt, optionsLen := slice(text)
+		return C.jwt_decode_hmac(tokenAt, tokenLen, secretAt, secretLen, optionsAt, optionsLen, C.uint64_t(now), buffer, size, length)
+	})
 }
 
 // DecodeWithKey returns the claims of a token that a key verifies, by any algorithm: a JSON Web Key of any kind. The options fix the
 // algorithms: list those that the key is for. Its own alg, use and key_ops are not looked at.
 func DecodeWithKey(token, key []byte, options Options, now uint64) ([]byte, error) {
+	if err := checkKey(key); err != nil {
+		return nil, err
+	}
 	text, err := options.text()
 	if err != nil {
 		return nil, err
 	}
-	claims, err := given(func(buffer *C.uint8_t, size C.size_t, length *C.size_t) C.uint32_t {
+	return given(func(buffer *C.uint8_t, size C.size_t, length *C.size_t) C.uint32_t {
 		tokenAt, tokenLen := slice(token)
 		keyAt, keyLen := slice(key)
 		optionsAt, optionsLen := slice(text)
 		return C.jwt_decode_key(tokenAt, tokenLen, keyAt, keyLen, optionsAt, optionsLen, C.uint64_t(now), buffer, size, length)
 	})
-	if err != nil {
-		return nil, err
-	}
-	return checked(claims, token, text, now)
 }
 
 // DecodeWithSet returns the claims of a token, verified by any algorithm with the key that its header names of a set.
 func DecodeWithSet(token, set []byte, options Options, now uint64) ([]byte, error) {
+	if err := checkSet(set); err != nil {
+		return nil, err
+	}
 	text, err := options.text()
 	if err != nil {
 		return nil, err
 	}
-	claims, err := given(func(buffer *C.uint8_t, size C.size_t, length *C.size_t) C.uint32_t {
+	return given(func(buffer *C.uint8_t, size C.size_t, length *C.size_t) C.uint32_t {
 		tokenAt, tokenLen := slice(token)
 		setAt, setLen := slice(set)
 		optionsAt, optionsLen := slice(text)
 		return C.jwt_decode_set(tokenAt, tokenLen, setAt, setLen, optionsAt, optionsLen, C.uint64_t(now), buffer, size, length)
 	})
-	if err != nil {
-		return nil, err
-	}
-	return checked(claims, token, text, now)
 }
 
 // PartToCheck returns the parts of a token that have to be checked. Nothing is verified.
@@ -263,8 +262,8 @@ func DecodeHeader(token []byte) ([]byte, error) {
 
 // Encode returns the token of a header and claims, signed with a secret, by HMAC.
 func Encode(header, claims, secret []byte) ([]byte, error) {
-	if isEmpty(secret) {
-		return nil, ErrEmptySecret
+	if err := checkSecret(secret); err != nil {
+		return nil, err
 	}
 	return given(func(buffer *C.uint8_t, size C.size_t, length *C.size_t) C.uint32_t {
 		headerAt, headerLen := slice(header)

@@ -52,12 +52,16 @@ mod calls {
             signature: *const u8, signature_len: usize, verdict: bool, options: *const u8, options_len: usize,
             now: u64, buffer: *mut u8, buffer_len: usize, len: *mut usize,
         ) -> u32;
+        pub fn jwt_check_secret(secret: *const u8, secret_len: usize) -> u32;
+        pub fn jwt_check_key(key: *const u8, key_len: usize) -> u32;
+        pub fn jwt_check_set(set: *const u8, set_len: usize) -> u32;
         pub fn jwt_decode_header(token: *const u8, token_len: usize, buffer: *mut u8, buffer_len: usize, len: *mut usize) -> u32;
         pub fn jwt_status_text(status: u32, buffer: *mut u8, buffer_len: usize, len: *mut usize) -> u32;
     }
 }
 
 const TOO_SMALL: u32 = 100;
+const BLANK_KEY: u32 = 107;
 
 /// The algorithms, in the order of their numbers in `include/jwtproved.h`, from 1 on.
 pub const ALGORITHMS: [&str; 12] = [
@@ -99,8 +103,7 @@ impl std::error::Error for Refused {}
 /// The error of a call that takes a secret, a key or a set of keys, or of text that is not a [`Claim`].
 #[derive(Clone, Debug, PartialEq, Eq)]
 pub enum Error {
-    /// The secret, the key, or the key of the set, is empty or has zeros alone. HMAC pads a secret with zeros, so that both are the same
-    /// key, by which anyone can sign.
+    /// The secret, that of the key, or one of the set, is empty or has zeros alone, so that anyone can sign with it.
     EmptySecret,
     /// The library has no rule for a claim of this name, and would ignore that it is required.
     UnknownClaim(String),
@@ -169,75 +172,67 @@ fn written(call: impl Fn(*mut u8, usize, *mut usize) -> u32) -> Result<Vec<u8>, 
 }
 
 fn given(call: impl Fn(*mut u8, usize, *mut usize) -> u32) -> Result<Vec<u8>, Refused> {
-    written(call).map_err(|status| {
-        let text = written(|buffer, size, len| unsafe { calls::jwt_status_text(status, buffer, size, len) });
-        Refused { status, text: String::from_utf8(text.unwrap_or_default()).unwrap_or_default() }
-    })
+    written(call).map_err(refused)
+}
+
+fn refused(status: u32) -> Refused {
+    let text = written(|buffer, size, len| unsafe { calls::jwt_status_text(status, buffer, size, len) });
+    Refused { status, text: String::from_utf8(text.unwrap_or_default()).unwrap_or_default() }
 }
 
 fn text(bytes: Vec<u8>) -> String {
     String::from_utf8(bytes).expect("JSON from the library is UTF-8")
 }
 
-fn is_empty(secret: &[u8]) -> bool {
-    secret.iter().all(|byte| *byte == 0)
-}
-
-fn decode_hmac(token: &str, secret: &[u8], options: &str, now: u64) -> Result<String, Refused> {
-    given(|buffer, size, len| unsafe {
-        calls::jwt_decode_hmac(
-            token.as_ptr(), token.len(), secret.as_ptr(), secret.len(), options.as_ptr(), options.len(), now, buffer, size, len,
-        )
-    })
-    .map(text)
+/// Checks by a call that not everybody can sign with a secret, or for a key or a key of a set.
+fn check(call: unsafe extern "C" fn(*const u8, usize) -> u32, key: &[u8]) -> Result<(), Error> {
+    match unsafe { call(key.as_ptr(), key.len()) } {
+        0 => Ok(()),
+        BLANK_KEY => Err(Error::EmptySecret),
+        status => Err(refused(status).into()),
+    }
 }
 
 /// Returns the claims of a token that a secret verifies, by HMAC.
 pub fn decode(token: &str, secret: &[u8], options: &Options, now: u64) -> Result<String, Error> {
-    if is_empty(secret) {
-        return Err(Error::EmptySecret);
-    }
-    Ok(decode_hmac(token, secret, &options.to_json(), now)?)
-}
-
-/// Returns claims that were accepted, unless the empty secret verifies the token too: the key is that secret then.
-fn checked(claims: String, token: &str, options: &str, now: u64) -> Result<String, Error> {
-    match decode_hmac(token, b"", options, now) {
-        Ok(_) => Err(Error::EmptySecret),
-        // another secret, or no HMAC
-        Err(Refused { status: Refused::INVALID_SIGNATURE | Refused::UNSUPPORTED_ALGORITHM, .. }) => Ok(claims),
-        Err(refused) => Err(refused.into()),
-    }
+    check(calls::jwt_check_secret, secret)?;
+    let options = options.to_json();
+    let claims = given(|buffer, size, len| unsafe {
+        calls::jwt_decode_hmac(
+            token.as_ptr(), token.len(), secret.as_ptr(), secret.len(), options.as_ptr(), options.len(), now, buffer, size, len,
+        )
+    })?;
+    Ok(text(claims))
 }
 
 /// Returns the claims of a token that a key verifies, by any algorithm: a JSON Web Key of any kind, which is JSON. The options fix
 /// the algorithms: list those that the key is for. Its own `alg`, `use` and `key_ops` are not looked at.
 pub fn decode_with_key(token: &str, key: &str, options: &Options, now: u64) -> Result<String, Error> {
+    check(calls::jwt_check_key, key.as_bytes())?;
     let options = options.to_json();
     let claims = given(|buffer, size, len| unsafe {
         calls::jwt_decode_key(
             token.as_ptr(), token.len(), key.as_ptr(), key.len(), options.as_ptr(), options.len(), now, buffer, size, len,
         )
     })?;
-    checked(text(claims), token, &options, now)
+    Ok(text(claims))
 }
 
 /// Returns the claims of a token, verified by any algorithm with the key that its header names of a set, which is JSON.
 pub fn decode_with_set(token: &str, set: &str, options: &Options, now: u64) -> Result<String, Error> {
+    check(calls::jwt_check_set, set.as_bytes())?;
     let options = options.to_json();
     let claims = given(|buffer, size, len| unsafe {
         calls::jwt_decode_set(
             token.as_ptr(), token.len(), set.as_ptr(), set.len(), options.as_ptr(), options.len(), now, buffer, size, len,
         )
     })?;
-    checked(text(claims), token, &options, now)
+    Ok(text(claims))
 }
 
 /// Returns the token of a header and claims, which are JSON, signed with a secret, by HMAC.
 pub fn encode(header: &str, claims: &str, secret: &[u8]) -> Result<String, Error> {
-    if is_empty(secret) {
-        return Err(Error::EmptySecret);
-    }
+    check(calls::jwt_check_secret, secret)?;
     let token = given(|buffer, size, len| unsafe {
         calls::jwt_encode_hmac(
             header.as_ptr(), header.len(), claims.as_ptr(), claims.len(), secret.as_ptr(), secret.len(), buffer, size, len,
