@@ -1,6 +1,6 @@
 /*
  * For test.py, in front of the libraries of an nginx (LD_PRELOAD): the time of day is the number in the file MOMENT, and each token
- * that the library is asked about adds a byte to the file CALLS.
+ * and each key or set that the library is asked about adds a byte to the file CALLS.
  */
 #define _GNU_SOURCE
 #include <dlfcn.h>
@@ -12,6 +12,7 @@
 
 typedef uint32_t decode(const uint8_t *, size_t, const uint8_t *, size_t, const uint8_t *, size_t, uint64_t, uint8_t *, size_t,
                         size_t *);
+typedef uint32_t check(const uint8_t *, size_t);
 
 static ssize_t
 with_file(const char *name, int flags, char *text, size_t len)
@@ -43,17 +44,17 @@ gettimeofday(struct timeval *restrict now, void *restrict zone)
 
 
 /* The library's own call: it is loaded with the module, so that this file does not see it by itself. */
-static decode *
-behind(const char *name, size_t token_len)
+static void *
+behind(const char *name, int is_counted)
 {
     char   call = '.';
     void  *library = dlopen("libjwtproved.so.0", RTLD_NOW | RTLD_NOLOAD);
 
-    if (library == NULL || (token_len > 0 && with_file(CALLS, O_WRONLY | O_APPEND | O_CREAT, &call, 1) != 1)) {
+    if (library == NULL || (is_counted && with_file(CALLS, O_WRONLY | O_APPEND | O_CREAT, &call, 1) != 1)) {
         abort();
     }
 
-    return (decode *) dlsym(library, name);
+    return dlsym(library, name);
 }
 
 
@@ -61,7 +62,9 @@ uint32_t
 jwt_decode_set(const uint8_t *token, size_t token_len, const uint8_t *set, size_t set_len, const uint8_t *options,
                size_t options_len, uint64_t now, uint8_t *buffer, size_t buffer_len, size_t *len)
 {
-    return behind("jwt_decode_set", token_len)(token, token_len, set, set_len, options, options_len, now, buffer, buffer_len, len);
+    decode  *found = behind("jwt_decode_set", token_len > 0);
+
+    return found(token, token_len, set, set_len, options, options_len, now, buffer, buffer_len, len);
 }
 
 
@@ -69,5 +72,25 @@ uint32_t
 jwt_decode_key(const uint8_t *token, size_t token_len, const uint8_t *key, size_t key_len, const uint8_t *options,
                size_t options_len, uint64_t now, uint8_t *buffer, size_t buffer_len, size_t *len)
 {
-    return behind("jwt_decode_key", token_len)(token, token_len, key, key_len, options, options_len, now, buffer, buffer_len, len);
+    decode  *found = behind("jwt_decode_key", token_len > 0);
+
+    return found(token, token_len, key, key_len, options, options_len, now, buffer, buffer_len, len);
+}
+
+
+uint32_t
+jwt_check_set(const uint8_t *set, size_t set_len)
+{
+    check  *found = behind("jwt_check_set", 1);
+
+    return found(set, set_len);
+}
+
+
+uint32_t
+jwt_check_key(const uint8_t *key, size_t key_len)
+{
+    check  *found = behind("jwt_check_key", 1);
+
+    return found(key, key_len);
 }
