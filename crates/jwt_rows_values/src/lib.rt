@@ -1,4 +1,4 @@
-//! Rows about names, errors, JSON values, claims and validations.
+//! Rows about names, errors, JSON values, secrets by which anyone can sign, claims and validations.
 #![tactic(auto)]
 
 mod algorithms;
@@ -8,6 +8,7 @@ mod errors;
 mod inputs;
 mod json_values;
 mod parts;
+mod secrets;
 mod validations;
 
 use jwt_rows::fault::Fault;
@@ -31,6 +32,9 @@ fn of_names(call: &str, row: Row<'_>, trial: &mut Trial) -> Found {
 }
 
 fn of_rules(call: &str, row: Row<'_>, trial: &mut Trial) -> Found {
+    if let Some(answer) = secrets::answer(call, row, trial)? {
+        return Ok(Some(answer));
+    }
     if let Some(answer) = claim_rules::answer(call, row, trial)? {
         return Ok(Some(answer));
     }
