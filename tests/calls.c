@@ -752,6 +752,7 @@ static void status_texts(void) {
         {JWT_BAD_HEADER, "Header not understood"},
         {JWT_BAD_CLAIMS, "Claims not understood"},
         {JWT_BAD_KEY, "Key not understood"},
+        {JWT_BLANK_KEY, "Anyone can sign"},
     };
     struct answer a;
     for (size_t i = 0; i < sizeof rows / sizeof *rows; i++) {
@@ -759,7 +760,7 @@ static void status_texts(void) {
         a.status = jwt_status_text(rows[i].status, a.room, ROOM, &a.len);
         is(rows[i].text, gives(&a, rows[i].text), 1);
     }
-    static const uint32_t none[] = {38, 99, 107, UINT32_MAX};
+    static const uint32_t none[] = {38, 99, 108, UINT32_MAX};
     for (size_t i = 0; i < 4; i++) {
         a = fresh();
         a.status = jwt_status_text(none[i], a.room, ROOM, &a.len);
@@ -1098,6 +1099,18 @@ static bool moments_by_a_key_given(struct answer *a) {
 
 static bool moments_by_a_set_given(struct answer *a) { return moments_given(a, jwt_moments_set, NAMED, SET, OPTIONS); }
 
+static bool checked_key_given(struct answer *a) {
+    a->status = jwt_check_key(BYTES("{\"kty\":\"oct\",\"k\":\"AAAA\"}"));
+    a->len = 0;
+    return a->status == JWT_BLANK_KEY;
+}
+
+static bool checked_set_given(struct answer *a) {
+    a->status = jwt_check_set(BYTES(SET));
+    a->len = 0;
+    return a->status == JWT_BLANK_KEY;
+}
+
 /* how often the call was out of memory, until no request was left to refuse; -1 for another status */
 static long refused_in_turn(bool (*call)(struct answer *)) {
     long seen = 0;
@@ -1134,6 +1147,8 @@ static void refused_memory(void) {
     is("moments out of memory", refused_in_turn(moments_by_a_secret_given) > 0, 1);
     is("moments by a key out of memory", refused_in_turn(moments_by_a_key_given) > 0, 1);
     is("moments by a set out of memory", refused_in_turn(moments_by_a_set_given) > 0, 1);
+    is("a check of a key out of memory", refused_in_turn(checked_key_given) > 0, 1);
+    is("a check of a set out of memory", refused_in_turn(checked_set_given) > 0, 1);
     is("memory after all that was refused", mallinfo2().uordblks <= before + 4096, 1);
 }
 
@@ -1255,6 +1270,82 @@ static void threads(void) {
     }
 }
 
+/* ---- secrets by which anyone can sign (RFC 2104 section 2) */
+
+#define OCT(k) "{\"kty\":\"oct\",\"k\":\"" k "\"}"
+
+static void checked_secrets(void) {
+    static uint8_t zeros[300];
+    static const size_t sizes[] = {0, 1, 2, 31, 32, 63, 64, 65, 127, 128, 129, 300};
+    is("a secret by a null pointer", jwt_check_secret(NULL, 0), JWT_BLANK_KEY);
+    for (size_t i = 0; i < sizeof sizes / sizeof *sizes; i++) {
+        size_t size = sizes[i];
+        is("zeros", jwt_check_secret(zeros, size), JWT_BLANK_KEY);
+        for (size_t at = 0; at < size; at++)
+            for (int bit = 1; bit < 256; bit *= 2) {
+                zeros[at] = bit;
+                if (jwt_check_secret(zeros, size) != JWT_OK) is("zeros but for one bit", bit, 0);
+                zeros[at] = 0;
+            }
+    }
+    is("a secret", jwt_check_secret(BYTES("secret")), JWT_OK);
+    is("the same byte twice", jwt_check_secret(BYTES("aa")), JWT_OK);
+
+    /* what is told is what a token shows: one that is signed with the empty secret is accepted */
+    static const char claims[] = "{\"exp\":2532524891}";
+    uint8_t token[200], room[200];
+    size_t token_len, len;
+    is("signed with no secret", jwt_encode_hmac(BYTES("{\"alg\":\"HS256\"}"), BYTES(claims), NULL, 0, token, sizeof token, &token_len), JWT_OK);
+    is("accepted with 64 zeros", jwt_decode_hmac(token, token_len, zeros, 64, BYTES(OPTIONS), 0, room, sizeof room, &len), JWT_OK);
+    is("refused with 65", jwt_decode_hmac(token, token_len, zeros, 65, BYTES(OPTIONS), 0, room, sizeof room, &len), JWT_INVALID_SIGNATURE);
+}
+
+static void checked_keys(void) {
+    static const struct { const char *key; uint32_t status; } rows[] = {
+        {OCT(""), JWT_BLANK_KEY},
+        {OCT("AA"), JWT_BLANK_KEY},
+        {OCT("AAAA"), JWT_BLANK_KEY},
+        {OCT("AAAB"), JWT_OK},
+        {OCT("c2VjcmV0"), JWT_OK},
+        {OCT("A"), JWT_OK},
+        {OCT("AA=="), JWT_OK},
+        {"{\"kty\":\"EC\",\"crv\":\"P-256\",\"x\":\"AA\",\"y\":\"AA\"}", JWT_OK},
+        {"{\"kty\":\"RSA\",\"n\":\"AA\",\"e\":\"AA\"}", JWT_OK},
+        {"{\"kty\":\"OKP\",\"crv\":\"Ed25519\",\"x\":\"AAAA\"}", JWT_OK},
+        {"{\"kty\":\"AKP\",\"k\":\"AAAA\"}", JWT_OK},
+        {"{\"keys\":[" OCT("AAAA") "]}", JWT_OK},
+        {RSA_KEY, JWT_OK},
+        {P256_KEY, JWT_OK},
+        {ED_KEY, JWT_OK},
+        {"{\"kty\":\"oct\",\"k\":\"AAAA\",\"kid\":1}", JWT_BAD_KEY},
+        {"[]", JWT_BAD_KEY},
+        {"{", JWT_BAD_KEY},
+        {"", JWT_BAD_KEY},
+    };
+    for (size_t i = 0; i < sizeof rows / sizeof *rows; i++) is(rows[i].key, jwt_check_key(BYTES(rows[i].key)), rows[i].status);
+    is("a key by a null pointer", jwt_check_key(NULL, 0), JWT_BAD_KEY);
+}
+
+static void checked_sets(void) {
+    static const struct { const char *set; uint32_t status; } rows[] = {
+        {"{\"keys\":[]}", JWT_OK},
+        {"{\"keys\":[" OCT("c2VjcmV0") "]}", JWT_OK},
+        {"{\"keys\":[" OCT("") "]}", JWT_BLANK_KEY},
+        {"{\"keys\":[" OCT("c2VjcmV0") "," OCT("AAAA") "," OCT("c2VjcmV0") "]}", JWT_BLANK_KEY},
+        {"{\"keys\":[" OCT("c2VjcmV0") "," OCT("AAAA") "]}", JWT_BLANK_KEY},
+        {"{\"keys\":[" OCT("A") "," OCT("AAAA") "]}", JWT_BLANK_KEY},
+        {"{\"keys\":[" OCT("A") "," OCT("AAAB") "]}", JWT_OK},
+        {SET, JWT_BLANK_KEY},
+        {OCT("AAAA"), JWT_BAD_SET},
+        {"{\"keys\":[" OCT("AAAA") ",1]}", JWT_BAD_SET},
+        {"[]", JWT_BAD_SET},
+        {"{", JWT_BAD_SET},
+        {"", JWT_BAD_SET},
+    };
+    for (size_t i = 0; i < sizeof rows / sizeof *rows; i++) is(rows[i].set, jwt_check_set(BYTES(rows[i].set)), rows[i].status);
+    is("a set by a null pointer", jwt_check_set(NULL, 0), JWT_BAD_SET);
+}
+
 /* ---- numbers, and the version */
 
 static void numbers(void) {
@@ -1304,6 +1395,9 @@ int main(void) {
     pairs();
     thumbprints();
     status_texts();
+    checked_secrets();
+    checked_keys();
+    checked_sets();
     numbers();
     version();
     nesting();

@@ -11,6 +11,7 @@ ghost use Rattle.jwt_c_calls.specs.Calls.{Answer, Leaves, LeavesSigned, AnswersH
 ghost use Rattle.jwt_c_calls.specs.FirstFailed.{AnswersFailedHmac, AnswersFailedKey, AnswersFailedSet};
 ghost use Rattle.jwt_c_calls.specs.Issued.{AnswersEncode, AnswersThumbprint, hash_numbered};
 ghost use Rattle.jwt_c_calls.specs.Moments.{LeavesMoments, AnswersMomentsHmac, AnswersMomentsKey, AnswersMomentsSet};
+ghost use Rattle.jwt_c_calls.specs.Secrets.{ChecksSecret, ChecksKey, ChecksSet};
 ghost use Rattle.jwt_c_calls.specs.Status.{number, no_status, status_text, told, version, algorithm_numbered, IsGiven, IsKept};
 
 use jsonwebtoken::signed_part;
@@ -21,6 +22,7 @@ use jwt_c_calls::by_signature::{ecdsa_answer, input_answer, signature_answer};
 use jwt_c_calls::first_failed::{hmac_failed_test, key_failed_test, leave_name, set_failed_test};
 use jwt_c_calls::issued::{encode_answer, thumbprint_answer};
 use jwt_c_calls::moments::{hmac_moments, key_moments, leave_moments, set_moments};
+use jwt_c_calls::secrets::{key_status, secret_status, set_status};
 use jwt_c_calls::status::{algorithm_number, leave, number_of, put_bytes, status_of, text_of};
 use std::alloc::Global;
 
@@ -406,6 +408,36 @@ pub extern "C" fn jwt_check_numbers(alloc: Global, claims: &[u8]) -> u32
         Ok(()) => 0,
         Err(refusal) => status_of(&refusal),
     }
+}
+
+/// Checks that not everybody can sign with a secret: returns 107 if every byte of it is 0, as in the
+/// empty one, and else 0. HMAC fills a secret that is shorter than a block up with zeros (RFC 2104
+/// section 2).
+#[unsafe(no_mangle)]
+pub extern "C" fn jwt_check_secret(secret: &[u8]) -> u32
+    ensures { ChecksSecret secret.now result }
+{
+    secret_status(secret)
+}
+
+/// Checks that not everybody can sign for a key, which is a JSON text (RFC 7517 section 4): returns 107
+/// if the key that it stands for is a secret like that of `jwt_check_secret`, and else 0, also if it
+/// stands for no key. For any other text it returns 106. The only other refusal is `OutOfMemory`.
+#[unsafe(no_mangle)]
+pub extern "C" fn jwt_check_key(alloc: Global, key: &[u8]) -> u32
+    ensures { ChecksKey key.now result }
+{
+    key_status(alloc, key)
+}
+
+/// Checks that not everybody can sign for a key of a set, which is a JSON text (RFC 7517 section 5):
+/// returns 107 if `jwt_check_key` does for one of its keys, and else 0. For any other text it returns
+/// 103. The only other refusal is `OutOfMemory`.
+#[unsafe(no_mangle)]
+pub extern "C" fn jwt_check_set(alloc: Global, set: &[u8]) -> u32
+    ensures { ChecksSet set.now result }
+{
+    set_status(alloc, set)
 }
 
 /// Writes the text of a status. For a number that is not a status, it returns 102.

@@ -7,3 +7,4 @@ pub mod Moments
 pub mod BySignature
 pub mod Issued
 pub use Rattle.jwt_base.specs.Kind
+pub mod Secrets

@@ -68,6 +68,10 @@ input_status input.Header = 104
 input_status input.Claims = 105
 input_status input.Key = 106
 
+-- anyone can sign with a secret, or for a key
+abbrev pub blank_key : ℕ
+blank_key = 107
+
 -- the texts of the statuses from 0 on
 abbrev pub first_texts : List (List ℕ)
 first_texts = codes "OK"
@@ -96,7 +100,8 @@ status_text n =
     else (if n == input_status input.Header then Some (codes "Header not understood")
     else (if n == input_status input.Claims then Some (codes "Claims not understood")
     else (if n == input_status input.Key then Some (codes "Key not understood")
-    else slice_get first_texts n))))))
+    else (if n == blank_key then Some (codes "Anyone can sign")
+    else slice_get first_texts n)))))))
 
 -- the part of the claim's name that a status tells
 abbrev pub told_claim : List ℕ → List ℕ

@@ -8,4 +8,5 @@ pub mod inputs;
 pub mod issued;
 pub mod keys;
 pub mod moments;
+pub mod secrets;
 pub mod status;

@@ -143,6 +143,7 @@ pub fn text_of(status: u32) -> Option<&'static str>
         104 => Some("Header not understood"),
         105 => Some("Claims not understood"),
         106 => Some("Key not understood"),
+        107 => Some("Anyone can sign"),
         _ => first_text(status),
     }
 }
