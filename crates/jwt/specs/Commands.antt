@@ -10,6 +10,7 @@ use Rattle.jwt_base.specs.declared.algorithms.Algorithm.{Algorithm}
 use Rattle.jwt_validation.specs.Options.{Options}
 use Rattle.jsonwebtoken.specs.Order.{Passes, FailsFirst}
 use Rattle.jsonwebtoken.specs.Tests.{Contents, insecure_call, insecure_order, token_tests}
+use Rattle.jwt_secrets.specs.Blank.{IsBlank}
 use Rattle.jwt.specs.Answers.{IsVerdict, IsVerifyAnswer, IsSignAnswer}
 use Rattle.jwt.specs.Claimed.{header_asked, with_moments}
 use Rattle.jwt.specs.FileKeys.{AreLoaded}
@@ -94,10 +95,10 @@ IsExplanation v status =
     × ((loaded : Loaded) × ((options : Options) × ArePrepared v loaded options
     × IsTokenVerdict v loaded options bytes now status)))
 
--- status and output of `sign`, by the bytes of the secret's file and of the claims
+-- status and output of `sign`, by the bytes of the secret's file and of the claims; not everybody can sign with the secret
 abbrev pub IsSigned : Signing → List ℕ → List ℕ → ℕ → ℕ → List ℕ → Type 0
 IsSigned s key text now status output =
-    (secret : List ℕ) × IsSecret s.is_trimmed key secret
+    (secret : List ℕ) × IsSecret s.is_trimmed key secret × (¬ IsBlank secret)
     × ((members : Members) × IsJson text (object members)
     × IsSignAnswer (header_asked s) (object (with_moments s now members)) secret status output)
 

@@ -1,6 +1,6 @@
 //! The keys that a token is verified with, from their files.
 
-ghost use Rattle.std.specs.Prelude.{◌≡◌, ◌⊎◌, ℕ, List, [], None, OnOk, IfOk, IfErr, IsErr};
+ghost use Rattle.std.specs.Prelude.{◌≡◌, ◌⊎◌, ℕ, List, None, OnOk, IfOk, IfErr, IsErr};
 ghost use Rattle.jwt_base.specs.JsonText.{ReadsText};
 ghost use Rattle.jwt_base.specs.Kind.{Kind};
 ghost use Rattle.jwt_base.specs.KindOf.{IsMemory};
@@ -12,6 +12,7 @@ ghost use Rattle.jwt_keys.specs.Key.{Key, Plain};
 ghost use Rattle.jwt_keys.specs.KeyOfJwk.{IsKeyOf};
 ghost use Rattle.jwt_keys.specs.declared.jwk.Jwk.{Jwk};
 ghost use Rattle.jwt_keys.specs.declared.jwk_set.JwkSet.{JwkSet};
+ghost use Rattle.jwt_secrets.specs.Blank.{IsBlank, IsBlankKey, IsBlankJwk, HasBlankKey};
 ghost use Rattle.jwt_validation.specs.OptionsOf.{options_of};
 ghost use Rattle.jwt.specs.LineEnd.{IsSecret};
 ghost use Rattle.jwt.specs.Commands.{IsSettled};
@@ -26,6 +27,7 @@ use jsonwebtoken::errors::{Error, ErrorKind};
 use jsonwebtoken::jwk::{Jwk, JwkSet};
 use jsonwebtoken::{Algorithm, DecodingKey, Header, Validation, decode_header};
 use jwt_key_files::pem::public_key_from_pem;
+use jwt_secrets::{has_blank_key, is_blank, is_blank_key};
 use std::alloc::Global;
 
 /// The keys that a token is verified with.
@@ -219,20 +221,30 @@ fn secret(bytes: &[u8], is_trimmed: bool) -> &[u8]
     }
 }
 
-/// Returns the secret that a file holds, unless it is empty.
+/// Returns why anyone can sign with a secret.
+fn secret_problem(secret: &[u8]) -> &'static str {
+    if secret.is_empty() {
+        "the secret is empty"
+    } else {
+        "anyone can sign with this secret"
+    }
+}
+
+/// Returns the secret that a file holds, unless anyone can sign with it (RFC 2104 section 2).
 pub fn given_secret<'a, 'b>(
     path: &'a str,
     bytes: &'b [u8],
     is_trimmed: bool,
 ) -> Result<&'b [u8], Fault<'a>>
-    ensures ok { IfOk result (λ s. IsSecret is_trimmed bytes.now s.now) }
-    ensures err { IsErr result → IsSecret is_trimmed bytes.now [] }
+    ensures ok { IfOk result (λ s. IsSecret is_trimmed bytes.now s.now × (¬ IsBlank s.now)) }
+    ensures err { IsErr result → (secret : List ℕ) × IsSecret is_trimmed bytes.now secret
+        × IsBlank secret }
 {
     let secret = secret(bytes, is_trimmed);
-    if secret.is_empty() {
+    if is_blank(secret) {
         return Err(Fault::File {
             path,
-            problem: "the secret is empty",
+            problem: secret_problem(secret),
         });
     }
     Ok(secret)
@@ -245,8 +257,9 @@ fn by_secret<'a>(
     is_trimmed: bool,
 ) -> Result<Loaded, Fault<'a>>
     ensures ok { IfOk result (λ l. (secret : List ℕ) × IsSecret is_trimmed bytes.now secret
-        × (l.keys ≡ Keys.One (Plain Hmac secret)) × (l.own ≡ None)) }
-    ensures err { IfErr result (λ e. (e ≡ Fault.Memory) ⊎ IsSecret is_trimmed bytes.now []) }
+        × (¬ IsBlank secret) × (l.keys ≡ Keys.One (Plain Hmac secret)) × (l.own ≡ None)) }
+    ensures err { IfErr result (λ e. (e ≡ Fault.Memory)
+        ⊎ ((secret : List ℕ) × IsSecret is_trimmed bytes.now secret × IsBlank secret)) }
 {
     let secret = given_secret(path, bytes, is_trimmed)?;
     match DecodingKey::from_secret(alloc, secret) {
@@ -260,14 +273,60 @@ fn by_secret<'a>(
     }
 }
 
+/// Returns the keys that are this one, which is for this algorithm, unless anyone can sign for it.
+fn with_key<'a>(
+    alloc: Global,
+    path: &'a str,
+    key: DecodingKey,
+    own: Option<Algorithm>,
+) -> Result<Loaded, Fault<'a>>
+    ensures ok { IfOk result (λ l. (¬ IsBlankKey key) × (l.keys ≡ Keys.One key) × (l.own ≡ own)) }
+    ensures err { IsErr result → IsBlankKey key }
+{
+    if is_blank_key(&key) {
+        return Err(Fault::File {
+            path,
+            problem: "anyone can sign with this key",
+        });
+    }
+    Ok(Loaded {
+        keys: Keys::One(key),
+        own,
+        has_line_end: false,
+        provider: PreparedKeys::new(alloc),
+    })
+}
+
+/// Returns the keys that are this set, unless anyone can sign for one of them.
+fn with_set<'a>(alloc: Global, path: &'a str, set: JwkSet) -> Result<Loaded, Fault<'a>>
+    ensures ok { IfOk result (λ l. (¬ HasBlankKey set.keys.items) × (l.keys ≡ Keys.Set set)
+        × (l.own ≡ None)) }
+    ensures err { IfErr result (λ e. (e ≡ Fault.Memory) ⊎ HasBlankKey set.keys.items) }
+{
+    match has_blank_key(alloc, &set) {
+        Ok(false) => Ok(Loaded {
+            keys: Keys::Set(set),
+            own: None,
+            has_line_end: false,
+            provider: PreparedKeys::new(alloc),
+        }),
+        Ok(true) => Err(Fault::File {
+            path,
+            problem: "anyone can sign with a key of this set",
+        }),
+        Err(_) => Err(Fault::Memory),
+    }
+}
+
 fn by_jwk<'a>(alloc: Global, path: &'a str, bytes: &[u8]) -> Result<Loaded, Fault<'a>>
     ensures ok { IfOk result (λ l. (jwk : Jwk) × ReadsText ReadsKey bytes.now jwk
-        × ((key : Key) × IsKeyOf jwk.algorithm key × (l.keys ≡ Keys.One key)
-        × (l.own ≡ own_of jwk))) }
+        × ((key : Key) × IsKeyOf jwk.algorithm key × (¬ IsBlankKey key)
+        × (l.keys ≡ Keys.One key) × (l.own ≡ own_of jwk))) }
     ensures err { IfErr result (λ e. (e ≡ Fault.Memory)
         ⊎ (((jwk : Jwk) → ¬ ReadsText ReadsKey bytes.now jwk)
-        ⊎ ((jwk : Jwk) × ReadsText ReadsKey bytes.now jwk
-        × ((key : Key) → ¬ IsKeyOf jwk.algorithm key)))) }
+        ⊎ (((jwk : Jwk) × ReadsText ReadsKey bytes.now jwk
+        × ((key : Key) → ¬ IsKeyOf jwk.algorithm key))
+        ⊎ ((jwk : Jwk) × ReadsText ReadsKey bytes.now jwk × IsBlankJwk jwk)))) }
 {
     let jwk = match Jwk::from_slice(alloc, bytes) {
         Ok(jwk) => jwk,
@@ -277,29 +336,20 @@ fn by_jwk<'a>(alloc: Global, path: &'a str, bytes: &[u8]) -> Result<Loaded, Faul
     let read = DecodingKey::from_jwk(alloc, &jwk);
     drop(jwk);
     match read {
-        Ok(key) => Ok(Loaded {
-            keys: Keys::One(key),
-            own,
-            has_line_end: false,
-            provider: PreparedKeys::new(alloc),
-        }),
+        Ok(key) => with_key(alloc, path, key, own),
         Err(error) => Err(not_keys(path, &error, "this key cannot verify signatures")),
     }
 }
 
 fn by_set<'a>(alloc: Global, path: &'a str, bytes: &[u8]) -> Result<Loaded, Fault<'a>>
     ensures ok { IfOk result (λ l. (set : JwkSet) × ReadsText ReadsSet bytes.now set.keys.items
-        × (l.keys ≡ Keys.Set set) × (l.own ≡ None)) }
+        × (¬ HasBlankKey set.keys.items) × (l.keys ≡ Keys.Set set) × (l.own ≡ None)) }
     ensures err { IfErr result (λ e. (e ≡ Fault.Memory)
-        ⊎ ((keys : List Jwk) → ¬ ReadsText ReadsSet bytes.now keys)) }
+        ⊎ (((keys : List Jwk) → ¬ ReadsText ReadsSet bytes.now keys)
+        ⊎ ((keys : List Jwk) × ReadsText ReadsSet bytes.now keys × HasBlankKey keys))) }
 {
     match JwkSet::from_slice(alloc, bytes) {
-        Ok(set) => Ok(Loaded {
-            keys: Keys::Set(set),
-            own: None,
-            has_line_end: false,
-            provider: PreparedKeys::new(alloc),
-        }),
+        Ok(set) => with_set(alloc, path, set),
         Err(error) => Err(not_keys(path, &error, "this is no set of JSON Web Keys")),
     }
 }

@@ -11,6 +11,7 @@ use jsonwebtoken::jwk::{
 };
 use jsonwebtoken::{Algorithm, DecodingKey};
 use jwt_base::serialization::part_bytes;
+use jwt_secrets::is_blank_jwk;
 use jwt_standard::StandardProvider;
 use std::alloc::{AllocError, Global};
 
@@ -173,7 +174,7 @@ fn verifies(alloc: Global, jwk: &Jwk) -> Result<&'static str, Fault<'static>> {
 }
 
 /// Returns whether a token can name a key of a set, and the key verifies; and why not.
-fn is_of_use(alloc: Global, earlier: &[Jwk], jwk: &Jwk) -> Result<&'static str, Fault<'static>> {
+fn is_named(alloc: Global, earlier: &[Jwk], jwk: &Jwk) -> Result<&'static str, Fault<'static>> {
     let Some(kid) = &jwk.common.key_id else {
         return Ok("no: it has no kid, so no token names it");
     };
@@ -182,6 +183,15 @@ fn is_of_use(alloc: Global, earlier: &[Jwk], jwk: &Jwk) -> Result<&'static str, 
         return Ok("no: an earlier key has its kid");
     }
     verifies(alloc, jwk)
+}
+
+/// Returns whether a key of a set is of use, which one with which anyone can sign is not.
+fn is_of_use(alloc: Global, earlier: &[Jwk], jwk: &Jwk) -> Result<&'static str, Fault<'static>> {
+    match is_blank_jwk(alloc, jwk) {
+        Ok(true) => Ok("no: anyone can sign with it"),
+        Ok(false) => is_named(alloc, earlier, jwk),
+        Err(_) => Err(Fault::Memory),
+    }
 }
 
 fn kid_text(alloc: Global, jwk: &Jwk) -> Result<String, AllocError> {

@@ -10,7 +10,8 @@ returns c =
     IfOk-weaker c.claims_answer.result _ _
     (λ a says. (
       c.in_ok-secret.secret.now,
-      c.in_ok-secret.ensures.ok,
+      c.in_ok-secret.ensures.ok.0,
+      c.in_ok-secret.ensures.ok.1,
       (made.0, made.1, subst (λ d. IsSignAnswer (header_asked c.args.request.now) d c.in_ok-secret.secret.now a.status (string_bytes a.output)) made.2 says),
     ))
     c.claims_answer.ensures
