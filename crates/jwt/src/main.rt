@@ -11,6 +11,7 @@ mod answer;
 mod arguments;
 mod claim_findings;
 mod clock;
+mod escapes;
 mod explain;
 mod explanation;
 mod fault;

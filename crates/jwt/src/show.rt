@@ -7,6 +7,7 @@ ghost use Rattle.jwt.specs.Commands.{IsReadable};
 
 use crate::advice::refusal_line;
 use crate::answer::Answer;
+use crate::escapes::without_late_controls;
 use crate::fault::Fault;
 use crate::times::claim_lines;
 use crate::verdict::Refusal;
@@ -31,6 +32,7 @@ fn json_line(alloc: Global, header: &Value, claims: &Value) -> Result<String, Al
     format!(in alloc; "{{\"verified\":false,\"header\":{header},\"claims\":{claims}}}\n")
 }
 
+/// Returns the header and the claims as they can be shown: with their control characters escaped.
 fn written(
     alloc: Global,
     header: &Value,
@@ -38,11 +40,12 @@ fn written(
     now: u64,
     is_json: bool,
 ) -> Result<String, AllocError> {
-    if is_json {
-        json_line(alloc, header, claims)
+    let text = if is_json {
+        json_line(alloc, header, claims)?
     } else {
-        page(alloc, header, claims, now)
-    }
+        page(alloc, header, claims, now)?
+    };
+    without_late_controls(alloc, text)
 }
 
 fn shown(

@@ -3,7 +3,7 @@
 ghost use Rattle.std.specs.Prelude.{◌≡◌, IfOk};
 
 use crate::answer::Answer;
-use crate::fault::Fault;
+use crate::fault::{Fault, unless_refused};
 use jsonwebtoken::errors::{Error, ErrorKind};
 use jsonwebtoken::jwk::{Jwk, ThumbprintHash};
 use jwt_key_files::jwk::jwk_from_pem;
@@ -17,15 +17,13 @@ fn fault_of<'a>(path: &'a str, error: &Error, problem: &'static str) -> Fault<'a
     }
 }
 
-/// Returns the key of a file: a JSON Web Key, or a public key in PEM.
+/// Returns the key of a file: a JSON Web Key, or a public key in PEM, which other text may come before.
 fn key<'a>(alloc: Global, path: &'a str, bytes: &[u8]) -> Result<Jwk, Fault<'a>> {
     let problem = "this is neither a JSON Web Key nor a public key in PEM";
-    let read = if bytes.starts_with(b"-----BEGIN ") {
-        jwk_from_pem(alloc, bytes)
-    } else {
-        Jwk::from_slice(alloc, bytes)
-    };
-    match read {
+    if let Some(jwk) = unless_refused(Jwk::from_slice(alloc, bytes))? {
+        return Ok(jwk);
+    }
+    match jwk_from_pem(alloc, bytes) {
         Ok(jwk) => Ok(jwk),
         Err(error) => Err(fault_of(path, &error, problem)),
     }
