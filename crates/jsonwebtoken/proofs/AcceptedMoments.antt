@@ -12,7 +12,7 @@ use Rattle.jsonwebtoken.specs.Accepted.{IsAcceptedAt, AreAcceptedMoments}
 use Rattle.jsonwebtoken.specs.Laws.{HasMoments, IsWithin}
 use Rattle.jsonwebtoken.specs.Order.{Passes, IsFirstFailed}
 use Rattle.jsonwebtoken.specs.Tests.{Call, Compact, KeySource, Test, Contents, header_call, verifying_call, token_tests}
-use Rattle.jsonwebtoken.specs.private_clauses.Stops.{value_tests, AreClaimed}
+use Rattle.jsonwebtoken.specs.private_clauses.Claimed.{value_tests, AreClaimed}
 use Rattle.jsonwebtoken.proofs.EachTest.{among, are_in, same_claims}
 use Rattle.jsonwebtoken.proofs.Engine.{not_passed}
 

@@ -1,13 +1,17 @@
 -- The lemmas by cases on the tests of a token: contents that pass the same tests are the same, as
 -- far as these tests know them; contents that pass do so under looser options and with more keys.
-use Rattle.std.proofs.Common.{◌≡◌, ℕ, List, [], ◌∷◌, ◌++◌, Bool, true, false, ◌&&◌, ◌||◌, Some, slice_get, refl, sym, ◌∙◌, Result, IfOk, Contains, IfSome, Option, None, find, option_and_then, arith, subst}
+use Rattle.std.proofs.Common.{◌≡◌, ℕ, List, [], ◌∷◌, ◌++◌, Bool, true, false, ◌&&◌, ◌||◌, Some, slice_get, refl, sym, ◌∙◌, inl, inr, ◌⊎◌, Result, Ok, Err, IfOk, IfErr, Contains, IfSome, Option, None, find, option_and_then, arith, subst}
+use Rattle.std.specs.Prelude.{MatchResult}
 use Rattle.serde_json.specs.Data.{Data, Members}
 use Rattle.jwt_base.proofs.Parts.{one_part, one_json}
-use Rattle.jwt_base.specs.declared.errors.Error.{Error}
-use Rattle.jsonwebtoken.specs.Order.{Decides, IsFirstFailed, Passes}
-use Rattle.jsonwebtoken.specs.Tests.{Call, Given, Test, HasThreeParts, HeaderIsPart, HeaderIsJson, HeaderReads, CritIsUnderstood, KeyIsFound, KeyAlgorithmAgrees, KeyIsUsable, AlgorithmsAreListed, AlgorithmIsListed, VerifierIsMade, FamiliesAgree, SignatureIsPart, SignatureIsAccepted, PayloadIsPart, PayloadIsJson, ClaimsRead, ClaimsAreAnObject, ClaimRulesHold, Contents, Condition, InSet, set_order, KeySource, key_of, message_of, token_tests}
-use Rattle.jsonwebtoken.specs.private_clauses.FailedAt.{StopsBy}
-use Rattle.jsonwebtoken.specs.private_clauses.Steps.{FailsAt, Step}
+use Rattle.jwt_base.specs.Kind.{Kind}
+use Rattle.jwt_base.specs.KindOf.{kind_of, IsMemory}
+use Rattle.jsonwebtoken.specs.Order.{IsFirstFailed, Passes}
+use Rattle.jsonwebtoken.specs.Refused.{IsRefusal, DecidesByTest}
+use Rattle.jsonwebtoken.specs.declared.refusal.Refusal.{Refusal}
+use Rattle.jsonwebtoken.proofs.Engine.{not_passed}
+use Rattle.jsonwebtoken.specs.Tests.{Call, Given, Test, HasThreeParts, HeaderIsPart, HeaderIsJson, HeaderReads, CritIsUnderstood, KeyIsFound, KeyAlgorithmAgrees, KeyIsUsable, AlgorithmsAreListed, AlgorithmIsListed, VerifierIsMade, FamiliesAgree, SignatureIsPart, SignatureIsAccepted, PayloadIsPart, PayloadIsJson, ClaimsRead, ClaimsAreAnObject, ClaimRulesHold, Contents, Condition, HasKind, InSet, set_order, KeySource, key_of, message_of, token_tests}
+use Rattle.jsonwebtoken.specs.private_clauses.Steps.{Failed, FailsAt, Step, whole}
 use Rattle.jwt_header.specs.declared.header.Header.{Header}
 use Rattle.jsonwebtoken.proofs.Engine as engine
 use Rattle.jwt_header.proofs.HeaderLemmas.{one_header}
@@ -230,16 +234,35 @@ module _ {T : Type 0} (call : Call T) where
   fails_for : (b : List Test) (t s : Contents) → Passes (token_tests call) b t → Passes (token_tests call) b s → (c : Test) → ready (is_given call.keys) c b ≡ true → FailsAt call c t → Condition call c s → ⊥
   fails_for b t s p q = fails_for_these b t s p q
 
+  pub failed_by : (order : List Test) → is_sound (is_given call.keys) order ≡ true → (t : Contents) (f : Test) (k : Kind) → Failed call order t f k
+      → (first : IsFirstFailed (token_tests call) order f) × HasKind call f first.contents k
+  failed_by = engine.failed_by (token_tests call) (FailsAt call) (ready (is_given call.keys)) fails_for
+
   -- a result of an order, as the clauses describe it
-  module _ {R : Type 0} (order : List Test) (sound : is_sound (is_given call.keys) order ≡ true) (shows : Contents → R → Type 0) (r : Result R Error) (m : Step call order (λ x. x) shows r) where
-    pub accepted : IfOk r (λ y. (t : Contents) × Passes (token_tests call) order t × shows t y)
-    accepted = engine.accepted (token_tests call) (FailsAt call) (ready (is_given call.keys)) fails_for order sound shows r m
+  module _ {R : Type 0} (order : List Test) (sound : is_sound (is_given call.keys) order ≡ true) (shows : Contents → R → Type 0) where
+    refusal_of : (f : Refusal) → (x : Contents) × Failed call order x f.test (kind_of f.error) → IsRefusal (token_tests call) order f
+    refusal_of f s = let w = failed_by order sound s.0 f.test (kind_of f.error) s.1 in record { first = w.0; kind = w.1 }
 
-    pub decides : ((s t : Contents) (y : R) → Passes (token_tests call) order s → Passes (token_tests call) order t → shows s y → shows t y) → Decides (token_tests call) order shows r
-    decides = engine.decides (token_tests call) (FailsAt call) (ready (is_given call.keys)) fails_for order sound shows r m
+    accepted : (r : Result R Refusal) → Step call order whole shows r → IfOk r (λ y. (t : Contents) × Passes (token_tests call) order t × shows t y)
+    accepted (Ok y) m = m
+    accepted (Err f) m = tt
 
-  pub first_failed : (order : List Test) → is_sound (is_given call.keys) order ≡ true → (t : Contents) (c : Test) → StopsBy (token_tests call) (FailsAt call) order t c → IsFirstFailed (token_tests call) order c
-  first_failed = engine.first_failed (token_tests call) (FailsAt call) (ready (is_given call.keys)) fails_for
+    exact : (r : Result R Refusal) → Step call order whole shows r
+        → ((s t : Contents) (y : R) → Passes (token_tests call) order s → Passes (token_tests call) order t → shows s y → shows t y)
+        → (t : Contents) → Passes (token_tests call) order t → MatchResult r (λ y. shows t y) (λ f. IsMemory f.error)
+    exact (Ok y) m same t p = same m.0 t y m.1 p m.2
+    exact (Err f) (inl m) same t p = m
+    exact (Err f) (inr s) same t p = absurd (not_passed (token_tests call) order f.test (refusal_of f s).first t p)
+
+    refused : (r : Result R Refusal) → Step call order whole shows r → IfErr r (λ f. IsMemory f.error ⊎ IsRefusal (token_tests call) order f)
+    refused (Ok y) m = tt
+    refused (Err f) (inl m) = inl m
+    refused (Err f) (inr s) = inr (refusal_of f s)
+
+    pub decides : (r : Result R Refusal) → Step call order whole shows r
+        → ((s t : Contents) (y : R) → Passes (token_tests call) order s → Passes (token_tests call) order t → shows s y → shows t y)
+        → DecidesByTest (token_tests call) order shows r
+    decides r m same = record { accepted = accepted r m; exact = exact r m same; refused = refused r m }
 
   -- the result does not depend on the contents
   pub same_answer : (order : List Test) → header_known order ≡ true → claims_known order ≡ true → {X : Type 0} (header : X → Header) (claims : X → Data → Type 0)

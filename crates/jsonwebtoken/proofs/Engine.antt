@@ -7,8 +7,8 @@ use Rattle.jwt_base.specs.Kind.{Kind}
 use Rattle.jwt_base.specs.KindOf.{kind_of, IsMemory}
 use Rattle.jwt_base.specs.declared.errors.Error.{Error}
 use Rattle.jsonwebtoken.specs.Order.{Tests, Passes, IsFirstFailed, FailsFirst, Decides}
-use Rattle.jsonwebtoken.specs.private_clauses.FailedAt.{StopsAt, FailedAt, StopsBy}
-use Rattle.jsonwebtoken.specs.private_clauses.Steps.{Meets}
+use Rattle.jsonwebtoken.specs.private_clauses.FailedAt.{StopsAt, FailedAt, FailedBy}
+use Rattle.jsonwebtoken.specs.private_clauses.IssueSteps.{Meets}
 
 pub both_true : (x y : Bool) → (x && y) ≡ true → (x ≡ true) × (y ≡ true)
 both_true true y e = (refl, e)
@@ -102,8 +102,10 @@ module _ {Test Contents : Type 0} (tests : Tests Test Contents) where
     pub fails_first : (order : List Test) → is_well_ordered ready order ≡ true → (t : Contents) (k : Kind) → FailedAt tests FailsAt order t k → FailsFirst tests order k
     fails_first order e t k f = let w = walk (λ c s. tests.has_kind c s k) [] order t e tt f in record { failed = w.0; first = w.1; kind = w.2 }
 
-    pub first_failed : (order : List Test) → is_well_ordered ready order ≡ true → (t : Contents) (c : Test) → StopsBy tests FailsAt order t c → IsFirstFailed tests order c
-    first_failed order e t c f = let w = walk (λ d _. d ≡ c) [] order t e tt f in subst (IsFirstFailed tests order) w.2 w.1
+    pub failed_by : (order : List Test) → is_well_ordered ready order ≡ true → (t : Contents) (f : Test) (k : Kind) → FailedBy tests FailsAt order t f k
+        → (first : IsFirstFailed tests order f) × tests.has_kind f first.contents k
+    failed_by order e t f k s = let w = walk (λ c u. (c ≡ f) × tests.has_kind c u k) [] order t e tt s in
+        subst (λ c. (first : IsFirstFailed tests order c) × tests.has_kind c first.contents k) w.2.0 (w.1, w.2.1)
 
     -- a result of an order, as the clauses describe it
     module _ {R : Type 0} (order : List Test) (sound : is_well_ordered ready order ≡ true) (shows : Contents → R → Type 0) where

@@ -6,7 +6,6 @@ pub mod Engine
 pub mod Exits
 pub mod Issued
 pub mod LawsOf
-pub mod Naming
 pub mod Repeats
 pub mod UniqueParts
 pub mod KnownParts

@@ -18,8 +18,8 @@ use Rattle.jwt_header.specs.Header.{ReadsHeader}
 use Rattle.jwt_validation.specs.Options.{Options, default_options}
 use Rattle.jsonwebtoken.specs.Order.{Tests}
 use Rattle.jwt_header.specs.declared.header.Header.{Header}
-pub use Rattle.jsonwebtoken.specs.declared.first_failed.Test.{Test}
-pub use Rattle.jsonwebtoken.specs.declared.first_failed.Test.TheVariants.{HasThreeParts, HeaderIsPart, HeaderIsJson, HeaderReads, CritIsUnderstood, KeyIsFound, KeyAlgorithmAgrees, KeyIsUsable, AlgorithmsAreListed, AlgorithmIsListed, VerifierIsMade, FamiliesAgree, SignatureIsPart, SignatureIsAccepted, PayloadIsPart, PayloadIsJson, ClaimsRead, ClaimsAreAnObject, ClaimRulesHold}
+pub use Rattle.jsonwebtoken.specs.declared.refusal.Test.{Test}
+pub use Rattle.jsonwebtoken.specs.declared.refusal.Test.TheVariants.{HasThreeParts, HeaderIsPart, HeaderIsJson, HeaderReads, CritIsUnderstood, KeyIsFound, KeyAlgorithmAgrees, KeyIsUsable, AlgorithmsAreListed, AlgorithmIsListed, VerifierIsMade, FamiliesAgree, SignatureIsPart, SignatureIsAccepted, PayloadIsPart, PayloadIsJson, ClaimsRead, ClaimsAreAnObject, ClaimRulesHold}
 
 -- ---- a token
 

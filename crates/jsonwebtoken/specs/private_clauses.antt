@@ -1,6 +1,7 @@
 -- Definitions that the clauses of private functions alone name.
+pub mod Claimed
 pub mod FailedAt
 pub mod IssueSteps
 pub mod KnownHeaders
+pub mod Refused
 pub mod Steps
-pub mod Stops

@@ -4,15 +4,15 @@ ghost use Rattle.std.specs.Prelude.{◌≡◌};
 ghost use Rattle.jwt_validation.specs.OptionsOf.{options_of};
 ghost use Rattle.jsonwebtoken.specs.Accepted.{FindsMoments};
 ghost use Rattle.jsonwebtoken.specs.Calls.{decoding, decoding_by_set};
-ghost use Rattle.jsonwebtoken.specs.private_clauses.Stops.{StepNaming, AreClaimed, value_tests};
+ghost use Rattle.jsonwebtoken.specs.private_clauses.Claimed.{AreClaimed, value_tests};
+ghost use Rattle.jsonwebtoken.specs.private_clauses.Steps.{Step, whole};
 ghost use Rattle.jsonwebtoken.specs.Tests.{decode_order, set_order, header_call};
 
-use crate::decoding::steps::token_parts;
-use crate::first_failed::steps::{Stop, or_stop};
-use crate::first_failed::{Test, failed_test, failed_test_with_set};
+use crate::decoding::steps::{read_json, read_part, token_parts};
+use crate::first_failed::{failed_test, failed_test_with_set, test_of};
+use crate::refusal::{Refusal, Test};
 use jwt_base::errors::Result;
 use jwt_base::json::Claims;
-use jwt_base::serialization::{json_value, part_bytes};
 use jwt_keys::decoding_key::DecodingKey;
 use jwt_keys::jwk_set::JwkSet;
 use jwt_keys::provider::CryptoProvider;
@@ -20,13 +20,13 @@ use jwt_validation::{Moments, Validation, claimed_moments};
 use std::alloc::Global;
 
 /// Returns the moments that the claims of a token allow, whatever else holds of it.
-fn claimed(alloc: Global, token: &[u8], validation: &Validation) -> Result<Moments, Stop>
-    ensures { StepNaming (header_call token.now) value_tests (λ x. x)
-        (AreClaimed (options_of validation.now)) result }
+fn claimed(alloc: Global, token: &[u8], validation: &Validation) -> Result<Moments, Refusal>
+    ensures { Step (header_call token.now) value_tests whole (AreClaimed (options_of validation.now))
+        result }
 {
-    let parts = or_stop(token_parts(token), Test::HasThreeParts)?;
-    let bytes = or_stop(part_bytes(alloc, parts.payload), Test::PayloadIsPart)?;
-    let value = or_stop(json_value(alloc, bytes.as_slice()), Test::PayloadIsJson)?;
+    let parts = token_parts(token)?;
+    let bytes = read_part(alloc, Test::PayloadIsPart, parts.payload)?;
+    let value = read_json(alloc, Test::PayloadIsJson, bytes.as_slice())?;
     Ok(claimed_moments(&value, validation))
 }
 
@@ -47,8 +47,10 @@ pub fn first_and_last_moment<P: CryptoProvider, T: Claims>(
 {
     let moments = match claimed(alloc, token, validation) {
         Ok(moments) => moments,
-        Err(Stop::Failed(_)) => return Ok(None),
-        Err(Stop::Memory(error)) => return Err(error),
+        Err(refusal) => {
+            test_of(Some(refusal))?;
+            return Ok(None);
+        }
     };
     match failed_test::<P, T>(alloc, provider, token, key, validation, moments.first)? {
         None => Ok(Some(moments)),
@@ -71,8 +73,10 @@ pub fn first_and_last_moment_with_set<P: CryptoProvider, T: Claims>(
 {
     let moments = match claimed(alloc, token, validation) {
         Ok(moments) => moments,
-        Err(Stop::Failed(_)) => return Ok(None),
-        Err(Stop::Memory(error)) => return Err(error),
+        Err(refusal) => {
+            test_of(Some(refusal))?;
+            return Ok(None);
+        }
     };
     match failed_test_with_set::<P, T>(alloc, provider, token, set, validation, moments.first)? {
         None => Ok(Some(moments)),

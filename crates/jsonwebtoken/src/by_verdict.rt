@@ -3,15 +3,15 @@
 ghost use Rattle.std.specs.Prelude.{◌≡◌};
 ghost use Rattle.jsonwebtoken.specs.Calls.{HasSigned};
 ghost use Rattle.jsonwebtoken.specs.Order.{Decides};
-ghost use Rattle.jsonwebtoken.specs.private_clauses.Steps.{Step};
+ghost use Rattle.jsonwebtoken.specs.private_clauses.Steps.{Step, whole};
 ghost use Rattle.jsonwebtoken.specs.Tests.{signed_order, header_call, token_tests};
 ghost use Rattle.jsonwebtoken.specs.Vouched.{decoding_by_verdict, DecidesVouched};
 
-use crate::decoding::steps::{beside, read_header, token_parts};
+use crate::decoding::steps::{read_header, read_part, token_parts};
 use crate::decoding::{TokenData, decode};
+use crate::refusal::{Refusal, Test, without_test};
 use jwt_base::errors::Result;
 use jwt_base::json::Claims;
-use jwt_base::serialization::part_bytes;
 use jwt_crypto::VerdictProvider;
 use jwt_header::Header;
 use jwt_validation::Validation;
@@ -29,18 +29,20 @@ pub struct SignedPart<'a> {
     pub signature: Vec<u8>,
 }
 
-fn signed_part_by_steps(alloc: Global, token: &[u8]) -> Result<SignedPart<'_>>
-    ensures { Step (header_call token.now) signed_order
-        (λ x. x) (HasSigned (header_call token.now)) result }
+fn signed_part_by_steps(alloc: Global, token: &[u8]) -> Result<SignedPart<'_>, Refusal>
+    ensures { Step (header_call token.now) signed_order whole (HasSigned (header_call token.now))
+        result }
 {
     let parts = token_parts(token)?;
     let header = read_header(alloc, parts.header)?;
-    let (header, signature) = beside(header, part_bytes(alloc, parts.signature))?;
-    Ok(SignedPart {
-        header,
-        message: parts.message,
-        signature,
-    })
+    match read_part(alloc, Test::SignatureIsPart, parts.signature) {
+        Ok(signature) => Ok(SignedPart {
+            header,
+            message: parts.message,
+            signature,
+        }),
+        Err(refusal) => Err(refusal),
+    }
 }
 
 /// Returns the parts of a token in its compact form that a verifier elsewhere is asked about: the
@@ -53,7 +55,7 @@ pub fn signed_part(alloc: Global, token: &[u8]) -> Result<SignedPart<'_>>
     ensures { Decides (token_tests (header_call token.now)) signed_order
         (HasSigned (header_call token.now)) result }
 {
-    signed_part_by_steps(alloc, token)
+    without_test(signed_part_by_steps(alloc, token))
 }
 
 /// Verifies a token in its compact form whose signature the caller has checked, at the moment

@@ -4,23 +4,23 @@
 ghost use Rattle.std.specs.Prelude.{◌≡◌};
 ghost use Rattle.jsonwebtoken.specs.Calls.{Carries, HasClaims};
 ghost use Rattle.jsonwebtoken.specs.Order.{Decides};
-ghost use Rattle.jsonwebtoken.specs.private_clauses.Steps.{Step};
+ghost use Rattle.jsonwebtoken.specs.private_clauses.Steps.{Step, whole};
 ghost use Rattle.jsonwebtoken.specs.Tests.{insecure_order, insecure_claims_order, insecure_call, token_tests};
 
 use crate::decoding::TokenData;
-use crate::decoding::steps::{beside, read_header, read_payload, token_parts};
+use crate::decoding::steps::{read_header, read_payload, token_data, token_parts};
+use crate::refusal::{Refusal, without_test};
 use jwt_base::errors::Result;
 use jwt_base::json::Claims;
 use std::alloc::Global;
 
-fn insecure_decode_by_steps<T: Claims>(alloc: Global, token: &[u8]) -> Result<TokenData<T>>
-    ensures { Step (insecure_call token.now T.reads) insecure_order (λ x. x)
+fn insecure_decode_by_steps<T: Claims>(alloc: Global, token: &[u8]) -> Result<TokenData<T>, Refusal>
+    ensures { Step (insecure_call token.now T.reads) insecure_order whole
         (Carries (insecure_call token.now T.reads)) result }
 {
     let parts = token_parts(token)?;
     let header = read_header(alloc, parts.header)?;
-    let (header, claims) = beside(header, read_payload(alloc, parts.payload))?;
-    Ok(TokenData { header, claims })
+    token_data(header, read_payload(alloc, parts.payload))
 }
 
 /// Returns the header and the claims of a token in its compact form. Nothing is verified.
@@ -32,11 +32,11 @@ pub fn insecure_decode<T: Claims>(alloc: Global, token: &[u8]) -> Result<TokenDa
     ensures { let call = insecure_call token.now T.reads in
         Decides (token_tests call) insecure_order (Carries call) result }
 {
-    insecure_decode_by_steps(alloc, token)
+    without_test(insecure_decode_by_steps(alloc, token))
 }
 
-fn insecure_decode_claims_by_steps<T: Claims>(alloc: Global, token: &[u8]) -> Result<T>
-    ensures { Step (insecure_call token.now T.reads) insecure_claims_order (λ x. x)
+fn insecure_decode_claims_by_steps<T: Claims>(alloc: Global, token: &[u8]) -> Result<T, Refusal>
+    ensures { Step (insecure_call token.now T.reads) insecure_claims_order whole
         (HasClaims (insecure_call token.now T.reads)) result }
 {
     let parts = token_parts(token)?;
@@ -52,5 +52,5 @@ pub fn insecure_decode_claims<T: Claims>(alloc: Global, token: &[u8]) -> Result<
     ensures { let call = insecure_call token.now T.reads in
         Decides (token_tests call) insecure_claims_order (HasClaims call) result }
 {
-    insecure_decode_claims_by_steps(alloc, token)
+    without_test(insecure_decode_claims_by_steps(alloc, token))
 }

@@ -6,7 +6,8 @@ ghost use Rattle.jwt_keys.specs.Key.{key_family};
 ghost use Rattle.jsonwebtoken.specs.Calls.{decoding, Carries, HasHeader};
 ghost use Rattle.jsonwebtoken.specs.Laws.{HasLaws};
 ghost use Rattle.jsonwebtoken.specs.Order.{Decides};
-ghost use Rattle.jsonwebtoken.specs.private_clauses.Steps.{Step};
+ghost use Rattle.jsonwebtoken.specs.Refused.{DecidesByTest};
+ghost use Rattle.jsonwebtoken.specs.private_clauses.Steps.{Step, whole};
 ghost use Rattle.jsonwebtoken.specs.Tests.{Compact, header_order, decode_order, header_call, token_tests};
 
 pub(crate) mod crit;
@@ -14,10 +15,9 @@ pub(crate) mod key_set;
 pub(crate) mod parts;
 pub(crate) mod steps;
 
-pub use crate::decoding::key_set::decode_with_set;
-use crate::decoding::steps::{
-    beside, read_claims_by_key, read_header, read_understood_header, token_parts,
-};
+pub use crate::decoding::key_set::{decode_with_set, decode_with_set_or_refusal};
+use crate::decoding::steps::{read_claims_by_key, read_header, token_data, token_parts};
+use crate::refusal::{Refusal, without_test};
 use jwt_base::errors::Result;
 use jwt_base::json::Claims;
 use jwt_header::Header;
@@ -42,16 +42,35 @@ fn decode_by_steps<P: CryptoProvider, T: Claims>(
     key: &DecodingKey,
     validation: &Validation,
     now: u64,
-) -> Result<TokenData<T>>
+) -> Result<TokenData<T>, Refusal>
     ensures { let call = decoding P.CryptoProvider T.Claims
         provider.now token.now key.now validation.now now in
-        Step call decode_order (λ x. x) (Carries call) result }
+        Step call decode_order whole (Carries call) result }
 {
     let parts = token_parts(token)?;
-    let header = read_understood_header(alloc, &parts, validation)?;
+    let header = read_header(alloc, parts.header)?;
     let claims = read_claims_by_key(alloc, provider, &parts, &header, key, validation, now);
-    let (header, claims) = beside(header, claims)?;
-    Ok(TokenData { header, claims })
+    token_data(header, claims)
+}
+
+/// Verifies a token like [`decode`]; a refusal has the first test that fails, and its error. If
+/// memory ran out, the refusal's error is `OutOfMemory`.
+///
+/// Whoever issued a refused token need not be told which test failed: the answer is for those who
+/// run the verifier.
+pub fn decode_or_refusal<P: CryptoProvider, T: Claims>(
+    alloc: Global,
+    provider: &P,
+    token: &[u8],
+    key: &DecodingKey,
+    validation: &Validation,
+    now: u64,
+) -> Result<TokenData<T>, Refusal>
+    ensures { let call = decoding P.CryptoProvider T.Claims
+        provider.now token.now key.now validation.now now in
+        DecidesByTest (token_tests call) decode_order (Carries call) result }
+{
+    decode_by_steps(alloc, provider, token, key, validation, now)
 }
 
 /// Verifies a token in its compact form with the key, at the moment `now`, in whole seconds since
@@ -98,12 +117,12 @@ pub fn decode<P: CryptoProvider, T: Claims>(
         (decoding P.CryptoProvider T.Claims provider.now token.now key.now validation.now now)
         decode_order (List ℕ) Compact token.now }
 {
-    decode_by_steps(alloc, provider, token, key, validation, now)
+    without_test(decode_or_refusal(alloc, provider, token, key, validation, now))
 }
 
-fn decode_header_by_steps(alloc: Global, token: &[u8]) -> Result<Header>
-    ensures { Step (header_call token.now) header_order
-        (λ x. x) (HasHeader (header_call token.now)) result }
+fn decode_header_by_steps(alloc: Global, token: &[u8]) -> Result<Header, Refusal>
+    ensures { Step (header_call token.now) header_order whole (HasHeader (header_call token.now))
+        result }
 {
     let parts = token_parts(token)?;
     let header = read_header(alloc, parts.header)?;
@@ -118,5 +137,5 @@ pub fn decode_header(alloc: Global, token: &[u8]) -> Result<Header>
     ensures { Decides (token_tests (header_call token.now)) header_order
         (HasHeader (header_call token.now)) result }
 {
-    decode_header_by_steps(alloc, token)
+    without_test(decode_header_by_steps(alloc, token))
 }

@@ -1,6 +1,6 @@
 //! Tokens in parts, as the members of the flattened JSON form (RFC 7515 section 7.2.2).
 
-ghost use Rattle.std.specs.Prelude.{◌≡◌, ◌↔◌, ◌++◌, ℕ, List, Some, None, IfOk, IfErr, string_bytes};
+ghost use Rattle.std.specs.Prelude.{◌≡◌, ◌↔◌, ◌++◌, ◌∷◌, ℕ, List, Some, None, IfOk, IfErr, string_bytes};
 ghost use Rattle.serde_json.specs.View.{view};
 ghost use Rattle.jwt_base.specs.Algorithm.{family_of};
 ghost use Rattle.jwt_base.specs.Kind as kind;
@@ -15,16 +15,18 @@ ghost use Rattle.jsonwebtoken.specs.IssueCalls.{encoding_parts};
 ghost use Rattle.jsonwebtoken.specs.private_clauses.IssueSteps.{IssueStep};
 ghost use Rattle.jsonwebtoken.specs.Jws.{parts_of, ReadsParts, parts_value};
 ghost use Rattle.jsonwebtoken.specs.Laws.{HasLaws, AgreeOn};
-ghost use Rattle.jsonwebtoken.specs.private_clauses.Steps.{Step, parts_in, allowing, with_header, with_opening};
-ghost use Rattle.jsonwebtoken.specs.Tests.{Parts, Separate, text_of_parts, jws_algorithm_tests, verifying_tests, jws_order, token_tests};
+ghost use Rattle.jsonwebtoken.specs.private_clauses.Steps.{Step, ShowsNothing, ShowsClaims, parts_in, allowing, with_header, with_opening, whole};
+ghost use Rattle.jsonwebtoken.specs.Tests.{Parts, Separate, message_of, text_of_parts, CritIsUnderstood, jws_algorithm_tests, verifying_tests, jws_order, token_tests};
 
 use crate::decoding::TokenData;
+use crate::decoding::crit::check_crit;
 use crate::decoding::parts::TokenParts;
 use crate::decoding::steps::{
-    beside, check_families, check_listed, check_some_listed, read_understood_header,
+    check_families, check_listed, check_some_listed, make_verifier, read_header, token_data,
     verify_and_read_claims,
 };
 use crate::encoding::steps::{check_family, header_part, payload_part, sign_parts, with_part};
+use crate::refusal::{Refusal, Test, with_test, without_test};
 use jwt_base::errors::{ErrorKind, Result, new_error};
 use jwt_base::json::Claims;
 use jwt_base::json::members::put_text;
@@ -158,23 +160,22 @@ pub fn encode<P: CryptoProvider, T: Claims>(
 }
 
 /// Returns the verifier by the key and the header's algorithm, which is among those that are
-/// allowed: the tests of [`verifier_for`](crate::decoding::steps::verifier_for) in another
-/// order.
+/// allowed: the tests of the algorithms of [`decode`](crate::decode) in another order.
 fn verifier_for<P: CryptoProvider>(
     alloc: Global,
     provider: &P,
     header: &Header,
     key: &DecodingKey,
     validation: &Validation,
-) -> Result<P::Verifier>
+) -> Result<P::Verifier, Refusal>
     ensures tests { Step
         (allowing (options_of validation.now) key.now (P.verifier_refusal provider.now))
-        jws_algorithm_tests (with_header header.now) (λ _ _. Unit {0}) result }
+        jws_algorithm_tests (with_header header.now) ShowsNothing result }
     ensures accepts { IfOk result (λ v. (m s : List ℕ) →
         P.Verifier.accepts v m s ↔ P.accepts provider.now header.now.alg key.now m s) }
 {
     let algorithm = header.alg;
-    let verifier = provider.verifier_factory(alloc, &algorithm, key)?;
+    let verifier = make_verifier(alloc, provider, algorithm, key)?;
     check_some_listed(validation)?;
     check_families(validation, algorithm)?;
     check_listed(validation, algorithm)?;
@@ -190,12 +191,13 @@ fn read_claims_by_key<P: CryptoProvider, T: Claims>(
     key: &DecodingKey,
     validation: &Validation,
     now: u64,
-) -> Result<T>
+) -> Result<T, Refusal>
     ensures { let call = decoding_parts P.CryptoProvider T.Claims
         provider.now (parts_in parts.now) key.now validation.now now in
-        Step call (jws_algorithm_tests ++ verifying_tests)
-        (with_opening (parts_in parts.now) header.now) (λ x c. T.reads x.payload_value c) result }
+        Step call (CritIsUnderstood ∷ (jws_algorithm_tests ++ verifying_tests))
+        (with_opening (parts_in parts.now) header.now) (ShowsClaims T.reads) result }
 {
+    check_crit(header, validation)?;
     let verifier = verifier_for(alloc, provider, header, key, validation)?;
     let claims = verify_and_read_claims(alloc, &verifier, parts, validation, now)?;
     Ok(claims)
@@ -208,15 +210,23 @@ fn decode_parts<P: CryptoProvider, T: Claims>(
     key: &DecodingKey,
     validation: &Validation,
     now: u64,
-) -> Result<TokenData<T>>
+) -> Result<TokenData<T>, Refusal>
     ensures { let call = decoding_parts P.CryptoProvider T.Claims
         provider.now (parts_in parts.now) key.now validation.now now in
-        Step call jws_order (λ x. x) (Carries call) result }
+        Step call jws_order whole (Carries call) result }
 {
-    let header = read_understood_header(alloc, parts, validation)?;
+    let header = read_header(alloc, parts.header)?;
     let claims = read_claims_by_key(alloc, provider, parts, &header, key, validation, now);
-    let (header, claims) = beside(header, claims)?;
-    Ok(TokenData { header, claims })
+    token_data(header, claims)
+}
+
+/// Returns the message that is signed (RFC 7515 section 5.1).
+fn signed_message<T>(alloc: Global, token: &Jws<T>) -> Result<String>
+    ensures ok { IfOk result (λ m. string_bytes m ≡ message_of (parts_of token.now)) }
+    ensures err { IfErr result IsMemory }
+{
+    let front = String::from_str(alloc, token.protected.as_str())?;
+    with_part(front, token.payload.as_str())
 }
 
 fn decode_by_steps<P: CryptoProvider, T: Claims>(
@@ -226,13 +236,12 @@ fn decode_by_steps<P: CryptoProvider, T: Claims>(
     key: &DecodingKey,
     validation: &Validation,
     now: u64,
-) -> Result<TokenData<T>>
+) -> Result<TokenData<T>, Refusal>
     ensures { let call = decoding_parts P.CryptoProvider T.Claims
         provider.now (parts_of token.now) key.now validation.now now in
-        Step call jws_order (λ x. x) (Carries call) result }
+        Step call jws_order whole (Carries call) result }
 {
-    let front = String::from_str(alloc, token.protected.as_str())?;
-    let message = with_part(front, token.payload.as_str())?;
+    let message = with_test(Test::HasThreeParts, signed_message(alloc, token))?;
     let parts = TokenParts {
         message: message.as_bytes(),
         header: token.protected.as_bytes(),
@@ -282,5 +291,5 @@ pub fn decode<P: CryptoProvider, T: Claims>(
         (decoding_parts P.CryptoProvider T.Claims provider.now (parts_of token.now) key.now
         validation.now now) p }
 {
-    decode_by_steps(alloc, provider, token, key, validation, now)
+    without_test(decode_by_steps(alloc, provider, token, key, validation, now))
 }

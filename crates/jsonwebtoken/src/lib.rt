@@ -12,13 +12,17 @@ mod first_failed;
 pub mod jwk;
 pub mod jws;
 mod known_headers;
+mod refusal;
 
 pub use accepted_moments::{first_and_last_moment, first_and_last_moment_with_set};
 pub use by_signature::{SigningInput, encode_by_signature, signing_input};
 pub use by_verdict::{SignedPart, decode_by_verdict, signed_part};
-pub use decoding::{TokenData, decode, decode_header, decode_with_set};
+pub use decoding::{
+    TokenData, decode, decode_header, decode_or_refusal, decode_with_set,
+    decode_with_set_or_refusal,
+};
 pub use encoding::encode;
-pub use first_failed::{Test, failed_test, failed_test_with_set};
+pub use first_failed::{failed_test, failed_test_with_set};
 pub use jwt_base::algorithms::{Algorithm, AlgorithmFamily};
 pub use jwt_base::text::{Text, Texts};
 pub use jwt_base::{errors, json};
@@ -28,3 +32,4 @@ pub use jwt_keys::encoding_key::EncodingKey;
 pub use jwt_validation::{
     Clock, Moments, Validation, claimed_moments, get_current_timestamp, validate,
 };
+pub use refusal::{Refusal, Test};

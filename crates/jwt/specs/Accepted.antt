@@ -2,18 +2,19 @@
 use Rattle.std.specs.Prelude.{◌≡◌, ◌⊎◌, ⊤, ℕ, List, Option, Some, None, map, option_map}
 use Rattle.std.specs.Char.{to_ascii_lowercase}
 use Rattle.jwt_base.specs.Claims.{IsValue}
-use Rattle.jwt_base.specs.KindOf.{kind_of, IsMemory}
+use Rattle.jwt_base.specs.KindOf.{IsMemory}
 use Rattle.jwt_header.specs.declared.header.Header.{Header}
 use Rattle.jwt_validation.specs.Options.{Options}
 use Rattle.jwt_standard.specs.StandardKeys.{verifier_refusal, StandardAccepts}
-use Rattle.jsonwebtoken.specs.Order.{Passes, FailsFirst}
-use Rattle.jsonwebtoken.specs.declared.first_failed.Test.{Test}
+use Rattle.jsonwebtoken.specs.Order.{Passes}
+use Rattle.jsonwebtoken.specs.Refused.{IsRefusal}
+use Rattle.jsonwebtoken.specs.declared.refusal.Test.{Test}
 use Rattle.jsonwebtoken.specs.Tests.{Call, Contents, Compact, KeySource, Given, InSet, decode_order, set_order, token_tests, verifying_call}
 use Rattle.serde_json.specs.declared.value.Value.{Value}
 use Rattle.jwt.specs.declared.keys.Keys.{Keys}
 use Rattle.jwt.specs.declared.keys.Keys.TheVariants.{One, Set}
-use Rattle.jwt.specs.declared.verdict.Refusal.{Refusal}
-use Rattle.jwt.specs.declared.verdict.Refusal.TheVariants.{Failed, OtherType}
+use Rattle.jwt.specs.declared.verdict.Denial.{Denial}
+use Rattle.jwt.specs.declared.verdict.Denial.TheVariants.{Refused, OtherType}
 
 -- the key that is given, or those of a set
 abbrev pub keys_of : Keys → KeySource
@@ -46,9 +47,9 @@ HasType (Some typ) header =
 abbrev pub IsAccepted : List ℕ → Keys → Options → ℕ → Option (List ℕ) → Contents → Type 0
 IsAccepted token keys options now typ t = PassesAll token keys options now t × HasType typ t.header
 
--- the token is refused: by its first failed test, by memory, or by its type
-abbrev pub IsRefused : List ℕ → Keys → Options → ℕ → Option (List ℕ) → Refusal → Type 0
-IsRefused token keys options now typ (Failed e) =
-    IsMemory e ⊎ FailsFirst (token_tests (checking token keys options now)) (order_of keys) (kind_of e)
-IsRefused token keys options now typ OtherType =
+-- the token is not accepted: by its first failed test, by memory, or by its type
+abbrev pub IsDenied : List ℕ → Keys → Options → ℕ → Option (List ℕ) → Denial → Type 0
+IsDenied token keys options now typ (Refused refusal) =
+    IsMemory refusal.error ⊎ IsRefusal (token_tests (checking token keys options now)) (order_of keys) refusal
+IsDenied token keys options now typ OtherType =
     (t : Contents) × PassesAll token keys options now t × ¬ HasType typ t.header

@@ -12,10 +12,10 @@ use Rattle.jsonwebtoken.specs.ByHmac.{encoding_by_hmac}
 use Rattle.jsonwebtoken.specs.Issue.{Issue, Written, IsIssued, encode_order, issue_tests}
 use Rattle.jsonwebtoken.specs.Order.{Passes, FailsFirst}
 use Rattle.jsonwebtoken.specs.Tests.{Contents}
-use Rattle.jwt.specs.Accepted.{IsAccepted, IsRefused}
+use Rattle.jwt.specs.Accepted.{IsAccepted, IsDenied}
 use Rattle.jwt.specs.declared.keys.Keys.{Keys}
-use Rattle.jwt.specs.declared.verdict.Refusal.{Refusal}
-use Rattle.jwt.specs.declared.verdict.Refusal.TheVariants.{Failed, OtherType}
+use Rattle.jwt.specs.declared.verdict.Denial.{Denial}
+use Rattle.jwt.specs.declared.verdict.Denial.TheVariants.{Refused, OtherType}
 use Rattle.jwt.specs.declared.verify.Form.{Form}
 use Rattle.jwt.specs.declared.verify.Form.TheVariants.{Claims, HeaderAndClaims, Json}
 
@@ -43,23 +43,24 @@ IsRefusedText HeaderAndClaims output = output ≡ []
 IsRefusedText Json output = Unit {0}
 
 -- 3 if memory ran out, and else 1
-abbrev pub HasStatus : Refusal → ℕ → Type 0
-HasStatus (Failed e) status = (IsMemory e × (status ≡ 3)) ⊎ (¬ IsMemory e × (status ≡ 1))
+abbrev pub HasStatus : Denial → ℕ → Type 0
+HasStatus (Refused refusal) status =
+    (IsMemory refusal.error × (status ≡ 3)) ⊎ (¬ IsMemory refusal.error × (status ≡ 1))
 HasStatus OtherType status = status ≡ 1
 
--- status 0 for a token that is accepted, and else that of its refusal
+-- status 0 for a token that is accepted, and else that of its denial
 abbrev pub IsVerdict : List ℕ → Keys → Options → ℕ → Option (List ℕ) → ℕ → Type 0
 IsVerdict token keys options now typ status =
     ((t : Contents) × IsAccepted token keys options now typ t × (status ≡ 0))
-    ⊎ ((refusal : Refusal) × IsRefused token keys options now typ refusal × HasStatus refusal status)
+    ⊎ ((denial : Denial) × IsDenied token keys options now typ denial × HasStatus denial status)
 
 -- Status 0 and the claims of a token that is accepted, or another status and nothing of one that is refused.
 abbrev pub IsVerifyAnswer : List ℕ → Keys → Options → ℕ → Option (List ℕ) → Form → ℕ → List ℕ → Type 0
 IsVerifyAnswer token keys options now typ form status output =
     ((t : Contents) × IsAccepted token keys options now typ t × (status ≡ 0)
     × IsAcceptedText form t.header t.payload_value output)
-    ⊎ ((refusal : Refusal) × IsRefused token keys options now typ refusal
-    × HasStatus refusal status × IsRefusedText form output)
+    ⊎ ((denial : Denial) × IsDenied token keys options now typ denial
+    × HasStatus denial status × IsRefusedText form output)
 
 -- a token of these claims under this header, signed by HMAC with a secret (RFC 7518 section 3.2)
 abbrev pub signing : Header → Data → List ℕ → Issue

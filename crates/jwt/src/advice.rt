@@ -1,27 +1,32 @@
 //! Refusals in sentences.
 
-use crate::verdict::Refusal;
-use jsonwebtoken::errors::ErrorKind;
+use crate::verdict::Denial;
+use jsonwebtoken::errors::{Error, ErrorKind};
 use std::alloc::{AllocError, Global};
 
-/// Returns the name of the refusal.
-pub fn refusal_name(refusal: &Refusal) -> &'static str {
-    match refusal {
-        Refusal::Failed(error) => error.kind().name(),
-        Refusal::OtherType => "InvalidType",
+/// Returns the name of a denial: the kind of its error, or that of another type.
+pub fn denial_name(denial: &Denial) -> &'static str {
+    match denial {
+        Denial::Refused(refusal) => refusal.error.kind().name(),
+        Denial::OtherType => "InvalidType",
     }
 }
 
-/// Returns the claim that a refusal names.
-pub fn refused_claim(refusal: &Refusal) -> Option<&str> {
-    let Refusal::Failed(error) = refusal else {
-        return None;
-    };
+/// Returns the claim that an error names.
+fn named_claim(error: &Error) -> Option<&str> {
     match error.kind() {
         ErrorKind::MissingRequiredClaim(name) | ErrorKind::InvalidClaimFormat(name) => Some(
             name.as_str(),
         ),
         _ => None,
+    }
+}
+
+/// Returns the claim that a denial names.
+pub fn denied_claim(denial: &Denial) -> Option<&str> {
+    match denial {
+        Denial::Refused(refusal) => named_claim(&refusal.error),
+        Denial::OtherType => None,
     }
 }
 
@@ -54,30 +59,23 @@ fn kind_meaning(kind: &ErrorKind) -> &'static str {
     }
 }
 
-/// Returns the meaning of a refusal.
-pub fn meaning(refusal: &Refusal) -> &'static str {
-    match refusal {
-        Refusal::Failed(error) => kind_meaning(error.kind()),
-        Refusal::OtherType => "the token's 'typ' is not that of --typ",
-    }
-}
-
 /// Returns whether memory ran out, so that nothing is said of the token.
-pub fn is_of_memory(refusal: &Refusal) -> bool {
-    match refusal {
-        Refusal::Failed(error) => matches!(error.kind(), ErrorKind::OutOfMemory),
-        Refusal::OtherType => false,
+pub fn is_of_memory(denial: &Denial) -> bool {
+    match denial {
+        Denial::Refused(refusal) => matches!(refusal.error.kind(), ErrorKind::OutOfMemory),
+        Denial::OtherType => false,
     }
 }
 
-/// Returns the line that says why a token is refused, or that memory ran out.
-pub fn refusal_line(alloc: Global, refusal: &Refusal) -> Result<String, AllocError> {
-    if is_of_memory(refusal) {
+/// Returns the line that says what an error means.
+pub fn error_line(alloc: Global, error: &Error) -> Result<String, AllocError> {
+    let kind = error.kind();
+    if matches!(kind, ErrorKind::OutOfMemory) {
         return String::from_str(alloc, "error: out of memory\n");
     }
-    let name = refusal_name(refusal);
-    let meaning = meaning(refusal);
-    match refused_claim(refusal) {
+    let name = kind.name();
+    let meaning = kind_meaning(kind);
+    match named_claim(error) {
         Some(claim) => format!(in alloc; "refused: {name} ({claim}): {meaning}\n"),
         None => format!(in alloc; "refused: {name}: {meaning}\n"),
     }
@@ -87,22 +85,21 @@ pub fn refusal_line(alloc: Global, refusal: &Refusal) -> Result<String, AllocErr
 const LINE_END: &str =
     "the secret file ends with a newline, which is part of the secret; --trim leaves it out\n";
 
-/// Returns the lines that say why a token is refused by keys of a file.
-pub fn refusal_lines(
+/// The line about a token of another type.
+const OTHER_TYPE: &str = "refused: InvalidType: the token's 'typ' is not that of --typ\n";
+
+/// Returns the lines that say why a token is not accepted by keys of a file.
+pub fn denial_lines(
     alloc: Global,
-    refusal: &Refusal,
+    denial: &Denial,
     has_line_end: bool,
 ) -> Result<String, AllocError> {
-    let mut lines = refusal_line(alloc, refusal)?;
-    if has_line_end && is_of_signature(refusal) {
+    let Denial::Refused(refusal) = denial else {
+        return String::from_str(alloc, OTHER_TYPE);
+    };
+    let mut lines = error_line(alloc, &refusal.error)?;
+    if has_line_end && matches!(refusal.error.kind(), ErrorKind::InvalidSignature) {
         lines.push_str(LINE_END)?;
     }
     Ok(lines)
-}
-
-fn is_of_signature(refusal: &Refusal) -> bool {
-    match refusal {
-        Refusal::Failed(error) => matches!(error.kind(), ErrorKind::InvalidSignature),
-        Refusal::OtherType => false,
-    }
 }

@@ -4,18 +4,19 @@ ghost use Rattle.std.specs.Prelude.{◌≡◌, IfOk, option_map};
 ghost use Rattle.jwt_validation.specs.OptionsOf.{options_of};
 ghost use Rattle.jwt.specs.Answers.{HasStatus, IsVerdict};
 
-use crate::advice::{is_of_memory, refusal_lines, refusal_name};
+use crate::advice::{denial_lines, denial_name, is_of_memory};
 use crate::answer::Answer;
 use crate::explanation::{Explanation, Outcome, json_line, page};
-use crate::fault::Fault;
-use crate::findings::{Case, Finding, finding_of, first_failed, part_value, quoted};
+use crate::fault::{Fault, unless_refused};
+use crate::findings::{Case, Finding, finding_of, part_value, quoted};
 use crate::keys::Loaded;
 use crate::orders::order;
 use crate::part_findings::cut;
 use crate::times::claim_lines;
-use crate::verdict::{Refusal, accepted_moments, refusal_of};
-use crate::verify::refusal_status;
-use jsonwebtoken::{Header, Moments, Test, Validation, decode_header};
+use crate::verdict::{Denial, denial_of};
+use crate::verify::denial_status;
+use jsonwebtoken::{Header, Moments, Test, Validation, claimed_moments, decode_header, validate};
+use serde_json::Value;
 use std::alloc::{AllocError, Global};
 
 /// Returns the type of a header, as a finding says it.
@@ -50,47 +51,67 @@ fn type_finding(alloc: Global, token: &[u8], typ: Option<&str>) -> Result<Findin
     }
 }
 
-/// Returns why a token is refused. If memory ran out, no test failed, and there is no outcome.
+/// Returns why a token is not accepted. If memory ran out, no test failed, and there is no outcome.
 fn outcome(
     alloc: Global,
     case: Case<'_>,
     typ: Option<&str>,
-    refusal: &Refusal,
+    denial: &Denial,
 ) -> Result<Outcome, Fault<'static>> {
-    if is_of_memory(refusal) {
+    if is_of_memory(denial) {
         return Err(Fault::Memory);
     }
-    let error = match refusal {
-        Refusal::OtherType => {
-            return Ok(Outcome::OtherType(type_finding(alloc, case.token, typ)?));
-        }
-        Refusal::Failed(error) => error,
-    };
-    match first_failed(alloc, case)? {
-        Some(test) => Ok(Outcome::Failed(test, finding_of(alloc, case, test, error)?)),
-        None => Err(Fault::Memory),
+    match denial {
+        Denial::OtherType => Ok(Outcome::OtherType(type_finding(alloc, case.token, typ)?)),
+        Denial::Refused(refusal) => Ok(Outcome::Failed(
+            refusal.test,
+            finding_of(alloc, case, refusal)?,
+        )),
     }
 }
 
-/// Returns the moments at which the token is accepted.
-fn moments(alloc: Global, case: Case<'_>) -> Result<Option<Moments>, Fault<'static>> {
-    match accepted_moments(alloc, case.token, case.loaded, case.validation) {
-        Ok(moments) => Ok(moments),
-        Err(_) => Err(Fault::Memory),
-    }
+/// Returns the moments at which the claims of a token are accepted, whose signature is. The claim rules
+/// hold at all moments that the claims allow, or at none.
+fn moments(
+    alloc: Global,
+    claims: &Value,
+    validation: &Validation,
+) -> Result<Option<Moments>, Fault<'static>> {
+    let moments = claimed_moments(claims, validation);
+    let held = validate(alloc, claims, validation, moments.first);
+    Ok(unless_refused(held)?.map(|()| moments))
 }
 
-/// Returns the lines about the claims of a token whose signature is accepted.
-fn times(alloc: Global, case: Case<'_>, outcome: &Outcome) -> Result<String, Fault<'static>> {
+/// Returns the claims of a token whose signature is accepted, or `None` if an earlier test failed.
+fn accepted_claims(
+    alloc: Global,
+    token: &[u8],
+    outcome: &Outcome,
+) -> Result<Option<Value>, Fault<'static>> {
     if let Outcome::Accepted | Outcome::Failed(Test::ClaimRulesHold, _) = outcome
-        && let Some(parts) = cut(case.token)
-        && let Some(claims) = part_value(alloc, parts.payload)?
+        && let Some(parts) = cut(token)
     {
-        let lines = claim_lines(alloc, &claims, case.now);
-        drop(claims);
-        return Ok(lines?);
+        return part_value(alloc, parts.payload);
     }
-    Ok(String::new(alloc))
+    Ok(None)
+}
+
+/// Returns the lines about the claims of a token whose signature is accepted, and the moments at which
+/// it is accepted.
+fn times(
+    alloc: Global,
+    case: Case<'_>,
+    outcome: &Outcome,
+) -> Result<(String, Option<Moments>), Fault<'static>> {
+    match accepted_claims(alloc, case.token, outcome)? {
+        Some(claims) => {
+            let lines = claim_lines(alloc, &claims, case.now);
+            let moments = moments(alloc, &claims, case.validation);
+            drop(claims);
+            Ok((lines?, moments?))
+        }
+        None => Ok((String::new(alloc), None)),
+    }
 }
 
 /// Returns the explanation of an outcome.
@@ -100,11 +121,7 @@ fn explanation<'e>(
     outcome: Outcome,
     kind: Option<&'e str>,
 ) -> Result<Explanation<'e>, Fault<'static>> {
-    let times = times(alloc, case, &outcome)?;
-    let moments = match outcome {
-        Outcome::OtherType(_) => None,
-        _ => moments(alloc, case)?,
-    };
+    let (times, moments) = times(alloc, case, &outcome)?;
     Ok(Explanation {
         order: order(&case.loaded.keys),
         outcome,
@@ -140,24 +157,23 @@ fn accepted(alloc: Global, case: Case<'_>, is_json: bool) -> Result<Answer, Faul
     })
 }
 
-fn refused(
+fn denied(
     alloc: Global,
     case: Case<'_>,
     typ: Option<&str>,
-    refusal: &Refusal,
-    has_line_end: bool,
+    denial: &Denial,
     is_json: bool,
 ) -> Result<Answer, Fault<'static>>
-    ensures { IfOk result (λ a. HasStatus refusal.now a.status) }
+    ensures { IfOk result (λ a. HasStatus denial.now a.status) }
 {
-    let outcome = outcome(alloc, case, typ, refusal)?;
-    let explanation = explanation(alloc, case, outcome, Some(refusal_name(refusal)))?;
+    let outcome = outcome(alloc, case, typ, denial)?;
+    let explanation = explanation(alloc, case, outcome, Some(denial_name(denial)))?;
     let output = written(alloc, &explanation, is_json);
     drop(explanation);
     Ok(Answer {
-        status: refusal_status(refusal),
+        status: denial_status(denial),
         output: output?,
-        message: refusal_lines(alloc, refusal, has_line_end)?,
+        message: denial_lines(alloc, denial, case.loaded.has_line_end)?,
     })
 }
 
@@ -182,11 +198,8 @@ pub fn explain_answer(
         validation,
         now,
     };
-    match refusal_of(alloc, token, loaded, validation, now, typ) {
+    match denial_of(alloc, token, loaded, validation, now, typ) {
         None => accepted(alloc, case, is_json),
-        Some(refusal) => {
-            let has_line_end = loaded.has_line_end;
-            refused(alloc, case, typ, &refusal, has_line_end, is_json)
-        }
+        Some(denial) => denied(alloc, case, typ, &denial, is_json),
     }
 }

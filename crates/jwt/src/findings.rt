@@ -4,10 +4,10 @@ use crate::claim_findings::claim_finding;
 use crate::fault::{Fault, unless_refused};
 use crate::keys::{Keys, Loaded};
 use crate::part_findings::{cut, part_finding, text_finding};
-use crate::verdict::failed;
-use jsonwebtoken::errors::Error;
 use jsonwebtoken::jwk::JwkSet;
-use jsonwebtoken::{Algorithm, AlgorithmFamily, Header, Test, Text, Validation, decode_header};
+use jsonwebtoken::{
+    Algorithm, AlgorithmFamily, Header, Refusal, Test, Text, Validation, decode_header,
+};
 use jwt_base::serialization::{json_value, part_bytes};
 use serde_json::Value;
 use std::alloc::{AllocError, Global};
@@ -20,14 +20,6 @@ pub struct Case<'c> {
     pub validation: &'c Validation,
     /// The moment, in seconds since 1970-01-01 00:00:00 UTC.
     pub now: u64,
-}
-
-/// Returns the first test of the library that fails.
-pub fn first_failed(alloc: Global, case: Case<'_>) -> Result<Option<Test>, Fault<'static>> {
-    match failed(alloc, case.token, case.loaded, case.validation, case.now) {
-        Ok(test) => Ok(test),
-        Err(_) => Err(Fault::Memory),
-    }
 }
 
 /// The contents that a test found, and those that it asks for.
@@ -244,13 +236,13 @@ pub fn part_value(alloc: Global, part: &[u8]) -> Result<Option<Value>, Fault<'st
     }
 }
 
-/// Returns the finding of a test that fails, whose refusal has this error.
+/// Returns the finding of the test that a refusal carries.
 pub fn finding_of(
     alloc: Global,
     case: Case<'_>,
-    test: Test,
-    error: &Error,
+    refusal: &Refusal,
 ) -> Result<Finding, Fault<'static>> {
+    let test = refusal.test;
     let Some(parts) = cut(case.token) else {
         return text_finding(alloc, case.token);
     };
@@ -277,7 +269,7 @@ pub fn finding_of(
             "a signature that is not one of this header and payload by this key",
             "the key that the token was signed with, and the token as it was issued",
         ),
-        Test::ClaimRulesHold => claim_finding(alloc, case, parts.payload, error),
+        Test::ClaimRulesHold => claim_finding(alloc, case, parts.payload, &refusal.error),
         _ => by_header(alloc, case, test),
     }
 }

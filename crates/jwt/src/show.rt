@@ -5,12 +5,11 @@ ghost use Rattle.jwt_base.specs.Kind as kind;
 ghost use Rattle.jwt_base.specs.KindOf.{kind_of};
 ghost use Rattle.jwt.specs.Commands.{IsReadable};
 
-use crate::advice::refusal_line;
+use crate::advice::error_line;
 use crate::answer::Answer;
 use crate::escapes::without_late_controls;
 use crate::fault::Fault;
 use crate::times::claim_lines;
-use crate::verdict::Refusal;
 use jsonwebtoken::TokenData;
 use jsonwebtoken::dangerous::insecure_decode;
 use jsonwebtoken::errors::{Error, ErrorKind};
@@ -75,9 +74,8 @@ fn refused(alloc: Global, error: Error) -> Result<Answer, Fault<'static>>
         drop(error);
         return Err(Fault::Memory);
     }
-    let refusal = Refusal::Failed(error);
-    let message = refusal_line(alloc, &refusal);
-    drop(refusal);
+    let message = error_line(alloc, &error);
+    drop(error);
     Ok(Answer {
         status: 1,
         output: String::new(alloc),

@@ -10,11 +10,10 @@ ghost use Rattle.jwt_base.specs.Members.{put_some};
 ghost use Rattle.jwt.specs.Answers.{IsSignAnswer};
 ghost use Rattle.jwt.specs.Claimed.{header_asked, numeric_date, with_moments};
 
-use crate::advice::refusal_line;
+use crate::advice::error_line;
 use crate::answer::Answer;
 use crate::fault::Fault;
 use crate::request::Signing;
-use crate::verdict::Refusal;
 use jsonwebtoken::errors::{Error, ErrorKind, Result as Checked};
 use jsonwebtoken::{EncodingKey, Header, Text, encode};
 use jwt_base::serialization::json_value;
@@ -196,9 +195,8 @@ fn refused(alloc: Global, error: Error) -> Result<Answer, Fault<'static>>
         drop(error);
         return Err(Fault::Memory);
     }
-    let refusal = Refusal::Failed(error);
-    let message = refusal_line(alloc, &refusal);
-    drop(refusal);
+    let message = error_line(alloc, &error);
+    drop(error);
     Ok(Answer {
         status: 1,
         output: String::new(alloc),

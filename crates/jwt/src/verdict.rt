@@ -4,26 +4,22 @@ ghost use Rattle.std.specs.Prelude.{◌≡◌, ◌↔◌, IsTrue, IfOk, IfErr, I
 ghost use Rattle.serde_json.specs.View.{view};
 ghost use Rattle.jwt_validation.specs.OptionsOf.{options_of};
 ghost use Rattle.jsonwebtoken.specs.Calls.{Carries};
-ghost use Rattle.jsonwebtoken.specs.Accepted.{FindsMoments};
-ghost use Rattle.jsonwebtoken.specs.Order.{Decides, FindsFailed};
+ghost use Rattle.jsonwebtoken.specs.Refused.{DecidesByTest};
 ghost use Rattle.jsonwebtoken.specs.Tests.{Contents, token_tests};
-ghost use Rattle.jwt.specs.Accepted.{checking, order_of, HasType, IsAccepted, IsRefused};
+ghost use Rattle.jwt.specs.Accepted.{checking, order_of, HasType, IsAccepted, IsDenied};
 
 use crate::keys::{Keys, Loaded};
-use crate::prepared::PreparedKeys;
-use jsonwebtoken::errors::{Error, Result as Checked};
 use jsonwebtoken::{
-    Header, Moments, Test, TokenData, Validation, decode, decode_with_set, failed_test,
-    failed_test_with_set, first_and_last_moment, first_and_last_moment_with_set,
+    Header, Refusal, TokenData, Validation, decode_or_refusal, decode_with_set_or_refusal,
 };
 use serde_json::Value;
 use std::alloc::Global;
 
-/// The reason for which a token is refused.
+/// The reason for which a token is not accepted.
 #[derive(Drop)]
-pub enum Refusal {
+pub enum Denial {
     /// A test of the library failed.
-    Failed(Error),
+    Refused(Refusal),
     /// The header's `typ` is not the one that is asked for.
     OtherType,
 }
@@ -36,57 +32,14 @@ fn decoded(
     loaded: &Loaded,
     validation: &Validation,
     now: u64,
-) -> Checked<TokenData<Value>>
+) -> Result<TokenData<Value>, Refusal>
     ensures { let call = checking token.now loaded.now.keys (options_of validation.now) now in
-        Decides (token_tests call) (order_of loaded.now.keys) (Carries call) result }
+        DecidesByTest (token_tests call) (order_of loaded.now.keys) (Carries call) result }
 {
     let provider = &loaded.provider;
     match &loaded.keys {
-        Keys::One(key) => decode(alloc, &provider, token, key, validation, now),
-        Keys::Set(set) => decode_with_set(alloc, &provider, token, set, validation, now),
-    }
-}
-
-/// Returns the first test of a token that fails, or `None` if none does.
-pub fn failed(
-    alloc: Global,
-    token: &[u8],
-    loaded: &Loaded,
-    validation: &Validation,
-    now: u64,
-) -> Checked<Option<Test>>
-    ensures { let call = checking token.now loaded.now.keys (options_of validation.now) now in
-        FindsFailed (token_tests call) (order_of loaded.now.keys) result }
-{
-    let provider = &loaded.provider;
-    match &loaded.keys {
-        Keys::One(key) => failed_test::<&PreparedKeys, Value>(
-            alloc, &provider, token, key, validation, now,
-        ),
-        Keys::Set(set) => failed_test_with_set::<&PreparedKeys, Value>(
-            alloc, &provider, token, set, validation, now,
-        ),
-    }
-}
-
-/// Returns the first and the last moment at which each test passes, or `None` if there is none.
-pub fn accepted_moments(
-    alloc: Global,
-    token: &[u8],
-    loaded: &Loaded,
-    validation: &Validation,
-) -> Checked<Option<Moments>>
-    ensures { let call = checking token.now loaded.now.keys (options_of validation.now) 0 in
-        FindsMoments call (order_of loaded.now.keys) result }
-{
-    let provider = &loaded.provider;
-    match &loaded.keys {
-        Keys::One(key) => first_and_last_moment::<&PreparedKeys, Value>(
-            alloc, &provider, token, key, validation,
-        ),
-        Keys::Set(set) => first_and_last_moment_with_set::<&PreparedKeys, Value>(
-            alloc, &provider, token, set, validation,
-        ),
+        Keys::One(key) => decode_or_refusal(alloc, &provider, token, key, validation, now),
+        Keys::Set(set) => decode_with_set_or_refusal(alloc, &provider, token, set, validation, now),
     }
 }
 
@@ -113,38 +66,38 @@ pub fn judged(
     validation: &Validation,
     now: u64,
     typ: Option<&str>,
-) -> Result<TokenData<Value>, Refusal>
+) -> Result<TokenData<Value>, Denial>
     ensures accepted { IfOk result (λ d. (t : Contents)
         × IsAccepted token.now loaded.now.keys (options_of validation.now) now
         (option_map (λ s. s.now) typ.entry) t
         × (t.header ≡ d.header) × (view d.claims ≡ t.payload_value)) }
-    ensures refused { IfErr result (IsRefused token.now loaded.now.keys
+    ensures denied { IfErr result (IsDenied token.now loaded.now.keys
         (options_of validation.now) now (option_map (λ s. s.now) typ.entry)) }
 {
     let data = match decoded(alloc, token, loaded, validation, now) {
         Ok(data) => data,
-        Err(error) => return Err(Refusal::Failed(error)),
+        Err(refusal) => return Err(Denial::Refused(refusal)),
     };
     if !has_type(&data.header, typ) {
         drop(data);
-        return Err(Refusal::OtherType);
+        return Err(Denial::OtherType);
     }
     Ok(data)
 }
 
-/// Returns why [`judged`] refuses a token, or `None` if it is accepted.
-pub fn refusal_of(
+/// Returns why [`judged`] does not accept a token, or `None` if it does.
+pub fn denial_of(
     alloc: Global,
     token: &[u8],
     loaded: &Loaded,
     validation: &Validation,
     now: u64,
     typ: Option<&str>,
-) -> Option<Refusal>
+) -> Option<Denial>
     ensures accepted { IfNone result ((t : Contents)
         × IsAccepted token.now loaded.now.keys (options_of validation.now) now
         (option_map (λ s. s.now) typ.entry) t) }
-    ensures refused { IfSome result (IsRefused token.now loaded.now.keys
+    ensures denied { IfSome result (IsDenied token.now loaded.now.keys
         (options_of validation.now) now (option_map (λ s. s.now) typ.entry)) }
 {
     judged(alloc, token, loaded, validation, now, typ).err()

@@ -5,15 +5,14 @@ ghost use Rattle.serde_json.specs.View.{view};
 ghost use Rattle.jwt_validation.specs.OptionsOf.{options_of};
 ghost use Rattle.jwt.specs.Answers.{IsLineOf, IsHeaderLine, IsAcceptedText, IsRefusedText, HasStatus, IsVerifyAnswer};
 
-use crate::advice::{is_of_memory, refusal_lines, refusal_name, refused_claim};
+use crate::advice::{denial_lines, denial_name, denied_claim, is_of_memory};
 use crate::answer::Answer;
 use crate::fault::Fault;
-use crate::findings::{Case, first_failed};
 use crate::keys::Loaded;
 use crate::orders::TYPE_AGREES;
-use crate::verdict::{Refusal, judged};
+use crate::verdict::{Denial, judged};
 use jsonwebtoken::errors::ErrorKind;
-use jsonwebtoken::{Header, Test, TokenData, Validation};
+use jsonwebtoken::{Header, TokenData, Validation};
 use serde_json::Value;
 use std::alloc::{AllocError, Global};
 
@@ -31,12 +30,12 @@ pub enum Form {
     Json,
 }
 
-/// Returns the exit status of a refusal: 3 if memory ran out, and else 1.
-pub fn refusal_status(refusal: &Refusal) -> u8
-    ensures { HasStatus refusal.now result }
+/// Returns the exit status of a denial: 3 if memory ran out, and else 1.
+pub fn denial_status(denial: &Denial) -> u8
+    ensures { HasStatus denial.now result }
 {
-    match refusal {
-        Refusal::Failed(error) if matches!(error.kind(), ErrorKind::OutOfMemory) => 3,
+    match denial {
+        Denial::Refused(refusal) if matches!(refusal.error.kind(), ErrorKind::OutOfMemory) => 3,
         _ => 1,
     }
 }
@@ -79,30 +78,33 @@ fn push_member(line: &mut String, name: &str, text: &str) -> Result<(), AllocErr
     line.push('"')
 }
 
-/// Adds the members about a refusal, with the test that failed.
-fn push_refusal(
-    line: &mut String,
-    refusal: &Refusal,
-    test: Option<&str>,
-) -> Result<(), AllocError> {
-    push_member(line, "kind", refusal_name(refusal))?;
-    if let Some(claim) = refused_claim(refusal) {
+/// Returns the name of the test that failed. If memory ran out, none did.
+fn failed_name(denial: &Denial) -> Option<&'static str> {
+    if is_of_memory(denial) {
+        return None;
+    }
+    match denial {
+        Denial::Refused(refusal) => Some(refusal.test.name()),
+        Denial::OtherType => Some(TYPE_AGREES),
+    }
+}
+
+/// Adds the members about a denial.
+fn push_denial(line: &mut String, denial: &Denial) -> Result<(), AllocError> {
+    push_member(line, "kind", denial_name(denial))?;
+    if let Some(claim) = denied_claim(denial) {
         push_member(line, "claim", claim)?;
     }
-    if let Some(test) = test {
+    if let Some(test) = failed_name(denial) {
         push_member(line, "test", test)?;
     }
     line.push_str("}\n")
 }
 
-/// Returns one line of JSON about a refusal, with the test that failed.
-fn refused_line(
-    alloc: Global,
-    refusal: &Refusal,
-    test: Option<&str>,
-) -> Result<String, AllocError> {
+/// Returns one line of JSON about a denial.
+fn denied_line(alloc: Global, denial: &Denial) -> Result<String, AllocError> {
     let mut line = String::from_str(alloc, "{\"ok\":false")?;
-    push_refusal(&mut line, refusal, test)?;
+    push_denial(&mut line, denial)?;
     Ok(line)
 }
 
@@ -125,34 +127,11 @@ fn accepted_text(
     }
 }
 
-/// Returns the name of the test that failed. If memory ran out, none did.
-fn failed_name(
-    alloc: Global,
-    case: Case<'_>,
-    refusal: &Refusal,
-) -> Result<Option<&'static str>, Fault<'static>> {
-    if is_of_memory(refusal) {
-        return Ok(None);
-    }
-    match refusal {
-        Refusal::OtherType => Ok(Some(TYPE_AGREES)),
-        Refusal::Failed(_) => Ok(first_failed(alloc, case)?.map(Test::name)),
-    }
-}
-
-fn refused_text(
-    alloc: Global,
-    case: Case<'_>,
-    refusal: &Refusal,
-    form: Form,
-) -> Result<String, Fault<'static>>
+fn denied_text(alloc: Global, denial: &Denial, form: Form) -> Result<String, AllocError>
     ensures { IfOk result (λ text. IsRefusedText form (string_bytes text)) }
 {
     match form {
-        Form::Json => {
-            let test = failed_name(alloc, case, refusal)?;
-            Ok(refused_line(alloc, refusal, test)?)
-        }
+        Form::Json => denied_line(alloc, denial),
         _ => Ok(String::new(alloc)),
     }
 }
@@ -173,21 +152,21 @@ fn accepted_answer(
     })
 }
 
-/// Returns the answer to a token that is refused.
-fn refused_answer(
+/// Returns the answer to a token that is not accepted, by keys whose file may end with a line end.
+fn denied_answer(
     alloc: Global,
-    case: Case<'_>,
-    refusal: &Refusal,
+    denial: &Denial,
+    has_line_end: bool,
     form: Form,
 ) -> Result<Answer, Fault<'static>>
-    ensures { IfOk result (λ a. HasStatus refusal.now a.status
+    ensures { IfOk result (λ a. HasStatus denial.now a.status
         × IsRefusedText form (string_bytes a.output)) }
 {
-    let output = refused_text(alloc, case, refusal, form)?;
+    let output = denied_text(alloc, denial, form)?;
     Ok(Answer {
-        status: refusal_status(refusal),
+        status: denial_status(denial),
         output,
-        message: refusal_lines(alloc, refusal, case.loaded.has_line_end)?,
+        message: denial_lines(alloc, denial, has_line_end)?,
     })
 }
 
@@ -206,18 +185,12 @@ pub fn verify_answer(
         (options_of validation.now) now (option_map (λ s. s.now) typ.entry) form a.status
         (string_bytes a.output)) }
 {
-    let case = Case {
-        token,
-        loaded,
-        validation,
-        now,
-    };
     match judged(alloc, token, loaded, validation, now, typ) {
-        Ok(data) => {
-            let answer = accepted_answer(alloc, &data, form);
-            drop(data);
+        Ok(contents) => {
+            let answer = accepted_answer(alloc, &contents, form);
+            drop(contents);
             answer
         }
-        Err(refusal) => refused_answer(alloc, case, &refusal, form),
+        Err(denial) => denied_answer(alloc, &denial, loaded.has_line_end, form),
     }
 }

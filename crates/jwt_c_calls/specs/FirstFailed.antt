@@ -2,7 +2,7 @@
 use Rattle.std.specs.Prelude.{◌≡◌, ℕ, List, [], Option, Some, None}
 use Rattle.jsonwebtoken.specs.Order.{IsFirstFailure}
 use Rattle.jsonwebtoken.specs.TestName.{test_name}
-use Rattle.jsonwebtoken.specs.declared.first_failed.Test.{Test}
+use Rattle.jsonwebtoken.specs.declared.refusal.Test.{Test}
 use Rattle.jsonwebtoken.specs.Tests.{Call, decode_order, set_order, token_tests}
 use Rattle.jwt_c_calls.specs.Calls.{Answer, hmac_call, key_call, set_call}
 use Rattle.jwt_c_calls.specs.Keys.{AnswersWithOptions, AnswersWithKey, AnswersWithSet}

@@ -2,7 +2,7 @@
 use Rattle.std.specs.Prelude.{◌≡◌, ℕ, List, [], Option, Some, None}
 use Rattle.jwt_validation.specs.declared.interval.Moments.{Moments}
 use Rattle.jsonwebtoken.specs.Accepted.{AreMoments}
-use Rattle.jsonwebtoken.specs.declared.first_failed.Test.{Test}
+use Rattle.jsonwebtoken.specs.declared.refusal.Test.{Test}
 use Rattle.jsonwebtoken.specs.Tests.{Call, decode_order, set_order}
 use Rattle.jwt_c_calls.specs.Calls.{Answer, Gives, Refuses, Misreads, hmac_call, key_call, set_call, status_of}
 use Rattle.jwt_c_calls.specs.Keys.{AnswersWithOptions, AnswersWithKey, AnswersWithSet}

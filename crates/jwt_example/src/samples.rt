@@ -9,9 +9,9 @@ use jsonwebtoken::crypto::verdict::VerdictProvider;
 use jsonwebtoken::errors::Result;
 use jsonwebtoken::jwk::JwkSet;
 use jsonwebtoken::{
-    Algorithm, DecodingKey, EncodingKey, Header, Moments, Test, TokenData, Validation, decode,
-    decode_by_verdict, decode_header, decode_with_set, encode, encode_by_signature, failed_test,
-    first_and_last_moment, signed_part, signing_input,
+    Algorithm, DecodingKey, EncodingKey, Header, Moments, TokenData, Validation, decode,
+    decode_by_verdict, decode_header, decode_or_refusal, decode_with_set, encode,
+    encode_by_signature, first_and_last_moment, signed_part, signing_input,
 };
 use jwt_key_files::signature::ecdsa_signature;
 use jwt_standard::StandardProvider;
@@ -28,19 +28,18 @@ pub fn verified(alloc: Global, token: &[u8], now: u64) -> Result<Value> {
     Ok(data.claims)
 }
 
-/// Returns the name of the first test that a token fails, or `None` if it is accepted.
-pub fn failed_name(alloc: Global, token: &[u8], now: u64) -> Result<Option<&'static str>> {
+/// Returns why a token is refused, for a log, or `None` if it is accepted.
+pub fn refusal_text(alloc: Global, token: &[u8], now: u64) -> Result<Option<String>> {
     let key = DecodingKey::from_secret(alloc, b"secret")?;
     let validation = Validation::new(alloc, Algorithm::HS256)?;
-    let failed = failed_test::<HmacProvider, Value>(
-        alloc,
-        &HmacProvider,
-        token,
-        &key,
-        &validation,
-        now,
-    )?;
-    Ok(failed.map(Test::name))
+    let provider = &HmacProvider;
+    match decode_or_refusal::<_, Value>(alloc, provider, token, &key, &validation, now) {
+        Ok(_) => Ok(None),
+        Err(refusal) => {
+            let (test, kind) = (refusal.test.name(), refusal.error.kind().name());
+            Ok(Some(format!(in alloc; "{test}: {kind}")?))
+        }
+    }
 }
 
 /// Returns the moments at which a token is accepted, or `None` if there is none.
@@ -212,9 +211,9 @@ fn print<T: Runtime + AllocGlobal>(rt: &T, answer: Result<Value>) -> Result<(), 
 fn show_reasons<T: Runtime + AllocGlobal>(rt: &T) -> Result<(), Fault> {
     let alloc = rt.alloc();
     for token in [TOKEN, NAMED, "a.b"] {
-        let failed = failed_name(alloc, token.as_bytes(), 2532524952)?;
+        let refused = refusal_text(alloc, token.as_bytes(), 2532524952)?;
         let moments = accepted_moments(alloc, token.as_bytes())?;
-        println!(rt; "{failed:?} {moments:?}")?;
+        println!(rt; "{refused:?} {moments:?}")?;
     }
     Ok(())
 }

@@ -42,8 +42,8 @@ fn held_text(kind: &ErrorKind) -> Option<&str> {
     }
 }
 
-// Returns the name of a kind, and behind it in parentheses the string that it holds.
-fn kind_text(alloc: Global, kind: &ErrorKind) -> Result<String, Fault> {
+/// Returns the name of a kind, and after it in parentheses the string that it holds.
+pub fn kind_text(alloc: Global, kind: &ErrorKind) -> Result<String, Fault> {
     let name = kind.name();
     match held_text(kind) {
         Some(text) => Ok(format!(in alloc; "{name}({text})")?),

@@ -1,11 +1,14 @@
 //! The first failed tests of tokens.
 
 use crate::inputs::{with_key, with_set};
+use crate::tokens::token_answer;
 use jsonwebtoken::crypto::CryptoProvider;
-use jsonwebtoken::errors::Result as Outcome;
+use jsonwebtoken::errors::{ErrorKind, Result as Outcome};
 use jsonwebtoken::json::Claims;
-use jsonwebtoken::{Test, failed_test, failed_test_with_set};
-use jwt_rows::answer::{Answer, accepted, refused};
+use jsonwebtoken::{
+    Refusal, Test, decode_or_refusal, decode_with_set_or_refusal, failed_test, failed_test_with_set,
+};
+use jwt_rows::answer::{Answer, accepted, kind_text, pair, refused};
 use jwt_rows::fault::Fault;
 use jwt_rows::row::Row;
 use jwt_rows::trial::Trial;
@@ -23,6 +26,9 @@ pub fn answer<P: CryptoProvider>(
         "failed_test" => by_key::<P, Value>(row, trial, provider),
         "failed_test::<u64>" => by_key::<P, u64>(row, trial, provider),
         "failed_test_with_set" => by_set(row, trial, provider),
+        "decode_or_refusal" => decoded(row, trial, provider),
+        "decode_or_refusal::<u64>" => number(row, trial, provider),
+        "decode_with_set_or_refusal" => decoded_by_set(row, trial, provider),
         _ => return Ok(None),
     };
     Ok(Some(answer?))
@@ -70,4 +76,79 @@ fn by_set<P: CryptoProvider>(row: Row<'_>, trial: &mut Trial, provider: &P) -> A
     );
     trial.end();
     of_test(row.alloc(), answer)
+}
+
+// Returns the kind and the test of a refusal; the kind alone if memory ran out.
+fn of_refusal(alloc: Global, refusal: &Refusal) -> Answer {
+    let kind = refusal.error.kind();
+    if matches!(kind, ErrorKind::OutOfMemory) {
+        return refused(alloc, &refusal.error);
+    }
+    let test = String::from_str(alloc, refusal.test.name())?;
+    let kind = kind_text(alloc, kind)?;
+    pair(
+        alloc,
+        ("err", Value::String(kind)),
+        ("test", Value::String(test)),
+    )
+}
+
+fn decoded<P: CryptoProvider>(row: Row<'_>, trial: &mut Trial, provider: &P) -> Answer {
+    let inputs = with_key(row, &["token", "key", "validation", "now", "provider"])?;
+    let now = row.number("now")?;
+    let token = inputs.token.as_slice();
+    trial.begin();
+    let answer = decode_or_refusal(
+        row.alloc(),
+        provider,
+        token,
+        &inputs.key,
+        &inputs.options,
+        now,
+    );
+    trial.end();
+    match answer {
+        Ok(data) => token_answer(row.alloc(), &*Box::new(row.alloc(), data)?),
+        Err(refusal) => of_refusal(row.alloc(), &refusal),
+    }
+}
+
+fn number<P: CryptoProvider>(row: Row<'_>, trial: &mut Trial, provider: &P) -> Answer {
+    let inputs = with_key(row, &["token", "key", "validation", "now", "provider"])?;
+    let now = row.number("now")?;
+    let token = inputs.token.as_slice();
+    trial.begin();
+    let answer = decode_or_refusal::<P, u64>(
+        row.alloc(),
+        provider,
+        token,
+        &inputs.key,
+        &inputs.options,
+        now,
+    );
+    trial.end();
+    match answer {
+        Ok(data) => accepted(row.alloc(), Value::from(data.claims)),
+        Err(refusal) => of_refusal(row.alloc(), &refusal),
+    }
+}
+
+fn decoded_by_set<P: CryptoProvider>(row: Row<'_>, trial: &mut Trial, provider: &P) -> Answer {
+    let inputs = with_set(row, &["token", "set", "validation", "now", "provider"])?;
+    let now = row.number("now")?;
+    let token = inputs.token.as_slice();
+    trial.begin();
+    let answer = decode_with_set_or_refusal(
+        row.alloc(),
+        provider,
+        token,
+        &inputs.set,
+        &inputs.options,
+        now,
+    );
+    trial.end();
+    match answer {
+        Ok(data) => token_answer(row.alloc(), &*Box::new(row.alloc(), data)?),
+        Err(refusal) => of_refusal(row.alloc(), &refusal),
+    }
 }

@@ -32,7 +32,8 @@ pub fn answer<P: CryptoProvider>(
     Ok(Some(answer?))
 }
 
-fn token_answer(alloc: Global, data: &TokenData<Value>) -> Answer {
+/// Returns the header and the claims of a token.
+pub fn token_answer(alloc: Global, data: &TokenData<Value>) -> Answer {
     let header = data.header.to_value(alloc)?;
     let claims = data.claims.to_value(alloc)?;
     accepted(alloc, pair(alloc, ("claims", claims), ("header", header))?)

@@ -13,6 +13,6 @@ module _ {Test Contents : Type 0} (tests : Tests Test Contents) (FailsAt : Test 
   abbrev pub FailedAt : List Test → Contents → Kind → Type 0
   FailedAt order t k = StopsAt (λ c s. tests.has_kind c s k) order t
 
-  -- up to this one
-  abbrev pub StopsBy : List Test → Contents → Test → Type 0
-  StopsBy order t f = StopsAt (λ c _. c ≡ f) order t
+  -- up to this one, which fails with this kind
+  abbrev pub FailedBy : List Test → Contents → Test → Kind → Type 0
+  FailedBy order t f k = StopsAt (λ c s. (c ≡ f) × tests.has_kind c s k) order t

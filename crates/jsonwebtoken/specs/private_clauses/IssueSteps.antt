@@ -1,14 +1,14 @@
 -- For private clauses: the relation between a step of a call that issues a token and its tests.
-use Rattle.std.specs.Prelude.{◌≡◌, ℕ, List, [], Option, Some, None, Result}
+use Rattle.std.specs.Prelude.{◌≡◌, ◌⊎◌, ℕ, List, [], Option, Some, None, Result, Ok, Err}
 use Rattle.serde_json.specs.Data.{Data}
 use Rattle.serde_json.specs.Written.{compact_text}
 use Rattle.jwt_base.specs.Base64Url.{IsPart}
 use Rattle.jwt_base.specs.Claims.{IsCompact}
 use Rattle.jwt_base.specs.Kind.{Kind}
+use Rattle.jwt_base.specs.KindOf.{kind_of, IsMemory}
 use Rattle.jwt_base.specs.declared.errors.Error.{Error}
 use Rattle.jsonwebtoken.specs.Order.{Passes}
 use Rattle.jsonwebtoken.specs.private_clauses.FailedAt.{FailedAt}
-use Rattle.jsonwebtoken.specs.private_clauses.Steps.{Meets}
 use Rattle.jsonwebtoken.specs.Issue.{Issue, IssueTest, HeaderIsWritten, ClaimsAreWritten, Written, AreWritten, IssueCondition, issue_tests}
 use Rattle.jwt_header.specs.Header.{header_value}
 
@@ -21,6 +21,15 @@ pub record IsPartOf (d : Data) (text : List ℕ) : Type 0 where
 abbrev pub IsPayloadOf : Option Data → List ℕ → Type 0
 IsPayloadOf None text = text ≡ []
 IsPayloadOf (Some d) text = IsPartOf d text
+
+-- the result meets the first relation; or the kind of the error meets the second, unless memory ran out
+abbrev pub Meets : {R : Type 0} → (R → Type 0) → (Kind → Type 0) → Result R Error → Type 0
+Meets P Q (Ok r) = P r
+Meets P Q (Err e) = IsMemory e ⊎ Q (kind_of e)
+
+-- the condition; if it fails, the error is of one of these kinds
+abbrev pub AsksFor : {R : Type 0} → Type 0 → (Kind → Type 0) → Result R Error → Type 0
+AsksFor P K = Meets (λ _. P) (λ k. (P → ⊥) × K k)
 
 module _ (issue : Issue) where
   -- the test fails at these values, whatever the value that it looks for

@@ -1,5 +1,5 @@
 -- For private clauses: the relation between a step of a call and its tests.
-use Rattle.std.specs.Prelude.{◌≡◌, ◌⊎◌, ℕ, List, [], Option, Some, Result, Ok, Err}
+use Rattle.std.specs.Prelude.{◌≡◌, ◌⊎◌, ℕ, List, [], ◌∷◌, Option, Some, Result, Ok, Err}
 use Rattle.serde_json.specs.Data.{Data, null, no_members}
 use Rattle.jwt_base.specs.Base64Url.{IsPart}
 use Rattle.jwt_base.specs.JsonText.{IsJson}
@@ -8,7 +8,6 @@ use Rattle.jwt_base.specs.KindOf.{kind_of, IsMemory}
 use Rattle.jwt_base.specs.declared.algorithms.Algorithm.TheVariants.{HS256}
 use Rattle.jwt_base.specs.declared.algorithms.Algorithm.{Algorithm}
 use Rattle.jwt_base.specs.declared.algorithms.AlgorithmFamily.TheVariants.{Hmac}
-use Rattle.jwt_base.specs.declared.errors.Error.{Error}
 use Rattle.jwt_header.specs.Header.{ReadsHeader, new_header}
 use Rattle.jwt_header.specs.declared.header.Header.{Header}
 use Rattle.jwt_keys.specs.Key.{Key, Plain}
@@ -18,19 +17,24 @@ use Rattle.jwt_params.specs.declared.parameters.AlgorithmParameters.TheVariants.
 use Rattle.jwt_params.specs.Common.{no_common}
 use Rattle.jwt_validation.specs.Options.{Options}
 use Rattle.jsonwebtoken.specs.Order.{Passes}
-use Rattle.jsonwebtoken.specs.private_clauses.FailedAt.{FailedAt}
-use Rattle.jsonwebtoken.specs.Tests.{Parts, HasParts, Given, InSet, set_of, named_key, Call, Test, HasThreeParts, HeaderIsPart, HeaderIsJson, HeaderReads, KeyIsFound, KeyIsUsable, SignatureIsPart, PayloadIsPart, PayloadIsJson, ClaimsRead, Contents, Condition, token_tests, header_call, insecure_call}
+use Rattle.jsonwebtoken.specs.private_clauses.FailedAt.{FailedBy}
+use Rattle.jsonwebtoken.specs.Tests.{Parts, HasParts, Given, InSet, set_of, named_key, Call, Test, HasThreeParts, HeaderIsPart, HeaderIsJson, HeaderReads, KeyIsFound, KeyIsUsable, SignatureIsPart, PayloadIsPart, PayloadIsJson, ClaimsRead, ClaimsAreAnObject, ClaimRulesHold, Contents, Condition, token_tests, header_call, insecure_call}
 use Rattle.jsonwebtoken.specs.declared.decoding.parts.TokenParts.{TokenParts}
+use Rattle.jsonwebtoken.specs.declared.refusal.Refusal.{Refusal}
 
--- the result meets the first relation; or the kind of the refusal meets the second, unless memory
--- ran out
-abbrev pub Meets : {R : Type 0} → (R → Type 0) → (Kind → Type 0) → Result R Error → Type 0
+-- the result meets the first relation; or the test and the kind of the refusal meet the second, unless memory ran out
+abbrev pub Meets : {R : Type 0} → (R → Type 0) → (Test → Kind → Type 0) → Result R Refusal → Type 0
 Meets P Q (Ok r) = P r
-Meets P Q (Err e) = IsMemory e ⊎ Q (kind_of e)
+Meets P Q (Err f) = IsMemory f.error ⊎ Q f.test (kind_of f.error)
 
--- the condition; if it fails, the refusal is of one of these kinds
-abbrev pub AsksFor : {R : Type 0} → Type 0 → (Kind → Type 0) → Result R Error → Type 0
-AsksFor P K = Meets (λ _. P) (λ k. (P → ⊥) × K k)
+-- The meaning of a result for one test: it is there if it meets this relation; if nothing does, the refusal is by this
+-- test, and of one of these kinds.
+abbrev pub Finds : {R : Type 0} → Test → (R → Type 0) → Type 0 → (Kind → Type 0) → Result R Refusal → Type 0
+Finds c P None K = Meets P (λ f k. None × ((c ≡ f) × K k))
+
+-- the same for a test of one condition
+abbrev pub Asks : Test → Type 0 → (Kind → Type 0) → Result (Unit {0}) Refusal → Type 0
+Asks c P K = Finds c (λ _. P) (P → ⊥) K
 
 module _ {T : Type 0} (call : Call T) where
   -- the test fails at these contents, whatever the value that it looks for
@@ -47,17 +51,36 @@ module _ {T : Type 0} (call : Call T) where
   FailsAt ClaimsRead t = (c : T) → call.reads t.payload_value c → ⊥
   FailsAt c t = Condition call c t → ⊥
 
-  abbrev pub Failed : List Test → Contents → Kind → Type 0
-  Failed = FailedAt (token_tests call) FailsAt
+  abbrev pub Failed : List Test → Contents → Test → Kind → Type 0
+  Failed = FailedBy (token_tests call) FailsAt
 
   -- The meaning of a result for these tests: some contents pass them, and the result shows them; or
-  -- some pass them up to one that fails, unless memory ran out.
+  -- some pass them up to one that fails, which the refusal carries, unless memory ran out.
   abbrev pub Step : {R : Type 0} → List Test → (Contents → Contents) → (Contents → R → Type 0)
-      → Result R Error → Type 0
+      → Result R Refusal → Type 0
   Step order at Shows = Meets (λ r. (x : Contents) × Passes (token_tests call) order (at x) × Shows x r)
-      (λ k. (x : Contents) × Failed order (at x) k)
+      (λ f k. (x : Contents) × Failed order (at x) f k)
+
+-- ---- what a step shows
+
+-- nothing
+abbrev pub ShowsNothing : {R : Type 0} → Contents → R → Type 0
+ShowsNothing t r = Unit {0}
+
+abbrev pub ShowsHeader : Contents → Header → Type 0
+ShowsHeader t header = t.header ≡ header
+
+abbrev pub ShowsKey : Contents → Key → Type 0
+ShowsKey t key = t.jwk_key ≡ key
+
+abbrev pub ShowsClaims : {T : Type 0} → (Data → T → Type 0) → Contents → T → Type 0
+ShowsClaims reads t claims = reads t.payload_value claims
 
 -- ---- the contents that a step knows of
+
+-- all of them
+abbrev pub whole : Contents → Contents
+whole x = x
 
 abbrev pub no_jwk : Jwk
 no_jwk = record { common = no_common; algorithm = Other (record { fields = no_members }) }
@@ -91,9 +114,16 @@ with_parts p x = record x { parts = p }
 abbrev pub with_header : Header → Contents → Contents
 with_header h x = record x { header = h }
 
+abbrev pub with_value : Data → Contents → Contents
+with_value d x = record x { payload_value = d }
+
 -- the parts, and the header that was read of them
 abbrev pub with_opening : Parts → Header → Contents → Contents
 with_opening p h x = record x { parts = p; header = h }
+
+-- the tests of claims that are read
+abbrev pub rule_tests : List Test
+rule_tests = ClaimsAreAnObject ∷ ClaimRulesHold ∷ []
 
 -- ---- the calls that a step knows of
 
@@ -105,10 +135,6 @@ reading reads = insecure_call [] reads
 abbrev pub bare : Call (Unit {0})
 bare = header_call []
 
--- of the options
-abbrev pub opening : Options → Call (Unit {0})
-opening o = record bare { options = o }
-
 -- of a set
 abbrev pub looking_in : List Jwk → Call (Unit {0})
 looking_in set = record bare { keys = InSet set }
@@ -116,6 +142,10 @@ looking_in set = record bare { keys = InSet set }
 -- of the options, a key, and the provider's refusals
 abbrev pub allowing : Options → Key → (Algorithm → Key → Option Kind) → Call (Unit {0})
 allowing o key refusal = record bare { options = o; keys = Given key; refusal = refusal }
+
+-- of the options and the moment
+abbrev pub holding : Options → ℕ → Call (Unit {0})
+holding o now = record bare { options = o; now = now }
 
 -- of what one verifier accepts
 abbrev pub accepting : (List ℕ → List ℕ → Type 0) → Call (Unit {0})

@@ -6,17 +6,19 @@ ghost use Rattle.serde_json.specs.Find.{get_member};
 ghost use Rattle.jwt_base.specs.Kind as kind;
 ghost use Rattle.jsonwebtoken.specs.Crit.{IsUnderstoodName, IsUnderstoodList, IsUnderstood};
 ghost use Rattle.jwt_validation.specs.OptionsOf.{options_of};
-ghost use Rattle.jsonwebtoken.specs.private_clauses.Steps.{AsksFor};
+ghost use Rattle.jsonwebtoken.specs.private_clauses.Steps.{Asks};
+ghost use Rattle.jsonwebtoken.specs.Tests.{CritIsUnderstood};
 
-use jwt_base::errors::{ErrorKind, Result, new_error};
+use crate::refusal::{Refusal, Test};
+use jwt_base::errors::ErrorKind;
 use jwt_base::text::Text;
 use jwt_header::{Extras, Header, is_header_name};
 use jwt_validation::Validation;
 use std::collections::HashSet;
 
 /// Refuses with `InvalidCrit` a header whose `crit` is not understood.
-pub(crate) fn check_crit(header: &Header, validation: &Validation) -> Result<()>
-    ensures { AsksFor (IsUnderstood (options_of validation.now).understood header.now)
+pub(crate) fn check_crit(header: &Header, validation: &Validation) -> Result<(), Refusal>
+    ensures { Asks CritIsUnderstood (IsUnderstood (options_of validation.now).understood header.now)
         (λ k. k ≡ kind.InvalidCrit) result }
 {
     let Some(names) = &header.crit else {
@@ -29,7 +31,7 @@ pub(crate) fn check_crit(header: &Header, validation: &Validation) -> Result<()>
     ) {
         Ok(())
     } else {
-        Err(new_error(ErrorKind::InvalidCrit))
+        Err(Refusal::new(Test::CritIsUnderstood, ErrorKind::InvalidCrit))
     }
 }
 

@@ -1,20 +1,24 @@
 //! Reading tokens by the key that their header names in a set (RFC 7515 section 4.1.4, RFC 7517
 //! section 5).
 
-ghost use Rattle.std.specs.Prelude.{◌≡◌, ◌++◌, ℕ, List, [], Some, None, IfOk, IfErr};
+ghost use Rattle.std.specs.Prelude.{◌≡◌, ◌++◌, ◌∷◌, ℕ, List, [], Some, None};
 ghost use Rattle.jwt_base.specs.Kind as kind;
-ghost use Rattle.jwt_base.specs.KindOf.{kind_of};
+ghost use Rattle.jwt_keys.specs.Key.{Key};
+ghost use Rattle.jwt_keys.specs.KeyOfJwk.{IsKeyOf, refusal_of};
 ghost use Rattle.jsonwebtoken.specs.Calls.{decoding_by_set, Carries};
 ghost use Rattle.jsonwebtoken.specs.Laws.{HasLaws, KeepsWithMore};
 ghost use Rattle.jsonwebtoken.specs.Order.{Decides};
-ghost use Rattle.jsonwebtoken.specs.private_clauses.Steps.{AsksFor, Step, looking_in, parts_in, with_header, with_opening};
-ghost use Rattle.jsonwebtoken.specs.Tests.{Compact, named_key, AgreesWith, key_tests, algorithm_tests, verifying_tests, set_order, token_tests};
+ghost use Rattle.jsonwebtoken.specs.Refused.{DecidesByTest};
+ghost use Rattle.jsonwebtoken.specs.private_clauses.Steps.{Asks, Finds, Step, ShowsClaims, ShowsKey, looking_in, parts_in, with_header, with_opening, whole};
+ghost use Rattle.jsonwebtoken.specs.Tests.{Compact, named_key, AgreesWith, CritIsUnderstood, KeyIsFound, KeyAlgorithmAgrees, KeyIsUsable, key_tests, algorithm_tests, verifying_tests, set_order, token_tests};
 
 use crate::decoding::TokenData;
+use crate::decoding::crit::check_crit;
 use crate::decoding::parts::TokenParts;
-use crate::decoding::steps::{beside, read_claims_by_key, read_understood_header, token_parts};
+use crate::decoding::steps::{read_header, token_data, token_parts, verify_by_key};
+use crate::refusal::{Refusal, Test, with_test, without_test};
 use jwt_base::algorithms::{Algorithm, KeyAlgorithm};
-use jwt_base::errors::{ErrorKind, Result, new_error};
+use jwt_base::errors::{ErrorKind, Result};
 use jwt_base::json::Claims;
 use jwt_header::Header;
 use jwt_keys::decoding_key::DecodingKey;
@@ -26,37 +30,47 @@ use std::alloc::Global;
 
 /// Returns the first key of the set with the header's `kid`. If the header has none, or no key has
 /// it, the refusal is `NoKey`.
-pub(crate) fn find_key<'k>(set: &'k JwkSet, header: &Header) -> Result<&'k Jwk>
-    ensures ok { IfOk result (λ k. named_key set.now.keys.items header.now ≡ Some k.now) }
-    ensures err { IfErr result (λ e. (kind_of e ≡ kind.NoKey)
-        × (named_key set.now.keys.items header.now ≡ None)) }
+fn find_key<'k>(set: &'k JwkSet, header: &Header) -> Result<&'k Jwk, Refusal>
+    ensures { Finds KeyIsFound (λ k. named_key set.now.keys.items header.now ≡ Some k.now)
+        (named_key set.now.keys.items header.now ≡ None) (λ k. k ≡ kind.NoKey) result }
 {
     let Some(kid) = &header.kid else {
-        return Err(new_error(ErrorKind::NoKey));
+        return Err(Refusal::new(Test::KeyIsFound, ErrorKind::NoKey));
     };
-    set.find(kid.as_str()).ok_or(new_error(ErrorKind::NoKey))
+    set.find(kid.as_str())
+        .ok_or(Refusal::new(Test::KeyIsFound, ErrorKind::NoKey))
 }
 
 /// Refuses with `InvalidAlgorithm` a key that is for another algorithm (RFC 7517 section 4.4).
-pub(crate) fn check_key_algorithm(jwk: &Jwk, algorithm: Algorithm) -> Result<()>
-    ensures { AsksFor (AgreesWith algorithm jwk.now) (λ k. k ≡ kind.InvalidAlgorithm) result }
+fn check_key_algorithm(jwk: &Jwk, algorithm: Algorithm) -> Result<(), Refusal>
+    ensures { Asks KeyAlgorithmAgrees (AgreesWith algorithm jwk.now)
+        (λ k. k ≡ kind.InvalidAlgorithm) result }
 {
     match jwk.common.key_algorithm {
-        Some(named) if named != KeyAlgorithm::from(algorithm) => Err(new_error(
+        Some(named) if named != KeyAlgorithm::from(algorithm) => Err(Refusal::new(
+            Test::KeyAlgorithmAgrees,
             ErrorKind::InvalidAlgorithm,
         )),
         _ => Ok(()),
     }
 }
 
+/// Returns the key that a JSON Web Key stands for.
+fn key_of_jwk(alloc: Global, jwk: &Jwk) -> Result<DecodingKey, Refusal>
+    ensures { Finds KeyIsUsable (IsKeyOf jwk.now.algorithm)
+        ((k : Key) → ¬ IsKeyOf jwk.now.algorithm k) (λ k. k ≡ refusal_of jwk.now.algorithm) result }
+{
+    with_test(Test::KeyIsUsable, DecodingKey::from_jwk(alloc, jwk))
+}
+
 /// Returns the key that the header names.
-fn key_in_set(alloc: Global, set: &JwkSet, header: &Header) -> Result<DecodingKey>
-    ensures { Step (looking_in set.now.keys.items) key_tests (with_header header.now)
-        (λ x k. x.jwk_key ≡ k) result }
+fn key_in_set(alloc: Global, set: &JwkSet, header: &Header) -> Result<DecodingKey, Refusal>
+    ensures { Step (looking_in set.now.keys.items) key_tests (with_header header.now) ShowsKey
+        result }
 {
     let jwk = find_key(set, header)?;
     check_key_algorithm(jwk, header.alg)?;
-    let key = DecodingKey::from_jwk(alloc, jwk)?;
+    let key = key_of_jwk(alloc, jwk)?;
     Ok(key)
 }
 
@@ -70,14 +84,15 @@ fn read_claims_by_set<P: CryptoProvider, T: Claims>(
     set: &JwkSet,
     validation: &Validation,
     now: u64,
-) -> Result<T>
+) -> Result<T, Refusal>
     ensures { let call = decoding_by_set P.CryptoProvider T.Claims
         provider.now [] set.now.keys.items validation.now now in
-        Step call (key_tests ++ (algorithm_tests ++ verifying_tests))
-        (with_opening (parts_in parts.now) header.now) (λ x c. T.reads x.payload_value c) result }
+        Step call (CritIsUnderstood ∷ key_tests ++ (algorithm_tests ++ verifying_tests))
+        (with_opening (parts_in parts.now) header.now) (ShowsClaims T.reads) result }
 {
+    check_crit(header, validation)?;
     let key = key_in_set(alloc, set, header)?;
-    let claims = read_claims_by_key(alloc, provider, parts, header, &key, validation, now)?;
+    let claims = verify_by_key(alloc, provider, parts, header, &key, validation, now)?;
     Ok(claims)
 }
 
@@ -88,16 +103,32 @@ fn decode_with_set_by_steps<P: CryptoProvider, T: Claims>(
     set: &JwkSet,
     validation: &Validation,
     now: u64,
-) -> Result<TokenData<T>>
+) -> Result<TokenData<T>, Refusal>
     ensures { let call = decoding_by_set P.CryptoProvider T.Claims
         provider.now token.now set.now.keys.items validation.now now in
-        Step call set_order (λ x. x) (Carries call) result }
+        Step call set_order whole (Carries call) result }
 {
     let parts = token_parts(token)?;
-    let header = read_understood_header(alloc, &parts, validation)?;
+    let header = read_header(alloc, parts.header)?;
     let claims = read_claims_by_set(alloc, provider, &parts, &header, set, validation, now);
-    let (header, claims) = beside(header, claims)?;
-    Ok(TokenData { header, claims })
+    token_data(header, claims)
+}
+
+/// Verifies a token like [`decode_with_set`]; a refusal has the first test that fails, and its error.
+/// If memory ran out, the refusal's error is `OutOfMemory`.
+pub fn decode_with_set_or_refusal<P: CryptoProvider, T: Claims>(
+    alloc: Global,
+    provider: &P,
+    token: &[u8],
+    set: &JwkSet,
+    validation: &Validation,
+    now: u64,
+) -> Result<TokenData<T>, Refusal>
+    ensures { let call = decoding_by_set P.CryptoProvider T.Claims
+        provider.now token.now set.now.keys.items validation.now now in
+        DecidesByTest (token_tests call) set_order (Carries call) result }
+{
+    decode_with_set_by_steps(alloc, provider, token, set, validation, now)
 }
 
 /// Verifies a token in its compact form with the key of the set that its header names, at the
@@ -140,5 +171,5 @@ pub fn decode_with_set<P: CryptoProvider, T: Claims>(
         validation.now now)
         set_order set.now.keys.items }
 {
-    decode_with_set_by_steps(alloc, provider, token, set, validation, now)
+    without_test(decode_with_set_or_refusal(alloc, provider, token, set, validation, now))
 }

@@ -1,19 +1,26 @@
-//! The tests of one condition, and the steps that the calls that read tokens share.
+//! The tests of one condition, and the steps that the calls that read tokens share. Each makes some
+//! tests of an order that stand one after the other, and a refusal carries the one that fails.
 
-ghost use Rattle.std.specs.Prelude.{◌≡◌, ◌↔◌, ◌++◌, ◌∷◌, ℕ, List, Ok, Err, IfOk, IfErr, IfSome, IfNone, Contains, [], All};
+ghost use Rattle.std.specs.Prelude.{◌≡◌, ◌⊎◌, ◌↔◌, ◌++◌, ◌∷◌, ℕ, List, Some, None, Ok, Err, IfOk, IfErr, IfSome, IfNone, IsSome, Contains, [], All};
+ghost use Rattle.serde_json.specs.Data.{Data};
+ghost use Rattle.serde_json.specs.Find.{as_object};
+ghost use Rattle.serde_json.specs.View.{view};
 ghost use Rattle.jwt_base.specs.Algorithm.{family_of};
+ghost use Rattle.jwt_base.specs.Base64Url.{IsPart};
+ghost use Rattle.jwt_base.specs.JsonText.{IsJson};
 ghost use Rattle.jwt_base.specs.Kind as kind;
-ghost use Rattle.jwt_base.specs.KindOf.{kind_of};
 ghost use Rattle.jwt_validation.specs.OptionsOf.{options_of};
 ghost use Rattle.jsonwebtoken.specs.Calls.{decoding};
-ghost use Rattle.jsonwebtoken.specs.private_clauses.Steps.{Step, bare, parts_in, with_header_part, with_payload_part, with_parts, with_header, with_opening, opening, allowing, accepting, claiming, reading, verifying_by, AsksFor};
-ghost use Rattle.jsonwebtoken.specs.Tests.{dot, Parts, ArePartsOf, header_tests, opening_tests, algorithm_tests, signature_tests, payload_tests, claim_tests, verifying_tests};
+ghost use Rattle.jsonwebtoken.specs.private_clauses.Steps.{Asks, Finds, Step, ShowsNothing, ShowsHeader, ShowsClaims, bare, parts_in, with_header_part, with_payload_part, with_parts, with_header, with_opening, with_value, allowing, accepting, claiming, holding, reading, rule_tests, verifying_by};
+ghost use Rattle.jsonwebtoken.specs.Tests.{dot, Parts, ArePartsOf, Test, HasThreeParts, CritIsUnderstood, AlgorithmsAreListed, AlgorithmIsListed, VerifierIsMade, FamiliesAgree, SignatureIsAccepted, ClaimsRead, ClaimsAreAnObject, ClaimRulesHold, header_tests, algorithm_tests, signature_tests, payload_tests, claim_tests, verifying_tests};
 
+use crate::decoding::TokenData;
 use crate::decoding::crit::check_crit;
 use crate::decoding::parts::TokenParts;
 use crate::known_headers::known_algorithm;
+use crate::refusal::{Refusal, Test, with_test};
 use jwt_base::algorithms::Algorithm;
-use jwt_base::errors::{ErrorKind, Result, new_error};
+use jwt_base::errors::ErrorKind;
 use jwt_base::json::Claims;
 use jwt_base::serialization::{json_value, part_bytes};
 use jwt_header::Header;
@@ -21,34 +28,36 @@ use jwt_keys::decoding_key::DecodingKey;
 use jwt_keys::provider::{CryptoProvider, JwtVerifier};
 use jwt_validation::{Validation, validate};
 use memchr::memrchr;
+use serde_json::Value;
 use std::alloc::Global;
 
 /// Refuses an empty list with `MissingAlgorithm`.
-pub(crate) fn check_some_listed(validation: &Validation) -> Result<()>
-    ensures { AsksFor (¬ (validation.now.algorithms.items ≡ []))
+pub(crate) fn check_some_listed(validation: &Validation) -> Result<(), Refusal>
+    ensures { Asks AlgorithmsAreListed (¬ (validation.now.algorithms.items ≡ []))
         (λ k. k ≡ kind.MissingAlgorithm) result }
 {
     if validation.algorithms.is_empty() {
-        return Err(new_error(ErrorKind::MissingAlgorithm));
+        return Err(Refusal::new(Test::AlgorithmsAreListed, ErrorKind::MissingAlgorithm));
     }
     Ok(())
 }
 
 /// Refuses an algorithm that is not listed with `InvalidAlgorithm`.
-pub(crate) fn check_listed(validation: &Validation, algorithm: Algorithm) -> Result<()>
-    ensures { AsksFor (Contains validation.now.algorithms.items algorithm)
+pub(crate) fn check_listed(validation: &Validation, algorithm: Algorithm) -> Result<(), Refusal>
+    ensures { Asks AlgorithmIsListed (Contains validation.now.algorithms.items algorithm)
         (λ k. k ≡ kind.InvalidAlgorithm) result }
 {
     if validation.algorithms.contains(&algorithm) {
         Ok(())
     } else {
-        Err(new_error(ErrorKind::InvalidAlgorithm))
+        Err(Refusal::new(Test::AlgorithmIsListed, ErrorKind::InvalidAlgorithm))
     }
 }
 
 /// Refuses with `InvalidAlgorithm` a list with an algorithm of another family.
-pub(crate) fn check_families(validation: &Validation, algorithm: Algorithm) -> Result<()>
-    ensures { AsksFor (All (λ b. family_of b ≡ family_of algorithm) validation.now.algorithms.items)
+pub(crate) fn check_families(validation: &Validation, algorithm: Algorithm) -> Result<(), Refusal>
+    ensures { Asks FamiliesAgree
+        (All (λ b. family_of b ≡ family_of algorithm) validation.now.algorithms.items)
         (λ k. k ≡ kind.InvalidAlgorithm) result }
 {
     if validation
@@ -58,24 +67,25 @@ pub(crate) fn check_families(validation: &Validation, algorithm: Algorithm) -> R
     {
         Ok(())
     } else {
-        Err(new_error(ErrorKind::InvalidAlgorithm))
+        Err(Refusal::new(Test::FamiliesAgree, ErrorKind::InvalidAlgorithm))
     }
 }
 
 /// Refuses with `InvalidSignature` a signature that the verifier does not accept.
-pub(crate) fn check_verdict<V: JwtVerifier>(
+fn check_verdict<V: JwtVerifier>(
     alloc: Global,
     verifier: &V,
     message: &[u8],
     signature: &[u8],
-) -> Result<()>
-    ensures { AsksFor (V.accepts verifier.now message.now signature.now)
+) -> Result<(), Refusal>
+    ensures { Asks SignatureIsAccepted (V.accepts verifier.now message.now signature.now)
         (λ k. k ≡ kind.InvalidSignature) result }
 {
-    if verifier.verify(alloc, message, signature)? {
+    let verdict = verifier.verify(alloc, message, signature);
+    if with_test(Test::SignatureIsAccepted, verdict)? {
         Ok(())
     } else {
-        Err(new_error(ErrorKind::InvalidSignature))
+        Err(Refusal::new(Test::SignatureIsAccepted, ErrorKind::InvalidSignature))
     }
 }
 
@@ -105,52 +115,73 @@ fn find_parts(token: &[u8]) -> Option<TokenParts<'_>>
 }
 
 /// Returns the parts of the token. A token with fewer than two dots is refused with `InvalidToken`.
-pub(crate) fn token_parts(token: &[u8]) -> Result<TokenParts<'_>>
-    ensures ok { IfOk result (λ p. ArePartsOf token.now (parts_in p)) }
-    ensures err { IfErr result (λ e. (kind_of e ≡ kind.InvalidToken)
-        × ((p : Parts) → ¬ ArePartsOf token.now p)) }
+pub(crate) fn token_parts(token: &[u8]) -> Result<TokenParts<'_>, Refusal>
+    ensures { Finds HasThreeParts (λ p. ArePartsOf token.now (parts_in p))
+        ((p : Parts) → ¬ ArePartsOf token.now p) (λ k. k ≡ kind.InvalidToken) result }
 {
-    find_parts(token).ok_or(new_error(ErrorKind::InvalidToken))
+    find_parts(token).ok_or(Refusal::new(Test::HasThreeParts, ErrorKind::InvalidToken))
+}
+
+/// Returns the bytes of a part, for this test.
+pub(crate) fn read_part(alloc: Global, test: Test, part: &[u8]) -> Result<Vec<u8>, Refusal>
+    ensures { Finds test (λ b. IsPart part.now b.items) ((b : List ℕ) → ¬ IsPart part.now b)
+        (λ k. k ≡ kind.Base64) result }
+{
+    with_test(test, part_bytes(alloc, part))
+}
+
+/// Returns the JSON value of bytes, for this test.
+pub(crate) fn read_json(alloc: Global, test: Test, bytes: &[u8]) -> Result<Value, Refusal>
+    ensures { Finds test (λ v. IsJson bytes.now (view v)) ((d : Data) → ¬ IsJson bytes.now d)
+        (λ k. k ≡ kind.Json) result }
+{
+    with_test(test, json_value(alloc, bytes))
 }
 
 /// Returns the header that a header part stands for. Four parts are known by their texts, without
 /// being read.
-pub(crate) fn read_header(alloc: Global, part: &[u8]) -> Result<Header>
-    ensures { Step bare header_tests (with_header_part part.now) (λ x h. x.header ≡ h) result }
+pub(crate) fn read_header(alloc: Global, part: &[u8]) -> Result<Header, Refusal>
+    ensures { Step bare header_tests (with_header_part part.now) ShowsHeader result }
 {
     if let Some(algorithm) = known_algorithm(part) {
-        return Header::new(alloc, algorithm);
+        return with_test(Test::HeaderReads, Header::new(alloc, algorithm));
     }
-    let bytes = part_bytes(alloc, part)?;
-    let value = json_value(alloc, bytes.as_slice())?;
-    Header::from_value(alloc, &value)
+    let bytes = read_part(alloc, Test::HeaderIsPart, part)?;
+    let value = read_json(alloc, Test::HeaderIsJson, bytes.as_slice())?;
+    with_test(Test::HeaderReads, Header::from_value(alloc, &value))
 }
 
-/// Returns the header beside what was found, or the refusal of that. So the header is dropped here,
-/// and not in each function that looks for something after it.
-pub(crate) fn beside<T, E>(header: Header, found: Result<T, E>) -> Result<(Header, T), E>
-    ensures ok { IfOk result (λ pair. (header ≡ pair.0) × (found ≡ Ok pair.1)) }
-    ensures err { IfErr result (λ e. found ≡ Err e) }
+/// Returns a token's header beside what was found after it, or the refusal of that. So the header is
+/// dropped here, and not in each function that looks for something after it.
+pub(crate) fn token_data<T>(
+    header: Header,
+    claims: Result<T, Refusal>,
+) -> Result<TokenData<T>, Refusal>
+    ensures ok { IfOk result (λ answer. (header ≡ answer.header) × (claims ≡ Ok answer.claims)) }
+    ensures err { IfErr result (λ refusal. claims ≡ Err refusal) }
 {
-    match found {
-        Ok(value) => Ok((header, value)),
-        Err(error) => Err(error),
+    match claims {
+        Ok(claims) => Ok(TokenData { header, claims }),
+        Err(refusal) => Err(refusal),
     }
 }
 
-/// Returns the header of a token that is to be verified: its `crit` is understood.
-pub(crate) fn read_understood_header(
+/// Returns the verifier that the provider makes for the algorithm and the key.
+pub(crate) fn make_verifier<P: CryptoProvider>(
     alloc: Global,
-    parts: &TokenParts<'_>,
-    validation: &Validation,
-) -> Result<Header>
-    ensures { Step (opening (options_of validation.now)) opening_tests
-        (with_parts (parts_in parts.now)) (λ x h. x.header ≡ h) result }
+    provider: &P,
+    algorithm: Algorithm,
+    key: &DecodingKey,
+) -> Result<P::Verifier, Refusal>
+    ensures made { Finds VerifierIsMade
+        (λ _. P.verifier_refusal provider.now algorithm key.now ≡ None)
+        (P.verifier_refusal provider.now algorithm key.now ≡ None → ⊥)
+        (λ k. P.verifier_refusal provider.now algorithm key.now ≡ Some k) result }
+    ensures accepts { IfOk result (λ v. (m s : List ℕ) →
+        P.Verifier.accepts v m s ↔ P.accepts provider.now algorithm key.now m s) }
 {
-    let header = read_header(alloc, parts.header)?;
-    let understood = check_crit(&header, validation);
-    let (header, ()) = beside(header, understood)?;
-    Ok(header)
+    let made = provider.verifier_factory(alloc, &algorithm, key);
+    with_test(Test::VerifierIsMade, made)
 }
 
 /// Returns the verifier by the key and the header's algorithm, which is among those that are
@@ -161,17 +192,17 @@ pub(crate) fn verifier_for<P: CryptoProvider>(
     header: &Header,
     key: &DecodingKey,
     validation: &Validation,
-) -> Result<P::Verifier>
+) -> Result<P::Verifier, Refusal>
     ensures tests { Step
         (allowing (options_of validation.now) key.now (P.verifier_refusal provider.now))
-        algorithm_tests (with_header header.now) (λ _ _. Unit {0}) result }
+        algorithm_tests (with_header header.now) ShowsNothing result }
     ensures accepts { IfOk result (λ v. (m s : List ℕ) →
         P.Verifier.accepts v m s ↔ P.accepts provider.now header.now.alg key.now m s) }
 {
     let algorithm = header.alg;
     check_some_listed(validation)?;
     check_listed(validation, algorithm)?;
-    let verifier = provider.verifier_factory(alloc, &algorithm, key)?;
+    let verifier = make_verifier(alloc, provider, algorithm, key)?;
     check_families(validation, algorithm)?;
     Ok(verifier)
 }
@@ -180,12 +211,48 @@ fn check_signature<V: JwtVerifier>(
     alloc: Global,
     verifier: &V,
     parts: &TokenParts<'_>,
-) -> Result<()>
+) -> Result<(), Refusal>
     ensures { Step (accepting (V.accepts verifier.now)) signature_tests
-        (with_parts (parts_in parts.now)) (λ _ _. Unit {0}) result }
+        (with_parts (parts_in parts.now)) ShowsNothing result }
 {
-    let bytes = part_bytes(alloc, parts.signature)?;
+    let bytes = read_part(alloc, Test::SignatureIsPart, parts.signature)?;
     check_verdict(alloc, verifier, parts.message, bytes.as_slice())
+}
+
+/// Returns the claims of a JSON value.
+fn claims_of_value<T: Claims>(alloc: Global, value: Value) -> Result<T, Refusal>
+    ensures { Finds ClaimsRead (λ c. T.reads (view value) c) ((c : T) → ¬ T.reads (view value) c)
+        (λ k. k ≡ kind.Json) result }
+{
+    with_test(Test::ClaimsRead, T::from_owned(alloc, value))
+}
+
+/// Returns the test that claims fail which [`validate`] refuses.
+fn failed_rule(claims: &Value) -> Test
+    ensures { (IsSome (as_object (view claims.now)) × (result ≡ ClaimRulesHold))
+        ⊎ ((¬ IsSome (as_object (view claims.now))) × (result ≡ ClaimsAreAnObject)) }
+{
+    if claims.is_object() {
+        Test::ClaimRulesHold
+    } else {
+        Test::ClaimsAreAnObject
+    }
+}
+
+/// Refuses claims that are not an object, or that break a rule.
+fn check_claims(
+    alloc: Global,
+    claims: &Value,
+    validation: &Validation,
+    now: u64,
+) -> Result<(), Refusal>
+    ensures { Step (holding (options_of validation.now) now) rule_tests
+        (with_value (view claims.now)) ShowsNothing result }
+{
+    with_test(
+        failed_rule(claims),
+        validate(alloc, claims, validation, now),
+    )
 }
 
 /// Returns the claims that a payload part stands for. The JSON value is lent to the rules and then
@@ -195,15 +262,15 @@ fn read_claims<T: Claims>(
     part: &[u8],
     validation: &Validation,
     now: u64,
-) -> Result<T>
+) -> Result<T, Refusal>
     ensures { Step (claiming T.reads (options_of validation.now) now) claim_tests
-        (with_payload_part part.now) (λ x c. T.reads x.payload_value c) result }
+        (with_payload_part part.now) (ShowsClaims T.reads) result }
 {
-    let bytes = part_bytes(alloc, part)?;
-    let value = json_value(alloc, bytes.as_slice())?;
-    let rules = validate(alloc, &value, validation, now);
-    let claims = T::from_owned(alloc, value)?;
-    rules?;
+    let bytes = read_part(alloc, Test::PayloadIsPart, part)?;
+    let value = read_json(alloc, Test::PayloadIsJson, bytes.as_slice())?;
+    let held = check_claims(alloc, &value, validation, now);
+    let claims = claims_of_value(alloc, value)?;
+    held?;
     Ok(claims)
 }
 
@@ -215,24 +282,43 @@ pub(crate) fn verify_and_read_claims<V: JwtVerifier, T: Claims>(
     parts: &TokenParts<'_>,
     validation: &Validation,
     now: u64,
-) -> Result<T>
+) -> Result<T, Refusal>
     ensures { Step
         (verifying_by T.reads (options_of validation.now) now (V.accepts verifier.now))
-        verifying_tests (with_parts (parts_in parts.now))
-        (λ x c. T.reads x.payload_value c) result }
+        verifying_tests (with_parts (parts_in parts.now)) (ShowsClaims T.reads) result }
 {
     check_signature(alloc, verifier, parts)?;
     read_claims(alloc, parts.payload, validation, now)
 }
 
 /// Returns the claims that a payload part stands for, to which no rule applies.
-pub(crate) fn read_payload<T: Claims>(alloc: Global, part: &[u8]) -> Result<T>
-    ensures { Step (reading T.reads) payload_tests
-        (with_payload_part part.now) (λ x c. T.reads x.payload_value c) result }
+pub(crate) fn read_payload<T: Claims>(alloc: Global, part: &[u8]) -> Result<T, Refusal>
+    ensures { Step (reading T.reads) payload_tests (with_payload_part part.now)
+        (ShowsClaims T.reads) result }
 {
-    let bytes = part_bytes(alloc, part)?;
-    let value = json_value(alloc, bytes.as_slice())?;
-    let claims = T::from_owned(alloc, value)?;
+    let bytes = read_part(alloc, Test::PayloadIsPart, part)?;
+    let value = read_json(alloc, Test::PayloadIsJson, bytes.as_slice())?;
+    claims_of_value(alloc, value)
+}
+
+/// Returns the claims of a token that passes, by the key, the tests of the algorithm and those that
+/// follow them.
+pub(crate) fn verify_by_key<P: CryptoProvider, T: Claims>(
+    alloc: Global,
+    provider: &P,
+    parts: &TokenParts<'_>,
+    header: &Header,
+    key: &DecodingKey,
+    validation: &Validation,
+    now: u64,
+) -> Result<T, Refusal>
+    ensures { let call = decoding P.CryptoProvider T.Claims
+        provider.now [] key.now validation.now now in
+        Step call (algorithm_tests ++ verifying_tests) (with_opening (parts_in parts.now) header.now)
+        (ShowsClaims T.reads) result }
+{
+    let verifier = verifier_for(alloc, provider, header, key, validation)?;
+    let claims = verify_and_read_claims(alloc, &verifier, parts, validation, now)?;
     Ok(claims)
 }
 
@@ -245,13 +331,12 @@ pub(crate) fn read_claims_by_key<P: CryptoProvider, T: Claims>(
     key: &DecodingKey,
     validation: &Validation,
     now: u64,
-) -> Result<T>
+) -> Result<T, Refusal>
     ensures { let call = decoding P.CryptoProvider T.Claims
         provider.now [] key.now validation.now now in
-        Step call (algorithm_tests ++ verifying_tests) (with_opening (parts_in parts.now) header.now)
-        (λ x c. T.reads x.payload_value c) result }
+        Step call (CritIsUnderstood ∷ (algorithm_tests ++ verifying_tests))
+        (with_opening (parts_in parts.now) header.now) (ShowsClaims T.reads) result }
 {
-    let verifier = verifier_for(alloc, provider, header, key, validation)?;
-    let claims = verify_and_read_claims(alloc, &verifier, parts, validation, now)?;
-    Ok(claims)
+    check_crit(header, validation)?;
+    verify_by_key(alloc, provider, parts, header, key, validation, now)
 }

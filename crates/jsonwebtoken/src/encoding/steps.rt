@@ -11,8 +11,7 @@ ghost use Rattle.jwt_base.specs.KindOf.{IsMemory, Refuses, RefusesAs};
 ghost use Rattle.jwt_header.specs.Header.{header_value};
 ghost use Rattle.jwt_header.specs.HeaderWritten.{HasNormalForm};
 ghost use Rattle.jsonwebtoken.specs.Issue.{WrittenAs, AreWritten, payload_of};
-ghost use Rattle.jsonwebtoken.specs.private_clauses.IssueSteps.{IsPartOf, IsPayloadOf};
-ghost use Rattle.jsonwebtoken.specs.private_clauses.Steps.{AsksFor};
+ghost use Rattle.jsonwebtoken.specs.private_clauses.IssueSteps.{AsksFor, IsPartOf, IsPayloadOf};
 ghost use Rattle.jsonwebtoken.specs.Tests.{dot};
 
 use crate::known_headers::known_part;

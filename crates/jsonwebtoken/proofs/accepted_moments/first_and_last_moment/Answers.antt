@@ -4,16 +4,17 @@ use Rattle.jwt_validation.specs.OptionsOf.{options_of}
 use Rattle.jsonwebtoken.specs.Calls.{decoding}
 use Rattle.jsonwebtoken.specs.Laws.{HasMoments}
 use Rattle.jsonwebtoken.specs.Tests.{Given, decode_order, header_call}
-use Rattle.jsonwebtoken.specs.private_clauses.Stops.{value_tests}
+use Rattle.jsonwebtoken.specs.private_clauses.Claimed.{value_tests}
 use Rattle.jsonwebtoken.proofs.AcceptedMoments.{none_read, all_claimed, none_claimed}
-use Rattle.jsonwebtoken.proofs.EachTest.{first_failed}
+use Rattle.jsonwebtoken.proofs.EachTest.{failed_by}
+use Rattle.jsonwebtoken.proofs.Exits.{not_memory}
 use Rattle.jsonwebtoken.proofs.LawsOf.{moments}
 use Rattle.jsonwebtoken.proofs.accepted_moments.first_and_last_moment.Goals as goal
 
-pub returns-in-Err-Failed : goal.returns-in-Err-Failed
-returns-in-Err-Failed g c =
-    let f = rw c.in-Err-Failed.field-0-is at c.in-Err-Failed.ensures in
-    none_read c.args.token.now (Given c.args.key.now) (options_of c.args.validation.now) (g.P.CryptoProvider.verifier_refusal c.args.provider.now) (g.P.CryptoProvider.accepts c.args.provider.now) g.T.Claims.reads decode_order refl _ (first_failed (header_call c.args.token.now) value_tests refl f.0 _ f.1)
+pub returns-in-Err : goal.returns-in-Err
+returns-in-Err g c =
+    let f = not_memory c.in-Err.refusal _ c.in_ok-test_of-in-Err.ensures c.in-Err.ensures in
+    none_read c.args.token.now (Given c.args.key.now) (options_of c.args.validation.now) (g.P.CryptoProvider.verifier_refusal c.args.provider.now) (g.P.CryptoProvider.accepts c.args.provider.now) g.T.Claims.reads decode_order refl _ (failed_by (header_call c.args.token.now) value_tests refl f.0 _ _ f.1).0
 
 pub returns-in-None : goal.returns-in-None
 returns-in-None g c =

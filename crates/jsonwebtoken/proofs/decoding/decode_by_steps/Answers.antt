@@ -1,35 +1,22 @@
-use Rattle.std.proofs.Common.{[], ◌∷◌, inl, inr}
+use Rattle.std.proofs.Common.{[], ◌∷◌, inl}
 use Rattle.jsonwebtoken.specs.Calls.{decoding, Carries}
-use Rattle.jsonwebtoken.specs.private_clauses.Steps.{no_contents, parts_in}
-use Rattle.jsonwebtoken.specs.Tests.{HasThreeParts, opening_tests, decode_order}
-use Rattle.jsonwebtoken.proofs.Exits.{exit, stop, opened, opened_then, after_opened}
+use Rattle.jsonwebtoken.specs.private_clauses.Steps.{no_contents, parts_in, whole}
+use Rattle.jsonwebtoken.specs.Tests.{HasThreeParts, header_tests, decode_order}
+use Rattle.jsonwebtoken.proofs.Exits.{exit, stop, beside_claims}
 use Rattle.jsonwebtoken.proofs.decoding.decode_by_steps.Goals as goal
 
 pub returns-in_err-parts : goal.returns-in_err-parts
 returns-in_err-parts g c =
     let call = decoding g.P.CryptoProvider g.T.Claims c.args.provider.now c.args.token.now c.args.key.now c.args.validation.now c.args.now in
-    exit call decode_order (λ x. x) (Carries call) _ _ c.from_residual.ensures.1
-    (λ f. (no_contents, inl (f.1, f.0))) (inr c.in_err-parts.ensures.err)
+    exit call decode_order whole (Carries call) _ _ c.from_residual.ensures.1 (λ f. (no_contents, inl f)) c.in_err-parts.ensures
 
 pub returns-in_err-header : goal.returns-in_err-header
 returns-in_err-header g c =
     let call = decoding g.P.CryptoProvider g.T.Claims c.args.provider.now c.args.token.now c.args.key.now c.args.validation.now c.args.now in
-    exit call decode_order (λ x. x) (Carries call) _ _ c.from_residual-in_err-header.ensures.1
-    (λ f. stop call decode_order (HasThreeParts ∷ []) opening_tests (record f.0 { parts = parts_in c.in_ok-parts.parts }) _ (c.in_ok-parts.ensures.ok, tt) f.1) c.in_err-header.ensures
-
-pub returns-in_err-header-2 : goal.returns-in_err-header-2
-returns-in_err-header-2 g c =
-    let call = decoding g.P.CryptoProvider g.T.Claims c.args.provider.now c.args.token.now c.args.key.now c.args.validation.now c.args.now in
-    let refused = rw c.in_err-header-2.ensures.err at c.read_claims_by_key-claims.ensures in
-    exit call decode_order (λ x. x) (Carries call) _ _ c.from_residual-in_err-header-2.ensures.1
-    (λ f. after_opened call _ _ c.in_ok-header.ensures c.in_ok-parts.ensures.ok decode_order no_contents f.0 _ f.1) refused
+    exit call decode_order whole (Carries call) _ _ c.from_residual-in_err-header.ensures.1
+    (λ f. stop call decode_order (HasThreeParts ∷ []) header_tests (record f.0 { parts = parts_in c.in_ok-parts.parts }) _ _ (c.in_ok-parts.ensures, tt) f.1) c.in_err-header.ensures
 
 pub returns : goal.returns
 returns g c =
     let call = decoding g.P.CryptoProvider g.T.Claims c.args.provider.now c.args.token.now c.args.key.now c.args.validation.now c.args.now in
-    let made = c.in_ok-header-2.ensures.ok in
-    let f = rw made.1 at c.read_claims_by_key-claims.ensures in (
-      opened call _ _ c.in_ok-header.ensures c.in_ok-parts.ensures.ok no_contents f.0,
-      opened_then call _ _ c.in_ok-header.ensures c.in_ok-parts.ensures.ok decode_order no_contents f.0 f.1,
-      (made.0, f.2),
-    )
+    beside_claims call (parts_in c.in_ok-parts.parts) c.in_ok-header.header c.in_ok-header.ensures c.in_ok-parts.ensures decode_order c.read_claims_by_key-claims.result _ c.token_data.ensures.ok c.token_data.ensures.err c.read_claims_by_key-claims.ensures

@@ -3,7 +3,7 @@ use Rattle.jwt_keys.specs.declared.jwk.Jwk.{Jwk}
 use Rattle.jwt_validation.specs.Options.{Options}
 use Rattle.std.proofs.lemmas.Result.{err_from_is_err_and}
 use Rattle.jwt_validation.specs.OptionsOf.{options_of}
-use Rattle.jsonwebtoken.specs.declared.first_failed.Test.TheVariants.{PayloadIsJson}
+use Rattle.jsonwebtoken.specs.declared.refusal.Test.TheVariants.{PayloadIsJson}
 use Rattle.jsonwebtoken.specs.Tests.{decode_order}
 use Rattle.jsonwebtoken.proofs.EachTest.{met}
 use Rattle.jwt_base.specs.JsonText.{ReadsText}

@@ -5,7 +5,7 @@ use Rattle.jwt_validation.specs.Options.{Options}
 use Rattle.std.proofs.lemmas.Result.{err_from_is_err_and}
 use Rattle.jwt_validation.specs.OptionsOf.{options_of}
 use Rattle.jsonwebtoken.specs.Order.{Passes, FailsFirst}
-use Rattle.jsonwebtoken.specs.declared.first_failed.Test.TheVariants.{PayloadIsJson}
+use Rattle.jsonwebtoken.specs.declared.refusal.Test.TheVariants.{PayloadIsJson}
 use Rattle.jsonwebtoken.specs.Tests.{Call, set_order, token_tests}
 use Rattle.jsonwebtoken.proofs.EachTest.{met}
 use Rattle.jwt_base.specs.JsonText.{ReadsText}

@@ -1,14 +1,15 @@
 use Rattle.std.proofs.Common.{ℕ, List, refl}
-use Rattle.jsonwebtoken.specs.Calls.{decoding_by_set}
-use Rattle.jsonwebtoken.specs.Tests.{Compact, set_order}
-use Rattle.jsonwebtoken.proofs.EachTest.{decides, same_answer, kept_with_more}
+use Rattle.jsonwebtoken.specs.Calls.{decoding_by_set, Carries}
+use Rattle.jsonwebtoken.specs.Tests.{Compact, set_order, token_tests}
+use Rattle.jsonwebtoken.proofs.EachTest.{kept_with_more}
+use Rattle.jsonwebtoken.proofs.Exits.{without}
 use Rattle.jsonwebtoken.proofs.LawsOf.{moments, looser, fixes, key_fits, named_key, one_text}
 use Rattle.jsonwebtoken.proofs.decoding.key_set.decode_with_set.Goals as goal
 
 pub returns-clause-decided : goal.returns-clause-decided
 returns-clause-decided g c =
     let call = decoding_by_set g.P.CryptoProvider g.T.Claims c.args.provider.now c.args.token.now c.args.set.now.keys.items c.args.validation.now c.args.now in
-    decides call set_order refl _ c.decode_with_set_by_steps.result c.decode_with_set_by_steps.ensures (same_answer call set_order refl refl (λ r. r.header) (λ r v. g.T.Claims.reads v r.claims))
+    without (token_tests call) set_order (Carries call) c.decode_with_set_or_refusal.result _ c.without_test.ensures c.decode_with_set_or_refusal.ensures
 
 pub returns-clause-laws : goal.returns-clause-laws
 returns-clause-laws g c =

@@ -1,0 +1,15 @@
+-- For private clauses: the moments that the claims of a token allow.
+use Rattle.std.specs.Prelude.{◌≡◌, List, [], ◌∷◌}
+use Rattle.jwt_validation.specs.Claim.{claims_of}
+use Rattle.jwt_validation.specs.Moments.{first_moment, last_moment}
+use Rattle.jwt_validation.specs.Options.{Options}
+use Rattle.jwt_validation.specs.declared.interval.Moments.{Moments}
+use Rattle.jsonwebtoken.specs.Tests.{Contents, Test, HasThreeParts, PayloadIsPart, PayloadIsJson}
+
+-- the tests that find a token's claims
+abbrev pub value_tests : List Test
+value_tests = HasThreeParts ∷ PayloadIsPart ∷ PayloadIsJson ∷ []
+
+-- the moments are those that the claims allow
+abbrev pub AreClaimed : Options → Contents → Moments → Type 0
+AreClaimed o x m = (m.first ≡ first_moment o (claims_of x.payload_value)) × (m.last ≡ last_moment o (claims_of x.payload_value))
