@@ -755,15 +755,18 @@ static void status_texts(void) {
         {JWT_BLANK_KEY, "Anyone can sign"},
     };
     struct answer a;
+    bool is_status[300] = {false};
     for (size_t i = 0; i < sizeof rows / sizeof *rows; i++) {
         a = fresh();
         a.status = jwt_status_text(rows[i].status, a.room, ROOM, &a.len);
         is(rows[i].text, gives(&a, rows[i].text), 1);
+        is_status[rows[i].status] = true;
     }
-    static const uint32_t none[] = {38, 99, 108, UINT32_MAX};
-    for (size_t i = 0; i < 4; i++) {
+    /* every other number, also one between those of claims */
+    for (uint32_t i = 0; i <= 300; i++) {
+        if (i < 300 && is_status[i]) continue;
         a = fresh();
-        a.status = jwt_status_text(none[i], a.room, ROOM, &a.len);
+        a.status = jwt_status_text(i < 300 ? i : UINT32_MAX, a.room, ROOM, &a.len);
         is("no status", status_of(&a), JWT_NO_STATUS);
     }
     a = fresh();

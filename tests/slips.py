@@ -213,8 +213,8 @@ def kinds():
     refused(jwt.InvalidAlgorithm, 14, TOKEN, algorithms=["HS384"])
     refused(jwt.MissingAlgorithm, 15, TOKEN, algorithms=None)
     refused(jwt.InvalidCrit, 24, signed({}, SECRET, crit=["x"], x=1))
-    refused(jwt.MissingRequiredClaim, 29, TOKEN, required_spec_claims=["iss"])
-    refused(jwt.InvalidClaimFormat, 32, signed({"exp": "1000"}, SECRET))
+    refused(jwt.MissingRequiredClaim, 43, TOKEN, required_spec_claims=["iss"])
+    refused(jwt.InvalidClaimFormat, 60, signed({"exp": "1000"}, SECRET))
     refused(jwt.Refused, 1, "abc")
     try:
         jwt.decode_set(TOKEN, {"keys": []}, now=0, **OPTIONS)

@@ -149,8 +149,8 @@ _KINDS = {
     17: Signing,
     24: InvalidCrit,
     25: NoKey,
-    **dict.fromkeys(range(26, 32), MissingRequiredClaim),
-    **dict.fromkeys(range(32, 38), InvalidClaimFormat),
+    **dict.fromkeys(range(40, 60), MissingRequiredClaim),
+    **dict.fromkeys(range(60, 80), InvalidClaimFormat),
 }
 
 

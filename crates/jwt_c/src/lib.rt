@@ -12,7 +12,7 @@ ghost use Rattle.jwt_c_calls.specs.FirstFailed.{AnswersFailedHmac, AnswersFailed
 ghost use Rattle.jwt_c_calls.specs.Issued.{AnswersEncode, AnswersThumbprint, hash_numbered};
 ghost use Rattle.jwt_c_calls.specs.Moments.{LeavesMoments, AnswersMomentsHmac, AnswersMomentsKey, AnswersMomentsSet};
 ghost use Rattle.jwt_c_calls.specs.Secrets.{ChecksSecret, ChecksKey, ChecksSet};
-ghost use Rattle.jwt_c_calls.specs.Status.{number, no_status, status_text, told, version, algorithm_numbered, IsGiven, IsKept};
+ghost use Rattle.jwt_c_calls.specs.Status.{kind_part, number, no_status, status_text, version, algorithm_numbered, IsGiven, IsKept};
 
 use jsonwebtoken::signed_part;
 use jwt_c_calls::answers::{
@@ -447,7 +447,7 @@ pub extern "C" fn jwt_status_text(status: u32, room: &mut [u8], len: &mut usize)
         (IsKept no_status result len.new room.old room.new)
         (λ given. IsGiven given result len.new room.old room.new) }
     // The text of a refusal's status is that of its kind.
-    ensures kinds { (k : Kind) → status_text (number k) ≡ Some (text_of (told k)) }
+    ensures kinds { (k : Kind) → status_text (number k) ≡ Some (text_of (kind_part k)) }
 {
     match text_of(status) {
         Some(text) => put_bytes(text.as_bytes(), room, len),

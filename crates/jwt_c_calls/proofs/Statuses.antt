@@ -2,12 +2,12 @@
 use Rattle.std.proofs.Common.{◌≡◌, ◌+◌, ◌++◌, ℕ, [], Bool, true, false, Some, refl, slice_get, unwrap_or, codes, if◌then◌else◌}
 use Rattle.std.specs.Str.{bytes_eq}
 use Rattle.jwt_base.specs.Kind.{Kind, text_of, InvalidToken, InvalidSignature, InvalidEcdsaKey, InvalidEddsaKey, RsaFailedSigning, InvalidAlgorithmName, UnsupportedAlgorithm, InvalidKeyFormat, ExpiredSignature, InvalidIssuer, InvalidAudience, InvalidSubject, ImmatureSignature, InvalidAlgorithm, MissingAlgorithm, MissingRequiredClaim, InvalidClaimFormat, InvalidRsaKey, Signing, Provider, Base64, Json, Utf8, OutOfMemory, ClockBeforeEpoch, InvalidCrit, NoKey}
-use Rattle.jwt_c_calls.specs.Status.{claim_names, number, status_text, told}
+use Rattle.jwt_c_calls.specs.Status.{claim_names, kind_part, number, status_text}
 
 abbrev place : Bool → Bool → Bool → Bool → Bool → ℕ
-place a b c d e = if a then 0 else (if b then 1 else (if c then 2 else (if d then 3 else (if e then 4 else 5))))
+place a b c d e = if a then 0 else (if b then 1 else (if c then 2 else (if d then 3 else (if e then 4 else 19))))
 
-missing : (a b c d e : Bool) → status_text (26 + place a b c d e) ≡ Some (codes "Missing required claim: " ++ unwrap_or (slice_get claim_names (place a b c d e)) [])
+missing : (a b c d e : Bool) → status_text (40 + place a b c d e) ≡ Some (codes "Missing required claim: " ++ unwrap_or (slice_get claim_names (place a b c d e)) [])
 missing true b c d e = refl
 missing false true c d e = refl
 missing false false true d e = refl
@@ -15,7 +15,7 @@ missing false false false true e = refl
 missing false false false false true = refl
 missing false false false false false = refl
 
-malformed : (a b c d e : Bool) → status_text (32 + place a b c d e) ≡ Some (codes "Invalid format for claim: " ++ unwrap_or (slice_get claim_names (place a b c d e)) [])
+malformed : (a b c d e : Bool) → status_text (60 + place a b c d e) ≡ Some (codes "Invalid format for claim: " ++ unwrap_or (slice_get claim_names (place a b c d e)) [])
 malformed true b c d e = refl
 malformed false true c d e = refl
 malformed false false true d e = refl
@@ -23,7 +23,7 @@ malformed false false false true e = refl
 malformed false false false false true = refl
 malformed false false false false false = refl
 
-pub kind_texts : (k : Kind) → status_text (number k) ≡ Some (text_of (told k))
+pub kind_texts : (k : Kind) → status_text (number k) ≡ Some (text_of (kind_part k))
 kind_texts InvalidToken = refl
 kind_texts InvalidSignature = refl
 kind_texts InvalidEcdsaKey = refl

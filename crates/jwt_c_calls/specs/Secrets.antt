@@ -10,19 +10,19 @@ use Rattle.jwt_c_calls.specs.Status.{number, blank_key, input_status}
 use Rattle.jwt_c_calls.specs.declared.inputs.Input.{Input}
 use Rattle.jwt_c_calls.specs.declared.inputs.Input.TheVariants as input
 
--- the status tells whether anyone can sign
-abbrev pub Tells : Type 0 → ℕ → Type 0
-Tells Blank status = (Blank × (status ≡ blank_key)) ⊎ ((¬ Blank) × (status ≡ 0))
+-- the status says whether anyone can sign
+abbrev pub SaysWhether : Type 0 → ℕ → Type 0
+SaysWhether Blank status = (Blank × (status ≡ blank_key)) ⊎ ((¬ Blank) × (status ≡ 0))
 
--- the status tells it of the value that the text is read as; or the text is misread, or memory ran out
+-- the status says it of the value that the text is read as; or the text is misread, or memory ran out
 abbrev pub ChecksText : {X : Type 0} → Input → (X → Type 0) → (X → Type 0) → ℕ → Type 0
 ChecksText input Reads Blank status = (status ≡ number kind.OutOfMemory)
     ⊎ (((status ≡ input_status input) × Misread Reads)
-    ⊎ ((x : _) × Reads x × Tells (Blank x) status))
+    ⊎ ((x : _) × Reads x × SaysWhether (Blank x) status))
 
 -- of a secret (RFC 2104 section 2)
 abbrev pub ChecksSecret : List ℕ → ℕ → Type 0
-ChecksSecret secret = Tells (IsBlank secret)
+ChecksSecret secret = SaysWhether (IsBlank secret)
 
 -- of a JSON Web Key (RFC 7517 section 4)
 abbrev pub ChecksKey : List ℕ → ℕ → Type 0

@@ -13,7 +13,7 @@ use Rattle.jwt_c_calls.specs.declared.inputs.Input.TheVariants as input
 abbrev pub claim_names : List (List ℕ)
 claim_names = codes "exp" ∷ codes "nbf" ∷ codes "aud" ∷ codes "iss" ∷ codes "sub" ∷ []
 
--- the place of a name among them; of any other name the one after them
+-- The place of a name among them, and 19 of any other name. The places between are kept for more names.
 abbrev pub claim_place : List ℕ → ℕ
 claim_place name =
     if bytes_eq name (codes "exp") then 0
@@ -21,9 +21,10 @@ claim_place name =
     else (if bytes_eq name (codes "aud") then 2
     else (if bytes_eq name (codes "iss") then 3
     else (if bytes_eq name (codes "sub") then 4
-    else 5))))
+    else 19))))
 
--- the status of a refusal of this kind
+-- The status of a refusal of this kind: from 1 on of kinds without a claim, from 40 on of a required claim that is missing, and from
+-- 60 on of a claim of another form. The numbers up to 39, 59 and 79 that no kind has are kept for more of each.
 abbrev pub number : Kind → ℕ
 number InvalidToken = 1
 number InvalidSignature = 2
@@ -50,8 +51,8 @@ number OutOfMemory = 22
 number ClockBeforeEpoch = 23
 number InvalidCrit = 24
 number NoKey = 25
-number (MissingRequiredClaim claim) = 26 + claim_place claim
-number (InvalidClaimFormat claim) = 32 + claim_place claim
+number (MissingRequiredClaim claim) = 40 + claim_place claim
+number (InvalidClaimFormat claim) = 60 + claim_place claim
 
 -- a buffer is too small, a number is not a status
 abbrev pub no_room : ℕ
@@ -72,7 +73,7 @@ input_status input.Key = 106
 abbrev pub blank_key : ℕ
 blank_key = 107
 
--- the texts of the statuses from 0 on
+-- the texts of the statuses from 0 on, of all kinds without a claim
 abbrev pub first_texts : List (List ℕ)
 first_texts = codes "OK"
     ∷ codes "InvalidToken" ∷ codes "InvalidSignature" ∷ codes "InvalidEcdsaKey"
@@ -82,13 +83,24 @@ first_texts = codes "OK"
     ∷ codes "ImmatureSignature" ∷ codes "InvalidAlgorithm" ∷ codes "MissingAlgorithm"
     ∷ codes "RSA key invalid: " ∷ codes "Signing failed: " ∷ codes "Custom provider error: "
     ∷ codes "Base64 error" ∷ codes "JSON error" ∷ codes "UTF-8 error"
-    ∷ codes "Out of memory" ∷ codes "Clock before 1970" ∷ codes "InvalidCrit" ∷ codes "NoKey"
-    ∷ codes "Missing required claim: exp" ∷ codes "Missing required claim: nbf"
-    ∷ codes "Missing required claim: aud" ∷ codes "Missing required claim: iss"
-    ∷ codes "Missing required claim: sub" ∷ codes "Missing required claim: "
-    ∷ codes "Invalid format for claim: exp" ∷ codes "Invalid format for claim: nbf"
-    ∷ codes "Invalid format for claim: aud" ∷ codes "Invalid format for claim: iss"
-    ∷ codes "Invalid format for claim: sub" ∷ codes "Invalid format for claim: " ∷ []
+    ∷ codes "Out of memory" ∷ codes "Clock before 1970" ∷ codes "InvalidCrit" ∷ codes "NoKey" ∷ []
+
+-- the text of a status up to 99
+abbrev pub refusal_text : ℕ → Option (List ℕ)
+refusal_text n =
+    if n == 40 then Some (codes "Missing required claim: exp")
+    else (if n == 41 then Some (codes "Missing required claim: nbf")
+    else (if n == 42 then Some (codes "Missing required claim: aud")
+    else (if n == 43 then Some (codes "Missing required claim: iss")
+    else (if n == 44 then Some (codes "Missing required claim: sub")
+    else (if n == 59 then Some (codes "Missing required claim: ")
+    else (if n == 60 then Some (codes "Invalid format for claim: exp")
+    else (if n == 61 then Some (codes "Invalid format for claim: nbf")
+    else (if n == 62 then Some (codes "Invalid format for claim: aud")
+    else (if n == 63 then Some (codes "Invalid format for claim: iss")
+    else (if n == 64 then Some (codes "Invalid format for claim: sub")
+    else (if n == 79 then Some (codes "Invalid format for claim: ")
+    else slice_get first_texts n)))))))))))
 
 -- the text of a status
 abbrev pub status_text : ℕ → Option (List ℕ)
@@ -101,21 +113,21 @@ status_text n =
     else (if n == input_status input.Claims then Some (codes "Claims not understood")
     else (if n == input_status input.Key then Some (codes "Key not understood")
     else (if n == blank_key then Some (codes "Anyone can sign")
-    else slice_get first_texts n)))))))
+    else refusal_text n)))))))
 
 -- the part of the claim's name that a status tells
-abbrev pub told_claim : List ℕ → List ℕ
-told_claim name = unwrap_or (slice_get claim_names (claim_place name)) []
+abbrev pub claim_part : List ℕ → List ℕ
+claim_part name = unwrap_or (slice_get claim_names (claim_place name)) []
 
 -- The part of a kind that a status tells: of a claim's name one of the five, and nothing of the
 -- string of other kinds.
-abbrev pub told : Kind → Kind
-told (MissingRequiredClaim claim) = MissingRequiredClaim (told_claim claim)
-told (InvalidClaimFormat claim) = InvalidClaimFormat (told_claim claim)
-told (InvalidRsaKey message) = InvalidRsaKey []
-told (Signing message) = Signing []
-told (Provider message) = Provider []
-told k = k
+abbrev pub kind_part : Kind → Kind
+kind_part (MissingRequiredClaim claim) = MissingRequiredClaim (claim_part claim)
+kind_part (InvalidClaimFormat claim) = InvalidClaimFormat (claim_part claim)
+kind_part (InvalidRsaKey message) = InvalidRsaKey []
+kind_part (Signing message) = Signing []
+kind_part (Provider message) = Provider []
+kind_part k = k
 
 -- ---- status, length and buffer
 

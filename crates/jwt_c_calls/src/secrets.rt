@@ -7,7 +7,7 @@ ghost use Rattle.jwt_keys.specs.JwkSet.{ReadsSet};
 ghost use Rattle.jwt_keys.specs.declared.jwk.Jwk.{Jwk};
 ghost use Rattle.jwt_secrets.specs.Blank.{IsBlankJwk, HasBlankKey};
 ghost use Rattle.jwt_c_calls.specs.Calls.{AnswersBy, MisreadsOne, answer_of, refusal_status};
-ghost use Rattle.jwt_c_calls.specs.Secrets.{Tells, ChecksSecret, ChecksKey, ChecksSet};
+ghost use Rattle.jwt_c_calls.specs.Secrets.{ChecksSecret, ChecksKey, ChecksSet, SaysWhether};
 ghost use Rattle.jwt_c_calls.specs.declared.inputs.Input.TheVariants as input;
 
 use crate::inputs::{Input, Refusal, read_as};
@@ -18,8 +18,8 @@ use jwt_secrets::{has_blank_key, is_blank, is_blank_jwk};
 use std::alloc::Global;
 use std::result::Result;
 
-fn told(is_blank: bool) -> u32
-    ensures { Tells (IsTrue is_blank) result }
+fn blank_status(is_blank: bool) -> u32
+    ensures { SaysWhether (IsTrue is_blank) result }
 {
     if is_blank { 107 } else { 0 }
 }
@@ -28,15 +28,15 @@ fn told(is_blank: bool) -> u32
 pub fn secret_status(secret: &[u8]) -> u32
     ensures { ChecksSecret secret.now result }
 {
-    told(is_blank(secret))
+    blank_status(is_blank(secret))
 }
 
 fn answer_status(answer: Result<bool, Refusal>) -> u32
-    ensures ok { IfOk answer (λ is. Tells (IsTrue is) result) }
+    ensures ok { IfOk answer (λ is. SaysWhether (IsTrue is) result) }
     ensures err { IfErr answer (λ r. result ≡ refusal_status r) }
 {
     match answer {
-        Ok(is_blank) => told(is_blank),
+        Ok(is_blank) => blank_status(is_blank),
         Err(refusal) => status_of(&refusal),
     }
 }

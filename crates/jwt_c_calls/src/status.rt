@@ -3,7 +3,7 @@
 ghost use Rattle.std.specs.Prelude.{◌≡◌, ◌≤◌, Some, IfOk, IfErr, map, option_map, slice_get};
 ghost use Rattle.jwt_base.specs.KindOf.{kind_held};
 ghost use Rattle.jwt_c_calls.specs.Calls.{refusal_status};
-ghost use Rattle.jwt_c_calls.specs.Status.{number, input_status, claim_place, first_texts, status_text, algorithm_numbered, IsGiven, IsKept};
+ghost use Rattle.jwt_c_calls.specs.Status.{number, input_status, claim_place, first_texts, refusal_text, status_text, algorithm_numbered, IsGiven, IsKept};
 
 use crate::inputs::{Input, Refusal};
 use jsonwebtoken::Algorithm;
@@ -11,7 +11,7 @@ use jsonwebtoken::errors::ErrorKind;
 
 fn claim_place(name: &str) -> u32
     ensures place { result ≡ claim_place name.now }
-    ensures few { result ≤ 5 }
+    ensures few { result ≤ 19 }
 {
     match name {
         "exp" => 0,
@@ -19,7 +19,7 @@ fn claim_place(name: &str) -> u32
         "aud" => 2,
         "iss" => 3,
         "sub" => 4,
-        _ => 5,
+        _ => 19,
     }
 }
 
@@ -53,8 +53,8 @@ pub fn number_of(kind: &ErrorKind) -> u32
         ErrorKind::ClockBeforeEpoch => 23,
         ErrorKind::InvalidCrit => 24,
         ErrorKind::NoKey => 25,
-        ErrorKind::MissingRequiredClaim(claim) => 26 + claim_place(claim.as_str()),
-        ErrorKind::InvalidClaimFormat(claim) => 32 + claim_place(claim.as_str()),
+        ErrorKind::MissingRequiredClaim(claim) => 40 + claim_place(claim.as_str()),
+        ErrorKind::InvalidClaimFormat(claim) => 60 + claim_place(claim.as_str()),
     }
 }
 
@@ -80,7 +80,7 @@ pub fn status_of(refusal: &Refusal) -> u32
     }
 }
 
-fn first_texts() -> [&'static str; 38]
+fn first_texts() -> [&'static str; 26]
     ensures { map (λ s. s.now) result ≡ first_texts }
 {
     [
@@ -110,18 +110,6 @@ fn first_texts() -> [&'static str; 38]
         "Clock before 1970",
         "InvalidCrit",
         "NoKey",
-        "Missing required claim: exp",
-        "Missing required claim: nbf",
-        "Missing required claim: aud",
-        "Missing required claim: iss",
-        "Missing required claim: sub",
-        "Missing required claim: ",
-        "Invalid format for claim: exp",
-        "Invalid format for claim: nbf",
-        "Invalid format for claim: aud",
-        "Invalid format for claim: iss",
-        "Invalid format for claim: sub",
-        "Invalid format for claim: ",
     ]
 }
 
@@ -129,6 +117,26 @@ fn first_text(status: u32) -> Option<&'static str>
     ensures { option_map (λ t. t.now) result ≡ slice_get first_texts status }
 {
     first_texts().get(status as usize).copied()
+}
+
+fn refusal_text(status: u32) -> Option<&'static str>
+    ensures { option_map (λ t. t.now) result ≡ refusal_text status }
+{
+    match status {
+        40 => Some("Missing required claim: exp"),
+        41 => Some("Missing required claim: nbf"),
+        42 => Some("Missing required claim: aud"),
+        43 => Some("Missing required claim: iss"),
+        44 => Some("Missing required claim: sub"),
+        59 => Some("Missing required claim: "),
+        60 => Some("Invalid format for claim: exp"),
+        61 => Some("Invalid format for claim: nbf"),
+        62 => Some("Invalid format for claim: aud"),
+        63 => Some("Invalid format for claim: iss"),
+        64 => Some("Invalid format for claim: sub"),
+        79 => Some("Invalid format for claim: "),
+        _ => first_text(status),
+    }
 }
 
 /// Returns the text of a status, if the number is one.
@@ -144,7 +152,7 @@ pub fn text_of(status: u32) -> Option<&'static str>
         105 => Some("Claims not understood"),
         106 => Some("Key not understood"),
         107 => Some("Anyone can sign"),
-        _ => first_text(status),
+        _ => refusal_text(status),
     }
 }
 
