@@ -565,6 +565,8 @@ static void issued(void) {
 #define BY_CURVE_HEADER "{\"alg\":\"ES256\",\"typ\":\"JWT\"}"
 #define BY_CURVE_CLAIMS "{\"exp\":940}"
 #define BY_CURVE_MESSAGE "eyJhbGciOiJFUzI1NiIsInR5cCI6IkpXVCJ9.eyJleHAiOjk0MH0"
+#define RS256_MESSAGE "eyJhbGciOiJSUzI1NiJ9.eyJleHAiOjk0MH0"
+#define PS512_MESSAGE "eyJhbGciOiJQUzUxMiJ9.eyJleHAiOjk0MH0"
 /* 64 letters, and their text */
 #define LETTERS "aaaaaaaaaaaaaaaaaaaaaaaaaaaaaaaaaaaaaaaaaaaaaaaaaaaaaaaaaaaaaaaa"
 #define LETTERS_PART "YWFhYWFhYWFhYWFhYWFhYWFhYWFhYWFhYWFhYWFhYWFhYWFhYWFhYWFhYWFhYWFhYWFhYWFhYWFhYWFhYWFhYQ"
@@ -605,6 +607,8 @@ static void signing_inputs(void) {
 static void issued_by_signature(void) {
     struct answer a = by_signature(BY_CURVE_HEADER, BY_CURVE_CLAIMS, JWT_ES256, BY_CURVE_MESSAGE, LETTERS);
     is("a token with a given signature", gives(&a, BY_CURVE_MESSAGE "." LETTERS_PART), 1);
+    a = by_signature("{\"alg\":\"RS256\"}", BY_CURVE_CLAIMS, JWT_RS256, RS256_MESSAGE, "a");
+    is("a token with a byte by RSA", gives(&a, RS256_MESSAGE ".YQ"), 1);
     static const struct {
         const char *header, *claims;
         uint32_t algorithm;
@@ -613,6 +617,9 @@ static void issued_by_signature(void) {
     } refused[] = {
         {BY_CURVE_HEADER, BY_CURVE_CLAIMS, JWT_ES256, BY_CURVE_MESSAGE, LETTERS "a", JWT_SIGNING},
         {BY_CURVE_HEADER, BY_CURVE_CLAIMS, JWT_ES256, BY_CURVE_MESSAGE, "", JWT_SIGNING},
+        /* as many bytes as the modulus has, and never none (RFC 8017 sections 8.1.1 and 8.2.1) */
+        {"{\"alg\":\"RS256\"}", BY_CURVE_CLAIMS, JWT_RS256, RS256_MESSAGE, "", JWT_SIGNING},
+        {"{\"alg\":\"PS512\"}", BY_CURVE_CLAIMS, JWT_PS512, PS512_MESSAGE, "", JWT_SIGNING},
         {BY_CURVE_HEADER, "{\"exp\":941}", JWT_ES256, BY_CURVE_MESSAGE, LETTERS, JWT_SIGNING},
         {"{\"alg\":\"ES256\"}", BY_CURVE_CLAIMS, JWT_ES256, BY_CURVE_MESSAGE, LETTERS, JWT_SIGNING},
         {BY_CURVE_HEADER, BY_CURVE_CLAIMS, JWT_ES384, BY_CURVE_MESSAGE, LETTERS, JWT_INVALID_ALGORITHM},

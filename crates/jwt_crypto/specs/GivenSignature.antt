@@ -1,5 +1,5 @@
 -- A signature of one message that was made elsewhere, as a provider that signs.
-use Rattle.std.specs.Prelude.{◌≡◌, ℕ, List, Bool, true, nat_eq, length, bytes_eq, codes, Option, None, Some, if◌then◌else◌}
+use Rattle.std.specs.Prelude.{◌≡◌, ◌≢◌, ℕ, List, Bool, not, nat_eq, length, bytes_eq, codes, Option, None, Some, if◌then◌else◌}
 use denote.Enum.Bare.{sameb}
 use Rattle.jwt_base.specs.Algorithm.{family_of}
 use Rattle.jwt_base.specs.Kind.{Kind}
@@ -22,7 +22,8 @@ pub record IsGiven (g : GivenSignature) (m s : List ℕ) : Type 0 where
   pub signature : s ≡ g.signature
 
 -- How many bytes a signature has: those of the digest (RFC 7518 section 3.2), those of r and s (RFC 7518 section 3.4), and 64
--- by Ed25519 (RFC 8037 section 3.1, RFC 8032 section 5.1.6). Of RSA the key decides (RFC 8017 sections 8.1.1 and 8.2.1).
+-- by Ed25519 (RFC 8037 section 3.1, RFC 8032 section 5.1.6). Of RSA the key decides: as many as the modulus has (RFC 8017
+-- sections 8.1.1 and 8.2.1).
 abbrev pub signature_length : Algorithm → Option ℕ
 signature_length HS256 = Some 32
 signature_length HS384 = Some 48
@@ -37,16 +38,16 @@ signature_length ES256 = Some 64
 signature_length ES384 = Some 96
 signature_length EdDSA = Some 64
 
--- the bytes are as many, if the algorithm fixes how many there are; Unit {0} is the statement that always holds
+-- the bytes are as many, if the algorithm fixes how many there are, and else one at least: a modulus has bytes
 abbrev pub AreAsMany : Option ℕ → List ℕ → Type 0
-AreAsMany None s = Unit {0}
+AreAsMany None s = length s ≢ 0
 AreAsMany (Some n) s = length s ≡ n
 
 abbrev pub HasLength : Algorithm → List ℕ → Type 0
 HasLength a s = AreAsMany (signature_length a) s
 
 abbrev pub are_as_many : Option ℕ → List ℕ → Bool
-are_as_many None s = true
+are_as_many None s = not (nat_eq (length s) 0)
 are_as_many (Some n) s = nat_eq (length s) n
 
 -- the strings of a refusal
@@ -60,7 +61,7 @@ length_text HS512 = codes "a signature by HS512 has 64 bytes"
 length_text ES256 = codes "a signature by ES256 has 64 bytes: r and s, and no DER"
 length_text ES384 = codes "a signature by ES384 has 96 bytes: r and s, and no DER"
 length_text EdDSA = codes "a signature by EdDSA has 64 bytes"
-length_text other = codes ""
+length_text other = codes "a signature by RSA has as many bytes as the modulus"
 
 -- why no signer is made by this algorithm and key: it is another algorithm, or the key is not of its family
 abbrev pub signer_refusal_by : GivenSignature → Algorithm → SecretKey → Option Kind

@@ -28,9 +28,9 @@ use std::marker::Model;
 /// `Signing("another message")`, and then a signature that does not have the algorithm's length
 /// with `Signing` and a string that says which it is: 32, 48 or 64 bytes by HS256, HS384 or HS512
 /// (RFC 7518 section 3.2), 64 or 96 by ES256 or ES384 (RFC 7518 section 3.4) and 64 by EdDSA with
-/// Ed25519 (RFC 8037 section 3.1). By RSA the length is that of the key's modulus, which is not
-/// known here, so that any is taken. Whether the signature is the message's is left to those who
-/// verify it.
+/// Ed25519 (RFC 8037 section 3.1). By RSA the length is that of the key's modulus (RFC 8017
+/// sections 8.1.1 and 8.2.1), which is not known here, so that an empty signature alone is refused.
+/// Whether the signature is the message's is left to those who verify it.
 ///
 /// It verifies nothing, reads no keys and computes no digests: such calls are refused with
 /// `UnsupportedAlgorithm`. Its factories allocate no memory.
@@ -75,7 +75,7 @@ fn length_message(algorithm: Algorithm) -> &'static str
         Algorithm::ES256 => "a signature by ES256 has 64 bytes: r and s, and no DER",
         Algorithm::ES384 => "a signature by ES384 has 96 bytes: r and s, and no DER",
         Algorithm::EdDSA => "a signature by EdDSA has 64 bytes",
-        _ => "",
+        _ => "a signature by RSA has as many bytes as the modulus",
     }
 }
 
@@ -117,7 +117,7 @@ impl<'a> SignatureProvider<'a> {
     {
         match length_of(self.algorithm) {
             Some(length) => self.signature.len() == length,
-            None => true,
+            None => !self.signature.is_empty(),
         }
     }
 

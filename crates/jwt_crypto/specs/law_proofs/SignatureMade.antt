@@ -1,10 +1,10 @@
 -- The consequences of a signature being given for a message, and a proof that it is given for its
 -- own message, algorithm and family of keys.
-use Rattle.std.specs.Prelude.{◌≡◌, ℕ, List, [], Bool, true, false, bytes_eq, length, Option, None, Some, refl, if◌then◌else◌}
+use Rattle.std.specs.Prelude.{◌≡◌, ℕ, List, [], Bool, true, false, bytes_eq, length, nat_eq, Option, None, Some, refl, if◌then◌else◌}
 use Rattle.std.specs.Bool.{Decides}
 use denote.Enum.Bare.{sameb}
 use Rattle.std.proofs.Common.{sym}
-use Rattle.std.proofs.lemmas.Bool.Decides.{Decides-eqb}
+use Rattle.std.proofs.lemmas.Bool.Decides.{Decides-eqb, Decides-not}
 use Rattle.std.proofs.lemmas.Slice.Eq.{bytes_eq-Decides}
 use Rattle.jwt_base.specs.Algorithm.{family_of}
 use Rattle.jwt_base.specs.Kind.{Kind}
@@ -42,11 +42,11 @@ pub record IsGivenFor (g : GivenSignature) (m : List ℕ) : Type 0 where
   pub length : HasLength g.algorithm g.signature
 
 as_many : (n : Option ℕ) (s : List ℕ) → are_as_many n s ≡ true → AreAsMany n s
-as_many None s h = tt
+as_many None s h = (Decides-not (nat_eq (length s) 0) (Decides-eqb (length s) 0)).0 h
 as_many (Some n) s h = (Decides-eqb (length s) n).0 h
 
 as_many_is : (n : Option ℕ) (s : List ℕ) → AreAsMany n s → are_as_many n s ≡ true
-as_many_is None s h = refl
+as_many_is None s h = (Decides-not (nat_eq (length s) 0) (Decides-eqb (length s) 0)).1 h
 as_many_is (Some n) s h = (Decides-eqb (length s) n).1 h
 
 given_at : (g : GivenSignature) (m : List ℕ) (b c : Bool) → (b ≡ true → m ≡ g.message) → (c ≡ true → HasLength g.algorithm g.signature)
