@@ -6,7 +6,7 @@ mod of_keys;
 use crate::inputs::{compared, hashed, only_text, only_value};
 use jsonwebtoken::Algorithm;
 use jsonwebtoken::errors::{Error, Result as Outcome};
-use jwt_rows::answer::{Answer, of_text, of_value};
+use jwt_rows::answer::{Answer, accepted, of_text, of_value};
 use jwt_rows::fault::Fault;
 use jwt_rows::inputs::names::family_name;
 use jwt_rows::inputs::providers::algorithm_of;
@@ -39,6 +39,7 @@ fn of_algorithms(call: &str, row: Row<'_>, trial: &mut Trial) -> Result<Option<V
         "Algorithm::clone" => copied(row, trial),
         "Algorithm::eq" => are_equal(row, trial),
         "Algorithm::hash" => hash_alike(row, trial),
+        "Algorithm::debug" => debug_text(row),
         _ => return Ok(None),
     };
     Ok(Some(answer?))
@@ -138,4 +139,10 @@ fn are_equal(row: Row<'_>, trial: &mut Trial) -> Answer {
 fn hash_alike(row: Row<'_>, trial: &mut Trial) -> Answer {
     let (left, right) = two_given(row)?;
     hashed(row, trial, &left, &right)
+}
+
+fn debug_text(row: Row<'_>) -> Answer {
+    let algorithm = only_given(row)?;
+    let text = format!(in row.alloc(); "{:?}", algorithm)?;
+    accepted(row.alloc(), Value::String(text))
 }

@@ -5,7 +5,7 @@ mod kinds;
 
 use crate::inputs::compared;
 use jsonwebtoken::errors::{Error, ErrorKind, Result as Outcome, new_error};
-use jwt_rows::answer::{Answer, of_kind, of_string, of_text, refused};
+use jwt_rows::answer::{Answer, accepted, of_kind, of_string, of_text, refused};
 use jwt_rows::fault::Fault;
 use jwt_rows::row::Row;
 use jwt_rows::trial::Trial;
@@ -18,6 +18,7 @@ pub fn answer(call: &str, row: Row<'_>, trial: &mut Trial) -> Result<Option<Valu
     let answer = match call {
         "ErrorKind::name" => name(row, trial),
         "ErrorKind::to_string" => kind_to_string(row, trial),
+        "ErrorKind::debug" => kind_debug(row),
         "ErrorKind::clone" => kind_copy(row, trial),
         "ErrorKind::eq" => kinds_are_equal(row, trial),
         _ => return of_errors(call, row, trial),
@@ -77,6 +78,12 @@ fn kind_to_string(row: Row<'_>, trial: &mut Trial) -> Answer {
     let text = kind.to_string(row.alloc());
     trial.end();
     of_string(row.alloc(), text.map_err(Error::from))
+}
+
+fn kind_debug(row: Row<'_>) -> Answer {
+    let kind = only_kind(row)?;
+    let text = format!(in row.alloc(); "{:?}", *kind)?;
+    accepted(row.alloc(), Value::String(text))
 }
 
 fn of_copy(alloc: Global, copy: Outcome<ErrorKind>) -> Answer {
