@@ -153,8 +153,8 @@ fn algorithm_for(jwk: &Jwk) -> Option<Algorithm> {
     }
 }
 
-/// Returns whether a verifier by this key is made, and why not.
-fn verifies(alloc: Global, jwk: &Jwk) -> Result<&'static str, Fault<'static>> {
+/// Returns as a text whether a verifier by this key is made, and why not.
+fn verifier_text(alloc: Global, jwk: &Jwk) -> Result<&'static str, Fault<'static>> {
     let Some(algorithm) = algorithm_for(jwk) else {
         return Ok("no: by no algorithm that is supported here");
     };
@@ -173,8 +173,8 @@ fn verifies(alloc: Global, jwk: &Jwk) -> Result<&'static str, Fault<'static>> {
     }
 }
 
-/// Returns whether a token can name a key of a set, and the key verifies; and why not.
-fn is_named(alloc: Global, earlier: &[Jwk], jwk: &Jwk) -> Result<&'static str, Fault<'static>> {
+/// Returns as a text whether a token can name a key of a set, and the key verifies; and why not.
+fn naming_text(alloc: Global, earlier: &[Jwk], jwk: &Jwk) -> Result<&'static str, Fault<'static>> {
     let Some(kid) = &jwk.common.key_id else {
         return Ok("no: it has no kid, so no token names it");
     };
@@ -182,14 +182,18 @@ fn is_named(alloc: Global, earlier: &[Jwk], jwk: &Jwk) -> Result<&'static str, F
     if earlier.iter().any(is_other) {
         return Ok("no: an earlier key has its kid");
     }
-    verifies(alloc, jwk)
+    verifier_text(alloc, jwk)
 }
 
-/// Returns whether a key of a set is of use, which one with which anyone can sign is not.
-fn is_of_use(alloc: Global, earlier: &[Jwk], jwk: &Jwk) -> Result<&'static str, Fault<'static>> {
+/// Returns as a text whether a key of a set is of use, which one with which anyone can sign is not.
+fn usefulness_text(
+    alloc: Global,
+    earlier: &[Jwk],
+    jwk: &Jwk,
+) -> Result<&'static str, Fault<'static>> {
     match is_blank_jwk(alloc, jwk) {
         Ok(true) => Ok("no: anyone can sign with it"),
-        Ok(false) => is_named(alloc, earlier, jwk),
+        Ok(false) => naming_text(alloc, earlier, jwk),
         Err(_) => Err(Fault::Memory),
     }
 }
@@ -216,7 +220,7 @@ fn row_of(alloc: Global, earlier: &[Jwk], jwk: &Jwk) -> Result<Row, Fault<'stati
     cells.push(shown(alloc, use_name(jwk))?)?;
     cells.push(size(alloc, jwk)?)?;
     cells.push(thumbprint(alloc, jwk)?)?;
-    cells.push(String::from_str(alloc, is_of_use(alloc, earlier, jwk)?)?)?;
+    cells.push(String::from_str(alloc, usefulness_text(alloc, earlier, jwk)?)?)?;
     Ok(Row { cells })
 }
 
