@@ -15,7 +15,6 @@ use Rattle.jsonwebtoken.specs.Calls.{Carries}
 use Rattle.jsonwebtoken.specs.Order.{Tests, Passes, Decides, FailsFirst, FindsFailed}
 use Rattle.jsonwebtoken.specs.Refused.{DecidesByTest, IsRefusal}
 use Rattle.jsonwebtoken.specs.Tests.{Call, Parts, HasParts, key_of, Test, ClaimsAreAnObject, ClaimRulesHold, Contents, header_tests, header_order, verifying_tests, token_tests}
-use Rattle.jsonwebtoken.specs.declared.decoding.TokenData.{TokenData}
 use Rattle.jsonwebtoken.specs.declared.refusal.Refusal.{Refusal}
 use Rattle.jsonwebtoken.specs.private_clauses.FailedAt.{StopsAt}
 use Rattle.jsonwebtoken.specs.private_clauses.Refused.{IsWithTest, IsWithoutTest, IsFailedTest}
@@ -153,16 +152,16 @@ module _ {T : Type 0} (call : Call T) (parts : Parts) (h : Header)
       → (s : Contents) × Failed call (header_order ++ drop (length header_order) order) s f k
   after_opened order x f k s = (opened x, later call header_order (drop (length header_order) order) (opened x) f k (opened_passes x) s)
 
-  -- the header beside the claims that were read after it
-  pub beside_claims : (order : List Test) (found : Result T Refusal) (r : Result (TokenData T) Refusal)
-      → IfOk r (λ d. (h ≡ d.header) × (found ≡ Ok d.claims)) → IfErr r (λ f. found ≡ Err f)
-      → Meets (λ y. (x : Contents) × Passes (token_tests call) (drop (length header_order) order) (opened x) × call.reads x.payload_value y)
-      (λ f k. (x : Contents) × Failed call (drop (length header_order) order) (opened x) f k) found
-      → Step call (header_order ++ drop (length header_order) order) whole (Carries call) r
-  beside_claims order found (Ok d) ok err m =
-      let f = rw ok.1 at m in (opened f.0, opened_then order f.0 f.1, (ok.0, f.2))
-  beside_claims order found (Err f) ok err m =
-      let no = rw err at m in or_memory (λ s. after_opened order s.0 f.test (kind_of f.error) s.1) no
+  -- the header beside the claims that were read after it, and their refusal
+  pub beside_claims : (order : List Test) (y : T)
+      → ((x : Contents) × Passes (token_tests call) (drop (length header_order) order) (opened x) × call.reads x.payload_value y)
+      → Step call (header_order ++ drop (length header_order) order) whole (Carries call) (Ok (record { header = h; claims = y }))
+  beside_claims order y f = (opened f.0, opened_then order f.0 f.1, (refl, f.2))
+
+  pub no_claims : (order : List Test) (r : Refusal)
+      → IsMemory r.error ⊎ ((x : Contents) × Failed call (drop (length header_order) order) (opened x) r.test (kind_of r.error))
+      → Step call (header_order ++ drop (length header_order) order) whole (Carries call) (Err r)
+  no_claims order r refused = or_memory (λ s. after_opened order s.0 r.test (kind_of r.error) s.1) refused
 
 -- the claim rules never both hold and have a fault
 pub not_held : (v : Options) (d : Data) (now : ℕ) (k : Kind) → IsRuleFault v d now k → RulesHold v d now → ⊥

@@ -8,7 +8,7 @@ ghost use Rattle.jsonwebtoken.specs.private_clauses.Steps.{Step, whole};
 ghost use Rattle.jsonwebtoken.specs.Tests.{insecure_order, insecure_claims_order, insecure_call, token_tests};
 
 use crate::decoding::TokenData;
-use crate::decoding::steps::{read_header, read_payload, token_data, token_parts};
+use crate::decoding::steps::{read_header, read_payload, token_parts};
 use crate::refusal::{Refusal, without_test};
 use jwt_base::errors::Result;
 use jwt_base::json::Claims;
@@ -20,7 +20,10 @@ fn insecure_decode_by_steps<T: Claims>(alloc: Global, token: &[u8]) -> Result<To
 {
     let parts = token_parts(token)?;
     let header = read_header(alloc, parts.header)?;
-    token_data(header, read_payload(alloc, parts.payload))
+    match read_payload(alloc, parts.payload) {
+        Ok(claims) => Ok(TokenData { header, claims }),
+        Err(refusal) => Err(refusal),
+    }
 }
 
 /// Returns the header and the claims of a token in its compact form. Nothing is verified.

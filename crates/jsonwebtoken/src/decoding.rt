@@ -16,7 +16,7 @@ pub(crate) mod parts;
 pub(crate) mod steps;
 
 pub use crate::decoding::key_set::{decode_with_set, decode_with_set_or_refusal};
-use crate::decoding::steps::{read_claims_by_key, read_header, token_data, token_parts};
+use crate::decoding::steps::{read_claims_by_key, read_header, token_parts};
 use crate::refusal::{Refusal, without_test};
 use jwt_base::errors::Result;
 use jwt_base::json::Claims;
@@ -50,7 +50,10 @@ fn decode_by_steps<P: CryptoProvider, T: Claims>(
     let parts = token_parts(token)?;
     let header = read_header(alloc, parts.header)?;
     let claims = read_claims_by_key(alloc, provider, &parts, &header, key, validation, now);
-    token_data(header, claims)
+    match claims {
+        Ok(claims) => Ok(TokenData { header, claims }),
+        Err(refusal) => Err(refusal),
+    }
 }
 
 /// Verifies a token like [`decode`]; a refusal has the first test that fails, and its error. If
@@ -125,8 +128,7 @@ fn decode_header_by_steps(alloc: Global, token: &[u8]) -> Result<Header, Refusal
         result }
 {
     let parts = token_parts(token)?;
-    let header = read_header(alloc, parts.header)?;
-    Ok(header)
+    read_header(alloc, parts.header)
 }
 
 /// Returns the header of a token in its compact form. Nothing is verified: neither the payload nor

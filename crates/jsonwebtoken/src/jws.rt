@@ -22,7 +22,7 @@ use crate::decoding::TokenData;
 use crate::decoding::crit::check_crit;
 use crate::decoding::parts::TokenParts;
 use crate::decoding::steps::{
-    check_families, check_listed, check_some_listed, make_verifier, read_header, token_data,
+    check_families, check_listed, check_some_listed, make_verifier, read_header,
     verify_and_read_claims,
 };
 use crate::encoding::steps::{check_family, header_part, payload_part, sign_parts, with_part};
@@ -217,7 +217,10 @@ fn decode_parts<P: CryptoProvider, T: Claims>(
 {
     let header = read_header(alloc, parts.header)?;
     let claims = read_claims_by_key(alloc, provider, parts, &header, key, validation, now);
-    token_data(header, claims)
+    match claims {
+        Ok(claims) => Ok(TokenData { header, claims }),
+        Err(refusal) => Err(refusal),
+    }
 }
 
 /// Returns the message that is signed (RFC 7515 section 5.1).

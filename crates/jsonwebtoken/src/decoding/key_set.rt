@@ -15,7 +15,7 @@ ghost use Rattle.jsonwebtoken.specs.Tests.{Compact, named_key, AgreesWith, CritI
 use crate::decoding::TokenData;
 use crate::decoding::crit::check_crit;
 use crate::decoding::parts::TokenParts;
-use crate::decoding::steps::{read_header, token_data, token_parts, verify_by_key};
+use crate::decoding::steps::{read_header, token_parts, verify_by_key};
 use crate::refusal::{Refusal, Test, with_test, without_test};
 use jwt_base::algorithms::{Algorithm, KeyAlgorithm};
 use jwt_base::errors::{ErrorKind, Result};
@@ -111,7 +111,10 @@ fn decode_with_set_by_steps<P: CryptoProvider, T: Claims>(
     let parts = token_parts(token)?;
     let header = read_header(alloc, parts.header)?;
     let claims = read_claims_by_set(alloc, provider, &parts, &header, set, validation, now);
-    token_data(header, claims)
+    match claims {
+        Ok(claims) => Ok(TokenData { header, claims }),
+        Err(refusal) => Err(refusal),
+    }
 }
 
 /// Verifies a token like [`decode_with_set`]; a refusal has the first test that fails, and its error.

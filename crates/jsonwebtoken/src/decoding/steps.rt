@@ -1,7 +1,7 @@
 //! The tests of one condition, and the steps that the calls that read tokens share. Each makes some
 //! tests of an order that stand one after the other, and a refusal carries the one that fails.
 
-ghost use Rattle.std.specs.Prelude.{◌≡◌, ◌⊎◌, ◌↔◌, ◌++◌, ◌∷◌, ℕ, List, Some, None, Ok, Err, IfOk, IfErr, IfSome, IfNone, IsSome, Contains, [], All};
+ghost use Rattle.std.specs.Prelude.{◌≡◌, ◌⊎◌, ◌↔◌, ◌++◌, ◌∷◌, ℕ, List, Some, None, IfOk, IfSome, IfNone, IsSome, Contains, [], All};
 ghost use Rattle.serde_json.specs.Data.{Data};
 ghost use Rattle.serde_json.specs.Find.{as_object};
 ghost use Rattle.serde_json.specs.View.{view};
@@ -9,12 +9,12 @@ ghost use Rattle.jwt_base.specs.Algorithm.{family_of};
 ghost use Rattle.jwt_base.specs.Base64Url.{IsPart};
 ghost use Rattle.jwt_base.specs.JsonText.{IsJson};
 ghost use Rattle.jwt_base.specs.Kind as kind;
+ghost use Rattle.jwt_header.specs.Header.{new_header};
 ghost use Rattle.jwt_validation.specs.OptionsOf.{options_of};
 ghost use Rattle.jsonwebtoken.specs.Calls.{decoding};
-ghost use Rattle.jsonwebtoken.specs.private_clauses.Steps.{Asks, Finds, Step, ShowsNothing, ShowsHeader, ShowsClaims, bare, parts_in, with_header_part, with_payload_part, with_parts, with_header, with_opening, with_value, allowing, accepting, claiming, holding, reading, rule_tests, verifying_by};
+ghost use Rattle.jsonwebtoken.specs.private_clauses.Steps.{Asks, Finds, Meets, Step, ShowsNothing, ShowsHeader, ShowsClaims, bare, parts_in, with_header_part, with_payload_part, with_parts, with_header, with_opening, with_value, allowing, accepting, claiming, holding, reading, rule_tests, verifying_by};
 ghost use Rattle.jsonwebtoken.specs.Tests.{dot, Parts, ArePartsOf, Test, HasThreeParts, CritIsUnderstood, AlgorithmsAreListed, AlgorithmIsListed, VerifierIsMade, FamiliesAgree, SignatureIsAccepted, ClaimsRead, ClaimsAreAnObject, ClaimRulesHold, header_tests, algorithm_tests, signature_tests, payload_tests, claim_tests, verifying_tests};
 
-use crate::decoding::TokenData;
 use crate::decoding::crit::check_crit;
 use crate::decoding::parts::TokenParts;
 use crate::known_headers::known_algorithm;
@@ -23,7 +23,8 @@ use jwt_base::algorithms::Algorithm;
 use jwt_base::errors::ErrorKind;
 use jwt_base::json::Claims;
 use jwt_base::serialization::{json_value, part_bytes};
-use jwt_header::Header;
+use jwt_base::text::Text;
+use jwt_header::{Extras, Header};
 use jwt_keys::decoding_key::DecodingKey;
 use jwt_keys::provider::{CryptoProvider, JwtVerifier};
 use jwt_validation::{Validation, validate};
@@ -138,32 +139,43 @@ pub(crate) fn read_json(alloc: Global, test: Test, bytes: &[u8]) -> Result<Value
     with_test(test, json_value(alloc, bytes))
 }
 
+/// Returns the header with the algorithm and the type `JWT` alone, as [`Header::new`] does. A header
+/// is large, so it is made where it is to stand, and not moved there from another result.
+fn known_header(alloc: Global, algorithm: Algorithm) -> Result<Header, Refusal>
+    ensures { Meets (λ header. header ≡ new_header algorithm) (λ _ _. ⊥) result }
+{
+    let typ = with_test(Test::HeaderReads, Text::from_str(alloc, "JWT"))?;
+    Ok(Header {
+        alg: algorithm,
+        typ: Some(typ),
+        cty: None,
+        jku: None,
+        jwk: None,
+        kid: None,
+        x5u: None,
+        x5t: None,
+        x5t_s256: None,
+        url: None,
+        nonce: None,
+        x5c: None,
+        crit: None,
+        enc: None,
+        zip: None,
+        extras: Extras::new(alloc),
+    })
+}
+
 /// Returns the header that a header part stands for. Four parts are known by their texts, without
 /// being read.
 pub(crate) fn read_header(alloc: Global, part: &[u8]) -> Result<Header, Refusal>
     ensures { Step bare header_tests (with_header_part part.now) ShowsHeader result }
 {
     if let Some(algorithm) = known_algorithm(part) {
-        return with_test(Test::HeaderReads, Header::new(alloc, algorithm));
+        return known_header(alloc, algorithm);
     }
     let bytes = read_part(alloc, Test::HeaderIsPart, part)?;
     let value = read_json(alloc, Test::HeaderIsJson, bytes.as_slice())?;
     with_test(Test::HeaderReads, Header::from_value(alloc, &value))
-}
-
-/// Returns a token's header beside what was found after it, or the refusal of that. So the header is
-/// dropped here, and not in each function that looks for something after it.
-pub(crate) fn token_data<T>(
-    header: Header,
-    claims: Result<T, Refusal>,
-) -> Result<TokenData<T>, Refusal>
-    ensures ok { IfOk result (λ answer. (header ≡ answer.header) × (claims ≡ Ok answer.claims)) }
-    ensures err { IfErr result (λ refusal. claims ≡ Err refusal) }
-{
-    match claims {
-        Ok(claims) => Ok(TokenData { header, claims }),
-        Err(refusal) => Err(refusal),
-    }
 }
 
 /// Returns the verifier that the provider makes for the algorithm and the key.

@@ -1,19 +1,17 @@
 use Rattle.std.proofs.Common.{inl, inr, refl, sym}
-use Rattle.std.proofs.lemmas.Result.{IfErr-weaker}
 use Rattle.serde_json.specs.View.{view}
 use Rattle.jwt_header.specs.Header.{new_header}
 use Rattle.jsonwebtoken.specs.private_clauses.Steps.{ShowsHeader, no_contents, bare, with_header_part}
 use Rattle.jsonwebtoken.specs.Tests.{HeaderReads, header_tests}
-use Rattle.jsonwebtoken.proofs.Exits.{exit, last_test}
+use Rattle.jsonwebtoken.proofs.Exits.{exit, last, last_test}
 use Rattle.jsonwebtoken.proofs.decoding.steps.read_header.Goals as goal
 
 pub returns-in-Some : goal.returns-in-Some
 returns-in-Some c =
     let u = c.in-Some.ensures in
-    last_test bare header_tests (with_header_part c.args.part.now) ShowsHeader {Q = λ e. ⊥} HeaderReads c.new.result _ c.with_test.ensures
-    c.new.ensures.ok (IfErr-weaker c.new.result _ _ (λ e m. inl m) c.new.ensures.err)
+    last bare header_tests (with_header_part c.args.part.now) ShowsHeader {Q = λ f k. ⊥} c.known_header.result c.known_header.ensures
     (λ h is. (record no_contents { header_bytes = u.bytes; header_value = u.value; header = new_header c.in-Some.algorithm }, (u.is_part, (u.is_json, (u.reads, tt))), sym is))
-    (λ e none. absurd none)
+    (λ f k none. absurd none)
 
 pub returns-in_err-bytes : goal.returns-in_err-bytes
 returns-in_err-bytes c =
@@ -30,7 +28,7 @@ pub returns : goal.returns
 returns c =
     let json = rw c.as_slice.ensures.value at c.in_ok-value.ensures in
     let t = record no_contents { header_bytes = c.in_ok-bytes.bytes.items; header_value = view c.in_ok-value.value } in
-    last_test bare header_tests (with_header_part c.args.part.now) ShowsHeader HeaderReads c.from_value.result _ c.with_test-2.ensures
+    last_test bare header_tests (with_header_part c.args.part.now) ShowsHeader HeaderReads c.from_value.result _ c.with_test.ensures
     c.from_value.ensures.ok c.from_value.ensures.err
     (λ h reads. (record t { header = h }, (c.in_ok-bytes.ensures, (json, (reads, tt))), refl))
     (λ e none. (t, inr (c.in_ok-bytes.ensures, inr (json, inl (none.1, (refl, none.0))))))
