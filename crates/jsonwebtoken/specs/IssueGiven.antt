@@ -44,7 +44,7 @@ token_of g = g.message ++ dot ∷ encode_symbols url_characters g.signature
 
 module _ (issue : Issue) (g : GivenSignature) where
   -- The header and the claims are written, as the given message; the header names the given algorithm, and the signature has
-  -- the length that this fixes (RFC 7515 section 5.1).
+  -- a length that its signatures have (RFC 7515 section 5.1).
   pub record IsSignedElsewhere (t : Written) : Type 0 where
     pub tests : Passes (issue_tests issue) signing_order t
     pub algorithm : issue.header.alg ≡ g.algorithm

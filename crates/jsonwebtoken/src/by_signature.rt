@@ -61,9 +61,10 @@ pub fn signing_input<T: Claims>(alloc: Global, header: &Header, claims: &T) -> R
 ///
 /// The tests are those of [`encode`](crate::encode) with the provider of the signature, in the same
 /// order. A signature by another algorithm than the header's is `InvalidAlgorithm`. A signature of
-/// another message is `Signing("another message")`, and one that does not have the length that its
-/// algorithm fixes is `Signing` with a string that says which it is, as for DER in the place of the
-/// two numbers of ES256. Whether the signature is the message's is left to those who verify it.
+/// another message is `Signing("another message")`, and one of a length that no signature of its
+/// algorithm has is `Signing` with a string that says which they have, such as DER in place of the
+/// two numbers of ES256, or no bytes with RS256. Whether the signature is the message's is left to
+/// those who verify it.
 pub fn encode_by_signature<T: Claims>(
     alloc: Global,
     header: &Header,

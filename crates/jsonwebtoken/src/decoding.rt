@@ -128,7 +128,8 @@ fn decode_header_by_steps(alloc: Global, token: &[u8]) -> Result<Header, Refusal
         result }
 {
     let parts = token_parts(token)?;
-    read_header(alloc, parts.header)
+    let header = read_header(alloc, parts.header)?;
+    Ok(header)
 }
 
 /// Returns the header of a token in its compact form. Nothing is verified: neither the payload nor
