@@ -1,5 +1,6 @@
 """JSON Web Tokens (RFC 7519), verified by a library whose contracts are proved, under the names of PyJWT."""
 from ._api import PyJWT, decode, decode_complete, encode, get_unverified_header
+from ._client import PyJWKClient
 from ._keys import PyJWK, PyJWKSet
 from .exceptions import (
     ClockError,
@@ -15,6 +16,8 @@ from .exceptions import (
     InvalidSubjectError,
     InvalidTokenError,
     MissingRequiredClaimError,
+    PyJWKClientConnectionError,
+    PyJWKClientError,
     PyJWKError,
     PyJWKSetError,
     PyJWTError,
@@ -38,6 +41,9 @@ __all__ = [
     "InvalidTokenError",
     "MissingRequiredClaimError",
     "PyJWK",
+    "PyJWKClient",
+    "PyJWKClientConnectionError",
+    "PyJWKClientError",
     "PyJWKError",
     "PyJWKSet",
     "PyJWKSetError",

@@ -45,7 +45,6 @@ _EXCEPTIONS: Dict[int, Tuple[Type[Exception], str]] = {
     Status.BASE64: (exceptions.DecodeError, "a part of the token is not base64url"),
     Status.JSON: (exceptions.DecodeError, "Invalid header string: must be a json object with the alg of a signature that is known"),
     Status.INVALID_CRIT: (exceptions.DecodeError, "the header's crit names what is not understood"),
-    Status.NO_KEY: (exceptions.UnknownKeyError, "the header names no key of the set"),
     Status.MALFORMED_EXP: (exceptions.DecodeError, "Expiration Time claim (exp) must be an integer."),
     Status.MALFORMED_NBF: (exceptions.DecodeError, "Not Before claim (nbf) must be an integer."),
     Status.MALFORMED_AUD: (exceptions.InvalidAudienceError, "Invalid claim format in token"),
@@ -85,6 +84,8 @@ def _raise(refusal: Refusal, token: bytes) -> NoReturn:
             raise exceptions.DecodeError("Not enough segments") from None
         # an exp of 0 is before each moment
         status = Status.EXPIRED_SIGNATURE
+    if status == Status.NO_KEY:
+        raise _keys.unknown(get_unverified_header(token).get("kid")) from None
     if status == Status.JSON and _has_header(token):
         raise exceptions.DecodeError("Invalid payload string: must be a json object") from None
     kind, text = _EXCEPTIONS.get(status) or (exceptions.DecodeError, _library.text_of(status))
@@ -146,9 +147,10 @@ def _call_by(key: Union[PyJWK, PyJWKSet], token: bytes) -> Tuple[Tuple[str, ...]
     if isinstance(key, PyJWK):
         return key.algorithms, _library.decode_key, key._json
     # which key of the set it is, the library decides again
-    named = key._by_id.get(get_unverified_header(token).get("kid", ""))
+    kid = get_unverified_header(token).get("kid")
+    named = None if kid is None else key._by_id.get(kid)
     if named is None:
-        raise exceptions.UnknownKeyError("the header names no key of the set")
+        raise _keys.unknown(kid)
     return named.algorithms, _library.decode_set, key._json
 
 

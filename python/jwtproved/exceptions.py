@@ -56,8 +56,16 @@ class MissingRequiredClaimError(InvalidTokenError):
         return f'Token is missing the "{self.claim}" claim'
 
 
-class UnknownKeyError(InvalidTokenError):
-    """The header names no key of the set by its `kid`."""
+class PyJWKClientError(PyJWTError):
+    """The set that was fetched can't be read, or has no key that signs."""
+
+
+class PyJWKClientConnectionError(PyJWKClientError):
+    """The set can't be fetched."""
+
+
+class UnknownKeyError(InvalidTokenError, PyJWKClientError):
+    """The header names no key of the set by its `kid`: the text has the `kid`, or says that the header has none."""
 
 
 class InvalidKeyError(PyJWTError):

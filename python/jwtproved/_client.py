@@ -1,0 +1,302 @@
+"""PyJWKClient: a JSON Web Key Set that is fetched, and fetched again as its keys rotate."""
+import json
+import math
+import re
+import threading
+import time
+from typing import TYPE_CHECKING, Any, Dict, List, Mapping, Optional, Tuple
+from urllib.parse import urlsplit
+
+from ._api import get_unverified_header
+from ._keys import PyJWK, PyJWKSet, unknown
+from ._rules import plain, wrong_type
+from .exceptions import PyJWKClientConnectionError, PyJWKClientError, PyJWTError
+
+if TYPE_CHECKING:
+    from concurrent.futures import Future
+
+_clock = time.monotonic
+# of a timeout, in seconds
+_LONGEST = 86400
+# a name and a value of a header (RFC 9110 sections 5.1 and 5.5)
+_NAME = re.compile(r"[!#$%&'*+\-.^_`|~0-9A-Za-z]+")
+_VALUE = re.compile(r"[\t\x20-\x7e\x80-\xff]*")
+
+
+def _checked_uri(uri: Any) -> str:
+    if not isinstance(uri, str):
+        raise wrong_type("uri", "a string", uri)
+    uri = plain(uri)
+    if not all("\x21" <= it <= "\x7e" for it in uri):
+        raise ValueError(f"uri has a blank or a character that has to be escaped: {uri!r}")
+    try:
+        parts = urlsplit(uri)
+        is_whole = parts.scheme in ("http", "https") and bool(parts.hostname) and parts.port != 0
+    except ValueError as error:
+        raise ValueError(f"uri can't be read: {error}") from None
+    if not is_whole:
+        raise ValueError(f"uri must be of the scheme http or https, with a host, not {uri!r}")
+    if "@" in parts.netloc:
+        raise ValueError("uri has a user; headers has a place for its password")
+    return uri
+
+
+def _checked_headers(headers: Any) -> Dict[str, str]:
+    if headers is None:
+        return {}
+    if not isinstance(headers, Mapping):
+        raise wrong_type("headers", "a mapping", headers)
+    for name, value in headers.items():
+        if not isinstance(name, str) or not isinstance(value, str):
+            raise wrong_type("each name and value of headers", "a string", value if isinstance(name, str) else name)
+        if not _NAME.fullmatch(name) or not _VALUE.fullmatch(value):
+            raise ValueError(f"headers has a name or a value that can't be sent: {name!r}")
+    return dict(headers)
+
+
+def _number(name: str, value: Any) -> float:
+    if isinstance(value, bool) or not isinstance(value, (int, float)):
+        raise wrong_type(name, "a number of seconds", value)
+    return value
+
+
+def _checked_timeout(timeout: Any) -> float:
+    # for a float that is not a number both comparisons are false
+    if not 0 < _number("timeout", timeout) <= _LONGEST:
+        raise ValueError(f"timeout must be more than 0 seconds, and at most a day, not {timeout}")
+    return timeout
+
+
+def _checked_context(context: Any) -> Any:
+    if context is not None:
+        import ssl
+
+        if not isinstance(context, ssl.SSLContext):
+            raise wrong_type("ssl_context", "an SSLContext or None", context)
+    return context
+
+
+class _Sets:
+    """The last set that was fetched, which is fresh for some seconds."""
+
+    def __init__(self, lifespan: float) -> None:
+        self._lifespan = lifespan
+        self._until = -math.inf
+        self.last: Optional[PyJWKSet] = None
+
+    def put(self, found: PyJWKSet) -> None:
+        # a set by which no token is verified takes the place of no other
+        if self.last is None or found._signing:
+            self.last, self._until = found, _clock() + self._lifespan
+
+    def get(self) -> Optional[PyJWKSet]:
+        """Returns the set if it is fresh."""
+        return self.last if _clock() < self._until else None
+
+
+class _Keys:
+    """The keys that were used last, each for some seconds."""
+
+    def __init__(self, lifespan: float, largest: int) -> None:
+        self._lifespan, self._largest = lifespan, largest
+        self._lock = threading.Lock()
+        self._found: Dict[str, Tuple[float, PyJWK]] = {}
+
+    def put(self, kid: str, key: PyJWK) -> None:
+        with self._lock:
+            self._found.pop(kid, None)
+            self._found[kid] = _clock() + self._lifespan, key
+            while len(self._found) > self._largest:
+                del self._found[next(iter(self._found))]
+
+    def get(self, kid: str) -> Optional[PyJWK]:
+        with self._lock:
+            until, key = self._found.pop(kid, (-math.inf, None))
+            if key is None or _clock() >= until:
+                return None
+            self._found[kid] = until, key
+            return key
+
+    def renew(self, keys: Dict[str, PyJWK]) -> None:
+        """Takes over the keys of a later set, and drops those that it does not have."""
+        with self._lock:
+            self._found = {kid: (until, keys[kid]) for kid, (until, _) in self._found.items() if kid in keys}
+
+
+class PyJWKClient:
+    """Fetches the JSON Web Key Set of a URI, for any number of threads. `decode` verifies tokens by its keys.
+
+    A set is kept for `lifespan` seconds, and for as long as no later one can be had. A `kid` that it does not have causes a further
+    fetch, at most every 10 seconds. An answer may have 1 MiB, and takes at most `timeout` seconds in all.
+    """
+
+    # the least time from a fetch for an unknown kid to the next one, and from a fetch that failed to the next one, in seconds
+    _pause = 10.0
+
+    def __init__(
+        self,
+        uri: str,
+        cache_keys: bool = False,
+        max_cached_keys: int = 16,
+        cache_jwk_set: bool = True,
+        lifespan: float = 300,
+        headers: Optional[Mapping[str, str]] = None,
+        timeout: float = 30,
+        ssl_context: Optional[Any] = None,
+    ) -> None:
+        for name, value in (("cache_keys", cache_keys), ("cache_jwk_set", cache_jwk_set)):
+            if not isinstance(value, bool):
+                raise wrong_type(name, "True or False", value)
+        if isinstance(max_cached_keys, bool) or not isinstance(max_cached_keys, int):
+            raise wrong_type("max_cached_keys", "an integer", max_cached_keys)
+        if max_cached_keys < 0:
+            raise ValueError(f"max_cached_keys must be from 0 on, not {max_cached_keys}")
+        if not _number("lifespan", lifespan) > 0 and (cache_jwk_set or cache_keys):
+            raise PyJWKClientError(f'Lifespan must be greater than 0, the input is "{lifespan}" (lifespan)')
+        self.uri = _checked_uri(uri)
+        self.headers = _checked_headers(headers)
+        self.timeout = _checked_timeout(timeout)
+        self.ssl_context = _checked_context(ssl_context)
+        self.jwk_set_cache = _Sets(lifespan) if cache_jwk_set else None
+        # a set that is kept has its keys
+        self._keys = _Keys(lifespan, max_cached_keys) if cache_keys and not cache_jwk_set else None
+        self._lock = threading.Lock()
+        self._under_way: "Optional[Future[PyJWKSet]]" = None
+        # before these times no set is fetched for an unknown kid, or in the place of one that is not fresh
+        self._refetch_from = self._renew_from = -math.inf
+
+    def fetch_data(self) -> Any:
+        """Fetches the set, and returns it as the server's JSON. Raises PyJWKClientConnectionError, or PyJWKClientError."""
+        # what it imports takes long to load, and most programs fetch nothing
+        from . import _download
+
+        try:
+            return json.loads(_download.body(self.uri, self.headers, self.timeout, self.ssl_context))
+        except (ValueError, RecursionError) as error:
+            raise PyJWKClientError(f"The JWKS endpoint did not return JSON: {error}") from error
+
+    def get_jwk_set(self, refresh: bool = False) -> PyJWKSet:
+        """Returns the set that is kept, or fetches one if there is none that is fresh, or if `refresh` asks for it."""
+        kept = self.jwk_set_cache
+        if kept is None or refresh:
+            return self._fetched()
+        found = kept.get()
+        if found is not None:
+            return found
+        return self._fetched() if kept.last is None else self._renewed(kept, kept.last)
+
+    def get_signing_keys(self, refresh: bool = False) -> List[PyJWK]:
+        """Returns the keys of the set that have a `kid`, and whose `use` is `sig` or missing. Raises PyJWKClientError if none has."""
+        found = self.get_jwk_set(refresh)._signing
+        if not found:
+            raise PyJWKClientError("The JWKS endpoint did not contain any signing keys")
+        return list(found)
+
+    def get_signing_key(self, kid: str) -> PyJWK:
+        """Returns the key of this id. Raises UnknownKeyError if the set has none."""
+        if kid is not None and not isinstance(kid, str):
+            raise wrong_type("kid", "a string", kid)
+        if not kid:
+            # no signing key has such an id, in no set
+            raise unknown(kid)
+        found = None if self._keys is None else self._keys.get(kid)
+        if found is None:
+            found = self._found(plain(kid))
+            if self._keys is not None:
+                self._keys.put(kid, found)
+        return found
+
+    def get_signing_key_from_jwt(self, token: Any) -> PyJWK:
+        """Returns the key that the header of a token names. Nothing of the token is verified: `decode` does it."""
+        return self.get_signing_key(get_unverified_header(token).get("kid"))  # type: ignore[arg-type]
+
+    @staticmethod
+    def match_kid(signing_keys: List[PyJWK], kid: str) -> Optional[PyJWK]:
+        """Returns the first of these keys with this id."""
+        return next((it for it in signing_keys if it.key_id == kid), None)
+
+    def _found(self, kid: str) -> PyJWK:
+        seen = self.get_jwk_set()
+        found = seen._signing_by_id.get(kid)
+        if found is None:
+            newest = self._after(seen)
+            found = newest._signing_by_id.get(kid)
+            if found is None and not newest._signing:
+                raise PyJWKClientError("The JWKS endpoint did not contain any signing keys")
+        if found is None:
+            raise unknown(kid)
+        return found
+
+    def _after(self, seen: PyJWKSet) -> PyJWKSet:
+        """Returns a later set than the one that was seen, if there is one, or if it is time to fetch one."""
+        last = None if self.jwk_set_cache is None else self.jwk_set_cache.last
+        if last is not None and last is not seen:
+            return last
+        with self._lock:
+            if self._under_way is None:
+                if _clock() < self._refetch_from:
+                    return seen
+                self._refetch_from = _clock() + self._pause
+        try:
+            return self._fetched()
+        finally:
+            # the pause is after the end: a server that hangs is not asked again at once
+            self._refetch_from = _clock() + self._pause
+
+    def _renewed(self, kept: _Sets, last: PyJWKSet) -> PyJWKSet:
+        """Returns the set after one that is no longer fresh, or that one if another thread fetches, or if there is no other."""
+        with self._lock:
+            if self._under_way is not None or _clock() < self._renew_from:
+                return last
+        try:
+            self._fetched()
+        except PyJWTError as error:
+            import logging
+
+            logging.getLogger("jwtproved").warning("the last set of keys of %s is used: %s", self.uri, error)
+        return kept.last or last
+
+    def _fetched(self) -> PyJWKSet:
+        """Returns a set that is fetched. Threads that ask for it at the same time get the same."""
+        from concurrent.futures import Future
+
+        with self._lock:
+            under_way = self._under_way
+            if under_way is None:
+                mine = self._under_way = Future()
+        if under_way is not None:
+            return self._joined(under_way)
+        try:
+            found = self._set_of(self.fetch_data())
+        except BaseException as error:
+            self._end(mine, None)
+            mine.set_exception(error)
+            raise
+        self._end(mine, found)
+        mine.set_result(found)
+        return found
+
+    def _joined(self, under_way: "Future[PyJWKSet]") -> PyJWKSet:
+        try:
+            return under_way.result(self.timeout)
+        except TimeoutError:
+            # the thread that fetches may be gone, as after a fork
+            self._end(under_way, None)
+            raise PyJWKClientConnectionError('Fail to fetch data from the url, err: "timed out"') from None
+
+    def _end(self, under_way: "Future[PyJWKSet]", found: Optional[PyJWKSet]) -> None:
+        with self._lock:
+            if self._under_way is under_way:
+                self._under_way = None
+            if found is None or not found._signing:
+                self._renew_from = _clock() + self._pause
+            if found is not None and self.jwk_set_cache is not None:
+                self.jwk_set_cache.put(found)
+            if found is not None and found._signing and self._keys is not None:
+                self._keys.renew(found._signing_by_id)
+
+    @staticmethod
+    def _set_of(data: Any) -> PyJWKSet:
+        if not isinstance(data, dict):
+            raise PyJWKClientError("The JWKS endpoint did not return a JSON object")
+        return PyJWKSet.from_dict(data)

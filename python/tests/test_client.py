@@ -1,0 +1,512 @@
+"""Tests PyJWKClient of the installed package over a server on the loopback that rotates keys, and misbehaves. The last line counts."""
+import base64
+import concurrent.futures
+import contextlib
+import json
+import logging
+import math
+import os
+import socket
+import ssl
+import sys
+import tempfile
+import threading
+import time
+
+import jwtproved as jwt
+from jwtproved import _api, _download
+
+TOP = os.path.dirname(os.path.dirname(os.path.dirname(os.path.abspath(__file__))))
+sys.path.append(f"{TOP}/tests")
+import tokens
+
+HS = {"algorithms": ["HS256"]}
+# for an answer of a server that hangs, in seconds
+TIMEOUT = 0.4
+passed = failed = 0
+logging.getLogger("jwtproved").addHandler(logging.NullHandler())
+logging.getLogger("jwtproved").propagate = False
+
+
+def test(name, is_well):
+    global passed, failed
+    passed, failed = passed + bool(is_well), failed + (not is_well)
+    if not is_well:
+        print(f"FAILED: {name:.400}")
+
+
+def outcome(call, *arguments, **options):
+    try:
+        return call(*arguments, **options)
+    except Exception as error:
+        return error
+
+
+def raises(kind, call, *arguments, said="", **options):
+    """Counts whether the call raises an exception of this kind, whose text has what is said."""
+    got = outcome(call, *arguments, **options)
+    test(f"{got!r}, not {kind.__name__} with {said!r}: {arguments} {options}", isinstance(got, kind) and said in str(got))
+
+
+def gives(wanted, call, *arguments, **options):
+    got = outcome(call, *arguments, **options)
+    test(f"{got!r}, not {wanted!r}: {arguments} {options}", got == wanted)
+
+
+def secret(kid):
+    return f"the secret {kid} of at least 32 bytes".encode()
+
+
+def key(kid, **members):
+    return {"kty": "oct", "kid": kid, "k": tokens.part(secret(kid)).decode(), **members}
+
+
+def set_of(*kids):
+    return json.dumps({"keys": [key(it) for it in kids]}, separators=(",", ":")).encode()
+
+
+CLAIMS = {"sub": "b@b.com"}
+
+
+def token(kid, by=None, **header):
+    """Returns a token that names a key, and is signed by it or by another one."""
+    named = {} if kid is None else {"kid": kid}
+    return tokens.signed({"alg": "HS256", **named, **header}, CLAIMS, secret(by or kid)).decode()
+
+
+def head(length, status="200 OK", more=""):
+    length = "" if length is None else f"Content-Length: {length}\r\n"
+    return f"HTTP/1.1 {status}\r\nContent-Type: application/json\r\nConnection: close\r\n{length}{more}\r\n".encode()
+
+
+class Server:
+    """Answers each request on the loopback as its `answer` does, which is given the socket."""
+
+    def __init__(self):
+        self.heads, self.answer, self.is_open = [], None, threading.Event()
+        self.listening = socket.create_server(("127.0.0.1", 0))
+        self.uri = f"http://127.0.0.1:{self.listening.getsockname()[1]}/keys"
+        threading.Thread(target=self.accept, daemon=True).start()
+
+    def accept(self):
+        with contextlib.suppress(OSError):
+            while True:
+                threading.Thread(target=self.serve, args=self.listening.accept()[:1], daemon=True).start()
+
+    def serve(self, accepted):
+        with accepted, contextlib.suppress(OSError):
+            read = b""
+            while b"\r\n\r\n" not in read:
+                more = accepted.recv(4096)
+                if not more:
+                    return
+                read += more
+            self.heads.append(read.decode())
+            self.answer(self, accepted)
+
+    def close(self):
+        self.is_open.set()
+        self.listening.close()
+
+
+def says(text, length=math.inf, **words):
+    """Returns an answer with this text, and its length if no other is given."""
+
+    def answer(server, to):
+        to.sendall(head(len(text) if length == math.inf else length, **words) + text)
+
+    return answer
+
+
+def hangs_after(text):
+    def answer(server, to):
+        to.sendall(text)
+        server.is_open.wait(20)
+
+    return answer
+
+
+def dribbles(text):
+    """Returns an answer that comes byte by byte, so that no single read waits for long."""
+
+    def answer(server, to):
+        for it in range(4000):
+            to.sendall(text[it : it + 1] or b" ")
+            if server.is_open.wait(0.02):
+                return
+
+    return answer
+
+
+def endless(server, to):
+    to.sendall(head(None))
+    while True:
+        to.sendall(b" " * 65536)
+
+
+def redirects(to_uri, status="302 Found"):
+    return says(b"", status=status, more=f"Location: {to_uri}\r\n")
+
+
+GOOD = set_of("a")
+ROTATED = set_of("b")
+HTML = b"<!doctype html><title>Login</title><p>Please log in"
+FILE = tempfile.NamedTemporaryFile()
+FILE.write(ROTATED)
+FILE.flush()
+# answers that are not a usable set, though many have the keys of one
+MISBEHAVING = {
+    "hangs before the head": hangs_after(b""),
+    "hangs in the head": hangs_after(b"HTTP/1.1 200 OK\r\nContent-Le"),
+    "hangs in the body": hangs_after(head(len(ROTATED)) + ROTATED[:-1]),
+    "hangs after a body that it says is longer": hangs_after(head(len(ROTATED) + 1) + ROTATED),
+    "dribbles the head": dribbles(b"HTTP/1.1 200 OK\r\nX: "),
+    "dribbles the body": dribbles(head(100000) + ROTATED),
+    "continues without end": dribbles(b"HTTP/1.1 100 Continue\r\n\r\n" * 1000),
+    "cuts before the head": lambda server, to: None,
+    "cuts the head": lambda server, to: to.sendall(b"HTTP/1.1 200 OK\r\nContent-Le"),
+    "cuts the body": says(ROTATED[:-20], len(ROTATED)),
+    "cuts a body without a length": says(ROTATED[:-20], None),
+    "cuts a body in chunks": says(b"%x\r\n%s\r\n" % (len(ROTATED), ROTATED), None, more="Transfer-Encoding: chunked\r\n"),
+    "says that it is longer": says(ROTATED, len(ROTATED) + 1),
+    "says that it is far longer": says(ROTATED, 2**62),
+    "says that it is shorter": says(ROTATED, 20),
+    "says no number": says(ROTATED[:-20], "many"),
+    "serves HTML": says(HTML),
+    "serves HTML and 500": says(HTML, status="500 Oops"),
+    "serves a set and 500": says(ROTATED, status="500 Oops"),
+    "serves a set and 404": says(ROTATED, status="404 Not Found"),
+    "serves nothing": says(b""),
+    "serves 204": says(b"", status="204 No Content"),
+    "serves more than a MiB": says(ROTATED + b" " * 2**20),
+    "serves without end": endless,
+    "serves null": says(b"null"),
+    "serves a list": says(b"[]"),
+    "serves no keys": says(b"{}"),
+    "serves an empty set": says(b'{"keys":[]}'),
+    "serves keys that are no list": says(b'{"keys":{"a":1}}'),
+    "serves keys of unknown kinds": says(b'{"keys":[{},5,null,[],{"kty":"x"},{"kty":[]},{"kty":"EC","crv":{}}]}'),
+    "serves a secret that is empty": says(b'{"keys":[{"kty":"oct","kid":"b","k":""}]}'),
+    "serves deep lists": says(b"[" * 100000),
+    "serves a long number": says(b'{"keys":' + b"1" * 100000),
+    "serves what is not UTF-8": says(b'{"keys":["\xff\xfe"]}'),
+    "serves no HTTP": says(b"", None, status="\0\0\0"),
+    "has a long line": says(ROTATED, more="X: " + "x" * 100000 + "\r\n"),
+    "has many lines": says(ROTATED, more="X: x\r\n" * 1000),
+    "redirects to a file": redirects(f"file://{FILE.name}"),
+    "redirects to ftp": redirects("ftp://127.0.0.1/keys"),
+    "redirects to data": redirects("data:application/json," + ROTATED.decode().replace(" ", "")),
+    "redirects to gopher": redirects("gopher://127.0.0.1/keys"),
+    "redirects to itself": redirects("/keys"),
+    "redirects to no host": redirects("http://"),
+    "redirects to no port": redirects("http://[::1/keys"),
+    "redirects to a name that is none": redirects("http://a..b" + "c" * 100 + "/keys"),
+    "redirects to nowhere": says(b"", status="302 Found"),
+}
+
+
+@contextlib.contextmanager
+def serving(answer, **arguments):
+    """Gives a server with this answer, and a client of it whose times are short."""
+    server = Server()
+    server.answer = answer
+    client = jwt.PyJWKClient(server.uri, **{"timeout": TIMEOUT, **arguments})
+    client._pause = 0.3
+    try:
+        yield server, client
+    finally:
+        server.close()
+
+
+def decoded(client, it, **arguments):
+    """Verifies a token as an app of PyJWT does."""
+    signing_key = client.get_signing_key_from_jwt(it)
+    return jwt.decode(it, signing_key.key, **{**HS, **arguments})
+
+
+def rotation():
+    with serving(says(GOOD)) as (server, client):
+        gives(CLAIMS, decoded, client, token("a"))
+        gives(CLAIMS, decoded, client, token("a"))
+        test("one fetch", len(server.heads) == 1)
+        raises(jwt.InvalidSignatureError, decoded, client, token("a", by="b"))
+        raises(jwt.InvalidAlgorithmError, decoded, client, token("a"), algorithms=["HS384"])
+        raises(jwt.MissingRequiredClaimError, decoded, client, token("a"), audience="web")
+        server.answer = says(ROTATED)
+        gives(CLAIMS, decoded, client, token("b"))
+        test("a fetch for the new kid", len(server.heads) == 2)
+        raises(jwt.UnknownKeyError, decoded, client, token("a"), said='"a"')
+        raises(jwt.InvalidSignatureError, decoded, client, token("b", by="a"))
+        test("no fetch so soon", len(server.heads) == 2)
+
+
+def refetches():
+    """Tokens with unknown kids cause a fetch at most every few seconds, and those without a kid none."""
+    with serving(says(GOOD)) as (server, client):
+        for it in range(50):
+            raises(jwt.UnknownKeyError, decoded, client, token(f"x{it}", by="a"), said=f'"x{it}"')
+            raises(jwt.UnknownKeyError, decoded, client, token(None, by="a"), said="no kid")
+        test(f"{len(server.heads)} fetches, not 2", len(server.heads) == 2)
+        time.sleep(0.31)
+        raises(jwt.UnknownKeyError, decoded, client, token("y"), said='"y"')
+        test(f"{len(server.heads)} fetches, not 3", len(server.heads) == 3)
+        raises(jwt.PyJWKClientError, client.get_signing_key, "y" * 1000, said='"' + "y" * 100 + '.."')
+        raises(jwt.UnknownKeyError, client.get_signing_key, None, said="no kid")
+        raises(jwt.UnknownKeyError, client.get_signing_key, "", said='""')
+        raises(TypeError, client.get_signing_key, 5, said="kid")
+        for it in ("", "a.b", "a.b.c", token("a", alg="none"), token(5)):
+            raises(jwt.DecodeError, decoded, client, it)
+        raises(TypeError, client.get_signing_key_from_jwt, None)
+        test("no further fetch", len(server.heads) == 3)
+    test("the pause is 10 seconds", jwt.PyJWKClient._pause == 10)
+
+
+def misbehaving():
+    """A server that misbehaves changes nothing: the last set is used, and a call takes no longer than the timeout."""
+    with concurrent.futures.ThreadPoolExecutor(8) as pool:
+        list(pool.map(misbehaves, MISBEHAVING.items()))
+
+
+def timed(name, call, *arguments):
+    begin = time.monotonic()
+    got = outcome(call, *arguments)
+    took = time.monotonic() - begin
+    test(f"{name}: {took} seconds", took < TIMEOUT + 0.6)
+    return got
+
+
+def misbehaves(named):
+    name, answer = named
+    with serving(says(GOOD), lifespan=0.05) as (server, client):
+        gives(CLAIMS, decoded, client, token("a"))
+        server.answer = answer
+        time.sleep(0.06)
+        test(f"{name}: the last set is used", timed(name, decoded, client, token("a")) == CLAIMS)
+        test(f"{name}: a forged token", isinstance(timed(name, decoded, client, token("a", by="b")), jwt.InvalidSignatureError))
+        got = timed(name, decoded, client, token("b"))
+        test(f"{name}: an unknown kid: {got!r}", isinstance(got, (jwt.PyJWKClientError, jwt.PyJWKSetError)))
+        got = timed(name, client.get_jwk_set, True)
+        test(f"{name}: a fetch that is asked for: {got!r}", isinstance(got, (jwt.PyJWKClientError, jwt.PyJWKSetError)))
+        gives(CLAIMS, decoded, client, token("a"))
+        server.answer = says(ROTATED)
+        time.sleep(0.31)
+        gives(CLAIMS, decoded, client, token("b"))
+        raises(jwt.UnknownKeyError, decoded, client, token("a"))
+    with serving(answer) as (server, client):
+        for it in ("a", "b"):
+            got = timed(name, decoded, client, token(it))
+            test(f"{name}: at first: {got!r}", isinstance(got, (jwt.PyJWKClientError, jwt.PyJWKSetError)))
+        server.answer = says(GOOD)
+        gives(CLAIMS, decoded, client, token("a"))
+
+
+def nobody_listens():
+    with socket.socket() as silent:
+        silent.bind(("127.0.0.1", 0))
+        client = jwt.PyJWKClient(f"http://127.0.0.1:{silent.getsockname()[1]}/keys")
+        raises(jwt.PyJWKClientConnectionError, decoded, client, token("a"), said="Fail to fetch data from the url")
+    for _ in range(100):
+        if not any(it.name == "jwtproved" for it in threading.enumerate()):
+            break
+        time.sleep(0.02)
+    test("the threads have ended", not any(it.name == "jwtproved" for it in threading.enumerate()))
+
+
+def no_signing_keys():
+    """A set without keys that sign takes the place of no other."""
+    encrypting = json.dumps({"keys": [key("a", use="enc"), key("b", use="enc"), {**key("c"), "kid": None}]}).encode()
+    with serving(says(encrypting), lifespan=0.05) as (server, client):
+        raises(jwt.PyJWKClientError, client.get_signing_keys, said="did not contain any signing keys")
+        raises(jwt.PyJWKClientError, decoded, client, token("a"), said="did not contain any signing keys")
+        server.answer = says(GOOD)
+        time.sleep(0.31)
+        gives(CLAIMS, decoded, client, token("a"))
+        server.answer = says(encrypting)
+        time.sleep(0.06)
+        fetches = len(server.heads)
+        for _ in range(5):
+            gives(CLAIMS, decoded, client, token("a"))
+        test("one further fetch", len(server.heads) == fetches + 1)
+        raises(jwt.PyJWKClientError, decoded, client, token("b"))
+        gives(["a"], lambda: [it.key_id for it in client.get_signing_keys()])
+
+
+def an_old_set():
+    """A server that serves an old set for a while: the last set that it served decides."""
+    with serving(says(GOOD), lifespan=0.05) as (server, client):
+        gives(CLAIMS, decoded, client, token("a"))
+        server.answer = says(set_of("b", "a"))
+        gives(CLAIMS, decoded, client, token("b"))
+        server.answer = says(GOOD)
+        time.sleep(0.31)
+        gives(CLAIMS, decoded, client, token("a"))
+        raises(jwt.UnknownKeyError, decoded, client, token("b"))
+        raises(jwt.InvalidSignatureError, decoded, client, token("a", by="b"))
+        server.answer = says(ROTATED)
+        time.sleep(0.31)
+        gives(CLAIMS, decoded, client, token("b"))
+
+
+def ten_thousand_keys():
+    many = set_of(*map(str, range(10000)))
+    test(f"a set of {len(many)} bytes, which is less than a MiB", len(many) < _download.LARGEST)
+    with serving(says(many), timeout=20) as (server, client):
+        gives(CLAIMS, decoded, client, token("9999"))
+        begin = time.monotonic()
+        for _ in range(100):
+            decoded(client, token("9999"))
+        test("the set is read once", time.monotonic() - begin < 1 and len(server.heads) == 1)
+        server.answer = says(set_of(*map(str, range(20000))))
+        raises(jwt.PyJWKClientError, client.get_jwk_set, refresh=True, said="more than 1048576 bytes")
+        gives(CLAIMS, decoded, client, token("9999"))
+
+
+def threads():
+    """Many threads that see a new kid at once cause one fetch, and all wait for it."""
+
+    def slowly(server, to):
+        time.sleep(0.1)
+        says(ROTATED)(server, to)
+
+    with serving(says(GOOD), timeout=5) as (server, client), concurrent.futures.ThreadPoolExecutor(40) as pool:
+        gives([CLAIMS] * 40, lambda: list(pool.map(lambda _: decoded(client, token("a")), range(40))))
+        server.answer = slowly
+        gives([CLAIMS] * 40, lambda: list(pool.map(lambda _: decoded(client, token("b")), range(40))))
+        test(f"{len(server.heads)} fetches, not 2", len(server.heads) == 2)
+    with serving(hangs_after(b""), timeout=TIMEOUT) as (server, client), concurrent.futures.ThreadPoolExecutor(40) as pool:
+        got = timed("threads", lambda: list(pool.map(lambda _: outcome(decoded, client, token("a")), range(40))))
+        test(f"each is refused: {got}", all(isinstance(it, jwt.PyJWKClientConnectionError) for it in got))
+        test("one fetch", len(server.heads) == 1)
+
+
+def caches():
+    with serving(says(GOOD), lifespan=0.1) as (server, client):
+        test("the set is one", client.get_jwk_set() is client.get_jwk_set() and client.jwk_set_cache is not None)
+        client.get_jwk_set(refresh=True)
+        test("asked for", len(server.heads) == 2)
+        time.sleep(0.11)
+        client.get_jwk_set()
+        test("after its lifespan", len(server.heads) == 3)
+    with serving(says(GOOD), cache_jwk_set=False) as (server, client):
+        for _ in range(3):
+            gives(CLAIMS, decoded, client, token("a"))
+        test("not kept", len(server.heads) == 3 and client.jwk_set_cache is None)
+    arguments = {"cache_jwk_set": False, "cache_keys": True, "max_cached_keys": 2, "lifespan": 0.2}
+    with serving(says(set_of("a", "b", "c")), **arguments) as (server, client):
+        for kid, fetches in (("a", 1), ("a", 1), ("b", 2), ("a", 2), ("b", 2), ("c", 3), ("b", 3), ("a", 4), ("c", 5)):
+            gives(CLAIMS, decoded, client, token(kid))
+            test(f"{len(server.heads)} fetches, not {fetches}", len(server.heads) == fetches)
+        # a later set drops the keys that it does not have
+        server.answer = says(ROTATED)
+        raises(jwt.UnknownKeyError, decoded, client, token("x"))
+        raises(jwt.UnknownKeyError, decoded, client, token("c"))
+        time.sleep(0.21)
+        server.answer = says(GOOD)
+        raises(jwt.UnknownKeyError, decoded, client, token("b"))
+
+
+def headers():
+    sent = {"Authorization": "Bearer x", "User-agent": "y"}
+    with serving(says(GOOD)) as (other, _), serving(says(GOOD), headers=sent) as (server, client):
+        gives(CLAIMS, decoded, client, token("a"))
+        test("headers are sent", "Authorization: Bearer x\r\n" in server.heads[0] and "User-Agent: y\r\n" in server.heads[0])
+        for to, is_same in (("/other", server), (other.uri, other)):
+            server.answer = lambda it, by, to=to: (says(GOOD) if "GET /other" in it.heads[-1] else redirects(to))(it, by)
+            client.get_jwk_set(refresh=True)
+            test(f"another host is not sent the headers: {to}", ("Bearer x" in is_same.heads[-1]) == (is_same is server))
+        server.answer = redirects("https" + other.uri[4:])
+        raises(jwt.PyJWKClientConnectionError, client.get_jwk_set, refresh=True, said="Fail to fetch")
+
+
+def arguments():
+    for uri in ("", "keys", "/keys", "https://", "https:///keys", "http://:80/", "http://h:0/", "http://h:x/", "http://[/", "h:80"):
+        raises(ValueError, jwt.PyJWKClient, uri, said="uri")
+    for uri in ("http://h/a b", "http://h/\n", "http://h/\u00e9", " http://h/", "http://user:pass@h/", "https+x://h/", "javascript:1"):
+        raises(ValueError, jwt.PyJWKClient, uri, said="uri")
+    for uri in ("file:///etc/passwd", "ftp://h/", "data:application/json,{}", "gopher://h/"):
+        raises(ValueError, jwt.PyJWKClient, uri, said="uri")
+    uri = "https://login.example/keys"
+    for wrong, kinds in {
+        "uri": [None, 5, b"https://h/", ["https://h/"]],
+        "cache_keys": [None, 1, "no"],
+        "cache_jwk_set": [None, 0, "no"],
+        "max_cached_keys": [None, 1.5, True, "16"],
+        "lifespan": [None, True, "300", [300]],
+        "headers": [[], "a", [("a", "b")], {"a": 5}, {5: "a"}, {"a": None}, {b"a": "b"}],
+        "timeout": [None, True, "30"],
+        "ssl_context": [True, "x", ssl],
+    }.items():
+        for it in kinds:
+            raises(TypeError, jwt.PyJWKClient, **{"uri": uri, wrong: it}, said=wrong)
+    for wrong, values in {
+        "max_cached_keys": [-1],
+        "headers": [{"": "a"}, {"a b": "c"}, {"a:": "c"}, {"a": "b\r\nc: d"}, {"a": "\u20ac"}, {"a\n": "b"}],
+        "timeout": [0, -1, math.nan, math.inf, 1e300, -0.0],
+    }.items():
+        for it in values:
+            raises(ValueError, jwt.PyJWKClient, **{"uri": uri, wrong: it}, said=wrong)
+    for it in (0, -1, -0.5, math.nan):
+        raises(jwt.PyJWKClientError, jwt.PyJWKClient, uri, lifespan=it, said="lifespan")
+        raises(jwt.PyJWKClientError, jwt.PyJWKClient, uri, cache_jwk_set=False, cache_keys=True, lifespan=it, said="lifespan")
+    for client in (
+        jwt.PyJWKClient(uri, cache_jwk_set=False, lifespan=0),
+        jwt.PyJWKClient(uri, True, 16, True, 300, {}, 30),
+        jwt.PyJWKClient(uri, lifespan=math.inf, ssl_context=ssl.create_default_context()),
+    ):
+        test("a client", (client.uri, client.headers, client.timeout) == (uri, {}, 30))
+    raises(TypeError, jwt.PyJWKClient, uri, cookies={})
+
+
+def all_algorithms():
+    """The tokens of all algorithms, which Python's cryptography signed, by the key that the client returns."""
+    seen = set()
+    with open(f"{TOP}/crates/jwt_vectors/data/standard.jsonl", encoding="utf-8") as file:
+        rows = [it for it in map(json.loads, file) if "ok" in it["want"] and it["call"] == "decode_with_set"]
+    for row in rows:
+        with serving(says(json.dumps(row["set"]).encode()), timeout=10) as (server, client):
+            clock, _api._clock = _api._clock, lambda row=row: row["now"]
+            asked, wanted = row["validation"], row["want"]["ok"]
+            options = {"algorithms": asked["algorithms"], "audience": asked.get("aud"), "issuer": asked.get("iss")}
+            gives(wanted["claims"], decoded, client, row["token"], **options)
+            _api._clock = clock
+            seen.add(wanted["header"]["alg"])
+    test(f"several algorithms, not {seen}", {"RS256", "ES256"} < seen)
+
+
+def apps():
+    """What apps of PyJWT touch."""
+    with serving(says(set_of("a", "b"))) as (server, client):
+        found = client.get_signing_key_from_jwt(token("a"))
+        gives(("a", "oct", None), lambda: (found.key_id, found.key_type, found.public_key_use))
+        gives(CLAIMS, jwt.decode, token("a"), found, **HS)
+        gives(CLAIMS, lambda: jwt.decode_complete(token("a"), found.key, **HS)["payload"])
+        gives(["a", "b"], lambda: [it.key_id for it in client.get_jwk_set().keys])
+        gives(["a", "b"], lambda: [it.key_id for it in client.get_jwk_set()])
+        gives("b", lambda: client.match_kid(client.get_signing_keys(), "b").key_id)
+        gives(None, client.match_kid, client.get_signing_keys(), "c")
+        gives(json.loads(set_of("a", "b")), client.fetch_data)
+        shown = f"{found!r} {client.get_jwk_set()!r} {client!r}"
+        test(f"no secret is shown: {shown}", "'a'" in shown and base64.urlsafe_b64encode(secret("a")).decode()[:20] not in shown)
+    raises(jwt.UnknownKeyError, jwt.decode, token("c"), json.loads(set_of("a")), said='"c"', **HS)
+    raises(jwt.UnknownKeyError, jwt.decode, token(None, by="a"), json.loads(set_of("a")), said="no kid", **HS)
+    test("kinds", issubclass(jwt.UnknownKeyError, jwt.PyJWKClientError) and issubclass(jwt.UnknownKeyError, jwt.InvalidTokenError))
+    test("a server that is down refuses no token", not issubclass(jwt.PyJWKClientError, jwt.InvalidTokenError))
+
+    class Own(jwt.PyJWKClient):
+        fetches = 0
+
+        def fetch_data(self):
+            self.fetches += 1
+            return json.loads(GOOD)
+
+    own = Own("https://login.example/keys")
+    gives([CLAIMS] * 3, lambda: [decoded(own, token("a")) for _ in range(3)])
+    gives(1, lambda: own.fetches)
+
+
+for step in (rotation, refetches, misbehaving, nobody_listens, no_signing_keys, an_old_set, ten_thousand_keys, threads, caches, headers):
+    step()
+for step in (arguments, all_algorithms, apps):
+    step()
+print(f"{passed} tests of PyJWKClient, {failed} failed")
+sys.exit(failed > 0)
