@@ -1,7 +1,7 @@
 use crate::status;
 use std::fmt;
 
-/// Why there is no result. All but the last five are refusals of the token.
+/// Why there is no result. All but the last six are refusals of the token.
 #[derive(Clone, Debug, PartialEq, Eq)]
 #[non_exhaustive]
 pub enum Error {
@@ -35,6 +35,8 @@ pub enum Error {
     Key(String),
     /// An argument is not understood: the text is the library's.
     Argument(String),
+    /// A set of keys can't be fetched. This is no verdict on a token.
+    Fetch(String),
     /// Memory ran out in the library. This is no verdict on a token.
     OutOfMemory,
     /// The system clock is before 1970-01-01 00:00:00 UTC, so that no token can be judged.
@@ -93,6 +95,7 @@ impl fmt::Display for Error {
             Error::Json(text) => write!(f, "the claims do not fit their type: {text}"),
             Error::Key(text) => write!(f, "the key does not serve: {text}"),
             Error::Argument(text) => write!(f, "an argument is not understood: {text}"),
+            Error::Fetch(text) => write!(f, "the set of keys can't be fetched: {text}"),
             Error::OutOfMemory => f.write_str("out of memory"),
             Error::ClockBeforeEpoch => f.write_str("the system clock is before 1970-01-01"),
         }

@@ -59,12 +59,37 @@ pub fn read(text: &[u8]) -> Option<Value> {
     rest.text.is_empty().then_some(value)
 }
 
+/// Returns each key of a JSON Web Key Set, with its text, or `None` if the text does not begin with a set.
+pub fn keys_of(text: &[u8]) -> Option<Vec<(&[u8], Value)>> {
+    let mut rest = Rest { text };
+    rest.skip_blanks();
+    let members = rest.between("{", "}", |rest| {
+        rest.skip_blanks();
+        let name = rest.string()?;
+        rest.take_after_blanks(":")?;
+        rest.skip_blanks();
+        if name == "keys" { rest.values_with_texts().map(Some) } else { rest.value(DEEPEST - 1).map(|_| None) }
+    });
+    // of a repeated member the last one counts
+    members?.into_iter().flatten().last()
+}
+
 /// The bytes that are still to be read.
 struct Rest<'a> {
     text: &'a [u8],
 }
 
-impl Rest<'_> {
+impl<'a> Rest<'a> {
+    /// Takes a list, and returns its values with their texts.
+    fn values_with_texts(&mut self) -> Option<Vec<(&'a [u8], Value)>> {
+        self.between("[", "]", |rest| {
+            rest.skip_blanks();
+            let before = rest.text;
+            let value = rest.value(DEEPEST - 2)?;
+            Some((&before[..before.len() - rest.text.len()], value))
+        })
+    }
+
     fn value(&mut self, depth: usize) -> Option<Value> {
         self.skip_blanks();
         match self.text.first()? {
@@ -203,7 +228,7 @@ impl Rest<'_> {
 
 #[cfg(test)]
 mod tests {
-    use super::{read, Value};
+    use super::{keys_of, read, Value};
 
     fn text(text: &str) -> Value {
         Value::Text(text.to_string())
@@ -218,6 +243,17 @@ mod tests {
         let list = [Value::Number, Value::Number].into_iter().chain(words).chain([Value::Object(vec![]), Value::List(vec![])]);
         assert_eq!(read.members("a"), [&Value::List(list.collect()), &text("")]);
         assert!(Value::Number.members("a").is_empty() && Value::Number.values().is_empty() && Value::Number.text().is_none());
+    }
+
+    #[test]
+    fn keys_of_a_set() {
+        let texts = |set: &'static str| keys_of(set.as_bytes()).map(|it| it.into_iter().map(|it| it.0).collect::<Vec<_>>());
+        assert_eq!(texts(r#" {"a":[1], "keys" : [ {"kid": "a" } , 5,[]] }"#), Some(vec![&br#"{"kid": "a" }"#[..], b"5", b"[]"]));
+        assert_eq!(texts(r#"{"keys":[1],"keys":[2]}"#), Some(vec![&b"2"[..]]));
+        assert_eq!(texts(r#"{"keys":[]}"#), Some(vec![]));
+        for it in ["", "{}", "[]", r#"{"keys":{}}"#, r#"{"keys":[1}"#, r#"{"keys":[1]"#, r#"{"keys":null}"#] {
+            assert_eq!(texts(it), None, "{it}");
+        }
     }
 
     #[test]

@@ -21,6 +21,7 @@ mod calls;
 mod error;
 mod json;
 mod key;
+mod keyset;
 mod secret;
 mod status;
 #[cfg(feature = "serde")]
@@ -29,6 +30,7 @@ mod validation;
 
 pub use error::Error;
 pub use key::{DecodingKey, EncodingKey};
+pub use keyset::{KeySet, Rotation};
 #[cfg(feature = "serde")]
 pub use typed::{decode, encode};
 pub use validation::{Algorithm, Claim, Validation};

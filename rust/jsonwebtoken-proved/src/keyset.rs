@@ -1,0 +1,258 @@
+//! A set of keys that is fetched, and fetched again as its keys rotate.
+
+use crate::calls::{self, Kind};
+use crate::{decode_header, decode_json, json, DecodingKey, Error, TokenData, Validation};
+use std::fmt::{self, Display};
+use std::io::Read;
+use std::panic::{catch_unwind, AssertUnwindSafe};
+use std::sync::{Arc, Condvar, Mutex, MutexGuard, PoisonError};
+use std::thread;
+use std::time::{Duration, Instant};
+
+/// How many bytes a set may have.
+const LARGEST: u64 = 1 << 20;
+
+/// When a [`KeySet`] is fetched. No time may be 0.
+#[derive(Clone, Copy, Debug, PartialEq, Eq)]
+pub struct Rotation {
+    /// The time from one fetch in the background to the next one: 5 minutes at first. After a fetch that failed it is at most
+    /// `refetch`.
+    pub refresh: Duration,
+    /// The least time from a fetch for an unknown `kid` to the next one: 10 seconds at first.
+    pub refetch: Duration,
+    /// How long a call waits for a fetch: 10 seconds at first.
+    pub timeout: Duration,
+}
+
+impl Default for Rotation {
+    fn default() -> Rotation {
+        Rotation { refresh: Duration::from_secs(300), refetch: Duration::from_secs(10), timeout: Duration::from_secs(10) }
+    }
+}
+
+impl Rotation {
+    fn check(&self) -> Result<(), Error> {
+        let times = [("refresh", self.refresh), ("refetch", self.refetch), ("timeout", self.timeout)];
+        match times.into_iter().find(|it| it.1 == Duration::ZERO) {
+            Some((name, _)) => Err(Error::Argument(format!("{name} is 0"))),
+            None => Ok(()),
+        }
+    }
+}
+
+/// A JSON Web Key Set (RFC 7517 section 5) that a closure fetches, again and again as its keys rotate: in the background, and for a token
+/// whose `kid` the set does not have. If a fetch fails, or gives no usable set, the last one that was usable stays. Any number of threads
+/// may use it.
+///
+/// A thread of its own calls the closure, never twice at once, until the set is dropped.
+pub struct KeySet {
+    shared: Arc<Shared>,
+}
+
+struct Shared {
+    rotation: Rotation,
+    state: Mutex<State>,
+    changed: Condvar,
+}
+
+#[derive(Default)]
+struct State {
+    current: Option<Arc<DecodingKey>>,
+    /// Why the last fetch gave no usable set.
+    failure: Option<Error>,
+    /// How many fetches have ended.
+    ended: u64,
+    /// When the fetch that is under way was asked for.
+    begun: Option<Instant>,
+    is_asked: bool,
+    /// When the last fetch for an unknown `kid` was over.
+    refetched: Option<Instant>,
+    is_closed: bool,
+}
+
+impl KeySet {
+    /// Returns the set that a closure fetches, once it gave a usable one. Of what it reads at most 1 MiB is taken.
+    ///
+    /// If the closure fails, or takes longer than the timeout, or the text has more than 1 MiB, this is [`Error::Fetch`]; if the text is no
+    /// set with a key by which tokens are verified, [`Error::Key`]; a time of 0 is [`Error::Argument`].
+    pub fn new<R: Read, E: Display>(
+        fetch: impl FnMut() -> Result<R, E> + Send + 'static,
+        rotation: Rotation,
+    ) -> Result<KeySet, Error> {
+        rotation.check()?;
+        let asked = State { is_asked: true, begun: Some(Instant::now()), ..State::default() };
+        let shared = Arc::new(Shared { rotation, state: Mutex::new(asked), changed: Condvar::new() });
+        // dropping it ends the thread
+        let set = KeySet { shared: Arc::clone(&shared) };
+        let spawned = thread::Builder::new().name("jwtproved".to_string()).spawn(move || keep(&shared, fetch));
+        spawned.map_err(|error| Error::Fetch(error.to_string()))?;
+        let state = set.shared.wait(set.shared.lock());
+        match (&state.current, &state.failure) {
+            (Some(_), _) => {}
+            (None, Some(error)) => return Err(error.clone()),
+            (None, None) => return Err(Error::Fetch("it took longer than the timeout".to_string())),
+        }
+        drop(state);
+        Ok(set)
+    }
+
+    /// Verifies a token like [`decode_json`](crate::decode_json), by the key of the set that it names.
+    pub fn decode_json(&self, token: &str, validation: &Validation, now: u64) -> Result<TokenData<String>, Error> {
+        self.verify(token, |key| decode_json(token, key, validation, now))
+    }
+
+    /// Verifies a token like [`decode`](crate::decode), by the key of the set that it names.
+    #[cfg(feature = "serde")]
+    pub fn decode<T: serde::de::DeserializeOwned>(&self, token: &str, validation: &Validation) -> Result<TokenData<T>, Error> {
+        self.verify(token, |key| crate::decode(token, key, validation))
+    }
+
+    /// Returns the set as it is now.
+    pub fn current(&self) -> Arc<DecodingKey> {
+        let current = self.shared.lock().current.clone();
+        current.expect("a set that was made has been fetched")
+    }
+
+    /// Returns why the last fetch gave no usable set, or `None` if it did.
+    pub fn last_error(&self) -> Option<Error> {
+        self.shared.lock().failure.clone()
+    }
+
+    /// Verifies a token by the set. If it has no key of the token's `kid`, a later set decides.
+    fn verify<T>(&self, token: &str, by: impl Fn(&DecodingKey) -> Result<T, Error>) -> Result<T, Error> {
+        let seen = self.current();
+        match by(&seen) {
+            Err(Error::UnknownKey) if names_key(token) => {
+                let later = self.after(&seen);
+                if Arc::ptr_eq(&later, &seen) { Err(Error::UnknownKey) } else { by(&later) }
+            }
+            verified => verified,
+        }
+    }
+
+    /// Returns the set that follows one without the key of a token, if there is another, or if it is time to fetch one.
+    fn after(&self, seen: &Arc<DecodingKey>) -> Arc<DecodingKey> {
+        let mut state = self.shared.lock();
+        if state.current.as_ref().map_or(false, |it| Arc::ptr_eq(it, seen)) && self.shared.ask(&mut state) {
+            state = self.shared.wait(state);
+            state.refetched = Some(Instant::now());
+        }
+        state.current.clone().unwrap_or_else(|| Arc::clone(seen))
+    }
+}
+
+impl Drop for KeySet {
+    fn drop(&mut self) {
+        self.shared.lock().is_closed = true;
+        self.shared.changed.notify_all();
+    }
+}
+
+impl fmt::Debug for KeySet {
+    fn fmt(&self, f: &mut fmt::Formatter<'_>) -> fmt::Result {
+        f.debug_struct("KeySet").field("rotation", &self.shared.rotation).finish_non_exhaustive()
+    }
+}
+
+impl Shared {
+    fn lock(&self) -> MutexGuard<'_, State> {
+        self.state.lock().unwrap_or_else(PoisonError::into_inner)
+    }
+
+    /// Asks for a fetch, unless one is under way. Returns whether there is one to wait for.
+    fn ask(&self, state: &mut State) -> bool {
+        if state.begun.is_none() {
+            if state.refetched.map_or(false, |it| it.elapsed() < self.rotation.refetch) {
+                return false;
+            }
+            state.begun = Some(Instant::now());
+            state.is_asked = true;
+            self.changed.notify_all();
+        }
+        true
+    }
+
+    /// Waits for the end of the fetch that is under way, but no longer than until the timeout after its begin.
+    fn wait<'a>(&self, state: MutexGuard<'a, State>) -> MutexGuard<'a, State> {
+        let ended = state.ended;
+        let left = self.rotation.timeout.saturating_sub(state.begun.map_or(Duration::ZERO, |it| it.elapsed()));
+        let waited = self.changed.wait_timeout_while(state, left, |it| it.ended == ended);
+        waited.unwrap_or_else(PoisonError::into_inner).0
+    }
+
+    /// Waits until it is time to fetch. Returns whether the set is still used.
+    fn wait_for_work(&self) -> bool {
+        let state = self.lock();
+        let Rotation { refresh, refetch, .. } = self.rotation;
+        let pause = if state.failure.is_some() { refresh.min(refetch) } else { refresh };
+        let waited = self.changed.wait_timeout_while(state, pause, |it| !it.is_asked && !it.is_closed);
+        let mut state = waited.unwrap_or_else(PoisonError::into_inner).0;
+        state.is_asked = false;
+        state.begun = state.begun.or_else(|| Some(Instant::now()));
+        !state.is_closed
+    }
+
+    fn end(&self, found: Result<DecodingKey, Error>) {
+        let mut state = self.lock();
+        match found {
+            Ok(key) => {
+                state.current = Some(Arc::new(key));
+                state.failure = None;
+            }
+            Err(error) => state.failure = Some(error),
+        }
+        state.begun = None;
+        state.ended += 1;
+        self.changed.notify_all();
+    }
+}
+
+/// Fetches the set when it is time to, until it is dropped.
+fn keep<R: Read, E: Display>(shared: &Shared, mut fetch: impl FnMut() -> Result<R, E>) {
+    while shared.wait_for_work() {
+        let found = catch_unwind(AssertUnwindSafe(|| text_of(&mut fetch)));
+        let text = found.unwrap_or_else(|_| Err(Error::Fetch("the closure panicked".to_string())));
+        shared.end(text.and_then(|it| usable(&it)));
+    }
+}
+
+fn text_of<R: Read, E: Display>(fetch: &mut impl FnMut() -> Result<R, E>) -> Result<String, Error> {
+    let failed = |why: &dyn Display| Error::Fetch(why.to_string());
+    let mut text = Vec::new();
+    let reader = fetch().map_err(|error| failed(&error))?;
+    reader.take(LARGEST + 1).read_to_end(&mut text).map_err(|error| failed(&error))?;
+    if text.len() as u64 > LARGEST {
+        return Err(failed(&format!("it has more than {LARGEST} bytes")));
+    }
+    String::from_utf8(text).map_err(|error| failed(&error))
+}
+
+/// Tokens of no claims whose signature has zeros alone, one for each family of algorithms.
+const UNSIGNED: [(&str, &str); 5] = [
+    ("HS256", "eyJhbGciOiJIUzI1NiJ9.e30.AAAA"),
+    ("RS256", "eyJhbGciOiJSUzI1NiJ9.e30.AAAA"),
+    ("ES256", "eyJhbGciOiJFUzI1NiJ9.e30.AAAA"),
+    ("ES384", "eyJhbGciOiJFUzM4NCJ9.e30.AAAA"),
+    ("EdDSA", "eyJhbGciOiJFZERTQSJ9.e30.AAAA"),
+];
+
+/// Returns a set, if one of its keys has a `kid`, and is one by which the library refuses no more than a signature.
+fn usable(text: &str) -> Result<DecodingKey, Error> {
+    let set = DecodingKey::from_jwk_set(text)?;
+    let verifies = |key: &[u8]| {
+        UNSIGNED.iter().any(|(algorithm, token)| {
+            let options = format!("{{\"algorithms\":[\"{algorithm}\"]}}");
+            calls::decode(Kind::Jwk, token.as_bytes(), key, &options, 0) == Err(Error::Signature)
+        })
+    };
+    let keys = json::keys_of(text.as_bytes()).unwrap_or_default();
+    if keys.iter().any(|(key, value)| value.members("kid").last().map_or(false, |it| it.text().is_some()) && verifies(key)) {
+        return Ok(set);
+    }
+    Err(Error::Key("the set has no key by which tokens are verified".to_string()))
+}
+
+fn names_key(token: &str) -> bool {
+    let header = decode_header(token).ok().and_then(|it| json::read(it.as_bytes()));
+    header.map_or(false, |it| !it.members("kid").is_empty())
+}

@@ -1,0 +1,411 @@
+//! A set of keys that is fetched from a server on the loopback, which rotates them and misbehaves.
+
+use jsonwebtoken_proved::{encode_json, Algorithm, EncodingKey, Error, Header, KeySet, Rotation, Validation};
+use std::io::{self, Cursor, Read, Write};
+use std::net::{SocketAddr, TcpListener, TcpStream};
+use std::sync::atomic::{AtomicUsize, Ordering};
+use std::sync::mpsc::{channel, Receiver};
+use std::sync::{Arc, Mutex};
+use std::thread;
+use std::time::{Duration, Instant};
+
+const NOW: u64 = 1_700_000_000;
+/// How long the closure of these tests reads, and the set waits for it.
+const SHORTLY: Duration = Duration::from_millis(250);
+/// The time between two fetches for an unknown kid.
+const SOON: Duration = Duration::from_millis(150);
+
+fn secret(kid: &str) -> Vec<u8> {
+    format!("the secret {kid} of at least 32 bytes").into_bytes()
+}
+
+/// Returns base64url of bytes.
+fn part(bytes: &[u8]) -> String {
+    const DIGITS: &[u8; 64] = b"ABCDEFGHIJKLMNOPQRSTUVWXYZabcdefghijklmnopqrstuvwxyz0123456789-_";
+    let digits = |it: &[u8]| {
+        let bits = it.iter().fold(0, |bits, byte| bits << 8 | u32::from(*byte)) << (8 * (3 - it.len()));
+        (0..=it.len()).map(move |place| DIGITS[(bits >> (18 - 6 * place) & 63) as usize] as char).collect::<String>()
+    };
+    bytes.chunks(3).map(digits).collect()
+}
+
+fn key(kid: &str) -> String {
+    format!(r#"{{"kty":"oct","kid":"{kid}","k":"{}"}}"#, part(&secret(kid)))
+}
+
+fn set_of(kids: &[&str]) -> String {
+    format!(r#"{{"keys":[{}]}}"#, kids.iter().map(|it| key(it)).collect::<Vec<_>>().join(","))
+}
+
+/// Returns a token that names a key, signed by this or by another one.
+fn token(kid: Option<&str>, by: &str) -> String {
+    let header = Header { kid: kid.map(str::to_string), ..Header::new(Algorithm::HS256) };
+    encode_json(&header, r#"{"exp":1700000001}"#, &EncodingKey::from_secret(&secret(by)).unwrap()).unwrap()
+}
+
+#[derive(Clone)]
+enum Answer {
+    Sends(Vec<u8>),
+    HangsAfter(Vec<u8>),
+    Dribbles(Vec<u8>),
+    Endless,
+    Panics,
+}
+
+/// A server on the loopback, and how often it was asked.
+struct Server {
+    at: SocketAddr,
+    answer: Arc<Mutex<Answer>>,
+    fetches: Arc<AtomicUsize>,
+}
+
+impl Server {
+    fn new(first: Answer) -> Server {
+        let listening = TcpListener::bind("127.0.0.1:0").unwrap();
+        let server = Server { at: listening.local_addr().unwrap(), answer: Arc::new(Mutex::new(first)), fetches: Arc::default() };
+        let (answer, fetches) = (Arc::clone(&server.answer), Arc::clone(&server.fetches));
+        thread::spawn(move || {
+            for accepted in listening.incoming() {
+                let now = answer.lock().unwrap().clone();
+                fetches.fetch_add(1, Ordering::SeqCst);
+                thread::spawn(move || serve(accepted?, &now));
+            }
+        });
+        server
+    }
+
+    fn answers(&self, next: Answer) {
+        *self.answer.lock().unwrap() = next;
+    }
+
+    fn fetches(&self) -> usize {
+        self.fetches.load(Ordering::SeqCst)
+    }
+
+    /// Returns a closure that fetches from the server, as one over a client of HTTP does.
+    fn fetch(&self) -> impl FnMut() -> Result<Box<dyn Read>, io::Error> + Send + 'static {
+        let (at, answer) = (self.at, Arc::clone(&self.answer));
+        move || {
+            let panics = matches!(*answer.lock().unwrap(), Answer::Panics);
+            assert!(!panics, "the closure panics");
+            fetched(at)
+        }
+    }
+}
+
+fn serve(mut to: TcpStream, answer: &Answer) -> io::Result<()> {
+    let mut head = [0; 4096];
+    let _ = to.read(&mut head)?;
+    match answer {
+        Answer::Sends(text) => to.write_all(text),
+        Answer::HangsAfter(text) => {
+            to.write_all(text)?;
+            thread::sleep(Duration::from_secs(5));
+            Ok(())
+        }
+        Answer::Dribbles(text) => text.iter().chain([b' '; 4000].iter()).try_for_each(|it| {
+            thread::sleep(Duration::from_millis(5));
+            to.write_all(&[*it])
+        }),
+        Answer::Endless => loop {
+            to.write_all(&[b' '; 65536])?;
+        },
+        Answer::Panics => Ok(()),
+    }
+}
+
+/// Gets a text by HTTP, within a time limit.
+fn fetched(at: SocketAddr) -> Result<Box<dyn Read>, io::Error> {
+    let refused = |why: &str| io::Error::new(io::ErrorKind::InvalidData, why.to_string());
+    let begin = Instant::now();
+    let mut stream = TcpStream::connect_timeout(&at, SHORTLY)?;
+    stream.set_read_timeout(Some(SHORTLY / 2))?;
+    stream.write_all(b"GET /keys HTTP/1.1\r\nHost: h\r\n\r\n")?;
+    let mut head = Vec::new();
+    while !head.ends_with(b"\r\n\r\n") {
+        let mut byte = [0];
+        stream.read_exact(&mut byte)?;
+        head.push(byte[0]);
+        if head.len() > 10000 || begin.elapsed() > SHORTLY / 2 {
+            return Err(refused("no head"));
+        }
+    }
+    let head = String::from_utf8(head).map_err(|_| refused("no text"))?;
+    if !head.starts_with("HTTP/1.1 200 ") {
+        return Err(refused("another status"));
+    }
+    let length = head.lines().find_map(|it| it.strip_prefix("Content-Length: "));
+    let body = Timed { stream, begin };
+    match length.map(|it| it.parse::<u64>()) {
+        None => Ok(Box::new(body)),
+        Some(Err(_)) => Err(refused("no length")),
+        Some(Ok(length)) => {
+            let mut text = Vec::new();
+            body.take(length).read_to_end(&mut text)?;
+            if (text.len() as u64) < length { Err(refused("it is cut")) } else { Ok(Box::new(Cursor::new(text))) }
+        }
+    }
+}
+
+/// A stream that is read for some time in all.
+struct Timed {
+    stream: TcpStream,
+    begin: Instant,
+}
+
+impl Read for Timed {
+    fn read(&mut self, buffer: &mut [u8]) -> io::Result<usize> {
+        if self.begin.elapsed() > SHORTLY / 2 { Err(io::ErrorKind::TimedOut.into()) } else { self.stream.read(buffer) }
+    }
+}
+
+fn head(status: &str, length: impl std::fmt::Display) -> String {
+    format!("HTTP/1.1 {status}\r\nContent-Length: {length}\r\n\r\n")
+}
+
+fn sends(text: impl Into<Vec<u8>>) -> Answer {
+    Answer::Sends(text.into())
+}
+
+fn says(text: impl AsRef<[u8]>) -> Answer {
+    let text = text.as_ref();
+    sends([head("200 OK", text.len()).as_bytes(), text].concat())
+}
+
+/// Answers that are no usable set, though many have the key b.
+fn misbehaving() -> Vec<(&'static str, Answer)> {
+    let set = set_of(&["b"]);
+    let with_head = |length: u64, text: &str| head("200 OK", length) + text;
+    let length = set.len() as u64;
+    vec![
+        ("hangs before the head", Answer::HangsAfter(vec![])),
+        ("hangs in the head", Answer::HangsAfter(b"HTTP/1.1 200 OK\r\nConte".to_vec())),
+        ("hangs in the body", Answer::HangsAfter(with_head(length, &set[..20]).into())),
+        ("hangs after the body", Answer::HangsAfter(with_head(length + 1, &set).into())),
+        ("dribbles the head", Answer::Dribbles(b"HTTP/1.1 200 OK\r\nX: ".to_vec())),
+        ("dribbles the body", Answer::Dribbles(with_head(100_000, &set).into())),
+        ("cuts before the head", sends("")),
+        ("cuts the body", sends(with_head(length, &set[..20]))),
+        ("cuts a body without a length", sends(format!("HTTP/1.1 200 OK\r\n\r\n{}", &set[..20]))),
+        ("says that it is longer", sends(with_head(length + 1, &set))),
+        ("says that it is far longer", sends(with_head(1 << 62, &set))),
+        ("says that it is shorter", sends(with_head(20, &set))),
+        ("serves HTML", says("<!doctype html><p>Please log in")),
+        ("serves a set and 500", sends(head("500 Oops", length) + &set)),
+        ("serves nothing", says("")),
+        ("serves more than 1 MiB", says(set.clone() + &" ".repeat(1 << 20))),
+        ("serves more than 1 MiB without a length", sends(format!("HTTP/1.1 200 OK\r\n\r\n{set}{}", " ".repeat(1 << 20)))),
+        ("serves without end", Answer::Endless),
+        ("serves null", says("null")),
+        ("serves a list", says("[]")),
+        ("serves no keys", says("{}")),
+        ("serves an empty set", says(r#"{"keys":[]}"#)),
+        ("serves keys that are no list", says(r#"{"keys":{"a":1}}"#)),
+        ("serves a key without a kid", says(set.replace(r#""kid":"b","#, ""))),
+        ("serves keys of an unknown kind", says(r#"{"keys":[{"kty":"x","kid":"b"},{"kty":"EC","crv":"P-521","kid":"b","x":"AA","y":"AA"}]}"#)),
+        ("serves a point that is on no curve", says(r#"{"keys":[{"kty":"EC","crv":"P-256","kid":"b","x":"AQAB","y":"AQAB"}]}"#)),
+        ("serves a secret that is empty", says(r#"{"keys":[{"kty":"oct","kid":"b","k":""}]}"#)),
+        ("serves deep lists", says("[".repeat(100_000))),
+        ("serves what is not UTF-8", says(b"{\"keys\":[\"\xff\"]}")),
+        ("serves no HTTP", sends([0; 4])),
+        ("makes the closure panic", Answer::Panics),
+    ]
+}
+
+fn rotation() -> Rotation {
+    Rotation { refresh: Duration::from_secs(3600), refetch: SOON, timeout: SHORTLY }
+}
+
+fn verify(set: &KeySet, token: &str) -> Option<Error> {
+    let begin = Instant::now();
+    let mut validation = Validation::new(Algorithm::HS256);
+    validation.leeway = 0;
+    let refusal = set.decode_json(token, &validation, NOW).err();
+    assert!(begin.elapsed() < SHORTLY + Duration::from_secs(1), "{:?}", begin.elapsed());
+    refusal
+}
+
+fn accepts(set: &KeySet, kid: &str) {
+    assert_eq!(verify(set, &token(Some(kid), kid)), None);
+}
+
+fn refuses(set: &KeySet, kid: &str, by: &str, why: Error) {
+    assert_eq!(verify(set, &token(Some(kid), by)), Some(why));
+}
+
+#[test]
+fn keys_rotate() {
+    let server = Server::new(says(set_of(&["a"])));
+    let set = KeySet::new(server.fetch(), rotation()).unwrap();
+    accepts(&set, "a");
+    refuses(&set, "a", "b", Error::Signature);
+    assert_eq!(server.fetches(), 1);
+    server.answers(says(set_of(&["b"])));
+    accepts(&set, "b");
+    refuses(&set, "b", "a", Error::Signature);
+    refuses(&set, "a", "a", Error::UnknownKey);
+    assert_eq!((server.fetches(), set.last_error()), (2, None));
+    assert!(!format!("{set:?} {:?}", set.current()).contains(&part(&secret("b"))[..20]));
+}
+
+#[test]
+fn unknown_kids_cause_few_fetches() {
+    let server = Server::new(says(set_of(&["a"])));
+    let set = KeySet::new(server.fetch(), Rotation { refetch: Duration::from_secs(1), ..rotation() }).unwrap();
+    for it in 0..50 {
+        assert_eq!(verify(&set, &token(None, "a")), Some(Error::UnknownKey));
+        refuses(&set, &format!("x{it}"), "a", Error::UnknownKey);
+        assert!(matches!(verify(&set, "a.b.c"), Some(Error::Malformed(_))));
+    }
+    assert_eq!(server.fetches(), 2);
+    thread::sleep(Duration::from_millis(1010));
+    refuses(&set, "y", "a", Error::UnknownKey);
+    assert_eq!(server.fetches(), 3);
+}
+
+#[test]
+fn a_server_that_misbehaves_changes_nothing() {
+    let tests: Vec<_> = misbehaving().into_iter().map(|(name, it)| (name, thread::spawn(move || misbehaves(&it)))).collect();
+    let failed: Vec<_> = tests.into_iter().filter_map(|(name, it)| it.join().is_err().then_some(name)).collect();
+    assert_eq!(failed, [""; 0]);
+}
+
+fn misbehaves(answer: &Answer) {
+    let server = Server::new(says(set_of(&["a"])));
+    let set = KeySet::new(server.fetch(), rotation()).unwrap();
+    server.answers(answer.clone());
+    refuses(&set, "b", "b", Error::UnknownKey);
+    assert!(matches!(set.last_error(), Some(Error::Fetch(_) | Error::Key(_)) | None));
+    accepts(&set, "a");
+    refuses(&set, "a", "b", Error::Signature);
+    server.answers(says(set_of(&["b"])));
+    let begin = Instant::now();
+    while verify(&set, &token(Some("b"), "b")).is_some() {
+        assert!(begin.elapsed() < Duration::from_secs(5));
+        thread::sleep(SOON / 10);
+    }
+    refuses(&set, "a", "a", Error::UnknownKey);
+    server.answers(answer.clone());
+    let begin = Instant::now();
+    assert!(matches!(KeySet::new(server.fetch(), rotation()), Err(Error::Fetch(_) | Error::Key(_))));
+    assert!(begin.elapsed() < SHORTLY + Duration::from_secs(1));
+}
+
+/// Waits until a token is verified or refused like this, while the set is fetched in the background.
+fn becomes(set: &KeySet, kid: &str, wanted: Option<Error>) {
+    let begin = Instant::now();
+    while verify(set, &token(Some(kid), kid)) != wanted {
+        assert!(begin.elapsed() < Duration::from_secs(5), "{kid} {wanted:?}");
+        thread::sleep(Duration::from_millis(5));
+    }
+}
+
+#[test]
+fn in_the_background_and_an_old_set() {
+    let server = Server::new(says(set_of(&["a"])));
+    let often = Rotation { refresh: Duration::from_millis(10), refetch: Duration::from_secs(3600), timeout: SHORTLY };
+    let set = KeySet::new(server.fetch(), often).unwrap();
+    for _ in 0..2 {
+        server.answers(says(set_of(&["b"])));
+        becomes(&set, "a", Some(Error::UnknownKey));
+        accepts(&set, "b");
+        // an old set, for a while
+        server.answers(says(set_of(&["a"])));
+        becomes(&set, "b", Some(Error::UnknownKey));
+        accepts(&set, "a");
+        refuses(&set, "a", "b", Error::Signature);
+    }
+    drop(set);
+    thread::sleep(Duration::from_millis(50));
+    let fetches = server.fetches();
+    thread::sleep(Duration::from_millis(50));
+    assert_eq!(server.fetches(), fetches);
+}
+
+#[test]
+fn threads_wait_for_one_fetch() {
+    fn is_shared<T: Send + Sync + 'static>(it: T) -> Arc<T> {
+        Arc::new(it)
+    }
+    let server = Server::new(says(set_of(&["a"])));
+    let mut fetch = server.fetch();
+    let slowly = move || {
+        thread::sleep(Duration::from_millis(50));
+        fetch()
+    };
+    let times = Rotation { refetch: Duration::from_secs(3600), timeout: Duration::from_secs(5), ..rotation() };
+    let set = is_shared(KeySet::new(slowly, times).unwrap());
+    server.answers(says(set_of(&["b"])));
+    let threads: Vec<_> = (0..50)
+        .map(|_| {
+            let set = Arc::clone(&set);
+            thread::spawn(move || accepts(&set, "b"))
+        })
+        .collect();
+    assert!(threads.into_iter().all(|it| it.join().is_ok()));
+    assert_eq!(server.fetches(), 2);
+}
+
+/// A closure that hangs is waited for once, and not called again before it ends.
+#[test]
+fn a_closure_that_hangs() {
+    let (calls, texts): (_, (_, Receiver<String>)) = (Arc::new(AtomicUsize::new(0)), channel());
+    let (counted, received) = (Arc::clone(&calls), texts.1);
+    texts.0.send(set_of(&["a"])).unwrap();
+    let fetch = move || {
+        counted.fetch_add(1, Ordering::SeqCst);
+        received.recv().map(Cursor::new)
+    };
+    let times = Rotation { timeout: Duration::from_millis(50), refetch: Duration::from_millis(1), ..rotation() };
+    let set = KeySet::new(fetch, times).unwrap();
+    let begin = Instant::now();
+    for _ in 0..100 {
+        refuses(&set, "b", "b", Error::UnknownKey);
+        accepts(&set, "a");
+    }
+    assert!(begin.elapsed() < Duration::from_secs(1), "{:?}", begin.elapsed());
+    assert_eq!(calls.load(Ordering::SeqCst), 2);
+    texts.0.send(set_of(&["b"])).unwrap();
+    becomes(&set, "b", None);
+    let hangs = || -> Result<io::Empty, io::Error> {
+        thread::sleep(Duration::from_secs(3600));
+        Ok(io::empty())
+    };
+    assert!(matches!(KeySet::new(hangs, times), Err(Error::Fetch(_))));
+}
+
+#[test]
+fn many_keys() {
+    let kids: Vec<_> = (0..10_000).map(|it| it.to_string()).collect();
+    let set = set_of(&kids.iter().map(String::as_str).collect::<Vec<_>>());
+    let short = set.replace("IG9mIGF0IGxlYXN0IDMyIGJ5dGVz", "");
+    let many = if set.len() > 1 << 20 { short } else { set };
+    assert!(many.len() <= 1 << 20, "{}", many.len());
+    let text = many.clone();
+    let times = Rotation { timeout: Duration::from_secs(20), ..rotation() };
+    let set = KeySet::new(move || Ok::<_, Error>(Cursor::new(text.clone())), times).unwrap();
+    let begin = Instant::now();
+    assert_eq!(verify(&set, &token(Some("9999"), "x")), Some(Error::Signature));
+    println!("{:?}", begin.elapsed());
+}
+
+#[test]
+fn arguments() {
+    let fetch = || Ok::<_, Error>(Cursor::new(set_of(&["a"])));
+    let zero = Duration::ZERO;
+    for (name, it) in [
+        ("refresh", Rotation { refresh: zero, ..rotation() }),
+        ("refetch", Rotation { refetch: zero, ..rotation() }),
+        ("timeout", Rotation { timeout: zero, ..rotation() }),
+    ] {
+        assert!(matches!(KeySet::new(fetch, it), Err(Error::Argument(text)) if text.contains(name)));
+    }
+    let longest = Rotation { refresh: Duration::MAX, refetch: Duration::MAX, timeout: Duration::MAX };
+    let set = KeySet::new(fetch, longest).unwrap();
+    accepts(&set, "a");
+    refuses(&set, "b", "b", Error::UnknownKey);
+    refuses(&set, "c", "c", Error::UnknownKey);
+    assert_eq!(Rotation::default().refetch, Duration::from_secs(10));
+    let failing = || Err::<io::Empty, _>("the reason");
+    assert!(matches!(KeySet::new(failing, rotation()), Err(Error::Fetch(text)) if text.contains("the reason")));
+}
