@@ -207,7 +207,8 @@ func (Verifier) Format(state fmt.State, _ rune) {
 	_, _ = io.WriteString(state, "jwt.Verifier([redacted])")
 }
 
-// NewVerifier returns a verifier by a key that accepts these algorithms, which have to be of one family: that of the key.
+// NewVerifier returns a verifier by a key that accepts these algorithms, which have to be of one family: that of the key. If the key, or
+// each key of a set, is for none of them, the error is ErrKey.
 func NewVerifier(key Key, algorithms []string, with ...Option) (*Verifier, error) {
 	asked, err := conditions(algorithms, with)
 	if err != nil {
@@ -228,6 +229,9 @@ func NewVerifier(key Key, algorithms []string, with ...Option) (*Verifier, error
 	if errors.Is(err, ErrOutOfMemory) {
 		return nil, err
 	}
+	if err := checkServes(key, algorithms, text); err != nil {
+		return nil, err
+	}
 	return &Verifier{key, text, asked.now}, nil
 }
 
@@ -236,11 +240,7 @@ func (verifier *Verifier) Parse(token string) (*Token, error) {
 	if verifier == nil || verifier.now == nil {
 		return nil, optionError("NewVerifier did not make this Verifier")
 	}
-	now := verifier.now().Unix()
-	if now < 0 {
-		return nil, optionError("the clock is before 1970")
-	}
-	claims, err := decode(verifier.key, []byte(token), verifier.options, uint64(now))
+	claims, err := verifier.verify(token)
 	if err != nil {
 		return nil, err
 	}
@@ -249,6 +249,42 @@ func (verifier *Verifier) Parse(token string) (*Token, error) {
 		return nil, err
 	}
 	return &Token{header, claims}, nil
+}
+
+// verify returns the claims of a token. If the set of a KeySet has no key of its kid, a later set decides.
+func (verifier *Verifier) verify(token string) ([]byte, error) {
+	if verifier.key.set == nil {
+		return verifier.verifyBy(verifier.key, token)
+	}
+	set := verifier.key.set()
+	seen := set.current.Load()
+	kid, isThere := kidOf(token)
+	claims, err := verifier.verifyBy(seen.namedBy(kid, isThere), token)
+	if !isThere || !errors.Is(err, ErrUnknownKey) {
+		return claims, err
+	}
+	if later := set.after(seen); later != seen {
+		return verifier.verifyBy(later.namedBy(kid, isThere), token)
+	}
+	return nil, err
+}
+
+func (verifier *Verifier) verifyBy(key Key, token string) ([]byte, error) {
+	now := verifier.now().Unix()
+	if now < 0 {
+		return nil, optionError("the clock is before 1970")
+	}
+	return decode(key, []byte(token), verifier.options, uint64(now))
+}
+
+// kidOf returns the kid of a token's header, and whether there is one.
+func kidOf(token string) (string, bool) {
+	header, err := UnverifiedHeader(token)
+	if err != nil {
+		return "", false
+	}
+	kid, isThere := header["kid"].(string)
+	return kid, isThere
 }
 
 // Parse verifies a token by a key that accepts these algorithms. Whoever verifies several makes a Verifier.

@@ -188,7 +188,7 @@ func TestPEM(t *testing.T) {
 	if _, err := parse(t, token, key, []string{"ES256"}); !errors.Is(err, ErrSignature) {
 		t.Error(err)
 	}
-	if _, err := parse(t, token, key, []string{"HS256"}); !errors.Is(err, ErrAlgorithm) {
+	if _, err := parse(t, token, key, []string{"HS256"}); !errors.Is(err, ErrKey) {
 		t.Error(err)
 	}
 	if _, err := parse(t, signed(`{"alg":"HS256"}`, `{"exp":1700000001}`, secret), key, []string{"HS256"}); !errors.Is(err, ErrKey) {

@@ -30,11 +30,13 @@ type Key struct {
 	// bytes returns the text of the key. In a field that is not exported fmt does not call Format; it shows what a pointer points to for
 	// some verbs, and of a func its address alone.
 	bytes func() []byte
+	// set returns the set that the bytes are of, if it is fetched again as its keys rotate.
+	set func() *KeySet
 }
 
 func newKey(kind keyKind, text []byte) Key {
 	text = append([]byte(nil), text...)
-	return Key{kind, func() []byte { return text }}
+	return Key{kind: kind, bytes: func() []byte { return text }}
 }
 
 // Format does not show the key, whatever the verb.
@@ -111,6 +113,92 @@ func tried(key Key) (Key, error) {
 		return Key{}, err
 	}
 	return Key{}, keyError("%v", err)
+}
+
+// checkServes returns an error if the key, or each key of the set, is for none of the algorithms, or can't be used with them. It
+// looks for one by which the library refuses no more than a signature.
+func checkServes(key Key, algorithms []string, options []byte) error {
+	if key.kind != keySet {
+		if verifies(key, "", algorithms, options) {
+			return nil
+		}
+		return keyError("it is for none of the algorithms %q, or they are not of one family", algorithms)
+	}
+	for _, it := range namedKeys(key) {
+		if verifies(setFrom(it.text), it.kid, algorithms, options) {
+			return nil
+		}
+	}
+	return keyError("no key of the set has a kid and serves for one of the algorithms %q", algorithms)
+}
+
+// checkUsable returns an error if none of these keys verifies tokens, whatever their algorithm.
+func checkUsable(keys []named) error {
+	for _, it := range keys {
+		for _, algorithm := range []string{"HS256", "RS256", "ES256", "ES384", "EdDSA"} {
+			options := []byte(`{"algorithms":["` + algorithm + `"]}`)
+			if verifies(newKey(singleKey, it.text), "", []string{algorithm}, options) {
+				return nil
+			}
+		}
+	}
+	return keyError("no key of the set has a kid and verifies tokens")
+}
+
+func verifies(key Key, kid string, algorithms []string, options []byte) bool {
+	for _, algorithm := range algorithms {
+		if _, err := decode(key, unsigned(algorithm, kid), options, 0); errors.Is(err, ErrSignature) {
+			return true
+		}
+	}
+	return false
+}
+
+// named is a key of a set with the id by which a token names it.
+type named struct {
+	kid  string
+	text json.RawMessage
+}
+
+// namedKeys returns the keys of a set that have a kid.
+func namedKeys(set Key) []named {
+	var members map[string]json.RawMessage
+	var keys []json.RawMessage
+	if json.Unmarshal(set.bytes(), &members) != nil || json.Unmarshal(members["keys"], &keys) != nil {
+		return nil
+	}
+	found := []named{}
+	for _, it := range keys {
+		var members map[string]json.RawMessage
+		var kid *string
+		// of a repeated member the last one counts
+		if json.Unmarshal(it, &members) == nil && json.Unmarshal(members["kid"], &kid) == nil && kid != nil {
+			found = append(found, named{*kid, it})
+		}
+	}
+	return found
+}
+
+// setFrom returns the set of keys with these texts.
+func setFrom(keys ...json.RawMessage) Key {
+	text := []byte(`{"keys":[`)
+	for i, it := range keys {
+		if i > 0 {
+			text = append(text, ',')
+		}
+		text = append(text, it...)
+	}
+	return newKey(keySet, append(text, "]}"...))
+}
+
+// unsigned returns a token of no claims whose signature has zeros alone.
+func unsigned(algorithm, kid string) []byte {
+	part := base64.RawURLEncoding.EncodeToString
+	header, err := json.Marshal(map[string]string{"alg": algorithm, "kid": kid})
+	if err != nil {
+		return nil
+	}
+	return []byte(part(header) + "." + part([]byte("{}")) + "." + part(make([]byte, 64)))
 }
 
 // PEM returns a public key of RSA, P-256, P-384 or Ed25519 in PEM as a key.

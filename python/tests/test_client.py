@@ -210,7 +210,7 @@ def serving(answer, **arguments):
     """Gives a server with this answer, and a client of it whose times are short."""
     server = Server()
     server.answer = answer
-    client = jwt.PyJWKClient(server.uri, **{"timeout": TIMEOUT, **arguments})
+    client = jwt.PyJWKClient(server.uri, **{"timeout": 10, **arguments})
     client._pause = 0.3
     try:
         yield server, client
@@ -271,15 +271,15 @@ def timed(name, call, *arguments):
     begin = time.monotonic()
     got = outcome(call, *arguments)
     took = time.monotonic() - begin
-    test(f"{name}: {took} seconds", took < TIMEOUT + 0.6)
+    test(f"{name}: {took} seconds", took < TIMEOUT + 2)
     return got
 
 
 def misbehaves(named):
     name, answer = named
-    with serving(says(GOOD), lifespan=0.05) as (server, client):
+    with serving(says(GOOD), lifespan=0.05, timeout=10) as (server, client):
         gives(CLAIMS, decoded, client, token("a"))
-        server.answer = answer
+        server.answer, client.timeout = answer, TIMEOUT
         time.sleep(0.06)
         test(f"{name}: the last set is used", timed(name, decoded, client, token("a")) == CLAIMS)
         test(f"{name}: a forged token", isinstance(timed(name, decoded, client, token("a", by="b")), jwt.InvalidSignatureError))
@@ -288,15 +288,15 @@ def misbehaves(named):
         got = timed(name, client.get_jwk_set, True)
         test(f"{name}: a fetch that is asked for: {got!r}", isinstance(got, (jwt.PyJWKClientError, jwt.PyJWKSetError)))
         gives(CLAIMS, decoded, client, token("a"))
-        server.answer = says(ROTATED)
+        server.answer, client.timeout = says(ROTATED), 10
         time.sleep(0.31)
         gives(CLAIMS, decoded, client, token("b"))
         raises(jwt.UnknownKeyError, decoded, client, token("a"))
-    with serving(answer) as (server, client):
+    with serving(answer, timeout=TIMEOUT) as (server, client):
         for it in ("a", "b"):
             got = timed(name, decoded, client, token(it))
             test(f"{name}: at first: {got!r}", isinstance(got, (jwt.PyJWKClientError, jwt.PyJWKSetError)))
-        server.answer = says(GOOD)
+        server.answer, client.timeout = says(GOOD), 10
         gives(CLAIMS, decoded, client, token("a"))
 
 
@@ -414,7 +414,7 @@ def headers():
             server.answer = lambda it, by, to=to: (says(GOOD) if "GET /other" in it.heads[-1] else redirects(to))(it, by)
             client.get_jwk_set(refresh=True)
             test(f"another host is not sent the headers: {to}", ("Bearer x" in is_same.heads[-1]) == (is_same is server))
-        server.answer = redirects("https" + other.uri[4:])
+        server.answer, client.timeout = redirects("https" + other.uri[4:]), TIMEOUT
         raises(jwt.PyJWKClientConnectionError, client.get_jwk_set, refresh=True, said="Fail to fetch")
 
 

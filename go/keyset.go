@@ -1,0 +1,315 @@
+package jwt
+
+import (
+	"context"
+	"encoding/json"
+	"errors"
+	"fmt"
+	"io"
+	"net/http"
+	"net/url"
+	"sync"
+	"sync/atomic"
+	"time"
+)
+
+// ErrFetch is a set of keys that can't be fetched. It is no verdict on a token.
+var ErrFetch = errors.New("jwt: the set of keys can't be fetched")
+
+// largestSet is how many bytes a set that is fetched may have.
+const largestSet = 1 << 20
+
+func fetchError(why string, arguments ...any) error {
+	return fmt.Errorf("%w: %s", ErrFetch, fmt.Sprintf(why, arguments...))
+}
+
+// Fetch returns the text of a JSON Web Key Set. It has to end soon after the context does.
+type Fetch func(context.Context) ([]byte, error)
+
+// KeySet is a JSON Web Key Set that is fetched, and fetched again as its keys rotate: in the background, and for a token whose kid the
+// set does not have. If a fetch fails, or gives no usable set, the last one that was usable stays. Any number of goroutines may use it.
+type KeySet struct {
+	fetch                     Fetch
+	refresh, refetch, timeout time.Duration
+	until                     context.Context
+	current                   atomic.Pointer[fetched]
+
+	mutex    sync.Mutex
+	underWay *flight   // the fetch that is under way, or nil
+	from     time.Time // before this time no set is fetched for an unknown kid
+	failure  error     // of the last fetch
+}
+
+// fetched is a set that is usable.
+type fetched struct {
+	key Key
+	// byID has the keys of each kid, as a set: a large one is not read for each token.
+	byID map[string]Key
+	at   time.Time
+}
+
+// namedBy returns the keys that a token may name. The library decides among them.
+func (it *fetched) namedBy(kid string, isThere bool) Key {
+	if key, is := it.byID[kid]; is && isThere {
+		return key
+	}
+	return setFrom()
+}
+
+// flight is a fetch, whose end closes the channel.
+type flight struct {
+	begun time.Time
+	ended chan struct{}
+}
+
+// KeySetOption changes how a KeySet fetches.
+type KeySetOption func(*KeySet) error
+
+// WithRefresh has the set fetched so often in the background: every 5 minutes without this option. After a fetch that failed, the next
+// one is as soon as WithRefetch allows.
+func WithRefresh(every time.Duration) KeySetOption {
+	return func(set *KeySet) error {
+		set.refresh = every
+		return checkPositive("WithRefresh", every)
+	}
+}
+
+// WithRefetch has this as the least time from a fetch for an unknown kid to the next one: 10 seconds without this option.
+func WithRefetch(least time.Duration) KeySetOption {
+	return func(set *KeySet) error {
+		set.refetch = least
+		return checkPositive("WithRefetch", least)
+	}
+}
+
+// WithTimeout has this as the longest time that a fetch takes, and that Parse waits for it: 10 seconds without this option.
+func WithTimeout(longest time.Duration) KeySetOption {
+	return func(set *KeySet) error {
+		set.timeout = longest
+		return checkPositive("WithTimeout", longest)
+	}
+}
+
+func checkPositive(option string, duration time.Duration) error {
+	if duration <= 0 {
+		return optionError("%s: %v is not more than 0", option, duration)
+	}
+	return nil
+}
+
+// NewKeySet returns the set that fetch returns, once the first fetch gave a usable one. It is fetched again until the context ends, and
+// then stays as it is. An error is ErrFetch, ErrKey if the text is no usable set, or ErrOption.
+func NewKeySet(until context.Context, fetch Fetch, with ...KeySetOption) (*KeySet, error) {
+	if until == nil {
+		return nil, optionError("until is nil")
+	}
+	if fetch == nil {
+		return nil, optionError("fetch is nil")
+	}
+	set := &KeySet{fetch: fetch, refresh: 5 * time.Minute, refetch: 10 * time.Second, timeout: 10 * time.Second, until: until}
+	for i, it := range with {
+		if it == nil {
+			return nil, optionError("the option at place %d is nil", i)
+		}
+		if err := it(set); err != nil {
+			return nil, err
+		}
+	}
+	if set.wait(set.start()); set.current.Load() == nil {
+		return nil, set.firstFailure()
+	}
+	go set.keep()
+	return set, nil
+}
+
+// FetchKeySet returns the set at an http or https URI, like NewKeySet. The client is http.DefaultClient if it is nil. Of an answer at
+// most 1 MiB is read, its status has to be 200, and a redirect may lead to the same scheme or to https alone.
+func FetchKeySet(until context.Context, uri string, client *http.Client, with ...KeySetOption) (*KeySet, error) {
+	at, err := url.Parse(uri)
+	if err != nil || at.Scheme != "http" && at.Scheme != "https" || at.Hostname() == "" {
+		return nil, optionError("uri is not of the scheme http or https, with a host")
+	}
+	return NewKeySet(until, fetchBy(ownClient(client), uri), with...)
+}
+
+// ownClient returns a client that follows no redirect to a scheme that is less safe.
+func ownClient(client *http.Client) *http.Client {
+	if client == nil {
+		client = http.DefaultClient
+	}
+	own := *client
+	follows := own.CheckRedirect
+	own.CheckRedirect = func(next *http.Request, before []*http.Request) error {
+		last := before[len(before)-1]
+		if next.URL.Scheme != "https" && next.URL.Scheme != last.URL.Scheme {
+			return fmt.Errorf("a redirect from %s to %s", last.URL.Scheme, next.URL.Scheme)
+		}
+		if follows != nil {
+			return follows(next, before)
+		}
+		if len(before) >= 10 {
+			return errors.New("more than 10 redirects")
+		}
+		return nil
+	}
+	return &own
+}
+
+func fetchBy(client *http.Client, uri string) Fetch {
+	return func(until context.Context) ([]byte, error) {
+		request, err := http.NewRequestWithContext(until, http.MethodGet, uri, nil)
+		if err != nil {
+			return nil, err
+		}
+		request.Header.Set("Accept", "application/json, application/jwk-set+json")
+		response, err := client.Do(request)
+		if err != nil {
+			return nil, err
+		}
+		defer response.Body.Close()
+		if response.StatusCode != http.StatusOK {
+			return nil, fmt.Errorf("the status is %d", response.StatusCode)
+		}
+		return io.ReadAll(io.LimitReader(response.Body, largestSet+1))
+	}
+}
+
+// Key returns the set as a key for NewVerifier. Its verifiers follow the set as it changes.
+func (set *KeySet) Key() Key {
+	if set == nil || set.current.Load() == nil {
+		return Key{}
+	}
+	return Key{kind: keySet, bytes: func() []byte { return set.current.Load().key.bytes() }, set: func() *KeySet { return set }}
+}
+
+// Fetched returns when the set that is used was fetched.
+func (set *KeySet) Fetched() time.Time { return set.current.Load().at }
+
+// Err returns the error of the last fetch, or nil if it gave a usable set.
+func (set *KeySet) Err() error {
+	set.mutex.Lock()
+	defer set.mutex.Unlock()
+	return set.failure
+}
+
+// Format does not show the keys, whatever the verb.
+func (*KeySet) Format(state fmt.State, _ rune) {
+	_, _ = io.WriteString(state, "jwt.KeySet([redacted])")
+}
+
+func (set *KeySet) firstFailure() error {
+	if err := set.Err(); err != nil {
+		return err
+	}
+	return fetchError("it took longer than %v", set.timeout)
+}
+
+// keep fetches the set in the background.
+func (set *KeySet) keep() {
+	for {
+		pause := set.refresh
+		if set.Err() != nil && set.refetch < pause {
+			pause = set.refetch
+		}
+		timer := time.NewTimer(pause)
+		select {
+		case <-set.until.Done():
+			timer.Stop()
+			return
+		case <-timer.C:
+			set.wait(set.start())
+		}
+	}
+}
+
+// start returns the fetch that is under way, or starts one.
+func (set *KeySet) start() *flight {
+	set.mutex.Lock()
+	defer set.mutex.Unlock()
+	return set.startLocked()
+}
+
+func (set *KeySet) startLocked() *flight {
+	if set.underWay == nil {
+		begun := &flight{time.Now(), make(chan struct{})}
+		set.underWay = begun
+		go set.run(begun)
+	}
+	return set.underWay
+}
+
+// run fetches the set, and takes it over if it is usable.
+func (set *KeySet) run(begun *flight) {
+	until, cancel := context.WithTimeout(set.until, set.timeout)
+	defer cancel()
+	found, err := set.usable(until)
+	set.mutex.Lock()
+	defer set.mutex.Unlock()
+	if err == nil {
+		set.current.Store(found)
+	}
+	set.failure = err
+	set.underWay = nil
+	close(begun.ended)
+}
+
+// usable returns the set that is fetched, if it is usable.
+func (set *KeySet) usable(until context.Context) (*fetched, error) {
+	text, err := set.fetch(until)
+	if err != nil {
+		return nil, fetchError("%v", err)
+	}
+	if err := until.Err(); err != nil {
+		return nil, fetchError("%v", err)
+	}
+	if len(text) > largestSet {
+		return nil, fetchError("it has more than %d bytes", largestSet)
+	}
+	key, err := JWKSet(text)
+	if err != nil {
+		return nil, err
+	}
+	named := namedKeys(key)
+	if err := checkUsable(named); err != nil {
+		return nil, err
+	}
+	texts := map[string][]json.RawMessage{}
+	for _, it := range named {
+		texts[it.kid] = append(texts[it.kid], it.text)
+	}
+	byID := make(map[string]Key, len(texts))
+	for kid, it := range texts {
+		byID[kid] = setFrom(it...)
+	}
+	return &fetched{key, byID, time.Now()}, nil
+}
+
+// wait waits for the end of a fetch, but no longer than until the timeout after its begin.
+func (set *KeySet) wait(begun *flight) {
+	timer := time.NewTimer(time.Until(begun.begun.Add(set.timeout)))
+	defer timer.Stop()
+	select {
+	case <-begun.ended:
+	case <-timer.C:
+	}
+}
+
+// after returns the set that follows one without the key of a token, if there is another, or if it is time to fetch one.
+func (set *KeySet) after(seen *fetched) *fetched {
+	set.mutex.Lock()
+	if last := set.current.Load(); last != seen {
+		set.mutex.Unlock()
+		return last
+	}
+	if set.underWay == nil && time.Now().Before(set.from) {
+		set.mutex.Unlock()
+		return seen
+	}
+	begun := set.startLocked()
+	set.mutex.Unlock()
+	set.wait(begun)
+	set.mutex.Lock()
+	defer set.mutex.Unlock()
+	set.from = time.Now().Add(set.refetch)
+	return set.current.Load()
+}

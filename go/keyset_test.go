@@ -1,0 +1,594 @@
+package jwt
+
+import (
+	"bufio"
+	"context"
+	"crypto/ed25519"
+	"crypto/sha256"
+	"errors"
+	"fmt"
+	"io"
+	"net"
+	"net/http"
+	"net/http/httptest"
+	"os"
+	"path/filepath"
+	"runtime"
+	"strings"
+	"sync"
+	"sync/atomic"
+	"testing"
+	"time"
+)
+
+// shortly is the timeout of fetches in these tests, and soon the time between two of them.
+const (
+	shortly = 500 * time.Millisecond
+	soon    = 150 * time.Millisecond
+)
+
+var eddsa = []string{"EdDSA"}
+
+// signer returns the key of an id.
+func signer(kid string) ed25519.PrivateKey {
+	seed := sha256.Sum256([]byte(kid))
+	return ed25519.NewKeyFromSeed(seed[:])
+}
+
+// setOf returns the set of these keys.
+func setOf(kids ...string) string {
+	keys := []string{}
+	for _, kid := range kids {
+		public := signer(kid)[ed25519.PublicKeySize:]
+		keys = append(keys, fmt.Sprintf(`{"kty":"OKP","crv":"Ed25519","kid":%q,"x":%q}`, kid, part(public)))
+	}
+	return `{"keys":[` + strings.Join(keys, ",") + `]}`
+}
+
+// tokenOf returns a token that names a key, signed by this or by another one.
+func tokenOf(kid, by string) string {
+	message := part([]byte(fmt.Sprintf(`{"alg":"EdDSA","kid":%q}`, kid))) + "." + part([]byte(`{"exp":1700000001}`))
+	return message + "." + part(ed25519.Sign(signer(by), []byte(message)))
+}
+
+// keyServer answers each request on the loopback as its answer does, which is given the connection.
+type keyServer struct {
+	uri     string
+	answer  atomic.Value
+	fetches atomic.Int32
+	closed  chan struct{}
+}
+
+type reply = func(*keyServer, net.Conn)
+
+func serve(t *testing.T, first reply) *keyServer {
+	listening, err := net.Listen("tcp", "127.0.0.1:0")
+	if err != nil {
+		t.Fatal(err)
+	}
+	server := &keyServer{uri: "http://" + listening.Addr().String() + "/keys", closed: make(chan struct{})}
+	server.answer.Store(first)
+	t.Cleanup(func() { close(server.closed); listening.Close() })
+	go func() {
+		for {
+			conn, err := listening.Accept()
+			if err != nil {
+				return
+			}
+			go func() {
+				defer conn.Close()
+				if _, err := http.ReadRequest(bufio.NewReader(conn)); err != nil {
+					return
+				}
+				server.fetches.Add(1)
+				now, _ := server.answer.Load().(reply)
+				now(server, conn)
+			}()
+		}
+	}()
+	return server
+}
+
+func head(status string, length int, more string) string {
+	return fmt.Sprintf("HTTP/1.1 %s\r\nConnection: close\r\nContent-Length: %d\r\n%s\r\n", status, length, more)
+}
+
+func says(text string) reply { return sends(head("200 OK", len(text), "") + text) }
+
+func sends(text string) reply {
+	return func(_ *keyServer, conn net.Conn) { _, _ = io.WriteString(conn, text) }
+}
+
+func hangsAfter(text string) reply {
+	return func(server *keyServer, conn net.Conn) {
+		_, _ = io.WriteString(conn, text)
+		<-server.closed
+	}
+}
+
+// dribbles sends byte by byte, so that no single read waits for long.
+func dribbles(text string) reply {
+	return func(server *keyServer, conn net.Conn) {
+		for _, it := range []byte(text + strings.Repeat(" ", 4000)) {
+			if _, err := conn.Write([]byte{it}); err != nil {
+				return
+			}
+			select {
+			case <-server.closed:
+				return
+			case <-time.After(10 * time.Millisecond):
+			}
+		}
+	}
+}
+
+func endless(_ *keyServer, conn net.Conn) {
+	_, err := io.WriteString(conn, "HTTP/1.1 200 OK\r\nConnection: close\r\n\r\n")
+	for err == nil {
+		_, err = conn.Write(make([]byte, 1<<16))
+	}
+}
+
+func redirects(to string) reply { return sends(head("302 Found", 0, "Location: "+to+"\r\n")) }
+
+// misbehaving has answers that are no usable set, though many have the key b.
+func misbehaving(t *testing.T) map[string]reply {
+	set := setOf("b")
+	file := filepath.Join(t.TempDir(), "keys")
+	if err := os.WriteFile(file, []byte(set), 0o600); err != nil {
+		t.Fatal(err)
+	}
+	return map[string]reply{
+		"hangs before the head":         hangsAfter(""),
+		"hangs in the head":             hangsAfter("HTTP/1.1 200 OK\r\nConte"),
+		"hangs in the body":             hangsAfter(head("200 OK", len(set), "") + set[:20]),
+		"hangs after the body":          hangsAfter(head("200 OK", len(set)+1, "") + set),
+		"dribbles the head":             dribbles("HTTP/1.1 200 OK\r\nX: "),
+		"dribbles the body":             dribbles(head("200 OK", 100000, "") + set),
+		"continues without end":         dribbles(strings.Repeat("HTTP/1.1 100 Continue\r\n\r\n", 100)),
+		"cuts before the head":          sends(""),
+		"cuts the head":                 sends("HTTP/1.1 200 OK\r\nConte"),
+		"cuts the body":                 sends(head("200 OK", len(set), "") + set[:20]),
+		"cuts a body without a length":  sends("HTTP/1.1 200 OK\r\nConnection: close\r\n\r\n" + set[:20]),
+		"cuts a body in chunks":         sends(fmt.Sprintf("HTTP/1.1 200 OK\r\nTransfer-Encoding: chunked\r\n\r\n%x\r\n%s\r\n", len(set), set)),
+		"says that it is longer":        sends(head("200 OK", len(set)+1, "") + set),
+		"says that it is far longer":    sends(head("200 OK", 1<<62, "") + set),
+		"says that it is shorter":       sends(head("200 OK", 20, "") + set),
+		"says no length":                sends("HTTP/1.1 200 OK\r\nContent-Length: many\r\n\r\n" + set),
+		"serves HTML":                   says("<!doctype html><p>Please log in"),
+		"serves a set and 500":          sends(head("500 Oops", len(set), "") + set),
+		"serves a set and 404":          sends(head("404 Not Found", len(set), "") + set),
+		"serves nothing":                says(""),
+		"serves 204":                    sends("HTTP/1.1 204 No Content\r\n\r\n"),
+		"serves more than 1 MiB":        says(set + strings.Repeat(" ", 1<<20)),
+		"serves without end":            endless,
+		"serves null":                   says("null"),
+		"serves a list":                 says("[]"),
+		"serves no keys":                says("{}"),
+		"serves an empty set":           says(`{"keys":[]}`),
+		"serves keys that are no list":  says(`{"keys":{"a":1}}`),
+		"serves a key without a kid":    says(strings.Replace(set, `"kid":"b",`, "", 1)),
+		"serves keys of unknown kinds":  says(`{"keys":[{"kty":"x","kid":"b"},{"kty":"EC","crv":"P-521","kid":"b","x":"AA","y":"AA"}]}`),
+		"serves a point off the curve":  says(`{"keys":[{"kty":"EC","crv":"P-256","kid":"b","x":"AQAB","y":"AQAB"}]}`),
+		"serves a secret that is empty": says(`{"keys":[{"kty":"oct","kid":"b","k":""}]}`),
+		"serves deep lists":             says(strings.Repeat("[", 100000)),
+		"serves what is not UTF-8":      says("{\"keys\":[\"\xff\"]}"),
+		"serves no HTTP":                sends("\x00\x00\x00\x00\r\n\r\n"),
+		"redirects to a file":           redirects("file://" + file),
+		"redirects to ftp":              redirects("ftp://127.0.0.1/keys"),
+		"redirects to data":             redirects("data:application/json," + set),
+		"redirects to itself":           redirects("/keys"),
+		"redirects to no host":          redirects("http://"),
+		"redirects to no port":          redirects("http://[::1/keys"),
+		"redirects to nowhere":          sends(head("302 Found", 0, "")),
+	}
+}
+
+// following returns a set whose times are short, and a verifier by it.
+func following(t *testing.T, uri string, with ...KeySetOption) (*KeySet, *Verifier) {
+	t.Helper()
+	until, cancel := context.WithCancel(context.Background())
+	t.Cleanup(cancel)
+	with = append([]KeySetOption{WithRefresh(time.Hour), WithRefetch(soon), WithTimeout(shortly)}, with...)
+	set, err := FetchKeySet(until, uri, nil, with...)
+	if err != nil {
+		t.Fatal(err)
+	}
+	verifier, err := NewVerifier(set.Key(), eddsa, at(now))
+	if err != nil {
+		t.Fatal(err)
+	}
+	return set, verifier
+}
+
+// wants verifies tokens, each with the kind of its refusal, or nil.
+func wants(t *testing.T, verifier *Verifier, token string, want error) {
+	t.Helper()
+	begin := time.Now()
+	if _, err := verifier.Parse(token); !errors.Is(err, want) {
+		t.Errorf("%v, not %v", err, want)
+	}
+	if took := time.Since(begin); took > shortly+3*time.Second {
+		t.Errorf("%v", took)
+	}
+}
+
+func TestRotation(t *testing.T) {
+	server := serve(t, says(setOf("a")))
+	set, verifier := following(t, server.uri)
+	wants(t, verifier, tokenOf("a", "a"), nil)
+	wants(t, verifier, tokenOf("a", "b"), ErrSignature)
+	if server.fetches.Load() != 1 {
+		t.Error(server.fetches.Load())
+	}
+	before := set.Fetched()
+	server.answer.Store(says(setOf("b")))
+	wants(t, verifier, tokenOf("b", "b"), nil)
+	wants(t, verifier, tokenOf("b", "a"), ErrSignature)
+	wants(t, verifier, tokenOf("a", "a"), ErrUnknownKey)
+	if server.fetches.Load() != 2 || !set.Fetched().After(before) || set.Err() != nil {
+		t.Error(server.fetches.Load(), set.Err())
+	}
+}
+
+// TestRefetches has many unknown kids: they cause a fetch at most every few seconds, and a token without a kid none.
+func TestRefetches(t *testing.T) {
+	server := serve(t, says(setOf("a")))
+	_, verifier := following(t, server.uri)
+	message := part([]byte(`{"alg":"EdDSA"}`)) + "." + part([]byte(`{"exp":1700000001}`))
+	without := message + "." + part(ed25519.Sign(signer("a"), []byte(message)))
+	begin := time.Now()
+	for i := 0; i < 20; i++ {
+		wants(t, verifier, without, ErrUnknownKey)
+		wants(t, verifier, tokenOf(fmt.Sprint("x", i), "a"), ErrUnknownKey)
+		wants(t, verifier, "a.b.c", ErrMalformed)
+	}
+	if fetches := server.fetches.Load(); fetches != 2 && time.Since(begin) < soon {
+		t.Error(fetches)
+	}
+	time.Sleep(soon + 10*time.Millisecond)
+	before := server.fetches.Load()
+	wants(t, verifier, tokenOf("y", "a"), ErrUnknownKey)
+	if fetches := server.fetches.Load(); fetches != before+1 {
+		t.Error(fetches)
+	}
+}
+
+// TestMisbehaving has servers that misbehave. The last set stays, and no call takes longer than the timeout.
+func TestMisbehaving(t *testing.T) {
+	for name, it := range misbehaving(t) {
+		it := it
+		t.Run(name, func(t *testing.T) {
+			t.Parallel()
+			server := serve(t, says(setOf("a")))
+			set, verifier := following(t, server.uri)
+			server.answer.Store(it)
+			wants(t, verifier, tokenOf("b", "b"), ErrUnknownKey)
+			// a call returns at the timeout, and the fetch ends soon after it
+			err := set.Err()
+			for i := 0; i < 300 && err == nil; i++ {
+				time.Sleep(5 * time.Millisecond)
+				err = set.Err()
+			}
+			if !errors.Is(err, ErrFetch) && !errors.Is(err, ErrKey) {
+				t.Error(err)
+			}
+			wants(t, verifier, tokenOf("a", "a"), nil)
+			wants(t, verifier, tokenOf("a", "b"), ErrSignature)
+			server.answer.Store(says(setOf("b")))
+			time.Sleep(soon + 10*time.Millisecond)
+			wants(t, verifier, tokenOf("b", "b"), nil)
+			wants(t, verifier, tokenOf("a", "a"), ErrUnknownKey)
+			server.answer.Store(it)
+			begin := time.Now()
+			first, err := FetchKeySet(context.Background(), server.uri, nil, WithTimeout(shortly))
+			if first != nil || !errors.Is(err, ErrFetch) && !errors.Is(err, ErrKey) || time.Since(begin) > shortly+3*time.Second {
+				t.Error(first, err, time.Since(begin))
+			}
+		})
+	}
+}
+
+// TestOldSet has a server that serves an old set for a while: the last set that it served decides.
+func TestOldSet(t *testing.T) {
+	server := serve(t, says(setOf("a")))
+	_, verifier := following(t, server.uri)
+	server.answer.Store(says(setOf("b")))
+	wants(t, verifier, tokenOf("b", "b"), nil)
+	server.answer.Store(says(setOf("a")))
+	time.Sleep(soon + 10*time.Millisecond)
+	wants(t, verifier, tokenOf("a", "a"), nil)
+	wants(t, verifier, tokenOf("b", "b"), ErrUnknownKey)
+	wants(t, verifier, tokenOf("a", "b"), ErrSignature)
+	server.answer.Store(says(setOf("b", "a")))
+	time.Sleep(soon + 10*time.Millisecond)
+	wants(t, verifier, tokenOf("b", "b"), nil)
+	wants(t, verifier, tokenOf("a", "a"), nil)
+}
+
+func TestBackground(t *testing.T) {
+	server := serve(t, says(setOf("a")))
+	until, cancel := context.WithCancel(context.Background())
+	set, err := FetchKeySet(until, server.uri, nil, WithRefresh(10*time.Millisecond), WithTimeout(shortly), WithRefetch(time.Hour))
+	if err != nil {
+		t.Fatal(err)
+	}
+	verifier, err := NewVerifier(set.Key(), eddsa, at(now))
+	if err != nil {
+		t.Fatal(err)
+	}
+	// a usable set that serves for none of the algorithms has no key of the token
+	for _, it := range []string{setOf("b"), `{"keys":[{"kty":"oct","kid":"a","k":"c2VjcmV0"}]}`} {
+		server.answer.Store(says(it))
+		for i := 0; i < 200; i++ {
+			if _, err = verifier.Parse(tokenOf("a", "a")); err != nil {
+				break
+			}
+			time.Sleep(5 * time.Millisecond)
+		}
+		if !errors.Is(err, ErrUnknownKey) && !errors.Is(err, ErrKey) {
+			t.Error(err)
+		}
+		server.answer.Store(says(setOf("a")))
+		for i := 0; i < 200 && err != nil; i++ {
+			_, err = verifier.Parse(tokenOf("a", "a"))
+			time.Sleep(5 * time.Millisecond)
+		}
+		if err != nil {
+			t.Error(err)
+		}
+	}
+	cancel()
+	time.Sleep(30 * time.Millisecond)
+	fetches := server.fetches.Load()
+	time.Sleep(50 * time.Millisecond)
+	if server.fetches.Load() != fetches {
+		t.Error("it is fetched after the end")
+	}
+	wants(t, verifier, tokenOf("a", "a"), nil)
+	wants(t, verifier, tokenOf("b", "b"), ErrUnknownKey)
+}
+
+// TestKeySetGoroutines has many goroutines see a new kid at once: they wait for one fetch.
+func TestKeySetGoroutines(t *testing.T) {
+	server := serve(t, says(setOf("a")))
+	_, verifier := following(t, server.uri, WithTimeout(5*time.Second), WithRefetch(time.Hour))
+	server.answer.Store(func(server *keyServer, conn net.Conn) {
+		time.Sleep(50 * time.Millisecond)
+		says(setOf("b"))(server, conn)
+	})
+	var group sync.WaitGroup
+	for i := 0; i < 100; i++ {
+		group.Add(1)
+		go func() {
+			defer group.Done()
+			if _, err := verifier.Parse(tokenOf("b", "b")); err != nil {
+				t.Error(err)
+			}
+		}()
+	}
+	group.Wait()
+	if server.fetches.Load() != 2 {
+		t.Error(server.fetches.Load())
+	}
+}
+
+// TestStubborn has a function that does not end when its context does: no call waits for longer than the timeout in all, and no
+// further fetch begins.
+func TestStubborn(t *testing.T) {
+	var calls atomic.Int32
+	goOn := make(chan struct{})
+	set, err := NewKeySet(context.Background(), func(context.Context) ([]byte, error) {
+		if calls.Add(1) > 1 {
+			<-goOn
+			return []byte(setOf("b")), nil
+		}
+		return []byte(setOf("a")), nil
+	}, WithTimeout(50*time.Millisecond), WithRefetch(time.Millisecond))
+	if err != nil {
+		t.Fatal(err)
+	}
+	verifier, err := NewVerifier(set.Key(), eddsa, at(now))
+	if err != nil {
+		t.Fatal(err)
+	}
+	begin := time.Now()
+	for i := 0; i < 100; i++ {
+		wants(t, verifier, tokenOf("b", "b"), ErrUnknownKey)
+		wants(t, verifier, tokenOf("a", "a"), nil)
+	}
+	if took := time.Since(begin); took > time.Second || calls.Load() != 2 {
+		t.Error(took, calls.Load())
+	}
+	close(goOn)
+	for i := 0; i < 200 && calls.Load() == 2; i++ {
+		_, _ = verifier.Parse(tokenOf("b", "b"))
+		time.Sleep(5 * time.Millisecond)
+	}
+	wants(t, verifier, tokenOf("b", "b"), nil)
+	_, err = NewKeySet(context.Background(), func(context.Context) ([]byte, error) { select {} }, WithTimeout(50*time.Millisecond))
+	if !errors.Is(err, ErrFetch) {
+		t.Error(err)
+	}
+}
+
+func TestManyKeys(t *testing.T) {
+	keys := []string{strings.TrimSuffix(setOf("9999"), "]}")}
+	for i := 0; i < 9999; i++ {
+		other := sha256.Sum256([]byte{byte(i), byte(i >> 8)})
+		keys = append(keys, fmt.Sprintf(`{"kty":"OKP","crv":"Ed25519","kid":"%d","x":%q}`, i, part(other[:])))
+	}
+	many := strings.Join(keys, ",") + "]}"
+	if len(many) > largestSet {
+		t.Fatal(len(many))
+	}
+	server := serve(t, says(many))
+	_, verifier := following(t, server.uri, WithTimeout(20*time.Second), WithRefetch(time.Hour))
+	if _, err := verifier.Parse(tokenOf("x", "x")); !errors.Is(err, ErrUnknownKey) {
+		t.Error(err)
+	}
+	// the set is not read for each token
+	begin := time.Now()
+	for i := 0; i < 50; i++ {
+		wants(t, verifier, tokenOf("9999", "9999"), nil)
+		wants(t, verifier, tokenOf("9999", "9998"), ErrSignature)
+		wants(t, verifier, tokenOf("x", "x"), ErrUnknownKey)
+	}
+	if took := time.Since(begin); took > time.Second {
+		t.Error(took)
+	}
+}
+
+// TestKeysOfOneKid has sets by which the library decides alike, whether it has the whole set or the keys of one kid: of several the
+// first counts, as does a key's own algorithm.
+func TestKeysOfOneKid(t *testing.T) {
+	keys := strings.TrimSuffix(setOf("a", "b", "c", "d"), "]}")
+	keys = strings.Replace(strings.Replace(keys, `"kid":"a"`, `"kid":"x"`, 1), `"kid":"b"`, `"kid":"x"`, 1)
+	keys = strings.Replace(keys, `"kid":"c"`, `"kid":"c","alg":"ES256"`, 1)
+	text := strings.Replace(keys, `"kid":"d"`, `"kid":"e","k\u0069d":"\u0064"`, 1) + "]}"
+	whole, err := JWKSet([]byte(text))
+	if err != nil {
+		t.Fatal(err)
+	}
+	set, err := NewKeySet(context.Background(), func(context.Context) ([]byte, error) { return []byte(text), nil })
+	if err != nil {
+		t.Fatal(err)
+	}
+	for _, key := range []Key{whole, set.Key()} {
+		verifier, err := NewVerifier(key, eddsa, at(now))
+		if err != nil {
+			t.Fatal(err)
+		}
+		wants(t, verifier, tokenOf("x", "a"), nil)
+		wants(t, verifier, tokenOf("x", "b"), ErrSignature)
+		wants(t, verifier, tokenOf("c", "c"), ErrAlgorithm)
+		wants(t, verifier, tokenOf("d", "d"), nil)
+		wants(t, verifier, tokenOf("e", "d"), ErrUnknownKey)
+		wants(t, verifier, tokenOf("", "a"), ErrUnknownKey)
+	}
+}
+
+func TestRedirects(t *testing.T) {
+	target := serve(t, says(setOf("a")))
+	server := serve(t, redirects(target.uri))
+	_, verifier := following(t, server.uri)
+	wants(t, verifier, tokenOf("a", "a"), nil)
+	secure := httptest.NewTLSServer(http.HandlerFunc(func(to http.ResponseWriter, of *http.Request) { http.Redirect(to, of, target.uri, 302) }))
+	defer secure.Close()
+	_, err := FetchKeySet(context.Background(), secure.URL, secure.Client())
+	if !errors.Is(err, ErrFetch) || !strings.Contains(err.Error(), "from https to http") {
+		t.Error(err)
+	}
+	upgrading := serve(t, redirects(secure.URL))
+	if _, err = FetchKeySet(context.Background(), upgrading.uri, secure.Client()); !errors.Is(err, ErrFetch) || !strings.Contains(err.Error(), "from https to http") {
+		t.Error(err)
+	}
+	stops := &http.Client{CheckRedirect: func(*http.Request, []*http.Request) error { return errors.New("no redirects") }}
+	if _, err = FetchKeySet(context.Background(), server.uri, stops); !errors.Is(err, ErrFetch) || !strings.Contains(err.Error(), "no redirects") {
+		t.Error(err)
+	}
+}
+
+// TestKeySetArguments has arguments that can't be right: each is an error that names the argument.
+func TestKeySetArguments(t *testing.T) {
+	good := func(context.Context) ([]byte, error) { return []byte(setOf("a")), nil }
+	until := context.Background()
+	for _, it := range []struct {
+		name string
+		made func() (*KeySet, error)
+	}{
+		{"fetch", func() (*KeySet, error) { return NewKeySet(until, nil) }},
+		{"until", func() (*KeySet, error) { return NewKeySet(nil, good) }}, //nolint:staticcheck
+		{"place 1", func() (*KeySet, error) { return NewKeySet(until, good, WithRefresh(1), nil) }},
+		{"WithRefresh", func() (*KeySet, error) { return NewKeySet(until, good, WithRefresh(0)) }},
+		{"WithRefetch", func() (*KeySet, error) { return NewKeySet(until, good, WithRefetch(-1)) }},
+		{"WithTimeout", func() (*KeySet, error) { return NewKeySet(until, good, WithTimeout(-time.Second)) }},
+		{"uri", func() (*KeySet, error) { return FetchKeySet(until, "", nil) }},
+		{"uri", func() (*KeySet, error) { return FetchKeySet(until, "/keys", nil) }},
+		{"uri", func() (*KeySet, error) { return FetchKeySet(until, "https://", nil) }},
+		{"uri", func() (*KeySet, error) { return FetchKeySet(until, "http://h\n/", nil) }},
+		{"uri", func() (*KeySet, error) { return FetchKeySet(until, "file:///etc/passwd", nil) }},
+		{"uri", func() (*KeySet, error) { return FetchKeySet(until, "ftp://h/keys", nil) }},
+	} {
+		if set, err := it.made(); set != nil || !errors.Is(err, ErrOption) || !strings.Contains(err.Error(), it.name) {
+			t.Errorf("%s: %v, %v", it.name, set, err)
+		}
+	}
+	var none *KeySet
+	for _, it := range []Key{none.Key(), (&KeySet{}).Key()} {
+		if _, err := NewVerifier(it, eddsa); !errors.Is(err, ErrKey) {
+			t.Error(err)
+		}
+	}
+	before := runtime.NumGoroutine()
+	ended, cancel := context.WithCancel(until)
+	cancel()
+	if _, err := NewKeySet(ended, good); !errors.Is(err, ErrFetch) || runtime.NumGoroutine() > before+2 {
+		t.Error(err)
+	}
+	set, err := NewKeySet(until, good)
+	if err != nil {
+		t.Fatal(err)
+	}
+	verifier, err := NewVerifier(set.Key(), eddsa, at(now))
+	if err != nil {
+		t.Fatal(err)
+	}
+	wants(t, verifier, tokenOf("a", "a"), nil)
+	for _, verb := range []string{"%v", "%+v", "%#v", "%s", "%q", "%x", "%d"} {
+		text := fmt.Sprintf(verb, set) + fmt.Sprintf(verb, []any{set.Key(), verifier, struct{ of any }{set.Key()}})
+		if strings.Contains(text, "Ed25519") || strings.Contains(text, "45643235") {
+			t.Error(text)
+		}
+	}
+}
+
+// TestServes has keys and sets that serve for none of the algorithms.
+func TestServes(t *testing.T) {
+	rsa17 := `{"kty":"RSA","kid":"a","n":"AQAB","e":"AQAB"}`
+	offCurve := `{"kty":"EC","kid":"a","crv":"P-256","x":"AQAB","y":"AQAB"}`
+	secretJWK := `{"kty":"oct","kid":"a","k":"c2VjcmV0"}`
+	unnamed := strings.Replace(setOf("a"), `"kid":"a",`, "", 1)
+	set := func(keys ...string) string { return `{"keys":[` + strings.Join(keys, ",") + `]}` }
+	ed := strings.TrimSuffix(strings.TrimPrefix(setOf("b"), `{"keys":[`), `]}`)
+	for _, it := range []struct {
+		text       string
+		algorithms []string
+		serves     bool
+	}{
+		{setOf("a"), eddsa, true},
+		{setOf("a"), []string{"HS256"}, false},
+		{setOf("a"), []string{"ES256", "ES384"}, false},
+		{setOf("a"), []string{"EdDSA", "RS256"}, false},
+		{unnamed, eddsa, false},
+		{set(rsa17), []string{"RS256"}, false},
+		{set(rsa17, offCurve, secretJWK), []string{"RS256", "PS384"}, false},
+		{set(offCurve), []string{"ES256"}, false},
+		{set(secretJWK), []string{"RS256"}, false},
+		{set(secretJWK), []string{"HS512", "HS256"}, true},
+		{set(rsa17, offCurve, ed), eddsa, true},
+		{set(`{"kty":"oct","kid":"a","k":"c2VjcmV0","alg":"HS384"}`), []string{"HS256"}, false},
+	} {
+		key, err := JWKSet([]byte(it.text))
+		if err != nil {
+			t.Fatal(it.text, err)
+		}
+		if _, err := NewVerifier(key, it.algorithms); it.serves && err != nil || !it.serves && !errors.Is(err, ErrKey) {
+			t.Errorf("%s %v: %v", it.text, it.algorithms, err)
+		}
+	}
+	for _, it := range []string{rsa17, offCurve} {
+		key, err := JWK([]byte(it))
+		if err != nil {
+			t.Fatal(err)
+		}
+		for _, algorithm := range []string{"RS256", "ES256", "HS256"} {
+			if _, err := NewVerifier(key, []string{algorithm}); !errors.Is(err, ErrKey) {
+				t.Errorf("%s %s: %v", it, algorithm, err)
+			}
+		}
+	}
+	if _, err := NewVerifier(secretOf(t, secret), []string{"RS256"}); !errors.Is(err, ErrKey) || !strings.Contains(err.Error(), "RS256") {
+		t.Error(err)
+	}
+}
