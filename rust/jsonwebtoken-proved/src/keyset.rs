@@ -2,6 +2,7 @@
 
 use crate::calls::{self, Kind};
 use crate::{decode_header, decode_json, json, DecodingKey, Error, TokenData, Validation};
+use std::collections::HashMap;
 use std::fmt::{self, Display};
 use std::io::Read;
 use std::panic::{catch_unwind, AssertUnwindSafe};
@@ -57,7 +58,7 @@ struct Shared {
 
 #[derive(Default)]
 struct State {
-    current: Option<Arc<DecodingKey>>,
+    current: Option<Arc<Fetched>>,
     /// Why the last fetch gave no usable set.
     failure: Option<Error>,
     /// How many fetches have ended.
@@ -68,6 +69,21 @@ struct State {
     /// When the last fetch for an unknown `kid` was over.
     refetched: Option<Instant>,
     is_closed: bool,
+}
+
+/// A set that is usable.
+struct Fetched {
+    key: Arc<DecodingKey>,
+    /// The keys of each `kid`, as a set: a large one is not read for each token.
+    by_id: HashMap<String, DecodingKey>,
+    none: DecodingKey,
+}
+
+impl Fetched {
+    /// Returns the keys that a token may name. The library decides among them.
+    fn named_by(&self, kid: Option<&str>) -> &DecodingKey {
+        kid.and_then(|it| self.by_id.get(it)).unwrap_or(&self.none)
+    }
 }
 
 impl KeySet {
@@ -109,6 +125,10 @@ impl KeySet {
 
     /// Returns the set as it is now.
     pub fn current(&self) -> Arc<DecodingKey> {
+        Arc::clone(&self.fetched().key)
+    }
+
+    fn fetched(&self) -> Arc<Fetched> {
         let current = self.shared.lock().current.clone();
         current.expect("a set that was made has been fetched")
     }
@@ -120,18 +140,18 @@ impl KeySet {
 
     /// Verifies a token by the set. If it has no key of the token's `kid`, a later set decides.
     fn verify<T>(&self, token: &str, by: impl Fn(&DecodingKey) -> Result<T, Error>) -> Result<T, Error> {
-        let seen = self.current();
-        match by(&seen) {
-            Err(Error::UnknownKey) if names_key(token) => {
+        let (seen, kid) = (self.fetched(), kid_of(token));
+        match by(seen.named_by(kid.as_deref())) {
+            Err(Error::UnknownKey) if kid.is_some() => {
                 let later = self.after(&seen);
-                if Arc::ptr_eq(&later, &seen) { Err(Error::UnknownKey) } else { by(&later) }
+                if Arc::ptr_eq(&later, &seen) { Err(Error::UnknownKey) } else { by(later.named_by(kid.as_deref())) }
             }
             verified => verified,
         }
     }
 
     /// Returns the set that follows one without the key of a token, if there is another, or if it is time to fetch one.
-    fn after(&self, seen: &Arc<DecodingKey>) -> Arc<DecodingKey> {
+    fn after(&self, seen: &Arc<Fetched>) -> Arc<Fetched> {
         let mut state = self.shared.lock();
         if state.current.as_ref().map_or(false, |it| Arc::ptr_eq(it, seen)) && self.shared.ask(&mut state) {
             state = self.shared.wait(state);
@@ -192,11 +212,11 @@ impl Shared {
         !state.is_closed
     }
 
-    fn end(&self, found: Result<DecodingKey, Error>) {
+    fn end(&self, found: Result<Fetched, Error>) {
         let mut state = self.lock();
         match found {
-            Ok(key) => {
-                state.current = Some(Arc::new(key));
+            Ok(fetched) => {
+                state.current = Some(Arc::new(fetched));
                 state.failure = None;
             }
             Err(error) => state.failure = Some(error),
@@ -237,22 +257,37 @@ const UNSIGNED: [(&str, &str); 5] = [
 ];
 
 /// Returns a set, if one of its keys has a `kid`, and is one by which the library refuses no more than a signature.
-fn usable(text: &str) -> Result<DecodingKey, Error> {
-    let set = DecodingKey::from_jwk_set(text)?;
-    let verifies = |key: &[u8]| {
-        UNSIGNED.iter().any(|(algorithm, token)| {
-            let options = format!("{{\"algorithms\":[\"{algorithm}\"]}}");
-            calls::decode(Kind::Jwk, token.as_bytes(), key, &options, 0) == Err(Error::Signature)
-        })
-    };
-    let keys = json::keys_of(text.as_bytes()).unwrap_or_default();
-    if keys.iter().any(|(key, value)| value.members("kid").last().map_or(false, |it| it.text().is_some()) && verifies(key)) {
-        return Ok(set);
+fn usable(text: &str) -> Result<Fetched, Error> {
+    let key = Arc::new(DecodingKey::from_jwk_set(text)?);
+    let mut texts: HashMap<String, Vec<&[u8]>> = HashMap::new();
+    for (text, value) in json::keys_of(text.as_bytes()).unwrap_or_default() {
+        // of a repeated member the last one counts
+        if let Some(kid) = value.members("kid").last().and_then(|it| it.text()) {
+            texts.entry(kid.to_string()).or_default().push(text);
+        }
     }
-    Err(Error::Key("the set has no key by which tokens are verified".to_string()))
+    if !texts.values().flatten().any(|it| verifies(it)) {
+        return Err(Error::Key("the set has no key by which tokens are verified".to_string()));
+    }
+    let by_id = texts.into_iter().map(|(kid, it)| (kid, set_of(&it))).collect();
+    Ok(Fetched { key, by_id, none: set_of(&[]) })
 }
 
-fn names_key(token: &str) -> bool {
-    let header = decode_header(token).ok().and_then(|it| json::read(it.as_bytes()));
-    header.map_or(false, |it| !it.members("kid").is_empty())
+/// Returns whether a key is one by which the library refuses no more than a signature.
+fn verifies(key: &[u8]) -> bool {
+    UNSIGNED.iter().any(|(algorithm, token)| {
+        let options = format!("{{\"algorithms\":[\"{algorithm}\"]}}");
+        calls::decode(Kind::Jwk, token.as_bytes(), key, &options, 0) == Err(Error::Signature)
+    })
+}
+
+/// Returns the set of keys with these texts.
+fn set_of(keys: &[&[u8]]) -> DecodingKey {
+    DecodingKey { kind: Kind::Set, text: [&b"{\"keys\":["[..], &keys.join(&b","[..]), b"]}"].concat() }
+}
+
+/// Returns the `kid` of a token's header.
+fn kid_of(token: &str) -> Option<String> {
+    let header = json::read(decode_header(token).ok()?.as_bytes())?;
+    Some(header.members("kid").last()?.text()?.to_string())
 }

@@ -1,6 +1,8 @@
 //! A set of keys that is fetched from a server on the loopback, which rotates them and misbehaves.
 
-use jsonwebtoken_proved::{encode_json, Algorithm, EncodingKey, Error, Header, KeySet, Rotation, Validation};
+use jsonwebtoken_proved::{
+    decode_json, encode_json, Algorithm, DecodingKey, EncodingKey, Error, Header, KeySet, Rotation, Validation,
+};
 use std::io::{self, Cursor, Read, Write};
 use std::net::{SocketAddr, TcpListener, TcpStream};
 use std::sync::atomic::{AtomicUsize, Ordering};
@@ -11,7 +13,7 @@ use std::time::{Duration, Instant};
 
 const NOW: u64 = 1_700_000_000;
 /// How long the closure of these tests reads, and the set waits for it.
-const SHORTLY: Duration = Duration::from_millis(250);
+const SHORTLY: Duration = Duration::from_millis(600);
 /// The time between two fetches for an unknown kid.
 const SOON: Duration = Duration::from_millis(150);
 
@@ -221,7 +223,7 @@ fn verify(set: &KeySet, token: &str) -> Option<Error> {
     let mut validation = Validation::new(Algorithm::HS256);
     validation.leeway = 0;
     let refusal = set.decode_json(token, &validation, NOW).err();
-    assert!(begin.elapsed() < SHORTLY + Duration::from_secs(1), "{:?}", begin.elapsed());
+    assert!(begin.elapsed() < SHORTLY + Duration::from_secs(3), "{:?}", begin.elapsed());
     refusal
 }
 
@@ -288,7 +290,7 @@ fn misbehaves(answer: &Answer) {
     server.answers(answer.clone());
     let begin = Instant::now();
     assert!(matches!(KeySet::new(server.fetch(), rotation()), Err(Error::Fetch(_) | Error::Key(_))));
-    assert!(begin.elapsed() < SHORTLY + Duration::from_secs(1));
+    assert!(begin.elapsed() < SHORTLY + Duration::from_secs(3));
 }
 
 /// Waits until a token is verified or refused like this, while the set is fetched in the background.
@@ -378,15 +380,45 @@ fn a_closure_that_hangs() {
 fn many_keys() {
     let kids: Vec<_> = (0..10_000).map(|it| it.to_string()).collect();
     let set = set_of(&kids.iter().map(String::as_str).collect::<Vec<_>>());
-    let short = set.replace("IG9mIGF0IGxlYXN0IDMyIGJ5dGVz", "");
-    let many = if set.len() > 1 << 20 { short } else { set };
-    assert!(many.len() <= 1 << 20, "{}", many.len());
-    let text = many.clone();
-    let times = Rotation { timeout: Duration::from_secs(20), ..rotation() };
-    let set = KeySet::new(move || Ok::<_, Error>(Cursor::new(text.clone())), times).unwrap();
+    assert!(set.len() <= 1 << 20, "{}", set.len());
+    let times = Rotation { timeout: Duration::from_secs(20), refetch: Duration::from_secs(3600), ..rotation() };
+    let set = KeySet::new(move || Ok::<_, Error>(Cursor::new(set.clone())), times).unwrap();
+    assert!(set.decode_json(&token(Some("b"), "b"), &Validation::new(Algorithm::HS256), NOW).is_err());
+    // the set is not read for each token
     let begin = Instant::now();
-    assert_eq!(verify(&set, &token(Some("9999"), "x")), Some(Error::Signature));
-    println!("{:?}", begin.elapsed());
+    for _ in 0..100 {
+        accepts(&set, "9999");
+        refuses(&set, "9999", "b", Error::Signature);
+        refuses(&set, "b", "b", Error::UnknownKey);
+    }
+    assert!(begin.elapsed() < Duration::from_secs(1), "{:?}", begin.elapsed());
+}
+
+/// The library decides by the whole set, and by the keys of one kid, alike: of several the first counts, as does a key's own algorithm.
+#[test]
+fn keys_of_one_kid() {
+    let keys = [
+        key("a").replace("\"a\"", "\"x\""),
+        key("b").replace("\"b\"", "\"x\""),
+        key("c").replace('}', ",\"alg\":\"HS384\"}"),
+        key("d").replace("\"kid\":\"d\"", "\"kid\":\"e\",\"k\\u0069d\":\"\\u0064\""),
+    ];
+    let text = format!(r#"{{"keys":[{}]}}"#, keys.join(","));
+    let whole = DecodingKey::from_jwk_set(&text).unwrap();
+    let set = KeySet::new(move || Ok::<_, Error>(Cursor::new(text.clone())), rotation()).unwrap();
+    let wanted = [
+        (token(Some("x"), "a"), None),
+        (token(Some("x"), "b"), Some(Error::Signature)),
+        (token(Some("c"), "c"), Some(Error::Algorithm)),
+        (token(Some("d"), "d"), None),
+        (token(Some("e"), "d"), Some(Error::UnknownKey)),
+        (token(Some(""), "a"), Some(Error::UnknownKey)),
+        (token(None, "a"), Some(Error::UnknownKey)),
+    ];
+    for (it, refusal) in wanted {
+        assert_eq!(verify(&set, &it), refusal);
+        assert_eq!(decode_json(&it, &whole, &Validation::new(Algorithm::HS256), NOW).err(), refusal);
+    }
 }
 
 #[test]
