@@ -1,0 +1,3 @@
+pub mod Fitness
+pub mod Prepared
+pub mod Verifying

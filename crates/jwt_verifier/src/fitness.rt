@@ -1,0 +1,157 @@
+//! Whether a verifier can be made of keys.
+
+ghost use Rattle.std.specs.Prelude.{◌≡◌, ◌⊎◌, ◌↔◌, None, IfOk, IfErr, OnOk, IsTrue};
+ghost use Rattle.jwt_base.specs.KindOf.{IsMemory};
+ghost use Rattle.jwt_standard.specs.StandardKeys.{verifier_refusal};
+ghost use Rattle.jwt_verifier.specs.Fitness.{AreFit, AreSafe, CanServe, HasBlank, IsUnfit, JwkServes, Serves};
+ghost use Rattle.std.specs.List.{Any};
+
+use crate::keys::Keys;
+use jsonwebtoken::crypto::CryptoProvider;
+use jsonwebtoken::errors::{Error, ErrorKind, Result as Checked};
+use jsonwebtoken::{Algorithm, DecodingKey};
+use jwt_keys::jwk::Jwk;
+use jwt_keys::jwk_set::JwkSet;
+use jwt_secrets::{has_blank_key, is_blank_key};
+use jwt_standard::StandardProvider;
+use std::alloc::Global;
+use std::result::Result;
+
+/// The reason for which no verifier is made of keys.
+#[derive(Debug, Clone, Copy)]
+pub enum Unfit {
+    /// Anyone can sign with the secret, or with one of the set.
+    Blank,
+    /// No key verifies with any of the algorithms that the options list.
+    Useless,
+    /// Memory ran out.
+    Memory,
+}
+
+impl From<Error> for Unfit {
+    ghost use Rattle.jwt_verifier.specs.declared.fitness.Unfit.TheVariants as unfit;
+
+    ghost from_gives = { λ _ why. why ≡ unfit.Memory };
+
+    fn from(_refused: Error) -> Unfit {
+        Unfit::Memory
+    }
+}
+
+fn serves_one(alloc: Global, key: &DecodingKey, algorithm: &Algorithm) -> Checked<bool>
+    ensures ok { IfOk result (λ yes. IsTrue yes
+        ↔ (verifier_refusal algorithm.now key.now ≡ None)) }
+    ensures err { IfErr result IsMemory }
+{
+    match StandardProvider.verifier_factory(alloc, algorithm, key) {
+        Ok(_) => Ok(true),
+        Err(refused) => match refused.kind() {
+            ErrorKind::OutOfMemory => Err(refused),
+            _ => Ok(false),
+        },
+    }
+}
+
+fn key_serves(alloc: Global, key: &DecodingKey, algorithms: &[Algorithm]) -> Checked<bool>
+    ensures ok { IfOk result (λ yes. IsTrue yes ↔ Serves algorithms.now key.now) }
+    ensures err { IfErr result IsMemory }
+{
+    for algorithm in algorithms {
+        if serves_one(alloc, key, algorithm)? {
+            return Ok(true);
+        }
+    }
+    Ok(false)
+}
+
+// A JSON Web Key that stands for no key does not serve.
+fn jwk_serves(alloc: Global, jwk: &Jwk, algorithms: &[Algorithm]) -> Checked<bool>
+    ensures ok { IfOk result (λ yes. IsTrue yes ↔ JwkServes algorithms.now jwk.now) }
+    ensures err { IfErr result IsMemory }
+{
+    match DecodingKey::from_jwk(alloc, jwk) {
+        Ok(key) => {
+            let serves = key_serves(alloc, &key, algorithms)?;
+            Ok(serves)
+        }
+        Err(refused) => match refused.kind() {
+            ErrorKind::OutOfMemory => Err(refused),
+            _ => Ok(false),
+        },
+    }
+}
+
+fn set_serves(alloc: Global, set: &JwkSet, algorithms: &[Algorithm]) -> Checked<bool>
+    ensures ok { IfOk result (λ yes. IsTrue yes
+        ↔ Any (JwkServes algorithms.now) set.now.keys.items) }
+    ensures err { IfErr result IsMemory }
+{
+    for jwk in &set.keys {
+        if jwk_serves(alloc, jwk, algorithms)? {
+            return Ok(true);
+        }
+    }
+    Ok(false)
+}
+
+fn keys_serve(alloc: Global, keys: &Keys, algorithms: &[Algorithm]) -> Checked<bool>
+    ensures ok { IfOk result (λ yes. IsTrue yes ↔ CanServe algorithms.now keys.now) }
+    ensures err { IfErr result IsMemory }
+{
+    match keys {
+        Keys::One(key) => key_serves(alloc, key, algorithms),
+        Keys::Set(set) => set_serves(alloc, set, algorithms),
+    }
+}
+
+fn have_blank(alloc: Global, keys: &Keys) -> Checked<bool>
+    ensures ok { IfOk result (λ yes. IsTrue yes ↔ HasBlank keys.now) }
+    ensures err { IfErr result IsMemory }
+{
+    match keys {
+        Keys::One(key) => Ok(is_blank_key(key)),
+        Keys::Set(set) => has_blank_key(alloc, set),
+    }
+}
+
+fn check_safe(alloc: Global, keys: &Keys, allows_blank: bool) -> Result<(), Unfit>
+    ensures ok { OnOk result (AreSafe allows_blank keys.now) }
+    ensures err { IfErr result (λ why. (why ≡ Unfit.Memory)
+        ⊎ ((why ≡ Unfit.Blank) × (¬ IsTrue allows_blank) × HasBlank keys.now)) }
+{
+    if allows_blank {
+        return Ok(());
+    }
+    if have_blank(alloc, keys)? {
+        return Err(Unfit::Blank);
+    }
+    Ok(())
+}
+
+fn check_served(alloc: Global, keys: &Keys, algorithms: &[Algorithm]) -> Result<(), Unfit>
+    ensures ok { OnOk result (CanServe algorithms.now keys.now) }
+    ensures err { IfErr result (λ why. (why ≡ Unfit.Memory)
+        ⊎ ((why ≡ Unfit.Useless) × (¬ CanServe algorithms.now keys.now))) }
+{
+    if keys_serve(alloc, keys, algorithms)? {
+        Ok(())
+    } else {
+        Err(Unfit::Useless)
+    }
+}
+
+/// Refuses keys of which no verifier can be made for these algorithms: with which anyone can sign,
+/// unless that is allowed, and then those of which none serves.
+pub(crate) fn check_keys(
+    alloc: Global,
+    keys: &Keys,
+    algorithms: &[Algorithm],
+    allows_blank: bool,
+) -> Result<(), Unfit>
+    ensures ok { OnOk result (AreFit allows_blank algorithms.now keys.now) }
+    ensures err { IfErr result (IsUnfit allows_blank algorithms.now keys.now) }
+{
+    check_safe(alloc, keys, allows_blank)?;
+    check_served(alloc, keys, algorithms)?;
+    Ok(())
+}

@@ -1,0 +1,30 @@
+//! What a verifier allows its keys and its tokens.
+
+ghost use Rattle.std.specs.Prelude.{◌≡◌};
+ghost use Rattle.jwt_verifier.specs.Fitness.{token_limit, usual_limits};
+
+/// The greatest length of a token in bytes, unless the maker of a verifier sets another: 1 MiB.
+pub const TOKEN_LIMIT: usize = 1_048_576;
+
+/// What a verifier allows its keys and its tokens.
+#[derive(Clone, Copy)]
+pub struct Limits {
+    /// The greatest length of a token, in bytes. Reading a token takes memory in proportion to it.
+    pub max_len: usize,
+    /// Whether keys with which anyone can sign are allowed: secrets whose bytes are all 0, as in the
+    /// empty one (RFC 2104 section 2).
+    pub allows_blank: bool,
+}
+
+impl Limits {
+    /// Returns the limits of [`Verifier::new`](crate::Verifier::new): tokens of up to [`TOKEN_LIMIT`]
+    /// bytes, and no key with which anyone can sign.
+    pub fn new() -> Limits
+        ensures { result ≡ usual_limits }
+    {
+        Limits {
+            max_len: TOKEN_LIMIT,
+            allows_blank: false,
+        }
+    }
+}

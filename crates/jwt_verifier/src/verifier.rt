@@ -1,0 +1,260 @@
+//! Verifying many tokens with the same keys and options.
+
+ghost use Rattle.std.specs.Prelude.{◌≡◌, ◌↔◌, ◌<◌, ◌≤◌, ℕ, List, length, IfOk, IfErr, IsTrue, OnOk};
+ghost use Rattle.jwt_base.specs.KindOf.{IsMemory};
+ghost use Rattle.jsonwebtoken.specs.Calls.{Carries};
+ghost use Rattle.jsonwebtoken.specs.Laws.{HasLaws};
+ghost use Rattle.jsonwebtoken.specs.Order.{Decides};
+ghost use Rattle.jsonwebtoken.specs.Refused.{DecidesByTest};
+ghost use Rattle.jsonwebtoken.specs.Tests.{Compact, token_tests};
+ghost use Rattle.jwt_verifier.specs.Fitness.{usual_limits, AreFit, IsUnfit};
+ghost use Rattle.jwt_verifier.specs.Verifying.{call_with, order_of, IsBounded};
+
+use crate::fitness::{Unfit, check_keys};
+use crate::keys::Keys;
+use crate::limits::Limits;
+use crate::prepared::PreparedKeys;
+use jsonwebtoken::errors::{Error, ErrorKind, Result as Checked, new_error};
+use jsonwebtoken::json::Claims;
+use jsonwebtoken::{
+    Algorithm, DecodingKey, Refusal, TokenData, Validation, decode, decode_or_refusal,
+    decode_with_set, decode_with_set_or_refusal,
+};
+use jwt_keys::jwk_set::JwkSet;
+use std::alloc::Global;
+use std::result::Result;
+
+/// The number of keys of a set that are prepared: to look for one takes longer, the more there are.
+const PREPARED: usize = 16;
+
+/// Returns the value that a call made, or `None` if it was refused for another reason than memory.
+fn unless_refused<R>(made: Checked<R>) -> Checked<Option<R>>
+    ensures { IfErr result IsMemory }
+{
+    match made {
+        Ok(value) => Ok(Some(value)),
+        Err(error) if matches!(error.kind(), ErrorKind::OutOfMemory) => {
+            Err(new_error(ErrorKind::OutOfMemory))
+        }
+        Err(_) => Ok(None),
+    }
+}
+
+/// Prepares a key to verify with these algorithms.
+fn prepare_key(
+    alloc: Global,
+    prepared: &mut PreparedKeys,
+    key: &DecodingKey,
+    algorithms: &[Algorithm],
+) -> Checked<()>
+    ensures { IfErr result IsMemory }
+{
+    for algorithm in algorithms {
+        prepared.add(alloc, *algorithm, key)?;
+    }
+    Ok(())
+}
+
+/// Prepares the first keys of a set. A key that is malformed is left out.
+fn prepare_set(
+    alloc: Global,
+    prepared: &mut PreparedKeys,
+    set: &JwkSet,
+    algorithms: &[Algorithm],
+) -> Checked<()>
+    ensures { IfErr result IsMemory }
+{
+    for jwk in set.keys.iter().take(PREPARED) {
+        if let Some(key) = unless_refused(DecodingKey::from_jwk(alloc, jwk))? {
+            prepare_key(alloc, prepared, &key, algorithms)?;
+        }
+    }
+    Ok(())
+}
+
+/// Prepares the keys for many tokens, with these algorithms.
+fn prepare(alloc: Global, keys: &Keys, algorithms: &[Algorithm]) -> Checked<PreparedKeys>
+    ensures { IfErr result IsMemory }
+{
+    let mut prepared = PreparedKeys::new(alloc);
+    match keys {
+        Keys::One(key) => prepare_key(alloc, &mut prepared, key, algorithms)?,
+        Keys::Set(set) => prepare_set(alloc, &mut prepared, set, algorithms)?,
+    }
+    Ok(prepared)
+}
+
+/// Prepares the keys, unless no verifier can be made of them.
+fn prepare_fit(
+    alloc: Global,
+    keys: &Keys,
+    algorithms: &[Algorithm],
+    allows_blank: bool,
+) -> Result<PreparedKeys, Unfit>
+    ensures ok { OnOk result (AreFit allows_blank algorithms.now keys.now) }
+    ensures err { IfErr result (IsUnfit allows_blank algorithms.now keys.now) }
+{
+    check_keys(alloc, keys, algorithms, allows_blank)?;
+    let prepared = prepare(alloc, keys, algorithms)?;
+    Ok(prepared)
+}
+
+/// The reason for which a verifier does not accept a token.
+#[derive(Debug, Drop)]
+pub enum Rejection<E> {
+    /// The token is longer than the verifier allows.
+    TooLong,
+    /// A test of the token failed, or memory ran out.
+    Failed(E),
+}
+
+/// Keys and options, which are prepared once and decide many tokens, with all twelve algorithms.
+#[derive(Drop)]
+pub struct Verifier {
+    pub keys: Keys,
+    pub validation: Validation,
+    pub limits: Limits,
+    prepared: PreparedKeys,
+}
+
+impl Verifier {
+    /// Returns the verifier with these keys and options, for tokens of up to 1 MiB.
+    ///
+    /// Keys with which anyone can sign are refused with `Blank` (RFC 2104 section 2), and then those
+    /// of which none verifies with an algorithm of the options with `Useless`: a key of another
+    /// family, an RSA modulus of a length that is not allowed, a point that is not on the curve, a set
+    /// without any other key. A key of a set that does not serve is refused when a token names it.
+    pub fn new(alloc: Global, keys: Keys, validation: Validation) -> Result<Verifier, Unfit>
+        ensures ok { IfOk result (λ v. (v.keys ≡ keys) × (v.validation ≡ validation)
+            × (v.limits ≡ usual_limits)
+            × AreFit usual_limits.allows_blank validation.algorithms.items keys) }
+        ensures err { IfErr result (IsUnfit usual_limits.allows_blank
+            validation.algorithms.items keys) }
+    {
+        Verifier::with_limits(alloc, keys, validation, Limits::new())
+    }
+
+    /// Returns the verifier with these keys and options, like [`Verifier::new`], under other limits.
+    pub fn with_limits(
+        alloc: Global,
+        keys: Keys,
+        validation: Validation,
+        limits: Limits,
+    ) -> Result<Verifier, Unfit>
+        ensures ok { IfOk result (λ v. (v.keys ≡ keys) × (v.validation ≡ validation)
+            × (v.limits ≡ limits)
+            × AreFit limits.allows_blank validation.algorithms.items keys) }
+        ensures err { IfErr result (IsUnfit limits.allows_blank validation.algorithms.items keys) }
+    {
+        let prepared = prepare_fit(
+            alloc,
+            &keys,
+            validation.algorithms.as_slice(),
+            limits.allows_blank,
+        )?;
+        Ok(Verifier {
+            keys,
+            validation,
+            limits,
+            prepared,
+        })
+    }
+
+    fn is_too_long(&self, token: &[u8]) -> bool
+        ensures { IsTrue result ↔ (self.now.limits.max_len < length token.now) }
+    {
+        token.len() > self.limits.max_len
+    }
+
+    /// Verifies a token of any length.
+    fn decode_whole<T: Claims>(
+        &self,
+        alloc: Global,
+        token: &[u8],
+        now: u64,
+    ) -> Checked<TokenData<T>>
+        ensures decided { let call = call_with T.Claims self.now.keys self.now.validation
+            token.now now in
+            Decides (token_tests call) (order_of self.now.keys) (Carries call) result }
+        ensures laws { HasLaws (call_with T.Claims self.now.keys self.now.validation token.now now)
+            (order_of self.now.keys) (List ℕ) Compact token.now }
+    {
+        let provider = &self.prepared;
+        match &self.keys {
+            Keys::One(key) => decode(alloc, &provider, token, key, &self.validation, now),
+            Keys::Set(set) => decode_with_set(alloc, &provider, token, set, &self.validation, now),
+        }
+    }
+
+    /// Verifies a token in its compact form at the time `now`, in whole seconds since 1970-01-01
+    /// 00:00:00 UTC, and returns its header and its claims: what [`decode`] or [`decode_with_set`]
+    /// returns by `StandardProvider` with the verifier's keys and options. A token that is longer than
+    /// the limit is refused with `TooLong` before anything of it is read.
+    pub fn decode<T: Claims>(
+        &self,
+        alloc: Global,
+        token: &[u8],
+        now: u64,
+    ) -> Result<TokenData<T>, Rejection<Error>>
+        ensures decided { let call = call_with T.Claims self.now.keys self.now.validation
+            token.now now in
+            IsBounded (Decides (token_tests call) (order_of self.now.keys) (Carries call))
+            self.now.limits.max_len (length token.now) result }
+
+        // The laws of `decode` and `decode_with_set` hold: the token is accepted exactly at the
+        // times from the first to the last, among others.
+        ensures laws { length token.now ≤ self.now.limits.max_len
+            → HasLaws (call_with T.Claims self.now.keys self.now.validation token.now now)
+            (order_of self.now.keys) (List ℕ) Compact token.now }
+    {
+        if self.is_too_long(token) {
+            return Err(Rejection::TooLong);
+        }
+        match self.decode_whole(alloc, token, now) {
+            Ok(decoded) => Ok(decoded),
+            Err(refused) => Err(Rejection::Failed(refused)),
+        }
+    }
+
+    /// Verifies a token of any length.
+    fn decode_whole_or_refusal<T: Claims>(
+        &self,
+        alloc: Global,
+        token: &[u8],
+        now: u64,
+    ) -> Result<TokenData<T>, Refusal>
+        ensures { let call = call_with T.Claims self.now.keys self.now.validation token.now now in
+            DecidesByTest (token_tests call) (order_of self.now.keys) (Carries call) result }
+    {
+        let provider = &self.prepared;
+        match &self.keys {
+            Keys::One(key) => {
+                decode_or_refusal(alloc, &provider, token, key, &self.validation, now)
+            }
+            Keys::Set(set) => {
+                decode_with_set_or_refusal(alloc, &provider, token, set, &self.validation, now)
+            }
+        }
+    }
+
+    /// Verifies a token like [`Verifier::decode`]; a refusal has the first test that failed, and its
+    /// error. Whoever issued the token need not be told which test it was.
+    pub fn decode_or_refusal<T: Claims>(
+        &self,
+        alloc: Global,
+        token: &[u8],
+        now: u64,
+    ) -> Result<TokenData<T>, Rejection<Refusal>>
+        ensures { let call = call_with T.Claims self.now.keys self.now.validation token.now now in
+            IsBounded (DecidesByTest (token_tests call) (order_of self.now.keys) (Carries call))
+            self.now.limits.max_len (length token.now) result }
+    {
+        if self.is_too_long(token) {
+            return Err(Rejection::TooLong);
+        }
+        match self.decode_whole_or_refusal(alloc, token, now) {
+            Ok(decoded) => Ok(decoded),
+            Err(refused) => Err(Rejection::Failed(refused)),
+        }
+    }
+}
