@@ -11,8 +11,8 @@ use Rattle.jsonwebtoken.specs.Refused.{IsRefusal}
 use Rattle.jsonwebtoken.specs.declared.refusal.Test.{Test}
 use Rattle.jsonwebtoken.specs.Tests.{Call, Contents, Compact, KeySource, Given, InSet, decode_order, set_order, token_tests, verifying_call}
 use Rattle.serde_json.specs.declared.value.Value.{Value}
-use Rattle.jwt.specs.declared.keys.Keys.{Keys}
-use Rattle.jwt.specs.declared.keys.Keys.TheVariants.{One, Set}
+use Rattle.jwt_verifier.specs.declared.keys.Keys.{Keys}
+use Rattle.jwt_verifier.specs.declared.keys.Keys.TheVariants.{One, Set}
 use Rattle.jwt.specs.declared.verdict.Denial.{Denial}
 use Rattle.jwt.specs.declared.verdict.Denial.TheVariants.{Refused, OtherType}
 

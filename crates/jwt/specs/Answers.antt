@@ -13,7 +13,7 @@ use Rattle.jsonwebtoken.specs.Issue.{Issue, Written, IsIssued, encode_order, iss
 use Rattle.jsonwebtoken.specs.Order.{Passes, FailsFirst}
 use Rattle.jsonwebtoken.specs.Tests.{Contents}
 use Rattle.jwt.specs.Accepted.{IsAccepted, IsDenied}
-use Rattle.jwt.specs.declared.keys.Keys.{Keys}
+use Rattle.jwt_verifier.specs.declared.keys.Keys.{Keys}
 use Rattle.jwt.specs.declared.verdict.Denial.{Denial}
 use Rattle.jwt.specs.declared.verdict.Denial.TheVariants.{Refused, OtherType}
 use Rattle.jwt.specs.declared.verify.Form.{Form}

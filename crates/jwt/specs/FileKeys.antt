@@ -14,8 +14,8 @@ use Rattle.jwt_keys.specs.declared.jwk.Jwk.{Jwk}
 use Rattle.jwt_keys.specs.declared.jwk_set.JwkSet.{JwkSet}
 use Rattle.jwt_secrets.specs.Blank.{IsBlank, IsBlankKey, IsBlankJwk, HasBlankKey}
 use Rattle.jwt.specs.LineEnd.{IsSecret}
-use Rattle.jwt.specs.declared.keys.Keys.{Keys}
-use Rattle.jwt.specs.declared.keys.Keys.TheVariants.{One, Set}
+use Rattle.jwt_verifier.specs.declared.keys.Keys.{Keys}
+use Rattle.jwt_verifier.specs.declared.keys.Keys.TheVariants.{One, Set}
 use Rattle.jwt.specs.declared.request.KeyFile.{KeyFile}
 use Rattle.jwt.specs.declared.request.KeyFile.TheVariants as file
 

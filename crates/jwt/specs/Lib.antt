@@ -7,5 +7,4 @@ pub mod FileKeys
 pub mod Kept
 pub mod LineEnd
 pub mod Own
-pub mod Prepared
 pub mod Requested

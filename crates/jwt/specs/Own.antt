@@ -6,8 +6,8 @@ use Rattle.jwt_keys.specs.declared.jwk.Jwk.{Jwk}
 use Rattle.jsonwebtoken.specs.Order.{Passes}
 use Rattle.jsonwebtoken.specs.Tests.{Contents, header_call, header_order, named_key, token_tests}
 use Rattle.jwt.specs.FileKeys.{own_of}
-use Rattle.jwt.specs.declared.keys.Keys.{Keys}
-use Rattle.jwt.specs.declared.keys.Keys.TheVariants.{One, Set}
+use Rattle.jwt_verifier.specs.declared.keys.Keys.{Keys}
+use Rattle.jwt_verifier.specs.declared.keys.Keys.TheVariants.{One, Set}
 use Rattle.jwt.specs.declared.keys.Loaded.{Loaded}
 
 -- the algorithm that the key which a header names is for (RFC 7517 section 4.4)

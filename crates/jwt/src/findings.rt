@@ -2,13 +2,14 @@
 
 use crate::claim_findings::claim_finding;
 use crate::fault::{Fault, unless_refused};
-use crate::keys::{Keys, Loaded};
+use crate::keys::Loaded;
 use crate::part_findings::{cut, part_finding, text_finding};
 use jsonwebtoken::jwk::JwkSet;
 use jsonwebtoken::{
     Algorithm, AlgorithmFamily, Header, Refusal, Test, Text, Validation, decode_header,
 };
 use jwt_base::serialization::{json_value, part_bytes};
+use jwt_verifier::Keys;
 use serde_json::Value;
 use std::alloc::{AllocError, Global};
 

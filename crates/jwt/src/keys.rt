@@ -21,23 +21,14 @@ ghost use Rattle.jwt.specs.Own.{named_own, IsNamedBy, IsOwn, IsOwnOf};
 
 use crate::fault::{Fault, unless_refused};
 use crate::files::without_line_end;
-use crate::prepared::PreparedKeys;
 use crate::request::KeyFile;
 use jsonwebtoken::errors::{Error, ErrorKind};
 use jsonwebtoken::jwk::{Jwk, JwkSet};
 use jsonwebtoken::{Algorithm, DecodingKey, Header, Validation, decode_header};
 use jwt_key_files::pem::public_key_from_pem;
 use jwt_secrets::{has_blank_key, is_blank, is_blank_key};
+use jwt_verifier::{Keys, PreparedKeys};
 use std::alloc::Global;
-
-/// The keys that a token is verified with.
-#[derive(Drop)]
-pub enum Keys {
-    /// One key.
-    One(DecodingKey),
-    /// A set, in which the header of a token names one.
-    Set(JwkSet),
-}
 
 /// Keys, with what their file says of them.
 #[derive(Drop)]
@@ -54,6 +45,19 @@ pub struct Loaded {
 /// The number of keys of a set that are prepared: to look for one takes longer, the more there are.
 const PREPARED: usize = 16;
 
+fn prepare_for(
+    alloc: Global,
+    provider: &mut PreparedKeys,
+    key: &DecodingKey,
+    algorithm: Algorithm,
+) -> Result<(), Fault<'static>> {
+    match provider.add(alloc, algorithm, key) {
+        Ok(()) => Ok(()),
+        // the only refusal
+        Err(_) => Err(Fault::Memory),
+    }
+}
+
 /// Prepares a key for the algorithms that are accepted, or for its own if none is named.
 fn prepare_key(
     alloc: Global,
@@ -63,10 +67,10 @@ fn prepare_key(
     algorithms: &[Algorithm],
 ) -> Result<(), Fault<'static>> {
     if let (Some(algorithm), true) = (own, algorithms.is_empty()) {
-        provider.add(alloc, algorithm, key)?;
+        prepare_for(alloc, provider, key, algorithm)?;
     }
     for algorithm in algorithms {
-        provider.add(alloc, *algorithm, key)?;
+        prepare_for(alloc, provider, key, *algorithm)?;
     }
     Ok(())
 }

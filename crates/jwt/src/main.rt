@@ -24,7 +24,6 @@ mod moments;
 mod options;
 mod orders;
 mod part_findings;
-mod prepared;
 mod request;
 mod run;
 mod show;

@@ -3,8 +3,8 @@
 ghost use Rattle.std.specs.Prelude.{◌≡◌};
 ghost use Rattle.jwt.specs.Accepted.{order_of};
 
-use crate::keys::Keys;
 use jsonwebtoken::Test;
+use jwt_verifier::Keys;
 
 /// The name of the test of the type, which follows those of the library.
 pub const TYPE_AGREES: &str = "TypeAgrees";

@@ -8,10 +8,11 @@ ghost use Rattle.jsonwebtoken.specs.Refused.{DecidesByTest};
 ghost use Rattle.jsonwebtoken.specs.Tests.{Contents, token_tests};
 ghost use Rattle.jwt.specs.Accepted.{checking, order_of, HasType, IsAccepted, IsDenied};
 
-use crate::keys::{Keys, Loaded};
+use crate::keys::Loaded;
 use jsonwebtoken::{
     Header, Refusal, TokenData, Validation, decode_or_refusal, decode_with_set_or_refusal,
 };
+use jwt_verifier::Keys;
 use serde_json::Value;
 use std::alloc::Global;
 
