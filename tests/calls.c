@@ -760,6 +760,11 @@ static void status_texts(void) {
         {JWT_BAD_CLAIMS, "Claims not understood"},
         {JWT_BAD_KEY, "Key not understood"},
         {JWT_BLANK_KEY, "Anyone can sign"},
+        {JWT_NO_VERIFIER, "No verifier"},
+        {JWT_VERIFIER_IS_MADE, "Verifier already made"},
+        {JWT_UNFIT_KEY, "Key serves no algorithm"},
+        {JWT_TOKEN_TOO_LONG, "Token too long"},
+        {JWT_NO_MEMBER, "No such member"},
     };
     struct answer a;
     bool is_status[300] = {false};

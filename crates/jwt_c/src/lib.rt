@@ -1,19 +1,30 @@
 //! JSON Web Tokens for C. `include/jwtproved.h` describes how each is called.
 //!
-//! Each call has one clause: the status, the length and the buffer hold a result that the library's
-//! own definitions allow. Nothing is kept between calls.
+//! The clause of each call says that the status, the length and the buffer hold a result that the
+//! library's own definitions allow. Nothing is kept between calls but the verifiers that C holds.
 #![tactic(auto)]
 
-ghost use Rattle.std.specs.Prelude.{◌≡◌, Some, MatchOption};
+ghost use Rattle.std.specs.Prelude.{◌≡◌, ℕ, List, length, None, Some, MatchOption};
 ghost use Rattle.jwt_base.specs.Kind.{Kind, text_of};
 ghost use Rattle.jwt_c_calls.specs.BySignature.{AnswersSignature, AnswersEcdsa, LeavesInput};
 ghost use Rattle.jwt_c_calls.specs.Calls.{Answer, Leaves, LeavesSigned, AnswersHmac, AnswersKey, AnswersSet, AnswersSaid, AnswersHeader, AnswersNumbers, status_of};
 ghost use Rattle.jwt_c_calls.specs.FirstFailed.{AnswersFailedHmac, AnswersFailedKey, AnswersFailedSet};
 ghost use Rattle.jwt_c_calls.specs.Issued.{AnswersEncode, AnswersThumbprint, hash_numbered};
+ghost use Rattle.jwt_c_calls.specs.Keys.{AnswersWithKey, AnswersWithOptions, AnswersWithSet};
+ghost use Rattle.jwt_c_calls.specs.Members.{LeavesMember};
 ghost use Rattle.jwt_c_calls.specs.Moments.{LeavesMoments, AnswersMomentsHmac, AnswersMomentsKey, AnswersMomentsSet};
 ghost use Rattle.jwt_c_calls.specs.Secrets.{ChecksSecret, ChecksKey, ChecksSet};
 ghost use Rattle.jwt_c_calls.specs.Status.{kind_part, number, no_status, status_text, version, algorithm_numbered, IsGiven, IsKept};
+ghost use Rattle.jwt_c_verifier.specs.Verifiers.{limits_of, AreOfKey, AreOfSecret, AreOfSet};
+ghost use Rattle.jwt_c.specs.Held.{LeavesMade, LeavesShared, LeavesUntil, Takes};
 
+mod handle;
+mod held;
+mod kept;
+mod shared;
+
+use crate::handle::Handle;
+use crate::held::{leave_made, leave_until, put};
 use jsonwebtoken::signed_part;
 use jwt_c_calls::answers::{
     header_answer, hmac_answer, key_answer, numbers_answer, said_answer, set_answer,
@@ -21,9 +32,13 @@ use jwt_c_calls::answers::{
 use jwt_c_calls::by_signature::{ecdsa_answer, input_answer, signature_answer};
 use jwt_c_calls::first_failed::{hmac_failed_test, key_failed_test, leave_name, set_failed_test};
 use jwt_c_calls::issued::{encode_answer, thumbprint_answer};
+use jwt_c_calls::members::member_answer;
 use jwt_c_calls::moments::{hmac_moments, key_moments, leave_moments, set_moments};
 use jwt_c_calls::secrets::{key_status, secret_status, set_status};
 use jwt_c_calls::status::{algorithm_number, leave, number_of, put_bytes, status_of, text_of};
+use jwt_c_verifier::verifiers::{
+    answer_until, limits, verifier_of_key, verifier_of_secret, verifier_of_set,
+};
 use std::alloc::Global;
 
 const VERSION: &str = "0.1.0";
@@ -438,6 +453,184 @@ pub extern "C" fn jwt_check_set(alloc: Global, set: &[u8]) -> u32
     ensures { ChecksSet set.now result }
 {
     set_status(alloc, set)
+}
+
+/// Makes the verifier with the options and the key set that two texts describe (RFC 7517 section 5),
+/// for tokens of up to `max_len` bytes, or of up to 1 MiB if that is 0. With another status than 0 the
+/// handle holds none:
+///
+/// - 101 or 103 if a text is refused, as by `jwt_decode_set`;
+/// - 107 if anyone can sign with a key of the set (RFC 2104 section 2), unless `allows_blank`;
+/// - 110 if no key of the set verifies with any of the algorithms of the options;
+/// - 109 if the handle holds a verifier already, which is unchanged.
+#[unsafe(no_mangle)]
+pub extern "C" fn jwt_verifier_set(
+    alloc: Global,
+    set: &[u8],
+    options: &[u8],
+    max_len: usize,
+    allows_blank: bool,
+    verifier: &mut Handle,
+) -> u32
+    ensures { LeavesMade (AnswersWithSet options.now set.now (λ _ _ _. ⊥))
+        (AreOfSet options.now set.now) (limits_of max_len allows_blank)
+        verifier.old.held verifier.new.held result }
+{
+    let made = verifier_of_set(alloc, options, set, limits(max_len, allows_blank));
+    leave_made(alloc, made, verifier)
+}
+
+/// Makes the verifier with the options and the key that two texts describe, like `jwt_verifier_set`.
+/// The text of the key is one JSON Web Key (RFC 7517 section 4); one that is refused is refused as by
+/// `jwt_decode_key`.
+#[unsafe(no_mangle)]
+pub extern "C" fn jwt_verifier_key(
+    alloc: Global,
+    key: &[u8],
+    options: &[u8],
+    max_len: usize,
+    allows_blank: bool,
+    verifier: &mut Handle,
+) -> u32
+    ensures { LeavesMade (AnswersWithKey options.now key.now (λ _ _ _. ⊥))
+        (AreOfKey options.now key.now) (limits_of max_len allows_blank)
+        verifier.old.held verifier.new.held result }
+{
+    let made = verifier_of_key(alloc, options, key, limits(max_len, allows_blank));
+    leave_made(alloc, made, verifier)
+}
+
+/// Makes the verifier with the options that a text describes, and a secret, for HMAC, like
+/// `jwt_verifier_set`. It verifies as with a JSON Web Key of the secret.
+#[unsafe(no_mangle)]
+pub extern "C" fn jwt_verifier_secret(
+    alloc: Global,
+    secret: &[u8],
+    options: &[u8],
+    max_len: usize,
+    allows_blank: bool,
+    verifier: &mut Handle,
+) -> u32
+    ensures { LeavesMade (AnswersWithOptions options.now (λ _ _. ⊥))
+        (AreOfSecret options.now secret.now) (limits_of max_len allows_blank)
+        verifier.old.held verifier.new.held result }
+{
+    let made = verifier_of_secret(alloc, options, secret, limits(max_len, allows_blank));
+    leave_made(alloc, made, verifier)
+}
+
+/// Leaves one more handle of a verifier, for another thread: 0; 22 if memory ran out; 108 if the first
+/// handle holds none; 109 if the other holds one already, which is unchanged.
+#[unsafe(no_mangle)]
+pub extern "C" fn jwt_verifier_share(
+    alloc: Global,
+    verifier: &mut Handle,
+    other: &mut Handle,
+) -> u32
+    ensures held { verifier.new.held ≡ verifier.old.held }
+    ensures other { LeavesShared verifier.old.held other.old.held other.new.held result }
+{
+    if let Some(held) = other.take(alloc) {
+        *other = Handle::of(held);
+        return 109;
+    }
+    match verifier.take(alloc) {
+        Some(made) => {
+            let status = put(alloc, made.another().ok(), other);
+            *verifier = Handle::of(made);
+            status
+        }
+        None => 108,
+    }
+}
+
+/// Verifies a token at the time `now`, and writes its claims as JSON: what `jwt_decode_set` or
+/// `jwt_decode_key` writes with the texts that the verifier was made of. It sets `last` to the last
+/// time at which it accepts the token, or to 0 if it refuses it, and `test` to the number of the first
+/// test that failed, or to 0 if none did. The status is 108 for a handle that
+/// holds no verifier, and 111 for a token that is longer than the verifier allows, of which nothing is
+/// read.
+#[unsafe(no_mangle)]
+pub extern "C" fn jwt_verifier_decode(
+    alloc: Global,
+    verifier: &mut Handle,
+    token: &[u8],
+    now: u64,
+    room: &mut [u8],
+    len: &mut usize,
+    last: &mut u64,
+    test: &mut u32,
+) -> u32
+    ensures held { verifier.new.held ≡ verifier.old.held }
+    ensures decided { LeavesUntil verifier.old.held token.now now last.new test.new result len.new
+        room.old room.new }
+
+    // What the calls without a verifier leave, with any texts that it was made of.
+    ensures set { (options set : List ℕ)
+        → Takes verifier.old.held (AreOfSet options set) (length token.now)
+        → (a : Answer) × AnswersSet options token.now set now a
+        × Leaves a result len.new room.old room.new }
+    ensures key { (options key : List ℕ)
+        → Takes verifier.old.held (AreOfKey options key) (length token.now)
+        → (a : Answer) × AnswersKey options token.now key now a
+        × Leaves a result len.new room.old room.new }
+{
+    match verifier.take(alloc) {
+        Some(made) => {
+            let answer = answer_until(alloc, &made.verifier, token, now);
+            *verifier = Handle::of(made);
+            leave_until(answer, room, len, last, test)
+        }
+        None => {
+            *last = 0;
+            *test = 0;
+            *len = 0;
+            108
+        }
+    }
+}
+
+/// Frees the verifier that a handle holds, if it holds one: with the last handle of it, its keys. Then
+/// the handle holds none.
+#[unsafe(no_mangle)]
+pub extern "C" fn jwt_verifier_free(alloc: Global, verifier: &mut Handle)
+    ensures { verifier.new.held ≡ None }
+{
+    *verifier = Handle::none(alloc);
+}
+
+/// Writes the member of this name of a JSON object: the bytes of a string, without quotes and escapes,
+/// and JSON of any other value. `type_number` is set to 1 for null, 2 for a boolean, 3 for a number, 4
+/// for a string, 5 for an array and 6 for an object, and to 0 if there is no such member. A text that
+/// is not the JSON of an object is refused with 105, and the status is 112 if it has no member of this
+/// name. Of several members of one name the last counts.
+#[unsafe(no_mangle)]
+pub extern "C" fn jwt_member(
+    alloc: Global,
+    json: &[u8],
+    name: &[u8],
+    type_number: &mut u32,
+    room: &mut [u8],
+    len: &mut usize,
+) -> u32
+    ensures { LeavesMember json.now name.now type_number.new result len.new room.old room.new }
+{
+    match member_answer(alloc, json, name) {
+        Ok(Some(found)) => {
+            *type_number = found.type_number;
+            put_bytes(found.text.as_slice(), room, len)
+        }
+        Ok(None) => {
+            *type_number = 0;
+            *len = 0;
+            112
+        }
+        Err(refusal) => {
+            *type_number = 0;
+            *len = 0;
+            status_of(&refusal)
+        }
+    }
 }
 
 /// Writes the text of a status. For a number that is not a status, it returns 102.

@@ -1,4 +1,5 @@
 pub mod Answered
 pub mod Checked
+pub mod Depths
 pub mod Handed
 pub mod Statuses

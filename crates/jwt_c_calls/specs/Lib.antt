@@ -2,6 +2,7 @@ pub mod Status
 pub mod Inputs
 pub mod Calls
 pub mod Keys
+pub mod Members
 pub mod FirstFailed
 pub mod Moments
 pub mod BySignature

@@ -73,6 +73,25 @@ input_status input.Key = 106
 abbrev pub blank_key : ℕ
 blank_key = 107
 
+-- a handle holds no verifier, or holds one already
+abbrev pub no_verifier : ℕ
+no_verifier = 108
+
+abbrev pub has_verifier : ℕ
+has_verifier = 109
+
+-- no key verifies with any of the algorithms of the options
+abbrev pub unfit_key : ℕ
+unfit_key = 110
+
+-- a token is longer than a verifier allows
+abbrev pub token_too_long : ℕ
+token_too_long = 111
+
+-- an object has no member of a name
+abbrev pub no_member : ℕ
+no_member = 112
+
 -- the texts of the statuses from 0 on, of all kinds without a claim
 abbrev pub first_texts : List (List ℕ)
 first_texts = codes "OK"
@@ -113,7 +132,12 @@ status_text n =
     else (if n == input_status input.Claims then Some (codes "Claims not understood")
     else (if n == input_status input.Key then Some (codes "Key not understood")
     else (if n == blank_key then Some (codes "Anyone can sign")
-    else refusal_text n)))))))
+    else (if n == no_verifier then Some (codes "No verifier")
+    else (if n == has_verifier then Some (codes "Verifier already made")
+    else (if n == unfit_key then Some (codes "Key serves no algorithm")
+    else (if n == token_too_long then Some (codes "Token too long")
+    else (if n == no_member then Some (codes "No such member")
+    else refusal_text n))))))))))))
 
 -- the part of the claim's name that a status tells
 abbrev pub claim_part : List ℕ → List ℕ

@@ -7,6 +7,7 @@ pub mod first_failed;
 pub mod inputs;
 pub mod issued;
 pub mod keys;
+pub mod members;
 pub mod moments;
 pub mod secrets;
 pub mod status;

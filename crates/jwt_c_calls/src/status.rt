@@ -152,6 +152,11 @@ pub fn text_of(status: u32) -> Option<&'static str>
         105 => Some("Claims not understood"),
         106 => Some("Key not understood"),
         107 => Some("Anyone can sign"),
+        108 => Some("No verifier"),
+        109 => Some("Verifier already made"),
+        110 => Some("Key serves no algorithm"),
+        111 => Some("Token too long"),
+        112 => Some("No such member"),
         _ => refusal_text(status),
     }
 }

@@ -56,6 +56,11 @@ statuses! {
     BAD_CLAIMS = 105,
     BAD_KEY = 106,
     BLANK_KEY = 107,
+    NO_VERIFIER = 108,
+    VERIFIER_IS_MADE = 109,
+    UNFIT_KEY = 110,
+    TOKEN_TOO_LONG = 111,
+    NO_MEMBER = 112,
 }
 
 #[cfg(test)]

@@ -1,0 +1,105 @@
+//! What C holds of a verifier.
+//!
+//! C may write nothing into a struct that points to a value with a count, so the pointer is one to
+//! bytes, and the struct says itself what it owns.
+
+ghost use Rattle.std.specs.Prelude.{◌≡◌, Option, Some, None, MatchOption};
+ghost use Rattle.std.specs.Coded.{coded_option};
+ghost use Rattle.jwt_c.specs.Owned.{handle_owns};
+ghost use Rattle.jwt_c.specs.contracts.shared.Shared.{the_row as shared_row};
+ghost use Rattle.jwt_c.specs.declared.shared.Shared.{Shared as SharedValue};
+
+use crate::kept::Kept;
+use crate::shared::Shared;
+use std::alloc::Global;
+use std::marker::Model;
+use std::mem::replace;
+use std::ptr::null_mut;
+
+/// A pointer to a holder of a verifier, or null: `struct jwt_verifier` of `include/jwtproved.h`.
+#[repr(C)]
+pub struct Handle {
+    at: *mut u8,
+    alloc: Global,
+    pub ghost held: { Option SharedValue } by { coded_option shared_row.coded },
+}
+
+impl Model for Handle {
+    ghost also_owns = { λ h. handle_owns shared_row h.alloc h.at h.held };
+}
+
+/// Returns the value, which may go to another thread.
+fn sendable<T: Send>(value: T) -> T
+    ensures { result ≡ value }
+{
+    value
+}
+
+impl Handle {
+    /// Returns the handle that holds nothing.
+    pub(crate) fn none(alloc: Global) -> Handle
+        ensures { result.held ≡ None }
+    {
+        Handle {
+            at: null_mut(),
+            alloc,
+        }
+    }
+
+    pub(crate) fn some(kept: Kept<Shared, Global>) -> Handle
+        ensures { result.held ≡ Some kept.value }
+    {
+        let Kept { at, alloc } = kept;
+        Handle {
+            at: at as *mut u8,
+            alloc,
+        }
+    }
+
+    pub(crate) fn into_kept(self) -> Option<Kept<Shared, Global>>
+        ensures { MatchOption result (self.held ≡ None) (λ k. self.held ≡ Some k.value) }
+    {
+        let Handle { at, alloc } = self;
+        if at.is_null() {
+            None
+        } else {
+            Some(Kept {
+                at: at as *mut Shared,
+                alloc,
+            })
+        }
+    }
+
+    /// Returns the handle of a holder, which may go to another thread.
+    pub(crate) fn of(value: Box<Shared>) -> Handle
+        ensures { result.held ≡ Some value.value }
+    {
+        Handle::some(Kept::of(sendable(value)))
+    }
+
+    pub(crate) fn into_box(self) -> Option<Box<Shared>>
+        ensures { MatchOption result (self.held ≡ None) (λ b. self.held ≡ Some b.value) }
+    {
+        match self.into_kept() {
+            Some(kept) => Some(kept.into_box()),
+            None => None,
+        }
+    }
+
+    /// Returns the holder, if there is one, and leaves nothing.
+    pub(crate) fn take(&mut self, alloc: Global) -> Option<Box<Shared>>
+        ensures taken { MatchOption result (self.old.held ≡ None)
+            (λ b. self.old.held ≡ Some b.value) }
+        ensures none { self.new.held ≡ None }
+    {
+        replace(self, Handle::none(alloc)).into_box()
+    }
+}
+
+impl Drop for Handle {
+    fn drop(self) {
+        if let Some(value) = self.into_box() {
+            drop(value);
+        }
+    }
+}

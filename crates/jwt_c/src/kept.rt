@@ -1,0 +1,34 @@
+//! A box as its pointer.
+
+ghost use Rattle.std.specs.Prelude.{◌≡◌};
+ghost use Rattle.std_alloc.specs.Box.Ownership.{box_owns};
+
+use std::alloc::Allocator;
+use std::marker::Model;
+
+/// The pointer of a box, which owns what the box owns.
+pub(crate) struct Kept<T, A: Allocator> {
+    pub(crate) at: *mut T,
+    pub(crate) alloc: A,
+    pub(crate) ghost value: { T },
+}
+
+impl<T, A: Allocator> Model for Kept<T, A> {
+    ghost also_owns = { λ k. box_owns (A.dealloc_token k.alloc) T.row k.at k.value };
+}
+
+impl<T: Drop, A: Allocator> Kept<T, A> {
+    pub(crate) fn of(value: Box<T, A>) -> Kept<T, A>
+        ensures { result.value ≡ value.value }
+    {
+        let (at, alloc) = Box::into_raw_with_allocator(value);
+        Kept { at, alloc }
+    }
+
+    pub(crate) fn into_box(self) -> Box<T, A>
+        ensures { result.value ≡ self.value }
+    {
+        let Kept { at, alloc } = self;
+        unsafe { Box::from_raw(alloc, at) }
+    }
+}

@@ -1,0 +1,4 @@
+pub mod Made
+pub mod Reasons
+pub mod Transfers
+pub mod Until

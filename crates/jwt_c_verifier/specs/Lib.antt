@@ -1,0 +1,2 @@
+pub mod TestNumbers
+pub mod Verifiers

@@ -1,0 +1,25 @@
+-- The numbers by which C is told which test of a token failed.
+use Rattle.std.specs.Prelude.{ℕ}
+use Rattle.jsonwebtoken.specs.declared.refusal.Test.{Test}
+use Rattle.jsonwebtoken.specs.declared.refusal.Test.TheVariants.{HasThreeParts, HeaderIsPart, HeaderIsJson, HeaderReads, CritIsUnderstood, KeyIsFound, KeyAlgorithmAgrees, KeyIsUsable, AlgorithmsAreListed, AlgorithmIsListed, VerifierIsMade, FamiliesAgree, SignatureIsPart, SignatureIsAccepted, PayloadIsPart, PayloadIsJson, ClaimsRead, ClaimsAreAnObject, ClaimRulesHold}
+
+abbrev pub test_number : Test → ℕ
+test_number HasThreeParts = 1
+test_number HeaderIsPart = 2
+test_number HeaderIsJson = 3
+test_number HeaderReads = 4
+test_number CritIsUnderstood = 5
+test_number KeyIsFound = 6
+test_number KeyAlgorithmAgrees = 7
+test_number KeyIsUsable = 8
+test_number AlgorithmsAreListed = 9
+test_number AlgorithmIsListed = 10
+test_number VerifierIsMade = 11
+test_number FamiliesAgree = 12
+test_number SignatureIsPart = 13
+test_number SignatureIsAccepted = 14
+test_number PayloadIsPart = 15
+test_number PayloadIsJson = 16
+test_number ClaimsRead = 17
+test_number ClaimsAreAnObject = 18
+test_number ClaimRulesHold = 19

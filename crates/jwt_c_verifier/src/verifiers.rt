@@ -1,0 +1,230 @@
+//! Verifiers of texts, and their answers.
+
+ghost use Rattle.std.specs.Prelude.{◌≡◌, ◌⊎◌, ◌≤◌, length, IfOk, IfErr};
+ghost use Rattle.serde_json.specs.Data.{depth};
+ghost use Rattle.serde_json.specs.Read.{max_depth};
+ghost use Rattle.serde_json.specs.View.{view};
+ghost use Rattle.jwt_base.specs.KindOf.{kind_of, IsMemory};
+ghost use Rattle.jwt_validation.specs.Claim.{claims_of};
+ghost use Rattle.jwt_validation.specs.Moments.{last_moment};
+ghost use Rattle.jwt_validation.specs.OptionsOf.{options_of};
+ghost use Rattle.jwt_verifier.specs.Fitness.{AreFit, IsUnfit};
+ghost use Rattle.jwt_verifier.specs.declared.fitness.Unfit.{Unfit as UnfitValue};
+ghost use Rattle.jwt_c_calls.specs.Calls.{Gives, IsTextOf};
+ghost use Rattle.jwt_c_calls.specs.Status.{number};
+ghost use Rattle.jwt_c_calls.specs.Keys.{AnswersWithKey, AnswersWithOptions, AnswersWithSet};
+ghost use Rattle.jwt_c_verifier.specs.TestNumbers.{test_number as number_of_test};
+ghost use Rattle.jwt_c_verifier.specs.Verifiers.{limits_of, unfit_status, AnswersUntil, AreOfKey, AreOfSecret, AreOfSet, IsMade, IsRefusedWith};
+
+use crate::test_numbers::test_number;
+use jsonwebtoken::errors::{Error, ErrorKind};
+use jsonwebtoken::{Refusal, TokenData};
+use jwt_c_calls::keys::{options_and_key, options_and_secret, options_and_set};
+use jwt_c_calls::status::{number_of, status_of};
+use jwt_validation::{Validation, claimed_moments};
+use jwt_verifier::{Keys, Limits, Rejection, TOKEN_LIMIT, Unfit, Verifier};
+use serde_json::Value;
+use std::alloc::Global;
+use std::result::Result;
+
+/// Returns the limits that the arguments of a call stand for: a length of 0 is that of 1 MiB.
+pub fn limits(max_len: usize, allows_blank: bool) -> Limits
+    ensures { result ≡ limits_of max_len allows_blank }
+{
+    if max_len == 0 {
+        Limits {
+            max_len: TOKEN_LIMIT,
+            allows_blank,
+        }
+    } else {
+        Limits {
+            max_len,
+            allows_blank,
+        }
+    }
+}
+
+fn status_of_unfit(unfit: Unfit) -> u32
+    ensures { result ≡ unfit_status unfit }
+{
+    match unfit {
+        Unfit::Blank => 107,
+        Unfit::Useless => 110,
+        Unfit::Memory => 22,
+    }
+}
+
+// Returns the verifier with these keys and options, or the status of the reason for which there is
+// none.
+fn verifier_of(
+    alloc: Global,
+    keys: Keys,
+    validation: Validation,
+    limits: Limits,
+) -> Result<Verifier, u32>
+    ensures ok { IfOk result (λ v. (v.keys ≡ keys) × (v.validation ≡ validation)
+        × (v.limits ≡ limits) × AreFit limits.allows_blank validation.algorithms.items keys) }
+    ensures err { IfErr result (λ status. (why : UnfitValue)
+        × IsUnfit limits.allows_blank validation.algorithms.items keys why
+        × (status ≡ unfit_status why)) }
+{
+    match Verifier::with_limits(alloc, keys, validation, limits) {
+        Ok(verifier) => Ok(verifier),
+        Err(unfit) => Err(status_of_unfit(unfit)),
+    }
+}
+
+/// Returns the verifier with the options and the key set that two texts describe, or the status of
+/// the reason for which there is none.
+pub fn verifier_of_set(
+    alloc: Global,
+    options: &[u8],
+    set: &[u8],
+    limits: Limits,
+) -> Result<Verifier, u32>
+    ensures { IsMade (AnswersWithSet options.now set.now (λ _ _ _. ⊥))
+        (AreOfSet options.now set.now) limits result }
+{
+    match options_and_set(alloc, options, set) {
+        Ok((validation, keys)) => verifier_of(alloc, Keys::Set(keys), validation, limits),
+        Err(refusal) => Err(status_of(&refusal)),
+    }
+}
+
+/// Returns the verifier with the options and the key that two texts describe, like
+/// [`verifier_of_set`].
+pub fn verifier_of_key(
+    alloc: Global,
+    options: &[u8],
+    key: &[u8],
+    limits: Limits,
+) -> Result<Verifier, u32>
+    ensures { IsMade (AnswersWithKey options.now key.now (λ _ _ _. ⊥))
+        (AreOfKey options.now key.now) limits result }
+{
+    match options_and_key(alloc, options, key) {
+        Ok((validation, key)) => verifier_of(alloc, Keys::One(key), validation, limits),
+        Err(refusal) => Err(status_of(&refusal)),
+    }
+}
+
+/// Returns the verifier with the options that a text describes, and a secret, for HMAC, like
+/// [`verifier_of_set`].
+pub fn verifier_of_secret(
+    alloc: Global,
+    options: &[u8],
+    secret: &[u8],
+    limits: Limits,
+) -> Result<Verifier, u32>
+    ensures { IsMade (AnswersWithOptions options.now (λ _ _. ⊥))
+        (AreOfSecret options.now secret.now) limits result }
+{
+    match options_and_secret(alloc, options, secret) {
+        Ok((validation, key)) => verifier_of(alloc, Keys::One(key), validation, limits),
+        Err(refusal) => Err(status_of(&refusal)),
+    }
+}
+
+/// The claims of an accepted token.
+#[derive(Drop)]
+pub struct Accepted {
+    /// Their JSON text.
+    pub text: Vec<u8>,
+    /// The last time at which the token is accepted.
+    pub last: u64,
+}
+
+// Returns the claims as their text, and the last time that they allow.
+fn claims_until(
+    alloc: Global,
+    decoded: &TokenData<Value>,
+    validation: &Validation,
+) -> Result<Accepted, Error>
+    ensures text { IfOk result (λ a. depth (view decoded.now.claims) ≤ max_depth
+        → IsTextOf a.text.items (view decoded.now.claims)) }
+    ensures last { IfOk result (λ a. a.last
+        ≡ last_moment (options_of validation.now) (claims_of (view decoded.now.claims))) }
+    ensures err { IfErr result IsMemory }
+{
+    let moments = claimed_moments(&decoded.claims, validation);
+    let text = decoded.claims.to_vec(alloc)?;
+    Ok(Accepted {
+        text,
+        last: moments.last,
+    })
+}
+
+/// The reason for which a token is not accepted, in numbers.
+#[derive(Clone, Copy)]
+pub struct Denied {
+    /// The status.
+    pub status: u32,
+    /// The number of the first test that failed, or 0 if none did: the token is too long, or memory
+    /// ran out.
+    pub test: u32,
+}
+
+fn failed_test(refusal: &Refusal) -> u32
+    ensures { (IsMemory refusal.now.error × (result ≡ 0))
+        ⊎ ((¬ IsMemory refusal.now.error) × (result ≡ number_of_test refusal.now.test)) }
+{
+    match refusal.error.kind() {
+        ErrorKind::OutOfMemory => 0,
+        _ => test_number(refusal.test),
+    }
+}
+
+fn reason_of(refusal: &Refusal) -> Denied
+    ensures status { result.status ≡ number (kind_of refusal.now.error) }
+    ensures test { (IsMemory refusal.now.error × (result.test ≡ 0))
+        ⊎ ((¬ IsMemory refusal.now.error) × (result.test ≡ number_of_test refusal.now.test)) }
+{
+    Denied {
+        status: number_of(refusal.error.kind()),
+        test: failed_test(refusal),
+    }
+}
+
+// Returns the claims and the last time, or the reason that memory ran out.
+fn hand_out(
+    alloc: Global,
+    decoded: &TokenData<Value>,
+    validation: &Validation,
+) -> Result<Accepted, Denied>
+    ensures text { IfOk result (λ a. depth (view decoded.now.claims) ≤ max_depth
+        → IsTextOf a.text.items (view decoded.now.claims)) }
+    ensures last { IfOk result (λ a. a.last
+        ≡ last_moment (options_of validation.now) (claims_of (view decoded.now.claims))) }
+    ensures err { IfErr result (λ d. (d.status ≡ 22) × (d.test ≡ 0)) }
+{
+    match claims_until(alloc, decoded, validation) {
+        Ok(accepted) => Ok(accepted),
+        Err(_) => Err(Denied {
+            status: 22,
+            test: 0,
+        }),
+    }
+}
+
+/// Returns the claims of a token that is verified with a verifier, and the last time at which the
+/// token is accepted; or the reason for which it is refused.
+pub fn answer_until(
+    alloc: Global,
+    verifier: &Verifier,
+    token: &[u8],
+    now: u64,
+) -> Result<Accepted, Denied>
+    ensures ok { IfOk result (λ a. (length token.now ≤ verifier.now.limits.max_len)
+        × AnswersUntil verifier.now.keys verifier.now.validation token.now now a.last
+        (Gives a.text.items)) }
+    ensures err { IfErr result (λ d. IsRefusedWith verifier.now token.now now d.status d.test) }
+{
+    match verifier.decode_or_refusal::<Value>(alloc, token, now) {
+        Ok(decoded) => hand_out(alloc, &decoded, &verifier.validation),
+        Err(Rejection::TooLong) => Err(Denied {
+            status: 111,
+            test: 0,
+        }),
+        Err(Rejection::Failed(refusal)) => Err(reason_of(&refusal)),
+    }
+}
