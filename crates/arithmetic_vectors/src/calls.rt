@@ -2,7 +2,7 @@
 
 ghost use Rattle.std.specs.Prelude.{◌≡◌, ◌<◌, ◌≤◌, ◌%◌, IfOk, length};
 
-use crate::points::{is_multiple, right_sums};
+use crate::points::{is_joint_multiple, is_multiple, right_sums};
 use crate::row::{Fault, Row};
 use modular::{Modulus, Natural, limb_from_octets};
 use serde_json::Value;
@@ -118,6 +118,7 @@ pub fn answer(row: Row<'_>) -> Result<Value, Fault> {
         }
         "right_sums" => right_sums(row),
         "is_multiple" => is_multiple(row),
+        "is_joint_multiple" => is_joint_multiple(row),
         _ => Err(Fault::Call),
     }
 }

@@ -1,4 +1,5 @@
-//! Makes the calls of rows of test vectors about numbers (crate `modular`) and points (crates `weierstrass` and `ecdsa`), and compares
+//! Makes the calls of rows of test vectors about numbers (crate `modular`) and points (crates `weierstrass`,
+//! `weierstrass_group`, `ecdsa` and `ed25519`), and compares
 //! each result with the one that the row wants.
 //!
 //! The program reads the files `*.jsonl` of the folder that it runs in, which the programs of `tools/rows` write. A row is one line of
@@ -7,6 +8,8 @@
 #![tactic(auto)]
 
 mod calls;
+mod edwards;
+mod joint;
 mod points;
 mod row;
 

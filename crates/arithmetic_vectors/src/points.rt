@@ -3,8 +3,11 @@
 
 ghost use Rattle.std.specs.Prelude.{◌≤◌};
 
+use crate::edwards::edwards_joint_multiple;
+use crate::joint::{base_point, joint};
 use crate::row::{Fault, Row};
-use ecdsa::constants::{b_256, b_384, base_256, base_384};
+use ecdsa::bases::BaseMultiples;
+use ecdsa::constants::{b_256, b_384};
 use ecdsa::inverses::read;
 use ecdsa::keys::read_key;
 use ecdsa::moduli::{Field256, Field384, FieldModulus256, FieldModulus384};
@@ -12,7 +15,6 @@ use residues::montgomery::Montgomery;
 use residues::residue::Residue;
 use serde_json::Value;
 use std::alloc::Global;
-use weierstrass::multiples::multiply_point;
 use weierstrass::points::{ProjectivePoint, add, double, point_at_infinity};
 
 // Returns the point that a value describes, on the curve with this b and with coordinates of `S` octets.
@@ -127,20 +129,43 @@ fn sums<F: Residue, const S: usize>(row: Row<'_>, b: F) -> Result<Value, Fault>
     Ok(Value::from(count_sums(b, points.as_slice(), scale)))
 }
 
+// The number at a name, in `S` octets of which the least significant is the first.
+fn scalar<const S: usize>(row: Row<'_>, name: &'static str) -> Result<Vec<u8>, Fault> {
+    let mut scalar = row.octets(name)?;
+    if scalar.len() != S {
+        return Err(Fault::Member(name));
+    }
+    scalar.as_mut_slice().reverse();
+    Ok(scalar)
+}
+
 // Whether the multiple of the base point by the number at `scalar` is the point at `multiple`.
-fn multiple<F: Residue, const S: usize>(
-    row: Row<'_>,
-    b: F,
-    base: ProjectivePoint<F>,
-) -> Result<Value, Fault>
+fn multiple<F: BaseMultiples, const S: usize>(row: Row<'_>, b: F) -> Result<Value, Fault>
     requires { S ≤ 66 }
 {
     row.takes(&["curve", "scalar", "multiple"])?;
-    let mut scalar = row.octets("scalar")?;
-    scalar.as_mut_slice().reverse();
+    let scalar = scalar::<S>(row, "scalar")?;
     let wanted = point_of::<F, S>(row.alloc(), b, row.value("multiple")?)?;
-    let given = multiply_point(b, scalar.as_slice(), base);
-    Ok(Value::Bool(is_point(given, wanted)))
+    match joint(scalar.as_slice(), &[0_u8; S], base_point::<F>()) {
+        Some(given) => Ok(Value::Bool(is_point(given, wanted))),
+        None => Err(Fault::Member("scalar")),
+    }
+}
+
+// Whether the sum of the base point's multiple by the number at `scalar` and that of the point at `other` by the number at
+// `other_scalar` is the point at `multiple`.
+fn joint_multiple<F: BaseMultiples, const S: usize>(row: Row<'_>, b: F) -> Result<Value, Fault>
+    requires { S ≤ 66 }
+{
+    row.takes(&["curve", "scalar", "other_scalar", "other", "multiple"])?;
+    let first = scalar::<S>(row, "scalar")?;
+    let second = scalar::<S>(row, "other_scalar")?;
+    let other = point_of::<F, S>(row.alloc(), b, row.value("other")?)?;
+    let wanted = point_of::<F, S>(row.alloc(), b, row.value("multiple")?)?;
+    match joint(first.as_slice(), second.as_slice(), other) {
+        Some(given) => Ok(Value::Bool(is_point(given, wanted))),
+        None => Err(Fault::Member("other")),
+    }
 }
 
 fn sums_by_curve<F: Field256, G: Field384>(row: Row<'_>) -> Result<Value, Fault> {
@@ -153,8 +178,17 @@ fn sums_by_curve<F: Field256, G: Field384>(row: Row<'_>) -> Result<Value, Fault>
 
 fn multiple_by_curve<F: Field256, G: Field384>(row: Row<'_>) -> Result<Value, Fault> {
     match row.text("curve")? {
-        "P-256" => multiple::<F, 32>(row, b_256(), base_256()),
-        "P-384" => multiple::<G, 48>(row, b_384(), base_384()),
+        "P-256" => multiple::<F, 32>(row, b_256()),
+        "P-384" => multiple::<G, 48>(row, b_384()),
+        _ => Err(Fault::Member("curve")),
+    }
+}
+
+fn joint_multiple_by_curve<F: Field256, G: Field384>(row: Row<'_>) -> Result<Value, Fault> {
+    match row.text("curve")? {
+        "P-256" => joint_multiple::<F, 32>(row, b_256()),
+        "P-384" => joint_multiple::<G, 48>(row, b_384()),
+        "Ed25519" => edwards_joint_multiple(row),
         _ => Err(Fault::Member("curve")),
     }
 }
@@ -172,4 +206,11 @@ pub fn right_sums(row: Row<'_>) -> Result<Value, Fault> {
 /// Returns whether the multiple of the curve's base point by the number at `scalar` is the point at `multiple`.
 pub fn is_multiple(row: Row<'_>) -> Result<Value, Fault> {
     multiple_by_curve::<Residues256, Residues384>(row)
+}
+
+/// Returns whether the sum of the multiple of the curve's base point by the number at `scalar` and that of the point at `other` by the
+/// number at `other_scalar` is the point at `multiple`. A point of Ed25519 is the hexadecimal string of its encoding (RFC 8032 section
+/// 5.1.2).
+pub fn is_joint_multiple(row: Row<'_>) -> Result<Value, Fault> {
+    joint_multiple_by_curve::<Residues256, Residues384>(row)
 }

@@ -1,5 +1,9 @@
+pub mod BaseTable
+pub mod Chains
+pub mod Curve
+pub mod Joints
 pub mod MinusOne
-pub mod Reduced
+pub mod Orders
 pub mod Roots
 pub mod Signatures
 pub mod TopBit

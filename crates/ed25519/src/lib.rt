@@ -2,7 +2,10 @@
 //! messages and signatures are public.
 #![tactic(auto)]
 
-pub mod constants;
+mod base_table;
+mod constants;
 pub mod decoding;
+pub mod group;
+pub mod joint;
 pub mod moduli;
 pub mod verification;

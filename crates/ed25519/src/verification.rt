@@ -1,17 +1,18 @@
 //! Verification (RFC 8032 section 5.1.7).
 
 ghost use Rattle.std.specs.Prelude.{◌≡◌, ◌↔◌, ◌++◌, ◌%◌, IsTrue, length};
-ghost use Rattle.ed25519.specs.Ed25519.{challenge_of, IsEquation, IsSignature, is_public_key};
+ghost use Rattle.edwards_group.specs.Group.{IsPoint};
+ghost use Rattle.ed25519.specs.Ed25519.{p, d, challenge_of, IsEquation, IsSignature, is_public_key};
 ghost use Rattle.edwards.specs.Numbers.{numbers};
 ghost use Rattle.residues.specs.Bytes.{little_endian};
 ghost use Rattle.sha2.specs.Sha512.{sha512};
 
-use crate::constants::{base_point, twice_curve_d};
 use crate::decoding::decode;
+use crate::joint::{joint_multiple, negative};
 use crate::moduli::{Field, FieldModulus, Order, OrderModulus};
-use edwards::multiples::multiply_point;
-use edwards::points::{ExtendedPoint, add, is_same_point};
+use edwards::points::{ExtendedPoint, is_same_point};
 use residues::montgomery::Montgomery;
+use residues::residue::Residue;
 use sha2::{Digest, Sha512};
 
 // The digest of the three one after the other.
@@ -35,26 +36,29 @@ fn challenge<N: Order>(first: &[u8], public: &[u8], message: &[u8]) -> [u8; 32]
     bytes
 }
 
-// Whether [S]B = R + [k]A.
-fn is_equation<F: Field>(
-    key: ExtendedPoint<F>,
-    commitment: ExtendedPoint<F>,
+// Whether [S]B = R + [k]A, which is so where [S]B - [k]A = R.
+fn is_equation(
+    key: ExtendedPoint<Montgomery<FieldModulus, 4>>,
+    commitment: ExtendedPoint<Montgomery<FieldModulus, 4>>,
     s: &[u8],
     challenge: &[u8],
 ) -> bool
+    requires key { IsPoint p d (numbers ⟦<Montgomery<FieldModulus, 4> as Residue>⟧.number key) }
+    requires commitment { IsPoint p d
+        (numbers ⟦<Montgomery<FieldModulus, 4> as Residue>⟧.number commitment) }
     requires s { length s.now ≡ 32 }
     requires challenge { length challenge.now ≡ 32 }
-    ensures { IsTrue result ↔ IsEquation (numbers F.number key) (numbers F.number commitment)
-        (little_endian s.now) (little_endian challenge.now) }
+    ensures { IsTrue result
+        ↔ IsEquation (numbers ⟦<Montgomery<FieldModulus, 4> as Residue>⟧.number key)
+        (numbers ⟦<Montgomery<FieldModulus, 4> as Residue>⟧.number commitment)
+        (little_endian s.now)
+        (little_endian challenge.now) }
 {
-    let twice_d = twice_curve_d();
-    let left = multiply_point(twice_d, s, base_point());
-    let right = add(twice_d, commitment, multiply_point(twice_d, challenge, key));
-    is_same_point(left, right)
+    is_same_point(joint_multiple(s, challenge, negative(key)), commitment)
 }
 
-// The verdict, by residues of these types.
-fn is_signature_over<F: Field, N: Order>(public: &[u8], message: &[u8], signature: &[u8]) -> bool
+// The verdict, by residues of this type.
+fn is_signature_over<N: Order>(public: &[u8], message: &[u8], signature: &[u8]) -> bool
     ensures { IsTrue result ↔ IsSignature public.now message.now signature.now }
 {
     if public.len() != 32 {
@@ -64,10 +68,10 @@ fn is_signature_over<F: Field, N: Order>(public: &[u8], message: &[u8], signatur
         return false;
     }
     let (first, second) = signature.split_at(32);
-    let Some(key) = decode::<F>(public) else {
+    let Some(key) = decode::<Montgomery<FieldModulus, 4>>(public) else {
         return false;
     };
-    let Some(commitment) = decode::<F>(first) else {
+    let Some(commitment) = decode::<Montgomery<FieldModulus, 4>>(first) else {
         return false;
     };
     let Some(_s) = N::from_bytes(second) else {
@@ -107,7 +111,5 @@ pub fn is_public_key(public: &[u8]) -> bool
 pub fn is_signature(public: &[u8], message: &[u8], signature: &[u8]) -> bool
     ensures { IsTrue result ↔ IsSignature public.now message.now signature.now }
 {
-    is_signature_over::<Montgomery<FieldModulus, 4>, Montgomery<OrderModulus, 4>>(
-        public, message, signature,
-    )
+    is_signature_over::<Montgomery<OrderModulus, 4>>(public, message, signature)
 }

@@ -2,5 +2,5 @@
 //! over any residues. Nothing here takes memory, and nothing runs in constant time.
 #![tactic(auto)]
 
-pub mod multiples;
+pub mod factors;
 pub mod points;

@@ -2,6 +2,4 @@
 //! nothing runs in constant time.
 #![tactic(auto)]
 
-mod affine;
-pub mod multiples;
 pub mod points;

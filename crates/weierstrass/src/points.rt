@@ -48,7 +48,7 @@ fn twice_product<F: Residue>(a: F, b: F) -> F
 
 // The last six products of a sum.
 #[inline(always)]
-pub(crate) fn multiply<F: Residue>(xy: F, yz: F, yy: F, n: F, w: F, t: F) -> ProjectivePoint<F>
+fn multiply<F: Residue>(xy: F, yz: F, yy: F, n: F, w: F, t: F) -> ProjectivePoint<F>
     ensures { numbers F.number result
         ≡ products F.modulus (F.number xy) (F.number yz) (F.number yy) (F.number n) (F.number w)
         (F.number t) }

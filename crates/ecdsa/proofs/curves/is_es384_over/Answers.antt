@@ -1,14 +1,36 @@
-use Rattle.std.proofs.Common.{◌≤◌, arith}
+use Rattle.std.proofs.Common.{◌≤◌, sym, ◌∙◌, arith}
+use Rattle.ecdsa.specs.private_clauses.Sums.{HasBase}
 use Rattle.ecdsa.specs.Curves.{p384, n384, IsEs384}
+use Rattle.ecdsa.proofs.BasePoints.{has_base_384}
 use Rattle.ecdsa.proofs.curves.is_es384_over.Goals as goal
 
 pub is_signature_by-requires : goal.is_signature_by-requires
 unfolding p384 n384
 is_signature_by-requires g c =
+    let f = g.met.F.Field384 in
+    let n = g.met.N.Order384 in
     let size : (48) ≤ 66 = omega arith in
-    (omega arith, (size, (omega (arith, g.met.F.Field384.is_field), (omega (arith, g.met.F.Field384.is_field), (omega (arith, g.met.N.Order384.is_order), omega (arith, g.met.N.Order384.is_order))))))
+    let base : HasBase g.F.Residue.modulus g.F.BaseMultiples.b g.F.BaseMultiples.base = rw (f.is_field, f.is_b, f.is_base) has_base_384 in (
+      omega arith,
+      (
+        size,
+        (
+          omega (arith, f.is_field),
+          (
+            omega (arith, f.is_field),
+            (
+              omega (arith, n.is_order),
+              (
+                omega (arith, n.is_order),
+                (omega (arith, f.is_field, n.is_order), (omega (arith, f.is_field, n.is_order), (c.b_384.ensures ∙ sym f.is_b, base))),
+              ),
+            ),
+          ),
+        ),
+      ),
+    )
 
 pub returns : goal.returns
 unfolding IsEs384
 returns g c =
-    rw (g.met.F.Field384.is_field, g.met.N.Order384.is_order, c.b_384.ensures, c.base_384.ensures, c.digest_384.ensures) at c.is_signature_by.ensures
+    rw (g.met.F.Field384.is_field, g.met.N.Order384.is_order, g.met.F.Field384.is_b, g.met.F.Field384.is_base, c.digest_384.ensures) at c.is_signature_by.ensures

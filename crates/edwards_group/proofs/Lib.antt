@@ -1,0 +1,7 @@
+pub mod Addends
+pub mod Curves
+pub mod Groups
+pub mod Identities
+pub mod Laws
+pub mod Multiples
+pub mod Terms

@@ -1,0 +1,3 @@
+pub mod Alike
+pub mod Polynomials
+pub mod Terms

@@ -1,0 +1,3 @@
+-- Definitions that the clauses of private functions alone name.
+pub mod Entries
+pub mod Formulas
