@@ -12,6 +12,8 @@ import sys
 import tempfile
 import threading
 import time
+import urllib.error
+import urllib.request
 
 import jwtproved as jwt
 from jwtproved import _api, _download
@@ -418,6 +420,28 @@ def headers():
         raises(jwt.PyJWKClientConnectionError, client.get_jwk_set, refresh=True, said="Fail to fetch")
 
 
+def redirects_to_another_scheme():
+    follow = _download._Redirects().redirect_request
+    for before, after, is_followed in (
+        ("https://h/keys", "http://h/keys", False),
+        ("https://h/keys", "file:///keys", False),
+        ("http://h/keys", "ftp://h/keys", False),
+        ("http://h/keys", "https://h/keys", True),
+        ("https://h/keys", "https://i/keys", True),
+    ):
+        got = outcome(follow, urllib.request.Request(before), None, 302, "Found", {}, after)
+        test(f"from {before} to {after}: {got}", is_followed == isinstance(got, urllib.request.Request))
+        test(f"from {before} to {after}: {got}", is_followed != isinstance(got, urllib.error.URLError))
+
+
+def threads_end():
+    """A fetch that takes too long is cut, though the server goes on."""
+    with serving(dribbles(head(100000)), timeout=0.1) as (_, client):
+        raises(jwt.PyJWKClientConnectionError, client.get_jwk_set, said="timed out")
+        time.sleep(0.5)
+        test("the thread has ended", not any(it.name == "jwtproved" for it in threading.enumerate()))
+
+
 def arguments():
     for uri in ("", "keys", "/keys", "https://", "https:///keys", "http://:80/", "http://h:0/", "http://h:x/", "http://[/", "h:80"):
         raises(ValueError, jwt.PyJWKClient, uri, said="uri")
@@ -506,7 +530,7 @@ def apps():
 
 for step in (rotation, refetches, misbehaving, nobody_listens, no_signing_keys, an_old_set, ten_thousand_keys, threads, caches, headers):
     step()
-for step in (arguments, all_algorithms, apps):
+for step in (redirects_to_another_scheme, threads_end, arguments, all_algorithms, apps):
     step()
 print(f"{passed} tests of PyJWKClient, {failed} failed")
 sys.exit(failed > 0)
