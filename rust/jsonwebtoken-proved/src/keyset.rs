@@ -192,11 +192,11 @@ impl Shared {
         true
     }
 
-    /// Waits for the end of the fetch that is under way, but no longer than until the timeout after its begin.
+    /// Waits for the end of the fetch that is under way, if any, but no longer than until the timeout after its begin.
     fn wait<'a>(&self, state: MutexGuard<'a, State>) -> MutexGuard<'a, State> {
         let ended = state.ended;
         let left = self.rotation.timeout.saturating_sub(state.begun.map_or(Duration::ZERO, |it| it.elapsed()));
-        let waited = self.changed.wait_timeout_while(state, left, |it| it.ended == ended);
+        let waited = self.changed.wait_timeout_while(state, left, |it| it.begun.is_some() && it.ended == ended);
         waited.unwrap_or_else(PoisonError::into_inner).0
     }
 

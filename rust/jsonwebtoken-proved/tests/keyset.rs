@@ -12,8 +12,10 @@ use std::thread;
 use std::time::{Duration, Instant};
 
 const NOW: u64 = 1_700_000_000;
-/// How long the closure of these tests reads, and the set waits for it.
+/// How long a set waits for a server that misbehaves. The closure reads for half as long.
 const SHORTLY: Duration = Duration::from_millis(600);
+/// How long a set waits for a server that does not.
+const LONG: Duration = Duration::from_secs(20);
 /// The time between two fetches for an unknown kid.
 const SOON: Duration = Duration::from_millis(150);
 
@@ -84,13 +86,13 @@ impl Server {
         self.fetches.load(Ordering::SeqCst)
     }
 
-    /// Returns a closure that fetches from the server, as one over a client of HTTP does.
-    fn fetch(&self) -> impl FnMut() -> Result<Box<dyn Read>, io::Error> + Send + 'static {
+    /// Returns a closure that fetches from the server within a time limit, as one over a client of HTTP does.
+    fn fetch(&self, limit: Duration) -> impl FnMut() -> Result<Box<dyn Read>, io::Error> + Send + 'static {
         let (at, answer) = (self.at, Arc::clone(&self.answer));
         move || {
             let panics = matches!(*answer.lock().unwrap(), Answer::Panics);
             assert!(!panics, "the closure panics");
-            fetched(at)
+            fetched(at, limit)
         }
     }
 }
@@ -117,18 +119,18 @@ fn serve(mut to: TcpStream, answer: &Answer) -> io::Result<()> {
 }
 
 /// Gets a text by HTTP, within a time limit.
-fn fetched(at: SocketAddr) -> Result<Box<dyn Read>, io::Error> {
+fn fetched(at: SocketAddr, limit: Duration) -> Result<Box<dyn Read>, io::Error> {
     let refused = |why: &str| io::Error::new(io::ErrorKind::InvalidData, why.to_string());
     let begin = Instant::now();
-    let mut stream = TcpStream::connect_timeout(&at, SHORTLY)?;
-    stream.set_read_timeout(Some(SHORTLY / 2))?;
+    let mut stream = TcpStream::connect_timeout(&at, limit)?;
+    stream.set_read_timeout(Some(limit))?;
     stream.write_all(b"GET /keys HTTP/1.1\r\nHost: h\r\n\r\n")?;
     let mut head = Vec::new();
     while !head.ends_with(b"\r\n\r\n") {
         let mut byte = [0];
         stream.read_exact(&mut byte)?;
         head.push(byte[0]);
-        if head.len() > 10000 || begin.elapsed() > SHORTLY / 2 {
+        if head.len() > 10000 || begin.elapsed() > limit {
             return Err(refused("no head"));
         }
     }
@@ -137,7 +139,7 @@ fn fetched(at: SocketAddr) -> Result<Box<dyn Read>, io::Error> {
         return Err(refused("another status"));
     }
     let length = head.lines().find_map(|it| it.strip_prefix("Content-Length: "));
-    let body = Timed { stream, begin };
+    let body = Timed { stream, end: begin + limit };
     match length.map(|it| it.parse::<u64>()) {
         None => Ok(Box::new(body)),
         Some(Err(_)) => Err(refused("no length")),
@@ -152,12 +154,12 @@ fn fetched(at: SocketAddr) -> Result<Box<dyn Read>, io::Error> {
 /// A stream that is read for some time in all.
 struct Timed {
     stream: TcpStream,
-    begin: Instant,
+    end: Instant,
 }
 
 impl Read for Timed {
     fn read(&mut self, buffer: &mut [u8]) -> io::Result<usize> {
-        if self.begin.elapsed() > SHORTLY / 2 { Err(io::ErrorKind::TimedOut.into()) } else { self.stream.read(buffer) }
+        if Instant::now() > self.end { Err(io::ErrorKind::TimedOut.into()) } else { self.stream.read(buffer) }
     }
 }
 
@@ -215,7 +217,7 @@ fn misbehaving() -> Vec<(&'static str, Answer)> {
 }
 
 fn rotation() -> Rotation {
-    Rotation { refresh: Duration::from_secs(3600), refetch: SOON, timeout: SHORTLY }
+    Rotation { refresh: Duration::from_secs(3600), refetch: SOON, timeout: LONG }
 }
 
 fn verify(set: &KeySet, token: &str) -> Option<Error> {
@@ -238,7 +240,7 @@ fn refuses(set: &KeySet, kid: &str, by: &str, why: Error) {
 #[test]
 fn keys_rotate() {
     let server = Server::new(says(set_of(&["a"])));
-    let set = KeySet::new(server.fetch(), rotation()).unwrap();
+    let set = KeySet::new(server.fetch(LONG), rotation()).unwrap();
     accepts(&set, "a");
     refuses(&set, "a", "b", Error::Signature);
     assert_eq!(server.fetches(), 1);
@@ -253,7 +255,7 @@ fn keys_rotate() {
 #[test]
 fn unknown_kids_cause_few_fetches() {
     let server = Server::new(says(set_of(&["a"])));
-    let set = KeySet::new(server.fetch(), Rotation { refetch: Duration::from_secs(1), ..rotation() }).unwrap();
+    let set = KeySet::new(server.fetch(LONG), Rotation { refetch: Duration::from_secs(1), ..rotation() }).unwrap();
     for it in 0..50 {
         assert_eq!(verify(&set, &token(None, "a")), Some(Error::UnknownKey));
         refuses(&set, &format!("x{it}"), "a", Error::UnknownKey);
@@ -274,7 +276,10 @@ fn a_server_that_misbehaves_changes_nothing() {
 
 fn misbehaves(answer: &Answer) {
     let server = Server::new(says(set_of(&["a"])));
-    let set = KeySet::new(server.fetch(), rotation()).unwrap();
+    let shortly = Rotation { timeout: SHORTLY, ..rotation() };
+    let made = || KeySet::new(server.fetch(SHORTLY / 2), shortly);
+    // on a busy machine a good answer may take long too
+    let set = (0..20).find_map(|_| made().ok()).unwrap();
     server.answers(answer.clone());
     refuses(&set, "b", "b", Error::UnknownKey);
     assert!(matches!(set.last_error(), Some(Error::Fetch(_) | Error::Key(_)) | None));
@@ -289,7 +294,7 @@ fn misbehaves(answer: &Answer) {
     refuses(&set, "a", "a", Error::UnknownKey);
     server.answers(answer.clone());
     let begin = Instant::now();
-    assert!(matches!(KeySet::new(server.fetch(), rotation()), Err(Error::Fetch(_) | Error::Key(_))));
+    assert!(matches!(made(), Err(Error::Fetch(_) | Error::Key(_))));
     assert!(begin.elapsed() < SHORTLY + Duration::from_secs(3));
 }
 
@@ -305,8 +310,8 @@ fn becomes(set: &KeySet, kid: &str, wanted: Option<Error>) {
 #[test]
 fn in_the_background_and_an_old_set() {
     let server = Server::new(says(set_of(&["a"])));
-    let often = Rotation { refresh: Duration::from_millis(10), refetch: Duration::from_secs(3600), timeout: SHORTLY };
-    let set = KeySet::new(server.fetch(), often).unwrap();
+    let often = Rotation { refresh: Duration::from_millis(10), refetch: Duration::from_secs(3600), timeout: LONG };
+    let set = KeySet::new(server.fetch(LONG), often).unwrap();
     for _ in 0..2 {
         server.answers(says(set_of(&["b"])));
         becomes(&set, "a", Some(Error::UnknownKey));
@@ -330,12 +335,12 @@ fn threads_wait_for_one_fetch() {
         Arc::new(it)
     }
     let server = Server::new(says(set_of(&["a"])));
-    let mut fetch = server.fetch();
+    let mut fetch = server.fetch(LONG);
     let slowly = move || {
         thread::sleep(Duration::from_millis(50));
         fetch()
     };
-    let times = Rotation { refetch: Duration::from_secs(3600), timeout: Duration::from_secs(5), ..rotation() };
+    let times = Rotation { refetch: Duration::from_secs(3600), ..rotation() };
     let set = is_shared(KeySet::new(slowly, times).unwrap());
     server.answers(says(set_of(&["b"])));
     let threads: Vec<_> = (0..50)
@@ -346,6 +351,17 @@ fn threads_wait_for_one_fetch() {
         .collect();
     assert!(threads.into_iter().all(|it| it.join().is_ok()));
     assert_eq!(server.fetches(), 2);
+}
+
+/// A closure that ends at once may have done so before anything waits for it.
+#[test]
+fn a_closure_that_is_quick() {
+    let begin = Instant::now();
+    for _ in 0..500 {
+        let set = KeySet::new(|| Ok::<_, Error>(Cursor::new(set_of(&["a"]))), rotation()).unwrap();
+        refuses(&set, "b", "b", Error::UnknownKey);
+    }
+    assert!(begin.elapsed() < LONG, "{:?}", begin.elapsed());
 }
 
 /// A closure that hangs is waited for once, and not called again before it ends.
@@ -381,7 +397,7 @@ fn many_keys() {
     let kids: Vec<_> = (0..10_000).map(|it| it.to_string()).collect();
     let set = set_of(&kids.iter().map(String::as_str).collect::<Vec<_>>());
     assert!(set.len() <= 1 << 20, "{}", set.len());
-    let times = Rotation { timeout: Duration::from_secs(20), refetch: Duration::from_secs(3600), ..rotation() };
+    let times = Rotation { refetch: Duration::from_secs(3600), ..rotation() };
     let set = KeySet::new(move || Ok::<_, Error>(Cursor::new(set.clone())), times).unwrap();
     assert!(set.decode_json(&token(Some("b"), "b"), &Validation::new(Algorithm::HS256), NOW).is_err());
     // the set is not read for each token
