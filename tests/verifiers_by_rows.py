@@ -12,7 +12,9 @@ TOP = os.path.dirname(os.path.dirname(os.path.abspath(__file__)))
 BYTES = [ctypes.c_char_p, ctypes.c_size_t]
 BUFFER = [ctypes.c_char_p, ctypes.c_size_t, ctypes.POINTER(ctypes.c_size_t)]
 LIMITS = [ctypes.c_size_t, ctypes.c_bool]
-BLANK_KEY, UNFIT_KEY = 107, 110
+UNFIT_KEY = 110
+# The names of kinds that are not their texts.
+NAMES = {"Base64 error": "Base64", "JSON error": "Json", "UTF-8 error": "Utf8"}
 
 
 class Handle(ctypes.Structure):
@@ -45,7 +47,8 @@ def shown(library, status, text):
     """Returns a result as rows show it."""
     if status == 0:
         return {"ok": json.loads(text)}
-    return {"err": left(lambda *buffer: library.jwt_status_text(status, *buffer))[1].decode()}
+    said = left(lambda *buffer: library.jwt_status_text(status, *buffer))[1].decode()
+    return {"err": NAMES.get(said, said)}
 
 
 def results(library, row, kind, key):
