@@ -8,8 +8,8 @@
 #![tactic(auto)]
 
 mod calls;
-mod edwards;
 mod joint;
+mod joint_edwards;
 mod points;
 mod row;
 

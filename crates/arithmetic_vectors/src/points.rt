@@ -3,8 +3,8 @@
 
 ghost use Rattle.std.specs.Prelude.{◌≤◌};
 
-use crate::edwards::edwards_joint_multiple;
 use crate::joint::{base_point, joint};
+use crate::joint_edwards::edwards_joint_multiple;
 use crate::row::{Fault, Row};
 use ecdsa::bases::BaseMultiples;
 use ecdsa::constants::{b_256, b_384};
