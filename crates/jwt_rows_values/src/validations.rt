@@ -20,6 +20,7 @@ use std::alloc::Global;
 pub fn answer(call: &str, row: Row<'_>, trial: &mut Trial) -> Result<Option<Value>, Fault> {
     let answer = match call {
         "Validation::new" => of_algorithm(row, trial),
+        "Validation::new_strict" => of_algorithm_strictly(row, trial),
         "Validation::new_for_family" => of_family(row, trial),
         "Validation::from_value" => read(row, trial),
         "Validation::from_slice" => read_text(row, trial),
@@ -33,6 +34,7 @@ pub fn answer(call: &str, row: Row<'_>, trial: &mut Trial) -> Result<Option<Valu
 fn by_setting(call: &str, row: Row<'_>, trial: &mut Trial) -> Result<Option<Value>, Fault> {
     let answer = match call {
         "Validation::set_subject" => set_subject(row, trial),
+        "Validation::require_configured" => require_configured(row, trial),
         "Validation::set_audience"
         | "Validation::set_issuer"
         | "Validation::set_required_spec_claims"
@@ -77,6 +79,14 @@ fn of_algorithm(row: Row<'_>, trial: &mut Trial) -> Answer {
     let algorithm = only_given(row)?;
     trial.begin();
     let answer = Validation::new(row.alloc(), algorithm);
+    trial.end();
+    of_validation(row.alloc(), answer)
+}
+
+fn of_algorithm_strictly(row: Row<'_>, trial: &mut Trial) -> Answer {
+    let algorithm = only_given(row)?;
+    trial.begin();
+    let answer = Validation::new_strict(row.alloc(), algorithm);
     trial.end();
     of_validation(row.alloc(), answer)
 }
@@ -150,6 +160,16 @@ fn set_subject(row: Row<'_>, trial: &mut Trial) -> Answer {
     let mut after = validation(row)?;
     trial.begin();
     let answer = after.set_subject(row.alloc(), subject);
+    trial.end();
+    of_setter(row.alloc(), answer, &before, &after)
+}
+
+fn require_configured(row: Row<'_>, trial: &mut Trial) -> Answer {
+    row.takes(&["validation"])?;
+    let before = validation(row)?;
+    let mut after = validation(row)?;
+    trial.begin();
+    let answer = after.require_configured(row.alloc());
     trial.end();
     of_setter(row.alloc(), answer, &before, &after)
 }

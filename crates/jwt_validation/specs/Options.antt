@@ -1,5 +1,5 @@
 -- The options that a token is checked against, with sets of strings as tests of strings.
-use Rattle.std.specs.Prelude.{ℕ, List, [], Bool, true, false, Option, None, unwrap_or, codes}
+use Rattle.std.specs.Prelude.{◌&&◌, ◌||◌, ℕ, List, [], Bool, true, false, Option, None, is_some, unwrap_or, codes}
 use Rattle.std.specs.List.{list_any}
 use Rattle.std.specs.Str.{bytes_eq}
 use Rattle.jwt_base.specs.declared.algorithms.Algorithm.{Algorithm}
@@ -53,3 +53,22 @@ default_options algorithms = record {
 -- those that name no algorithm
 abbrev pub defaults : Options
 defaults = default_options []
+
+-- the strict options: nbf is checked, without leeway, and a token is refused from its exp on (RFC 7519 section 4.1.4)
+abbrev pub strict_options : List Algorithm → Options
+strict_options algorithms = record (default_options algorithms) {
+  leeway = 0;
+  reject = 1;
+  checks_nbf = true;
+}
+
+-- the set with this name too, if the claim is configured
+abbrev pub with_name : Bool → List ℕ → Texts → Texts
+with_name is_configured name names t = (is_configured && bytes_eq name t) || names t
+
+-- the options that require aud, iss and sub too, if these are configured
+abbrev pub requiring_configured : Options → Options
+requiring_configured o = record o {
+  required = with_name (is_some o.sub) (codes "sub")
+      (with_name (is_some o.iss) (codes "iss") (with_name (is_some o.aud) (codes "aud") o.required));
+}

@@ -1,16 +1,16 @@
 -- How the options of a validation are read from a JSON object.
-use Rattle.std.specs.Prelude.{◌≡◌, ℕ, List, [], ◌∷◌, ◌||◌, Bool, false, not, Option, Some, option_map, option_and_then, unwrap_or, codes}
+use Rattle.std.specs.Prelude.{◌≡◌, ℕ, List, [], ◌∷◌, ◌||◌, Bool, false, not, Option, Some, option_map, option_and_then, unwrap_or, codes, if◌then◌else◌}
 use Rattle.serde_json.specs.Data.{Data, Items, no_items, item, Members, no_members, member}
 use Rattle.serde_json.specs.Find.{get, as_bool, as_str, as_number, as_u64, as_array, as_object}
 use Rattle.jwt_base.specs.Algorithm.{algorithm_from}
 use Rattle.jwt_base.specs.Members.{optional, is_named, texts}
 use Rattle.jwt_base.specs.declared.algorithms.Algorithm.{Algorithm}
-use Rattle.jwt_validation.specs.Options.{Options, Texts, among, defaults}
+use Rattle.jwt_validation.specs.Options.{Options, Texts, among, defaults, strict_options, requiring_configured}
 
 abbrev pub option_names : List (List ℕ)
 option_names = codes "required_spec_claims" ∷ codes "leeway" ∷ codes "reject_tokens_expiring_in_less_than"
     ∷ codes "validate_exp" ∷ codes "validate_nbf" ∷ codes "validate_aud" ∷ codes "aud" ∷ codes "iss"
-    ∷ codes "sub" ∷ codes "algorithms" ∷ codes "understood_crit" ∷ []
+    ∷ codes "sub" ∷ codes "algorithms" ∷ codes "understood_crit" ∷ codes "strict" ∷ []
 
 -- whether a member has none of these names
 abbrev pub has_other : List (List ℕ) → Members → Bool
@@ -42,19 +42,22 @@ item_algorithms (item d ds) =
 abbrev pub algorithms_in : Data → Option (List Algorithm)
 algorithms_in d = option_and_then item_algorithms (as_array d)
 
--- the times in seconds, and which claims are checked
-pub record ReadsTimes (d : Data) (leeway reject : ℕ) (checks_exp checks_nbf checks_aud : Bool) : Type 0 where
-  pub at_leeway : or_default defaults.leeway as_whole (get (codes "leeway") d) ≡ Some leeway
-  pub at_reject :
-      or_default defaults.reject as_whole (get (codes "reject_tokens_expiring_in_less_than") d) ≡ Some reject
-  pub at_exp : or_default defaults.checks_exp as_bool (get (codes "validate_exp") d) ≡ Some checks_exp
-  pub at_nbf : or_default defaults.checks_nbf as_bool (get (codes "validate_nbf") d) ≡ Some checks_nbf
-  pub at_aud : or_default defaults.checks_aud as_bool (get (codes "validate_aud") d) ≡ Some checks_aud
+-- the options whose values absent members have, with no algorithm
+abbrev pub usual_options : Bool → Options
+usual_options is_strict = if is_strict then strict_options [] else defaults
 
--- each option by its name, absent ones by the values of `Validation::new` and no algorithm, and no other member
-pub record ReadsOptions (d : Data) (o : Options) : Type 0 where
-  pub names : HasOptionNames d
-  pub times : ReadsTimes d o.leeway o.reject o.checks_exp o.checks_nbf o.checks_aud
+-- the times in seconds, and which claims are checked
+pub record ReadsTimes (d : Data) (usual : Options) (leeway reject : ℕ) (checks_exp checks_nbf checks_aud : Bool) : Type 0 where
+  pub at_leeway : or_default usual.leeway as_whole (get (codes "leeway") d) ≡ Some leeway
+  pub at_reject :
+      or_default usual.reject as_whole (get (codes "reject_tokens_expiring_in_less_than") d) ≡ Some reject
+  pub at_exp : or_default usual.checks_exp as_bool (get (codes "validate_exp") d) ≡ Some checks_exp
+  pub at_nbf : or_default usual.checks_nbf as_bool (get (codes "validate_nbf") d) ≡ Some checks_nbf
+  pub at_aud : or_default usual.checks_aud as_bool (get (codes "validate_aud") d) ≡ Some checks_aud
+
+-- each option by its name, absent ones by the usual values
+pub record ReadsMembers (d : Data) (usual : Options) (o : Options) : Type 0 where
+  pub times : ReadsTimes d usual o.leeway o.reject o.checks_exp o.checks_nbf o.checks_aud
   pub required : or_default defaults.required text_set (get (codes "required_spec_claims") d)
       ≡ Some o.required
   pub aud : optional text_set (get (codes "aud") d) ≡ Some o.aud
@@ -62,3 +65,16 @@ pub record ReadsOptions (d : Data) (o : Options) : Type 0 where
   pub sub : optional as_str (get (codes "sub") d) ≡ Some o.sub
   pub algorithms : or_default defaults.algorithms algorithms_in (get (codes "algorithms") d) ≡ Some o.algorithms
   pub understood : or_default defaults.understood text_set (get (codes "understood_crit") d) ≡ Some o.understood
+
+-- strict options require the configured claims too
+abbrev pub settled : Bool → Options → Options
+settled is_strict o = if is_strict then requiring_configured o else o
+
+-- the options of an object: its members are options, and it has no others
+pub record ReadsOptions (d : Data) (o : Options) : Type 0 where
+  pub names : HasOptionNames d
+  pub is_strict : Bool
+  pub at_strict : or_default false as_bool (get (codes "strict") d) ≡ Some is_strict
+  pub members : Options
+  pub reads : ReadsMembers d (usual_options is_strict) members
+  pub options : o ≡ settled is_strict members

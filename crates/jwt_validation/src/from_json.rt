@@ -10,10 +10,13 @@ ghost use Rattle.jwt_base.specs.KindOf.{IsMemory, RefusesAs};
 ghost use Rattle.jwt_base.specs.Members.{optional};
 ghost use Rattle.jwt_validation.specs.Options.{Options, among, no_texts};
 ghost use Rattle.jwt_validation.specs.OptionsOf.{options_of};
-ghost use Rattle.jwt_validation.specs.OptionsRead.{option_names, has_other, HasOptionNames, as_whole, or_default, text_set, algorithms_in, ReadsTimes, ReadsOptions};
+ghost use Rattle.jwt_validation.specs.OptionsRead.{option_names, has_other, HasOptionNames, as_whole, or_default, text_set, algorithms_in, settled, usual_options, ReadsTimes, ReadsMembers, ReadsOptions};
 
 use crate::Validation;
-use crate::validation::{LEEWAY, REJECT, VALIDATES_AUD, VALIDATES_EXP, VALIDATES_NBF, insert_text};
+use crate::validation::{
+    LEEWAY, REJECT, STRICT_LEEWAY, STRICT_REJECT, STRICT_VALIDATES_NBF, VALIDATES_AUD,
+    VALIDATES_EXP, VALIDATES_NBF, insert_text,
+};
 use jwt_base::algorithms::Algorithm;
 use jwt_base::errors::{ErrorKind, Result, new_error};
 use jwt_base::json::members::{is_one_of, optional_text, present, read_texts};
@@ -29,7 +32,33 @@ pub(crate) fn read_validation(alloc: Global, value: &Value) -> Result<Validation
         ((o : Options) → ¬ ReadsOptions (view value.now) o)) }
 {
     check_names(value)?;
-    let times = read_times(value)?;
+    let is_strict = optional_flag(value, "strict", false)?;
+    let members = read_members(alloc, value, is_strict)?;
+    settle(alloc, members, is_strict)
+}
+
+// Returns the validation that the members make: strict options require the configured claims too.
+fn settle(alloc: Global, members: Validation, is_strict: bool) -> Result<Validation>
+    ensures ok { IfOk result (λ v. options_of v ≡ settled is_strict (options_of members)) }
+    ensures err { IfErr result IsMemory }
+{
+    if !is_strict {
+        return Ok(members);
+    }
+    let mut validation = members;
+    validation.require_configured(alloc)?;
+    Ok(validation)
+}
+
+// Returns the validation of the members; absent ones have the values of strict options, or of the
+// default ones.
+fn read_members(alloc: Global, value: &Value, is_strict: bool) -> Result<Validation>
+    ensures ok { IfOk result (λ v. ReadsMembers (view value.now) (usual_options is_strict)
+        (options_of v)) }
+    ensures err { IfErr result (RefusesAs kind.Json
+        ((o : Options) → ¬ ReadsMembers (view value.now) (usual_options is_strict) o)) }
+{
+    let times = read_times(value, is_strict)?;
     let required_spec_claims = required_names(alloc, value)?;
     let aud = optional_set(alloc, value, "aud")?;
     let iss = optional_set(alloc, value, "iss")?;
@@ -51,7 +80,7 @@ pub(crate) fn read_validation(alloc: Global, value: &Value) -> Result<Validation
     })
 }
 
-fn option_names() -> [&'static str; 11]
+fn option_names() -> [&'static str; 12]
     ensures { map (λ s. s.now) result ≡ option_names }
 {
     [
@@ -66,6 +95,7 @@ fn option_names() -> [&'static str; 11]
         "sub",
         "algorithms",
         "understood_crit",
+        "strict",
     ]
 }
 
@@ -101,19 +131,46 @@ struct Times {
     checks_aud: bool,
 }
 
-fn read_times(value: &Value) -> Result<Times>
-    ensures ok { IfOk result
-        (λ t. ReadsTimes (view value.now) t.leeway t.reject t.checks_exp t.checks_nbf
-        t.checks_aud) }
-    ensures err { IfErr result (RefusesAs kind.Json
-        ((l r : ℕ) (e n a : Bool) → ¬ ReadsTimes (view value.now) l r e n a)) }
+// Returns the values of absent members.
+fn usual_times(is_strict: bool) -> Times
+    ensures { let usual = usual_options is_strict in
+        (result.leeway ≡ usual.leeway) × (result.reject ≡ usual.reject)
+        × (result.checks_exp ≡ usual.checks_exp) × (result.checks_nbf ≡ usual.checks_nbf)
+        × (result.checks_aud ≡ usual.checks_aud) }
 {
+    if is_strict {
+        Times {
+            leeway: STRICT_LEEWAY,
+            reject: STRICT_REJECT,
+            checks_exp: VALIDATES_EXP,
+            checks_nbf: STRICT_VALIDATES_NBF,
+            checks_aud: VALIDATES_AUD,
+        }
+    } else {
+        Times {
+            leeway: LEEWAY,
+            reject: REJECT,
+            checks_exp: VALIDATES_EXP,
+            checks_nbf: VALIDATES_NBF,
+            checks_aud: VALIDATES_AUD,
+        }
+    }
+}
+
+fn read_times(value: &Value, is_strict: bool) -> Result<Times>
+    ensures ok { IfOk result
+        (λ t. ReadsTimes (view value.now) (usual_options is_strict) t.leeway t.reject t.checks_exp
+        t.checks_nbf t.checks_aud) }
+    ensures err { IfErr result (RefusesAs kind.Json ((l r : ℕ) (e n a : Bool)
+        → ¬ ReadsTimes (view value.now) (usual_options is_strict) l r e n a)) }
+{
+    let usual = usual_times(is_strict);
     Ok(Times {
-        leeway: optional_number(value, "leeway", LEEWAY)?,
-        reject: optional_number(value, "reject_tokens_expiring_in_less_than", REJECT)?,
-        checks_exp: optional_flag(value, "validate_exp", VALIDATES_EXP)?,
-        checks_nbf: optional_flag(value, "validate_nbf", VALIDATES_NBF)?,
-        checks_aud: optional_flag(value, "validate_aud", VALIDATES_AUD)?,
+        leeway: optional_number(value, "leeway", usual.leeway)?,
+        reject: optional_number(value, "reject_tokens_expiring_in_less_than", usual.reject)?,
+        checks_exp: optional_flag(value, "validate_exp", usual.checks_exp)?,
+        checks_nbf: optional_flag(value, "validate_nbf", usual.checks_nbf)?,
+        checks_aud: optional_flag(value, "validate_aud", usual.checks_aud)?,
     })
 }
 

@@ -8,7 +8,7 @@ ghost use Rattle.jwt_base.specs.JsonText.{ReadsText};
 ghost use Rattle.jwt_base.specs.Kind as kind;
 ghost use Rattle.jwt_base.specs.KindOf.{IsMemory, RefusesAs};
 ghost use Rattle.serde_json.specs.View.{view};
-ghost use Rattle.jwt_validation.specs.Options.{Options, among, default_options};
+ghost use Rattle.jwt_validation.specs.Options.{Options, among, default_options, requiring_configured, strict_options, with_name};
 ghost use Rattle.jwt_validation.specs.OptionsOf.{options_of};
 ghost use Rattle.jwt_validation.specs.OptionsRead.{ReadsOptions};
 ghost use Rattle.jwt_validation.specs.equality.ValidationEq.{validation_eq};
@@ -31,6 +31,13 @@ pub(crate) const VALIDATES_EXP: bool = true;
 pub(crate) const VALIDATES_NBF: bool = false;
 
 pub(crate) const VALIDATES_AUD: bool = true;
+
+// Those of strict options, as far as they differ.
+pub(crate) const STRICT_LEEWAY: u64 = 0;
+
+pub(crate) const STRICT_REJECT: u64 = 1;
+
+pub(crate) const STRICT_VALIDATES_NBF: bool = true;
 
 /// The options that a token is checked against. Times are in whole seconds.
 #[derive(Debug, Drop)]
@@ -85,6 +92,33 @@ impl Validation {
     {
         let algorithms = family.algorithms().to_vec(alloc)?;
         with_algorithms(alloc, algorithms)
+    }
+
+    /// Returns strict checks of one algorithm: like [`Validation::new`], but `nbf` is checked, there is no
+    /// leeway, and a token is expired at the time `exp` itself (RFC 7519 section 4.1.4). Call
+    /// [`Validation::require_configured`] after the audience, the issuers and the subject are set. The
+    /// only refusal is `OutOfMemory`.
+    pub fn new_strict(alloc: Global, algorithm: Algorithm) -> Result<Validation>
+        ensures ok { IfOk result (λ v. options_of v ≡ strict_options (algorithm ∷ [])) }
+        ensures err { IfErr result IsMemory }
+    {
+        let mut validation = Validation::new(alloc, algorithm)?;
+        validation.leeway = STRICT_LEEWAY;
+        validation.reject_tokens_expiring_in_less_than = STRICT_REJECT;
+        validation.validate_nbf = STRICT_VALIDATES_NBF;
+        Ok(validation)
+    }
+
+    /// Requires `aud`, `iss` and `sub`, as far as the validation has a value for them, beside the claims
+    /// that are required already. The only refusal is `OutOfMemory`.
+    pub fn require_configured(&mut self, alloc: Global) -> Result<()>
+        ensures ok { OnOk result (options_of self.new ≡ requiring_configured (options_of self.old)) }
+        ensures unchanged { OnErr result (self.new ≡ self.old) }
+        ensures err { IfErr result IsMemory }
+    {
+        let required = configured_names(alloc, self)?;
+        self.required_spec_claims = required;
+        Ok(())
     }
 
     /// Replaces the audiences. The only refusal is `OutOfMemory`.
@@ -152,7 +186,9 @@ impl Validation {
     /// and RFC 8037 section 3.1 for the algorithms, whole numbers of seconds for the times and
     /// `true` or `false` for the rest.
     ///
-    /// A member that is absent or null has the value of [`Validation::new`], except that
+    /// One more member, `strict`, is `true` or `false`. A member that is absent or null has the value of
+    /// [`Validation::new`], or of [`Validation::new_strict`] if `strict` is `true`, which also
+    /// [requires](Validation::require_configured) the configured claims; except that
     /// `algorithms` is then an empty list: no algorithm is chosen by default, and `decode` refuses with
     /// `MissingAlgorithm`. An unknown member, a member of a wrong type, an algorithm of an unknown
     /// name and a value that is not an object are refused with `Json`; nothing is ignored.
@@ -236,6 +272,36 @@ pub(crate) fn insert_text(alloc: Global, set: &mut HashSet<String>, text: &str) 
 {
     set.insert(String::from_str(alloc, text)?)?;
     Ok(())
+}
+
+// Adds the name of a claim, if the claim is configured.
+fn insert_if(
+    alloc: Global,
+    names: &mut HashSet<String>,
+    is_configured: bool,
+    name: &str,
+) -> Result<()>
+    ensures ok { OnOk result ((t : _) → contains_text names.new t
+        ≡ with_name is_configured name.now (contains_text names.old) t) }
+    ensures err { IfErr result IsMemory }
+{
+    if is_configured {
+        insert_text(alloc, names, name)?;
+    }
+    Ok(())
+}
+
+// Returns the names of the claims that are required or configured.
+fn configured_names(alloc: Global, validation: &Validation) -> Result<HashSet<String>>
+    ensures ok { IfOk result (λ names. contains_text names
+        ≡ (requiring_configured (options_of validation.now)).required) }
+    ensures err { IfErr result IsMemory }
+{
+    let mut names = copied_set(&validation.required_spec_claims)?;
+    insert_if(alloc, &mut names, validation.aud.is_some(), "aud")?;
+    insert_if(alloc, &mut names, validation.iss.is_some(), "iss")?;
+    insert_if(alloc, &mut names, validation.sub.is_some(), "sub")?;
+    Ok(names)
 }
 
 fn copied_set(set: &HashSet<String>) -> Result<HashSet<String>>
