@@ -17,7 +17,7 @@ use Rattle.jsonwebtoken.specs.Refused.{DecidesByTest, IsRefusal}
 use Rattle.jsonwebtoken.specs.Tests.{Call, Parts, HasParts, key_of, Test, ClaimsAreAnObject, ClaimRulesHold, Contents, header_tests, header_order, verifying_tests, token_tests}
 use Rattle.jsonwebtoken.specs.declared.refusal.Refusal.{Refusal}
 use Rattle.jsonwebtoken.specs.private_clauses.FailedAt.{StopsAt}
-use Rattle.jsonwebtoken.specs.private_clauses.Refused.{IsWithTest, IsWithoutTest, IsFailedTest}
+use Rattle.jsonwebtoken.specs.private_clauses.Refused.{IsWithTest, IsWithoutTest, IsFailedTest, tested}
 use Rattle.jsonwebtoken.specs.private_clauses.Steps.{Meets, Finds, FailsAt, Step, Failed, bare, holding, no_contents, rule_tests, with_header_part, with_value, whole, verifying_by}
 use Rattle.jsonwebtoken.proofs.Engine.{join}
 
@@ -67,6 +67,17 @@ without tests order shows (Err f) r is d =
     let fails : IsRefusal tests order f → FailsFirst tests order (kind_of f.error) = λ x. record { failed = f.test; first = x.first; kind = x.kind } in
     subst (Decides tests order shows) (sym is) (record { accepted = tt; exact = d.exact; refused = or_memory fails d.refused })
 
+-- a decision without the test that was noted
+pub unnoted : {C R : Type 0} (tests : Tests Test C) (order : List Test) (shows : C → R → Type 0) (t : Test) (r : Result R Error)
+    → DecidesByTest tests order shows (tested t r) → Decides tests order shows r
+unnoted tests order shows t (Ok y) d = without tests order shows (Ok y) (Ok y) refl d
+unnoted tests order shows t (Err e) d = without tests order shows (Err (record { test = t; error = e })) (Err e) refl d
+
+-- a result with the test that was noted
+pub noted : {R : Type 0} (t : Test) (made : Result R Error) (r : Result R Refusal) → IsWithTest t made r → tested t made ≡ r
+noted t made (Ok y) is = rw is refl
+noted t made (Err f) is = rw (is.0, is.1) refl
+
 -- the test alone
 pub first_failed : {C R : Type 0} (tests : Tests Test C) (order : List Test) (shows : C → R → Type 0) (q : Result R Refusal) (r : Result (Option Test) Error)
     → IsFailedTest (result_err q) r → DecidesByTest tests order shows q → FindsFailed tests order r
@@ -87,6 +98,18 @@ module _ {T R : Type 0} (call : Call T) (order : List Test) (at : Contents → C
   pub exit : {A : Type 0} (r : Result R Refusal) (f : Refusal) → IsErrAnd r (λ y. y ≡ f)
       → (A → (x : Contents) × Failed call order (at x) f.test (kind_of f.error)) → IsMemory f.error ⊎ A → Step call order at Shows r
   exit r f is g fault = let p = err_from_is_err_and r is in rw (p.1, p.2) (or_memory g fault)
+
+  -- the same, if the test is noted beside the result
+  pub exit_noting : {A : Type 0} (t : Test) (r : Result R Error) (e : Error) → IsErrAnd r (λ y. y ≡ e)
+      → (A → (x : Contents) × Failed call order (at x) t (kind_of e)) → IsMemory e ⊎ A → Step call order at Shows (tested t r)
+  exit_noting t r e is g fault = let p = err_from_is_err_and r is in rw (p.1, p.2) (or_memory g fault)
+
+  -- the result of a last call, if the test is noted beside it
+  pub last_noting : {P : R → Type 0} {Q : Error → Type 0} (t : Test) (r : Result R Error) → IfOk r P → IfErr r (λ e. IsMemory e ⊎ Q e)
+      → ((y : R) → P y → (x : Contents) × Passes (token_tests call) order (at x) × Shows x y)
+      → ((e : Error) → Q e → (x : Contents) × Failed call order (at x) t (kind_of e)) → Step call order at Shows (tested t r)
+  last_noting t (Ok y) ok err g h = g y ok
+  last_noting t (Err e) ok err g h = or_memory (h e) err
 
   -- a last step
   pub last : {P : R → Type 0} {Q : Test → Kind → Type 0} (r : Result R Refusal) → Meets P Q r

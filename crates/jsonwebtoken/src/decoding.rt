@@ -7,6 +7,7 @@ ghost use Rattle.jsonwebtoken.specs.Calls.{decoding, Carries, HasHeader};
 ghost use Rattle.jsonwebtoken.specs.Laws.{HasLaws};
 ghost use Rattle.jsonwebtoken.specs.Order.{Decides};
 ghost use Rattle.jsonwebtoken.specs.Refused.{DecidesByTest};
+ghost use Rattle.jsonwebtoken.specs.private_clauses.Refused.{tested};
 ghost use Rattle.jsonwebtoken.specs.private_clauses.Steps.{Step, whole};
 ghost use Rattle.jsonwebtoken.specs.Tests.{Compact, header_order, decode_order, header_call, token_tests};
 
@@ -16,8 +17,8 @@ pub(crate) mod parts;
 pub(crate) mod steps;
 
 pub use crate::decoding::key_set::{decode_with_set, decode_with_set_or_refusal};
-use crate::decoding::steps::{read_claims_by_key, read_header, token_parts};
-use crate::refusal::{Refusal, without_test};
+use crate::decoding::steps::{read_claims_by_key, read_header_noting, token_parts};
+use crate::refusal::{Refusal, Test, note, with_test};
 use jwt_base::errors::Result;
 use jwt_base::json::Claims;
 use jwt_header::Header;
@@ -35,24 +36,29 @@ pub struct TokenData<T> {
     pub claims: T,
 }
 
-fn decode_by_steps<P: CryptoProvider, T: Claims>(
+/// Verifies a token, and notes the test that fails.
+fn decode_noting<P: CryptoProvider, T: Claims>(
     alloc: Global,
     provider: &P,
     token: &[u8],
     key: &DecodingKey,
     validation: &Validation,
     now: u64,
-) -> Result<TokenData<T>, Refusal>
+    failed: &mut Test,
+) -> Result<TokenData<T>>
     ensures { let call = decoding P.CryptoProvider T.Claims
         provider.now token.now key.now validation.now now in
-        Step call decode_order whole (Carries call) result }
+        Step call decode_order whole (Carries call) (tested failed.new result) }
 {
-    let parts = token_parts(token)?;
-    let header = read_header(alloc, parts.header)?;
+    let parts = match token_parts(token) {
+        Ok(parts) => parts,
+        Err(refusal) => return Err(note(refusal, failed)),
+    };
+    let header = read_header_noting(alloc, parts.header, failed)?;
     let claims = read_claims_by_key(alloc, provider, &parts, &header, key, validation, now);
     match claims {
         Ok(claims) => Ok(TokenData { header, claims }),
-        Err(refusal) => Err(refusal),
+        Err(refusal) => Err(note(refusal, failed)),
     }
 }
 
@@ -73,7 +79,9 @@ pub fn decode_or_refusal<P: CryptoProvider, T: Claims>(
         provider.now token.now key.now validation.now now in
         DecidesByTest (token_tests call) decode_order (Carries call) result }
 {
-    decode_by_steps(alloc, provider, token, key, validation, now)
+    let mut failed = Test::HasThreeParts;
+    let decoded = decode_noting(alloc, provider, token, key, validation, now, &mut failed);
+    with_test(failed, decoded)
 }
 
 /// Verifies a token in its compact form with the key, at the moment `now`, in whole seconds since
@@ -120,16 +128,19 @@ pub fn decode<P: CryptoProvider, T: Claims>(
         (decoding P.CryptoProvider T.Claims provider.now token.now key.now validation.now now)
         decode_order (List ℕ) Compact token.now }
 {
-    without_test(decode_or_refusal(alloc, provider, token, key, validation, now))
+    let mut failed = Test::HasThreeParts;
+    decode_noting(alloc, provider, token, key, validation, now, &mut failed)
 }
 
-fn decode_header_by_steps(alloc: Global, token: &[u8]) -> Result<Header, Refusal>
+/// Returns the header of a token, and notes the test that fails.
+fn decode_header_noting(alloc: Global, token: &[u8], failed: &mut Test) -> Result<Header>
     ensures { Step (header_call token.now) header_order whole (HasHeader (header_call token.now))
-        result }
+        (tested failed.new result) }
 {
-    let parts = token_parts(token)?;
-    let header = read_header(alloc, parts.header)?;
-    Ok(header)
+    match token_parts(token) {
+        Ok(parts) => read_header_noting(alloc, parts.header, failed),
+        Err(refusal) => Err(note(refusal, failed)),
+    }
 }
 
 /// Returns the header of a token in its compact form. Nothing is verified: neither the payload nor
@@ -140,5 +151,6 @@ pub fn decode_header(alloc: Global, token: &[u8]) -> Result<Header>
     ensures { Decides (token_tests (header_call token.now)) header_order
         (HasHeader (header_call token.now)) result }
 {
-    without_test(decode_header_by_steps(alloc, token))
+    let mut failed = Test::HasThreeParts;
+    decode_header_noting(alloc, token, &mut failed)
 }

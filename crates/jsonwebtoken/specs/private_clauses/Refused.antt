@@ -15,6 +15,11 @@ abbrev pub IsWithoutTest : {R : Type 0} → Result R Refusal → Result R Error 
 IsWithoutTest (Ok y) r = r ≡ Ok y
 IsWithoutTest (Err f) r = r ≡ Err f.error
 
+-- the result, with this test beside its error
+abbrev pub tested : {R : Type 0} → Test → Result R Error → Result R Refusal
+tested test (Ok y) = Ok y
+tested test (Err e) = Err (record { test = test; error = e })
+
 -- the test of a refusal, if there is one, unless memory ran out
 abbrev pub IsFailedTest : Option Refusal → Result (Option Test) Error → Type 0
 IsFailedTest None r = r ≡ Ok None

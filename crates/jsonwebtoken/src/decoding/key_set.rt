@@ -9,14 +9,15 @@ ghost use Rattle.jsonwebtoken.specs.Calls.{decoding_by_set, Carries};
 ghost use Rattle.jsonwebtoken.specs.Laws.{HasLaws, KeepsWithMore};
 ghost use Rattle.jsonwebtoken.specs.Order.{Decides};
 ghost use Rattle.jsonwebtoken.specs.Refused.{DecidesByTest};
+ghost use Rattle.jsonwebtoken.specs.private_clauses.Refused.{tested};
 ghost use Rattle.jsonwebtoken.specs.private_clauses.Steps.{Asks, Finds, Step, ShowsClaims, ShowsKey, looking_in, parts_in, with_header, with_opening, whole};
 ghost use Rattle.jsonwebtoken.specs.Tests.{Compact, named_key, AgreesWith, CritIsUnderstood, KeyIsFound, KeyAlgorithmAgrees, KeyIsUsable, key_tests, algorithm_tests, verifying_tests, set_order, token_tests};
 
 use crate::decoding::TokenData;
 use crate::decoding::crit::check_crit;
 use crate::decoding::parts::TokenParts;
-use crate::decoding::steps::{read_header, token_parts, verify_by_key};
-use crate::refusal::{Refusal, Test, with_test, without_test};
+use crate::decoding::steps::{read_header_noting, token_parts, verify_by_key};
+use crate::refusal::{Refusal, Test, note, with_test};
 use jwt_base::algorithms::{Algorithm, KeyAlgorithm};
 use jwt_base::errors::{ErrorKind, Result};
 use jwt_base::json::Claims;
@@ -96,24 +97,29 @@ fn read_claims_by_set<P: CryptoProvider, T: Claims>(
     Ok(claims)
 }
 
-fn decode_with_set_by_steps<P: CryptoProvider, T: Claims>(
+/// Verifies a token, and notes the test that fails.
+fn decode_with_set_noting<P: CryptoProvider, T: Claims>(
     alloc: Global,
     provider: &P,
     token: &[u8],
     set: &JwkSet,
     validation: &Validation,
     now: u64,
-) -> Result<TokenData<T>, Refusal>
+    failed: &mut Test,
+) -> Result<TokenData<T>>
     ensures { let call = decoding_by_set P.CryptoProvider T.Claims
         provider.now token.now set.now.keys.items validation.now now in
-        Step call set_order whole (Carries call) result }
+        Step call set_order whole (Carries call) (tested failed.new result) }
 {
-    let parts = token_parts(token)?;
-    let header = read_header(alloc, parts.header)?;
+    let parts = match token_parts(token) {
+        Ok(parts) => parts,
+        Err(refusal) => return Err(note(refusal, failed)),
+    };
+    let header = read_header_noting(alloc, parts.header, failed)?;
     let claims = read_claims_by_set(alloc, provider, &parts, &header, set, validation, now);
     match claims {
         Ok(claims) => Ok(TokenData { header, claims }),
-        Err(refusal) => Err(refusal),
+        Err(refusal) => Err(note(refusal, failed)),
     }
 }
 
@@ -131,7 +137,9 @@ pub fn decode_with_set_or_refusal<P: CryptoProvider, T: Claims>(
         provider.now token.now set.now.keys.items validation.now now in
         DecidesByTest (token_tests call) set_order (Carries call) result }
 {
-    decode_with_set_by_steps(alloc, provider, token, set, validation, now)
+    let mut failed = Test::HasThreeParts;
+    let decoded = decode_with_set_noting(alloc, provider, token, set, validation, now, &mut failed);
+    with_test(failed, decoded)
 }
 
 /// Verifies a token in its compact form with the key of the set that its header names, at the
@@ -174,5 +182,6 @@ pub fn decode_with_set<P: CryptoProvider, T: Claims>(
         validation.now now)
         set_order set.now.keys.items }
 {
-    without_test(decode_with_set_or_refusal(alloc, provider, token, set, validation, now))
+    let mut failed = Test::HasThreeParts;
+    decode_with_set_noting(alloc, provider, token, set, validation, now, &mut failed)
 }

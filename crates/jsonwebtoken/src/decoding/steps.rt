@@ -9,9 +9,9 @@ ghost use Rattle.jwt_base.specs.Algorithm.{family_of};
 ghost use Rattle.jwt_base.specs.Base64Url.{IsPart};
 ghost use Rattle.jwt_base.specs.JsonText.{IsJson};
 ghost use Rattle.jwt_base.specs.Kind as kind;
-ghost use Rattle.jwt_header.specs.Header.{new_header};
 ghost use Rattle.jwt_validation.specs.OptionsOf.{options_of};
 ghost use Rattle.jsonwebtoken.specs.Calls.{decoding};
+ghost use Rattle.jsonwebtoken.specs.private_clauses.Refused.{tested};
 ghost use Rattle.jsonwebtoken.specs.private_clauses.Steps.{Asks, Finds, Meets, Step, ShowsNothing, ShowsHeader, ShowsClaims, bare, parts_in, with_header_part, with_payload_part, with_parts, with_header, with_opening, with_value, allowing, accepting, claiming, holding, reading, rule_tests, verifying_by};
 ghost use Rattle.jsonwebtoken.specs.Tests.{dot, Parts, ArePartsOf, Test, HasThreeParts, CritIsUnderstood, AlgorithmsAreListed, AlgorithmIsListed, VerifierIsMade, FamiliesAgree, SignatureIsAccepted, ClaimsRead, ClaimsAreAnObject, ClaimRulesHold, header_tests, algorithm_tests, signature_tests, payload_tests, claim_tests, verifying_tests};
 
@@ -20,11 +20,11 @@ use crate::decoding::parts::TokenParts;
 use crate::known_headers::known_algorithm;
 use crate::refusal::{Refusal, Test, with_test};
 use jwt_base::algorithms::Algorithm;
-use jwt_base::errors::ErrorKind;
+use jwt_base::errors::{ErrorKind, Result};
 use jwt_base::json::Claims;
 use jwt_base::serialization::{json_value, part_bytes};
 use jwt_base::text::Text;
-use jwt_header::{Extras, Header};
+use jwt_header::Header;
 use jwt_keys::decoding_key::DecodingKey;
 use jwt_keys::provider::{CryptoProvider, JwtVerifier};
 use jwt_validation::{Validation, validate};
@@ -139,43 +139,32 @@ pub(crate) fn read_json(alloc: Global, test: Test, bytes: &[u8]) -> Result<Value
     with_test(test, json_value(alloc, bytes))
 }
 
-/// Returns the header with the algorithm and the type `JWT` alone, as [`Header::new`] does. A header
-/// is large, so it is made where it is to stand, and not moved there from another result.
-fn known_header(alloc: Global, algorithm: Algorithm) -> Result<Header, Refusal>
-    ensures { Meets (λ header. header ≡ new_header algorithm) (λ _ _. ⊥) result }
+/// Returns the header that a header part stands for, and notes the test that fails. Four parts are
+/// known by their texts, without being read. A header is large: it is made in the result, and the
+/// test is noted beside it, so that no header is moved into a result of another type.
+pub(crate) fn read_header_noting(alloc: Global, part: &[u8], failed: &mut Test) -> Result<Header>
+    ensures { Step bare header_tests (with_header_part part.now) ShowsHeader
+        (tested failed.new result) }
 {
-    let typ = with_test(Test::HeaderReads, Text::from_str(alloc, "JWT"))?;
-    Ok(Header {
-        alg: algorithm,
-        typ: Some(typ),
-        cty: None,
-        jku: None,
-        jwk: None,
-        kid: None,
-        x5u: None,
-        x5t: None,
-        x5t_s256: None,
-        url: None,
-        nonce: None,
-        x5c: None,
-        crit: None,
-        enc: None,
-        zip: None,
-        extras: Extras::new(alloc),
-    })
+    if let Some(algorithm) = known_algorithm(part) {
+        *failed = Test::HeaderReads;
+        return Header::new(alloc, algorithm);
+    }
+    *failed = Test::HeaderIsPart;
+    let bytes = part_bytes(alloc, part)?;
+    *failed = Test::HeaderIsJson;
+    let value = json_value(alloc, bytes.as_slice())?;
+    *failed = Test::HeaderReads;
+    Header::from_value(alloc, &value)
 }
 
-/// Returns the header that a header part stands for. Four parts are known by their texts, without
-/// being read.
+/// Returns the header that a header part stands for.
 pub(crate) fn read_header(alloc: Global, part: &[u8]) -> Result<Header, Refusal>
     ensures { Step bare header_tests (with_header_part part.now) ShowsHeader result }
 {
-    if let Some(algorithm) = known_algorithm(part) {
-        return known_header(alloc, algorithm);
-    }
-    let bytes = read_part(alloc, Test::HeaderIsPart, part)?;
-    let value = read_json(alloc, Test::HeaderIsJson, bytes.as_slice())?;
-    with_test(Test::HeaderReads, Header::from_value(alloc, &value))
+    let mut failed = Test::HeaderIsPart;
+    let header = read_header_noting(alloc, part, &mut failed);
+    with_test(failed, header)
 }
 
 /// Returns the verifier that the provider makes for the algorithm and the key.

@@ -1,15 +1,16 @@
 use Rattle.std.proofs.Common.{ℕ, List, refl}
 use Rattle.jsonwebtoken.specs.Calls.{decoding_by_set, Carries}
 use Rattle.jsonwebtoken.specs.Tests.{Compact, set_order, token_tests}
-use Rattle.jsonwebtoken.proofs.EachTest.{kept_with_more}
-use Rattle.jsonwebtoken.proofs.Exits.{without}
+use Rattle.jsonwebtoken.proofs.EachTest.{decides, kept_with_more, same_answer}
+use Rattle.jsonwebtoken.proofs.Exits.{unnoted}
 use Rattle.jsonwebtoken.proofs.LawsOf.{moments, looser, fixes, key_fits, named_key, one_text}
 use Rattle.jsonwebtoken.proofs.decoding.key_set.decode_with_set.Goals as goal
 
 pub returns-clause-decided : goal.returns-clause-decided
 returns-clause-decided g c =
     let call = decoding_by_set g.P.CryptoProvider g.T.Claims c.args.provider.now c.args.token.now c.args.set.now.keys.items c.args.validation.now c.args.now in
-    without (token_tests call) set_order (Carries call) c.decode_with_set_or_refusal.result _ c.without_test.ensures c.decode_with_set_or_refusal.ensures
+    unnoted (token_tests call) set_order (Carries call) _ c.decode_with_set_noting.result
+    (decides call set_order refl (Carries call) _ c.decode_with_set_noting.ensures (same_answer call set_order refl refl (λ r. r.header) (λ r v. g.T.Claims.reads v r.claims)))
 
 pub returns-clause-laws : goal.returns-clause-laws
 returns-clause-laws g c =

@@ -1,34 +1,5 @@
-use Rattle.std.proofs.Common.{inl, inr, refl, sym}
-use Rattle.serde_json.specs.View.{view}
-use Rattle.jwt_header.specs.Header.{new_header}
-use Rattle.jsonwebtoken.specs.private_clauses.Steps.{ShowsHeader, no_contents, bare, with_header_part}
-use Rattle.jsonwebtoken.specs.Tests.{HeaderReads, header_tests}
-use Rattle.jsonwebtoken.proofs.Exits.{exit, last, last_test}
+use Rattle.jsonwebtoken.proofs.Exits.{noted}
 use Rattle.jsonwebtoken.proofs.decoding.steps.read_header.Goals as goal
 
-pub returns-in-Some : goal.returns-in-Some
-returns-in-Some c =
-    let u = c.in-Some.ensures in
-    last bare header_tests (with_header_part c.args.part.now) ShowsHeader {Q = λ f k. ⊥} c.known_header.result c.known_header.ensures
-    (λ h is. (record no_contents { header_bytes = u.bytes; header_value = u.value; header = new_header c.in-Some.algorithm }, (u.is_part, (u.is_json, (u.reads, tt))), sym is))
-    (λ f k none. absurd none)
-
-pub returns-in_err-bytes : goal.returns-in_err-bytes
-returns-in_err-bytes c =
-    exit bare header_tests (with_header_part c.args.part.now) ShowsHeader _ _ c.from_residual.ensures.1
-    (λ f. (no_contents, inl f)) c.in_err-bytes.ensures
-
-pub returns-in_err-value : goal.returns-in_err-value
-returns-in_err-value c =
-    let read = rw c.as_slice.ensures.value at c.in_err-value.ensures in
-    exit bare header_tests (with_header_part c.args.part.now) ShowsHeader _ _ c.from_residual-in_err-value.ensures.1
-    (λ f. (record no_contents { header_bytes = c.in_ok-bytes.bytes.items }, inr (c.in_ok-bytes.ensures, inl f))) read
-
 pub returns : goal.returns
-returns c =
-    let json = rw c.as_slice.ensures.value at c.in_ok-value.ensures in
-    let t = record no_contents { header_bytes = c.in_ok-bytes.bytes.items; header_value = view c.in_ok-value.value } in
-    last_test bare header_tests (with_header_part c.args.part.now) ShowsHeader HeaderReads c.from_value.result _ c.with_test.ensures
-    c.from_value.ensures.ok c.from_value.ensures.err
-    (λ h reads. (record t { header = h }, (c.in_ok-bytes.ensures, (json, (reads, tt))), refl))
-    (λ e none. (t, inr (c.in_ok-bytes.ensures, inr (json, inl (none.1, (refl, none.0))))))
+returns c = rw (noted _ c.read_header_noting-header.result _ c.with_test.ensures) at c.read_header_noting-header.ensures

@@ -1,0 +1,25 @@
+use Rattle.std.proofs.Common.{ℕ, List, [], ◌∷◌, inl, Result, Ok, Err}
+use Rattle.jwt_base.specs.KindOf.{kind_of}
+use Rattle.jwt_base.specs.declared.errors.Error.{Error}
+use Rattle.jwt_header.specs.declared.header.Header.{Header}
+use Rattle.jsonwebtoken.specs.Calls.{HasHeader}
+use Rattle.jsonwebtoken.specs.declared.refusal.Test.{Test}
+use Rattle.jsonwebtoken.specs.private_clauses.Refused.{tested}
+use Rattle.jsonwebtoken.specs.private_clauses.Steps.{Step, ShowsHeader, bare, no_contents, parts_in, whole, with_header_part}
+use Rattle.jsonwebtoken.specs.Tests.{Parts, HasParts, HasThreeParts, header_order, header_tests, header_call}
+use Rattle.jsonwebtoken.proofs.Exits.{stop, or_memory}
+use Rattle.jsonwebtoken.proofs.decoding.decode_header_noting.Goals as goal
+
+-- the header of these parts, after the test of the parts
+header_of_parts : (token : List ℕ) (parts : Parts) → HasParts (header_call token).token parts → (failed : Test) (read : Result Header Error)
+    → Step bare header_tests (with_header_part parts.header) ShowsHeader (tested failed read)
+    → Step (header_call token) header_order whole (HasHeader (header_call token)) (tested failed read)
+header_of_parts token parts has failed (Ok header) h = (record h.0 { parts = parts }, (has, h.1), h.2)
+header_of_parts token parts has failed (Err e) refused =
+    or_memory (λ f. stop (header_call token) header_order (HasThreeParts ∷ []) header_tests (record f.0 { parts = parts }) failed (kind_of e) (has, tt) f.1) refused
+
+pub returns-in-Ok : goal.returns-in-Ok
+returns-in-Ok c = header_of_parts c.args.token.now (parts_in c.in-Ok.parts) c.in-Ok.ensures _ _ c.read_header_noting.ensures
+
+pub returns-in-Err : goal.returns-in-Err
+returns-in-Err c = rw (c.note.ensures.test, c.note.ensures.error) (or_memory (λ f. (no_contents, inl f)) c.in-Err.ensures)

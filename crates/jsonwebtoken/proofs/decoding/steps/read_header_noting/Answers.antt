@@ -1,0 +1,36 @@
+use Rattle.std.proofs.Common.{inl, inr, refl, sym}
+use Rattle.std.proofs.lemmas.Result.{IfErr-weaker}
+use Rattle.serde_json.specs.View.{view}
+use Rattle.jwt_header.specs.Header.{new_header}
+use Rattle.jsonwebtoken.specs.private_clauses.Steps.{ShowsHeader, no_contents, bare, with_header_part}
+use Rattle.jsonwebtoken.specs.Tests.{HeaderIsPart, HeaderIsJson, HeaderReads, header_tests}
+use Rattle.jsonwebtoken.proofs.Exits.{exit_noting, last_noting}
+use Rattle.jsonwebtoken.proofs.decoding.steps.read_header_noting.Goals as goal
+
+pub returns-in-Some : goal.returns-in-Some
+returns-in-Some c =
+    let u = c.in-Some.ensures in
+    last_noting bare header_tests (with_header_part c.args.part.now) ShowsHeader {Q = λ e. ⊥} HeaderReads c.new.result c.new.ensures.ok
+    (IfErr-weaker c.new.result _ _ (λ e memory. inl memory) c.new.ensures.err)
+    (λ h is. (record no_contents { header_bytes = u.bytes; header_value = u.value; header = new_header c.in-Some.algorithm }, (u.is_part, (u.is_json, (u.reads, tt))), sym is))
+    (λ e none. absurd none)
+
+pub returns-in_err-bytes : goal.returns-in_err-bytes
+returns-in_err-bytes c =
+    exit_noting bare header_tests (with_header_part c.args.part.now) ShowsHeader HeaderIsPart _ _ c.from_residual.ensures.1
+    (λ f. (no_contents, inl (f.1, (refl, f.0)))) c.in_err-bytes.ensures.err
+
+pub returns-in_err-value : goal.returns-in_err-value
+returns-in_err-value c =
+    let read = rw c.as_slice.ensures.value at c.in_err-value.ensures.err in
+    exit_noting bare header_tests (with_header_part c.args.part.now) ShowsHeader HeaderIsJson _ _ c.from_residual-in_err-value.ensures.1
+    (λ f. (record no_contents { header_bytes = c.in_ok-bytes.bytes.items }, inr (c.in_ok-bytes.ensures.ok, inl (f.1, (refl, f.0))))) read
+
+pub returns : goal.returns
+returns c =
+    let json = rw c.as_slice.ensures.value at c.in_ok-value.ensures.ok in
+    let t = record no_contents { header_bytes = c.in_ok-bytes.bytes.items; header_value = view c.in_ok-value.value } in
+    last_noting bare header_tests (with_header_part c.args.part.now) ShowsHeader HeaderReads c.from_value.result
+    c.from_value.ensures.ok c.from_value.ensures.err
+    (λ h reads. (record t { header = h }, (c.in_ok-bytes.ensures.ok, (json, (reads, tt))), refl))
+    (λ e none. (t, inr (c.in_ok-bytes.ensures.ok, inr (json, inl (none.1, (refl, none.0))))))
