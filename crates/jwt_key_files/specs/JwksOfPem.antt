@@ -1,6 +1,7 @@
 -- The JSON Web Key of a public key in the textual encoding (RFC 7517 section 4, RFC 7518 section 6, RFC 8037 section 2).
-use Rattle.std.specs.Prelude.{◌≡◌, ℕ, List, None, Ok}
+use Rattle.std.specs.Prelude.{◌≡◌, ◌≢◌, ℕ, List, None, Ok}
 use Rattle.jwt_keys.specs.Key.{Key}
+use Rattle.jwt_keys.specs.Jwk.{key_value}
 use Rattle.jwt_keys.specs.JwkOfKey.{jwk_of_key}
 use Rattle.jwt_keys.specs.Provider.{KeyAnswers}
 use Rattle.jwt_keys.specs.declared.jwk.Jwk.{Jwk}
@@ -19,3 +20,7 @@ IsJwkOf key jwk = (provider : KeyAnswers) → jwk_of_key provider None key ≡ O
 -- the JSON Web Key of the key that the first block of the text holds
 abbrev pub IsJwkOfPem : (text : List ℕ) → Jwk → Type 0
 IsJwkOfPem text jwk = (key : Key) × (IsPemOf text key × IsJwkOf key jwk)
+
+-- the key can be written
+abbrev pub IsWritable : Jwk → Type 0
+IsWritable jwk = key_value jwk ≢ None

@@ -5,7 +5,7 @@ ghost use Rattle.jwt_base.specs.KindOf.{kind_of, IsMemory};
 ghost use Rattle.jwt_keys.specs.Key.{Key};
 ghost use Rattle.jwt_keys.specs.JwkOfKey.{StandsFor};
 ghost use Rattle.jwt_key_files.specs.PemKeys.{IsPemOf, IsPemRefused};
-ghost use Rattle.jwt_key_files.specs.JwksOfPem.{IsRead, IsJwkOf, IsJwkOfPem};
+ghost use Rattle.jwt_key_files.specs.JwksOfPem.{IsRead, IsJwkOf, IsJwkOfPem, IsWritable};
 
 use crate::pem::public_key_from_pem;
 use jwt_base::errors::Result;
@@ -26,11 +26,13 @@ fn jwk_of(alloc: Global, key: &DecodingKey) -> Result<Jwk>
 }
 
 /// Returns the JSON Web Key of the public key that the first block of a PEM text holds, without `alg` and other common members.
-/// `from_jwk` returns the key that `public_key_from_pem` returns. The refusals are those of `public_key_from_pem`.
+/// `from_jwk` returns the key that `public_key_from_pem` returns, and `to_text` does not refuse this one with `Json`. The refusals
+/// are those of `public_key_from_pem`.
 pub fn jwk_from_pem(alloc: Global, pem: &[u8]) -> Result<Jwk>
     ensures ok { IfOk result (IsJwkOfPem pem.now) }
     ensures way_back { IfOk result (λ jwk. (key : Key) → IsPemOf pem.now key
         → StandsFor jwk.algorithm key) }
+    ensures writable { IfOk result IsWritable }
     ensures err { IfErr result (λ e. IsMemory e ⊎ IsPemRefused pem.now (kind_of e)) }
 {
     let key = public_key_from_pem(alloc, pem)?;
