@@ -1,6 +1,7 @@
 pub mod Status
 pub mod Inputs
 pub mod Calls
+pub mod KeyFiles
 pub mod Keys
 pub mod Members
 pub mod FirstFailed

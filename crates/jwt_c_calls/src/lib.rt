@@ -6,6 +6,7 @@ pub mod by_signature;
 pub mod first_failed;
 pub mod inputs;
 pub mod issued;
+pub mod key_files;
 pub mod keys;
 pub mod members;
 pub mod moments;
