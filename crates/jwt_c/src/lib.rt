@@ -10,11 +10,13 @@ ghost use Rattle.jwt_c_calls.specs.BySignature.{AnswersSignature, AnswersEcdsa, 
 ghost use Rattle.jwt_c_calls.specs.Calls.{Answer, Leaves, LeavesSigned, AnswersHmac, AnswersKey, AnswersSet, AnswersSaid, AnswersHeader, AnswersNumbers, status_of};
 ghost use Rattle.jwt_c_calls.specs.FirstFailed.{AnswersFailedHmac, AnswersFailedKey, AnswersFailedSet};
 ghost use Rattle.jwt_c_calls.specs.Issued.{AnswersEncode, AnswersThumbprint, hash_numbered};
+ghost use Rattle.jwt_c_calls.specs.KeyFiles.{AnswersPem};
 ghost use Rattle.jwt_c_calls.specs.Keys.{AnswersWithKey, AnswersWithOptions, AnswersWithSet};
 ghost use Rattle.jwt_c_calls.specs.Members.{LeavesMember};
 ghost use Rattle.jwt_c_calls.specs.Moments.{LeavesMoments, AnswersMomentsHmac, AnswersMomentsKey, AnswersMomentsSet};
 ghost use Rattle.jwt_c_calls.specs.Secrets.{ChecksSecret, ChecksKey, ChecksSet};
 ghost use Rattle.jwt_c_calls.specs.Status.{kind_part, number, no_status, status_text, version, algorithm_numbered, IsGiven, IsKept};
+ghost use Rattle.jwt_c_verifier.specs.TestNumbers.{LeavesTestName};
 ghost use Rattle.jwt_c_verifier.specs.Verifiers.{limits_of, AreOfKey, AreOfSecret, AreOfSet};
 ghost use Rattle.jwt_c.specs.Held.{LeavesMade, LeavesShared, LeavesUntil, Takes};
 
@@ -32,10 +34,12 @@ use jwt_c_calls::answers::{
 use jwt_c_calls::by_signature::{ecdsa_answer, input_answer, signature_answer};
 use jwt_c_calls::first_failed::{hmac_failed_test, key_failed_test, leave_name, set_failed_test};
 use jwt_c_calls::issued::{encode_answer, thumbprint_answer};
+use jwt_c_calls::key_files::pem_answer;
 use jwt_c_calls::members::member_answer;
 use jwt_c_calls::moments::{hmac_moments, key_moments, leave_moments, set_moments};
 use jwt_c_calls::secrets::{key_status, secret_status, set_status};
 use jwt_c_calls::status::{algorithm_number, leave, number_of, put_bytes, status_of, text_of};
+use jwt_c_verifier::test_numbers::numbered_test;
 use jwt_c_verifier::verifiers::{
     answer_until, limits, verifier_of_key, verifier_of_secret, verifier_of_set,
 };
@@ -413,6 +417,23 @@ pub extern "C" fn jwt_thumbprint(
     leave(answer, room, len)
 }
 
+/// Writes the JSON Web Key of the public key that the first block of a PEM text holds, without `alg`
+/// and other common members. The refusals are those of
+/// [`public_key_from_pem`](jwt_key_files::pem::public_key_from_pem): `Provider` for a private key,
+/// `UnsupportedAlgorithm` for a key of another algorithm, and `InvalidKeyFormat` for any other text.
+#[unsafe(no_mangle)]
+pub extern "C" fn jwt_key_from_pem(
+    alloc: Global,
+    pem: &[u8],
+    room: &mut [u8],
+    len: &mut usize,
+) -> u32
+    ensures { (a : Answer) × AnswersPem pem.now a × Leaves a result len.new room.old room.new }
+{
+    let answer = pem_answer(alloc, pem);
+    leave(answer, room, len)
+}
+
 /// Checks that every number of the claims is an integer from -2^63 to 2^64 - 1: else it returns the
 /// status of `Json`, and for a text that is not the JSON of an object 105.
 #[unsafe(no_mangle)]
@@ -649,6 +670,19 @@ pub extern "C" fn jwt_status_text(status: u32, room: &mut [u8], len: &mut usize)
             102
         }
     }
+}
+
+/// Writes the name of the test that `jwt_verifier_decode` reports by this number, such as
+/// `SignatureIsAccepted`. For a number of no test, it returns 102.
+#[unsafe(no_mangle)]
+pub extern "C" fn jwt_test_text(test: u32, room: &mut [u8], len: &mut usize) -> u32
+    ensures { LeavesTestName test result len.new room.old room.new }
+{
+    let Some(test) = numbered_test(test) else {
+        *len = 0;
+        return 102;
+    };
+    put_bytes(test.name().as_bytes(), room, len)
 }
 
 /// Writes the version of the library, as `JWT_VERSION` of `include/jwtproved.h`.

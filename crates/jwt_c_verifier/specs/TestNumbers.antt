@@ -1,7 +1,9 @@
 -- The numbers by which C is told which test of a token failed.
-use Rattle.std.specs.Prelude.{ℕ}
+use Rattle.std.specs.Prelude.{◌≡◌, ◌≢◌, ◌⊎◌, ℕ, List}
+use Rattle.jsonwebtoken.specs.TestName.{test_name}
 use Rattle.jsonwebtoken.specs.declared.refusal.Test.{Test}
 use Rattle.jsonwebtoken.specs.declared.refusal.Test.TheVariants.{HasThreeParts, HeaderIsPart, HeaderIsJson, HeaderReads, CritIsUnderstood, KeyIsFound, KeyAlgorithmAgrees, KeyIsUsable, AlgorithmsAreListed, AlgorithmIsListed, VerifierIsMade, FamiliesAgree, SignatureIsPart, SignatureIsAccepted, PayloadIsPart, PayloadIsJson, ClaimsRead, ClaimsAreAnObject, ClaimRulesHold}
+use Rattle.jwt_c_calls.specs.Status.{no_status, IsGiven, IsKept}
 
 abbrev pub test_number : Test → ℕ
 test_number HasThreeParts = 1
@@ -23,3 +25,9 @@ test_number PayloadIsJson = 16
 test_number ClaimsRead = 17
 test_number ClaimsAreAnObject = 18
 test_number ClaimRulesHold = 19
+
+-- the result of `jwt_test_text`: the name of the test with this number; or no test has this number
+abbrev pub LeavesTestName : (number status len : ℕ) (before after : List ℕ) → Type 0
+LeavesTestName number status len before after =
+    ((t : Test) × (test_number t ≡ number) × IsGiven (test_name t) status len before after)
+    ⊎ (((t : Test) → test_number t ≢ number) × IsKept no_status status len before after)

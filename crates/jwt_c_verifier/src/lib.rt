@@ -1,5 +1,5 @@
 //! The calls for C that verify with keys and options which are read once; `jwt_c` exports them.
 #![tactic(auto)]
 
-mod test_numbers;
+pub mod test_numbers;
 pub mod verifiers;

@@ -1,6 +1,7 @@
 //! The numbers by which C is told which test of a token failed.
 
-ghost use Rattle.std.specs.Prelude.{◌≡◌};
+ghost use Rattle.std.specs.Prelude.{◌≡◌, ◌≢◌, MatchOption};
+ghost use Rattle.jsonwebtoken.specs.declared.refusal.Test.{Test};
 ghost use Rattle.jwt_c_verifier.specs.TestNumbers.{test_number};
 
 use jsonwebtoken::Test;
@@ -29,5 +30,34 @@ pub(crate) fn test_number(test: Test) -> u32
         Test::ClaimsRead => 17,
         Test::ClaimsAreAnObject => 18,
         Test::ClaimRulesHold => 19,
+    }
+}
+
+/// Returns the test of a number.
+pub fn numbered_test(number: u32) -> Option<Test>
+    ensures { MatchOption result ((t : Test) → test_number t ≢ number)
+        (λ t. test_number t ≡ number) }
+{
+    match number {
+        1 => Some(Test::HasThreeParts),
+        2 => Some(Test::HeaderIsPart),
+        3 => Some(Test::HeaderIsJson),
+        4 => Some(Test::HeaderReads),
+        5 => Some(Test::CritIsUnderstood),
+        6 => Some(Test::KeyIsFound),
+        7 => Some(Test::KeyAlgorithmAgrees),
+        8 => Some(Test::KeyIsUsable),
+        9 => Some(Test::AlgorithmsAreListed),
+        10 => Some(Test::AlgorithmIsListed),
+        11 => Some(Test::VerifierIsMade),
+        12 => Some(Test::FamiliesAgree),
+        13 => Some(Test::SignatureIsPart),
+        14 => Some(Test::SignatureIsAccepted),
+        15 => Some(Test::PayloadIsPart),
+        16 => Some(Test::PayloadIsJson),
+        17 => Some(Test::ClaimsRead),
+        18 => Some(Test::ClaimsAreAnObject),
+        19 => Some(Test::ClaimRulesHold),
+        _ => None,
     }
 }
