@@ -709,6 +709,150 @@ static void thumbprints(void) {
     }
 }
 
+/* ---- keys in PEM: OpenSSL's, with JSON Web Keys of the integers that Python reads of them, of the rows of
+   crates/jwt_vectors/data/key_files.jsonl */
+
+#define PEM(label, lines) "-----BEGIN " label "-----\n" lines "-----END " label "-----\n"
+#define RSA_NUMBER                                                                                                    \
+    "79NBX0JVs1Ys_jKLPPHJ3rA8m9yG5YpQGEDhwFXjzgOYMDCOvhQBXSqriM3xh0bQItcrLR0usDxzuvFPGLNVYmsgi5vQ6towtFowYXFMfMoUNg" \
+    "zjZSz5BZHXf0IMEgIBYCyarHFzDhk66W0WhwylPfS9ETD0LCb75jYxskrsDQM"
+#define RSA_JWK "{\"e\":\"Aw\",\"kty\":\"RSA\",\"n\":\"" RSA_NUMBER "\"}"
+#define RSA_PEM                                                                                                       \
+    PEM("PUBLIC KEY", "MIGdMA0GCSqGSIb3DQEBAQUAA4GLADCBhwKBgQDv00FfQlWzViz+Mos88cnesDyb\n"                            \
+                      "3IblilAYQOHAVePOA5gwMI6+FAFdKquIzfGHRtAi1ystHS6wPHO68U8Ys1ViayCL\n"                            \
+                      "m9Dq2jC0WjBhcUx8yhQ2DONlLPkFkdd/QgwSAgFgLJqscXMOGTrpbRaHDKU99L0R\n"                            \
+                      "MPQsJvvmNjGySuwNAwIBAw==\n")
+#define PKCS1_PEM                                                                                                     \
+    PEM("RSA PUBLIC KEY", "MIGHAoGBAO/TQV9CVbNWLP4yizzxyd6wPJvchuWKUBhA4cBV484DmDAwjr4UAV0q\n"                        \
+                          "q4jN8YdG0CLXKy0dLrA8c7rxTxizVWJrIIub0OraMLRaMGFxTHzKFDYM42Us+QWR\n"                        \
+                          "139CDBICAWAsmqxxcw4ZOultFocMpT30vREw9Cwm++Y2MbJK7A0DAgED\n")
+#define P256_FIRST "MFkwEwYHKoZIzj0CAQYIKoZIzj0DAQcDQgAEl6jeUAD2iUrN58N0dSRS4OYkUCQm"
+#define P256_LAST "c/5Zo0q3fXrPt7UeiCDE/djoJsSvUPNgg1ZQyqS7lxXGA/Qy5APCH77qTA==\n"
+#define P256_PEM PEM("PUBLIC KEY", P256_FIRST "\n" P256_LAST)
+#define P256_JWK                                                                                                      \
+    "{\"crv\":\"P-256\",\"kty\":\"EC\",\"x\":\"l6jeUAD2iUrN58N0dSRS4OYkUCQmc_5Zo0q3fXrPt7U\","                        \
+    "\"y\":\"HoggxP3Y6CbEr1DzYINWUMqku5cVxgP0MuQDwh--6kw\"}"
+
+static struct answer key_in(const char *pem, size_t room) {
+    struct answer a = fresh();
+    a.status = jwt_key_from_pem(BYTES(pem), a.room, room, &a.len);
+    return a;
+}
+
+static void keys_in_pem(void) {
+    static const struct {
+        const char *pem, *jwk;
+    } rows[] = {
+        {RSA_PEM, RSA_JWK},
+        {PKCS1_PEM, RSA_JWK},
+        {P256_PEM, P256_JWK},
+        {PEM("PUBLIC KEY", "MHYwEAYHKoZIzj0CAQYFK4EEACIDYgAEiKcP7nXmVJbuQvCdqeb6vv7kNhOYc1wO\n"
+                           "JY6bjfgpiD1+2qV4vlvGJvVZNb4wTMPtgvdeRPLu1phht8JEUGtgVGoQkXW8QocR\n"
+                           "Cggehi03Sy0+fwLkYhheNCoByTIGzY8Z\n"),
+         "{\"crv\":\"P-384\",\"kty\":\"EC\",\"x\":\"iKcP7nXmVJbuQvCdqeb6vv7kNhOYc1wOJY6bjfgpiD1-2qV4vlvGJvVZNb4wTMPt\","
+         "\"y\":\"gvdeRPLu1phht8JEUGtgVGoQkXW8QocRCggehi03Sy0-fwLkYhheNCoByTIGzY8Z\"}"},
+        {PEM("PUBLIC KEY", "MCowBQYDK2VwAyEAP/KbjxwdH3v1YC6s5VVabMvwdZqwm779emMwejCAgZs=\n"),
+         "{\"crv\":\"Ed25519\",\"kty\":\"OKP\",\"x\":\"P_KbjxwdH3v1YC6s5VVabMvwdZqwm779emMwejCAgZs\"}"},
+        /* the first block counts */
+        {"Subject: a key\n\n" P256_PEM "and so on", P256_JWK},
+        {P256_PEM PKCS1_PEM, P256_JWK},
+        {PKCS1_PEM P256_PEM, RSA_JWK},
+    };
+    for (size_t i = 0; i < sizeof rows / sizeof *rows; i++) {
+        struct answer a = key_in(rows[i].pem, ROOM);
+        is(rows[i].jwk, gives(&a, rows[i].jwk), 1);
+    }
+    struct answer a = key_in(P256_PEM, strlen(P256_JWK));
+    is("a buffer that a key just fits", gives(&a, P256_JWK), 1);
+    a = key_in(P256_PEM, strlen(P256_JWK) - 1);
+    is("a buffer too small for a key", status_of(&a), JWT_NO_ROOM);
+    is("the key's length", a.len, strlen(P256_JWK));
+    is("a text by a null pointer", jwt_key_from_pem(NULL, 0, a.room, ROOM, &a.len), JWT_INVALID_KEY_FORMAT);
+}
+
+static void keys_in_pem_refused(void) {
+    static const struct {
+        const char *name, *pem;
+        uint32_t status;
+    } rows[] = {
+        {"a private key",
+         PEM("PRIVATE KEY", "MIGHAgEAMBMGByqGSM49AgEGCCqGSM49AwEHBG0wawIBAQQgC7p9lb6pUoduBAsm\n"
+                            "DqhphC+gvL9z7i/IDHQKmYkqaLChRANCAASXqN5QAPaJSs3nw3R1JFLg5iRQJCZz\n"
+                            "/lmjSrd9es+3tR6IIMT92OgmxK9Q82CDVlDKpLuXFcYD9DLkA8IfvupM\n"),
+         JWT_PROVIDER},
+        {"a private key in its older form",
+         PEM("EC PRIVATE KEY", "MHcCAQEEIAu6fZW+qVKHbgQLJg6oaYQvoLy/c+4vyAx0CpmJKmiwoAoGCCqGSM49\n"
+                               "AwEHoUQDQgAEl6jeUAD2iUrN58N0dSRS4OYkUCQmc/5Zo0q3fXrPt7UeiCDE/djo\n"
+                               "JsSvUPNgg1ZQyqS7lxXGA/Qy5APCH77qTA==\n"),
+         JWT_PROVIDER},
+        {"X25519", PEM("PUBLIC KEY", "MCowBQYDK2VuAyEANSroF9v8kwlVo1A9PNfl8bdbMYTgaE3D9+xe3U+QnBo=\n"), JWT_UNSUPPORTED_ALGORITHM},
+        {"P-521",
+         PEM("PUBLIC KEY", "MIGbMBAGByqGSM49AgEGBSuBBAAjA4GGAAQBaQRG97e6x0Vbr7seOO2nTcskovDW\n"
+                           "MnJirZCrrmaB9J4d4SN76IZtPXspL7ZcHDPGAXgj4gZMdj9WKmXrVfvJ2agBki4w\n"
+                           "xQRHZVKfF7MEaDB1GrX8tVSAUbCymFscuJOmrYcy+K10PMVSKZ+c4N8JMND+qGn0\n"
+                           "GcpjNQ8A5QTRoXepJZk=\n"),
+         JWT_UNSUPPORTED_ALGORITHM},
+        {"a compressed point",
+         PEM("PUBLIC KEY", "MDkwEwYHKoZIzj0CAQYIKoZIzj0DAQcDIgACl6jeUAD2iUrN58N0dSRS4OYkUCQm\nc/5Zo0q3fXrPt7U=\n"),
+         JWT_INVALID_KEY_FORMAT},
+        {"missing padding", PEM("PUBLIC KEY", "MCowBQYDK2VwAyEAP/KbjxwdH3v1YC6s5VVabMvwdZqwm779emMwejCAgZs\n"),
+         JWT_INVALID_KEY_FORMAT},
+        {"a spare bit that is set", PEM("PUBLIC KEY", "MCowBQYDK2VwAyEAP/KbjxwdH3v1YC6s5VVabMvwdZqwm779emMwejCAgZt=\n"),
+         JWT_INVALID_KEY_FORMAT},
+        {"one line", PEM("PUBLIC KEY", P256_FIRST P256_LAST), JWT_INVALID_KEY_FORMAT},
+        {"another label", PEM("PUBLIC KEYS", P256_FIRST "\n" P256_LAST), JWT_INVALID_KEY_FORMAT},
+        {"no end", "-----BEGIN PUBLIC KEY-----\n" P256_FIRST "\n" P256_LAST, JWT_INVALID_KEY_FORMAT},
+        {"a mark at a line before", "-----BEGIN \n" P256_PEM, JWT_INVALID_KEY_FORMAT},
+        {"a JSON Web Key", P256_JWK, JWT_INVALID_KEY_FORMAT},
+        {"no text", "", JWT_INVALID_KEY_FORMAT},
+    };
+    for (size_t i = 0; i < sizeof rows / sizeof *rows; i++) {
+        struct answer a = key_in(rows[i].pem, ROOM);
+        is(rows[i].name, status_of(&a), rows[i].status);
+    }
+}
+
+/* the names of docs/RULES.md, by their numbers */
+static void test_texts(void) {
+    static const char *names[20] = {
+        [JWT_TEST_HAS_THREE_PARTS] = "HasThreeParts",
+        [JWT_TEST_HEADER_IS_PART] = "HeaderIsPart",
+        [JWT_TEST_HEADER_IS_JSON] = "HeaderIsJson",
+        [JWT_TEST_HEADER_READS] = "HeaderReads",
+        [JWT_TEST_CRIT_IS_UNDERSTOOD] = "CritIsUnderstood",
+        [JWT_TEST_KEY_IS_FOUND] = "KeyIsFound",
+        [JWT_TEST_KEY_ALGORITHM_AGREES] = "KeyAlgorithmAgrees",
+        [JWT_TEST_KEY_IS_USABLE] = "KeyIsUsable",
+        [JWT_TEST_ALGORITHMS_ARE_LISTED] = "AlgorithmsAreListed",
+        [JWT_TEST_ALGORITHM_IS_LISTED] = "AlgorithmIsListed",
+        [JWT_TEST_VERIFIER_IS_MADE] = "VerifierIsMade",
+        [JWT_TEST_FAMILIES_AGREE] = "FamiliesAgree",
+        [JWT_TEST_SIGNATURE_IS_PART] = "SignatureIsPart",
+        [JWT_TEST_SIGNATURE_IS_ACCEPTED] = "SignatureIsAccepted",
+        [JWT_TEST_PAYLOAD_IS_PART] = "PayloadIsPart",
+        [JWT_TEST_PAYLOAD_IS_JSON] = "PayloadIsJson",
+        [JWT_TEST_CLAIMS_READ] = "ClaimsRead",
+        [JWT_TEST_CLAIMS_ARE_AN_OBJECT] = "ClaimsAreAnObject",
+        [JWT_TEST_CLAIM_RULES_HOLD] = "ClaimRulesHold",
+    };
+    struct answer a;
+    for (uint32_t i = 1; i < 20; i++) {
+        a = fresh();
+        a.status = jwt_test_text(i, a.room, 32, &a.len);
+        is(names[i], gives(&a, names[i]), 1);
+    }
+    static const uint32_t others[] = {0, 20, 102, 257, UINT32_MAX};
+    for (size_t i = 0; i < sizeof others / sizeof *others; i++) {
+        a = fresh();
+        a.status = jwt_test_text(others[i], a.room, ROOM, &a.len);
+        is("no test", status_of(&a), JWT_NO_STATUS);
+    }
+    a = fresh();
+    a.status = jwt_test_text(JWT_TEST_KEY_IS_FOUND, a.room, 9, &a.len);
+    is("a buffer too small for a name", status_of(&a), JWT_NO_ROOM);
+    is("the name's length", a.len, 10);
+}
+
 static void status_texts(void) {
     static const struct {
         uint32_t status;
@@ -1081,6 +1225,16 @@ static bool thumbprint_given(struct answer *a) {
     return gives(a, "DWBh0SEIAPYh1x5uvot4z3AhaikHkxNJa3Ada2fT-Cg");
 }
 
+static bool key_given(struct answer *a) {
+    *a = key_in(P256_PEM, ROOM);
+    return gives(a, P256_JWK);
+}
+
+static bool refusal_of_a_private_key_given(struct answer *a) {
+    *a = key_in(PEM("PRIVATE KEY", ""), ROOM);
+    return status_of(a) == JWT_PROVIDER;
+}
+
 static bool name_given(struct answer *a) {
     *a = answer_of(jwt_failed_test_hmac, TOKEN, "Secret", OPTIONS, LAST, ROOM);
     return gives(a, "SignatureIsAccepted");
@@ -1156,6 +1310,8 @@ static void refused_memory(void) {
     is("a token with a given signature out of memory", refused_in_turn(token_by_signature_given) > 0, 1);
     is("two numbers out of memory", refused_in_turn(numbers_given) > 0, 1);
     is("a thumbprint out of memory", refused_in_turn(thumbprint_given) > 0, 1);
+    is("a key in PEM out of memory", refused_in_turn(key_given) > 0, 1);
+    is("a private key out of memory", refused_in_turn(refusal_of_a_private_key_given) > 0, 1);
     is("a name out of memory", refused_in_turn(name_given) > 0, 1);
     is("a name by a key out of memory", refused_in_turn(name_by_a_key_given) > 0, 1);
     is("no name by a set out of memory", refused_in_turn(no_name_by_a_set_given) > 0, 1);
@@ -1409,6 +1565,9 @@ int main(void) {
     issued_by_signature();
     pairs();
     thumbprints();
+    keys_in_pem();
+    keys_in_pem_refused();
+    test_texts();
     status_texts();
     checked_secrets();
     checked_keys();
