@@ -79,8 +79,8 @@ fn read_length(bytes: &[u8]) -> Option<(usize, &[u8])>
     Some((n, rest))
 }
 
-// Returns the content of the element with this tag that the bytes begin with, and the bytes after it.
-pub(crate) fn read(tag: u8, bytes: &[u8]) -> Option<(&[u8], &[u8])>
+/// Returns the content of the element with this tag that the bytes begin with, and the bytes after it.
+pub fn read(tag: u8, bytes: &[u8]) -> Option<(&[u8], &[u8])>
     ensures { MatchOption result ((content : List ℕ) (rest : List ℕ)
         → bytes.now ≢ element tag content ++ rest)
         (λ p. bytes.now ≡ element tag p.0.now ++ p.1.now) }
@@ -100,8 +100,8 @@ pub(crate) fn read(tag: u8, bytes: &[u8]) -> Option<(&[u8], &[u8])>
     Some(rest.split_at(length))
 }
 
-// Returns the content of the element with this tag that the bytes are.
-pub(crate) fn read_all(tag: u8, bytes: &[u8]) -> Option<&[u8]>
+/// Returns the content of the element with this tag that the bytes are.
+pub fn read_all(tag: u8, bytes: &[u8]) -> Option<&[u8]>
     ensures { MatchOption result ((content : List ℕ) → bytes.now ≢ element tag content)
         (λ content. bytes.now ≡ element tag content.now) }
 {

@@ -5,7 +5,7 @@
 
 mod block;
 pub mod certificate;
-mod element;
+pub mod element;
 pub mod jwk;
 pub mod pem;
 pub mod public_key;
