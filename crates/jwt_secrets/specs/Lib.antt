@@ -1,1 +1,3 @@
+pub mod Base64Texts
 pub mod Blank
+pub mod KeyTexts
