@@ -3,7 +3,10 @@ package jwt
 // #include <jwtproved.h>
 import "C"
 
-import "errors"
+import (
+	"errors"
+	"fmt"
+)
 
 // The kinds of refusals: errors.Is(err, jwt.ErrExpired) tells one from the others. Each but the last three is about the token.
 var (
@@ -39,20 +42,54 @@ var (
 	ErrOutOfMemory = errors.New("jwt: out of memory")
 )
 
-// Error is a refusal by the library.
+// Error is a refusal by the library. Whoever sent a refused token need not be told more than its kind: the rest is for a log.
 type Error struct {
 	// Status is its number in jwtproved.h.
 	Status uint32
-	text   string
+	// Test is the name of the first test of the token that failed, such as SignatureIsAccepted, which docs/RULES.md explains, and
+	// TestNumber its number in jwtproved.h. They are empty and 0 if Parse did not refuse a token by one.
+	Test       string
+	TestNumber uint32
+	kind       error
+	text       string
 }
 
-// Error returns the library's text of the refusal, as "jwt: ExpiredSignature".
+// Error returns the library's text of the refusal, such as "jwt: ExpiredSignature".
 func (err *Error) Error() string { return "jwt: " + err.text }
 
-// Unwrap returns the kind of the refusal, as ErrExpired.
-func (err *Error) Unwrap() error { return kindOf(err.Status) }
+// Unwrap returns the kind of the refusal, such as ErrExpired.
+func (err *Error) Unwrap() error { return err.kind }
 
-func kindOf(status uint32) error {
+func optionError(why string, arguments ...any) error {
+	return fmt.Errorf("%w: %s", ErrOption, fmt.Sprintf(why, arguments...))
+}
+
+func keyError(why string, arguments ...any) error {
+	return fmt.Errorf("%w: %s", ErrKey, fmt.Sprintf(why, arguments...))
+}
+
+// refusal returns the error of a status, with the test of the token that failed, or 0.
+func refusal(status, test C.uint32_t) error {
+	return &Error{uint32(status), testText(test), uint32(test), kindOf(status), statusText(status)}
+}
+
+// keyRefusal returns the error of the status with which a key is refused.
+func keyRefusal(status C.uint32_t) error {
+	why := statusText(status)
+	switch status {
+	case C.JWT_OUT_OF_MEMORY:
+		return refusal(status, 0)
+	case C.JWT_BLANK_KEY:
+		why += ": a secret is empty or has zeros alone"
+	case C.JWT_KEY_AS_SECRET:
+		why += ": a secret is a key of another kind, of SSH, in PEM, in DER, or a JSON Web Key or a set of them"
+	case C.JWT_UNFIT_KEY:
+		why += ": none verifies with any of them"
+	}
+	return &Error{Status: uint32(status), kind: ErrKey, text: "the key does not serve: " + why}
+}
+
+func kindOf(status C.uint32_t) error {
 	switch status {
 	case C.JWT_INVALID_SIGNATURE:
 		return ErrSignature
@@ -72,8 +109,12 @@ func kindOf(status uint32) error {
 		return ErrIssuer
 	case C.JWT_INVALID_SUBJECT:
 		return ErrSubject
-	case C.JWT_UNSUPPORTED_ALGORITHM, C.JWT_INVALID_KEY_FORMAT, C.JWT_BAD_KEY, C.JWT_BAD_SET, C.JWT_BLANK_KEY:
+	case C.JWT_UNSUPPORTED_ALGORITHM, C.JWT_INVALID_KEY_FORMAT:
 		return ErrKey
+	case C.JWT_SIGNING:
+		return ErrOption
+	case C.JWT_TOKEN_TOO_LONG:
+		return ErrMalformed
 	case C.JWT_OUT_OF_MEMORY:
 		return ErrOutOfMemory
 	}

@@ -10,7 +10,6 @@ import (
 	"fmt"
 	"os"
 	"strings"
-	"sync"
 	"testing"
 	"time"
 )
@@ -48,7 +47,7 @@ func secretOf(t *testing.T, secret []byte) Key {
 // TestRefusals has each kind of refusal.
 func TestRefusals(t *testing.T) {
 	key := secretOf(t, secret)
-	header := `{"alg":"HS256"}`
+	header, long := `{"alg":"HS256"}`, strings.Repeat("a", 5000)
 	for _, it := range []struct {
 		name, token string
 		with        []Option
@@ -66,6 +65,15 @@ func TestRefusals(t *testing.T) {
 		{"another audience", signed(header, `{"exp":1700000001,"aud":"x"}`, secret), []Option{WithAudience("web")}, ErrAudience},
 		{"no audience", signed(header, `{"exp":1700000001}`, secret), []Option{WithAudience("web")}, ErrMissingClaim},
 		{"an audience that none asks for", signed(header, `{"exp":1700000001,"aud":"x"}`, secret), nil, ErrAudience},
+		{"an audience that none has to ask for", signed(header, `{"exp":1700000001,"aud":"x"}`, secret), []Option{WithAnyAudience()}, nil},
+		{"a long audience", signed(header, `{"exp":1700000001,"aud":"`+long+`"}`, secret), []Option{WithAudience(long)}, nil},
+		{"expired, which is accepted", signed(header, `{"exp":1}`, secret), []Option{WithExpired()}, nil},
+		{"no exp, and an expired one is accepted", signed(header, `{}`, secret), []Option{WithExpired()}, ErrMissingClaim},
+		{"early, which is accepted", signed(header, `{"exp":1700000001,"nbf":1700000001}`, secret), []Option{WithEarly()}, nil},
+		{"no issuer", signed(header, `{"exp":1700000001}`, secret), []Option{WithIssuer("x")}, ErrMissingClaim},
+		{"no subject", signed(header, `{"exp":1700000001}`, secret), []Option{WithSubject("x")}, ErrMissingClaim},
+		{"it remains long enough", signed(header, `{"exp":1700000010}`, secret), []Option{WithRemaining(10 * time.Second)}, nil},
+		{"it does not", signed(header, `{"exp":1700000009}`, secret), []Option{WithRemaining(10 * time.Second)}, ErrExpired},
 		{"its issuer", signed(header, `{"exp":1700000001,"iss":"x"}`, secret), []Option{WithIssuer("x")}, nil},
 		{"another issuer", signed(header, `{"exp":1700000001,"iss":"y"}`, secret), []Option{WithIssuer("x")}, ErrIssuer},
 		{"its subject", signed(header, `{"exp":1700000001,"sub":"x"}`, secret), []Option{WithSubject("x")}, nil},
@@ -74,11 +82,15 @@ func TestRefusals(t *testing.T) {
 		{"another secret", signed(header, `{"exp":1700000001}`, []byte("another")), nil, ErrSignature},
 		{"another algorithm", signed(`{"alg":"HS384"}`, `{"exp":1700000001}`, secret), nil, ErrAlgorithm},
 		{"no algorithm", signed(`{"alg":"none"}`, `{"exp":1700000001}`, secret), nil, ErrMalformed},
+		{"a crit that is understood", signed(`{"alg":"HS256","crit":["x"],"x":1}`, `{"exp":1700000001}`, secret), []Option{WithUnderstoodCrit("y", "x")}, nil},
+		{"a crit that is understood in part", signed(`{"alg":"HS256","crit":["x","z"],"x":1,"z":1}`, `{"exp":1700000001}`, secret), []Option{WithUnderstoodCrit("y", "x")}, ErrCrit},
 		{"crit", signed(`{"alg":"HS256","crit":["x"],"x":1}`, `{"exp":1700000001}`, secret), nil, ErrCrit},
 		{"no token", "a.b", nil, ErrMalformed},
 		{"nothing", "", nil, ErrMalformed},
 		{"no object", signed(header, `[]`, secret), nil, ErrMalformed},
 		{"a claim without a rule", signed(header, `{}`, secret), []Option{WithRequired("jti")}, ErrOption},
+		{"a claim in other letters", signed(header, `{"EXP":1}`, secret), []Option{WithRequired("EXP")}, ErrOption},
+		{"too long", strings.Repeat("a", 1<<20+1), nil, ErrMalformed},
 		{"a negative leeway", signed(header, `{}`, secret), []Option{WithLeeway(-1)}, ErrOption},
 	} {
 		t.Run(it.name, func(t *testing.T) {
@@ -99,7 +111,11 @@ func TestArguments(t *testing.T) {
 		func() (Key, error) { return JWK([]byte(`{"kty":"oct","k":"AAAA"}`)) },
 		func() (Key, error) { return JWK([]byte(`{"kty":"other"}`)) },
 		func() (Key, error) { return JWK([]byte(`{`)) },
+		func() (Key, error) { return JWK(nil) },
+		func() (Key, error) { return JWK([]byte(`{"kty":"EC"}`)) },
+		func() (Key, error) { return JWK([]byte(`{"kty":"oct","k":"*"}`)) },
 		func() (Key, error) { return JWKSet([]byte(`{"keys":[]}`)) },
+		func() (Key, error) { return JWKSet([]byte(`{"keys":1}`)) },
 		func() (Key, error) { return JWKSet([]byte(`{"keys":[{"kty":"oct","kid":"a","k":""}]}`)) },
 		func() (Key, error) { return PEM([]byte("text")) },
 		func() (Key, error) {
@@ -123,6 +139,15 @@ func TestArguments(t *testing.T) {
 	if text := fmt.Sprintf("%v %+v %#v", key, key, key); strings.Contains(text, "0123") || strings.Contains(text, "48, 49") {
 		t.Error(text)
 	}
+}
+
+func headerOf(t *testing.T, token *Token) map[string]any {
+	t.Helper()
+	header, err := token.Header()
+	if err != nil {
+		t.Fatal(err)
+	}
+	return header
 }
 
 type row struct {
@@ -162,7 +187,7 @@ func TestAllAlgorithms(t *testing.T) {
 		}
 		algorithm := it.Want.Ok.Header["alg"].(string)
 		token, err := Parse(it.Token, key, []string{algorithm}, at(it.Now))
-		if err != nil || token.Header["alg"] != algorithm {
+		if err != nil || headerOf(t, token)["alg"] != algorithm {
 			t.Errorf("%s: %v", algorithm, err)
 			continue
 		}
@@ -203,7 +228,7 @@ func TestSign(t *testing.T) {
 		t.Errorf("%v, %v", token, err)
 	}
 	read, err := parse(t, token, secretOf(t, secret), []string{"HS256"})
-	if err != nil || read.Header["kid"] != "a" || string(read.RawClaims()) != `{"exp":1700000001,"sub":"x"}` {
+	if err != nil || headerOf(t, read)["kid"] != "a" || string(read.RawClaims()) != `{"exp":1700000001,"sub":"x"}` {
 		t.Errorf("%v, %v", read, err)
 	}
 	for _, it := range []struct {
@@ -214,6 +239,8 @@ func TestSign(t *testing.T) {
 	}{
 		{map[string]any{}, nil, "HS256", ErrKey},
 		{map[string]any{}, secret, "RS256", ErrAlgorithm},
+		{map[string]any{}, secret, "ES256", ErrAlgorithm},
+		{[]any{}, secret, "HS256", ErrOption},
 		{map[string]any{}, secret, "none", ErrOption},
 		{"text", secret, "HS256", ErrOption},
 		{make(chan int), secret, "HS256", ErrOption},
@@ -223,27 +250,6 @@ func TestSign(t *testing.T) {
 			t.Errorf("%v: %v, not %v", it, err, it.want)
 		}
 	}
-}
-
-// TestGoroutines has many of them verify by one verifier.
-func TestGoroutines(t *testing.T) {
-	verifier, err := NewVerifier(secretOf(t, secret), []string{"HS256"}, at(now))
-	if err != nil {
-		t.Fatal(err)
-	}
-	var group sync.WaitGroup
-	for i := 0; i < 50; i++ {
-		group.Add(1)
-		go func(i int) {
-			defer group.Done()
-			var claims struct{ N int }
-			token, err := verifier.Parse(signed(`{"alg":"HS256"}`, fmt.Sprintf(`{"exp":1700000001,"n":%d}`, i), secret))
-			if err != nil || token.Claims(&claims) != nil || claims.N != i {
-				t.Errorf("%d: %v %v", i, claims, err)
-			}
-		}(i)
-	}
-	group.Wait()
 }
 
 func ExampleParse() {

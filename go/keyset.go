@@ -2,7 +2,6 @@ package jwt
 
 import (
 	"context"
-	"encoding/json"
 	"errors"
 	"fmt"
 	"io"
@@ -43,17 +42,7 @@ type KeySet struct {
 // fetched is a set that is usable.
 type fetched struct {
 	key Key
-	// byID has the keys of each kid, as a set: a large one is not read for each token.
-	byID map[string]Key
-	at   time.Time
-}
-
-// namedBy returns the keys that a token may name. The library decides among them.
-func (it *fetched) namedBy(kid string, isThere bool) Key {
-	if key, is := it.byID[kid]; is && isThere {
-		return key
-	}
-	return setFrom()
+	at  time.Time
 }
 
 // flight is a fetch, whose end closes the channel.
@@ -269,19 +258,7 @@ func (set *KeySet) usable(until context.Context) (*fetched, error) {
 	if err != nil {
 		return nil, err
 	}
-	named := namedKeys(key)
-	if err := checkUsable(named); err != nil {
-		return nil, err
-	}
-	texts := map[string][]json.RawMessage{}
-	for _, it := range named {
-		texts[it.kid] = append(texts[it.kid], it.text)
-	}
-	byID := make(map[string]Key, len(texts))
-	for kid, it := range texts {
-		byID[kid] = setFrom(it...)
-	}
-	return &fetched{key, byID, time.Now()}, nil
+	return &fetched{key, time.Now()}, nil
 }
 
 // wait waits for the end of a fetch, but no longer than until the timeout after its begin.

@@ -382,6 +382,77 @@ func TestKeySetGoroutines(t *testing.T) {
 	}
 }
 
+// TestRotatingGoroutines has many goroutines verify while the keys rotate: the keys b and c take turns, and a stays.
+func TestRotatingGoroutines(t *testing.T) {
+	var turn atomic.Int32
+	fetch := func(context.Context) ([]byte, error) {
+		if turn.Add(1)%2 == 0 {
+			return []byte(setOf("a", "b")), nil
+		}
+		return []byte(setOf("a", "c")), nil
+	}
+	until, cancel := context.WithCancel(context.Background())
+	defer cancel()
+	set, err := NewKeySet(until, fetch, WithRefresh(time.Millisecond), WithRefetch(time.Millisecond))
+	if err != nil {
+		t.Fatal(err)
+	}
+	verifier, err := NewVerifier(set.Key(), eddsa, at(now))
+	if err != nil {
+		t.Fatal(err)
+	}
+	stays, forged := tokenOf("a", "a"), tokenOf("a", "b")
+	rotating := []string{tokenOf("b", "b"), tokenOf("c", "c")}
+	var accepted [2]atomic.Int32
+	end := time.Now().Add(time.Second)
+	var group sync.WaitGroup
+	for i := 0; i < 100; i++ {
+		group.Add(1)
+		go func(i int) {
+			defer group.Done()
+			for time.Now().Before(end) {
+				if _, err := verifier.Parse(stays); err != nil {
+					t.Error(err)
+				}
+				if _, err := verifier.Parse(forged); !errors.Is(err, ErrSignature) {
+					t.Error(err)
+				}
+				if _, err := verifier.Parse(rotating[i%2]); err == nil {
+					accepted[i%2].Add(1)
+				} else if !errors.Is(err, ErrUnknownKey) {
+					t.Error(err)
+				}
+			}
+		}(i)
+	}
+	group.Wait()
+	if accepted[0].Load() == 0 || accepted[1].Load() == 0 || turn.Load() < 10 {
+		t.Error(accepted[0].Load(), accepted[1].Load(), turn.Load())
+	}
+}
+
+// TestLaterAlgorithms has a set that serves for none of the algorithms of a verifier, which another set follows.
+func TestLaterAlgorithms(t *testing.T) {
+	server := serve(t, says(setOf("a")))
+	set, verifier := following(t, server.uri)
+	other := `{"keys":[{"kty":"oct","kid":"b","k":"c2VjcmV0"}]}`
+	server.answer.Store(says(other))
+	wants(t, verifier, tokenOf("b", "b"), ErrKey)
+	if set.Err() != nil || server.fetches.Load() != 2 {
+		t.Error(set.Err(), server.fetches.Load())
+	}
+	without := tokenOf("", "a")
+	without = part([]byte(`{"alg":"EdDSA"}`)) + without[strings.Index(without, "."):]
+	time.Sleep(soon + 10*time.Millisecond)
+	wants(t, verifier, without, ErrKey)
+	wants(t, verifier, "a.b.c", ErrKey)
+	if server.fetches.Load() != 2 {
+		t.Error(server.fetches.Load())
+	}
+	server.answer.Store(says(setOf("a")))
+	wants(t, verifier, tokenOf("a", "a"), nil)
+}
+
 // TestStubborn has a function that does not end when its context does: no call waits for longer than the timeout in all, and no
 // further fetch begins.
 func TestStubborn(t *testing.T) {
@@ -576,25 +647,20 @@ func TestServes(t *testing.T) {
 		{set(secretJWK), []string{"RS256"}, false},
 		{set(secretJWK), []string{"HS512", "HS256"}, true},
 		{set(rsa17, offCurve, ed), eddsa, true},
-		{set(`{"kty":"oct","kid":"a","k":"c2VjcmV0","alg":"HS384"}`), []string{"HS256"}, false},
+		// the algorithm of the key itself is compared with that of each token
+		{set(`{"kty":"oct","kid":"a","k":"c2VjcmV0","alg":"HS384"}`), []string{"HS256"}, true},
 	} {
 		key, err := JWKSet([]byte(it.text))
-		if err != nil {
-			t.Fatal(it.text, err)
+		if err == nil {
+			_, err = NewVerifier(key, it.algorithms)
 		}
-		if _, err := NewVerifier(key, it.algorithms); it.serves && err != nil || !it.serves && !errors.Is(err, ErrKey) {
+		if it.serves && err != nil || !it.serves && !errors.Is(err, ErrKey) {
 			t.Errorf("%s %v: %v", it.text, it.algorithms, err)
 		}
 	}
 	for _, it := range []string{rsa17, offCurve} {
-		key, err := JWK([]byte(it))
-		if err != nil {
-			t.Fatal(err)
-		}
-		for _, algorithm := range []string{"RS256", "ES256", "HS256"} {
-			if _, err := NewVerifier(key, []string{algorithm}); !errors.Is(err, ErrKey) {
-				t.Errorf("%s %s: %v", it, algorithm, err)
-			}
+		if key, err := JWK([]byte(it)); !errors.Is(err, ErrKey) {
+			t.Errorf("%s: %v, %v", it, key, err)
 		}
 	}
 	if _, err := NewVerifier(secretOf(t, secret), []string{"RS256"}); !errors.Is(err, ErrKey) || !strings.Contains(err.Error(), "RS256") {

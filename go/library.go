@@ -1,11 +1,19 @@
 package jwt
 
-// #cgo pkg-config: jwtproved
-// #include <jwtproved.h>
+/*
+#cgo pkg-config: jwtproved
+#include <jwtproved.h>
+
+// The token is not copied.
+static uint32_t decode(struct jwt_verifier *verifier, _GoString_ token, uint64_t now, uint8_t *buffer, size_t size, size_t *len,
+                       uint64_t *last, uint32_t *test) {
+	return jwt_verifier_decode(verifier, (const uint8_t *)_GoStringPtr(token), _GoStringLen(token), now, buffer, size, len, last, test);
+}
+*/
 import "C"
 
 import (
-	"fmt"
+	"runtime"
 	"unsafe"
 )
 
@@ -17,7 +25,7 @@ func slice(text []byte) (*C.uint8_t, C.size_t) {
 	return (*C.uint8_t)(unsafe.Pointer(&text[0])), C.size_t(len(text))
 }
 
-// a call writes its result to a buffer, and its length or the length that is needed.
+// call writes its result to a buffer, and its length or the length that is needed.
 type call func(buffer *C.uint8_t, size C.size_t, length *C.size_t) C.uint32_t
 
 // fill returns the bytes that a call writes, to a buffer of at first this size.
@@ -40,20 +48,97 @@ func answer(size int, made call) ([]byte, error) {
 	if status == C.JWT_OK {
 		return text, nil
 	}
-	return nil, refusal(status)
+	return nil, refusal(status, 0)
 }
 
-func refusal(status C.uint32_t) error {
+func statusText(status C.uint32_t) string {
 	text, _ := fill(64, func(buffer *C.uint8_t, size C.size_t, length *C.size_t) C.uint32_t {
 		return C.jwt_status_text(status, buffer, size, length)
 	})
-	return &Error{Status: uint32(status), text: string(text)}
+	return string(text)
 }
 
-// checkBlank returns an error if anyone can sign with a secret, or for a key or a key of a set.
-func checkBlank(kind keyKind, text []byte) error {
+// testText returns the name of a test of tokens, or "" if none failed.
+func testText(test C.uint32_t) string {
+	if test == 0 {
+		return ""
+	}
+	text, _ := fill(32, func(buffer *C.uint8_t, size C.size_t, length *C.size_t) C.uint32_t {
+		return C.jwt_test_text(test, buffer, size, length)
+	})
+	return string(text)
+}
+
+// handle is a verifier of the library, which may be in one call at a time. The last three are what a call tells beside the claims.
+type handle struct {
+	verifier C.struct_jwt_verifier
+	length   C.size_t
+	last     C.uint64_t
+	test     C.uint32_t
+}
+
+// newHandle returns a handle of a key and options, or the refusal.
+func newHandle(key Key, options []byte) (*handle, error) {
+	made := &handle{}
+	keyAt, keyLen := slice(key.bytes())
+	optionsAt, optionsLen := slice(options)
 	var status C.uint32_t
+	switch key.kind {
+	case secretKey:
+		status = C.jwt_verifier_secret(keyAt, keyLen, optionsAt, optionsLen, 0, false, &made.verifier)
+	case singleKey:
+		status = C.jwt_verifier_key(keyAt, keyLen, optionsAt, optionsLen, 0, false, &made.verifier)
+	default:
+		status = C.jwt_verifier_set(keyAt, keyLen, optionsAt, optionsLen, 0, false, &made.verifier)
+	}
+	switch status {
+	case C.JWT_OK:
+		runtime.SetFinalizer(made, (*handle).free)
+		return made, nil
+	case C.JWT_BAD_OPTIONS:
+		return nil, refusal(status, 0)
+	}
+	return nil, keyRefusal(status)
+}
+
+// share returns one more handle of the same keys and options.
+func (it *handle) share() (*handle, error) {
+	made := &handle{}
+	if status := C.jwt_verifier_share(&it.verifier, &made.verifier); status != C.JWT_OK {
+		return nil, refusal(status, 0)
+	}
+	runtime.SetFinalizer(made, (*handle).free)
+	return made, nil
+}
+
+// free may be called several times.
+func (it *handle) free() { C.jwt_verifier_free(&it.verifier) }
+
+// decode returns the claims of a token, or the refusal with the test that failed.
+func (it *handle) decode(token string, now uint64) ([]byte, error) {
+	size := len(token)*3/4 + 64
+	if size > C.JWT_TOKEN_LIMIT {
+		size = C.JWT_TOKEN_LIMIT
+	}
+	for {
+		claims := make([]byte, size)
+		at := (*C.uint8_t)(unsafe.Pointer(&claims[0]))
+		status := C.decode(&it.verifier, token, C.uint64_t(now), at, C.size_t(size), &it.length, &it.last, &it.test)
+		switch status {
+		case C.JWT_OK:
+			return claims[:it.length], nil
+		case C.JWT_NO_ROOM:
+			size = int(it.length)
+		default:
+			return nil, refusal(status, it.test)
+		}
+	}
+}
+
+// checkKey returns an error if the library does not read a key, or if others may have its secret or that of a key of the set.
+func checkKey(kind keyKind, text []byte) error {
 	at, length := slice(text)
+	var status C.uint32_t
 	switch kind {
 	case secretKey:
 		status = C.jwt_check_secret(at, length)
@@ -62,46 +147,26 @@ func checkBlank(kind keyKind, text []byte) error {
 	default:
 		status = C.jwt_check_set(at, length)
 	}
-	switch status {
-	case C.JWT_OK:
-		return nil
-	case C.JWT_BLANK_KEY:
-		return fmt.Errorf("%w: a secret is empty or has zeros alone", refusal(status))
+	if status != C.JWT_OK {
+		return keyRefusal(status)
 	}
-	return refusal(status)
+	return nil
 }
 
-func decodeHeader(token []byte) ([]byte, error) {
-	return answer(len(token)+64, func(buffer *C.uint8_t, size C.size_t, length *C.size_t) C.uint32_t {
-		at, tokenLen := slice(token)
-		return C.jwt_decode_header(at, tokenLen, buffer, size, length)
+// keyFromPEM returns the JSON Web Key of a public key.
+func keyFromPEM(text []byte) ([]byte, error) {
+	jwk, status := fill(len(text)+128, func(buffer *C.uint8_t, size C.size_t, length *C.size_t) C.uint32_t {
+		at, textLen := slice(text)
+		return C.jwt_key_from_pem(at, textLen, buffer, size, length)
 	})
+	if status != C.JWT_OK {
+		return nil, keyRefusal(status)
+	}
+	return jwk, nil
 }
 
-// decode has a token verified by a key, as its kind asks.
-func decode(key Key, token, options []byte, now uint64) ([]byte, error) {
-	return answer(len(token)+64, func(buffer *C.uint8_t, size C.size_t, length *C.size_t) C.uint32_t {
-		tokenAt, tokenLen := slice(token)
-		keyAt, keyLen := slice(key.bytes())
-		optionsAt, optionsLen := slice(options)
-		switch key.kind {
-		case secretKey:
-			return C.jwt_decode_hmac(tokenAt, tokenLen, keyAt, keyLen, optionsAt, optionsLen, C.uint64_t(now), buffer, size, length)
-		case singleKey:
-			return C.jwt_decode_key(tokenAt, tokenLen, keyAt, keyLen, optionsAt, optionsLen, C.uint64_t(now), buffer, size, length)
-		}
-		return C.jwt_decode_set(tokenAt, tokenLen, keyAt, keyLen, optionsAt, optionsLen, C.uint64_t(now), buffer, size, length)
-	})
-}
-
-func encode(header, claims, secret []byte) ([]byte, error) {
-	return answer(2*(len(header)+len(claims))+128, func(buffer *C.uint8_t, size C.size_t, length *C.size_t) C.uint32_t {
-		headerAt, headerLen := slice(header)
-		claimsAt, claimsLen := slice(claims)
-		secretAt, secretLen := slice(secret)
-		return C.jwt_encode_hmac(headerAt, headerLen, claimsAt, claimsLen, secretAt, secretLen, buffer, size, length)
-	})
-}
-
-// noToken is the status for the empty token, once the options and the key are read.
-const noToken = uint32(C.JWT_INVALID_TOKEN)
+// Statuses that are more than their kind.
+const (
+	noKey    = uint32(C.JWT_NO_KEY)
+	unfitKey = uint32(C.JWT_UNFIT_KEY)
+)

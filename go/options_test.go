@@ -40,7 +40,17 @@ var slips = []struct {
 	{"WithLeeway", []Option{WithLeeway(30)}},
 	{"WithLeeway", []Option{WithLeeway(1500 * time.Millisecond)}},
 	{"WithLeeway", []Option{WithLeeway(-time.Second)}},
+	{"WithRemaining", []Option{WithRemaining(0)}},
+	{"WithRemaining", []Option{WithRemaining(1500 * time.Millisecond)}},
+	{"WithRemaining", []Option{WithRemaining(time.Minute), WithExpired()}},
+	{"WithAudience", []Option{WithAudience("x"), WithAnyAudience()}},
+	{"WithUnderstoodCrit", []Option{WithUnderstoodCrit()}},
+	{"WithUnderstoodCrit", []Option{WithUnderstoodCrit([]string(nil)...)}},
+	{"WithUnderstoodCrit", []Option{WithUnderstoodCrit("x", "")}},
+	{"WithUnderstoodCrit", []Option{WithUnderstoodCrit("\xff")}},
 	{"WithTime", []Option{WithTime(nil)}},
+	{"WithTime", []Option{WithTime(func() time.Time { return time.Unix(-1, 0) })}},
+	{"WithTime", []Option{WithTime(func() time.Time { return time.Time{} })}},
 	{"nil", []Option{nil}},
 }
 
@@ -54,9 +64,16 @@ func TestSlips(t *testing.T) {
 		if parsed != nil || !errors.Is(err, ErrOption) || !strings.Contains(err.Error(), it.name) {
 			t.Errorf("%s: %v, %v", it.name, parsed, err)
 		}
+		parsed, err = ParseByVerdict(token, signatureOf(t, token), true, []string{"HS256"}, append([]Option{at(now)}, it.with...)...)
+		if parsed != nil || !errors.Is(err, ErrOption) || !strings.Contains(err.Error(), it.name) {
+			t.Errorf("%s: %v, %v", it.name, parsed, err)
+		}
 	}
 	for _, algorithms := range [][]string{nil, {}, {""}, {"HS256", ""}, {"HS256\xff"}, {"\ufffd"}} {
 		if _, err := NewVerifier(key, algorithms); !errors.Is(err, ErrOption) || !strings.Contains(err.Error(), "algorithms") {
+			t.Errorf("%q: %v", algorithms, err)
+		}
+		if _, err := ParseByVerdict(token, signatureOf(t, token), true, algorithms); !errors.Is(err, ErrOption) || !strings.Contains(err.Error(), "algorithms") {
 			t.Errorf("%q: %v", algorithms, err)
 		}
 	}

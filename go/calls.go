@@ -1,0 +1,139 @@
+package jwt
+
+// #include <jwtproved.h>
+import "C"
+
+import (
+	"encoding/json"
+	"errors"
+)
+
+// member returns the text of a member of a JSON object, and whether there is one of this name and type.
+func member(object []byte, name string, of C.uint32_t) ([]byte, bool) {
+	var found C.uint32_t
+	value, status := fill(len(object), func(buffer *C.uint8_t, size C.size_t, length *C.size_t) C.uint32_t {
+		objectAt, objectLen := slice(object)
+		nameAt, nameLen := slice([]byte(name))
+		return C.jwt_member(objectAt, objectLen, nameAt, nameLen, &found, buffer, size, length)
+	})
+	return value, status == C.JWT_OK && found == of
+}
+
+// stringOf returns a member that is a string.
+func stringOf(object []byte, name string) (string, bool) {
+	value, is := member(object, name, C.JWT_STRING)
+	return string(value), is
+}
+
+// arrayOf returns the compact JSON of a member that is an array.
+func arrayOf(object []byte, name string) ([]byte, bool) { return member(object, name, C.JWT_ARRAY) }
+
+// numberOf returns the number of the algorithm of this name, or 0 if there is none.
+func numberOf(algorithm string) (C.uint32_t, error) {
+	header, err := json.Marshal(map[string]string{"alg": algorithm})
+	if err != nil {
+		return 0, err
+	}
+	_, number, err := signingInput(header, []byte("{}"))
+	if errors.Is(err, ErrOutOfMemory) {
+		return 0, err
+	}
+	return number, nil
+}
+
+func decodeHeader(token string) ([]byte, error) {
+	text := []byte(token)
+	return answer(len(text)+64, func(buffer *C.uint8_t, size C.size_t, length *C.size_t) C.uint32_t {
+		at, textLen := slice(text)
+		return C.jwt_decode_header(at, textLen, buffer, size, length)
+	})
+}
+
+// signedPart returns the signature of a token, and how long the message is that it has to be of.
+func signedPart(token string) ([]byte, int, error) {
+	text := []byte(token)
+	var number C.uint32_t
+	var message C.size_t
+	signature, err := answer(len(text), func(buffer *C.uint8_t, size C.size_t, length *C.size_t) C.uint32_t {
+		at, textLen := slice(text)
+		return C.jwt_signed_part(at, textLen, &number, &message, buffer, size, length)
+	})
+	return signature, int(message), err
+}
+
+// decodeVerdict has a token verified, of which a signature was checked.
+func decodeVerdict(token string, checked Signature, isGenuine bool, options []byte, now uint64) ([]byte, error) {
+	number, err := numberOf(checked.Algorithm)
+	if err != nil {
+		return nil, err
+	}
+	text := []byte(token)
+	return answer(len(text)+64, func(buffer *C.uint8_t, size C.size_t, length *C.size_t) C.uint32_t {
+		at, textLen := slice(text)
+		messageAt, messageLen := slice(checked.Message)
+		signatureAt, signatureLen := slice(checked.Bytes)
+		optionsAt, optionsLen := slice(options)
+		return C.jwt_decode_verdict(at, textLen, number, messageAt, messageLen, signatureAt, signatureLen, C.bool(isGenuine),
+			optionsAt, optionsLen, C.uint64_t(now), buffer, size, length)
+	})
+}
+
+func encode(header, claims, secret []byte) ([]byte, error) {
+	return answer(2*(len(header)+len(claims))+128, func(buffer *C.uint8_t, size C.size_t, length *C.size_t) C.uint32_t {
+		headerAt, headerLen := slice(header)
+		claimsAt, claimsLen := slice(claims)
+		secretAt, secretLen := slice(secret)
+		return C.jwt_encode_hmac(headerAt, headerLen, claimsAt, claimsLen, secretAt, secretLen, buffer, size, length)
+	})
+}
+
+// signingInput returns the message of a token that has to be signed, and the number of its algorithm.
+func signingInput(header, claims []byte) ([]byte, C.uint32_t, error) {
+	var number C.uint32_t
+	message, err := answer(2*(len(header)+len(claims)), func(buffer *C.uint8_t, size C.size_t, length *C.size_t) C.uint32_t {
+		headerAt, headerLen := slice(header)
+		claimsAt, claimsLen := slice(claims)
+		return C.jwt_signing_input(headerAt, headerLen, claimsAt, claimsLen, &number, buffer, size, length)
+	})
+	return message, number, err
+}
+
+func encodeSignature(header, claims []byte, made Signature) ([]byte, error) {
+	number, err := numberOf(made.Algorithm)
+	if err != nil {
+		return nil, err
+	}
+	return answer(len(made.Message)+2*len(made.Bytes)+2, func(buffer *C.uint8_t, size C.size_t, length *C.size_t) C.uint32_t {
+		headerAt, headerLen := slice(header)
+		claimsAt, claimsLen := slice(claims)
+		messageAt, messageLen := slice(made.Message)
+		signatureAt, signatureLen := slice(made.Bytes)
+		return C.jwt_encode_signature(headerAt, headerLen, claimsAt, claimsLen, number, messageAt, messageLen, signatureAt,
+			signatureLen, buffer, size, length)
+	})
+}
+
+func ecdsaSignature(der []byte, algorithm string) ([]byte, error) {
+	number, err := numberOf(algorithm)
+	if err != nil {
+		return nil, err
+	}
+	return answer(len(der)+96, func(buffer *C.uint8_t, size C.size_t, length *C.size_t) C.uint32_t {
+		at, derLen := slice(der)
+		return C.jwt_ecdsa_signature(at, derLen, number, buffer, size, length)
+	})
+}
+
+func thumbprint(key []byte, bits uint32) ([]byte, error) {
+	text, status := fill(96, func(buffer *C.uint8_t, size C.size_t, length *C.size_t) C.uint32_t {
+		at, keyLen := slice(key)
+		return C.jwt_thumbprint(at, keyLen, C.uint32_t(bits), buffer, size, length)
+	})
+	switch status {
+	case C.JWT_OK:
+		return text, nil
+	case C.JWT_INVALID_ALGORITHM_NAME:
+		return nil, refusal(status, 0)
+	}
+	return nil, keyRefusal(status)
+}

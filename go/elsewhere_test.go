@@ -1,0 +1,362 @@
+package jwt
+
+import (
+	"bufio"
+	"crypto/ecdsa"
+	"crypto/ed25519"
+	"crypto/elliptic"
+	"crypto/rand"
+	"crypto/sha256"
+	"encoding/base64"
+	"encoding/hex"
+	"encoding/json"
+	"errors"
+	"math/big"
+	"os"
+	"strings"
+	"testing"
+)
+
+// RFC 7515 appendix A.3
+const (
+	joesPayload = "eyJpc3MiOiJqb2UiLA0KICJleHAiOjEzMDA4MTkzODAsDQogImh0dHA6Ly9leGFtcGxlLmNvbS9pc19yb290Ijp0cnVlfQ"
+	joesToken   = "eyJhbGciOiJFUzI1NiJ9." + joesPayload + ".DtEhU3ljbEg8L38VWAfUAqOyKAM6-Xx-F4GawxaepmXFCgfTjDxw5djxLa8ISlSApmWQxfKTUJqPP3-Kg6NU1Q"
+	joesX       = "f83OJ3D2xF1Bg8vub9tLe1gHMzV76e8Tus9uPHvRVEU"
+	joesY       = "x_FEzRu9m36HLN_tue659LNpXW6pCyStikYjKIWI5a0"
+	joesKey     = `{"kty":"EC","crv":"P-256","x":"` + joesX + `","y":"` + joesY + `"}`
+	joesClaims  = `{"exp":1300819380,"http://example.com/is_root":true,"iss":"joe"}`
+	joesTime    = 1300819379
+)
+
+func signatureOf(t *testing.T, token string) Signature {
+	t.Helper()
+	signature, err := UnverifiedSignature(token)
+	if err != nil {
+		t.Fatal(err)
+	}
+	return signature
+}
+
+func numberIn(text string) *big.Int {
+	bytes, _ := base64.RawURLEncoding.DecodeString(text)
+	return new(big.Int).SetBytes(bytes)
+}
+
+// isJoes returns whether crypto/ecdsa accepts a signature by the key of RFC 7515 appendix A.3.
+func isJoes(signature Signature) bool {
+	key := ecdsa.PublicKey{Curve: elliptic.P256(), X: numberIn(joesX), Y: numberIn(joesY)}
+	digest := sha256.Sum256(signature.Message)
+	r, s := new(big.Int).SetBytes(signature.Bytes[:32]), new(big.Int).SetBytes(signature.Bytes[32:])
+	return ecdsa.Verify(&key, digest[:], r, s)
+}
+
+// TestVerdict has a token whose signature crypto/ecdsa checks, and tokens, signatures and verdicts that do not belong together.
+func TestVerdict(t *testing.T) {
+	checked := signatureOf(t, joesToken)
+	verdict := isJoes(checked)
+	if checked.Algorithm != "ES256" || string(checked.Message) != joesToken[:strings.LastIndex(joesToken, ".")] || !verdict {
+		t.Fatal(checked)
+	}
+	other := func(change func(*Signature)) Signature {
+		signature := signatureOf(t, joesToken)
+		change(&signature)
+		return signature
+	}
+	for _, it := range []struct {
+		name       string
+		token      string
+		checked    Signature
+		verdict    bool
+		algorithms []string
+		with       []Option
+		want       error
+	}{
+		{"genuine", joesToken, checked, verdict, []string{"ES256"}, nil, nil},
+		{"by the issuer", joesToken, checked, verdict, []string{"ES256"}, []Option{WithIssuer("joe")}, nil},
+		{"by another issuer", joesToken, checked, verdict, []string{"ES256"}, []Option{WithIssuer("ann")}, ErrIssuer},
+		{"expired", joesToken, checked, verdict, []string{"ES256"}, []Option{at(joesTime + 1)}, ErrExpired},
+		{"not genuine", joesToken, checked, false, []string{"ES256"}, nil, ErrSignature},
+		{"of another payload", strings.Replace(joesToken, joesPayload, "e30", 1), checked, verdict, []string{"ES256"}, nil, ErrSignature},
+		{"another message", joesToken, other(func(it *Signature) { it.Message[30] ^= 1 }), verdict, []string{"ES256"}, nil, ErrSignature},
+		{"another signature", joesToken, other(func(it *Signature) { it.Bytes[0] ^= 1 }), verdict, []string{"ES256"}, nil, ErrSignature},
+		{"no signature", joesToken, Signature{Algorithm: "ES256"}, verdict, []string{"ES256"}, nil, ErrSignature},
+		{"another algorithm", joesToken, other(func(it *Signature) { it.Algorithm = "ES384" }), verdict, []string{"ES256"}, nil, ErrAlgorithm},
+		{"no algorithm", joesToken, other(func(it *Signature) { it.Algorithm = "" }), verdict, []string{"ES256"}, nil, ErrAlgorithm},
+		{"an unknown algorithm", joesToken, other(func(it *Signature) { it.Algorithm = "\xff" }), verdict, []string{"ES256"}, nil, ErrAlgorithm},
+		{"one that is not accepted", joesToken, checked, verdict, []string{"ES384"}, nil, ErrAlgorithm},
+		{"two families", joesToken, checked, verdict, []string{"ES256", "HS256"}, nil, ErrAlgorithm},
+		{"no such algorithm", joesToken, checked, verdict, []string{"ES257"}, nil, ErrOption},
+		{"a claim without a rule", joesToken, checked, verdict, []string{"ES256"}, []Option{WithRequired("jti")}, ErrOption},
+		{"no token", "a.b", checked, verdict, []string{"ES256"}, nil, ErrMalformed},
+	} {
+		token, err := ParseByVerdict(it.token, it.checked, it.verdict, it.algorithms, append([]Option{at(joesTime)}, it.with...)...)
+		if !errors.Is(err, it.want) || (token != nil) != (it.want == nil) {
+			t.Errorf("%s: %v, %v, not %v", it.name, token, err, it.want)
+		}
+		if token != nil && (string(token.RawClaims()) != joesClaims || headerOf(t, token)["alg"] != "ES256") {
+			t.Errorf("%s: %s", it.name, token.RawClaims())
+		}
+	}
+}
+
+// rowsOf calls a function with the lines of a file of ../crates/jwt_vectors/data.
+func rowsOf(t *testing.T, name string, each func(line []byte)) {
+	t.Helper()
+	file, err := os.Open("../crates/jwt_vectors/data/" + name)
+	if err != nil {
+		t.Fatal(err)
+	}
+	defer file.Close()
+	lines := bufio.NewScanner(file)
+	lines.Buffer(nil, 1<<20)
+	for lines.Scan() {
+		each(lines.Bytes())
+	}
+	if err := lines.Err(); err != nil {
+		t.Fatal(err)
+	}
+}
+
+// TestUnverified has the rows of signatures and headers that are read of tokens.
+func TestUnverified(t *testing.T) {
+	seen := map[bool]int{}
+	rowsOf(t, "tokens_by_verdict.jsonl", func(line []byte) {
+		var it struct {
+			Call, Token string
+			Want        struct {
+				Ok *struct {
+					Header map[string]any
+					Signed struct{ Message, Signature string }
+				}
+			}
+		}
+		if json.Unmarshal(line, &it) != nil || it.Call != "signed_part" {
+			return
+		}
+		seen[it.Want.Ok != nil]++
+		signature, err := UnverifiedSignature(it.Token)
+		if it.Want.Ok == nil {
+			if err == nil {
+				t.Errorf("%s: %v", it.Token, signature)
+			}
+			return
+		}
+		header, headerErr := UnverifiedHeader(it.Token)
+		if err != nil || headerErr != nil || signature.Algorithm != it.Want.Ok.Header["alg"] || header["alg"] != signature.Algorithm ||
+			hex.EncodeToString(signature.Message) != it.Want.Ok.Signed.Message || hex.EncodeToString(signature.Bytes) != it.Want.Ok.Signed.Signature {
+			t.Errorf("%s: %v, %v, %v", it.Token, signature, err, headerErr)
+		}
+	})
+	if seen[true] < 3 || seen[false] < 3 {
+		t.Error(seen)
+	}
+}
+
+// TestSigningInput has claims that a key signs which the library never sees, and which its public key verifies.
+func TestSigningInput(t *testing.T) {
+	secretly, err := ecdsa.GenerateKey(elliptic.P256(), rand.Reader)
+	if err != nil {
+		t.Fatal(err)
+	}
+	public, err := Public(&secretly.PublicKey)
+	if err != nil {
+		t.Fatal(err)
+	}
+	input, err := NewSigningInput(json.RawMessage(joesClaims), "ES256", map[string]any{"kid": "a"})
+	if err != nil || input.Algorithm != "ES256" {
+		t.Fatal(input, err)
+	}
+	digest := sha256.Sum256(input.Message)
+	der, err := ecdsa.SignASN1(rand.Reader, secretly, digest[:])
+	if err != nil {
+		t.Fatal(err)
+	}
+	signature, err := ECDSASignature(der, "ES256")
+	if err != nil || len(signature) != 64 {
+		t.Fatal(signature, err)
+	}
+	text, err := input.Token(signature)
+	if err != nil {
+		t.Fatal(err)
+	}
+	token, err := Parse(text, public, []string{"ES256"}, at(joesTime))
+	if err != nil || string(token.RawClaims()) != joesClaims || headerOf(t, token)["kid"] != "a" || headerOf(t, token)["typ"] != "JWT" {
+		t.Error(token, err)
+	}
+	for name, it := range map[string][]byte{"in DER": der, "cut": signature[:63], "none": nil, "longer": append(signature, 0)} {
+		if text, err := input.Token(it); text != "" || !errors.Is(err, ErrOption) {
+			t.Errorf("%s: %v, %v", name, text, err)
+		}
+	}
+	signature[5] ^= 1
+	if text, err = input.Token(signature); err != nil {
+		t.Error(err)
+	}
+	if _, err := Parse(text, public, []string{"ES256"}, at(joesTime)); !errors.Is(err, ErrSignature) {
+		t.Error(err)
+	}
+}
+
+// TestSigningInputArguments has what can't be signed, and inputs that were changed.
+func TestSigningInputArguments(t *testing.T) {
+	for _, it := range []struct {
+		claims    any
+		algorithm string
+		header    map[string]any
+		want      error
+	}{
+		{json.RawMessage(`{"exp":1.5}`), "ES256", nil, ErrMalformed},
+		{json.RawMessage(`[]`), "ES256", nil, ErrOption},
+		{json.RawMessage(`{`), "ES256", nil, ErrOption},
+		{map[string]any{"a": "\xff"}, "ES256", nil, ErrOption},
+		{map[string]any{}, "ES257", nil, ErrOption},
+		{map[string]any{}, "", nil, ErrOption},
+		{map[string]any{}, "ES256", map[string]any{"alg": "ES384"}, ErrOption},
+	} {
+		if input, err := NewSigningInput(it.claims, it.algorithm, it.header); input != nil || !errors.Is(err, it.want) {
+			t.Errorf("%v: %v, %v, not %v", it, input, err, it.want)
+		}
+	}
+	var none *SigningInput
+	for _, it := range []*SigningInput{none, {}, {Algorithm: "ES256", Message: []byte("e30.e30")}} {
+		if token, err := it.Token(make([]byte, 64)); token != "" || !errors.Is(err, ErrOption) {
+			t.Errorf("%v, %v", token, err)
+		}
+	}
+	input, err := NewSigningInput(map[string]any{"a": 1}, "ES384", nil)
+	if err != nil {
+		t.Fatal(err)
+	}
+	if _, err := input.Token(make([]byte, 64)); !errors.Is(err, ErrOption) {
+		t.Error(err)
+	}
+	input.Algorithm = "ES256"
+	if _, err := input.Token(make([]byte, 64)); !errors.Is(err, ErrAlgorithm) {
+		t.Error(err)
+	}
+	input.Algorithm, input.Message = "ES384", []byte("e30.e30")
+	if _, err := input.Token(make([]byte, 96)); !errors.Is(err, ErrOption) {
+		t.Error(err)
+	}
+	for _, it := range []struct {
+		der       []byte
+		algorithm string
+		want      error
+	}{
+		{[]byte("x"), "ES256", ErrSignature},
+		{nil, "ES384", ErrSignature},
+		{[]byte("x"), "RS256", ErrAlgorithm},
+		{[]byte("x"), "ES257", ErrAlgorithm},
+	} {
+		if signature, err := ECDSASignature(it.der, it.algorithm); signature != nil || !errors.Is(err, it.want) {
+			t.Errorf("%v: %v, %v", it, signature, err)
+		}
+	}
+}
+
+// TestMessages has the messages of tokens by all algorithms, as Python's json writes them, and a token by Ed25519 of Go.
+func TestMessages(t *testing.T) {
+	seen := 0
+	rowsOf(t, "tokens_by_signature.jsonl", func(line []byte) {
+		var it struct {
+			Call   string
+			Header map[string]any
+			Claims json.RawMessage
+			Want   struct {
+				Ok *struct{ Algorithm, Message string }
+			}
+		}
+		if json.Unmarshal(line, &it) != nil || it.Call != "signing_input" || it.Want.Ok == nil || it.Header["typ"] != "JWT" {
+			return
+		}
+		seen++
+		input, err := NewSigningInput(it.Claims, it.Want.Ok.Algorithm, it.Header)
+		if err != nil || string(input.Message) != it.Want.Ok.Message || input.Algorithm != it.Want.Ok.Algorithm {
+			t.Errorf("%s: %v, %v", line, input, err)
+		}
+	})
+	if seen < 12 {
+		t.Error(seen)
+	}
+	input, err := NewSigningInput(map[string]any{"exp": 1700000001}, "EdDSA", map[string]any{"kid": "a"})
+	if err != nil {
+		t.Fatal(err)
+	}
+	token, err := input.Token(ed25519.Sign(signer("a"), input.Message))
+	if err != nil {
+		t.Fatal(err)
+	}
+	public, err := Public(signer("a").Public())
+	if err != nil {
+		t.Fatal(err)
+	}
+	if _, err := parse(t, token, public, eddsa); err != nil {
+		t.Error(err)
+	}
+}
+
+// TestThumbprints has the rows of thumbprints, those of RFC 7638 and RFC 8037 among them.
+func TestThumbprints(t *testing.T) {
+	bits := map[string]uint32{"SHA256": 256, "SHA384": 384, "SHA512": 512}
+	seen := map[string]int{}
+	rowsOf(t, "thumbprints.jsonl", func(line []byte) {
+		var it struct {
+			Call, Hash, From string
+			Jwk              json.RawMessage
+			Want             struct{ Ok *string }
+		}
+		if json.Unmarshal(line, &it) != nil || it.Call != "Jwk::thumbprint" || it.Jwk == nil || it.Want.Ok == nil || !strings.HasPrefix(it.From, "RFC") {
+			return
+		}
+		seen[it.Hash]++
+		if text, err := Thumbprint(it.Jwk, bits[it.Hash]); err != nil || text != *it.Want.Ok {
+			t.Errorf("%s: %v, %v", line, text, err)
+		}
+	})
+	if seen["SHA256"] < 4 || seen["SHA384"] < 1 || seen["SHA512"] < 1 {
+		t.Error(seen)
+	}
+	for _, it := range []struct {
+		jwk  string
+		bits uint32
+		want error
+	}{
+		{joesKey, 0, ErrAlgorithm},
+		{joesKey, 255, ErrAlgorithm},
+		{`{"kty":"other"}`, 256, ErrKey},
+		{"", 256, ErrKey},
+	} {
+		if text, err := Thumbprint([]byte(it.jwk), it.bits); text != "" || !errors.Is(err, it.want) {
+			t.Errorf("%v: %v, %v", it, text, err)
+		}
+	}
+}
+
+// TestJoe has the token of RFC 7515 appendix A.3 by its key, and what does not belong to it.
+func TestJoe(t *testing.T) {
+	key, err := JWK([]byte(joesKey))
+	if err != nil {
+		t.Fatal(err)
+	}
+	token, err := Parse(joesToken, key, []string{"ES256"}, at(joesTime))
+	if err != nil || string(token.RawClaims()) != joesClaims {
+		t.Error(token, err)
+	}
+	for _, it := range []struct {
+		token, key string
+		algorithms []string
+		want       error
+	}{
+		{strings.Replace(joesToken, "DtEh", "DtEi", 1), joesKey, []string{"ES256"}, ErrSignature},
+		{joesToken, `{"kty":"oct","k":"c2VjcmV0"}`, []string{"ES256"}, ErrKey},
+		{joesToken, joesKey, []string{"ES384"}, ErrKey},
+	} {
+		key, err := JWK([]byte(it.key))
+		if err != nil {
+			t.Fatal(err)
+		}
+		if _, err := Parse(it.token, key, it.algorithms, at(joesTime)); !errors.Is(err, it.want) {
+			t.Errorf("%v: %v", it, err)
+		}
+	}
+}

@@ -1,0 +1,222 @@
+package jwt
+
+import (
+	"encoding/json"
+	"time"
+	"unicode/utf8"
+)
+
+// options has the conditions on a token, by the names of jwtproved.h.
+type options struct {
+	Strict      bool     `json:"strict"`
+	Algorithms  []string `json:"algorithms"`
+	Required    []string `json:"required_spec_claims"`
+	Leeway      uint64   `json:"leeway"`
+	Remaining   *uint64  `json:"reject_tokens_expiring_in_less_than,omitempty"`
+	ValidateExp *bool    `json:"validate_exp,omitempty"`
+	ValidateNbf *bool    `json:"validate_nbf,omitempty"`
+	ValidateAud *bool    `json:"validate_aud,omitempty"`
+	Audience    []string `json:"aud,omitempty"`
+	Issuer      []string `json:"iss,omitempty"`
+	Subject     *string  `json:"sub,omitempty"`
+	Crit        []string `json:"understood_crit,omitempty"`
+	noExpiry    bool
+	now         func() time.Time
+}
+
+// Option is a condition on a token.
+type Option func(*options) error
+
+func (asked *options) requires(name string) bool {
+	for _, it := range asked.Required {
+		if it == name {
+			return true
+		}
+	}
+	return false
+}
+
+// checkTexts returns an error if an argument has no text, an empty one, or one that is not UTF-8. An empty list and an empty text come
+// from a setting that is not there, and would ask for nothing.
+func checkTexts(argument string, texts ...string) error {
+	if len(texts) == 0 {
+		return optionError("%s has no text", argument)
+	}
+	for _, it := range texts {
+		if it == "" {
+			return optionError("%s has an empty text", argument)
+		}
+		if !utf8.ValidString(it) {
+			return optionError("%s has %q, which is not UTF-8", argument, it)
+		}
+	}
+	return nil
+}
+
+// seconds returns a number of whole seconds.
+func seconds(option string, duration, least time.Duration) (uint64, error) {
+	if duration < least || duration%time.Second != 0 {
+		return 0, optionError("%s: %v is not a number of whole seconds from %d on", option, duration, least/time.Second)
+	}
+	return uint64(duration / time.Second), nil
+}
+
+// WithAudience asks for one of these audiences, of which there has to be one, and none may be empty. Without it, a token that names
+// an audience is refused.
+func WithAudience(audiences ...string) Option {
+	return func(asked *options) error {
+		asked.Audience = append(asked.Audience, audiences...)
+		return checkTexts("WithAudience", audiences...)
+	}
+}
+
+// WithAnyAudience accepts a token whatever audience it names, or none. WithAudience contradicts it.
+func WithAnyAudience() Option {
+	return func(asked *options) error {
+		asked.ValidateAud = new(bool)
+		return nil
+	}
+}
+
+// WithIssuer asks for one of these issuers, of which there has to be one, and none may be empty.
+func WithIssuer(issuers ...string) Option {
+	return func(asked *options) error {
+		asked.Issuer = append(asked.Issuer, issuers...)
+		return checkTexts("WithIssuer", issuers...)
+	}
+}
+
+// WithSubject asks for this subject, which may not be empty.
+func WithSubject(subject string) Option {
+	return func(asked *options) error {
+		asked.Subject = &subject
+		return checkTexts("WithSubject", subject)
+	}
+}
+
+// WithRequired asks for these claims, among exp, nbf, aud, iss and sub, of which there has to be one. exp is asked for in any case,
+// unless WithoutExpiry is given; both contradict each other.
+func WithRequired(claims ...string) Option {
+	return func(asked *options) error {
+		for _, it := range claims {
+			switch it {
+			case "exp", "nbf", "aud", "iss", "sub":
+				asked.Required = append(asked.Required, it)
+			default:
+				return optionError("WithRequired: the library has no rule for the claim %q", it)
+			}
+		}
+		return checkTexts("WithRequired", claims...)
+	}
+}
+
+// WithoutExpiry accepts a token without exp too. One that has exp is checked.
+func WithoutExpiry() Option {
+	return func(asked *options) error {
+		asked.noExpiry = true
+		return nil
+	}
+}
+
+// WithExpired accepts a token whose exp has passed too, for example to tell whose it was. WithRemaining contradicts it.
+func WithExpired() Option {
+	return func(asked *options) error {
+		asked.ValidateExp = new(bool)
+		return nil
+	}
+}
+
+// WithEarly accepts a token before its nbf too.
+func WithEarly() Option {
+	return func(asked *options) error {
+		asked.ValidateNbf = new(bool)
+		return nil
+	}
+}
+
+// WithRemaining asks for a token that does not expire within this many whole seconds, of which there has to be one at least.
+func WithRemaining(least time.Duration) Option {
+	return func(asked *options) error {
+		remaining, err := seconds("WithRemaining", least, time.Second)
+		asked.Remaining = &remaining
+		return err
+	}
+}
+
+// WithLeeway allows clocks to differ by this many whole seconds. There is none without it.
+func WithLeeway(leeway time.Duration) Option {
+	return func(asked *options) error {
+		allowed, err := seconds("WithLeeway", leeway, 0)
+		asked.Leeway = allowed
+		return err
+	}
+}
+
+// WithUnderstoodCrit accepts a token whose crit (RFC 7515 section 4.1.11) names some of these members of the header, of which there has
+// to be one. The caller has to do what they ask for: Token.Header has them. Without it, a token with a crit is refused.
+func WithUnderstoodCrit(names ...string) Option {
+	return func(asked *options) error {
+		asked.Crit = append(asked.Crit, names...)
+		return checkTexts("WithUnderstoodCrit", names...)
+	}
+}
+
+// WithTime has the clock read by this function, and not by time.Now.
+func WithTime(now func() time.Time) Option {
+	return func(asked *options) error {
+		if now == nil {
+			return optionError("WithTime has no function")
+		}
+		asked.now = now
+		return nil
+	}
+}
+
+// moment returns the time of a clock as the library takes it.
+func moment(now func() time.Time) (uint64, error) {
+	seconds := now().Unix()
+	if seconds < 0 {
+		return 0, optionError("WithTime: the clock is before 1970")
+	}
+	return uint64(seconds), nil
+}
+
+// contradiction returns an error if two options ask for opposite things.
+func (asked *options) contradiction() error {
+	switch {
+	case asked.noExpiry && asked.requires("exp"):
+		return optionError("WithoutExpiry and WithRequired(%q) contradict each other", "exp")
+	case asked.ValidateAud != nil && asked.Audience != nil:
+		return optionError("WithAnyAudience and WithAudience contradict each other")
+	case asked.ValidateExp != nil && asked.Remaining != nil:
+		return optionError("WithExpired and WithRemaining contradict each other")
+	}
+	return nil
+}
+
+// conditions returns what algorithms and options ask for, and its text for the library.
+func conditions(algorithms []string, with []Option) (*options, []byte, error) {
+	if err := checkTexts("algorithms", algorithms...); err != nil {
+		return nil, nil, err
+	}
+	asked := &options{Strict: true, Algorithms: algorithms, Required: []string{}, now: time.Now}
+	for i, it := range with {
+		if it == nil {
+			return nil, nil, optionError("the option at place %d is nil", i)
+		}
+		if err := it(asked); err != nil {
+			return nil, nil, err
+		}
+	}
+	if err := asked.contradiction(); err != nil {
+		return nil, nil, err
+	}
+	if !asked.noExpiry {
+		asked.Required = append(asked.Required, "exp")
+	}
+	text, err := json.Marshal(asked)
+	if err != nil {
+		return nil, nil, optionError("%v", err)
+	}
+	return asked, text, nil
+}

@@ -1,0 +1,104 @@
+package jwt
+
+import (
+	"bytes"
+	"encoding/json"
+	"unicode/utf8"
+)
+
+// Sign returns the token of claims, which json.Marshal writes, signed with a secret by HS256, HS384 or HS512. Members of header other
+// than alg and typ are those of the map, which may be nil and may not name another alg. No claim may be a float. A text that is not
+// UTF-8 is ErrOption, and a secret that Secret refuses is ErrKey.
+func Sign(claims any, secret []byte, algorithm string, header map[string]any) (string, error) {
+	if err := checkKey(secretKey, secret); err != nil {
+		return "", err
+	}
+	headerText, claimsText, err := parts(claims, algorithm, header)
+	if err != nil {
+		return "", err
+	}
+	token, err := encode(headerText, claimsText, secret)
+	return string(token), err
+}
+
+// SigningInput is what has to be signed for a token, with a key that is kept elsewhere, such as in a KMS or an HSM.
+type SigningInput struct {
+	// Algorithm is the algorithm by which it has to be signed.
+	Algorithm string
+	// Message has the bytes that have to be signed.
+	Message        []byte
+	header, claims []byte
+}
+
+// NewSigningInput returns what has to be signed for the token of these claims, by any of the twelve algorithms. The arguments are as
+// for Sign.
+func NewSigningInput(claims any, algorithm string, header map[string]any) (*SigningInput, error) {
+	headerText, claimsText, err := parts(claims, algorithm, header)
+	if err != nil {
+		return nil, err
+	}
+	message, _, err := signingInput(headerText, claimsText)
+	if err != nil {
+		return nil, err
+	}
+	return &SigningInput{algorithm, message, headerText, claimsText}, nil
+}
+
+// Token returns the token with this signature of the message. By ES256 and ES384 that is two numbers one after the other, which
+// ECDSASignature makes of a signature in DER. Its length is compared with that of the algorithm, and a wrong one is ErrOption; whether
+// the signature is right is left to those who verify the token.
+func (input *SigningInput) Token(signature []byte) (string, error) {
+	if input == nil || input.header == nil {
+		return "", optionError("NewSigningInput did not make this SigningInput")
+	}
+	token, err := encodeSignature(input.header, input.claims, Signature{input.Algorithm, input.Message, signature})
+	return string(token), err
+}
+
+// ECDSASignature returns a signature by ES256 or ES384 as a token has it, from one in DER, such as crypto/ecdsa and a KMS make it. Bytes
+// that are no such signature are ErrSignature.
+func ECDSASignature(der []byte, algorithm string) ([]byte, error) {
+	return ecdsaSignature(der, algorithm)
+}
+
+// parts returns the texts of header and claims.
+func parts(claims any, algorithm string, header map[string]any) (headerText, claimsText []byte, err error) {
+	members := map[string]any{"typ": "JWT"}
+	for name, it := range header {
+		members[name] = it
+	}
+	if it, is := header["alg"]; is && it != algorithm {
+		return nil, nil, optionError("header has the alg %v, and algorithm is %q", it, algorithm)
+	}
+	members["alg"] = algorithm
+	if headerText, err = marshal("header", members); err != nil {
+		return nil, nil, err
+	}
+	claimsText, err = marshal("claims", claims)
+	return headerText, claimsText, err
+}
+
+// marshal returns the JSON of an argument, whose texts have to be UTF-8.
+func marshal(argument string, value any) ([]byte, error) {
+	text, err := json.Marshal(value)
+	if err != nil {
+		return nil, optionError("%s: %v", argument, err)
+	}
+	if !utf8.Valid(text) || isReplaced(text) {
+		return nil, optionError("%s has a text that is not UTF-8", argument)
+	}
+	return text, nil
+}
+
+// isReplaced returns whether JSON has the escape that json.Marshal writes for bytes that are not UTF-8. It writes U+FFFD itself as it is.
+func isReplaced(text []byte) bool {
+	for i := 0; i < len(text); i++ {
+		if text[i] == '\\' {
+			if bytes.HasPrefix(text[i:], []byte(`\ufffd`)) {
+				return true
+			}
+			i++
+		}
+	}
+	return false
+}

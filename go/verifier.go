@@ -1,0 +1,181 @@
+package jwt
+
+import (
+	"errors"
+	"fmt"
+	"io"
+	"sync"
+	"sync/atomic"
+	"time"
+)
+
+// Verifier verifies tokens by one key under the same conditions.
+type Verifier struct{ made *verifying }
+
+type verifying struct {
+	options []byte
+	now     func() time.Time
+	key     Key
+	mutex   sync.Mutex // one goroutine makes handles for all others
+	current atomic.Pointer[handlesOf]
+}
+
+// handlesOf has the handles for a set that was fetched, or the reason for which there are none. For other keys there is no set.
+type handlesOf struct {
+	set     *fetched
+	handles *handles
+	err     error
+}
+
+// handles are those of the same keys and options, of which each call has one for itself.
+type handles struct {
+	mutex sync.Mutex // of first
+	first *handle
+	idle  sync.Pool
+}
+
+func (all *handles) take() (*handle, error) {
+	if it, is := all.idle.Get().(*handle); is {
+		return it, nil
+	}
+	all.mutex.Lock()
+	defer all.mutex.Unlock()
+	return all.first.share()
+}
+
+func (all *handles) decode(token string, now uint64) ([]byte, error) {
+	one, err := all.take()
+	if err != nil {
+		return nil, err
+	}
+	defer all.idle.Put(one)
+	return one.decode(token, now)
+}
+
+// Format shows neither the key nor the options, whatever the verb.
+func (Verifier) Format(state fmt.State, _ rune) {
+	_, _ = io.WriteString(state, "jwt.Verifier([redacted])")
+}
+
+// NewVerifier returns a verifier by a key that accepts these algorithms, which have to be of one family: that of the key. If neither the
+// key nor any key of a set verifies with one of them, the error is ErrKey.
+func NewVerifier(key Key, algorithms []string, with ...Option) (*Verifier, error) {
+	asked, text, err := conditions(algorithms, with)
+	if err != nil {
+		return nil, err
+	}
+	if key.bytes == nil {
+		return nil, keyError("there is none")
+	}
+	made := &verifying{options: text, now: asked.now, key: key}
+	switch it := made.latest(); {
+	case errors.Is(it.err, ErrOption):
+		return nil, unknownAlgorithm(algorithms)
+	case errors.Is(it.err, ErrOutOfMemory):
+		return nil, it.err
+	case it.err != nil:
+		return nil, fmt.Errorf("%w: %q", it.err, algorithms)
+	}
+	if err := checkFamily(algorithms, text); err != nil {
+		return nil, err
+	}
+	return &Verifier{made}, nil
+}
+
+// checkFamily returns an error if the algorithms are of several families. The library refuses any token then, before its signature.
+func checkFamily(algorithms []string, options []byte) error {
+	input, err := NewSigningInput(struct{}{}, algorithms[0], nil)
+	if err != nil {
+		return err
+	}
+	refused := Signature{algorithms[0], input.Message, []byte{0}}
+	_, err = decodeVerdict(string(input.Message)+".AA", refused, false, options, 0)
+	if errors.Is(err, ErrAlgorithm) {
+		return keyError("the algorithms %q are not of one family", algorithms)
+	}
+	if errors.Is(err, ErrOutOfMemory) {
+		return err
+	}
+	return nil
+}
+
+// Parse verifies a token. The error is nil, or of one of the kinds of this package. A token of more than 1 MiB is ErrMalformed.
+func (verifier *Verifier) Parse(token string) (*Token, error) {
+	if verifier == nil || verifier.made == nil {
+		return nil, optionError("NewVerifier did not make this Verifier")
+	}
+	claims, err := verifier.made.verify(token)
+	if err != nil {
+		return nil, err
+	}
+	return newToken(token, claims), nil
+}
+
+// verify returns the claims of a token. If the set of a KeySet has no key of its kid, a later set decides.
+func (made *verifying) verify(token string) ([]byte, error) {
+	by := made.latest()
+	claims, err := made.verifyBy(by, token)
+	if err == nil || made.key.set == nil || !mayHaveLaterKey(token, err) {
+		return claims, err
+	}
+	if later := made.key.set().after(by.set); later == by.set {
+		return nil, err
+	}
+	return made.verifyBy(made.latest(), token)
+}
+
+func (made *verifying) verifyBy(by *handlesOf, token string) ([]byte, error) {
+	if by.err != nil {
+		return nil, by.err
+	}
+	now, err := moment(made.now)
+	if err != nil {
+		return nil, err
+	}
+	return by.handles.decode(token, now)
+}
+
+// mayHaveLaterKey returns whether a token names a key that the set does not have. A set without a key for the algorithms has no key of
+// the token either.
+func mayHaveLaterKey(token string, err error) bool {
+	var refused *Error
+	if !errors.As(err, &refused) || refused.Status != noKey && refused.Status != unfitKey {
+		return false
+	}
+	header, err := decodeHeader(token)
+	if err != nil {
+		return false
+	}
+	_, isThere := stringOf(header, "kid")
+	return isThere
+}
+
+// latest returns the handles for the last set that was fetched, or for a key that stays.
+func (made *verifying) latest() *handlesOf {
+	if it := made.current.Load(); it != nil && it.set == made.key.latest() {
+		return it
+	}
+	made.mutex.Lock()
+	defer made.mutex.Unlock()
+	set := made.key.latest()
+	if it := made.current.Load(); it != nil && it.set == set {
+		return it
+	}
+	key := made.key
+	if set != nil {
+		key = set.key
+	}
+	it := &handlesOf{set: set}
+	if it.handles, it.err = newHandles(key, made.options); !errors.Is(it.err, ErrOutOfMemory) {
+		made.current.Store(it)
+	}
+	return it
+}
+
+func newHandles(key Key, options []byte) (*handles, error) {
+	first, err := newHandle(key, options)
+	if err != nil {
+		return nil, err
+	}
+	return &handles{first: first}, nil
+}

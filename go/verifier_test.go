@@ -1,0 +1,248 @@
+package jwt
+
+import (
+	"encoding/json"
+	"errors"
+	"fmt"
+	"os"
+	"runtime"
+	"strings"
+	"sync"
+	"testing"
+	"time"
+)
+
+// TestGoroutines has many of them verify by one verifier, and by copies of it.
+func TestGoroutines(t *testing.T) {
+	verifier, err := NewVerifier(secretOf(t, secret), []string{"HS256"}, at(now))
+	if err != nil {
+		t.Fatal(err)
+	}
+	var group sync.WaitGroup
+	for i := 0; i < 100; i++ {
+		group.Add(1)
+		go func(i int) {
+			defer group.Done()
+			own := *verifier
+			good := signed(`{"alg":"HS256"}`, fmt.Sprintf(`{"exp":1700000001,"n":%d,"text":"%s"}`, i, strings.Repeat("a", 10*i)), secret)
+			forged := signed(`{"alg":"HS256"}`, `{"exp":1700000001}`, []byte(fmt.Sprint(i)))
+			for round := 0; round < 50; round++ {
+				var claims struct{ N int }
+				token, err := verifier.Parse(good)
+				if err != nil || token.Claims(&claims) != nil || claims.N != i || len(token.RawClaims()) < 10*i {
+					t.Errorf("%d: %v %v", i, claims, err)
+				}
+				var refused *Error
+				if _, err := own.Parse(forged); !errors.As(err, &refused) || refused.Test != "SignatureIsAccepted" {
+					t.Errorf("%d: %v", i, err)
+				}
+			}
+		}(i)
+	}
+	for i := 0; i < 20; i++ {
+		runtime.GC() // which frees idle handles
+	}
+	group.Wait()
+}
+
+type failing struct {
+	ID, Call, Token string
+	Set             json.RawMessage
+	Key             struct{ Secret string }
+	Validation      struct {
+		Algorithms     []string
+		UnderstoodCrit []string `json:"understood_crit"`
+	}
+	Provider any
+	Now      int64
+	Want     struct{ Ok *string }
+}
+
+func (it *failing) key(t *testing.T) Key {
+	if it.Call == "failed_test" {
+		return secretOf(t, []byte(it.Key.Secret))
+	}
+	key, err := JWKSet(it.Set)
+	if err != nil {
+		t.Fatal(it.ID, err)
+	}
+	return key
+}
+
+// TestFailedTests has the rows of tokens whose first failed test is known.
+func TestFailedTests(t *testing.T) {
+	leftOut := map[string]bool{
+		// the clock or the claims are those of other options
+		"none fails at the last moment": true, "not yet valid": true,
+		// NewVerifier or JWKSet refuses these
+		"no algorithm is listed": true, "no algorithm is listed, by a set": true, "two families are listed": true, "then the families": true,
+		"two families are listed, by a set": true, "a key of another kind": true, "a secret with padding": true, "a key of another family, by a set": true,
+		"the key before the list of algorithms": true, "the key's algorithm before the key": true, "an extension that is not understood, by a set": true,
+	}
+	seen := map[string]int{}
+	rowsOf(t, "failed_tests.jsonl", func(line []byte) {
+		var it failing
+		if json.Unmarshal(line, &it) != nil || it.Call != "failed_test_with_set" && it.Call != "failed_test" || it.Provider != nil || leftOut[it.ID] ||
+			it.Call == "failed_test" && it.Key.Secret == "" {
+			return
+		}
+		with := []Option{at(it.Now)}
+		if it.Validation.UnderstoodCrit != nil {
+			with = append(with, WithUnderstoodCrit(it.Validation.UnderstoodCrit...))
+		}
+		verifier, err := NewVerifier(it.key(t), it.Validation.Algorithms, with...)
+		if err != nil {
+			t.Fatal(it.ID, err)
+		}
+		var refused *Error
+		_, err = verifier.Parse(it.Token)
+		if it.Want.Ok == nil {
+			if err != nil {
+				t.Errorf("%s: %v", it.ID, err)
+			}
+		} else if !errors.As(err, &refused) || refused.Test != *it.Want.Ok || refused.TestNumber == 0 {
+			t.Errorf("%s: %v, %+v, not %s", it.ID, err, refused, *it.Want.Ok)
+		} else {
+			seen[*it.Want.Ok]++
+		}
+	})
+	if len(seen) != 13 {
+		t.Error(len(seen), seen)
+	}
+}
+
+// TestNoTest has errors without a test of a token that failed.
+func TestNoTest(t *testing.T) {
+	verifier, err := NewVerifier(secretOf(t, secret), []string{"HS256"})
+	if err != nil {
+		t.Fatal(err)
+	}
+	_, tooLong := verifier.Parse(strings.Repeat("a", 1<<20+1))
+	_, blank := Secret(nil)
+	for _, err := range []error{tooLong, blank} {
+		var refused *Error
+		if !errors.As(err, &refused) || refused.Test != "" || refused.TestNumber != 0 || refused.Status == 0 {
+			t.Errorf("%+v", err)
+		}
+	}
+	if _, longest := verifier.Parse(strings.Repeat("a", 1<<20)); !errors.Is(longest, ErrMalformed) || errors.Is(longest, tooLong) {
+		t.Error(longest)
+	}
+}
+
+// TestFamilies has algorithms of two families, by which no token would be accepted.
+func TestFamilies(t *testing.T) {
+	set, err := JWKSet([]byte(setOf("a")))
+	if err != nil {
+		t.Fatal(err)
+	}
+	jwk, err := JWK([]byte(joesKey))
+	if err != nil {
+		t.Fatal(err)
+	}
+	for _, it := range []struct {
+		key        Key
+		algorithms []string
+		want       error
+	}{
+		{secretOf(t, secret), []string{"HS256", "HS384", "HS512"}, nil},
+		{secretOf(t, secret), []string{"HS256", "RS256"}, ErrKey},
+		{secretOf(t, secret), []string{"RS256", "HS256"}, ErrKey},
+		{secretOf(t, secret), []string{"HS512", "HS256", "EdDSA"}, ErrKey},
+		{jwk, []string{"ES256", "ES384"}, nil},
+		{jwk, []string{"ES256", "EdDSA"}, ErrKey},
+		{set, []string{"EdDSA", "ES256"}, ErrKey},
+		{set, []string{"EdDSA"}, nil},
+		{set, []string{"EdDSA", "EdDSA"}, nil},
+	} {
+		verifier, err := NewVerifier(it.key, it.algorithms)
+		if !errors.Is(err, it.want) || (verifier != nil) != (it.want == nil) {
+			t.Errorf("%v: %v, not %v", it.algorithms, err, it.want)
+		}
+	}
+}
+
+// residentKiB returns how much memory the process has.
+func residentKiB(t *testing.T) int {
+	status, err := os.ReadFile("/proc/self/status")
+	if err != nil {
+		t.Skip(err)
+	}
+	size := 0
+	_, after, _ := strings.Cut(string(status), "VmRSS:")
+	if _, err := fmt.Sscan(after, &size); err != nil {
+		t.Skip(err)
+	}
+	return size
+}
+
+// TestMemoryOfVerifiers makes verifiers of large sets, and lets go of them: what the library holds of them is freed.
+func TestMemoryOfVerifiers(t *testing.T) {
+	kids := make([]string, 4000)
+	for i := range kids {
+		kids[i] = fmt.Sprint(i)
+	}
+	key, err := JWKSet([]byte(setOf(kids...)))
+	if err != nil {
+		t.Fatal(err)
+	}
+	token := tokenOf("9", "9")
+	use := func() {
+		for i := 0; i < 10; i++ {
+			verifier, err := NewVerifier(key, eddsa, at(now))
+			if err != nil {
+				t.Fatal(err)
+			}
+			wants(t, verifier, token, nil)
+		}
+		for i := 0; i < 3; i++ {
+			runtime.GC() // an idle handle is let go at the second one, and its memory is freed after it
+			time.Sleep(10 * time.Millisecond)
+		}
+	}
+	use()
+	before := residentKiB(t)
+	for i := 0; i < 5; i++ {
+		use()
+	}
+	if more := residentKiB(t) - before; more > 16*1024 {
+		t.Errorf("%d KiB more", more)
+	}
+}
+
+// benchmarked returns a verifier and a token of 149 bytes.
+func benchmarked(b *testing.B) (*Verifier, string) {
+	b.Helper()
+	key, err := Secret(secret)
+	if err != nil {
+		b.Fatal(err)
+	}
+	verifier, err := NewVerifier(key, []string{"HS256"})
+	if err != nil {
+		b.Fatal(err)
+	}
+	return verifier, signed(`{"alg":"HS256","typ":"JWT"}`, `{"sub":"b@b.com","company":"ACME","exp":2532524891}`, secret)
+}
+
+func BenchmarkParse(b *testing.B) {
+	verifier, token := benchmarked(b)
+	b.ReportAllocs()
+	b.ResetTimer()
+	for i := 0; i < b.N; i++ {
+		if _, err := verifier.Parse(token); err != nil {
+			b.Fatal(err)
+		}
+	}
+}
+
+func BenchmarkParseParallel(b *testing.B) {
+	verifier, token := benchmarked(b)
+	b.ResetTimer()
+	b.RunParallel(func(next *testing.PB) {
+		for next.Next() {
+			if _, err := verifier.Parse(token); err != nil {
+				b.Fatal(err)
+			}
+		}
+	})
+}
