@@ -382,18 +382,22 @@ func TestKeySetGoroutines(t *testing.T) {
 	}
 }
 
-// TestRotatingGoroutines has many goroutines verify while the keys rotate: the keys b and c take turns, and a stays.
-func TestRotatingGoroutines(t *testing.T) {
-	var turn atomic.Int32
-	fetch := func(context.Context) ([]byte, error) {
+// inTurns returns sets with the keys a and b, and a and c, in turns, and counts the fetches.
+func inTurns(turn *atomic.Int32) Fetch {
+	return func(context.Context) ([]byte, error) {
 		if turn.Add(1)%2 == 0 {
 			return []byte(setOf("a", "b")), nil
 		}
 		return []byte(setOf("a", "c")), nil
 	}
+}
+
+// TestRotatingGoroutines has many goroutines verify while keys rotate, and one key stays.
+func TestRotatingGoroutines(t *testing.T) {
+	var turn atomic.Int32
 	until, cancel := context.WithCancel(context.Background())
 	defer cancel()
-	set, err := NewKeySet(until, fetch, WithRefresh(time.Millisecond), WithRefetch(time.Millisecond))
+	set, err := NewKeySet(until, inTurns(&turn), WithRefresh(time.Millisecond), WithRefetch(time.Millisecond))
 	if err != nil {
 		t.Fatal(err)
 	}
@@ -411,12 +415,8 @@ func TestRotatingGoroutines(t *testing.T) {
 		go func(i int) {
 			defer group.Done()
 			for time.Now().Before(end) {
-				if _, err := verifier.Parse(stays); err != nil {
-					t.Error(err)
-				}
-				if _, err := verifier.Parse(forged); !errors.Is(err, ErrSignature) {
-					t.Error(err)
-				}
+				wants(t, verifier, stays, nil)
+				wants(t, verifier, forged, ErrSignature)
 				if _, err := verifier.Parse(rotating[i%2]); err == nil {
 					accepted[i%2].Add(1)
 				} else if !errors.Is(err, ErrUnknownKey) {

@@ -174,11 +174,11 @@ func WithTime(now func() time.Time) Option {
 
 // moment returns the time of a clock as the library takes it.
 func moment(now func() time.Time) (uint64, error) {
-	seconds := now().Unix()
-	if seconds < 0 {
+	since := now().Unix()
+	if since < 0 {
 		return 0, optionError("WithTime: the clock is before 1970")
 	}
-	return uint64(seconds), nil
+	return uint64(since), nil
 }
 
 // contradiction returns an error if two options ask for opposite things.

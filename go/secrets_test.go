@@ -1,34 +1,27 @@
 package jwt
 
 import (
-	"bufio"
 	"encoding/hex"
 	"encoding/json"
 	"errors"
 	"fmt"
-	"os"
 	"strings"
 	"testing"
 )
 
-// TestSecretsOfOthers has the secrets of ../tests/secrets.jsonl: those that others may have are refused, to verify and to sign.
+// TestSecretsOfOthers has the secrets of ../tests/secrets.jsonl: those that others may have are refused, as bytes, as a key and in a
+// set, and to sign.
 func TestSecretsOfOthers(t *testing.T) {
-	file, err := os.Open("../tests/secrets.jsonl")
-	if err != nil {
-		t.Fatal(err)
-	}
-	defer file.Close()
 	seen := map[bool]int{}
-	lines := bufio.NewScanner(file)
-	lines.Buffer(nil, 1<<20)
-	for lines.Scan() {
+	rowsOf(t, "../tests/secrets.jsonl", func(line []byte) {
 		var it struct {
 			ID        string
 			Text, Hex *string
 			Refused   bool
 		}
-		if err := json.Unmarshal(lines.Bytes(), &it); err != nil || (it.Text == nil) == (it.Hex == nil) {
-			t.Fatalf("%s: %v", lines.Bytes(), err)
+		err := json.Unmarshal(line, &it)
+		if err != nil || (it.Text == nil) == (it.Hex == nil) {
+			t.Fatalf("%s: %v", line, err)
 		}
 		var secret []byte
 		if it.Text != nil {
@@ -37,15 +30,12 @@ func TestSecretsOfOthers(t *testing.T) {
 			t.Fatal(err)
 		}
 		seen[it.Refused]++
-		_, err := Secret(secret)
-		if errors.Is(err, ErrKey) != it.Refused || (err != nil) != it.Refused {
-			t.Errorf("%s: %v", it.ID, err)
+		for i, err := range madeWith(secret) {
+			if errors.Is(err, ErrKey) != it.Refused || (err != nil) != it.Refused {
+				t.Errorf("%s, %d: %v", it.ID, i, err)
+			}
 		}
-		token, err := Sign(map[string]any{}, secret, "HS256", nil)
-		if errors.Is(err, ErrKey) != it.Refused || (token == "") != it.Refused {
-			t.Errorf("%s: %v, %v", it.ID, token, err)
-		}
-	}
+	})
 	if seen[true] < 50 || seen[false] < 20 {
 		t.Errorf("the rows have %v alone", seen)
 	}

@@ -80,7 +80,7 @@ func TestFailedTests(t *testing.T) {
 		"the key before the list of algorithms": true, "the key's algorithm before the key": true, "an extension that is not understood, by a set": true,
 	}
 	seen := map[string]int{}
-	rowsOf(t, "failed_tests.jsonl", func(line []byte) {
+	rowsOf(t, vectors+"failed_tests.jsonl", func(line []byte) {
 		var it failing
 		if json.Unmarshal(line, &it) != nil || it.Call != "failed_test_with_set" && it.Call != "failed_test" || it.Provider != nil || leftOut[it.ID] ||
 			it.Call == "failed_test" && it.Key.Secret == "" {
