@@ -106,7 +106,7 @@ func TestFailedTests(t *testing.T) {
 			seen[*it.Want.Ok]++
 		}
 	})
-	if len(seen) != 13 {
+	if len(seen) != 14 {
 		t.Error(len(seen), seen)
 	}
 }
