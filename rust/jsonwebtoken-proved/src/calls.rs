@@ -1,69 +1,12 @@
-//! The calls for C, as `jwtproved.h` declares them.
+//! The calls for C as safe functions, which return the status of a call that has no result.
 
-use crate::{status, Error};
+use crate::{declared, status};
 
-mod declared {
-    extern "C" {
-        pub fn jwt_decode_hmac(
-            token: *const u8, token_len: usize, secret: *const u8, secret_len: usize, options: *const u8, options_len: usize,
-            now: u64, buffer: *mut u8, buffer_len: usize, len: *mut usize,
-        ) -> u32;
-        pub fn jwt_decode_key(
-            token: *const u8, token_len: usize, key: *const u8, key_len: usize, options: *const u8, options_len: usize,
-            now: u64, buffer: *mut u8, buffer_len: usize, len: *mut usize,
-        ) -> u32;
-        pub fn jwt_decode_set(
-            token: *const u8, token_len: usize, set: *const u8, set_len: usize, options: *const u8, options_len: usize,
-            now: u64, buffer: *mut u8, buffer_len: usize, len: *mut usize,
-        ) -> u32;
-        pub fn jwt_encode_hmac(
-            header: *const u8, header_len: usize, claims: *const u8, claims_len: usize, secret: *const u8, secret_len: usize,
-            buffer: *mut u8, buffer_len: usize, len: *mut usize,
-        ) -> u32;
-        pub fn jwt_check_secret(secret: *const u8, secret_len: usize) -> u32;
-        pub fn jwt_check_key(key: *const u8, key_len: usize) -> u32;
-        pub fn jwt_check_set(set: *const u8, set_len: usize) -> u32;
-        pub fn jwt_decode_header(token: *const u8, token_len: usize, buffer: *mut u8, buffer_len: usize, len: *mut usize) -> u32;
-        pub fn jwt_status_text(status: u32, buffer: *mut u8, buffer_len: usize, len: *mut usize) -> u32;
-    }
-}
+/// The type of a JSON string, `JWT_STRING`.
+pub const STRING: u32 = 4;
 
-/// A call that takes three texts, and the moment.
-type Decode = unsafe extern "C" fn(
-    *const u8, usize, *const u8, usize, *const u8, usize, u64, *mut u8, usize, *mut usize,
-) -> u32;
-
-/// A call that takes a key.
+/// A call that checks a key.
 type Check = unsafe extern "C" fn(*const u8, usize) -> u32;
-
-/// Returns the bytes that a call writes to a buffer of at first this size, or its status.
-fn written(size: usize, call: impl Fn(*mut u8, usize, *mut usize) -> u32) -> Result<Vec<u8>, u32> {
-    let mut buffer = vec![0; size];
-    let mut len = 0;
-    loop {
-        let status = call(buffer.as_mut_ptr(), buffer.len(), &mut len);
-        match status {
-            status::OK => {
-                buffer.truncate(len);
-                return Ok(buffer);
-            }
-            status::NO_ROOM => buffer.resize(len, 0),
-            _ => return Err(status),
-        }
-    }
-}
-
-/// Returns the text that a call writes, or its refusal.
-fn answer(size: usize, call: impl Fn(*mut u8, usize, *mut usize) -> u32) -> Result<String, Error> {
-    let bytes = written(size, call).map_err(Error::from_status)?;
-    Ok(String::from_utf8(bytes).expect("the library writes UTF-8"))
-}
-
-pub fn status_text(status: u32) -> String {
-    // SAFETY: the buffer has the length that is given, and overlaps nothing
-    let text = written(64, |buffer, size, len| unsafe { declared::jwt_status_text(status, buffer, size, len) });
-    String::from_utf8(text.unwrap_or_default()).unwrap_or_default()
-}
 
 /// The kind of a key, which is that of the call that takes it.
 #[derive(Clone, Copy, Debug, PartialEq, Eq)]
@@ -73,44 +16,151 @@ pub enum Kind {
     Set,
 }
 
-/// Checks that not everybody can sign with a secret, or for a key or a key of a set.
-pub fn check(kind: Kind, key: &[u8]) -> Result<(), Error> {
+/// Returns the error of a status other than `OK`.
+pub fn checked(status: u32) -> Result<(), u32> {
+    if status == status::OK { Ok(()) } else { Err(status) }
+}
+
+/// Returns the bytes that a call writes to a buffer of at first this size.
+fn written(size: usize, mut call: impl FnMut(*mut u8, usize, *mut usize) -> u32) -> Result<Vec<u8>, u32> {
+    let mut buffer = vec![0; size];
+    let mut len = 0;
+    loop {
+        match call(buffer.as_mut_ptr(), buffer.len(), &mut len) {
+            status::OK => {
+                buffer.truncate(len);
+                return Ok(buffer);
+            }
+            status::NO_ROOM => buffer.resize(len, 0),
+            status => return Err(status),
+        }
+    }
+}
+
+/// Returns the text that a call writes likewise.
+pub fn text(size: usize, call: impl FnMut(*mut u8, usize, *mut usize) -> u32) -> Result<String, u32> {
+    written(size, call).map(|it| String::from_utf8(it).expect("the library writes UTF-8"))
+}
+
+pub fn status_text(status: u32) -> String {
+    // SAFETY: the buffer has the length that is given
+    let text = text(64, |buffer, size, len| unsafe { declared::jwt_status_text(status, buffer, size, len) });
+    text.unwrap_or_default()
+}
+
+pub fn test_text(test: u32) -> Result<String, u32> {
+    // SAFETY: the buffer has the length that is given
+    text(32, |buffer, size, len| unsafe { declared::jwt_test_text(test, buffer, size, len) })
+}
+
+pub fn check(kind: Kind, key: &[u8]) -> Result<(), u32> {
     let call: Check = match kind {
         Kind::Secret => declared::jwt_check_secret,
         Kind::Jwk => declared::jwt_check_key,
         Kind::Set => declared::jwt_check_set,
     };
     // SAFETY: the slice has the length that is given
-    match unsafe { call(key.as_ptr(), key.len()) } {
-        status::OK => Ok(()),
-        status => Err(Error::from_status(status)),
-    }
+    checked(unsafe { call(key.as_ptr(), key.len()) })
 }
 
-pub fn decode(kind: Kind, token: &[u8], key: &[u8], options: &str, now: u64) -> Result<String, Error> {
-    let call: Decode = match kind {
-        Kind::Secret => declared::jwt_decode_hmac,
-        Kind::Jwk => declared::jwt_decode_key,
-        Kind::Set => declared::jwt_decode_set,
-    };
-    // SAFETY: each slice has the length that is given, and the buffer overlaps none
-    answer(token.len() + 64, |buffer, size, len| unsafe {
-        call(token.as_ptr(), token.len(), key.as_ptr(), key.len(), options.as_ptr(), options.len(), now, buffer, size, len)
+pub fn key_from_pem(pem: &[u8]) -> Result<String, u32> {
+    // SAFETY: the slice has the length that is given, and the buffer does not overlap it
+    text(pem.len() + 128, |buffer, size, len| unsafe {
+        declared::jwt_key_from_pem(pem.as_ptr(), pem.len(), buffer, size, len)
     })
 }
 
-pub fn decode_header(token: &[u8]) -> Result<String, Error> {
+/// Returns the type and the text of a member of a JSON object.
+pub fn member(json: &str, name: &str) -> Result<(u32, String), u32> {
+    let mut kind = 0;
+    // SAFETY: each slice has the length that is given, and the buffer overlaps none
+    let value = text(json.len(), |buffer, size, len| unsafe {
+        declared::jwt_member(json.as_ptr(), json.len(), name.as_ptr(), name.len(), &mut kind, buffer, size, len)
+    })?;
+    Ok((kind, value))
+}
+
+pub fn decode_header(token: &str) -> Result<String, u32> {
     // SAFETY: the slice has the length that is given, and the buffer does not overlap it
-    answer(token.len() + 64, |buffer, size, len| unsafe {
+    text(token.len() + 64, |buffer, size, len| unsafe {
         declared::jwt_decode_header(token.as_ptr(), token.len(), buffer, size, len)
     })
 }
 
-pub fn encode(header: &str, claims: &str, secret: &[u8]) -> Result<String, Error> {
+/// Returns the number of a token's algorithm, the length of its message, and its signature.
+pub fn signed_part(token: &str) -> Result<(u32, usize, Vec<u8>), u32> {
+    let (mut algorithm, mut message) = (0, 0);
+    // SAFETY: the slice has the length that is given, and the buffer does not overlap it
+    let signature = written(token.len(), |buffer, size, len| unsafe {
+        declared::jwt_signed_part(token.as_ptr(), token.len(), &mut algorithm, &mut message, buffer, size, len)
+    })?;
+    Ok((algorithm, message, signature))
+}
+
+/// A signature of a message, by the algorithm of a number.
+#[derive(Clone, Copy)]
+pub struct Signed<'a> {
+    pub algorithm: u32,
+    pub message: &'a [u8],
+    pub signature: &'a [u8],
+}
+
+pub fn decode_verdict(token: &str, signed: Signed<'_>, verdict: bool, options: &str, now: u64) -> Result<String, u32> {
+    let Signed { algorithm, message, signature } = signed;
     // SAFETY: each slice has the length that is given, and the buffer overlaps none
-    answer(2 * (header.len() + claims.len()) + 128, |buffer, size, len| unsafe {
+    text(token.len() + 64, |buffer, size, len| unsafe {
+        declared::jwt_decode_verdict(
+            token.as_ptr(), token.len(), algorithm, message.as_ptr(), message.len(), signature.as_ptr(), signature.len(), verdict,
+            options.as_ptr(), options.len(), now, buffer, size, len,
+        )
+    })
+}
+
+/// Returns the size of the buffer for a token, before its signature.
+fn room(header: &str, claims: &str) -> usize {
+    2 * (header.len() + claims.len()) + 128
+}
+
+pub fn encode(header: &str, claims: &str, secret: &[u8]) -> Result<String, u32> {
+    // SAFETY: each slice has the length that is given, and the buffer overlaps none
+    text(room(header, claims), |buffer, size, len| unsafe {
         declared::jwt_encode_hmac(
             header.as_ptr(), header.len(), claims.as_ptr(), claims.len(), secret.as_ptr(), secret.len(), buffer, size, len,
         )
     })
+}
+
+/// Returns the number of a header's algorithm, and the message that is to be signed.
+pub fn signing_input(header: &str, claims: &str) -> Result<(u32, String), u32> {
+    let mut algorithm = 0;
+    // SAFETY: each slice has the length that is given, and the buffer overlaps none
+    let message = text(room(header, claims), |buffer, size, len| unsafe {
+        declared::jwt_signing_input(
+            header.as_ptr(), header.len(), claims.as_ptr(), claims.len(), &mut algorithm, buffer, size, len,
+        )
+    })?;
+    Ok((algorithm, message))
+}
+
+pub fn encode_signature(header: &str, claims: &str, signed: Signed<'_>) -> Result<String, u32> {
+    let Signed { algorithm, message, signature } = signed;
+    // SAFETY: each slice has the length that is given, and the buffer overlaps none
+    text(room(header, claims) + 2 * signature.len(), |buffer, size, len| unsafe {
+        declared::jwt_encode_signature(
+            header.as_ptr(), header.len(), claims.as_ptr(), claims.len(), algorithm, message.as_ptr(), message.len(),
+            signature.as_ptr(), signature.len(), buffer, size, len,
+        )
+    })
+}
+
+pub fn ecdsa_signature(der: &[u8], algorithm: u32) -> Result<Vec<u8>, u32> {
+    // SAFETY: the slice has the length that is given, and the buffer does not overlap it
+    written(96, |buffer, size, len| unsafe {
+        declared::jwt_ecdsa_signature(der.as_ptr(), der.len(), algorithm, buffer, size, len)
+    })
+}
+
+pub fn thumbprint(jwk: &str, bits: u32) -> Result<String, u32> {
+    // SAFETY: the slice has the length that is given, and the buffer does not overlap it
+    text(96, |buffer, size, len| unsafe { declared::jwt_thumbprint(jwk.as_ptr(), jwk.len(), bits, buffer, size, len) })
 }

@@ -1,7 +1,7 @@
 use crate::status;
 use std::fmt;
 
-/// Why there is no result. All but the last six are refusals of the token.
+/// The reason for which there is no result. All but the last seven are refusals of the token.
 #[derive(Clone, Debug, PartialEq, Eq)]
 #[non_exhaustive]
 pub enum Error {
@@ -29,11 +29,15 @@ pub enum Error {
     MissingClaim(&'static str),
     /// A claim that is checked is malformed: its name.
     MalformedClaim(&'static str),
+    /// The token is longer than the verifier allows.
+    TooLong,
     /// The claims are not those of the type that was asked for, or can't be written.
     Json(String),
     /// The key can't be read, does not serve, or is a secret that others may know.
     Key(String),
-    /// An argument is not understood: the text is the library's.
+    /// The signature does not have a length of its algorithm.
+    Signing,
+    /// An argument is not understood: the text says which one.
     Argument(String),
     /// A set of keys can't be fetched. This is no verdict on a token.
     Fetch(String),
@@ -51,7 +55,9 @@ impl Error {
             status::INVALID_SIGNATURE => Error::Signature,
             status::INVALID_ALGORITHM_NAME | status::INVALID_ALGORITHM | status::MISSING_ALGORITHM => Error::Algorithm,
             status::UNSUPPORTED_ALGORITHM | status::INVALID_KEY_FORMAT | status::BAD_SET | status::BAD_KEY => Error::Key(text()),
-            status::BLANK_KEY => Error::Key("a secret is empty or has zeros alone, so that anyone can sign with it".to_string()),
+            status::BLANK_KEY | status::UNFIT_KEY | status::KEY_AS_SECRET => Error::Key(text()),
+            status::TOKEN_TOO_LONG => Error::TooLong,
+            status::SIGNING => Error::Signing,
             status::EXPIRED_SIGNATURE => Error::Expired,
             status::INVALID_ISSUER => Error::Issuer,
             status::INVALID_AUDIENCE => Error::Audience,
@@ -75,6 +81,14 @@ impl Error {
             _ => Error::Malformed(text()),
         }
     }
+
+    /// Returns the error of a status of a call that reads a key and no token.
+    pub(crate) fn from_key_status(status: u32) -> Error {
+        match Error::from_status(status) {
+            Error::Malformed(text) => Error::Key(text),
+            error => error,
+        }
+    }
 }
 
 impl fmt::Display for Error {
@@ -92,8 +106,10 @@ impl fmt::Display for Error {
             Error::Subject => f.write_str("the subject is another"),
             Error::MissingClaim(name) => write!(f, "the required claim {name} is missing"),
             Error::MalformedClaim(name) => write!(f, "the claim {name} is malformed"),
+            Error::TooLong => f.write_str("the token is too long"),
             Error::Json(text) => write!(f, "the claims do not fit their type: {text}"),
             Error::Key(text) => write!(f, "the key does not serve: {text}"),
+            Error::Signing => f.write_str("the signature does not have a length of its algorithm"),
             Error::Argument(text) => write!(f, "an argument is not understood: {text}"),
             Error::Fetch(text) => write!(f, "the set of keys can't be fetched: {text}"),
             Error::OutOfMemory => f.write_str("out of memory"),

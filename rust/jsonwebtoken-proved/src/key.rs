@@ -1,5 +1,6 @@
 use crate::calls::{self, Kind};
-use crate::{secret, Error};
+use crate::handle::Handle;
+use crate::{validation, Algorithm, Error};
 use std::fmt;
 
 /// A key that tokens are verified by.
@@ -16,35 +17,60 @@ impl DecodingKey {
     /// kind: a text that contains an SSH key or PEM, the JSON of a JSON Web Key or a set, a key or a certificate in DER, or base64 of
     /// any of these.
     pub fn from_secret(secret: &[u8]) -> Result<DecodingKey, Error> {
-        Ok(DecodingKey { kind: Kind::Secret, text: secret::checked(secret)? })
+        Ok(DecodingKey { kind: Kind::Secret, text: checked(secret)? })
     }
 
-    /// Returns a JSON Web Key of any kind as a key (RFC 7517 section 4). One that can't be read is [`Error::Key`], and so is a secret
-    /// that [`DecodingKey::from_secret`] refuses.
+    /// Returns a JSON Web Key of any kind as a key (RFC 7517 section 4). One that can't be read, or that verifies with no algorithm, is
+    /// [`Error::Key`], and so is a secret that [`DecodingKey::from_secret`] refuses.
     pub fn from_jwk(jwk: &str) -> Result<DecodingKey, Error> {
-        tried(Kind::Jwk, jwk)
+        usable(Kind::Jwk, jwk)
     }
 
-    /// Returns a JSON Web Key Set as a key (RFC 7517 section 5), of which a token names one by its `kid`. One that can't be read is
-    /// [`Error::Key`], and so is one with a secret that [`DecodingKey::from_secret`] refuses.
+    /// Returns a JSON Web Key Set as a key (RFC 7517 section 5), of which a token names one by its `kid`. One that can't be read, or of
+    /// which no key verifies with any algorithm, is [`Error::Key`], and so is one with a secret that [`DecodingKey::from_secret`] refuses.
     pub fn from_jwk_set(set: &str) -> Result<DecodingKey, Error> {
-        tried(Kind::Set, set)
+        usable(Kind::Set, set)
+    }
+
+    /// Returns a public key in PEM (RFC 7468) as a key: a SubjectPublicKeyInfo or an RSAPublicKey. Text before it is skipped. One that
+    /// can't be read, or that verifies with no algorithm, is [`Error::Key`].
+    pub fn from_pem(pem: &[u8]) -> Result<DecodingKey, Error> {
+        DecodingKey::from_jwk(&calls::key_from_pem(pem).map_err(Error::from_key_status)?)
+    }
+
+    /// Returns a public RSA key in PEM as a key, like [`DecodingKey::from_pem`]. A key of another kind is [`Error::Key`].
+    pub fn from_rsa_pem(pem: &[u8]) -> Result<DecodingKey, Error> {
+        DecodingKey::from_pem(pem)?.of_type("RSA")
+    }
+
+    /// Returns a public key on P-256 or P-384 in PEM as a key, like [`DecodingKey::from_pem`]. A key of another kind is [`Error::Key`].
+    pub fn from_ec_pem(pem: &[u8]) -> Result<DecodingKey, Error> {
+        DecodingKey::from_pem(pem)?.of_type("EC")
+    }
+
+    /// Returns a public Ed25519 key in PEM as a key, like [`DecodingKey::from_pem`]. A key of another kind is [`Error::Key`].
+    pub fn from_ed_pem(pem: &[u8]) -> Result<DecodingKey, Error> {
+        DecodingKey::from_pem(pem)?.of_type("OKP")
+    }
+
+    /// Returns this key, which is a JSON Web Key, if its `kty` is this one.
+    fn of_type(self, wanted: &str) -> Result<DecodingKey, Error> {
+        let (_, kty) = calls::member(&String::from_utf8_lossy(&self.text), "kty").map_err(Error::from_key_status)?;
+        if kty == wanted { Ok(self) } else { Err(Error::Key(format!("its kty is {kty}, and not {wanted}"))) }
     }
 }
 
-/// Returns a key that the library reads, unless anyone can sign for it. The library reads options and key before the token, which is
-/// empty here.
-fn tried(kind: Kind, text: &str) -> Result<DecodingKey, Error> {
-    calls::check(kind, text.as_bytes())?;
-    match calls::decode(kind, b"", text.as_bytes(), "{}", 0) {
-        Err(Error::Malformed(text)) if text != "InvalidToken" => Err(Error::Key(text)),
-        Err(Error::Malformed(_)) => {
-            secret::check_keys(text)?;
-            Ok(DecodingKey { kind, text: text.as_bytes().to_vec() })
-        }
-        Err(error) => Err(error),
-        Ok(_) => Err(Error::Key("it accepts an empty token".to_string())),
-    }
+/// Returns a secret, if it is one that others do not know.
+fn checked(secret: &[u8]) -> Result<Vec<u8>, Error> {
+    calls::check(Kind::Secret, secret).map_err(Error::from_key_status)?;
+    Ok(secret.to_vec())
+}
+
+/// Returns a key that the library makes a verifier of, with some algorithm.
+fn usable(kind: Kind, text: &str) -> Result<DecodingKey, Error> {
+    let (text, any) = (text.as_bytes(), format!("{{\"algorithms\":{}}}", validation::names(&Algorithm::ALL)));
+    calls::check(kind, text).and_then(|()| Handle::new(kind, text, &any, 0)).map_err(Error::from_key_status)?;
+    Ok(DecodingKey { kind, text: text.to_vec() })
 }
 
 impl fmt::Debug for DecodingKey {
@@ -62,12 +88,70 @@ pub struct EncodingKey {
 impl EncodingKey {
     /// Returns a secret as a key. One that [`DecodingKey::from_secret`] refuses is [`Error::Key`].
     pub fn from_secret(secret: &[u8]) -> Result<EncodingKey, Error> {
-        Ok(EncodingKey { secret: secret::checked(secret)? })
+        Ok(EncodingKey { secret: checked(secret)? })
     }
 }
 
 impl fmt::Debug for EncodingKey {
     fn fmt(&self, f: &mut fmt::Formatter<'_>) -> fmt::Result {
         f.write_str("EncodingKey([redacted])")
+    }
+}
+
+/// The hash of a thumbprint.
+#[derive(Clone, Copy, Debug, PartialEq, Eq)]
+pub enum ThumbprintHash {
+    /// SHA-256.
+    SHA256 = 256,
+    /// SHA-384.
+    SHA384 = 384,
+    /// SHA-512.
+    SHA512 = 512,
+}
+
+/// Returns the thumbprint of a JSON Web Key (RFC 7638). A key that can't be read, or of a kind that has none, is [`Error::Key`].
+pub fn thumbprint(jwk: &str, hash: ThumbprintHash) -> Result<String, Error> {
+    calls::thumbprint(jwk, hash as u32).map_err(Error::from_key_status)
+}
+
+#[cfg(test)]
+mod tests {
+    use crate::calls;
+    use crate::tests::file_of_repository;
+    use crate::{DecodingKey, EncodingKey, Error};
+
+    /// Returns the secret of a row, and whether it is refused.
+    fn secret(row: &str) -> (Vec<u8>, bool) {
+        let member = |name| calls::member(row, name).map(|it| it.1);
+        let byte = |at: usize, hex: &str| u8::from_str_radix(&hex[at..at + 2], 16).unwrap();
+        let bytes = |hex: String| (0..hex.len()).step_by(2).map(|at| byte(at, &hex)).collect();
+        let secret = member("text").map_or_else(|_| bytes(member("hex").unwrap()), String::into_bytes);
+        (secret, member("refused").unwrap() == "true")
+    }
+
+    fn base64url(bytes: &[u8]) -> String {
+        let digits = b"ABCDEFGHIJKLMNOPQRSTUVWXYZabcdefghijklmnopqrstuvwxyz0123456789-_";
+        let bit = |at: usize| bytes.get(at / 8).map_or(0, |it| it >> (7 - at % 8) & 1);
+        let digit = |at| digits[(at..at + 6).fold(0, |number, at| number << 1 | usize::from(bit(at)))] as char;
+        (0..bytes.len() * 8).step_by(6).map(digit).collect()
+    }
+
+    #[test]
+    fn texts_of_keys_are_no_secrets() {
+        let rows = file_of_repository("tests/secrets.jsonl");
+        let mut refusals = 0;
+        for row in rows.lines() {
+            let (secret, refused) = secret(row);
+            let jwk = format!(r#"{{"kty":"oct","kid":"a","k":"{}"}}"#, base64url(&secret));
+            let set = format!(r#"{{"keys":[{{"kty":"AKP","kid":"b"}},{jwk}]}}"#);
+            let made = [DecodingKey::from_secret(&secret), DecodingKey::from_jwk(&jwk), DecodingKey::from_jwk_set(&set)];
+            let made = made.map(|it| it.map(|_| ())).into_iter().chain([EncodingKey::from_secret(&secret).map(|_| ())]);
+            for it in made {
+                assert_eq!(matches!(it, Err(Error::Key(_))), refused, "{it:?}: {row}");
+                assert_eq!(it.is_ok(), !refused, "{it:?}: {row}");
+            }
+            refusals += usize::from(refused);
+        }
+        assert!(refusals > 50 && rows.lines().count() > refusals + 50, "{refusals}");
     }
 }

@@ -1,8 +1,7 @@
 //! A set of keys that is fetched, and fetched again as its keys rotate.
 
-use crate::calls::{self, Kind};
-use crate::{decode_header, decode_json, json, DecodingKey, Error, TokenData, Validation};
-use std::collections::HashMap;
+use crate::calls;
+use crate::{DecodingKey, Error, Refusal, Validation, Verified, Verifier};
 use std::fmt::{self, Display};
 use std::io::Read;
 use std::panic::{catch_unwind, AssertUnwindSafe};
@@ -12,6 +11,8 @@ use std::time::{Duration, Instant};
 
 /// How many bytes a set may have.
 const LARGEST: u64 = 1 << 20;
+/// How many verifiers of a set are kept.
+const MOST: usize = 16;
 
 /// When a [`KeySet`] is fetched. No time may be 0.
 #[derive(Clone, Copy, Debug, PartialEq, Eq)]
@@ -74,15 +75,26 @@ struct State {
 /// A set that is usable.
 struct Fetched {
     key: Arc<DecodingKey>,
-    /// The keys of each `kid`, as a set: a large one is not read for each token.
-    by_id: HashMap<String, DecodingKey>,
-    none: DecodingKey,
+    /// The verifiers by the last conditions that were asked for.
+    verifiers: Mutex<Vec<(Validation, Arc<Verifier>)>>,
 }
 
 impl Fetched {
-    /// Returns the keys that a token may name. The library decides among them.
-    fn named_by(&self, kid: Option<&str>) -> &DecodingKey {
-        kid.and_then(|it| self.by_id.get(it)).unwrap_or(&self.none)
+    fn verifier(&self, validation: &Validation) -> Result<Arc<Verifier>, Error> {
+        let mut verifiers = self.verifiers.lock().unwrap_or_else(PoisonError::into_inner);
+        if let Some((_, known)) = verifiers.iter().find(|it| it.0 == *validation) {
+            return Ok(Arc::clone(known));
+        }
+        let made = Arc::new(Verifier::new(&self.key, validation)?);
+        if verifiers.len() == MOST {
+            verifiers.remove(0);
+        }
+        verifiers.push((validation.clone(), Arc::clone(&made)));
+        Ok(made)
+    }
+
+    fn decode_json(&self, token: &str, validation: &Validation, now: u64) -> Result<Verified<String>, Refusal> {
+        self.verifier(validation)?.decode_json(token, now)
     }
 }
 
@@ -112,15 +124,19 @@ impl KeySet {
         Ok(set)
     }
 
-    /// Verifies a token like [`decode_json`](crate::decode_json), by the key of the set that it names.
-    pub fn decode_json(&self, token: &str, validation: &Validation, now: u64) -> Result<TokenData<String>, Error> {
-        self.verify(token, |key| decode_json(token, key, validation, now))
-    }
-
-    /// Verifies a token like [`decode`](crate::decode), by the key of the set that it names.
-    #[cfg(feature = "serde")]
-    pub fn decode<T: serde::de::DeserializeOwned>(&self, token: &str, validation: &Validation) -> Result<TokenData<T>, Error> {
-        self.verify(token, |key| crate::decode(token, key, validation))
+    /// Verifies a token like [`Verifier::decode_json`], by the key of the set that it names. Of the set and a `Validation` a verifier is
+    /// made once, as long as the set stays and at most 16 different ones are in use.
+    ///
+    /// If the set has no key of the token's `kid`, or none that serves an algorithm, a later set decides.
+    pub fn decode_json(&self, token: &str, validation: &Validation, now: u64) -> Result<Verified<String>, Refusal> {
+        let seen = self.fetched();
+        match seen.decode_json(token, validation, now) {
+            Err(refusal) if lacks_key(&refusal) && names_key(token) => {
+                let later = self.after(&seen);
+                if Arc::ptr_eq(&later, &seen) { Err(refusal) } else { later.decode_json(token, validation, now) }
+            }
+            answer => answer,
+        }
     }
 
     /// Returns the set as it is now.
@@ -136,18 +152,6 @@ impl KeySet {
     /// Returns why the last fetch gave no usable set, or `None` if it did.
     pub fn last_error(&self) -> Option<Error> {
         self.shared.lock().failure.clone()
-    }
-
-    /// Verifies a token by the set. If it has no key of the token's `kid`, a later set decides.
-    fn verify<T>(&self, token: &str, by: impl Fn(&DecodingKey) -> Result<T, Error>) -> Result<T, Error> {
-        let (seen, kid) = (self.fetched(), kid_of(token));
-        match by(seen.named_by(kid.as_deref())) {
-            Err(Error::UnknownKey) if kid.is_some() => {
-                let later = self.after(&seen);
-                if Arc::ptr_eq(&later, &seen) { Err(Error::UnknownKey) } else { by(later.named_by(kid.as_deref())) }
-            }
-            verified => verified,
-        }
     }
 
     /// Returns the set that follows one without the key of a token, if there is another, or if it is time to fetch one.
@@ -216,7 +220,10 @@ impl Shared {
         let mut state = self.lock();
         match found {
             Ok(fetched) => {
-                state.current = Some(Arc::new(fetched));
+                // the verifiers of the same set stay
+                if state.current.as_ref().map_or(true, |it| it.key != fetched.key) {
+                    state.current = Some(Arc::new(fetched));
+                }
                 state.failure = None;
             }
             Err(error) => state.failure = Some(error),
@@ -247,47 +254,25 @@ fn text_of<R: Read, E: Display>(fetch: &mut impl FnMut() -> Result<R, E>) -> Res
     String::from_utf8(text).map_err(|error| failed(&error))
 }
 
-/// Tokens of no claims whose signature has zeros alone, one for each family of algorithms.
-const UNSIGNED: [(&str, &str); 5] = [
-    ("HS256", "eyJhbGciOiJIUzI1NiJ9.e30.AAAA"),
-    ("RS256", "eyJhbGciOiJSUzI1NiJ9.e30.AAAA"),
-    ("ES256", "eyJhbGciOiJFUzI1NiJ9.e30.AAAA"),
-    ("ES384", "eyJhbGciOiJFUzM4NCJ9.e30.AAAA"),
-    ("EdDSA", "eyJhbGciOiJFZERTQSJ9.e30.AAAA"),
-];
-
-/// Returns a set, if one of its keys has a `kid`, and is one by which the library refuses no more than a signature.
+/// Returns a set, if one of its keys has a `kid`, and one verifies tokens.
 fn usable(text: &str) -> Result<Fetched, Error> {
     let key = Arc::new(DecodingKey::from_jwk_set(text)?);
-    let mut texts: HashMap<String, Vec<&[u8]>> = HashMap::new();
-    for (text, value) in json::keys_of(text.as_bytes()).unwrap_or_default() {
-        // of a repeated member the last one counts
-        if let Some(kid) = value.members("kid").last().and_then(|it| it.text()) {
-            texts.entry(kid.to_string()).or_default().push(text);
-        }
+    let (_, keys) = calls::member(text, "keys").map_err(Error::from_key_status)?;
+    // in compact JSON this is a member with a string, since quotation marks in strings are escaped
+    if !keys.contains("\"kid\":\"") {
+        return Err(Error::Key("no key of the set has a kid".to_string()));
     }
-    if !texts.values().flatten().any(|it| verifies(it)) {
-        return Err(Error::Key("the set has no key by which tokens are verified".to_string()));
-    }
-    let by_id = texts.into_iter().map(|(kid, it)| (kid, set_of(&it))).collect();
-    Ok(Fetched { key, by_id, none: set_of(&[]) })
+    Ok(Fetched { key, verifiers: Mutex::default() })
 }
 
-/// Returns whether a key is one by which the library refuses no more than a signature.
-fn verifies(key: &[u8]) -> bool {
-    UNSIGNED.iter().any(|(algorithm, token)| {
-        let options = format!("{{\"algorithms\":[\"{algorithm}\"]}}");
-        calls::decode(Kind::Jwk, token.as_bytes(), key, &options, 0) == Err(Error::Signature)
-    })
+/// Returns whether a token is refused since the set has no key for it.
+fn lacks_key(refusal: &Refusal) -> bool {
+    // without a test, it is the verifier that could not be made
+    refusal.error == Error::UnknownKey || (matches!(refusal.error, Error::Key(_)) && refusal.test == 0)
 }
 
-/// Returns the set of keys with these texts.
-fn set_of(keys: &[&[u8]]) -> DecodingKey {
-    DecodingKey { kind: Kind::Set, text: [&b"{\"keys\":["[..], &keys.join(&b","[..]), b"]}"].concat() }
-}
-
-/// Returns the `kid` of a token's header.
-fn kid_of(token: &str) -> Option<String> {
-    let header = json::read(decode_header(token).ok()?.as_bytes())?;
-    Some(header.members("kid").last()?.text()?.to_string())
+/// Returns whether a token's header has a `kid`.
+fn names_key(token: &str) -> bool {
+    let kid = calls::decode_header(token).and_then(|it| calls::member(&it, "kid"));
+    kid.map_or(false, |it| it.0 == calls::STRING)
 }

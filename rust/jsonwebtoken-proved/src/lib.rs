@@ -1,7 +1,8 @@
 //! JSON Web Tokens (RFC 7519), verified by a library whose contracts are proved, under names of the crate `jsonwebtoken`.
 //!
 //! All twelve algorithms of RFC 7518 and RFC 8037 for HMAC, RSA, P-256, P-384 and Ed25519 are verified, and HS256, HS384 and HS512 are
-//! signed. Moments are in whole seconds since 1970-01-01 00:00:00 UTC.
+//! signed; [`SigningInput`] takes signatures by any of the twelve that are made elsewhere. Times are in whole seconds since 1970-01-01
+//! 00:00:00 UTC.
 //!
 //! ```
 //! use jsonwebtoken_proved::{decode_json, encode_json, Algorithm, DecodingKey, EncodingKey, Header, Validation};
@@ -13,28 +14,35 @@
 //! # Ok::<(), jsonwebtoken_proved::Error>(())
 //! ```
 //!
-//! With the feature `serde`, `decode` and `encode` read and write claims of your own types, at the moment of the system's clock.
+//! A [`Verifier`] reads a key and a [`Validation`] once, and verifies many tokens; a [`KeySet`] fetches keys that rotate. With the feature
+//! `serde`, `decode` and `encode` read and write claims of your own types, at the time of the system's clock.
 #![warn(missing_docs)]
 #![deny(unsafe_op_in_unsafe_fn)]
 
 mod calls;
+mod declared;
 mod error;
+mod handle;
 mod json;
 mod key;
 mod keyset;
-mod secret;
+mod signature;
 mod status;
 #[cfg(feature = "serde")]
 mod typed;
 mod validation;
+mod verifier;
 
 pub use error::Error;
-pub use key::{DecodingKey, EncodingKey};
+pub use key::{thumbprint, DecodingKey, EncodingKey, ThumbprintHash};
 pub use keyset::{KeySet, Rotation};
+pub use signature::{decode_by_verdict, ecdsa_signature, signed_part, SignedPart, SigningInput, Verdict};
 #[cfg(feature = "serde")]
 pub use typed::{decode, encode};
 pub use validation::{Algorithm, Claim, Validation};
+pub use verifier::{Refusal, Verified, Verifier};
 
+use std::borrow::Cow;
 use std::time::{SystemTime, UNIX_EPOCH};
 
 /// A token that was verified.
@@ -62,34 +70,51 @@ impl Header {
     pub fn new(alg: Algorithm) -> Header {
         Header { alg, typ: Some("JWT".to_string()), kid: None }
     }
+}
 
-    fn to_json(&self) -> String {
+/// The header of a token that is to be signed: a [`Header`], or a JSON text with further members, such as `{"alg":"HS256","cty":"JWT"}`.
+pub trait ToHeader {
+    /// Returns the header as JSON.
+    fn to_header(&self) -> Cow<'_, str>;
+}
+
+impl ToHeader for Header {
+    fn to_header(&self) -> Cow<'_, str> {
         let mut members = vec![format!("\"alg\":\"{}\"", self.alg)];
         members.extend(self.kid.as_ref().map(|it| format!("\"kid\":{}", json::string(it))));
         members.extend(self.typ.as_ref().map(|it| format!("\"typ\":{}", json::string(it))));
-        format!("{{{}}}", members.join(","))
+        Cow::Owned(format!("{{{}}}", members.join(",")))
     }
 }
 
-/// Verifies a token at the moment `now`, in seconds since 1970-01-01 00:00:00 UTC, and returns its claims as compact JSON. Floats, and
+impl ToHeader for str {
+    fn to_header(&self) -> Cow<'_, str> {
+        Cow::Borrowed(self)
+    }
+}
+
+/// Verifies a token at the time `now`, in seconds since 1970-01-01 00:00:00 UTC, and returns its claims as compact JSON. Floats, and
 /// integers beyond 64 bits, are written as the nearest double.
+///
+/// A [`Verifier`] is made for this call, with its limit of 1 MiB and its errors; make one yourself for many tokens.
 pub fn decode_json(token: &str, key: &DecodingKey, validation: &Validation, now: u64) -> Result<TokenData<String>, Error> {
-    let claims = calls::decode(key.kind, token.as_bytes(), &key.text, &validation.options(), now)?;
-    Ok(TokenData { header: calls::decode_header(token.as_bytes())?, claims })
+    let claims = Verifier::new(key, validation)?.decode_json(token, now)?.claims;
+    Ok(TokenData { header: decode_header(token)?, claims })
 }
 
 /// Returns the header of a token, as compact JSON. Nothing is verified.
 pub fn decode_header(token: &str) -> Result<String, Error> {
-    calls::decode_header(token.as_bytes())
+    calls::decode_header(token).map_err(Error::from_status)
 }
 
-/// Returns the token of claims, which are JSON of an object, signed by HS256, HS384 or HS512. A claim that is a float is
-/// [`Error::Malformed`], and an algorithm of another family [`Error::Algorithm`].
-pub fn encode_json(header: &Header, claims: &str, key: &EncodingKey) -> Result<String, Error> {
-    calls::encode(&header.to_json(), claims, &key.secret)
+/// Returns the token of claims, which are JSON of an object, signed with HS256, HS384 or HS512. A claim that is a float is
+/// [`Error::Malformed`], an algorithm of another family [`Error::Algorithm`], and a text that is not a header, or not claims,
+/// [`Error::Argument`].
+pub fn encode_json(header: &(impl ToHeader + ?Sized), claims: &str, key: &EncodingKey) -> Result<String, Error> {
+    calls::encode(&header.to_header(), claims, &key.secret).map_err(Error::from_status)
 }
 
-/// Returns the moment by the system's clock, in seconds since 1970-01-01 00:00:00 UTC. A clock before that time is
+/// Returns the time of the system's clock, in seconds since 1970-01-01 00:00:00 UTC. A clock before that time is
 /// [`Error::ClockBeforeEpoch`].
 pub fn get_current_timestamp() -> Result<u64, Error> {
     seconds_of(SystemTime::now())

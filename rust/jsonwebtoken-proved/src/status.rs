@@ -61,6 +61,7 @@ statuses! {
     UNFIT_KEY = 110,
     TOKEN_TOO_LONG = 111,
     NO_MEMBER = 112,
+    KEY_AS_SECRET = 113,
 }
 
 #[cfg(test)]

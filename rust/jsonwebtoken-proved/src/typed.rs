@@ -1,19 +1,43 @@
 //! Claims of any type that serde reads and writes.
 
-use crate::{decode_json, encode_json, get_current_timestamp, DecodingKey, EncodingKey, Error, Header, TokenData, Validation};
+use crate::{decode_json, encode_json, get_current_timestamp, DecodingKey, EncodingKey, Error, KeySet, Refusal, ToHeader, TokenData};
+use crate::{Validation, Verified, Verifier};
 use serde::de::DeserializeOwned;
 use serde::Serialize;
 
-/// Verifies a token at the moment of the system's clock, and returns its claims. Claims that are accepted, and are not those of the
-/// type, are [`Error::Json`]. A clock before 1970-01-01 00:00:00 UTC is [`Error::ClockBeforeEpoch`].
-pub fn decode<T: DeserializeOwned>(token: &str, key: &DecodingKey, validation: &Validation) -> Result<TokenData<T>, Error> {
-    let data = decode_json(token, key, validation, get_current_timestamp()?)?;
-    let claims = serde_json::from_str(&data.claims).map_err(|error| Error::Json(error.to_string()))?;
-    Ok(TokenData { header: data.header, claims })
+fn read<T: DeserializeOwned>(claims: &str) -> Result<T, Error> {
+    serde_json::from_str(claims).map_err(|error| Error::Json(error.to_string()))
 }
 
-/// Returns the token of claims, signed by HS256, HS384 or HS512. Claims that can't be written are [`Error::Json`].
-pub fn encode<T: Serialize>(header: &Header, claims: &T, key: &EncodingKey) -> Result<String, Error> {
+fn typed<T: DeserializeOwned>(verified: &Verified<String>) -> Result<Verified<T>, Refusal> {
+    Ok(Verified { claims: read(&verified.claims)?, accepted_until: verified.accepted_until })
+}
+
+/// Verifies a token at the time of the system's clock, and returns its claims. Claims that are accepted, and are not those of the
+/// type, are [`Error::Json`]. A clock before 1970-01-01 00:00:00 UTC is [`Error::ClockBeforeEpoch`].
+///
+/// A [`Verifier`] is made for this call; make one yourself for many tokens.
+pub fn decode<T: DeserializeOwned>(token: &str, key: &DecodingKey, validation: &Validation) -> Result<TokenData<T>, Error> {
+    let data = decode_json(token, key, validation, get_current_timestamp()?)?;
+    Ok(TokenData { claims: read(&data.claims)?, header: data.header })
+}
+
+/// Returns the token of claims, signed with HS256, HS384 or HS512. Claims that can't be written are [`Error::Json`].
+pub fn encode<T: Serialize>(header: &(impl ToHeader + ?Sized), claims: &T, key: &EncodingKey) -> Result<String, Error> {
     let claims = serde_json::to_string(claims).map_err(|error| Error::Json(error.to_string()))?;
     encode_json(header, &claims, key)
+}
+
+impl Verifier {
+    /// Verifies a token at the time of the system's clock, like [`decode`].
+    pub fn decode<T: DeserializeOwned>(&self, token: &str) -> Result<Verified<T>, Refusal> {
+        typed(&self.decode_json(token, get_current_timestamp()?)?)
+    }
+}
+
+impl KeySet {
+    /// Verifies a token at the time of the system's clock, like [`decode`], by the key of the set that it names.
+    pub fn decode<T: DeserializeOwned>(&self, token: &str, validation: &Validation) -> Result<Verified<T>, Refusal> {
+        typed(&self.decode_json(token, validation, get_current_timestamp()?)?)
+    }
 }

@@ -1,11 +1,13 @@
-use crate::json;
+use crate::{json, Error};
 use std::fmt;
+use std::str::FromStr;
 
 /// The algorithms (RFC 7518 section 3.1, RFC 8037 section 3.1).
 #[derive(Clone, Copy, Debug, PartialEq, Eq, Hash)]
 pub enum Algorithm {
+    // the numbers are those of jwtproved.h
     /// HMAC with SHA-256.
-    HS256,
+    HS256 = 1,
     /// HMAC with SHA-384.
     HS384,
     /// HMAC with SHA-512.
@@ -30,11 +32,52 @@ pub enum Algorithm {
     EdDSA,
 }
 
+impl Algorithm {
+    /// All algorithms.
+    pub const ALL: [Algorithm; 12] = [
+        Algorithm::HS256,
+        Algorithm::HS384,
+        Algorithm::HS512,
+        Algorithm::RS256,
+        Algorithm::RS384,
+        Algorithm::RS512,
+        Algorithm::PS256,
+        Algorithm::PS384,
+        Algorithm::PS512,
+        Algorithm::ES256,
+        Algorithm::ES384,
+        Algorithm::EdDSA,
+    ];
+
+    pub(crate) fn number(self) -> u32 {
+        self as u32
+    }
+
+    pub(crate) fn from_number(number: u32) -> Option<Algorithm> {
+        Algorithm::ALL.into_iter().find(|it| it.number() == number)
+    }
+}
+
 impl fmt::Display for Algorithm {
     fn fmt(&self, f: &mut fmt::Formatter<'_>) -> fmt::Result {
         // the names of the variants are those of the algorithms
         fmt::Debug::fmt(self, f)
     }
+}
+
+/// Reads the name of an algorithm. Another name is [`Error::Argument`].
+impl FromStr for Algorithm {
+    type Err = Error;
+
+    fn from_str(name: &str) -> Result<Algorithm, Error> {
+        let found = Algorithm::ALL.into_iter().find(|it| it.to_string() == name);
+        found.ok_or_else(|| Error::Argument(format!("{name:?} is not an algorithm")))
+    }
+}
+
+/// Returns the names of algorithms, as JSON.
+pub(crate) fn names(algorithms: &[Algorithm]) -> String {
+    json::list(algorithms.iter().map(ToString::to_string))
 }
 
 /// A claim that can be required (RFC 7519 section 4.1).
@@ -64,6 +107,16 @@ impl Claim {
     }
 }
 
+/// Reads the name of a claim that can be required. Another name is [`Error::Argument`]: the library has no rule for that claim.
+impl FromStr for Claim {
+    type Err = Error;
+
+    fn from_str(name: &str) -> Result<Claim, Error> {
+        let found = [Claim::Exp, Claim::Nbf, Claim::Aud, Claim::Iss, Claim::Sub].into_iter().find(|it| it.name() == name);
+        found.ok_or_else(|| Error::Argument(format!("{name:?} is not one of exp, nbf, aud, iss and sub")))
+    }
+}
+
 /// The conditions on a token.
 #[derive(Clone, Debug, PartialEq, Eq)]
 pub struct Validation {
@@ -88,6 +141,8 @@ pub struct Validation {
     pub issuers: Option<Vec<String>>,
     /// The subject that the token has to name.
     pub subject: Option<String>,
+    /// The names that the header's `crit` may have (RFC 7515 section 4.1.11): none at first.
+    pub understood_crit: Vec<String>,
 }
 
 impl Validation {
@@ -105,7 +160,14 @@ impl Validation {
             audiences: None,
             issuers: None,
             subject: None,
+            understood_crit: Vec::new(),
         }
+    }
+
+    /// Accepts this algorithm, with the library's strict defaults: without leeway, a token is refused from the time of its `exp` on (RFC
+    /// 7519 section 4.1.4), and `nbf` is checked.
+    pub fn strict(algorithm: Algorithm) -> Validation {
+        Validation { leeway: 0, reject_tokens_expiring_in_less_than: 1, validate_nbf: true, ..Validation::new(algorithm) }
     }
 
     /// Accepts tokens for one of these audiences, and requires `aud`: a token that names none is
@@ -125,31 +187,53 @@ impl Validation {
         self.required = claims.to_vec();
     }
 
-    /// Returns the claims that have to be there: those that are required, and those that are asked for.
-    fn all_required(&self) -> Vec<Claim> {
-        let asked = [
-            (Claim::Aud, self.validate_aud && self.audiences.is_some()),
-            (Claim::Iss, self.issuers.is_some()),
-            (Claim::Sub, self.subject.is_some()),
-        ];
-        let asked = asked.into_iter().filter(|it| it.1).map(|it| it.0);
-        self.required.iter().copied().chain(asked).collect()
-    }
-
-    /// Returns the options of `jwtproved.h`, as JSON.
-    pub(crate) fn options(&self) -> String {
+    /// Returns the options of `jwtproved.h`, as JSON. All members with defaults are there; that it is strict makes the library require
+    /// each of aud, iss and sub that is there too.
+    pub(crate) fn options(&self) -> Result<String, Error> {
+        self.check()?;
+        let audiences = self.audiences.as_ref().filter(|_| self.validate_aud);
         let mut members = vec![
-            format!("\"algorithms\":{}", json::list(self.algorithms.iter().map(ToString::to_string))),
-            format!("\"required_spec_claims\":{}", json::list(self.all_required().into_iter().map(Claim::name))),
+            "\"strict\":true".to_string(),
+            format!("\"algorithms\":{}", names(&self.algorithms)),
+            format!("\"required_spec_claims\":{}", json::list(self.required.iter().map(|it| it.name()))),
             format!("\"leeway\":{}", self.leeway),
             format!("\"reject_tokens_expiring_in_less_than\":{}", self.reject_tokens_expiring_in_less_than),
             format!("\"validate_exp\":{}", self.validate_exp),
             format!("\"validate_nbf\":{}", self.validate_nbf),
             format!("\"validate_aud\":{}", self.validate_aud),
+            format!("\"understood_crit\":{}", json::list(&self.understood_crit)),
         ];
-        members.extend(self.audiences.as_ref().map(|it| format!("\"aud\":{}", json::list(it))));
+        members.extend(audiences.map(|it| format!("\"aud\":{}", json::list(it))));
         members.extend(self.issuers.as_ref().map(|it| format!("\"iss\":{}", json::list(it))));
         members.extend(self.subject.as_ref().map(|it| format!("\"sub\":{}", json::string(it))));
-        format!("{{{}}}", members.join(","))
+        Ok(format!("{{{}}}", members.join(",")))
+    }
+
+    /// Refuses empty lists, which could only be a slip.
+    fn check(&self) -> Result<(), Error> {
+        let lists = [
+            ("algorithms", self.algorithms.is_empty()),
+            ("audiences", self.audiences.as_ref().map_or(false, Vec::is_empty)),
+            ("issuers", self.issuers.as_ref().map_or(false, Vec::is_empty)),
+        ];
+        match lists.into_iter().find(|it| it.1) {
+            Some((name, _)) => Err(Error::Argument(format!("{name} is empty"))),
+            None => Ok(()),
+        }
+    }
+}
+
+#[cfg(test)]
+mod tests {
+    use super::Algorithm;
+
+    #[test]
+    fn the_numbers_are_those_of_the_header_file() {
+        let header = crate::tests::file_of_repository("include/jwtproved.h");
+        let (_, declared) = header.split_once("enum jwt_algorithm {").unwrap();
+        let (declared, _) = declared.split_once("};").unwrap();
+        let declared: Vec<&str> = declared.split(',').map(str::trim).collect();
+        let ours = Algorithm::ALL.map(|it| format!("JWT_{} = {}", it.to_string().to_uppercase(), it.number()));
+        assert_eq!(ours.to_vec(), declared);
     }
 }

@@ -224,7 +224,7 @@ fn verify(set: &KeySet, token: &str) -> Option<Error> {
     let begin = Instant::now();
     let mut validation = Validation::new(Algorithm::HS256);
     validation.leeway = 0;
-    let refusal = set.decode_json(token, &validation, NOW).err();
+    let refusal = set.decode_json(token, &validation, NOW).err().map(Error::from);
     assert!(begin.elapsed() < SHORTLY + Duration::from_secs(3), "{:?}", begin.elapsed());
     refusal
 }

@@ -1,7 +1,9 @@
 //! Claims of a type, and the tokens of all algorithms, which Python's cryptography signed.
 #![cfg(feature = "serde")]
 
-use jsonwebtoken_proved::{decode, decode_json, encode, Algorithm, DecodingKey, EncodingKey, Error, Header, Validation};
+use jsonwebtoken_proved::{
+    decode, decode_json, encode, Algorithm, DecodingKey, EncodingKey, Error, Header, KeySet, Rotation, Validation, Verifier,
+};
 use serde::{Deserialize, Serialize};
 use serde_json::Value;
 
@@ -24,22 +26,25 @@ fn claims_of_a_type() {
     assert!(matches!(decode::<Session>(&other, &key, &Validation::new(Algorithm::HS256)), Err(Error::Json(_))));
     let expired = encode(&Header::new(Algorithm::HS256), &Session { exp: 1, ..session }, &issuing).unwrap();
     assert_eq!(decode::<Session>(&expired, &key, &Validation::new(Algorithm::HS256)).unwrap_err(), Error::Expired);
+    let verifier = Verifier::new(&key, &Validation::new(Algorithm::HS256)).unwrap();
+    let verified = verifier.decode::<Session>(&token).unwrap();
+    assert_eq!((verified.claims.sub.as_str(), verified.accepted_until), ("b@b.com", 4102444860));
+    let refusal = verifier.decode::<Session>(&other).unwrap_err();
+    assert!(matches!(refusal.error, Error::Json(_)));
+    assert_eq!(refusal.failed_test(), None);
+    let refusal = verifier.decode::<Session>(&expired).unwrap_err();
+    assert_eq!((refusal.failed_test().as_deref(), refusal.error), (Some("ClaimRulesHold"), Error::Expired));
 }
 
-const ALL: [Algorithm; 12] = [
-    Algorithm::HS256,
-    Algorithm::HS384,
-    Algorithm::HS512,
-    Algorithm::RS256,
-    Algorithm::RS384,
-    Algorithm::RS512,
-    Algorithm::PS256,
-    Algorithm::PS384,
-    Algorithm::PS512,
-    Algorithm::ES256,
-    Algorithm::ES384,
-    Algorithm::EdDSA,
-];
+#[test]
+fn claims_of_a_type_by_a_set() {
+    let set = r#"{"keys":[{"kty":"oct","kid":"a","k":"MDEyMzQ1Njc4OWFiY2RlZjAxMjM0NTY3ODlhYmNkZWY"}]}"#;
+    let keys = KeySet::new(move || Ok::<_, Error>(set.as_bytes()), Rotation::default()).unwrap();
+    let claims = serde_json::json!({"sub": "b@b.com", "exp": 4102444800u64});
+    let token = encode(r#"{"alg":"HS256","kid":"a"}"#, &claims, &EncodingKey::from_secret(SECRET).unwrap()).unwrap();
+    let session = keys.decode::<Session>(&token, &Validation::new(Algorithm::HS256)).unwrap().claims;
+    assert_eq!(session, Session { sub: "b@b.com".to_string(), roles: None, exp: 4102444800 });
+}
 
 /// The rows, unless this is a copy of the crate without the repository.
 fn rows() -> Vec<Value> {
@@ -60,12 +65,12 @@ fn all_algorithms() {
             Some("decode") if row["key"]["jwk"].is_object() => DecodingKey::from_jwk(&row["key"]["jwk"].to_string()),
             _ => continue,
         };
-        let algorithm = ALL.into_iter().find(|it| wanted["header"]["alg"] == it.to_string()).unwrap();
+        let algorithm = Algorithm::ALL.into_iter().find(|it| wanted["header"]["alg"] == it.to_string()).unwrap();
         let (token, now) = (row["token"].as_str().unwrap(), row["now"].as_u64().unwrap());
         let data = decode_json(token, &key.unwrap(), &Validation::new(algorithm), now).unwrap();
         assert_eq!(serde_json::from_str::<Value>(&data.claims).unwrap(), wanted["claims"]);
         assert_eq!(serde_json::from_str::<Value>(&data.header).unwrap(), wanted["header"]);
         seen.push(algorithm);
     }
-    assert!(ALL.iter().all(|it| seen.contains(it)), "{seen:?}");
+    assert!(Algorithm::ALL.iter().all(|it| seen.contains(it)), "{seen:?}");
 }
