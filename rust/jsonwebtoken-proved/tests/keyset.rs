@@ -206,6 +206,7 @@ fn misbehaving() -> Vec<(&'static str, Answer)> {
         ("serves an empty set", says(r#"{"keys":[]}"#)),
         ("serves keys that are no list", says(r#"{"keys":{"a":1}}"#)),
         ("serves a key without a kid", says(set.replace(r#""kid":"b","#, ""))),
+        ("serves a kid in a text", says(set.replace(r#""kid":"b","#, r#""x":"{\"kid\":\"b\",","#))),
         ("serves keys of an unknown kind", says(r#"{"keys":[{"kty":"x","kid":"b"},{"kty":"EC","crv":"P-521","kid":"b","x":"AA","y":"AA"}]}"#)),
         ("serves a point that is on no curve", says(r#"{"keys":[{"kty":"EC","crv":"P-256","kid":"b","x":"AQAB","y":"AQAB"}]}"#)),
         ("serves a secret that is empty", says(r#"{"keys":[{"kty":"oct","kid":"b","k":""}]}"#)),
@@ -434,6 +435,33 @@ fn keys_of_one_kid() {
     for (it, refusal) in wanted {
         assert_eq!(verify(&set, &it), refusal);
         assert_eq!(decode_json(&it, &whole, &Validation::new(Algorithm::HS256), NOW).err(), refusal);
+    }
+}
+
+/// A set whose keys are for other algorithms has no key for a token: a later set may have one.
+#[test]
+fn keys_for_other_algorithms() {
+    let curve = r#"{"keys":[{"kty":"EC","kid":"a","crv":"P-256","x":"f83OJ3D2xF1Bg8vub9tLe1gHMzV76e8Tus9uPHvRVEU","y":"x_FEzRu9m36HLN_tue659LNpXW6pCyStikYjKIWI5a0"}]}"#;
+    let server = Server::new(says(curve));
+    let set = KeySet::new(server.fetch(LONG), rotation()).unwrap();
+    assert!(matches!(verify(&set, &token(None, "a")), Some(Error::Key(_))));
+    assert_eq!(server.fetches(), 1);
+    server.answers(says(set_of(&["a"])));
+    accepts(&set, "a");
+    assert_eq!((server.fetches(), set.last_error()), (2, None));
+}
+
+#[test]
+fn many_conditions() {
+    let set = KeySet::new(|| Ok::<_, Error>(Cursor::new(set_of(&["a"]))), rotation()).unwrap();
+    for _ in 0..2 {
+        for leeway in 0..40 {
+            let mut validation = Validation::new(Algorithm::HS256);
+            validation.leeway = leeway;
+            let (exp, token) = (1_700_000_001, token(Some("a"), "a"));
+            assert_eq!(set.decode_json(&token, &validation, NOW).unwrap().accepted_until, exp + leeway);
+            assert_eq!(set.decode_json(&token, &validation, exp + leeway + 1).unwrap_err().error, Error::Expired);
+        }
     }
 }
 
