@@ -5,7 +5,7 @@ use std::fmt;
 #[derive(Clone, Debug, PartialEq, Eq)]
 #[non_exhaustive]
 pub enum Error {
-    /// The token, its header or its payload can't be read. The text is the library's, as `InvalidToken`.
+    /// The token, its header or its payload can't be read. The text is the library's, such as `InvalidToken`.
     Malformed(String),
     /// The signature is not that of the token by the key.
     Signature,

@@ -125,13 +125,13 @@ pub struct Validation {
     /// The claims that have to be there, `exp` alone at first. A claim that `audiences`, `issuers` or `subject` asks for has to be
     /// there too.
     pub required: Vec<Claim>,
-    /// By how many seconds clocks may differ: 60 at first.
+    /// By how many seconds clocks may differ: 60 at first, and 0 by [`Validation::strict`].
     pub leeway: u64,
-    /// In how many seconds a token must not have expired yet: 0 at first.
+    /// In how many seconds a token must not have expired yet: 0 at first, and 1 by [`Validation::strict`].
     pub reject_tokens_expiring_in_less_than: u64,
     /// Whether `exp` is checked: at first it is.
     pub validate_exp: bool,
-    /// Whether `nbf` is checked: at first it is not.
+    /// Whether `nbf` is checked: at first it is not, and it is by [`Validation::strict`].
     pub validate_nbf: bool,
     /// Whether `aud` is checked: at first it is, so that a token that names one is refused if no audience is accepted.
     pub validate_aud: bool,
@@ -225,7 +225,38 @@ impl Validation {
 
 #[cfg(test)]
 mod tests {
-    use super::Algorithm;
+    use super::{Algorithm, Validation};
+    use crate::calls::{encode, Kind};
+    use crate::handle::Handle;
+    use crate::Error;
+
+    /// RFC 7519 sections 4.1.4 and 4.1.5, and that claims that are asked for are required.
+    #[test]
+    fn strict_defaults_are_those_of_the_library() {
+        const SECRET: &[u8] = b"0123456789abcdef0123456789abcdef";
+        let mut validation = Validation::strict(Algorithm::HS256);
+        validation.set_audience(&["web"]);
+        validation.set_issuer(&["i"]);
+        let ours = validation.options().unwrap();
+        let of_the_library = r#"{"algorithms":["HS256"],"strict":true,"aud":["web"],"iss":["i"]}"#;
+        let rows = [
+            (r#"{"aud":"web","exp":2000,"iss":"i"}"#, 1999, None),
+            (r#"{"aud":"web","exp":2000,"iss":"i"}"#, 2000, Some(Error::Expired)),
+            (r#"{"aud":"web","exp":2000,"iss":"i","nbf":1000}"#, 1000, None),
+            (r#"{"aud":"web","exp":2000,"iss":"i","nbf":1000}"#, 999, Some(Error::NotYetValid)),
+            (r#"{"aud":"web","iss":"i"}"#, 0, Some(Error::MissingClaim("exp"))),
+            (r#"{"exp":2000,"iss":"i"}"#, 0, Some(Error::MissingClaim("aud"))),
+            (r#"{"aud":"web","exp":2000}"#, 0, Some(Error::MissingClaim("iss"))),
+            (r#"{"aud":"app","exp":2000,"iss":"i"}"#, 0, Some(Error::Audience)),
+        ];
+        for (claims, now, wanted) in rows {
+            let token = encode(r#"{"alg":"HS256"}"#, claims, SECRET).unwrap();
+            for options in [ours.as_str(), of_the_library] {
+                let answer = Handle::new(Kind::Secret, SECRET, options, 0).unwrap().decode(&token, now);
+                assert_eq!(answer.err().map(|it| Error::from_status(it.status)), wanted, "{claims} {now} {options}");
+            }
+        }
+    }
 
     #[test]
     fn the_numbers_are_those_of_the_header_file() {
