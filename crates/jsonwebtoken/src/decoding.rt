@@ -132,17 +132,6 @@ pub fn decode<P: CryptoProvider, T: Claims>(
     decode_noting(alloc, provider, token, key, validation, now, &mut failed)
 }
 
-/// Returns the header of a token, and notes the test that fails.
-fn decode_header_noting(alloc: Global, token: &[u8], failed: &mut Test) -> Result<Header>
-    ensures { Step (header_call token.now) header_order whole (HasHeader (header_call token.now))
-        (tested failed.new result) }
-{
-    match token_parts(token) {
-        Ok(parts) => read_header_noting(alloc, parts.header, failed),
-        Err(refusal) => Err(note(refusal, failed)),
-    }
-}
-
 /// Returns the header of a token in its compact form. Nothing is verified: neither the payload nor
 /// the signature is read, except to find the dots before them.
 ///
@@ -151,6 +140,11 @@ pub fn decode_header(alloc: Global, token: &[u8]) -> Result<Header>
     ensures { Decides (token_tests (header_call token.now)) header_order
         (HasHeader (header_call token.now)) result }
 {
+    let parts = match token_parts(token) {
+        Ok(parts) => parts,
+        Err(refusal) => return Err(refusal.error),
+    };
     let mut failed = Test::HasThreeParts;
-    decode_header_noting(alloc, token, &mut failed)
+    let header = read_header_noting(alloc, parts.header, &mut failed)?;
+    Ok(header)
 }

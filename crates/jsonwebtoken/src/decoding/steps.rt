@@ -1,7 +1,7 @@
 //! The tests of one condition, and the steps that the calls that read tokens share. Each makes some
 //! tests of an order that stand one after the other, and a refusal carries the one that fails.
 
-ghost use Rattle.std.specs.Prelude.{◌≡◌, ◌⊎◌, ◌↔◌, ◌++◌, ◌∷◌, ℕ, List, Some, None, IfOk, IfSome, IfNone, IsSome, Contains, [], All};
+ghost use Rattle.std.specs.Prelude.{◌≡◌, ◌⊎◌, ◌↔◌, ◌++◌, ◌∷◌, ℕ, List, Some, None, IfOk, IfErr, IfSome, IfNone, IsSome, Contains, [], All};
 ghost use Rattle.serde_json.specs.Data.{Data};
 ghost use Rattle.serde_json.specs.Find.{as_object};
 ghost use Rattle.serde_json.specs.View.{view};
@@ -9,6 +9,8 @@ ghost use Rattle.jwt_base.specs.Algorithm.{family_of};
 ghost use Rattle.jwt_base.specs.Base64Url.{IsPart};
 ghost use Rattle.jwt_base.specs.JsonText.{IsJson};
 ghost use Rattle.jwt_base.specs.Kind as kind;
+ghost use Rattle.jwt_base.specs.KindOf.{IsMemory};
+ghost use Rattle.jwt_header.specs.Header.{new_header};
 ghost use Rattle.jwt_validation.specs.OptionsOf.{options_of};
 ghost use Rattle.jsonwebtoken.specs.Calls.{decoding};
 ghost use Rattle.jsonwebtoken.specs.private_clauses.Refused.{tested};
@@ -24,7 +26,7 @@ use jwt_base::errors::{ErrorKind, Result};
 use jwt_base::json::Claims;
 use jwt_base::serialization::{json_value, part_bytes};
 use jwt_base::text::Text;
-use jwt_header::Header;
+use jwt_header::{Extras, Header};
 use jwt_keys::decoding_key::DecodingKey;
 use jwt_keys::provider::{CryptoProvider, JwtVerifier};
 use jwt_validation::{Validation, validate};
@@ -139,16 +141,43 @@ pub(crate) fn read_json(alloc: Global, test: Test, bytes: &[u8]) -> Result<Value
     with_test(test, json_value(alloc, bytes))
 }
 
+/// Returns the header with the algorithm and the type `JWT` alone, as [`Header::new`] does. A header
+/// is large, so it is made in the result here, and not moved from that of another call.
+fn known_header(alloc: Global, algorithm: Algorithm) -> Result<Header>
+    ensures ok { IfOk result (λ header. header ≡ new_header algorithm) }
+    ensures err { IfErr result IsMemory }
+{
+    let typ = Text::from_str(alloc, "JWT")?;
+    Ok(Header {
+        alg: algorithm,
+        typ: Some(typ),
+        cty: None,
+        jku: None,
+        jwk: None,
+        kid: None,
+        x5u: None,
+        x5t: None,
+        x5t_s256: None,
+        url: None,
+        nonce: None,
+        x5c: None,
+        crit: None,
+        enc: None,
+        zip: None,
+        extras: Extras::new(alloc),
+    })
+}
+
 /// Returns the header that a header part stands for, and notes the test that fails. Four parts are
-/// known by their texts, without being read. A header is large: it is made in the result, and the
-/// test is noted beside it, so that no header is moved into a result of another type.
+/// known by their texts, without being read. The test is noted beside the result, so that no header
+/// is moved into a result of another type.
 pub(crate) fn read_header_noting(alloc: Global, part: &[u8], failed: &mut Test) -> Result<Header>
     ensures { Step bare header_tests (with_header_part part.now) ShowsHeader
         (tested failed.new result) }
 {
     if let Some(algorithm) = known_algorithm(part) {
         *failed = Test::HeaderReads;
-        return Header::new(alloc, algorithm);
+        return known_header(alloc, algorithm);
     }
     *failed = Test::HeaderIsPart;
     let bytes = part_bytes(alloc, part)?;

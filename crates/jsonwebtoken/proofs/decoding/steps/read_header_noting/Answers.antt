@@ -10,8 +10,8 @@ use Rattle.jsonwebtoken.proofs.decoding.steps.read_header_noting.Goals as goal
 pub returns-in-Some : goal.returns-in-Some
 returns-in-Some c =
     let u = c.in-Some.ensures in
-    last_noting bare header_tests (with_header_part c.args.part.now) ShowsHeader {Q = λ e. ⊥} HeaderReads c.new.result c.new.ensures.ok
-    (IfErr-weaker c.new.result _ _ (λ e memory. inl memory) c.new.ensures.err)
+    last_noting bare header_tests (with_header_part c.args.part.now) ShowsHeader {Q = λ e. ⊥} HeaderReads c.known_header.result c.known_header.ensures.ok
+    (IfErr-weaker c.known_header.result _ _ (λ e memory. inl memory) c.known_header.ensures.err)
     (λ h is. (record no_contents { header_bytes = u.bytes; header_value = u.value; header = new_header c.in-Some.algorithm }, (u.is_part, (u.is_json, (u.reads, tt))), sym is))
     (λ e none. absurd none)
 
