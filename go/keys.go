@@ -35,14 +35,6 @@ func newKey(kind keyKind, text []byte) Key {
 	return Key{kind: kind, bytes: func() []byte { return text }}
 }
 
-// latest returns the set that was fetched last, or nil if the key stays as it is.
-func (key Key) latest() *fetched {
-	if key.set == nil {
-		return nil
-	}
-	return key.set().current.Load()
-}
-
 // Format does not show the key, whatever the verb.
 func (key Key) Format(state fmt.State, verb rune) {
 	text := key.String()

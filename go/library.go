@@ -4,10 +4,11 @@ package jwt
 #cgo pkg-config: jwtproved
 #include <jwtproved.h>
 
-// The token is not copied.
-static uint32_t decode(struct jwt_verifier *verifier, _GoString_ token, uint64_t now, uint8_t *buffer, size_t size, size_t *len,
-                       uint64_t *last, uint32_t *test) {
-	return jwt_verifier_decode(verifier, (const uint8_t *)_GoStringPtr(token), _GoStringLen(token), now, buffer, size, len, last, test);
+// The token is not copied. The verifier is of a type without pointers, so that Go does not look for its own in what it points to.
+static uint32_t decode(uint8_t *verifier, _GoString_ token, uint64_t now, uint8_t *buffer, size_t size, size_t *len, uint64_t *last,
+                       uint32_t *test) {
+	return jwt_verifier_decode((struct jwt_verifier *)verifier, (const uint8_t *)_GoStringPtr(token), _GoStringLen(token), now, buffer,
+	                           size, len, last, test);
 }
 */
 import "C"
@@ -120,10 +121,11 @@ func (it *handle) decode(token string, now uint64) ([]byte, error) {
 	if size > C.JWT_TOKEN_LIMIT {
 		size = C.JWT_TOKEN_LIMIT
 	}
+	verifier := (*C.uint8_t)(unsafe.Pointer(&it.verifier))
 	for {
 		claims := make([]byte, size)
 		at := (*C.uint8_t)(unsafe.Pointer(&claims[0]))
-		status := C.decode(&it.verifier, token, C.uint64_t(now), at, C.size_t(size), &it.length, &it.last, &it.test)
+		status := C.decode(verifier, token, C.uint64_t(now), at, C.size_t(size), &it.length, &it.last, &it.test)
 		switch status {
 		case C.JWT_OK:
 			return claims[:it.length], nil

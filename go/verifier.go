@@ -16,6 +16,7 @@ type verifying struct {
 	options []byte
 	now     func() time.Time
 	key     Key
+	set     *KeySet    // that of the key, or nil
 	mutex   sync.Mutex // one goroutine makes handles for all others
 	current atomic.Pointer[handlesOf]
 }
@@ -68,6 +69,9 @@ func NewVerifier(key Key, algorithms []string, with ...Option) (*Verifier, error
 		return nil, keyError("there is none")
 	}
 	made := &verifying{options: text, now: asked.now, key: key}
+	if key.set != nil {
+		made.set = key.set()
+	}
 	switch it := made.latest(); {
 	case errors.Is(it.err, ErrOption):
 		return nil, unknownAlgorithm(algorithms)
@@ -115,10 +119,10 @@ func (verifier *Verifier) Parse(token string) (*Token, error) {
 func (made *verifying) verify(token string) ([]byte, error) {
 	by := made.latest()
 	claims, err := made.verifyBy(by, token)
-	if err == nil || made.key.set == nil || !mayHaveLaterKey(token, err) {
+	if err == nil || made.set == nil || !mayHaveLaterKey(token, err) {
 		return claims, err
 	}
-	if later := made.key.set().after(by.set); later == by.set {
+	if later := made.set.after(by.set); later == by.set {
 		return nil, err
 	}
 	return made.verifyBy(made.latest(), token)
@@ -152,20 +156,19 @@ func mayHaveLaterKey(token string, err error) bool {
 
 // latest returns the handles for the last set that was fetched, or for a key that stays.
 func (made *verifying) latest() *handlesOf {
-	if it := made.current.Load(); it != nil && it.set == made.key.latest() {
+	if it := made.current.Load(); it != nil && (made.set == nil || it.set == made.set.current.Load()) {
 		return it
 	}
 	made.mutex.Lock()
 	defer made.mutex.Unlock()
-	set := made.key.latest()
-	if it := made.current.Load(); it != nil && it.set == set {
-		return it
+	it, key := &handlesOf{}, made.key
+	if made.set != nil {
+		it.set = made.set.current.Load()
+		key = it.set.key
 	}
-	key := made.key
-	if set != nil {
-		key = set.key
+	if last := made.current.Load(); last != nil && last.set == it.set {
+		return last
 	}
-	it := &handlesOf{set: set}
 	if it.handles, it.err = newHandles(key, made.options); !errors.Is(it.err, ErrOutOfMemory) {
 		made.current.Store(it)
 	}
