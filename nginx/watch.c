@@ -10,8 +10,8 @@
 #include <sys/time.h>
 #include <unistd.h>
 
-typedef uint32_t decode(const uint8_t *, size_t, const uint8_t *, size_t, const uint8_t *, size_t, uint64_t, uint8_t *, size_t,
-                        size_t *);
+typedef uint32_t decode(struct jwt_verifier *, const uint8_t *, size_t, uint64_t, uint8_t *, size_t, size_t *, uint64_t *,
+                        uint32_t *);
 typedef uint32_t check(const uint8_t *, size_t);
 
 static ssize_t
@@ -45,12 +45,12 @@ gettimeofday(struct timeval *restrict now, void *restrict zone)
 
 /* The library's own call: it is loaded with the module, so that this file does not see it by itself. */
 static void *
-behind(const char *name, int is_counted)
+behind(const char *name)
 {
     char   call = '.';
     void  *library = dlopen("libjwtproved.so.0", RTLD_NOW | RTLD_NOLOAD);
 
-    if (library == NULL || (is_counted && with_file(CALLS, O_WRONLY | O_APPEND | O_CREAT, &call, 1) != 1)) {
+    if (library == NULL || with_file(CALLS, O_WRONLY | O_APPEND | O_CREAT, &call, 1) != 1) {
         abort();
     }
 
@@ -59,29 +59,19 @@ behind(const char *name, int is_counted)
 
 
 uint32_t
-jwt_decode_set(const uint8_t *token, size_t token_len, const uint8_t *set, size_t set_len, const uint8_t *options,
-               size_t options_len, uint64_t now, uint8_t *buffer, size_t buffer_len, size_t *len)
+jwt_verifier_decode(struct jwt_verifier *verifier, const uint8_t *token, size_t token_len, uint64_t now, uint8_t *buffer,
+                    size_t buffer_len, size_t *len, uint64_t *last, uint32_t *test)
 {
-    decode  *found = behind("jwt_decode_set", token_len > 0);
+    decode  *found = behind("jwt_verifier_decode");
 
-    return found(token, token_len, set, set_len, options, options_len, now, buffer, buffer_len, len);
-}
-
-
-uint32_t
-jwt_decode_key(const uint8_t *token, size_t token_len, const uint8_t *key, size_t key_len, const uint8_t *options,
-               size_t options_len, uint64_t now, uint8_t *buffer, size_t buffer_len, size_t *len)
-{
-    decode  *found = behind("jwt_decode_key", token_len > 0);
-
-    return found(token, token_len, key, key_len, options, options_len, now, buffer, buffer_len, len);
+    return found(verifier, token, token_len, now, buffer, buffer_len, len, last, test);
 }
 
 
 uint32_t
 jwt_check_set(const uint8_t *set, size_t set_len)
 {
-    check  *found = behind("jwt_check_set", 1);
+    check  *found = behind("jwt_check_set");
 
     return found(set, set_len);
 }
@@ -90,7 +80,7 @@ jwt_check_set(const uint8_t *set, size_t set_len)
 uint32_t
 jwt_check_key(const uint8_t *key, size_t key_len)
 {
-    check  *found = behind("jwt_check_key", 1);
+    check  *found = behind("jwt_check_key");
 
     return found(key, key_len);
 }

@@ -1,0 +1,352 @@
+#include "ngx_http_jwt.h"
+
+
+/* room for the text of a status or of a test */
+#define NGX_HTTP_JWT_TEXT  64
+
+#define NGX_HTTP_JWT_LETTERS                                                 \
+    "abcdefghijklmnopqrstuvwxyzABCDEFGHIJKLMNOPQRSTUVWXYZ0123456789_"
+
+
+/* Marks a context among the cleanups of a pool; there is nothing to free. */
+static void
+ngx_http_jwt_cleanup(void *data)
+{
+}
+
+
+/* Adds a context, which stays in the pool after an internal redirect. */
+ngx_http_jwt_ctx_t *
+ngx_http_jwt_add_ctx(ngx_http_request_t *r)
+{
+    ngx_pool_cleanup_t  *cln;
+    ngx_http_jwt_ctx_t  *ctx;
+
+    cln = ngx_pool_cleanup_add(r->pool, sizeof(ngx_http_jwt_ctx_t));
+    if (cln == NULL) {
+        return NULL;
+    }
+
+    ctx = cln->data;
+    ngx_memzero(ctx, sizeof(ngx_http_jwt_ctx_t));
+    ctx->request = r;
+    cln->handler = ngx_http_jwt_cleanup;
+    ngx_http_set_ctx(r, ctx, ngx_http_jwt_module);
+
+    return ctx;
+}
+
+
+/* Returns the last context that an internal redirect took from a request. */
+static ngx_http_jwt_ctx_t *
+ngx_http_jwt_kept_ctx(ngx_http_request_t *r)
+{
+    ngx_pool_cleanup_t  *cln;
+    ngx_http_jwt_ctx_t  *ctx;
+
+    if (!r->internal && !r->filter_finalize) {
+        return NULL;
+    }
+
+    /* subrequests have the same pool */
+    for (cln = r->pool->cleanup; cln != NULL; cln = cln->next) {
+        ctx = cln->data;
+
+        if (cln->handler == ngx_http_jwt_cleanup && ctx->request == r) {
+            return ctx;
+        }
+    }
+
+    return NULL;
+}
+
+
+/*
+ * Whether a subrequest without a context goes on in the content phase of the
+ * request that made it (NGX_HTTP_SUBREQUEST_CLONE), with which it is verified.
+ */
+ngx_uint_t
+ngx_http_jwt_is_clone(ngx_http_request_t *r)
+{
+    ngx_http_core_main_conf_t  *cmcf;
+
+    cmcf = ngx_http_get_module_main_conf(r, ngx_http_core_module);
+
+    return cmcf->phase_engine.handlers[r->phase_handler].checker
+           == ngx_http_core_content_phase;
+}
+
+
+/*
+ * Returns the context of the variables, or NULL.  In a location that asks for
+ * a token it is that of the token that was verified there.  Elsewhere it is
+ * that of before an internal redirect, or of the request that made a
+ * subrequest.  After the answer is sent, as for the log, it is in each
+ * location that of before an internal redirect.
+ */
+static ngx_http_jwt_ctx_t *
+ngx_http_jwt_find_ctx(ngx_http_request_t *r)
+{
+    ngx_http_jwt_ctx_t       *ctx;
+    ngx_http_jwt_loc_conf_t  *jlcf;
+
+    for ( ;; ) {
+        ctx = ngx_http_get_module_ctx(r, ngx_http_jwt_module);
+        if (ctx != NULL) {
+            return ctx;
+        }
+
+        jlcf = ngx_http_get_module_loc_conf(r, ngx_http_jwt_module);
+
+        ctx = ngx_http_jwt_kept_ctx(r);
+        if (ctx != NULL) {
+            return !jlcf->enabled || r->header_sent ? ctx : NULL;
+        }
+
+        if (r == r->main || (jlcf->enabled && !ngx_http_jwt_is_clone(r))) {
+            return NULL;
+        }
+
+        r = r->parent;
+    }
+}
+
+
+/*
+ * Replaces a string by JSON if it has a control character, so that it ends no
+ * line of a header or of a log, and if it begins with a quotation mark, so
+ * that two strings never become one value.  The kid of a refused token always
+ * has the escapes of JSON, and no quotation marks.
+ */
+static ngx_int_t
+ngx_http_jwt_escape(ngx_pool_t *pool, ngx_str_t *value, ngx_uint_t is_kid)
+{
+    ngx_str_t  json;
+
+    if (!is_kid && ngx_http_jwt_is_plain(value)
+        && (value->len == 0 || value->data[0] != '"'))
+    {
+        return NGX_OK;
+    }
+
+    if (ngx_http_jwt_quote(pool, value, 1, &json) != NGX_OK) {
+        return NGX_ERROR;
+    }
+
+    value->data = json.data + 1 + is_kid;
+    value->len = json.len - 2 * (1 + is_kid);
+    return NGX_OK;
+}
+
+
+/*
+ * Reads a member of an object.  NGX_DECLINED stands for none, and for a number
+ * that is not an integer of 64 bits, for which the library writes the nearest
+ * double: that of other numbers too.
+ */
+static ngx_int_t
+ngx_http_jwt_read_member(ngx_pool_t *pool, ngx_str_t *object, ngx_str_t *name,
+    ngx_uint_t is_kid, ngx_str_t *value)
+{
+    u_char    *buffer;
+    uint32_t   type, status;
+
+    /* {"":VALUE}, which is what jwt_check_numbers reads */
+    buffer = ngx_pnalloc(pool, object->len + 5);
+    if (buffer == NULL) {
+        return NGX_ERROR;
+    }
+
+    value->data = ngx_cpymem(buffer, "{\"\":", 4);
+    status = jwt_member(object->data, object->len, name->data, name->len,
+                        &type, value->data, object->len, &value->len);
+
+    if (status == JWT_OK && type == JWT_STRING) {
+        return ngx_http_jwt_escape(pool, value, is_kid);
+    }
+
+    if (status == JWT_OK) {
+        value->data[value->len] = '}';
+        status = jwt_check_numbers(buffer, value->len + 5);
+    }
+
+    if (status == JWT_NO_MEMBER || status == JWT_JSON) {
+        return NGX_DECLINED;
+    }
+
+    return status == JWT_OK ? NGX_OK : NGX_ERROR;
+}
+
+
+static ngx_int_t
+ngx_http_jwt_set_value(ngx_http_variable_value_t *v, u_char *data, size_t len)
+{
+    v->data = data;
+    v->len = len;
+    v->valid = 1;
+    v->no_cacheable = 0;
+    v->not_found = 0;
+
+    return NGX_OK;
+}
+
+
+/*
+ * jwt_claim_NAME, jwt_header_NAME and jwt_refused_kid: data is such a text,
+ * also that of a variable of auth_jwt_claim.
+ */
+static ngx_int_t
+ngx_http_jwt_member_variable(ngx_http_request_t *r,
+    ngx_http_variable_value_t *v, uintptr_t data)
+{
+    ngx_int_t            rc;
+    ngx_str_t            name = *(ngx_str_t *) data, object, value;
+    ngx_uint_t           is_kid = name.data[4] == 'r';
+    ngx_http_jwt_ctx_t  *ctx = ngx_http_jwt_find_ctx(r);
+
+    v->not_found = 1;
+
+    if (ctx == NULL || ctx->token.len == 0
+        || is_kid == (ctx->status == JWT_OK))
+    {
+        return NGX_OK;
+    }
+
+    object = ctx->claims;
+
+    if (name.data[4] != 'c'
+        && ngx_http_jwt_write(jwt_decode_header, r->pool, &ctx->token, &object)
+           != JWT_OK)
+    {
+        return is_kid ? NGX_OK : NGX_ERROR;
+    }
+
+    value.data = ngx_strlchr(name.data + 4, name.data + name.len, '_') + 1;
+    name.len -= value.data - name.data;
+    name.data = value.data;
+
+    rc = ngx_http_jwt_read_member(r->pool, &object, &name, is_kid, &value);
+    if (rc != NGX_OK) {
+        return rc == NGX_DECLINED ? NGX_OK : NGX_ERROR;
+    }
+
+    return ngx_http_jwt_set_value(v, value.data, value.len);
+}
+
+
+/* jwt_status and jwt_failed_test: data is the name. */
+static ngx_int_t
+ngx_http_jwt_text_variable(ngx_http_request_t *r,
+    ngx_http_variable_value_t *v, uintptr_t data)
+{
+    size_t               len;
+    u_char              *text;
+    ngx_uint_t           is_test = ((ngx_str_t *) data)->data[4] == 'f';
+    ngx_http_jwt_ctx_t  *ctx = ngx_http_jwt_find_ctx(r);
+
+    v->not_found = 1;
+
+    if (ctx == NULL || (is_test && ctx->test == 0)) {
+        return NGX_OK;
+    }
+
+    if (ctx->token.len == 0) {
+        return ngx_http_jwt_set_value(v, (u_char *) "NoToken", 7);
+    }
+
+    text = ngx_pnalloc(r->pool, NGX_HTTP_JWT_TEXT);
+
+    if (text == NULL
+        || (is_test ? jwt_test_text(ctx->test, text, NGX_HTTP_JWT_TEXT, &len)
+            : jwt_status_text(ctx->status, text, NGX_HTTP_JWT_TEXT, &len))
+           != JWT_OK)
+    {
+        return NGX_ERROR;
+    }
+
+    return ngx_http_jwt_set_value(v, text, len);
+}
+
+
+static ngx_http_variable_t  ngx_http_jwt_variables[] = {
+
+    { ngx_string("jwt_status"), NULL, ngx_http_jwt_text_variable, 0,
+      NGX_HTTP_VAR_NOCACHEABLE, 0 },
+
+    { ngx_string("jwt_failed_test"), NULL, ngx_http_jwt_text_variable, 0,
+      NGX_HTTP_VAR_NOCACHEABLE, 0 },
+
+    { ngx_string("jwt_refused_kid"), NULL, ngx_http_jwt_member_variable, 0,
+      NGX_HTTP_VAR_NOCACHEABLE, 0 },
+
+    { ngx_string("jwt_claim_"), NULL, ngx_http_jwt_member_variable, 0,
+      NGX_HTTP_VAR_NOCACHEABLE|NGX_HTTP_VAR_PREFIX, 0 },
+
+    { ngx_string("jwt_header_"), NULL, ngx_http_jwt_member_variable, 0,
+      NGX_HTTP_VAR_NOCACHEABLE|NGX_HTTP_VAR_PREFIX, 0 },
+
+      ngx_http_null_variable
+};
+
+
+ngx_int_t
+ngx_http_jwt_add_variables(ngx_conf_t *cf)
+{
+    ngx_http_variable_t  *var, *v;
+
+    for (v = ngx_http_jwt_variables; v->name.len; v++) {
+        var = ngx_http_add_variable(cf, &v->name, v->flags);
+        if (var == NULL) {
+            return NGX_ERROR;
+        }
+
+        var->get_handler = v->get_handler;
+        var->data = (uintptr_t) &v->name;
+    }
+
+    return NGX_OK;
+}
+
+
+/* Binds a variable to the claim of a name, in which capitals count. */
+char *
+ngx_http_jwt_claim(ngx_conf_t *cf, ngx_command_t *cmd, void *conf)
+{
+    ngx_str_t            *value = cf->args->elts, *name;
+    ngx_http_variable_t  *var;
+
+    value[1].data++;
+    value[1].len--;
+
+    if (value[1].data[-1] != '$' || value[1].len == 0
+        || strspn((char *) value[1].data, NGX_HTTP_JWT_LETTERS)
+           != value[1].len)
+    {
+        return "takes $variable, of letters, digits and _, as its first "
+               "argument";
+    }
+
+    if (value[2].len == 0 || !ngx_http_jwt_is_plain(&value[2])) {
+        return "takes the name of a claim as its second argument: UTF-8 "
+               "without control characters, and not empty";
+    }
+
+    var = ngx_http_add_variable(cf, &value[1], NGX_HTTP_VAR_NOCACHEABLE);
+    name = ngx_palloc(cf->pool, sizeof(ngx_str_t) + 10 + value[2].len);
+    if (var == NULL || name == NULL) {
+        return NGX_CONF_ERROR;
+    }
+
+    if (var->get_handler != NULL) {
+        return "has a variable that another directive sets";
+    }
+
+    name->len = 10 + value[2].len;
+    name->data = (u_char *) (name + 1);
+    ngx_snprintf(name->data, name->len, "jwt_claim_%V", &value[2]);
+
+    var->get_handler = ngx_http_jwt_member_variable;
+    var->data = (uintptr_t) name;
+
+    return NGX_CONF_OK;
+}
