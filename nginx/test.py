@@ -347,6 +347,7 @@ def refused(server):
         ("a header that is no JSON", "YQ.e30.YQ", "HeaderIsJson", ""),
         ("an unknown key", signed(PASS, kid="c"), "KeyIsFound", "c"),
         ("an odd kid", signed(PASS, kid=odd), "KeyIsFound", '\\" 200 OK \\"\\\\\\r\\n\\u0001 caf\u00e9'),
+        ("a kid with quotation marks", signed(PASS, kid='a" "b\\'), "KeyIsFound", 'a\\" \\"b\\\\'),
         ("another algorithm", signed(PASS, digest="sha384", alg="HS384"), "AlgorithmIsListed", "a"),
         ("another signature", signed(PASS, b"x" * 32), "SignatureIsAccepted", "a"),
         ("a payload that is no object", signed([1]), "ClaimsAreAnObject", "a"),
