@@ -322,13 +322,12 @@ ngx_http_jwt_claim(ngx_conf_t *cf, ngx_command_t *cmd, void *conf)
         || strspn((char *) value[1].data, NGX_HTTP_JWT_LETTERS)
            != value[1].len)
     {
-        return "takes $variable, of letters, digits and _, as its first "
-               "argument";
+        return "takes $variable, of letters, digits and _, first";
     }
 
     if (value[2].len == 0 || !ngx_http_jwt_is_plain(&value[2])) {
-        return "takes the name of a claim as its second argument: UTF-8 "
-               "without control characters, and not empty";
+        return "takes the name of a claim second: UTF-8 without control "
+               "characters, and not empty";
     }
 
     var = ngx_http_add_variable(cf, &value[1], NGX_HTTP_VAR_NOCACHEABLE);
