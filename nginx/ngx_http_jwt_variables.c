@@ -343,7 +343,6 @@ ngx_http_jwt_claim(ngx_conf_t *cf, ngx_command_t *cmd, void *conf)
     name->len = 10 + value[2].len;
     name->data = (u_char *) (name + 1);
     ngx_snprintf(name->data, name->len, "jwt_claim_%V", &value[2]);
-
     var->get_handler = ngx_http_jwt_member_variable;
     var->data = (uintptr_t) name;
 
