@@ -1,29 +1,23 @@
-"""Verifies the tokens of RFC 7515 appendices A.2 and A.3 and of RFC 8037 appendix A.4, by `cryptography`'s signatures.
-The last line counts."""
+"""Verifies the tokens of RFC 7515 appendices A.2 and A.3, whose signatures `cryptography` checks, such as with keys that are kept in an
+HSM. The last line counts."""
 import base64
 
 from cryptography.exceptions import InvalidSignature
 from cryptography.hazmat.primitives import hashes
-from cryptography.hazmat.primitives.asymmetric import ec, ed25519, padding, rsa, utils
+from cryptography.hazmat.primitives.asymmetric import ec, padding, rsa, utils
 
-import jwt
+import jwtproved as jwt
 
 PAYLOAD = "eyJpc3MiOiJqb2UiLA0KICJleHAiOjEzMDA4MTkzODAsDQogImh0dHA6Ly9leGFtcGxlLmNvbS9pc19yb290Ijp0cnVlfQ"
 CLAIMS = {"iss": "joe", "exp": 1300819380, "http://example.com/is_root": True}
 RS256 = f"eyJhbGciOiJSUzI1NiJ9.{PAYLOAD}.cC4hiUPoj9Eetdgtv3hF80EGrhuB__dzERat0XF9g2VtQgr9PJbu3XOiZj5RZmh7AAuHIm4Bh-0Qc_lF5YKt_O8W2Fp5jujGbds9uJdbF9CUAr7t1dnZcAcQjbKBYNX4BAynRFdiuB--f_nZLgrnbyTyWzO75vRK5h6xBArLIARNPvkSjtQBMHlb1L07Qe7K0GarZRmB_eSN9383LcOLn6_dO--xi12jzDwusC-eOkHWEsqtFZESc6BfI7noOPqvhJ1phCnvWh6IeYI2w9QOYEUipUTI8np6LbgGY9Fs98rqVt5AXLIhWkWywlVmtVrBp0igcN_IoypGlUPQGe77Rw"
 ES256 = f"eyJhbGciOiJFUzI1NiJ9.{PAYLOAD}.DtEhU3ljbEg8L38VWAfUAqOyKAM6-Xx-F4GawxaepmXFCgfTjDxw5djxLa8ISlSApmWQxfKTUJqPP3-Kg6NU1Q"
-EDDSA = "eyJhbGciOiJFZERTQSJ9.RXhhbXBsZSBvZiBFZDI1NTE5IHNpZ25pbmc.hgyY0il_MGCjP0JzlnLWG1PPOt7-09PGcvMg3AIbQR6dWbhijcNR4ki4iylGjg5BhVsPt9g7sVvpAr_MuM0KAg"
 N = "ofgWCuLjybRlzo0tZWJjNiuSfb4p4fAkd_wWJcyQoTbji9k0l8W26mPddxHmfHQp-Vaw-4qPCJrcS2mJPMEzP1Pt0Bm4d4QlL-yRT-SFd2lZS-pCgNMsD1W_YpRPEwOWvG6b32690r2jZ47soMZo9wGzjb_7OMg0LOL-bSf63kpaSHSXndS5z5rexMdbBYUsLA9e-KXBdQOS-UTo7WTBEMa2R2CapHg665xsmtdVMTBQY4uDZlxvb3qCo5ZwKh9kG4LT6_I5IhlJH7aGhyxXFvUK-DWNmoudF8NAco9_h9iaGNj8q2ethFkMLs91kzk2PAcDTW9gb54h4FRWyuXpoQ"
 X, Y = "f83OJ3D2xF1Bg8vub9tLe1gHMzV76e8Tus9uPHvRVEU", "x_FEzRu9m36HLN_tue659LNpXW6pCyStikYjKIWI5a0"
-ED25519 = "11qYAYKxCrfVS_7TyWQHOg7hcvPapiMlrwIaaPcHURo"
-
-
-def unpart(text):
-    return base64.urlsafe_b64decode(text + "=" * (-len(text) % 4))
 
 
 def number(text):
-    return int.from_bytes(unpart(text), "big")
+    return int.from_bytes(base64.urlsafe_b64decode(text + "=" * (-len(text) % 4)), "big")
 
 
 def by_rsa(part):
@@ -38,12 +32,8 @@ def by_curve(part):
     key.verify(signature, part.message, ec.ECDSA(hashes.SHA256()))
 
 
-def by_edwards(part):
-    ed25519.Ed25519PublicKey.from_public_bytes(unpart(ED25519)).verify(part.signature, part.message)
-
-
-def answer(token, algorithm, verify, now=1300819380):
-    """Returns the claims or the refusal's text. The key is for one algorithm, which the token's must be."""
+def answer(token, algorithm, verify, now=1300819379):
+    """Returns the claims, or the name of the exception. The key is for one algorithm, which the token's must be."""
     part = jwt.signed_part(token)
     try:
         verify(part)
@@ -51,31 +41,17 @@ def answer(token, algorithm, verify, now=1300819380):
     except InvalidSignature:
         verdict = False
     try:
-        return jwt.decode_by_verdict(token, part._replace(algorithm=algorithm), verdict, now=now, algorithms=[algorithm])
-    except jwt.Refused as refused:
-        return str(refused)
-
-
-def mixed_up():
-    """Returns the result for a token with a verdict on another one."""
-    part = jwt.signed_part(ES256)
-    by_curve(part)
-    try:
-        return jwt.decode_by_verdict(ES256.replace(PAYLOAD, "e30"), part, True, now=0, algorithms=["ES256"])
-    except jwt.Refused as refused:
-        return str(refused)
+        return jwt.decode_by_verdict(token, part._replace(algorithm=algorithm), verdict, [algorithm], now=now)
+    except jwt.InvalidTokenError as error:
+        return type(error).__name__
 
 
 results = [
     answer(RS256, "RS256", by_rsa) == CLAIMS,
     answer(ES256, "ES256", by_curve) == CLAIMS,
-    # its payload is not JSON, which is tested once the signature is accepted
-    answer(EDDSA, "EdDSA", by_edwards) == "JSON error",
-    answer(EDDSA.replace("hgyY", "hgyZ"), "EdDSA", by_edwards) == "InvalidSignature",
-    answer(RS256, "RS256", by_rsa, now=1300819441) == "ExpiredSignature",
-    answer(RS256, "PS256", by_rsa) == "InvalidAlgorithm",
-    answer(ES256.replace(PAYLOAD, "e30"), "ES256", by_curve) == "InvalidSignature",
-    mixed_up() == "InvalidSignature",
+    answer(RS256, "RS256", by_rsa, now=1300819380) == "ExpiredSignatureError",
+    answer(RS256, "PS256", by_rsa) == "InvalidAlgorithmError",
+    answer(ES256.replace(PAYLOAD, "e30"), "ES256", by_curve) == "InvalidSignatureError",
 ]
-print(f"{sum(results)} tokens by RSA and curves from Python, {results.count(False)} failed")
+print(f"{sum(results)} tokens with RSA and curves from Python, {results.count(False)} failed")
 raise SystemExit(not all(results))

@@ -1,6 +1,6 @@
 """Builds the wheel (PEP 517), with the shared library in it, which tools/prove library proves and builds if it has changed.
 
-With Python's headers and a C compiler, the call that most programs make is compiled too (_fast.c); without, ctypes makes it.
+With Python's headers and a C compiler, the calls that verify are compiled too (_fast.c); without, ctypes makes them.
 """
 import base64
 import glob
@@ -44,7 +44,8 @@ def _fast():
     with tempfile.TemporaryDirectory() as scratch:
         made = f"{scratch}/_fast.so"
         # the stable interface of Python 3.11, which later versions load too
-        words = [compiler, "-O2", "-shared", "-fPIC", "-DPy_LIMITED_API=0x030b0000", f"-I{include}", f"{HERE}/{PACKAGE}/_fast.c", "-o", made]
+        words = [compiler, "-O2", "-shared", "-fPIC", "-DPy_LIMITED_API=0x030b0000", f"-I{include}", f"-I{TOP}/include"]
+        words += [f"{HERE}/{PACKAGE}/_fast.c", "-o", made]
         try:
             subprocess.run(words, check=True)
         except (OSError, subprocess.CalledProcessError):

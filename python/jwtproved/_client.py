@@ -4,11 +4,13 @@ import math
 import re
 import threading
 import time
-from typing import TYPE_CHECKING, Any, Dict, List, Mapping, Optional, Tuple
+from collections.abc import Mapping
+from typing import TYPE_CHECKING, Any
 from urllib.parse import urlsplit
 
 from ._api import get_unverified_header
-from ._keys import PyJWK, PyJWKSet, unknown
+from ._keys import PyJWK, PyJWKSet
+from ._refusals import unknown
 from ._rules import plain, wrong_type
 from .exceptions import PyJWKClientConnectionError, PyJWKClientError, PyJWTError
 
@@ -41,7 +43,7 @@ def _checked_uri(uri: Any) -> str:
     return uri
 
 
-def _checked_headers(headers: Any) -> Dict[str, str]:
+def _checked_headers(headers: Any) -> dict[str, str]:
     if headers is None:
         return {}
     if not isinstance(headers, Mapping):
@@ -82,14 +84,14 @@ class _Sets:
     def __init__(self, lifespan: float) -> None:
         self._lifespan = lifespan
         self._until = -math.inf
-        self.last: Optional[PyJWKSet] = None
+        self.last: PyJWKSet | None = None
 
     def put(self, found: PyJWKSet) -> None:
-        # a set by which no token is verified takes the place of no other
+        # a set that verifies no token replaces no other
         if self.last is None or found._signing:
             self.last, self._until = found, _clock() + self._lifespan
 
-    def get(self) -> Optional[PyJWKSet]:
+    def get(self) -> PyJWKSet | None:
         """Returns the set if it is fresh."""
         return self.last if _clock() < self._until else None
 
@@ -100,7 +102,7 @@ class _Keys:
     def __init__(self, lifespan: float, largest: int) -> None:
         self._lifespan, self._largest = lifespan, largest
         self._lock = threading.Lock()
-        self._found: Dict[str, Tuple[float, PyJWK]] = {}
+        self._found: dict[str, tuple[float, PyJWK]] = {}
 
     def put(self, kid: str, key: PyJWK) -> None:
         with self._lock:
@@ -109,7 +111,7 @@ class _Keys:
             while len(self._found) > self._largest:
                 del self._found[next(iter(self._found))]
 
-    def get(self, kid: str) -> Optional[PyJWK]:
+    def get(self, kid: str) -> PyJWK | None:
         with self._lock:
             until, key = self._found.pop(kid, (-math.inf, None))
             if key is None or _clock() >= until:
@@ -117,7 +119,7 @@ class _Keys:
             self._found[kid] = until, key
             return key
 
-    def renew(self, keys: Dict[str, PyJWK]) -> None:
+    def renew(self, keys: dict[str, PyJWK]) -> None:
         """Takes over the keys of a later set, and drops those that it does not have."""
         with self._lock:
             self._found = {kid: (until, keys[kid]) for kid, (until, _) in self._found.items() if kid in keys}
@@ -140,9 +142,9 @@ class PyJWKClient:
         max_cached_keys: int = 16,
         cache_jwk_set: bool = True,
         lifespan: float = 300,
-        headers: Optional[Mapping[str, str]] = None,
+        headers: Mapping[str, str] | None = None,
         timeout: float = 30,
-        ssl_context: Optional[Any] = None,
+        ssl_context: Any | None = None,
     ) -> None:
         for name, value in (("cache_keys", cache_keys), ("cache_jwk_set", cache_jwk_set)):
             if not isinstance(value, bool):
@@ -161,7 +163,7 @@ class PyJWKClient:
         # a set that is kept has its keys
         self._keys = _Keys(lifespan, max_cached_keys) if cache_keys and not cache_jwk_set else None
         self._lock = threading.Lock()
-        self._under_way: "Optional[Future[PyJWKSet]]" = None
+        self._under_way: "Future[PyJWKSet] | None" = None
         # before these times no set is fetched for an unknown kid, or in the place of one that is not fresh
         self._refetch_from = self._renew_from = -math.inf
 
@@ -185,7 +187,7 @@ class PyJWKClient:
             return found
         return self._fetched() if kept.last is None else self._renewed(kept, kept.last)
 
-    def get_signing_keys(self, refresh: bool = False) -> List[PyJWK]:
+    def get_signing_keys(self, refresh: bool = False) -> list[PyJWK]:
         """Returns the keys of the set that have a `kid`, and whose `use` is `sig` or missing. Raises PyJWKClientError if none has."""
         found = self.get_jwk_set(refresh)._signing
         if not found:
@@ -211,7 +213,7 @@ class PyJWKClient:
         return self.get_signing_key(get_unverified_header(token).get("kid"))  # type: ignore[arg-type]
 
     @staticmethod
-    def match_kid(signing_keys: List[PyJWK], kid: str) -> Optional[PyJWK]:
+    def match_kid(signing_keys: list[PyJWK], kid: str) -> PyJWK | None:
         """Returns the first of these keys with this id."""
         return next((it for it in signing_keys if it.key_id == kid), None)
 
@@ -284,7 +286,7 @@ class PyJWKClient:
             self._end(under_way, None)
             raise PyJWKClientConnectionError('Fail to fetch data from the url, err: "timed out"') from None
 
-    def _end(self, under_way: "Future[PyJWKSet]", found: Optional[PyJWKSet]) -> None:
+    def _end(self, under_way: "Future[PyJWKSet]", found: PyJWKSet | None) -> None:
         with self._lock:
             if self._under_way is under_way:
                 self._under_way = None

@@ -5,7 +5,7 @@ import threading
 import urllib.error
 import urllib.request
 from concurrent.futures import Future
-from typing import Any, Dict, List
+from typing import Any
 from urllib.parse import urlsplit
 
 from .exceptions import PyJWKClientConnectionError
@@ -19,7 +19,7 @@ class _Exchange:
 
     def __init__(self) -> None:
         self._lock = threading.Lock()
-        self._sockets: List[socket.socket] = []
+        self._sockets: list[socket.socket] = []
         self._is_over = False
 
     def keep(self, opened: socket.socket) -> None:
@@ -108,7 +108,7 @@ def _whole(response: Any) -> bytes:
     return text
 
 
-def body(uri: str, headers: Dict[str, str], timeout: float, context: Any) -> bytes:
+def body(uri: str, headers: dict[str, str], timeout: float, context: Any) -> bytes:
     """Returns the body of the answer, or raises PyJWKClientConnectionError, at the latest after the timeout, in seconds."""
     exchange = _Exchange()
     found: "Future[bytes]" = Future()

@@ -1,200 +1,343 @@
 /*
- * The commonest call of the package without ctypes: claims of a token by a secret. A token that is refused, and arguments that are
- * not a text and a secret, are left to _api.py, which says why. The module holds the interpreter's lock while it verifies.
+ * Handles of one verifier, as _handles.py has them, without ctypes. Each is made, shared and freed with the interpreter's lock held;
+ * a call that verifies takes one out of the idle ones, so that none is in two calls at once when the lock is released.
  */
-#define _GNU_SOURCE
 #define PY_SSIZE_T_CLEAN
 #include <Python.h>
+#include <dlfcn.h>
+#include <jwtproved.h>
 #include <stdint.h>
 #include <string.h>
 
-/* The room for claims; longer ones are left to _api.py. */
+/* The room for claims on the stack. */
 #define ROOM 4096
-/* The longest secret; longer ones are left to _api.py. */
-#define LONGEST 1024
+/* From this length of a token on the lock is released also for a secret, as hashlib does; below, a switch of threads takes longer. */
+#define LONG_TOKEN 2048
+/* The idle handles that are kept; further ones are freed. */
+#define IDLE 8
 
-/* jwt_decode_hmac of jwtproved.h */
-typedef uint32_t decode_hmac(const uint8_t *token, size_t token_len, const uint8_t *secret, size_t secret_len,
-                             const uint8_t *options, size_t options_len, uint64_t now, uint8_t *room, size_t room_len, size_t *len);
+/* The library, and the exception for its refusals. */
+struct state {
+    __typeof__(&jwt_verifier_secret) make_of_secret, make_of_key, make_of_set;
+    __typeof__(&jwt_verifier_share) share;
+    __typeof__(&jwt_verifier_decode) decode;
+    __typeof__(&jwt_verifier_free) free;
+    PyObject *refusal;
+};
 
-static decode_hmac *verify;
-static PyObject *read_json;
+typedef struct {
+    PyObject_HEAD
+    struct state *state;
+    struct jwt_verifier first;
+    struct jwt_verifier idle[IDLE];
+    size_t idle_count;
+    int is_of_secret;
+} Handles;
 
-/* Tells the bytes of a text or of bytes; any other object has none. */
-static int
-bytes_of(PyObject *object, const uint8_t **bytes, Py_ssize_t *len)
+/* Raises MemoryError or Refusal(status, test), for a status other than JWT_OK. */
+static void
+refuse(const struct state *state, uint32_t status, uint32_t test)
 {
-    char *found;
+    PyObject *error;
 
-    if (PyUnicode_CheckExact(object)) {
-        *bytes = (const uint8_t *)PyUnicode_AsUTF8AndSize(object, len);
-        PyErr_Clear();
-        return *bytes != NULL;
+    if (status == JWT_OUT_OF_MEMORY) {
+        PyErr_NoMemory();
+        return;
     }
-    if (PyBytes_CheckExact(object) && PyBytes_AsStringAndSize(object, &found, len) == 0) {
-        *bytes = (const uint8_t *)found;
-        return 1;
+    error = PyObject_CallFunction(state->refusal, "II", (unsigned)status, (unsigned)test);
+    if (error != NULL) {
+        PyErr_SetObject(state->refusal, error);
+        Py_DECREF(error);
     }
-    PyErr_Clear();
-    return 0;
 }
 
-/* Whether these bytes may be the text of a key: if they name SSH or PEM, or begin like JSON or DER. _secrets.py decides. */
-static int
-may_be_key(const uint8_t *bytes, size_t len)
+static __typeof__(&jwt_verifier_secret)
+make_of(const struct state *state, const char *kind)
 {
-    static const char *const names[] = { "ssh-", "ecdsa-sha2-nistp", "-cert-v01@openssh.com", "---- BEGIN ", "-----BEGIN " };
-    size_t place, name;
-
-    /* each of the names has a hyphen */
-    if (memchr(bytes, '-', len) != NULL) {
-        for (name = 0; name < sizeof names / sizeof *names; name++) {
-            if (memmem(bytes, len, names[name], strlen(names[name])) != NULL) {
-                return 1;
-            }
-        }
+    if (strcmp(kind, "secret") == 0) {
+        return state->make_of_secret;
     }
-    /* a SEQUENCE whose length has several bytes, or is that of the bytes after it */
-    if (len > 1 && bytes[0] == 0x30 && (bytes[1] >= 0x80 || bytes[1] == len - 2)) {
-        return 1;
-    }
-    /* white space and a byte order mark may precede JSON */
-    for (place = 0; place < len && memchr(" \t\r\n\xef\xbb\xbf", bytes[place], 7) != NULL; place++) {
-    }
-    return place < len && bytes[place] == '{';
+    return strcmp(kind, "key") == 0 ? state->make_of_key : state->make_of_set;
 }
 
-/* Returns the value of a digit of base64 or base64url; 64 for padding and white space, and 65 for any other byte. */
-static unsigned
-digit_value(uint8_t digit)
-{
-    if (digit >= 'A' && digit <= 'Z') {
-        return digit - 'A';
-    }
-    if (digit >= 'a' && digit <= 'z') {
-        return digit - 'a' + 26;
-    }
-    if (digit >= '0' && digit <= '9') {
-        return digit - '0' + 52;
-    }
-    if (digit == '+' || digit == '-') {
-        return 62;
-    }
-    if (digit == '/' || digit == '_') {
-        return 63;
-    }
-    return memchr("= \t\r\n", digit, 5) != NULL ? 64 : 65;
-}
-
-/* Whether these bytes may be the text of a key in base64 or base64url. */
-static int
-may_be_base64_of_key(const uint8_t *bytes, size_t len)
-{
-    uint8_t decoded[LONGEST];
-    size_t place, written = 0;
-    unsigned value, bits = 0, count = 0;
-
-    for (place = 0; place < len; place++) {
-        value = digit_value(bytes[place]);
-        if (value == 65) {
-            return 0;
-        }
-        if (value < 64) {
-            bits = bits << 6 | value;
-            count += 6;
-        }
-        if (count >= 8) {
-            count -= 8;
-            decoded[written++] = (uint8_t)(bits >> count);
-        }
-    }
-    return may_be_key(decoded, written);
-}
-
-/* Whether these bytes are surely a secret. One that is empty, begins with a zero, is too long or may be a key is left to _secrets.py. */
-static int
-is_secret(const uint8_t *bytes, Py_ssize_t len)
-{
-    return len > 0 && bytes[0] != 0 && len <= LONGEST && !may_be_key(bytes, (size_t)len) && !may_be_base64_of_key(bytes, (size_t)len);
-}
-
-/* Returns the value of a JSON text. */
+/* Handles(kind, key, options, longest=0): raises Refusal if the library makes no verifier. */
 static PyObject *
-value_of(const uint8_t *text, size_t len)
+handles_new(PyTypeObject *type, PyObject *arguments, PyObject *names)
 {
-    PyObject *said = PyUnicode_DecodeUTF8((const char *)text, (Py_ssize_t)len, NULL), *pair, *value;
+    struct state *state = PyType_GetModuleState(type);
+    const char *kind, *key, *options;
+    Py_ssize_t key_len, options_len, longest = 0;
+    Handles *self;
+    uint32_t status;
 
-    if (said == NULL) {
+    if (state == NULL || state->decode == NULL) {
+        PyErr_SetString(PyExc_RuntimeError, "the library is not bound");
         return NULL;
     }
-    pair = PyObject_CallFunction(read_json, "Oi", said, 0);
-    Py_DECREF(said);
-    if (pair == NULL) {
+    if (names != NULL && PyDict_Size(names) > 0) {
+        PyErr_SetString(PyExc_TypeError, "Handles takes no keyword arguments");
         return NULL;
     }
-    value = PyTuple_GetItem(pair, 0);
-    Py_XINCREF(value);
-    Py_DECREF(pair);
-    return value;
+    if (!PyArg_ParseTuple(arguments, "sy#y#|n", &kind, &key, &key_len, &options, &options_len, &longest)) {
+        return NULL;
+    }
+    self = (Handles *)PyType_GenericAlloc(type, 0);
+    if (self == NULL) {
+        return NULL;
+    }
+    self->state = state;
+    self->is_of_secret = strcmp(kind, "secret") == 0;
+    status = make_of(state, kind)((const uint8_t *)key, (size_t)key_len, (const uint8_t *)options, (size_t)options_len, (size_t)longest,
+                                  false, &self->first);
+    if (status != JWT_OK) {
+        refuse(state, status, 0);
+        Py_DECREF(self);
+        return NULL;
+    }
+    return (PyObject *)self;
 }
 
-/* claims(token, secret, options, now): returns the claims, or None if the token is not accepted here. */
-static PyObject *
-claims(PyObject *module, PyObject *const *arguments, Py_ssize_t count)
+static void
+handles_dealloc(PyObject *object)
 {
-    static uint8_t room[ROOM];
-    const uint8_t *token, *secret, *options;
-    Py_ssize_t token_len, secret_len, options_len;
-    double now;
-    size_t len;
+    Handles *self = (Handles *)object;
+    PyTypeObject *type = Py_TYPE(object);
 
-    (void)module;
-    if (count != 4) {
-        PyErr_SetString(PyExc_TypeError, "claims takes a token, a secret, options and a moment");
+    while (self->idle_count > 0) {
+        self->state->free(&self->idle[--self->idle_count]);
+    }
+    self->state->free(&self->first);
+    PyObject_Free(object);
+    Py_DECREF(type);
+}
+
+/* Moves an idle handle to *taken, or shares another one. */
+static uint32_t
+take(Handles *self, struct jwt_verifier *taken)
+{
+    if (self->idle_count > 0) {
+        *taken = self->idle[--self->idle_count];
+        return JWT_OK;
+    }
+    return self->state->share(&self->first, taken);
+}
+
+static void
+give_back(Handles *self, struct jwt_verifier *taken)
+{
+    if (self->idle_count < IDLE) {
+        self->idle[self->idle_count++] = *taken;
+    } else {
+        self->state->free(taken);
+    }
+}
+
+/* A token, and what the library says of it. */
+struct verification {
+    const uint8_t *token;
+    size_t token_len;
+    uint64_t now;
+    uint8_t *room;
+    size_t room_len, len;
+    uint32_t status, test;
+};
+
+static void
+verify(Handles *self, struct jwt_verifier *handle, struct verification *it)
+{
+    PyThreadState *thread = NULL;
+    uint64_t last;
+
+    if (!self->is_of_secret || it->token_len >= LONG_TOKEN) {
+        thread = PyEval_SaveThread();
+    }
+    it->status = self->state->decode(handle, it->token, it->token_len, it->now, it->room, it->room_len, &it->len, &last, &it->test);
+    if (thread != NULL) {
+        PyEval_RestoreThread(thread);
+    }
+}
+
+/* Verifies again with the room that the claims need. */
+static PyObject *
+claims_of_long(Handles *self, struct jwt_verifier *handle, struct verification *it)
+{
+    PyObject *claims = NULL;
+
+    it->room_len = it->len;
+    it->room = PyMem_Malloc(it->room_len);
+    if (it->room == NULL) {
+        return PyErr_NoMemory();
+    }
+    verify(self, handle, it);
+    if (it->status == JWT_OK) {
+        claims = PyUnicode_DecodeUTF8((const char *)it->room, (Py_ssize_t)it->len, NULL);
+    } else {
+        refuse(self->state, it->status, it->test);
+    }
+    PyMem_Free(it->room);
+    return claims;
+}
+
+static PyObject *
+claims_of(Handles *self, struct jwt_verifier *handle, struct verification *it)
+{
+    verify(self, handle, it);
+    if (it->status == JWT_NO_ROOM) {
+        return claims_of_long(self, handle, it);
+    }
+    if (it->status != JWT_OK) {
+        refuse(self->state, it->status, it->test);
         return NULL;
     }
-    now = PyFloat_AsDouble(arguments[3]);
+    return PyUnicode_DecodeUTF8((const char *)it->room, (Py_ssize_t)it->len, NULL);
+}
+
+/* decode(token, now): returns the claims as JSON, or raises Refusal or MemoryError. */
+static PyObject *
+handles_decode(PyObject *object, PyObject *const *arguments, Py_ssize_t count)
+{
+    Handles *self = (Handles *)object;
+    struct jwt_verifier handle = JWT_VERIFIER_NONE;
+    struct verification it = { 0 };
+    uint8_t room[ROOM];
+    char *token;
+    Py_ssize_t token_len;
+    PyObject *claims;
+    uint32_t status;
+
+    if (count != 2) {
+        PyErr_SetString(PyExc_TypeError, "decode takes a token and a moment");
+        return NULL;
+    }
+    if (PyBytes_AsStringAndSize(arguments[0], &token, &token_len) != 0) {
+        return NULL;
+    }
+    it = (struct verification){ .token = (const uint8_t *)token, .token_len = (size_t)token_len, .room = room, .room_len = ROOM };
+    it.now = PyLong_AsUnsignedLongLong(arguments[1]);
     if (PyErr_Occurred()) {
         return NULL;
     }
-    if (verify == NULL || !(now >= 0 && now < 9007199254740992.0) || !bytes_of(arguments[0], &token, &token_len)
-        || !bytes_of(arguments[1], &secret, &secret_len) || !bytes_of(arguments[2], &options, &options_len)
-        || !is_secret(secret, secret_len)
-        || verify(token, token_len, secret, secret_len, options, options_len, (uint64_t)now, room, ROOM, &len) != 0)
-    {
-        Py_RETURN_NONE;
-    }
-    return value_of(room, len);
-}
-
-/* bind(address, read): takes the address of jwt_decode_hmac, and what reads a JSON text from a place on. */
-static PyObject *
-bind(PyObject *module, PyObject *arguments)
-{
-    unsigned long long address;
-    PyObject *read;
-
-    (void)module;
-    if (!PyArg_ParseTuple(arguments, "KO", &address, &read)) {
+    status = take(self, &handle);
+    if (status != JWT_OK) {
+        refuse(self->state, status, 0);
         return NULL;
     }
-    verify = (decode_hmac *)(uintptr_t)address;
-    Py_INCREF(read);
-    Py_XDECREF(read_json);
-    read_json = read;
-    Py_RETURN_NONE;
+    claims = claims_of(self, &handle, &it);
+    give_back(self, &handle);
+    return claims;
 }
 
-static PyMethodDef methods[] = {
-    { "bind", bind, METH_VARARGS, NULL },
-    { "claims", (PyCFunction)(void (*)(void))claims, METH_FASTCALL, NULL },
+static PyMethodDef handles_methods[] = {
+    { "decode", (PyCFunction)(void (*)(void))handles_decode, METH_FASTCALL,
+      PyDoc_STR("Returns the claims as JSON. Raises Refusal, or MemoryError.") },
     { NULL, NULL, 0, NULL }
 };
 
-static struct PyModuleDef definition = { PyModuleDef_HEAD_INIT, "_fast", NULL, -1, methods, NULL, NULL, NULL, NULL };
+static PyType_Slot handles_slots[] = {
+    { Py_tp_doc, (void *)PyDoc_STR("Handles of one verifier.") },
+    { Py_tp_new, handles_new },
+    { Py_tp_dealloc, handles_dealloc },
+    { Py_tp_methods, handles_methods },
+    { 0, NULL }
+};
+
+static PyType_Spec handles_spec = {
+    .name = "jwtproved._fast.Handles",
+    .basicsize = sizeof(Handles),
+    .flags = Py_TPFLAGS_DEFAULT,
+    .slots = handles_slots,
+};
+
+/* Sets *call to the call of this name. */
+static int
+find(void *library, const char *name, void *call)
+{
+    void *found = dlsym(library, name);
+
+    if (found == NULL) {
+        PyErr_Format(PyExc_ImportError, "the library has no %s", name);
+        return -1;
+    }
+    memcpy(call, &found, sizeof found);
+    return 0;
+}
+
+/* bind(path, refusal): takes the calls of the library at this path, which stays loaded, and the exception for a refusal. */
+static PyObject *
+bind(PyObject *module, PyObject *arguments)
+{
+    struct state *state = PyModule_GetState(module);
+    const char *path;
+    PyObject *refusal;
+    void *library;
+
+    if (!PyArg_ParseTuple(arguments, "sO", &path, &refusal)) {
+        return NULL;
+    }
+    library = dlopen(path, RTLD_NOW | RTLD_LOCAL);
+    if (library == NULL) {
+        PyErr_SetString(PyExc_ImportError, dlerror());
+        return NULL;
+    }
+    if (find(library, "jwt_verifier_secret", &state->make_of_secret) || find(library, "jwt_verifier_key", &state->make_of_key)
+        || find(library, "jwt_verifier_set", &state->make_of_set) || find(library, "jwt_verifier_share", &state->share)
+        || find(library, "jwt_verifier_free", &state->free) || find(library, "jwt_verifier_decode", &state->decode))
+    {
+        return NULL;
+    }
+    Py_INCREF(refusal);
+    Py_XDECREF(state->refusal);
+    state->refusal = refusal;
+    Py_RETURN_NONE;
+}
+
+static int
+module_exec(PyObject *module)
+{
+    PyObject *handles = PyType_FromModuleAndSpec(module, &handles_spec, NULL);
+    int failed = handles == NULL ? -1 : PyModule_AddObjectRef(module, "Handles", handles);
+
+    Py_XDECREF(handles);
+    return failed;
+}
+
+static int
+module_traverse(PyObject *module, visitproc visit, void *arg)
+{
+    struct state *state = PyModule_GetState(module);
+
+    Py_VISIT(state->refusal);
+    return 0;
+}
+
+static int
+module_clear(PyObject *module)
+{
+    struct state *state = PyModule_GetState(module);
+
+    Py_CLEAR(state->refusal);
+    return 0;
+}
+
+static PyMethodDef methods[] = {
+    { "bind", bind, METH_VARARGS, PyDoc_STR("Takes the path of the library, and the exception for a refusal.") },
+    { NULL, NULL, 0, NULL }
+};
+
+static PyModuleDef_Slot slots[] = { { Py_mod_exec, module_exec }, { 0, NULL } };
+
+static struct PyModuleDef definition = {
+    .m_base = PyModuleDef_HEAD_INIT,
+    .m_name = "_fast",
+    .m_size = sizeof(struct state),
+    .m_methods = methods,
+    .m_slots = slots,
+    .m_traverse = module_traverse,
+    .m_clear = module_clear,
+};
 
 PyMODINIT_FUNC
 PyInit__fast(void)
 {
-    return PyModule_Create(&definition);
+    return PyModuleDef_Init(&definition);
 }

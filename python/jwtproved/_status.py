@@ -56,3 +56,4 @@ class Status(enum.IntEnum):
     UNFIT_KEY = 110
     TOKEN_TOO_LONG = 111
     NO_MEMBER = 112
+    KEY_AS_SECRET = 113

@@ -6,7 +6,9 @@ class PyJWTError(Exception):
 
 
 class InvalidTokenError(PyJWTError):
-    """The token is refused."""
+    """The token is refused. `failed_test` is the name of the test that failed (docs/RULES.md), for a log, or None if it is not known."""
+
+    failed_test: str | None = None
 
 
 class DecodeError(InvalidTokenError):
@@ -69,15 +71,15 @@ class UnknownKeyError(InvalidTokenError, PyJWKClientError):
 
 
 class InvalidKeyError(PyJWTError):
-    """The key can't be read, is for no algorithm that is listed, or is a secret by which anyone can sign."""
+    """The key can't be read, is for no algorithm that is listed, or is a secret with which anyone can sign."""
 
 
 class PyJWKError(PyJWTError):
-    """The JSON Web Key can't be read, or no token is verified by a key of its kind."""
+    """The JSON Web Key can't be read, or no token is verified with a key of its kind."""
 
 
 class PyJWKSetError(PyJWTError):
-    """The JSON Web Key Set can't be read, or has no key by which a token is verified."""
+    """The JSON Web Key Set can't be read, or has no key that verifies tokens."""
 
 
 class ClockError(PyJWTError):

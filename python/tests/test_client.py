@@ -16,7 +16,7 @@ import urllib.error
 import urllib.request
 
 import jwtproved as jwt
-from jwtproved import _api, _download
+from jwtproved import _download, _verifier
 
 TOP = os.path.dirname(os.path.dirname(os.path.dirname(os.path.abspath(__file__))))
 sys.path.append(f"{TOP}/tests")
@@ -488,11 +488,11 @@ def all_algorithms():
         rows = [it for it in map(json.loads, file) if "ok" in it["want"] and it["call"] == "decode_with_set"]
     for row in rows:
         with serving(says(json.dumps(row["set"]).encode()), timeout=10) as (server, client):
-            clock, _api._clock = _api._clock, lambda row=row: row["now"]
+            clock, _verifier._clock = _verifier._clock, lambda row=row: row["now"]
             asked, wanted = row["validation"], row["want"]["ok"]
             options = {"algorithms": asked["algorithms"], "audience": asked.get("aud"), "issuer": asked.get("iss")}
             gives(wanted["claims"], decoded, client, row["token"], **options)
-            _api._clock = clock
+            _verifier._clock = clock
             seen.add(wanted["header"]["alg"])
     test(f"several algorithms, not {seen}", {"RS256", "ES256"} < seen)
 

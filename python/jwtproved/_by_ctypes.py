@@ -1,0 +1,51 @@
+"""Handles of one verifier by ctypes. If the wheel was built with Python's headers, those of _fast.c take their place."""
+import ctypes
+import threading
+
+from ._library import Handle, check, library, slices
+from ._status import Status
+
+
+class _Owned(Handle):
+    """A handle that is freed with the object."""
+
+    def __del__(self, free=library.jwt_verifier_free) -> None:
+        free(self)
+
+
+class Handles:
+    """Handles of one verifier. No handle is in two calls at once: each call takes an idle one, or shares another."""
+
+    def __init__(self, kind: str, key: bytes, options: bytes, longest: int = 0) -> None:
+        self._first = _Owned()
+        check(getattr(library, f"jwt_verifier_{kind}")(*slices(key, options), longest, False, self._first))
+        self._idle: list[_Owned] = []
+        # a finalizer may verify while this thread has the lock
+        self._lock = threading.RLock()
+
+    def decode(self, token: bytes, now: int) -> str:
+        """Returns the claims as JSON. Raises Refusal, or MemoryError."""
+        handle = self._taken()
+        try:
+            return str(self._decode(handle, token, now), "utf-8")
+        finally:
+            self._idle.append(handle)
+
+    def _taken(self) -> _Owned:
+        try:
+            return self._idle.pop()
+        except IndexError:
+            made = _Owned()
+            with self._lock:
+                check(library.jwt_verifier_share(self._first, made))
+            return made
+
+    @staticmethod
+    def _decode(handle: _Owned, token: bytes, now: int) -> bytes:
+        length, last, test = ctypes.c_size_t(max(len(token), 1024)), ctypes.c_uint64(), ctypes.c_uint32()
+        status: int = Status.NO_ROOM
+        while status == Status.NO_ROOM:
+            buffer = ctypes.create_string_buffer(length.value)
+            status = library.jwt_verifier_decode(handle, token, len(token), now, buffer, len(buffer), length, last, test)
+        check(status, test.value)
+        return buffer.raw[: length.value]

