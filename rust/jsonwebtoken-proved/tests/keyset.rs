@@ -257,6 +257,7 @@ fn keys_rotate() {
 fn unknown_kids_cause_few_fetches() {
     let server = Server::new(says(set_of(&["a"])));
     let set = KeySet::new(server.fetch(LONG), Rotation { refetch: Duration::from_secs(1), ..rotation() }).unwrap();
+    let first = set.current();
     for it in 0..50 {
         assert_eq!(verify(&set, &token(None, "a")), Some(Error::UnknownKey));
         refuses(&set, &format!("x{it}"), "a", Error::UnknownKey);
@@ -266,6 +267,8 @@ fn unknown_kids_cause_few_fetches() {
     thread::sleep(Duration::from_millis(1010));
     refuses(&set, "y", "a", Error::UnknownKey);
     assert_eq!(server.fetches(), 3);
+    // the same text is the same set, whose verifiers stay
+    assert!(Arc::ptr_eq(&first, &set.current()));
 }
 
 #[test]
