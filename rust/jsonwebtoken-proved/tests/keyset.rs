@@ -378,14 +378,14 @@ fn a_closure_that_hangs() {
         counted.fetch_add(1, Ordering::SeqCst);
         received.recv().map(Cursor::new)
     };
-    let times = Rotation { timeout: Duration::from_millis(50), refetch: Duration::from_millis(1), ..rotation() };
+    let times = Rotation { timeout: Duration::from_millis(200), refetch: Duration::from_millis(1), ..rotation() };
     let set = KeySet::new(fetch, times).unwrap();
     let begin = Instant::now();
     for _ in 0..100 {
         refuses(&set, "b", "b", Error::UnknownKey);
         accepts(&set, "a");
     }
-    assert!(begin.elapsed() < Duration::from_secs(1), "{:?}", begin.elapsed());
+    assert!(begin.elapsed() < Duration::from_secs(5), "{:?}", begin.elapsed());
     assert_eq!(calls.load(Ordering::SeqCst), 2);
     texts.0.send(set_of(&["b"])).unwrap();
     becomes(&set, "b", None);
