@@ -34,7 +34,7 @@ var (
 	ErrMissingClaim = errors.New("jwt: a required claim is missing")
 	// ErrMalformedClaim is a claim that is checked and malformed.
 	ErrMalformedClaim = errors.New("jwt: a claim is malformed")
-	// ErrKey is a key that can't be read, is for none of the algorithms, or is a secret by which anyone can sign.
+	// ErrKey is a key that can't be read, that is for none of the algorithms, or for which others can sign, and algorithms of two families.
 	ErrKey = errors.New("jwt: the key does not serve")
 	// ErrOption is an option, a header or claims that are not understood.
 	ErrOption = errors.New("jwt: an argument is not understood")

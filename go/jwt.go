@@ -50,7 +50,7 @@ func (token *Token) Claims(into any) error {
 // RawClaims returns the claims as compact JSON.
 func (token *Token) RawClaims() json.RawMessage { return append(json.RawMessage(nil), token.claims...) }
 
-// Parse verifies a token by a key that accepts these algorithms. Whoever verifies several makes a Verifier.
+// Parse verifies a token with a key that accepts these algorithms. To verify several tokens, make a Verifier.
 func Parse(token string, key Key, algorithms []string, with ...Option) (*Token, error) {
 	verifier, err := NewVerifier(key, algorithms, with...)
 	if err != nil {
@@ -72,18 +72,18 @@ func UnverifiedHeader(token string) (map[string]any, error) {
 	return header, nil
 }
 
-// Signature is the signature of a token that is checked or made elsewhere: by other cryptography, or with a key in a KMS or an HSM.
+// Signature is the signature of a token that is checked or made elsewhere, such as by other cryptography, a KMS or an HSM.
 type Signature struct {
 	// Algorithm is the name of its algorithm, such as "ES256".
 	Algorithm string
 	// Message has the bytes that are signed.
 	Message []byte
-	// Bytes are those of the signature: by ES256 and ES384 two numbers one after the other (RFC 7518 section 3.4).
+	// Bytes are those of the signature: with ES256 and ES384 two numbers one after the other (RFC 7518 section 3.4).
 	Bytes []byte
 }
 
 // UnverifiedSignature returns the signature of a token, to be checked elsewhere. Nothing is verified, and the algorithm is the one that
-// the token itself names: check the signature by the one that your key is for, and with that key.
+// the token itself names: check the signature with the one that your key is for, and with that key.
 func UnverifiedSignature(token string) (Signature, error) {
 	bytes, length, err := signedPart(token)
 	if err != nil {
@@ -97,8 +97,8 @@ func UnverifiedSignature(token string) (Signature, error) {
 	return Signature{algorithm, []byte(token[:length]), bytes}, nil
 }
 
-// ParseByVerdict verifies a token whose signature was checked elsewhere: isGenuine tells whether this is a signature of its message by its
-// algorithm, with the key that the caller trusts. All else is verified as a Verifier does. The error is ErrSignature if isGenuine is
+// ParseByVerdict verifies a token whose signature was checked elsewhere: isGenuine says whether this is a signature of its message with
+// its algorithm and the key that the caller trusts. All else is verified as a Verifier does. The error is ErrSignature if isGenuine is
 // false, or if message or signature are not those of the token, and ErrAlgorithm if the algorithm is not.
 func ParseByVerdict(token string, checked Signature, isGenuine bool, algorithms []string, with ...Option) (*Token, error) {
 	asked, text, err := conditions(algorithms, with)

@@ -140,7 +140,7 @@ func canMarshal(public crypto.PublicKey) bool {
 	return true
 }
 
-// Thumbprint returns the thumbprint (RFC 7638) of a JSON Web Key, by SHA-2 with 256, 384 or 512 bits. Another number is ErrAlgorithm.
+// Thumbprint returns the thumbprint (RFC 7638) of a JSON Web Key, with SHA-2 of 256, 384 or 512 bits. Another number is ErrAlgorithm.
 func Thumbprint(jwk []byte, bits uint32) (string, error) {
 	text, err := thumbprint(jwk, bits)
 	return string(text), err

@@ -6,7 +6,7 @@ import (
 	"unicode/utf8"
 )
 
-// Sign returns the token of claims, which json.Marshal writes, signed with a secret by HS256, HS384 or HS512. Members of header other
+// Sign returns the token of claims, which json.Marshal writes, signed with a secret, with HS256, HS384 or HS512. Members of header other
 // than alg and typ are those of the map, which may be nil and may not name another alg. No claim may be a float. A text that is not
 // UTF-8 is ErrOption, and a secret that Secret refuses is ErrKey.
 func Sign(claims any, secret []byte, algorithm string, header map[string]any) (string, error) {
@@ -23,14 +23,14 @@ func Sign(claims any, secret []byte, algorithm string, header map[string]any) (s
 
 // SigningInput is what has to be signed for a token, with a key that is kept elsewhere, such as in a KMS or an HSM.
 type SigningInput struct {
-	// Algorithm is the algorithm by which it has to be signed.
+	// Algorithm is the algorithm to sign with.
 	Algorithm string
-	// Message has the bytes that have to be signed.
+	// Message has the bytes to be signed.
 	Message        []byte
 	header, claims []byte
 }
 
-// NewSigningInput returns what has to be signed for the token of these claims, by any of the twelve algorithms. The arguments are as
+// NewSigningInput returns what has to be signed for the token of these claims, with any of the twelve algorithms. The arguments are as
 // for Sign.
 func NewSigningInput(claims any, algorithm string, header map[string]any) (*SigningInput, error) {
 	headerText, claimsText, err := parts(claims, algorithm, header)
@@ -44,7 +44,7 @@ func NewSigningInput(claims any, algorithm string, header map[string]any) (*Sign
 	return &SigningInput{algorithm, message, headerText, claimsText}, nil
 }
 
-// Token returns the token with this signature of the message. By ES256 and ES384 that is two numbers one after the other, which
+// Token returns the token with this signature of the message. With ES256 and ES384 that is two numbers one after the other, which
 // ECDSASignature makes of a signature in DER. Its length is compared with that of the algorithm, and a wrong one is ErrOption; whether
 // the signature is right is left to those who verify the token.
 func (input *SigningInput) Token(signature []byte) (string, error) {
@@ -55,8 +55,8 @@ func (input *SigningInput) Token(signature []byte) (string, error) {
 	return string(token), err
 }
 
-// ECDSASignature returns a signature by ES256 or ES384 as a token has it, from one in DER, such as crypto/ecdsa and a KMS make it. Bytes
-// that are no such signature are ErrSignature.
+// ECDSASignature returns a signature with ES256 or ES384 in the form of a token, from one in DER, which crypto/ecdsa and a KMS make. Other
+// bytes are ErrSignature.
 func ECDSASignature(der []byte, algorithm string) ([]byte, error) {
 	return ecdsaSignature(der, algorithm)
 }

@@ -9,7 +9,7 @@ import (
 	"time"
 )
 
-// Verifier verifies tokens by one key under the same conditions.
+// Verifier verifies tokens with one key and the same conditions.
 type Verifier struct{ made *verifying }
 
 type verifying struct {
@@ -58,8 +58,8 @@ func (Verifier) Format(state fmt.State, _ rune) {
 	_, _ = io.WriteString(state, "jwt.Verifier([redacted])")
 }
 
-// NewVerifier returns a verifier by a key that accepts these algorithms, which have to be of one family: that of the key. If neither the
-// key nor any key of a set verifies with one of them, the error is ErrKey.
+// NewVerifier returns a verifier with a key, for these algorithms, which have to be of one family: that of the key. If neither the key
+// nor any key of a set verifies with one of them, the error is ErrKey.
 func NewVerifier(key Key, algorithms []string, with ...Option) (*Verifier, error) {
 	asked, text, err := conditions(algorithms, with)
 	if err != nil {
