@@ -909,6 +909,7 @@ static void status_texts(void) {
         {JWT_UNFIT_KEY, "Key serves no algorithm"},
         {JWT_TOKEN_TOO_LONG, "Token too long"},
         {JWT_NO_MEMBER, "No such member"},
+        {JWT_KEY_AS_SECRET, "Secret is the text of a key"},
     };
     struct answer a;
     bool is_status[300] = {false};
@@ -1268,6 +1269,13 @@ static bool moments_by_a_key_given(struct answer *a) {
 
 static bool moments_by_a_set_given(struct answer *a) { return moments_given(a, jwt_moments_set, NAMED, SET, OPTIONS); }
 
+/* base64 of a key in PEM, which is decoded before it is found */
+static bool checked_secret_given(struct answer *a) {
+    a->status = jwt_check_secret(BYTES("LS0tLS1CRUdJTiA="));
+    a->len = 0;
+    return a->status == JWT_KEY_AS_SECRET;
+}
+
 static bool checked_key_given(struct answer *a) {
     a->status = jwt_check_key(BYTES("{\"kty\":\"oct\",\"k\":\"AAAA\"}"));
     a->len = 0;
@@ -1318,6 +1326,7 @@ static void refused_memory(void) {
     is("moments out of memory", refused_in_turn(moments_by_a_secret_given) > 0, 1);
     is("moments by a key out of memory", refused_in_turn(moments_by_a_key_given) > 0, 1);
     is("moments by a set out of memory", refused_in_turn(moments_by_a_set_given) > 0, 1);
+    is("a check of a secret out of memory", refused_in_turn(checked_secret_given) > 0, 1);
     is("a check of a key out of memory", refused_in_turn(checked_key_given) > 0, 1);
     is("a check of a set out of memory", refused_in_turn(checked_set_given) > 0, 1);
     is("memory after all that was refused", mallinfo2().uordblks <= before + 4096, 1);
@@ -1461,6 +1470,12 @@ static void checked_secrets(void) {
     }
     is("a secret", jwt_check_secret(BYTES("secret")), JWT_OK);
     is("the same byte twice", jwt_check_secret(BYTES("aa")), JWT_OK);
+    is("a key of SSH", jwt_check_secret(BYTES("ssh-ed25519 AAAA")), JWT_KEY_AS_SECRET);
+    is("a JSON Web Key", jwt_check_secret(BYTES(ED_KEY)), JWT_KEY_AS_SECRET);
+    is("a set of them", jwt_check_secret(BYTES(SET)), JWT_KEY_AS_SECRET);
+    is("a mark of PEM alone", jwt_check_secret(BYTES("-----BEGIN ")), JWT_KEY_AS_SECRET);
+    is("that in base64", jwt_check_secret(BYTES("LS0tLS1CRUdJTiA=")), JWT_KEY_AS_SECRET);
+    is("that in base64 twice", jwt_check_secret(BYTES("TFMwdExTMUNSVWRKVGlBPQ==")), JWT_OK);
 
     /* what is told is what a token shows: one that is signed with the empty secret is accepted */
     static const char claims[] = "{\"exp\":2532524891}";
@@ -1478,6 +1493,9 @@ static void checked_keys(void) {
         {OCT("AAAA"), JWT_BLANK_KEY},
         {OCT("AAAB"), JWT_OK},
         {OCT("c2VjcmV0"), JWT_OK},
+        {OCT("LS0tLS1CRUdJTiA"), JWT_KEY_AS_SECRET},
+        {OCT("c3NoLXJzYQ"), JWT_KEY_AS_SECRET},
+        {OCT("c3NoLXJzYQ=="), JWT_OK},
         {OCT("A"), JWT_OK},
         {OCT("AA=="), JWT_OK},
         {"{\"kty\":\"EC\",\"crv\":\"P-256\",\"x\":\"AA\",\"y\":\"AA\"}", JWT_OK},
@@ -1506,6 +1524,9 @@ static void checked_sets(void) {
         {"{\"keys\":[" OCT("c2VjcmV0") "," OCT("AAAA") "]}", JWT_BLANK_KEY},
         {"{\"keys\":[" OCT("A") "," OCT("AAAA") "]}", JWT_BLANK_KEY},
         {"{\"keys\":[" OCT("A") "," OCT("AAAB") "]}", JWT_OK},
+        {"{\"keys\":[" OCT("c2VjcmV0") "," OCT("c3NoLXJzYQ") "]}", JWT_KEY_AS_SECRET},
+        {"{\"keys\":[" OCT("c3NoLXJzYQ") "," OCT("c2VjcmV0") "]}", JWT_KEY_AS_SECRET},
+        {"{\"keys\":[" OCT("c3NoLXJzYQ") "," OCT("AAAA") "]}", JWT_BLANK_KEY},
         {SET, JWT_BLANK_KEY},
         {OCT("AAAA"), JWT_BAD_SET},
         {"{\"keys\":[" OCT("AAAA") ",1]}", JWT_BAD_SET},

@@ -447,18 +447,19 @@ pub extern "C" fn jwt_check_numbers(alloc: Global, claims: &[u8]) -> u32
 }
 
 /// Checks that not everybody can sign with a secret: returns 107 if every byte of it is 0, as in the
-/// empty one, and else 0. HMAC fills a secret that is shorter than a block up with zeros (RFC 2104
-/// section 2).
+/// empty one. HMAC fills a secret that is shorter than a block up with zeros (RFC 2104 section 2).
+/// Returns 113 if it is the text of a key of another kind, or base64 of one, and else 0: a public key is
+/// known (RFC 8725 section 3.1). The only other refusal is `OutOfMemory`.
 #[unsafe(no_mangle)]
-pub extern "C" fn jwt_check_secret(secret: &[u8]) -> u32
+pub extern "C" fn jwt_check_secret(alloc: Global, secret: &[u8]) -> u32
     ensures { ChecksSecret secret.now result }
 {
-    secret_status(secret)
+    secret_status(alloc, secret)
 }
 
 /// Checks that not everybody can sign for a key, which is a JSON text (RFC 7517 section 4): returns 107
-/// if the key that it stands for is a secret like that of `jwt_check_secret`, and else 0, also if it
-/// stands for no key. For any other text it returns 106. The only other refusal is `OutOfMemory`.
+/// or 113 if the key that it stands for is a secret of which `jwt_check_secret` does, and else 0, also if
+/// it stands for no key. For any other text it returns 106. The only other refusal is `OutOfMemory`.
 #[unsafe(no_mangle)]
 pub extern "C" fn jwt_check_key(alloc: Global, key: &[u8]) -> u32
     ensures { ChecksKey key.now result }
@@ -467,8 +468,8 @@ pub extern "C" fn jwt_check_key(alloc: Global, key: &[u8]) -> u32
 }
 
 /// Checks that not everybody can sign for a key of a set, which is a JSON text (RFC 7517 section 5):
-/// returns 107 if `jwt_check_key` does for one of its keys, and else 0. For any other text it returns
-/// 103. The only other refusal is `OutOfMemory`.
+/// returns 107 if `jwt_check_key` does for one of its keys, or else 113 if that does, and else 0. For any
+/// other text it returns 103. The only other refusal is `OutOfMemory`.
 #[unsafe(no_mangle)]
 pub extern "C" fn jwt_check_set(alloc: Global, set: &[u8]) -> u32
     ensures { ChecksSet set.now result }

@@ -4,30 +4,43 @@ use Rattle.jwt_base.specs.JsonText.{ReadsText}
 use Rattle.jwt_base.specs.Kind as kind
 use Rattle.jwt_keys.specs.Jwk.{ReadsKey}
 use Rattle.jwt_keys.specs.JwkSet.{ReadsSet}
+use Rattle.jwt_keys.specs.declared.jwk.Jwk.{Jwk}
 use Rattle.jwt_secrets.specs.Blank.{IsBlank, IsBlankJwk, HasBlankKey}
+use Rattle.jwt_secrets.specs.KeyTexts.{IsKeyText, JwkHasKeyText, SetHasKeyText}
 use Rattle.jwt_c_calls.specs.Calls.{Misread}
-use Rattle.jwt_c_calls.specs.Status.{number, blank_key, input_status}
+use Rattle.jwt_c_calls.specs.Status.{number, blank_key, key_as_secret, input_status}
 use Rattle.jwt_c_calls.specs.declared.inputs.Input.{Input}
 use Rattle.jwt_c_calls.specs.declared.inputs.Input.TheVariants as input
 
--- the status says whether anyone can sign
-abbrev pub SaysWhether : Type 0 → ℕ → Type 0
-SaysWhether Blank status = (Blank × (status ≡ blank_key)) ⊎ ((¬ Blank) × (status ≡ 0))
+-- the status says whether anyone can sign; and if not, whether a secret is the text of a key of another kind
+abbrev pub SaysWhether : (Blank KeyText : Type 0) → ℕ → Type 0
+SaysWhether Blank KeyText status = (Blank × (status ≡ blank_key))
+    ⊎ (((¬ Blank) × KeyText × (status ≡ key_as_secret))
+    ⊎ ((¬ Blank) × (¬ KeyText) × (status ≡ 0)))
+
+abbrev pub SaysOfSecret : List ℕ → ℕ → Type 0
+SaysOfSecret secret = SaysWhether (IsBlank secret) (IsKeyText secret)
+
+abbrev pub SaysOfJwk : Jwk → ℕ → Type 0
+SaysOfJwk jwk = SaysWhether (IsBlankJwk jwk) (JwkHasKeyText jwk)
+
+abbrev pub SaysOfSet : List Jwk → ℕ → Type 0
+SaysOfSet keys = SaysWhether (HasBlankKey keys) (SetHasKeyText keys)
 
 -- the status says it of the value that the text is read as; or the text is misread, or memory ran out
-abbrev pub ChecksText : {X : Type 0} → Input → (X → Type 0) → (X → Type 0) → ℕ → Type 0
-ChecksText input Reads Blank status = (status ≡ number kind.OutOfMemory)
+abbrev pub ChecksText : {X : Type 0} → Input → (X → Type 0) → (X → ℕ → Type 0) → ℕ → Type 0
+ChecksText input Reads Says status = (status ≡ number kind.OutOfMemory)
     ⊎ (((status ≡ input_status input) × Misread Reads)
-    ⊎ ((x : _) × Reads x × SaysWhether (Blank x) status))
+    ⊎ ((x : _) × Reads x × Says x status))
 
--- of a secret (RFC 2104 section 2)
+-- of a secret (RFC 2104 section 2, RFC 8725 section 3.1); or memory ran out, which it does not of one that anyone can sign with
 abbrev pub ChecksSecret : List ℕ → ℕ → Type 0
-ChecksSecret secret = SaysWhether (IsBlank secret)
+ChecksSecret secret status = SaysOfSecret secret status ⊎ ((¬ IsBlank secret) × (status ≡ number kind.OutOfMemory))
 
 -- of a JSON Web Key (RFC 7517 section 4)
 abbrev pub ChecksKey : List ℕ → ℕ → Type 0
-ChecksKey key = ChecksText input.Key (ReadsText ReadsKey key) IsBlankJwk
+ChecksKey key = ChecksText input.Key (ReadsText ReadsKey key) SaysOfJwk
 
--- of a set of them: whether anyone can sign for one (RFC 7517 section 5)
+-- of a set of them: of each of its keys (RFC 7517 section 5)
 abbrev pub ChecksSet : List ℕ → ℕ → Type 0
-ChecksSet set = ChecksText input.Set (ReadsText ReadsSet set) HasBlankKey
+ChecksSet set = ChecksText input.Set (ReadsText ReadsSet set) SaysOfSet

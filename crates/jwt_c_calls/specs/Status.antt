@@ -92,6 +92,10 @@ token_too_long = 111
 abbrev pub no_member : ℕ
 no_member = 112
 
+-- a secret is the text of a key of another kind
+abbrev pub key_as_secret : ℕ
+key_as_secret = 113
+
 -- the texts of the statuses from 0 on, of all kinds without a claim
 abbrev pub first_texts : List (List ℕ)
 first_texts = codes "OK"
@@ -137,7 +141,8 @@ status_text n =
     else (if n == unfit_key then Some (codes "Key serves no algorithm")
     else (if n == token_too_long then Some (codes "Token too long")
     else (if n == no_member then Some (codes "No such member")
-    else refusal_text n))))))))))))
+    else (if n == key_as_secret then Some (codes "Secret is the text of a key")
+    else refusal_text n)))))))))))))
 
 -- the part of the claim's name that a status tells
 abbrev pub claim_part : List ℕ → List ℕ

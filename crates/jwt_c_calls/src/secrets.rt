@@ -1,67 +1,107 @@
 //! The results of the calls for C that tell by which secrets and keys anyone can sign.
 
-ghost use Rattle.std.specs.Prelude.{◌≡◌, ◌↔◌, List, IsTrue, IfOk, IfErr};
+ghost use Rattle.std.specs.Prelude.{◌≡◌, List, IfOk, IfErr};
 ghost use Rattle.jwt_base.specs.JsonText.{ReadsText};
+ghost use Rattle.jwt_base.specs.KindOf.{IsMemory};
 ghost use Rattle.jwt_keys.specs.Jwk.{ReadsKey};
 ghost use Rattle.jwt_keys.specs.JwkSet.{ReadsSet};
 ghost use Rattle.jwt_keys.specs.declared.jwk.Jwk.{Jwk};
-ghost use Rattle.jwt_secrets.specs.Blank.{IsBlankJwk, HasBlankKey};
+ghost use Rattle.jwt_secrets.specs.Blank.{IsBlank};
 ghost use Rattle.jwt_c_calls.specs.Calls.{AnswersBy, MisreadsOne, answer_of, refusal_status};
-ghost use Rattle.jwt_c_calls.specs.Secrets.{ChecksSecret, ChecksKey, ChecksSet, SaysWhether};
+ghost use Rattle.jwt_c_calls.specs.Secrets.{ChecksSecret, ChecksKey, ChecksSet, SaysOfSecret, SaysOfJwk, SaysOfSet};
 ghost use Rattle.jwt_c_calls.specs.declared.inputs.Input.TheVariants as input;
 
 use crate::inputs::{Input, Refusal, read_as};
-use crate::status::status_of;
+use crate::status::{number_of, status_of};
+use jsonwebtoken::errors::Error;
 use jwt_keys::jwk::Jwk;
 use jwt_keys::jwk_set::JwkSet;
+use jwt_secrets::key_texts::{is_key_text, jwk_has_key_text, set_has_key_text};
 use jwt_secrets::{has_blank_key, is_blank, is_blank_jwk};
 use std::alloc::Global;
 use std::result::Result;
 
-fn blank_status(is_blank: bool) -> u32
-    ensures { SaysWhether (IsTrue is_blank) result }
+fn secret_answer(alloc: Global, secret: &[u8]) -> Result<u32, Error>
+    ensures ok { IfOk result (SaysOfSecret secret.now) }
+    ensures err { IfErr result (λ e. (¬ IsBlank secret.now) × IsMemory e) }
 {
-    if is_blank { 107 } else { 0 }
+    if is_blank(secret) {
+        return Ok(107);
+    }
+    if is_key_text(alloc, secret)? {
+        return Ok(113);
+    }
+    Ok(0)
 }
 
-/// Returns the status that tells whether anyone can sign with a secret.
-pub fn secret_status(secret: &[u8]) -> u32
+fn jwk_answer(alloc: Global, jwk: &Jwk) -> Result<u32, Error>
+    ensures ok { IfOk result (SaysOfJwk jwk.now) }
+    ensures err { IfErr result IsMemory }
+{
+    if is_blank_jwk(alloc, jwk)? {
+        return Ok(107);
+    }
+    if jwk_has_key_text(alloc, jwk)? {
+        return Ok(113);
+    }
+    Ok(0)
+}
+
+fn keys_answer(alloc: Global, set: &JwkSet) -> Result<u32, Error>
+    ensures ok { IfOk result (SaysOfSet set.now.keys.items) }
+    ensures err { IfErr result IsMemory }
+{
+    if has_blank_key(alloc, set)? {
+        return Ok(107);
+    }
+    if set_has_key_text(alloc, set)? {
+        return Ok(113);
+    }
+    Ok(0)
+}
+
+/// Returns the status that tells whether anyone can sign with a secret, or it is the text of a key of another kind.
+pub fn secret_status(alloc: Global, secret: &[u8]) -> u32
     ensures { ChecksSecret secret.now result }
 {
-    blank_status(is_blank(secret))
+    match secret_answer(alloc, secret) {
+        Ok(status) => status,
+        Err(refused) => number_of(refused.kind()),
+    }
 }
 
-fn answer_status(answer: Result<bool, Refusal>) -> u32
-    ensures ok { IfOk answer (λ is. SaysWhether (IsTrue is) result) }
+fn answer_status(answer: Result<u32, Refusal>) -> u32
+    ensures ok { IfOk answer (λ status. result ≡ status) }
     ensures err { IfErr answer (λ r. result ≡ refusal_status r) }
 {
     match answer {
-        Ok(is_blank) => blank_status(is_blank),
+        Ok(status) => status,
         Err(refusal) => status_of(&refusal),
     }
 }
 
-fn key_answer(alloc: Global, key: &[u8]) -> Result<bool, Refusal>
-    ensures ok { IfOk result (λ is. (jwk : Jwk) × ReadsText ReadsKey key.now jwk
-        × (IsTrue is ↔ IsBlankJwk jwk)) }
+fn key_answer(alloc: Global, key: &[u8]) -> Result<u32, Refusal>
+    ensures ok { IfOk result (λ status. (jwk : Jwk) × ReadsText ReadsKey key.now jwk
+        × SaysOfJwk jwk status) }
     ensures err { IfErr result (λ r. AnswersBy (ReadsText ReadsKey key.now)
         (MisreadsOne input.Key (ReadsText ReadsKey key.now)) (λ _ _. ⊥) (λ _ _. ⊥) (answer_of r)) }
 {
     let jwk = read_as(Input::Key, Jwk::from_slice(alloc, key))?;
-    Ok(is_blank_jwk(alloc, &jwk)?)
+    Ok(jwk_answer(alloc, &jwk)?)
 }
 
-fn set_answer(alloc: Global, set: &[u8]) -> Result<bool, Refusal>
-    ensures ok { IfOk result (λ has. (keys : List Jwk) × ReadsText ReadsSet set.now keys
-        × (IsTrue has ↔ HasBlankKey keys)) }
+fn set_answer(alloc: Global, set: &[u8]) -> Result<u32, Refusal>
+    ensures ok { IfOk result (λ status. (keys : List Jwk) × ReadsText ReadsSet set.now keys
+        × SaysOfSet keys status) }
     ensures err { IfErr result (λ r. AnswersBy (ReadsText ReadsSet set.now)
         (MisreadsOne input.Set (ReadsText ReadsSet set.now)) (λ _ _. ⊥) (λ _ _. ⊥) (answer_of r)) }
 {
     let set = read_as(Input::Set, JwkSet::from_slice(alloc, set))?;
-    Ok(has_blank_key(alloc, &set)?)
+    Ok(keys_answer(alloc, &set)?)
 }
 
-/// Returns the status that tells whether anyone can sign for a key, which is a JSON text.
+/// Returns the status that tells whether anyone can sign for a key, or its secret is the text of a key of another kind. The key is
+/// a JSON text.
 pub fn key_status(alloc: Global, key: &[u8]) -> u32
     ensures { ChecksKey key.now result }
 {
@@ -69,7 +109,8 @@ pub fn key_status(alloc: Global, key: &[u8]) -> u32
     answer_status(answer)
 }
 
-/// Returns the status that tells whether anyone can sign for a key of a set, which is a JSON text.
+/// Returns the status that tells whether anyone can sign for a key of a set, or the secret of one is the text of a key of another
+/// kind. The set is a JSON text.
 pub fn set_status(alloc: Global, set: &[u8]) -> u32
     ensures { ChecksSet set.now result }
 {

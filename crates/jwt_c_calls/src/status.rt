@@ -157,6 +157,7 @@ pub fn text_of(status: u32) -> Option<&'static str>
         110 => Some("Key serves no algorithm"),
         111 => Some("Token too long"),
         112 => Some("No such member"),
+        113 => Some("Secret is the text of a key"),
         _ => refusal_text(status),
     }
 }

@@ -1,5 +1,5 @@
-use Rattle.jwt_c_calls.proofs.Checked.{said_of_equal}
+use Rattle.std.proofs.Common.{inl}
 use Rattle.jwt_c_calls.proofs.secrets.secret_status.Goals as goal
 
-pub returns : goal.returns
-returns c = said_of_equal _ c.is_blank.ensures c.blank_status.ensures
+pub returns-in-Ok : goal.returns-in-Ok
+returns-in-Ok c = inl c.in-Ok.ensures.ok

@@ -14,4 +14,4 @@ returns-in_err-set-clause-err c =
 pub returns-clause-ok : goal.returns-clause-ok
 returns-clause-ok c =
     let read = read_ok (λ s. ReadsText ReadsSet c.args.set.now s.keys.items) input.Set c.from_slice.result _ c.in_ok-set.ensures c.from_slice.ensures.ok in
-    (_, read, c.in_ok-has_blank_key.ensures.ok)
+    (_, read, c.in_ok-keys_answer.ensures.ok)
