@@ -15,7 +15,7 @@
 static ngx_http_output_header_filter_pt  ngx_http_next_header_filter;
 
 
-/* The token of a variable, or of Authorization (RFC 6750 section 2.1). */
+/* Reads a variable, or the header Authorization (RFC 6750 section 2.1). */
 static ngx_int_t
 ngx_http_jwt_find_token(ngx_http_request_t *r, ngx_int_t variable,
     ngx_str_t *token)
@@ -24,7 +24,7 @@ ngx_http_jwt_find_token(ngx_http_request_t *r, ngx_int_t variable,
     ngx_http_variable_value_t  *vv;
 
     if (variable != NGX_CONF_UNSET) {
-        /* the value of now, as a rewrite may have changed it */
+        /* read again, as a rewrite may have changed it */
         vv = ngx_http_get_flushed_variable(r, variable);
         if (vv == NULL || vv->not_found) {
             return NGX_DECLINED;

@@ -1,9 +1,9 @@
 #include "ngx_http_jwt.h"
 
 
-/* the room for claims beyond the length of their token, at the first try */
+/* how much longer than their token claims may be at the first try */
 #define NGX_HTTP_JWT_ROOM  64
-/* a token that is longer with its claims is verified each time */
+/* the longest token with its claims that is kept */
 #define NGX_HTTP_JWT_SLOT  4000
 /* in how many neighbouring slots a token may be */
 #define NGX_HTTP_JWT_WAYS  4
@@ -63,8 +63,8 @@ ngx_http_jwt_write_options(ngx_pool_t *pool, ngx_http_jwt_loc_conf_t *conf,
 
 
 /*
- * Returns JWT_INVALID_ALGORITHM if the algorithms are not of one family: then
- * no token is accepted, also none whose signature was found right elsewhere.
+ * Returns JWT_INVALID_ALGORITHM if the algorithms are not of one family: the
+ * library would refuse every token.
  */
 static uint32_t
 ngx_http_jwt_check_algorithms(ngx_str_t *list, ngx_str_t *options)
@@ -225,7 +225,7 @@ ngx_http_jwt_set_rules(ngx_conf_t *cf, ngx_http_jwt_rules_t **made,
 }
 
 
-/* Compares in a time that tells nothing of the texts. */
+/* Compares two texts in constant time. */
 static ngx_uint_t
 ngx_http_jwt_is_same(u_char *a, u_char *b, size_t len)
 {
@@ -239,7 +239,7 @@ ngx_http_jwt_is_same(u_char *a, u_char *b, size_t len)
 }
 
 
-/* Returns the slot that has the token, or of its slots the least used. */
+/* Returns the token's slot, or else the least recently used of its slots. */
 static ngx_http_jwt_slot_t *
 ngx_http_jwt_find_slot(ngx_http_jwt_rules_t *rules, ngx_str_t *token,
     uint32_t hash, ngx_uint_t *is_found)

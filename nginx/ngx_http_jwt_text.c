@@ -1,7 +1,7 @@
 #include "ngx_http_jwt.h"
 
 
-/* Has the library write a text of unknown length. */
+/* Allocates the result of a call of the library. */
 uint32_t
 ngx_http_jwt_write(ngx_http_jwt_call_pt call, ngx_pool_t *pool, ngx_str_t *in,
     ngx_str_t *out)
@@ -61,7 +61,7 @@ ngx_http_jwt_quote(ngx_pool_t *pool, ngx_str_t *text, ngx_uint_t n,
 }
 
 
-/* Whether a text is UTF-8 without control characters. */
+/* Returns whether a text is UTF-8 without control characters. */
 ngx_uint_t
 ngx_http_jwt_is_plain(ngx_str_t *text)
 {

@@ -62,8 +62,9 @@ ngx_http_jwt_kept_ctx(ngx_http_request_t *r)
 
 
 /*
- * Whether a subrequest without a context goes on in the content phase of the
- * request that made it (NGX_HTTP_SUBREQUEST_CLONE), with which it is verified.
+ * Returns whether a subrequest without a context goes on in the content phase
+ * of the request that made it (NGX_HTTP_SUBREQUEST_CLONE), with which it is
+ * verified.
  */
 ngx_uint_t
 ngx_http_jwt_is_clone(ngx_http_request_t *r)
@@ -140,9 +141,9 @@ ngx_http_jwt_escape(ngx_pool_t *pool, ngx_str_t *value, ngx_uint_t is_kid)
 
 
 /*
- * Reads a member of an object.  NGX_DECLINED stands for none, and for a number
- * that is not an integer of 64 bits, for which the library writes the nearest
- * double: that of other numbers too.
+ * Reads a member of an object.  Returns NGX_DECLINED if there is none, or if
+ * it has a number that is not a 64-bit integer: the library writes the nearest
+ * double, which other numbers share.
  */
 static ngx_int_t
 ngx_http_jwt_read_member(ngx_pool_t *pool, ngx_str_t *object, ngx_str_t *name,
