@@ -111,7 +111,7 @@ func kindOf(status C.uint32_t) error {
 		return ErrSubject
 	case C.JWT_UNSUPPORTED_ALGORITHM, C.JWT_INVALID_KEY_FORMAT:
 		return ErrKey
-	case C.JWT_SIGNING:
+	case C.JWT_SIGNING, C.JWT_CLOCK_BEFORE_EPOCH:
 		return ErrOption
 	case C.JWT_TOKEN_TOO_LONG:
 		return ErrMalformed

@@ -17,6 +17,7 @@ import (
 	"errors"
 	"fmt"
 	"strings"
+	"time"
 )
 
 // Token is a token that was verified.
@@ -25,9 +26,10 @@ type Token struct {
 	claims []byte
 }
 
-func newToken(token string, claims []byte) *Token {
-	header, _, _ := strings.Cut(token, ".")
-	return &Token{header, claims}
+// set keeps no signature, by which the token could be used again.
+func (token *Token) set(text string, claims []byte) {
+	token.header, _, _ = strings.Cut(text, ".")
+	token.claims = claims
 }
 
 // Header returns the members of its header.
@@ -105,6 +107,9 @@ func ParseByVerdict(token string, checked Signature, isGenuine bool, algorithms 
 	if err != nil {
 		return nil, err
 	}
+	if asked.now == nil {
+		asked.now = time.Now
+	}
 	now, err := moment(asked.now)
 	if err != nil {
 		return nil, err
@@ -116,7 +121,9 @@ func ParseByVerdict(token string, checked Signature, isGenuine bool, algorithms 
 	if err != nil {
 		return nil, err
 	}
-	return newToken(token, claims), nil
+	verified := &Token{}
+	verified.set(token, claims)
+	return verified, nil
 }
 
 func unknownAlgorithm(algorithms []string) error {

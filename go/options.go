@@ -2,6 +2,7 @@ package jwt
 
 import (
 	"encoding/json"
+	"math"
 	"time"
 	"unicode/utf8"
 )
@@ -21,7 +22,7 @@ type options struct {
 	Subject     *string  `json:"sub,omitempty"`
 	Crit        []string `json:"understood_crit,omitempty"`
 	noExpiry    bool
-	now         func() time.Time
+	now         func() time.Time // nil for that of the system
 }
 
 // Option is a condition on a token.
@@ -161,7 +162,7 @@ func WithUnderstoodCrit(names ...string) Option {
 	}
 }
 
-// WithTime has the clock read by this function, and not by time.Now.
+// WithTime has the clock read by this function.
 func WithTime(now func() time.Time) Option {
 	return func(asked *options) error {
 		if now == nil {
@@ -172,8 +173,14 @@ func WithTime(now func() time.Time) Option {
 	}
 }
 
+// ofSystem is the time of the clock of the system.
+const ofSystem = math.MaxUint64
+
 // moment returns the time of a clock as the library takes it.
 func moment(now func() time.Time) (uint64, error) {
+	if now == nil {
+		return ofSystem, nil
+	}
 	since := now().Unix()
 	if since < 0 {
 		return 0, optionError("WithTime: the clock is before 1970")
@@ -199,7 +206,7 @@ func conditions(algorithms []string, with []Option) (*options, []byte, error) {
 	if err := checkTexts("algorithms", algorithms...); err != nil {
 		return nil, nil, err
 	}
-	asked := &options{Strict: true, Algorithms: algorithms, Required: []string{}, now: time.Now}
+	asked := &options{Strict: true, Algorithms: algorithms, Required: []string{}}
 	for i, it := range with {
 		if it == nil {
 			return nil, nil, optionError("the option at place %d is nil", i)

@@ -44,13 +44,14 @@ func (all *handles) take() (*handle, error) {
 	return all.first.share()
 }
 
-func (all *handles) decode(token string, now uint64) ([]byte, error) {
+func (all *handles) decode(token string, now uint64) (*Token, error) {
 	one, err := all.take()
 	if err != nil {
 		return nil, err
 	}
-	defer all.idle.Put(one)
-	return one.decode(token, now)
+	claims, err := one.decode(token, now)
+	all.idle.Put(one)
+	return claims, err
 }
 
 // Format shows neither the key nor the options, whatever the verb.
@@ -108,15 +109,11 @@ func (verifier *Verifier) Parse(token string) (*Token, error) {
 	if verifier == nil || verifier.made == nil {
 		return nil, optionError("NewVerifier did not make this Verifier")
 	}
-	claims, err := verifier.made.verify(token)
-	if err != nil {
-		return nil, err
-	}
-	return newToken(token, claims), nil
+	return verifier.made.verify(token)
 }
 
 // verify returns the claims of a token. If the set of a KeySet has no key of its kid, a later set decides.
-func (made *verifying) verify(token string) ([]byte, error) {
+func (made *verifying) verify(token string) (*Token, error) {
 	by := made.latest()
 	claims, err := made.verifyBy(by, token)
 	if err == nil || made.set == nil || !mayHaveLaterKey(token, err) {
@@ -128,7 +125,7 @@ func (made *verifying) verify(token string) ([]byte, error) {
 	return made.verifyBy(made.latest(), token)
 }
 
-func (made *verifying) verifyBy(by *handlesOf, token string) ([]byte, error) {
+func (made *verifying) verifyBy(by *handlesOf, token string) (*Token, error) {
 	if by.err != nil {
 		return nil, by.err
 	}
