@@ -210,3 +210,21 @@ func checkText(t *testing.T, verb, text string) {
 		t.Errorf("%s: %s has the secret in base64", verb, text)
 	}
 }
+
+// TestSignatureInText has a token that was verified: no text shows its signature, by which it could be used again.
+func TestSignatureInText(t *testing.T) {
+	text := signed(`{"alg":"HS256"}`, `{"exp":1700000001}`, secret)
+	token, err := parse(t, text, secretOf(t, secret), []string{"HS256"})
+	if err != nil {
+		t.Fatal(err)
+	}
+	signature := signatureOf(t, text)
+	for _, verb := range []string{"%v", "%+v", "%#v", "%s", "%q", "%x", "%d"} {
+		for _, it := range []any{signature.Bytes[2:12], text[len(text)-20:]} {
+			part := strings.Trim(fmt.Sprintf(verb, it), `[]"{}byte`)
+			if shown := fmt.Sprintf(verb, token) + fmt.Sprintf(verb, *token) + fmt.Sprintf(verb, struct{ it *Token }{token}); strings.Contains(shown, part) {
+				t.Errorf("%s: %s has %s", verb, shown, part)
+			}
+		}
+	}
+}

@@ -130,6 +130,35 @@ func TestNoTest(t *testing.T) {
 	}
 }
 
+// TestRoom has claims of many lengths, and claims that the library writes in more bytes than they had: floats in all their digits.
+func TestRoom(t *testing.T) {
+	verifier, err := NewVerifier(secretOf(t, secret), []string{"HS256"}, at(now))
+	if err != nil {
+		t.Fatal(err)
+	}
+	for length := 0; length < 600; length++ {
+		claims := `{"exp":1700000001,"text":"` + strings.Repeat("a", length) + `"}`
+		token, err := verifier.Parse(signed(`{"alg":"HS256"}`, claims, secret))
+		if err != nil || string(token.RawClaims()) != claims || headerOf(t, token)["alg"] != "HS256" {
+			t.Errorf("%d: %v, %v", length, token, err)
+		}
+	}
+	for _, count := range []int{1, 10, 30, 100, 1000} {
+		claims := `{"exp":1700000001,"floats":[1e15` + strings.Repeat(",1e15", count) + `]}`
+		token, err := verifier.Parse(signed(`{"alg":"HS256"}`, claims, secret))
+		if err != nil {
+			t.Fatal(err)
+		}
+		var read struct{ Floats []float64 }
+		if err := token.Claims(&read); err != nil || len(read.Floats) != count+1 || read.Floats[count] != 1e15 {
+			t.Errorf("%d: %v, %v", count, read, err)
+		}
+		if count == 1000 && len(token.RawClaims()) <= len(claims)*2 {
+			t.Errorf("%d bytes are not more", len(token.RawClaims()))
+		}
+	}
+}
+
 // TestFamilies has algorithms of two families, by which no token would be accepted.
 func TestFamilies(t *testing.T) {
 	set, err := JWKSet([]byte(setOf("a")))
