@@ -85,6 +85,8 @@ impl Error {
     /// Returns the error of a status of a call that reads a key and no token.
     pub(crate) fn from_key_status(status: u32) -> Error {
         match Error::from_status(status) {
+            // of a key in PEM alone
+            Error::Malformed(_) if status == status::PROVIDER => Error::Key("it is a private key".to_string()),
             Error::Malformed(text) => Error::Key(text),
             error => error,
         }
