@@ -3,6 +3,8 @@
 
 passed=0
 failed=()
+# What was left out, as it was said.
+left_out=()
 # What is said right before the last line.
 remark=
 
@@ -32,12 +34,15 @@ try() {
 # tally NAME COMMAND..: runs a command whose last line begins with how many tests or rows it ran, and ends with how many failed. What
 # else it says is printed if something failed, and so is what it left out.
 tally() {
-    local said last
+    local said last line
     said=$("${@:2}" 2>&1)
     last=$(tail -n 1 <<< "$said")
     if [[ $last =~ ^([0-9]+)\ .*,\ 0\ (failed|differ)$ ]]; then
         passed=$((passed + BASH_REMATCH[1]))
-        grep '^left out, ' <<< "$said"
+        while read -r line; do
+            left_out+=("$line")
+            echo "$line"
+        done < <(grep '^left out, ' <<< "$said")
         echo "passed: $1: $last"
     else
         failed+=("$1")

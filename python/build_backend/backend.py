@@ -7,8 +7,10 @@ import glob
 import hashlib
 import os
 import subprocess
+import sys
 import sysconfig
 import tempfile
+import time
 import tomllib
 import zipfile
 
@@ -30,8 +32,11 @@ def _library():
     """Returns the bytes of the shared library."""
     build = f"{TOP}/tools/prove"
     if not os.path.isfile(build):
-        raise FileNotFoundError(f"{build} is missing: the package is built in a checkout of its repository, which proves the library")
-    subprocess.run([build, "library"], check=True)
+        sys.exit(f"{build} is missing: the package is built in a checkout of its repository, which proves the library, or installed from a wheel")
+    # it says how long it takes, and, if it can't, why
+    status = subprocess.run([build, "library"]).returncode
+    if status:
+        sys.exit(status)
     return _read(f"{TOP}/out/libjwtproved.so")
 
 
@@ -76,12 +81,24 @@ def _record(files, name):
     return "\n".join([*lines, f"{name},,"]).encode() + b"\n"
 
 
+def _write_zip(path, files):
+    """Writes the files to an archive that depends on them and on SOURCE_DATE_EPOCH alone, if that is set."""
+    moment = time.gmtime(int(os.environ.get("SOURCE_DATE_EPOCH", time.time())))[:6]
+    with zipfile.ZipFile(path, "w", zipfile.ZIP_DEFLATED) as archive:
+        for name, content in files.items():
+            entry = zipfile.ZipInfo(name, moment)
+            entry.external_attr = 0o100644 << 16
+            archive.writestr(entry, content, zipfile.ZIP_DEFLATED)
+
+
 def build_wheel(wheel_directory, config_settings=None, metadata_directory=None):
-    """Writes the wheel, and returns its name. It is for Python 3.11 and later ones."""
+    """Writes the wheel, and returns its name. It is for Python 3.11 and later ones, and for this machine's platform, or for that of
+    the setting `platform`."""
     with open(f"{HERE}/pyproject.toml", "rb") as file:
         project = tomllib.load(file)["project"]
     fast = _fast()
-    tag = f"{'cp311-abi3' if fast else 'py3-none'}-{sysconfig.get_platform().replace('-', '_').replace('.', '_')}"
+    platform = (config_settings or {}).get("platform") or sysconfig.get_platform().replace("-", "_").replace(".", "_")
+    tag = f"{'cp311-abi3' if fast else 'py3-none'}-{platform}"
     info = f"{PACKAGE}-{project['version']}.dist-info"
     files = {os.path.relpath(it, HERE): _read(it) for it in sorted(glob.glob(f"{HERE}/{PACKAGE}/*.py"))}
     files[f"{PACKAGE}/py.typed"] = b""
@@ -93,9 +110,7 @@ def build_wheel(wheel_directory, config_settings=None, metadata_directory=None):
     files[f"{info}/LICENSE"] = _read(f"{TOP}/LICENSE")
     files[f"{info}/RECORD"] = _record(files, f"{info}/RECORD")
     name = f"{PACKAGE}-{project['version']}-{tag}.whl"
-    with zipfile.ZipFile(os.path.join(wheel_directory, name), "w", zipfile.ZIP_DEFLATED) as wheel:
-        for path, content in files.items():
-            wheel.writestr(path, content)
+    _write_zip(os.path.join(wheel_directory, name), files)
     return name
 
 

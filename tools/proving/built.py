@@ -4,6 +4,9 @@ import os
 
 from proving.crates import with_those_below
 
+# The file below out/ with the last line of the prover.
+VERDICT = "verdict"
+
 
 def sum_of_file(path):
     with open(path, "rb") as file:
@@ -25,6 +28,22 @@ def note(crate, *files):
     """Notes beside the first file that these were built from the crate's sources."""
     with open(f"{files[0]}.sum", "w", encoding="utf-8") as file:
         file.write(f"{sum_of(crate, files)}\n")
+
+
+def keep_verdict(crate, line):
+    """Keeps the last line of the prover beside what is built of the crate."""
+    os.makedirs(f"{crate.folder}/out", exist_ok=True)
+    with open(f"{crate.folder}/out/{VERDICT}", "w", encoding="utf-8") as file:
+        file.write(f"{line}\n")
+
+
+def verdict_of(crate):
+    """Returns the last line of the prover for the crate's sources as they are, or None if it is not kept."""
+    path = f"{crate.folder}/out/{VERDICT}"
+    if not is_built(crate, path):
+        return None
+    with open(path, encoding="utf-8") as file:
+        return file.read().strip()
 
 
 def is_built(crate, *files):

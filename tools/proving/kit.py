@@ -4,6 +4,7 @@ Nothing of the kit is imported. Kits that print the same line of `rt version` di
 """
 import functools
 import os
+import re
 import shutil
 import subprocess
 import sys
@@ -11,7 +12,7 @@ import sys
 TOP = os.path.dirname(os.path.dirname(os.path.dirname(os.path.realpath(__file__))))
 # The logic by which everything here was proved.
 LOGIC = "dac8208d650f15bf"
-MISSING = "the Rattle kit is missing: put the folder bin of a kit on the PATH; 'The kit' in README.md says how to get one"
+MISSING = "the Rattle kit is missing: put the folder bin of a kit on the PATH, or use a release that somebody built, as docs/INSTALL.md says"
 
 
 def stop(why):
@@ -38,6 +39,12 @@ def folder():
 def program(name):
     """Returns the path of a program of the kit."""
     return f"{folder()}/bin/{name}"
+
+
+def uses(library):
+    """Returns the names of the libraries that one of the kit uses."""
+    with open(f"{folder()}/rlibs/{library}.rlib/format", encoding="utf-8") as file:
+        return re.findall(r"^dep (\w+)$", file.read(), re.M)
 
 
 def rt(*words, **how):

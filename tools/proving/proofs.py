@@ -13,6 +13,18 @@ from proving.kit import tell
 # What rt prints of itself, and not of a check.
 OF_RT = re.compile(r"rt: (?!ok; )")
 LAST = re.compile(r"(\d+) passed, (\d+) failed")
+# The line at which rt begins with a crate, and the last line of a check that proved it.
+OF_CHECK = re.compile(r"== (\w+)|(logic=proved .*)")
+
+
+def verdicts(said):
+    """Returns the last line of the prover by the name of each crate that was proved in this run, and not earlier on this machine."""
+    found, name = {}, None
+    for match in filter(None, (OF_CHECK.fullmatch(line.strip()) for line in said)):
+        name = match[1] or name
+        if name and match[2]:
+            found[name] = match[2]
+    return found
 
 
 def run_rt_ci(copy, is_anew, is_plain):
@@ -27,6 +39,9 @@ def run_rt_ci(copy, is_anew, is_plain):
                 print(line, end="", flush=True)
     last = LAST.fullmatch(said[-1].strip()) if said else None
     if ran.returncode == 0 and last and last[2] == "0":
+        for name, line in verdicts(said).items():
+            if name in crates(copy):
+                built.keep_verdict(crates(copy)[name], line)
         return int(last[1])
     print(*said, sep="")
     print(f"rt ci ended with status {ran.returncode}, and not with 'N passed, 0 failed'", flush=True)
@@ -62,7 +77,7 @@ def take(copies):
     """Puts what was built in the copy into the checkout, and notes from which sources."""
     for copied in copies.values():
         out = f"{crates()[copied.name].folder}/out"
-        for file in (file for file in made(copied) if os.path.isfile(f"{copied.folder}/out/{file}")):
+        for file in (file for file in [*made(copied), built.VERDICT] if os.path.isfile(f"{copied.folder}/out/{file}")):
             os.makedirs(out, exist_ok=True)
             shutil.copy(f"{copied.folder}/out/{file}", f"{out}/.{file}")
             # in one step, since the file may be in use

@@ -2,7 +2,7 @@
 import argparse
 import os
 
-from proving import c_library, costs, kit, programs, proofs, wrong_bodies
+from proving import c_library, costs, gate, kit, programs, proofs, wrong_bodies
 from proving.crates import crate_name, crates
 
 
@@ -26,6 +26,15 @@ def program_name(name):
     if not crates()[crate_name(name)].is_program:
         raise argparse.ArgumentTypeError(f"{name} is not a program; jwt_tool is one")
     return name
+
+
+def note_gate(given):
+    """Notes for a release that ./run_tests begins, or what it passed. Returns that this went well."""
+    if given.passed is None:
+        gate.begins()
+    else:
+        gate.passed(given.passed, given.left_out)
+    return True
 
 
 def compile_programs(given):
@@ -64,6 +73,9 @@ def parser(description):
     added.add_argument("crate", metavar="CRATE", type=crate_name)
     added = verb("compile", compile_programs, "compiles programs without a proof, as crates/NAME/out/unproved/NAME", False)
     added.add_argument("programs", metavar="PROGRAM", nargs="+", type=program_name)
+    added = verb("gate", note_gate, "notes for a release that ./run_tests begins, or what it passed", False)
+    added.add_argument("--passed", metavar="COUNT", type=int, help="how many tests it passed; without this, it begins")
+    added.add_argument("--left-out", metavar="LINE", action="append", default=[], help="what it left out, as it said so")
     added = verb("run", None, "runs a program: the proved build, if there is one of the sources as they are, or else one without a proof", False)
     added.add_argument("program", metavar="PROGRAM", type=program_name)
     added.add_argument("words", metavar="ARGUMENT", nargs="*")

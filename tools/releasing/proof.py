@@ -1,0 +1,82 @@
+"""PROOF.txt: what was proved of a release, by what, and what has to be believed."""
+import hashlib
+import os
+
+from proving import built, c_library, kit
+from proving.crates import crates, with_those_below
+from releasing import elf
+from releasing.files import read
+from releasing.sources import PROGRAMS
+
+TRUSTED = """\
+Trusted, and proved by nothing here:
+- the prover and the statements of the kit's libraries; docs/REVIEWING.md in the repository says how the contracts are read
+- the compiler that made machine code of what was proved (LLVM), the linker, and those that compiled the packages over the library
+- the C library, the C code of the kit that is named below, the system and the processor
+- that a signature can't be forged, and that the constants of the curves are those of the standards
+What was only tested: the packages over the library, and what docs/PROVED.md in the repository names so.
+"""
+DRAFT = "THIS IS A DRAFT, AND NO RELEASE: neither that the sources are those of the commit nor that the gate has passed was tested.\n"
+
+
+def of_prover(crate):
+    """Returns the last line of the prover for a crate, or what is known instead."""
+    return built.verdict_of(crate) or "proved, by a run whose last line is not kept"
+
+
+def kit_libraries(crate):
+    """Returns the names of the kit's libraries below a crate."""
+    found = dict.fromkeys(name for part in with_those_below([crate]) for name in part.of_kit())
+    left = list(found)
+    for name in left:
+        left += [use for use in kit.uses(name) if use not in left]
+    return sorted(left)
+
+
+def of_kit():
+    """Returns what of the kit is inside the artifacts, as lines."""
+    parts = {"libjwtproved": (c_library.CRATE, ("liblibc_c.a",)), **{name: (name, ("libos_c.a", "liblibc_c.a")) for name in PROGRAMS}}
+    lines = []
+    for name, (crate, files) in parts.items():
+        sums = [f"{file} (sha256 {hashlib.sha256(read(f'{kit.folder()}/c/{file}')).hexdigest()})" for file in files]
+        lines.append(f"- {name}: compiled code of {', '.join(kit_libraries(crates()[crate]))}; the C code of {', '.join(sums)}")
+    return lines
+
+
+def of_gate(it):
+    if it.is_draft:
+        return [DRAFT.strip()]
+    lines = [f"The gate (./run_tests) passed {it.noted['passed']} tests of this tree, and 0 failed."]
+    return lines + [f"- {line}" for line in it.noted["left_out"]]
+
+
+def files(it):
+    lines = []
+    for path in (it.static, it.shared, *map(it.program, PROGRAMS)):
+        if os.path.isfile(path):
+            needs = "" if path == it.static else f", glibc {elf.glibc(path)}"
+            lines.append(f"{hashlib.sha256(read(path)).hexdigest()}  {os.path.basename(path)}{needs}")
+    return lines
+
+
+def write(it):
+    """Returns the text."""
+    proved = with_those_below([crates()[c_library.CRATE], *(crates()[name] for name in PROGRAMS)])
+    lines = [
+        f"jwtproved {it.version} for Linux on x86-64",
+        "",
+        f"commit {it.commit}",
+        f"proved by {kit.version()}",
+        *of_gate(it),
+        "",
+        "The crates, each with the last line of the prover:",
+        *(f"- {crate.name}: {of_prover(crate)}" for crate in proved),
+        "",
+        TRUSTED,
+        "Of the kit, inside the artifacts:",
+        *of_kit(),
+        "",
+        "The files that were built of what is proved, by SHA-256 (the library for each x86-64, the programs for x86-64-v2):",
+        *files(it),
+    ]
+    return "\n".join(lines) + "\n"
