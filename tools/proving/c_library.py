@@ -73,7 +73,7 @@ def link(library, compiler):
             ["ld", "-r", "-o", whole, "--whole-archive", library, "--no-whole-archive", f"{kit.folder()}/c/liblibc_c.a"],
             ["objcopy", "--wildcard", "--keep-global-symbol=jwt_*", whole],
             ["ar", "rcsD", f"{scratch}/static", whole],
-            [compiler, "-shared", "-o", linked, f"-Wl,-soname,libjwtproved.so.{major}", "-Wl,-z,relro,-z,now", f"-Wl,--version-script={exports}", whole],
+            [compiler, "-shared", "-o", linked, f"-Wl,-soname,libjwtproved.so.{major}", "-Wl,-s,-z,relro,-z,now", f"-Wl,--version-script={exports}", whole],
         ]
         if any(subprocess.run(command).returncode for command in commands):
             return False

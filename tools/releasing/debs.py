@@ -1,4 +1,4 @@
-"""Debian's packages, by dpkg-deb."""
+"""The packages for Debian, by dpkg-deb."""
 import hashlib
 import os
 import subprocess
@@ -12,12 +12,12 @@ LIBDIR = "usr/lib/x86_64-linux-gnu"
 MODULE = "ngx_http_jwt_module.so"
 CONFIGURATION = "mod-http-jwtproved.conf"
 SCRIPTS = "/usr/share/debhelper/autoscripts"
-ABOUT = "JSON Web Tokens, verified by a library whose contracts are proved"
+ABOUT = "JSON Web Tokens by a proved library"
 # For each package: its section, its part of the first line of the description, and the lines that follow.
 PACKAGES = {
-    "libjwtproved0": ("libs", "shared library", "The shared library, by which programs verify tokens."),
-    "libjwtproved-dev": ("libdevel", "files to compile with", "The header, the static library and the manual page of the library."),
-    "jwtproved": ("utils", "command", "The command jwt verifies, explains, shows and signs tokens; jwt_tool is a smaller one."),
+    "libjwtproved0": ("libs", "shared library", "Programs verify tokens by it."),
+    "libjwtproved-dev": ("libdevel", "development files", "The header, the static library and the manual page of the library."),
+    "jwtproved": ("utils", "command", "The command jwt verifies, explains, shows and signs tokens."),
     "libnginx-mod-http-jwtproved": ("httpd", "module for nginx", "The module lets a request pass if it has a valid token."),
 }
 TRIGGER = "activate-noawait ldconfig\n"
@@ -65,9 +65,8 @@ def development(it):
 
 
 def command(it):
-    names = ("jwt", "jwt_tool")
-    found = unix.programs(it, "usr/bin", names) | unix.completions("usr/share") | unix.manual("usr/share", "docs/jwt.1", True)
-    return found, f"libc6 (>= {elf.glibc(*map(it.program, names))})", {}
+    found = unix.programs(it, "usr/bin", ("jwt",)) | unix.completions("usr/share") | unix.manual("usr/share", "docs/jwt.1", True)
+    return found, f"libc6 (>= {elf.glibc(it.program('jwt'))})", {}
 
 
 def nginx_abi():
@@ -82,7 +81,8 @@ def built_module(it):
     build = f"{it.scratch}/nginx"
     environment = {**os.environ, "PKG_CONFIG_PATH": f"{it.scratch}/over/lib/pkgconfig", "SOURCE_DATE_EPOCH": str(it.moment)}
     subprocess.run(["make", "-s", "-C", f"{TOP}/nginx", f"BUILD={build}"], env=environment, stdin=subprocess.DEVNULL, check=True)
-    subprocess.run(["strip", "--strip-unneeded", f"{build}/objs/{MODULE}"], check=True)
+    # the build's id depends on the scratch folder
+    subprocess.run(["strip", "--strip-unneeded", "--remove-section=.note.gnu.build-id", f"{build}/objs/{MODULE}"], check=True)
     return f"{build}/objs/{MODULE}"
 
 
