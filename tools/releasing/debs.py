@@ -93,8 +93,8 @@ def nginx(it):
         f"usr/share/nginx/modules-available/{CONFIGURATION}": text(f"load_module modules/{MODULE};\n"),
     }
     # as dh_nginx writes them for Debian's own modules
-    scripts = {name: read(f"{SCRIPTS}/{name}-nginx").decode().replace("#NAMES#", f"{CONFIGURATION}:50-{CONFIGURATION}") for name in ("postinst", "prerm", "postrm")}
-    extra = {name: f"#!/bin/sh\nset -e\n{script}" for name, script in scripts.items()}
+    extra = {name: f"#!/bin/sh\nset -e\n{read(f'{SCRIPTS}/{name}-nginx').decode()}" for name in ("postinst", "prerm", "postrm")}
+    extra = {name: script.replace("#NAMES#", f"{CONFIGURATION}:50-{CONFIGURATION}") for name, script in extra.items()}
     return found, f"libc6 (>= {elf.glibc(path)}), libjwtproved{it.major} (>= {it.version}), {nginx_abi()}", extra
 
 
@@ -110,5 +110,6 @@ def write(it, name, proof, folder):
     for part, content in {"control": control(it, name, depends, size), "md5sums": sums, **extra}.items():
         found[f"DEBIAN/{part}"] = text(content, 0o755 if content.startswith("#!") else 0o644)
     write_folder(f"{it.scratch}/{name}", found, it.moment)
-    words = ["dpkg-deb", "--root-owner-group", "-Zxz", "--threads-max=1", "--build", f"{it.scratch}/{name}", f"{folder}/{name}_{it.version}_amd64.deb"]
+    words = ["dpkg-deb", "--root-owner-group", "-Zxz", "--threads-max=1", "--build"]
+    words += [f"{it.scratch}/{name}", f"{folder}/{name}_{it.version}_amd64.deb"]
     subprocess.run(words, env={**os.environ, "SOURCE_DATE_EPOCH": str(it.moment)}, stdout=subprocess.DEVNULL, check=True)

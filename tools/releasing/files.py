@@ -1,4 +1,5 @@
 """Files of an artifact, and archives of them that depend on nothing else: neither on the clock, nor on who makes them."""
+import contextlib
 import gzip
 import io
 import os
@@ -52,7 +53,10 @@ def write_folder(folder, files, moment):
 
 def write_tar(path, files, moment):
     """Writes a tar.gz."""
-    with open(path, "wb") as raw, gzip.GzipFile("", "wb", 9, raw, mtime=0) as packed, tarfile.open(fileobj=packed, mode="w", format=tarfile.USTAR_FORMAT) as tar:
+    with contextlib.ExitStack() as opened:
+        raw = opened.enter_context(open(path, "wb"))
+        packed = opened.enter_context(gzip.GzipFile("", "wb", 9, raw, mtime=0))
+        tar = opened.enter_context(tarfile.open(fileobj=packed, mode="w", format=tarfile.USTAR_FORMAT))
         for name, made in sorted(files.items()):
             entry = tarfile.TarInfo(name)
             entry.mtime, entry.mode, entry.size = moment, made.mode, len(made.content)

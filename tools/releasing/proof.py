@@ -39,7 +39,8 @@ def of_kit():
     lines = []
     for name, (crate, files) in parts.items():
         sums = [f"{file} (sha256 {hashlib.sha256(read(f'{kit.folder()}/c/{file}')).hexdigest()})" for file in files]
-        lines.append(f"- {name}: compiled code of {', '.join(kit_libraries(crates()[crate]))}, as far as it is called; the C code of {', '.join(sums)}")
+        libraries = ", ".join(kit_libraries(crates()[crate]))
+        lines.append(f"- {name}: compiled code of {libraries}, as far as it is called; the C code of {', '.join(sums)}")
     return lines
 
 
