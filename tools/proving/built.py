@@ -2,10 +2,9 @@
 import hashlib
 import os
 
+from proving import kit
 from proving.crates import with_those_below
-
-# The file below out/ with the last line of the prover.
-VERDICT = "verdict"
+from proving.kept import Store, key_of
 
 
 def sum_of_file(path):
@@ -31,19 +30,13 @@ def note(crate, *files):
 
 
 def keep_verdict(crate, line):
-    """Keeps the last line of the prover beside what is built of the crate."""
-    os.makedirs(f"{crate.folder}/out", exist_ok=True)
-    with open(f"{crate.folder}/out/{VERDICT}", "w", encoding="utf-8") as file:
-        file.write(f"{line}\n")
+    """Keeps the last line of the prover for the crate's sources as they are."""
+    Store(f"verdict-{crate.name}").keep(key_of(sum_of_sources(crate), kit.version()), line)
 
 
 def verdict_of(crate):
     """Returns the last line of the prover for the crate's sources as they are, or None if it is not kept."""
-    path = f"{crate.folder}/out/{VERDICT}"
-    if not is_built(crate, path):
-        return None
-    with open(path, encoding="utf-8") as file:
-        return file.read().strip()
+    return Store(f"verdict-{crate.name}").find(key_of(sum_of_sources(crate), kit.version()))
 
 
 def is_built(crate, *files):

@@ -77,7 +77,7 @@ def take(copies):
     """Puts what was built in the copy into the checkout, and notes from which sources."""
     for copied in copies.values():
         out = f"{crates()[copied.name].folder}/out"
-        for file in (file for file in [*made(copied), built.VERDICT] if os.path.isfile(f"{copied.folder}/out/{file}")):
+        for file in (file for file in made(copied) if os.path.isfile(f"{copied.folder}/out/{file}")):
             os.makedirs(out, exist_ok=True)
             shutil.copy(f"{copied.folder}/out/{file}", f"{out}/.{file}")
             # in one step, since the file may be in use
