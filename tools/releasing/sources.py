@@ -1,6 +1,7 @@
 """What a release is made of: the checkout, its commit, and what the gate built."""
 import os
 import shutil
+import sysconfig
 
 from proving import built, c_library, gate, kit
 from proving.crates import crates
@@ -10,7 +11,7 @@ PROGRAMS = ("jwt", "jwt_tool")
 PLATFORM = "linux-x86_64"
 # What the artifacts are built with, beside the kit.
 TOOLS = ("cc", "dpkg-deb", "make", "objdump", "pkg-config", "strip")
-NGINX = "/usr/share/nginx/src/configure"
+FILES = ("/usr/share/nginx/src/configure", f"{sysconfig.get_path('include')}/Python.h")
 
 
 def program(name):
@@ -36,14 +37,20 @@ class Sources:
         return gate.git("-C", folder, "ls-files").split("\n")
 
 
+def missing_tools():
+    """Returns what is missing here to build all artifacts from what is proved."""
+    missing = [name for name in TOOLS if not shutil.which(name)] + [path for path in FILES if not os.path.isfile(path)]
+    return missing + ["repository of git"] * (not gate.git("rev-parse", "HEAD"))
+
+
 def lacking():
     """Returns why the artifacts can't be built here, or None."""
     missing = [name for name in PROGRAMS if not built.is_built(crates()[name], program(name))]
     missing += [] if c_library.is_current() else ["the library for C"]
     if missing:
         return f"no proved build of the sources as they are: {', '.join(missing)}; ./run_tests makes them"
-    tools = [name for name in TOOLS if not shutil.which(name)] + [NGINX] * (not os.path.isfile(NGINX))
-    return tools and f"the packages can't be built, since there is no {', no '.join(tools)}"
+    tools = missing_tools()
+    return f"the packages can't be built, since there is no {', no '.join(tools)}" if tools else None
 
 
 def refuse_unless_passed(version):
