@@ -223,8 +223,10 @@ def standard_rows():
 def in_pem(key):
     """Returns the public key in PEM of a JSON Web Key on P-256 (RFC 5480 section 2)."""
     point = b"".join(base64.urlsafe_b64decode(key[it] + "=") for it in ("x", "y"))
-    text = base64.encodebytes(bytes.fromhex("3059301306072a8648ce3d020106082a8648ce3d03010703420004") + point).decode()
-    return f"-----BEGIN PUBLIC KEY-----\n{text}-----END PUBLIC KEY-----\n"
+    text = base64.b64encode(bytes.fromhex("3059301306072a8648ce3d020106082a8648ce3d03010703420004") + point).decode()
+    # lines of 64 characters (RFC 7468 section 2)
+    lines = "".join(f"{text[at : at + 64]}\n" for at in range(0, len(text), 64))
+    return f"-----BEGIN PUBLIC KEY-----\n{lines}-----END PUBLIC KEY-----\n"
 
 
 def write_keys(server):
