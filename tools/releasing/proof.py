@@ -14,7 +14,7 @@ Trusted, and proved by nothing here:
 - the compiler that made machine code of what was proved (LLVM), the linker, and those that compiled the packages over the library
 - the C library, the C code of the kit that is named below, the system and the processor
 - that a signature can't be forged, and that the constants of the curves are those of the standards
-What was only tested: the packages over the library, and what docs/PROVED.md in the repository names so.
+What was only tested: the packages over the library, and what docs/RULES.md in the repository names so.
 """
 DRAFT = "THIS IS A DRAFT, AND NO RELEASE: neither that the sources are those of the commit nor that the gate has passed was tested.\n"
 
