@@ -211,6 +211,60 @@ static void options(void) {
     is("options by a null pointer", status_of(&a), JWT_BAD_OPTIONS);
 }
 
+static struct answer fault_of(const char *options) {
+    struct answer a = fresh();
+    a.status = jwt_options_fault(BYTES(options), a.room, ROOM, &a.len);
+    return a;
+}
+
+/* the text is said of just those options that are refused */
+static void faults_of_options(void) {
+    static const struct {
+        const char *options;
+        const char *said;
+    } rows[] = {
+        {OPTIONS, ""},
+        {"{}", ""},
+        {"{\"strict\":null,\"leeway\":18446744073709551615,\"aud\":[]}", ""},
+        {"", "the options are not JSON"},
+        {"{", "the options are not JSON"},
+        {"{\"algorithms\":[\"HS256\"]} x", "the options are not JSON"},
+        {"\xff", "the options are not JSON"},
+        {"null", "the options are not a JSON object"},
+        {"[\"HS256\"]", "the options are not a JSON object"},
+        {"{\"algs\":[\"HS256\"]}", "\"algs\" is not an option"},
+        {"{\"z\":1,\"Aud\":1,\"leeway\":-1}", "\"Aud\" is not an option"},
+        {"{\"a\\nb\\\"c\":1}", "\"a\\nb\\\"c\" is not an option"},
+        {"{\"\":1}", "\"\" is not an option"},
+        {"{\"algorithms\":\"RS256\"}", "\"algorithms\" is not a list of names of algorithms"},
+        {"{\"algorithms\":[\"rs256\"]}", "\"algorithms\" is not a list of names of algorithms"},
+        {"{\"algorithms\":[\"HS256\",1]}", "\"algorithms\" is not a list of names of algorithms"},
+        {"{\"aud\":\"my-api\"}", "\"aud\" is not a list of strings"},
+        {"{\"iss\":[\"i\",null]}", "\"iss\" is not a list of strings"},
+        {"{\"understood_crit\":{}}", "\"understood_crit\" is not a list of strings"},
+        {"{\"required_spec_claims\":[[]]}", "\"required_spec_claims\" is not a list of strings"},
+        {"{\"sub\":[\"s\"]}", "\"sub\" is not a string"},
+        {"{\"leeway\":-1}", "\"leeway\" is not a whole number from 0 to 2^64 - 1"},
+        {"{\"leeway\":1.5}", "\"leeway\" is not a whole number from 0 to 2^64 - 1"},
+        {"{\"leeway\":18446744073709551616}", "\"leeway\" is not a whole number from 0 to 2^64 - 1"},
+        {"{\"reject_tokens_expiring_in_less_than\":\"1\"}",
+         "\"reject_tokens_expiring_in_less_than\" is not a whole number from 0 to 2^64 - 1"},
+        {"{\"validate_exp\":1}", "\"validate_exp\" is not true or false"},
+        {"{\"validate_nbf\":\"true\"}", "\"validate_nbf\" is not true or false"},
+        {"{\"validate_aud\":0}", "\"validate_aud\" is not true or false"},
+        {"{\"strict\":\"\"}", "\"strict\" is not true or false"},
+    };
+    for (size_t i = 0; i < sizeof rows / sizeof *rows; i++) {
+        struct answer a = fault_of(rows[i].options);
+        is(rows[i].options, gives(&a, rows[i].said), 1);
+        is(rows[i].options, hmac(TOKEN, "secret", rows[i].options, LAST) == JWT_BAD_OPTIONS, *rows[i].said != 0);
+    }
+    struct answer a = fresh();
+    a.status = jwt_options_fault(BYTES("{\"algs\":1}"), a.room, 22, &a.len);
+    is("a buffer too small for a fault", status_of(&a), JWT_NO_ROOM);
+    is("the fault's length", a.len, 23);
+}
+
 static void kinds_of_tokens(void) {
     is("an empty token", hmac("", "secret", OPTIONS, LAST), JWT_INVALID_TOKEN);
     is("one dot", hmac("e30.e30", "secret", OPTIONS, LAST), JWT_INVALID_TOKEN);
@@ -1226,6 +1280,11 @@ static bool thumbprint_given(struct answer *a) {
     return gives(a, "DWBh0SEIAPYh1x5uvot4z3AhaikHkxNJa3Ada2fT-Cg");
 }
 
+static bool fault_given(struct answer *a) {
+    *a = fault_of("{\"algs\":1}");
+    return gives(a, "\"algs\" is not an option");
+}
+
 static bool key_given(struct answer *a) {
     *a = key_in(P256_PEM, ROOM);
     return gives(a, P256_JWK);
@@ -1318,6 +1377,7 @@ static void refused_memory(void) {
     is("a token with a given signature out of memory", refused_in_turn(token_by_signature_given) > 0, 1);
     is("two numbers out of memory", refused_in_turn(numbers_given) > 0, 1);
     is("a thumbprint out of memory", refused_in_turn(thumbprint_given) > 0, 1);
+    is("a fault of options out of memory", refused_in_turn(fault_given) > 0, 1);
     is("a key in PEM out of memory", refused_in_turn(key_given) > 0, 1);
     is("a private key out of memory", refused_in_turn(refusal_of_a_private_key_given) > 0, 1);
     is("a name out of memory", refused_in_turn(name_given) > 0, 1);
@@ -1572,6 +1632,7 @@ int main(void) {
     accepted();
     rooms();
     options();
+    faults_of_options();
     kinds_of_tokens();
     kinds_of_claims();
     kinds_with_a_claim();

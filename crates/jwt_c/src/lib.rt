@@ -14,6 +14,7 @@ ghost use Rattle.jwt_c_calls.specs.KeyFiles.{AnswersPem};
 ghost use Rattle.jwt_c_calls.specs.Keys.{AnswersWithKey, AnswersWithOptions, AnswersWithSet};
 ghost use Rattle.jwt_c_calls.specs.Members.{LeavesMember};
 ghost use Rattle.jwt_c_calls.specs.Moments.{LeavesMoments, AnswersMomentsHmac, AnswersMomentsKey, AnswersMomentsSet};
+ghost use Rattle.jwt_c_calls.specs.Options.{AnswersFault};
 ghost use Rattle.jwt_c_calls.specs.Secrets.{ChecksSecret, ChecksKey, ChecksSet};
 ghost use Rattle.jwt_c_calls.specs.Status.{kind_part, number, no_status, status_text, version, algorithm_numbered, IsGiven, IsKept};
 ghost use Rattle.jwt_c_verifier.specs.TestNumbers.{LeavesTestName};
@@ -37,6 +38,7 @@ use jwt_c_calls::issued::{encode_answer, thumbprint_answer};
 use jwt_c_calls::key_files::pem_answer;
 use jwt_c_calls::members::member_answer;
 use jwt_c_calls::moments::{hmac_moments, key_moments, leave_moments, set_moments};
+use jwt_c_calls::options::options_answer;
 use jwt_c_calls::secrets::{key_status, secret_status, set_status};
 use jwt_c_calls::status::{algorithm_number, leave, number_of, put_bytes, status_of, text_of};
 use jwt_c_verifier::test_numbers::numbered_test;
@@ -431,6 +433,22 @@ pub extern "C" fn jwt_key_from_pem(
     ensures { (a : Answer) × AnswersPem pem.now a × Leaves a result len.new room.old room.new }
 {
     let answer = pem_answer(alloc, pem);
+    leave(answer, room, len)
+}
+
+/// Writes what keeps a text from being options, as `"algorithms" is not a list of names of algorithms`:
+/// that it is not the JSON of an object, or which member is at fault, and why. Nothing is written if the
+/// text is the JSON of options. The only refusal is `OutOfMemory`.
+#[unsafe(no_mangle)]
+pub extern "C" fn jwt_options_fault(
+    alloc: Global,
+    options: &[u8],
+    room: &mut [u8],
+    len: &mut usize,
+) -> u32
+    ensures { (a : Answer) × AnswersFault options.now a × Leaves a result len.new room.old room.new }
+{
+    let answer = options_answer(alloc, options);
     leave(answer, room, len)
 }
 

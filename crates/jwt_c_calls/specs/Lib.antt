@@ -6,6 +6,7 @@ pub mod Keys
 pub mod Members
 pub mod FirstFailed
 pub mod Moments
+pub mod Options
 pub mod BySignature
 pub mod Issued
 pub use Rattle.jwt_base.specs.Kind

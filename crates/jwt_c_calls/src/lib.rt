@@ -10,5 +10,6 @@ pub mod key_files;
 pub mod keys;
 pub mod members;
 pub mod moments;
+pub mod options;
 pub mod secrets;
 pub mod status;

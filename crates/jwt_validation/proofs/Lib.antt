@@ -1,3 +1,4 @@
 pub mod ClaimRuleLemmas
 pub mod NamePlaces
+pub mod OptionsFaultLemmas
 pub mod TextsAmong

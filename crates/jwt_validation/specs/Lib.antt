@@ -3,6 +3,7 @@ pub mod ClaimRules
 pub mod Moments
 pub mod Options
 pub mod OptionsOf
+pub mod OptionsFault
 pub mod OptionsRead
 pub mod private_clauses
 pub mod equality

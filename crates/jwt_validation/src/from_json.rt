@@ -80,7 +80,7 @@ fn read_members(alloc: Global, value: &Value, is_strict: bool) -> Result<Validat
     })
 }
 
-fn option_names() -> [&'static str; 12]
+pub(crate) fn option_names() -> [&'static str; 12]
     ensures { map (λ s. s.now) result ≡ option_names }
 {
     [

@@ -4,6 +4,7 @@
 mod check;
 mod claims;
 mod clock;
+mod fault;
 mod from_json;
 mod interval;
 mod rules;
@@ -11,5 +12,6 @@ mod validation;
 
 pub use check::validate;
 pub use clock::{Clock, get_current_timestamp};
+pub use fault::{Form, OptionsFault, options_fault};
 pub use interval::{Moments, claimed_moments};
 pub use validation::Validation;

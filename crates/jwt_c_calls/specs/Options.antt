@@ -1,0 +1,41 @@
+-- What keeps a text from being options, as it is told to C.
+use Rattle.std.specs.Prelude.{◌≡◌, ◌⊎◌, ◌++◌, ℕ, List, [], codes}
+use Rattle.serde_json.specs.Data.{Data, string}
+use Rattle.serde_json.specs.Written.{compact_text}
+use Rattle.jwt_base.specs.JsonText.{IsJson}
+use Rattle.jwt_base.specs.Kind as kind
+use Rattle.jwt_validation.specs.Options.{Options}
+use Rattle.jwt_validation.specs.OptionsFault.{HasFault}
+use Rattle.jwt_validation.specs.OptionsRead.{ReadsOptions}
+use Rattle.jwt_validation.specs.declared.fault.Form.{Form}
+use Rattle.jwt_validation.specs.declared.fault.Form.TheVariants.{Whole, Flag, OneText, TextList, AlgorithmList}
+use Rattle.jwt_validation.specs.declared.fault.OptionsFault.{OptionsFault}
+use Rattle.jwt_validation.specs.declared.fault.OptionsFault.TheVariants as fault
+use Rattle.jwt_c_calls.specs.Calls.{Answer, Gives, Refuses, Misreads}
+
+abbrev pub form_text : Form → List ℕ
+form_text Whole = codes " is not a whole number from 0 to 2^64 - 1"
+form_text Flag = codes " is not true or false"
+form_text OneText = codes " is not a string"
+form_text TextList = codes " is not a list of strings"
+form_text AlgorithmList = codes " is not a list of names of algorithms"
+
+-- the member's name as JSON, and what is wrong with it
+abbrev pub fault_text : OptionsFault → List ℕ
+fault_text fault.NotAnObject = codes "the options are not a JSON object"
+fault_text (fault.Unknown name) = compact_text (string name.now) ++ codes " is not an option"
+fault_text (fault.Malformed name form) = compact_text (string name.now) ++ form_text form
+
+-- nothing, if the value is options; else what keeps it from being options
+abbrev pub IsValueFault : Data → List ℕ → Type 0
+IsValueFault value said = (((o : Options) × ReadsOptions value o) × (said ≡ []))
+    ⊎ ((f : OptionsFault) × HasFault value f × (said ≡ fault_text f))
+
+-- nothing, if the text describes options; else that it is not JSON, or what keeps its value from being
+-- options
+abbrev pub AnswersFault : List ℕ → Answer → Type 0
+AnswersFault text (Gives said) =
+    (((d : Data) → ¬ IsJson text d) × (said ≡ codes "the options are not JSON"))
+    ⊎ ((d : Data) × IsJson text d × IsValueFault d said)
+AnswersFault text (Refuses k) = k ≡ kind.OutOfMemory
+AnswersFault text (Misreads i) = ⊥
