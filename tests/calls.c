@@ -964,6 +964,7 @@ static void status_texts(void) {
         {JWT_TOKEN_TOO_LONG, "Token too long"},
         {JWT_NO_MEMBER, "No such member"},
         {JWT_KEY_AS_SECRET, "Secret is the text of a key"},
+        {JWT_MIXED_FAMILIES, "Algorithms of several families"},
     };
     struct answer a;
     bool is_status[300] = {false};

@@ -12,11 +12,14 @@
 #define ROOM 400
 #define OCT(k) "{\"kty\":\"oct\",\"kid\":\"hmac\",\"k\":\"" k "\"}"
 #define OKP(x) "{\"kty\":\"OKP\",\"crv\":\"Ed25519\",\"x\":\"" x "\"}"
+/* a token cannot name it in a set */
+#define OCT_UNNAMED "{\"kty\":\"oct\",\"k\":\"c2VjcmV0\"}"
 #define SET_OF(keys) "{\"keys\":[" keys "]}"
 #define HS256 "{\"algorithms\":[\"HS256\"]}"
 #define RS256 "{\"algorithms\":[\"RS256\",\"PS256\"]}"
 #define ES256 "{\"algorithms\":[\"ES256\"]}"
 #define EDDSA "{\"algorithms\":[\"EdDSA\"]}"
+#define MIXED "{\"algorithms\":[\"RS256\",\"HS256\"]}"
 /* an RSA key of 17 bits, 65537 with exponent 3, and a point that is not on P-256 */
 #define SMALL_RSA "{\"kty\":\"RSA\",\"kid\":\"rsa\",\"n\":\"AQAB\",\"e\":\"Aw\"}"
 #define OFF_CURVE                                                                                                     \
@@ -95,7 +98,8 @@ static void made(void) {
         {OF_SET, SET_OF(RSA_KEY), RS256, JWT_OK},
         {OF_SET, SET_OF(SMALL_RSA "," RSA_KEY), RS256, JWT_OK},
         {OF_SET, SET_OF(OCT("*") "," HMAC_KEY), HS256, JWT_OK},
-        {OF_SET, ALL_KEYS, "{\"algorithms\":[\"ES384\",\"HS256\"]}", JWT_OK},
+        {OF_SET, SET_OF(ED_KEY "," OCT_UNNAMED "," HMAC_KEY), HS256, JWT_OK},
+        {OF_SET, ALL_KEYS, "{\"algorithms\":[\"RS256\",\"PS512\",\"RS384\"]}", JWT_OK},
         /* texts, first that of the options */
         {OF_SET, "{", "{", JWT_BAD_OPTIONS},
         {OF_SET, ALL_KEYS, "{\"algorithms\":7}", JWT_BAD_OPTIONS},
@@ -113,13 +117,27 @@ static void made(void) {
         {OF_KEY, OCT("AA"), HS256, JWT_BLANK_KEY},
         {OF_KEY, OCT(""), RS256, JWT_BLANK_KEY},
         {OF_SECRET, "", HS256, JWT_BLANK_KEY},
+        {OF_SECRET, "", MIXED, JWT_BLANK_KEY},
+        /* algorithms of several families, of which a token can have one alone, before keys that do not serve */
+        {OF_SET, ALL_KEYS, MIXED, JWT_MIXED_FAMILIES},
+        {OF_SET, ALL_KEYS, "{\"algorithms\":[\"ES384\",\"HS256\"]}", JWT_MIXED_FAMILIES},
+        {OF_SET, ALL_KEYS, "{\"algorithms\":[\"ES256\",\"ES384\",\"EdDSA\"]}", JWT_MIXED_FAMILIES},
+        {OF_SET, SET_OF(""), MIXED, JWT_MIXED_FAMILIES},
+        {OF_SET, SET_OF(SMALL_RSA "," OFF_CURVE), "{\"algorithms\":[\"RS256\",\"ES256\"]}", JWT_MIXED_FAMILIES},
+        {OF_KEY, HMAC_KEY, MIXED, JWT_MIXED_FAMILIES},
+        {OF_KEY, RSA_KEY, MIXED, JWT_MIXED_FAMILIES},
+        {OF_KEY, ED_KEY, MIXED, JWT_MIXED_FAMILIES},
+        {OF_SECRET, "a secret", MIXED, JWT_MIXED_FAMILIES},
         /* keys that serve no algorithm of the options */
         {OF_SET, SET_OF(""), HS256, JWT_UNFIT_KEY},
+        {OF_SET, SET_OF(OCT_UNNAMED), HS256, JWT_UNFIT_KEY},
+        {OF_SET, SET_OF(ED_KEY "," OCT_UNNAMED), HS256, JWT_UNFIT_KEY},
         {OF_SET, ALL_KEYS, "{\"algorithms\":[]}", JWT_UNFIT_KEY},
         {OF_SET, ALL_KEYS, "{}", JWT_UNFIT_KEY},
         {OF_SET, SET_OF(HMAC_KEY "," P256_KEY), RS256, JWT_UNFIT_KEY},
         {OF_SET, SET_OF(P256_KEY), "{\"algorithms\":[\"ES384\"]}", JWT_UNFIT_KEY},
-        {OF_SET, SET_OF(SMALL_RSA "," OFF_CURVE), "{\"algorithms\":[\"RS256\",\"ES256\"]}", JWT_UNFIT_KEY},
+        {OF_SET, SET_OF(SMALL_RSA "," OFF_CURVE), RS256, JWT_UNFIT_KEY},
+        {OF_SET, SET_OF(SMALL_RSA "," OFF_CURVE), ES256, JWT_UNFIT_KEY},
         {OF_SET, SET_OF(OCT("*")), HS256, JWT_UNFIT_KEY},
         {OF_KEY, HMAC_KEY, RS256, JWT_UNFIT_KEY},
         {OF_KEY, RSA_KEY, HS256, JWT_UNFIT_KEY},
@@ -131,6 +149,7 @@ static void made(void) {
         {OF_KEY, P256_KEY, "{\"algorithms\":[\"ES384\",\"ES256\"]}", JWT_OK},
         {OF_KEY, ED_KEY, EDDSA, JWT_OK},
         {OF_SECRET, "s", HS256, JWT_OK},
+        {OF_KEY, OCT_UNNAMED, HS256, JWT_OK},
     };
     for (size_t i = 0; i < COUNT(rows); i++) {
         struct jwt_verifier v = JWT_VERIFIER_NONE;
@@ -139,9 +158,10 @@ static void made(void) {
         jwt_verifier_free(&v);
         is("freed", v.at == NULL, 1);
         bool is_blank = rows[i].status == JWT_BLANK_KEY;
-        bool serves = strcmp(rows[i].options, HS256) == 0;
+        bool serves = strcmp(rows[i].options, HS256) == 0, is_mixed = strcmp(rows[i].options, MIXED) == 0;
+        uint32_t others = is_mixed ? JWT_MIXED_FAMILIES : serves || strstr(rows[i].keys, "RSA") ? JWT_OK : JWT_UNFIT_KEY;
         is("blank keys that are allowed", make(rows[i].source, rows[i].keys, rows[i].options, 0, true, &v),
-           is_blank ? (serves ? JWT_OK : strstr(rows[i].keys, "RSA") ? JWT_OK : JWT_UNFIT_KEY) : rows[i].status);
+           is_blank ? others : rows[i].status);
         jwt_verifier_free(&v);
     }
 }
@@ -196,7 +216,7 @@ static void lengths(void) {
 /* ---- the same as without a verifier */
 
 static const char *all_options[] = {
-    HS256, RS256, ES256, "{\"algorithms\":[\"ES384\"]}", EDDSA, "{\"algorithms\":[\"HS256\",\"RS256\"]}",
+    HS256, RS256, ES256, "{\"algorithms\":[\"ES384\"]}", EDDSA, MIXED,
     "{\"algorithms\":[\"HS256\",\"HS512\"],\"sub\":\"b@b.com\"}", "{\"algorithms\":[\"HS256\"],\"leeway\":0,\"sub\":\"nobody\"}",
 };
 static const char *keys[] = {HMAC_KEY, RSA_KEY, P256_KEY, P384_KEY, ED_KEY};
@@ -254,14 +274,23 @@ static void compare(struct jwt_verifier *v, enum source source, const char *key,
     is(text, wrong, 0);
 }
 
+/* whether the call without a verifier accepts the token at some time */
+static bool accepts(enum source source, const char *key, const char *options, const char *token) {
+    for (size_t i = 0; i < COUNT(times); i++)
+        if (stateless(source, key, options, BYTES(token), times[i], ROOM).status == JWT_OK) return true;
+    return false;
+}
+
 static void compare_all(enum source source, const char **list, size_t count, size_t step) {
     for (size_t k = 0; k < count; k++)
         for (size_t o = 0; o < COUNT(all_options); o++) {
             struct jwt_verifier v = JWT_VERIFIER_NONE;
             uint32_t status = make(source, list[k], all_options[o], 0, false, &v);
-            is("made, or unfit", status == JWT_OK || status == JWT_UNFIT_KEY, 1);
-            for (size_t t = 0; t < COUNT(tokens) && status == JWT_OK; t++)
-                compare(&v, source, list[k], all_options[o], tokens[t], step);
+            is("made, or not", status == JWT_OK || status == JWT_UNFIT_KEY || status == JWT_MIXED_FAMILIES, 1);
+            is("of several families", status == JWT_MIXED_FAMILIES, strcmp(all_options[o], MIXED) == 0);
+            for (size_t t = 0; t < COUNT(tokens); t++)
+                if (status == JWT_OK) compare(&v, source, list[k], all_options[o], tokens[t], step);
+                else is("a token, where no verifier is made", accepts(source, list[k], all_options[o], tokens[t]), 0);
             jwt_verifier_free(&v);
         }
 }
@@ -269,8 +298,8 @@ static void compare_all(enum source source, const char **list, size_t count, siz
 /* a secret decides as its JSON Web Key does */
 static void secrets(size_t step) {
     struct jwt_verifier v = JWT_VERIFIER_NONE;
-    is("made of a secret", make(OF_SECRET, "a secret of thirty-two characters", all_options[5], 0, false, &v), JWT_OK);
-    for (size_t t = 0; t < COUNT(tokens); t++) compare(&v, OF_KEY, HMAC_KEY, all_options[5], tokens[t], step);
+    is("made of a secret", make(OF_SECRET, "a secret of thirty-two characters", all_options[6], 0, false, &v), JWT_OK);
+    for (size_t t = 0; t < COUNT(tokens); t++) compare(&v, OF_KEY, HMAC_KEY, all_options[6], tokens[t], step);
     jwt_verifier_free(&v);
 }
 

@@ -80,7 +80,7 @@ no_verifier = 108
 abbrev pub has_verifier : ℕ
 has_verifier = 109
 
--- no key verifies with any of the algorithms of the options
+-- no key verifies with any of the algorithms of the options, or none with a `kid`
 abbrev pub unfit_key : ℕ
 unfit_key = 110
 
@@ -95,6 +95,10 @@ no_member = 112
 -- a secret is the text of a key of another kind
 abbrev pub key_as_secret : ℕ
 key_as_secret = 113
+
+-- the algorithms of the options are of several families
+abbrev pub mixed_families : ℕ
+mixed_families = 114
 
 -- the texts of the statuses from 0 on, of all kinds without a claim
 abbrev pub first_texts : List (List ℕ)
@@ -142,7 +146,8 @@ status_text n =
     else (if n == token_too_long then Some (codes "Token too long")
     else (if n == no_member then Some (codes "No such member")
     else (if n == key_as_secret then Some (codes "Secret is the text of a key")
-    else refusal_text n)))))))))))))
+    else (if n == mixed_families then Some (codes "Algorithms of several families")
+    else refusal_text n))))))))))))))
 
 -- the part of the claim's name that a status tells
 abbrev pub claim_part : List ℕ → List ℕ

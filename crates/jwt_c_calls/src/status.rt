@@ -158,6 +158,7 @@ pub fn text_of(status: u32) -> Option<&'static str>
         111 => Some("Token too long"),
         112 => Some("No such member"),
         113 => Some("Secret is the text of a key"),
+        114 => Some("Algorithms of several families"),
         _ => refusal_text(status),
     }
 }

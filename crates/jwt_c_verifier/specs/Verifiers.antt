@@ -23,13 +23,13 @@ use Rattle.jsonwebtoken.specs.declared.refusal.Test.{Test}
 use Rattle.jwt_verifier.specs.Fitness.{token_limit, AreFit, IsUnfit}
 use Rattle.jwt_verifier.specs.Verifying.{source_of, order_of}
 use Rattle.jwt_verifier.specs.declared.fitness.Unfit.{Unfit}
-use Rattle.jwt_verifier.specs.declared.fitness.Unfit.TheVariants.{Blank, Useless, Memory}
+use Rattle.jwt_verifier.specs.declared.fitness.Unfit.TheVariants.{Blank, Mixed, Useless, Memory}
 use Rattle.jwt_verifier.specs.declared.keys.Keys.{Keys}
 use Rattle.jwt_verifier.specs.declared.keys.Keys.TheVariants.{One, Set}
 use Rattle.jwt_verifier.specs.declared.limits.Limits.{Limits}
 use Rattle.jwt_verifier.specs.declared.verifier.Verifier.{Verifier}
 use Rattle.jwt_c_calls.specs.Calls.{Answer, Gives, Refuses, Misreads, AnswersBy, IsClaimsText, status_of}
-use Rattle.jwt_c_calls.specs.Status.{number, blank_key, unfit_key, token_too_long}
+use Rattle.jwt_c_calls.specs.Status.{number, blank_key, mixed_families, unfit_key, token_too_long}
 use Rattle.jwt_c_verifier.specs.TestNumbers.{test_number}
 
 -- ---- making a verifier
@@ -70,6 +70,7 @@ AreOfSecret options secret o keys = ReadsText ReadsOptions options o × IsSecret
 -- the status of keys of which no verifier is made
 abbrev pub unfit_status : Unfit → ℕ
 unfit_status Blank = blank_key
+unfit_status Mixed = mixed_families
 unfit_status Useless = unfit_key
 unfit_status Memory = number kind.OutOfMemory
 

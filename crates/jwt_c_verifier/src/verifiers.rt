@@ -49,6 +49,7 @@ fn status_of_unfit(unfit: Unfit) -> u32
 {
     match unfit {
         Unfit::Blank => 107,
+        Unfit::Mixed => 114,
         Unfit::Useless => 110,
         Unfit::Memory => 22,
     }

@@ -1,9 +1,9 @@
-//! Whether a verifier can be made of keys.
+//! Whether a verifier can be made of keys, for algorithms.
 
 ghost use Rattle.std.specs.Prelude.{◌≡◌, ◌⊎◌, ◌↔◌, None, IfOk, IfErr, OnOk, IsTrue};
 ghost use Rattle.jwt_base.specs.KindOf.{IsMemory};
 ghost use Rattle.jwt_standard.specs.StandardKeys.{verifier_refusal};
-ghost use Rattle.jwt_verifier.specs.Fitness.{AreFit, AreSafe, CanServe, HasBlank, IsUnfit, JwkServes, Serves};
+ghost use Rattle.jwt_verifier.specs.Fitness.{AreFit, AreOfOneFamily, AreSafe, CanServe, HasBlank, IsUnfit, JwkServes, Serves};
 ghost use Rattle.std.specs.List.{Any};
 
 use crate::keys::Keys;
@@ -22,7 +22,10 @@ use std::result::Result;
 pub enum Unfit {
     /// Anyone can sign with the secret, or with one of the set.
     Blank,
-    /// No key verifies with any of the algorithms that the options list.
+    /// The options list algorithms of several families, and so accept no token.
+    Mixed,
+    /// No key verifies with any of the algorithms that the options list, or none of a set that has a
+    /// `kid`.
     Useless,
     /// Memory ran out.
     Memory,
@@ -64,11 +67,15 @@ fn key_serves(alloc: Global, key: &DecodingKey, algorithms: &[Algorithm]) -> Che
     Ok(false)
 }
 
-// A JSON Web Key that stands for no key does not serve.
+// A JSON Web Key that stands for no key does not serve, nor does one without a `kid`, which no token
+// can name.
 fn jwk_serves(alloc: Global, jwk: &Jwk, algorithms: &[Algorithm]) -> Checked<bool>
     ensures ok { IfOk result (λ yes. IsTrue yes ↔ JwkServes algorithms.now jwk.now) }
     ensures err { IfErr result IsMemory }
 {
+    if jwk.common.key_id.is_none() {
+        return Ok(false);
+    }
     match DecodingKey::from_jwk(alloc, jwk) {
         Ok(key) => {
             let serves = key_serves(alloc, &key, algorithms)?;
@@ -128,6 +135,28 @@ fn check_safe(alloc: Global, keys: &Keys, allows_blank: bool) -> Result<(), Unfi
     Ok(())
 }
 
+fn are_of_one_family(algorithms: &[Algorithm]) -> bool
+    ensures { IsTrue result ↔ AreOfOneFamily algorithms.now }
+{
+    match algorithms.first() {
+        Some(first) => algorithms
+            .iter()
+            .all(|other| other.family() == first.family()),
+        None => true,
+    }
+}
+
+fn check_families(algorithms: &[Algorithm]) -> Result<(), Unfit>
+    ensures ok { OnOk result (AreOfOneFamily algorithms.now) }
+    ensures err { IfErr result (λ why. (why ≡ Unfit.Mixed) × (¬ AreOfOneFamily algorithms.now)) }
+{
+    if are_of_one_family(algorithms) {
+        Ok(())
+    } else {
+        Err(Unfit::Mixed)
+    }
+}
+
 fn check_served(alloc: Global, keys: &Keys, algorithms: &[Algorithm]) -> Result<(), Unfit>
     ensures ok { OnOk result (CanServe algorithms.now keys.now) }
     ensures err { IfErr result (λ why. (why ≡ Unfit.Memory)
@@ -141,7 +170,8 @@ fn check_served(alloc: Global, keys: &Keys, algorithms: &[Algorithm]) -> Result<
 }
 
 /// Refuses keys of which no verifier can be made for these algorithms: with which anyone can sign,
-/// unless that is allowed, and then those of which none serves.
+/// unless that is allowed; then any, if the algorithms are of several families; and then those of
+/// which none serves.
 pub(crate) fn check_keys(
     alloc: Global,
     keys: &Keys,
@@ -152,6 +182,7 @@ pub(crate) fn check_keys(
     ensures err { IfErr result (IsUnfit allows_blank algorithms.now keys.now) }
 {
     check_safe(alloc, keys, allows_blank)?;
+    check_families(algorithms)?;
     check_served(alloc, keys, algorithms)?;
     Ok(())
 }

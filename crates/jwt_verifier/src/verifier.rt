@@ -120,10 +120,11 @@ pub struct Verifier {
 impl Verifier {
     /// Returns the verifier with these keys and options, for tokens of up to 1 MiB.
     ///
-    /// Keys with which anyone can sign are refused with `Blank` (RFC 2104 section 2), and then those
-    /// of which none verifies with an algorithm of the options with `Useless`: a key of another
-    /// family, an RSA modulus of a length that is not allowed, a point that is not on the curve, a set
-    /// without any other key. A key of a set that does not serve is refused when a token names it.
+    /// Keys with which anyone can sign are refused with `Blank` (RFC 2104 section 2). Then algorithms of
+    /// several families are refused with `Mixed`, since every token would be, and then keys of which
+    /// none verifies with an algorithm of the options with `Useless`: a key of another family, an RSA
+    /// modulus of a length that is not allowed, a point that is not on the curve, a set without any
+    /// other key that has a `kid`. A key of a set that does not serve is refused when a token names it.
     pub fn new(alloc: Global, keys: Keys, validation: Validation) -> Result<Verifier, Unfit>
         ensures ok { IfOk result (λ v. (v.keys ≡ keys) × (v.validation ≡ validation)
             × (v.limits ≡ usual_limits)
