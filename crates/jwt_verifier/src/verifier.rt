@@ -24,8 +24,8 @@ use jwt_keys::jwk_set::JwkSet;
 use std::alloc::Global;
 use std::result::Result;
 
-/// The number of keys of a set that are prepared: to look for one takes longer, the more there are.
-const PREPARED: usize = 16;
+/// The number of keys of a set that are prepared: each takes memory, up to 2 KiB.
+const PREPARED: usize = 4096;
 
 /// Returns the value that a call made, or `None` if it was refused for another reason than memory.
 fn unless_refused<R>(made: Checked<R>) -> Checked<Option<R>>
