@@ -25,9 +25,6 @@ func stringOf(object []byte, name string) (string, bool) {
 	return string(value), is
 }
 
-// arrayOf returns the compact JSON of a member that is an array.
-func arrayOf(object []byte, name string) ([]byte, bool) { return member(object, name, C.JWT_ARRAY) }
-
 // numberOf returns the number of the algorithm of this name, or 0 if there is none.
 func numberOf(algorithm string) (C.uint32_t, error) {
 	header, err := json.Marshal(map[string]string{"alg": algorithm})

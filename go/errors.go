@@ -84,7 +84,9 @@ func keyRefusal(status C.uint32_t) error {
 	case C.JWT_KEY_AS_SECRET:
 		why += ": a secret is a key of another kind, of SSH, in PEM, in DER, or a JSON Web Key or a set of them"
 	case C.JWT_UNFIT_KEY:
-		why += ": none verifies with any of them"
+		why += ": none verifies with any of them, and of a set only keys with a kid count"
+	case C.JWT_MIXED_FAMILIES:
+		return &Error{Status: uint32(status), kind: ErrKey, text: "the key does not serve: the algorithms are not of one family"}
 	}
 	return &Error{Status: uint32(status), kind: ErrKey, text: "the key does not serve: " + why}
 }

@@ -1,12 +1,12 @@
 package jwt
 
 import (
-	"bytes"
 	"crypto"
 	"crypto/ecdsa"
 	"crypto/rsa"
 	"crypto/x509"
 	"encoding/pem"
+	"errors"
 	"fmt"
 	"io"
 	"unicode/utf8"
@@ -75,36 +75,36 @@ func JWK(text []byte) (Key, error) {
 }
 
 // JWKSet returns a JSON Web Key Set (RFC 7517 section 5) as a key. A token names one of its keys by its kid. A set is refused if no key
-// of it has a kid, if none verifies tokens, or if it has a secret that Secret refuses.
+// of it that has a kid verifies tokens, or if it has a secret that Secret refuses.
 func JWKSet(text []byte) (Key, error) {
 	if !utf8.Valid(text) {
 		return Key{}, textError("JSON Web Key Set")
 	}
-	key, err := tried(newKey(keySet, text))
-	if err != nil {
-		return Key{}, err
-	}
-	// the library writes compact JSON, in which no text has a quote that is not escaped
-	if keys, _ := arrayOf(text, "keys"); !bytes.Contains(keys, []byte(`"kid":"`)) {
-		return Key{}, keyError("no key of the set has a kid")
-	}
-	return key, nil
+	return tried(newKey(keySet, text))
 }
 
-// forAnyKey has an algorithm for each kind of key.
-const forAnyKey = `{"algorithms":["HS256","RS256","ES256","ES384","EdDSA"]}`
+// forAnyKey has options for each kind of key: the algorithms of a verifier are of one family.
+var forAnyKey = []string{
+	`{"algorithms":["RS256"]}`, `{"algorithms":["ES256","ES384"]}`, `{"algorithms":["EdDSA"]}`, `{"algorithms":["HS256"]}`,
+}
 
 // tried returns a key that verifies tokens, unless others may have its secret.
 func tried(key Key) (Key, error) {
 	if err := checkKey(key.kind, key.bytes()); err != nil {
 		return Key{}, err
 	}
-	made, err := newHandle(key, []byte(forAnyKey))
-	if err != nil {
-		return Key{}, err
+	var refused *Error
+	for _, options := range forAnyKey {
+		made, err := newHandle(key, []byte(options))
+		if err == nil {
+			made.free()
+			return key, nil
+		}
+		if !errors.As(err, &refused) || refused.Status != unfitKey {
+			return Key{}, err
+		}
 	}
-	made.free()
-	return key, nil
+	return Key{}, refused
 }
 
 // PEM returns a public key of RSA, P-256, P-384 or Ed25519 in PEM as a key, in the strict form of RFC 7468 section 3: that of the first

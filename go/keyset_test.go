@@ -641,6 +641,7 @@ func TestServes(t *testing.T) {
 		{setOf("a"), []string{"ES256", "ES384"}, false},
 		{setOf("a"), []string{"EdDSA", "RS256"}, false},
 		{unnamed, eddsa, false},
+		{set(strings.Replace(ed, `"kid":"b",`, "", 1), secretJWK), eddsa, false},
 		{set(rsa17), []string{"RS256"}, false},
 		{set(rsa17, offCurve, secretJWK), []string{"RS256", "PS384"}, false},
 		{set(offCurve), []string{"ES256"}, false},
@@ -664,6 +665,14 @@ func TestServes(t *testing.T) {
 		}
 	}
 	if _, err := NewVerifier(secretOf(t, secret), []string{"RS256"}); !errors.Is(err, ErrKey) || !strings.Contains(err.Error(), "RS256") {
+		t.Error(err)
+	}
+	if _, err := JWKSet([]byte(unnamed)); !errors.Is(err, ErrKey) || !strings.Contains(err.Error(), "kid") {
+		t.Error(err)
+	}
+	var refused *Error
+	_, err := NewVerifier(secretOf(t, secret), []string{"HS256", "RS256"})
+	if !errors.As(err, &refused) || refused.Status != 114 || !strings.Contains(err.Error(), "one family: [\"HS256\" \"RS256\"]") {
 		t.Error(err)
 	}
 }

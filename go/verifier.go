@@ -81,27 +81,7 @@ func NewVerifier(key Key, algorithms []string, with ...Option) (*Verifier, error
 	case it.err != nil:
 		return nil, fmt.Errorf("%w: %q", it.err, algorithms)
 	}
-	if err := checkFamily(algorithms, text); err != nil {
-		return nil, err
-	}
 	return &Verifier{made}, nil
-}
-
-// checkFamily returns an error if the algorithms are of several families. The library refuses any token then, before its signature.
-func checkFamily(algorithms []string, options []byte) error {
-	input, err := NewSigningInput(struct{}{}, algorithms[0], nil)
-	if err != nil {
-		return err
-	}
-	refused := Signature{algorithms[0], input.Message, []byte{0}}
-	_, err = decodeVerdict(string(input.Message)+".AA", refused, false, options, 0)
-	if errors.Is(err, ErrAlgorithm) {
-		return keyError("the algorithms %q are not of one family", algorithms)
-	}
-	if errors.Is(err, ErrOutOfMemory) {
-		return err
-	}
-	return nil
 }
 
 // Parse verifies a token. The error is nil, or of one of the kinds of this package. A token of more than 1 MiB is ErrMalformed.

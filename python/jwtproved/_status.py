@@ -57,3 +57,4 @@ class Status(enum.IntEnum):
     TOKEN_TOO_LONG = 111
     NO_MEMBER = 112
     KEY_AS_SECRET = 113
+    MIXED_FAMILIES = 114

@@ -59,7 +59,8 @@ class Checker:
         made = {it: _made(material, rules, (it,), longest) for it in listed}
         by_name = {name: handles for name, handles in made.items() if handles is not None}
         if not by_name:
-            raise InvalidKeyError(f"the key is for none of the algorithms {', '.join(rules.algorithms)}, or does not serve")
+            which = "each key of the set has no kid, or" if material.kind == "set" else "the key"
+            raise InvalidKeyError(f"{which} is for none of the algorithms {', '.join(rules.algorithms)}, or does not serve")
         self._first = next(iter(by_name.values()))
         # the library wants one family, which all algorithms of one key are of; of a set, the header names the algorithm
         self._by_name: dict[str, Handles] = {}

@@ -9,7 +9,7 @@ pub enum Error {
     Malformed(String),
     /// The signature is not that of the token by the key.
     Signature,
-    /// The algorithm is not among those that are accepted, or they are not all of the key's family.
+    /// The algorithm is not among those that are accepted.
     Algorithm,
     /// The header's `crit` names a member that is not understood (RFC 7515 section 4.1.11).
     Crit,
@@ -55,7 +55,8 @@ impl Error {
             status::INVALID_SIGNATURE => Error::Signature,
             status::INVALID_ALGORITHM_NAME | status::INVALID_ALGORITHM | status::MISSING_ALGORITHM => Error::Algorithm,
             status::UNSUPPORTED_ALGORITHM | status::INVALID_KEY_FORMAT | status::BAD_SET | status::BAD_KEY => Error::Key(text()),
-            status::BLANK_KEY | status::UNFIT_KEY | status::KEY_AS_SECRET => Error::Key(text()),
+            status::BLANK_KEY | status::KEY_AS_SECRET => Error::Key(text()),
+            status::UNFIT_KEY => Error::Key(format!("{}, and of a set only keys with a kid count", text())),
             status::TOKEN_TOO_LONG => Error::TooLong,
             status::SIGNING => Error::Signing,
             status::EXPIRED_SIGNATURE => Error::Expired,

@@ -1,6 +1,6 @@
 use crate::calls::{self, Kind};
 use crate::handle::Handle;
-use crate::{validation, Algorithm, Error};
+use crate::{status, validation, Algorithm, Error};
 use std::fmt;
 
 /// A key that tokens are verified by.
@@ -27,7 +27,8 @@ impl DecodingKey {
     }
 
     /// Returns a JSON Web Key Set as a key (RFC 7517 section 5), of which a token names one by its `kid`. One that can't be read, or of
-    /// which no key verifies with any algorithm, is [`Error::Key`], and so is one with a secret that [`DecodingKey::from_secret`] refuses.
+    /// which no key with a `kid` verifies with any algorithm, is [`Error::Key`], and so is one with a secret that
+    /// [`DecodingKey::from_secret`] refuses.
     pub fn from_jwk_set(set: &str) -> Result<DecodingKey, Error> {
         usable(Kind::Set, set)
     }
@@ -66,11 +67,27 @@ fn checked(secret: &[u8]) -> Result<Vec<u8>, Error> {
     Ok(secret.to_vec())
 }
 
+/// Algorithms for each kind of key. Those of a verifier are of one family.
+const FOR_ANY_KEY: [&[Algorithm]; 4] =
+    [&[Algorithm::RS256], &[Algorithm::ES256, Algorithm::ES384], &[Algorithm::EdDSA], &[Algorithm::HS256]];
+
 /// Returns a key that the library makes a verifier of, with some algorithm.
 fn usable(kind: Kind, text: &str) -> Result<DecodingKey, Error> {
-    let (text, any) = (text.as_bytes(), format!("{{\"algorithms\":{}}}", validation::names(&Algorithm::ALL)));
-    calls::check(kind, text).and_then(|()| Handle::new(kind, text, &any, 0)).map_err(Error::from_key_status)?;
+    let text = text.as_bytes();
+    calls::check(kind, text).and_then(|()| serves(kind, text)).map_err(Error::from_key_status)?;
     Ok(DecodingKey { kind, text: text.to_vec() })
+}
+
+/// Returns the status of a key of which the library makes no verifier.
+fn serves(kind: Kind, text: &[u8]) -> Result<(), u32> {
+    for algorithms in FOR_ANY_KEY {
+        let options = format!("{{\"algorithms\":{}}}", validation::names(algorithms));
+        let made = Handle::new(kind, text, &options, 0).map(|_| ());
+        if made != Err(status::UNFIT_KEY) {
+            return made;
+        }
+    }
+    Err(status::UNFIT_KEY)
 }
 
 impl fmt::Debug for DecodingKey {

@@ -91,8 +91,8 @@ struct Handles {
 impl Verifier {
     /// Returns the verifier of a key and conditions, for tokens of at most 1 MiB.
     ///
-    /// A key that serves none of the algorithms is [`Error::Key`], and so is a set of which no key does; conditions that are not
-    /// understood are [`Error::Argument`].
+    /// A key that serves none of the algorithms is [`Error::Key`], and so is a set of which no key with a `kid` does; conditions that
+    /// are not understood, and algorithms of several families, are [`Error::Argument`].
     pub fn new(key: &DecodingKey, validation: &Validation) -> Result<Verifier, Error> {
         Verifier::made(key, validation, 0)
     }
