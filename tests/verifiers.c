@@ -305,18 +305,31 @@ static void secrets(size_t step) {
 
 /* ---- a large set */
 
-static void large_set(void) {
+/* has 10,000 keys besides, with other secrets or with one */
+static void large_set(size_t place, const char *other) {
     size_t len = 0, count = 10000;
     char *set = malloc(count * 100 + 1000);
     len += sprintf(set, "{\"keys\":[");
-    for (size_t i = 0; i < count; i++) len += sprintf(set + len, "{\"kty\":\"oct\",\"kid\":\"key %zu\",\"k\":\"c2VjcmV0\"},", i);
-    len += sprintf(set + len, "%s]}", HMAC_KEY);
+    for (size_t i = 0; i < count; i++) {
+        if (i == place) len += sprintf(set + len, "%s,", HMAC_KEY);
+        len += sprintf(set + len, "{\"kty\":\"oct\",\"kid\":\"key %zu\",\"k\":\"", i);
+        len += other ? sprintf(set + len, "%s\"},", other) : sprintf(set + len, "%08zu\"},", i);
+    }
+    len += sprintf(set + len, "%s]}", place < count ? P256_KEY : HMAC_KEY);
     struct jwt_verifier v = JWT_VERIFIER_NONE;
-    is("10,001 keys", jwt_verifier_set((uint8_t *)set, len, BYTES(HS256), 0, false, &v), JWT_OK);
+    is("10,001 keys", jwt_verifier_set((uint8_t *)set, len, BYTES("{\"algorithms\":[\"HS256\",\"HS512\"]}"), 0, false, &v), JWT_OK);
     free(set);
-    is("the last of them", status(&v, BY_HS256), JWT_OK);
+    is("one of them", status(&v, BY_HS256), JWT_OK);
     is("another", status(&v, BY_RS256), JWT_NO_KEY);
     jwt_verifier_free(&v);
+}
+
+static void large_sets(void) {
+    large_set(0, NULL);
+    large_set(4000, NULL);
+    large_set(5000, NULL);
+    large_set(10000, NULL);
+    large_set(10000, "c2VjcmV0");
 }
 
 /* ---- threads */
@@ -485,7 +498,7 @@ int main(int argc, char **argv) {
     if (!is_few) {
         compare_all(OF_SET, sets, COUNT(sets), step);
         compare_all(OF_KEY, keys, COUNT(keys), step);
-        large_set();
+        large_sets();
         is("answers that were compared", compared > 5000, 1);
     }
     secrets(step);
