@@ -6,39 +6,12 @@ import shutil
 import subprocess
 import tempfile
 
-from proving import built, checks, kit
+from proving import built, kit
 from proving.crates import crates
 from proving.kit import TOP, stop, tell
 
 CRATE = "jwt_c"
-# What the library is compiled for: every processor with x86-64. The programs are compiled for rattle's default, and test at their start
-# whether the processor serves; a library does not.
-CPU = "x86-64"
 OUT = f"{TOP}/out"
-
-
-def build(crate):
-    """Builds the static library of the crate, by rattle over the libraries that rt ci built below it, or else by rt lib, which proves these
-    again. Returns whether it is built."""
-    cpu = ["--cpu", CPU] if "--cpu" in kit.help_of_check() else []
-
-    def by_rt():
-        return kit.rt("lib", *cpu, cwd=crate.folder, stdin=subprocess.DEVNULL).returncode == 0
-
-    if not checks.are_built([crate]) or checks.lacking_in_kit():
-        return by_rt()
-    words = [*crate.check_words(), *cpu, "--jobs", "1", "--toolchain", f"{kit.folder()}/toolchain", "--backend", "llvm"]
-    words = [kit.program("rattle"), "build", *words, "-o", f"out/lib{crate.name}.a"]
-    ran = subprocess.run(words, cwd=crate.folder, stdin=subprocess.DEVNULL, stdout=subprocess.PIPE, stderr=subprocess.STDOUT, text=True)
-    if ran.returncode == 2:
-        # this kit's rattle takes other words
-        return by_rt()
-    verdict = ran.returncode == 0 and re.search(r"^logic=proved .*", ran.stdout, re.M)
-    if not verdict:
-        print(ran.stdout)
-        return False
-    built.keep_verdict(crate, verdict[0])
-    return True
 
 
 def version():

@@ -47,6 +47,14 @@ def uses(library):
         return re.findall(r"^dep (\w+)$", file.read(), re.M)
 
 
+def libraries(crate):
+    """Returns the names of the libraries of the kit below a crate, sorted."""
+    left = [*dict.fromkeys(name for part in [*crate.below, crate] for name in part.of_kit())]
+    for name in left:
+        left += [use for use in uses(name) if use not in left]
+    return sorted(left)
+
+
 def rt(*words, **how):
     """Runs a command of rt. Returns what `subprocess.run` does."""
     return subprocess.run(["rt", *words], **how)
@@ -95,9 +103,13 @@ def free_memory():
     return 1024 * int(sizes["MemAvailable"].split()[0])
 
 
+def checks_at_once():
+    """Returns how many checks of crates this machine can run at once."""
+    most_memory = 4_000_000_000
+    return max(1, min(processors(), free_memory() // most_memory))
+
+
 def one_job_each(environment):
     """Returns the environment in which rt gives each check one job: several jobs of one check take a sixth more time of the processors
     in all. A kit whose rt does not know RT_JOBS decides by itself."""
-    most_memory = 4_000_000_000
-    jobs = max(1, min(processors(), free_memory() // most_memory))
-    return {"RT_JOBS": str(jobs), **environment}
+    return {"RT_JOBS": str(checks_at_once()), **environment}

@@ -5,7 +5,7 @@ import shutil
 import subprocess
 import tempfile
 
-from proving import built, c_library, checks, kit, wrong_bodies
+from proving import baseline, built, checks, kit, wrong_bodies
 from proving.copies import copy_crates
 from proving.crates import crates, with_those_below
 from proving.kit import tell
@@ -62,7 +62,7 @@ def prove_copy(copies, is_anew, is_plain):
     if passed not in (None, expected):
         print(f"rt ci passed {passed}, and not {expected}")
         return None
-    is_well = passed is not None and all(c_library.build(crate) for crate in copies.values() if crate.is_static)
+    is_well = passed is not None and baseline.build(copies.values(), is_anew)
     return passed if is_well else None
 
 

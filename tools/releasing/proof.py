@@ -1,8 +1,9 @@
 """PROOF.txt: what was proved of a release, by what, and what has to be believed."""
 import hashlib
 import os
+import re
 
-from proving import built, c_library, kit
+from proving import baseline, built, c_library, kit
 from proving.crates import crates, with_those_below
 from releasing import elf
 from releasing.files import read
@@ -24,22 +25,13 @@ def of_prover(crate):
     return built.verdict_of(crate) or "proved, by a run whose last line is not kept"
 
 
-def kit_libraries(crate):
-    """Returns the names of the kit's libraries below a crate."""
-    found = dict.fromkeys(name for part in with_those_below([crate]) for name in part.of_kit())
-    left = list(found)
-    for name in left:
-        left += [use for use in kit.uses(name) if use not in left]
-    return sorted(left)
-
-
 def of_kit():
     """Returns what of the kit is inside the artifacts, as lines."""
-    parts = {"libjwtproved": (c_library.CRATE, ("liblibc_c.a",)), **{name: (name, ("libos_c.a", "liblibc_c.a")) for name in PROGRAMS}}
+    parts = {"libjwtproved": (c_library.CRATE, ("liblibc_c.a",)), **{name: (name, baseline.ARCHIVES) for name in PROGRAMS}}
     lines = []
     for name, (crate, files) in parts.items():
         sums = [f"{file} (sha256 {hashlib.sha256(read(f'{kit.folder()}/c/{file}')).hexdigest()})" for file in files]
-        libraries = ", ".join(kit_libraries(crates()[crate]))
+        libraries = ", ".join(kit.libraries(crates()[crate]))
         lines.append(f"- {name}: compiled code of {libraries}, as far as it is called; the C code of {', '.join(sums)}")
     return lines
 
@@ -51,12 +43,21 @@ def of_gate(it):
     return lines + [f"- {line}" for line in it.noted["left_out"]]
 
 
+def processors(crate):
+    """Returns for which processors a crate is compiled, as the last line of the prover says."""
+    verdict = of_prover(crate)
+    found = re.search(r" cpu=(\S+)", verdict)
+    return found[1] if found else "each x86-64" if verdict.startswith("logic=proved ") else "processors that are not noted"
+
+
 def files(it):
+    """Returns the files that were built of what is proved, with what they need, as lines."""
+    of_library = crates()[c_library.CRATE]
+    found = [(it.static, of_library), (it.shared, of_library), *((it.program(name), crates()[name]) for name in PROGRAMS)]
     lines = []
-    for path in (it.static, it.shared, *map(it.program, PROGRAMS)):
-        if os.path.isfile(path):
-            needs = "" if path == it.static else f", glibc {elf.glibc(path)}"
-            lines.append(f"{hashlib.sha256(read(path)).hexdigest()}  {os.path.basename(path)}{needs}")
+    for path, crate in found:
+        needs = "" if path == it.static else f", glibc {elf.glibc(path)}"
+        lines.append(f"{hashlib.sha256(read(path)).hexdigest()}  {os.path.basename(path)}: {processors(crate)}{needs}")
     return lines
 
 
@@ -77,7 +78,7 @@ def write(it):
         "Of the kit, inside the artifacts:",
         *of_kit(),
         "",
-        "The files that were built of what is proved, by SHA-256 (the library for each x86-64, the programs for x86-64-v2):",
+        "The files that were built of what is proved, by SHA-256, with what they need:",
         *files(it),
     ]
     return "\n".join(lines) + "\n"

@@ -1,13 +1,14 @@
 """What a release is made of: the checkout, its commit, and what the gate built."""
 import os
 import shutil
+import subprocess
 import sysconfig
 
-from proving import built, c_library, gate, kit
+from proving import baseline, built, c_library, gate, kit
 from proving.crates import crates
 from proving.kit import stop
 
-PROGRAMS = ("jwt", "jwt_tool")
+PROGRAMS = baseline.PROGRAMS
 PLATFORM = "linux-x86_64"
 # What the artifacts are built with, beside the kit.
 TOOLS = ("cc", "dpkg-deb", "make", "objdump", "pkg-config", "strip")
@@ -30,7 +31,12 @@ class Sources:
         self.static, self.shared, _ = c_library.names()
 
     def program(self, name):
-        return program(name)
+        """Returns the path of a program without the names of its functions, which the library does not have either."""
+        path = f"{self.scratch}/programs/{name}"
+        if not os.path.isfile(path):
+            os.makedirs(os.path.dirname(path), exist_ok=True)
+            subprocess.run(["strip", "-o", path, program(name)], check=True)
+        return path
 
     def tracked(self, folder):
         """Returns the paths, below the folder, of the files in it that git knows."""
