@@ -1,3 +1,3 @@
-module jwtproved
+module curbsorrel.example/jwt
 
 go 1.19

@@ -2,6 +2,6 @@ module example
 
 go 1.19
 
-require jwtproved v0.1.0
+require curbsorrel.example/jwt v0.1.0
 
-replace jwtproved => ../../go
+replace curbsorrel.example/jwt => ../../go

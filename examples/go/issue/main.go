@@ -10,7 +10,7 @@ import (
 	"os"
 	"time"
 
-	jwt "jwtproved"
+	"curbsorrel.example/jwt"
 )
 
 // claims are of your own type; their names are written with tags of encoding/json.

@@ -7,7 +7,7 @@ import (
 	"os"
 	"time"
 
-	jwt "jwtproved"
+	"curbsorrel.example/jwt"
 )
 
 const (
