@@ -9,6 +9,13 @@
 #include <stdint.h>
 #include <string.h>
 
+#if defined(__x86_64__) && defined(__GLIBC__)
+/* Each glibc has these by this version; since 2.34 the linker would ask for that one. Before, they are in libdl, which Python loads. */
+__asm__(".symver dlopen, dlopen@GLIBC_2.2.5");
+__asm__(".symver dlsym, dlsym@GLIBC_2.2.5");
+__asm__(".symver dlerror, dlerror@GLIBC_2.2.5");
+#endif
+
 /* The room for claims on the stack. */
 #define ROOM 4096
 /* From this length of a token on the lock is released also for a secret, as hashlib does; below, a switch of threads takes longer. */

@@ -81,8 +81,7 @@ def built_module(it):
     build = f"{it.scratch}/nginx"
     environment = {**os.environ, "PKG_CONFIG_PATH": f"{it.scratch}/over/lib/pkgconfig", "SOURCE_DATE_EPOCH": str(it.moment)}
     subprocess.run(["make", "-s", "-C", f"{TOP}/nginx", f"BUILD={build}"], env=environment, stdin=subprocess.DEVNULL, check=True)
-    # the build's id depends on the scratch folder
-    subprocess.run(["strip", "--strip-unneeded", "--remove-section=.note.gnu.build-id", f"{build}/objs/{MODULE}"], check=True)
+    subprocess.run(["strip", "--strip-unneeded", f"{build}/objs/{MODULE}"], check=True)
     return f"{build}/objs/{MODULE}"
 
 
