@@ -114,7 +114,8 @@ def build_program(crate, is_anew):
 def build(crates, is_anew):
     """Builds those of these proved crates that are the library for C or a program of a release. Returns whether all are built."""
     some = [(build_library, it) for it in crates if it.is_static] + [(build_program, it) for it in crates if it.name in PROGRAMS]
-    if some:
+    if some and not checks.lacking_in_kit():
+        # once, before several threads ask
         sums_of_compilers()
     with concurrent.futures.ThreadPoolExecutor(kit.checks_at_once()) as pool:
         return all(list(pool.map(lambda it: it[0](it[1], is_anew), some)))
