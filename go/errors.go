@@ -31,7 +31,7 @@ var (
 	// ErrSubject is another subject.
 	ErrSubject = errors.New("jwt: the subject is another")
 	// ErrMissingClaim is a claim that is required, and missing or malformed.
-	ErrMissingClaim = errors.New("jwt: a required claim is missing")
+	ErrMissingClaim = errors.New("jwt: a required claim is missing or malformed")
 	// ErrMalformedClaim is a claim that is checked and malformed.
 	ErrMalformedClaim = errors.New("jwt: a claim is malformed")
 	// ErrKey is a key that can't be read, that is for none of the algorithms, or for which others can sign, and algorithms of two families.

@@ -48,14 +48,14 @@ class InvalidSubjectError(InvalidTokenError):
 
 
 class MissingRequiredClaimError(InvalidTokenError):
-    """A claim that is required is missing. `claim` is its name."""
+    """A claim that is required is missing, or malformed. `claim` is its name."""
 
     def __init__(self, claim: str) -> None:
         super().__init__(claim)
         self.claim = claim
 
     def __str__(self) -> str:
-        return f'Token is missing the "{self.claim}" claim'
+        return f'Token is missing the "{self.claim}" claim, or it is malformed'
 
 
 class PyJWKClientError(PyJWTError):

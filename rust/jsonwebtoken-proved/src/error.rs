@@ -107,7 +107,7 @@ impl fmt::Display for Error {
             Error::Audience => f.write_str("the audience is not accepted"),
             Error::Issuer => f.write_str("the issuer is not accepted"),
             Error::Subject => f.write_str("the subject is another"),
-            Error::MissingClaim(name) => write!(f, "the required claim {name} is missing"),
+            Error::MissingClaim(name) => write!(f, "the required claim {name} is missing or malformed"),
             Error::MalformedClaim(name) => write!(f, "the claim {name} is malformed"),
             Error::TooLong => f.write_str("the token is too long"),
             Error::Json(text) => write!(f, "the claims do not fit their type: {text}"),
