@@ -2,13 +2,13 @@
 
 use crate::row::{Fault, Row};
 use ed25519::decoding::decode;
+use ed25519::field::FieldElement;
 use ed25519::joint::joint_multiple;
-use ed25519::moduli::FieldModulus;
+
 use edwards::points::{ExtendedPoint, is_same_point};
-use residues::montgomery::Montgomery;
 use serde_json::Value;
 
-type Point = ExtendedPoint<Montgomery<FieldModulus, 4>>;
+type Point = ExtendedPoint<FieldElement>;
 
 // The point of an encoding.
 fn point(row: Row<'_>, name: &'static str) -> Result<Point, Fault> {

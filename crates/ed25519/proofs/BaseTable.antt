@@ -8,7 +8,6 @@ use Rattle.edwards_group.specs.Group.{repeat_of}
 use Rattle.edwards_group.proofs.Laws as L
 use Rattle.ed25519.specs.declared.base_table.TheConstants.{BASE_TABLE}
 use Rattle.ed25519.specs.Ed25519.{p, d, base, twice_d, u_of, v_of}
-use Rattle.ed25519.specs.Moduli.{field_root}
 use Rattle.ed25519.specs.private_clauses.Prepared.{IsMultiple, IsPrepared}
 use Rattle.ed25519.proofs.Curve.{field, IsPoint-found}
 use Rattle.ed25519.proofs.Joints.{IsMultiple-more, IsMultiple-at, IsMultiple-one}
@@ -17,9 +16,9 @@ use Rattle.ed25519.proofs.Joints.{IsMultiple-more, IsMultiple-at, IsMultiple-one
 abbrev pub whole_of : (low high : ℕ) → ℕ
 whole_of low high = low + 2 ^ 128 * high
 
--- the number of a form
+-- the residue of a number
 abbrev pub form_of : ℕ → ℕ
-form_of form = (form * field_root) % p
+form_of form = form % p
 
 -- 1 / 2
 abbrev half : ℕ

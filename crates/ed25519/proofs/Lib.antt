@@ -1,6 +1,7 @@
 pub mod BaseTable
 pub mod Chains
 pub mod Curve
+pub mod Folds
 pub mod Joints
 pub mod MinusOne
 pub mod Orders

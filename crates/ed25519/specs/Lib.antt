@@ -1,4 +1,5 @@
 pub mod Ed25519
+pub mod Elements
 pub mod Joint
 pub mod Moduli
 pub mod private_clauses

@@ -11,12 +11,12 @@ ghost use Rattle.ed25519.specs.private_clauses.Prepared.{ArePrepared};
 ghost use Rattle.ed25519.specs.Joint.{IsJoint};
 
 use crate::base_table::base_addend;
-use crate::moduli::{Field, FieldModulus};
+use crate::field::FieldElement;
+use crate::moduli::Field;
 use edwards::factors::{
     Addend, Factors, add_affine, add_to, double_factors, extended, neutral_factors, prepare,
 };
 use edwards::points::{ExtendedPoint, neutral_point};
-use residues::montgomery::Montgomery;
 use residues::residue::Residue;
 
 /// Returns the point (-x, y).
@@ -56,15 +56,12 @@ fn sixteenfold<F: Field>(point: Factors<F>) -> Factors<F>
 }
 
 // One of the base point's multiples more.
-fn add_of_base(
-    point: Factors<Montgomery<FieldModulus, 4>>,
-    digit: u8,
-) -> Factors<Montgomery<FieldModulus, 4>>
+fn add_of_base(point: Factors<FieldElement>, digit: u8) -> Factors<FieldElement>
     requires { digit < 16 }
     ensures { (P : Point) (m n : ℕ)
-        → IsJoint P m n (factor_numbers ⟦<Montgomery<FieldModulus, 4> as Residue>⟧.number p point)
+        → IsJoint P m n (factor_numbers ⟦<FieldElement as Residue>⟧.number p point)
         → IsJoint P (m + digit) n
-        (factor_numbers ⟦<Montgomery<FieldModulus, 4> as Residue>⟧.number p result) }
+        (factor_numbers ⟦<FieldElement as Residue>⟧.number p result) }
 {
     if digit == 0 {
         return point;
@@ -87,18 +84,18 @@ fn add_of_other<F: Field>(point: Factors<F>, others: &[Addend<F>; 16], digit: u8
 
 // Half a byte more of each number.
 fn step(
-    start: Factors<Montgomery<FieldModulus, 4>>,
-    others: &[Addend<Montgomery<FieldModulus, 4>>; 16],
+    start: Factors<FieldElement>,
+    others: &[Addend<FieldElement>; 16],
     first: u8,
     second: u8,
-) -> Factors<Montgomery<FieldModulus, 4>>
+) -> Factors<FieldElement>
     requires first { first < 16 }
     requires second { second < 16 }
     ensures { (P : Point) (m n : ℕ)
-        → ArePrepared ⟦<Montgomery<FieldModulus, 4> as Residue>⟧.number P 16 others.now
-        → IsJoint P m n (factor_numbers ⟦<Montgomery<FieldModulus, 4> as Residue>⟧.number p start)
+        → ArePrepared ⟦<FieldElement as Residue>⟧.number P 16 others.now
+        → IsJoint P m n (factor_numbers ⟦<FieldElement as Residue>⟧.number p start)
         → IsJoint P (16 * m + first) (16 * n + second)
-        (factor_numbers ⟦<Montgomery<FieldModulus, 4> as Residue>⟧.number p result) }
+        (factor_numbers ⟦<FieldElement as Residue>⟧.number p result) }
 {
     add_of_base(add_of_other(sixteenfold(start), others, second), first)
 }
@@ -108,15 +105,15 @@ fn step(
 pub fn joint_multiple(
     first: &[u8],
     second: &[u8],
-    point: ExtendedPoint<Montgomery<FieldModulus, 4>>,
-) -> ExtendedPoint<Montgomery<FieldModulus, 4>>
+    point: ExtendedPoint<FieldElement>,
+) -> ExtendedPoint<FieldElement>
     requires first { length first.now ≡ 32 }
     requires second { length second.now ≡ 32 }
-    ensures { IsPoint p d (numbers ⟦<Montgomery<FieldModulus, 4> as Residue>⟧.number point)
-        → IsJoint (numbers ⟦<Montgomery<FieldModulus, 4> as Residue>⟧.number point)
+    ensures { IsPoint p d (numbers ⟦<FieldElement as Residue>⟧.number point)
+        → IsJoint (numbers ⟦<FieldElement as Residue>⟧.number point)
         (little_endian first.now)
         (little_endian second.now)
-        (numbers ⟦<Montgomery<FieldModulus, 4> as Residue>⟧.number result) }
+        (numbers ⟦<FieldElement as Residue>⟧.number result) }
 {
     let others = multiples(point);
     let mut result = neutral_factors();

@@ -5,6 +5,7 @@
 mod base_table;
 mod constants;
 pub mod decoding;
+pub mod field;
 pub mod group;
 pub mod joint;
 pub mod moduli;

@@ -8,8 +8,9 @@ ghost use Rattle.residues.specs.Bytes.{little_endian};
 ghost use Rattle.sha2.specs.Sha512.{sha512};
 
 use crate::decoding::decode;
+use crate::field::FieldElement;
 use crate::joint::{joint_multiple, negative};
-use crate::moduli::{Field, FieldModulus, Order, OrderModulus};
+use crate::moduli::{Field, Order, OrderModulus};
 use edwards::points::{ExtendedPoint, is_same_point};
 use residues::montgomery::Montgomery;
 use residues::residue::Residue;
@@ -38,19 +39,19 @@ fn challenge<N: Order>(first: &[u8], public: &[u8], message: &[u8]) -> [u8; 32]
 
 // Whether [S]B = R + [k]A, which is so where [S]B - [k]A = R.
 fn is_equation(
-    key: ExtendedPoint<Montgomery<FieldModulus, 4>>,
-    commitment: ExtendedPoint<Montgomery<FieldModulus, 4>>,
+    key: ExtendedPoint<FieldElement>,
+    commitment: ExtendedPoint<FieldElement>,
     s: &[u8],
     challenge: &[u8],
 ) -> bool
-    requires key { IsPoint p d (numbers ⟦<Montgomery<FieldModulus, 4> as Residue>⟧.number key) }
+    requires key { IsPoint p d (numbers ⟦<FieldElement as Residue>⟧.number key) }
     requires commitment { IsPoint p d
-        (numbers ⟦<Montgomery<FieldModulus, 4> as Residue>⟧.number commitment) }
+        (numbers ⟦<FieldElement as Residue>⟧.number commitment) }
     requires s { length s.now ≡ 32 }
     requires challenge { length challenge.now ≡ 32 }
     ensures { IsTrue result
-        ↔ IsEquation (numbers ⟦<Montgomery<FieldModulus, 4> as Residue>⟧.number key)
-        (numbers ⟦<Montgomery<FieldModulus, 4> as Residue>⟧.number commitment)
+        ↔ IsEquation (numbers ⟦<FieldElement as Residue>⟧.number key)
+        (numbers ⟦<FieldElement as Residue>⟧.number commitment)
         (little_endian s.now)
         (little_endian challenge.now) }
 {
@@ -68,10 +69,10 @@ fn is_signature_over<N: Order>(public: &[u8], message: &[u8], signature: &[u8]) 
         return false;
     }
     let (first, second) = signature.split_at(32);
-    let Some(key) = decode::<Montgomery<FieldModulus, 4>>(public) else {
+    let Some(key) = decode::<FieldElement>(public) else {
         return false;
     };
-    let Some(commitment) = decode::<Montgomery<FieldModulus, 4>>(first) else {
+    let Some(commitment) = decode::<FieldElement>(first) else {
         return false;
     };
     let Some(_s) = N::from_bytes(second) else {
@@ -103,7 +104,7 @@ fn is_public_key_over<F: Field>(public: &[u8]) -> bool
 pub fn is_public_key(public: &[u8]) -> bool
     ensures { result ≡ is_public_key public.now }
 {
-    is_public_key_over::<Montgomery<FieldModulus, 4>>(public)
+    is_public_key_over::<FieldElement>(public)
 }
 
 /// Returns whether the 64 bytes are a signature of the message by this public key (RFC 8032 section 5.1.7, without the

@@ -1,21 +1,20 @@
-use Rattle.std.proofs.Common.{◌≡◌, ◌*◌, ◌%◌, ◌-◌, ◌≤◌, drop, get_or, sym, subst, arith}
+use Rattle.std.proofs.Common.{◌≡◌, ◌%◌, ◌-◌, ◌≤◌, drop, get_or, sym, subst, arith}
 use Rattle.residues.specs.Bytes.{little_endian}
 use Rattle.residues.proofs.Numbers.{little_endian-drop, little_endian-drop_all}
 use Rattle.edwards.specs.Numbers.{numbers}
-use Rattle.limbs.specs.Limbs.{value}
 use Rattle.edwards.specs.Edwards.{Point}
-use Rattle.ed25519.specs.Moduli.{field_limbs, field_root, field_is}
+use Rattle.ed25519.specs.Elements.{whole}
+use Rattle.ed25519.specs.Ed25519.{p}
 use Rattle.ed25519.specs.Joint.{IsJoint}
 use Rattle.ed25519.proofs.Joints.{IsJoint-none, IsJoint-at, by_halves}
 use Rattle.ed25519.proofs.joint.joint_multiple.Goals as goal
 
 pub loop-i-init : goal.loop-i-init
 loop-i-init c =
-    let f = field_is in
-    let P : Point = numbers (λ x. (value x.limbs * field_root) % value field_limbs) c.args.point in
+    let P : Point = numbers (λ x. whole x % p) c.args.point in
     let a = little_endian-drop_all c.args.first.now 32 (omega (arith, c.requires.first)) in
     let b = little_endian-drop_all c.args.second.now 32 (omega (arith, c.requires.second)) in
-    let e = rw f at c.neutral_factors-result.ensures in
+    let e = c.neutral_factors-result.ensures in
     record {
       within = omega arith;
       joint = λ h. rw (a, b, e) (IsJoint-none P h);
@@ -23,8 +22,7 @@ loop-i-init c =
 
 pub loop-i-preserved : goal.loop-i-preserved
 loop-i-preserved c =
-    let f = field_is in
-    let P : Point = numbers (λ x. (value x.limbs * field_root) % value field_limbs) c.args.point in
+    let P : Point = numbers (λ x. whole x % p) c.args.point in
     let i = c.loop-i.i in
     let xs = c.args.first.now in
     let ys = c.args.second.now in
@@ -43,9 +41,8 @@ loop-i-preserved c =
 
 pub returns : goal.returns
 returns c = λ h.
-    let f = field_is in
-    let P : Point = numbers (λ x. (value x.limbs * field_root) % value field_limbs) c.args.point in
+    let P : Point = numbers (λ x. whole x % p) c.args.point in
     let none : c.loop-i.i ≡ 0 = let z = c.loop-i-test.false in omega arith in
     let all = rw none at (c.loop-i.invariant.joint h) in
-    let e = rw f at c.extended.ensures in
+    let e = c.extended.ensures in
     subst (IsJoint P (little_endian c.args.first.now) (little_endian c.args.second.now)) (sym e) all
