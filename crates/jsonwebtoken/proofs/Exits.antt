@@ -163,7 +163,7 @@ module _ {T : Type 0} (call : Call T) (parts : Parts) (h : Header)
   abbrev pub opened : Contents → Contents
   opened x = record o.0 { parts = parts; header = h; jwk = x.jwk; jwk_key = x.jwk_key; signature_bytes = x.signature_bytes; payload_bytes = x.payload_bytes; payload_value = x.payload_value }
 
-  opened_passes : (x : Contents) → Passes (token_tests call) header_order (opened x)
+  pub opened_passes : (x : Contents) → Passes (token_tests call) header_order (opened x)
   opened_passes x = let p : Passes (token_tests bare) header_tests (opened x) = rw o.2 at o.1 in (has, p)
 
   -- contents that pass the rest of the order pass all of it, and the same for contents that fail

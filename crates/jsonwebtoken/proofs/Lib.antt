@@ -6,6 +6,7 @@ pub mod Engine
 pub mod Exits
 pub mod Issued
 pub mod LawsOf
+pub mod OwnLemmas
 pub mod Repeats
 pub mod UniqueParts
 pub mod KnownParts

@@ -8,6 +8,7 @@ pub mod IssueGiven
 pub mod Jws
 pub mod Laws
 pub mod Order
+pub mod Own
 pub mod Refused
 pub mod TestName
 pub mod Tests

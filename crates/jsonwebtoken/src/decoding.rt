@@ -13,10 +13,12 @@ ghost use Rattle.jsonwebtoken.specs.Tests.{Compact, header_order, decode_order, 
 
 pub(crate) mod crit;
 pub(crate) mod key_set;
+pub(crate) mod own;
 pub(crate) mod parts;
 pub(crate) mod steps;
 
 pub use crate::decoding::key_set::{decode_with_set, decode_with_set_or_refusal};
+pub use crate::decoding::own::decode_with_set_by_own_algorithm;
 use crate::decoding::steps::{read_claims_by_key, read_header_noting, token_parts};
 use crate::refusal::{Refusal, Test, note, with_test};
 use jwt_base::errors::Result;

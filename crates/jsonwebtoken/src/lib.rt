@@ -19,7 +19,7 @@ pub use by_signature::{SigningInput, encode_by_signature, signing_input};
 pub use by_verdict::{SignedPart, decode_by_verdict, signed_part};
 pub use decoding::{
     TokenData, decode, decode_header, decode_or_refusal, decode_with_set,
-    decode_with_set_or_refusal,
+    decode_with_set_by_own_algorithm, decode_with_set_or_refusal,
 };
 pub use encoding::encode;
 pub use first_failed::{failed_test, failed_test_with_set};

@@ -77,7 +77,7 @@ fn key_in_set(alloc: Global, set: &JwkSet, header: &Header) -> Result<DecodingKe
 
 /// Returns the claims of a token that passes, by the key of the set that its header names, the tests
 /// that follow those of the header.
-fn read_claims_by_set<P: CryptoProvider, T: Claims>(
+pub(crate) fn read_claims_by_set<P: CryptoProvider, T: Claims>(
     alloc: Global,
     provider: &P,
     parts: &TokenParts<'_>,
