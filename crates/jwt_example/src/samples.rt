@@ -66,17 +66,12 @@ pub fn issued(alloc: Global, claims: &Value) -> Result<String> {
 /// token names.
 pub fn verified_by_set(alloc: Global, token: &[u8], set: &[u8], now: u64) -> Result<Value> {
     let set = JwkSet::from_slice(alloc, set)?;
-    let mut validation = Validation::new(alloc, Algorithm::RS256)?;
+    let mut validation = Validation::new_strict(alloc, Algorithm::RS256)?;
     validation.set_issuer(alloc, &["https://login.example"])?;
     validation.set_audience(alloc, &["my-service"])?;
-    let data: TokenData<Value> = decode_with_set(
-        alloc,
-        &StandardProvider,
-        token,
-        &set,
-        &validation,
-        now,
-    )?;
+    validation.require_configured(alloc)?; // a token without iss or aud is refused
+    let provider = &StandardProvider;
+    let data: TokenData<Value> = decode_with_set(alloc, provider, token, &set, &validation, now)?;
     Ok(data.claims)
 }
 
