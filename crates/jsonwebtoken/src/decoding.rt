@@ -147,6 +147,5 @@ pub fn decode_header(alloc: Global, token: &[u8]) -> Result<Header>
         Err(refusal) => return Err(refusal.error),
     };
     let mut failed = Test::HasThreeParts;
-    let header = read_header_noting(alloc, parts.header, &mut failed)?;
-    Ok(header)
+    read_header_noting(alloc, parts.header, &mut failed)
 }
