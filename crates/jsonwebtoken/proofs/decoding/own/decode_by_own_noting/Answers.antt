@@ -28,9 +28,12 @@ returns-in-Ok-claims-clause-decided g c =
     let parts = parts_in c.in-Ok.parts in
     let h = c.in_ok-header.header in
     let token = header_call c.args.token.now in
-    ⊎_elim (λ m. absurd m) (λ f. inr (named_own c.args.set.now.keys.items h,
-    inl (opened token parts h c.in_ok-header.ensures c.in-Ok.ensures no_contents, opened_passes token parts h c.in_ok-header.ensures c.in-Ok.ensures no_contents, refl), f.0,
-    beside_claims call parts h c.in_ok-header.ensures c.in-Ok.ensures set_order c.in-Ok-claims.claims f.1))
+    ⊎_elim (λ m. absurd m) (λ f. inr (
+      named_own c.args.set.now.keys.items h,
+      inl (opened token parts h c.in_ok-header.ensures c.in-Ok.ensures no_contents, opened_passes token parts h c.in_ok-header.ensures c.in-Ok.ensures no_contents, refl),
+      f.0,
+      beside_claims call parts h c.in_ok-header.ensures c.in-Ok.ensures set_order c.in-Ok-claims.claims f.1,
+    ))
     c.in-Ok-claims.ensures.read
 
 pub returns-in-Err-claims-clause-decided : goal.returns-in-Err-claims-clause-decided
@@ -40,7 +43,10 @@ returns-in-Err-claims-clause-decided g c =
     let h = c.in_ok-header.header in
     let token = header_call c.args.token.now in
     rw (c.note-in-Err-claims.ensures.test, c.note-in-Err-claims.ensures.error)
-    (⊎_elim (λ m. inl m) (λ f. inr (named_own c.args.set.now.keys.items h,
-    inl (opened token parts h c.in_ok-header.ensures c.in-Ok.ensures no_contents, opened_passes token parts h c.in_ok-header.ensures c.in-Ok.ensures no_contents, refl), f.0,
-    no_claims call parts h c.in_ok-header.ensures c.in-Ok.ensures set_order c.in-Err-claims.refusal f.1))
+    (⊎_elim (λ m. inl m) (λ f. inr (
+      named_own c.args.set.now.keys.items h,
+      inl (opened token parts h c.in_ok-header.ensures c.in-Ok.ensures no_contents, opened_passes token parts h c.in_ok-header.ensures c.in-Ok.ensures no_contents, refl),
+      f.0,
+      no_claims call parts h c.in_ok-header.ensures c.in-Ok.ensures set_order c.in-Err-claims.refusal f.1,
+    ))
     c.in-Err-claims.ensures.read)
