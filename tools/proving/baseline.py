@@ -1,7 +1,7 @@
 """Builds the library for C, and the programs of a release, for every x86-64, by rattle over the libraries that rt ci built below them.
 
 rt ci builds no library for C. It builds programs for x86-64-v2, and links them so that they ask for glibc 2.34; here a program takes the
-place of that one, linked by start.s so that it asks for what its calls need. A proof is for one processor, so that rattle proves each
+place of that one, linked with start.c so that it asks for what its calls need. A proof is for one processor, so that rattle proves each
 crate again. What it made is kept, with the prover's last line.
 """
 import base64
@@ -18,11 +18,11 @@ from proving.kit import tell
 
 CPU = "x86-64"
 PROGRAMS = ("jwt", "jwt_tool")
-START = f"{os.path.dirname(os.path.realpath(__file__))}/start.s"
+START = f"{os.path.dirname(os.path.realpath(__file__))}/start.c"
 # What is linked to a program, beside the C library.
 ARCHIVES = ("libos_c.a", "liblibc_c.a")
-# A section of these has the addresses of functions that run before main or after it.
-AROUND_MAIN = re.compile(r"\s(\.(?:preinit_array|init_array|fini_array|ctors|dtors|init|fini))\b")
+# A section of these has functions before main or after it that start.c does not call.
+AROUND_MAIN = re.compile(r"\s(\.(?:preinit_array|fini_array|ctors|dtors|init|fini))\s")
 
 
 def cpu_words():
@@ -74,14 +74,14 @@ def link(crate, compiled):
     """Links a program in the place of the one that rt ci linked. Returns whether that went well."""
     to = f"{crate.folder}/out/{crate.name}"
     archives = [f"{kit.folder()}/c/{name}" for name in ARCHIVES]
-    flags = ["-nostartfiles", "-pie", "-Wl,--gc-sections,--build-id=none,-z,relro,-z,now,-z,noexecstack"]
+    flags = ["-O2", "-fPIE", "-fno-stack-protector", "-nostartfiles", "-pie", "-Wl,--gc-sections,--build-id=none,-z,relro,-z,now,-z,noexecstack"]
     words = [os.environ.get("CC", "cc"), *flags, "-o", f"{to}.linked", START, compiled, *archives]
     if subprocess.run(words, stdin=subprocess.DEVNULL).returncode:
         return False
     sections = subprocess.run(["objdump", "-h", f"{to}.linked"], stdout=subprocess.PIPE, text=True, check=True).stdout
     found = AROUND_MAIN.search(sections)
     if found:
-        tell(f"{crate.name} has a section {found[1]}, whose functions an old glibc would not run")
+        tell(f"{crate.name} has a section {found[1]}, whose functions would not be called")
         return False
     os.replace(f"{to}.linked", to)
     return True

@@ -13,7 +13,7 @@ TRUSTED = """\
 Trusted, and proved by nothing here:
 - the prover and the statements of the kit's libraries; docs/REVIEWING.md in the repository says how the contracts are read
 - the compiler that made machine code of what was proved (LLVM), the linker, and those that compiled the packages over the library
-- the C library, the C code of the kit that is named below, the first code of the commands (tools/proving/start.s), the system and the processor
+- the C library, the C code of the kit that is named below, the first code of the commands (tools/proving/start.c), the system and the processor
 - that a signature can't be forged, and that the constants of the curves are those of the standards
 What was only tested: the packages over the library, and what docs/RULES.md in the repository names so.
 """
