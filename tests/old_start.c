@@ -1,4 +1,5 @@
 /* Loaded before a program, starts it as glibc did before 2.34: only what the program hands over calls its constructors. */
+#define _GNU_SOURCE
 #include <stdlib.h>
 #include <unistd.h>
 
