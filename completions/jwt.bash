@@ -3,7 +3,7 @@
 _jwt() {
     local word=${COMP_WORDS[COMP_CWORD]} before=${COMP_WORDS[COMP_CWORD - 1]} command=${COMP_WORDS[1]}
     local key='--secret-file --jwk --jwks --pem --trim'
-    local checks='--alg --aud --iss --sub --leeway --not-within --require --nbf --no-exp --crit --typ --now --options'
+    local checks='--alg --aud --iss --sub --leeway --not-within --require --nbf --no-exp --strict --crit --typ --now --options'
     local algorithms='HS256 HS384 HS512 RS256 RS384 RS512 PS256 PS384 PS512 ES256 ES384 EdDSA'
     case $before in
         --secret-file | --jwk | --jwks | --pem | --options | --claims)

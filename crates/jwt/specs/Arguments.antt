@@ -68,6 +68,7 @@ IsKeyFile f (file.Pem path) =
 -- what a token is checked against
 pub record AreChecks (f : Found) (c : Checks) : Type 0 where
   pub options : text_of c.options ≡ first_value f (codes "options")
+  pub is_strict : IsFlag f (codes "strict") c.is_strict
   pub algorithms : texts_of c.algorithms ≡ values_of f (codes "alg")
   pub audiences : texts_of c.audiences ≡ values_of f (codes "aud")
   pub issuers : texts_of c.issuers ≡ values_of f (codes "iss")

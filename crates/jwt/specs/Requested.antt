@@ -1,12 +1,12 @@
 -- The options that the arguments of a command ask for.
-use Rattle.std.specs.Prelude.{◌≡◌, ◌&&◌, ◌||◌, not, ℕ, List, [], Bool, Option, Some, None, option_map, map, is_some, unwrap_or, codes}
+use Rattle.std.specs.Prelude.{◌≡◌, ◌&&◌, ◌||◌, not, ℕ, max, List, [], Bool, true, Option, Some, None, option_map, map, is_some, unwrap_or, if◌then◌else◌, codes}
 use Rattle.std.specs.Borrow.{Bor}
 use Rattle.std.specs.Option.{option_or}
 use Rattle.std.specs.Str.{bytes_eq}
 use Rattle.jwt_base.specs.Algorithm.{algorithm_named}
 use Rattle.jwt_base.specs.JsonText.{ReadsText}
 use Rattle.jwt_base.specs.declared.algorithms.Algorithm.{Algorithm}
-use Rattle.jwt_validation.specs.Options.{Options, Texts, among, default_options, no_texts}
+use Rattle.jwt_validation.specs.Options.{Options, Texts, among, default_options, no_texts, requiring_configured}
 use Rattle.jwt_validation.specs.OptionsRead.{ReadsOptions}
 use Rattle.jwt.specs.declared.request.Checks.{Checks}
 
@@ -31,6 +31,19 @@ required c file t =
     || ((is_some c.issuers && bytes_eq (codes "iss") t)
     || ((is_some c.audiences && bytes_eq (codes "aud") t)
     || (given c.required t || kept c.skips_exp file t)))
+
+-- The options, made strict: nbf is checked, without leeway, a token is refused from its exp on, and the claims that have a
+-- value are required (RFC 7519 sections 4.1.4 and 4.1.5). A time that must be left stays.
+abbrev pub made_strict : Options → Options
+made_strict o = requiring_configured (record o {
+  leeway = 0;
+  reject = max 1 o.reject;
+  checks_nbf = true;
+})
+
+-- the same, if strict options are asked for
+abbrev pub strict_if : Bool → Options → Options
+strict_if is_strict o = if is_strict then made_strict o else o
 
 -- the options of a file, changed by each argument that is given, with these algorithms
 abbrev pub changed : Checks → Options → List Algorithm → Options
@@ -67,9 +80,10 @@ abbrev pub AreChosen : Option (Bor (List (Bor (List ℕ)))) → List Algorithm �
 AreChosen None file algorithms = algorithms ≡ file
 AreChosen (Some names) file algorithms = AreNamed names.now algorithms
 
--- the options that the arguments ask for, if this is what their file of options holds
+-- the options that the arguments ask for, if this is what their file of options holds; each other argument changes what
+-- strict options are
 abbrev pub AreRequested : Checks → Option (List ℕ) → Options → Type 0
 AreRequested c bytes options =
     (file : Options) × IsBase bytes file
     × ((algorithms : List Algorithm) × AreChosen c.algorithms file.algorithms algorithms
-    × (options ≡ changed c file algorithms))
+    × (options ≡ changed c (strict_if c.is_strict file) algorithms))

@@ -113,7 +113,7 @@ fn key_entries() -> [Entry; 5] {
     ]
 }
 
-fn option_entries() -> [Entry; 13] {
+fn option_entries() -> [Entry; 14] {
     [
         repeated(
             "alg",
@@ -144,6 +144,10 @@ fn option_entries() -> [Entry; 13] {
         ),
         flag("nbf", "Check 'nbf'"),
         flag("no-exp", "Neither require nor check 'exp'"),
+        flag(
+            "strict",
+            "Check 'nbf', without leeway, and refuse from 'exp' on",
+        ),
         repeated(
             "crit",
             "NAME",

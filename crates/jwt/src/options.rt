@@ -7,7 +7,7 @@ ghost use Rattle.std.specs.Str.{bytes_eq};
 ghost use Rattle.jwt_base.specs.KindOf.{IsMemory};
 ghost use Rattle.jwt_validation.specs.Options.{among, default_options};
 ghost use Rattle.jwt_validation.specs.OptionsOf.{options_of};
-ghost use Rattle.jwt.specs.Requested.{AreNamed, AreRequested, IsBase, IsNoBase, changed, given, given_or, kept, required};
+ghost use Rattle.jwt.specs.Requested.{AreChosen, AreNamed, AreRequested, IsBase, IsNoBase, changed, given, given_or, kept, made_strict, required, strict_if};
 
 use crate::fault::Fault;
 use crate::request::{Checks, algorithm};
@@ -268,8 +268,71 @@ fn change(
     Ok(())
 }
 
-/// Returns the options of the arguments: those of the file, whose bytes are given, changed by each
-/// argument that is given. The algorithms are those of the arguments if they name any, and else those of
+/// Makes options strict: `nbf` is checked, without leeway, a token is refused from its `exp` on, and the
+/// claims that have a value are required.
+fn make_strict(alloc: Global, validation: &mut Validation) -> Result<(), Error>
+    ensures { OnOk result (options_of validation.new ≡ made_strict (options_of validation.old)) }
+{
+    validation.leeway = 0;
+    let seconds = validation.reject_tokens_expiring_in_less_than;
+    validation.reject_tokens_expiring_in_less_than = u64::max(1, seconds);
+    validation.validate_nbf = true;
+    validation.require_configured(alloc)
+}
+
+/// Makes options strict, if that is asked for.
+fn make_strict_if(
+    alloc: Global,
+    validation: &mut Validation,
+    is_strict: bool,
+) -> Result<(), Fault<'static>>
+    ensures strict { OnOk result (options_of validation.new
+        ≡ strict_if is_strict (options_of validation.old)) }
+    ensures algorithms { OnOk result (validation.new.algorithms.items
+        ≡ validation.old.algorithms.items) }
+{
+    if !is_strict {
+        return Ok(());
+    }
+    match make_strict(alloc, validation) {
+        Ok(()) => Ok(()),
+        Err(_) => Err(Fault::Memory),
+    }
+}
+
+/// Changes the algorithms, if the arguments name any.
+fn set_algorithms(
+    alloc: Global,
+    validation: &mut Validation,
+    names: Option<&[&str]>,
+) -> Result<(), Fault<'static>>
+    ensures chosen { OnOk result (AreChosen names.entry validation.old.algorithms.items
+        validation.new.algorithms.items) }
+    ensures rest { OnOk result (options_of validation.new ≡ record (options_of validation.old)
+        { algorithms = validation.new.algorithms.items }) }
+{
+    if let Some(names) = names {
+        validation.algorithms = algorithms(alloc, names)?;
+    }
+    Ok(())
+}
+
+/// Returns the options that the arguments would ask for if they asked for strict ones too.
+pub fn as_strict(
+    alloc: Global,
+    validation: &Validation,
+    checks: &Checks<'_, '_>,
+) -> Result<Validation, Fault<'static>> {
+    let Ok(mut strict) = validation.clone(alloc) else {
+        return Err(Fault::Memory);
+    };
+    make_strict_if(alloc, &mut strict, true)?;
+    set_times(&mut strict, checks);
+    Ok(strict)
+}
+
+/// Returns the options of the arguments: those of the file, whose bytes are given, made strict if that is
+/// asked for, and then changed by each other argument that is given. The algorithms are those of the arguments if they name any, and else those of
 /// the file.
 pub fn validation<'a>(
     alloc: Global,
@@ -280,9 +343,8 @@ pub fn validation<'a>(
         (options_of v)) }
 {
     let mut validation = base(alloc, checks.options, bytes)?;
+    make_strict_if(alloc, &mut validation, checks.is_strict)?;
     change(alloc, &mut validation, checks)?;
-    if let Some(names) = checks.algorithms {
-        validation.algorithms = algorithms(alloc, names)?;
-    }
+    set_algorithms(alloc, &mut validation, checks.algorithms)?;
     Ok(validation)
 }

@@ -28,6 +28,7 @@ pub enum KeyFile<'a> {
 #[derive(Clone, Copy)]
 pub struct Checks<'m, 'a> {
     pub options: Option<&'a str>,
+    pub is_strict: bool,
     pub algorithms: Option<&'m [&'a str]>,
     pub audiences: Option<&'m [&'a str]>,
     pub issuers: Option<&'m [&'a str]>,
@@ -162,6 +163,7 @@ fn checks_asked<'m, 'a: 'm>(matches: &'m ArgMatches<'a>) -> Result<Checks<'m, 'a
         options: matches.get_str("options"),
         algorithms: matches.get_strs("alg"),
         audiences: matches.get_strs("aud"),
+        is_strict: matches.get_flag("strict"),
         issuers: matches.get_strs("iss"),
         subject: matches.get_str("sub"),
         leeway: span(matches, "leeway", "--leeway wants seconds, or a span as 5m")?,
