@@ -28,7 +28,7 @@ _jwt() {
             ;;
     esac
     if [ "$COMP_CWORD" -eq 1 ]; then
-        COMPREPLY=($(compgen -W 'verify explain show sign keys thumbprint help --help --version' -- "$word"))
+        COMPREPLY=($(compgen -W 'verify explain show sign keys jwk thumbprint help --help --version' -- "$word"))
         return
     fi
     case $command in
@@ -36,9 +36,9 @@ _jwt() {
         explain) COMPREPLY=($(compgen -W "$key $checks --json --help" -- "$word")) ;;
         show) COMPREPLY=($(compgen -W '--json --now --help' -- "$word")) ;;
         sign) COMPREPLY=($(compgen -W '--secret-file --trim --claims --alg --kid --typ --exp-in --nbf-in --iat --now --help' -- "$word")) ;;
-        keys) COMPREPLY=($(compgen -f -W '--help' -- "$word")) ;;
+        keys | jwk) COMPREPLY=($(compgen -f -W '--help' -- "$word")) ;;
         thumbprint) COMPREPLY=($(compgen -f -W '--hash --help' -- "$word")) ;;
-        help) COMPREPLY=($(compgen -W 'verify explain show sign keys thumbprint' -- "$word")) ;;
+        help) COMPREPLY=($(compgen -W 'verify explain show sign keys jwk thumbprint' -- "$word")) ;;
     esac
 }
 

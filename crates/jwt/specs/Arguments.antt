@@ -16,7 +16,7 @@ use Rattle.jwt.specs.declared.request.Checks.{Checks}
 use Rattle.jwt.specs.declared.request.KeyFile.{KeyFile}
 use Rattle.jwt.specs.declared.request.KeyFile.TheVariants as file
 use Rattle.jwt.specs.declared.request.Request.{Request}
-use Rattle.jwt.specs.declared.request.Request.TheVariants.{Verify, Explain, Show, Sign, Keys, Thumbprint}
+use Rattle.jwt.specs.declared.request.Request.TheVariants.{Verify, Explain, Show, Sign, Keys, Jwk, Thumbprint}
 use Rattle.jwt.specs.declared.request.Showing.{Showing}
 use Rattle.jwt.specs.declared.request.Signing.{Signing}
 use Rattle.jwt.specs.declared.request.Verification.{Verification}
@@ -127,6 +127,7 @@ IsCommand name f (Explain v) = (name ≡ codes "explain") × IsChecking f v
 IsCommand name f (Show s) = (name ≡ codes "show") × IsShowing f s
 IsCommand name f (Sign s) = (name ≡ codes "sign") × IsSigningOf f s
 IsCommand name f (Keys l) = (name ≡ codes "keys") × IsFile f l.file
+IsCommand name f (Jwk l) = (name ≡ codes "jwk") × IsFile f l.file
 IsCommand name f (Thumbprint d) = (name ≡ codes "thumbprint") × IsFile f d.file
     × IsHash (first_value f (codes "hash")) d.hash
 

@@ -13,13 +13,13 @@ use Rattle.jsonwebtoken.specs.Tests.{Contents, insecure_call, insecure_order, to
 use Rattle.jwt_secrets.specs.Blank.{IsBlank}
 use Rattle.jwt.specs.Answers.{IsVerdict, IsVerifyAnswer, IsSignAnswer}
 use Rattle.jwt.specs.Claimed.{header_asked, with_moments}
-use Rattle.jwt.specs.FileKeys.{AreLoaded}
+use Rattle.jwt.specs.FileKeys.{AreLoaded, IsJwkLine}
 use Rattle.jwt.specs.LineEnd.{IsLessLineEnd, IsSecret}
 use Rattle.jwt.specs.Own.{IsOwn}
 use Rattle.jwt.specs.Requested.{AreRequested}
 use Rattle.jwt.specs.declared.keys.Loaded.{Loaded}
 use Rattle.jwt.specs.declared.request.Request.{Request}
-use Rattle.jwt.specs.declared.request.Request.TheVariants.{Verify, Explain, Show, Sign, Keys, Thumbprint}
+use Rattle.jwt.specs.declared.request.Request.TheVariants.{Verify, Explain, Show, Sign, Keys, Jwk, Thumbprint}
 use Rattle.jwt.specs.declared.request.Showing.{Showing}
 use Rattle.jwt.specs.declared.request.Signing.{Signing}
 use Rattle.jwt.specs.declared.request.Verification.{Verification}
@@ -150,7 +150,7 @@ IsShown s status =
     (bytes : List ℕ) × IsGivenToken s.token bytes
     × ((token : List ℕ) × IsLessLineEnd bytes token × IsReadable token status)
 
--- the answer to a request; of the output of the other commands than `verify` and `sign`, and of that of
+-- the answer to a request; of the output of the other commands than `verify`, `sign` and `jwk`, and of that of
 -- `verify` for many lines, this says nothing
 abbrev pub IsAnswer : Request → ℕ → List ℕ → Type 0
 IsAnswer (Verify v) status output =
@@ -160,6 +160,7 @@ IsAnswer (Explain v) status output = IsExplanation v status
 IsAnswer (Show s) status output = IsShown s status
 IsAnswer (Sign s) status output = IsSigning s status output
 IsAnswer (Keys k) status output = status ≡ 0
+IsAnswer (Jwk k) status output = (status ≡ 0) × ((bytes : List ℕ) × IsJwkLine bytes output)
 IsAnswer (Thumbprint d) status output = status ≡ 0
 
 -- the status of a command that has no answer: 2 for arguments, and 3 for files, streams, the clock and memory

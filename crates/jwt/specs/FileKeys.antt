@@ -1,12 +1,15 @@
 -- The keys that a token is verified with, by the bytes of their file.
-use Rattle.std.specs.Prelude.{◌≡◌, ◌⊎◌, ℕ, List, Option, None, option_and_then}
+use Rattle.std.specs.Prelude.{◌≡◌, ◌⊎◌, ℕ, List, [], ◌∷◌, ◌++◌, Option, Some, None, option_and_then}
+use Rattle.serde_json.specs.Data.{Data}
+use Rattle.serde_json.specs.Written.{compact_text}
 use Rattle.jwt_base.specs.Algorithm.{algorithm_of}
 use Rattle.jwt_base.specs.JsonText.{ReadsText}
 use Rattle.jwt_base.specs.Kind.{Kind}
 use Rattle.jwt_base.specs.declared.algorithms.Algorithm.{Algorithm}
 use Rattle.jwt_base.specs.declared.algorithms.AlgorithmFamily.TheVariants.{Hmac}
+use Rattle.jwt_key_files.specs.JwksOfPem.{IsJwkOfPem}
 use Rattle.jwt_key_files.specs.PemKeys.{IsPemOf, IsPemRefused}
-use Rattle.jwt_keys.specs.Jwk.{ReadsKey}
+use Rattle.jwt_keys.specs.Jwk.{ReadsKey, key_value}
 use Rattle.jwt_keys.specs.JwkSet.{ReadsSet}
 use Rattle.jwt_keys.specs.Key.{Key, Plain}
 use Rattle.jwt_keys.specs.KeyOfJwk.{IsKeyOf}
@@ -39,6 +42,13 @@ AreLoaded (file.Jwks path) bytes keys own =
     × (keys ≡ Set set) × (own ≡ None)
 AreLoaded (file.Pem path) bytes keys own =
     (key : Key) × IsPemOf bytes key × (keys ≡ One key) × (own ≡ None)
+
+-- the compact JSON text of the JSON Web Key (RFC 7517 section 4) of the key that the first block of a text holds (RFC 7468
+-- section 3), and a newline
+abbrev pub IsJwkLine : (bytes line : List ℕ) → Type 0
+IsJwkLine bytes line =
+    (jwk : Jwk) × IsJwkOfPem bytes jwk
+    × ((value : Data) × (key_value jwk ≡ Some value) × (line ≡ compact_text value ++ 10 ∷ []))
 
 -- why the bytes of the file hold no keys: anyone can sign with the secret, or for a key (RFC 2104 section 2); they are no
 -- JSON Web Key, or one that verifies nothing (RFC 7517 section 4); they are no set of these (RFC 7517 section 5); or no

@@ -2,8 +2,12 @@
 
 ghost use Rattle.std.specs.Prelude.{◌≡◌, ◌≢◌, IfOk, IfErr, OnOk, string_bytes};
 ghost use Rattle.std.specs.Io.KnownBytes.{Appends};
+ghost use Rattle.serde_json.specs.View.{view};
+ghost use Rattle.jwt.specs.Answers.{IsLineOf};
 
 use crate::fault::Fault;
+use serde_json::Value;
+use std::alloc::{AllocError, Global};
 use std::io::Write;
 
 /// The answer of a command.
@@ -15,6 +19,15 @@ pub struct Answer {
     pub output: String,
     /// The text for standard error.
     pub message: String,
+}
+
+/// Returns the JSON text of a value, and a newline.
+pub fn value_line(alloc: Global, value: &Value) -> Result<String, AllocError>
+    ensures { IfOk result (λ text. IsLineOf (view value.now) (string_bytes text)) }
+{
+    let mut line = value.to_string(alloc)?;
+    line.push('\n')?;
+    Ok(line)
 }
 
 /// Writes the output, all of it or as far as the writer takes it.

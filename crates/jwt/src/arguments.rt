@@ -310,7 +310,24 @@ fn keys<'a>(alloc: Global) -> Result<Command<'a>, AllocError> {
     with_entries(
         alloc,
         command,
-        &[place("file", "FILE", "A set of JSON Web Keys (RFC 7517)")],
+        &[place(
+            "file",
+            "FILE",
+            "A set of JSON Web Keys (RFC 7517); '-' reads it from standard input",
+        )],
+    )
+}
+
+fn jwk<'a>(alloc: Global) -> Result<Command<'a>, AllocError> {
+    let command = Command::new(alloc, "jwk").about("Print a public key in PEM as a JSON Web Key");
+    with_entries(
+        alloc,
+        command,
+        &[place(
+            "file",
+            "FILE",
+            "A public key in PEM (RFC 7468); '-' reads it from standard input",
+        )],
     )
 }
 
@@ -322,7 +339,11 @@ fn thumbprint<'a>(alloc: Global) -> Result<Command<'a>, AllocError> {
         alloc,
         command,
         &[
-            place("file", "FILE", "A JSON Web Key, or a public key in PEM"),
+            place(
+                "file",
+                "FILE",
+                "A JSON Web Key, or a public key in PEM; '-' reads it from standard input",
+            ),
             once("hash", "HASH", "SHA256, SHA384 or SHA512 (default: SHA256)"),
         ],
     )
@@ -354,5 +375,6 @@ pub fn command<'a>(alloc: Global) -> Result<Command<'a>, AllocError> {
     let command = with_subcommand(command, show(alloc))?;
     let command = with_subcommand(command, sign(alloc))?;
     let command = with_subcommand(command, keys(alloc))?;
+    let command = with_subcommand(command, jwk(alloc))?;
     with_subcommand(command, thumbprint(alloc))
 }

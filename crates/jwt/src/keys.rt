@@ -20,6 +20,7 @@ ghost use Rattle.jwt.specs.FileKeys.{AreLoaded, HasKeysFault, own_of};
 ghost use Rattle.jwt.specs.Own.{named_own, IsNamedBy, IsOwn, IsOwnOf};
 
 use crate::fault::{Fault, unless_refused};
+use crate::file_hints::{key_problem, pem_problem, set_problem};
 use crate::files::without_line_end;
 use crate::request::KeyFile;
 use jsonwebtoken::errors::{Error, ErrorKind};
@@ -334,14 +335,22 @@ fn by_jwk<'a>(alloc: Global, path: &'a str, bytes: &[u8]) -> Result<Loaded, Faul
 {
     let jwk = match Jwk::from_slice(alloc, bytes) {
         Ok(jwk) => jwk,
-        Err(error) => return Err(not_keys(path, &error, "this is no JSON Web Key")),
+        Err(error) => return Err(not_keys(
+            path,
+            &error,
+            key_problem(bytes, "this is no JSON Web Key"),
+        )),
     };
     let own = own_algorithm(&jwk);
     let read = DecodingKey::from_jwk(alloc, &jwk);
     drop(jwk);
     match read {
         Ok(key) => with_key(alloc, path, key, own),
-        Err(error) => Err(not_keys(path, &error, "this key cannot verify signatures")),
+        Err(error) => Err(not_keys(
+            path,
+            &error,
+            key_problem(bytes, "this key cannot verify signatures"),
+        )),
     }
 }
 
@@ -354,7 +363,7 @@ fn by_set<'a>(alloc: Global, path: &'a str, bytes: &[u8]) -> Result<Loaded, Faul
 {
     match JwkSet::from_slice(alloc, bytes) {
         Ok(set) => with_set(alloc, path, set),
-        Err(error) => Err(not_keys(path, &error, "this is no set of JSON Web Keys")),
+        Err(error) => Err(not_keys(path, &error, set_problem(bytes))),
     }
 }
 
@@ -371,17 +380,21 @@ fn by_pem<'a>(alloc: Global, path: &'a str, bytes: &[u8]) -> Result<Loaded, Faul
             has_line_end: false,
             provider: PreparedKeys::new(alloc),
         }),
-        Err(error) => Err(not_keys(path, &error, pem_problem(&error))),
+        Err(error) => Err(not_pem(path, &error, bytes)),
     }
 }
 
-fn pem_problem(error: &Error) -> &'static str {
-    match error.kind() {
+/// Returns the fault of a file that is no public key in PEM, unless memory ran out.
+pub fn not_pem<'a>(path: &'a str, error: &Error, bytes: &[u8]) -> Fault<'a>
+    ensures { IsMemory error.now → result ≡ Fault.Memory }
+{
+    let problem = match error.kind() {
         ErrorKind::UnsupportedAlgorithm =>
             "this public key is of a kind that verifies nothing here",
         ErrorKind::Provider(_) => "this is a private key; a public key is wanted",
-        _ => "this is no public key in PEM",
-    }
+        _ => pem_problem(bytes, "this is no public key in PEM"),
+    };
+    not_keys(path, error, problem)
 }
 
 /// Returns the keys that the bytes of a file hold.

@@ -4,6 +4,7 @@ ghost use Rattle.std.specs.Prelude.{◌≡◌, IfOk};
 
 use crate::answer::Answer;
 use crate::fault::Fault;
+use crate::file_hints::set_problem;
 use jsonwebtoken::crypto::CryptoProvider;
 use jsonwebtoken::errors::{Error, ErrorKind};
 use jsonwebtoken::jwk::{
@@ -274,11 +275,13 @@ fn page(alloc: Global, rows: &[Row]) -> Result<String, AllocError> {
 
 /// Returns the set of a file, or the one key of it.
 fn read_set<'a>(alloc: Global, path: &'a str, bytes: &[u8]) -> Result<JwkSet, Fault<'a>> {
-    let problem = "this is no set of JSON Web Keys";
     match JwkSet::from_slice(alloc, bytes) {
         Ok(set) => Ok(set),
         Err(error) if matches!(error.kind(), ErrorKind::OutOfMemory) => Err(Fault::Memory),
-        Err(_) => Err(Fault::File { path, problem }),
+        Err(_) => Err(Fault::File {
+            path,
+            problem: set_problem(bytes),
+        }),
     }
 }
 

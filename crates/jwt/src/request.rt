@@ -77,7 +77,7 @@ pub struct Showing<'a> {
     pub is_json: bool,
 }
 
-/// The arguments of `keys`.
+/// The arguments of `keys` and of `jwk`.
 #[derive(Clone, Copy)]
 pub struct Listing<'a> {
     pub file: &'a str,
@@ -103,6 +103,8 @@ pub enum Request<'m, 'a> {
     Sign(Signing<'a>),
     /// Prints a table of a key set.
     Keys(Listing<'a>),
+    /// Prints the JSON Web Key of a key in PEM.
+    Jwk(Listing<'a>),
     /// Prints the thumbprint of a key.
     Thumbprint(Digesting<'a>),
 }
@@ -161,9 +163,9 @@ fn checks_asked<'m, 'a: 'm>(matches: &'m ArgMatches<'a>) -> Result<Checks<'m, 'a
 {
     Ok(Checks {
         options: matches.get_str("options"),
+        is_strict: matches.get_flag("strict"),
         algorithms: matches.get_strs("alg"),
         audiences: matches.get_strs("aud"),
-        is_strict: matches.get_flag("strict"),
         issuers: matches.get_strs("iss"),
         subject: matches.get_str("sub"),
         leeway: span(matches, "leeway", "--leeway wants seconds, or a span as 5m")?,
@@ -301,6 +303,7 @@ fn command_asked<'m, 'a: 'm>(
         "show" => showing_asked(found).map(Request::Show),
         "sign" => signing_asked(found).map(Request::Sign),
         "keys" => Ok(Request::Keys(Listing { file: file(found) })),
+        "jwk" => Ok(Request::Jwk(Listing { file: file(found) })),
         "thumbprint" => digesting_asked(found).map(Request::Thumbprint),
         _ => Err(Fault::Usage("a command is needed")),
     }

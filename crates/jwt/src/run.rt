@@ -3,13 +3,14 @@
 ghost use Rattle.std.specs.Prelude.{◌≡◌, ℕ, List, IfOk, is_some, string_bytes};
 ghost use Rattle.jwt_validation.specs.OptionsOf.{options_of};
 ghost use Rattle.jwt.specs.Commands.{ArePrepared, AreVerified, IsAnswer, IsExplanation, IsGiven, IsGivenToken, IsLinesStatus, IsShown, IsSigned, IsSigning, IsTokenAnswer, IsTokenVerdict, IsVerification, form_asked};
-ghost use Rattle.jwt.specs.FileKeys.{AreLoaded};
+ghost use Rattle.jwt.specs.FileKeys.{AreLoaded, IsJwkLine};
 
 use crate::answer::Answer;
 use crate::clock::moment;
 use crate::explain::explain_answer;
 use crate::fault::Fault;
 use crate::files::{file_bytes, input_bytes, without_line_end};
+use crate::jwk::jwk_answer;
 use crate::keys::{Loaded, given_secret, load, names_algorithm, prepare, settle};
 use crate::keys_table::keys_answer;
 use crate::lines::answer_lines;
@@ -288,17 +289,46 @@ fn sign<'a, R: Files + Input + Clock + AllocGlobal>(
     signed(rt.alloc(), request, &key, &text, now)
 }
 
-fn list<'a, R: Files + AllocGlobal>(rt: &R, request: &Listing<'a>) -> Result<Answer, Fault<'a>>
+/// Returns the bytes of a file of keys, or of standard input if its name is `-`.
+fn key_bytes<'a, R: Files + Input + AllocGlobal>(
+    rt: &R,
+    path: &'a str,
+) -> Result<Vec<u8>, Fault<'a>> {
+    if path == "-" {
+        input_bytes(rt)
+    } else {
+        file_bytes(rt, path)
+    }
+}
+
+fn list<'a, R: Files + Input + AllocGlobal>(
+    rt: &R,
+    request: &Listing<'a>,
+) -> Result<Answer, Fault<'a>>
     ensures { IfOk result (λ a. a.status ≡ 0) }
 {
-    let bytes = file_bytes(rt, request.file)?;
+    let bytes = key_bytes(rt, request.file)?;
     keys_answer(rt.alloc(), request.file, &bytes)
 }
 
-fn digest<'a, R: Files + AllocGlobal>(rt: &R, request: &Digesting<'a>) -> Result<Answer, Fault<'a>>
+fn convert<'a, R: Files + Input + AllocGlobal>(
+    rt: &R,
+    request: &Listing<'a>,
+) -> Result<Answer, Fault<'a>>
+    ensures { IfOk result (λ a. (a.status ≡ 0)
+        × ((bytes : List ℕ) × IsJwkLine bytes (string_bytes a.output))) }
+{
+    let bytes = key_bytes(rt, request.file)?;
+    jwk_answer(rt.alloc(), request.file, &bytes)
+}
+
+fn digest<'a, R: Files + Input + AllocGlobal>(
+    rt: &R,
+    request: &Digesting<'a>,
+) -> Result<Answer, Fault<'a>>
     ensures { IfOk result (λ a. a.status ≡ 0) }
 {
-    let bytes = file_bytes(rt, request.file)?;
+    let bytes = key_bytes(rt, request.file)?;
     thumbprint_answer(rt.alloc(), request.file, &bytes, &request.hash)
 }
 
@@ -317,5 +347,6 @@ pub fn answer<'a, R: Files + Input + Print + Clock + AllocGlobal>(
         Request::Sign(request) => sign(rt, request),
         Request::Keys(request) => list(rt, request),
         Request::Thumbprint(request) => digest(rt, request),
+        Request::Jwk(request) => convert(rt, request),
     }
 }

@@ -3,10 +3,10 @@
 ghost use Rattle.std.specs.Prelude.{◌≡◌, IfOk, option_map, string_bytes};
 ghost use Rattle.serde_json.specs.View.{view};
 ghost use Rattle.jwt_validation.specs.OptionsOf.{options_of};
-ghost use Rattle.jwt.specs.Answers.{IsLineOf, IsHeaderLine, IsAcceptedText, IsRefusedText, HasStatus, IsVerifyAnswer};
+ghost use Rattle.jwt.specs.Answers.{IsHeaderLine, IsAcceptedText, IsRefusedText, HasStatus, IsVerifyAnswer};
 
 use crate::advice::{denial_lines, denial_name, denied_claim, is_of_memory};
-use crate::answer::Answer;
+use crate::answer::{Answer, value_line};
 use crate::fault::Fault;
 use crate::keys::Loaded;
 use crate::orders::TYPE_AGREES;
@@ -38,15 +38,6 @@ pub fn denial_status(denial: &Denial) -> u8
         Denial::Refused(refusal) if matches!(refusal.error.kind(), ErrorKind::OutOfMemory) => 3,
         _ => 1,
     }
-}
-
-/// Returns the JSON text of a value, and a newline.
-fn value_line(alloc: Global, value: &Value) -> Result<String, AllocError>
-    ensures { IfOk result (λ text. IsLineOf (view value.now) (string_bytes text)) }
-{
-    let mut line = value.to_string(alloc)?;
-    line.push('\n')?;
-    Ok(line)
 }
 
 /// Returns the JSON text of a header, and a newline.
