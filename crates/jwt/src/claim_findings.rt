@@ -4,11 +4,22 @@ use crate::fault::Fault;
 use crate::findings::{Case, Finding, choice, part_value, quoted};
 use crate::part_findings::type_name;
 use crate::times::{distance_text, is_likely_milliseconds, moment_text, span_text};
-use jsonwebtoken::Validation;
 use jsonwebtoken::errors::{Error, ErrorKind};
+use jsonwebtoken::{Validation, validate};
 use serde_json::Value;
 use std::alloc::{AllocError, Global};
 use std::collections::HashSet;
+
+/// The claims that rules are about, in the order of the rules.
+const CLAIMS: [&str; 5] = ["exp", "nbf", "sub", "iss", "aud"];
+
+/// A claim rule that fails.
+#[derive(Drop)]
+pub struct ClaimFailure {
+    /// The kind of the refusal.
+    pub kind: &'static str,
+    pub finding: Finding,
+}
 
 /// Returns the names of a set in the order of their bytes, as a list in words.
 fn names_of(alloc: Global, names: &HashSet<String>) -> Result<String, AllocError> {
@@ -88,20 +99,68 @@ fn found_seconds(alloc: Global, name: &str, seconds: u64, now: u64) -> Result<St
 /// Returns the form of a claim.
 fn form_of(name: &str) -> &'static str {
     match name {
-        "exp" | "nbf" => "a number of seconds since 1970-01-01 00:00:00 UTC, without quotes",
+        "exp" | "nbf" => "a whole number of seconds since 1970-01-01 00:00:00 UTC, without quotes",
         "sub" => "a string",
         _ => "a string, or an array of strings",
     }
 }
 
-fn missing(alloc: Global, claims: &Value, name: &str) -> Result<Finding, AllocError> {
-    let found = match claims.get(name) {
-        Some(value) => format!(in alloc; "{} as {name}", type_name(value))?,
-        None => format!(in alloc; "no {name}")?,
+/// Returns why a number is no moment.
+fn number_problem(number: &Value) -> &'static str {
+    if number.is_i64() {
+        "which is negative"
+    } else {
+        "which has a fraction or an exponent"
+    }
+}
+
+/// Returns the contents of a claim that is absent or malformed.
+fn malformed(alloc: Global, claims: &Value, name: &str) -> Result<String, AllocError> {
+    let Some(value) = claims.get(name) else {
+        return format!(in alloc; "no {name}");
+    };
+    if matches!(name, "exp" | "nbf") && value.is_number() {
+        let problem = number_problem(value);
+        return format!(in alloc; "{name} {}, {problem}", value.to_string(alloc)?);
+    }
+    format!(in alloc; "{} as {name}", type_name(value))
+}
+
+/// Returns the names of a set as a list in words, if there is one.
+fn set_names(alloc: Global, names: &Option<HashSet<String>>) -> Result<Option<String>, AllocError> {
+    match names {
+        Some(names) => Ok(Some(names_of(alloc, names)?)),
+        None => Ok(None),
+    }
+}
+
+/// Returns the names that the options have for a claim, as a list in words, if there are any.
+fn configured(
+    alloc: Global,
+    validation: &Validation,
+    name: &str,
+) -> Result<Option<String>, AllocError> {
+    match (name, &validation.sub) {
+        ("aud", _) => set_names(alloc, &validation.aud),
+        ("iss", _) => set_names(alloc, &validation.iss),
+        ("sub", Some(subject)) => Ok(Some(quoted(alloc, subject.as_str())?)),
+        _ => Ok(None),
+    }
+}
+
+fn missing(
+    alloc: Global,
+    claims: &Value,
+    validation: &Validation,
+    name: &str,
+) -> Result<Finding, AllocError> {
+    let wanted = match configured(alloc, validation, name)? {
+        Some(names) => format!(in alloc; "{name} {names}")?,
+        None => format!(in alloc; "{name}: {}", form_of(name))?,
     };
     Ok(Finding {
-        found,
-        wanted: format!(in alloc; "{name}: {}", form_of(name))?,
+        found: malformed(alloc, claims, name)?,
+        wanted,
     })
 }
 
@@ -111,6 +170,9 @@ fn wanted_end(alloc: Global, validation: &Validation) -> Result<String, AllocErr
     let left = validation.reject_tokens_expiring_in_less_than;
     if left == 0 {
         return format!(in alloc; "exp at most {} ago (--leeway)", span_text(alloc, leeway)?);
+    }
+    if left > leeway && left - leeway == 1 {
+        return String::from_str(alloc, "exp after now");
     }
     if left > leeway {
         let span = span_text(alloc, left - leeway)?;
@@ -137,10 +199,18 @@ fn out_of_time(alloc: Global, claims: &Value, case: Case<'_>) -> Result<Finding,
 }
 
 fn immature(alloc: Global, claims: &Value, case: Case<'_>) -> Result<Finding, AllocError> {
-    let leeway = span_text(alloc, case.validation.leeway)?;
+    let leeway = case.validation.leeway;
+    let wanted = if leeway == 0 {
+        String::from_str(alloc, "nbf not after now")?
+    } else {
+        format!(in alloc;
+            "nbf at most {} from now (--leeway)",
+            span_text(alloc, leeway)?
+        )?
+    };
     Ok(Finding {
         found: found_moment(alloc, claims, "nbf", case.now)?,
-        wanted: format!(in alloc; "nbf at most {leeway} from now (--leeway)")?,
+        wanted,
     })
 }
 
@@ -167,7 +237,7 @@ fn rule_finding(
 ) -> Result<Finding, AllocError> {
     match error.kind() {
         ErrorKind::MissingRequiredClaim(name) | ErrorKind::InvalidClaimFormat(name) => {
-            missing(alloc, claims, name.as_str())
+            missing(alloc, claims, case.validation, name.as_str())
         }
         ErrorKind::ExpiredSignature => expired(alloc, claims, case),
         ErrorKind::ImmatureSignature => immature(alloc, claims, case),
@@ -188,19 +258,90 @@ fn rule_finding(
     }
 }
 
-/// Returns the finding of the rules about claims, whose refusal has this error.
-pub fn claim_finding(
+/// Takes the rules about a claim out of the options.
+fn leave_out(options: &mut Validation, claim: &str) {
+    options.required_spec_claims.remove(claim);
+    match claim {
+        "exp" => options.validate_exp = false,
+        "nbf" => options.validate_nbf = false,
+        "sub" => options.sub = None,
+        "iss" => options.iss = None,
+        _ => options.validate_aud = false,
+    }
+}
+
+/// Returns the error of the rules about one claim, if one fails.
+fn failure_about(
+    alloc: Global,
+    case: Case<'_>,
+    claims: &Value,
+    claim: &str,
+) -> Result<Option<Error>, Fault<'static>> {
+    let Ok(mut options) = case.validation.clone(alloc) else {
+        return Err(Fault::Memory);
+    };
+    for other in &CLAIMS {
+        if *other != claim {
+            leave_out(&mut options, other);
+        }
+    }
+    let held = validate(alloc, claims, &options, case.now);
+    drop(options);
+    match held {
+        Ok(()) => Ok(None),
+        Err(error) if matches!(error.kind(), ErrorKind::OutOfMemory) => Err(Fault::Memory),
+        Err(error) => Ok(Some(error)),
+    }
+}
+
+/// Adds the failures of the rules, a claim after the other: those of claims that are missing, or the others.
+fn push_failures(
+    alloc: Global,
+    case: Case<'_>,
+    claims: &Value,
+    is_missing: bool,
+    failures: &mut Vec<ClaimFailure>,
+) -> Result<(), Fault<'static>> {
+    for claim in &CLAIMS {
+        if let Some(error) = failure_about(alloc, case, claims, claim)?
+            && is_missing == matches!(error.kind(), ErrorKind::MissingRequiredClaim(_))
+        {
+            failures.push(ClaimFailure {
+                kind: error.kind().name(),
+                finding: rule_finding(alloc, case, claims, &error)?,
+            })?;
+        }
+    }
+    Ok(())
+}
+
+/// Returns the failures of all claim rules that fail, in the order in which they are tested, and of missing
+/// claims in that of [`CLAIMS`].
+pub fn claim_failures(
+    alloc: Global,
+    case: Case<'_>,
+    claims: &Value,
+) -> Result<Vec<ClaimFailure>, Fault<'static>> {
+    let mut failures = Vec::new(alloc);
+    push_failures(alloc, case, claims, true, &mut failures)?;
+    push_failures(alloc, case, claims, false, &mut failures)?;
+    Ok(failures)
+}
+
+/// Returns the findings of all claim rules that fail.
+pub fn claim_findings(
     alloc: Global,
     case: Case<'_>,
     payload: &[u8],
-    error: &Error,
-) -> Result<Finding, Fault<'static>> {
-    match part_value(alloc, payload)? {
-        Some(claims) => {
-            let finding = rule_finding(alloc, case, &claims, error);
-            drop(claims);
-            Ok(finding?)
-        }
-        None => Err(Fault::Memory),
+) -> Result<Vec<Finding>, Fault<'static>> {
+    let Some(claims) = part_value(alloc, payload)? else {
+        return Err(Fault::Memory);
+    };
+    let failures = claim_failures(alloc, case, &claims);
+    drop(claims);
+    let mut findings = Vec::new(alloc);
+    for failure in failures? {
+        findings.push(failure.finding)?;
     }
+    Ok(findings)
 }

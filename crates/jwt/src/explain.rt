@@ -4,14 +4,17 @@ ghost use Rattle.std.specs.Prelude.{◌≡◌, IfOk, option_map};
 ghost use Rattle.jwt_validation.specs.OptionsOf.{options_of};
 ghost use Rattle.jwt.specs.Answers.{HasStatus, IsVerdict};
 
-use crate::advice::{denial_lines, denial_name, is_of_memory};
+use crate::advice::{denial_name, is_of_memory};
 use crate::answer::Answer;
+use crate::claim_findings::{ClaimFailure, claim_failures};
 use crate::explanation::{Explanation, Outcome, json_line, page};
 use crate::fault::{Fault, unless_refused};
-use crate::findings::{Case, Finding, finding_of, part_value, quoted};
+use crate::findings::{Case, Finding, findings_of, part_value, quoted};
 use crate::keys::Loaded;
+use crate::options::as_strict;
 use crate::orders::order;
 use crate::part_findings::cut;
+use crate::request::Checks;
 use crate::times::claim_lines;
 use crate::verdict::{Denial, denial_of};
 use crate::verify::denial_status;
@@ -65,7 +68,7 @@ fn outcome(
         Denial::OtherType => Ok(Outcome::OtherType(type_finding(alloc, case.token, typ)?)),
         Denial::Refused(refusal) => Ok(Outcome::Failed(
             refusal.test,
-            finding_of(alloc, case, refusal)?,
+            findings_of(alloc, case, refusal)?,
         )),
     }
 }
@@ -114,12 +117,40 @@ fn times(
     }
 }
 
+/// Returns the refusal of a token that is accepted, if strict options would refuse it.
+fn refusal_if_strict(
+    alloc: Global,
+    case: Case<'_>,
+    checks: &Checks<'_, '_>,
+) -> Result<Option<ClaimFailure>, Fault<'static>> {
+    if checks.is_strict {
+        return Ok(None);
+    }
+    let strict = as_strict(alloc, case.validation, checks)?;
+    let case = Case {
+        validation: &strict,
+        ..case
+    };
+    let failures = match accepted_claims(alloc, case.token, &Outcome::Accepted) {
+        Ok(Some(claims)) => {
+            let failures = claim_failures(alloc, case, &claims);
+            drop(claims);
+            failures
+        }
+        Ok(None) => Ok(Vec::new(alloc)),
+        Err(fault) => Err(fault),
+    };
+    drop(strict);
+    Ok(failures?.into_iter().next())
+}
+
 /// Returns the explanation of an outcome.
 fn explanation<'e>(
     alloc: Global,
     case: Case<'e>,
     outcome: Outcome,
     kind: Option<&'e str>,
+    strict: Option<ClaimFailure>,
 ) -> Result<Explanation<'e>, Fault<'static>> {
     let (times, moments) = times(alloc, case, &outcome)?;
     Ok(Explanation {
@@ -129,6 +160,7 @@ fn explanation<'e>(
         moments,
         now: case.now,
         times,
+        strict,
     })
 }
 
@@ -144,10 +176,16 @@ fn written(
     }
 }
 
-fn accepted(alloc: Global, case: Case<'_>, is_json: bool) -> Result<Answer, Fault<'static>>
+fn accepted(
+    alloc: Global,
+    case: Case<'_>,
+    checks: &Checks<'_, '_>,
+    is_json: bool,
+) -> Result<Answer, Fault<'static>>
     ensures { IfOk result (λ a. a.status ≡ 0) }
 {
-    let explanation = explanation(alloc, case, Outcome::Accepted, None)?;
+    let strict = refusal_if_strict(alloc, case, checks)?;
+    let explanation = explanation(alloc, case, Outcome::Accepted, None, strict)?;
     let output = written(alloc, &explanation, is_json);
     drop(explanation);
     Ok(Answer {
@@ -167,24 +205,26 @@ fn denied(
     ensures { IfOk result (λ a. HasStatus denial.now a.status) }
 {
     let outcome = outcome(alloc, case, typ, denial)?;
-    let explanation = explanation(alloc, case, outcome, Some(denial_name(denial)))?;
+    let explanation = explanation(alloc, case, outcome, Some(denial_name(denial)), None)?;
     let output = written(alloc, &explanation, is_json);
     drop(explanation);
     Ok(Answer {
         status: denial_status(denial),
         output: output?,
-        message: denial_lines(alloc, denial, case.loaded.has_line_end)?,
+        message: String::new(alloc),
     })
 }
 
 /// Returns the answer that explains a token: each test with its result, the first that fails with what
-/// it found and what it asks for, and the moments at which the token is accepted. The status is that of
+/// it found and what it asks for, the moments at which the token is accepted, and whether it is accepted
+/// without strict options only, which `checks` name as they were asked for. The status is that of
 /// [`verify_answer`](crate::verify::verify_answer).
 pub fn explain_answer(
     alloc: Global,
     token: &[u8],
     loaded: &Loaded,
     validation: &Validation,
+    checks: &Checks<'_, '_>,
     now: u64,
     typ: Option<&str>,
     is_json: bool,
@@ -199,7 +239,7 @@ pub fn explain_answer(
         now,
     };
     match denial_of(alloc, token, loaded, validation, now, typ) {
-        None => accepted(alloc, case, is_json),
+        None => accepted(alloc, case, checks, is_json),
         Some(denial) => denied(alloc, case, typ, &denial, is_json),
     }
 }

@@ -1,5 +1,6 @@
 //! How an explanation is written.
 
+use crate::claim_findings::ClaimFailure;
 use crate::fault::Fault;
 use crate::findings::Finding;
 use crate::orders::{TYPE_AGREES, sentence};
@@ -7,14 +8,15 @@ use crate::times::{distance_text, moment_text};
 use jsonwebtoken::{Moments, Test};
 use serde_json::{Map, Value};
 use std::alloc::{AllocError, Global};
+use std::slice;
 
 /// The result of the tests of a token.
 #[derive(Drop)]
 pub enum Outcome {
     /// Each test passes.
     Accepted,
-    /// This is the first test that fails.
-    Failed(Test, Finding),
+    /// This is the first test that fails, with one finding or more.
+    Failed(Test, Vec<Finding>),
     /// Each test of the library passes, but the token's type is not the one that is asked for.
     OtherType(Finding),
 }
@@ -33,7 +35,12 @@ pub struct Explanation<'e> {
     pub now: u64,
     /// Lines about the claims that are moments.
     pub times: String,
+    /// The refusal under strict options, if the token is accepted without them.
+    pub strict: Option<ClaimFailure>,
 }
+
+/// The word before the name of a test that fails.
+const FAILED: &str = "FAILED";
 
 /// The width of the longest name of a test.
 const WIDTH: usize = 19;
@@ -64,35 +71,50 @@ fn push_finding(page: &mut String, finding: &Finding) -> Result<(), AllocError> 
 }
 
 /// Adds the line of the test that fails, what it found and what it asks for.
-fn push_failed(
-    page: &mut String,
-    name: &str,
-    sentence: &str,
-    finding: &Finding,
-) -> Result<(), AllocError> {
-    push_test(page, "FAILED", name, sentence)?;
-    push_finding(page, finding)
+fn push_failed(page: &mut String, test: Test, findings: &[Finding]) -> Result<(), AllocError> {
+    push_test(page, FAILED, test.name(), sentence(test))?;
+    for finding in findings {
+        push_finding(page, finding)?;
+    }
+    Ok(())
 }
 
-/// Adds a line for each test; those after the first that fails are not made.
-fn push_tests(page: &mut String, explanation: &Explanation<'_>) -> Result<(), AllocError> {
-    let mut verdict = "passed";
-    for test in explanation.order {
+/// Adds the line about tests that are not made.
+fn push_left(alloc: Global, page: &mut String, count: usize) -> Result<(), AllocError> {
+    match count {
+        0 => Ok(()),
+        1 => page.push_str("-       1 test after this one is not made\n"),
+        _ => {
+            let line = format!(in alloc; "-       {count} tests after this one are not made\n")?;
+            page.push_str(line.as_str())
+        }
+    }
+}
+
+/// Adds a line for each test up to the first that fails, and one line for those after it.
+fn push_tests(
+    alloc: Global,
+    page: &mut String,
+    explanation: &Explanation<'_>,
+) -> Result<(), AllocError> {
+    for (place, test) in explanation.order.iter().enumerate() {
         match &explanation.outcome {
-            Outcome::Failed(failed, finding) if *failed == *test => {
-                push_failed(page, test.name(), sentence(*test), finding)?;
-                verdict = "-     ";
+            Outcome::Failed(failed, findings) if *failed == *test => {
+                push_failed(page, *test, findings)?;
+                let left = explanation.order.iter().skip(place).skip(1).count();
+                return push_left(alloc, page, left);
             }
-            _ => push_test(page, verdict, test.name(), sentence(*test))?,
+            _ => push_test(page, "passed", test.name(), sentence(*test))?,
         }
     }
     if let Outcome::OtherType(finding) = &explanation.outcome {
-        push_failed(
+        push_test(
             page,
+            FAILED,
             TYPE_AGREES,
             "the header has the type of --typ",
-            finding,
         )?;
+        push_finding(page, finding)?;
     }
     Ok(())
 }
@@ -118,13 +140,52 @@ fn moments_line(alloc: Global, moments: Option<Moments>, now: u64) -> Result<Str
     }
 }
 
-/// Returns an explanation for people: a line for each test, and when the token is accepted.
+/// Returns the line about a refusal.
+fn refusal_line(
+    alloc: Global,
+    start: &str,
+    kind: &str,
+    finding: &Finding,
+) -> Result<String, AllocError> {
+    let found = finding.found.as_str();
+    let wanted = finding.wanted.as_str();
+    format!(in alloc; "{start}: {kind}: found {found}; wanted {wanted}\n")
+}
+
+/// Returns the finding that a token is refused for.
+fn first_finding(outcome: &Outcome) -> Option<&Finding> {
+    match outcome {
+        Outcome::Accepted => None,
+        Outcome::Failed(_, findings) => findings.first(),
+        Outcome::OtherType(finding) => Some(finding),
+    }
+}
+
+/// Returns the last line: why the token is refused, or that it is only accepted without strict options.
+fn last_line(alloc: Global, explanation: &Explanation<'_>) -> Result<String, AllocError> {
+    if let (Some(kind), Some(finding)) = (explanation.kind, first_finding(&explanation.outcome)) {
+        return refusal_line(alloc, "refused", kind, finding);
+    }
+    match &explanation.strict {
+        Some(strict) => refusal_line(
+            alloc,
+            "with --strict this token is refused",
+            strict.kind,
+            &strict.finding,
+        ),
+        None => Ok(String::new(alloc)),
+    }
+}
+
+/// Returns an explanation for people: a line for each test that is made, when the token is accepted, and
+/// why it is refused.
 pub fn page(alloc: Global, explanation: &Explanation<'_>) -> Result<String, AllocError> {
     let mut page = String::new(alloc);
-    push_tests(&mut page, explanation)?;
+    push_tests(alloc, &mut page, explanation)?;
     page.push_str(explanation.times.as_str())?;
     let moments = moments_line(alloc, explanation.moments, explanation.now)?;
     page.push_str(moments.as_str())?;
+    page.push_str(last_line(alloc, explanation)?.as_str())?;
     Ok(page)
 }
 
@@ -148,20 +209,58 @@ fn put_text(
     put(alloc, members, name, Value::String(text))
 }
 
+fn put_finding(
+    alloc: Global,
+    members: &mut Map<String, Value>,
+    finding: &Finding,
+) -> Result<(), AllocError> {
+    put_text(alloc, members, "found", finding.found.as_str())?;
+    put_text(alloc, members, "wanted", finding.wanted.as_str())
+}
+
+/// Returns objects with the findings after the first.
+fn others(alloc: Global, findings: &[Finding]) -> Result<Vec<Value>, AllocError> {
+    let mut others = Vec::new(alloc);
+    for finding in findings.iter().skip(1) {
+        let mut members = Map::new(alloc);
+        put_finding(alloc, &mut members, finding)?;
+        others.push(Value::Object(members))?;
+    }
+    Ok(others)
+}
+
 /// Puts the test that fails among the members, what it found and what it asks for.
 fn put_outcome(
     alloc: Global,
     members: &mut Map<String, Value>,
     outcome: &Outcome,
 ) -> Result<(), AllocError> {
-    let (name, finding) = match outcome {
+    let (name, findings) = match outcome {
         Outcome::Accepted => return Ok(()),
-        Outcome::Failed(test, finding) => (test.name(), finding),
-        Outcome::OtherType(finding) => (TYPE_AGREES, finding),
+        Outcome::Failed(test, findings) => (test.name(), findings.as_slice()),
+        Outcome::OtherType(finding) => (TYPE_AGREES, slice::from_ref(finding)),
     };
     put_text(alloc, members, "test", name)?;
-    put_text(alloc, members, "found", finding.found.as_str())?;
-    put_text(alloc, members, "wanted", finding.wanted.as_str())
+    if let Some(finding) = findings.first() {
+        put_finding(alloc, members, finding)?;
+    }
+    if findings.len() > 1 {
+        let others = others(alloc, findings)?;
+        put(alloc, members, "others", Value::Array(others))?;
+    }
+    Ok(())
+}
+
+/// Puts the kind of the refusal under strict options among the members, if there is one.
+fn put_strict(
+    alloc: Global,
+    members: &mut Map<String, Value>,
+    strict: &Option<ClaimFailure>,
+) -> Result<(), AllocError> {
+    match strict {
+        Some(strict) => put_text(alloc, members, "strict", strict.kind),
+        None => Ok(()),
+    }
 }
 
 /// Puts the moments among the members; null stands for none.
@@ -191,6 +290,7 @@ pub fn json_line(alloc: Global, explanation: &Explanation<'_>) -> Result<String,
         put_text(alloc, &mut members, "kind", kind)?;
     }
     put_outcome(alloc, &mut members, &explanation.outcome)?;
+    put_strict(alloc, &mut members, &explanation.strict)?;
     put_moments(alloc, &mut members, explanation.moments)?;
     let mut line = Value::Object(members).to_string(alloc)?;
     line.push('\n')?;

@@ -1,9 +1,10 @@
 //! Findings: the contents of a token, beside those that a failed test asks for.
 
-use crate::claim_findings::claim_finding;
+use crate::claim_findings::claim_findings;
 use crate::fault::{Fault, unless_refused};
 use crate::keys::Loaded;
-use crate::part_findings::{cut, part_finding, text_finding};
+use crate::part_findings::{Parts, cut, is_of_base64url, part_finding, text_finding};
+use crate::signature_findings::length_finding;
 use jsonwebtoken::jwk::JwkSet;
 use jsonwebtoken::{
     Algorithm, AlgorithmFamily, Header, Refusal, Test, Text, Validation, decode_header,
@@ -237,24 +238,85 @@ pub fn part_value(alloc: Global, part: &[u8]) -> Result<Option<Value>, Fault<'st
     }
 }
 
-/// Returns the finding of the test that a refusal carries.
-pub fn finding_of(
+/// Returns the finding of a signature that is not accepted.
+fn other_signature(
+    alloc: Global,
+    case: Case<'_>,
+    parts: Parts<'_>,
+) -> Result<Finding, Fault<'static>> {
+    if let Some(finding) = length_finding(alloc, case, parts)? {
+        return Ok(finding);
+    }
+    let wanted = if case.loaded.has_line_end {
+        "the secret that it was signed with: the file ends with a newline, which --trim leaves out"
+    } else {
+        "the key that the token was signed with, and the token as it was issued"
+    };
+    Finding::new(
+        alloc,
+        "a signature that is not one of this header and payload by this key",
+        wanted,
+    )
+}
+
+/// Returns the finding of a signature part that is no base64url.
+fn no_signature_part(
+    alloc: Global,
+    case: Case<'_>,
+    parts: Parts<'_>,
+) -> Result<Finding, Fault<'static>> {
+    if parts.signature.iter().all(|byte| is_of_base64url(*byte))
+        && let Some(finding) = length_finding(alloc, case, parts)?
+    {
+        return Ok(finding);
+    }
+    part_finding(alloc, case.token, parts.signature, Test::SignatureIsPart)
+}
+
+/// Returns the finding of a test of the whole text or of a part.
+fn by_part(
+    alloc: Global,
+    case: Case<'_>,
+    parts: Parts<'_>,
+    test: Test,
+) -> Result<Finding, Fault<'static>> {
+    match test {
+        Test::HeaderIsPart | Test::HeaderIsJson | Test::HeaderReads => {
+            part_finding(alloc, case.token, parts.header, test)
+        }
+        Test::SignatureIsPart => no_signature_part(alloc, case, parts),
+        _ => part_finding(alloc, case.token, parts.payload, test),
+    }
+}
+
+/// Returns the findings of the test that a refusal carries: one, or one for each claim rule that fails.
+pub fn findings_of(
     alloc: Global,
     case: Case<'_>,
     refusal: &Refusal,
-) -> Result<Finding, Fault<'static>> {
-    let test = refusal.test;
+) -> Result<Vec<Finding>, Fault<'static>> {
+    if let (Test::ClaimRulesHold, Some(parts)) = (refusal.test, cut(case.token)) {
+        return claim_findings(alloc, case, parts.payload);
+    }
+    let mut findings = Vec::new(alloc);
+    findings.push(finding_of(alloc, case, refusal.test)?)?;
+    Ok(findings)
+}
+
+/// Returns the finding of a test other than that of the claim rules.
+fn finding_of(alloc: Global, case: Case<'_>, test: Test) -> Result<Finding, Fault<'static>> {
     let Some(parts) = cut(case.token) else {
         return text_finding(alloc, case.token);
     };
     match test {
-        Test::HeaderIsPart | Test::HeaderIsJson | Test::HeaderReads => {
-            part_finding(alloc, parts.header, test)
-        }
-        Test::SignatureIsPart => part_finding(alloc, parts.signature, test),
-        Test::PayloadIsPart | Test::PayloadIsJson | Test::ClaimsRead | Test::ClaimsAreAnObject => {
-            part_finding(alloc, parts.payload, test)
-        }
+        Test::HeaderIsPart
+        | Test::HeaderIsJson
+        | Test::HeaderReads
+        | Test::SignatureIsPart
+        | Test::PayloadIsPart
+        | Test::PayloadIsJson
+        | Test::ClaimsRead
+        | Test::ClaimsAreAnObject => by_part(alloc, case, parts, test),
         Test::KeyIsUsable => Finding::new(
             alloc,
             "a key whose members are malformed, or that verifies nothing here",
@@ -265,12 +327,7 @@ pub fn finding_of(
             "no algorithm that is accepted",
             "--alg, or a key with an 'alg' of its own",
         ),
-        Test::SignatureIsAccepted => Finding::new(
-            alloc,
-            "a signature that is not one of this header and payload by this key",
-            "the key that the token was signed with, and the token as it was issued",
-        ),
-        Test::ClaimRulesHold => claim_finding(alloc, case, parts.payload, &refusal.error),
+        Test::SignatureIsAccepted => other_signature(alloc, case, parts),
         _ => by_header(alloc, case, test),
     }
 }

@@ -28,12 +28,15 @@ mod orders;
 mod part_findings;
 mod request;
 mod run;
+mod salvage;
 mod show;
 mod sign;
+mod signature_findings;
 mod thumbprint;
 mod times;
 mod verdict;
 mod verify;
+mod wrappings;
 
 use answer::write_output;
 use arguments::command;

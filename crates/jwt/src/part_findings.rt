@@ -1,8 +1,10 @@
 //! Findings about the parts of a token: their contents, beside those that a failed test asks for.
 
-use crate::fault::Fault;
+use crate::fault::{Fault, unless_refused};
 use crate::findings::{Finding, part_value, quoted};
-use jsonwebtoken::Test;
+use crate::wrappings::wrapping_of;
+use jsonwebtoken::{Test, decode_header};
+use jwt_base::serialization::part_bytes;
 use serde_json::Value;
 use std::alloc::{AllocError, Global};
 
@@ -29,23 +31,32 @@ pub fn cut(token: &[u8]) -> Option<Parts<'_>> {
 
 /// Returns the finding of a text that is not three parts.
 pub fn text_finding(alloc: Global, token: &[u8]) -> Result<Finding, Fault<'static>> {
-    let dots = token.iter().filter(|byte| **byte == b'.').count();
-    let found = if token.is_empty() {
-        "no text"
-    } else if dots == 0 {
-        "a text without a dot"
-    } else {
-        "a text with one dot"
-    };
+    if let Some(found) = wrapping_of(token) {
+        return Finding::new(alloc, found.found, found.wanted);
+    }
+    if token.is_empty() {
+        return Finding::new(
+            alloc,
+            "no text",
+            "a token: the file or the variable that it was taken from is empty",
+        );
+    }
+    if token.contains(&b'.') {
+        return Finding::new(
+            alloc,
+            "a text with one dot: the token is cut",
+            "the whole token: header, payload and signature with dots between them",
+        );
+    }
     Finding::new(
         alloc,
-        found,
-        "header, payload and signature with dots between them",
+        "a text without a dot: an opaque token, or no token",
+        "header, payload and signature with dots between them; its issuer knows an opaque token (RFC 7662)",
     )
 }
 
 /// Returns whether a byte is a character of base64url.
-fn is_of_base64url(byte: u8) -> bool {
+pub fn is_of_base64url(byte: u8) -> bool {
     byte.is_ascii_alphanumeric() || byte == b'-' || byte == b'_'
 }
 
@@ -63,9 +74,6 @@ fn byte_name(byte: u8) -> &'static str {
 
 /// Returns why a part is no base64url.
 fn not_base64url(alloc: Global, part: &[u8]) -> Result<String, AllocError> {
-    if part.starts_with(b"Bearer ") {
-        return String::from_str(alloc, "the word Bearer before the token");
-    }
     if let Some(place) = part.iter().position(|byte| !is_of_base64url(*byte)) {
         let name = part.get(place).copied().map_or("", byte_name);
         return format!(in alloc; "{name}, at byte {} of the part", place as u64 + 1);
@@ -141,10 +149,49 @@ fn found_of(alloc: Global, part: &[u8], test: Test) -> Result<String, Fault<'sta
     }
 }
 
-/// Returns the finding of a test of a part.
-pub fn part_finding(alloc: Global, part: &[u8], test: Test) -> Result<Finding, Fault<'static>> {
+/// Returns the finding of a test of a part of a token.
+pub fn part_finding(
+    alloc: Global,
+    token: &[u8],
+    part: &[u8],
+    test: Test,
+) -> Result<Finding, Fault<'static>> {
+    if let Test::HeaderIsPart | Test::SignatureIsPart | Test::PayloadIsPart = test
+        && let Some(found) = wrapping_of(token)
+    {
+        return Finding::new(alloc, found.found, found.wanted);
+    }
     Ok(Finding {
         found: found_of(alloc, part, test)?,
         wanted: String::from_str(alloc, wanted_of(test))?,
     })
+}
+
+/// Returns the first test of a header that can't be read, or `None` if it can.
+fn header_test(alloc: Global, token: &[u8], header: &[u8]) -> Result<Option<Test>, Fault<'static>> {
+    if unless_refused(part_bytes(alloc, header))?.is_none() {
+        return Ok(Some(Test::HeaderIsPart));
+    }
+    if part_value(alloc, header)?.is_none() {
+        return Ok(Some(Test::HeaderIsJson));
+    }
+    if unless_refused(decode_header(alloc, token))?.is_none() {
+        return Ok(Some(Test::HeaderReads));
+    }
+    Ok(None)
+}
+
+/// Returns the finding of a text whose header or claims can't be read.
+pub fn unread_finding(alloc: Global, token: &[u8]) -> Result<Finding, Fault<'static>> {
+    let Some(parts) = cut(token) else {
+        return text_finding(alloc, token);
+    };
+    if let Some(test) = header_test(alloc, token, parts.header)? {
+        return part_finding(alloc, token, parts.header, test);
+    }
+    let test = match unless_refused(part_bytes(alloc, parts.payload))? {
+        Some(_) => Test::PayloadIsJson,
+        None => Test::PayloadIsPart,
+    };
+    part_finding(alloc, token, parts.payload, test)
 }

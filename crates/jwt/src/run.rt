@@ -147,6 +147,7 @@ fn token_explanation(
         token,
         loaded,
         validation,
+        &request.checks,
         now,
         request.typ,
         request.is_json,
@@ -346,7 +347,7 @@ pub fn answer<'a, R: Files + Input + Print + Clock + AllocGlobal>(
         Request::Show(request) => show(rt, request),
         Request::Sign(request) => sign(rt, request),
         Request::Keys(request) => list(rt, request),
-        Request::Thumbprint(request) => digest(rt, request),
         Request::Jwk(request) => convert(rt, request),
+        Request::Thumbprint(request) => digest(rt, request),
     }
 }
