@@ -1,12 +1,13 @@
 //! The first failed tests of tokens.
 
-use crate::inputs::{with_key, with_set};
+use crate::inputs::{WithSet, with_key, with_set};
 use crate::tokens::token_answer;
 use jsonwebtoken::crypto::CryptoProvider;
 use jsonwebtoken::errors::{ErrorKind, Result as Outcome};
 use jsonwebtoken::json::Claims;
 use jsonwebtoken::{
-    Refusal, Test, decode_or_refusal, decode_with_set_or_refusal, failed_test, failed_test_with_set,
+    Refusal, Test, decode_or_refusal, decode_with_set_by_own_algorithm, decode_with_set_or_refusal,
+    failed_test, failed_test_with_set,
 };
 use jwt_rows::answer::{Answer, accepted, kind_text, pair, refused};
 use jwt_rows::fault::Fault;
@@ -29,6 +30,7 @@ pub fn answer<P: CryptoProvider>(
         "decode_or_refusal" => decoded(row, trial, provider),
         "decode_or_refusal::<u64>" => number(row, trial, provider),
         "decode_with_set_or_refusal" => decoded_by_set(row, trial, provider),
+        "decode_with_set_by_own_algorithm" => decoded_by_own(row, trial, provider),
         _ => return Ok(None),
     };
     Ok(Some(answer?))
@@ -144,6 +146,30 @@ fn decoded_by_set<P: CryptoProvider>(row: Row<'_>, trial: &mut Trial, provider: 
         token,
         &inputs.set,
         &inputs.options,
+        now,
+    );
+    trial.end();
+    match answer {
+        Ok(data) => token_answer(row.alloc(), &*Box::new(row.alloc(), data)?),
+        Err(refusal) => of_refusal(row.alloc(), &refusal),
+    }
+}
+
+fn decoded_by_own<P: CryptoProvider>(row: Row<'_>, trial: &mut Trial, provider: &P) -> Answer {
+    let mut inputs = with_set(row, &["token", "set", "validation", "now", "provider"])?;
+    let now = row.number("now")?;
+    let WithSet {
+        token,
+        set,
+        options,
+    } = &mut *inputs;
+    trial.begin();
+    let answer = decode_with_set_by_own_algorithm(
+        row.alloc(),
+        provider,
+        token.as_slice(),
+        set,
+        options,
         now,
     );
     trial.end();
