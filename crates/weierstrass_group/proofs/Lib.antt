@@ -15,4 +15,5 @@ pub mod Points
 pub mod PrimeField
 pub mod Sums
 pub mod Tables
+pub mod Twice
 pub mod Windows

@@ -14,20 +14,17 @@ pub fn double<F: Residue>(point: ProjectivePoint<F>) -> ProjectivePoint<F>
     ensures { numbers F.number result ≡ jacobian_double F.modulus (numbers F.number point) }
 {
     let delta = point.z.times(point.z);
-    let gamma = point.y.times(point.y);
-    let beta = point.x.times(gamma);
+    let y2 = point.y.plus(point.y);
+    let gamma2 = y2.times(point.y);
+    let b2 = point.x.times(gamma2);
     let alpha = three_times(point.x.minus(delta).times(point.x.plus(delta)));
-    let b2 = beta.plus(beta);
     let b4 = b2.plus(b2);
     let x = alpha.times(alpha).minus(b4.plus(b4));
-    let yz = point.y.times(point.z);
-    let g1 = gamma.times(gamma);
-    let g2 = g1.plus(g1);
-    let g4 = g2.plus(g2);
+    let g4 = gamma2.times(gamma2);
     ProjectivePoint {
         x,
         y: alpha.times(b4.minus(x)).minus(g4.plus(g4)),
-        z: yz.plus(yz),
+        z: y2.times(point.z),
     }
 }
 
