@@ -4,7 +4,6 @@ use crate::row::{Fault, Row};
 use ed25519::decoding::decode;
 use ed25519::field::FieldElement;
 use ed25519::joint::joint_multiple;
-
 use edwards::points::{ExtendedPoint, is_same_point};
 use serde_json::Value;
 
