@@ -21,8 +21,8 @@ PROGRAMS = ("jwt", "jwt_tool")
 START = f"{os.path.dirname(os.path.realpath(__file__))}/start.c"
 # What is linked to a program, beside the C library.
 ARCHIVES = ("libos_c.a", "liblibc_c.a")
-# A section of these has functions before main or after it that start.c does not call.
-AROUND_MAIN = re.compile(r"\s(\.(?:preinit_array|fini_array|ctors|dtors|init|fini))\s")
+# What runs before main or after it, and is called by neither the loader nor start.c.
+AROUND_MAIN = re.compile(r"\s(\.(?:ctors|dtors|init))\s")
 
 
 def cpu_words():
@@ -56,6 +56,7 @@ def compile_crate(crate, to, is_anew):
     if not is_anew and proved_earlier(crate, to, sum_of_all):
         return True
     words = [*crate.check_words(), *cpu_words(), "--jobs", "1", "--toolchain", f"{kit.folder()}/toolchain", "--backend", "llvm", "-o", to]
+    tell(f"compiling {crate.name} for each x86-64, for which it is proved once more")
     how = {"cwd": crate.folder, "stdin": subprocess.DEVNULL, "stdout": subprocess.PIPE, "stderr": subprocess.STDOUT}
     ran = subprocess.run([kit.program("rattle"), "build", *words], text=True, errors="replace", **how)
     if ran.returncode == 2:
@@ -71,13 +72,13 @@ def compile_crate(crate, to, is_anew):
 
 
 def link(crate, compiled):
-    """Links a program in the place of the one that rt ci linked. Returns whether that went well."""
+    """Links a program in the place of the one that rt ci linked. Returns whether that went well, or None if nothing can be linked here."""
     to = f"{crate.folder}/out/{crate.name}"
     archives = [f"{kit.folder()}/c/{name}" for name in ARCHIVES]
     flags = ["-O2", "-fPIE", "-fno-stack-protector", "-nostartfiles", "-pie", "-Wl,--gc-sections,--build-id=none,-z,relro,-z,now,-z,noexecstack"]
     words = [os.environ.get("CC", "cc"), *flags, "-o", f"{to}.linked", START, compiled, *archives]
     if subprocess.run(words, stdin=subprocess.DEVNULL).returncode:
-        return False
+        return None
     sections = subprocess.run(["objdump", "-h", f"{to}.linked"], stdout=subprocess.PIPE, text=True, check=True).stdout
     found = AROUND_MAIN.search(sections)
     if found:
@@ -99,16 +100,16 @@ def build_library(crate, is_anew):
 
 def build_program(crate, is_anew):
     """Builds a program, or leaves the one that rt ci built if this can't be done here, and says so. Returns whether it is built."""
-    missing = [name for name in (os.environ.get("CC", "cc"), "objdump") if not shutil.which(name)]
     compiled = f"{crate.folder}/out/{crate.name}.every.o"
+    can_link = shutil.which(os.environ.get("CC", "cc")) and shutil.which("objdump")
     is_well = None
-    if cpu_words() and not missing and checks.are_built([crate]) and not checks.lacking_in_kit():
-        is_well = compile_crate(crate, compiled, is_anew)
+    if cpu_words() and can_link and checks.are_built([crate]) and not checks.lacking_in_kit():
+        is_well = compile_crate(crate, compiled, is_anew) and link(crate, compiled)
     if is_well is None:
-        why = f"there is no {missing[0]}" if missing else "this kit's rattle can't"
-        tell(f"{crate.name} is built for x86-64-v2 and glibc 2.34 alone, since {why}")
+        what = "that takes a C compiler which links, objdump, and a rattle that knows --cpu"
+        tell(f"{crate.name} is built for x86-64-v2 and glibc 2.34, and not for each x86-64 and older ones: {what}")
         return True
-    return is_well and link(crate, compiled)
+    return is_well
 
 
 def build(crates, is_anew):
