@@ -5,13 +5,6 @@
 #include "ngx_http_jwt.h"
 
 
-/* a longer key file is refused */
-#define NGX_HTTP_JWT_FILE   1048576
-/* how many tokens a worker remembers by default, and at most */
-#define NGX_HTTP_JWT_SLOTS  1024
-#define NGX_HTTP_JWT_MOST   1048576
-
-
 static ngx_http_output_header_filter_pt  ngx_http_next_header_filter;
 
 
@@ -50,7 +43,8 @@ ngx_http_jwt_find_token(ngx_http_request_t *r, ngx_int_t variable,
 
 
 static ngx_int_t
-ngx_http_jwt_refuse(ngx_http_request_t *r, ngx_str_t *realm, const char *error)
+ngx_http_jwt_refuse(ngx_http_request_t *r, ngx_str_t *realm, ngx_int_t answer,
+    const char *error)
 {
     size_t            size;
     ngx_table_elt_t  *h;
@@ -78,13 +72,14 @@ ngx_http_jwt_refuse(ngx_http_request_t *r, ngx_str_t *realm, const char *error)
 #endif
     r->headers_out.www_authenticate = h;
 
-    return NGX_HTTP_UNAUTHORIZED;
+    return answer;
 }
 
 
 static ngx_int_t
-ngx_http_jwt_handler(ngx_http_request_t *r)
+ngx_http_jwt_check(ngx_http_request_t *r, ngx_uint_t may_wait)
 {
+    ngx_int_t                 rc;
     ngx_http_jwt_ctx_t       *ctx;
     ngx_http_jwt_loc_conf_t  *jlcf;
 
@@ -94,24 +89,42 @@ ngx_http_jwt_handler(ngx_http_request_t *r)
         return NGX_DECLINED;
     }
 
-    ctx = ngx_http_jwt_add_ctx(r);
+    ctx = ngx_http_get_module_ctx(r, ngx_http_jwt_module);
+
     if (ctx == NULL) {
-        return NGX_HTTP_INTERNAL_SERVER_ERROR;
+        ctx = ngx_http_jwt_add_ctx(r);
+        if (ctx == NULL) {
+            return NGX_HTTP_INTERNAL_SERVER_ERROR;
+        }
+
+        ctx->has_waited = !may_wait;
+    }
+
+    if (ctx->is_waiting) {
+        return NGX_AGAIN;
     }
 
     if (ngx_http_jwt_find_token(r, jlcf->token, &ctx->token) != NGX_OK) {
-        return ngx_http_jwt_refuse(r, &jlcf->realm, "");
+        return ngx_http_jwt_refuse(r, &jlcf->realm, NGX_HTTP_UNAUTHORIZED, "");
     }
 
-    ctx->status = ngx_http_jwt_verify(jlcf->rules, ctx, r->pool);
+    ctx->status = ngx_http_jwt_verify(jlcf->rules, ctx);
 
-    if (ctx->status == JWT_OK) {
+    if (jlcf->uri.len > 0) {
+        rc = ngx_http_jwt_await(jlcf->rules, ctx);
+        if (rc != NGX_OK) {
+            return rc;
+        }
+    }
+
+    switch (ctx->status) {
+
+    case JWT_OK:
         return NGX_OK;
-    }
 
-    if (ctx->status == JWT_OUT_OF_MEMORY
-        || ctx->status == JWT_CLOCK_BEFORE_EPOCH)
-    {
+    case JWT_OUT_OF_MEMORY:
+    case JWT_CLOCK_BEFORE_EPOCH:
+    case JWT_NO_VERIFIER:
         /* the log of a connection has the request's line, and so a token */
         ngx_log_error(NGX_LOG_ERR, ngx_cycle->log, 0,
                       "auth_jwt: no token is verified, status %uD",
@@ -119,7 +132,15 @@ ngx_http_jwt_handler(ngx_http_request_t *r)
         return NGX_HTTP_INTERNAL_SERVER_ERROR;
     }
 
-    return ngx_http_jwt_refuse(r, &jlcf->realm, ", error=\"invalid_token\"");
+    return ngx_http_jwt_refuse(r, &jlcf->realm, NGX_HTTP_UNAUTHORIZED,
+                               ", error=\"invalid_token\"");
+}
+
+
+static ngx_int_t
+ngx_http_jwt_handler(ngx_http_request_t *r)
+{
+    return ngx_http_jwt_check(r, 1);
 }
 
 
@@ -129,7 +150,11 @@ ngx_http_jwt_subrequest_handler(ngx_http_request_t *r)
 {
     ngx_int_t  rc;
 
-    rc = r == r->main ? NGX_DECLINED : ngx_http_jwt_handler(r);
+    if (r == r->main || ngx_http_jwt_is_fetch(r)) {
+        return NGX_DECLINED;
+    }
+
+    rc = ngx_http_jwt_check(r, 1);
 
     /* NGX_OK would leave out the other handlers of the phase */
     return rc == NGX_OK ? NGX_DECLINED : rc;
@@ -143,17 +168,24 @@ ngx_http_jwt_subrequest_handler(ngx_http_request_t *r)
 static ngx_int_t
 ngx_http_jwt_header_filter(ngx_http_request_t *r)
 {
-    ngx_int_t  rc = NGX_DECLINED;
+    ngx_int_t  rc = NGX_OK;
 
-    if (r != r->main
-        && r->headers_out.status < NGX_HTTP_SPECIAL_RESPONSE
-        && ngx_http_get_module_ctx(r, ngx_http_jwt_module) == NULL
-        && !ngx_http_jwt_is_clone(r))
+    if (ngx_http_jwt_is_fetch(r)) {
+        if (r->upstream != NULL && !r->upstream->cacheable) {
+            /* what is too long does not go to a temporary file first */
+            r->upstream->buffering = 0;
+        }
+
+    } else if (r != r->main
+               && r->headers_out.status < NGX_HTTP_SPECIAL_RESPONSE
+               && ngx_http_get_module_ctx(r, ngx_http_jwt_module) == NULL
+               && !ngx_http_jwt_is_clone(r))
     {
-        rc = ngx_http_jwt_subrequest_handler(r);
+        rc = ngx_http_jwt_check(r, 0);
     }
 
-    return rc == NGX_DECLINED ? ngx_http_next_header_filter(r) : rc;
+    return rc == NGX_OK || rc == NGX_DECLINED ? ngx_http_next_header_filter(r)
+                                              : rc;
 }
 
 
@@ -177,6 +209,7 @@ ngx_http_jwt_init(ngx_conf_t *cf)
 
     ngx_http_next_header_filter = ngx_http_top_header_filter;
     ngx_http_top_header_filter = ngx_http_jwt_header_filter;
+    ngx_http_jwt_init_fetches();
 
     return NGX_OK;
 }
@@ -188,182 +221,6 @@ ngx_http_jwt_create_main_conf(ngx_conf_t *cf)
 {
     return ngx_pcalloc(cf->pool, sizeof(ngx_http_jwt_rules_t *));
 }
-
-
-static void *
-ngx_http_jwt_create_loc_conf(ngx_conf_t *cf)
-{
-    ngx_http_jwt_loc_conf_t  *conf;
-
-    conf = ngx_pcalloc(cf->pool, sizeof(ngx_http_jwt_loc_conf_t));
-    if (conf == NULL) {
-        return NULL;
-    }
-
-    conf->enabled = NGX_CONF_UNSET;
-    conf->token = NGX_CONF_UNSET;
-    conf->leeway = NGX_CONF_UNSET;
-    conf->slot_count = NGX_CONF_UNSET;
-
-    return conf;
-}
-
-
-static char *
-ngx_http_jwt_merge_loc_conf(ngx_conf_t *cf, void *parent, void *child)
-{
-    ngx_http_jwt_loc_conf_t  *prev = parent;
-    ngx_http_jwt_loc_conf_t  *conf = child;
-
-    if (conf->enabled == NGX_CONF_UNSET) {
-        conf->token = prev->token;
-    }
-
-    ngx_conf_merge_value(conf->enabled, prev->enabled, 0);
-    ngx_conf_merge_str_value(conf->realm, prev->realm, "");
-    ngx_conf_merge_str_value(conf->key.name, prev->key.name, "");
-    ngx_conf_merge_str_value(conf->key.text, prev->key.text, "");
-    ngx_conf_merge_str_value(conf->algorithms, prev->algorithms, "");
-    ngx_conf_merge_str_value(conf->audiences, prev->audiences, "null");
-    ngx_conf_merge_str_value(conf->issuers, prev->issuers, "null");
-    ngx_conf_merge_sec_value(conf->leeway, prev->leeway, 0);
-    ngx_conf_merge_value(conf->slot_count, prev->slot_count,
-                         NGX_HTTP_JWT_SLOTS);
-
-    if (!conf->enabled) {
-        return NGX_CONF_OK;
-    }
-
-    if (conf->key.text.len == 0 || conf->algorithms.len == 0) {
-        ngx_conf_log_error(NGX_LOG_EMERG, cf, 0, "auth_jwt needs %s",
-                           conf->key.text.len == 0 ? "auth_jwt_key_file"
-                                                   : "auth_jwt_alg");
-        return NGX_CONF_ERROR;
-    }
-
-    return ngx_http_jwt_set_rules(cf,
-               ngx_http_conf_get_module_main_conf(cf, ngx_http_jwt_module),
-               conf);
-}
-
-
-static char *
-ngx_http_jwt(ngx_conf_t *cf, ngx_command_t *cmd, void *conf)
-{
-    ngx_str_t                *value = cf->args->elts, name;
-    ngx_http_jwt_loc_conf_t  *jlcf = conf;
-
-    if (jlcf->enabled != NGX_CONF_UNSET) {
-        return "is duplicate";
-    }
-
-    jlcf->enabled = cf->args->nelts > 2 || ngx_strcmp(value[1].data, "off");
-
-    if (!ngx_http_jwt_is_plain(&value[1])) {
-        return "has a realm that is not UTF-8 without control characters";
-    }
-
-    /* without control characters the escapes are those of a quoted-string */
-    if (ngx_http_jwt_quote(cf->pool, &value[1], 1, &jlcf->realm) != NGX_OK) {
-        return NGX_CONF_ERROR;
-    }
-
-    jlcf->realm.data++;
-    jlcf->realm.len -= 2;
-
-    if (cf->args->nelts == 2) {
-        return NGX_CONF_OK;
-    }
-
-    name.data = value[2].data + sizeof("token=$") - 1;
-    name.len = value[2].len - (sizeof("token=$") - 1);
-
-    if (ngx_strncmp(value[2].data, "token=$", 7) != 0 || name.len == 0) {
-        return "takes token=$variable as its second argument";
-    }
-
-    jlcf->token = ngx_http_get_variable_index(cf, &name);
-    return jlcf->token != NGX_ERROR ? NGX_CONF_OK : NGX_CONF_ERROR;
-}
-
-
-/* Reads the key file, whose name is set already. */
-static char *
-ngx_http_jwt_key_file(ngx_conf_t *cf, void *post, void *data)
-{
-    char                 *rv = "names no regular file of 1 byte to 1 MiB";
-    ngx_file_t            file;
-    ngx_http_jwt_file_t  *key = data;
-
-    if (ngx_conf_full_name(cf->cycle, &key->name, 1) != NGX_OK) {
-        return NGX_CONF_ERROR;
-    }
-
-    ngx_memzero(&file, sizeof(ngx_file_t));
-    file.name = key->name;
-    file.log = cf->log;
-    /* a FIFO does not wait for a writer */
-    file.fd = ngx_open_file(file.name.data, NGX_FILE_RDONLY|NGX_FILE_NONBLOCK,
-                            NGX_FILE_OPEN, 0);
-    if (file.fd == NGX_INVALID_FILE) {
-        ngx_conf_log_error(NGX_LOG_EMERG, cf, ngx_errno,
-                           ngx_open_file_n " \"%V\" failed", &file.name);
-        return NGX_CONF_ERROR;
-    }
-
-    if (ngx_fd_info(file.fd, &file.info) != NGX_FILE_ERROR
-        && ngx_is_file(&file.info) && ngx_file_size(&file.info) > 0
-        && ngx_file_size(&file.info) <= NGX_HTTP_JWT_FILE)
-    {
-        key->text.len = ngx_file_size(&file.info);
-        key->text.data = ngx_pnalloc(cf->pool, key->text.len);
-
-        rv = key->text.data != NULL
-             && ngx_read_file(&file, key->text.data, key->text.len, 0)
-                == (ssize_t) key->text.len
-             ? NGX_CONF_OK : "names a file that can't be read";
-    }
-
-    (void) ngx_close_file(file.fd);
-    return rv;
-}
-
-
-static ngx_conf_post_t  ngx_http_jwt_key_post = { ngx_http_jwt_key_file };
-
-
-static ngx_conf_num_bounds_t  ngx_http_jwt_slot_bounds = {
-    ngx_conf_check_num_bounds, 0, NGX_HTTP_JWT_MOST
-};
-
-
-#define ngx_http_jwt_command(name, args, set, field, post)                   \
-    { ngx_string(name),                                                      \
-      NGX_HTTP_MAIN_CONF|NGX_HTTP_SRV_CONF|NGX_HTTP_LOC_CONF|args,           \
-      set, NGX_HTTP_LOC_CONF_OFFSET,                                         \
-      offsetof(ngx_http_jwt_loc_conf_t, field), post }
-
-
-static ngx_command_t  ngx_http_jwt_commands[] = {
-    ngx_http_jwt_command("auth_jwt", NGX_CONF_TAKE12, ngx_http_jwt, enabled,
-                         NULL),
-    ngx_http_jwt_command("auth_jwt_key_file", NGX_CONF_TAKE1,
-                         ngx_conf_set_str_slot, key, &ngx_http_jwt_key_post),
-    ngx_http_jwt_command("auth_jwt_alg", NGX_CONF_1MORE, ngx_http_jwt_list,
-                         algorithms, NULL),
-    ngx_http_jwt_command("auth_jwt_aud", NGX_CONF_1MORE, ngx_http_jwt_list,
-                         audiences, NULL),
-    ngx_http_jwt_command("auth_jwt_iss", NGX_CONF_1MORE, ngx_http_jwt_list,
-                         issuers, NULL),
-    ngx_http_jwt_command("auth_jwt_leeway", NGX_CONF_TAKE1,
-                         ngx_conf_set_sec_slot, leeway, NULL),
-    ngx_http_jwt_command("auth_jwt_cache", NGX_CONF_TAKE1,
-                         ngx_conf_set_num_slot, slot_count,
-                         &ngx_http_jwt_slot_bounds),
-    { ngx_string("auth_jwt_claim"), NGX_HTTP_MAIN_CONF|NGX_CONF_TAKE2,
-      ngx_http_jwt_claim, NGX_HTTP_MAIN_CONF_OFFSET, 0, NULL },
-    ngx_null_command
-};
 
 
 static ngx_http_module_t  ngx_http_jwt_module_ctx = {

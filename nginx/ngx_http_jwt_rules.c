@@ -1,138 +1,79 @@
 #include "ngx_http_jwt.h"
 
 
-/* how much longer than their token claims may be at the first try */
-#define NGX_HTTP_JWT_ROOM  64
-/* the longest token with its claims that is kept */
-#define NGX_HTTP_JWT_SLOT  4000
-/* in how many neighbouring slots a token may be */
-#define NGX_HTTP_JWT_WAYS  4
+#define NGX_HTTP_JWT_OPTIONS                                                 \
+    "{\"strict\":true,\"leeway\":%T,\"algorithms\":%V,\"aud\":%V,"           \
+    "\"iss\":%V}"
 
 
-/* a token that is accepted at each time from the first to the last */
-typedef struct {
-    uint64_t               first;
-    uint64_t               last;
-    uint64_t               used;
-    uint32_t               hash;
-    uint32_t               token_len;   /* 0 in a free slot */
-    uint32_t               claims_len;
-    u_char                 text[NGX_HTTP_JWT_SLOT];
-} ngx_http_jwt_slot_t;
-
-
-/* shared by the locations whose key, options and slot_count are the same */
-struct ngx_http_jwt_rules_s {
-    ngx_http_jwt_rules_t  *next;
-    ngx_str_t              key;
-    ngx_str_t              options;
-    struct jwt_verifier    verifier;
-    ngx_uint_t             slot_count;
-    ngx_http_jwt_slot_t   *slots;
-    uint64_t               uses;
-};
-
-
-/* Writes the options into memory that grows until there is room left. */
 static ngx_int_t
 ngx_http_jwt_write_options(ngx_pool_t *pool, ngx_http_jwt_loc_conf_t *conf,
     ngx_str_t *options)
 {
-    size_t  size;
+    options->len = sizeof(NGX_HTTP_JWT_OPTIONS) + NGX_TIME_T_LEN
+                   + conf->algorithms.len + conf->audiences.len
+                   + conf->issuers.len;
+    options->data = ngx_pnalloc(pool, options->len);
+    if (options->data == NULL) {
+        return NGX_ERROR;
+    }
 
-    options->len = 128;
-
-    do {
-        size = 2 * options->len;
-        options->data = ngx_pnalloc(pool, size);
-        if (options->data == NULL) {
-            return NGX_ERROR;
-        }
-
-        options->len = ngx_snprintf(options->data, size,
-                                    "{\"strict\":true,\"leeway\":%T,"
-                                    "\"algorithms\":%V,\"aud\":%V,"
-                                    "\"iss\":%V}",
-                                    conf->leeway, &conf->algorithms,
-                                    &conf->audiences, &conf->issuers)
-                       - options->data;
-    } while (options->len == size);
+    options->len = ngx_snprintf(options->data, options->len,
+                                NGX_HTTP_JWT_OPTIONS, conf->leeway,
+                                &conf->algorithms, &conf->audiences,
+                                &conf->issuers)
+                   - options->data;
 
     return NGX_OK;
 }
 
 
-/*
- * Returns JWT_INVALID_ALGORITHM if the algorithms are not of one family: the
- * library would refuse every token.
- */
-static uint32_t
-ngx_http_jwt_check_algorithms(ngx_str_t *list, ngx_str_t *options)
+static ngx_uint_t
+ngx_http_jwt_is_same_text(ngx_str_t *a, ngx_str_t *b)
 {
-    size_t     len, unused;
-    u_char     header[64], token[64], *last, *first = list->data + 1;
-    uint32_t   algorithm;
-
-    last = ngx_snprintf(header, sizeof(header), "{\"alg\":%*s}",
-                        strcspn((char *) first, ",]"), first);
-
-    if (jwt_signing_input(header, last - header, (u_char *) "{}", 2,
-                          &algorithm, token, sizeof(token) - 1, &len)
-        != JWT_OK)
-    {
-        return JWT_BAD_OPTIONS;
-    }
-
-    token[len] = '.';
-
-    return jwt_decode_verdict(token, len + 1, algorithm, token, len, NULL, 0,
-                              1, options->data, options->len, 0, NULL, 0,
-                              &unused);
+    return a->len == b->len && ngx_memcmp(a->data, b->data, a->len) == 0;
 }
 
 
-static uint32_t
-ngx_http_jwt_make_verifier(ngx_pool_t *pool, ngx_http_jwt_rules_t *rules,
-    ngx_str_t *algorithms)
+static ngx_uint_t
+ngx_http_jwt_is_same_keys(ngx_http_jwt_loc_conf_t *a,
+    ngx_http_jwt_loc_conf_t *b)
 {
-    uint32_t    status;
-    ngx_str_t   key = rules->key;
-    ngx_str_t  *options = &rules->options;
+    ngx_uint_t           i;
+    ngx_http_jwt_key_t  *it = a->keys->elts, *other = b->keys->elts;
 
-    status = ngx_http_jwt_check_algorithms(algorithms, options);
-    if (status == JWT_BAD_OPTIONS || status == JWT_INVALID_ALGORITHM) {
-        return status;
+    if (a->keys->nelts != b->keys->nelts
+        || !ngx_http_jwt_is_same_text(&a->uri, &b->uri)
+        || (a->uri.len > 0
+            && (a->server != b->server || a->period != b->period)))
+    {
+        return 0;
     }
 
-    status = jwt_check_set(key.data, key.len);
-    if (status == JWT_OK) {
-        return jwt_verifier_set(key.data, key.len, options->data, options->len,
-                                0, 0, &rules->verifier);
+    for (i = 0; i < a->keys->nelts; i++) {
+        if (!ngx_http_jwt_is_same_text(&it[i].text, &other[i].text)) {
+            return 0;
+        }
     }
 
-    if (status == JWT_BAD_SET) {
-        status = jwt_check_key(key.data, key.len);
-    }
-
-    if (status == JWT_BAD_KEY) {
-        status = ngx_http_jwt_write(jwt_key_from_pem, pool, &rules->key, &key);
-    }
-
-    return status != JWT_OK ? status
-           : jwt_verifier_key(key.data, key.len, options->data, options->len,
-                              0, 0, &rules->verifier);
+    return 1;
 }
 
 
 static void
 ngx_http_jwt_free_rules(void *data)
 {
+    ngx_uint_t             i;
     ngx_http_jwt_rules_t  *rules = data;
+    struct jwt_verifier   *verifiers = rules->verifiers.elts;
 
-    jwt_verifier_free(&rules->verifier);
+    for (i = 0; i < rules->verifiers.nelts; i++) {
+        jwt_verifier_free(&verifiers[i]);
+    }
 }
 
 
+/* Makes rules without verifiers. */
 static ngx_http_jwt_rules_t *
 ngx_http_jwt_add_rules(ngx_pool_t *pool, ngx_http_jwt_loc_conf_t *conf,
     ngx_str_t *options)
@@ -147,62 +88,82 @@ ngx_http_jwt_add_rules(ngx_pool_t *pool, ngx_http_jwt_loc_conf_t *conf,
 
     rules = cln->data;
     ngx_memzero(rules, sizeof(ngx_http_jwt_rules_t));
-    cln->handler = ngx_http_jwt_free_rules;
-
-    rules->key = conf->key.text;
+    rules->conf = conf;
     rules->options = *options;
-    rules->slot_count = conf->slot_count;
-    rules->slots = ngx_pcalloc(pool, conf->slot_count
-                                     * sizeof(ngx_http_jwt_slot_t));
+    ngx_queue_init(&rules->waiting);
 
-    return rules->slots != NULL ? rules : NULL;
+    if (ngx_array_init(&rules->verifiers, pool, conf->keys->nelts + 1,
+                       sizeof(struct jwt_verifier))
+        != NGX_OK
+        || ngx_http_jwt_make_slots(pool, rules) != NGX_OK)
+    {
+        return NULL;
+    }
+
+    cln->handler = ngx_http_jwt_free_rules;
+    return rules;
 }
 
 
+/* Makes a verifier for each key file, and adds one for the set to fetch. */
 static char *
-ngx_http_jwt_report(ngx_conf_t *cf, ngx_str_t *file, uint32_t status)
+ngx_http_jwt_make_verifiers(ngx_conf_t *cf, ngx_http_jwt_rules_t *rules)
 {
-    u_char       text[NGX_HTTP_JWT_ROOM];
-    ngx_str_t    said = { 0, text };
-    const char  *fault = "";
+    uint32_t                  status;
+    ngx_str_t                *options = &rules->options;
+    ngx_uint_t                i;
+    ngx_http_jwt_key_t       *key = rules->conf->keys->elts;
+    ngx_http_jwt_loc_conf_t  *conf = rules->conf;
+    struct jwt_verifier      *verifier;
 
-    if (status == JWT_BAD_OPTIONS) {
-        fault = ": an algorithm of auth_jwt_alg is not known, or a name of "
-                "auth_jwt_aud or auth_jwt_iss is not UTF-8";
+    for (i = 0; i < conf->keys->nelts + (conf->uri.len > 0); i++) {
+        /* there is room for all, so that none is moved */
+        verifier = ngx_array_push(&rules->verifiers);
+        ngx_memzero(verifier, sizeof(struct jwt_verifier));
 
-    } else if (status == JWT_INVALID_ALGORITHM) {
-        fault = ": the algorithms of auth_jwt_alg are not of one family";
+        if (i == conf->keys->nelts) {
+            break;
+        }
 
-    } else if (status < JWT_NO_ROOM) {
-        fault = ": no JSON Web Key Set, JSON Web Key or public key in PEM";
+        if (!key[i].is_set && conf->keys->nelts + (conf->uri.len > 0) > 1) {
+            ngx_conf_log_error(NGX_LOG_EMERG, cf, 0, "auth_jwt_key_file "
+                               "\"%V\": a single key has to be the only "
+                               "source of keys", &key[i].name);
+            return NGX_CONF_ERROR;
+        }
+
+        status = (key[i].is_set ? jwt_verifier_set : jwt_verifier_key)
+                     (key[i].text.data, key[i].text.len, options->data,
+                      options->len, 0, 0, verifier);
+
+        if (status != JWT_OK) {
+            ngx_http_jwt_report(cf, "auth_jwt_key_file", &key[i].name,
+                                status);
+            return NGX_CONF_ERROR;
+        }
     }
 
-    (void) jwt_status_text(status, text, sizeof(text), &said.len);
-    ngx_conf_log_error(NGX_LOG_EMERG, cf, 0, "auth_jwt: \"%V\": %V%s",
-                       file, &said, fault);
-    return NGX_CONF_ERROR;
+    return NGX_CONF_OK;
 }
 
 
 /* Finds or makes the rules of a location. */
 char *
-ngx_http_jwt_set_rules(ngx_conf_t *cf, ngx_http_jwt_rules_t **made,
-    ngx_http_jwt_loc_conf_t *conf)
+ngx_http_jwt_set_rules(ngx_conf_t *cf, ngx_http_jwt_loc_conf_t *conf)
 {
-    uint32_t               status;
-    ngx_str_t              options;
-    ngx_http_jwt_rules_t  *it;
+    ngx_str_t               options;
+    ngx_http_jwt_rules_t   *it, **made;
+
+    made = ngx_http_conf_get_module_main_conf(cf, ngx_http_jwt_module);
 
     if (ngx_http_jwt_write_options(cf->pool, conf, &options) != NGX_OK) {
         return NGX_CONF_ERROR;
     }
 
     for (it = *made; it != NULL; it = it->next) {
-        if (it->slot_count == (ngx_uint_t) conf->slot_count
-            && ngx_memn2cmp(it->options.data, options.data, it->options.len,
-                            options.len) == 0
-            && ngx_memn2cmp(it->key.data, conf->key.text.data, it->key.len,
-                            conf->key.text.len) == 0)
+        if (it->conf->slot_count == conf->slot_count
+            && ngx_http_jwt_is_same_text(&it->options, &options)
+            && ngx_http_jwt_is_same_keys(it->conf, conf))
         {
             conf->rules = it;
             return NGX_CONF_OK;
@@ -218,154 +179,31 @@ ngx_http_jwt_set_rules(ngx_conf_t *cf, ngx_http_jwt_rules_t **made,
     *made = it;
     conf->rules = it;
 
-    status = ngx_http_jwt_make_verifier(cf->pool, it, &conf->algorithms);
-
-    return status == JWT_OK ? NGX_CONF_OK
-           : ngx_http_jwt_report(cf, &conf->key.name, status);
+    return ngx_http_jwt_make_verifiers(cf, it);
 }
 
 
-/* Compares two texts in constant time. */
-static ngx_uint_t
-ngx_http_jwt_is_same(u_char *a, u_char *b, size_t len)
-{
-    u_char  differs = 0;
-
-    while (len--) {
-        differs |= *a++ ^ *b++;
-    }
-
-    return differs == 0;
-}
-
-
-/* Returns the token's slot, or else the least recently used of its slots. */
-static ngx_http_jwt_slot_t *
-ngx_http_jwt_find_slot(ngx_http_jwt_rules_t *rules, ngx_str_t *token,
-    uint32_t hash, ngx_uint_t *is_found)
-{
-    ngx_uint_t            i;
-    ngx_http_jwt_slot_t  *slot, *oldest = NULL;
-
-    for (i = 0; i < NGX_HTTP_JWT_WAYS; i++) {
-        slot = &rules->slots[(hash + i) % rules->slot_count];
-
-        if (slot->hash == hash && slot->token_len == token->len
-            && ngx_http_jwt_is_same(slot->text, token->data, token->len))
-        {
-            *is_found = 1;
-            return slot;
-        }
-
-        if (oldest == NULL || slot->used < oldest->used) {
-            oldest = slot;
-        }
-    }
-
-    *is_found = 0;
-    return oldest;
-}
-
-
-static uint32_t
-ngx_http_jwt_decode(ngx_http_jwt_rules_t *rules, ngx_http_jwt_ctx_t *ctx,
-    uint64_t now, uint64_t *last, ngx_pool_t *pool)
-{
-    size_t     size, len;
-    u_char    *buffer;
-    uint32_t   status;
-
-    len = ctx->token.len + NGX_HTTP_JWT_ROOM;
-
-    do {
-        size = len;
-        buffer = ngx_pnalloc(pool, size);
-        if (buffer == NULL) {
-            return JWT_OUT_OF_MEMORY;
-        }
-
-        status = jwt_verifier_decode(&rules->verifier, ctx->token.data,
-                                     ctx->token.len, now, buffer, size, &len,
-                                     last, &ctx->test);
-    } while (status == JWT_NO_ROOM);
-
-    if (status == JWT_OK) {
-        ctx->claims.data = buffer;
-        ctx->claims.len = len;
-    }
-
-    return status;
-}
-
-
-/* Keeps a token that was accepted now, if a slot has room for it. */
-static void
-ngx_http_jwt_keep(ngx_http_jwt_rules_t *rules, ngx_http_jwt_slot_t *slot,
-    ngx_http_jwt_ctx_t *ctx, uint32_t hash, uint64_t now, uint64_t last)
-{
-    u_char  *p;
-
-    if (ctx->token.len + ctx->claims.len > NGX_HTTP_JWT_SLOT) {
-        return;
-    }
-
-    slot->first = now;
-    slot->last = last;
-    slot->used = ++rules->uses;
-    slot->hash = hash;
-    slot->token_len = ctx->token.len;
-    slot->claims_len = ctx->claims.len;
-    p = ngx_cpymem(slot->text, ctx->token.data, ctx->token.len);
-    ngx_memcpy(p, ctx->claims.data, ctx->claims.len);
-}
-
-
-/*
- * A token that was accepted at one time is accepted at each later one up to
- * the last.  Its claims are copied, as another request may take the slot.
- */
-static uint32_t
-ngx_http_jwt_recall(ngx_http_jwt_slot_t *slot, ngx_http_jwt_ctx_t *ctx,
-    ngx_pool_t *pool)
-{
-    ngx_str_t  claims = { slot->claims_len, slot->text + slot->token_len };
-
-    ctx->claims.len = claims.len;
-    ctx->claims.data = ngx_pstrdup(pool, &claims);
-
-    return ctx->claims.data != NULL ? JWT_OK : JWT_OUT_OF_MEMORY;
-}
-
-
+/* Takes a fetched set in the place of the one before it, if it is usable. */
 uint32_t
-ngx_http_jwt_verify(ngx_http_jwt_rules_t *rules, ngx_http_jwt_ctx_t *ctx,
-    ngx_pool_t *pool)
+ngx_http_jwt_take_set(ngx_http_jwt_rules_t *rules, ngx_array_t *set)
 {
-    uint32_t              hash, status;
-    uint64_t              now = ngx_time(), last;
-    ngx_uint_t            is_found;
-    ngx_http_jwt_slot_t  *slot;
+    uint32_t              status;
+    struct jwt_verifier   next = JWT_VERIFIER_NONE, *kept;
 
-    if (ngx_time() < 0) {
-        return JWT_CLOCK_BEFORE_EPOCH;
-    }
-
-    if (rules->slot_count == 0) {
-        return ngx_http_jwt_decode(rules, ctx, now, &last, pool);
-    }
-
-    hash = ngx_murmur_hash2(ctx->token.data, ctx->token.len);
-    slot = ngx_http_jwt_find_slot(rules, &ctx->token, hash, &is_found);
-
-    if (is_found && slot->first <= now && now <= slot->last) {
-        slot->used = ++rules->uses;
-        return ngx_http_jwt_recall(slot, ctx, pool);
-    }
-
-    status = ngx_http_jwt_decode(rules, ctx, now, &last, pool);
+    status = jwt_check_set(set->elts, set->nelts);
 
     if (status == JWT_OK) {
-        ngx_http_jwt_keep(rules, slot, ctx, hash, now, last);
+        status = jwt_verifier_set(set->elts, set->nelts, rules->options.data,
+                                  rules->options.len, 0, 0, &next);
+    }
+
+    if (status == JWT_OK) {
+        kept = (struct jwt_verifier *) rules->verifiers.elts
+               + rules->verifiers.nelts - 1;
+        jwt_verifier_free(kept);
+        *kept = next;
+        rules->sets++;
+        rules->fetched = ngx_time();
     }
 
     return status;

@@ -27,36 +27,31 @@ ngx_int_t
 ngx_http_jwt_quote(ngx_pool_t *pool, ngx_str_t *text, ngx_uint_t n,
     ngx_str_t *json)
 {
-    u_char       *p;
-    size_t        len;
-    ngx_uint_t    i;
-    ngx_array_t   list;
-
-    if (ngx_array_init(&list, pool, text->len + 4, 1) != NGX_OK) {
-        return NGX_ERROR;
-    }
+    u_char      *p;
+    size_t       size = 1;
+    ngx_uint_t   i;
 
     for (i = 0; i < n; i++) {
-        len = text[i].len + ngx_escape_json(NULL, text[i].data, text[i].len);
-        p = ngx_array_push_n(&list, len + 3);
-        if (p == NULL) {
-            return NGX_ERROR;
-        }
-
-        *p++ = i == 0 ? '[' : ',';
-        *p++ = '"';
-        p = (u_char *) ngx_escape_json(p, text[i].data, text[i].len);
-        *p = '"';
+        size += 3 + text[i].len
+                + ngx_escape_json(NULL, text[i].data, text[i].len);
     }
 
-    p = ngx_array_push(&list);
+    p = ngx_pnalloc(pool, size);
     if (p == NULL) {
         return NGX_ERROR;
     }
 
+    json->data = p;
+    json->len = size;
+
+    for (i = 0; i < n; i++) {
+        *p++ = i == 0 ? '[' : ',';
+        *p++ = '"';
+        p = (u_char *) ngx_escape_json(p, text[i].data, text[i].len);
+        *p++ = '"';
+    }
+
     *p = ']';
-    json->data = list.elts;
-    json->len = list.nelts;
     return NGX_OK;
 }
 
@@ -79,27 +74,4 @@ ngx_http_jwt_is_plain(ngx_str_t *text)
     }
 
     return 1;
-}
-
-
-/* Reads the names of a directive as a list in JSON. */
-char *
-ngx_http_jwt_list(ngx_conf_t *cf, ngx_command_t *cmd, void *conf)
-{
-    ngx_str_t   *value = cf->args->elts;
-    ngx_str_t   *list = (ngx_str_t *) ((char *) conf + cmd->offset);
-    ngx_uint_t   i;
-
-    if (list->data != NULL) {
-        return "is duplicate";
-    }
-
-    for (i = 1; i < cf->args->nelts; i++) {
-        if (value[i].len == 0) {
-            return "has an empty name";
-        }
-    }
-
-    return ngx_http_jwt_quote(cf->pool, &value[1], cf->args->nelts - 1, list)
-           == NGX_OK ? NGX_CONF_OK : NGX_CONF_ERROR;
 }

@@ -1,17 +1,19 @@
 #include "ngx_http_jwt.h"
 
 
-/* room for the text of a status or of a test */
-#define NGX_HTTP_JWT_TEXT  64
-
 #define NGX_HTTP_JWT_LETTERS                                                 \
     "abcdefghijklmnopqrstuvwxyzABCDEFGHIJKLMNOPQRSTUVWXYZ0123456789_"
 
 
-/* Marks a context among the cleanups of a pool; there is nothing to free. */
+/* Marks a context among the cleanups of a pool. */
 static void
 ngx_http_jwt_cleanup(void *data)
 {
+    ngx_http_jwt_ctx_t  *ctx = data;
+
+    if (ctx->is_waiting) {
+        ngx_queue_remove(&ctx->queue);
+    }
 }
 
 

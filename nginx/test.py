@@ -9,52 +9,21 @@ compiler makes: it sets the time of day, and counts what the library is asked.
 """
 import argparse
 import base64
-import contextlib
 import http.client
 import json
 import os
 import random
 import re
-import shutil
 import signal
-import socket
 import statistics
 import subprocess
-import sys
 import tempfile
 import threading
 import time
 
-TOP = os.path.dirname(os.path.dirname(os.path.abspath(__file__)))
-sys.path.append(f"{TOP}/tests")
-import tokens as made
+import test_keys
+from harness import NOW, PASS, SECRET, TOP, Server, Watched, eventually, finish, oct_key, part, signed, started, test, under_valgrind
 
-SECRET = b"0123456789abcdef0123456789abcdef"
-NGINX = shutil.which("nginx") or "/usr/sbin/nginx"
-NOW = int(time.time())
-PASS = {"exp": NOW + 3600}
-
-CONF = """
-load_module {module};
-worker_processes {workers};
-daemon off;
-pid {work}/nginx.pid;
-error_log {work}/error.log info;
-events {{ worker_connections 512; }}
-http {{
-    log_format jwt '$status $jwt_status $jwt_claim_sub "$jwt_failed_test" "$jwt_refused_kid"';
-    access_log {work}/access.log jwt;
-    client_body_temp_path {work}/temp; proxy_temp_path {work}/temp; fastcgi_temp_path {work}/temp;
-    uwsgi_temp_path {work}/temp; scgi_temp_path {work}/temp;
-    keepalive_requests 1000000;
-    {http}
-    server {{
-        listen 127.0.0.1:{port} default_server;
-        root {work}/root;
-        {server}
-    }}
-}}
-"""
 SERVER = """
         auth_jwt "a \\"gate\\\\way\\"";
         auth_jwt_key_file {work}/keys.json;
@@ -82,131 +51,6 @@ SERVER = """
         location /pem {{ auth_jwt_key_file {work}/p256.pem; auth_jwt_alg ES256; }}
         large_client_header_buffers 4 2m;
 """
-
-# what nginx itself does not give back, as a single process
-KNOWN = """{
-   nginx_environment
-   Memcheck:Leak
-   match-leak-kinds: definite
-   fun:malloc
-   fun:ngx_alloc
-   fun:ngx_set_environment
-}
-{
-   nginx_regular_expressions
-   Memcheck:Leak
-   match-leak-kinds: definite
-   fun:malloc
-   fun:ngx_alloc
-   ...
-   fun:ngx_regex_compile
-}
-"""
-
-passed = failed = 0
-
-
-def test(name, is_well):
-    global passed, failed
-    passed, failed = passed + bool(is_well), failed + (not is_well)
-    if not is_well:
-        print(f"FAILED: {name}", flush=True)
-
-
-def part(raw):
-    return made.part(raw).decode()
-
-
-def signed(claims, secret=SECRET, digest="sha256", **header):
-    return made.signed({"alg": "HS256", "kid": "a", **header}, claims, secret, digest).decode()
-
-
-def oct_key(kid, secret=SECRET):
-    return {"kty": "oct", "kid": kid, "k": part(secret)}
-
-
-def free_port():
-    with socket.socket() as found:
-        found.bind(("127.0.0.1", 0))
-        return found.getsockname()[1]
-
-
-class Server:
-    """An nginx in a folder of its own."""
-
-    def __init__(self, module, work, server=SERVER, workers=2, http_conf="", before=(), env=None):
-        self.work, self.port, self.module = work, free_port(), module
-        self.names = {"module": os.path.abspath(module), "work": work, "workers": workers, "port": self.port}
-        os.makedirs(f"{work}/root", exist_ok=True)
-        for name in ("index.html", *re.findall(r"location (?:= )?/(\w[\w.]*)", server + http_conf)):
-            self.write(f"root/{name}", "served\n")
-        self.configure(server, http_conf)
-        self.before = list(before)
-        self.env = {**os.environ, **(env or {})}
-
-    def write(self, name, value):
-        with open(f"{self.work}/{name}", "w", encoding="utf-8", errors="surrogateescape") as file:
-            file.write(value if isinstance(value, str) else json.dumps(value))
-
-    def read(self, name):
-        with open(f"{self.work}/{name}", encoding="utf-8", errors="replace") as file:
-            return file.read()
-
-    def configure(self, server, http_conf=""):
-        text = CONF.format(server=server.format(**self.names), http=http_conf.format(**self.names), **self.names)
-        if os.geteuid() == 0:
-            text = "user root;\n" + text
-        self.write("nginx.conf", text)
-
-    def words(self, *words):
-        return [NGINX, "-p", self.work, "-c", f"{self.work}/nginx.conf", "-e", f"{self.work}/error.log", *words]
-
-    def start(self):
-        self.process = subprocess.Popen([*self.before, *self.words()], env=self.env)
-        for _ in range(600):
-            with contextlib.suppress(OSError), socket.create_connection(("127.0.0.1", self.port), 1):
-                return
-            if self.process.poll() is not None:
-                break
-            time.sleep(0.05)
-        raise SystemExit(f"nginx does not start: {self.read('error.log')[-2000:]}")
-
-    def stop(self):
-        for _ in range(60):
-            # again, since a signal just before a single process waits for events does not wake it
-            self.process.send_signal(signal.SIGQUIT)
-            with contextlib.suppress(subprocess.TimeoutExpired):
-                return self.process.wait(1)
-        self.process.kill()
-        return self.process.wait()
-
-    def check(self, server, http_conf=""):
-        """Returns the status of nginx's test of a configuration, and what it says; None if it does not end."""
-        self.configure(server, http_conf)
-        self.write("error.log", "")
-        try:
-            ran = subprocess.run(self.words("-t"), capture_output=True, text=True, timeout=60)
-        except subprocess.TimeoutExpired:
-            return None, ""
-        finally:
-            self.configure(SERVER)
-        return ran.returncode, ran.stderr + self.read("error.log")
-
-    def fetch(self, path, token=None, **headers):
-        """Returns the status of a request, the headers of its answer, and its text."""
-        if token is not None:
-            headers["Authorization"] = f"Bearer {token}"
-        connection = http.client.HTTPConnection("127.0.0.1", self.port, timeout=60)
-        connection.request("GET", path, headers=headers)
-        answer = connection.getresponse()
-        text = answer.read().decode("utf-8", "replace")
-        connection.close()
-        return answer.status, answer.headers, text
-
-    def get(self, path="/", token=None, **headers):
-        """Returns the status of a request, and the headers of its answer."""
-        return self.fetch(path, token, **headers)[:2]
-
 
 def standard_rows():
     """Returns the algorithm and the token of each row that verifies by a set, and the keys of all of them."""
@@ -370,23 +214,32 @@ def refused(server):
 
 BAD = [
     ("no file", "auth_jwt r; auth_jwt_key_file {work}/nosuch; auth_jwt_alg HS256;", "nosuch"),
-    ("no key file", "auth_jwt r; auth_jwt_alg HS256;", "auth_jwt needs auth_jwt_key_file in"),
+    ("no key file", "auth_jwt r; auth_jwt_alg HS256;", "auth_jwt needs auth_jwt_key_file or auth_jwt_key_request in"),
     ("no algorithm", "auth_jwt r; auth_jwt_key_file {work}/keys.json;", "auth_jwt needs auth_jwt_alg in"),
     ("a key of another family", "auth_jwt r; auth_jwt_key_file {work}/key.json; auth_jwt_alg RS256;", 'key.json": Key serves no algorithm'),
     ("a set of other families", "auth_jwt r; auth_jwt_key_file {work}/keys.json; auth_jwt_alg EdDSA;", 'keys.json": Key serves no algorithm'),
     ("a key in PEM of another family", "auth_jwt r; auth_jwt_key_file {work}/p256.pem; auth_jwt_alg RS256;", 'p256.pem": Key serves no algorithm'),
     ("a realm of two lines", 'auth_jwt "a\nb";', '"auth_jwt" directive has a realm that is not UTF-8'),
     ("no name of a variable", "auth_jwt r token=$;", '"auth_jwt" directive takes token=$variable'),
-    ("two key files", "auth_jwt_key_file {work}/key.json; auth_jwt_key_file {work}/key.json;", '"auth_jwt_key_file" directive is duplicate'),
+    ("two single keys", "auth_jwt r; auth_jwt_key_file {work}/key.json; auth_jwt_key_file {work}/key.json; auth_jwt_alg HS256;", 'key.json": a single key has to be the only source'),
+    ("a set and a single key", "auth_jwt r; auth_jwt_key_file {work}/keys.json; auth_jwt_key_file {work}/key.json; auth_jwt_alg HS256;", 'key.json": a single key has to be the only source'),
+    ("a single key and an uri", "auth_jwt r; auth_jwt_key_file {work}/key.json; auth_jwt_key_request /keys; auth_jwt_alg HS256;", 'key.json": a single key has to be the only source'),
+    ("a second set of another family", "auth_jwt r; auth_jwt_key_file {work}/keys.json; auth_jwt_key_file {work}/ec.json; auth_jwt_alg HS256;", 'ec.json": Key serves no algorithm'),
+    ("an uri that is none", "auth_jwt_key_request keys;", '"auth_jwt_key_request" directive takes the path of a location'),
+    ("an uri with a variable", "auth_jwt_key_request /keys/$host;", '"auth_jwt_key_request" directive takes the path of a location'),
+    ("an uri with arguments", "auth_jwt_key_request /keys?a;", '"auth_jwt_key_request" directive takes the path of a location'),
+    ("an empty uri", 'auth_jwt_key_request "";', '"auth_jwt_key_request" directive takes the path of a location'),
+    ("two uris", "auth_jwt_key_request /keys; auth_jwt_key_request /keys;", '"auth_jwt_key_request" directive is duplicate'),
+    ("no time", "auth_jwt_key_cache off;", '"auth_jwt_key_cache" directive invalid value'),
     ("two lists", "auth_jwt_aud web; auth_jwt_aud app;", '"auth_jwt_aud" directive is duplicate'),
-    ("an unknown algorithm", "auth_jwt r; auth_jwt_key_file {work}/keys.json; auth_jwt_alg HS257;", "is not known"),
-    ("none", "auth_jwt r; auth_jwt_key_file {work}/keys.json; auth_jwt_alg none;", "is not known"),
-    ("one of two is unknown", "auth_jwt r; auth_jwt_key_file {work}/keys.json; auth_jwt_alg HS256 hs384;", "is not known"),
-    ("an algorithm with a quotation mark", "auth_jwt r; auth_jwt_key_file {work}/keys.json; auth_jwt_alg 'HS256\"';", "is not known"),
-    ("a long name of an algorithm", f"auth_jwt r; auth_jwt_key_file {{work}}/keys.json; auth_jwt_alg {'HS256' * 100};", "is not known"),
-    ("two families", "auth_jwt r; auth_jwt_key_file {work}/keys.json; auth_jwt_alg HS256 RS256;", "not of one family"),
-    ("two families of one set", "auth_jwt r; auth_jwt_key_file {work}/standard.json; auth_jwt_alg HS256 RS256;", "not of one family"),
-    ("ES and Ed", "auth_jwt r; auth_jwt_key_file {work}/keys.json; auth_jwt_alg ES256 EdDSA;", "not of one family"),
+    ("an unknown algorithm", "auth_jwt r; auth_jwt_key_file {work}/keys.json; auth_jwt_alg HS257;", 'auth_jwt_alg "HS257": Options not understood: no algorithm of this name'),
+    ("none", "auth_jwt r; auth_jwt_key_file {work}/keys.json; auth_jwt_alg none;", 'auth_jwt_alg "none": Options not understood'),
+    ("one of two is unknown", "auth_jwt r; auth_jwt_key_file {work}/keys.json; auth_jwt_alg HS256 hs384;", 'auth_jwt_alg "hs384": Options not understood'),
+    ("an algorithm with a quotation mark", "auth_jwt r; auth_jwt_key_file {work}/keys.json; auth_jwt_alg 'HS256\"';", 'HS256"": Options not understood'),
+    ("a long name of an algorithm", f"auth_jwt r; auth_jwt_key_file {{work}}/keys.json; auth_jwt_alg {'HS256' * 100};", 'HS256": Options not understood'),
+    ("two families", "auth_jwt r; auth_jwt_key_file {work}/keys.json; auth_jwt_alg HS256 RS256;", 'auth_jwt_alg "["HS256","RS256"]": Algorithms of several families'),
+    ("two families of one set", "auth_jwt r; auth_jwt_key_file {work}/standard.json; auth_jwt_alg HS256 RS256;", 'auth_jwt_alg "["HS256","RS256"]": Algorithms of several families'),
+    ("ES and Ed", "auth_jwt r; auth_jwt_key_file {work}/keys.json; auth_jwt_alg ES256 EdDSA;", 'auth_jwt_alg "["ES256","EdDSA"]": Algorithms of several families'),
     ("another token", "auth_jwt r token=x; auth_jwt_key_file {work}/keys.json; auth_jwt_alg HS256;", "takes token=$variable"),
     ("an unknown variable", "auth_jwt r token=$nosuch; auth_jwt_key_file {work}/keys.json; auth_jwt_alg HS256;", "nosuch"),
     ("twice", "auth_jwt r; auth_jwt r; auth_jwt_key_file {work}/keys.json; auth_jwt_alg HS256;", "duplicate"),
@@ -400,7 +253,7 @@ BAD = [
     ("an empty audience", 'auth_jwt_aud web "";', '"auth_jwt_aud" directive has an empty name'),
     ("an empty issuer", 'auth_jwt_iss "";', '"auth_jwt_iss" directive has an empty name'),
     ("an empty algorithm", 'auth_jwt_alg "";', '"auth_jwt_alg" directive has an empty name'),
-    ("an audience that is not UTF-8", "auth_jwt r; auth_jwt_key_file {work}/keys.json; auth_jwt_alg HS256; auth_jwt_aud \udcff;", "a name of auth_jwt_aud"),
+    ("an audience that is not UTF-8", "auth_jwt r; auth_jwt_key_file {work}/keys.json; auth_jwt_alg HS256; auth_jwt_aud \udcff;", '": Options not understood'),
     ("a FIFO", "auth_jwt_key_file {work}/fifo;", '"auth_jwt_key_file" directive names no regular file'),
     ("a folder", "auth_jwt_key_file {work}/root;", '"auth_jwt_key_file" directive names no regular file'),
     ("a device", "auth_jwt_key_file /dev/zero;", '"auth_jwt_key_file" directive names no regular file'),
@@ -467,7 +320,8 @@ def secrets(server):
 
 
 def configurations(server):
-    """A configuration that can't be right is refused, and says why."""
+    """A configuration that can't be right is refused, and says why, in which line."""
+    server.write("ec.json", {"keys": [it for it in standard_rows()[1] if it["kty"] == "EC"]})
     os.mkfifo(f"{server.work}/fifo")
     for name, conf, said in BAD:
         status, text = server.check(conf)
@@ -522,21 +376,6 @@ def reloads(server):
     test(f"{served[0]} requests, of which were lost: {lost[:3]}", served[0] > 50 and not lost)
 
 
-def eventually(holds):
-    for _ in range(200):
-        if holds():
-            return True
-        time.sleep(0.05)
-    return False
-
-
-def logs(server):
-    texts = server.read("error.log") + server.read("access.log")
-    test("the access log has the status", "401 ExpiredSignature" in texts and "200 OK" in texts)
-    test("no token is in a log", not re.search(r"eyJ[\w-]+\.", texts))
-    test(f"no alert: {[it for it in texts.splitlines() if '[alert]' in it or '[crit]' in it][:3]}", "[alert]" not in texts and "[crit]" not in texts)
-
-
 RULES = """
     auth_jwt "the site";
     auth_jwt_key_file {work}/keys.json;
@@ -588,32 +427,6 @@ SECOND = (
 # the claims of a token that RULES accept
 WEB = {"exp": NOW, "aud": "web", "iss": "https://login.example"}
 OTHER_SECRET = SECRET[::-1]
-
-
-class Watched(Server):
-    """An nginx of one worker behind watch.c, whose time of day is set, and which counts what the library is asked."""
-
-    def __init__(self, module, work, server, http_conf=""):
-        super().__init__(module, work, server, 1, http_conf, env={"LD_PRELOAD": f"{work}/watch.so"})
-        flags = subprocess.run(["pkg-config", "--cflags", "jwtproved"], capture_output=True, text=True, check=True).stdout.split()
-        words = [os.environ.get("CC", "cc"), "-shared", "-fPIC", "-O1", "-Wall", "-Wextra", "-Werror", *flags]
-        words += [f'-DMOMENT="{work}/moment"', f'-DCALLS="{work}/calls"', f"{TOP}/nginx/watch.c", "-o", f"{work}/watch.so"]
-        subprocess.run(words, check=True)
-        self.write("calls", "")
-        self.at(NOW - 100)
-        self.write("keys.json", {"keys": [oct_key("a")]})
-        self.write("same.json", {"keys": [oct_key("a")]})
-        self.write("other.json", {"keys": [oct_key("a", OTHER_SECRET)]})
-
-    def at(self, moment):
-        self.write("moment.new", str(moment))
-        os.replace(f"{self.work}/moment.new", f"{self.work}/moment")
-
-    def ask(self, path, token, **headers):
-        """Returns the status of a request, and how often the library was asked about a token."""
-        before = os.path.getsize(f"{self.work}/calls")
-        status, _ = self.get(path, token, **headers)
-        return status, os.path.getsize(f"{self.work}/calls") - before
 
 
 def apart(server):
@@ -1075,6 +888,7 @@ def many_locations(module):
         with tempfile.TemporaryDirectory(prefix="nginx-jwt-") as work:
             places = "".join(f"location /p{n} {{{{ auth_jwt r{n}; }}}}\n" for n in range(count))
             server = Watched(module, work, RULES.replace('auth_jwt "the site";', "") + places)
+            server.write("keys.json", {"keys": [oct_key("a")]})
             process = subprocess.Popen(server.words("-t"), env=server.env, stderr=subprocess.DEVNULL)
             _, status, usage = os.wait4(process.pid, 0)
             test(f"nginx -t of {count} locations: {status}", status == 0)
@@ -1086,6 +900,9 @@ def many_locations(module):
 def run_cache(module):
     with tempfile.TemporaryDirectory(prefix="nginx-jwt-") as work:
         server = Watched(module, work, WATCHED, http_conf=SECOND)
+        server.write("keys.json", {"keys": [oct_key("a")]})
+        server.write("same.json", {"keys": [oct_key("a")]})
+        server.write("other.json", {"keys": [oct_key("a", OTHER_SECRET)]})
         with started(server):
             apart(server)
             moments(server)
@@ -1095,22 +912,10 @@ def run_cache(module):
     many_locations(module)
 
 
-@contextlib.contextmanager
-def started(server):
-    """Runs an nginx, and tests how it ended."""
-    server.start()
-    try:
-        yield server
-    finally:
-        status = server.stop()
-    test(f"nginx ended with {status}", status == 0)
-    logs(server)
-
-
 def run_default(module):
     """By default a cache answers what was asked before."""
     with tempfile.TemporaryDirectory(prefix="nginx-jwt-") as work:
-        server = Server(module, work)
+        server = Server(module, work, SERVER)
         rows = write_keys(server)
         with started(server):
             for _ in range(3):
@@ -1120,6 +925,8 @@ def run_default(module):
             again(server, "/")
             again(server, "/cached")
             reloads(server)
+            log = server.read("access.log")
+            test("the access log has the status", "401 ExpiredSignature" in log and "200 OK" in log)
         write_keys(server)
         configurations(server)
         secrets(server)
@@ -1165,45 +972,36 @@ def run_tests(module):
     run_places(module)
     run_anew(module)
     run_cache(module)
-    print(f"{passed} tests of the nginx module, {failed} failed")
-    sys.exit(failed > 0)
-
-
-@contextlib.contextmanager
-def under_valgrind(module, server=SERVER, http_conf=""):
-    """Runs an nginx of one process under valgrind, and tests that it has no errors and no lost memory."""
-    with tempfile.TemporaryDirectory(prefix="nginx-jwt-") as work:
-        words = ["valgrind", "-q", "--error-exitcode=99", "--leak-check=full", "--show-leak-kinds=definite"]
-        words += ["--errors-for-leak-kinds=definite", f"--suppressions={work}/known", f"--log-file={work}/valgrind.%p"]
-        server = Server(module, work, server, http_conf=http_conf, before=words)
-        server.write("known", KNOWN)
-        server.write("nginx.conf", server.read("nginx.conf").replace("daemon off;", "daemon off; master_process off;"))
-        server.rows = write_keys(server)
-        server.start()
-        yield server
-        status = server.stop()
-        said = "".join(server.read(name) for name in os.listdir(work) if name.startswith("valgrind."))
-        print(said)
-        test(f"valgrind ended with {status}", status == 0 and not said.strip())
+    test_keys.run(module)
+    finish("the nginx module")
 
 
 def run_valgrind(module):
     """The requests of the tests, to processes under valgrind."""
-    with under_valgrind(module) as server:
-        for _ in range(2):
-            verdicts(server, server.rows)
-            variables(server)
-            refused(server)
-        again(server, "/")
-        again(server, "/cached")
-        again(server, "/anew")
-    with under_valgrind(module, PLACES, NAMES) as server:
-        for _ in range(2):
-            places(server)
-    with under_valgrind(module, LONG_LISTS) as server:
-        lists(server)
-    print(f"{passed} tests of the nginx module under valgrind, {failed} failed")
-    sys.exit(failed > 0)
+    with tempfile.TemporaryDirectory(prefix="nginx-jwt-") as work:
+        server = Server(module, work, SERVER)
+        rows = write_keys(server)
+        with under_valgrind(server):
+            for _ in range(2):
+                verdicts(server, rows)
+                variables(server)
+                refused(server)
+            again(server, "/")
+            again(server, "/cached")
+            again(server, "/anew")
+    with tempfile.TemporaryDirectory(prefix="nginx-jwt-") as work:
+        server = Server(module, work, PLACES, http_conf=NAMES)
+        write_keys(server)
+        with under_valgrind(server):
+            for _ in range(2):
+                places(server)
+    with tempfile.TemporaryDirectory(prefix="nginx-jwt-") as work:
+        server = Server(module, work, LONG_LISTS)
+        write_keys(server)
+        with under_valgrind(server):
+            lists(server)
+    test_keys.run_valgrind(module)
+    finish("the nginx module under valgrind")
 
 
 def workers(server):

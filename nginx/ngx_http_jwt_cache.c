@@ -1,0 +1,185 @@
+#include "ngx_http_jwt.h"
+
+
+/* how much longer than their token claims may be at the first try */
+#define NGX_HTTP_JWT_ROOM  64
+/* the longest token with its claims that is kept */
+#define NGX_HTTP_JWT_SLOT  4000
+/* in how many neighbouring slots a token may be */
+#define NGX_HTTP_JWT_WAYS  4
+
+
+/* a token that is accepted at each time from the first to the last */
+struct ngx_http_jwt_slot_s {
+    uint64_t               first;
+    uint64_t               last;
+    uint64_t               used;
+    uint32_t               hash;
+    uint32_t               token_len;   /* 0 in a free slot */
+    uint32_t               claims_len;
+    u_char                 text[NGX_HTTP_JWT_SLOT];
+};
+
+
+ngx_int_t
+ngx_http_jwt_make_slots(ngx_pool_t *pool, ngx_http_jwt_rules_t *rules)
+{
+    rules->slots = ngx_pcalloc(pool, rules->conf->slot_count
+                                     * sizeof(ngx_http_jwt_slot_t));
+
+    return rules->slots != NULL ? NGX_OK : NGX_ERROR;
+}
+
+
+/* Compares two texts in constant time. */
+static ngx_uint_t
+ngx_http_jwt_is_same(u_char *a, u_char *b, size_t len)
+{
+    u_char  differs = 0;
+
+    while (len--) {
+        differs |= *a++ ^ *b++;
+    }
+
+    return differs == 0;
+}
+
+
+/* Returns the token's slot, or else the least recently used of its slots. */
+static ngx_http_jwt_slot_t *
+ngx_http_jwt_find_slot(ngx_http_jwt_rules_t *rules, ngx_str_t *token,
+    uint32_t hash, ngx_uint_t *is_found)
+{
+    ngx_uint_t            i;
+    ngx_http_jwt_slot_t  *slot, *oldest = NULL;
+
+    for (i = 0; i < NGX_HTTP_JWT_WAYS; i++) {
+        slot = &rules->slots[(hash + i) % rules->conf->slot_count];
+
+        if (slot->hash == hash && slot->token_len == token->len
+            && ngx_http_jwt_is_same(slot->text, token->data, token->len))
+        {
+            *is_found = 1;
+            return slot;
+        }
+
+        if (oldest == NULL || slot->used < oldest->used) {
+            oldest = slot;
+        }
+    }
+
+    *is_found = 0;
+    return oldest;
+}
+
+
+/* Keeps a token that was accepted now, if a slot has room for it. */
+static void
+ngx_http_jwt_keep(ngx_http_jwt_rules_t *rules, ngx_http_jwt_slot_t *slot,
+    ngx_http_jwt_ctx_t *ctx, uint32_t hash, uint64_t now, uint64_t last)
+{
+    u_char  *p;
+
+    if (ctx->token.len + ctx->claims.len > NGX_HTTP_JWT_SLOT) {
+        return;
+    }
+
+    slot->first = now;
+    slot->last = last;
+    slot->used = ++rules->uses;
+    slot->hash = hash;
+    slot->token_len = ctx->token.len;
+    slot->claims_len = ctx->claims.len;
+    p = ngx_cpymem(slot->text, ctx->token.data, ctx->token.len);
+    ngx_memcpy(p, ctx->claims.data, ctx->claims.len);
+}
+
+
+static uint32_t
+ngx_http_jwt_decode_by(struct jwt_verifier *verifier, ngx_http_jwt_ctx_t *ctx,
+    uint64_t now, uint64_t *last)
+{
+    size_t     size;
+    uint32_t   status;
+
+    ctx->claims.len = ctx->token.len + NGX_HTTP_JWT_ROOM;
+
+    do {
+        size = ctx->claims.len;
+        ctx->claims.data = ngx_pnalloc(ctx->request->pool, size);
+        if (ctx->claims.data == NULL) {
+            return JWT_OUT_OF_MEMORY;
+        }
+
+        status = jwt_verifier_decode(verifier, ctx->token.data, ctx->token.len,
+                                     now, ctx->claims.data, size,
+                                     &ctx->claims.len, last, &ctx->test);
+    } while (status == JWT_NO_ROOM);
+
+    return status;
+}
+
+
+/* The sets are one: the first that has a key of the kid decides. */
+static uint32_t
+ngx_http_jwt_decode(ngx_http_jwt_rules_t *rules, ngx_http_jwt_ctx_t *ctx,
+    uint64_t now, uint64_t *last)
+{
+    uint32_t              status;
+    ngx_uint_t            i = 0;
+    struct jwt_verifier  *verifiers = rules->verifiers.elts;
+
+    do {
+        status = ngx_http_jwt_decode_by(&verifiers[i], ctx, now, last);
+    } while (ctx->test == JWT_TEST_KEY_IS_FOUND && ++i < rules->verifiers.nelts);
+
+    return status;
+}
+
+
+/*
+ * A token that was accepted at one time is accepted at each later one up to
+ * the last, until another set is fetched.  Its claims are copied, as another
+ * request may take the slot.
+ */
+uint32_t
+ngx_http_jwt_verify(ngx_http_jwt_rules_t *rules, ngx_http_jwt_ctx_t *ctx)
+{
+    uint32_t              hash, status;
+    uint64_t              now = ngx_time(), last;
+    ngx_str_t             claims;
+    ngx_uint_t            is_found;
+    ngx_http_jwt_slot_t  *slot;
+
+    ctx->test = 0;
+
+    if (ngx_time() < 0) {
+        return JWT_CLOCK_BEFORE_EPOCH;
+    }
+
+    if (rules->conf->slot_count == 0) {
+        return ngx_http_jwt_decode(rules, ctx, now, &last);
+    }
+
+    /* the same token has another hash after another set */
+    hash = ngx_murmur_hash2(ctx->token.data, ctx->token.len) + rules->sets;
+    slot = ngx_http_jwt_find_slot(rules, &ctx->token, hash, &is_found);
+
+    if (is_found && slot->first <= now && now <= slot->last) {
+        slot->used = ++rules->uses;
+        claims.len = slot->claims_len;
+        claims.data = slot->text + slot->token_len;
+        ctx->claims.len = claims.len;
+        ctx->claims.data = ngx_pstrdup(ctx->request->pool, &claims);
+
+        return ctx->claims.data != NULL ? JWT_OK : JWT_OUT_OF_MEMORY;
+    }
+
+    status = ngx_http_jwt_decode(rules, ctx, now, &last);
+
+    if (status == JWT_OK) {
+        ngx_http_jwt_keep(rules, slot, ctx, hash, now, last);
+    }
+
+    return status;
+}

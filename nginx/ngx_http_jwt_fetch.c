@@ -1,0 +1,304 @@
+/*
+ * Fetches a set of keys by a subrequest in the background, which goes on if
+ * the request that began it is answered before.  What needs the set waits.
+ */
+#include "ngx_http_jwt.h"
+
+
+/* seconds from the end of a fetch to the next, and if there is no set yet */
+#define NGX_HTTP_JWT_PAUSE        10
+#define NGX_HTTP_JWT_FIRST_PAUSE  1
+/* seconds after which a fetch is given up */
+#define NGX_HTTP_JWT_LIMIT        60
+
+
+/* Returns whether a time is long ago, also if the clock was set back. */
+#define ngx_http_jwt_is_past(time, seconds)                                  \
+    ((ngx_uint_t) (ngx_time() - (time)) >= (ngx_uint_t) (seconds))
+
+
+/* in the pool of the request that began it */
+struct ngx_http_jwt_fetch_s {
+    ngx_http_jwt_rules_t  *rules;
+    ngx_array_t            set;         /* bytes */
+    time_t                 begun;
+    ngx_uint_t             is_whole;
+    ngx_uint_t             is_bad;      /* too long, or not read */
+};
+
+
+static ngx_http_output_body_filter_pt  ngx_http_next_body_filter;
+
+
+/* Lets those that wait go on, and another fetch begin. */
+static void
+ngx_http_jwt_end_fetch(ngx_http_jwt_rules_t *rules, ngx_uint_t is_done)
+{
+    ngx_queue_t         *q;
+    ngx_connection_t    *c;
+    ngx_http_jwt_ctx_t  *ctx;
+
+    rules->fetch = NULL;
+
+    if (is_done) {
+        rules->tried = ngx_time();
+    }
+
+    while (!ngx_queue_empty(&rules->waiting)) {
+        q = ngx_queue_head(&rules->waiting);
+        ngx_queue_remove(q);
+
+        ctx = ngx_queue_data(q, ngx_http_jwt_ctx_t, queue);
+        ctx->is_waiting = 0;
+        ctx->has_waited = is_done;
+        c = ctx->request->connection;
+
+        /* the request that ends with its fetch is not woken */
+        if (!c->destroyed) {
+            (void) ngx_http_post_request(ctx->request, NULL);
+            ngx_post_event(c->write, &ngx_posted_events);
+        }
+    }
+}
+
+
+/* The request of a fetch ended before it. */
+static void
+ngx_http_jwt_cut_fetch(void *data)
+{
+    ngx_http_jwt_fetch_t  *fetch = data;
+
+    if (fetch->rules->fetch == fetch) {
+        ngx_http_jwt_end_fetch(fetch->rules, 0);
+    }
+}
+
+
+static void
+ngx_http_jwt_take(ngx_http_jwt_fetch_t *fetch, ngx_uint_t answer)
+{
+    u_char      text[NGX_HTTP_JWT_TEXT];
+    uint32_t    status = JWT_BAD_SET;
+    ngx_str_t   said = { 0, text };
+
+    if (answer == NGX_HTTP_OK && fetch->is_whole && !fetch->is_bad) {
+        status = ngx_http_jwt_take_set(fetch->rules, &fetch->set);
+    }
+
+    if (status != JWT_OK) {
+        (void) jwt_status_text(status, text, sizeof(text), &said.len);
+        /* the log of a connection has the request's line, and so a token */
+        ngx_log_error(NGX_LOG_ERR, ngx_cycle->log, 0,
+                      "auth_jwt: no keys from \"%V\": status %ui, %ui bytes%s:"
+                      " %V", &fetch->rules->conf->uri, answer,
+                      fetch->set.nelts, fetch->is_bad ? ", too long"
+                      : fetch->is_whole ? "" : ", cut", &said);
+    }
+}
+
+
+static ngx_int_t
+ngx_http_jwt_fetched(ngx_http_request_t *r, void *data, ngx_int_t rc)
+{
+    ngx_http_jwt_fetch_t  *fetch = data;
+
+    /* an error's page, or that of error_page, ends the subrequest later */
+    if (rc >= NGX_HTTP_SPECIAL_RESPONSE) {
+        return rc;
+    }
+
+    if (fetch->rules->fetch == fetch) {
+        ngx_http_jwt_take(fetch, r->headers_out.status);
+        ngx_http_jwt_end_fetch(fetch->rules, 1);
+    }
+
+    /* NGX_ERROR would end the request that began the fetch */
+    return rc == NGX_ERROR ? NGX_OK : rc;
+}
+
+
+ngx_uint_t
+ngx_http_jwt_is_fetch(ngx_http_request_t *r)
+{
+    return r->post_subrequest != NULL
+           && r->post_subrequest->handler == ngx_http_jwt_fetched;
+}
+
+
+/* Adds a part of the answer to the set. */
+static ngx_int_t
+ngx_http_jwt_add(ngx_array_t *set, ngx_buf_t *b)
+{
+    off_t    size = ngx_buf_size(b);
+    u_char  *p;
+
+    if (size > NGX_HTTP_JWT_SET - (off_t) set->nelts) {
+        return NGX_ERROR;
+    }
+
+    p = ngx_array_push_n(set, size);
+    if (p == NULL) {
+        return NGX_ERROR;
+    }
+
+    if (ngx_buf_in_memory(b)) {
+        ngx_memcpy(p, b->pos, size);
+        return NGX_OK;
+    }
+
+    return size == 0 || ngx_read_file(b->file, p, size, b->file_pos) == size
+           ? NGX_OK : NGX_ERROR;
+}
+
+
+/*
+ * Keeps the answer to a fetch, which is sent to nobody.  NGX_ERROR would close
+ * the connection of the client.
+ */
+static ngx_int_t
+ngx_http_jwt_body_filter(ngx_http_request_t *r, ngx_chain_t *in)
+{
+    ngx_buf_t             *b;
+    ngx_http_upstream_t   *u = r->upstream;
+    ngx_http_jwt_fetch_t  *fetch;
+
+    if (!ngx_http_jwt_is_fetch(r)) {
+        return ngx_http_next_body_filter(r, in);
+    }
+
+    fetch = r->post_subrequest->data;
+
+    for ( ; in != NULL; in = in->next) {
+        b = in->buf;
+
+        if (!fetch->is_bad && ngx_http_jwt_add(&fetch->set, b) != NGX_OK) {
+            fetch->is_bad = 1;
+
+            if (u != NULL && u->peer.connection != NULL) {
+                /* the rest is not read */
+                u->peer.connection->read->error = 1;
+                u->pipe->downstream_error = 1;
+            }
+        }
+
+        b->pos = b->last;
+        b->file_pos = b->file_last;
+        fetch->is_whole |= b->last_buf || b->last_in_chain;
+    }
+
+    return NGX_OK;
+}
+
+
+void
+ngx_http_jwt_init_fetches(void)
+{
+    ngx_http_next_body_filter = ngx_http_top_body_filter;
+    ngx_http_top_body_filter = ngx_http_jwt_body_filter;
+}
+
+
+/*
+ * Takes from a subrequest what it has of the client's: the set is one for all
+ * requests.
+ */
+static ngx_int_t
+ngx_http_jwt_make_neutral(ngx_http_request_t *sr)
+{
+    ngx_http_core_main_conf_t  *cmcf;
+
+    cmcf = ngx_http_get_module_main_conf(sr, ngx_http_core_module);
+
+    sr->unparsed_uri = sr->uri;
+    sr->request_body = ngx_pcalloc(sr->pool, sizeof(ngx_http_request_body_t));
+    sr->variables = ngx_pcalloc(sr->pool,
+                                cmcf->variables.nelts
+                                * sizeof(ngx_http_variable_value_t));
+
+    ngx_memzero(&sr->headers_in, sizeof(ngx_http_headers_in_t));
+    sr->headers_in.content_length_n = -1;
+    sr->headers_in.keep_alive_n = -1;
+
+    return sr->request_body != NULL && sr->variables != NULL
+           && ngx_list_init(&sr->headers_in.headers, sr->pool, 1,
+                            sizeof(ngx_table_elt_t))
+              == NGX_OK ? NGX_OK : NGX_ERROR;
+}
+
+
+static ngx_int_t
+ngx_http_jwt_begin_fetch(ngx_http_request_t *r, ngx_http_jwt_rules_t *rules)
+{
+    ngx_http_request_t          *sr;
+    ngx_pool_cleanup_t          *cln;
+    ngx_http_jwt_fetch_t        *fetch;
+    ngx_http_post_subrequest_t  *ps;
+
+    cln = ngx_pool_cleanup_add(r->pool, sizeof(ngx_http_jwt_fetch_t));
+    ps = ngx_palloc(r->pool, sizeof(ngx_http_post_subrequest_t));
+    if (cln == NULL || ps == NULL) {
+        return NGX_ERROR;
+    }
+
+    fetch = cln->data;
+    ngx_memzero(fetch, sizeof(ngx_http_jwt_fetch_t));
+    fetch->rules = rules;
+    fetch->begun = ngx_time();
+    ps->handler = ngx_http_jwt_fetched;
+    ps->data = fetch;
+
+    if (ngx_array_init(&fetch->set, r->pool, 4096, 1) != NGX_OK
+        || ngx_http_subrequest(r, &rules->conf->uri, NULL, &sr, ps,
+                               NGX_HTTP_SUBREQUEST_BACKGROUND)
+           != NGX_OK
+        || ngx_http_jwt_make_neutral(sr) != NGX_OK)
+    {
+        return NGX_ERROR;
+    }
+
+    cln->handler = ngx_http_jwt_cut_fetch;
+    rules->fetch = fetch;
+
+    return NGX_OK;
+}
+
+
+/*
+ * Begins a fetch if one is due: there is no set, or it is old, or it lacks the
+ * key of a token.  Returns NGX_AGAIN if the request has to wait for the fetch,
+ * or NGX_OK if the verdict stands.
+ */
+ngx_int_t
+ngx_http_jwt_await(ngx_http_jwt_rules_t *rules, ngx_http_jwt_ctx_t *ctx)
+{
+    ngx_uint_t  is_first, lacks_key;
+
+    is_first = ctx->status == JWT_NO_VERIFIER;
+    lacks_key = is_first || ctx->test == JWT_TEST_KEY_IS_FOUND;
+
+    if (rules->fetch != NULL
+        && ngx_http_jwt_is_past(rules->fetch->begun, NGX_HTTP_JWT_LIMIT))
+    {
+        ngx_http_jwt_end_fetch(rules, 1);
+    }
+
+    if (rules->fetch == NULL
+        && (lacks_key
+            || ngx_http_jwt_is_past(rules->fetched, rules->conf->period))
+        && ngx_http_jwt_is_past(rules->tried,
+                                is_first ? NGX_HTTP_JWT_FIRST_PAUSE
+                                         : NGX_HTTP_JWT_PAUSE)
+        && ngx_http_jwt_begin_fetch(ctx->request, rules) != NGX_OK)
+    {
+        return NGX_ERROR;
+    }
+
+    if (!lacks_key || ctx->has_waited || rules->fetch == NULL) {
+        return NGX_OK;
+    }
+
+    ctx->is_waiting = 1;
+    ngx_queue_insert_tail(&rules->waiting, &ctx->queue);
+
+    return NGX_AGAIN;
+}

@@ -1,0 +1,443 @@
+"""Tests that keys are fetched, kept and replaced: auth_jwt_key_request, auth_jwt_key_cache and several auth_jwt_key_files."""
+import contextlib
+import http.client
+import json
+import socket
+import subprocess
+import tempfile
+import threading
+import time
+
+from harness import NOW, Watched, eventually, free_port, oct_key, signed, started, test, under_valgrind
+from key_server import KeyServer, close, cut, endless, hang, head, late, short, stop_midway, whole
+
+SECRETS = {kid: f"the secret of the key {kid}, of 32 bytes or more".encode() for kid in "abcdefgh"}
+# seconds between fetches, after which a set is old, and after which a fetch is given up
+PAUSE, OLD, LIMIT = 10, 3600, 60
+
+FETCHED = """
+    auth_jwt_alg HS256;
+    add_header X-Status "$jwt_status" always;
+    add_header X-Sub "$jwt_claim_sub" always;
+    proxy_read_timeout 1s;
+    location / {{ set $seen $from; auth_jwt fetched; auth_jwt_key_request /keys; }}
+    location = /keys {{
+        internal; proxy_pass http://127.0.0.1:{keys}/jwks?of=$http_x_from$arg_from;
+        proxy_set_header X-Host $host; proxy_set_header X-Map $from; proxy_set_header X-Uri $request_uri;
+    }}
+    # other rules over the same keys have a fetch of their own, and the same rules do not
+    location /audience {{ auth_jwt fetched; auth_jwt_key_request /keys; auth_jwt_aud app; }}
+    location /same {{ auth_jwt same; auth_jwt_key_request /keys; }}
+    location /anew {{ auth_jwt fetched; auth_jwt_key_request /keys; auth_jwt_cache 0; }}
+    location /seldom {{ auth_jwt fetched; auth_jwt_key_request /keys; auth_jwt_key_cache 1d; }}
+    location /backend {{ auth_jwt fetched; auth_jwt_key_request /keys; proxy_pass http://127.0.0.1:{backend}; proxy_read_timeout 5s; }}
+    # files and an uri
+    location /files {{ auth_jwt files; auth_jwt_key_file {work}/a.json; auth_jwt_key_file {work}/b.json; }}
+    location /both {{ auth_jwt both; auth_jwt_key_file {work}/g.json; auth_jwt_key_request /keys; }}
+    # where the keys come from
+    location /of_file {{ auth_jwt file; auth_jwt_key_request /file; }}
+    location = /file {{ internal; alias {work}/set.json; }}
+    location /of_store {{ auth_jwt store; auth_jwt_key_request /store; }}
+    location = /store {{ internal; proxy_cache stored; proxy_cache_valid 1m; proxy_pass http://127.0.0.1:{keys}/jwks; }}
+    location /of_second {{ auth_jwt second; auth_jwt_key_request /first; }}
+    location = /first {{ internal; proxy_pass http://127.0.0.1:1/; error_page 502 = /file; }}
+    location /of_text {{ auth_jwt text; auth_jwt_key_request /text; }}
+    location = /text {{ internal; return 200 '{{"keys":[{text}]}}'; }}
+    location /of_none {{ auth_jwt none; auth_jwt_key_request /none; }}
+    location = /none {{ internal; return 204; }}
+    location /of_nothing {{ auth_jwt nothing; auth_jwt_key_request /nosuch; }}
+    # where a token is asked for
+    location /gated {{ auth_request /gate; }}
+    location = /gate {{ internal; auth_jwt gate; auth_jwt_key_request /keys; empty_gif; }}
+    location /returned {{ auth_request /gate_return; }}
+    location = /gate_return {{ internal; auth_jwt gate; auth_jwt_key_request /keys; auth_jwt_leeway 1s; return 204; }}
+    location /any {{ satisfy any; deny all; auth_jwt any; auth_jwt_key_request /keys; auth_jwt_leeway 2s; }}
+    location /two {{ auth_jwt two; auth_jwt_key_request /file; error_page 401 = @other; }}
+    location @other {{ auth_jwt other; auth_jwt_key_request /keys; auth_jwt_leeway 3s; try_files /index.html =404; }}
+    location = /page {{ ssi on; ssi_types *; }}
+    location = /parts {{ ssi on; ssi_types *; }}
+    location = /part {{ auth_jwt part token=$arg_t; auth_jwt_key_request /keys; ssi on; ssi_types *; }}
+    location /below {{
+        auth_jwt below; auth_jwt_key_request /below/keys; auth_jwt_leeway 5s;
+        location = /below/keys {{ internal; proxy_pass http://127.0.0.1:{keys}/jwks; }}
+    }}
+"""
+HTTP = """
+    proxy_cache_path {work}/store keys_zone=stored:1m;
+    map $http_x_from $from {{ default known; evil evil; }}
+    server {{
+        listen 127.0.0.1:{http2} http2;
+        root {work}/root;
+        auth_jwt_alg HS256;
+        location / {{ auth_jwt fetched; auth_jwt_key_request /keys; }}
+        location = /keys {{ internal; proxy_pass http://127.0.0.1:{keys}/jwks; }}
+    }}
+"""
+
+
+def token(kid, secret=None, **claims):
+    return signed({"exp": NOW + 10**6, "sub": kid, **claims}, secret or SECRETS[kid], kid=kid)
+
+
+def keys(kids):
+    return [oct_key(kid, SECRETS[kid]) for kid in kids]
+
+
+@contextlib.contextmanager
+def servers(module):
+    """Runs a server of keys, one that answers late, and an nginx that takes keys from it, which is not started."""
+    with tempfile.TemporaryDirectory(prefix="nginx-jwt-") as work:
+        served, backend = KeyServer(whole(keys("a"))), KeyServer(late(3, whole("served\n")))
+        text, http2_port = json.dumps(oct_key("a", SECRETS["a"])).replace("{", "{{").replace("}", "}}"), free_port()
+        confs = [FETCHED, HTTP]
+        for name, value in (("keys", served.port), ("backend", backend.port), ("text", text), ("http2", http2_port)):
+            confs = [it.replace(f"{{{name}}}", str(value)) for it in confs]
+        server = Watched(module, work, *confs)
+        for name in ("part", "page", "parts", "index.html"):
+            server.write(f"root/{name}", "served\n")
+        for kid in "abg":
+            server.write(f"{kid}.json", {"keys": keys(kid)})
+        server.write("set.json", {"keys": keys("a")})
+        server.keys, server.http2, server.now = served, http2_port, NOW
+        server.at(NOW)
+        try:
+            yield server
+        finally:
+            served.stop()
+            backend.stop()
+
+
+def later(server, seconds):
+    """Sets the clock of the server some seconds on."""
+    server.now += seconds
+    server.at(server.now)
+
+
+def together(count, call):
+    """Returns what this many threads get that call at the same time."""
+    got = []
+    threads = [threading.Thread(target=lambda: got.append(call())) for _ in range(count)]
+    for thread in threads:
+        thread.start()
+    for thread in threads:
+        thread.join()
+    return got
+
+
+def asks(server, name, wanted, fetches, path="/"):
+    """Tests the statuses of tokens by the kids that they name, and how often keys are fetched for them."""
+    before = len(server.keys.asked)
+    got = {kid: server.get(path, token(kid[0], SECRETS["h"] if kid.endswith("!") else None))[0] for kid in wanted}
+    test(f"{name}: {got}, wanted {wanted}", got == wanted)
+    # one in the background may begin after the answer
+    eventually(lambda: len(server.keys.asked) >= before + fetches)
+    test(f"{name}: {len(server.keys.asked) - before} fetches, wanted {fetches}", len(server.keys.asked) - before == fetches)
+
+
+def rotation(server):
+    """The keys that are fetched are those of the server, within ten seconds of a token that names another."""
+    test("no token, no fetch", server.get("/")[0] == 401 and not server.keys.asked)
+    asks(server, "the first token", {"a": 200}, 1)
+    asks(server, "forged tokens, also of an unknown key", {"a!": 401, "b": 401, "b!": 401, "a": 200}, 0)
+    server.keys.answer = whole(keys("b"))
+    asks(server, "too early for another set", {"b": 401, "a": 200}, 0)
+    later(server, PAUSE)
+    asks(server, "the next set, and no token that was accepted with the first", {"b": 200, "a": 401, "b!": 401}, 1)
+    server.keys.answer = whole(keys("a"))
+    later(server, PAUSE)
+    asks(server, "a known key needs no fetch", {"b": 200}, 0)
+    asks(server, "an old set for a while", {"c": 401, "a": 200, "b": 401}, 1)
+    server.keys.answer = whole(keys("bc"))
+    later(server, PAUSE)
+    asks(server, "two keys", {"c": 200, "b": 200, "a": 401, "c!": 401}, 1)
+    server.keys.answer = whole(keys("cd"))
+    later(server, OLD - 1)
+    asks(server, "a set that is not yet old", {"b": 200}, 0)
+    later(server, 1)
+    asks(server, "an old set still serves", {"b": 200}, 1)
+    test("and another one comes", eventually(lambda: server.get("/", token("d"))[0] == 200 and server.get("/", token("b"))[0] == 401))
+    later(server, -OLD)
+    before = len(server.keys.asked)
+    test("a clock that is set back", server.get("/", token("d"))[0] == 200 and eventually(lambda: len(server.keys.asked) == before + 1))
+    asks(server, "the same rules have the same set", {"d": 200}, 0, "/same")
+    asks(server, "others fetch it again", {"d": 401}, 1, "/audience")
+    for path in ("/anew", "/seldom"):
+        asks(server, path, {"d": 200, "a!": 401}, 1, path)
+    later(server, OLD)
+    asks(server, "a set that lasts a day", {"d": 200}, 0, "/seldom")
+
+
+def faults(server):
+    """Whatever the server of keys does, the last good set decides."""
+    server.keys.answer = whole(keys("a"))
+    later(server, OLD)
+    eventually(lambda: server.get("/", token("a"))[0] == 200)
+    blank = oct_key("c", b"")
+    many = [oct_key("c", SECRETS["c"])] + [oct_key(f"{n}", b"x" * 80) for n in range(10000)]
+    for name, answer in (
+        ("a closed connection", close),
+        ("a hang", hang),
+        ("a hang midway", stop_midway(keys("c"))),
+        ("a cut", cut(keys("c"))),
+        ("a length that is too small", short(keys("c"))),
+        ("HTML", whole("<html><body>Sign in</body></html>")),
+        ("an error", whole(keys("c"), "500 Oops")),
+        ("a page that is not there", whole(keys("c"), "404 Not Found")),
+        ("another status", whole(keys("c"), "203 Other")),
+        ("a redirect", whole(keys("c"), "302 Found", "Location: /\r\n")),
+        ("nothing", whole("")),
+        ("an empty set", whole([])),
+        ("a set of other kinds", whole([{"kty": "RSA", "kid": "c", "n": "AQAB", "e": "AQAB"}])),
+        ("a set with a key that anyone has", whole([*keys("c"), blank])),
+        ("a set with the text of a key as secret", whole([*keys("c"), oct_key("d", b"-----BEGIN PUBLIC KEY-----")])),
+        ("a single key", whole(json.dumps(keys("c")[0]))),
+        ("no HTTP", lambda connection: connection.sendall(b"x" * 5000)),
+        ("a set of more than 1 MiB", whole(many)),
+        ("more than 1 MiB without a length", lambda connection: connection.sendall(head() + b" " * 1048577 + json.dumps({"keys": keys("c")}).encode())),
+        ("what does not end", endless),
+        ("no set in packed form", whole("\x1f\x8b\x08", more="Content-Encoding: gzip\r\n")),
+    ):
+        server.keys.answer = answer
+        later(server, PAUSE)
+        began = time.monotonic()
+        asks(server, name, {"c": 401, "a": 200, "a!": 401}, 1)
+        test(f"{name}: it took {time.monotonic() - began}", time.monotonic() - began < 4)
+        asks(server, f"{name}, again", {"c": 401, "a": 200, "b": 401}, 0)
+    test("the faults are told", server.read("error.log").count('auth_jwt: no keys from "/keys"') >= 20)
+    server.keys.answer = whole(keys("c"))
+    later(server, PAUSE)
+    asks(server, "a good set after them", {"c": 200, "a": 401}, 1)
+    many = [oct_key(f"{n}", f"the secret of key {n}".encode()) for n in range(9999)] + keys("e")
+    server.keys.answer = whole(many)
+    later(server, PAUSE)
+    began = time.monotonic()
+    asks(server, "a set of 10000 keys", {"e": 200, "c": 401}, 1)
+    test(f"a set of 10000 keys: {time.monotonic() - began} s", time.monotonic() - began < 5)
+    test("one of them", server.get("/", signed({"exp": NOW + 10**6}, b"the secret of key 5000", kid="5000"))[0] == 200)
+    server.keys.answer = whole(keys("a"))
+    later(server, PAUSE)
+    asks(server, "a small set after it", {"a": 200, "e": 401}, 1)
+
+
+def waiting(server):
+    """Requests that need a set wait for one fetch, and others do not."""
+    server.keys.answer = late(0.5, whole(keys("b")))
+    later(server, PAUSE)
+    before = len(server.keys.asked)
+    got = together(40, lambda: server.get("/", token("b"))[0])
+    test(f"40 requests of an unknown key: {got}", got == [200] * 40 and len(server.keys.asked) == before + 1)
+    server.keys.answer = late(0.8, whole(keys("a")))
+    later(server, PAUSE)
+    thread = threading.Thread(target=server.get, args=("/", token("a")))
+    thread.start()
+    eventually(lambda: len(server.keys.asked) == before + 2)
+    began = time.monotonic()
+    test("the last good set meanwhile", server.get("/", token("b"))[0] == 200 and server.get("/", token("b", SECRETS["h"]))[0] == 401)
+    test("which needs no waiting", time.monotonic() - began < 0.5)
+    test("what comes for the key waits", server.get("/", token("a"))[0] == 200 and len(server.keys.asked) == before + 2)
+    thread.join()
+    # an old set is used while another comes, which the next request on the same connection waits for
+    server.keys.answer = late(0.5, whole(keys("c")))
+    later(server, OLD)
+    connection = http.client.HTTPConnection("127.0.0.1", server.port, timeout=20)
+    took = []
+    for kid in ("a", "c", "c"):
+        began = time.monotonic()
+        connection.request("GET", "/", headers={"Authorization": f"Bearer {token(kid)}"})
+        answer = connection.getresponse()
+        answer.read()
+        took.append((answer.status, time.monotonic() - began < 0.4))
+    test(f"an old set on one connection: {took}", [it[0] for it in took] == [200] * 3 and took[0][1] and took[2][1])
+    for method, body, size in (("HEAD", None, 0), ("POST", b"x" * 100000, 3), ("PUT", b"{}", 3)):
+        server.keys.answer = whole(keys("a" if method == "POST" else "b"))
+        later(server, PAUSE)
+        connection.request(method, "/", body, {"Authorization": f"Bearer {token('a' if method == 'POST' else 'b')}"})
+        answer = connection.getresponse()
+        text = answer.read()
+        test(f"{method}: {answer.status}", answer.status == (200 if method == "HEAD" else 405) and (len(text) > 0) == (size > 0))
+    connection.close()
+
+
+def neutral(server):
+    """What the client sends does not get into the fetch."""
+    server.keys.answer = whole(keys("f"))
+    later(server, PAUSE)
+    before = len(server.keys.asked)
+    headers = {"Range": "bytes=0-3", "Accept-Encoding": "gzip", "If-None-Match": '"x"', "Cookie": "a=b", "X-From": "evil", "Host": "evil", "Expect": "x"}
+    status, _ = server.get("/?from=evil", token("f"), **headers)
+    asked = server.keys.asked[before:]
+    test(f"a client with odd headers: {status} {asked}", status == 206 and len(asked) == 1)
+    lines = asked[0].split("\r\n") if asked else []
+    names = {line.partition(":")[0] for line in lines[1:] if line}
+    test(f"what is asked: {lines}", lines[:1] == ["GET /jwks?of= HTTP/1.0"] and names <= {"X-Host", "X-Map", "X-Uri", "Host", "Connection"} and "evil" not in "".join(lines))
+
+
+def cuts(server):
+    """If the request ends that began a fetch, another one begins it anew."""
+    server.keys.answer = whole(keys("a"))
+    later(server, OLD)
+    eventually(lambda: server.get("/backend/warm", token("a"))[0] == 200)
+    for what, answer in (("a hang", hang), ("an answer that comes late", late(1, whole(keys("h"))))):
+        server.keys.answer = answer
+        later(server, OLD)
+        before = len(server.keys.asked)
+        client = socket.create_connection(("127.0.0.1", server.port))
+        client.sendall(f"GET /backend/slow HTTP/1.1\r\nHost: x\r\nAuthorization: Bearer {token('a')}\r\n\r\n".encode())
+        test(f"{what}: it begins", eventually(lambda: len(server.keys.asked) == before + 1))
+        got = []
+        threads = [threading.Thread(target=lambda: got.append(server.get("/backend/other", token("b"))[0])) for _ in range(5)]
+        for thread in threads:
+            thread.start()
+        time.sleep(0.3)
+        server.keys.answer = whole(keys("ab"))
+        client.close()
+        for thread in threads:
+            thread.join()
+        test(f"{what}: {got} with {len(server.keys.asked) - before} fetches", got == [200] * 5 and len(server.keys.asked) == before + 2)
+        server.keys.answer = whole(keys("a"))
+        later(server, PAUSE)
+        server.get("/backend/other", token("c"))
+    # a page, one part of which is cut off while another one waits for keys that it fetches itself, or that another request fetches
+    server.write("root/parts", f'<!--#include virtual="/backend/part" --><!--#include virtual="/part?t={token("b")}" -->\n')
+    for is_own in (True, False):
+        server.keys.answer = late(1, whole(keys("a")))
+        later(server, PAUSE)
+        before, got = len(server.keys.asked), []
+        other = threading.Thread(target=lambda: got.append(server.get("/gated", token("b"))[0]))
+        if not is_own:
+            other.start()
+            eventually(lambda: len(server.keys.asked) == before + 1)
+        client = socket.create_connection(("127.0.0.1", server.port))
+        client.sendall(f"GET /parts HTTP/1.1\r\nHost: x\r\nAuthorization: Bearer {token('a')}\r\n\r\n".encode())
+        test("the part waits", eventually(lambda: len(server.keys.asked) == before + 1) and server.get("/", token("a"))[0] == 200)
+        time.sleep(0.2)
+        if is_own:
+            other.start()
+            time.sleep(0.2)
+        client.close()
+        other.join()
+        test(f"after a page that ended, own {is_own}: {got}", got == [401] and len(server.keys.asked) == before + 1 + is_own)
+    # a client that does not wait for its answer
+    for _ in range(20):
+        server.keys.answer = late(0.05, whole(keys("a")))
+        later(server, PAUSE)
+        client = socket.create_connection(("127.0.0.1", server.port))
+        client.sendall(f"GET / HTTP/1.1\r\nHost: x\r\nAuthorization: Bearer {token('f')}\r\n\r\n".encode())
+        client.close()
+    server.keys.answer = whole(keys("a"))
+    time.sleep(0.2)
+    later(server, PAUSE)
+    test("after clients that went away", server.get("/", token("b"))[0] == 401 and server.get("/", token("a"))[0] == 200)
+
+
+def given_up(server):
+    """A fetch that takes longer than a minute is given up when the next request comes."""
+    done = threading.Event()
+
+    def drip(connection):
+        connection.sendall(head(100000))
+        while not done.wait(0.2):
+            connection.sendall(b" ")
+
+    server.keys.answer = whole(keys("a"))
+    later(server, PAUSE)
+    server.get("/", token("b"))
+    server.keys.answer = drip
+    later(server, PAUSE)
+    before = len(server.keys.asked)
+    got = []
+    thread = threading.Thread(target=lambda: got.append(server.get("/", token("b"))[0]))
+    thread.start()
+    test("a fetch that does not end", eventually(lambda: len(server.keys.asked) == before + 1))
+    later(server, LIMIT - 1)
+    test("which is waited for", server.get("/", token("a"))[0] == 200 and not got)
+    later(server, 1)
+    test("but not longer than a minute", server.get("/", token("a"))[0] == 200 and eventually(lambda: got == [401]))
+    server.keys.answer = whole(keys("b"))
+    later(server, PAUSE)
+    asks(server, "another fetch", {"b": 200, "a": 401}, 1)
+    done.set()
+    thread.join()
+    test("what came too late is not used", eventually(lambda: server.get("/", token("b"))[0] == 200))
+
+
+def never(server):
+    """Without any set the answer is 500, and each second a request tries again."""
+    for path in ("/of_none", "/of_nothing"):
+        status, headers = server.get(path, token("a"))
+        test(f"{path}: {status} {headers['X-Status']}", status == 500)
+        test(f"{path} without a token", server.get(path)[0] == 401)
+    server.write("set.json", "{")
+    test("a broken set", server.get("/of_file", token("a"))[0] == 500)
+    server.write("set.json", {"keys": keys("a")})
+    test("too early", server.get("/of_file", token("a"))[0] == 500)
+    later(server, 1)
+    test("a second later", server.get("/of_file", token("a"))[0] == 200)
+
+
+def sources(server):
+    """Keys come from files, and from each kind of location."""
+    asks(server, "two files", {"a": 200, "b": 200, "c": 401, "a!": 401, "b!": 401}, 0, "/files")
+    server.keys.answer = whole(keys("c"))
+    asks(server, "a file and an uri", {"g": 200}, 1, "/both")
+    asks(server, "the uri", {"c": 200, "g": 200, "a": 401, "g!": 401, "c!": 401}, 0, "/both")
+    server.keys.answer = whole([oct_key("g", SECRETS["h"]), *keys("b")])
+    later(server, PAUSE)
+    asks(server, "a key of the file and of the uri is that of the file", {"b": 200, "g": 200, "g!": 401}, 1, "/both")
+    server.keys.answer = whole(keys("a"))
+    for path in ("/of_store", "/of_second", "/of_text", "/below"):
+        asks(server, path, {"a": 200, "a!": 401}, 1 if path in ("/of_store", "/below") else 0, path)
+    server.keys.answer = whole(keys("b"))
+    later(server, PAUSE)
+    asks(server, "a stored answer, which nginx sends from a file", {"b": 401, "a": 200}, 0, "/of_store")
+
+
+def places(server):
+    """A token is asked for in subrequests, beside other tests, and by a second issuer."""
+    server.keys.answer = late(0.2, whole(keys("a")))
+    later(server, PAUSE)
+    for path, first in (("/gated", {"a": 200, "a!": 401, "b": 401}), ("/any", {"a": 200, "b": 401})):
+        asks(server, path, first, 1, path)
+    # a location that answers by return can't wait
+    test("a return before the first set", server.get("/returned", token("a"))[0] == 500)
+    test("a return after it", eventually(lambda: server.get("/returned", token("a"))[0] == 200))
+    asks(server, "a return", {"a!": 401, "b": 401, "a": 200}, 0, "/returned")
+    server.write("set.json", {"keys": keys("c")})
+    test("the first issuer", server.get("/two", token("c"))[0] == 200)
+    test("the second issuer", server.get("/two", token("a"))[0] == 200)
+    test("neither", server.get("/two", token("b"))[0] == 401 and server.get("/two", token("a", SECRETS["c"]))[0] == 401)
+    server.write("root/part", 'part of <!--#echo var="jwt_claim_sub" -->\n')
+    server.write("root/page", "".join(f'<!--#include virtual="/part?t={it}" -->' for it in (token("a"), token("a", sub="ben"), token("b"))) + "end\n")
+    got = together(5, lambda: server.fetch("/page")[2])
+    test(f"parts of a page: {got[0]}", all("part of a\npart of ben\n" in it and it.endswith("end\n") and it.count("part of") == 2 for it in got))
+
+
+def http2(server):
+    """The streams of one connection wait for one fetch."""
+    server.keys.answer = late(0.3, whole(keys("e")))
+    later(server, PAUSE)
+    before = len(server.keys.asked)
+    server.write("root/stream", "served")
+    words = ["curl", "-s", "--http2-prior-knowledge", "-Z", "--parallel-immediate", "-o", "/dev/null", "-w", "%{http_code} %{http_version}\n"]
+    words += ["-H", f"Authorization: Bearer {token('e')}", f"http://127.0.0.1:{server.http2}/stream?[1-8]"]
+    said = subprocess.run(words, capture_output=True, text=True).stdout.split("\n")[:-1]
+    test(f"HTTP/2: {said}", said == ["200 2"] * 8 and len(server.keys.asked) == before + 1)
+
+
+ALL = (rotation, faults, waiting, neutral, cuts, given_up, never, sources, places, http2)
+
+
+def run(module):
+    with servers(module) as server:
+        server.env["MALLOC_PERTURB_"] = "165"
+        with started(server):
+            for part in ALL:
+                part(server)
+
+
+def run_valgrind(module):
+    """The same under valgrind, which is slower, so that what depends on time is left out."""
+    with servers(module) as server:
+        with under_valgrind(server):
+            for part in (rotation, neutral, cuts, given_up, never, sources, places, http2):
+                part(server)
