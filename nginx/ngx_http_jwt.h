@@ -30,6 +30,13 @@ typedef struct {
 } ngx_http_jwt_key_t;
 
 
+/* a value that may not be empty or 0, and the answer if it is */
+typedef struct {
+    ngx_http_complex_value_t  value;
+    ngx_int_t                 answer;
+} ngx_http_jwt_require_t;
+
+
 typedef struct {
     u_char                *file;        /* where the directives stand */
     ngx_uint_t             line;
@@ -45,6 +52,7 @@ typedef struct {
     ngx_str_t              issuers;
     time_t                 leeway;
     ngx_int_t              slot_count;
+    ngx_array_t           *required;    /* of ngx_http_jwt_require_t */
     ngx_http_jwt_rules_t  *rules;
 } ngx_http_jwt_loc_conf_t;
 

@@ -53,6 +53,7 @@ ngx_http_jwt_create_loc_conf(ngx_conf_t *cf)
     conf->period = NGX_CONF_UNSET;
     conf->leeway = NGX_CONF_UNSET;
     conf->slot_count = NGX_CONF_UNSET;
+    conf->required = NGX_CONF_UNSET_PTR;
 
     return conf;
 }
@@ -128,6 +129,7 @@ ngx_http_jwt_merge_loc_conf(ngx_conf_t *cf, void *parent, void *child)
     ngx_conf_merge_sec_value(conf->leeway, prev->leeway, 0);
     ngx_conf_merge_value(conf->slot_count, prev->slot_count,
                          NGX_HTTP_JWT_SLOTS);
+    ngx_conf_merge_ptr_value(conf->required, prev->required, NULL);
 
     if (!conf->enabled) {
         return NGX_CONF_OK;
@@ -343,6 +345,58 @@ ngx_http_jwt_list(ngx_conf_t *cf, ngx_command_t *cmd, void *conf)
 }
 
 
+static char *
+ngx_http_jwt_require(ngx_conf_t *cf, ngx_command_t *cmd, void *conf)
+{
+    ngx_str_t                         *value = cf->args->elts;
+    ngx_int_t                          answer = NGX_HTTP_UNAUTHORIZED;
+    ngx_uint_t                         i, n = cf->args->nelts;
+    ngx_http_jwt_require_t            *it;
+    ngx_http_jwt_loc_conf_t           *jlcf = conf;
+    ngx_http_compile_complex_value_t   ccv;
+
+    if (ngx_strncmp(value[n - 1].data, "error=", 6) == 0) {
+        n--;
+        answer = ngx_atoi(value[n].data + 6, value[n].len - 6);
+    }
+
+    if (n < 2
+        || (answer != NGX_HTTP_UNAUTHORIZED && answer != NGX_HTTP_FORBIDDEN))
+    {
+        return "takes $variables, and error=401 or error=403 at the end";
+    }
+
+    if (jlcf->required == NGX_CONF_UNSET_PTR) {
+        jlcf->required = ngx_array_create(cf->pool, n - 1,
+                                          sizeof(ngx_http_jwt_require_t));
+    }
+
+    for (i = 1; i < n; i++) {
+        it = jlcf->required != NULL ? ngx_array_push(jlcf->required) : NULL;
+        if (it == NULL) {
+            return NGX_CONF_ERROR;
+        }
+
+        if (value[i].data[0] != '$') {
+            return "takes values that begin with a variable";
+        }
+
+        ngx_memzero(&ccv, sizeof(ngx_http_compile_complex_value_t));
+        ccv.cf = cf;
+        ccv.value = &value[i];
+        ccv.complex_value = &it->value;
+
+        if (ngx_http_compile_complex_value(&ccv) != NGX_OK) {
+            return NGX_CONF_ERROR;
+        }
+
+        it->answer = answer;
+    }
+
+    return NGX_CONF_OK;
+}
+
+
 static ngx_conf_post_t  ngx_http_jwt_uri_post = { ngx_http_jwt_check_uri };
 
 
@@ -353,7 +407,7 @@ static ngx_conf_num_bounds_t  ngx_http_jwt_slot_bounds = {
 
 #define ngx_http_jwt_command(name, args, set, field, post)                   \
     { ngx_string(name), NGX_HTTP_MAIN_CONF|NGX_HTTP_SRV_CONF                 \
-      |NGX_HTTP_LOC_CONF|args,                             \
+      |NGX_HTTP_LOC_CONF|NGX_HTTP_LMT_CONF|args,                             \
       set, NGX_HTTP_LOC_CONF_OFFSET,                                         \
       offsetof(ngx_http_jwt_loc_conf_t, field), post }
 
@@ -378,6 +432,8 @@ ngx_command_t  ngx_http_jwt_commands[] = {
     ngx_http_jwt_command("auth_jwt_cache", NGX_CONF_TAKE1,
                          ngx_conf_set_num_slot, slot_count,
                          &ngx_http_jwt_slot_bounds),
+    ngx_http_jwt_command("auth_jwt_require", NGX_CONF_1MORE,
+                         ngx_http_jwt_require, required, NULL),
     { ngx_string("auth_jwt_claim"), NGX_HTTP_MAIN_CONF|NGX_CONF_TAKE2,
       ngx_http_jwt_claim, NGX_HTTP_MAIN_CONF_OFFSET, 0, NULL },
     ngx_null_command

@@ -76,6 +76,35 @@ ngx_http_jwt_refuse(ngx_http_request_t *r, ngx_str_t *realm, ngx_int_t answer,
 }
 
 
+/* Tests the values of auth_jwt_require. */
+static ngx_int_t
+ngx_http_jwt_test(ngx_http_request_t *r, ngx_http_jwt_loc_conf_t *jlcf)
+{
+    ngx_str_t                value;
+    ngx_uint_t               i;
+    ngx_http_jwt_require_t  *it;
+
+    if (jlcf->required == NULL) {
+        return NGX_OK;
+    }
+
+    it = jlcf->required->elts;
+
+    for (i = 0; i < jlcf->required->nelts; i++) {
+        if (ngx_http_complex_value(r, &it[i].value, &value) != NGX_OK) {
+            return NGX_HTTP_INTERNAL_SERVER_ERROR;
+        }
+
+        if (value.len == 0 || (value.len == 1 && value.data[0] == '0')) {
+            return ngx_http_jwt_refuse(r, &jlcf->realm, it[i].answer,
+                                       ", error=\"insufficient_scope\"");
+        }
+    }
+
+    return NGX_OK;
+}
+
+
 static ngx_int_t
 ngx_http_jwt_check(ngx_http_request_t *r, ngx_uint_t may_wait)
 {
@@ -120,7 +149,7 @@ ngx_http_jwt_check(ngx_http_request_t *r, ngx_uint_t may_wait)
     switch (ctx->status) {
 
     case JWT_OK:
-        return NGX_OK;
+        return ngx_http_jwt_test(r, jlcf);
 
     case JWT_OUT_OF_MEMORY:
     case JWT_CLOCK_BEFORE_EPOCH:

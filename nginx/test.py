@@ -257,6 +257,14 @@ BAD = [
     ("a FIFO", "auth_jwt_key_file {work}/fifo;", '"auth_jwt_key_file" directive names no regular file'),
     ("a folder", "auth_jwt_key_file {work}/root;", '"auth_jwt_key_file" directive names no regular file'),
     ("a device", "auth_jwt_key_file /dev/zero;", '"auth_jwt_key_file" directive names no regular file'),
+    ("nothing that is required", "auth_jwt_require;", "invalid number of arguments"),
+    ("an error alone", "auth_jwt_require error=403;", '"auth_jwt_require" directive takes $variables'),
+    ("another error", "auth_jwt_require $host error=404;", '"auth_jwt_require" directive takes $variables'),
+    ("an error that is none", "auth_jwt_require $host error=;", '"auth_jwt_require" directive takes $variables'),
+    ("an error in front", "auth_jwt_require error=403 $host;", '"auth_jwt_require" directive takes values that begin with a variable'),
+    ("no variable", "auth_jwt_require yes;", '"auth_jwt_require" directive takes values that begin with a variable'),
+    ("an empty value", 'auth_jwt_require "";', '"auth_jwt_require" directive takes values that begin with a variable'),
+    ("an unknown variable that is required", "auth_jwt_require $nosuch;", "nosuch"),
     ("a claim of a server", "auth_jwt_claim $user sub;", '"auth_jwt_claim" directive is not allowed here'),
 ]
 BAD_CLAIMS = [
@@ -645,6 +653,36 @@ PLACES = """
 """
 
 # names that JSON writes with escapes
+REQUIRED_MAPS = """
+    map $jwt_claim_role $is_admin {{ admin 1; }}
+    map $jwt_claim_sub $is_welcome {{ default 1; eve 0; }}
+    map $jwt_claim_list $has_both {{ ~"a".*"b" 1; }}
+"""
+REQUIRED = """
+        auth_jwt_key_file {work}/keys.json;
+        auth_jwt_alg HS256;
+        add_header X-Status "$jwt_status" always;
+        location /admin {{ auth_jwt r; auth_jwt_require $is_admin error=403; }}
+        location /welcome {{ auth_jwt r; auth_jwt_require $is_welcome; }}
+        location /claim {{ auth_jwt r; auth_jwt_require $jwt_claim_scope error=401; }}
+        location /list {{ auth_jwt r; auth_jwt_require $has_both; }}
+        location /text {{ auth_jwt r; auth_jwt_require $jwt_claim_tenant$jwt_claim_scope; }}
+        location /all {{ auth_jwt r; auth_jwt_require $is_welcome $jwt_claim_scope; auth_jwt_require $is_admin error=403; }}
+        location /above {{
+            auth_jwt r; auth_jwt_require $is_admin error=403;
+            location /above_same {{ auth_jwt_leeway 1s; }}
+            location /above_other {{ auth_jwt_require $is_welcome; }}
+            location /above_off {{ auth_jwt off; }}
+        }}
+        location /gated {{ auth_request /gate; }}
+        location = /gate {{ internal; auth_jwt r; auth_jwt_require $is_admin error=403; empty_gif; }}
+        location /returned {{ auth_request /gate_return; }}
+        location = /gate_return {{ internal; auth_jwt r; auth_jwt_require $is_admin; return 204; }}
+        location /any {{ satisfy any; deny all; auth_jwt r; auth_jwt_require $is_admin error=403; }}
+        location /anyone {{ satisfy any; allow 127.0.0.1; deny all; auth_jwt r; auth_jwt_require $is_admin error=403; }}
+        location /except {{ limit_except OPTIONS {{ auth_jwt r; auth_jwt_require $is_welcome; }} }}
+"""
+
 LONG = [f'caf\u00e9 "{n}" \\ ' + "x" * n for n in range(100)]
 PLACES = PLACES.replace("@LONG@", " ".join('"' + it.replace("\\", "\\\\").replace('"', '\\"') + '"' for it in LONG))
 
@@ -791,6 +829,65 @@ def early(server):
         got, _ = server.get("/long", signed({**PASS, "aud": LONG[it]}))
         test(f"audience {it} of {len(LONG)}: {got}", got == 200)
     test("another audience than these", server.get("/long", signed({**PASS, "aud": LONG[5] + "x"}))[0] == 401)
+
+
+def required(server):
+    """A token that is accepted is refused all the same if a value of auth_jwt_require is empty or 0."""
+    for path, claims, wanted in (
+        ("/admin", {"role": "admin"}, 200),
+        ("/admin", {"role": "user"}, 403),
+        ("/admin", {}, 403),
+        ("/admin", {"role": "admin", "exp": 1}, 401),
+        ("/admin", None, 401),
+        ("/welcome", {}, 200),
+        ("/welcome", {"sub": "ada"}, 200),
+        ("/welcome", {"sub": "eve"}, 401),
+        ("/claim", {}, 401),
+        ("/claim", {"scope": ""}, 401),
+        ("/claim", {"scope": "0"}, 401),
+        ("/claim", {"scope": 0}, 401),
+        ("/claim", {"scope": 1.5}, 401),
+        ("/claim", {"scope": "00"}, 200),
+        ("/claim", {"scope": "read"}, 200),
+        # the text of it is neither empty nor 0
+        ("/claim", {"scope": False}, 200),
+        ("/list", {"list": ["a", "b"]}, 200),
+        ("/list", {"list": ["b", "a"]}, 401),
+        ("/text", {}, 401),
+        ("/text", {"tenant": "0"}, 401),
+        ("/text", {"tenant": "0", "scope": "0"}, 200),
+        ("/text", {"scope": "x"}, 200),
+        ("/all", {"role": "admin", "scope": "x"}, 200),
+        ("/all", {"role": "admin"}, 401),
+        ("/all", {"scope": "x"}, 403),
+        ("/all", {"role": "admin", "scope": "x", "sub": "eve"}, 401),
+        ("/above", {}, 403),
+        ("/above_same", {}, 403),
+        ("/above_same", {"role": "admin"}, 200),
+        ("/above_other", {}, 200),
+        ("/above_other", {"sub": "eve"}, 401),
+        ("/above_off", {}, 200),
+        ("/gated", {"role": "admin"}, 200),
+        ("/gated", {}, 403),
+        ("/gated", None, 401),
+        ("/returned", {"role": "admin"}, 200),
+        ("/returned", {}, 401),
+        ("/any", {"role": "admin"}, 200),
+        ("/any", {}, 403),
+        ("/anyone", {}, 200),
+        ("/except", {}, 200),
+        ("/except", {"sub": "eve"}, 401),
+        ("/except", None, 401),
+    ):
+        for _ in range(2):
+            got, headers = server.get(path, None if claims is None else signed({**PASS, **claims}))
+            test(f"{path}, {claims}: {got}, wanted {wanted}", got == wanted)
+        if path in ("/claim", "/admin") and claims is not None and got != 200 and "exp" not in claims:
+            said = headers["X-Status"], headers["WWW-Authenticate"]
+            test(f"{path}, {claims}: {said}", said == ("OK", 'Bearer realm="r", error="insufficient_scope"'))
+    connection = http.client.HTTPConnection("127.0.0.1", server.port, timeout=60)
+    connection.request("OPTIONS", "/except")
+    test("a method of limit_except", connection.getresponse().status == 405)
 
 
 def claims(server):
@@ -957,6 +1054,14 @@ def run_places(module):
             test(f"no alert: {alerts[:3]}", not alerts)
 
 
+def run_required(module):
+    with tempfile.TemporaryDirectory(prefix="nginx-jwt-") as work:
+        server = Server(module, work, REQUIRED, http_conf=REQUIRED_MAPS)
+        write_keys(server)
+        with started(server):
+            required(server)
+
+
 def run_lists(module):
     with tempfile.TemporaryDirectory(prefix="nginx-jwt-") as work:
         server = Server(module, work, LONG_LISTS)
@@ -969,6 +1074,7 @@ def run_lists(module):
 def run_tests(module):
     run_default(module)
     run_lists(module)
+    run_required(module)
     run_places(module)
     run_anew(module)
     run_cache(module)
