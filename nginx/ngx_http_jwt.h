@@ -103,8 +103,6 @@ uint32_t ngx_http_jwt_verify(ngx_http_jwt_rules_t *rules,
 extern ngx_command_t  ngx_http_jwt_commands[];
 void *ngx_http_jwt_create_loc_conf(ngx_conf_t *cf);
 char *ngx_http_jwt_merge_loc_conf(ngx_conf_t *cf, void *parent, void *child);
-void ngx_http_jwt_report(ngx_conf_t *cf, const char *directive,
-    ngx_str_t *value, uint32_t status);
 
 /* ngx_http_jwt_fetch.c */
 void ngx_http_jwt_init_fetches(void);
@@ -113,6 +111,9 @@ ngx_int_t ngx_http_jwt_await(ngx_http_jwt_rules_t *rules,
     ngx_http_jwt_ctx_t *ctx);
 
 /* ngx_http_jwt_rules.c */
+char *ngx_http_jwt_report(ngx_conf_t *cf, const char *directive,
+    ngx_str_t *value, uint32_t status);
+char *ngx_http_jwt_read_key(ngx_conf_t *cf, ngx_http_jwt_key_t *key);
 char *ngx_http_jwt_set_rules(ngx_conf_t *cf, ngx_http_jwt_loc_conf_t *conf);
 uint32_t ngx_http_jwt_take_set(ngx_http_jwt_rules_t *rules,
     ngx_array_t *set);

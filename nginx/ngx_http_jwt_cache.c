@@ -131,7 +131,8 @@ ngx_http_jwt_decode(ngx_http_jwt_rules_t *rules, ngx_http_jwt_ctx_t *ctx,
 
     do {
         status = ngx_http_jwt_decode_by(&verifiers[i], ctx, now, last);
-    } while (ctx->test == JWT_TEST_KEY_IS_FOUND && ++i < rules->verifiers.nelts);
+    } while (ctx->test == JWT_TEST_KEY_IS_FOUND
+             && ++i < rules->verifiers.nelts);
 
     return status;
 }

@@ -6,28 +6,6 @@
 #define NGX_HTTP_JWT_MOST   1048576
 
 
-/* Says why the library refuses a value of a directive. */
-void
-ngx_http_jwt_report(ngx_conf_t *cf, const char *directive, ngx_str_t *value,
-    uint32_t status)
-{
-    u_char       text[NGX_HTTP_JWT_TEXT];
-    ngx_str_t    said = { 0, text };
-    const char  *hint = "";
-
-    if (status == JWT_BAD_OPTIONS) {
-        hint = ": no algorithm of this name, or a name that is not UTF-8";
-
-    } else if (status < JWT_NO_ROOM) {
-        hint = ": no JSON Web Key Set, JSON Web Key or public key in PEM";
-    }
-
-    (void) jwt_status_text(status, text, sizeof(text), &said.len);
-    ngx_conf_log_error(NGX_LOG_EMERG, cf, 0, "%s \"%V\": %V%s", directive,
-                       value, &said, hint);
-}
-
-
 /* Keeps where the directives of a block stand, for what is found later. */
 static void
 ngx_http_jwt_keep_place(ngx_conf_t *cf, ngx_http_jwt_loc_conf_t *jlcf)
@@ -183,53 +161,10 @@ ngx_http_jwt(ngx_conf_t *cf, ngx_command_t *cmd, void *conf)
 }
 
 
-/* Reads a file of 1 byte to 1 MiB. */
-static char *
-ngx_http_jwt_read_file(ngx_conf_t *cf, ngx_str_t *name, ngx_str_t *text)
-{
-    char        *rv = "names no regular file of 1 byte to 1 MiB";
-    ngx_file_t   file;
-
-    if (ngx_conf_full_name(cf->cycle, name, 1) != NGX_OK) {
-        return NGX_CONF_ERROR;
-    }
-
-    ngx_memzero(&file, sizeof(ngx_file_t));
-    file.name = *name;
-    file.log = cf->log;
-    /* a FIFO does not wait for a writer */
-    file.fd = ngx_open_file(name->data, NGX_FILE_RDONLY|NGX_FILE_NONBLOCK,
-                            NGX_FILE_OPEN, 0);
-    if (file.fd == NGX_INVALID_FILE) {
-        ngx_conf_log_error(NGX_LOG_EMERG, cf, ngx_errno,
-                           ngx_open_file_n " \"%V\" failed", name);
-        return NGX_CONF_ERROR;
-    }
-
-    if (ngx_fd_info(file.fd, &file.info) != NGX_FILE_ERROR
-        && ngx_is_file(&file.info) && ngx_file_size(&file.info) > 0
-        && ngx_file_size(&file.info) <= NGX_HTTP_JWT_SET)
-    {
-        text->len = ngx_file_size(&file.info);
-        text->data = ngx_pnalloc(cf->pool, text->len);
-
-        rv = text->data != NULL
-             && ngx_read_file(&file, text->data, text->len, 0)
-                == (ssize_t) text->len
-             ? NGX_CONF_OK : "names a file that can't be read";
-    }
-
-    (void) ngx_close_file(file.fd);
-    return rv;
-}
-
-
 static char *
 ngx_http_jwt_key_file(ngx_conf_t *cf, ngx_command_t *cmd, void *conf)
 {
-    char                     *rv;
-    uint32_t                  status;
-    ngx_str_t                *value = cf->args->elts, text;
+    ngx_str_t                *value = cf->args->elts;
     ngx_http_jwt_key_t       *key;
     ngx_http_jwt_loc_conf_t  *jlcf = conf;
 
@@ -245,30 +180,7 @@ ngx_http_jwt_key_file(ngx_conf_t *cf, ngx_command_t *cmd, void *conf)
     ngx_http_jwt_keep_place(cf, jlcf);
     key->name = value[1];
 
-    rv = ngx_http_jwt_read_file(cf, &key->name, &text);
-    if (rv != NGX_CONF_OK) {
-        return rv;
-    }
-
-    key->text = text;
-    status = jwt_check_set(text.data, text.len);
-    key->is_set = status != JWT_BAD_SET;
-
-    if (!key->is_set) {
-        status = jwt_check_key(text.data, text.len);
-    }
-
-    if (status == JWT_BAD_KEY) {
-        status = ngx_http_jwt_write(jwt_key_from_pem, cf->pool, &text,
-                                    &key->text);
-    }
-
-    if (status != JWT_OK) {
-        ngx_http_jwt_report(cf, "auth_jwt_key_file", &key->name, status);
-        return NGX_CONF_ERROR;
-    }
-
-    return NGX_CONF_OK;
+    return ngx_http_jwt_read_key(cf, key);
 }
 
 
@@ -284,7 +196,7 @@ ngx_http_jwt_check_uri(ngx_conf_t *cf, void *post, void *data)
 
 
 /* Has the library read a list as a member of options, for a secret. */
-static ngx_int_t
+static char *
 ngx_http_jwt_check_list(ngx_conf_t *cf, ngx_command_t *cmd, ngx_str_t *value,
     ngx_str_t *list)
 {
@@ -295,19 +207,15 @@ ngx_http_jwt_check_list(ngx_conf_t *cf, ngx_command_t *cmd, ngx_str_t *value,
 
     text = ngx_pnalloc(cf->pool, size);
     if (text == NULL) {
-        return NGX_ERROR;
+        return NGX_CONF_ERROR;
     }
 
     last = ngx_snprintf(text, size, "{\"%s\":%V}", cmd->post, list);
     status = jwt_verifier_secret(NULL, 0, text, last - text, 0, 1, &verifier);
     jwt_verifier_free(&verifier);
 
-    if (status == JWT_OK || status == JWT_UNFIT_KEY) {
-        return NGX_OK;
-    }
-
-    ngx_http_jwt_report(cf, (char *) cmd->name.data, value, status);
-    return NGX_ERROR;
+    return status == JWT_OK || status == JWT_UNFIT_KEY ? NGX_CONF_OK
+           : ngx_http_jwt_report(cf, (char *) cmd->name.data, value, status);
 }
 
 
@@ -330,18 +238,18 @@ ngx_http_jwt_list(ngx_conf_t *cf, ngx_command_t *cmd, void *conf)
             return "has an empty name";
         }
 
+        /* one by one, so that the report has the name */
         if (ngx_http_jwt_quote(cf->pool, &value[i], 1, list) != NGX_OK
             || ngx_http_jwt_check_list(cf, cmd, &value[i], list)
-               != NGX_OK)
+               != NGX_CONF_OK)
         {
             return NGX_CONF_ERROR;
         }
     }
 
     return ngx_http_jwt_quote(cf->pool, &value[1], cf->args->nelts - 1, list)
-           == NGX_OK
-           && ngx_http_jwt_check_list(cf, cmd, list, list)
-              == NGX_OK ? NGX_CONF_OK : NGX_CONF_ERROR;
+           == NGX_OK ? ngx_http_jwt_check_list(cf, cmd, list, list)
+                     : NGX_CONF_ERROR;
 }
 
 

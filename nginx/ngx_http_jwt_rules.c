@@ -6,6 +6,101 @@
     "\"iss\":%V}"
 
 
+/* Says why the library refuses a value of a directive. */
+char *
+ngx_http_jwt_report(ngx_conf_t *cf, const char *directive, ngx_str_t *value,
+    uint32_t status)
+{
+    u_char       text[NGX_HTTP_JWT_TEXT];
+    ngx_str_t    said = { 0, text };
+    const char  *hint = "";
+
+    if (status == JWT_BAD_OPTIONS) {
+        hint = ": no algorithm of this name, or a name that is not UTF-8";
+
+    } else if (status < JWT_NO_ROOM) {
+        hint = ": no JSON Web Key Set, JSON Web Key or public key in PEM";
+    }
+
+    (void) jwt_status_text(status, text, sizeof(text), &said.len);
+    ngx_conf_log_error(NGX_LOG_EMERG, cf, 0, "%s \"%V\": %V%s", directive,
+                       value, &said, hint);
+    return NGX_CONF_ERROR;
+}
+
+
+/* Reads a file of 1 byte to 1 MiB. */
+static char *
+ngx_http_jwt_read_file(ngx_conf_t *cf, ngx_str_t *name, ngx_str_t *text)
+{
+    char        *rv = "names no regular file of 1 byte to 1 MiB";
+    ngx_file_t   file;
+
+    if (ngx_conf_full_name(cf->cycle, name, 1) != NGX_OK) {
+        return NGX_CONF_ERROR;
+    }
+
+    ngx_memzero(&file, sizeof(ngx_file_t));
+    file.name = *name;
+    file.log = cf->log;
+    /* a FIFO does not wait for a writer */
+    file.fd = ngx_open_file(name->data, NGX_FILE_RDONLY|NGX_FILE_NONBLOCK,
+                            NGX_FILE_OPEN, 0);
+    if (file.fd == NGX_INVALID_FILE) {
+        ngx_conf_log_error(NGX_LOG_EMERG, cf, ngx_errno,
+                           ngx_open_file_n " \"%V\" failed", name);
+        return NGX_CONF_ERROR;
+    }
+
+    if (ngx_fd_info(file.fd, &file.info) != NGX_FILE_ERROR
+        && ngx_is_file(&file.info) && ngx_file_size(&file.info) > 0
+        && ngx_file_size(&file.info) <= NGX_HTTP_JWT_SET)
+    {
+        text->len = ngx_file_size(&file.info);
+        text->data = ngx_pnalloc(cf->pool, text->len);
+
+        rv = text->data != NULL
+             && ngx_read_file(&file, text->data, text->len, 0)
+                == (ssize_t) text->len
+             ? NGX_CONF_OK : "names a file that can't be read";
+    }
+
+    (void) ngx_close_file(file.fd);
+    return rv;
+}
+
+
+/* Reads a key file, and one in PEM as JSON. */
+char *
+ngx_http_jwt_read_key(ngx_conf_t *cf, ngx_http_jwt_key_t *key)
+{
+    char       *rv;
+    uint32_t    status;
+    ngx_str_t   text;
+
+    rv = ngx_http_jwt_read_file(cf, &key->name, &text);
+    if (rv != NGX_CONF_OK) {
+        return rv;
+    }
+
+    key->text = text;
+    status = jwt_check_set(text.data, text.len);
+    key->is_set = status != JWT_BAD_SET;
+
+    if (!key->is_set) {
+        status = jwt_check_key(text.data, text.len);
+    }
+
+    if (status == JWT_BAD_KEY) {
+        status = ngx_http_jwt_write(jwt_key_from_pem, cf->pool, &text,
+                                    &key->text);
+    }
+
+    return status == JWT_OK ? NGX_CONF_OK
+           : ngx_http_jwt_report(cf, "auth_jwt_key_file", &key->name, status);
+}
+
+
 static ngx_int_t
 ngx_http_jwt_write_options(ngx_pool_t *pool, ngx_http_jwt_loc_conf_t *conf,
     ngx_str_t *options)
@@ -111,12 +206,14 @@ ngx_http_jwt_make_verifiers(ngx_conf_t *cf, ngx_http_jwt_rules_t *rules)
 {
     uint32_t                  status;
     ngx_str_t                *options = &rules->options;
-    ngx_uint_t                i;
+    ngx_uint_t                i, n;
     ngx_http_jwt_key_t       *key = rules->conf->keys->elts;
     ngx_http_jwt_loc_conf_t  *conf = rules->conf;
     struct jwt_verifier      *verifier;
 
-    for (i = 0; i < conf->keys->nelts + (conf->uri.len > 0); i++) {
+    n = conf->keys->nelts + (conf->uri.len > 0);
+
+    for (i = 0; i < n; i++) {
         /* there is room for all, so that none is moved */
         verifier = ngx_array_push(&rules->verifiers);
         ngx_memzero(verifier, sizeof(struct jwt_verifier));
@@ -125,7 +222,7 @@ ngx_http_jwt_make_verifiers(ngx_conf_t *cf, ngx_http_jwt_rules_t *rules)
             break;
         }
 
-        if (!key[i].is_set && conf->keys->nelts + (conf->uri.len > 0) > 1) {
+        if (!key[i].is_set && n > 1) {
             ngx_conf_log_error(NGX_LOG_EMERG, cf, 0, "auth_jwt_key_file "
                                "\"%V\": a single key has to be the only "
                                "source of keys", &key[i].name);
@@ -137,9 +234,8 @@ ngx_http_jwt_make_verifiers(ngx_conf_t *cf, ngx_http_jwt_rules_t *rules)
                       options->len, 0, 0, verifier);
 
         if (status != JWT_OK) {
-            ngx_http_jwt_report(cf, "auth_jwt_key_file", &key[i].name,
-                                status);
-            return NGX_CONF_ERROR;
+            return ngx_http_jwt_report(cf, "auth_jwt_key_file", &key[i].name,
+                                       status);
         }
     }
 

@@ -3,7 +3,7 @@
 
 MODULE is ngx_http_jwt_module.so. With --load it is measured by wrk instead, beside the same server without it, in turns that take
 this many seconds for a file, and as many for a proxy, and then its memory is read during a million requests. With --valgrind the
-requests of the tests are sent to an nginx under valgrind. Tokens by a secret are signed here, by Python's hmac; the others are those of
+requests of the tests are sent to an nginx under valgrind. With --rotate requests are sent for this many seconds while the keys rotate. Tokens by a secret are signed here, by Python's hmac; the others are those of
 crates/jwt_vectors/data/standard.jsonl, which Python's cryptography signed. The tests of the cache run behind watch.c, which a C
 compiler makes: it sets the time of day, and counts what the library is asked.
 """
@@ -22,6 +22,7 @@ import threading
 import time
 
 import test_keys
+import test_readme
 from harness import NOW, PASS, SECRET, TOP, Server, Watched, eventually, finish, oct_key, part, signed, started, test, under_valgrind
 
 SERVER = """
@@ -334,6 +335,18 @@ def configurations(server):
     for name, conf, said in BAD:
         status, text = server.check(conf)
         test(f"{name}: {status} {text[-300:]}", status == 1 and said in text)
+    for lines, said in (
+        (["", "auth_jwt r;", "auth_jwt_alg HS256;", ""], "needs auth_jwt_key_file or auth_jwt_key_request in {}:3"),
+        (["", "auth_jwt_key_file keys.json;", "auth_jwt r;", "", ""], "auth_jwt needs auth_jwt_alg in {}:3"),
+        (["auth_jwt_alg", "RS256", ";", "auth_jwt_key_file keys.json; auth_jwt r;", ""], 'keys.json": Key serves no algorithm in {}:4'),
+        (["auth_jwt r;", "auth_jwt_key_file", "key.json;", "auth_jwt_alg HS256", "HS257;", ""], '"HS257": Options not understood: no algorithm of this name, or a name that is not UTF-8 in {}:5'),
+        (["auth_jwt r;", "auth_jwt_key_file nginx.conf;", "auth_jwt_alg HS256;", ""], "public key in PEM in {}:2"),
+    ):
+        server.write("part.conf", "\n".join(lines))
+        status, text = server.check("location /place {{ include part.conf; }} location /after {{ }}")
+        test(f"a fault of a file, {lines}: {status} {text[-300:]}", status == 1 and said.format(f"{server.work}/part.conf") in text)
+    status, text = server.check("auth_jwt_alg HS256; location /place {{ auth_jwt r; }}\nlocation /after {{ nosuch; }}")
+    test(f"another fault: {text[-300:]}", status == 1 and 'unknown directive "nosuch" in' in text and "nginx.conf:20" in text)
     for conf, said in BAD_CLAIMS:
         status, text = server.check("", conf)
         test(f"{conf}: {status} {text[-300:]}", status == 1 and said in text)
@@ -1079,6 +1092,7 @@ def run_tests(module):
     run_anew(module)
     run_cache(module)
     test_keys.run(module)
+    test_readme.run(module)
     finish("the nginx module")
 
 
@@ -1243,10 +1257,14 @@ def main():
     parser = argparse.ArgumentParser(description=__doc__, formatter_class=argparse.RawDescriptionHelpFormatter)
     parser.add_argument("module", metavar="MODULE")
     parser.add_argument("--load", type=int, metavar="SECONDS", default=0)
+    parser.add_argument("--rotate", type=int, metavar="SECONDS", default=0)
     parser.add_argument("--valgrind", action="store_true")
     given = parser.parse_args()
     if given.load:
         run_load(given.module, given.load)
+    elif given.rotate:
+        test_keys.run_rotation(given.module, given.rotate)
+        finish("keys that rotate under load")
     elif given.valgrind:
         run_valgrind(given.module)
     else:

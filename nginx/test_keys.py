@@ -2,13 +2,14 @@
 import contextlib
 import http.client
 import json
+import random
 import socket
 import subprocess
 import tempfile
 import threading
 import time
 
-from harness import NOW, Watched, eventually, free_port, oct_key, signed, started, test, under_valgrind
+from harness import NOW, Server, Watched, eventually, free_port, oct_key, signed, started, test, under_valgrind
 from key_server import KeyServer, close, cut, endless, hang, head, late, short, stop_midway, whole
 
 SECRETS = {kid: f"the secret of the key {kid}, of 32 bytes or more".encode() for kid in "abcdefgh"}
@@ -413,15 +414,18 @@ def places(server):
 
 
 def http2(server):
-    """The streams of one connection wait for one fetch."""
-    server.keys.answer = late(0.3, whole(keys("e")))
+    """The streams of one connection wait for one fetch, and the same URI of another server has other keys."""
+    server.keys.answer = whole(keys("a"))
     later(server, PAUSE)
+    server.get("/", token("b"))
+    server.keys.answer = late(0.3, whole(keys("e")))
     before = len(server.keys.asked)
     server.write("root/stream", "served")
     words = ["curl", "-s", "--http2-prior-knowledge", "-Z", "--parallel-immediate", "-o", "/dev/null", "-w", "%{http_code} %{http_version}\n"]
     words += ["-H", f"Authorization: Bearer {token('e')}", f"http://127.0.0.1:{server.http2}/stream?[1-8]"]
     said = subprocess.run(words, capture_output=True, text=True).stdout.split("\n")[:-1]
     test(f"HTTP/2: {said}", said == ["200 2"] * 8 and len(server.keys.asked) == before + 1)
+    test("the keys of one server are not those of another", server.get("/", token("e"))[0] == 401 and len(server.keys.asked) == before + 1)
 
 
 ALL = (rotation, faults, waiting, neutral, cuts, given_up, never, sources, places, http2)
@@ -433,6 +437,99 @@ def run(module):
         with started(server):
             for part in ALL:
                 part(server)
+
+
+# nginx of two workers by the clock of the machine, which takes keys from a server that has a new one each few seconds
+ROTATED = """
+    auth_jwt rotated;
+    auth_jwt_alg HS256;
+    auth_jwt_key_request /keys;
+    auth_jwt_key_cache 30s;
+    location / {{ }}
+    location = /keys {{ internal; proxy_pass http://127.0.0.1:{keys}/jwks; proxy_connect_timeout 1s; proxy_read_timeout 2s; proxy_ignore_client_abort on; }}
+"""
+
+
+class Rotation:
+    """Rotates keys, sends tokens, and counts answers by what was sent. Key n is published with the one before it."""
+
+    def __init__(self, server, served):
+        self.server, self.served, self.at, self.since, self.done = server, served, 0, time.monotonic(), threading.Event()
+        self.counts, self.slowest, self.last_refusal, self.lock = {}, {}, 0, threading.Lock()
+
+    def secret(self, number):
+        return f"the secret of the key {number}, of 32 bytes or more".encode()
+
+    def token(self, kid, secret):
+        return signed({"exp": int(time.time()) + 600, "sub": str(random.random())}, secret, kid=str(kid))
+
+    def rotate(self, period):
+        """Publishes a new key, at times after some faults of the server."""
+        while not self.done.wait(period):
+            number = self.at + 1
+            good = whole([oct_key(str(it), self.secret(it)) for it in (number, number - 1)])
+            fault = random.choice([None, None, hang, close, whole("<html>"), cut([]), whole([]), whole("{}", "500 Oops"), late(1, good)])
+            if fault is not None:
+                self.served.answer = fault
+                self.done.wait(period / 2)
+            self.served.answer = good
+            self.at, self.since = number, time.monotonic()
+
+    def send(self):
+        connection = http.client.HTTPConnection("127.0.0.1", self.server.port, timeout=30)
+        while not self.done.is_set():
+            at, since = self.at, self.since
+            kind = random.choice(["good", "good", "good", "before", "forged", "retired", "retired secret", "unknown", "garbage"])
+            token = {
+                "good": lambda: self.token(at, self.secret(at)),
+                "before": lambda: self.token(max(at - 1, 0), self.secret(max(at - 1, 0))),
+                "forged": lambda: self.token(at, b"forged" * 8),
+                "retired": lambda: self.token(at - 3, self.secret(at - 3)),
+                "retired secret": lambda: self.token(at, self.secret(at - 2)),
+                "unknown": lambda: self.token(f"x{random.random()}", self.secret(at)),
+                "garbage": lambda: "a.b.c",
+            }[kind]()
+            began = time.monotonic()
+            connection.request("GET", "/", headers={"Authorization": f"Bearer {token}"})
+            answer = connection.getresponse()
+            answer.read()
+            took = time.monotonic() - began
+            with self.lock:
+                self.counts[kind, answer.status] = self.counts.get((kind, answer.status), 0) + 1
+                self.slowest[kind] = max(self.slowest.get(kind, 0), took)
+                if kind == "good" and answer.status == 401:
+                    self.last_refusal = max(self.last_refusal, time.monotonic() - since)
+        connection.close()
+
+
+def run_rotation(module, seconds, period=20, clients=6):
+    """nginx follows a server that rotates its keys, under load: no answer is 5xx, and no forged token is accepted."""
+    with tempfile.TemporaryDirectory(prefix="nginx-jwt-") as work:
+        served = KeyServer()
+        server = Server(module, work, ROTATED.replace("{keys}", str(served.port)))
+        server.write("root/index.html", "served\n")
+        rotation = Rotation(server, served)
+        served.answer = whole([oct_key("0", rotation.secret(0))])
+        with started(server):
+            threads = [threading.Thread(target=rotation.send) for _ in range(clients)]
+            threads.append(threading.Thread(target=rotation.rotate, args=(period,)))
+            for thread in threads:
+                thread.start()
+            time.sleep(seconds)
+            rotation.done.set()
+            for thread in threads:
+                thread.join()
+        served.stop()
+    counts = rotation.counts
+    total = sum(counts.values())
+    print(f"{total} requests in {seconds} s, {rotation.at} rotations, {len(served.asked)} fetches by two workers")
+    print(f"answers: {dict(sorted(counts.items()))}")
+    print(f"slowest: { {kind: round(it, 2) for kind, it in rotation.slowest.items()} }")
+    print(f"a token of the newest key was refused up to {rotation.last_refusal:.1f} s after it was published")
+    test("no 5xx", not any(status >= 500 for _, status in counts))
+    test("no forged token", all(kind in ("good", "before") for kind, status in counts if status == 200))
+    test("tokens are accepted", counts.get(("good", 200), 0) > 0.5 * sum(it for (kind, _), it in counts.items() if kind == "good"))
+    test("a new key is taken", rotation.last_refusal < 15)
 
 
 def run_valgrind(module):
