@@ -211,6 +211,12 @@ class Watched(Server):
         return status, os.path.getsize(f"{self.work}/calls") - before
 
 
+def resident(server):
+    """Returns the resident memory of each worker, in KiB."""
+    found = subprocess.run(["ps", "-o", "rss=", "--ppid", str(server.process.pid)], capture_output=True, text=True)
+    return [int(it) for it in found.stdout.split()]
+
+
 @contextlib.contextmanager
 def started(server):
     """Runs an nginx, and tests how it ended."""

@@ -107,7 +107,7 @@ char *ngx_http_jwt_merge_loc_conf(ngx_conf_t *cf, void *parent, void *child);
 /* ngx_http_jwt_fetch.c */
 void ngx_http_jwt_init_fetches(void);
 ngx_uint_t ngx_http_jwt_is_fetch(ngx_http_request_t *r);
-ngx_int_t ngx_http_jwt_await(ngx_http_jwt_rules_t *rules,
+ngx_uint_t ngx_http_jwt_await(ngx_http_jwt_rules_t *rules,
     ngx_http_jwt_ctx_t *ctx);
 
 /* ngx_http_jwt_rules.c */

@@ -226,7 +226,8 @@ ngx_http_jwt_make_neutral(ngx_http_request_t *sr)
 }
 
 
-static ngx_int_t
+/* Without memory for it there is no fetch. */
+static void
 ngx_http_jwt_begin_fetch(ngx_http_request_t *r, ngx_http_jwt_rules_t *rules)
 {
     ngx_http_request_t          *sr;
@@ -237,7 +238,7 @@ ngx_http_jwt_begin_fetch(ngx_http_request_t *r, ngx_http_jwt_rules_t *rules)
     cln = ngx_pool_cleanup_add(r->pool, sizeof(ngx_http_jwt_fetch_t));
     ps = ngx_palloc(r->pool, sizeof(ngx_http_post_subrequest_t));
     if (cln == NULL || ps == NULL) {
-        return NGX_ERROR;
+        return;
     }
 
     fetch = cln->data;
@@ -253,22 +254,20 @@ ngx_http_jwt_begin_fetch(ngx_http_request_t *r, ngx_http_jwt_rules_t *rules)
            != NGX_OK
         || ngx_http_jwt_make_neutral(sr) != NGX_OK)
     {
-        return NGX_ERROR;
+        return;
     }
 
     cln->handler = ngx_http_jwt_cut_fetch;
     rules->fetch = fetch;
-
-    return NGX_OK;
 }
 
 
 /*
  * Begins a fetch if one is due: there is no set, or it is old, or it lacks the
- * key of a token.  Returns NGX_AGAIN if the request has to wait for the fetch,
- * or NGX_OK if the verdict stands.
+ * key of a token.  Returns whether the request has to wait for it, or else the
+ * verdict stands.
  */
-ngx_int_t
+ngx_uint_t
 ngx_http_jwt_await(ngx_http_jwt_rules_t *rules, ngx_http_jwt_ctx_t *ctx)
 {
     ngx_uint_t  is_first, lacks_key;
@@ -287,18 +286,17 @@ ngx_http_jwt_await(ngx_http_jwt_rules_t *rules, ngx_http_jwt_ctx_t *ctx)
             || ngx_http_jwt_is_past(rules->fetched, rules->conf->period))
         && ngx_http_jwt_is_past(rules->tried,
                                 is_first ? NGX_HTTP_JWT_FIRST_PAUSE
-                                         : NGX_HTTP_JWT_PAUSE)
-        && ngx_http_jwt_begin_fetch(ctx->request, rules) != NGX_OK)
+                                         : NGX_HTTP_JWT_PAUSE))
     {
-        return NGX_ERROR;
+        ngx_http_jwt_begin_fetch(ctx->request, rules);
     }
 
     if (!lacks_key || ctx->has_waited || rules->fetch == NULL) {
-        return NGX_OK;
+        return 0;
     }
 
     ctx->is_waiting = 1;
     ngx_queue_insert_tail(&rules->waiting, &ctx->queue);
 
-    return NGX_AGAIN;
+    return 1;
 }

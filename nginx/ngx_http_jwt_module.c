@@ -108,7 +108,6 @@ ngx_http_jwt_test(ngx_http_request_t *r, ngx_http_jwt_loc_conf_t *jlcf)
 static ngx_int_t
 ngx_http_jwt_check(ngx_http_request_t *r, ngx_uint_t may_wait)
 {
-    ngx_int_t                 rc;
     ngx_http_jwt_ctx_t       *ctx;
     ngx_http_jwt_loc_conf_t  *jlcf;
 
@@ -127,9 +126,8 @@ ngx_http_jwt_check(ngx_http_request_t *r, ngx_uint_t may_wait)
         }
 
         ctx->has_waited = !may_wait;
-    }
 
-    if (ctx->is_waiting) {
+    } else if (ctx->is_waiting) {
         return NGX_AGAIN;
     }
 
@@ -139,11 +137,8 @@ ngx_http_jwt_check(ngx_http_request_t *r, ngx_uint_t may_wait)
 
     ctx->status = ngx_http_jwt_verify(jlcf->rules, ctx);
 
-    if (jlcf->uri.len > 0) {
-        rc = ngx_http_jwt_await(jlcf->rules, ctx);
-        if (rc != NGX_OK) {
-            return rc;
-        }
+    if (jlcf->uri.len > 0 && ngx_http_jwt_await(jlcf->rules, ctx)) {
+        return NGX_AGAIN;
     }
 
     switch (ctx->status) {

@@ -23,7 +23,7 @@ import time
 
 import test_keys
 import test_readme
-from harness import NOW, PASS, SECRET, TOP, Server, Watched, eventually, finish, oct_key, part, signed, started, test, under_valgrind
+from harness import NOW, PASS, SECRET, TOP, Server, Watched, eventually, finish, oct_key, part, resident, signed, started, test, under_valgrind
 
 SERVER = """
         auth_jwt "a \\"gate\\\\way\\"";
@@ -1136,12 +1136,6 @@ def processor_seconds(server):
         with open(f"/proc/{worker}/stat", encoding="utf-8") as file:
             ticks += sum(map(int, file.read().rpartition(") ")[2].split()[11:13]))
     return ticks / os.sysconf("SC_CLK_TCK")
-
-
-def resident(server):
-    """Returns the resident memory of each worker, in KiB."""
-    found = subprocess.run(["ps", "-o", "rss=", "--ppid", str(server.process.pid)], capture_output=True, text=True)
-    return [int(it) for it in found.stdout.split()]
 
 
 # asks for the path with each token of a file in turn; the two threads begin half the file apart, so that none repeats the other

@@ -9,7 +9,7 @@ import tempfile
 import threading
 import time
 
-from harness import NOW, Server, Watched, eventually, free_port, oct_key, signed, started, test, under_valgrind
+from harness import NOW, Server, Watched, eventually, free_port, oct_key, resident, signed, started, test, under_valgrind
 from key_server import KeyServer, close, cut, endless, hang, head, late, short, stop_midway, whole
 
 SECRETS = {kid: f"the secret of the key {kid}, of 32 bytes or more".encode() for kid in "abcdefgh"}
@@ -446,7 +446,7 @@ ROTATED = """
     auth_jwt_key_request /keys;
     auth_jwt_key_cache 30s;
     location / {{ }}
-    location = /keys {{ internal; proxy_pass http://127.0.0.1:{keys}/jwks; proxy_connect_timeout 1s; proxy_read_timeout 2s; proxy_ignore_client_abort on; }}
+    location = /keys {{ internal; proxy_pass http://127.0.0.1:{keys}/jwks; proxy_connect_timeout 1s; proxy_read_timeout 2s; }}
 """
 
 
@@ -511,6 +511,7 @@ def run_rotation(module, seconds, period=20, clients=6):
         rotation = Rotation(server, served)
         served.answer = whole([oct_key("0", rotation.secret(0))])
         with started(server):
+            memory = [resident(server)]
             threads = [threading.Thread(target=rotation.send) for _ in range(clients)]
             threads.append(threading.Thread(target=rotation.rotate, args=(period,)))
             for thread in threads:
@@ -519,12 +520,14 @@ def run_rotation(module, seconds, period=20, clients=6):
             rotation.done.set()
             for thread in threads:
                 thread.join()
+            memory.append(resident(server))
         served.stop()
     counts = rotation.counts
     total = sum(counts.values())
     print(f"{total} requests in {seconds} s, {rotation.at} rotations, {len(served.asked)} fetches by two workers")
     print(f"answers: {dict(sorted(counts.items()))}")
     print(f"slowest: { {kind: round(it, 2) for kind, it in rotation.slowest.items()} }")
+    print(f"memory of the workers, before and after: {memory} KiB")
     print(f"a token of the newest key was refused up to {rotation.last_refusal:.1f} s after it was published")
     test("no 5xx", not any(status >= 500 for _, status in counts))
     test("no forged token", all(kind in ("good", "before") for kind, status in counts if status == 200))
