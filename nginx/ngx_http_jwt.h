@@ -12,11 +12,12 @@
 #define NGX_HTTP_JWT_SET   1048576
 /* room for the text of a status or of a test */
 #define NGX_HTTP_JWT_TEXT  64
+/* the longest token with its claims that is remembered */
+#define NGX_HTTP_JWT_SLOT  4000
 
 
+/* a fetch that is under way */
 typedef struct ngx_http_jwt_fetch_s  ngx_http_jwt_fetch_t;
-typedef struct ngx_http_jwt_slot_s   ngx_http_jwt_slot_t;
-
 
 /* verifiers of the same options, and the tokens that they accepted */
 typedef struct ngx_http_jwt_rules_s  ngx_http_jwt_rules_t;
@@ -57,6 +58,18 @@ typedef struct {
 } ngx_http_jwt_loc_conf_t;
 
 
+/* a token that is accepted at each time from the first to the last */
+typedef struct {
+    uint64_t               first;
+    uint64_t               last;
+    uint64_t               used;
+    uint32_t               hash;
+    uint32_t               token_len;   /* 0 in a free slot */
+    uint32_t               claims_len;
+    u_char                 text[NGX_HTTP_JWT_SLOT];
+} ngx_http_jwt_slot_t;
+
+
 /* shared by the locations whose keys, options and slot_count are the same */
 struct ngx_http_jwt_rules_s {
     ngx_http_jwt_rules_t     *next;
@@ -94,8 +107,6 @@ typedef uint32_t (*ngx_http_jwt_call_pt)(const uint8_t *in, size_t in_len,
 
 
 /* ngx_http_jwt_cache.c */
-ngx_int_t ngx_http_jwt_make_slots(ngx_pool_t *pool,
-    ngx_http_jwt_rules_t *rules);
 uint32_t ngx_http_jwt_verify(ngx_http_jwt_rules_t *rules,
     ngx_http_jwt_ctx_t *ctx);
 

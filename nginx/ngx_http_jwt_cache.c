@@ -3,32 +3,8 @@
 
 /* how much longer than their token claims may be at the first try */
 #define NGX_HTTP_JWT_ROOM  64
-/* the longest token with its claims that is kept */
-#define NGX_HTTP_JWT_SLOT  4000
 /* in how many neighbouring slots a token may be */
 #define NGX_HTTP_JWT_WAYS  4
-
-
-/* a token that is accepted at each time from the first to the last */
-struct ngx_http_jwt_slot_s {
-    uint64_t               first;
-    uint64_t               last;
-    uint64_t               used;
-    uint32_t               hash;
-    uint32_t               token_len;   /* 0 in a free slot */
-    uint32_t               claims_len;
-    u_char                 text[NGX_HTTP_JWT_SLOT];
-};
-
-
-ngx_int_t
-ngx_http_jwt_make_slots(ngx_pool_t *pool, ngx_http_jwt_rules_t *rules)
-{
-    rules->slots = ngx_pcalloc(pool, rules->conf->slot_count
-                                     * sizeof(ngx_http_jwt_slot_t));
-
-    return rules->slots != NULL ? NGX_OK : NGX_ERROR;
-}
 
 
 /* Compares two texts in constant time. */

@@ -106,7 +106,7 @@ ngx_http_jwt_test(ngx_http_request_t *r, ngx_http_jwt_loc_conf_t *jlcf)
 
 
 static ngx_int_t
-ngx_http_jwt_check(ngx_http_request_t *r, ngx_uint_t may_wait)
+ngx_http_jwt_handler(ngx_http_request_t *r)
 {
     ngx_http_jwt_ctx_t       *ctx;
     ngx_http_jwt_loc_conf_t  *jlcf;
@@ -117,17 +117,12 @@ ngx_http_jwt_check(ngx_http_request_t *r, ngx_uint_t may_wait)
         return NGX_DECLINED;
     }
 
-    ctx = ngx_http_get_module_ctx(r, ngx_http_jwt_module);
-
+    ctx = ngx_http_jwt_add_ctx(r);
     if (ctx == NULL) {
-        ctx = ngx_http_jwt_add_ctx(r);
-        if (ctx == NULL) {
-            return NGX_HTTP_INTERNAL_SERVER_ERROR;
-        }
+        return NGX_HTTP_INTERNAL_SERVER_ERROR;
+    }
 
-        ctx->has_waited = !may_wait;
-
-    } else if (ctx->is_waiting) {
+    if (ctx->is_waiting) {
         return NGX_AGAIN;
     }
 
@@ -161,13 +156,6 @@ ngx_http_jwt_check(ngx_http_request_t *r, ngx_uint_t may_wait)
 }
 
 
-static ngx_int_t
-ngx_http_jwt_handler(ngx_http_request_t *r)
-{
-    return ngx_http_jwt_check(r, 1);
-}
-
-
 /* nginx leaves out the access phase for subrequests. */
 static ngx_int_t
 ngx_http_jwt_subrequest_handler(ngx_http_request_t *r)
@@ -178,7 +166,7 @@ ngx_http_jwt_subrequest_handler(ngx_http_request_t *r)
         return NGX_DECLINED;
     }
 
-    rc = ngx_http_jwt_check(r, 1);
+    rc = ngx_http_jwt_handler(r);
 
     /* NGX_OK would leave out the other handlers of the phase */
     return rc == NGX_OK ? NGX_DECLINED : rc;
@@ -192,7 +180,8 @@ ngx_http_jwt_subrequest_handler(ngx_http_request_t *r)
 static ngx_int_t
 ngx_http_jwt_header_filter(ngx_http_request_t *r)
 {
-    ngx_int_t  rc = NGX_OK;
+    ngx_int_t            rc = NGX_OK;
+    ngx_http_jwt_ctx_t  *ctx;
 
     if (ngx_http_jwt_is_fetch(r)) {
         if (r->upstream != NULL && !r->upstream->cacheable) {
@@ -205,7 +194,14 @@ ngx_http_jwt_header_filter(ngx_http_request_t *r)
                && ngx_http_get_module_ctx(r, ngx_http_jwt_module) == NULL
                && !ngx_http_jwt_is_clone(r))
     {
-        rc = ngx_http_jwt_check(r, 0);
+        /* nothing can wait here */
+        ctx = ngx_http_jwt_add_ctx(r);
+        if (ctx == NULL) {
+            return NGX_ERROR;
+        }
+
+        ctx->has_waited = 1;
+        rc = ngx_http_jwt_handler(r);
     }
 
     return rc == NGX_OK || rc == NGX_DECLINED ? ngx_http_next_header_filter(r)

@@ -33,40 +33,36 @@ ngx_http_jwt_report(ngx_conf_t *cf, const char *directive, ngx_str_t *value,
 static char *
 ngx_http_jwt_read_file(ngx_conf_t *cf, ngx_str_t *name, ngx_str_t *text)
 {
-    char        *rv = "names no regular file of 1 byte to 1 MiB";
-    ngx_file_t   file;
+    ssize_t   n;
+    ngx_fd_t  fd;
 
-    if (ngx_conf_full_name(cf->cycle, name, 1) != NGX_OK) {
+    text->data = ngx_palloc(cf->temp_pool, NGX_HTTP_JWT_SET + 1);
+
+    if (text->data == NULL
+        || ngx_conf_full_name(cf->cycle, name, 1) != NGX_OK)
+    {
         return NGX_CONF_ERROR;
     }
 
-    ngx_memzero(&file, sizeof(ngx_file_t));
-    file.name = *name;
-    file.log = cf->log;
     /* a FIFO does not wait for a writer */
-    file.fd = ngx_open_file(name->data, NGX_FILE_RDONLY|NGX_FILE_NONBLOCK,
-                            NGX_FILE_OPEN, 0);
-    if (file.fd == NGX_INVALID_FILE) {
+    fd = ngx_open_file(name->data, NGX_FILE_RDONLY|NGX_FILE_NONBLOCK,
+                       NGX_FILE_OPEN, 0);
+    if (fd == NGX_INVALID_FILE) {
         ngx_conf_log_error(NGX_LOG_EMERG, cf, ngx_errno,
                            ngx_open_file_n " \"%V\" failed", name);
         return NGX_CONF_ERROR;
     }
 
-    if (ngx_fd_info(file.fd, &file.info) != NGX_FILE_ERROR
-        && ngx_is_file(&file.info) && ngx_file_size(&file.info) > 0
-        && ngx_file_size(&file.info) <= NGX_HTTP_JWT_SET)
-    {
-        text->len = ngx_file_size(&file.info);
-        text->data = ngx_pnalloc(cf->pool, text->len);
+    n = ngx_read_fd(fd, text->data, NGX_HTTP_JWT_SET + 1);
+    (void) ngx_close_file(fd);
 
-        rv = text->data != NULL
-             && ngx_read_file(&file, text->data, text->len, 0)
-                == (ssize_t) text->len
-             ? NGX_CONF_OK : "names a file that can't be read";
+    if (n < 1 || n > NGX_HTTP_JWT_SET) {
+        return "names no file of 1 byte to 1 MiB";
     }
 
-    (void) ngx_close_file(file.fd);
-    return rv;
+    text->len = n;
+    text->data = ngx_pstrdup(cf->pool, text);
+    return text->data != NULL ? NGX_CONF_OK : NGX_CONF_ERROR;
 }
 
 
@@ -187,10 +183,13 @@ ngx_http_jwt_add_rules(ngx_pool_t *pool, ngx_http_jwt_loc_conf_t *conf,
     rules->options = *options;
     ngx_queue_init(&rules->waiting);
 
-    if (ngx_array_init(&rules->verifiers, pool, conf->keys->nelts + 1,
-                       sizeof(struct jwt_verifier))
-        != NGX_OK
-        || ngx_http_jwt_make_slots(pool, rules) != NGX_OK)
+    rules->slots = ngx_pcalloc(pool, conf->slot_count
+                                     * sizeof(ngx_http_jwt_slot_t));
+
+    if (rules->slots == NULL
+        || ngx_array_init(&rules->verifiers, pool, conf->keys->nelts + 1,
+                          sizeof(struct jwt_verifier))
+           != NGX_OK)
     {
         return NULL;
     }

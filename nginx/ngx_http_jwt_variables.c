@@ -17,12 +17,20 @@ ngx_http_jwt_cleanup(void *data)
 }
 
 
-/* Adds a context, which stays in the pool after an internal redirect. */
+/*
+ * Returns the context, or adds one, which stays in the pool after an internal
+ * redirect.
+ */
 ngx_http_jwt_ctx_t *
 ngx_http_jwt_add_ctx(ngx_http_request_t *r)
 {
     ngx_pool_cleanup_t  *cln;
     ngx_http_jwt_ctx_t  *ctx;
+
+    ctx = ngx_http_get_module_ctx(r, ngx_http_jwt_module);
+    if (ctx != NULL) {
+        return ctx;
+    }
 
     cln = ngx_pool_cleanup_add(r->pool, sizeof(ngx_http_jwt_ctx_t));
     if (cln == NULL) {
