@@ -3,9 +3,10 @@
 
 MODULE is ngx_http_jwt_module.so. With --load it is measured by wrk instead, beside the same server without it, in turns that take
 this many seconds for a file, and as many for a proxy, and then its memory is read during a million requests. With --valgrind the
-requests of the tests are sent to an nginx under valgrind. With --rotate requests are sent for this many seconds while the keys rotate. Tokens by a secret are signed here, by Python's hmac; the others are those of
-crates/jwt_vectors/data/standard.jsonl, which Python's cryptography signed. The tests of the cache run behind watch.c, which a C
-compiler makes: it sets the time of day, and counts what the library is asked.
+requests of the tests are sent to an nginx under valgrind. With --rotate requests are sent for this many seconds while the keys
+rotate, and counted. Tokens by a secret are signed here, by Python's hmac; the others are those of
+crates/jwt_vectors/data/standard.jsonl, which Python's cryptography signed. The tests of the cache and of fetched keys run behind
+watch.c, which a C compiler makes: it sets the time of day, and counts what the library is asked.
 """
 import argparse
 import base64
