@@ -180,8 +180,11 @@ ngx_http_jwt_subrequest_handler(ngx_http_request_t *r)
 static ngx_int_t
 ngx_http_jwt_header_filter(ngx_http_request_t *r)
 {
-    ngx_int_t            rc = NGX_OK;
-    ngx_http_jwt_ctx_t  *ctx;
+    ngx_int_t                 rc = NGX_OK;
+    ngx_http_jwt_ctx_t       *ctx;
+    ngx_http_jwt_loc_conf_t  *jlcf;
+
+    jlcf = ngx_http_get_module_loc_conf(r, ngx_http_jwt_module);
 
     if (ngx_http_jwt_is_fetch(r)) {
         if (r->upstream != NULL && !r->upstream->cacheable) {
@@ -189,7 +192,7 @@ ngx_http_jwt_header_filter(ngx_http_request_t *r)
             r->upstream->buffering = 0;
         }
 
-    } else if (r != r->main
+    } else if (jlcf->enabled && r != r->main
                && r->headers_out.status < NGX_HTTP_SPECIAL_RESPONSE
                && ngx_http_get_module_ctx(r, ngx_http_jwt_module) == NULL
                && !ngx_http_jwt_is_clone(r))
@@ -204,8 +207,7 @@ ngx_http_jwt_header_filter(ngx_http_request_t *r)
         rc = ngx_http_jwt_handler(r);
     }
 
-    return rc == NGX_OK || rc == NGX_DECLINED ? ngx_http_next_header_filter(r)
-                                              : rc;
+    return rc == NGX_OK ? ngx_http_next_header_filter(r) : rc;
 }
 
 

@@ -622,6 +622,8 @@ PLACES = """
         # parts of a page, a mirror and slices
         location = /page {{ ssi on; ssi_types *; }}
         location = /part {{ auth_jwt part token=$arg_t; ssi on; ssi_types *; }}
+        location = /verified_page {{ auth_jwt page; ssi on; ssi_types *; }}
+        location = /open_part {{ ssi on; ssi_types *; return 200 'open part of <!--#echo var="jwt_claim_sub" -->'; }}
         location = /part_return {{ auth_jwt part token=$arg_t; return 200 "returned"; }}
         location = /mirrored {{ mirror /copy; mirror_request_body off; }}
         location = /copy {{ internal; auth_jwt copy; proxy_pass http://127.0.0.1:{port}/hit; proxy_set_header X-User $jwt_claim_sub; }}
@@ -783,6 +785,9 @@ def parts(server):
     secrets = re.findall("secret of .*", text)
     test(f"a page: {got} {text}", got == 200 and secrets == ["secret of ada, OK", "secret of ben, OK"])
     test(f"a page: {text}", text.count("returned") == 1 and "page without" in text)
+    server.write("root/verified_page", '<!--#include virtual="/open_part" -->\n')
+    _, _, text = server.fetch("/verified_page", tokens[0])
+    test(f"a part that asks for no token: {text}", text == "open part of ada\n")
     server.get("/mirrored")
     server.get("/mirrored", signed(PASS, b"x" * 32))
     server.get("/mirrored", signed({**PASS, "sub": "mirrored"}))
