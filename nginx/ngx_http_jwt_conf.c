@@ -51,7 +51,7 @@ ngx_http_jwt_enable(ngx_conf_t *cf, ngx_http_jwt_loc_conf_t *conf)
 
     conf->server = ngx_http_conf_get_module_srv_conf(cf, ngx_http_core_module);
 
-    /* the configuration is refused if anything is found from here on */
+    /* what is reported from here on is of the directives */
     if (conf->file != NULL) {
         cf->conf_file->file.name.data = conf->file;
         cf->conf_file->line = conf->line;

@@ -293,6 +293,7 @@ BAD_KEYS = [
     ('{"keys":[{"kty":"other","kid":"a"}]}', "Key serves no algorithm"),
     ('{"keys":[{"kty":"oct","kid":"a","k":""}]}', "Anyone can sign"),
     ('{"keys":[{"kty":"oct","kid":"b","k":"YQ"},{"kty":"oct","kid":"a","k":"AAAA"}]}', "Anyone can sign"),
+    ('{"keys":[{"kty":"oct","k":"YQ"},{"kty":"RSA","kid":"a","n":"AQAB","e":"AQAB"}]}', "Key serves no algorithm"),
     ('{"kty":"oct","k":"AA"}', "Anyone can sign"),
     ('{"kty":"\\u006fct","\\u006b":"AA"}', "Anyone can sign"),
     ('{"kty":"oct","k":"","K":"c2VjcmV0"}', "Anyone can sign"),
