@@ -23,9 +23,12 @@ pub fn jwk_answer<'a>(alloc: Global, path: &'a str, bytes: &[u8]) -> Result<Answ
     let Ok(value) = jwk.to_value(alloc) else {
         return Err(Fault::Memory);
     };
+    let Ok(output) = value_line(alloc, &value) else {
+        return Err(Fault::Memory);
+    };
     Ok(Answer {
         status: 0,
-        output: value_line(alloc, &value)?,
+        output,
         message: String::new(alloc),
     })
 }
