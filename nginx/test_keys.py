@@ -473,6 +473,7 @@ ROTATED = """
     auth_jwt_key_request /keys;
     auth_jwt_key_cache 30s;
     location / {{ }}
+    location /open {{ auth_jwt off; }}
     location = /keys {{ internal; proxy_pass http://127.0.0.1:{keys}/jwks; proxy_connect_timeout 1s; proxy_read_timeout 2s; }}
 """
 
@@ -521,11 +522,25 @@ class Rotation:
             answer = connection.getresponse()
             answer.read()
             took = time.monotonic() - began
+            if took > 4:
+                print(f"{kind}: {answer.status} after {took:.2f} s, {time.monotonic() - self.since:.2f} s after the last rotation", flush=True)
             with self.lock:
                 self.counts[kind, answer.status] = self.counts.get((kind, answer.status), 0) + 1
                 self.slowest[kind] = max(self.slowest.get(kind, 0), took)
                 if kind == "good" and answer.status == 401:
                     self.last_refusal = max(self.last_refusal, time.monotonic() - since)
+        connection.close()
+
+
+    def probe(self):
+        """Asks for what needs no token, which tells how long a worker stands still for other reasons."""
+        connection = http.client.HTTPConnection("127.0.0.1", self.server.port, timeout=60)
+        while not self.done.wait(0.02):
+            began = time.monotonic()
+            connection.request("GET", "/open")
+            connection.getresponse().read()
+            with self.lock:
+                self.slowest["no token is needed"] = max(self.slowest.get("no token is needed", 0), time.monotonic() - began)
         connection.close()
 
 
@@ -540,6 +555,7 @@ def run_rotation(module, seconds, period=20, clients=6):
         with started(server):
             memory = [resident(server)]
             threads = [threading.Thread(target=rotation.send) for _ in range(clients)]
+            threads += [threading.Thread(target=rotation.probe) for _ in range(4)]
             threads.append(threading.Thread(target=rotation.rotate, args=(period,)))
             for thread in threads:
                 thread.start()
