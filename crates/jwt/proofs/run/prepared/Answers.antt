@@ -6,7 +6,12 @@ is_some-option_map f None = refl
 is_some-option_map f (Some x) = refl
 
 pub returns-in-Ok : goal.returns-in-Ok
-returns-in-Ok g c =
-    (c.in-Ok.ensures.0, c.in-Ok.ensures.1, (option_map (λ b. b.now) c.as_deref.result,
+returns-in-Ok g c = (
+  c.in-Ok.ensures.0,
+  c.in-Ok.ensures.1,
+  (
+    option_map (λ b. b.now) c.as_deref.result,
     is_some-option_map _ c.as_deref.result ∙ (c.as_deref.ensures.variant ∙ c.in_ok-options.ensures),
-    c.in_ok-validation.ensures))
+    c.in_ok-validation.ensures,
+  ),
+)
