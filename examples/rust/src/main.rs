@@ -36,7 +36,7 @@ fn answers() -> Result<Vec<(String, &'static str)>, Error> {
         (shown(by_secret.decode_json(TOKEN, EXP)), CLAIMS),
         (shown(by_secret.decode_json(TOKEN, EXP + 61)), "the token has expired: ClaimRulesHold"),
         (shown(by_set.decode_json(TOKEN, EXP)), CLAIMS),
-        (shown(of_a_service.decode_json(TOKEN, EXP)), "the required claim aud is missing: ClaimRulesHold"),
+        (shown(of_a_service.decode_json(TOKEN, EXP)), "the required claim aud is missing or malformed: ClaimRulesHold"),
         (shown(by_key.decode_json(ES256, 1300819379)), r#"{"exp":1300819380,"http://example.com/is_root":true,"iss":"joe"}"#),
         (shown(by_key.decode_json(&ES256.replace("DtEh", "DtEi"), 1300819379)), "the signature is wrong: SignatureIsAccepted"),
         (encode_json(&header, CLAIMS, &EncodingKey::from_secret(SECRET)?)?, TOKEN),
