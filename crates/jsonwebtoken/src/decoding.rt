@@ -147,5 +147,6 @@ pub fn decode_header(alloc: Global, token: &[u8]) -> Result<Header>
         Err(refusal) => return Err(refusal.error),
     };
     let mut failed = Test::HasThreeParts;
-    read_header_noting(alloc, parts.header, &mut failed)
+    let header = read_header_noting(alloc, parts.header, &mut failed)?;
+    Ok(header)
 }

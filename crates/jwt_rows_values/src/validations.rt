@@ -1,5 +1,6 @@
 //! Validations: their JSON values and their setters.
 
+mod fault;
 mod shown;
 
 use crate::algorithms::families::only_family;
@@ -26,6 +27,7 @@ pub fn answer(call: &str, row: Row<'_>, trial: &mut Trial) -> Result<Option<Valu
         "Validation::from_slice" => read_text(row, trial),
         "Validation::clone" => copied(row, trial),
         "Validation::eq" => are_equal(row, trial),
+        "options_fault" => fault::answer(row, trial),
         _ => return by_setting(call, row, trial),
     };
     Ok(Some(answer?))

@@ -1,4 +1,5 @@
 use Rattle.std.proofs.Common.{ℕ, List, [], ◌∷◌, ◌∙◌, inl, refl, sym, Result, Ok, Err}
+use Rattle.std.proofs.lemmas.Result.{err_from_is_err_and}
 use Rattle.jwt_base.specs.KindOf.{kind_of}
 use Rattle.jwt_base.specs.declared.errors.Error.{Error}
 use Rattle.jwt_header.specs.declared.header.Header.{Header}
@@ -31,6 +32,11 @@ module _ (token : List ℕ) where
 pub returns-in-Err : goal.returns-in-Err
 returns-in-Err c = decided c.args.token.now c.in-Err.refusal.test (Err c.in-Err.refusal.error) (or_memory (λ f. (no_contents, inl f)) c.in-Err.ensures)
 
+pub returns-in_err-header : goal.returns-in_err-header
+returns-in_err-header c =
+    let p = err_from_is_err_and c.from_residual.result c.from_residual.ensures.1 in
+    rw (p.1, p.2) (decided c.args.token.now c.read_header_noting.new.failed (Err _) (header_of_parts c.args.token.now (parts_in c.in-Ok.parts) c.in-Ok.ensures _ (Err _) c.in_err-header.ensures))
+
 pub returns : goal.returns
 returns c =
-    decided c.args.token.now c.read_header_noting.new.failed c.read_header_noting.result (header_of_parts c.args.token.now (parts_in c.in-Ok.parts) c.in-Ok.ensures c.read_header_noting.new.failed c.read_header_noting.result c.read_header_noting.ensures)
+    decided c.args.token.now c.read_header_noting.new.failed (Ok c.in_ok-header.header) (header_of_parts c.args.token.now (parts_in c.in-Ok.parts) c.in-Ok.ensures c.read_header_noting.new.failed (Ok c.in_ok-header.header) c.in_ok-header.ensures)
