@@ -12,6 +12,7 @@ mod first_failed;
 pub mod jwk;
 pub mod jws;
 mod known_headers;
+pub mod prelude;
 mod refusal;
 
 pub use accepted_moments::{first_and_last_moment, first_and_last_moment_with_set};

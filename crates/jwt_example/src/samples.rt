@@ -2,16 +2,14 @@
 
 use crate::fault::Fault;
 use crate::long_secrets::LongSecrets;
-use jsonwebtoken::crypto::CryptoProvider;
-use jsonwebtoken::crypto::hmac::{HmacProvider, PreparedHmac};
+use jsonwebtoken::crypto::hmac::PreparedHmac;
 use jsonwebtoken::crypto::signature::SignatureProvider;
 use jsonwebtoken::crypto::verdict::VerdictProvider;
 use jsonwebtoken::errors::Result;
-use jsonwebtoken::jwk::JwkSet;
+use jsonwebtoken::prelude::*;
 use jsonwebtoken::{
-    Algorithm, DecodingKey, EncodingKey, Header, Moments, TokenData, Validation, decode,
-    decode_by_verdict, decode_header, decode_or_refusal, decode_with_set, encode,
-    encode_by_signature, first_and_last_moment, signed_part, signing_input,
+    Moments, decode_by_verdict, decode_header, decode_or_refusal, encode_by_signature,
+    first_and_last_moment, signed_part, signing_input,
 };
 use jwt_key_files::signature::ecdsa_signature;
 use jwt_standard::StandardProvider;
