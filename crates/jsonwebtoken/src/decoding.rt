@@ -107,6 +107,13 @@ pub fn decode_or_refusal<P: CryptoProvider, T: Claims>(
 /// - the payload part is canonical base64url, else `Base64`, and its bytes are JSON, else `Json`;
 /// - that value reads as `T`, and is an object, else `Json`;
 /// - the claim rules of [`validate`](crate::validate) hold, else their kind.
+///
+/// ```rust
+/// let key = DecodingKey::from_secret(alloc, b"secret")?;
+/// let mut validation = Validation::new(alloc, Algorithm::HS256)?;
+/// validation.set_audience(alloc, &["my-service"])?;
+/// let data: TokenData<Value> = decode(alloc, &HmacProvider, token, &key, &validation, now)?;
+/// ```
 pub fn decode<P: CryptoProvider, T: Claims>(
     alloc: Global,
     provider: &P,

@@ -40,6 +40,13 @@ pub(crate) const STRICT_REJECT: u64 = 1;
 pub(crate) const STRICT_VALIDATES_NBF: bool = true;
 
 /// The options that a token is checked against. Times are in whole seconds.
+///
+/// ```rust
+/// let mut validation = Validation::new_strict(alloc, Algorithm::RS256)?;
+/// validation.set_issuer(alloc, &["https://login.example"])?;
+/// validation.set_audience(alloc, &["my-service"])?;
+/// validation.require_configured(alloc)?; // a token without iss or aud is refused
+/// ```
 #[derive(Debug, Drop)]
 pub struct Validation {
     /// The claims that must be present. Of these names `exp`, `nbf`, `aud`, `iss` and `sub` count,

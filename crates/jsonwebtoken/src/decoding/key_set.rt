@@ -154,6 +154,13 @@ pub fn decode_with_set_or_refusal<P: CryptoProvider, T: Claims>(
 /// - that key has no `alg`, or the header's (RFC 7517 section 4.4), else `InvalidAlgorithm`;
 /// - [`DecodingKey::from_jwk`](jwt_keys::decoding_key::DecodingKey::from_jwk) makes a key of it,
 ///   else its kind.
+///
+/// ```rust
+/// let set = JwkSet::from_slice(alloc, set)?;
+/// // ..
+/// let provider = &StandardProvider;
+/// let data: TokenData<Value> = decode_with_set(alloc, provider, token, &set, &validation, now)?;
+/// ```
 pub fn decode_with_set<P: CryptoProvider, T: Claims>(
     alloc: Global,
     provider: &P,
