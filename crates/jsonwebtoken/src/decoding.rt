@@ -86,7 +86,7 @@ pub fn decode_or_refusal<P: CryptoProvider, T: Claims>(
     with_test(failed, decoded)
 }
 
-/// Verifies a token in its compact form with the key, at the moment `now`, in whole seconds since
+/// Verifies a token in its compact form with the key, at the time `now`, in whole seconds since
 /// 1970-01-01 00:00:00 UTC, and returns its header and its claims.
 ///
 /// These tests are made in this order, and a refused token has the kind of the first that fails:
@@ -129,7 +129,7 @@ pub fn decode<P: CryptoProvider, T: Claims>(
     // The key is of the family of the header's algorithm.
     ensures family { IfOk result (λ r. key_family key.now ≡ family_of r.header.alg) }
 
-    // A token is accepted exactly at the moments
+    // A token is accepted exactly at the times
     // from the first to the last, and under every looser validation too, with the same header and
     // claims. If the provider accepts at most one signature of each message, the header's and the
     // payload's bytes fix the token.

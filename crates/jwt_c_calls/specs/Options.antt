@@ -1,4 +1,4 @@
--- What keeps a text from being options, as it is told to C.
+-- The fault of a text that is not options, as it is reported to C.
 use Rattle.std.specs.Prelude.{◌≡◌, ◌⊎◌, ◌++◌, ℕ, List, [], codes}
 use Rattle.serde_json.specs.Data.{Data, string}
 use Rattle.serde_json.specs.Written.{compact_text}

@@ -116,8 +116,8 @@ impl Validation {
         Ok(validation)
     }
 
-    /// Requires `aud`, `iss` and `sub`, as far as the validation has a value for them, beside the claims
-    /// that are required already. The only refusal is `OutOfMemory`.
+    /// Requires `aud`, `iss` and `sub`, as far as the validation has a value for them, besides the
+    /// claims that are required already. The only refusal is `OutOfMemory`.
     pub fn require_configured(&mut self, alloc: Global) -> Result<()>
         ensures ok { OnOk result (options_of self.new ≡ requiring_configured (options_of self.old)) }
         ensures unchanged { OnErr result (self.new ≡ self.old) }
