@@ -125,8 +125,8 @@ pub extern "C" fn jwt_decode_set(
 /// Writes the name of the first test of a token that fails, such as `SignatureIsAccepted`, and
 /// nothing if none fails: then `jwt_decode_hmac` accepts the token with the same arguments. The tests
 /// and their order are those of [`decode`](jsonwebtoken::decode), with HMAC and a secret, at the
-/// time `now`, in whole seconds since 1970-01-01 00:00:00 UTC. The options are read first, and any other
-/// text is refused with 101. The only other refusal is `OutOfMemory`.
+/// time `now`, in whole seconds since 1970-01-01 00:00:00 UTC. The options are read first, and any
+/// other text is refused with 101. The only other refusal is `OutOfMemory`.
 ///
 /// Whoever issued a refused token need not be told which test failed: the answer is for those who
 /// run the verifier.

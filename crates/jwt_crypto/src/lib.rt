@@ -6,7 +6,7 @@
 //! [`SignatureProvider`] a signature that other cryptography has made.
 //!
 //! ```rust
-//! let provider = PreparedHmac::new(alloc, Algorithm::HS256, b"secret")?; // once; then each token takes less time
+//! let provider = PreparedHmac::new(alloc, Algorithm::HS256, b"secret")?; // once
 //! // ..
 //! decode(alloc, provider, token, &key, &validation, now)
 //! ```

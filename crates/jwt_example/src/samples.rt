@@ -75,7 +75,7 @@ pub fn verified_by_set(alloc: Global, token: &[u8], set: &[u8], now: u64) -> Res
 
 /// Returns a provider that has the secret prepared.
 fn prepared_secret(alloc: Global) -> Result<Box<PreparedHmac>> {
-    let provider = PreparedHmac::new(alloc, Algorithm::HS256, b"secret")?; // once; then each token takes less time
+    let provider = PreparedHmac::new(alloc, Algorithm::HS256, b"secret")?; // once
     Ok(Box::new(alloc, provider)?)
 }
 
