@@ -15,7 +15,7 @@ pub fn group_law_256()
     ensures order { HasOrder p256 b256 n256 base256 }
 {}
 
-/// States the same of P-384.
+/// States this for P-384.
 pub fn group_law_384()
     ensures prime { IsPrime p384 }
     ensures order_prime { IsPrime n384 }

@@ -1,4 +1,4 @@
-//! Signatures by Ed25519 (RFC 8032 section 5.1), verified. Nothing here takes memory, and nothing runs in constant time: keys,
+//! Ed25519 signatures (RFC 8032 section 5.1), verified. Nothing here allocates, and nothing runs in constant time: keys,
 //! messages and signatures are public.
 #![tactic(auto)]
 

@@ -37,7 +37,7 @@ fn challenge<N: Order>(first: &[u8], public: &[u8], message: &[u8]) -> [u8; 32]
     bytes
 }
 
-// Whether [S]B = R + [k]A, which is so where [S]B - [k]A = R.
+// Whether [S]B = R + [k]A, which is so when [S]B - [k]A = R.
 fn is_equation(
     key: ExtendedPoint<FieldElement>,
     commitment: ExtendedPoint<FieldElement>,

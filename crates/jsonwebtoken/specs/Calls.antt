@@ -15,7 +15,7 @@ use Rattle.jsonwebtoken.specs.declared.by_verdict.SignedPart.{SignedPart}
 -- ---- the calls
 
 module _ {P S V T : Type 0} (provider : ProviderOf P S V) (claims : ClaimsOf T) where
-  -- a call that verifies a token at a moment
+  -- a call that verifies a token at a time
   abbrev pub verifying : P → Token → KeySource → Validation → ℕ → Call T
   verifying p token keys validation now =
       verifying_call token keys (options_of validation) now

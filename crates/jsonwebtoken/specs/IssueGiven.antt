@@ -52,7 +52,7 @@ module _ (issue : Issue) (g : GivenSignature) where
     pub length : HasLength g.algorithm g.signature
 
   -- The result of a call that is decided by a given signature, as `Decides` says it: values that the
-  -- signature is for stand in the place of values that pass every test, and the token is the only one.
+  -- signature is for stand instead of values that pass every test, and the token is the only one.
   pub record DecidesGiven {R : Type 0} (bytes : R → List ℕ) (r : Result R Error) : Type 0 where
     pub issued : IfOk r (λ x. (t : Written) × IsSignedElsewhere t × (bytes x ≡ token_of g))
     pub exact : (t : Written) → IsSignedElsewhere t → MatchResult r (λ x. bytes x ≡ token_of g) IsMemory

@@ -1,4 +1,4 @@
--- The moments at which a token is accepted, the options under which it is, and the tokens that are,
+-- The times at which a token is accepted, the options under which it is, and the tokens that are,
 -- by the tests of any order.
 use Rattle.std.specs.Prelude.{◌≡◌, ◌↔◌, ℕ, ◌≤◌, List, [], ◌∷◌, ◌++◌, Bool, true, false, if◌then◌else◌}
 use Rattle.jwt_base.specs.Algorithm.{family_of}
@@ -11,7 +11,7 @@ use Rattle.jwt_validation.specs.Options.{Options}
 use Rattle.jsonwebtoken.specs.Order.{Passes}
 use Rattle.jsonwebtoken.specs.Tests.{Call, Token, Compact, Separate, Parts, InSet, key_of, text_of_parts, Test, ClaimRulesHold, Contents, decode_order, jws_order, token_tests}
 
--- every test but the claim rules does not depend on the moment
+-- every test but the claim rules does not depend on the time
 abbrev pub is_timeless : Test → Bool
 is_timeless ClaimRulesHold = false
 is_timeless _ = true
@@ -22,15 +22,15 @@ timeless [] = []
 timeless (c ∷ cs) = if is_timeless c then c ∷ timeless cs else timeless cs
 
 module _ {T : Type 0} (call : Call T) (order : List Test) where
-  -- The condition on a moment: the tests that do not depend on it hold, and it lies from the first
-  -- moment to the last (RFC 7519 sections 4.1.4 and 4.1.5).
+  -- The condition on a time: the tests that do not depend on it hold, and it lies from the first
+  -- time to the last (RFC 7519 sections 4.1.4 and 4.1.5).
   pub record IsWithin (t : Contents) (m : ℕ) : Type 0 where
     pub base : Passes (token_tests call) (timeless order) t
     pub rules : RulesOfNoMoment call.options t.payload_value
     pub from : first_moment call.options (claims_of t.payload_value) ≤ m
     pub until : m ≤ last_moment call.options (claims_of t.payload_value)
 
-  -- any contents pass exactly at these moments (RFC 7519 sections 4.1.4 and 4.1.5)
+  -- any contents pass exactly at these times (RFC 7519 sections 4.1.4 and 4.1.5)
   abbrev pub HasMoments : Type 0
   HasMoments = (t : Contents) (m : ℕ) → m ≤ end_of_time
       → Passes (token_tests (record call { now = m })) order t ↔ IsWithin t m
@@ -51,7 +51,7 @@ module _ {T : Type 0} (call : Call T) (order : List Test) where
       → key_family (key_of call.keys t.jwk_key) ≡ family_of t.header.alg
 
   -- If the provider accepts at most one signature of each message, any token of this form that passes
-  -- with the same header bytes and payload bytes, at any moment and under any options, is this one.
+  -- with the same header bytes and payload bytes, at any time and under any options, is this one.
   abbrev pub FixesToken : (A : Type 0) → (A → Token) → A → Type 0
   FixesToken A form x = (t : Contents) → Passes (token_tests call) order t
       → HasOneSignature (call.accepts t.header.alg (key_of call.keys t.jwk_key))

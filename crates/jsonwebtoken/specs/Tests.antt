@@ -102,7 +102,7 @@ pub record Contents : Type 0 where
   pub payload_bytes : List ℕ
   pub payload_value : Data
 
--- the key to verify with: the one that is given, or that of the JSON Web Key which the header names
+-- the verification key: the one that is given, or that of the JSON Web Key which the header names
 abbrev pub key_of : KeySource → Key → Key
 key_of (Given k) named = k
 key_of (InSet ks) named = named

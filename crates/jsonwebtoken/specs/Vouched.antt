@@ -34,7 +34,7 @@ pub record IsVouched {T : Type 0} (call : Call T) (v : Verdict) (t : Contents) :
   pub signature : t.signature_bytes ≡ v.signature
 
 -- The result of a call that is decided by a verdict, as `Decides` says it: contents that are vouched for stand in
--- the place of contents that pass every test.
+-- for contents that pass every test.
 pub record DecidesVouched {T : Type 0} (call : Call T) (v : Verdict) (r : Result (TokenData T) Error) : Type 0 where
   pub accepted : IfOk r (λ y. (t : Contents) × IsVouched call v t × Carries call t y)
   pub exact : (t : Contents) → IsVouched call v t → MatchResult r (Carries call t) IsMemory

@@ -1,4 +1,4 @@
-//! The moments at which a token is accepted.
+//! The times at which a token is accepted.
 
 ghost use Rattle.std.specs.Prelude.{◌≡◌};
 ghost use Rattle.jwt_validation.specs.OptionsOf.{options_of};
@@ -19,7 +19,7 @@ use jwt_keys::provider::CryptoProvider;
 use jwt_validation::{Moments, Validation, claimed_moments};
 use std::alloc::Global;
 
-/// Returns the moments that the claims of a token allow, whatever else holds of it.
+/// Returns the times that the claims of a token allow, whatever else holds of it.
 fn claimed(alloc: Global, token: &[u8], validation: &Validation) -> Result<Moments, Refusal>
     ensures { Step (header_call token.now) value_tests whole (AreClaimed (options_of validation.now))
         result }
@@ -30,9 +30,9 @@ fn claimed(alloc: Global, token: &[u8], validation: &Validation) -> Result<Momen
     Ok(claimed_moments(&value, validation))
 }
 
-/// Returns the first and the last moment at which [`decode`](crate::decode) accepts the token with
+/// Returns the first and the last time at which [`decode`](crate::decode) accepts the token with
 /// these arguments, in whole seconds since 1970-01-01 00:00:00 UTC, or `None` if it accepts the
-/// token at no moment. It is accepted at all moments from the first to the last, and at no other
+/// token at no time. It is accepted at all times from the first to the last, and at no other
 /// (RFC 7519 sections 4.1.4 and 4.1.5). The only refusal is `OutOfMemory`.
 pub fn first_and_last_moment<P: CryptoProvider, T: Claims>(
     alloc: Global,
@@ -58,7 +58,7 @@ pub fn first_and_last_moment<P: CryptoProvider, T: Claims>(
     }
 }
 
-/// Returns the first and the last moment at which [`decode_with_set`](crate::decode_with_set)
+/// Returns the first and the last time at which [`decode_with_set`](crate::decode_with_set)
 /// accepts the token with these arguments, like [`first_and_last_moment`].
 pub fn first_and_last_moment_with_set<P: CryptoProvider, T: Claims>(
     alloc: Global,

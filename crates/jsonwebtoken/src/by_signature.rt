@@ -62,7 +62,7 @@ pub fn signing_input<T: Claims>(alloc: Global, header: &Header, claims: &T) -> R
 /// The tests are those of [`encode`](crate::encode) with the provider of the signature, in the same
 /// order. A signature by another algorithm than the header's is `InvalidAlgorithm`. A signature of
 /// another message is `Signing("another message")`, and one of a length that no signature of its
-/// algorithm has is `Signing` with a string that says which they have, such as DER in place of the
+/// algorithm has is `Signing` with a string that says which they have, such as DER instead of the
 /// two numbers of ES256, or no bytes with RS256. Whether the signature is the message's is left to
 /// those who verify it.
 pub fn encode_by_signature<T: Claims>(

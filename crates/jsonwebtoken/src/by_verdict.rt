@@ -58,7 +58,7 @@ pub fn signed_part(alloc: Global, token: &[u8]) -> Result<SignedPart<'_>>
     without_test(signed_part_by_steps(alloc, token))
 }
 
-/// Verifies a token in its compact form whose signature the caller has checked, at the moment
+/// Verifies a token in its compact form whose signature the caller has checked, at the time
 /// `now`, in whole seconds since 1970-01-01 00:00:00 UTC, and returns its header and its claims.
 /// The verdict is about an algorithm, a message and a signature; a verdict on another token, or by
 /// another algorithm than the header's, is of no use.

@@ -86,7 +86,7 @@ pub fn decode_or_refusal<P: CryptoProvider, T: Claims>(
     with_test(failed, decoded)
 }
 
-/// Verifies a token in its compact form with the key, at the moment `now`, in whole seconds since
+/// Verifies a token in its compact form with the key, at the time `now`, in whole seconds since
 /// 1970-01-01 00:00:00 UTC, and returns its header and its claims.
 ///
 /// These tests are made in this order, and a refused token has the kind of the first that fails:
@@ -107,6 +107,13 @@ pub fn decode_or_refusal<P: CryptoProvider, T: Claims>(
 /// - the payload part is canonical base64url, else `Base64`, and its bytes are JSON, else `Json`;
 /// - that value reads as `T`, and is an object, else `Json`;
 /// - the claim rules of [`validate`](crate::validate) hold, else their kind.
+///
+/// ```rust
+/// let key = DecodingKey::from_secret(alloc, b"secret")?;
+/// let mut validation = Validation::new(alloc, Algorithm::HS256)?;
+/// validation.set_audience(alloc, &["my-service"])?;
+/// let data: TokenData<Value> = decode(alloc, &HmacProvider, token, &key, &validation, now)?;
+/// ```
 pub fn decode<P: CryptoProvider, T: Claims>(
     alloc: Global,
     provider: &P,
@@ -122,7 +129,7 @@ pub fn decode<P: CryptoProvider, T: Claims>(
     // The key is of the family of the header's algorithm.
     ensures family { IfOk result (λ r. key_family key.now ≡ family_of r.header.alg) }
 
-    // A token is accepted exactly at the moments
+    // A token is accepted exactly at the times
     // from the first to the last, and under every looser validation too, with the same header and
     // claims. If the provider accepts at most one signature of each message, the header's and the
     // payload's bytes fix the token.

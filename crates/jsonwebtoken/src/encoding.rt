@@ -49,6 +49,12 @@ fn encode_by_steps<P: CryptoProvider, T: Claims>(
 /// - the header can be written, else `Json`;
 /// - the claims can be written, and no float stands in them, else `Json`;
 /// - the provider signs the header part, the dot and the claims part, else the provider's kind.
+///
+/// ```rust
+/// let key = EncodingKey::from_secret(alloc, b"secret")?;
+/// let header = Header::new(alloc, Algorithm::HS256)?;
+/// encode(alloc, &HmacProvider, &header, claims, &key)
+/// ```
 pub fn encode<P: CryptoProvider, T: Claims>(
     alloc: Global,
     provider: &P,

@@ -255,7 +255,7 @@ fn decode_by_steps<P: CryptoProvider, T: Claims>(
     Ok(data)
 }
 
-/// Verifies a token in parts with the key, at the moment `now`, in whole seconds since 1970-01-01
+/// Verifies a token in parts with the key, at the time `now`, in whole seconds since 1970-01-01
 /// 00:00:00 UTC, and returns its header and its claims. It accepts exactly the parts whose texts,
 /// joined by dots, [`decode`](crate::decode) accepts.
 ///
@@ -279,7 +279,7 @@ pub fn decode<P: CryptoProvider, T: Claims>(
     // The key is of the family of the header's algorithm.
     ensures family { IfOk result (λ r. key_family key.now ≡ family_of r.header.alg) }
 
-    // A token is accepted exactly at the moments
+    // A token is accepted exactly at the times
     // from the first to the last, and under every looser validation too, with the same header and
     // claims. If the provider accepts at most one signature of each message, the header's and the
     // payload's bytes fix the three parts.
@@ -288,7 +288,7 @@ pub fn decode<P: CryptoProvider, T: Claims>(
         validation.now now)
         jws_order Parts Separate (parts_of token.now) }
 
-    // It accepts three parts exactly if `decode` accepts their text, with the same header and
+    // It accepts three parts exactly when `decode` accepts their text, with the same header and
     // claims.
     ensures agrees { (p : Parts) → AgreeOn
         (decoding_parts P.CryptoProvider T.Claims provider.now (parts_of token.now) key.now

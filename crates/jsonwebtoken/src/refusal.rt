@@ -57,7 +57,7 @@ impl Test {
     ghost use Rattle.std.specs.Prelude.{◌≡◌};
     ghost use Rattle.jsonwebtoken.specs.TestName.{test_name};
 
-    /// Returns the name of the test, as `SignatureIsAccepted`.
+    /// Returns the name of the test, such as `SignatureIsAccepted`.
     pub fn name(self) -> &'static str
         ensures { result.now ≡ test_name self }
     {
@@ -108,7 +108,7 @@ impl Refusal {
     }
 }
 
-/// Returns the result of a test, with the test beside its error.
+/// Returns the result of a test, with the test next to its error.
 pub(crate) fn with_test<R>(test: Test, made: Result<R>) -> Result<R, Refusal>
     ensures { IsWithTest test made result }
 {
@@ -127,7 +127,7 @@ pub(crate) fn note(refusal: Refusal, failed: &mut Test) -> Error
     refusal.error
 }
 
-/// Returns the result of a call, without the test beside its error.
+/// Returns the result of a call, without the test next to its error.
 pub(crate) fn without_test<R>(outcome: Result<R, Refusal>) -> Result<R>
     ensures { IsWithoutTest outcome result }
 {

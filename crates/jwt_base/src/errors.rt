@@ -72,7 +72,7 @@ pub enum ErrorKind {
     Utf8,
     /// A request for memory was refused.
     OutOfMemory,
-    /// A clock tells a moment before 1970-01-01 00:00:00 UTC.
+    /// A clock tells a time before 1970-01-01 00:00:00 UTC.
     ClockBeforeEpoch,
     /// The header's `crit` is malformed, or names an extension that is not understood (RFC 7515
     /// section 4.1.11).
@@ -119,7 +119,8 @@ impl Error {
 impl ErrorKind {
     ghost use Rattle.jwt_base.specs.Kind.{kind_name};
 
-    /// Returns the name of the kind, as `MissingRequiredClaim`, without the string that it may hold.
+    /// Returns the name of the kind, such as `MissingRequiredClaim`, without the string that it may
+    /// hold.
     pub fn name(&self) -> &'static str
         ensures { result.now ≡ kind_name (kind_held self.now) }
     {

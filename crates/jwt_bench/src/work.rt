@@ -1,4 +1,4 @@
-//! The work that is measured by HS256 with the secret `secret`.
+//! The work that is measured, with HS256 and the secret `secret`.
 
 use crate::fault::BenchFault;
 use jsonwebtoken::crypto::hmac::{HmacProvider, PreparedHmac};

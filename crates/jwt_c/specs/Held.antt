@@ -17,7 +17,7 @@ verifier_in s = arc_value s.verifier
 
 -- ---- making and sharing
 
--- What is left in a handle, before and after: a verifier of these options and keys, or the status of the
+-- The content of a handle, before and after: a verifier of these options and keys, or the status of the
 -- reason for which there is none. A handle that holds one already is unchanged.
 abbrev pub LeavesMade : (Answer → Type 0) → (Options → Keys → Type 0) → Limits
     → Option Shared → Option Shared → ℕ → Type 0
@@ -26,7 +26,7 @@ LeavesMade Refused AreOf limits before after status = MatchOption before
     (λ s. (status ≡ 0) × IsVerifierOf AreOf limits (verifier_in s)))
     (λ _. (status ≡ has_verifier) × (after ≡ before))
 
--- What is left in another handle, before and after: the verifier that the first holds, unless memory ran
+-- The content of another handle, before and after: the verifier that the first holds, unless memory ran
 -- out. If the first holds none, neither does the other.
 abbrev pub LeavesShared : Option Shared → Option Shared → Option Shared → ℕ → Type 0
 LeavesShared held before after status = MatchOption before

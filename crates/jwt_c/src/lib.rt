@@ -49,7 +49,7 @@ use std::alloc::Global;
 
 const VERSION: &str = "0.1.0";
 
-/// Verifies a token with a secret, by HMAC, at the moment `now`, and writes its claims as JSON. The
+/// Verifies a token with HMAC and a secret, at the time `now`, and writes its claims as JSON. The
 /// options are the JSON text of [`Validation::from_value`](jsonwebtoken::Validation::from_value),
 /// and are read first.
 #[unsafe(no_mangle)]
@@ -69,7 +69,7 @@ pub extern "C" fn jwt_decode_hmac(
     leave(answer, room, len)
 }
 
-/// Verifies a token with a key, by any of the twelve algorithms, at the moment `now`, and writes its
+/// Verifies a token with a key, by any of the twelve algorithms, at the time `now`, and writes its
 /// claims as JSON.
 ///
 /// The key is the JSON text of one JSON Web Key (RFC 7517 section 4) of any kind: a secret, RSA, an
@@ -122,11 +122,11 @@ pub extern "C" fn jwt_decode_set(
     leave(answer, room, len)
 }
 
-/// Writes the name of the first test of a token that fails, as `SignatureIsAccepted`, and nothing
-/// if none fails: then `jwt_decode_hmac` accepts the token with the same arguments. The tests and
-/// their order are those of [`decode`](jsonwebtoken::decode), with a secret, by HMAC, at the moment
-/// `now`, in whole seconds since 1970-01-01 00:00:00 UTC. The options are read first, and any other
-/// text is refused with 101. The only other refusal is `OutOfMemory`.
+/// Writes the name of the first test of a token that fails, such as `SignatureIsAccepted`, and
+/// nothing if none fails: then `jwt_decode_hmac` accepts the token with the same arguments. The tests
+/// and their order are those of [`decode`](jsonwebtoken::decode), with HMAC and a secret, at the
+/// time `now`, in whole seconds since 1970-01-01 00:00:00 UTC. The options are read first, and any
+/// other text is refused with 101. The only other refusal is `OutOfMemory`.
 ///
 /// Whoever issued a refused token need not be told which test failed: the answer is for those who
 /// run the verifier.
@@ -190,10 +190,10 @@ pub extern "C" fn jwt_failed_test_set(
     leave_name(answer, room, len)
 }
 
-/// Sets `first` and `last` to the first and the last moment at which `jwt_decode_hmac` accepts a
-/// token, in whole seconds since 1970-01-01 00:00:00 UTC: it is accepted at all moments from the
+/// Sets `first` and `last` to the first and the last time at which `jwt_decode_hmac` accepts a
+/// token, in whole seconds since 1970-01-01 00:00:00 UTC: it is accepted at all times from the
 /// first to the last, and at no other (RFC 7519 sections 4.1.4 and 4.1.5). If it is accepted at no
-/// moment, `first` is 1 and `last` is 0; with any other status than 0 both are 0. The options are
+/// time, `first` is 1 and `last` is 0; with any other status than 0 both are 0. The options are
 /// read first, and any other text is refused with 101. The only other refusal is `OutOfMemory`.
 #[unsafe(no_mangle)]
 pub extern "C" fn jwt_moments_hmac(
@@ -211,7 +211,7 @@ pub extern "C" fn jwt_moments_hmac(
     leave_moments(answer, first, last)
 }
 
-/// Sets `first` and `last` to the first and the last moment at which `jwt_decode_key` accepts a
+/// Sets `first` and `last` to the first and the last time at which `jwt_decode_key` accepts a
 /// token, like `jwt_moments_hmac`. The options and the key are read first, and refused as by
 /// `jwt_failed_test_key`.
 #[unsafe(no_mangle)]
@@ -230,7 +230,7 @@ pub extern "C" fn jwt_moments_key(
     leave_moments(answer, first, last)
 }
 
-/// Sets `first` and `last` to the first and the last moment at which `jwt_decode_set` accepts a
+/// Sets `first` and `last` to the first and the last time at which `jwt_decode_set` accepts a
 /// token, like `jwt_moments_hmac`. The options and the set are read first, and refused as by
 /// `jwt_failed_test_set`.
 #[unsafe(no_mangle)]
@@ -319,7 +319,7 @@ pub extern "C" fn jwt_decode_header(
     leave(answer, room, len)
 }
 
-/// Signs a header and claims, which are JSON texts of objects, with a secret, by HMAC, and writes
+/// Signs a header and claims, which are JSON texts of objects, with HMAC and a secret, and writes
 /// the token.
 #[unsafe(no_mangle)]
 pub extern "C" fn jwt_encode_hmac(
@@ -436,7 +436,7 @@ pub extern "C" fn jwt_key_from_pem(
     leave(answer, room, len)
 }
 
-/// Writes what keeps a text from being options, as `"algorithms" is not a list of names of algorithms`:
+/// Writes what keeps a text from being options, such as `"algorithms" is not a list of names of algorithms`:
 /// that it is not the JSON of an object, or which member is at fault, and why. Nothing is written if the
 /// text is the JSON of options. The only refusal is `OutOfMemory`.
 #[unsafe(no_mangle)]
@@ -705,7 +705,7 @@ pub extern "C" fn jwt_test_text(test: u32, room: &mut [u8], len: &mut usize) -> 
     put_bytes(test.name().as_bytes(), room, len)
 }
 
-/// Writes the version of the library, as `JWT_VERSION` of `include/jwtproved.h`.
+/// Writes the version of the library, the `JWT_VERSION` of `include/jwtproved.h`.
 #[unsafe(no_mangle)]
 pub extern "C" fn jwt_version(room: &mut [u8], len: &mut usize) -> u32
     ensures { IsGiven version result len.new room.old room.new }

@@ -87,7 +87,7 @@ AnswersSignature None message signature header claims a = a ≡ Refuses kind.Inv
 AnswersSignature (Some algorithm) message signature header claims a =
     AnswersGiven (record { algorithm = algorithm; message = message; signature = signature }) header claims a
 
--- ---- signatures by ECDSA
+-- ---- ECDSA signatures
 
 -- the two numbers of a signature in DER (RFC 7518 section 3.4); a number of no algorithm is refused
 abbrev pub AnswersEcdsa : Option Algorithm → List ℕ → Answer → Type 0

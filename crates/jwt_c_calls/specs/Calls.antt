@@ -90,7 +90,7 @@ AnswersBy Reads MisreadAs Shows Refused (Misreads i) = MisreadAs i
 
 -- ---- claims
 
--- `decode` by HMAC with the secret
+-- `decode` with HMAC and the secret
 abbrev pub hmac_call : List ℕ → List ℕ → ℕ → Options → Call Value
 hmac_call token secret now options =
     decoding_by_hmac IsValue token (Given (Plain Hmac secret)) options now
@@ -234,7 +234,7 @@ abbrev pub refusal_status : Refusal → ℕ
 refusal_status (refused.Input i) = input_status i
 refusal_status (refused.Token e) = number (kind_of e)
 
--- the claims are handed on as their text, unless memory ran out, and a refusal unchanged
+-- the claims are passed on as their text, unless memory ran out, and a refusal unchanged
 abbrev pub HandsOut : {D V : Type 0} → (D → Value) → (V → List ℕ)
     → Result D Error → Result V Refusal → Type 0
 HandsOut claims items (Ok d) (Ok b) =

@@ -18,7 +18,7 @@ abbrev pub NamesFailed : {T : Type 0} → Call T → List Test → List ℕ → 
 NamesFailed call order bytes =
     (f : Option Test) × IsFirstFailure (token_tests call) order f × (bytes ≡ failed_name f)
 
--- the first failed test of `decode` by HMAC with the secret (RFC 7519 section 7.2)
+-- the first failed test of `decode` with HMAC and the secret (RFC 7519 section 7.2)
 abbrev pub AnswersFailedHmac : List ℕ → List ℕ → List ℕ → ℕ → Answer → Type 0
 AnswersFailedHmac text token secret now = AnswersWithOptions text
     (λ o. NamesFailed (hmac_call token secret now o) decode_order)

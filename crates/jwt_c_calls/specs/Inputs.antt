@@ -13,7 +13,7 @@ use Rattle.jwt_c_calls.specs.declared.inputs.Refusal.TheVariants as refused
 abbrev pub ReadsClaimsText : List ℕ → Data → Type 0
 ReadsClaimsText text value = IsJson text value × IsSome (as_object value)
 
--- for a private clause: a value that was read is handed on; a text that could not be read is at
+-- for a private clause: a value that was read is passed on; a text that could not be read is at
 -- fault, unless memory ran out
 abbrev pub IsReadAs : {T : Type 0} → Input → Result T Error → Result T Refusal → Type 0
 IsReadAs input (Ok read) (Ok given) = given ≡ read

@@ -24,7 +24,7 @@ use Rattle.jwt_c_calls.specs.declared.inputs.Input.TheVariants as input
 
 -- ---- tokens
 
--- `encode` by HMAC with the secret, of claims that are written as this value
+-- `encode` with HMAC and the secret, of claims that are written as this value
 abbrev pub hmac_issue : List ℕ → Header → Data → Issue
 hmac_issue secret header value =
     encoding_by_hmac header (Some value) (record { family = Hmac; bytes = secret })

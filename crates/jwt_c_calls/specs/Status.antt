@@ -165,7 +165,7 @@ kind_part k = k
 
 -- ---- status, length and buffer
 
--- These bytes are written: they stand at the front of the buffer, and the bytes behind them are
+-- These bytes are written: they stand at the front of the buffer, and the bytes after them are
 -- unchanged. A buffer that is too small is unchanged. The length is that of the bytes either way.
 pub record IsGiven (bytes : List ℕ) (status len : ℕ) (before after : List ℕ) : Type 0 where
   pub needs : len ≡ length bytes
@@ -185,6 +185,6 @@ pub record IsKept (n status len : ℕ) (before after : List ℕ) : Type 0 where
 abbrev pub algorithm_numbered : ℕ → Option Algorithm
 algorithm_numbered n = if n == 0 then None else slice_get all_algorithms (n - 1)
 
--- the version of the library, as `JWT_VERSION` of `include/jwtproved.h`
+-- the version of the library, the `JWT_VERSION` of `include/jwtproved.h`
 abbrev pub version : List ℕ
 version = codes "0.1.0"

@@ -42,7 +42,7 @@ fn hand_out(alloc: Global, answer: Result<TokenData<Value>, Error>) -> Result<Ve
     }
 }
 
-/// Returns the claims of a token that is verified with a secret, by HMAC.
+/// Returns the claims of a token that is verified with HMAC and a secret.
 pub fn hmac_answer(
     alloc: Global,
     token: &[u8],

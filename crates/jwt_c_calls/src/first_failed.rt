@@ -15,7 +15,7 @@ use serde_json::Value;
 use std::alloc::Global;
 use std::result::Result;
 
-/// Returns the first test of a token that fails with a secret, by HMAC, or `None` if none does.
+/// Returns the first test of a token that fails with HMAC and a secret, or `None` if none does.
 pub fn hmac_failed_test(
     alloc: Global,
     token: &[u8],

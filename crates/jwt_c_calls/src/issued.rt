@@ -26,7 +26,7 @@ fn issued(alloc: Global, header: &Header, claims: &Value, secret: &[u8]) -> Resu
     Ok(token.into_bytes())
 }
 
-/// Returns the token of a header and claims, signed with a secret, by HMAC.
+/// Returns the token of a header and claims, signed with HMAC and a secret.
 pub fn encode_answer(
     alloc: Global,
     header: &[u8],

@@ -1,4 +1,4 @@
-//! The results of the calls for C that tell at which moments a token is accepted.
+//! The results of the calls for C that tell at which times a token is accepted.
 
 ghost use Rattle.std.specs.Prelude.{◌≡◌, [], None, IfOk, IfErr};
 ghost use Rattle.jwt_c_calls.specs.Calls.{Gives, answer_of};
@@ -14,7 +14,7 @@ use serde_json::Value;
 use std::alloc::Global;
 use std::result::Result;
 
-/// Returns the moments at which a token is accepted with a secret, by HMAC, or `None` if there is
+/// Returns the times at which a token is accepted with HMAC and a secret, or `None` if there is
 /// none.
 pub fn hmac_moments(
     alloc: Global,
@@ -38,7 +38,7 @@ pub fn hmac_moments(
     Ok(found)
 }
 
-/// Returns the moments at which a token is accepted with a key, which is the JSON text of one JSON
+/// Returns the times at which a token is accepted with a key, which is the JSON text of one JSON
 /// Web Key (RFC 7517 section 4), by the algorithm of all twelve that the token's header names, or
 /// `None` if there is none.
 pub fn key_moments(
@@ -62,7 +62,7 @@ pub fn key_moments(
     Ok(found)
 }
 
-/// Returns the moments at which a token is accepted with a key set, by the algorithm of all twelve
+/// Returns the times at which a token is accepted with a key set, by the algorithm of all twelve
 /// that the token's header names, or `None` if there is none.
 pub fn set_moments(
     alloc: Global,
@@ -85,7 +85,7 @@ pub fn set_moments(
     Ok(found)
 }
 
-/// Writes the first and the last moment, or 1 and 0 if there is none, or 0 and 0 with the reason
+/// Writes the first and the last time, or 1 and 0 if there is none, or 0 and 0 with the reason
 /// for which there is no answer.
 pub fn leave_moments(
     answer: Result<Option<Moments>, Refusal>,

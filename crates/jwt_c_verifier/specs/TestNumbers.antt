@@ -1,4 +1,4 @@
--- The numbers by which C is told which test of a token failed.
+-- The numbers that report to C which test of a token failed.
 use Rattle.std.specs.Prelude.{◌≡◌, ◌≢◌, ◌⊎◌, ℕ, List}
 use Rattle.jsonwebtoken.specs.TestName.{test_name}
 use Rattle.jsonwebtoken.specs.declared.refusal.Test.{Test}

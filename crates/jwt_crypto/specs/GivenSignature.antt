@@ -22,7 +22,7 @@ pub record IsGiven (g : GivenSignature) (m s : List ℕ) : Type 0 where
   pub signature : s ≡ g.signature
 
 -- How many bytes a signature has: those of the digest (RFC 7518 section 3.2), those of r and s (RFC 7518 section 3.4), and 64
--- by Ed25519 (RFC 8037 section 3.1, RFC 8032 section 5.1.6). Of RSA the key decides: as many as the modulus has (RFC 8017
+-- for Ed25519 (RFC 8037 section 3.1, RFC 8032 section 5.1.6). Of RSA the key decides: as many as the modulus has (RFC 8017
 -- sections 8.1.1 and 8.2.1).
 abbrev pub signature_length : Algorithm → Option ℕ
 signature_length HS256 = Some 32

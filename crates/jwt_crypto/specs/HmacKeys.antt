@@ -68,7 +68,7 @@ abbrev pub HmacAccepts : Algorithm → Key → List ℕ → List ℕ → Type 0
 HmacAccepts a (Plain f secret) message signature = IsHmacOf (hash_for a) secret message signature
 HmacAccepts a (Components n e) message signature = ⊥
 
--- The key to verify with of a secret accepts every signature by the key to sign with of the same
+-- The verification key of a secret accepts every signature by the signing key of the same
 -- secret; and if a signer is made for the one, a verifier is made for the other.
 pub record AcceptsItsOwn (a : Algorithm) : Type 0 where
   pub accepted : (key : SecretKey) (m s : List ℕ) → HmacSigns a key m s

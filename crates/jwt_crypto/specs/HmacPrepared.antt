@@ -24,7 +24,7 @@ prepared_keys p = map prepared_key p.keys.items
 abbrev pub IsPrepared : PreparedHmac → Algorithm → List ℕ → Type 0
 IsPrepared p a secret = Contains (prepared_keys p) (a, secret)
 
--- and so for a key to verify with
+-- and so for a verification key
 abbrev pub IsPreparedKey : PreparedHmac → Algorithm → Key → Type 0
 IsPreparedKey p a (Plain f secret) = IsPrepared p a secret
 IsPreparedKey p a (Components n e) = ⊥

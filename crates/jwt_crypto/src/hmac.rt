@@ -249,7 +249,7 @@ pub(crate) fn unsupported() -> Error
     new_error(ErrorKind::UnsupportedAlgorithm)
 }
 
-/// A signer by HMAC. The secret is not kept.
+/// An HMAC signer. The secret is not kept.
 #[derive(Drop)]
 pub struct HmacSigner {
     blocks: Blocks,
@@ -272,7 +272,7 @@ impl JwtSigner for HmacSigner {
     }
 }
 
-/// A verifier by HMAC. The secret is not kept.
+/// An HMAC verifier. The secret is not kept.
 #[derive(Drop)]
 pub struct HmacVerifier {
     blocks: Blocks,
@@ -331,7 +331,7 @@ impl CryptoProvider for HmacProvider {
 
     ghost key_answers = { λ _. hmac_answers };
 
-    /// Returns a signer by HMAC. An algorithm of another family is refused with
+    /// Returns an HMAC signer. An algorithm of another family is refused with
     /// `UnsupportedAlgorithm`, and then a key of another family with `InvalidKeyFormat`. Allocates
     /// no memory.
     fn signer_factory(
@@ -355,7 +355,7 @@ impl CryptoProvider for HmacProvider {
         })
     }
 
-    /// Returns a verifier by HMAC. An algorithm of another family is refused with
+    /// Returns an HMAC verifier. An algorithm of another family is refused with
     /// `UnsupportedAlgorithm`, and then a key of another family with `InvalidKeyFormat`. Allocates
     /// no memory.
     fn verifier_factory(

@@ -59,7 +59,7 @@ impl Keyed {
     }
 }
 
-/// A signer by HMAC. The secret is not kept.
+/// An HMAC signer. The secret is not kept.
 #[derive(Drop)]
 pub struct PreparedSigner {
     keyed: Keyed,
@@ -82,7 +82,7 @@ impl JwtSigner for PreparedSigner {
     }
 }
 
-/// A verifier by HMAC. The secret is not kept.
+/// An HMAC verifier. The secret is not kept.
 #[derive(Drop)]
 pub struct PreparedVerifier {
     keyed: Keyed,
@@ -213,8 +213,8 @@ impl CryptoProvider for PreparedHmac {
 
     ghost key_answers = { λ _. hmac_answers };
 
-    /// Returns a signer by HMAC, refused as by `HmacProvider`. It uses the hashers that are kept
-    /// exactly if the key's secret is prepared for the algorithm. Allocates no memory.
+    /// Returns an HMAC signer, refused as by `HmacProvider`. It uses the hashers that are kept
+    /// exactly when the key's secret is prepared for the algorithm. Allocates no memory.
     fn signer_factory(
         &self,
         _alloc: Global,
@@ -236,8 +236,8 @@ impl CryptoProvider for PreparedHmac {
         })
     }
 
-    /// Returns a verifier by HMAC, refused as by `HmacProvider`. It uses the hashers that are kept
-    /// exactly if the key's secret is prepared for the algorithm. Allocates no memory.
+    /// Returns an HMAC verifier, refused as by `HmacProvider`. It uses the hashers that are kept
+    /// exactly when the key's secret is prepared for the algorithm. Allocates no memory.
     fn verifier_factory(
         &self,
         _alloc: Global,

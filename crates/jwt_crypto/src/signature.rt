@@ -26,9 +26,9 @@ use std::marker::Model;
 /// refused with `InvalidAlgorithm`, then a key of another family with `InvalidKeyFormat`. The
 /// signer returns a copy of the signature for that message. It refuses any other message with
 /// `Signing("another message")`, and then a signature that does not have the algorithm's length
-/// with `Signing` and a string that says which it is: 32, 48 or 64 bytes by HS256, HS384 or HS512
-/// (RFC 7518 section 3.2), 64 or 96 by ES256 or ES384 (RFC 7518 section 3.4) and 64 by EdDSA with
-/// Ed25519 (RFC 8037 section 3.1). By RSA the length is that of the key's modulus (RFC 8017
+/// with `Signing` and a string that says which it is: 32, 48 or 64 bytes for HS256, HS384 or HS512
+/// (RFC 7518 section 3.2), 64 or 96 for ES256 or ES384 (RFC 7518 section 3.4) and 64 for EdDSA with
+/// Ed25519 (RFC 8037 section 3.1). With RSA the length is that of the key's modulus (RFC 8017
 /// sections 8.1.1 and 8.2.1), which is not known here, so that an empty signature alone is refused.
 /// Whether the signature is the message's is left to those who verify it.
 ///
@@ -81,7 +81,7 @@ fn length_message(algorithm: Algorithm) -> &'static str
 
 impl<'a> SignatureProvider<'a> {
     /// Returns the provider of this signature. `signature` has the signature's bytes (not its
-    /// base64url text): by ES256 and ES384 r and s as numbers of fixed length, by RSA and EdDSA
+    /// base64url text): for ES256 and ES384 r and s as numbers of fixed length, for RSA and EdDSA
     /// what the cryptography elsewhere gives.
     pub fn new(
         algorithm: Algorithm,

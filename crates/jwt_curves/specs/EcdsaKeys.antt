@@ -59,7 +59,7 @@ abbrev pub bytes_of : PublicKey → List ℕ
 bytes_of (held.P256 public) = public
 bytes_of (held.P384 public) = public
 
--- the algorithm by a curve (RFC 7518 section 3.4)
+-- the ECDSA algorithm of a curve (RFC 7518 section 3.4)
 abbrev pub algorithm_for : Curve → Algorithm
 algorithm_for P256 = algorithm.ES256
 algorithm_for P384 = algorithm.ES384

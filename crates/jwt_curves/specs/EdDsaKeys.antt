@@ -19,7 +19,7 @@ abbrev pub refusal : Algorithm → Key → Option Kind
 refusal algorithm.EdDSA k = key_refusal k
 refusal _ k = Some kind.UnsupportedAlgorithm
 
--- by EdDSA the bytes of a key accept the signatures of Ed25519, and nothing else is accepted (RFC 8037
+-- with EdDSA the bytes of a key accept the signatures of Ed25519, and nothing else is accepted (RFC 8037
 -- section 3.1)
 abbrev pub EdDsaAccepts : Algorithm → Key → List ℕ → List ℕ → Type 0
 EdDsaAccepts algorithm.EdDSA (Plain f public) message signature = IsSignature public message signature

@@ -44,7 +44,7 @@ impl JwtVerifier for EdDsaVerifier {
     }
 }
 
-/// The provider of EdDSA: it verifies signatures by Ed25519 (RFC 8037 section 3.1), with keys that are
+/// The provider of EdDSA: it verifies Ed25519 signatures (RFC 8037 section 3.1), with keys that are
 /// the 32 bytes of a point. Its digests are those of SHA-2. It signs nothing and reads no keys in
 /// DER. Its verifiers allocate no memory.
 #[derive(Debug, Clone, Copy)]

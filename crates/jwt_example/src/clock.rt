@@ -1,9 +1,9 @@
-//! The moment, from the system's clock.
+//! The time, from the system's clock.
 
 use std::io;
 use std::time::{Clock, SystemTime, UNIX_EPOCH};
 
-/// Returns the moment by the system's clock, in whole seconds since 1970-01-01 00:00:00 UTC. A
+/// Returns the time by the system's clock, in whole seconds since 1970-01-01 00:00:00 UTC. A
 /// clock that is set before then is a fault.
 pub fn moment(clock: &impl Clock) -> io::Result<u64> {
     let now = SystemTime::now(clock)?;

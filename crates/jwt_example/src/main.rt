@@ -122,7 +122,7 @@ fn show_keys<T: Runtime + AllocGlobal>(rt: &T) -> Result<(), Fault> {
     Ok(())
 }
 
-/// Returns the session that the service reads of its own token, at a moment at which it begins.
+/// Returns the session that the service reads of its own token, at a time at which it begins.
 fn session_from(alloc: Global, service: &Service, now: u64) -> Result<Session, Fault> {
     let session = ada(alloc, now.saturating_add(3600))?;
     let token = service.issue(alloc, &session)?;

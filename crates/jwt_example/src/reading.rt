@@ -13,7 +13,7 @@ use jsonwebtoken::jwk::JwkSet;
 use jsonwebtoken::{TokenData, Validation, decode_with_set};
 use std::alloc::Global;
 
-/// Returns the session of a token, verified at the moment `now`, in seconds since 1970-01-01
+/// Returns the session of a token, verified at the time `now`, in seconds since 1970-01-01
 /// 00:00:00 UTC, with the key of the set that the token names. Its contract is that of
 /// `decode_with_set`, of which the session alone is kept.
 pub fn session_of(

@@ -9,7 +9,7 @@ ghost use Rattle.jwt_example.specs.Session.{session_value};
 use crate::session::Session;
 use jsonwebtoken::Validation;
 
-/// Returns the last moment that accepts a token of the session: the last one by the `moments` of
+/// Returns the last time at which a token of the session is accepted, by the `moments` of
 /// the laws of `decode`. It is the end of the session and the leeway, less the time that must be
 /// left.
 pub fn last_moment(validation: &Validation, session: &Session) -> u64

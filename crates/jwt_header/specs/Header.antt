@@ -38,7 +38,7 @@ pub record ReadsHeader (d : Data) (h : Header) : Type 0 where
 abbrev pub new_header : Algorithm → Header
 new_header a = record { alg = a; typ = Some (codes "JWT"); cty = None; jku = None; jwk = None; kid = None; x5u = None; x5t = None; x5t_s256 = None; url = None; nonce = None; x5c = None; crit = None; enc = None; zip = None; extras = no_members }
 
--- the members that are present, except for the key, beside these
+-- the members that are present, except for the key, besides these
 abbrev pub with_named : Header → Members → Members
 with_named h ms =
     put (codes "alg") (string (name_of h.alg)) (

@@ -1,4 +1,4 @@
--- Signatures by ECDSA: in DER (RFC 3279 section 2.2.3), and as the two numbers of fixed length that a token has (RFC 7518
+-- ECDSA signatures: in DER (RFC 3279 section 2.2.3), and as the two numbers of fixed length that a token has (RFC 7518
 -- section 3.4).
 use Rattle.std.specs.Prelude.{◌≡◌, ◌⊎◌, ℕ, ◌-◌, ◌≤◌, List, ◌++◌, length, replicate, Option, None, Some}
 use Rattle.jwt_base.specs.Kind.{Kind}

@@ -9,7 +9,7 @@ unfoldable pub pieces_of : (bytes : List ℕ) → List (List ℕ)
 pieces_of bytes =
     let places = range_with_len 0 (length bytes + 1) in flat_map (λ i. map (λ j. slice_range bytes i j) places) places
 
--- each of the lists beside each
+-- each of the lists next to each
 unfoldable pub pairs_of : (lists : List (List ℕ)) → List (List ℕ × List ℕ)
 pairs_of lists = flat_map (λ n. map (λ e. (n, e)) lists) lists
 

@@ -1,4 +1,4 @@
-//! Signatures by ECDSA, from DER.
+//! ECDSA signatures, from DER.
 
 ghost use Rattle.std.specs.Prelude.{◌≡◌, ◌≢◌, ◌⊎◌, ℕ, ◌≤◌, List, ◌++◌, IfOk, IfErr, MatchOption, length};
 ghost use Rattle.jwt_base.specs.Kind as kind;
@@ -73,7 +73,7 @@ fn numbers(alloc: Global, size: usize, der: &[u8]) -> Result<Vec<u8>>
     Ok(signature)
 }
 
-/// Returns the signature of a token from a signature by ECDSA in DER, as a KMS or OpenSSL makes it:
+/// Returns the signature of a token from an ECDSA signature in DER, as a KMS or OpenSSL makes it:
 /// of an ECDSA-Sig-Value, a SEQUENCE of the INTEGERs r and s (RFC 3279 section 2.2.3), the two
 /// numbers, the most significant octet first, in 32 octets each for ES256 and 48 for ES384 (RFC
 /// 7518 section 3.4).

@@ -4,17 +4,17 @@ use Rattle.jwt_base.specs.Base64Url.{IsPart}
 use Rattle.jwt_base.specs.declared.algorithms.AlgorithmFamily.{AlgorithmFamily}
 use Rattle.jwt_base.specs.declared.algorithms.AlgorithmFamily.TheVariants as family
 
--- a key to sign with
+-- a signing key
 pub record SecretKey : Type 0 where
   pub family : AlgorithmFamily
   pub bytes : List ℕ
 
--- a key to verify with: a family and bytes, or the modulus and the exponent of an RSA key
+-- a verification key: a family and bytes, or the modulus and the exponent of an RSA key
 pub data Key : Type 0 where
   Plain : AlgorithmFamily → List ℕ → Key
   Components : List ℕ → List ℕ → Key
 
--- the content of a key to verify with, without the family
+-- the content of a verification key, without the family
 pub data KeyContent : Type 0 where
   Bytes : List ℕ → KeyContent
   ModulusExponent : List ℕ → List ℕ → KeyContent

@@ -1,4 +1,4 @@
--- The key to verify with that a JSON Web Key stands for (RFC 7518 section 6, RFC 8037 section 2).
+-- The verification key that a JSON Web Key stands for (RFC 7518 section 6, RFC 8037 section 2).
 use Rattle.jwt_base.specs.Kind.{Kind}
 use Rattle.jwt_base.specs.Kind as kind
 use Rattle.jwt_keys.specs.Key.{Key, IsRsaOfParts, IsEcOfParts, IsEdOfPart, IsHmacOfPart}

@@ -1,4 +1,4 @@
-//! Keys to verify with.
+//! Verification keys.
 
 ghost use Rattle.std.specs.Prelude.{◌≡◌, ℕ, List, IfOk, IfErr};
 ghost use Rattle.jwt_base.specs.Kind as kind;
@@ -17,7 +17,7 @@ use std::alloc::Global;
 use std::fmt;
 use std::marker::Model;
 
-/// The content of a key to verify with.
+/// The content of a verification key.
 #[derive(Drop)]
 pub enum DecodingKeyKind {
     /// A secret, or the bytes of a public key in DER.
@@ -82,7 +82,7 @@ impl fmt::Debug for DecodingKeyKind {
     }
 }
 
-/// A key to verify with: a family of algorithms, with a secret, with the bytes of a public key in DER, or, in the
+/// A verification key: a family of algorithms, with a secret, with the bytes of a public key in DER, or, in the
 /// family of RSA alone, with the key's two numbers. A contract sees the family and the lists of bytes.
 #[derive(Drop)]
 pub struct DecodingKey {

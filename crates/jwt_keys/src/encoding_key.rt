@@ -1,4 +1,4 @@
-//! Keys to sign with.
+//! Signing keys.
 
 ghost use Rattle.std.specs.Prelude.{◌≡◌, ℕ, List, IfOk, IfErr, length, replicate};
 ghost use Rattle.jwt_base.specs.Kind as kind;
@@ -13,7 +13,7 @@ use std::alloc::Global;
 use std::fmt;
 use std::marker::Model;
 
-/// A key to sign with: a family of algorithms, with a secret or with the bytes of a private key in DER. A contract
+/// A signing key: a family of algorithms, with a secret or with the bytes of a private key in DER. A contract
 /// sees the family and the list of bytes.
 #[derive(Drop)]
 pub struct EncodingKey {

@@ -122,7 +122,7 @@ impl Jwk {
             None => false,
         }
     }
-    /// Returns the JSON Web Key of a key to sign with, for this algorithm, which is not compared
+    /// Returns the JSON Web Key of a signing key, for this algorithm, which is not compared
     /// with the key's family. A secret becomes an `OctetKey` that holds it; of a private key in DER
     /// the provider reads the public part. An Edwards curve key whose length is not 48 bytes is
     /// refused with `InvalidEddsaKey`; every other refusal but `OutOfMemory` is the provider's.
@@ -144,7 +144,7 @@ impl Jwk {
         })
     }
 
-    /// Returns the JSON Web Key of a key to verify with, for this algorithm if one is given. A
+    /// Returns the JSON Web Key of a verification key, for this algorithm if one is given. A
     /// secret becomes an `OctetKey` that holds it; of an RSA key in DER the provider reads modulus
     /// and exponent. The length tells the curve: 65 bytes for P-256, 97 for P-384. Any other length
     /// and a first byte other than 4 are refused with `InvalidEcdsaKey`. An Edwards curve key whose

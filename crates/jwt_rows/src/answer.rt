@@ -1,5 +1,5 @@
 //! Results, as rows want them: `{"ok": ..}` with the value that the call returned, or `{"err": ..}`
-//! with the name of the kind, and behind it in parentheses the string that it holds.
+//! with the name of the kind, followed in parentheses by the string that it holds.
 
 pub mod keys;
 
@@ -51,7 +51,7 @@ pub fn kind_text(alloc: Global, kind: &ErrorKind) -> Result<String, Fault> {
     }
 }
 
-/// Returns the result of a call that returned this kind: its name, and behind it in parentheses the
+/// Returns the result of a call that returned this kind: its name, followed in parentheses by the
 /// string that it holds.
 pub fn of_kind(alloc: Global, kind: &ErrorKind) -> Answer {
     let kind = kind_text(alloc, kind)?;

@@ -41,14 +41,14 @@ pub fn only_text<'a>(row: Row<'a>, name: &'static str) -> Result<&'a str, Fault>
     text_among(row, &[name], name)
 }
 
-/// An algorithm, and a key to sign with.
+/// An algorithm, and a signing key.
 #[derive(Drop)]
 pub struct Signing {
     pub algorithm: Algorithm,
     pub key: Box<EncodingKey>,
 }
 
-/// Returns the algorithm and the key to sign with.
+/// Returns the algorithm and the signing key.
 pub fn signing_of(row: Row<'_>, names: &[&str]) -> Result<Signing, Fault> {
     row.takes(names)?;
     let algorithm = algorithm(row)?;
@@ -56,14 +56,14 @@ pub fn signing_of(row: Row<'_>, names: &[&str]) -> Result<Signing, Fault> {
     Ok(Signing { algorithm, key })
 }
 
-/// An algorithm, and a key to verify with.
+/// An algorithm, and a verification key.
 #[derive(Drop)]
 pub struct Verifying {
     pub algorithm: Algorithm,
     pub key: Box<DecodingKey>,
 }
 
-/// Returns the algorithm and the key to verify with.
+/// Returns the algorithm and the verification key.
 pub fn verifying_of(row: Row<'_>, names: &[&str]) -> Result<Verifying, Fault> {
     row.takes(names)?;
     let algorithm = algorithm(row)?;

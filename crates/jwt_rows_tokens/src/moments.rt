@@ -1,4 +1,4 @@
-//! The moments at which tokens are accepted.
+//! The times at which tokens are accepted.
 
 use crate::inputs::{with_key, with_set};
 use jsonwebtoken::crypto::CryptoProvider;

@@ -1,4 +1,4 @@
-//! The moment that a clock tells.
+//! The time that a clock tells.
 
 use jsonwebtoken::{Clock, get_current_timestamp};
 use jwt_rows::answer::{Answer, accepted, refused};

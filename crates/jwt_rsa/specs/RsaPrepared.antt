@@ -22,7 +22,7 @@ prepared_keys p = map prepared_key p.keys.items
 abbrev pub IsPrepared : PreparedRsa → List ℕ → List ℕ → Type 0
 IsPrepared p n e = Contains (prepared_keys p) (n, e)
 
--- and so for a key to verify with
+-- and so for a verification key
 abbrev pub IsPreparedKey : PreparedRsa → Key → Type 0
 IsPreparedKey p (Plain f b) = ⊥
 IsPreparedKey p (Components n e) = IsPrepared p n e

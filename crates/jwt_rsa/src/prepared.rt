@@ -43,7 +43,7 @@ impl Keyed<'_> {
     }
 }
 
-/// Verifies signatures of RSA by one algorithm and key, as `RsaVerifier` does.
+/// Verifies RSA signatures with one algorithm and key, as `RsaVerifier` does.
 #[derive(Drop)]
 pub struct PreparedVerifier<'a> {
     pub(crate) scheme: Scheme,

@@ -52,7 +52,7 @@ impl<'a> CryptoProvider for &'a PreparedRsa {
     }
 
     /// Returns a verifier by this algorithm and key, refused as by `RsaProvider`. It uses the key that
-    /// is kept exactly if the key's components are prepared.
+    /// is kept exactly when the key's components are prepared.
     fn verifier_factory(
         &self,
         alloc: Global,

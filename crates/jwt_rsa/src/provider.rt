@@ -31,8 +31,8 @@ pub(crate) fn unsupported() -> Error
     new_error(ErrorKind::UnsupportedAlgorithm)
 }
 
-/// The provider of RSA: it verifies RS256, RS384 and RS512 by RSASSA-PKCS1-v1_5 (RFC 7518 section
-/// 3.3), and PS256, PS384 and PS512 by RSASSA-PSS (section 3.5), with keys of a modulus and an
+/// The provider of RSA: it verifies RS256, RS384 and RS512 with RSASSA-PKCS1-v1_5 (RFC 7518 section
+/// 3.3), and PS256, PS384 and PS512 with RSASSA-PSS (section 3.5), with keys of a modulus and an
 /// exponent. Its digests are those of SHA-2. It reads the modulus and the exponent of a public key in
 /// DER, but a verifier is made of the two alone. It signs nothing and reads no private keys.
 #[derive(Debug, Clone, Copy)]

@@ -10,7 +10,7 @@ use jwt_base::errors::Result;
 use jwt_keys::provider::JwtVerifier;
 use std::alloc::Global;
 
-/// Verifies signatures of RSA by one algorithm and key (RFC 8017 sections 8.1.2 and 8.2.2).
+/// Verifies RSA signatures with one algorithm and key (RFC 8017 sections 8.1.2 and 8.2.2).
 #[derive(Drop)]
 pub struct RsaVerifier {
     pub(crate) scheme: Scheme,

@@ -27,7 +27,7 @@ use jwt_rsa::RsaProvider;
 use std::alloc::Global;
 
 /// The provider of all twelve algorithms. It verifies all, each exactly as the provider of its
-/// family does, and signs by HMAC:
+/// family does, and signs with HMAC:
 ///
 /// | algorithms | verified as by | keys |
 /// |---|---|---|
@@ -64,7 +64,7 @@ impl CryptoProvider for StandardProvider {
 
     ghost key_answers = { λ _. rsa_answers };
 
-    /// Returns a signer by HMAC. An algorithm of another family is refused with
+    /// Returns an HMAC signer. An algorithm of another family is refused with
     /// `UnsupportedAlgorithm`, and then a key of another family with `InvalidKeyFormat`. Allocates
     /// no memory.
     fn signer_factory(

@@ -14,13 +14,13 @@ use std::alloc::Global;
 /// Verifies signatures by one algorithm and key, as the verifier of the algorithm's family does.
 #[derive(Drop)]
 pub enum StandardVerifier {
-    /// By HMAC: HS256, HS384 and HS512. Allocates no memory.
+    /// With HMAC: HS256, HS384 and HS512. Allocates no memory.
     Hmac(HmacVerifier),
-    /// By RSA: RS256, RS384, RS512, PS256, PS384 and PS512.
+    /// With RSA: RS256, RS384, RS512, PS256, PS384 and PS512.
     Rsa(RsaVerifier),
-    /// By ECDSA: ES256 and ES384. Allocates no memory.
+    /// With ECDSA: ES256 and ES384. Allocates no memory.
     Ec(EcdsaVerifier),
-    /// By EdDSA with Ed25519. Allocates no memory.
+    /// With EdDSA with Ed25519. Allocates no memory.
     Ed(EdDsaVerifier),
 }
 

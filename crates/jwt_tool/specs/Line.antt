@@ -81,7 +81,7 @@ ThumbprintLine input hash status line =
     (IsThumbprint input hash line × (status ≡ 0))
     ⊎ ((k : Kind) × HasThumbprintFault input k × IsRefusal k status line)
 
--- the input's token, checked by HMAC with a secret at a moment, with the default options for that
+-- the input's token, checked with HMAC and a secret at a time, with the default options for that
 -- one algorithm
 abbrev pub hmac_call : List ℕ → Algorithm → List ℕ → ℕ → Call Value
 hmac_call input algorithm secret now =
@@ -100,7 +100,7 @@ ClaimsLine input algorithm secret now status line =
     ⊎ ((k : Kind) × FailsFirst (token_tests (hmac_call input algorithm secret now)) decode_order k
     × IsRefusal k status line)
 
--- the input's token, checked by HMAC with the key of the set that its header names, under the same
+-- the input's token, checked with HMAC and the key of the set that its header names, under the same
 -- options
 abbrev pub hmac_set_call : List ℕ → Algorithm → List Jwk → ℕ → Call Value
 hmac_set_call input algorithm keys now =

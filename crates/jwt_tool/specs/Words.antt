@@ -8,8 +8,8 @@ use Rattle.jwt_params.specs.declared.thumbprints.ThumbprintHash.{ThumbprintHash}
 use Rattle.jwt_params.specs.declared.thumbprints.ThumbprintHash.TheVariants.{SHA256, SHA384, SHA512}
 
 -- the header of a token; the thumbprint of a key by a hash; the token of claims, by an algorithm
--- and a secret; a token's claims, verified by these at a moment; or a token's claims, verified by
--- an algorithm and the text of a key set at a moment
+-- and a secret; a token's claims, verified by these at a time; or a token's claims, verified by
+-- an algorithm and the text of a key set at a time
 pub data Request : Type 0 where
   ForHeader : Request
   ForThumbprint : ThumbprintHash → Request
@@ -49,7 +49,7 @@ encoding_request word algorithm secret =
     (algorithm_named algorithm)
     else None
 
--- the name of an algorithm, a secret or a set, and a moment
+-- the name of an algorithm, a secret or a set, and a time
 abbrev pub claims_asked : (Algorithm → List ℕ → ℕ → Request) → List ℕ → List ℕ → List ℕ
     → Option Request
 claims_asked request algorithm by moment =

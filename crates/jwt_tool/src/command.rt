@@ -17,19 +17,19 @@ pub enum Command<'a> {
     Thumbprint {
         hash: ThumbprintHash,
     },
-    /// Issues the token of the claims that it reads as JSON, signed by HMAC with a secret.
+    /// Issues the token of the claims that it reads as JSON, signed with HMAC and a secret.
     Encode {
         algorithm: Algorithm,
         secret: &'a str,
     },
-    /// Verifies a token by HMAC with a secret, at a moment in seconds since 1970-01-01 00:00:00 UTC, and prints its
+    /// Verifies a token with HMAC and a secret, at a time in seconds since 1970-01-01 00:00:00 UTC, and prints its
     /// claims.
     Decode {
         algorithm: Algorithm,
         secret: &'a str,
         now: u64,
     },
-    /// Verifies a token by HMAC with the key that its header names in a key set (RFC 7517 section
+    /// Verifies a token with HMAC and the key that its header names in a key set (RFC 7517 section
     /// 5), given as its JSON text, and prints its claims.
     DecodeWithSet {
         algorithm: Algorithm,

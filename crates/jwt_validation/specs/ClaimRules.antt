@@ -55,7 +55,7 @@ SharesMember set = Any (λ t. IsTrue (set t))
 
 -- The condition of each rule (RFC 7519): `ExpFormat` and `ExpTime` by section 4.1.4, `NbfFormat`
 -- and `NbfTime` by 4.1.5, `Subject` by 4.1.2, `Issuer` by 4.1.1, `Audience` by 4.1.3; `ExpReject`
--- is a rule of this library. The moments themselves of `exp` and of `exp` with leeway accept.
+-- is a rule of this library. A token is accepted at `exp` itself, or at `exp` with leeway.
 abbrev pub Holds : Options → Claims → ℕ → Rule → Type 0
 Holds v c now ExpFormat = IsTrue v.checks_exp → IsWellFormed c.exp
 Holds v c now NbfFormat = IsTrue v.checks_nbf → IsWellFormed c.nbf

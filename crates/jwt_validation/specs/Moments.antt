@@ -1,4 +1,4 @@
--- The moments at which a value is accepted, and options that accept more.
+-- The times at which a value is accepted, and options that accept more.
 use Rattle.std.specs.Prelude.{◌≡◌, ℕ, ◌+◌, ◌-◌, ◌≤◌, List, Bool, IsTrue, IsSome, IsSomeAnd, IfSome, None, Contains, min, if◌then◌else◌, ◌⊎◌, ⊤}
 use Rattle.serde_json.specs.Data.{Data}
 use Rattle.serde_json.specs.Find.{as_object}
@@ -13,7 +13,7 @@ use Rattle.jwt_validation.specs.declared.claims.Claim.TheVariants.{Absent, Malfo
 use Rattle.jwt_validation.specs.declared.rules.Rule.{Rule}
 use Rattle.jwt_validation.specs.declared.rules.Rule.TheVariants.{ExpFormat, NbfFormat, ExpReject, ExpTime, NbfTime, Subject, Issuer, Audience}
 
--- the rules that do not speak of the moment
+-- the rules that do not speak of the time
 abbrev pub IsTimeless : Rule → Type 0
 IsTimeless ExpFormat = ⊤
 IsTimeless NbfFormat = ⊤
@@ -24,7 +24,7 @@ IsTimeless Subject = ⊤
 IsTimeless Issuer = ⊤
 IsTimeless Audience = ⊤
 
--- the last moment that a u64 holds
+-- the last time that a u64 holds
 abbrev pub end_of_time : ℕ
 end_of_time = 18446744073709551615
 
@@ -43,12 +43,12 @@ abbrev pub last_moment : Options → Claims → ℕ
 last_moment v c =
     checked v.checks_exp c.exp (λ exp. min (exp + v.leeway - v.reject) end_of_time) end_of_time
 
--- the conditions on the claims that do not depend on the moment
+-- the conditions on the claims that do not depend on the time
 pub record RulesOfNoMoment (v : Options) (d : Data) : Type 0 where
   pub required : (n : Name) → ¬ IsMissing v (claims_of d) n
   pub timeless : (r : Rule) → IsTimeless r → (now : ℕ) → Holds v (claims_of d) now r
 
--- an object that keeps these, at a moment from the first to the last
+-- an object that keeps these, at a time from the first to the last
 -- (RFC 7519 sections 4.1.4 and 4.1.5)
 pub record IsAcceptedWithin (v : Options) (d : Data) (now : ℕ) : Type 0 where
   pub is_object : IsSome (as_object d)

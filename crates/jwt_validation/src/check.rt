@@ -17,7 +17,7 @@ use jwt_base::errors::{ErrorKind, Result, new_error};
 use serde_json::Value;
 use std::alloc::Global;
 
-/// Checks claims at the moment `now`, in whole seconds since 1970-01-01 00:00:00 UTC.
+/// Checks claims at the time `now`, in whole seconds since 1970-01-01 00:00:00 UTC.
 ///
 /// Claims that are not a JSON object are refused with `Json`. Then each required claim must be
 /// present and well formed, else the error is `MissingRequiredClaim` of one that is not. Then the
@@ -33,7 +33,7 @@ use std::alloc::Global;
 /// - `aud` names a configured audience, else `InvalidAudience`.
 ///
 /// The last three are `InvalidClaimFormat` if the claim has a wrong type. A claim that is absent
-/// and not required breaks no rule. `OutOfMemory` may come in place of `MissingRequiredClaim` and
+/// and not required breaks no rule. `OutOfMemory` may come instead of `MissingRequiredClaim` and
 /// `InvalidClaimFormat` alone.
 pub fn validate(alloc: Global, claims: &Value, options: &Validation, now: u64) -> Result<()>
     ensures ok { IsOk result ↔ (IsSome (as_object (view claims.now))

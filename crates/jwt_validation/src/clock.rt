@@ -1,4 +1,4 @@
-//! The moment at which a token is checked.
+//! The time at which a token is checked.
 
 ghost use Rattle.std.specs.Prelude.{◌≡◌, ◌<ℤ◌, ℤ, pos, IfOk, IfErr, MatchResult};
 ghost use Rattle.jwt_base.specs.Kind as kind;
@@ -8,7 +8,7 @@ use jwt_base::errors::{ErrorKind, Result, new_error};
 
 /// A clock.
 pub trait Clock {
-    // The moments that the clock may return.
+    // The times that the clock may return.
     ghost tells: { Self → ℤ → Type 0 };
 
     /// Returns the whole seconds since 1970-01-01 00:00:00 UTC, negative before then.
@@ -16,7 +16,7 @@ pub trait Clock {
         ensures { tells self.now result };
 }
 
-/// Returns the whole seconds since 1970-01-01 00:00:00 UTC that the clock tells. A moment before
+/// Returns the whole seconds since 1970-01-01 00:00:00 UTC that the clock tells. A time before
 /// then is refused with `ClockBeforeEpoch`.
 pub fn get_current_timestamp<C: Clock>(clock: &C) -> Result<u64>
     ensures ok { IfOk result (λ n. C.tells clock.now (pos n)) }

@@ -1,4 +1,4 @@
-//! The moments that the claims of a token allow (RFC 7519 sections 4.1.4 and 4.1.5).
+//! The times that the claims of a token allow (RFC 7519 sections 4.1.4 and 4.1.5).
 
 ghost use Rattle.std.specs.Prelude.{◌≡◌, ◌+◌, ◌-◌, min};
 ghost use Rattle.serde_json.specs.View.{view};
@@ -11,21 +11,21 @@ use crate::claims::{Claim, SpecClaims};
 use crate::validation::Validation;
 use serde_json::Value;
 
-/// The moments from one to another, both included, in whole seconds since 1970-01-01 00:00:00 UTC.
+/// The times from one to another, both included, in whole seconds since 1970-01-01 00:00:00 UTC.
 #[derive(Clone, Copy, Debug, PartialEq, Eq)]
 pub struct Moments {
-    /// The first moment.
+    /// The first time.
     pub first: u64,
-    /// The last moment; `u64::MAX` stands for all that come after it too.
+    /// The last time; `u64::MAX` stands for all that come after it too.
     pub last: u64,
 }
 
-/// Returns the moments that the claims `nbf` and `exp` allow, as far as the options check them. If
+/// Returns the times that the claims `nbf` and `exp` allow, as far as the options check them. If
 /// the first lies after the last, they allow none.
 ///
-/// The first moment is `nbf` less the leeway, and 0 if that is negative. The last one is `exp` and
+/// The first time is `nbf` less the leeway, and 0 if that is negative. The last one is `exp` and
 /// the leeway, less the time that must be left. Other rules of [`validate`](crate::validate) may
-/// refuse the claims at every moment.
+/// refuse the claims at every time.
 pub fn claimed_moments(claims: &Value, options: &Validation) -> Moments
     ensures first { result.first ≡ first_moment (options_of options.now)
         (claims_of (view claims.now)) }
@@ -61,7 +61,7 @@ fn last_moment(claims: &SpecClaims, options: &Validation) -> u64
     }
 }
 
-// Returns the last moment that leaves this much time before the end and the leeway.
+// Returns the last time from which this much is left until the end and the leeway.
 fn last_before(exp: u64, leeway: u64, left: u64) -> u64
     ensures { result ≡ min (exp + leeway - left) end_of_time }
 {

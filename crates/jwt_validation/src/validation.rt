@@ -40,6 +40,13 @@ pub(crate) const STRICT_REJECT: u64 = 1;
 pub(crate) const STRICT_VALIDATES_NBF: bool = true;
 
 /// The options that a token is checked against. Times are in whole seconds.
+///
+/// ```rust
+/// let mut validation = Validation::new_strict(alloc, Algorithm::RS256)?;
+/// validation.set_issuer(alloc, &["https://login.example"])?;
+/// validation.set_audience(alloc, &["my-service"])?;
+/// validation.require_configured(alloc)?; // a token without iss or aud is refused
+/// ```
 #[derive(Debug, Drop)]
 pub struct Validation {
     /// The claims that must be present. Of these names `exp`, `nbf`, `aud`, `iss` and `sub` count,
@@ -109,8 +116,8 @@ impl Validation {
         Ok(validation)
     }
 
-    /// Requires `aud`, `iss` and `sub`, as far as the validation has a value for them, beside the claims
-    /// that are required already. The only refusal is `OutOfMemory`.
+    /// Requires `aud`, `iss` and `sub`, as far as the validation has a value for them, besides the
+    /// claims that are required already. The only refusal is `OutOfMemory`.
     pub fn require_configured(&mut self, alloc: Global) -> Result<()>
         ensures ok { OnOk result (options_of self.new ≡ requiring_configured (options_of self.old)) }
         ensures unchanged { OnErr result (self.new ≡ self.old) }

@@ -9,7 +9,8 @@ pub const TOKEN_LIMIT: usize = 1_048_576;
 /// What a verifier allows its keys and its tokens.
 #[derive(Clone, Copy)]
 pub struct Limits {
-    /// The greatest length of a token, in bytes. Reading a token takes memory in proportion to it.
+    /// The greatest length of a token, in bytes. Reading a token allocates memory in proportion
+    /// to it.
     pub max_len: usize,
     /// Whether keys with which anyone can sign are allowed: secrets whose bytes are all 0, as in the
     /// empty one (RFC 2104 section 2).

@@ -24,7 +24,7 @@ use jwt_keys::jwk_set::JwkSet;
 use std::alloc::Global;
 use std::result::Result;
 
-/// The greatest number of keys of a set that are prepared, each of which allocates.
+/// The number of keys of a set that are prepared: each holds memory.
 const PREPARED: usize = 4096;
 
 /// Returns the value that a call made, or `None` if it was refused for another reason than memory.

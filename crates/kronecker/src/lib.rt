@@ -20,7 +20,7 @@
 //! A wrong identity can't pass: a value is a difference of two polynomials with natural coefficients (`Symbols`), the second run bounds the
 //! coefficients of both, and `poly_same` of `Polynomials` says that two that agree at such a point agree everywhere. `Relations` has
 //! the one induction over programs by which the runs belong together. If the point is too small, `bounded` says no. Nothing rests on who
-//! chose the point. `sound_by_grid` is the same where the first variable takes the numbers 0 to d - 1 in turn, for a program whose numbers
+//! chose the point. `sound_by_grid` is the same when the first variable takes the numbers 0 to d - 1 in turn, for a program whose numbers
 //! would be too large otherwise; a polynomial of at most d coefficients is known from its values there (`Lengths`).
 //!
 //! Numbers grow by a factor with each variable and each degree, so identities of many variables with hypotheses are for `ring`.

@@ -1,8 +1,8 @@
 //! Identities of polynomials modulo any number, which the prover computes term by term. The crate has proofs alone.
 //!
 //! A term (`proofs/Terms`) is made of variables and numbers by sums, differences and products, and has a value modulo m for any
-//! numbers in the place of its variables. `is_identity e g lines` of `proofs/Polynomials` is a test that computes. Each line (c, s, t)
-//! is an equation s = t that is taken for granted, as that a point lies on its curve, with the factor c by which it is used. The test
+//! numbers for its variables. `is_identity e g lines` of `proofs/Polynomials` is a test that computes. Each line (c, s, t)
+//! is an equation s = t that is taken for granted, such as that a point lies on its curve, with the factor c by which it is used. The test
 //! expands e - g, less c * (s - t) for each line, to a polynomial, and asks that all its coefficients are 0. The theorem is `follows`:
 //!
 //! ```text

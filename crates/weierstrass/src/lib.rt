@@ -1,4 +1,4 @@
-//! Points of curves y^2 = x^3 - 3x + b in homogeneous projective coordinates, over any residues. Nothing here takes memory, and
+//! Points of curves y^2 = x^3 - 3x + b in homogeneous projective coordinates, over any residues. Nothing here allocates, and
 //! nothing runs in constant time.
 #![tactic(auto)]
 

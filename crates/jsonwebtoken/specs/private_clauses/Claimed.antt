@@ -1,4 +1,4 @@
--- For private clauses: the moments that the claims of a token allow.
+-- For private clauses: the times that the claims of a token allow.
 use Rattle.std.specs.Prelude.{◌≡◌, List, [], ◌∷◌}
 use Rattle.jwt_validation.specs.Claim.{claims_of}
 use Rattle.jwt_validation.specs.Moments.{first_moment, last_moment}
@@ -10,6 +10,6 @@ use Rattle.jsonwebtoken.specs.Tests.{Contents, Test, HasThreeParts, PayloadIsPar
 abbrev pub value_tests : List Test
 value_tests = HasThreeParts ∷ PayloadIsPart ∷ PayloadIsJson ∷ []
 
--- the moments are those that the claims allow
+-- the times are those that the claims allow
 abbrev pub AreClaimed : Options → Contents → Moments → Type 0
 AreClaimed o x m = (m.first ≡ first_moment o (claims_of x.payload_value)) × (m.last ≡ last_moment o (claims_of x.payload_value))

@@ -1,4 +1,4 @@
--- For private clauses: a result with the test that failed beside its error, and without it.
+-- For private clauses: a result with the test that failed next to its error, and without it.
 use Rattle.std.specs.Prelude.{◌≡◌, ◌⊎◌, Option, Some, None, Result, Ok, Err}
 use Rattle.jwt_base.specs.KindOf.{IsMemory}
 use Rattle.jwt_base.specs.declared.errors.Error.{Error}
@@ -15,7 +15,7 @@ abbrev pub IsWithoutTest : {R : Type 0} → Result R Refusal → Result R Error 
 IsWithoutTest (Ok y) r = r ≡ Ok y
 IsWithoutTest (Err f) r = r ≡ Err f.error
 
--- the result, with this test beside its error
+-- the result, with this test next to its error
 abbrev pub tested : {R : Type 0} → Test → Result R Error → Result R Refusal
 tested test (Ok y) = Ok y
 tested test (Err e) = Err (record { test = test; error = e })

@@ -143,7 +143,7 @@ looking_in set = record bare { keys = InSet set }
 abbrev pub allowing : Options → Key → (Algorithm → Key → Option Kind) → Call (Unit {0})
 allowing o key refusal = record bare { options = o; keys = Given key; refusal = refusal }
 
--- of the options and the moment
+-- of the options and the time
 abbrev pub holding : Options → ℕ → Call (Unit {0})
 holding o now = record bare { options = o; now = now }
 
@@ -151,11 +151,11 @@ holding o now = record bare { options = o; now = now }
 abbrev pub accepting : (List ℕ → List ℕ → Type 0) → Call (Unit {0})
 accepting accepts = record bare { accepts = λ _ _. accepts }
 
--- of claims, options and the moment
+-- of claims, options and the time
 abbrev pub claiming : {T : Type 0} → (Data → T → Type 0) → Options → ℕ → Call T
 claiming reads o now = record (reading reads) { options = o; now = now }
 
--- of claims, options, the moment and what one verifier accepts
+-- of claims, options, the time and what one verifier accepts
 abbrev pub verifying_by : {T : Type 0} → (Data → T → Type 0) → Options → ℕ
     → (List ℕ → List ℕ → Type 0) → Call T
 verifying_by reads o now accepts =

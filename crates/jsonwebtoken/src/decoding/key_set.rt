@@ -143,7 +143,7 @@ pub fn decode_with_set_or_refusal<P: CryptoProvider, T: Claims>(
 }
 
 /// Verifies a token in its compact form with the key of the set that its header names, at the
-/// moment `now`, in whole seconds since 1970-01-01 00:00:00 UTC, and returns its header and its
+/// time `now`, in whole seconds since 1970-01-01 00:00:00 UTC, and returns its header and its
 /// claims.
 ///
 /// The tests are those of [`decode`](crate::decode), in the same order, and three more of the key,
@@ -154,6 +154,13 @@ pub fn decode_with_set_or_refusal<P: CryptoProvider, T: Claims>(
 /// - that key has no `alg`, or the header's (RFC 7517 section 4.4), else `InvalidAlgorithm`;
 /// - [`DecodingKey::from_jwk`](jwt_keys::decoding_key::DecodingKey::from_jwk) makes a key of it,
 ///   else its kind.
+///
+/// ```rust
+/// let set = JwkSet::from_slice(alloc, set)?;
+/// // ..
+/// let provider = &StandardProvider;
+/// let data: TokenData<Value> = decode_with_set(alloc, provider, token, &set, &validation, now)?;
+/// ```
 pub fn decode_with_set<P: CryptoProvider, T: Claims>(
     alloc: Global,
     provider: &P,
@@ -166,7 +173,7 @@ pub fn decode_with_set<P: CryptoProvider, T: Claims>(
         provider.now token.now set.now.keys.items validation.now now in
         Decides (token_tests call) set_order (Carries call) result }
 
-    // The key is of the family of the header's algorithm. A token is accepted exactly at the moments
+    // The key is of the family of the header's algorithm. A token is accepted exactly at the times
     // from the first to the last, and under every looser validation too, with the same header and
     // claims. If the provider accepts at most one signature of each message, the header's and the
     // payload's bytes fix the token.

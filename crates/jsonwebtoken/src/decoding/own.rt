@@ -126,7 +126,7 @@ fn decode_by_own_noting<P: CryptoProvider, T: Claims>(
 
 /// Verifies a token like [`decode_with_set_or_refusal`](crate::decode_with_set_or_refusal), by the
 /// algorithm that the key of the set which its header names is for: the key's own `alg` is the only
-/// algorithm that is accepted, in place of those of `validation`, and stays listed there. If that key
+/// algorithm that is accepted, instead of those of `validation`, and stays listed there. If that key
 /// has no `alg`, or there is no such key, no algorithm is accepted.
 ///
 /// An algorithm of the key and never of the token is accepted (RFC 8725 section 3.1). The header is

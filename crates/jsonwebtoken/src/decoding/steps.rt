@@ -169,8 +169,8 @@ fn known_header(alloc: Global, algorithm: Algorithm) -> Result<Header>
 }
 
 /// Returns the header that a header part stands for, and notes the test that fails. Four parts are
-/// known by their texts, without being read. The test is noted beside the result, so that no header
-/// is moved into a result of another type.
+/// known by their texts, without being read. The test is noted next to the result, so that no
+/// header is moved into a result of another type.
 pub(crate) fn read_header_noting(alloc: Global, part: &[u8], failed: &mut Test) -> Result<Header>
     ensures { Step bare header_tests (with_header_part part.now) ShowsHeader
         (tested failed.new result) }
@@ -305,7 +305,7 @@ fn read_claims<T: Claims>(
 }
 
 /// Returns the claims of a token whose signature the verifier accepts, and whose claims hold at the
-/// moment.
+/// time.
 pub(crate) fn verify_and_read_claims<V: JwtVerifier, T: Claims>(
     alloc: Global,
     verifier: &V,

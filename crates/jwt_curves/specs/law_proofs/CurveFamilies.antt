@@ -17,7 +17,7 @@ eddsa_key (Plain family.Rsa b) h = cc
 eddsa_key (Plain family.Hmac b) h = cc
 eddsa_key (Components n e) h = cc
 
--- by EdDSA
+-- with EdDSA
 pub eddsa_made : (a : Algorithm) (k : Key) → eddsa.refusal a k ≡ None → key_family k ≡ family_of a
 eddsa_made algorithm.EdDSA k h = eddsa_key k h
 eddsa_made algorithm.HS256 k h = cc
@@ -39,7 +39,7 @@ ecdsa_key c (Plain family.Rsa b) h = cc
 ecdsa_key c (Plain family.Hmac b) h = cc
 ecdsa_key c (Components n e) h = cc
 
--- by ECDSA
+-- with ECDSA
 pub ecdsa_made : (a : Algorithm) (k : Key) → ecdsa.refusal (ecdsa.curve_for a) k ≡ None
     → key_family k ≡ family_of a
 ecdsa_made algorithm.ES256 k h = ecdsa_key P256 k h

@@ -1,4 +1,4 @@
-//! Results of calls that return keys to verify with.
+//! Results of calls that return verification keys.
 
 use crate::answer::{Answer, accepted, add_bytes, add_text, refused};
 use crate::fault::Fault;
@@ -37,7 +37,7 @@ pub fn key_answer(alloc: Global, key: &DecodingKey) -> Answer {
     accepted(alloc, Value::Object(members))
 }
 
-/// Returns the result of a call that returns a key to verify with.
+/// Returns the result of a call that returns a verification key.
 pub fn of_decoding_key(alloc: Global, answer: errors::Result<DecodingKey>) -> Answer {
     match answer {
         Ok(key) => key_answer(alloc, &key),

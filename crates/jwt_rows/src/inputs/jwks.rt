@@ -1,5 +1,5 @@
 //! JSON Web Keys, sets of them and their parameters, as a row describes them: the JSON value that reads as it, or, for a
-//! key of the kind `Other` that no JSON value reads as, an object whose member `other` has the key's own members, beside
+//! key of the kind `Other` that no JSON value reads as, an object whose member `other` has the key's own members, besides
 //! those that keys of every kind may have.
 
 use crate::answer::{Answer, pair};
@@ -14,7 +14,7 @@ use std::alloc::Global;
 
 const MALFORMED: Fault = Fault::Member("key");
 
-// The members that stand beside `other`.
+// The members that stand next to `other`.
 const DESCRIBED: [&str; 9] = [
     "other", "use", "key_ops", "alg", "kid", "x5u", "x5c", "x5t", "x5t#S256",
 ];

@@ -1,4 +1,4 @@
-//! Keys, as a row describes them: an object whose one member is named after the constructor, as `{"secret": ..}`.
+//! Keys, as a row describes them: an object whose one member is named after the constructor, such as `{"secret": ..}`.
 
 use crate::fault::Fault;
 use crate::inputs::bytes::bytes_of;
@@ -70,13 +70,13 @@ fn key_of(alloc: Global, value: &Value) -> Result<DecodingKey, Fault> {
     }
 }
 
-/// Returns the key to verify with at `key`.
+/// Returns the verification key at `key`.
 pub fn decoding_key(row: Row<'_>) -> Result<Box<DecodingKey>, Fault> {
     let key = key_of(row.alloc(), row.value("key")?)?;
     Ok(Box::new(row.alloc(), key)?)
 }
 
-/// Returns the key to sign with at `key`.
+/// Returns the signing key at `key`.
 pub fn encoding_key(row: Row<'_>) -> Result<Box<EncodingKey>, Fault> {
     let alloc = row.alloc();
     let (name, given) = constructor(row.value("key")?)?;

@@ -1,4 +1,4 @@
-//! Keys to verify with, as they are made.
+//! Verification keys, as they are made.
 
 use crate::inputs::{bytes_among, only_bytes, only_text, text_among};
 use crate::keys_of_jwks::key_of_jwk;

@@ -1,4 +1,4 @@
-//! Keys to sign with.
+//! Signing keys.
 
 use crate::inputs::{only_bytes, only_text};
 use jsonwebtoken::{EncodingKey, errors};
@@ -38,7 +38,7 @@ fn key_answer(alloc: Global, key: &EncodingKey) -> Answer {
     accepted(alloc, Value::Object(members))
 }
 
-/// Returns the result of a call that returns a key to sign with.
+/// Returns the result of a call that returns a signing key.
 pub fn of_key(alloc: Global, answer: errors::Result<EncodingKey>) -> Answer {
     match answer {
         Ok(key) => key_answer(alloc, &key),

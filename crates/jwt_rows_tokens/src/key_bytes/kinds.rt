@@ -1,4 +1,4 @@
-//! The content of keys to verify with.
+//! The content of verification keys.
 
 use jsonwebtoken::{AlgorithmFamily, DecodingKey, DecodingKeyKind, errors};
 use jwt_rows::answer::keys::{key_answer, kind_answer, of_decoding_key};

@@ -1,4 +1,4 @@
--- Two `Validation`s are equal exactly if their options are the same.
+-- Two `Validation`s are equal exactly when their options are the same.
 use Rattle.std.specs.Prelude.{◌≡◌, ◌&&◌, ◌==◌, ℕ, Bool, true, List, String, refl}
 use denote.Enum.Bare.{sameb}
 use Rattle.std.specs.declared.alloc.Global.{Global}
