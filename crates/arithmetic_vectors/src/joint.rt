@@ -11,8 +11,8 @@ pub fn base_point<F: BaseMultiples>() -> ProjectivePoint<F> {
     ProjectivePoint { x, y, z: F::one() }
 }
 
-/// Returns the sum of the base point's multiple by the first number and the point's by the second. There is none if the numbers have
-/// other lengths, or the point is at infinity.
+/// Returns the sum of the base point's multiple by the first number and the point's by the second.
+/// There is none if the numbers have other lengths, or the point is at infinity.
 pub fn joint<F: BaseMultiples>(
     first: &[u8],
     second: &[u8],

@@ -1,10 +1,11 @@
-//! Makes the calls of rows of test vectors about numbers (crate `modular`) and points (crates `weierstrass`,
-//! `weierstrass_group`, `ecdsa` and `ed25519`), and compares
-//! each result with the one that the row wants.
+//! Makes the calls of rows of test vectors about numbers (crate `modular`) and points (crates
+//! `weierstrass`, `weierstrass_group`, `ecdsa` and `ed25519`), and compares each result with the
+//! one that the row wants.
 //!
-//! The program reads the files `*.jsonl` of the folder that it runs in, which the programs of `tools/rows` write. A row is one line of
-//! JSON with the members `id`, `call`, those of the call's inputs, `want`, and `from`, the source of the result that is wanted. A row
-//! that differs is printed, and the last line counts.
+//! The program reads the files `*.jsonl` of the folder that it runs in, which the programs of
+//! `tools/rows` write. A row is one line of JSON with the members `id`, `call`, those of the call's
+//! inputs, `want`, and `from`, the source of the result that is wanted. A row that differs is
+//! printed, and the last line counts.
 #![tactic(auto)]
 
 mod calls;
@@ -58,7 +59,8 @@ fn try_rows<T: Runtime + AllocGlobal>(rt: &T, file: &str, count: &mut Count) -> 
     Ok(())
 }
 
-/// Tries the rows of every file `*.jsonl` in the folder, and prints how they went. Returns whether none differs.
+/// Tries the rows of every file `*.jsonl` in the folder, and prints how they went. Returns whether
+/// none differs.
 fn start<T: Runtime + AllocGlobal>(rt: &T) -> io::Result<bool> {
     let mut count = Count { rows: 0, differ: 0 };
     for entry in fs::read_dir(rt, ".")? {

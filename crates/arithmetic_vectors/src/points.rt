@@ -1,5 +1,6 @@
-//! The calls that rows about points of P-256 and P-384 name. A point is the hexadecimal string of its uncompressed form (SEC 1 section
-//! 2.3.3), and the empty string stands for the point at infinity.
+//! The calls that rows about points of P-256 and P-384 name. A point is the hexadecimal string of
+//! its uncompressed form (SEC 1 section 2.3.3), and the empty string stands for the point at
+//! infinity.
 
 ghost use Rattle.std.specs.Prelude.{◌≤◌};
 
@@ -17,7 +18,8 @@ use serde_json::Value;
 use std::alloc::Global;
 use weierstrass::points::{ProjectivePoint, add, double, point_at_infinity};
 
-// Returns the point that a value describes, on the curve with this b and with coordinates of `S` octets.
+// Returns the point that a value describes, on the curve with this b and with coordinates of `S`
+// octets.
 fn point_of<F: Residue, const S: usize>(
     alloc: Global,
     b: F,
@@ -73,7 +75,8 @@ fn scaled<F: Residue>(point: ProjectivePoint<F>, scale: F) -> ProjectivePoint<F>
     }
 }
 
-// Whether the first is the second, whose Z is 0 or 1: x = X / Z and y = Y / Z, and at infinity only Y is not 0.
+// Whether the first is the second, whose Z is 0 or 1: x = X / Z and y = Y / Z, and at infinity only
+// Y is not 0.
 fn is_point<F: Residue>(given: ProjectivePoint<F>, wanted: ProjectivePoint<F>) -> bool {
     let zero = F::zero();
     if wanted.z.is_same(zero) {
@@ -84,8 +87,8 @@ fn is_point<F: Residue>(given: ProjectivePoint<F>, wanted: ProjectivePoint<F>) -
         && given.y.is_same(wanted.y.times(given.z))
 }
 
-// Whether the sum of the points at two places of a list of multiples is the one at the wanted place, and for one place twice,
-// its double too.
+// Whether the sum of the points at two places of a list of multiples is the one at the wanted
+// place, and for one place twice, its double too.
 fn is_sum<F: Residue>(
     b: F,
     points: &[ProjectivePoint<F>],
@@ -103,7 +106,8 @@ fn is_sum<F: Residue>(
         && (place != other_place || is_point(double(b, one), wanted))
 }
 
-// Counts the right ones among the sums of the multiples by -k to k with each other. The list has the multiples by -2k to 2k.
+// Counts the right ones among the sums of the multiples by -k to k with each other. The list has
+// the multiples by -2k to 2k.
 fn count_sums<F: Residue>(b: F, points: &[ProjectivePoint<F>], scale: F) -> u64 {
     let quarter = points.len() / 4;
     let mut right = 0_u64;
@@ -152,8 +156,8 @@ fn multiple<F: BaseMultiples, const S: usize>(row: Row<'_>, b: F) -> Result<Valu
     }
 }
 
-// Whether the sum of the base point's multiple by the number at `scalar` and that of the point at `other` by the number at
-// `other_scalar` is the point at `multiple`.
+// Whether the sum of the base point's multiple by the number at `scalar` and that of the point at
+// `other` by the number at `other_scalar` is the point at `multiple`.
 fn joint_multiple<F: BaseMultiples, const S: usize>(row: Row<'_>, b: F) -> Result<Value, Fault>
     requires { S ≤ 66 }
 {
@@ -197,20 +201,22 @@ type Residues256 = Montgomery<FieldModulus256, 4>;
 
 type Residues384 = Montgomery<FieldModulus384, 6>;
 
-/// Counts the right ones among the sums of the multiples of a point by -k to k with each other. `multiples` lists those by -2k to
-/// 2k, and the coordinates of the first of both points are multiplied by `scale`.
+/// Counts the right ones among the sums of the multiples of a point by -k to k with each other.
+/// `multiples` lists those by -2k to 2k, and the coordinates of the first of both points are
+/// multiplied by `scale`.
 pub fn right_sums(row: Row<'_>) -> Result<Value, Fault> {
     sums_by_curve::<Residues256, Residues384>(row)
 }
 
-/// Returns whether the multiple of the curve's base point by the number at `scalar` is the point at `multiple`.
+/// Returns whether the multiple of the curve's base point by the number at `scalar` is the point at
+/// `multiple`.
 pub fn is_multiple(row: Row<'_>) -> Result<Value, Fault> {
     multiple_by_curve::<Residues256, Residues384>(row)
 }
 
-/// Returns whether the sum of the multiple of the curve's base point by the number at `scalar` and that of the point at `other` by the
-/// number at `other_scalar` is the point at `multiple`. A point of Ed25519 is the hexadecimal string of its encoding (RFC 8032 section
-/// 5.1.2).
+/// Returns whether the sum of the multiple of the curve's base point by the number at `scalar` and
+/// that of the point at `other` by the number at `other_scalar` is the point at `multiple`. A point
+/// of Ed25519 is the hexadecimal string of its encoding (RFC 8032 section 5.1.2).
 pub fn is_joint_multiple(row: Row<'_>) -> Result<Value, Fault> {
     joint_multiple_by_curve::<Residues256, Residues384>(row)
 }

@@ -87,7 +87,8 @@ impl<'a> Row<'a> {
         }
     }
 
-    /// Refuses a row without one of the members that every row has, or with one that is neither such a member nor of these.
+    /// Refuses a row without one of the members that every row has, or with one that is neither
+    /// such a member nor of these.
     pub fn takes(self, names: &[&str]) -> Result<(), Fault> {
         let _id = self.text("id")?;
         let _source = self.text("from")?;

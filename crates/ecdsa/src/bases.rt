@@ -1,4 +1,5 @@
-//! The base points' multiples below the 16th, which have z = 1. `tools/rows/base_tables` writes the tables.
+//! The base points' multiples below the 16th, which have z = 1. `tools/rows/base_tables` writes the
+//! tables.
 
 ghost use Rattle.std.specs.Prelude.{ℕ, ◌<◌};
 ghost use Rattle.ecdsa.specs.Curves.{b256, base256, b384, base384};
@@ -11,7 +12,8 @@ use residues::montgomery::{Montgomery, from_form};
 use residues::parts::{four_limbs, six_limbs};
 use residues::residue::Residue;
 
-/// Residues that are the coordinates of a curve's points, with the multiples of the curve's base point.
+/// Residues that are the coordinates of a curve's points, with the multiples of the curve's base
+/// point.
 pub trait BaseMultiples: Residue {
     // The b of the curve y^2 = x^3 - 3x + b.
     ghost b: { ℕ };
@@ -27,7 +29,8 @@ pub trait BaseMultiples: Residue {
             (spot_point (Self.number result.0) (Self.number result.1)) };
 }
 
-// The forms of x and y of each multiple of P-256's base point, each in two parts, of which the low one is the first.
+// The forms of x and y of each multiple of P-256's base point, each in two parts, of which the low
+// one is the first.
 static TABLE_256: [[u128; 4]; 15] = [
     [
         0x75ba95fc5fedb60179e730d418a9143c,
@@ -121,7 +124,8 @@ static TABLE_256: [[u128; 4]; 15] = [
     ],
 ];
 
-// The forms of x and y of each multiple of P-384's base point, each in three parts, of which the low one is the first.
+// The forms of x and y of each multiple of P-384's base point, each in three parts, of which the
+// low one is the first.
 static TABLE_384: [[u128; 6]; 15] = [
     [
         0x20e378e2a0d6ce383dd0756649c0b528,

@@ -4,8 +4,9 @@ ghost use Rattle.ecdsa.specs.Curves.{p256, n256, b256, base256, p384, n384, b384
 ghost use Rattle.primes.specs.Primes.{IsPrime};
 ghost use Rattle.weierstrass_group.specs.Group.{IsCurve, IsPoint, IsGroup, HasOrder};
 
-/// States that the points of P-256 are a group: does nothing, and its contract is the theorem. The sum of the definition is the one by
-/// chords and tangents, without an exception; the number modulo which points are taken and the order of the base point are primes.
+/// States that the points of P-256 are a group: does nothing, and its contract is the theorem. The
+/// sum of the definition is the one by chords and tangents, without an exception; the number modulo
+/// which points are taken and the order of the base point are primes.
 pub fn group_law_256()
     ensures prime { IsPrime p256 }
     ensures order_prime { IsPrime n256 }

@@ -1,4 +1,5 @@
-//! The sum of a multiple of a curve's base point and a multiple of another point, by windows of four bits over both numbers at once.
+//! The sum of a multiple of a curve's base point and a multiple of another point, by windows of
+//! four bits over both numbers at once.
 
 ghost use Rattle.std.specs.Prelude.{◌≡◌, ℕ, ◌+◌, ◌*◌, ◌<◌, length};
 ghost use Rattle.weierstrass.specs.Numbers.{numbers};
@@ -14,7 +15,8 @@ use weierstrass::points::ProjectivePoint;
 use weierstrass_group::entries::{Sixteen, add_entry, entry_at, entry_for, following, four_from};
 use weierstrass_group::jacobian::{add_affine, double, nothing, projective};
 
-// The entries from the point at infinity on, each the sum of the one before and the point of these coordinates, whose z is 1.
+// The entries from the point at infinity on, each the sum of the one before and the point of these
+// coordinates, whose z is 1.
 fn entries<F: Residue>(x: F, y: F) -> Sixteen<F>
     ensures kept { (k : ℕ) → k < 16 → IsEntry F F.modulus F.number (entry_of result k) }
     ensures sums { (k : ℕ) → k < 16 → numbers F.number (entry_of result k).point
@@ -80,13 +82,14 @@ fn step<F: BaseMultiples>(
     requires kept { (k : ℕ) → k < 16 → IsEntry F F.modulus F.number (entry_of others.now k) }
     ensures { (P : Point) (m n : ℕ) → AreMultiples F F.modulus F.b F.number P others.now
         → IsJointOf F.modulus F.b m F.base n P (numbers F.number start)
-        → IsJointOf F.modulus F.b (16 * m + first) F.base (16 * n + second) P (numbers F.number result) }
+        → IsJointOf F.modulus F.b (16 * m + first) F.base (16 * n + second) P
+        (numbers F.number result) }
 {
     add_of_base(add_of_other(sixteenfold(start), others, second), first)
 }
 
-/// Returns the sum of the base point's multiple by the first number and the multiple of a point, of Z = 1, by the second. The least
-/// significant byte of a number is its first.
+/// Returns the sum of the base point's multiple by the first number and the multiple of a point, of
+/// Z = 1, by the second. The least significant byte of a number is its first.
 pub fn joint_multiple<F: BaseMultiples>(
     first: &[u8],
     second: &[u8],

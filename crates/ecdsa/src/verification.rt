@@ -66,7 +66,8 @@ fn has_second<F: Residue, N: Residue, const S: usize>(point: ProjectivePoint<F>,
     requires below { N.modulus < F.modulus }
     requires near { F.modulus < N.modulus + N.modulus }
     requires small { F.number first < N.modulus }
-    ensures { IsTrue result ↔ HasSecond F.modulus N.modulus (numbers F.number point) (F.number first) }
+    ensures { IsTrue result ↔ HasSecond F.modulus N.modulus (numbers F.number point)
+        (F.number first) }
 {
     let Some(order) = order_in_field::<F, N, S>() else {
         return false;
@@ -102,7 +103,8 @@ fn has_x<F: Residue, N: Residue, const S: usize>(point: ProjectivePoint<F>, r: N
     has_second::<F, N, S>(point, first)
 }
 
-// The residue of these bytes, the most significant first, unless it is 0 or they stand for no residue.
+// The residue of these bytes, the most significant first, unless it is 0 or they stand for no
+// residue.
 fn read_positive<N: Residue, const S: usize>(bytes: &[u8]) -> Option<N>
     requires { length bytes.now ≡ S }
     ensures { MatchOption result (0 < big_endian bytes.now → big_endian bytes.now < N.modulus → ⊥)
@@ -117,7 +119,8 @@ fn read_positive<N: Residue, const S: usize>(bytes: &[u8]) -> Option<N>
     Some(number)
 }
 
-/// Returns whether the signature is one of the digest by this public key. `b` is the curve's. Coordinates, r and s are of `S` bytes.
+/// Returns whether the signature is one of the digest by this public key. `b` is the curve's.
+/// Coordinates, r and s are of `S` bytes.
 pub(crate) fn is_signature_by<F: BaseMultiples, N: Residue, const S: usize>(
     b: F,
     public: &[u8],

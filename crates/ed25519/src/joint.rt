@@ -1,4 +1,5 @@
-//! The sum of a multiple of the base point and a multiple of another point, by windows of four bits over both numbers at once.
+//! The sum of a multiple of the base point and a multiple of another point, by windows of four bits
+//! over both numbers at once.
 
 ghost use Rattle.std.specs.Prelude.{◌≡◌, ◌+◌, ◌*◌, ◌<◌, ℕ, length};
 ghost use Rattle.edwards.specs.Edwards.{Point};
@@ -100,8 +101,8 @@ fn step(
     add_of_base(add_of_other(sixteenfold(start), others, second), first)
 }
 
-/// Returns the sum of the base point's multiple by the first number and the point's multiple by the second. The least significant
-/// byte of a number is its first.
+/// Returns the sum of the base point's multiple by the first number and the point's multiple by the
+/// second. The least significant byte of a number is its first.
 pub fn joint_multiple(
     first: &[u8],
     second: &[u8],

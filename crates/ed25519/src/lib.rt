@@ -1,5 +1,5 @@
-//! Ed25519 signatures (RFC 8032 section 5.1), verified. Nothing here allocates, and nothing runs in constant time: keys,
-//! messages and signatures are public.
+//! Ed25519 signatures (RFC 8032 section 5.1), verified. Nothing here allocates, and nothing runs in
+//! constant time: keys, messages and signatures are public.
 #![tactic(auto)]
 
 mod base_table;

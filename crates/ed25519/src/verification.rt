@@ -99,16 +99,16 @@ fn is_public_key_over<F: Field>(public: &[u8]) -> bool
     true
 }
 
-/// Returns whether the bytes are a public key: 32 bytes that encode a point of the curve (RFC 8032 section 5.1.3). Points of
-/// small order are public keys too.
+/// Returns whether the bytes are a public key: 32 bytes that encode a point of the curve (RFC 8032
+/// section 5.1.3). Points of small order are public keys too.
 pub fn is_public_key(public: &[u8]) -> bool
     ensures { result ≡ is_public_key public.now }
 {
     is_public_key_over::<FieldElement>(public)
 }
 
-/// Returns whether the 64 bytes are a signature of the message by this public key (RFC 8032 section 5.1.7, without the
-/// cofactor). A key that is no public key has none.
+/// Returns whether the 64 bytes are a signature of the message by this public key (RFC 8032 section
+/// 5.1.7, without the cofactor). A key that is no public key has none.
 pub fn is_signature(public: &[u8], message: &[u8], signature: &[u8]) -> bool
     ensures { IsTrue result ↔ IsSignature public.now message.now signature.now }
 {

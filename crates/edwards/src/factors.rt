@@ -1,8 +1,10 @@
-//! Sums and doubles, whose last products are left out until they are asked for: a double needs three of the four.
+//! Sums and doubles, whose last products are left out until they are asked for: a double needs
+//! three of the four.
 
 ghost use Rattle.std.specs.Prelude.{◌≡◌};
 ghost use Rattle.edwards.specs.Edwards.{neutral, double_of};
-ghost use Rattle.edwards.specs.Factors.{addend_of, sum_with, factor_numbers, addend_numbers, affine_numbers};
+ghost use Rattle.edwards.specs.Factors.{addend_of, sum_with, factor_numbers, addend_numbers};
+ghost use Rattle.edwards.specs.Factors.{affine_numbers};
 ghost use Rattle.edwards.specs.Numbers.{numbers};
 
 use crate::points::ExtendedPoint;

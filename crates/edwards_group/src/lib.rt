@@ -1,4 +1,5 @@
-//! The points of a twisted Edwards curve are a group: a theorem, for every field in which -1 is a square and d is none.
+//! The points of a twisted Edwards curve are a group: a theorem, for every field in which -1 is a
+//! square and d is none.
 #![tactic(auto)]
 
 ghost use Rattle.std.specs.Prelude.{ℕ};

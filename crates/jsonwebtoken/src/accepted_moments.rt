@@ -21,7 +21,8 @@ use std::alloc::Global;
 
 /// Returns the times that the claims of a token allow, whatever else holds of it.
 fn claimed(alloc: Global, token: &[u8], validation: &Validation) -> Result<Moments, Refusal>
-    ensures { Step (header_call token.now) value_tests whole (AreClaimed (options_of validation.now))
+    ensures { Step (header_call token.now) value_tests whole (AreClaimed
+        (options_of validation.now))
         result }
 {
     let parts = token_parts(token)?;

@@ -2,7 +2,9 @@
 
 ghost use Rattle.std.specs.Prelude.{IfOk, string_bytes};
 ghost use Rattle.jsonwebtoken.specs.Issue.{Written, issue_tests};
-ghost use Rattle.jsonwebtoken.specs.IssueGiven.{signing_order, signing, IsSigningInput, encoding_by_signature, IsSignedElsewhere, DecidesGiven, ReadsBackAsGiven};
+ghost use Rattle.jsonwebtoken.specs.IssueGiven.{signing_order, signing, IsSigningInput};
+ghost use Rattle.jsonwebtoken.specs.IssueGiven.{encoding_by_signature, IsSignedElsewhere};
+ghost use Rattle.jsonwebtoken.specs.IssueGiven.{DecidesGiven, ReadsBackAsGiven};
 ghost use Rattle.jsonwebtoken.specs.Order.{Decides};
 ghost use Rattle.jsonwebtoken.specs.private_clauses.IssueSteps.{IssueStep};
 

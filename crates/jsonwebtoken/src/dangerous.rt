@@ -5,7 +5,8 @@ ghost use Rattle.std.specs.Prelude.{◌≡◌};
 ghost use Rattle.jsonwebtoken.specs.Calls.{Carries, HasClaims};
 ghost use Rattle.jsonwebtoken.specs.Order.{Decides};
 ghost use Rattle.jsonwebtoken.specs.private_clauses.Steps.{Step, whole};
-ghost use Rattle.jsonwebtoken.specs.Tests.{insecure_order, insecure_claims_order, insecure_call, token_tests};
+ghost use Rattle.jsonwebtoken.specs.Tests.{insecure_order, insecure_claims_order, insecure_call};
+ghost use Rattle.jsonwebtoken.specs.Tests.{token_tests};
 
 use crate::decoding::TokenData;
 use crate::decoding::steps::{read_header, read_payload, token_parts};

@@ -9,7 +9,8 @@ ghost use Rattle.jsonwebtoken.specs.Order.{Decides};
 ghost use Rattle.jsonwebtoken.specs.Refused.{DecidesByTest};
 ghost use Rattle.jsonwebtoken.specs.private_clauses.Refused.{tested};
 ghost use Rattle.jsonwebtoken.specs.private_clauses.Steps.{Step, whole};
-ghost use Rattle.jsonwebtoken.specs.Tests.{Compact, header_order, decode_order, header_call, token_tests};
+ghost use Rattle.jsonwebtoken.specs.Tests.{Compact, header_order, decode_order, header_call};
+ghost use Rattle.jsonwebtoken.specs.Tests.{token_tests};
 
 pub(crate) mod crit;
 pub(crate) mod key_set;

@@ -1,6 +1,7 @@
 //! Tokens in parts, as the members of the flattened JSON form (RFC 7515 section 7.2.2).
 
-ghost use Rattle.std.specs.Prelude.{◌≡◌, ◌↔◌, ◌++◌, ◌∷◌, ℕ, List, Some, None, IfOk, IfErr, string_bytes};
+ghost use Rattle.std.specs.Prelude.{◌≡◌, ◌↔◌, ◌++◌, ◌∷◌, ℕ, List, Some, None, IfOk, IfErr};
+ghost use Rattle.std.specs.Prelude.{string_bytes};
 ghost use Rattle.serde_json.specs.View.{view};
 ghost use Rattle.jwt_base.specs.Algorithm.{family_of};
 ghost use Rattle.jwt_base.specs.Kind as kind;
@@ -10,13 +11,18 @@ ghost use Rattle.jwt_keys.specs.Key.{key_family};
 ghost use Rattle.jwt_validation.specs.OptionsOf.{options_of};
 ghost use Rattle.jsonwebtoken.specs.Calls.{decoding_parts, Carries};
 ghost use Rattle.jsonwebtoken.specs.Order.{Passes, Decides};
-ghost use Rattle.jsonwebtoken.specs.Issue.{Written, AreIssued, ReadsBack, jws_encode_order, issue_tests};
+ghost use Rattle.jsonwebtoken.specs.Issue.{Written, AreIssued, ReadsBack, jws_encode_order};
+ghost use Rattle.jsonwebtoken.specs.Issue.{issue_tests};
 ghost use Rattle.jsonwebtoken.specs.IssueCalls.{encoding_parts};
 ghost use Rattle.jsonwebtoken.specs.private_clauses.IssueSteps.{IssueStep};
 ghost use Rattle.jsonwebtoken.specs.Jws.{parts_of, ReadsParts, parts_value};
 ghost use Rattle.jsonwebtoken.specs.Laws.{HasLaws, AgreeOn};
-ghost use Rattle.jsonwebtoken.specs.private_clauses.Steps.{Step, ShowsNothing, ShowsClaims, parts_in, allowing, with_header, with_opening, whole};
-ghost use Rattle.jsonwebtoken.specs.Tests.{Parts, Separate, message_of, text_of_parts, CritIsUnderstood, jws_algorithm_tests, verifying_tests, jws_order, token_tests};
+ghost use Rattle.jsonwebtoken.specs.private_clauses.Steps.{Step, ShowsNothing, ShowsClaims};
+ghost use Rattle.jsonwebtoken.specs.private_clauses.Steps.{parts_in, allowing, with_header};
+ghost use Rattle.jsonwebtoken.specs.private_clauses.Steps.{with_opening, whole};
+ghost use Rattle.jsonwebtoken.specs.Tests.{Parts, Separate, message_of, text_of_parts};
+ghost use Rattle.jsonwebtoken.specs.Tests.{CritIsUnderstood, jws_algorithm_tests, verifying_tests};
+ghost use Rattle.jsonwebtoken.specs.Tests.{jws_order, token_tests};
 
 use crate::decoding::TokenData;
 use crate::decoding::crit::check_crit;
@@ -182,7 +188,8 @@ fn verifier_for<P: CryptoProvider>(
     Ok(verifier)
 }
 
-/// Returns the claims of a token that passes, by the key, the tests that follow those of its header.
+/// Returns the claims of a token that passes, by the key, the tests that follow those of its
+/// header.
 fn read_claims_by_key<P: CryptoProvider, T: Claims>(
     alloc: Global,
     provider: &P,

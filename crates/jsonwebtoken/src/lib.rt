@@ -1,8 +1,8 @@
 //! JSON Web Tokens (RFC 7519) in their compact form (RFC 7515), with proved contracts.
 //!
 //! [`decode`] verifies a token with one key, [`decode_with_set`] with the key of a set that its
-//! header names, and [`encode`] issues one. [`Validation`] says which claims are accepted. Each call
-//! takes a provider of signatures: [`HmacProvider`](crypto::hmac::HmacProvider), the
+//! header names, and [`encode`] issues one. [`Validation`] says which claims are accepted. Each
+//! call takes a provider of signatures: [`HmacProvider`](crypto::hmac::HmacProvider), the
 //! `StandardProvider` of `jwt_standard`, or one of your own. [`prelude`] has the names for a start.
 //!
 //! ```rust
@@ -24,11 +24,8 @@ mod first_failed;
 pub mod jwk;
 pub mod jws;
 mod known_headers;
-<<<<<<< HEAD
 pub mod options;
-=======
 pub mod prelude;
->>>>>>> 34f7fec6e877d432d6266866d75f75ea8c18e3e1
 mod refusal;
 
 pub use accepted_moments::{first_and_last_moment, first_and_last_moment_with_set};

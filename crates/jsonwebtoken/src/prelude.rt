@@ -1,5 +1,6 @@
-//! The names that a first program needs, for `use jsonwebtoken::prelude::*;`. `Result` and the other
-//! names that `std` has too are left out: name them with their module, such as `errors::Result`.
+//! The names that a first program needs, for `use jsonwebtoken::prelude::*;`. `Result` and the
+//! other names that `std` has too are left out: name them with their module, such as
+//! `errors::Result`.
 
 pub use crate::crypto::CryptoProvider;
 pub use crate::crypto::hmac::HmacProvider;

@@ -5,7 +5,11 @@ ghost use Rattle.serde_json.specs.Data.{string};
 ghost use Rattle.serde_json.specs.View.{view};
 ghost use Rattle.jwt_base.specs.Kind as kind;
 ghost use Rattle.jwt_base.specs.KindOf.{kind_of, IsMemory};
-ghost use Rattle.jwt_base.specs.Algorithm.{name_of, family_of, algorithms_of, algorithm_named, family_name_of, family_named, algorithm_from, family_from, ReadsName, key_algorithm_of, ConvertsKeyAlgorithm, key_algorithm_named, key_algorithm_from, key_name_of, key_text_of};
+ghost use Rattle.jwt_base.specs.Algorithm.{name_of, family_of, algorithms_of, algorithm_named};
+ghost use Rattle.jwt_base.specs.Algorithm.{family_name_of, family_named, algorithm_from};
+ghost use Rattle.jwt_base.specs.Algorithm.{family_from, ReadsName, key_algorithm_of};
+ghost use Rattle.jwt_base.specs.Algorithm.{ConvertsKeyAlgorithm, key_algorithm_named};
+ghost use Rattle.jwt_base.specs.Algorithm.{key_algorithm_from, key_name_of, key_text_of};
 ghost use Rattle.jwt_base.specs.declared.algorithms.Algorithm.TheVariants.{HS256};
 
 use crate::errors::{Error, ErrorKind, Result, new_error};
@@ -224,8 +228,8 @@ impl FromStr for Algorithm {
     }
 }
 
-/// The algorithm that a JSON Web Key names (RFC 7517 section 4.4): one that signs, one that encrypts keys, or a name
-/// that is not known here.
+/// The algorithm that a JSON Web Key names (RFC 7517 section 4.4): one that signs, one that
+/// encrypts keys, or a name that is not known here.
 #[derive(Clone, Copy, Debug, PartialEq, Eq, Hash)]
 pub enum KeyAlgorithm {
     /// HMAC with SHA-256.

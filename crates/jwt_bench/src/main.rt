@@ -50,8 +50,8 @@ fn measure_prepared<T: Runtime + AllocGlobal>(
     print_mean(rt, start.elapsed(rt)?, count)
 }
 
-/// Verifies the token that the text describes this many times, after a tenth of that to warm up, and
-/// prints the nanoseconds for one.
+/// Verifies the token that the text describes this many times, after a tenth of that to warm up,
+/// and prints the nanoseconds for one.
 fn measure_verifying<T: Runtime + AllocGlobal>(
     rt: &T,
     text: &str,

@@ -40,8 +40,8 @@ impl Verifying {
         })
     }
 
-    /// Returns the values that the text describes: a JSON object of a token, `token`, its key, `jwk`, and the options,
-    /// `validation`.
+    /// Returns the values that the text describes: a JSON object of a token, `token`, its key,
+    /// `jwk`, and the options, `validation`.
     pub fn new(alloc: Global, text: &str) -> Result<Verifying> {
         let value = json_value(alloc, text.as_bytes())?;
         let token = value.get("token").and_then(Value::as_str);

@@ -34,8 +34,8 @@ fn hold(alloc: Global, made: Verifier, verifier: &mut Handle) -> u32
     put(alloc, Shared::new(alloc, made).ok(), verifier)
 }
 
-/// Leaves a verifier that was made, or its status, in a handle. One that holds a verifier already is
-/// unchanged.
+/// Leaves a verifier that was made, or its status, in a handle. One that holds a verifier already
+/// is unchanged.
 pub(crate) fn leave_made(alloc: Global, made: Result<Verifier, u32>, verifier: &mut Handle) -> u32
     ensures { IsHeldAs made verifier.old.held verifier.new.held result }
 {
@@ -49,8 +49,8 @@ pub(crate) fn leave_made(alloc: Global, made: Result<Verifier, u32>, verifier: &
     }
 }
 
-/// Leaves the claims of an accepted token and the last time at which it is accepted, or the reason for
-/// which it is refused.
+/// Leaves the claims of an accepted token and the last time at which it is accepted, or the reason
+/// for which it is refused.
 pub(crate) fn leave_until(
     answer: Result<Accepted, Denied>,
     room: &mut [u8],

@@ -7,16 +7,21 @@
 ghost use Rattle.std.specs.Prelude.{◌≡◌, ℕ, List, length, None, Some, MatchOption};
 ghost use Rattle.jwt_base.specs.Kind.{Kind, text_of};
 ghost use Rattle.jwt_c_calls.specs.BySignature.{AnswersSignature, AnswersEcdsa, LeavesInput};
-ghost use Rattle.jwt_c_calls.specs.Calls.{Answer, Leaves, LeavesSigned, AnswersHmac, AnswersKey, AnswersSet, AnswersSaid, AnswersHeader, AnswersNumbers, status_of};
-ghost use Rattle.jwt_c_calls.specs.FirstFailed.{AnswersFailedHmac, AnswersFailedKey, AnswersFailedSet};
+ghost use Rattle.jwt_c_calls.specs.Calls.{Answer, Leaves, LeavesSigned, AnswersHmac, AnswersKey};
+ghost use Rattle.jwt_c_calls.specs.Calls.{AnswersSet, AnswersSaid, AnswersHeader, AnswersNumbers};
+ghost use Rattle.jwt_c_calls.specs.Calls.{status_of};
+ghost use Rattle.jwt_c_calls.specs.FirstFailed.{AnswersFailedHmac, AnswersFailedKey};
+ghost use Rattle.jwt_c_calls.specs.FirstFailed.{AnswersFailedSet};
 ghost use Rattle.jwt_c_calls.specs.Issued.{AnswersEncode, AnswersThumbprint, hash_numbered};
 ghost use Rattle.jwt_c_calls.specs.KeyFiles.{AnswersPem};
 ghost use Rattle.jwt_c_calls.specs.Keys.{AnswersWithKey, AnswersWithOptions, AnswersWithSet};
 ghost use Rattle.jwt_c_calls.specs.Members.{LeavesMember};
-ghost use Rattle.jwt_c_calls.specs.Moments.{LeavesMoments, AnswersMomentsHmac, AnswersMomentsKey, AnswersMomentsSet};
+ghost use Rattle.jwt_c_calls.specs.Moments.{LeavesMoments, AnswersMomentsHmac, AnswersMomentsKey};
+ghost use Rattle.jwt_c_calls.specs.Moments.{AnswersMomentsSet};
 ghost use Rattle.jwt_c_calls.specs.Options.{AnswersFault};
 ghost use Rattle.jwt_c_calls.specs.Secrets.{ChecksSecret, ChecksKey, ChecksSet};
-ghost use Rattle.jwt_c_calls.specs.Status.{kind_part, number, no_status, status_text, version, algorithm_numbered, IsGiven, IsKept};
+ghost use Rattle.jwt_c_calls.specs.Status.{kind_part, number, no_status, status_text, version};
+ghost use Rattle.jwt_c_calls.specs.Status.{algorithm_numbered, IsGiven, IsKept};
 ghost use Rattle.jwt_c_verifier.specs.TestNumbers.{LeavesTestName};
 ghost use Rattle.jwt_c_verifier.specs.Verifiers.{limits_of, AreOfKey, AreOfSecret, AreOfSet};
 ghost use Rattle.jwt_c.specs.Held.{LeavesMade, LeavesShared, LeavesUntil, Takes};
@@ -73,16 +78,16 @@ pub extern "C" fn jwt_decode_hmac(
 /// claims as JSON.
 ///
 /// The key is the JSON text of one JSON Web Key (RFC 7517 section 4) of any kind: a secret, RSA, an
-/// elliptic curve, Ed25519. Its own `alg`, `use`, `key_ops` and `kid` are not compared with the token:
-/// the options' `algorithms` alone fix the algorithm.
+/// elliptic curve, Ed25519. Its own `alg`, `use`, `key_ops` and `kid` are not compared with the
+/// token: the options' `algorithms` alone fix the algorithm.
 ///
 /// The tests are made in this order, and a refusal has the status of the first that fails:
 ///
 /// - the options' text describes options, else 101;
 /// - the key's text describes a key, else 106;
-/// - [`DecodingKey::from_jwk`](jsonwebtoken::DecodingKey::from_jwk) makes a key of it, else its kind:
-///   `Base64` for a member that is not base64url text, `UnsupportedAlgorithm` for any other kind of
-///   key;
+/// - [`DecodingKey::from_jwk`](jsonwebtoken::DecodingKey::from_jwk) makes a key of it, else its
+///   kind: `Base64` for a member that is not base64url text, `UnsupportedAlgorithm` for any other
+///   kind of key;
 /// - the tests of [`decode`](jsonwebtoken::decode) by `StandardProvider`, in their order.
 #[unsafe(no_mangle)]
 pub extern "C" fn jwt_decode_key(
@@ -123,10 +128,10 @@ pub extern "C" fn jwt_decode_set(
 }
 
 /// Writes the name of the first test of a token that fails, such as `SignatureIsAccepted`, and
-/// nothing if none fails: then `jwt_decode_hmac` accepts the token with the same arguments. The tests
-/// and their order are those of [`decode`](jsonwebtoken::decode), with HMAC and a secret, at the
-/// time `now`, in whole seconds since 1970-01-01 00:00:00 UTC. The options are read first, and any
-/// other text is refused with 101. The only other refusal is `OutOfMemory`.
+/// nothing if none fails: then `jwt_decode_hmac` accepts the token with the same arguments. The
+/// tests and their order are those of [`decode`](jsonwebtoken::decode), with HMAC and a secret, at
+/// the time `now`, in whole seconds since 1970-01-01 00:00:00 UTC. The options are read first, and
+/// any other text is refused with 101. The only other refusal is `OutOfMemory`.
 ///
 /// Whoever issued a refused token need not be told which test failed: the answer is for those who
 /// run the verifier.
@@ -419,10 +424,11 @@ pub extern "C" fn jwt_thumbprint(
     leave(answer, room, len)
 }
 
-/// Writes the JSON Web Key of the public key that the first block of a PEM text holds, without `alg`
-/// and other common members. The refusals are those of
+/// Writes the JSON Web Key of the public key that the first block of a PEM text holds, without
+/// `alg` and other common members. The refusals are those of
 /// [`public_key_from_pem`](jwt_key_files::pem::public_key_from_pem): `Provider` for a private key,
-/// `UnsupportedAlgorithm` for a key of another algorithm, and `InvalidKeyFormat` for any other text.
+/// `UnsupportedAlgorithm` for a key of another algorithm, and `InvalidKeyFormat` for any other
+/// text.
 #[unsafe(no_mangle)]
 pub extern "C" fn jwt_key_from_pem(
     alloc: Global,
@@ -436,9 +442,9 @@ pub extern "C" fn jwt_key_from_pem(
     leave(answer, room, len)
 }
 
-/// Writes what keeps a text from being options, such as `"algorithms" is not a list of names of algorithms`:
-/// that it is not the JSON of an object, or which member is at fault, and why. Nothing is written if the
-/// text is the JSON of options. The only refusal is `OutOfMemory`.
+/// Writes what keeps a text from being options, such as `"algorithms" is not a list of names of
+/// algorithms`: that it is not the JSON of an object, or which member is at fault, and why. Nothing
+/// is written if the text is the JSON of options. The only refusal is `OutOfMemory`.
 #[unsafe(no_mangle)]
 pub extern "C" fn jwt_options_fault(
     alloc: Global,
@@ -446,7 +452,8 @@ pub extern "C" fn jwt_options_fault(
     room: &mut [u8],
     len: &mut usize,
 ) -> u32
-    ensures { (a : Answer) × AnswersFault options.now a × Leaves a result len.new room.old room.new }
+    ensures { (a : Answer) × AnswersFault options.now a × Leaves a result len.new room.old
+        room.new }
 {
     let answer = options_answer(alloc, options);
     leave(answer, room, len)
@@ -464,10 +471,10 @@ pub extern "C" fn jwt_check_numbers(alloc: Global, claims: &[u8]) -> u32
     }
 }
 
-/// Checks that not everybody can sign with a secret: returns 107 if every byte of it is 0, as in the
-/// empty one. HMAC fills a secret that is shorter than a block up with zeros (RFC 2104 section 2).
-/// Returns 113 if it is the text of a key of another kind, or base64 of one, and else 0: a public key is
-/// known (RFC 8725 section 3.1). The only other refusal is `OutOfMemory`.
+/// Checks that not everybody can sign with a secret: returns 107 if every byte of it is 0, as in
+/// the empty one. HMAC fills a secret that is shorter than a block up with zeros (RFC 2104 section
+/// 2). Returns 113 if it is the text of a key of another kind, or base64 of one, and else 0: a
+/// public key is known (RFC 8725 section 3.1). The only other refusal is `OutOfMemory`.
 #[unsafe(no_mangle)]
 pub extern "C" fn jwt_check_secret(alloc: Global, secret: &[u8]) -> u32
     ensures { ChecksSecret secret.now result }
@@ -475,9 +482,10 @@ pub extern "C" fn jwt_check_secret(alloc: Global, secret: &[u8]) -> u32
     secret_status(alloc, secret)
 }
 
-/// Checks that not everybody can sign for a key, which is a JSON text (RFC 7517 section 4): returns 107
-/// or 113 if the key that it stands for is a secret of which `jwt_check_secret` does, and else 0, also if
-/// it stands for no key. For any other text it returns 106. The only other refusal is `OutOfMemory`.
+/// Checks that not everybody can sign for a key, which is a JSON text (RFC 7517 section 4): returns
+/// 107 or 113 if the key that it stands for is a secret of which `jwt_check_secret` does, and else
+/// 0, also if it stands for no key. For any other text it returns 106. The only other refusal is
+/// `OutOfMemory`.
 #[unsafe(no_mangle)]
 pub extern "C" fn jwt_check_key(alloc: Global, key: &[u8]) -> u32
     ensures { ChecksKey key.now result }
@@ -485,9 +493,9 @@ pub extern "C" fn jwt_check_key(alloc: Global, key: &[u8]) -> u32
     key_status(alloc, key)
 }
 
-/// Checks that not everybody can sign for a key of a set, which is a JSON text (RFC 7517 section 5):
-/// returns 107 if `jwt_check_key` does for one of its keys, or else 113 if that does, and else 0. For any
-/// other text it returns 103. The only other refusal is `OutOfMemory`.
+/// Checks that not everybody can sign for a key of a set, which is a JSON text (RFC 7517 section
+/// 5): returns 107 if `jwt_check_key` does for one of its keys, or else 113 if that does, and else
+/// 0. For any other text it returns 103. The only other refusal is `OutOfMemory`.
 #[unsafe(no_mangle)]
 pub extern "C" fn jwt_check_set(alloc: Global, set: &[u8]) -> u32
     ensures { ChecksSet set.now result }
@@ -495,9 +503,9 @@ pub extern "C" fn jwt_check_set(alloc: Global, set: &[u8]) -> u32
     set_status(alloc, set)
 }
 
-/// Makes the verifier with the options and the key set that two texts describe (RFC 7517 section 5),
-/// for tokens of up to `max_len` bytes, or of up to 1 MiB if that is 0. With another status than 0 the
-/// handle holds none:
+/// Makes the verifier with the options and the key set that two texts describe (RFC 7517 section
+/// 5), for tokens of up to `max_len` bytes, or of up to 1 MiB if that is 0. With another status
+/// than 0 the handle holds none:
 ///
 /// - 101 or 103 if a text is refused, as by `jwt_decode_set`;
 /// - 107 if anyone can sign with a key of the set (RFC 2104 section 2), unless `allows_blank`;
@@ -521,9 +529,9 @@ pub extern "C" fn jwt_verifier_set(
     leave_made(alloc, made, verifier)
 }
 
-/// Makes the verifier with the options and the key that two texts describe, like `jwt_verifier_set`.
-/// The text of the key is one JSON Web Key (RFC 7517 section 4); one that is refused is refused as by
-/// `jwt_decode_key`.
+/// Makes the verifier with the options and the key that two texts describe, like
+/// `jwt_verifier_set`. The text of the key is one JSON Web Key (RFC 7517 section 4); one that is
+/// refused is refused as by `jwt_decode_key`.
 #[unsafe(no_mangle)]
 pub extern "C" fn jwt_verifier_key(
     alloc: Global,
@@ -560,8 +568,8 @@ pub extern "C" fn jwt_verifier_secret(
     leave_made(alloc, made, verifier)
 }
 
-/// Leaves one more handle of a verifier, for another thread: 0; 22 if memory ran out; 108 if the first
-/// handle holds none; 109 if the other holds one already, which is unchanged.
+/// Leaves one more handle of a verifier, for another thread: 0; 22 if memory ran out; 108 if the
+/// first handle holds none; 109 if the other holds one already, which is unchanged.
 #[unsafe(no_mangle)]
 pub extern "C" fn jwt_verifier_share(
     alloc: Global,
@@ -587,10 +595,9 @@ pub extern "C" fn jwt_verifier_share(
 
 /// Verifies a token at the time `now`, and writes its claims as JSON: what `jwt_decode_set` or
 /// `jwt_decode_key` writes with the texts that the verifier was made of. It sets `last` to the last
-/// time at which it accepts the token, or to 0 if it refuses it, and `test` to the number of the first
-/// test that failed, or to 0 if none did. The status is 108 for a handle that
-/// holds no verifier, and 111 for a token that is longer than the verifier allows, of which nothing is
-/// read.
+/// time at which it accepts the token, or to 0 if it refuses it, and `test` to the number of the
+/// first test that failed, or to 0 if none did. The status is 108 for a handle that holds no
+/// verifier, and 111 for a token that is longer than the verifier allows, of which nothing is read.
 #[unsafe(no_mangle)]
 pub extern "C" fn jwt_verifier_decode(
     alloc: Global,
@@ -631,8 +638,8 @@ pub extern "C" fn jwt_verifier_decode(
     }
 }
 
-/// Frees the verifier that a handle holds, if it holds one: with the last handle of it, its keys. Then
-/// the handle holds none.
+/// Frees the verifier that a handle holds, if it holds one: with the last handle of it, its keys.
+/// Then the handle holds none.
 #[unsafe(no_mangle)]
 pub extern "C" fn jwt_verifier_free(alloc: Global, verifier: &mut Handle)
     ensures { verifier.new.held ≡ None }
@@ -640,11 +647,11 @@ pub extern "C" fn jwt_verifier_free(alloc: Global, verifier: &mut Handle)
     *verifier = Handle::none(alloc);
 }
 
-/// Writes the member of this name of a JSON object: the bytes of a string, without quotes and escapes,
-/// and JSON of any other value. `type_number` is set to 1 for null, 2 for a boolean, 3 for a number, 4
-/// for a string, 5 for an array and 6 for an object, and to 0 if there is no such member. A text that
-/// is not the JSON of an object is refused with 105, and the status is 112 if it has no member of this
-/// name. Of several members of one name the last counts.
+/// Writes the member of this name of a JSON object: the bytes of a string, without quotes and
+/// escapes, and JSON of any other value. `type_number` is set to 1 for null, 2 for a boolean, 3 for
+/// a number, 4 for a string, 5 for an array and 6 for an object, and to 0 if there is no such
+/// member. A text that is not the JSON of an object is refused with 105, and the status is 112 if
+/// it has no member of this name. Of several members of one name the last counts.
 #[unsafe(no_mangle)]
 pub extern "C" fn jwt_member(
     alloc: Global,

@@ -1,8 +1,4 @@
-<<<<<<< HEAD
--- What keeps a text from being options, as it is reported to C.
-=======
 -- The fault of a text that is not options, as it is reported to C.
->>>>>>> 34f7fec6e877d432d6266866d75f75ea8c18e3e1
 use Rattle.std.specs.Prelude.{◌≡◌, ◌⊎◌, ◌++◌, ℕ, List, [], codes}
 use Rattle.serde_json.specs.Data.{Data, string}
 use Rattle.serde_json.specs.Written.{compact_text}

@@ -9,7 +9,10 @@ ghost use Rattle.jwt_header.specs.Header.{header_value};
 ghost use Rattle.jwt_validation.specs.OptionsOf.{options_of};
 ghost use Rattle.jsonwebtoken.specs.Order.{Passes, FailsFirst};
 ghost use Rattle.jsonwebtoken.specs.Tests.{Contents, header_order, header_call, token_tests};
-ghost use Rattle.jwt_c_calls.specs.Calls.{Gives, AnswersHmac, AnswersKey, AnswersSet, AnswersVerdict, AnswersSaid, AnswersHeader, AnswersNumbers, PassesByJwk, FailsByJwk, HandsOut, IsHeaderText, answer_of};
+ghost use Rattle.jwt_c_calls.specs.Calls.{Gives, AnswersHmac, AnswersKey, AnswersSet};
+ghost use Rattle.jwt_c_calls.specs.Calls.{AnswersVerdict, AnswersSaid, AnswersHeader};
+ghost use Rattle.jwt_c_calls.specs.Calls.{AnswersNumbers, PassesByJwk, FailsByJwk, HandsOut};
+ghost use Rattle.jwt_c_calls.specs.Calls.{IsHeaderText, answer_of};
 ghost use Rattle.jwt_c_calls.specs.Status.{algorithm_numbered};
 
 use crate::inputs::{Input, Refusal, read_as, read_claims};
@@ -61,8 +64,8 @@ pub fn hmac_answer(
     hand_out(alloc, answer)
 }
 
-// Returns the claims of a token that is verified with the key that a JSON Web Key stands for, by the
-// algorithm that the header names, or the kind of the refusal.
+// Returns the claims of a token that is verified with the key that a JSON Web Key stands for, by
+// the algorithm that the header names, or the kind of the refusal.
 fn by_jwk(
     alloc: Global,
     token: &[u8],
@@ -80,8 +83,8 @@ fn by_jwk(
     decode(alloc, &StandardProvider, token, &key, validation, now)
 }
 
-/// Returns the claims of a token that is verified with a key, which is the JSON text of one JSON Web
-/// Key (RFC 7517 section 4), by the algorithm of all twelve that the token's header names.
+/// Returns the claims of a token that is verified with a key, which is the JSON text of one JSON
+/// Web Key (RFC 7517 section 4), by the algorithm of all twelve that the token's header names.
 pub fn key_answer(
     alloc: Global,
     token: &[u8],

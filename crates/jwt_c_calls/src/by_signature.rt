@@ -2,7 +2,9 @@
 
 ghost use Rattle.std.specs.Prelude.{◌≡◌, IfOk, IfErr, string_bytes};
 ghost use Rattle.serde_json.specs.View.{view};
-ghost use Rattle.jwt_c_calls.specs.BySignature.{AnswersInput, AnswersInputOf, NamesAlgorithm, AnswersGiven, AnswersGivenFor, AnswersSignature, AnswersEcdsa};
+ghost use Rattle.jwt_c_calls.specs.BySignature.{AnswersInput, AnswersInputOf, NamesAlgorithm};
+ghost use Rattle.jwt_c_calls.specs.BySignature.{AnswersGiven, AnswersGivenFor, AnswersSignature};
+ghost use Rattle.jwt_c_calls.specs.BySignature.{AnswersEcdsa};
 ghost use Rattle.jwt_c_calls.specs.Calls.{Gives, answer_of};
 ghost use Rattle.jwt_c_calls.specs.Status.{algorithm_numbered};
 

@@ -2,7 +2,8 @@
 
 ghost use Rattle.std.specs.Prelude.{◌≡◌, IfOk, IfErr};
 ghost use Rattle.jwt_c_calls.specs.Calls.{Gives, answer_of, refusal_status};
-ghost use Rattle.jwt_c_calls.specs.FirstFailed.{AnswersFailedHmac, AnswersFailedKey, AnswersFailedSet, failed_name};
+ghost use Rattle.jwt_c_calls.specs.FirstFailed.{AnswersFailedHmac, AnswersFailedKey};
+ghost use Rattle.jwt_c_calls.specs.FirstFailed.{AnswersFailedSet, failed_name};
 ghost use Rattle.jwt_c_calls.specs.Status.{IsGiven, IsKept};
 
 use crate::inputs::Refusal;

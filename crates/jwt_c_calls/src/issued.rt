@@ -3,7 +3,8 @@
 ghost use Rattle.std.specs.Prelude.{◌≡◌, IfOk, IfErr};
 ghost use Rattle.serde_json.specs.View.{view};
 ghost use Rattle.jwt_c_calls.specs.Calls.{Gives, answer_of};
-ghost use Rattle.jwt_c_calls.specs.Issued.{AnswersEncode, AnswersIssue, AnswersThumbprint, AnswersHashed, hash_numbered};
+ghost use Rattle.jwt_c_calls.specs.Issued.{AnswersEncode, AnswersIssue, AnswersThumbprint};
+ghost use Rattle.jwt_c_calls.specs.Issued.{AnswersHashed, hash_numbered};
 
 use crate::inputs::{Input, Refusal, read_as, read_claims};
 use jsonwebtoken::crypto::hmac::HmacProvider;

@@ -6,7 +6,8 @@ ghost use Rattle.serde_json.specs.Read.{max_depth};
 ghost use Rattle.serde_json.specs.View.{view};
 ghost use Rattle.jwt_base.specs.Kind as kind;
 ghost use Rattle.jwt_c_calls.specs.Calls.{Refuses, answer_of};
-ghost use Rattle.jwt_c_calls.specs.Members.{type_number, IsValueText, IsFound, IsAbsent, AnswersNothing};
+ghost use Rattle.jwt_c_calls.specs.Members.{type_number, IsValueText, IsFound, IsAbsent};
+ghost use Rattle.jwt_c_calls.specs.Members.{AnswersNothing};
 
 use crate::inputs::{Input, Refusal, read_as, read_claims};
 use serde_json::Value;
@@ -48,8 +49,8 @@ fn text_of(alloc: Global, value: &Value) -> Result<Vec<u8>, Refusal>
     }
 }
 
-/// Returns the member of this name of the object that a JSON text describes, or `None` if the object
-/// has none. A text of anything else is refused.
+/// Returns the member of this name of the object that a JSON text describes, or `None` if the
+/// object has none. A text of anything else is refused.
 pub fn member_answer(alloc: Global, json: &[u8], name: &[u8]) -> Result<Option<Found>, Refusal>
     ensures ok { IfOk result (λ o. MatchOption o (IsAbsent json.now name.now)
         (IsFound json.now name.now)) }

@@ -2,7 +2,8 @@
 
 ghost use Rattle.std.specs.Prelude.{◌≡◌, [], None, IfOk, IfErr};
 ghost use Rattle.jwt_c_calls.specs.Calls.{Gives, answer_of};
-ghost use Rattle.jwt_c_calls.specs.Moments.{AnswersMomentsHmac, AnswersMomentsKey, AnswersMomentsSet, AreLeft};
+ghost use Rattle.jwt_c_calls.specs.Moments.{AnswersMomentsHmac, AnswersMomentsKey};
+ghost use Rattle.jwt_c_calls.specs.Moments.{AnswersMomentsSet, AreLeft};
 
 use crate::inputs::Refusal;
 use crate::keys::{options_and_key, options_and_secret, options_and_set};

@@ -68,8 +68,8 @@ fn value_fault(alloc: Global, value: &Value) -> Result<Vec<u8>, Refusal>
     }
 }
 
-/// Returns what keeps a text from being options: which member, and why; or nothing, if it is the JSON
-/// text of options.
+/// Returns what keeps a text from being options: which member, and why; or nothing, if it is the
+/// JSON text of options.
 pub fn options_answer(alloc: Global, text: &[u8]) -> Result<Vec<u8>, Refusal>
     ensures ok { IfOk result (λ b. AnswersFault text.now (Gives b.items)) }
     ensures err { IfErr result (λ r. AnswersFault text.now (answer_of r)) }

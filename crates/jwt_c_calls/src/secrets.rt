@@ -8,7 +8,8 @@ ghost use Rattle.jwt_keys.specs.JwkSet.{ReadsSet};
 ghost use Rattle.jwt_keys.specs.declared.jwk.Jwk.{Jwk};
 ghost use Rattle.jwt_secrets.specs.Blank.{IsBlank};
 ghost use Rattle.jwt_c_calls.specs.Calls.{AnswersBy, MisreadsOne, answer_of, refusal_status};
-ghost use Rattle.jwt_c_calls.specs.Secrets.{ChecksSecret, ChecksKey, ChecksSet, SaysOfSecret, SaysOfJwk, SaysOfSet};
+ghost use Rattle.jwt_c_calls.specs.Secrets.{ChecksSecret, ChecksKey, ChecksSet, SaysOfSecret};
+ghost use Rattle.jwt_c_calls.specs.Secrets.{SaysOfJwk, SaysOfSet};
 ghost use Rattle.jwt_c_calls.specs.declared.inputs.Input.TheVariants as input;
 
 use crate::inputs::{Input, Refusal, read_as};
@@ -60,7 +61,8 @@ fn keys_answer(alloc: Global, set: &JwkSet) -> Result<u32, Error>
     Ok(0)
 }
 
-/// Returns the status that tells whether anyone can sign with a secret, or it is the text of a key of another kind.
+/// Returns the status that tells whether anyone can sign with a secret, or it is the text of a key
+/// of another kind.
 pub fn secret_status(alloc: Global, secret: &[u8]) -> u32
     ensures { ChecksSecret secret.now result }
 {
@@ -100,8 +102,8 @@ fn set_answer(alloc: Global, set: &[u8]) -> Result<u32, Refusal>
     Ok(keys_answer(alloc, &set)?)
 }
 
-/// Returns the status that tells whether anyone can sign for a key, or its secret is the text of a key of another kind. The key is
-/// a JSON text.
+/// Returns the status that tells whether anyone can sign for a key, or its secret is the text of a
+/// key of another kind. The key is a JSON text.
 pub fn key_status(alloc: Global, key: &[u8]) -> u32
     ensures { ChecksKey key.now result }
 {
@@ -109,8 +111,8 @@ pub fn key_status(alloc: Global, key: &[u8]) -> u32
     answer_status(answer)
 }
 
-/// Returns the status that tells whether anyone can sign for a key of a set, or the secret of one is the text of a key of another
-/// kind. The set is a JSON text.
+/// Returns the status that tells whether anyone can sign for a key of a set, or the secret of one
+/// is the text of a key of another kind. The set is a JSON text.
 pub fn set_status(alloc: Global, set: &[u8]) -> u32
     ensures { ChecksSet set.now result }
 {

@@ -3,7 +3,9 @@
 ghost use Rattle.std.specs.Prelude.{◌≡◌, ◌≤◌, Some, IfOk, IfErr, map, option_map, slice_get};
 ghost use Rattle.jwt_base.specs.KindOf.{kind_held};
 ghost use Rattle.jwt_c_calls.specs.Calls.{refusal_status};
-ghost use Rattle.jwt_c_calls.specs.Status.{number, input_status, claim_place, first_texts, refusal_text, status_text, algorithm_numbered, IsGiven, IsKept};
+ghost use Rattle.jwt_c_calls.specs.Status.{number, input_status, claim_place, first_texts};
+ghost use Rattle.jwt_c_calls.specs.Status.{refusal_text, status_text, algorithm_numbered, IsGiven};
+ghost use Rattle.jwt_c_calls.specs.Status.{IsKept};
 
 use crate::inputs::{Input, Refusal};
 use jsonwebtoken::Algorithm;

@@ -14,7 +14,8 @@ ghost use Rattle.jwt_c_calls.specs.Calls.{Gives, IsTextOf};
 ghost use Rattle.jwt_c_calls.specs.Status.{number};
 ghost use Rattle.jwt_c_calls.specs.Keys.{AnswersWithKey, AnswersWithOptions, AnswersWithSet};
 ghost use Rattle.jwt_c_verifier.specs.TestNumbers.{test_number as number_of_test};
-ghost use Rattle.jwt_c_verifier.specs.Verifiers.{limits_of, unfit_status, AnswersUntil, AreOfKey, AreOfSecret, AreOfSet, IsMade, IsRefusedWith};
+ghost use Rattle.jwt_c_verifier.specs.Verifiers.{limits_of, unfit_status, AnswersUntil, AreOfKey};
+ghost use Rattle.jwt_c_verifier.specs.Verifiers.{AreOfSecret, AreOfSet, IsMade, IsRefusedWith};
 
 use crate::test_numbers::test_number;
 use jsonwebtoken::errors::{Error, ErrorKind};

@@ -1,12 +1,16 @@
 //! The provider of HMAC (RFC 2104) with SHA-2 (RFC 7518 section 3.2).
 
-ghost use Rattle.std.specs.Prelude.{◌≡◌, ◌≢◌, ◌↔◌, ⊤, ℕ, ◌≤◌, List, ◌++◌, Option, Ok, Some, None, IfOk, IfErr, OnOk, IsOk, IsTrue, length, take};
+ghost use Rattle.std.specs.Prelude.{◌≡◌, ◌≢◌, ◌↔◌, ⊤, ℕ, ◌≤◌, List, ◌++◌, Option, Ok, Some, None};
+ghost use Rattle.std.specs.Prelude.{IfOk, IfErr, OnOk, IsOk, IsTrue, length, take};
 ghost use Rattle.jwt_base.specs.Kind as kind;
 ghost use Rattle.jwt_base.specs.KindOf.{kind_of, IsMemory, Refuses};
 ghost use Rattle.jwt_keys.specs.Key.{Key, Plain, SecretKey, key_family};
 ghost use Rattle.jwt_keys.specs.Provider.{HasOneSignature};
-ghost use Rattle.jwt_crypto.specs.Hmac.{hash_bytes, block_len, short_key, filled, masked, nested, hmac, mac_by, HaveOneKey};
-ghost use Rattle.jwt_crypto.specs.HmacKeys.{hash_for, hash_named, algorithm_for, refusal, hmac_signer_refusal, hmac_verifier_refusal, hmac_answers, HmacSigns, HmacAccepts, AcceptsItsOwn};
+ghost use Rattle.jwt_crypto.specs.Hmac.{hash_bytes, block_len, short_key, filled, masked, nested};
+ghost use Rattle.jwt_crypto.specs.Hmac.{hmac, mac_by, HaveOneKey};
+ghost use Rattle.jwt_crypto.specs.HmacKeys.{hash_for, hash_named, algorithm_for, refusal};
+ghost use Rattle.jwt_crypto.specs.HmacKeys.{hmac_signer_refusal, hmac_verifier_refusal};
+ghost use Rattle.jwt_crypto.specs.HmacKeys.{hmac_answers, HmacSigns, HmacAccepts, AcceptsItsOwn};
 ghost use Rattle.jwt_crypto.specs.HmacBlocks.{AreBlocksOf, AreBlocksOfKey};
 ghost use Rattle.jwt_crypto.specs.law_proofs.HmacFamilies.{family_made};
 
@@ -307,8 +311,8 @@ impl JwtVerifier for HmacVerifier {
     }
 }
 
-/// The provider of HMAC: HS256, HS384 and HS512 (RFC 7518 section 3.2). Its digests are those of SHA-2, and it reads no
-/// keys in DER.
+/// The provider of HMAC: HS256, HS384 and HS512 (RFC 7518 section 3.2). Its digests are those of
+/// SHA-2, and it reads no keys in DER.
 #[derive(Debug, Clone, Copy)]
 pub struct HmacProvider;
 

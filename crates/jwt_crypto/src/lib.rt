@@ -2,8 +2,8 @@
 //!
 //! [`HmacProvider`] signs and verifies with HMAC (RFC 2104) over SHA-2: HS256, HS384 and HS512 (RFC
 //! 7518 section 3.2). [`PreparedHmac`] does so with secrets that are prepared once.
-//! [`VerdictProvider`] has a caller's verdict on a signature that other cryptography has checked, and
-//! [`SignatureProvider`] a signature that other cryptography has made.
+//! [`VerdictProvider`] has a caller's verdict on a signature that other cryptography has checked,
+//! and [`SignatureProvider`] a signature that other cryptography has made.
 //!
 //! ```rust
 //! let provider = PreparedHmac::new(alloc, Algorithm::HS256, b"secret")?; // once

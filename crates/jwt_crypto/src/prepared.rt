@@ -1,15 +1,21 @@
 //! The provider of HMAC with secrets that are prepared once.
 
-ghost use Rattle.std.specs.Prelude.{◌≡◌, ◌≢◌, ◌↔◌, ⊤, ℕ, List, [], ◌∷◌, ◌++◌, map, length, Option, Ok, Some, None, IfOk, IfErr, IfSome, IsSome, OnOk, IsOk, IsTrue};
+ghost use Rattle.std.specs.Prelude.{◌≡◌, ◌≢◌, ◌↔◌, ⊤, ℕ, List, [], ◌∷◌, ◌++◌, map, length, Option};
+ghost use Rattle.std.specs.Prelude.{Ok, Some, None, IfOk, IfErr, IfSome, IsSome, OnOk, IsOk};
+ghost use Rattle.std.specs.Prelude.{IsTrue};
 ghost use Rattle.jwt_base.specs.Kind as kind;
 ghost use Rattle.jwt_base.specs.KindOf.{kind_of, Refuses};
 ghost use Rattle.jwt_base.specs.KindOf.{IsMemory};
 ghost use Rattle.jwt_base.specs.declared.algorithms.AlgorithmFamily.TheVariants as family;
 ghost use Rattle.jwt_keys.specs.Key.{Key, SecretKey, key_family};
 ghost use Rattle.jwt_crypto.specs.Hmac.{hmac};
-ghost use Rattle.jwt_crypto.specs.HmacKeys.{hash_for, algorithm_for, refusal, hmac_signer_refusal, hmac_verifier_refusal, hmac_answers, HmacSigns, HmacAccepts};
+ghost use Rattle.jwt_crypto.specs.HmacKeys.{hash_for, algorithm_for, refusal, hmac_signer_refusal};
+ghost use Rattle.jwt_crypto.specs.HmacKeys.{hmac_verifier_refusal, hmac_answers, HmacSigns};
+ghost use Rattle.jwt_crypto.specs.HmacKeys.{HmacAccepts};
 ghost use Rattle.jwt_crypto.specs.law_proofs.HmacFamilies.{family_made};
-ghost use Rattle.jwt_crypto.specs.HmacPrepared.{prepared_key, prepared_keys, cleared_key, IsPrepared, IsPreparedKey, algorithm_of, IsCodeBy, IsKept, IsKeptSigner, IsKeptVerifier};
+ghost use Rattle.jwt_crypto.specs.HmacPrepared.{prepared_key, prepared_keys, cleared_key};
+ghost use Rattle.jwt_crypto.specs.HmacPrepared.{IsPrepared, IsPreparedKey, algorithm_of, IsCodeBy};
+ghost use Rattle.jwt_crypto.specs.HmacPrepared.{IsKept, IsKeptSigner, IsKeptVerifier};
 
 use crate::hmac::{Blocks, Hash, HmacProvider, hash_for_key, hash_of_algorithm, unsupported};
 use crate::prepared_hashers::{PreparedHashers, PreparedKey};
@@ -133,8 +139,9 @@ impl PreparedHmac {
         Ok(provider)
     }
 
-    /// Prepares this secret for this algorithm, after those before it: for services whose secrets change. An algorithm
-    /// of another family is refused with `UnsupportedAlgorithm`. A refusal leaves the provider unchanged.
+    /// Prepares this secret for this algorithm, after those before it: for services whose secrets
+    /// change. An algorithm of another family is refused with `UnsupportedAlgorithm`. A refusal
+    /// leaves the provider unchanged.
     pub fn add(&mut self, alloc: Global, algorithm: Algorithm, secret: &[u8]) -> Result<()>
         ensures prepared { OnOk result (prepared_keys self.new
             ≡ prepared_keys self.old ++ (algorithm, secret.now) ∷ []) }

@@ -1,11 +1,15 @@
 //! A provider of one signature, which was made elsewhere: of one message, by one algorithm.
 
-ghost use Rattle.std.specs.Prelude.{◌≡◌, ◌≢◌, ⊤, ℕ, List, [], Err, None, Some, IsTrue, IfOk, IfErr, OnOk, ◌↔◌};
+ghost use Rattle.std.specs.Prelude.{◌≡◌, ◌≢◌, ⊤, ℕ, List, [], Err, None, Some, IsTrue, IfOk, IfErr};
+ghost use Rattle.std.specs.Prelude.{OnOk, ◌↔◌};
 ghost use Rattle.jwt_base.specs.Algorithm.{family_of};
 ghost use Rattle.jwt_base.specs.Kind as kind;
 ghost use Rattle.jwt_base.specs.KindOf.{kind_of, IsMemory, Refuses};
 ghost use Rattle.jwt_keys.specs.Provider.{reads_no_key};
-ghost use Rattle.jwt_crypto.specs.GivenSignature.{GivenSignature, IsGiven, HasLength, AreAsMany, another_message, are_as_many, length_text, signature_length, signer_refusal_by, sign_refusal_by};
+ghost use Rattle.jwt_crypto.specs.GivenSignature.{GivenSignature, IsGiven, HasLength, AreAsMany};
+ghost use Rattle.jwt_crypto.specs.GivenSignature.{another_message, are_as_many, length_text};
+ghost use Rattle.jwt_crypto.specs.GivenSignature.{signature_length, signer_refusal_by};
+ghost use Rattle.jwt_crypto.specs.GivenSignature.{sign_refusal_by};
 ghost use Rattle.jwt_crypto.specs.law_proofs.SignatureMade.{never_made};
 
 use crate::hmac::unsupported;

@@ -1,10 +1,12 @@
 //! The provider of ECDSA.
 
-ghost use Rattle.std.specs.Prelude.{◌≡◌, ◌↔◌, ⊤, ℕ, List, None, Some, IsTrue, IfOk, IfErr, MatchOption, false, true};
+ghost use Rattle.std.specs.Prelude.{◌≡◌, ◌↔◌, ⊤, ℕ, List, None, Some, IsTrue, IfOk, IfErr};
+ghost use Rattle.std.specs.Prelude.{MatchOption, false, true};
 ghost use Rattle.jwt_base.specs.Kind as kind;
 ghost use Rattle.jwt_base.specs.KindOf.{kind_of};
 ghost use Rattle.jwt_crypto.specs.HmacKeys.{hmac_answers};
-ghost use Rattle.jwt_curves.specs.EcdsaKeys.{curve_for, algorithm_for, curve_of, bytes_of, is_key_on, IsSignatureOn, refusal, EcdsaAccepts};
+ghost use Rattle.jwt_curves.specs.EcdsaKeys.{curve_for, algorithm_for, curve_of, bytes_of};
+ghost use Rattle.jwt_curves.specs.EcdsaKeys.{is_key_on, IsSignatureOn, refusal, EcdsaAccepts};
 ghost use Rattle.jwt_curves.specs.law_proofs.CurveFamilies.{ecdsa_made};
 
 use crate::curve::{Curve, curve_of_algorithm};
@@ -120,9 +122,9 @@ impl CryptoProvider for EcdsaProvider {
 
     /// Returns a verifier by this algorithm and key. An algorithm other than ES256 and ES384 is
     /// refused with `UnsupportedAlgorithm`, and then with `InvalidKeyFormat` a key that is not in
-    /// the family of ECDSA or whose bytes are no public key on the algorithm's curve: the byte 4 and
-    /// two coordinates of 32 bytes each on P-256, of 48 on P-384 (RFC 7518 section 6.2.1). Allocates
-    /// no memory.
+    /// the family of ECDSA or whose bytes are no public key on the algorithm's curve: the byte 4
+    /// and two coordinates of 32 bytes each on P-256, of 48 on P-384 (RFC 7518 section 6.2.1).
+    /// Allocates no memory.
     fn verifier_factory(
         &self,
         _alloc: Global,

@@ -3,7 +3,8 @@
 ghost use Rattle.std.specs.Prelude.{◌≡◌, ℕ, List, None, Some, ⊤};
 ghost use Rattle.jwt_base.specs.Kind as kind;
 ghost use Rattle.jwt_crypto.specs.HmacKeys.{hmac_answers, HmacSigns, HmacAccepts};
-ghost use Rattle.jwt_example.specs.LongSecrets.{least_length, secret_length, signer_refusal_of, verifier_refusal_of, family_made};
+ghost use Rattle.jwt_example.specs.LongSecrets.{least_length, secret_length, signer_refusal_of};
+ghost use Rattle.jwt_example.specs.LongSecrets.{verifier_refusal_of, family_made};
 
 use jsonwebtoken::crypto::CryptoProvider;
 use jsonwebtoken::crypto::hmac::{HmacProvider, HmacSigner, HmacVerifier};

@@ -41,15 +41,15 @@ impl Service {
         &self.validation
     }
 
-    /// Signs with this secret from now on. The tokens of the keys before it are still read. Keys must
-    /// have different ids, since of two keys of one id the first alone counts.
+    /// Signs with this secret from now on. The tokens of the keys before it are still read. Keys
+    /// must have different ids, since of two keys of one id the first alone counts.
     pub fn rotate(&mut self, alloc: Global, id: &str, secret: &[u8]) -> Result<()> {
         self.signing = add_key(alloc, &mut self.keys, id, secret)?;
         Ok(())
     }
 
-    /// Removes the key of this id, whose tokens are then refused with `NoKey`. A key is retired once
-    /// it signs no more and the sessions that it signed have ended.
+    /// Removes the key of this id, whose tokens are then refused with `NoKey`. A key is retired
+    /// once it signs no more and the sessions that it signed have ended.
     pub fn retire(&mut self, id: &str) {
         self.keys.keys.retain(|jwk| !has_id(jwk, id));
     }

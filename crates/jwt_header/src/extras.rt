@@ -1,6 +1,7 @@
 //! The members of a header that the standards do not name.
 
-ghost use Rattle.std.specs.Prelude.{is_some, ◌≡◌, ◌↔◌, IsTrue, Some, None, true, option_map, map, IfOk, IfErr, OnOk, OnErr};
+ghost use Rattle.std.specs.Prelude.{is_some, ◌≡◌, ◌↔◌, IsTrue, Some, None, true, option_map, map};
+ghost use Rattle.std.specs.Prelude.{IfOk, IfErr, OnOk, OnErr};
 ghost use Rattle.serde_json.specs.Data.{Data, Members, no_members, object};
 ghost use Rattle.serde_json.specs.Find.{get_member};
 ghost use Rattle.serde_json.specs.View.{view, members_view};
@@ -20,8 +21,9 @@ use std::collections::BTreeMap;
 use std::hash::{Hash, Hasher};
 use std::marker::Model;
 
-/// The members of a header that the standards do not name. None of the fifteen names of a header is among them, and no
-/// float stands in them. A contract sees the members in the order of their names.
+/// The members of a header that the standards do not name. None of the fifteen names of a header is
+/// among them, and no float stands in them. A contract sees the members in the order of their
+/// names.
 #[derive(Debug, Drop)]
 pub struct Extras {
     members: Map<String, Value>,

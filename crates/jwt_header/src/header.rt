@@ -1,6 +1,7 @@
 //! The header of a token.
 
-ghost use Rattle.std.specs.Prelude.{◌≡◌, ◌↔◌, IsTrue, Some, None, List, ℕ, false, Option, IfOk, IfErr, OnOk, option_map, option_and_then, map, codes};
+ghost use Rattle.std.specs.Prelude.{◌≡◌, ◌↔◌, IsTrue, Some, None, List, ℕ, false, Option, IfOk};
+ghost use Rattle.std.specs.Prelude.{IfErr, OnOk, option_map, option_and_then, map, codes};
 ghost use Rattle.serde_json.specs.Find.{get};
 ghost use Rattle.serde_json.specs.View.{view, members_view};
 ghost use Rattle.serde_json.specs.Written.{has_float};
@@ -57,7 +58,8 @@ pub struct Header {
     pub url: Option<Text>,
     /// The value against replay, `nonce` (RFC 8555 section 6.5).
     pub nonce: Option<Text>,
-    /// The key's certificate and those that certify it, each in standard base64, `x5c` (section 4.1.6).
+    /// The key's certificate and those that certify it, each in standard base64, `x5c` (section
+    /// 4.1.6).
     pub x5c: Option<Texts>,
     /// The names that must be understood, `crit` (section 4.1.11).
     pub crit: Option<Texts>,
@@ -71,7 +73,8 @@ pub struct Header {
 
 impl Header {
     ghost use Rattle.jwt_header.specs.Certificates.{AreCertificates};
-    ghost use Rattle.jwt_header.specs.Header.{ReadsHeader, new_header, with_named, header_members, header_value};
+    ghost use Rattle.jwt_header.specs.Header.{ReadsHeader, new_header, with_named, header_members};
+    ghost use Rattle.jwt_header.specs.Header.{header_value};
     ghost use Rattle.jwt_base.specs.Written.{HasText};
     ghost use Rattle.jwt_header.specs.HeaderWritten.{normal_header, IsNormal, HasNormalForm};
     ghost use Rattle.jwt_header.specs.declared.header.Header.{Header};
@@ -141,7 +144,8 @@ impl Header {
         Ok(Value::Object(members))
     }
 
-    /// Returns the compact JSON text of the header, as [`to_value`](Header::to_value) writes it and with its refusals.
+    /// Returns the compact JSON text of the header, as [`to_value`](Header::to_value) writes it and
+    /// with its refusals.
     pub fn to_text(&self, alloc: Global) -> Result<Vec<u8>>
         ensures ok { IfOk result (λ text. HasText ReadsHeader header_value normal_header self.now
             text.items) }

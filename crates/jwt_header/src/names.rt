@@ -33,7 +33,8 @@ pub enum Enc {
 }
 
 impl Enc {
-    ghost use Rattle.jwt_header.specs.Enc.{enc_text, enc_named, enc_from, enc_value, normal_enc, is_other_enc};
+    ghost use Rattle.jwt_header.specs.Enc.{enc_text, enc_named, enc_from, enc_value, normal_enc};
+    ghost use Rattle.jwt_header.specs.Enc.{is_other_enc};
 
     /// Returns the name as a JSON string. The only refusal is `OutOfMemory`.
     pub fn to_value(&self, alloc: Global) -> Result<Value>
@@ -152,7 +153,8 @@ pub enum Zip {
 }
 
 impl Zip {
-    ghost use Rattle.jwt_header.specs.Zip.{zip_text, zip_named, zip_from, zip_value, normal_zip, is_other_zip};
+    ghost use Rattle.jwt_header.specs.Zip.{zip_text, zip_named, zip_from, zip_value, normal_zip};
+    ghost use Rattle.jwt_header.specs.Zip.{is_other_zip};
 
     /// Returns the name as a JSON string. The only refusal is `OutOfMemory`.
     pub fn to_value(&self, alloc: Global) -> Result<Value>

@@ -1,9 +1,11 @@
 //! Blocks of text that hold bytes (RFC 7468).
 
-ghost use Rattle.std.specs.Prelude.{◌≡◌, ◌≢◌, ℕ, ◌≤◌, List, [], ◌∷◌, ◌++◌, IfOk, IfErr, MatchOption, IsTrue, length, take, drop, codes, ◌↔◌};
+ghost use Rattle.std.specs.Prelude.{◌≡◌, ◌≢◌, ℕ, ◌≤◌, List, [], ◌∷◌, ◌++◌, IfOk, IfErr};
+ghost use Rattle.std.specs.Prelude.{MatchOption, IsTrue, length, take, drop, codes, ◌↔◌};
 ghost use Rattle.jwt_base.specs.KindOf.{IsMemory};
 ghost use Rattle.jwt_base.specs.Base64Url.{IsStandardText};
-ghost use Rattle.jwt_key_files.specs.Pem.{IsLineEnd, IsLineBreak, in_lines, StartsLine, EndsLine, IsBlock, IsClosed, Begins, IsFirst};
+ghost use Rattle.jwt_key_files.specs.Pem.{IsLineEnd, IsLineBreak, in_lines, StartsLine, EndsLine};
+ghost use Rattle.jwt_key_files.specs.Pem.{IsBlock, IsClosed, Begins, IsFirst};
 ghost use Rattle.jwt_key_files.specs.private_clauses.Characters.{characters_of};
 
 use crate::element::next;
@@ -104,7 +106,8 @@ fn characters(alloc: Global, text: &[u8]) -> Result<Vec<u8>>
     Ok(characters)
 }
 
-// Returns the first line of the characters, which has 64 of them or all, and the characters after it.
+// Returns the first line of the characters, which has 64 of them or all, and the characters after
+// it.
 fn first_line(characters: &[u8]) -> (&[u8], &[u8])
     ensures line { result.0.now ≡ take 64 characters.now }
     ensures rest { result.1.now ≡ drop 64 characters.now }
@@ -146,7 +149,8 @@ fn decoded(alloc: Global, characters: &[u8]) -> Result<Option<Vec<u8>>>
     }
 }
 
-// Returns the line end and the text after the first line, if this is the rest of the line that begins a block with the label.
+// Returns the line end and the text after the first line, if this is the rest of the line that
+// begins a block with the label.
 fn opened<'a>(label: &[u8], block: &'a [u8]) -> Option<(&'a [u8], &'a [u8])>
     ensures { MatchOption result
         ((eol : List ℕ) (s : List ℕ) → IsLineEnd eol

@@ -1,10 +1,14 @@
 //! Public keys, read from X.509 certificates.
 
-ghost use Rattle.std.specs.Prelude.{◌≡◌, ◌≢◌, ◌⊎◌, ℕ, List, [], ◌∷◌, ◌++◌, IfOk, IfErr, MatchOption};
+ghost use Rattle.std.specs.Prelude.{◌≡◌, ◌≢◌, ◌⊎◌, ℕ, List, [], ◌∷◌, ◌++◌, IfOk, IfErr};
+ghost use Rattle.std.specs.Prelude.{MatchOption};
 ghost use Rattle.jwt_base.specs.KindOf.{kind_of, IsMemory};
 ghost use Rattle.jwt_keys.specs.Key.{Key};
 ghost use Rattle.jwt_key_files.specs.Der.{element};
-ghost use Rattle.jwt_key_files.specs.Certificates.{IsAfter, serial_to_subject, IsToBeSigned, IsCertificate, IsCertificateOf, IsCertificateRefused, HoldsCertificate, IsCertificatePemOf, IsCertificatePemRefused};
+ghost use Rattle.jwt_key_files.specs.Certificates.{IsAfter, serial_to_subject, IsToBeSigned};
+ghost use Rattle.jwt_key_files.specs.Certificates.{IsCertificate, IsCertificateOf};
+ghost use Rattle.jwt_key_files.specs.Certificates.{IsCertificateRefused, HoldsCertificate};
+ghost use Rattle.jwt_key_files.specs.Certificates.{IsCertificatePemOf, IsCertificatePemRefused};
 
 use crate::block::{block_bytes, first_block};
 use crate::element::{read, read_all};
@@ -96,12 +100,14 @@ fn read_certificate(der: &[u8]) -> Option<&[u8]>
     Some(info)
 }
 
-/// Returns the public key of an X.509 certificate in DER (RFC 5280 section 4.1). NOTHING IS VERIFIED: not the signature, not
-/// the issuer, not the dates, not what the key may be used for. Anyone can write such a certificate; the key is only as good as
-/// the way by which the certificate came. The key is that which `public_key_from_der` reads of the SubjectPublicKeyInfo.
+/// Returns the public key of an X.509 certificate in DER (RFC 5280 section 4.1). NOTHING IS
+/// VERIFIED: not the signature, not the issuer, not the dates, not what the key may be used for.
+/// Anyone can write such a certificate; the key is only as good as the way by which the certificate
+/// came. The key is that which `public_key_from_der` reads of the SubjectPublicKeyInfo.
 ///
-/// Of the certificate's other elements only the tags are looked at, and of its extensions nothing. A key of another algorithm is
-/// refused with `UnsupportedAlgorithm`, and bytes that are no certificate, or whose key is malformed, with `InvalidKeyFormat`.
+/// Of the certificate's other elements only the tags are looked at, and of its extensions nothing.
+/// A key of another algorithm is refused with `UnsupportedAlgorithm`, and bytes that are no
+/// certificate, or whose key is malformed, with `InvalidKeyFormat`.
 pub fn unverified_key_from_certificate(alloc: Global, der: &[u8]) -> Result<DecodingKey>
     ensures ok { IfOk result (IsCertificateOf der.now) }
     ensures only { IfOk result (λ key. (k : Key) → IsCertificateOf der.now k → k ≡ key) }
@@ -129,11 +135,12 @@ fn certificate_bytes(alloc: Global, pem: &[u8]) -> Result<Option<Vec<u8>>>
     Ok(Some(der))
 }
 
-/// Returns the public key of the X.509 certificate that the first block of a PEM text holds, under the label `CERTIFICATE` (RFC
-/// 7468 section 5). As by `unverified_key_from_certificate`, NOTHING IS VERIFIED. The text is as `public_key_from_pem` reads
-/// it.
+/// Returns the public key of the X.509 certificate that the first block of a PEM text holds, under
+/// the label `CERTIFICATE` (RFC 7468 section 5). As by `unverified_key_from_certificate`, NOTHING
+/// IS VERIFIED. The text is as `public_key_from_pem` reads it.
 ///
-/// A key of another algorithm is refused with `UnsupportedAlgorithm`, and any other text with `InvalidKeyFormat`.
+/// A key of another algorithm is refused with `UnsupportedAlgorithm`, and any other text with
+/// `InvalidKeyFormat`.
 pub fn unverified_key_from_certificate_pem(alloc: Global, pem: &[u8]) -> Result<DecodingKey>
     ensures ok { IfOk result (IsCertificatePemOf pem.now) }
     ensures only { IfOk result (λ key. (k : Key) → IsCertificatePemOf pem.now k → k ≡ key) }

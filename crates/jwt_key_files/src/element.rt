@@ -1,6 +1,7 @@
 //! Elements of DER: a tag, the octets of a length, and the content.
 
-ghost use Rattle.std.specs.Prelude.{◌≡◌, ◌≢◌, ℕ, ◌<◌, ◌≤◌, List, [], ◌∷◌, ◌++◌, MatchOption, IsTrue, ◌↔◌, length};
+ghost use Rattle.std.specs.Prelude.{◌≡◌, ◌≢◌, ℕ, ◌<◌, ◌≤◌, List, [], ◌∷◌, ◌++◌, MatchOption};
+ghost use Rattle.std.specs.Prelude.{IsTrue, ◌↔◌, length};
 ghost use Rattle.jwt_key_files.specs.Der.{number_octets, length_octets, element};
 ghost use Rattle.jwt_key_files.specs.private_clauses.Numbers.{number_from};
 
@@ -58,7 +59,8 @@ fn read_number(count: usize, bytes: &[u8]) -> Option<(usize, &[u8])>
     Some((n, rest))
 }
 
-// Returns the length whose octets the bytes begin with, and the bytes after them, if there are as many of those.
+// Returns the length whose octets the bytes begin with, and the bytes after them, if there are as
+// many of those.
 fn read_length(bytes: &[u8]) -> Option<(usize, &[u8])>
     ensures { MatchOption result ((n : ℕ) (rest : List ℕ) → n ≤ length rest
         → bytes.now ≢ length_octets n ++ rest)
@@ -79,7 +81,8 @@ fn read_length(bytes: &[u8]) -> Option<(usize, &[u8])>
     Some((n, rest))
 }
 
-/// Returns the content of the element with this tag that the bytes begin with, and the bytes after it.
+/// Returns the content of the element with this tag that the bytes begin with, and the bytes after
+/// it.
 pub fn read(tag: u8, bytes: &[u8]) -> Option<(&[u8], &[u8])>
     ensures { MatchOption result ((content : List ℕ) (rest : List ℕ)
         → bytes.now ≢ element tag content ++ rest)

@@ -25,9 +25,10 @@ fn jwk_of(alloc: Global, key: &DecodingKey) -> Result<Jwk>
     Ok(jwk)
 }
 
-/// Returns the JSON Web Key of the public key that the first block of a PEM text holds, without `alg` and other common members.
-/// `from_jwk` returns the key that `public_key_from_pem` returns, and `to_text` does not refuse this one with `Json`. The refusals
-/// are those of `public_key_from_pem`.
+/// Returns the JSON Web Key of the public key that the first block of a PEM text holds, without
+/// `alg` and other common members. `from_jwk` returns the key that `public_key_from_pem` returns,
+/// and `to_text` does not refuse this one with `Json`. The refusals are those of
+/// `public_key_from_pem`.
 pub fn jwk_from_pem(alloc: Global, pem: &[u8]) -> Result<Jwk>
     ensures ok { IfOk result (IsJwkOfPem pem.now) }
     ensures way_back { IfOk result (λ jwk. (key : Key) → IsPemOf pem.now key

@@ -4,7 +4,8 @@ ghost use Rattle.std.specs.Prelude.{◌≡◌, ◌⊎◌, ◌↔◌, ℕ, List, 
 ghost use Rattle.jwt_base.specs.KindOf.{kind_of, IsMemory};
 ghost use Rattle.jwt_keys.specs.Key.{Key};
 ghost use Rattle.jwt_key_files.specs.PublicKeys.{IsInfoOf};
-ghost use Rattle.jwt_key_files.specs.PemKeys.{IsBlockOf, IsPemOf, IsLabelled, NamesPrivate, IsBlockRefused, IsPemRefused, IsInfoRefused};
+ghost use Rattle.jwt_key_files.specs.PemKeys.{IsBlockOf, IsPemOf, IsLabelled, NamesPrivate};
+ghost use Rattle.jwt_key_files.specs.PemKeys.{IsBlockRefused, IsPemRefused, IsInfoRefused};
 
 use crate::block::{after, block_bytes, first_block};
 use crate::public_key::{malformed, private_key, public_key_from_der, rsa_key};
@@ -68,16 +69,18 @@ fn key_of_block(alloc: Global, block: &[u8]) -> Result<DecodingKey>
     Err(malformed())
 }
 
-/// Returns the public key that the first block of a PEM text holds (RFC 7468 section 3, in its strict form): text before it, a
-/// line `-----BEGIN PUBLIC KEY-----`, the base64 text of a SubjectPublicKeyInfo in lines of 64 characters of which the last may
-/// have fewer, a line `-----END PUBLIC KEY-----`, and any text. The label `RSA PUBLIC KEY` stands for an RSAPublicKey. Each
-/// line of the block ends by CR LF, each by LF, or each by CR; the last may end with the text. The key is that of
-/// `public_key_from_der`.
+/// Returns the public key that the first block of a PEM text holds (RFC 7468 section 3, in its
+/// strict form): text before it, a line `-----BEGIN PUBLIC KEY-----`, the base64 text of a
+/// SubjectPublicKeyInfo in lines of 64 characters of which the last may have fewer, a line
+/// `-----END PUBLIC KEY-----`, and any text. The label `RSA PUBLIC KEY` stands for an RSAPublicKey.
+/// Each line of the block ends by CR LF, each by LF, or each by CR; the last may end with the text.
+/// The key is that of `public_key_from_der`.
 ///
-/// A private key, by its label, is refused with `Provider` and a string that says so, and is not decoded. A
-/// SubjectPublicKeyInfo of another algorithm is refused with `UnsupportedAlgorithm`, and any other text with
-/// `InvalidKeyFormat`: another label, labels that differ, a line of another length, a space at the end of a line, headers,
-/// base64 with a spare bit set, bytes that are not DER.
+/// A private key, by its label, is refused with `Provider` and a string that says so, and is not
+/// decoded. A SubjectPublicKeyInfo of another algorithm is refused with `UnsupportedAlgorithm`, and
+/// any other text with `InvalidKeyFormat`: another label, labels that differ, a line of another
+/// length, a space at the end of a line, headers, base64 with a spare bit set, bytes that are not
+/// DER.
 pub fn public_key_from_pem(alloc: Global, pem: &[u8]) -> Result<DecodingKey>
     ensures ok { IfOk result (IsPemOf pem.now) }
     ensures only { IfOk result (λ key. (k : Key) → IsPemOf pem.now k → k ≡ key) }

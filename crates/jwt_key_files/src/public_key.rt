@@ -4,7 +4,9 @@ ghost use Rattle.std.specs.Prelude.{◌≡◌, ◌⊎◌, ◌≤◌, Some, None,
 ghost use Rattle.jwt_base.specs.Kind as kind;
 ghost use Rattle.jwt_base.specs.KindOf.{kind_of, IsMemory, RefusesAs};
 ghost use Rattle.jwt_keys.specs.Key.{Key, Components};
-ghost use Rattle.jwt_key_files.specs.PublicKeys.{IsRsaKey, IsPoint, IsEdwardsKey, IsKeyOf, IsPublicKey, IsRefused, IsPrivateOrMalformed, private_key_text};
+ghost use Rattle.jwt_key_files.specs.PublicKeys.{IsRsaKey, IsPoint, IsEdwardsKey, IsKeyOf};
+ghost use Rattle.jwt_key_files.specs.PublicKeys.{IsPublicKey, IsRefused, IsPrivateOrMalformed};
+ghost use Rattle.jwt_key_files.specs.PublicKeys.{private_key_text};
 ghost use Rattle.jwt_key_files.specs.RsaComponents.{rsa_components};
 
 use crate::scheme::{Scheme, read_identifier};
@@ -108,16 +110,19 @@ fn key_of(alloc: Global, scheme: Scheme, octets: &[u8]) -> Result<DecodingKey>
     }
 }
 
-/// Returns the public key that the bytes are, in DER (ITU-T X.690 section 10): a SubjectPublicKeyInfo (RFC 5280 section 4.1) of
-/// an RSA key (RFC 3279 section 2.3.1), of an uncompressed point of P-256 or P-384 (RFC 5480 section 2) or of a key of Ed25519
-/// (RFC 8410 section 4), or an RSAPublicKey (RFC 8017 appendix A.1.1). An RSA key has its modulus and exponent, with no leading
-/// 0; an elliptic curve key is the octet 4 and the two coordinates, and one of Ed25519 32 octets, as `from_jwk` returns them.
-/// Whether the point is on its curve, and how long a modulus is, is left to the provider that verifies.
+/// Returns the public key that the bytes are, in DER (ITU-T X.690 section 10): a
+/// SubjectPublicKeyInfo (RFC 5280 section 4.1) of an RSA key (RFC 3279 section 2.3.1), of an
+/// uncompressed point of P-256 or P-384 (RFC 5480 section 2) or of a key of Ed25519 (RFC 8410
+/// section 4), or an RSAPublicKey (RFC 8017 appendix A.1.1). An RSA key has its modulus and
+/// exponent, with no leading 0; an elliptic curve key is the octet 4 and the two coordinates, and
+/// one of Ed25519 32 octets, as `from_jwk` returns them. Whether the point is on its curve, and how
+/// long a modulus is, is left to the provider that verifies.
 ///
-/// A SubjectPublicKeyInfo whose algorithm identifier is another one, is refused with `UnsupportedAlgorithm`. A SEQUENCE that
-/// begins with the INTEGER 0 or 1, as each private key does, is refused with `Provider` and a string that says so. Any other
-/// bytes are refused with `InvalidKeyFormat`: a length or a number in more octets than it needs, unused bits, bytes after the
-/// end.
+/// A SubjectPublicKeyInfo whose algorithm identifier is another one, is refused with
+/// `UnsupportedAlgorithm`. A SEQUENCE that begins with the INTEGER 0 or 1, as each private key
+/// does, is refused with `Provider` and a string that says so. Any other bytes are refused with
+/// `InvalidKeyFormat`: a length or a number in more octets than it needs, unused bits, bytes after
+/// the end.
 pub fn public_key_from_der(alloc: Global, der: &[u8]) -> Result<DecodingKey>
     ensures ok { IfOk result (IsPublicKey der.now) }
     ensures only { IfOk result (λ key. (k : Key) → IsPublicKey der.now k → k ≡ key) }
@@ -134,10 +139,11 @@ pub fn public_key_from_der(alloc: Global, der: &[u8]) -> Result<DecodingKey>
     Ok(key)
 }
 
-/// Returns the modulus and the exponent of the RSA key whose RSAPublicKey the bytes are (RFC 8017 appendix A.1.1), in DER (ITU-T
-/// X.690 section 10): each as the octets of its number, the most significant first, with no leading 0. How long they are, and
-/// whether a signature can be verified with them, is left to the caller. Returns `None` of any other bytes: of a
-/// SubjectPublicKeyInfo, of a private key, and of an RSAPublicKey with a byte after its end.
+/// Returns the modulus and the exponent of the RSA key whose RSAPublicKey the bytes are (RFC 8017
+/// appendix A.1.1), in DER (ITU-T X.690 section 10): each as the octets of its number, the most
+/// significant first, with no leading 0. How long they are, and whether a signature can be verified
+/// with them, is left to the caller. Returns `None` of any other bytes: of a SubjectPublicKeyInfo,
+/// of a private key, and of an RSAPublicKey with a byte after its end.
 pub fn rsa_components_from_der(der: &[u8]) -> Option<(&[u8], &[u8])>
     ensures key { MatchOption result ((k : Key) → ¬ IsRsaKey der.now k)
         (λ p. IsRsaKey der.now (Components p.0.now p.1.now)) }

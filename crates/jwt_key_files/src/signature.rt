@@ -1,10 +1,13 @@
 //! ECDSA signatures, from DER.
 
-ghost use Rattle.std.specs.Prelude.{◌≡◌, ◌≢◌, ◌⊎◌, ℕ, ◌≤◌, List, ◌++◌, IfOk, IfErr, MatchOption, length};
+ghost use Rattle.std.specs.Prelude.{◌≡◌, ◌≢◌, ◌⊎◌, ℕ, ◌≤◌, List, ◌++◌, IfOk, IfErr, MatchOption};
+ghost use Rattle.std.specs.Prelude.{length};
 ghost use Rattle.jwt_base.specs.Kind as kind;
 ghost use Rattle.jwt_base.specs.KindOf.{kind_of, IsMemory, RefusesAs};
 ghost use Rattle.jwt_key_files.specs.Der.{IsPositive};
-ghost use Rattle.jwt_key_files.specs.EcdsaSignatures.{ecdsa_sig_value, number_length, filled, AreNumbersOf, IsSignatureOf, IsSignatureRefused};
+ghost use Rattle.jwt_key_files.specs.EcdsaSignatures.{ecdsa_sig_value, number_length, filled};
+ghost use Rattle.jwt_key_files.specs.EcdsaSignatures.{AreNumbersOf, IsSignatureOf};
+ghost use Rattle.jwt_key_files.specs.EcdsaSignatures.{IsSignatureRefused};
 
 use crate::structures::read_rsa;
 use jwt_base::algorithms::Algorithm;

@@ -2,7 +2,8 @@
 
 ghost use Rattle.std.specs.Prelude.{◌≡◌, ◌≢◌, ℕ, List, ◌++◌, MatchOption, IsTrue, ◌↔◌};
 ghost use Rattle.jwt_key_files.specs.Der.{signed, integer, IsPositive};
-ghost use Rattle.jwt_key_files.specs.PublicKeys.{rsa_public_key, subject_public_key_info, IsPrivateKey};
+ghost use Rattle.jwt_key_files.specs.PublicKeys.{rsa_public_key, subject_public_key_info};
+ghost use Rattle.jwt_key_files.specs.PublicKeys.{IsPrivateKey};
 
 use crate::element::{next, read, read_all};
 

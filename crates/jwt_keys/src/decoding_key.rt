@@ -5,7 +5,9 @@ ghost use Rattle.jwt_base.specs.Kind as kind;
 ghost use Rattle.jwt_base.specs.KindOf.{kind_of, IsMemory, RefusesAs};
 ghost use Rattle.jwt_base.specs.Base64Url.{IsStandardText, IsUrlText};
 ghost use Rattle.jwt_base.specs.declared.algorithms.AlgorithmFamily.TheVariants as family;
-ghost use Rattle.jwt_keys.specs.Key.{Key, Plain, Components, key_family, key_content, IsRsaOfParts, IsEcOfParts, IsEdOfPart, IsHmacOfPart, cleared, cleared_content};
+ghost use Rattle.jwt_keys.specs.Key.{Key, Plain, Components, key_family, key_content, IsRsaOfParts};
+ghost use Rattle.jwt_keys.specs.Key.{IsEcOfParts, IsEdOfPart, IsHmacOfPart, cleared};
+ghost use Rattle.jwt_keys.specs.Key.{cleared_content};
 ghost use Rattle.jwt_keys.specs.KeyOfJwk.{IsKeyOf, refusal_of};
 
 use crate::jwk::Jwk;
@@ -82,8 +84,9 @@ impl fmt::Debug for DecodingKeyKind {
     }
 }
 
-/// A verification key: a family of algorithms, with a secret, with the bytes of a public key in DER, or, in the
-/// family of RSA alone, with the key's two numbers. A contract sees the family and the lists of bytes.
+/// A verification key: a family of algorithms, with a secret, with the bytes of a public key in
+/// DER, or, in the family of RSA alone, with the key's two numbers. A contract sees the family and
+/// the lists of bytes.
 #[derive(Drop)]
 pub struct DecodingKey {
     family: AlgorithmFamily,

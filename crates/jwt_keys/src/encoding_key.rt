@@ -13,8 +13,8 @@ use std::alloc::Global;
 use std::fmt;
 use std::marker::Model;
 
-/// A signing key: a family of algorithms, with a secret or with the bytes of a private key in DER. A contract
-/// sees the family and the list of bytes.
+/// A signing key: a family of algorithms, with a secret or with the bytes of a private key in DER.
+/// A contract sees the family and the list of bytes.
 #[derive(Drop)]
 pub struct EncodingKey {
     family: AlgorithmFamily,

@@ -1,13 +1,15 @@
 //! A JSON Web Key.
 
-ghost use Rattle.std.specs.Prelude.{◌≡◌, ◌↔◌, ◌⊎◌, IsTrue, List, ℕ, Ok, Some, None, false, IfOk, IfErr, string_bytes};
+ghost use Rattle.std.specs.Prelude.{◌≡◌, ◌↔◌, ◌⊎◌, IsTrue, List, ℕ, Ok, Some, None, false, IfOk};
+ghost use Rattle.std.specs.Prelude.{IfErr, string_bytes};
 ghost use Rattle.serde_json.specs.View.{view, members_view};
 ghost use Rattle.serde_json.specs.Written.{has_float};
 ghost use Rattle.jwt_base.specs.JsonText.{ReadsText};
 ghost use Rattle.jwt_base.specs.Kind as kind;
 ghost use Rattle.jwt_base.specs.KindOf.{IsMemory, RefusesAs};
 ghost use Rattle.jwt_base.specs.Base64Url.{IsPart};
-ghost use Rattle.jwt_keys.specs.Jwk.{ReadsKey, own_parameters_from, key_members, key_value, is_supported_key, has_id};
+ghost use Rattle.jwt_keys.specs.Jwk.{ReadsKey, own_parameters_from, key_members, key_value};
+ghost use Rattle.jwt_keys.specs.Jwk.{is_supported_key, has_id};
 ghost use Rattle.jwt_base.specs.Written.{HasText};
 ghost use Rattle.jwt_keys.specs.JwkWritten.{normal_key, IsNormal, HasNormalForm};
 ghost use Rattle.jwt_keys.specs.JwkOfKey.{jwk_of_key, jwk_of_secret_key, IsRsaInDer, StandsFor};
@@ -83,7 +85,8 @@ impl Jwk {
         Ok(Value::Object(members))
     }
 
-    /// Returns the compact JSON text of the key, as [`to_value`](Jwk::to_value) writes it and with its refusals.
+    /// Returns the compact JSON text of the key, as [`to_value`](Jwk::to_value) writes it and with
+    /// its refusals.
     pub fn to_text(&self, alloc: Global) -> Result<Vec<u8>>
         ensures ok { IfOk result (λ text. HasText ReadsKey key_value normal_key self.now
             text.items) }

@@ -1,6 +1,7 @@
 //! A set of JSON Web Keys.
 
-ghost use Rattle.std.specs.Prelude.{◌≡◌, ◌↔◌, IsTrue, Some, None, List, [], false, IfOk, IfErr, map, find, option_map};
+ghost use Rattle.std.specs.Prelude.{◌≡◌, ◌↔◌, IsTrue, Some, None, List, [], false, IfOk, IfErr};
+ghost use Rattle.std.specs.Prelude.{map, find, option_map};
 ghost use Rattle.serde_json.specs.Data.{object};
 ghost use Rattle.serde_json.specs.View.{view, items_view, members_view};
 ghost use Rattle.serde_json.specs.Written.{has_float};
@@ -9,7 +10,8 @@ ghost use Rattle.jwt_base.specs.Kind as kind;
 ghost use Rattle.jwt_base.specs.KindOf.{IsMemory, RefusesAs};
 ghost use Rattle.jwt_base.specs.Written.{HasText};
 ghost use Rattle.jwt_keys.specs.Jwk.{key_value, has_id};
-ghost use Rattle.jwt_keys.specs.JwkSet.{ReadsKeys, ReadsSet, set_value, key_values, normal_set, IsNormalSet, HasNormalSet};
+ghost use Rattle.jwt_keys.specs.JwkSet.{ReadsKeys, ReadsSet, set_value, key_values, normal_set};
+ghost use Rattle.jwt_keys.specs.JwkSet.{IsNormalSet, HasNormalSet};
 ghost use Rattle.jwt_keys.specs.declared.jwk.Jwk.{Jwk};
 
 use crate::jwk::Jwk;
@@ -80,7 +82,8 @@ impl JwkSet {
         Ok(Value::Object(members))
     }
 
-    /// Returns the compact JSON text of the set, as [`to_value`](JwkSet::to_value) writes it and with its refusals.
+    /// Returns the compact JSON text of the set, as [`to_value`](JwkSet::to_value) writes it and
+    /// with its refusals.
     pub fn to_text(&self, alloc: Global) -> Result<Vec<u8>>
         ensures ok { IfOk result (λ text. HasText ReadsSet set_value normal_set self.now.keys.items
             text.items) }

@@ -1,6 +1,7 @@
 //! The traits of signers, verifiers and their providers, with the laws that every provider proves.
 
-ghost use Rattle.std.specs.Prelude.{◌≡◌, ◌≢◌, ◌↔◌, ℕ, List, Option, Ok, Some, None, IfOk, IfErr, OnOk, IsOk, IsTrue, string_bytes};
+ghost use Rattle.std.specs.Prelude.{◌≡◌, ◌≢◌, ◌↔◌, ℕ, List, Option, Ok, Some, None, IfOk, IfErr};
+ghost use Rattle.std.specs.Prelude.{OnOk, IsOk, IsTrue, string_bytes};
 ghost use Rattle.jwt_base.specs.Kind.{Kind};
 ghost use Rattle.jwt_base.specs.Kind as kind;
 ghost use Rattle.jwt_base.specs.KindOf.{kind_of, IsMemory, Refuses};

@@ -1,6 +1,7 @@
 //! The parameters that keys of every type may have.
 
-ghost use Rattle.std.specs.Prelude.{◌≡◌, ◌↔◌, IsTrue, Some, None, IfOk, IfErr, OnOk, option_map, map, codes};
+ghost use Rattle.std.specs.Prelude.{◌≡◌, ◌↔◌, IsTrue, Some, None, IfOk, IfErr, OnOk, option_map};
+ghost use Rattle.std.specs.Prelude.{map, codes};
 ghost use Rattle.serde_json.specs.Find.{get};
 ghost use Rattle.serde_json.specs.View.{view, members_view};
 ghost use Rattle.jwt_base.specs.Algorithm.{key_algorithm_from};
@@ -37,7 +38,8 @@ pub struct CommonParameters {
     pub key_id: Option<Text>,
     /// The URL of the certificates, `x5u` (section 4.6).
     pub x509_url: Option<Text>,
-    /// The key's certificate and those that certify it, each in standard base64, `x5c` (section 4.7).
+    /// The key's certificate and those that certify it, each in standard base64, `x5c` (section
+    /// 4.7).
     pub x509_chain: Option<Texts>,
     /// The SHA-1 digest of the key's certificate in base64url, `x5t` (section 4.8).
     pub x509_sha1_fingerprint: Option<Text>,
@@ -46,7 +48,8 @@ pub struct CommonParameters {
 }
 
 impl CommonParameters {
-    ghost use Rattle.jwt_params.specs.Common.{ReadsCommon, common_value, with_common, normal_common};
+    ghost use Rattle.jwt_params.specs.Common.{ReadsCommon, common_value, with_common};
+    ghost use Rattle.jwt_params.specs.Common.{normal_common};
     ghost use Rattle.jwt_params.specs.declared.common.CommonParameters.{CommonParameters};
 
     /// Returns the parameters that a JSON object has under the eight names; each may be absent or

@@ -18,7 +18,8 @@ use std::collections::BTreeMap;
 use std::hash::{Hash, Hasher};
 use std::marker::Model;
 
-/// The members of a key whose type is not known here. A contract sees them in the order of their names.
+/// The members of a key whose type is not known here. A contract sees them in the order of their
+/// names.
 #[derive(Debug, Drop)]
 pub struct FreeMembers {
     members: Map<String, Value>,

@@ -1,5 +1,5 @@
-//! The parameters of JSON Web Keys (RFC 7517, RFC 7518 section 6, RFC 8037 section 2): the values that
-//! are known by their names, those that every key may have, and those of each type of key.
+//! The parameters of JSON Web Keys (RFC 7517, RFC 7518 section 6, RFC 8037 section 2): the values
+//! that are known by their names, those that every key may have, and those of each type of key.
 #![tactic(auto)]
 
 pub mod common;

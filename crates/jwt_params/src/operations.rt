@@ -37,7 +37,9 @@ pub enum KeyOperations {
 }
 
 impl KeyOperations {
-    ghost use Rattle.jwt_params.specs.Operation.{operation_text, operation_named, operation_from, operation_value, normal_operation, is_other_operation};
+    ghost use Rattle.jwt_params.specs.Operation.{operation_text, operation_named, operation_from};
+    ghost use Rattle.jwt_params.specs.Operation.{operation_value, normal_operation};
+    ghost use Rattle.jwt_params.specs.Operation.{is_other_operation};
 
     /// Returns the name as a JSON string. The only refusal is `OutOfMemory`.
     pub fn to_value(&self, alloc: Global) -> Result<Value>
@@ -163,7 +165,8 @@ impl Model for KeyOperationList {
 }
 
 impl KeyOperationList {
-    ghost use Rattle.jwt_params.specs.Operation.{operations_from, operations_value, normal_operations};
+    ghost use Rattle.jwt_params.specs.Operation.{operations_from, operations_value};
+    ghost use Rattle.jwt_params.specs.Operation.{normal_operations};
 
     /// Returns a list of copies of these operations, in order. The only refusal is `OutOfMemory`.
     pub fn from_slice(alloc: Global, operations: &[KeyOperations]) -> Result<KeyOperationList>

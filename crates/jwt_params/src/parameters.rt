@@ -32,7 +32,8 @@ pub enum AlgorithmParameters {
 }
 
 impl AlgorithmParameters {
-    ghost use Rattle.jwt_params.specs.Parameters.{named_from, parameters_from, parameters_members, parameters_value, normal_parameters, has_common};
+    ghost use Rattle.jwt_params.specs.Parameters.{named_from, parameters_from, parameters_members};
+    ghost use Rattle.jwt_params.specs.Parameters.{parameters_value, normal_parameters, has_common};
 
     /// Returns the first of the five types whose parameters are among the members of a JSON object.
     /// The first four ignore further members, and `Other` keeps all. A value that is not an object

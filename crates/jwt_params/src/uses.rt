@@ -24,7 +24,8 @@ pub enum PublicKeyUse {
 }
 
 impl PublicKeyUse {
-    ghost use Rattle.jwt_params.specs.Use.{use_text, use_named, use_from, use_value, normal_use, is_other_use};
+    ghost use Rattle.jwt_params.specs.Use.{use_text, use_named, use_from, use_value, normal_use};
+    ghost use Rattle.jwt_params.specs.Use.{is_other_use};
 
     /// Returns the name as a JSON string. The only refusal is `OutOfMemory`.
     pub fn to_value(&self, alloc: Global) -> Result<Value>

@@ -1,7 +1,8 @@
 //! How a call is tried: with ample memory, or with one of its requests for memory refused.
 //!
 //! Whoever runs the program refuses the requests, as `tests/refuse.c` does: it takes a request for
-//! `ORDER` bytes and N more, which no machine could meet, as the order to refuse the Nth request that comes after it.
+//! `ORDER` bytes and N more, which no machine could meet, as the order to refuse the Nth request
+//! that comes after it.
 
 use std::alloc::Global;
 
@@ -33,7 +34,8 @@ impl Trial {
         }
     }
 
-    /// Notes whether the order was carried out. This is done right after the call, and ends the order.
+    /// Notes whether the order was carried out. This is done right after the call, and ends the
+    /// order.
     pub fn end(&mut self) {
         for _ in 0..self.number {
             if self.is_next_refused() {

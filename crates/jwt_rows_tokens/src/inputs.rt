@@ -1,5 +1,5 @@
-//! Inputs that several calls take together. Each function refuses a row with a member that is not among the names that it
-//! is given.
+//! Inputs that several calls take together. Each function refuses a row with a member that is not
+//! among the names that it is given.
 
 use jsonwebtoken::errors::Result as Outcome;
 use jsonwebtoken::jwk::JwkSet;

@@ -1,4 +1,5 @@
-//! Tokens in parts (RFC 7515 section 7.2.2). A row describes such a token as the object of its three strings.
+//! Tokens in parts (RFC 7515 section 7.2.2). A row describes such a token as the object of its
+//! three strings.
 
 use crate::tokens::of_token;
 use jsonwebtoken::Header;

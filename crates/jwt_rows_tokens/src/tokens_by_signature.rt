@@ -1,5 +1,5 @@
-//! Tokens whose signature is made elsewhere. A row describes a given signature by the members `algorithm`, `message` and
-//! `signature`.
+//! Tokens whose signature is made elsewhere. A row describes a given signature by the members
+//! `algorithm`, `message` and `signature`.
 
 mod provider;
 

@@ -1,5 +1,5 @@
-//! Tokens whose signature is checked elsewhere. A row describes a verdict by the members `algorithm`, `message`, `signature` and
-//! `verdict`.
+//! Tokens whose signature is checked elsewhere. A row describes a verdict by the members
+//! `algorithm`, `message`, `signature` and `verdict`.
 
 mod provider;
 

@@ -1,4 +1,5 @@
-//! The calls that types with a JSON value have in common: `from_value`, `to_value`, `clone`, `==`, hashing and `Debug`.
+//! The calls that types with a JSON value have in common: `from_value`, `to_value`, `clone`, `==`,
+//! hashing and `Debug`.
 
 use jsonwebtoken::errors;
 use jwt_rows::answer::{Answer, accepted, of_flag, of_value, refused};
@@ -85,7 +86,8 @@ fn described_among<T: JsonType>(row: Row<'_>, names: &[&str]) -> Result<Box<T>, 
     T::described(row.alloc(), &value)
 }
 
-/// Returns the value that the row describes at `value` or `value_json`, of a row that has no other input.
+/// Returns the value that the row describes at `value` or `value_json`, of a row that has no other
+/// input.
 pub fn described_by_json<T: JsonType>(row: Row<'_>) -> Result<Box<T>, Fault> {
     described_among(row, &["value", "value_json"])
 }

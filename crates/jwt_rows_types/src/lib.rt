@@ -1,4 +1,5 @@
-//! Rows about the types that have a JSON value: JSON Web Keys, their parameters, headers and their members.
+//! Rows about the types that have a JSON value: JSON Web Keys, their parameters, headers and their
+//! members.
 #![tactic(auto)]
 
 mod extras;

@@ -1,6 +1,7 @@
 //! Public keys (RFC 8017 section 3.1).
 
-ghost use Rattle.std.specs.Prelude.{◌≡◌, ◌↔◌, ℕ, ◌^◌, ◌<◌, ◌≤◌, if◌then◌else◌, Some, None, IsTrue, IfOk, IfErr, OnOk, IfSome, IfNone, length, slice_index};
+ghost use Rattle.std.specs.Prelude.{◌≡◌, ◌↔◌, ℕ, ◌^◌, ◌<◌, ◌≤◌, if◌then◌else◌, Some, None, IsTrue};
+ghost use Rattle.std.specs.Prelude.{IfOk, IfErr, OnOk, IfSome, IfNone, length, slice_index};
 ghost use Rattle.jwt_base.specs.KindOf.{IsMemory, Refuses};
 ghost use Rattle.modular.specs.Octets.{os2ip, i2osp};
 ghost use Rattle.jwt_rsa.specs.Rsa.{bit_count, octet_count, IsRepresentative, rsavp1};

@@ -1,13 +1,15 @@
 //! The keys of RSA that are prepared once, and the verifiers by them.
 
-ghost use Rattle.std.specs.Prelude.{◌≡◌, ◌↔◌, ℕ, List, [], ◌∷◌, ◌++◌, None, IfOk, IfErr, IfSome, IsSome, OnOk, IsTrue};
+ghost use Rattle.std.specs.Prelude.{◌≡◌, ◌↔◌, ℕ, List, [], ◌∷◌, ◌++◌, None, IfOk, IfErr, IfSome};
+ghost use Rattle.std.specs.Prelude.{IsSome, OnOk, IsTrue};
 ghost use Rattle.jwt_base.specs.KindOf.{IsMemory, Refuses};
 ghost use Rattle.modular.specs.Octets.{os2ip};
 ghost use Rattle.jwt_rsa.specs.declared.scheme.Scheme.{Scheme};
 ghost use Rattle.jwt_rsa.specs.Rsa.{bit_count};
 ghost use Rattle.jwt_rsa.specs.RsaSchemes.{algorithm_for, IsSignature};
 ghost use Rattle.jwt_rsa.specs.RsaKeys.{components_refusal};
-ghost use Rattle.jwt_rsa.specs.RsaPrepared.{prepared_key, prepared_keys, IsPrepared, IsSignatureBy, IsKept};
+ghost use Rattle.jwt_rsa.specs.RsaPrepared.{prepared_key, prepared_keys, IsPrepared, IsSignatureBy};
+ghost use Rattle.jwt_rsa.specs.RsaPrepared.{IsKept};
 
 use crate::kept::PreparedKey;
 use crate::key::PublicKey;
@@ -88,8 +90,9 @@ impl PreparedRsa {
         }
     }
 
-    /// Prepares the key of this modulus and exponent, after those before it. A key that `RsaProvider`
-    /// refuses is refused with `InvalidKeyFormat`. A refusal leaves the provider unchanged.
+    /// Prepares the key of this modulus and exponent, after those before it. A key that
+    /// `RsaProvider` refuses is refused with `InvalidKeyFormat`. A refusal leaves the provider
+    /// unchanged.
     pub fn add(&mut self, alloc: Global, n: &[u8], e: &[u8]) -> Result<()>
         ensures prepared { OnOk result (prepared_keys self.new
             ≡ prepared_keys self.old ++ (n.now, e.now) ∷ []) }

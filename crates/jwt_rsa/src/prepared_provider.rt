@@ -51,8 +51,8 @@ impl<'a> CryptoProvider for &'a PreparedRsa {
         RsaProvider.signer_factory(alloc, algorithm, key)
     }
 
-    /// Returns a verifier by this algorithm and key, refused as by `RsaProvider`. It uses the key that
-    /// is kept exactly when the key's components are prepared.
+    /// Returns a verifier by this algorithm and key, refused as by `RsaProvider`. It uses the key
+    /// that is kept exactly when the key's components are prepared.
     fn verifier_factory(
         &self,
         alloc: Global,

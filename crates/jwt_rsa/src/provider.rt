@@ -33,8 +33,8 @@ pub(crate) fn unsupported() -> Error
 
 /// The provider of RSA: it verifies RS256, RS384 and RS512 with RSASSA-PKCS1-v1_5 (RFC 7518 section
 /// 3.3), and PS256, PS384 and PS512 with RSASSA-PSS (section 3.5), with keys of a modulus and an
-/// exponent. Its digests are those of SHA-2. It reads the modulus and the exponent of a public key in
-/// DER, but a verifier is made of the two alone. It signs nothing and reads no private keys.
+/// exponent. Its digests are those of SHA-2. It reads the modulus and the exponent of a public key
+/// in DER, but a verifier is made of the two alone. It signs nothing and reads no private keys.
 #[derive(Debug, Clone, Copy)]
 pub struct RsaProvider;
 
@@ -97,9 +97,9 @@ impl CryptoProvider for RsaProvider {
         Err(unsupported())
     }
 
-    /// Returns the modulus and the exponent of an RSAPublicKey in DER (RFC 8017 appendix A.1.1), each
-    /// as its octets with no leading 0, of any length. Any other bytes, a SubjectPublicKeyInfo and a
-    /// private key among them, are refused with `InvalidRsaKey` and a string that says so.
+    /// Returns the modulus and the exponent of an RSAPublicKey in DER (RFC 8017 appendix A.1.1),
+    /// each as its octets with no leading 0, of any length. Any other bytes, a SubjectPublicKeyInfo
+    /// and a private key among them, are refused with `InvalidRsaKey` and a string that says so.
     fn rsa_pub_components_from_public_key(
         &self,
         alloc: Global,

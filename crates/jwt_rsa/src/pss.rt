@@ -1,8 +1,11 @@
 //! The encoded messages of RSASSA-PSS (RFC 8017 section 9.1.2).
 
-ghost use Rattle.std.specs.Prelude.{◌≡◌, ◌↔◌, ℕ, ◌-◌, ◌+◌, ◌*◌, ◌^◌, ◌<◌, ◌≤◌, List, IsTrue, IfOk, IfErr, IfSome, IfNone, length};
+ghost use Rattle.std.specs.Prelude.{◌≡◌, ◌↔◌, ℕ, ◌-◌, ◌+◌, ◌*◌, ◌^◌, ◌<◌, ◌≤◌, List, IsTrue, IfOk};
+ghost use Rattle.std.specs.Prelude.{IfErr, IfSome, IfNone, length};
 ghost use Rattle.jwt_base.specs.KindOf.{IsMemory};
-ghost use Rattle.jwt_rsa.specs.Pss.{hash_len, mask_blocks, mgf1, xored, low_bits, masked_len, em_digest, data_block, salted_digest, front_bits, HasSalt, IsFramed, IsConsistent};
+ghost use Rattle.jwt_rsa.specs.Pss.{hash_len, mask_blocks, mgf1, xored, low_bits, masked_len};
+ghost use Rattle.jwt_rsa.specs.Pss.{em_digest, data_block, salted_digest, front_bits, HasSalt};
+ghost use Rattle.jwt_rsa.specs.Pss.{IsFramed, IsConsistent};
 ghost use Rattle.modular.specs.Octets.{i2osp};
 
 use jwt_base::errors::Result;

@@ -1,9 +1,11 @@
 //! What a text is in base64 (RFC 4648), in each form that programs write.
 
-ghost use Rattle.std.specs.Prelude.{◌≡◌, ◌≢◌, ◌+◌, ◌%◌, ◌<◌, ℕ, List, ◌++◌, IfOk, IfErr, MatchOption, length, replicate};
+ghost use Rattle.std.specs.Prelude.{◌≡◌, ◌≢◌, ◌+◌, ◌%◌, ◌<◌, ℕ, List, ◌++◌, IfOk, IfErr};
+ghost use Rattle.std.specs.Prelude.{MatchOption, length, replicate};
 ghost use Rattle.jwt_base.specs.Base64Url.{IsPart};
 ghost use Rattle.jwt_base.specs.KindOf.{IsMemory};
-ghost use Rattle.jwt_secrets.specs.Base64Texts.{is_white, of_url, characters, unpadded, StandsFor, IsBase64};
+ghost use Rattle.jwt_secrets.specs.Base64Texts.{is_white, of_url, characters, unpadded, StandsFor};
+ghost use Rattle.jwt_secrets.specs.Base64Texts.{IsBase64};
 
 use jwt_base::errors::{ErrorKind, Result};
 use jwt_base::serialization::part_bytes;
@@ -108,8 +110,8 @@ fn digit_bytes(alloc: Global, digits: &[u8]) -> Result<Option<Vec<u8>>>
     Ok(Some(bytes))
 }
 
-/// Returns the bytes that a text is base64 of: in the standard or the URL alphabet, with or without padding and white space
-/// (RFC 4648 sections 4 and 5). The only refusal is `OutOfMemory`.
+/// Returns the bytes that a text is base64 of: in the standard or the URL alphabet, with or without
+/// padding and white space (RFC 4648 sections 4 and 5). The only refusal is `OutOfMemory`.
 pub fn base64_bytes(alloc: Global, text: &[u8]) -> Result<Option<Vec<u8>>>
     ensures ok { IfOk result (λ o. MatchOption o ((b : List ℕ) → ¬ IsBase64 text.now b)
         (λ b. IsBase64 text.now b.items)) }

@@ -1,14 +1,21 @@
-//! Secrets that are the text of a key of another kind: of SSH, in PEM, in DER or in JSON, or base64 of one of these.
+//! Secrets that are the text of a key of another kind: of SSH, in PEM, in DER or in JSON, or base64
+//! of one of these.
 //!
-//! A public key is known, so that anyone could sign with its text as a secret of HMAC (RFC 8725 sections 2.1 and 3.1).
+//! A public key is known, so that anyone could sign with its text as a secret of HMAC (RFC 8725
+//! sections 2.1 and 3.1).
 
-ghost use Rattle.std.specs.Prelude.{◌≡◌, ◌≢◌, ◌↔◌, ◌++◌, ℕ, List, IfOk, IfErr, MatchOption, IsTrue, map};
+ghost use Rattle.std.specs.Prelude.{◌≡◌, ◌≢◌, ◌↔◌, ◌++◌, ℕ, List, IfOk, IfErr, MatchOption, IsTrue};
+ghost use Rattle.std.specs.Prelude.{map};
 ghost use Rattle.std.specs.List.{Any};
 ghost use Rattle.serde_json.specs.View.{view};
 ghost use Rattle.jwt_base.specs.KindOf.{IsMemory};
 ghost use Rattle.jwt_base.specs.declared.algorithms.AlgorithmFamily.TheVariants.{Hmac};
 ghost use Rattle.jwt_keys.specs.Key.{Plain};
-ghost use Rattle.jwt_secrets.specs.KeyTexts.{marks, byte_order_mark, all_tags, first_tags, Has, IsMarked, IsKeyObject, ReadsKeyObject, IsKeyInJson, HasElements, AreElements, BeginWithElements, IsKeyContent, IsKeyInDer, IsKey, IsKeyText, HasKeyText, JwkHasKeyText, SetHasKeyText};
+ghost use Rattle.jwt_secrets.specs.KeyTexts.{marks, byte_order_mark, all_tags, first_tags, Has};
+ghost use Rattle.jwt_secrets.specs.KeyTexts.{IsMarked, IsKeyObject, ReadsKeyObject, IsKeyInJson};
+ghost use Rattle.jwt_secrets.specs.KeyTexts.{HasElements, AreElements, BeginWithElements};
+ghost use Rattle.jwt_secrets.specs.KeyTexts.{IsKeyContent, IsKeyInDer, IsKey, IsKeyText};
+ghost use Rattle.jwt_secrets.specs.KeyTexts.{HasKeyText, JwkHasKeyText, SetHasKeyText};
 
 use crate::base64_texts::base64_bytes;
 use jwt_base::algorithms::AlgorithmFamily;
@@ -195,8 +202,9 @@ fn is_key(alloc: Global, text: &[u8]) -> Result<bool>
     is_key_in_json(alloc, text)
 }
 
-/// Returns whether a secret is the text of a key of another kind, or base64 of one: of SSH (RFC 4253, RFC 4716), in PEM (RFC 7468),
-/// a JSON Web Key or a set of them (RFC 7517), or in DER, by the tags of its elements. The only refusal is `OutOfMemory`.
+/// Returns whether a secret is the text of a key of another kind, or base64 of one: of SSH (RFC
+/// 4253, RFC 4716), in PEM (RFC 7468), a JSON Web Key or a set of them (RFC 7517), or in DER, by
+/// the tags of its elements. The only refusal is `OutOfMemory`.
 pub fn is_key_text(alloc: Global, secret: &[u8]) -> Result<bool>
     ensures ok { IfOk result (λ is. IsTrue is ↔ IsKeyText secret.now) }
     ensures err { IfErr result IsMemory }
@@ -221,8 +229,8 @@ fn hmac_secret(key: &DecodingKey) -> Option<&[u8]>
     }
 }
 
-/// Returns whether a key is one for HMAC whose secret [is the text of a key](is_key_text) of another kind. The only refusal is
-/// `OutOfMemory`.
+/// Returns whether a key is one for HMAC whose secret [is the text of a key](is_key_text) of
+/// another kind. The only refusal is `OutOfMemory`.
 pub fn has_key_text(alloc: Global, key: &DecodingKey) -> Result<bool>
     ensures ok { IfOk result (λ has. IsTrue has ↔ HasKeyText key.now) }
     ensures err { IfErr result IsMemory }
@@ -233,8 +241,8 @@ pub fn has_key_text(alloc: Global, key: &DecodingKey) -> Result<bool>
     }
 }
 
-/// Returns whether the key that a JSON Web Key stands for (RFC 7518 section 6) [is such a key](has_key_text). One that stands for
-/// no key is not. The only refusal is `OutOfMemory`.
+/// Returns whether the key that a JSON Web Key stands for (RFC 7518 section 6) [is such a
+/// key](has_key_text). One that stands for no key is not. The only refusal is `OutOfMemory`.
 pub fn jwk_has_key_text(alloc: Global, jwk: &Jwk) -> Result<bool>
     ensures ok { IfOk result (λ has. IsTrue has ↔ JwkHasKeyText jwk.now) }
     ensures err { IfErr result IsMemory }
@@ -248,7 +256,8 @@ pub fn jwk_has_key_text(alloc: Global, jwk: &Jwk) -> Result<bool>
     }
 }
 
-/// Returns whether a set (RFC 7517 section 5) has [such a key](jwk_has_key_text). The only refusal is `OutOfMemory`.
+/// Returns whether a set (RFC 7517 section 5) has [such a key](jwk_has_key_text). The only refusal
+/// is `OutOfMemory`.
 pub fn set_has_key_text(alloc: Global, set: &JwkSet) -> Result<bool>
     ensures ok { IfOk result (λ has. IsTrue has ↔ SetHasKeyText set.now.keys.items) }
     ensures err { IfErr result IsMemory }

@@ -1,6 +1,7 @@
 //! The provider of all twelve algorithms.
 
-ghost use Rattle.std.specs.Prelude.{◌≡◌, ◌≢◌, ◌↔◌, ℕ, List, Some, None, Ok, IfOk, IfErr, OnOk, IsTrue};
+ghost use Rattle.std.specs.Prelude.{◌≡◌, ◌≢◌, ◌↔◌, ℕ, List, Some, None, Ok, IfOk, IfErr, OnOk};
+ghost use Rattle.std.specs.Prelude.{IsTrue};
 ghost use Rattle.jwt_base.specs.Algorithm.{family_of};
 ghost use Rattle.jwt_base.specs.Kind as kind;
 ghost use Rattle.jwt_base.specs.KindOf.{kind_of, Refuses, RefusesAs};
@@ -83,8 +84,8 @@ impl CryptoProvider for StandardProvider {
         HmacProvider.signer_factory(alloc, algorithm, key)
     }
 
-    /// Returns the verifier that the provider of the algorithm's family makes. A key is refused with
-    /// `InvalidKeyFormat`: one of another family, and one that the family's provider refuses.
+    /// Returns the verifier that the provider of the algorithm's family makes. A key is refused
+    /// with `InvalidKeyFormat`: one of another family, and one that the family's provider refuses.
     /// Allocates memory for RSA alone.
     fn verifier_factory(
         &self,
@@ -131,8 +132,9 @@ impl CryptoProvider for StandardProvider {
         HmacProvider.rsa_pub_components_from_private_key(alloc, der)
     }
 
-    /// Returns the modulus and the exponent of an RSAPublicKey in DER, as `RsaProvider` does (RFC 8017
-    /// appendix A.1.1). Any other bytes are refused with `InvalidRsaKey` and a string that says so.
+    /// Returns the modulus and the exponent of an RSAPublicKey in DER, as `RsaProvider` does (RFC
+    /// 8017 appendix A.1.1). Any other bytes are refused with `InvalidRsaKey` and a string that
+    /// says so.
     fn rsa_pub_components_from_public_key(
         &self,
         alloc: Global,

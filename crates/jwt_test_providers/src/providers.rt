@@ -1,5 +1,5 @@
-//! Providers of signatures for the tests: one that looks signatures up in a table, one that accepts every signature, and
-//! one that refuses every call.
+//! Providers of signatures for the tests: one that looks signatures up in a table, one that accepts
+//! every signature, and one that refuses every call.
 
 mod closed;
 mod no;

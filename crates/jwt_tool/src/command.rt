@@ -2,7 +2,9 @@
 
 ghost use Rattle.std.specs.Prelude.{◌≡◌, option_map, map, string_bytes};
 ghost use Rattle.jwt_base.specs.Algorithm.{algorithm_named};
-ghost use Rattle.jwt_tool.specs.Words.{Request, request_of, request_named, thumbprint_request, hash_of_name, encoding_request, decoding_request, claims_asked, ForClaims, ForClaimsBySet, moment_of};
+ghost use Rattle.jwt_tool.specs.Words.{Request, request_of, request_named, thumbprint_request};
+ghost use Rattle.jwt_tool.specs.Words.{hash_of_name, encoding_request, decoding_request};
+ghost use Rattle.jwt_tool.specs.Words.{claims_asked, ForClaims, ForClaimsBySet, moment_of};
 ghost use Rattle.jwt_tool.specs.Asked.{asked};
 
 use jsonwebtoken::jwk::ThumbprintHash;
@@ -22,8 +24,8 @@ pub enum Command<'a> {
         algorithm: Algorithm,
         secret: &'a str,
     },
-    /// Verifies a token with HMAC and a secret, at a time in seconds since 1970-01-01 00:00:00 UTC, and prints its
-    /// claims.
+    /// Verifies a token with HMAC and a secret, at a time in seconds since 1970-01-01 00:00:00 UTC,
+    /// and prints its claims.
     Decode {
         algorithm: Algorithm,
         secret: &'a str,

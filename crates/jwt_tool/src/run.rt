@@ -1,6 +1,7 @@
 //! From the arguments and the input to the line.
 
-ghost use Rattle.std.specs.Prelude.{◌≡◌, ◌≢◌, ◌⊎◌, None, false, ◌++◌, ◌∷◌, [], ℕ, List, IfOk, IfErr, IfSome, OnOk, map, string_bytes};
+ghost use Rattle.std.specs.Prelude.{◌≡◌, ◌≢◌, ◌⊎◌, None, false, ◌++◌, ◌∷◌, [], ℕ, List, IfOk};
+ghost use Rattle.std.specs.Prelude.{IfErr, IfSome, OnOk, map, string_bytes};
 ghost use Rattle.std.specs.Io.KnownBytes.{Appends};
 ghost use Rattle.serde_json.specs.View.{view};
 ghost use Rattle.serde_json.specs.Written.{has_float};
@@ -11,7 +12,11 @@ ghost use Rattle.jsonwebtoken.specs.Order.{FailsFirst};
 ghost use Rattle.jsonwebtoken.specs.Tests.{header_order, header_call, decode_order, token_tests};
 ghost use Rattle.jwt_tool.specs.Asked.{asked};
 ghost use Rattle.jwt_tool.specs.Words.{request_of};
-ghost use Rattle.jwt_tool.specs.Line.{Answers, RequestAnswer, ValueAnswer, ValueLine, IsValueText, IsRefusal, IsHeaderValue, IsClaimsValue, hmac_call, IsClaimsValueBySet, HasSetFault, IsThumbprint, HasThumbprintFault, ThumbprintLine, IsToken, HasTokenFault, TokenLine, IsMemoryLine, IsUsage, without_final_newline};
+ghost use Rattle.jwt_tool.specs.Line.{Answers, RequestAnswer, ValueAnswer, ValueLine, IsValueText};
+ghost use Rattle.jwt_tool.specs.Line.{IsRefusal, IsHeaderValue, IsClaimsValue, hmac_call};
+ghost use Rattle.jwt_tool.specs.Line.{IsClaimsValueBySet, HasSetFault, IsThumbprint};
+ghost use Rattle.jwt_tool.specs.Line.{HasThumbprintFault, ThumbprintLine, IsToken, HasTokenFault};
+ghost use Rattle.jwt_tool.specs.Line.{TokenLine, IsMemoryLine, IsUsage, without_final_newline};
 
 use crate::command::{Command, requested_command};
 use crate::fault::ToolFault;

@@ -4,7 +4,8 @@ ghost use Rattle.std.specs.Prelude.{◌≡◌, ◌↔◌, IsOk, OnOk, IfErr, IsS
 ghost use Rattle.serde_json.specs.Find.{as_object};
 ghost use Rattle.serde_json.specs.View.{view};
 ghost use Rattle.jwt_base.specs.Kind.{Kind};
-ghost use Rattle.jwt_validation.specs.ClaimRules.{IsMissing, IsFirstBroken, Holds, RulesHold, IsFault, Tells};
+ghost use Rattle.jwt_validation.specs.ClaimRules.{IsMissing, IsFirstBroken, Holds, RulesHold};
+ghost use Rattle.jwt_validation.specs.ClaimRules.{IsFault, Tells};
 ghost use Rattle.jwt_validation.specs.private_clauses.ClaimsSeen.{claims_seen};
 ghost use Rattle.jwt_validation.specs.Moments.{IsAcceptedWithin, Looser};
 ghost use Rattle.jwt_validation.specs.Options.{Options};
@@ -26,7 +27,8 @@ use std::alloc::Global;
 /// - if `exp` is checked, it is a whole number, else `InvalidClaimFormat`;
 /// - if `nbf` is checked, it is a whole number, else `InvalidClaimFormat`;
 /// - `exp` is at least the time that must be left, else `InvalidToken`;
-/// - `exp` plus the leeway is at least `now` plus the time that must be left, else `ExpiredSignature`;
+/// - `exp` plus the leeway is at least `now` plus the time that must be left, else
+///   `ExpiredSignature`;
 /// - `nbf` is at most `now` plus the leeway, else `ImmatureSignature`;
 /// - `sub` is the configured subject, else `InvalidSubject`;
 /// - `iss` names a configured issuer, else `InvalidIssuer`;

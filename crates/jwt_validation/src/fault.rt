@@ -5,7 +5,8 @@ ghost use Rattle.serde_json.specs.View.{view, members_view};
 ghost use Rattle.jwt_base.specs.Members.{texts};
 ghost use Rattle.jwt_validation.specs.Options.{Options};
 ghost use Rattle.jwt_validation.specs.OptionsRead.{ReadsOptions, algorithms_in};
-ghost use Rattle.jwt_validation.specs.OptionsFault.{HasFault, shape, shapes, has_form, is_well, first_malformed, first_other};
+ghost use Rattle.jwt_validation.specs.OptionsFault.{HasFault, shape, shapes, has_form, is_well};
+ghost use Rattle.jwt_validation.specs.OptionsFault.{first_malformed, first_other};
 
 use crate::from_json::option_names;
 use jwt_base::algorithms::Algorithm;
@@ -131,8 +132,8 @@ fn first_other(members: &Map<String, Value>) -> Option<&str>
 /// Returns what keeps a JSON value from being the options that
 /// [`Validation::from_value`](crate::Validation::from_value) reads, or `None` if it reads them.
 ///
-/// A value that is not an object is at fault first, and then the first member, in the order of their
-/// names, that no option is named; and then the first option whose value has another form.
+/// A value that is not an object is at fault first, and then the first member, in the order of
+/// their names, that no option is named; and then the first option whose value has another form.
 pub fn options_fault(value: &Value) -> Option<OptionsFault<'_>>
     ensures none { IfNone result ((o : Options) × ReadsOptions (view value.now) o) }
     ensures some { IfSome result (λ f. HasFault (view value.now) f) }

@@ -1,6 +1,7 @@
 //! Reading a validation from JSON.
 
-ghost use Rattle.std.specs.Prelude.{◌≡◌, ℕ, Bool, List, Some, None, [], false, map, IfOk, IfErr, MatchResult, option_map, string_bytes, codes};
+ghost use Rattle.std.specs.Prelude.{◌≡◌, ℕ, Bool, List, Some, None, [], false, map, IfOk, IfErr};
+ghost use Rattle.std.specs.Prelude.{MatchResult, option_map, string_bytes, codes};
 ghost use Rattle.std.specs.HashSet.{contains_text};
 ghost use Rattle.std.specs.Str.{bytes_eq};
 ghost use Rattle.serde_json.specs.Find.{get, as_bool, as_str, as_object};
@@ -10,7 +11,10 @@ ghost use Rattle.jwt_base.specs.KindOf.{IsMemory, RefusesAs};
 ghost use Rattle.jwt_base.specs.Members.{optional};
 ghost use Rattle.jwt_validation.specs.Options.{Options, among, no_texts};
 ghost use Rattle.jwt_validation.specs.OptionsOf.{options_of};
-ghost use Rattle.jwt_validation.specs.OptionsRead.{option_names, has_other, HasOptionNames, as_whole, or_default, text_set, algorithms_in, settled, usual_options, ReadsTimes, ReadsMembers, ReadsOptions};
+ghost use Rattle.jwt_validation.specs.OptionsRead.{option_names, has_other, HasOptionNames};
+ghost use Rattle.jwt_validation.specs.OptionsRead.{as_whole, or_default, text_set, algorithms_in};
+ghost use Rattle.jwt_validation.specs.OptionsRead.{settled, usual_options, ReadsTimes};
+ghost use Rattle.jwt_validation.specs.OptionsRead.{ReadsMembers, ReadsOptions};
 
 use crate::Validation;
 use crate::validation::{

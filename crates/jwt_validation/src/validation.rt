@@ -1,6 +1,7 @@
 //! The options that the claims of a token are checked against.
 
-ghost use Rattle.std.specs.Prelude.{◌≡◌, ◌||◌, IfOk, IfErr, OnOk, OnErr, Some, None, option_map, string_bytes, ◌∷◌, []};
+ghost use Rattle.std.specs.Prelude.{◌≡◌, ◌||◌, IfOk, IfErr, OnOk, OnErr, Some, None, option_map};
+ghost use Rattle.std.specs.Prelude.{string_bytes, ◌∷◌, []};
 ghost use Rattle.std.specs.HashSet.{contains_text};
 ghost use Rattle.std.specs.Str.{bytes_eq};
 ghost use Rattle.jwt_base.specs.Algorithm.{algorithms_of};
@@ -8,7 +9,8 @@ ghost use Rattle.jwt_base.specs.JsonText.{ReadsText};
 ghost use Rattle.jwt_base.specs.Kind as kind;
 ghost use Rattle.jwt_base.specs.KindOf.{IsMemory, RefusesAs};
 ghost use Rattle.serde_json.specs.View.{view};
-ghost use Rattle.jwt_validation.specs.Options.{Options, among, default_options, requiring_configured, strict_options, with_name};
+ghost use Rattle.jwt_validation.specs.Options.{Options, among, default_options};
+ghost use Rattle.jwt_validation.specs.Options.{requiring_configured, strict_options, with_name};
 ghost use Rattle.jwt_validation.specs.OptionsOf.{options_of};
 ghost use Rattle.jwt_validation.specs.OptionsRead.{ReadsOptions};
 ghost use Rattle.jwt_validation.specs.equality.ValidationEq.{validation_eq};
@@ -101,10 +103,10 @@ impl Validation {
         with_algorithms(alloc, algorithms)
     }
 
-    /// Returns strict checks of one algorithm: like [`Validation::new`], but `nbf` is checked, there is no
-    /// leeway, and a token is expired at the time `exp` itself (RFC 7519 section 4.1.4). Call
-    /// [`Validation::require_configured`] after the audience, the issuers and the subject are set. The
-    /// only refusal is `OutOfMemory`.
+    /// Returns strict checks of one algorithm: like [`Validation::new`], but `nbf` is checked,
+    /// there is no leeway, and a token is expired at the time `exp` itself (RFC 7519 section
+    /// 4.1.4). Call [`Validation::require_configured`] after the audience, the issuers and the
+    /// subject are set. The only refusal is `OutOfMemory`.
     pub fn new_strict(alloc: Global, algorithm: Algorithm) -> Result<Validation>
         ensures ok { IfOk result (λ v. options_of v ≡ strict_options (algorithm ∷ [])) }
         ensures err { IfErr result IsMemory }
@@ -119,7 +121,8 @@ impl Validation {
     /// Requires `aud`, `iss` and `sub`, as far as the validation has a value for them, besides the
     /// claims that are required already. The only refusal is `OutOfMemory`.
     pub fn require_configured(&mut self, alloc: Global) -> Result<()>
-        ensures ok { OnOk result (options_of self.new ≡ requiring_configured (options_of self.old)) }
+        ensures ok { OnOk result (options_of self.new ≡ requiring_configured
+            (options_of self.old)) }
         ensures unchanged { OnErr result (self.new ≡ self.old) }
         ensures err { IfErr result IsMemory }
     {
@@ -193,12 +196,12 @@ impl Validation {
     /// and RFC 8037 section 3.1 for the algorithms, whole numbers of seconds for the times and
     /// `true` or `false` for the rest.
     ///
-    /// One more member, `strict`, is `true` or `false`. A member that is absent or null has the value of
-    /// [`Validation::new`], or of [`Validation::new_strict`] if `strict` is `true`, which also
-    /// [requires](Validation::require_configured) the configured claims; except that
-    /// `algorithms` is then an empty list: no algorithm is chosen by default, and `decode` refuses with
-    /// `MissingAlgorithm`. An unknown member, a member of a wrong type, an algorithm of an unknown
-    /// name and a value that is not an object are refused with `Json`; nothing is ignored.
+    /// One more member, `strict`, is `true` or `false`. A member that is absent or null has the
+    /// value of [`Validation::new`], or of [`Validation::new_strict`] if `strict` is `true`, which
+    /// also [requires](Validation::require_configured) the configured claims; except that
+    /// `algorithms` is then an empty list: no algorithm is chosen by default, and `decode` refuses
+    /// with `MissingAlgorithm`. An unknown member, a member of a wrong type, an algorithm of an
+    /// unknown name and a value that is not an object are refused with `Json`; nothing is ignored.
     pub fn from_value(alloc: Global, value: &Value) -> Result<Validation>
         ensures ok { IfOk result (λ v. ReadsOptions (view value.now) (options_of v)) }
         ensures err { IfErr result (RefusesAs kind.Json
@@ -207,9 +210,9 @@ impl Validation {
         read_validation(alloc, value)
     }
 
-    /// Returns the validation that a JSON text describes, as
-    /// [`from_value`](Validation::from_value) reads it. Bytes that are not JSON, or that nest deeper
-    /// than 127 levels, are refused with `Json` too.
+    /// Returns the validation that a JSON text describes, as [`from_value`](Validation::from_value)
+    /// reads it. Bytes that are not JSON, or that nest deeper than 127 levels, are refused with
+    /// `Json` too.
     pub fn from_slice(alloc: Global, text: &[u8]) -> Result<Validation>
         ensures ok { IfOk result (λ v. ReadsText ReadsOptions text.now (options_of v)) }
         ensures err { IfErr result (RefusesAs kind.Json
@@ -346,7 +349,8 @@ impl PartialEq for Validation {
     ghost use Rattle.std.specs.Prelude.{◌≡◌, ◌↔◌, IsTrue};
     ghost use Rattle.std.specs.Cmp.{partial_equiv_from_equiv};
     ghost use Rattle.jwt_validation.specs.OptionsOf.{options_of};
-    ghost use Rattle.jwt_validation.specs.equality.ValidationEq.{validation_eq, validation_eq_equiv};
+    ghost use Rattle.jwt_validation.specs.equality.ValidationEq.{validation_eq};
+    ghost use Rattle.jwt_validation.specs.equality.ValidationEq.{validation_eq_equiv};
 
     ghost eq = { validation_eq };
 

@@ -1,9 +1,10 @@
 //! Makes the calls of rows of test vectors, and compares each result with the one that the row
 //! wants.
 //!
-//! A row is one line of JSON (`docs/VECTORS.md`). Without arguments the program reads the files `*.jsonl` of the folder
-//! that it runs in. With the argument `refused`, each row is tried with each of its requests for memory refused in turn,
-//! by whoever runs the program (`tests/refuse.c`). The last line counts.
+//! A row is one line of JSON (`docs/VECTORS.md`). Without arguments the program reads the files
+//! `*.jsonl` of the folder that it runs in. With the argument `refused`, each row is tried with
+//! each of its requests for memory refused in turn, by whoever runs the program (`tests/refuse.c`).
+//! The last line counts.
 #![tactic(auto)]
 
 mod calls;

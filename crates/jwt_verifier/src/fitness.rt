@@ -3,7 +3,8 @@
 ghost use Rattle.std.specs.Prelude.{◌≡◌, ◌⊎◌, ◌↔◌, None, IfOk, IfErr, OnOk, IsTrue};
 ghost use Rattle.jwt_base.specs.KindOf.{IsMemory};
 ghost use Rattle.jwt_standard.specs.StandardKeys.{verifier_refusal};
-ghost use Rattle.jwt_verifier.specs.Fitness.{AreFit, AreOfOneFamily, AreSafe, CanServe, HasBlank, IsUnfit, JwkServes, Serves};
+ghost use Rattle.jwt_verifier.specs.Fitness.{AreFit, AreOfOneFamily, AreSafe, CanServe, HasBlank};
+ghost use Rattle.jwt_verifier.specs.Fitness.{IsUnfit, JwkServes, Serves};
 ghost use Rattle.std.specs.List.{Any};
 
 use crate::keys::Keys;
@@ -24,8 +25,8 @@ pub enum Unfit {
     Blank,
     /// The options list algorithms of several families, and so accept no token.
     Mixed,
-    /// No key verifies with any of the algorithms that the options list, or none of a set that has a
-    /// `kid`.
+    /// No key verifies with any of the algorithms that the options list, or none of a set that has
+    /// a `kid`.
     Useless,
     /// Memory ran out.
     Memory,
@@ -67,8 +68,8 @@ fn key_serves(alloc: Global, key: &DecodingKey, algorithms: &[Algorithm]) -> Che
     Ok(false)
 }
 
-// A JSON Web Key that stands for no key does not serve, nor does one without a `kid`, which no token
-// can name.
+// A JSON Web Key that stands for no key does not serve, nor does one without a `kid`, which no
+// token can name.
 fn jwk_serves(alloc: Global, jwk: &Jwk, algorithms: &[Algorithm]) -> Checked<bool>
     ensures ok { IfOk result (λ yes. IsTrue yes ↔ JwkServes algorithms.now jwk.now) }
     ensures err { IfErr result IsMemory }

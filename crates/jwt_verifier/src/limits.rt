@@ -12,14 +12,14 @@ pub struct Limits {
     /// The greatest length of a token, in bytes. Reading a token allocates memory in proportion
     /// to it.
     pub max_len: usize,
-    /// Whether keys with which anyone can sign are allowed: secrets whose bytes are all 0, as in the
-    /// empty one (RFC 2104 section 2).
+    /// Whether keys with which anyone can sign are allowed: secrets whose bytes are all 0, as in
+    /// the empty one (RFC 2104 section 2).
     pub allows_blank: bool,
 }
 
 impl Limits {
-    /// Returns the limits of [`Verifier::new`](crate::Verifier::new): tokens of up to [`TOKEN_LIMIT`]
-    /// bytes, and no key with which anyone can sign.
+    /// Returns the limits of [`Verifier::new`](crate::Verifier::new): tokens of up to
+    /// [`TOKEN_LIMIT`] bytes, and no key with which anyone can sign.
     pub fn new() -> Limits
         ensures { result ≡ usual_limits }
     {

@@ -24,7 +24,7 @@ use jwt_keys::jwk_set::JwkSet;
 use std::alloc::Global;
 use std::result::Result;
 
-/// The number of keys of a set that are prepared: each holds memory.
+/// The greatest number of keys of a set that are prepared, each of which allocates.
 const PREPARED: usize = 4096;
 
 /// Returns the value that a call made, or `None` if it was refused for another reason than memory.
@@ -120,11 +120,12 @@ pub struct Verifier {
 impl Verifier {
     /// Returns the verifier with these keys and options, for tokens of up to 1 MiB.
     ///
-    /// Keys with which anyone can sign are refused with `Blank` (RFC 2104 section 2). Then algorithms of
-    /// several families are refused with `Mixed`, since every token would be, and then keys of which
-    /// none verifies with an algorithm of the options with `Useless`: a key of another family, an RSA
-    /// modulus of a length that is not allowed, a point that is not on the curve, a set without any
-    /// other key that has a `kid`. A key of a set that does not serve is refused when a token names it.
+    /// Keys with which anyone can sign are refused with `Blank` (RFC 2104 section 2). Then
+    /// algorithms of several families are refused with `Mixed`, since every token would be, and
+    /// then keys of which none verifies with an algorithm of the options with `Useless`: a key of
+    /// another family, an RSA modulus of a length that is not allowed, a point that is not on the
+    /// curve, a set without any other key that has a `kid`. A key of a set that does not serve is
+    /// refused when a token names it.
     pub fn new(alloc: Global, keys: Keys, validation: Validation) -> Result<Verifier, Unfit>
         ensures ok { IfOk result (λ v. (v.keys ≡ keys) × (v.validation ≡ validation)
             × (v.limits ≡ usual_limits)
@@ -135,7 +136,8 @@ impl Verifier {
         Verifier::with_limits(alloc, keys, validation, Limits::new())
     }
 
-    /// Returns the verifier with these keys and options, like [`Verifier::new`], under other limits.
+    /// Returns the verifier with these keys and options, like [`Verifier::new`], under other
+    /// limits.
     pub fn with_limits(
         alloc: Global,
         keys: Keys,
@@ -189,8 +191,8 @@ impl Verifier {
 
     /// Verifies a token in its compact form at the time `now`, in whole seconds since 1970-01-01
     /// 00:00:00 UTC, and returns its header and its claims: what [`decode`] or [`decode_with_set`]
-    /// returns by `StandardProvider` with the verifier's keys and options. A token that is longer than
-    /// the limit is refused with `TooLong` before anything of it is read.
+    /// returns by `StandardProvider` with the verifier's keys and options. A token that is longer
+    /// than the limit is refused with `TooLong` before anything of it is read.
     pub fn decode<T: Claims>(
         &self,
         alloc: Global,
@@ -238,8 +240,8 @@ impl Verifier {
         }
     }
 
-    /// Verifies a token like [`Verifier::decode`]; a refusal has the first test that failed, and its
-    /// error. Whoever issued the token need not be told which test it was.
+    /// Verifies a token like [`Verifier::decode`]; a refusal has the first test that failed, and
+    /// its error. Whoever issued the token need not be told which test it was.
     pub fn decode_or_refusal<T: Claims>(
         &self,
         alloc: Global,

@@ -1,2 +1,3 @@
-//! Primes: trial division, Pocklington's criterion and Fermat's little theorem. The crate has proofs alone.
+//! Primes: trial division, Pocklington's criterion and Fermat's little theorem. The crate has
+//! proofs alone.
 #![tactic(auto)]

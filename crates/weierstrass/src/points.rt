@@ -1,5 +1,5 @@
-//! Points, and their sums by complete formulas (J. Renes, C. Costello and L. Batina, "Complete addition formulas for prime
-//! order elliptic curves", 2016).
+//! Points, and their sums by complete formulas (J. Renes, C. Costello and L. Batina, "Complete
+//! addition formulas for prime order elliptic curves", 2016).
 
 ghost use Rattle.std.specs.Prelude.{◌≡◌};
 ghost use Rattle.weierstrass.specs.Weierstrass.{infinity, triple, products, sum_of, double_of};

@@ -1,4 +1,5 @@
-//! Points in Jacobian coordinates with the powers of Z that sums with them need, and sixteen of these.
+//! Points in Jacobian coordinates with the powers of Z that sums with them need, and sixteen of
+//! these.
 
 ghost use Rattle.std.specs.Prelude.{◌≡◌, ◌<◌};
 ghost use Rattle.weierstrass_group.specs.Group.{spot_point};
@@ -91,7 +92,8 @@ pub fn add_entry<F: Residue>(start: ProjectivePoint<F>, more: Entry<F>) -> Proje
     add(start, point, zz, zzz)
 }
 
-/// Returns four entries: this one, and each the sum of the one before and the point of these coordinates, whose z is 1.
+/// Returns four entries: this one, and each the sum of the one before and the point of these
+/// coordinates, whose z is 1.
 pub fn four_from<F: Residue>(start: Entry<F>, x: F, y: F) -> Four<F>
     requires { IsEntry F F.modulus F.number start }
     ensures start { result.zero.point ≡ start.point }
@@ -100,11 +102,14 @@ pub fn four_from<F: Residue>(start: Entry<F>, x: F, y: F) -> Four<F>
     ensures two { IsEntry F F.modulus F.number result.two }
     ensures three { IsEntry F F.modulus F.number result.three }
     ensures one_is { numbers F.number result.one.point
-        ≡ jacobian_sum F.modulus (numbers F.number result.zero.point) (spot_point (F.number x) (F.number y)) }
+        ≡ jacobian_sum F.modulus (numbers F.number result.zero.point) (spot_point (F.number x)
+        (F.number y)) }
     ensures two_is { numbers F.number result.two.point
-        ≡ jacobian_sum F.modulus (numbers F.number result.one.point) (spot_point (F.number x) (F.number y)) }
+        ≡ jacobian_sum F.modulus (numbers F.number result.one.point) (spot_point (F.number x)
+        (F.number y)) }
     ensures three_is { numbers F.number result.three.point
-        ≡ jacobian_sum F.modulus (numbers F.number result.two.point) (spot_point (F.number x) (F.number y)) }
+        ≡ jacobian_sum F.modulus (numbers F.number result.two.point) (spot_point (F.number x)
+        (F.number y)) }
 {
     let Entry { point, zz, zzz } = start;
     let one = add_affine(point, x, y);
@@ -118,11 +123,13 @@ pub fn four_from<F: Residue>(start: Entry<F>, x: F, y: F) -> Four<F>
     }
 }
 
-/// Returns the entry of the sum of the last of these and the point of these coordinates, whose z is 1.
+/// Returns the entry of the sum of the last of these and the point of these coordinates, whose z is
+/// 1.
 pub fn following<F: Residue>(four: &Four<F>, x: F, y: F) -> Entry<F>
     ensures kept { IsEntry F F.modulus F.number result }
     ensures sum { numbers F.number result.point
-        ≡ jacobian_sum F.modulus (numbers F.number four.now.three.point) (spot_point (F.number x) (F.number y)) }
+        ≡ jacobian_sum F.modulus (numbers F.number four.now.three.point) (spot_point (F.number x)
+        (F.number y)) }
 {
     entry_for(add_affine(four.three.point, x, y))
 }

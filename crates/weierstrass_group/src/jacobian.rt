@@ -2,7 +2,9 @@
 
 ghost use Rattle.std.specs.Prelude.{◌≡◌};
 ghost use Rattle.weierstrass_group.specs.Group.{spot_point};
-ghost use Rattle.weierstrass_group.specs.private_clauses.Formulas.{jacobian_double, jacobian_finite, jacobian_last, jacobian_sum, projective_of};
+ghost use Rattle.weierstrass_group.specs.private_clauses.Formulas.{jacobian_double};
+ghost use Rattle.weierstrass_group.specs.private_clauses.Formulas.{jacobian_finite, jacobian_last};
+ghost use Rattle.weierstrass_group.specs.private_clauses.Formulas.{jacobian_sum, projective_of};
 ghost use Rattle.residues.specs.Modulo.{times};
 ghost use Rattle.weierstrass.specs.Numbers.{numbers};
 
@@ -32,7 +34,8 @@ pub fn double<F: Residue>(point: ProjectivePoint<F>) -> ProjectivePoint<F>
 #[inline(always)]
 fn last<F: Residue>(zz: F, u: F, s: F, h: F, r: F) -> ProjectivePoint<F>
     ensures { numbers F.number result
-        ≡ jacobian_last F.modulus (F.number zz) (F.number u) (F.number s) (F.number h) (F.number r) }
+        ≡ jacobian_last F.modulus (F.number zz) (F.number u) (F.number s) (F.number h)
+        (F.number r) }
 {
     let hh = h.times(h);
     let hhh = h.times(hh);
@@ -64,7 +67,8 @@ fn add_finite<F: Residue>(
     zzz: F,
 ) -> ProjectivePoint<F>
     requires square { F.number zz ≡ times F.modulus (F.number other.z) (F.number other.z) }
-    requires cube { F.number zzz ≡ times F.modulus (F.number other.z) (times F.modulus (F.number other.z) (F.number other.z)) }
+    requires cube { F.number zzz ≡ times F.modulus (F.number other.z) (times F.modulus
+        (F.number other.z) (F.number other.z)) }
     ensures { numbers F.number result
         ≡ jacobian_finite F.modulus (numbers F.number one) (numbers F.number other) }
 {
@@ -90,7 +94,8 @@ pub fn add<F: Residue>(
     zzz: F,
 ) -> ProjectivePoint<F>
     requires square { F.number zz ≡ times F.modulus (F.number other.z) (F.number other.z) }
-    requires cube { F.number zzz ≡ times F.modulus (F.number other.z) (times F.modulus (F.number other.z) (F.number other.z)) }
+    requires cube { F.number zzz ≡ times F.modulus (F.number other.z) (times F.modulus
+        (F.number other.z) (F.number other.z)) }
     ensures { numbers F.number result
         ≡ jacobian_sum F.modulus (numbers F.number one) (numbers F.number other) }
 {
@@ -106,7 +111,8 @@ pub fn add<F: Residue>(
 // The sum of finite points, of which the other has z = 1.
 fn add_finite_affine<F: Residue>(start: ProjectivePoint<F>, x: F, y: F) -> ProjectivePoint<F>
     ensures { numbers F.number result
-        ≡ jacobian_finite F.modulus (numbers F.number start) (spot_point (F.number x) (F.number y)) }
+        ≡ jacobian_finite F.modulus (numbers F.number start) (spot_point (F.number x)
+        (F.number y)) }
 {
     let square = start.z.times(start.z);
     let h = x.times(square).minus(start.x);

@@ -1,5 +1,6 @@
-//! The points of a curve y^2 = x^3 - 3x + b are a group, whose sums are by chords and tangents: a theorem, for every field over which
-//! the curve has no point of order 2. Besides, there are sums in Jacobian coordinates.
+//! The points of a curve y^2 = x^3 - 3x + b are a group, whose sums are by chords and tangents: a
+//! theorem, for every field over which the curve has no point of order 2. Besides, there are sums
+//! in Jacobian coordinates.
 #![tactic(auto)]
 
 ghost use Rattle.std.specs.Prelude.{ℕ};

@@ -10,8 +10,13 @@ ghost use Rattle.jsonwebtoken.specs.Laws.{HasLaws, KeepsWithMore};
 ghost use Rattle.jsonwebtoken.specs.Order.{Decides};
 ghost use Rattle.jsonwebtoken.specs.Refused.{DecidesByTest};
 ghost use Rattle.jsonwebtoken.specs.private_clauses.Refused.{tested};
-ghost use Rattle.jsonwebtoken.specs.private_clauses.Steps.{Asks, Finds, Step, ShowsClaims, ShowsKey, looking_in, parts_in, with_header, with_opening, whole};
-ghost use Rattle.jsonwebtoken.specs.Tests.{Compact, named_key, AgreesWith, CritIsUnderstood, KeyIsFound, KeyAlgorithmAgrees, KeyIsUsable, key_tests, algorithm_tests, verifying_tests, set_order, token_tests};
+ghost use Rattle.jsonwebtoken.specs.private_clauses.Steps.{Asks, Finds, Step, ShowsClaims};
+ghost use Rattle.jsonwebtoken.specs.private_clauses.Steps.{ShowsKey, looking_in, parts_in};
+ghost use Rattle.jsonwebtoken.specs.private_clauses.Steps.{with_header, with_opening, whole};
+ghost use Rattle.jsonwebtoken.specs.Tests.{Compact, named_key, AgreesWith, CritIsUnderstood};
+ghost use Rattle.jsonwebtoken.specs.Tests.{KeyIsFound, KeyAlgorithmAgrees, KeyIsUsable, key_tests};
+ghost use Rattle.jsonwebtoken.specs.Tests.{algorithm_tests, verifying_tests, set_order};
+ghost use Rattle.jsonwebtoken.specs.Tests.{token_tests};
 
 use crate::decoding::TokenData;
 use crate::decoding::crit::check_crit;
@@ -75,8 +80,8 @@ fn key_in_set(alloc: Global, set: &JwkSet, header: &Header) -> Result<DecodingKe
     Ok(key)
 }
 
-/// Returns the claims of a token that passes, by the key of the set that its header names, the tests
-/// that follow those of the header.
+/// Returns the claims of a token that passes, by the key of the set that its header names, the
+/// tests that follow those of the header.
 pub(crate) fn read_claims_by_set<P: CryptoProvider, T: Claims>(
     alloc: Global,
     provider: &P,
@@ -123,8 +128,8 @@ fn decode_with_set_noting<P: CryptoProvider, T: Claims>(
     }
 }
 
-/// Verifies a token like [`decode_with_set`]; a refusal has the first test that fails, and its error.
-/// If memory ran out, the refusal's error is `OutOfMemory`.
+/// Verifies a token like [`decode_with_set`]; a refusal has the first test that fails, and its
+/// error. If memory ran out, the refusal's error is `OutOfMemory`.
 pub fn decode_with_set_or_refusal<P: CryptoProvider, T: Claims>(
     alloc: Global,
     provider: &P,

@@ -8,8 +8,10 @@ ghost use Rattle.jsonwebtoken.specs.Calls.{decoding_by_set, Carries};
 ghost use Rattle.jsonwebtoken.specs.Own.{IsNamedBy, listed, named_own, own_of};
 ghost use Rattle.jsonwebtoken.specs.Refused.{DecidesByTest};
 ghost use Rattle.jsonwebtoken.specs.private_clauses.Refused.{tested};
-ghost use Rattle.jsonwebtoken.specs.private_clauses.Steps.{Step, ShowsClaims, parts_in, with_opening, whole};
-ghost use Rattle.jsonwebtoken.specs.Tests.{CritIsUnderstood, key_tests, algorithm_tests, verifying_tests, set_order, token_tests};
+ghost use Rattle.jsonwebtoken.specs.private_clauses.Steps.{Step, ShowsClaims, parts_in};
+ghost use Rattle.jsonwebtoken.specs.private_clauses.Steps.{with_opening, whole};
+ghost use Rattle.jsonwebtoken.specs.Tests.{CritIsUnderstood, key_tests, algorithm_tests};
+ghost use Rattle.jsonwebtoken.specs.Tests.{verifying_tests, set_order, token_tests};
 
 use crate::decoding::TokenData;
 use crate::decoding::key_set::read_claims_by_set;
@@ -63,8 +65,8 @@ fn list(validation: &mut Validation, own: Option<Algorithm>) -> Result<()>
     Ok(())
 }
 
-/// Returns the claims of a token that passes, by the key of the set that its header names and by the
-/// algorithm which that key is for, the tests that follow those of the header.
+/// Returns the claims of a token that passes, by the key of the set that its header names and by
+/// the algorithm which that key is for, the tests that follow those of the header.
 fn read_claims_by_own<P: CryptoProvider, T: Claims>(
     alloc: Global,
     provider: &P,
@@ -126,8 +128,8 @@ fn decode_by_own_noting<P: CryptoProvider, T: Claims>(
 
 /// Verifies a token like [`decode_with_set_or_refusal`](crate::decode_with_set_or_refusal), by the
 /// algorithm that the key of the set which its header names is for: the key's own `alg` is the only
-/// algorithm that is accepted, instead of those of `validation`, and stays listed there. If that key
-/// has no `alg`, or there is no such key, no algorithm is accepted.
+/// algorithm that is accepted, instead of those of `validation`, and stays listed there. If that
+/// key has no `alg`, or there is no such key, no algorithm is accepted.
 ///
 /// An algorithm of the key and never of the token is accepted (RFC 8725 section 3.1). The header is
 /// read once.

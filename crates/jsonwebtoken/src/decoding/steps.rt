@@ -1,7 +1,8 @@
 //! The tests of one condition, and the steps that the calls that read tokens share. Each makes some
 //! tests of an order that stand one after the other, and a refusal carries the one that fails.
 
-ghost use Rattle.std.specs.Prelude.{◌≡◌, ◌⊎◌, ◌↔◌, ◌++◌, ◌∷◌, ℕ, List, Some, None, IfOk, IfErr, IfSome, IfNone, IsSome, Contains, [], All};
+ghost use Rattle.std.specs.Prelude.{◌≡◌, ◌⊎◌, ◌↔◌, ◌++◌, ◌∷◌, ℕ, List, Some, None, IfOk, IfErr};
+ghost use Rattle.std.specs.Prelude.{IfSome, IfNone, IsSome, Contains, [], All};
 ghost use Rattle.serde_json.specs.Data.{Data};
 ghost use Rattle.serde_json.specs.Find.{as_object};
 ghost use Rattle.serde_json.specs.View.{view};
@@ -14,8 +15,20 @@ ghost use Rattle.jwt_header.specs.Header.{new_header};
 ghost use Rattle.jwt_validation.specs.OptionsOf.{options_of};
 ghost use Rattle.jsonwebtoken.specs.Calls.{decoding};
 ghost use Rattle.jsonwebtoken.specs.private_clauses.Refused.{tested};
-ghost use Rattle.jsonwebtoken.specs.private_clauses.Steps.{Asks, Finds, Meets, Step, ShowsNothing, ShowsHeader, ShowsClaims, bare, parts_in, with_header_part, with_payload_part, with_parts, with_header, with_opening, with_value, allowing, accepting, claiming, holding, reading, rule_tests, verifying_by};
-ghost use Rattle.jsonwebtoken.specs.Tests.{dot, Parts, ArePartsOf, Test, HasThreeParts, CritIsUnderstood, AlgorithmsAreListed, AlgorithmIsListed, VerifierIsMade, FamiliesAgree, SignatureIsAccepted, ClaimsRead, ClaimsAreAnObject, ClaimRulesHold, header_tests, algorithm_tests, signature_tests, payload_tests, claim_tests, verifying_tests};
+ghost use Rattle.jsonwebtoken.specs.private_clauses.Steps.{Asks, Finds, Meets, Step, ShowsNothing};
+ghost use Rattle.jsonwebtoken.specs.private_clauses.Steps.{ShowsHeader, ShowsClaims, bare};
+ghost use Rattle.jsonwebtoken.specs.private_clauses.Steps.{parts_in, with_header_part};
+ghost use Rattle.jsonwebtoken.specs.private_clauses.Steps.{with_payload_part, with_parts};
+ghost use Rattle.jsonwebtoken.specs.private_clauses.Steps.{with_header, with_opening, with_value};
+ghost use Rattle.jsonwebtoken.specs.private_clauses.Steps.{allowing, accepting, claiming, holding};
+ghost use Rattle.jsonwebtoken.specs.private_clauses.Steps.{reading, rule_tests, verifying_by};
+ghost use Rattle.jsonwebtoken.specs.Tests.{dot, Parts, ArePartsOf, Test, HasThreeParts};
+ghost use Rattle.jsonwebtoken.specs.Tests.{CritIsUnderstood, AlgorithmsAreListed};
+ghost use Rattle.jsonwebtoken.specs.Tests.{AlgorithmIsListed, VerifierIsMade, FamiliesAgree};
+ghost use Rattle.jsonwebtoken.specs.Tests.{SignatureIsAccepted, ClaimsRead, ClaimsAreAnObject};
+ghost use Rattle.jsonwebtoken.specs.Tests.{ClaimRulesHold, header_tests, algorithm_tests};
+ghost use Rattle.jsonwebtoken.specs.Tests.{signature_tests, payload_tests, claim_tests};
+ghost use Rattle.jsonwebtoken.specs.Tests.{verifying_tests};
 
 use crate::decoding::crit::check_crit;
 use crate::decoding::parts::TokenParts;
@@ -141,8 +154,8 @@ pub(crate) fn read_json(alloc: Global, test: Test, bytes: &[u8]) -> Result<Value
     with_test(test, json_value(alloc, bytes))
 }
 
-/// Returns the header with the algorithm and the type `JWT` alone, as [`Header::new`] does. A header
-/// is large, so it is made in the result here, and not moved from that of another call.
+/// Returns the header with the algorithm and the type `JWT` alone, as [`Header::new`] does. A
+/// header is large, so it is made in the result here, and not moved from that of another call.
 fn known_header(alloc: Global, algorithm: Algorithm) -> Result<Header>
     ensures ok { IfOk result (λ header. header ≡ new_header algorithm) }
     ensures err { IfErr result IsMemory }
@@ -344,7 +357,8 @@ pub(crate) fn verify_by_key<P: CryptoProvider, T: Claims>(
 ) -> Result<T, Refusal>
     ensures { let call = decoding P.CryptoProvider T.Claims
         provider.now [] key.now validation.now now in
-        Step call (algorithm_tests ++ verifying_tests) (with_opening (parts_in parts.now) header.now)
+        Step call (algorithm_tests ++ verifying_tests) (with_opening
+        (parts_in parts.now) header.now)
         (ShowsClaims T.reads) result }
 {
     let verifier = verifier_for(alloc, provider, header, key, validation)?;
@@ -352,7 +366,8 @@ pub(crate) fn verify_by_key<P: CryptoProvider, T: Claims>(
     Ok(claims)
 }
 
-/// Returns the claims of a token that passes, by the key, the tests that follow those of its header.
+/// Returns the claims of a token that passes, by the key, the tests that follow those of its
+/// header.
 pub(crate) fn read_claims_by_key<P: CryptoProvider, T: Claims>(
     alloc: Global,
     provider: &P,

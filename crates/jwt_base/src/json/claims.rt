@@ -1,6 +1,7 @@
 //! Values that are read from JSON and written as JSON.
 
-ghost use Rattle.std.specs.Prelude.{◌≡◌, Option, Some, None, true, IfOk, IfErr, option_map, string_bytes};
+ghost use Rattle.std.specs.Prelude.{◌≡◌, Option, Some, None, true, IfOk, IfErr, option_map};
+ghost use Rattle.std.specs.Prelude.{string_bytes};
 ghost use Rattle.std.proofs.Common.{◌∙◌, sym, ap};
 ghost use Rattle.std.specs.Int.{w32, w64};
 ghost use Rattle.serde_json.specs.Data.{Data, boolean, string, number, unsigned};

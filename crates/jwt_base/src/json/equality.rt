@@ -2,8 +2,10 @@
 
 ghost use Rattle.std.specs.Prelude.{◌≡◌, ◌↔◌, IsTrue, fold};
 ghost use Rattle.serde_json.specs.View.{view, number_view, items_view, members_view};
-ghost use Rattle.serde_json.specs.Written.{has_float as holds_float, items_have_float, members_have_float};
-ghost use Rattle.jwt_base.specs.DataEq.{num_eq, data_eq, items_eq, members_eq, marked, members_marked};
+ghost use Rattle.serde_json.specs.Written.{has_float as holds_float, items_have_float};
+ghost use Rattle.serde_json.specs.Written.{members_have_float};
+ghost use Rattle.jwt_base.specs.DataEq.{num_eq, data_eq, items_eq, members_eq, marked};
+ghost use Rattle.jwt_base.specs.DataEq.{members_marked};
 ghost use Rattle.jwt_base.specs.equality.NamesFed.{names_fed};
 
 use serde_json::{Map, Number, Value};

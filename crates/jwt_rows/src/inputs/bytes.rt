@@ -1,6 +1,7 @@
-//! Bytes, as a row describes them: a string stands for its UTF-8 bytes, a list for its pieces joined. A piece is a string,
-//! or an object: `{"hex": ..}` for these bytes, `{"repeat": .., "times": N}` for the string this many times, and
-//! `{"base64url": ..}` for the base64url text of a string or of a list of such pieces.
+//! Bytes, as a row describes them: a string stands for its UTF-8 bytes, a list for its pieces
+//! joined. A piece is a string, or an object: `{"hex": ..}` for these bytes, `{"repeat": ..,
+//! "times": N}` for the string this many times, and `{"base64url": ..}` for the base64url text of a
+//! string or of a list of such pieces.
 
 use crate::fault::Fault;
 use jwt_base::serialization::part_text;

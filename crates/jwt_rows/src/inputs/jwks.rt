@@ -1,6 +1,6 @@
-//! JSON Web Keys, sets of them and their parameters, as a row describes them: the JSON value that reads as it, or, for a
-//! key of the kind `Other` that no JSON value reads as, an object whose member `other` has the key's own members, besides
-//! those that keys of every kind may have.
+//! JSON Web Keys, sets of them and their parameters, as a row describes them: the JSON value that
+//! reads as it, or, for a key of the kind `Other` that no JSON value reads as, an object whose
+//! member `other` has the key's own members, besides those that keys of every kind may have.
 
 use crate::answer::{Answer, pair};
 use crate::fault::Fault;
@@ -51,8 +51,8 @@ pub fn parameters_of(alloc: Global, value: &Value) -> Result<AlgorithmParameters
     }
 }
 
-/// Returns the common parameters that a value describes. Its members `use_other` and `key_ops_other`, a name and a list
-/// of operations, set these fields.
+/// Returns the common parameters that a value describes. Its members `use_other` and
+/// `key_ops_other`, a name and a list of operations, set these fields.
 pub fn common_of(alloc: Global, value: &Value) -> Result<Box<CommonParameters>, Fault> {
     let mut common = Box::new(alloc, CommonParameters::from_value(alloc, value)?)?;
     set_use(alloc, &mut common, value)?;

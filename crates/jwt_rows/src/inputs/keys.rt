@@ -1,4 +1,5 @@
-//! Keys, as a row describes them: an object whose one member is named after the constructor, such as `{"secret": ..}`.
+//! Keys, as a row describes them: an object whose one member is named after the constructor, such
+//! as `{"secret": ..}`.
 
 use crate::fault::Fault;
 use crate::inputs::bytes::bytes_of;

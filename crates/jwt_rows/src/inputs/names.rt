@@ -1,5 +1,5 @@
-//! Values that are known by their names, as a row describes and shows them: the name of a known value, or an object
-//! `{"other": ..}` for a kept one, whatever its name.
+//! Values that are known by their names, as a row describes and shows them: the name of a known
+//! value, or an object `{"other": ..}` for a kept one, whatever its name.
 
 use crate::answer::{Answer, object};
 use crate::fault::Fault;

@@ -1,8 +1,8 @@
 //! Providers of signatures, as a row describes them at `provider`: `"StandardProvider"`,
-//! `"RsaProvider"`, `"YesProvider"`, `"NoProvider"`, `{"prepared": [[ALGORITHM, SECRET], ..]}` for a `PreparedHmac` of these secrets,
-//! `{"prepared_rsa": [[N, E], ..]}` for a `PreparedRsa` of these keys, or
-//! `{"table": [[ALGORITHM, KEY, MESSAGE, SIGNATURE], ..]}` for a `TableProvider` of these rows. A row
-//! that describes none means `HmacProvider`.
+//! `"RsaProvider"`, `"YesProvider"`, `"NoProvider"`, `{"prepared": [[ALGORITHM, SECRET], ..]}` for
+//! a `PreparedHmac` of these secrets, `{"prepared_rsa": [[N, E], ..]}` for a `PreparedRsa` of these
+//! keys, or `{"table": [[ALGORITHM, KEY, MESSAGE, SIGNATURE], ..]}` for a `TableProvider` of these
+//! rows. A row that describes none means `HmacProvider`.
 
 use crate::fault::Fault;
 use crate::inputs::bytes::bytes_of;

@@ -10,7 +10,8 @@ use jwt_rows::row::Row;
 use serde_json::Value;
 use std::alloc::Global;
 
-/// Makes the call of this name, if it is among those of this module. Of these no request for memory is refused.
+/// Makes the call of this name, if it is among those of this module. Of these no request for memory
+/// is refused.
 pub fn answer(call: &str, row: Row<'_>) -> Result<Option<Value>, Fault> {
     let answer = match call {
         "place" => place(row),

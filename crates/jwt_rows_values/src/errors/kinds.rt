@@ -1,4 +1,5 @@
-//! The kinds of errors, as rows name them: the name, followed in parentheses by the string that the kind holds.
+//! The kinds of errors, as rows name them: the name, followed in parentheses by the string that the
+//! kind holds.
 
 use jsonwebtoken::errors::ErrorKind;
 use jwt_rows::fault::Fault;

@@ -1,6 +1,7 @@
 //! A provider that looks signatures up in a table.
 
-ghost use Rattle.std.specs.Prelude.{◌≡◌, ℕ, List, Option, Ok, None, Some, IfOk, IfErr, option_map, codes};
+ghost use Rattle.std.specs.Prelude.{◌≡◌, ℕ, List, Option, Ok, None, Some, IfOk, IfErr, option_map};
+ghost use Rattle.std.specs.Prelude.{codes};
 ghost use Rattle.jwt_base.specs.Kind as kind;
 ghost use Rattle.jwt_base.specs.KindOf.{IsMemory, Refuses};
 ghost use Rattle.jwt_base.specs.Algorithm.{family_of};
@@ -9,7 +10,9 @@ ghost use Rattle.jwt_crypto.specs.Hmac.{hash_bytes};
 ghost use Rattle.jwt_crypto.specs.HmacKeys.{hash_named};
 ghost use Rattle.jwt_keys.specs.FamilyRefusal.{family_refusal};
 ghost use Rattle.jwt_test_providers.specs.law_proofs.Families.{bytes_refusal_of, bytes_made};
-ghost use Rattle.jwt_test_providers.specs.Table.{Entry, is_of, is_signed, HasRow, Accepts, first_signature, no_row, rsa_answer, ec_answer, ed_answer};
+ghost use Rattle.jwt_test_providers.specs.Table.{Entry, is_of, is_signed, HasRow, Accepts};
+ghost use Rattle.jwt_test_providers.specs.Table.{first_signature, no_row, rsa_answer, ec_answer};
+ghost use Rattle.jwt_test_providers.specs.Table.{ed_answer};
 ghost use Rattle.std.specs.List.{list_any};
 
 use jwt_base::algorithms::Algorithm;
