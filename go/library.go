@@ -80,7 +80,7 @@ func testText(test C.uint32_t) string {
 	return string(text)
 }
 
-// handle is a verifier of the library, which may be in one call at a time. The last three are what a call tells beside the claims.
+// handle is a verifier of the library, which may be in one call at a time. The last three are what a call returns besides the claims.
 type handle struct {
 	verifier C.struct_jwt_verifier
 	length   C.size_t

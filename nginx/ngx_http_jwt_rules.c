@@ -278,7 +278,7 @@ ngx_http_jwt_set_rules(ngx_conf_t *cf, ngx_http_jwt_loc_conf_t *conf)
 }
 
 
-/* Takes a fetched set in the place of the one before it, if it is usable. */
+/* Replaces the set with a fetched one, if that is usable. */
 uint32_t
 ngx_http_jwt_take_set(ngx_http_jwt_rules_t *rules, ngx_array_t *set)
 {

@@ -106,7 +106,7 @@ class PyJWT:
         json_encoder: type[json.JSONEncoder] | None = None,
         sort_headers: bool = False,
     ) -> str:
-        """Returns the token of the claims, signed with a secret by HMAC. The members of header and claims are in the order of names."""
+        """Returns the token of the claims, signed with a secret and HMAC. The members of header and claims are in the order of names."""
         claims = payload_of(payload, json_encoder)
         members = members_of(algorithm, headers)
         named = members["alg"]

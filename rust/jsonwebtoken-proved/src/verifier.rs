@@ -181,7 +181,7 @@ mod tests {
         (0..200).map(mean).min().unwrap()
     }
 
-    /// Prints what a token of 150 bytes by HS256 costs: `cargo test --release nanoseconds -- --ignored --nocapture`.
+    /// Prints what a token of 150 bytes with HS256 costs: `cargo test --release nanoseconds -- --ignored --nocapture`.
     #[test]
     #[ignore = "measures"]
     fn nanoseconds_of_a_call() {
