@@ -199,7 +199,11 @@ ngx_http_jwt_add_rules(ngx_pool_t *pool, ngx_http_jwt_loc_conf_t *conf,
 }
 
 
-/* Makes a verifier for each key file, and adds one for the set to fetch. */
+/*
+ * Makes a verifier for each key file, and adds one for the set to fetch.  This
+ * is done while the configuration is read, so that nginx keeps the old one if a
+ * file is bad; workers then use their copies.
+ */
 static char *
 ngx_http_jwt_make_verifiers(ngx_conf_t *cf, ngx_http_jwt_rules_t *rules)
 {

@@ -16,7 +16,7 @@ from .exceptions import DecodeError
 
 # Of these types, arguments that are equal are the same. One of a subclass may be equal to another.
 _PLAIN = {str, int, type(None)}
-# The most checkers that an object finds without reading the arguments again.
+# The most checkers that an object finds without reading the arguments again: PyJWT's interface has no object that is made once.
 _MOST = 64
 
 

@@ -80,7 +80,7 @@ pub struct Verifier {
     handles: Mutex<Handles>,
 }
 
-/// Handles of the library with the same keys and options.
+/// Handles of the library with the same keys and options. Each call has one, shared from the first and kept for the next call.
 struct Handles {
     /// It is only shared, and verifies nothing.
     first: Handle,
