@@ -49,8 +49,8 @@ def read(path):
 
 
 def source():
-    """Returns the path of the file, below the top of the repository."""
-    return next(it for it in (f"crates/{name}/src/arguments.rt" for name in CRATES) if os.path.isfile(f"{TOP}/{it}"))
+    """Returns the path of the file, below the top of the repository, or None."""
+    return next((it for it in (f"crates/{name}/src/arguments.rt" for name in CRATES) if os.path.isfile(f"{TOP}/{it}")), None)
 
 
 def algorithms():
