@@ -1,45 +1,32 @@
-# Completions of the command jwt for bash: source this file.
+# Completions of the command jwt for bash: source it. tools/command_pages writes this file.
 
 _jwt() {
-    local word=${COMP_WORDS[COMP_CWORD]} before=${COMP_WORDS[COMP_CWORD - 1]} command=${COMP_WORDS[1]}
-    local key='--secret-file --jwk --jwks --pem --trim'
-    local checks='--alg --aud --iss --sub --leeway --not-within --require --nbf --no-exp --strict --crit --typ --now --options'
-    local algorithms='HS256 HS384 HS512 RS256 RS384 RS512 PS256 PS384 PS512 ES256 ES384 EdDSA'
-    case $before in
-        --secret-file | --jwk | --jwks | --pem | --options | --claims)
-            COMPREPLY=($(compgen -f -- "$word"))
-            return
-            ;;
-        --alg)
-            [ "$command" != sign ] || algorithms='HS256 HS384 HS512'
-            COMPREPLY=($(compgen -W "$algorithms" -- "$word"))
-            return
-            ;;
-        --require)
-            COMPREPLY=($(compgen -W 'exp nbf aud iss sub' -- "$word"))
-            return
-            ;;
-        --hash)
-            COMPREPLY=($(compgen -W 'SHA256 SHA384 SHA512' -- "$word"))
-            return
-            ;;
-        --aud | --iss | --sub | --leeway | --not-within | --crit | --typ | --now | --kid | --exp-in | --nbf-in)
-            return
-            ;;
+    local word=${COMP_WORDS[COMP_CWORD]} words='' files=''
+    case "$COMP_CWORD ${COMP_WORDS[1]} ${COMP_WORDS[COMP_CWORD - 1]}" in
+        '1 '*) words='verify explain show sign keys jwk thumbprint help --help --version' ;;
+        *' verify --secret-file' | *' verify --jwk' | *' verify --jwks' | *' verify --pem' | *' verify --options') files=-f ;;
+        *' verify --alg') words='HS256 HS384 HS512 RS256 RS384 RS512 PS256 PS384 PS512 ES256 ES384 EdDSA' ;;
+        *' verify --aud' | *' verify --iss' | *' verify --sub' | *' verify --leeway' | *' verify --not-within' | *' verify --crit' | *' verify --typ' | *' verify --now') ;;
+        *' verify --require') words='exp nbf aud iss sub' ;;
+        *' verify '*) words='--secret-file --jwk --jwks --pem --trim --alg --aud --iss --sub --leeway --not-within --require --nbf --no-exp --strict --crit --typ --now --options --json --header --lines --help' ;;
+        *' explain --secret-file' | *' explain --jwk' | *' explain --jwks' | *' explain --pem' | *' explain --options') files=-f ;;
+        *' explain --alg') words='HS256 HS384 HS512 RS256 RS384 RS512 PS256 PS384 PS512 ES256 ES384 EdDSA' ;;
+        *' explain --aud' | *' explain --iss' | *' explain --sub' | *' explain --leeway' | *' explain --not-within' | *' explain --crit' | *' explain --typ' | *' explain --now') ;;
+        *' explain --require') words='exp nbf aud iss sub' ;;
+        *' explain '*) words='--secret-file --jwk --jwks --pem --trim --alg --aud --iss --sub --leeway --not-within --require --nbf --no-exp --strict --crit --typ --now --options --json --help' ;;
+        *' show --now') ;;
+        *' show '*) words='--now --json --help' ;;
+        *' sign --secret-file' | *' sign --claims') files=-f ;;
+        *' sign --alg') words='HS256 HS384 HS512' ;;
+        *' sign --kid' | *' sign --typ' | *' sign --exp-in' | *' sign --nbf-in' | *' sign --now') ;;
+        *' sign '*) words='--secret-file --trim --claims --alg --kid --typ --exp-in --nbf-in --iat --now --help' ;;
+        *' keys '*) words='--help' files=-f ;;
+        *' jwk '*) words='--help' files=-f ;;
+        *' thumbprint --hash') words='SHA256 SHA384 SHA512' ;;
+        *' thumbprint '*) words='--hash --help' files=-f ;;
+        *' help '*) words='verify explain show sign keys jwk thumbprint' ;;
     esac
-    if [ "$COMP_CWORD" -eq 1 ]; then
-        COMPREPLY=($(compgen -W 'verify explain show sign keys jwk thumbprint help --help --version' -- "$word"))
-        return
-    fi
-    case $command in
-        verify) COMPREPLY=($(compgen -W "$key $checks --json --header --lines --help" -- "$word")) ;;
-        explain) COMPREPLY=($(compgen -W "$key $checks --json --help" -- "$word")) ;;
-        show) COMPREPLY=($(compgen -W '--json --now --help' -- "$word")) ;;
-        sign) COMPREPLY=($(compgen -W '--secret-file --trim --claims --alg --kid --typ --exp-in --nbf-in --iat --now --help' -- "$word")) ;;
-        keys | jwk) COMPREPLY=($(compgen -f -W '--help' -- "$word")) ;;
-        thumbprint) COMPREPLY=($(compgen -f -W '--hash --help' -- "$word")) ;;
-        help) COMPREPLY=($(compgen -W 'verify explain show sign keys jwk thumbprint' -- "$word")) ;;
-    esac
+    mapfile -t COMPREPLY < <(compgen $files -W "$words" -- "$word")
 }
 
-complete -F _jwt jwt ./jwt
+complete -o filenames -F _jwt jwt ./jwt

@@ -243,7 +243,7 @@ func TestECDSASignature(t *testing.T) {
 	}
 }
 
-// TestMessages has the messages of tokens by all algorithms, as Python's json writes them, and a token by Ed25519 of Go.
+// TestMessages has the messages of tokens with all algorithms, as Python's json writes them, and a token with Go's Ed25519.
 func TestMessages(t *testing.T) {
 	seen := 0
 	rowsOf(t, vectors+"tokens_by_signature.jsonl", func(line []byte) {

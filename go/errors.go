@@ -38,7 +38,7 @@ var (
 	ErrKey = errors.New("jwt: the key does not serve")
 	// ErrOption is an option, a header or claims that are not understood.
 	ErrOption = errors.New("jwt: an argument is not understood")
-	// ErrOutOfMemory is no verdict on a token.
+	// ErrOutOfMemory means that the verification did not finish.
 	ErrOutOfMemory = errors.New("jwt: out of memory")
 )
 

@@ -12,7 +12,7 @@ import (
 	"time"
 )
 
-// ErrFetch is a set of keys that can't be fetched. It is no verdict on a token.
+// ErrFetch is a set of keys that can't be fetched. It says nothing about a token.
 var ErrFetch = errors.New("jwt: the set of keys can't be fetched")
 
 // largestSet is how many bytes a set that is fetched may have.

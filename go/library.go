@@ -80,7 +80,7 @@ func testText(test C.uint32_t) string {
 	return string(text)
 }
 
-// handle is a verifier of the library, which may be in one call at a time. The last three are what a call tells beside the claims.
+// handle is a verifier of the library, which may be in one call at a time. The last three are what a call returns besides the claims.
 type handle struct {
 	verifier C.struct_jwt_verifier
 	length   C.size_t
@@ -158,7 +158,8 @@ func (it *handle) decode(token string, now uint64) (*Token, error) {
 	}
 }
 
-// checkKey returns an error if the library does not read a key, or if others may have its secret or that of a key of the set.
+// checkKey returns an error if the library does not read a key, or if others may have its secret or that of a key of the set. The library
+// decides: a reader of our own could find another key in the same JSON, if names of members differ in case or are repeated.
 func checkKey(kind keyKind, text []byte) error {
 	at, length := slice(text)
 	var status C.uint32_t

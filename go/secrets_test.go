@@ -76,7 +76,7 @@ func madeWith(made []byte) []error {
 	return []error{bySecret, byJWK, bySet, signing}
 }
 
-// TestKeysThatAnyoneHas has secrets in JSON by which anyone can sign, behind members of other names. The library reads the very names,
+// TestKeysThatAnyoneHas has secrets in JSON with which anyone can sign, after members of other names. The library reads the very names,
 // and the last value of a name.
 func TestKeysThatAnyoneHas(t *testing.T) {
 	for _, it := range []string{

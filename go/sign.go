@@ -23,7 +23,7 @@ func Sign(claims any, secret []byte, algorithm string, header map[string]any) (s
 
 // SigningInput is what has to be signed for a token, with a key that is kept elsewhere, such as in a KMS or an HSM.
 type SigningInput struct {
-	// Algorithm is the algorithm to sign with.
+	// Algorithm is the algorithm of the signature.
 	Algorithm string
 	// Message has the bytes to be signed.
 	Message        []byte

@@ -28,7 +28,8 @@ type handlesOf struct {
 	err     error
 }
 
-// handles are those of the same keys and options, of which each call has one for itself.
+// handles are those of the same keys and options, of which each call has one for itself: an idle one, or a new one of the first. The
+// garbage collector lets idle ones go, and a finalizer frees them.
 type handles struct {
 	mutex sync.Mutex // of first
 	first *handle

@@ -70,7 +70,10 @@ typedef struct {
 } ngx_http_jwt_slot_t;
 
 
-/* shared by the locations whose keys, options and slot_count are the same */
+/*
+ * shared by the locations whose keys, options and slot_count are the same: a
+ * directive that changes a verdict changes the text of keys or options
+ */
 struct ngx_http_jwt_rules_s {
     ngx_http_jwt_rules_t     *next;
     ngx_http_jwt_loc_conf_t  *conf;     /* of the first location */

@@ -1,7 +1,10 @@
 #include "ngx_http_jwt.h"
 
 
-/* how many tokens a worker remembers by default, and at most */
+/*
+ * how many tokens a worker remembers by default, and at most: a token comes
+ * with many requests, and to verify it costs more than a small file
+ */
 #define NGX_HTTP_JWT_SLOTS  1024
 #define NGX_HTTP_JWT_MOST   1048576
 

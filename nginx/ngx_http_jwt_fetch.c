@@ -1,6 +1,8 @@
 /*
  * Fetches a set of keys by a subrequest in the background, which goes on if
  * the request that began it is answered before.  What needs the set waits.
+ * Each worker fetches for itself: a set in shared memory would need a verifier
+ * there.
  */
 #include "ngx_http_jwt.h"
 

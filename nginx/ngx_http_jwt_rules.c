@@ -199,7 +199,11 @@ ngx_http_jwt_add_rules(ngx_pool_t *pool, ngx_http_jwt_loc_conf_t *conf,
 }
 
 
-/* Makes a verifier for each key file, and adds one for the set to fetch. */
+/*
+ * Makes a verifier for each key file, and adds one for the set to fetch.  This
+ * is done while the configuration is read, so that nginx keeps the old one if a
+ * file is bad; workers then use their copies.
+ */
 static char *
 ngx_http_jwt_make_verifiers(ngx_conf_t *cf, ngx_http_jwt_rules_t *rules)
 {
@@ -278,7 +282,7 @@ ngx_http_jwt_set_rules(ngx_conf_t *cf, ngx_http_jwt_loc_conf_t *conf)
 }
 
 
-/* Takes a fetched set in the place of the one before it, if it is usable. */
+/* Replaces the set with a fetched one, if that is usable. */
 uint32_t
 ngx_http_jwt_take_set(ngx_http_jwt_rules_t *rules, ngx_array_t *set)
 {

@@ -1,4 +1,4 @@
-/* Issues tokens by RS256, ES256 and EdDSA with keys that the library never sees: OpenSSL signs, as a KMS or an HSM would, and the
+/* Issues tokens with RS256, ES256 and EdDSA and keys that the library never sees: OpenSSL signs, as a KMS or an HSM would, and the
    library does the rest. Each token is verified again with the public key as a JSON Web Key. The last line counts. */
 #include "jwtproved.h"
 #include <openssl/core_names.h>
@@ -67,7 +67,7 @@ static void write_jwk(struct signer *signer) {
 
 /* ---- the signature */
 
-/* Signs as a KMS does: by ES256 in DER. */
+/* Signs as a KMS does: with ES256, in DER. */
 static size_t sign(const struct signer *signer, const uint8_t *message, size_t message_len, uint8_t *signature, size_t room) {
     size_t len = room;
     EVP_MD_CTX *state = EVP_MD_CTX_new();
@@ -81,7 +81,7 @@ static size_t sign(const struct signer *signer, const uint8_t *message, size_t m
 
 /* ---- the token */
 
-/* Writes the token of the claims, and returns the status. `in_der` leaves a signature by ES256 as it is, by mistake. */
+/* Writes the token of the claims, and returns the status. `in_der` leaves a signature with ES256 as it is, by mistake. */
 static uint32_t issue(const struct signer *signer, const char *claims, bool in_der, uint8_t *token, size_t room, size_t *len) {
     char header[64];
     uint8_t message[1024], signature[512], der[512];
@@ -132,7 +132,7 @@ int main(void) {
         write_jwk(&signers[i]);
         right += says(&signers[i], CLAIMS, false, CLAIMS);
     }
-    /* DER in the place of the two numbers, and claims that are not issued */
+    /* DER instead of the two numbers, and claims that are not issued */
     right += says(&signers[1], CLAIMS, true, "Signing failed: ");
     right += says(&signers[1], "{\"exp\":1.5}", false, "JSON error");
     for (int i = 0; i < 3; i++) EVP_PKEY_free(signers[i].key);

@@ -1,4 +1,4 @@
-"""Issues tokens with RS256, ES256 and EdDSA, whose keys the library never sees: `cryptography` signs in the place of a KMS or an HSM.
+"""Issues tokens with RS256, ES256 and EdDSA, whose keys the library never sees: `cryptography` signs instead of a KMS or an HSM.
 Each token is verified again with the public key. The last line counts."""
 from cryptography.hazmat.primitives import hashes
 from cryptography.hazmat.primitives.asymmetric import ec, ed25519, padding, rsa
@@ -50,7 +50,7 @@ results = [
     answer("RS256", by_rsa, RSA) == CLAIMS,
     answer("ES256", by_curve, CURVE) == CLAIMS,
     answer("EdDSA", EDWARDS.sign, EDWARDS) == CLAIMS,
-    # DER in the place of the two numbers, and claims that are not issued
+    # DER instead of the two numbers, and claims that are not issued
     answer("ES256", in_der, CURVE).startswith("signature is not"),
     answer("ES256", by_curve, CURVE, {"exp": 2532524891, "weight": 1.5}).startswith("payload has a number"),
     "that of another payload" in exchanged(),

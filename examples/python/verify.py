@@ -28,7 +28,7 @@ def refusal(call, *arguments, **options):
 
 results = [
     by_secret.decode(TOKEN, now=2532524890) == CLAIMS,
-    # without a verifier, at the moment of the clock
+    # without a verifier, at the time of the clock
     jwt.decode(TOKEN, SECRET, algorithms=["HS256"]) == CLAIMS,
     by_set.decode(TOKEN, now=2532524950) == CLAIMS,
     by_curve.decode(ES256, now=1300819379) == ES256_CLAIMS,

@@ -1,6 +1,7 @@
 """Builds the wheel (PEP 517), with the shared library in it, which tools/prove library proves and builds if it has changed.
 
-With Python's headers and a C compiler, the calls that verify are compiled too (_fast.c); without, ctypes makes them.
+The wheel is a zip of a few files, so a build needs no other package and no network. With Python's headers and a C compiler, the calls
+that verify are compiled too (_fast.c); without, ctypes makes them.
 """
 import base64
 import glob

@@ -16,7 +16,7 @@ from .exceptions import DecodeError
 
 # Of these types, arguments that are equal are the same. One of a subclass may be equal to another.
 _PLAIN = {str, int, type(None)}
-# The most checkers that an object finds without reading the arguments again.
+# The most checkers that an object finds without reading the arguments again: PyJWT's interface has no object that is made once.
 _MOST = 64
 
 
@@ -106,7 +106,7 @@ class PyJWT:
         json_encoder: type[json.JSONEncoder] | None = None,
         sort_headers: bool = False,
     ) -> str:
-        """Returns the token of the claims, signed with a secret by HMAC. The members of header and claims are in the order of names."""
+        """Returns the token of the claims, signed with a secret and HMAC. The members of header and claims are in the order of names."""
         claims = payload_of(payload, json_encoder)
         members = members_of(algorithm, headers)
         named = members["alg"]

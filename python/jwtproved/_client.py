@@ -164,7 +164,7 @@ class PyJWKClient:
         self._keys = _Keys(lifespan, max_cached_keys) if cache_keys and not cache_jwk_set else None
         self._lock = threading.Lock()
         self._under_way: "Future[PyJWKSet] | None" = None
-        # before these times no set is fetched for an unknown kid, or in the place of one that is not fresh
+        # before these times no set is fetched for an unknown kid, or instead of one that is not fresh
         self._refetch_from = self._renew_from = -math.inf
 
     def fetch_data(self) -> Any:

@@ -53,7 +53,7 @@ def payload_of(payload: Mapping[str, Any], encoder: Encoder = None) -> bytes:
 
 
 def _whole(value: Any) -> Any:
-    """Returns a moment as whole seconds since 1970-01-01 00:00:00 UTC, if it is a date or a float."""
+    """Returns a time as whole seconds since 1970-01-01 00:00:00 UTC, if it is a date or a float."""
     if isinstance(value, datetime.datetime):
         return calendar.timegm(value.utctimetuple())
     return int(value) if isinstance(value, float) and value == value and abs(value) < 2**63 else value

@@ -1,6 +1,7 @@
 /*
- * Handles of one verifier, as _handles.py has them, without ctypes. Each is made, shared and freed with the interpreter's lock held;
- * a call that verifies takes one out of the idle ones, so that none is in two calls at once when the lock is released.
+ * Handles of one verifier, as _handles.py has them, without ctypes, which passes the arguments of a call in about as long as the library
+ * needs for the token. Each is made, shared and freed with the interpreter's lock held; a call that verifies takes one out of the idle
+ * ones, so that none is in two calls at once when the lock is released.
  */
 #define PY_SSIZE_T_CLEAN
 #include <Python.h>

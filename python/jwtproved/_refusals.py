@@ -32,7 +32,7 @@ _EXCEPTIONS: dict[int, tuple[type[Exception], str]] = {
 # The same, if a test of the payload failed.
 _OF_CLAIMS: dict[int, tuple[type[Exception], str]] = {
     Status.JSON: (exceptions.DecodeError, "Invalid payload string: must be a json object"),
-    # an exp of 0 is before each moment
+    # an exp of 0 is before every time
     Status.INVALID_TOKEN: (exceptions.ExpiredSignatureError, "Signature has expired"),
 }
 _TESTS_OF_CLAIMS = ("PayloadIsJson", "ClaimsAreAnObject", "ClaimRulesHold")

@@ -27,7 +27,7 @@ def token_of(name: str, value: Token) -> bytes:
 
 
 def moment_of(now: float | None) -> int:
-    """Returns a moment of the caller, or else that of the system clock, in whole seconds since 1970-01-01 00:00:00 UTC."""
+    """Returns a time of the caller, or else that of the system clock, in whole seconds since 1970-01-01 00:00:00 UTC."""
     if now is None:
         told = _clock()
         # NaN fails both comparisons
@@ -130,7 +130,7 @@ class Verifier:
         self._checker = Checker(material_of(key), rules, _longest(max_token_length))
 
     def decode(self, token: Token, now: float | None = None) -> dict[str, Any]:
-        """Returns the claims of a token, verified at the moment `now`, in seconds since 1970-01-01 00:00:00 UTC, or else at the clock's.
+        """Returns the claims of a token, verified at the time `now`, in seconds since 1970-01-01 00:00:00 UTC, or else at the clock's.
 
         A refusal raises an exception below InvalidTokenError.
         """

@@ -19,7 +19,7 @@ from proving.kit import tell
 CPU = "x86-64"
 PROGRAMS = ("jwt", "jwt_tool")
 START = f"{os.path.dirname(os.path.realpath(__file__))}/start.c"
-# What is linked to a program, beside the C library.
+# What is linked to a program, besides the C library.
 ARCHIVES = ("libos_c.a", "liblibc_c.a")
 # What runs before main or after it, and is called by neither the loader nor start.c.
 AROUND_MAIN = re.compile(r"\s(\.(?:ctors|dtors|init))\s")

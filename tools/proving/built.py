@@ -1,4 +1,4 @@
-"""Tells by contents, not by times, whether a file was built from a crate's sources as they are."""
+"""Tells whether a file was built from a crate's sources as they are: by contents, and not by times, which a copy of a checkout changes."""
 import hashlib
 import os
 

@@ -10,7 +10,7 @@ import subprocess
 import sys
 
 TOP = os.path.dirname(os.path.dirname(os.path.dirname(os.path.realpath(__file__))))
-# The logic by which everything here was proved.
+# The logic by which everything here was proved. A kit with another logic is used all the same: the verdict is then that kit's.
 LOGIC = "dac8208d650f15bf"
 MISSING = "the Rattle kit is missing: put the folder bin of a kit on the PATH, or use a release that somebody built, as docs/INSTALL.md says"
 

@@ -65,7 +65,9 @@ def development(it):
 
 
 def command(it):
-    found = unix.programs(it, "usr/bin", ("jwt",)) | unix.completions("usr/share") | unix.manual("usr/share", "docs/jwt.1", True)
+    found = unix.programs(it, "usr/bin", ("jwt",)) | unix.manual("usr/share", "docs/jwt.1", True)
+    # Debian's zsh looks for those of packages there
+    found |= unix.completions("usr/share", "vendor-completions")
     return found, f"libc6 (>= {elf.glibc(it.program('jwt'))})", {}
 
 

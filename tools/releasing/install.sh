@@ -1,7 +1,7 @@
 #!/bin/sh
 # Installs the library for C and the commands of this folder. What is installed needs nothing of this folder.
 #
-#   ./install.sh PREFIX       to PREFIX/bin, PREFIX/include, PREFIX/lib and PREFIX/share; DESTDIR stands in front of it
+#   ./install.sh PREFIX       to PREFIX/bin, PREFIX/include, PREFIX/lib and PREFIX/share; DESTDIR is prepended
 set -eu
 stop() {
     echo "install.sh: $1; the usage is ./install.sh PREFIX" >&2

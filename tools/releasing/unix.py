@@ -33,8 +33,10 @@ def programs(it, bindir, names):
     return {f"{bindir}/{name}": file(it.program(name), 0o755) for name in names}
 
 
-def completions(datadir):
-    return {f"{datadir}/bash-completion/completions/jwt": file(f"{TOP}/completions/jwt.bash")}
+def completions(datadir, of_zsh):
+    """Returns the completions for each shell; those for zsh are in the folder `of_zsh`."""
+    places = {"bash": "bash-completion/completions/jwt", "zsh": f"zsh/{of_zsh}/_jwt", "fish": "fish/vendor_completions.d/jwt.fish"}
+    return {f"{datadir}/{place}": file(f"{TOP}/completions/jwt.{shell}") for shell, place in places.items()}
 
 
 def manual(datadir, page, is_zipped):
@@ -47,6 +49,6 @@ def tarball(it, proof):
     """Returns the files of the archive for everyone, which can also be used where it is unpacked."""
     pc = pkg_config(it, "${pcfiledir}/../..", "${prefix}/include", "${prefix}/lib")
     made = {**shared(it, "lib"), **development(it, "include", "lib", pc), **programs(it, "bin", ("jwt", "jwt_tool"))}
-    made |= completions("share") | manual("share", "docs/jwt.1", False) | manual("share", "c/jwtproved.3", False)
+    made |= completions("share", "site-functions") | manual("share", "docs/jwt.1", False) | manual("share", "c/jwtproved.3", False)
     made |= {"LICENSE": file(f"{TOP}/LICENSE"), "PROOF.txt": text(proof), "install.sh": file(f"{TOP}/tools/releasing/install.sh", 0o755)}
     return made

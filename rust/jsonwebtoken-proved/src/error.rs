@@ -39,9 +39,9 @@ pub enum Error {
     Signing,
     /// An argument is not understood: the text says which one.
     Argument(String),
-    /// A set of keys can't be fetched. This is no verdict on a token.
+    /// A set of keys can't be fetched. This says nothing about a token.
     Fetch(String),
-    /// Memory ran out in the library. This is no verdict on a token.
+    /// Memory ran out in the library, so the verification did not finish.
     OutOfMemory,
     /// The system clock is before 1970-01-01 00:00:00 UTC, so that no token can be judged.
     ClockBeforeEpoch,

@@ -93,7 +93,7 @@ impl SigningInput {
     }
 }
 
-/// Returns a signature by ES256 or ES384 as a token has it, from one in DER (RFC 3279 section 2.2.3), as OpenSSL and a KMS make it. Another
+/// Returns a signature with ES256 or ES384 as a token has it, from one in DER (RFC 3279 section 2.2.3), as OpenSSL and a KMS make it. Another
 /// algorithm is [`Error::Algorithm`], and bytes that are not the DER of two numbers of its length are [`Error::Signature`].
 pub fn ecdsa_signature(der: &[u8], algorithm: Algorithm) -> Result<Vec<u8>, Error> {
     calls::ecdsa_signature(der, algorithm.number()).map_err(Error::from_status)

@@ -80,7 +80,7 @@ pub struct Verifier {
     handles: Mutex<Handles>,
 }
 
-/// Handles of the library with the same keys and options.
+/// Handles of the library with the same keys and options. Each call has one, shared from the first and kept for the next call.
 struct Handles {
     /// It is only shared, and verifies nothing.
     first: Handle,
@@ -181,7 +181,7 @@ mod tests {
         (0..200).map(mean).min().unwrap()
     }
 
-    /// Prints what a token of 150 bytes by HS256 costs: `cargo test --release nanoseconds -- --ignored --nocapture`.
+    /// Prints what a token of 150 bytes with HS256 costs: `cargo test --release nanoseconds -- --ignored --nocapture`.
     #[test]
     #[ignore = "measures"]
     fn nanoseconds_of_a_call() {
