@@ -1,5 +1,9 @@
 //! Reading tokens whose signature is checked by cryptography elsewhere.
 
+// `decode_by_verdict` says in one relation what `decode` with the verdict's provider comes to
+// (`IsVouched`); times and looser options are not said again, since they are said of `decode`.
+// `by_signature` has `IsSignedElsewhere` likewise.
+
 ghost use Rattle.std.specs.Prelude.{◌≡◌};
 ghost use Rattle.jsonwebtoken.specs.Calls.{HasSigned};
 ghost use Rattle.jsonwebtoken.specs.Order.{Decides};

@@ -1,5 +1,9 @@
 //! Reading tokens in their compact form (RFC 7515 section 7.1).
 
+// `decode` and `decode_with_set` note the test that fails besides their result (`decode_noting`),
+// and the calls that return it put both together. A result with the test in its error is of another
+// type, and turning one into the other moves the header, which is large, once more for each token.
+
 ghost use Rattle.std.specs.Prelude.{◌≡◌, ℕ, List, IfOk};
 ghost use Rattle.jwt_base.specs.Algorithm.{family_of};
 ghost use Rattle.jwt_keys.specs.Key.{key_family};

@@ -1,5 +1,7 @@
 //! Tokens in parts, as the members of the flattened JSON form (RFC 7515 section 7.2.2).
 
+// One function more, `decode_parts`, borrows the text that `decode_by_steps` joins of the parts.
+
 ghost use Rattle.std.specs.Prelude.{◌≡◌, ◌↔◌, ◌++◌, ◌∷◌, ℕ, List, Some, None, IfOk, IfErr};
 ghost use Rattle.std.specs.Prelude.{string_bytes};
 ghost use Rattle.serde_json.specs.View.{view};

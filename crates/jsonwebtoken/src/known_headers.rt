@@ -1,6 +1,11 @@
 //! The header parts that most tokens have, known by their texts: those that stand for an algorithm
 //! and the type `JWT` alone. Such a part need not be read, and such a header need not be written.
 
+// Four header parts are known by their texts, those of HS256, RS256, ES256 and EdDSA with the type
+// `JWT` alone, which most tokens have. Such a part gives its header without being read, and such a
+// header its part without being written; that reading and writing would give the same is proved by
+// computing the text, the bytes and the value.
+
 ghost use Rattle.std.specs.Prelude.{◌≡◌, IfSome, IsTrue};
 ghost use Rattle.jwt_header.specs.Header.{new_header};
 ghost use Rattle.jsonwebtoken.specs.private_clauses.KnownHeaders.{IsKnownHeader};

@@ -3,6 +3,12 @@
 //! C may write nothing into a struct that points to a value with a count, so the pointer is one to
 //! bytes, and the struct says itself what it owns.
 
+// A verifier is a struct of the caller's that holds a pointer, all zeros at first, as `regex_t` is
+// used, and not a pointer that a call returns: so a slip has a status, such as a use after the
+// struct was freed. An export may not take a pointer to a value with a count, so the struct holds
+// one to bytes, and says in its model what it owns: at null nothing, otherwise a box with its
+// value. This code and its proofs know nothing of tokens.
+
 ghost use Rattle.std.specs.Prelude.{◌≡◌, Option, Some, None, MatchOption};
 ghost use Rattle.std.specs.Coded.{coded_option};
 ghost use Rattle.jwt_c.specs.Owned.{handle_owns};

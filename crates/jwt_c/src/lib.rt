@@ -2,6 +2,11 @@
 //!
 //! The clause of each call says that the status, the length and the buffer hold a result that the
 //! library's own definitions allow. Nothing is kept between calls but the verifiers that C holds.
+
+// A call has one clause: some result is that of the library's own definitions, and exactly it
+// stands in status, length and buffer. Since a first failed test is one only if nothing passes,
+// accepted and refused exclude each other, and no further clause says that nothing is lost.
+
 #![tactic(auto)]
 
 ghost use Rattle.std.specs.Prelude.{◌≡◌, ℕ, List, length, None, Some, MatchOption};

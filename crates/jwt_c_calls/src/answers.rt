@@ -1,5 +1,11 @@
 //! The results of the calls for C, before they are written to the caller's buffer.
 
+// Returned claims are written anew from the value that was validated: it does not matter then what
+// the caller's own reader makes of a member that stands twice. Keys and sets are verified by
+// `StandardProvider`, since a caller in C can't choose a provider, and secrets by `HmacProvider`.
+// Numbers that are not exact are refused by a call of its own, `jwt_check_numbers`, since
+// `Validation::from_value` has no option for it.
+
 ghost use Rattle.std.specs.Prelude.{◌≡◌, ◌⊎◌, [], Some, false, IfOk, IfErr, OnOk};
 ghost use Rattle.serde_json.specs.View.{view};
 ghost use Rattle.serde_json.specs.Written.{has_float};

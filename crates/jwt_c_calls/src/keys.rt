@@ -1,5 +1,10 @@
 //! The options and the key that a call is given, which are read before the token.
 
+// A key is the text of a JSON Web Key, which one call takes for all four families. The text names
+// the family, so that the bytes of a public key never serve as a secret (RFC 8725 section 2.1); no
+// call that verifies parses PEM or DER. The key's `alg` and `use` are not compared with the token,
+// as `from_jwk` does not: the options say which algorithms count, with one key as with a secret.
+
 ghost use Rattle.std.specs.Prelude.{◌≡◌, IfOk, IfErr};
 ghost use Rattle.jwt_base.specs.JsonText.{ReadsText};
 ghost use Rattle.jwt_base.specs.declared.algorithms.AlgorithmFamily.TheVariants as family;

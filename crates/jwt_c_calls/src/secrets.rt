@@ -1,5 +1,8 @@
 //! The results of the calls for C that tell by which secrets and keys anyone can sign.
 
+// Calls of their own report secrets with which anyone can sign; the stateless calls verify exactly
+// as `decode`.
+
 ghost use Rattle.std.specs.Prelude.{◌≡◌, List, IfOk, IfErr};
 ghost use Rattle.jwt_base.specs.JsonText.{ReadsText};
 ghost use Rattle.jwt_base.specs.KindOf.{IsMemory};

@@ -1,5 +1,10 @@
 //! Statuses, algorithms as numbers, and writing a result to the caller's buffer.
 
+// A status says which registered claim is meant: no state is kept between calls, so the name has to
+// be in the number, or the caller would have to ask again with all that it gave. Missing claims
+// have 40 to 59 and malformed ones 60 to 79, so that a further claim has its status next to the
+// others. Algorithms are numbered from 1, so that a number that nobody set is not one.
+
 ghost use Rattle.std.specs.Prelude.{◌≡◌, ◌≤◌, Some, IfOk, IfErr, map, option_map, slice_get};
 ghost use Rattle.jwt_base.specs.KindOf.{kind_held};
 ghost use Rattle.jwt_c_calls.specs.Calls.{refusal_status};

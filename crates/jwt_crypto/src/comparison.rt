@@ -1,5 +1,9 @@
 //! A comparison that does not stop early.
 
+// Bytes are compared by a fold without an early stop, in the verifiers and in the search for a
+// prepared secret. No contract speaks of time; `crates/jwt_bench` shows that the built code has no
+// exit that depends on content.
+
 ghost use Rattle.std.specs.Prelude.{◌≡◌, ◌↔◌, IsTrue};
 
 /// Returns whether the two are the same. If their lengths are, every byte of both is read, and no

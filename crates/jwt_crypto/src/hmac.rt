@@ -1,5 +1,10 @@
 //! The provider of HMAC (RFC 2104) with SHA-2 (RFC 7518 section 3.2).
 
+// Signer and verifier keep no copy of a secret, but its two padded blocks of 128 bytes, of which
+// the first 64 count for HS256; a ghost field says that one padded key gives both. They are made
+// without a request for memory, which is tested, while a contract says only that `OutOfMemory`
+// never comes. Whoever reads a block can compute the padded secret, so it is as secret.
+
 ghost use Rattle.std.specs.Prelude.{◌≡◌, ◌≢◌, ◌↔◌, ⊤, ℕ, ◌≤◌, List, ◌++◌, Option, Ok, Some, None};
 ghost use Rattle.std.specs.Prelude.{IfOk, IfErr, OnOk, IsOk, IsTrue, length, take};
 ghost use Rattle.jwt_base.specs.Kind as kind;

@@ -1,5 +1,11 @@
 //! The provider of HMAC with secrets that are prepared once.
 
+// `kept` alone says that the held hashers serve. A signer or verifier has two forms, by hashers
+// that were kept or by a secret's blocks anew: for a secret that is not prepared the second is no
+// slower than `HmacProvider`, while hashers made for one token would be. `zeroize` makes the
+// hashers those of the zeros, since hashers that had taken the secret's blocks in would still sign
+// for it.
+
 ghost use Rattle.std.specs.Prelude.{◌≡◌, ◌≢◌, ◌↔◌, ⊤, ℕ, List, [], ◌∷◌, ◌++◌, map, length, Option};
 ghost use Rattle.std.specs.Prelude.{Ok, Some, None, IfOk, IfErr, IfSome, IsSome, OnOk, IsOk};
 ghost use Rattle.std.specs.Prelude.{IsTrue};

@@ -1,6 +1,11 @@
 //! A secret that is kept for many messages: the hashers that have taken its two blocks in (RFC 2104
 //! section 4).
 
+// A verifier keeps two hashers and no block. They hold a secret's blocks (`HoldSecret`), but which
+// secret can't be told from them, up to a collision of the hash's steps. So a signature is defined
+// as the code under every secret that they hold, of which there is at least one (a ghost field),
+// and which all give one code.
+
 ghost use Rattle.std.specs.Prelude.{◌≡◌, ◌↔◌, ℕ, List, ◌++◌, IfOk, IfErr, IsTrue};
 ghost use Rattle.jwt_base.specs.KindOf.{IsMemory};
 ghost use Rattle.jwt_keys.specs.Key.{zeros};

@@ -1,5 +1,11 @@
 //! A provider of one signature, which was made elsewhere: of one message, by one algorithm.
 
+// It makes no verifier, since a signature that is accepted because it was given would be no
+// verification. The length is tested if the algorithm fixes one: the commonest mistake, DER instead
+// of the two numbers, gives a token that nobody can verify. That of RSA is the modulus', which the
+// issuer does not have here; an empty signature, as a signer that failed may leave, is refused all
+// the same.
+
 ghost use Rattle.std.specs.Prelude.{◌≡◌, ◌≢◌, ⊤, ℕ, List, [], Err, None, Some, IsTrue, IfOk, IfErr};
 ghost use Rattle.std.specs.Prelude.{OnOk, ◌↔◌};
 ghost use Rattle.jwt_base.specs.Algorithm.{family_of};

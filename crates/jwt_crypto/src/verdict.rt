@@ -1,5 +1,7 @@
 //! A provider of one verdict: yes or no to one signature of one message, by one algorithm.
 
+// It borrows message and signature, so that neither it nor its verifiers allocate.
+
 ghost use Rattle.std.specs.Prelude.{◌≡◌, ◌↔◌, ⊤, ℕ, List, [], Err, None, Some, IsTrue, IfOk, IfErr};
 ghost use Rattle.jwt_base.specs.Algorithm.{family_of};
 ghost use Rattle.jwt_base.specs.Kind as kind;

@@ -1,5 +1,9 @@
 //! The provider of EdDSA.
 
+// Keys are tested when a verifier is made, and not at the signature: a key that is no point of its
+// curve is a fault of whoever configured it, and is `InvalidKeyFormat`, while a signature by a
+// right key can only be accepted or not.
+
 ghost use Rattle.std.specs.Prelude.{◌≡◌, ◌↔◌, ⊤, ℕ, List, None, Some, IsTrue, IfOk, IfErr};
 ghost use Rattle.jwt_base.specs.Kind as kind;
 ghost use Rattle.jwt_base.specs.KindOf.{kind_of};

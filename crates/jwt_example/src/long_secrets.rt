@@ -1,5 +1,9 @@
 //! A custom provider: HMAC that requires secrets as long as the code, as RFC 7518 section 3.2 does.
 
+// A caller's provider is shown by one that stands on `HmacProvider`, since it needs no cryptography
+// of its own: it refuses short secrets, which RFC 7518 section 3.2 asks and this library leaves to
+// the caller.
+
 ghost use Rattle.std.specs.Prelude.{◌≡◌, ℕ, List, None, Some, ⊤};
 ghost use Rattle.jwt_base.specs.Kind as kind;
 ghost use Rattle.jwt_crypto.specs.HmacKeys.{hmac_answers, HmacSigns, HmacAccepts};

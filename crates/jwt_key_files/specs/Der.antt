@@ -1,4 +1,5 @@
 -- The distinguished encoding (ITU-T X.690 sections 8 and 10): an element is a tag, the octets of a length, and the content.
+-- Definitions write an element and never read one: that there is one way to read follows, by proof.
 use Rattle.std.specs.Prelude.{ℕ, zero, suc, ◌+◌, ◌/◌, ◌%◌, ◌<◌, List, [], ◌∷◌, ◌++◌, length, slice_index, nat_eq, nat_lt, if◌then◌else◌}
 
 -- the last octets of a number, at most so many of them, without leading zeros

@@ -1,5 +1,11 @@
 //! Blocks of text that hold bytes (RFC 7468).
 
+// PEM is read in its strict form (RFC 7468 section 3), which OpenSSL and most programs write: lines
+// of 64 characters, no spaces at their ends, no headers, one way to end the lines of a block. So a
+// block's text is settled by its bytes but for the line ends, and that is how it is read: the lines
+// are made anew of the characters, and compared. The first block counts, so that no key is searched
+// for past one that was refused.
+
 ghost use Rattle.std.specs.Prelude.{◌≡◌, ◌≢◌, ℕ, ◌≤◌, List, [], ◌∷◌, ◌++◌, IfOk, IfErr};
 ghost use Rattle.std.specs.Prelude.{MatchOption, IsTrue, length, take, drop, codes, ◌↔◌};
 ghost use Rattle.jwt_base.specs.KindOf.{IsMemory};

@@ -1,5 +1,8 @@
 //! Public keys, read from X.509 certificates.
 
+// A chain, its dates and its uses are another library's work; who has verified them, or pins the
+// certificate, needs the key alone.
+
 ghost use Rattle.std.specs.Prelude.{◌≡◌, ◌≢◌, ◌⊎◌, ℕ, List, [], ◌∷◌, ◌++◌, IfOk, IfErr};
 ghost use Rattle.std.specs.Prelude.{MatchOption};
 ghost use Rattle.jwt_base.specs.KindOf.{kind_of, IsMemory};

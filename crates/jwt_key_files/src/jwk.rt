@@ -1,5 +1,8 @@
 //! JSON Web Keys of public keys in PEM.
 
+// The JSON Web Key of a key in PEM needs no provider, since the key has its numbers;
+// `HmacProvider`, which reads no keys, stands in.
+
 ghost use Rattle.std.specs.Prelude.{◌≡◌, ◌⊎◌, IfOk, IfErr};
 ghost use Rattle.jwt_base.specs.KindOf.{kind_of, IsMemory};
 ghost use Rattle.jwt_keys.specs.Key.{Key};

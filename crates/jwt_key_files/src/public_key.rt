@@ -1,5 +1,10 @@
 //! Public keys, read from DER.
 
+// A key is refused with the kinds that other calls use for keys: `InvalidKeyFormat`, and
+// `UnsupportedAlgorithm` if only its algorithm is another. A private key is known by the version
+// that it begins with, or by its label in PEM, and refused with `Provider`, the kind that holds any
+// string: whoever gives the wrong file of a pair learns which it was. It is not decoded.
+
 ghost use Rattle.std.specs.Prelude.{◌≡◌, ◌⊎◌, ◌≤◌, Some, None, IfOk, IfErr, MatchOption};
 ghost use Rattle.jwt_base.specs.Kind as kind;
 ghost use Rattle.jwt_base.specs.KindOf.{kind_of, IsMemory, RefusesAs};

@@ -1,5 +1,8 @@
 //! A JSON Web Key.
 
+// `from_slice` reads a text in one call: a caller with a file would otherwise write the pair of
+// calls, and prove that a text which is no JSON reads as nothing (`ReadsText`).
+
 ghost use Rattle.std.specs.Prelude.{◌≡◌, ◌↔◌, ◌⊎◌, IsTrue, List, ℕ, Ok, Some, None, false, IfOk};
 ghost use Rattle.std.specs.Prelude.{IfErr, string_bytes};
 ghost use Rattle.serde_json.specs.View.{view, members_view};

@@ -1,5 +1,10 @@
 //! The traits of signers, verifiers and their providers, with the laws that every provider proves.
 
+// Each provider writes the five calls that read keys and make digests itself, also if it refuses
+// them all. A body in the trait is proved for every provider, whatever its `key_answers`, and a
+// refusal is right only for those that refuse. A trait of its own for keys would make
+// `Jwk::from_decoding_key` and `Jwk::thumbprint` take a second provider.
+
 ghost use Rattle.std.specs.Prelude.{◌≡◌, ◌≢◌, ◌↔◌, ℕ, List, Option, Ok, Some, None, IfOk, IfErr};
 ghost use Rattle.std.specs.Prelude.{OnOk, IsOk, IsTrue, string_bytes};
 ghost use Rattle.jwt_base.specs.Kind.{Kind};

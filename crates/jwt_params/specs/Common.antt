@@ -1,5 +1,8 @@
 -- The parameters that keys of every type may have (RFC 7517 section 4): how they are read from a
 -- JSON value, and how they are written.
+-- Members are fields of a record, and not rows. A list of rows (name, reading, written value) was tried: one lemma
+-- each way proved at once for any rows. But the general part is longer than what it saves in two records, and a fact
+-- of a field loses its name: another order of the rows would silently change which one is meant.
 use Rattle.std.specs.Prelude.{◌≡◌, IsTrue, ℕ, List, [], ◌∷◌, Some, None, option_map, is_some, codes}
 use Rattle.serde_json.specs.Data.{Data, string, object, Members, no_members}
 use Rattle.serde_json.specs.Find.{get, as_str, as_object}

@@ -1,5 +1,8 @@
 //! The parameters that keys of every type may have.
 
+// A list of names is a function (`common_names`, `header_names`) and no constant, so that its
+// clause says that it is the list of the definition.
+
 ghost use Rattle.std.specs.Prelude.{◌≡◌, ◌↔◌, IsTrue, Some, None, IfOk, IfErr, OnOk, option_map};
 ghost use Rattle.std.specs.Prelude.{map, codes};
 ghost use Rattle.serde_json.specs.Find.{get};

@@ -1,5 +1,8 @@
 //! The type of a key with its parameters.
 
+// The four types with parameters of their own are tried on the whole object, and only if none fits
+// are the further members copied, without those that the type `Other` would drop.
+
 ghost use Rattle.std.specs.Prelude.{◌≡◌, ◌↔◌, IsTrue, Some, None, IfOk, IfErr};
 ghost use Rattle.serde_json.specs.Data.{object};
 ghost use Rattle.serde_json.specs.View.{view, members_view};

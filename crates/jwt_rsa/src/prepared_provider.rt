@@ -1,5 +1,9 @@
 //! The provider of RSA with keys that are prepared once.
 
+// A reference to `PreparedRsa` is the provider, and not the value: its verifiers borrow the
+// prepared key, so their lifetime is that of the reference. A verifier that owned its key would
+// have to copy, or to prepare the modulus again.
+
 ghost use Rattle.std.specs.Prelude.{◌≡◌, ◌≢◌, ◌↔◌, ℕ, List, Some, None, IfOk, IfErr, OnOk};
 ghost use Rattle.jwt_base.specs.Kind as kind;
 ghost use Rattle.jwt_base.specs.KindOf.{kind_of, Refuses};

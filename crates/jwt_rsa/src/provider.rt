@@ -1,5 +1,8 @@
 //! The provider of RSA.
 
+// A verifier is made of components alone, so that a key in DER is read once, by
+// `public_key_from_der`, and not for each token.
+
 ghost use Rattle.std.specs.Prelude.{◌≡◌, ◌↔◌, ℕ, List, Some, None, Ok, IsTrue, IfOk, IfErr, OnOk};
 ghost use Rattle.jwt_base.specs.Kind as kind;
 ghost use Rattle.jwt_base.specs.KindOf.{kind_of, IsMemory, RefusesAs};

@@ -4,6 +4,10 @@
 //! A public key is known, so that anyone could sign with its text as a secret of HMAC (RFC 8725
 //! sections 2.1 and 3.1).
 
+// A secret is the text of a key by the marks of its form, and need not be one that the library
+// reads: a key of another curve, or one in PEM that was cut, is as well known. Only DER is known by
+// the tags in it, since it has no mark.
+
 ghost use Rattle.std.specs.Prelude.{◌≡◌, ◌≢◌, ◌↔◌, ◌++◌, ℕ, List, IfOk, IfErr, MatchOption, IsTrue};
 ghost use Rattle.std.specs.Prelude.{map};
 ghost use Rattle.std.specs.List.{Any};

@@ -1,5 +1,9 @@
 //! The check of claims by the rules.
 
+// `validate` makes the tests and the refusal apart: nothing on the way to `Ok` returns
+// `OutOfMemory`, and only the two kinds that hold a claim's name may become it. Sums of times are
+// made in 128 bits.
+
 ghost use Rattle.std.specs.Prelude.{◌≡◌, ◌↔◌, IsOk, OnOk, IfErr, IsSome, MatchOption};
 ghost use Rattle.serde_json.specs.Find.{as_object};
 ghost use Rattle.serde_json.specs.View.{view};

@@ -1,5 +1,8 @@
 //! Reading a validation from JSON.
 
+// No algorithm is chosen and no member ignored: a misspelt `audience` would otherwise be an
+// audience that nobody checks.
+
 ghost use Rattle.std.specs.Prelude.{◌≡◌, ℕ, Bool, List, Some, None, [], false, map, IfOk, IfErr};
 ghost use Rattle.std.specs.Prelude.{MatchResult, option_map, string_bytes, codes};
 ghost use Rattle.std.specs.HashSet.{contains_text};

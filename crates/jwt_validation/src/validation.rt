@@ -1,5 +1,8 @@
 //! The options that the claims of a token are checked against.
 
+// A set of texts is the standard library's `HashSet`, which a contract sees as a test of texts. Two
+// `Validation`s are equal if they ask for the same, their sets as sets.
+
 ghost use Rattle.std.specs.Prelude.{◌≡◌, ◌||◌, IfOk, IfErr, OnOk, OnErr, Some, None, option_map};
 ghost use Rattle.std.specs.Prelude.{string_bytes, ◌∷◌, []};
 ghost use Rattle.std.specs.HashSet.{contains_text};

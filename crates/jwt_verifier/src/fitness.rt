@@ -1,5 +1,8 @@
 //! Whether a verifier can be made of keys, for algorithms.
 
+// Keys that serve nobody, or everybody, are refused: a service finds out when it starts, and not by
+// its first token. Keys with which anyone can sign are allowed by a named argument, for tests.
+
 ghost use Rattle.std.specs.Prelude.{◌≡◌, ◌⊎◌, ◌↔◌, None, IfOk, IfErr, OnOk, IsTrue};
 ghost use Rattle.jwt_base.specs.KindOf.{IsMemory};
 ghost use Rattle.jwt_standard.specs.StandardKeys.{verifier_refusal};

@@ -1,5 +1,9 @@
 //! What a verifier allows its keys and its tokens.
 
+// The bound on a token's length is the verifier's, and no option of `Validation`, whose members are
+// those of the crate that this is a port of. It is compared before anything is read: reading a
+// header takes some 25 times its length in memory.
+
 ghost use Rattle.std.specs.Prelude.{◌≡◌};
 ghost use Rattle.jwt_verifier.specs.Fitness.{token_limit, usual_limits};
 

@@ -1,5 +1,7 @@
 //! Verifying many tokens with the same keys and options.
 
+// `Rejection` is an error of its own, since a token that is too long fails no test of `decode`.
+
 ghost use Rattle.std.specs.Prelude.{◌≡◌, ◌↔◌, ◌<◌, ◌≤◌, ℕ, List, length, IfOk, IfErr, IsTrue, OnOk};
 ghost use Rattle.jwt_base.specs.KindOf.{IsMemory};
 ghost use Rattle.jsonwebtoken.specs.Calls.{Carries};

@@ -1,5 +1,8 @@
 //! The extensions that a header asks its receiver to understand (RFC 7515 section 4.1.11).
 
+// Repeats are looked for last, after each name is found among those that the receiver understands:
+// a repeat then shows within as many names as are understood, however long the list is.
+
 ghost use Rattle.std.specs.Prelude.{◌≡◌, ◌≢◌, ◌↔◌, IsTrue, IsSome, AllPairs, All};
 ghost use Rattle.std.specs.HashSet.{contains_text};
 ghost use Rattle.serde_json.specs.Find.{get_member};

@@ -1,5 +1,9 @@
 //! The three parts of a token.
 
+// A token is four slices (`TokenParts`), which the steps share by reference: header, payload and
+// signature part, and the message that is signed. That the message is header part, dot, payload
+// part is a ghost field, shown once, when the text is cut or `jws` joins it; no step joins.
+
 ghost use Rattle.std.specs.Prelude.{◌≡◌, ◌++◌, ◌∷◌};
 ghost use Rattle.jsonwebtoken.specs.Tests.{dot};
 

@@ -1,6 +1,18 @@
 //! The tests of one condition, and the steps that the calls that read tokens share. Each makes some
 //! tests of an order that stand one after the other, and a refusal carries the one that fails.
 
+// Dots are found from the end by `memchr`'s reverse search, so that a long payload is not walked
+// byte by byte. The header is lent, not held, since a large value that is owned when a call may be
+// refused is proved to be dropped at each such place. A call ends with `Ok(x)` after `let x = f()?`
+// if its proof says of `x` which tests it has passed: without a name the proof has to repeat the
+// callee's case split. The claim rules look at a payload's value first, and then it is given up to
+// the claims, but the claims' refusal is returned first. That `decode` gives each refusal its own
+// kind is shown here by wrong bodies: of the whole `decode` a right body in the form of the wrong
+// one is refused too, and so is one in which a step passes a refusal on with `?`. A `crit` that is
+// not understood, a missing or an unlisted algorithm, one of another family, a wrong signature, and
+// claims that are no object are made `InvalidToken`, and a key of a set for another algorithm
+// `NoKey`; each is refused for its meaning.
+
 ghost use Rattle.std.specs.Prelude.{◌≡◌, ◌⊎◌, ◌↔◌, ◌++◌, ◌∷◌, ℕ, List, Some, None, IfOk, IfErr};
 ghost use Rattle.std.specs.Prelude.{IfSome, IfNone, IsSome, Contains, [], All};
 ghost use Rattle.serde_json.specs.Data.{Data};
