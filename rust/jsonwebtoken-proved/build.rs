@@ -23,6 +23,8 @@ fn main() -> ExitCode {
 }
 
 fn refused(why: &str) -> ExitCode {
-    eprintln!("the library jwtproved is missing; `make -C c install` in a checkout of its repository installs it: {why}");
+    eprintln!(
+        "the library jwtproved is missing; `make -C c install` in a checkout of its repository installs it: {why}"
+    );
     ExitCode::FAILURE
 }

@@ -1,6 +1,8 @@
 //! Verifies tokens by a secret, by a key and by a key set, logs why others are refused, and issues one. The last line counts.
 
-use jsonwebtoken_proved::{encode_json, Algorithm, DecodingKey, EncodingKey, Error, Header, Refusal, Validation, Verified, Verifier};
+use jsonwebtoken_proved::{
+    Algorithm, DecodingKey, EncodingKey, Error, Header, Refusal, Validation, Verified, Verifier, encode_json,
+};
 
 /// The shortest secret for HS256 (RFC 7518 section 3.2). A real secret comes from a file, and is random.
 const SECRET: &[u8] = b"0123456789abcdef0123456789abcdef";
@@ -37,8 +39,14 @@ fn answers() -> Result<Vec<(String, &'static str)>, Error> {
         (shown(by_secret.decode_json(TOKEN, EXP + 61)), "the token has expired: ClaimRulesHold"),
         (shown(by_set.decode_json(TOKEN, EXP)), CLAIMS),
         (shown(of_a_service.decode_json(TOKEN, EXP)), "the required claim aud is missing or malformed: ClaimRulesHold"),
-        (shown(by_key.decode_json(ES256, 1300819379)), r#"{"exp":1300819380,"http://example.com/is_root":true,"iss":"joe"}"#),
-        (shown(by_key.decode_json(&ES256.replace("DtEh", "DtEi"), 1300819379)), "the signature is wrong: SignatureIsAccepted"),
+        (
+            shown(by_key.decode_json(ES256, 1300819379)),
+            r#"{"exp":1300819380,"http://example.com/is_root":true,"iss":"joe"}"#,
+        ),
+        (
+            shown(by_key.decode_json(&ES256.replace("DtEh", "DtEi"), 1300819379)),
+            "the signature is wrong: SignatureIsAccepted",
+        ),
         (encode_json(&header, CLAIMS, &EncodingKey::from_secret(SECRET)?)?, TOKEN),
     ])
 }

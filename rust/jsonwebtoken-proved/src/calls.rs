@@ -110,8 +110,20 @@ pub fn decode_verdict(token: &str, signed: Signed<'_>, verdict: bool, options: &
     // SAFETY: each slice has the length that is given, and the buffer overlaps none
     text(token.len() + 64, |buffer, size, len| unsafe {
         declared::jwt_decode_verdict(
-            token.as_ptr(), token.len(), algorithm, message.as_ptr(), message.len(), signature.as_ptr(), signature.len(), verdict,
-            options.as_ptr(), options.len(), now, buffer, size, len,
+            token.as_ptr(),
+            token.len(),
+            algorithm,
+            message.as_ptr(),
+            message.len(),
+            signature.as_ptr(),
+            signature.len(),
+            verdict,
+            options.as_ptr(),
+            options.len(),
+            now,
+            buffer,
+            size,
+            len,
         )
     })
 }
@@ -125,7 +137,15 @@ pub fn encode(header: &str, claims: &str, secret: &[u8]) -> Result<String, u32> 
     // SAFETY: each slice has the length that is given, and the buffer overlaps none
     text(room(header, claims), |buffer, size, len| unsafe {
         declared::jwt_encode_hmac(
-            header.as_ptr(), header.len(), claims.as_ptr(), claims.len(), secret.as_ptr(), secret.len(), buffer, size, len,
+            header.as_ptr(),
+            header.len(),
+            claims.as_ptr(),
+            claims.len(),
+            secret.as_ptr(),
+            secret.len(),
+            buffer,
+            size,
+            len,
         )
     })
 }
@@ -136,7 +156,14 @@ pub fn signing_input(header: &str, claims: &str) -> Result<(u32, String), u32> {
     // SAFETY: each slice has the length that is given, and the buffer overlaps none
     let message = text(room(header, claims), |buffer, size, len| unsafe {
         declared::jwt_signing_input(
-            header.as_ptr(), header.len(), claims.as_ptr(), claims.len(), &mut algorithm, buffer, size, len,
+            header.as_ptr(),
+            header.len(),
+            claims.as_ptr(),
+            claims.len(),
+            &mut algorithm,
+            buffer,
+            size,
+            len,
         )
     })?;
     Ok((algorithm, message))
@@ -147,8 +174,18 @@ pub fn encode_signature(header: &str, claims: &str, signed: Signed<'_>) -> Resul
     // SAFETY: each slice has the length that is given, and the buffer overlaps none
     text(room(header, claims) + 2 * signature.len(), |buffer, size, len| unsafe {
         declared::jwt_encode_signature(
-            header.as_ptr(), header.len(), claims.as_ptr(), claims.len(), algorithm, message.as_ptr(), message.len(),
-            signature.as_ptr(), signature.len(), buffer, size, len,
+            header.as_ptr(),
+            header.len(),
+            claims.as_ptr(),
+            claims.len(),
+            algorithm,
+            message.as_ptr(),
+            message.len(),
+            signature.as_ptr(),
+            signature.len(),
+            buffer,
+            size,
+            len,
         )
     })
 }

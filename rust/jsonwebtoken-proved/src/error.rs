@@ -54,7 +54,9 @@ impl Error {
         match status {
             status::INVALID_SIGNATURE => Error::Signature,
             status::INVALID_ALGORITHM_NAME | status::INVALID_ALGORITHM | status::MISSING_ALGORITHM => Error::Algorithm,
-            status::UNSUPPORTED_ALGORITHM | status::INVALID_KEY_FORMAT | status::BAD_SET | status::BAD_KEY => Error::Key(text()),
+            status::UNSUPPORTED_ALGORITHM | status::INVALID_KEY_FORMAT | status::BAD_SET | status::BAD_KEY => {
+                Error::Key(text())
+            }
             status::BLANK_KEY | status::KEY_AS_SECRET => Error::Key(text()),
             status::UNFIT_KEY => Error::Key(format!("{}, and of a set only keys with a kid count", text())),
             status::TOKEN_TOO_LONG => Error::TooLong,

@@ -1,6 +1,6 @@
 //! A verifier of the library, `struct jwt_verifier`.
 
-use crate::calls::{checked, text, Kind};
+use crate::calls::{Kind, checked, text};
 use crate::declared;
 use std::ptr;
 
@@ -66,7 +66,15 @@ impl Handle {
         // SAFETY: no other call has this verifier, the slice has the length that is given, and the buffer does not overlap it
         let claims = text(token.len() + 64, |buffer, size, len| unsafe {
             declared::jwt_verifier_decode(
-                &mut self.0, token.as_ptr(), token.len(), now, buffer, size, len, &mut last, &mut test,
+                &mut self.0,
+                token.as_ptr(),
+                token.len(),
+                now,
+                buffer,
+                size,
+                len,
+                &mut last,
+                &mut test,
             )
         });
         match claims {

@@ -1,6 +1,6 @@
 use crate::calls::{self, Kind};
 use crate::handle::Handle;
-use crate::{status, validation, Algorithm, Error};
+use crate::{Algorithm, Error, status, validation};
 use std::fmt;
 
 /// A key that tokens are verified by.
@@ -161,7 +161,8 @@ mod tests {
             let (secret, refused) = secret(row);
             let jwk = format!(r#"{{"kty":"oct","kid":"a","k":"{}"}}"#, base64url(&secret));
             let set = format!(r#"{{"keys":[{{"kty":"AKP","kid":"b"}},{jwk}]}}"#);
-            let made = [DecodingKey::from_secret(&secret), DecodingKey::from_jwk(&jwk), DecodingKey::from_jwk_set(&set)];
+            let made =
+                [DecodingKey::from_secret(&secret), DecodingKey::from_jwk(&jwk), DecodingKey::from_jwk_set(&set)];
             let made = made.map(|it| it.map(|_| ())).into_iter().chain([EncodingKey::from_secret(&secret).map(|_| ())]);
             for it in made {
                 assert_eq!(matches!(it, Err(Error::Key(_))), refused, "{it:?}: {row}");

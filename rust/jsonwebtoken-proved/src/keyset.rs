@@ -4,7 +4,7 @@ use crate::calls;
 use crate::{DecodingKey, Error, Refusal, Validation, Verified, Verifier};
 use std::fmt::{self, Display};
 use std::io::Read;
-use std::panic::{catch_unwind, AssertUnwindSafe};
+use std::panic::{AssertUnwindSafe, catch_unwind};
 use std::sync::{Arc, Condvar, Mutex, MutexGuard, PoisonError};
 use std::thread;
 use std::time::{Duration, Instant};
@@ -28,7 +28,11 @@ pub struct Rotation {
 
 impl Default for Rotation {
     fn default() -> Rotation {
-        Rotation { refresh: Duration::from_secs(300), refetch: Duration::from_secs(10), timeout: Duration::from_secs(10) }
+        Rotation {
+            refresh: Duration::from_secs(300),
+            refetch: Duration::from_secs(10),
+            timeout: Duration::from_secs(10),
+        }
     }
 }
 

@@ -34,9 +34,9 @@ mod validation;
 mod verifier;
 
 pub use error::Error;
-pub use key::{thumbprint, DecodingKey, EncodingKey, ThumbprintHash};
+pub use key::{DecodingKey, EncodingKey, ThumbprintHash, thumbprint};
 pub use keyset::{KeySet, Rotation};
-pub use signature::{decode_by_verdict, ecdsa_signature, signed_part, SignedPart, SigningInput, Verdict};
+pub use signature::{SignedPart, SigningInput, Verdict, decode_by_verdict, ecdsa_signature, signed_part};
 #[cfg(feature = "serde")]
 pub use typed::{decode, encode};
 pub use validation::{Algorithm, Claim, Validation};
@@ -97,7 +97,12 @@ impl ToHeader for str {
 /// integers beyond 64 bits, are written as the nearest double.
 ///
 /// A [`Verifier`] is made for this call, with its limit of 1 MiB and its errors; make one yourself for many tokens.
-pub fn decode_json(token: &str, key: &DecodingKey, validation: &Validation, now: u64) -> Result<TokenData<String>, Error> {
+pub fn decode_json(
+    token: &str,
+    key: &DecodingKey,
+    validation: &Validation,
+    now: u64,
+) -> Result<TokenData<String>, Error> {
     let claims = Verifier::new(key, validation)?.decode_json(token, now)?.claims;
     Ok(TokenData { header: decode_header(token)?, claims })
 }
@@ -126,14 +131,15 @@ fn seconds_of(time: SystemTime) -> Result<u64, Error> {
 
 #[cfg(test)]
 mod tests {
-    use super::{get_current_timestamp, seconds_of, Error};
+    use super::{Error, get_current_timestamp, seconds_of};
     use std::path::{Path, PathBuf};
     use std::time::{Duration, UNIX_EPOCH};
 
     /// Returns the text of a file of the repository. In a copy of the crate, JWT_ROWS names a file of the repository.
     pub fn file_of_repository(path: &str) -> String {
         let ours = concat!(env!("CARGO_MANIFEST_DIR"), "/../..");
-        let named = std::env::var("JWT_ROWS").ok().and_then(|it| Path::new(&it).ancestors().nth(4).map(Path::to_path_buf));
+        let named =
+            std::env::var("JWT_ROWS").ok().and_then(|it| Path::new(&it).ancestors().nth(4).map(Path::to_path_buf));
         std::fs::read_to_string(named.unwrap_or_else(|| PathBuf::from(ours)).join(path)).unwrap()
     }
 

@@ -38,10 +38,16 @@ pub fn signed_part(token: &str) -> Result<SignedPart<'_>, Error> {
 ///
 /// A no, or a verdict on another message or signature than the token's, is [`Error::Signature`]. A verdict by another algorithm than the
 /// token's is [`Error::Algorithm`].
-pub fn decode_by_verdict(token: &str, verdict: &Verdict<'_>, validation: &Validation, now: u64) -> Result<TokenData<String>, Error> {
+pub fn decode_by_verdict(
+    token: &str,
+    verdict: &Verdict<'_>,
+    validation: &Validation,
+    now: u64,
+) -> Result<TokenData<String>, Error> {
     let Verdict { algorithm, message, signature, is_accepted } = *verdict;
     let signed = Signed { algorithm: algorithm.number(), message, signature };
-    let claims = calls::decode_verdict(token, signed, is_accepted, &validation.options()?, now).map_err(Error::from_status)?;
+    let claims =
+        calls::decode_verdict(token, signed, is_accepted, &validation.options()?, now).map_err(Error::from_status)?;
     Ok(TokenData { header: crate::decode_header(token)?, claims })
 }
 
@@ -111,6 +117,9 @@ mod tests {
         let signed = Signed { algorithm, message: message.as_bytes(), signature: &[1; 32] };
         assert!(calls::encode_signature(header, claims, signed).is_ok());
         assert_eq!(calls::encode_signature(header, r#"{"exp":2}"#, signed), Err(status::SIGNING));
-        assert_eq!(calls::encode_signature(header, claims, Signed { algorithm: 13, ..signed }), Err(status::INVALID_ALGORITHM_NAME));
+        assert_eq!(
+            calls::encode_signature(header, claims, Signed { algorithm: 13, ..signed }),
+            Err(status::INVALID_ALGORITHM_NAME)
+        );
     }
 }

@@ -1,9 +1,12 @@
 //! Claims of any type that serde reads and writes.
 
-use crate::{decode_json, encode_json, get_current_timestamp, DecodingKey, EncodingKey, Error, KeySet, Refusal, ToHeader, TokenData};
+use crate::{
+    DecodingKey, EncodingKey, Error, KeySet, Refusal, ToHeader, TokenData, decode_json, encode_json,
+    get_current_timestamp,
+};
 use crate::{Validation, Verified, Verifier};
-use serde::de::DeserializeOwned;
 use serde::Serialize;
+use serde::de::DeserializeOwned;
 
 fn read<T: DeserializeOwned>(claims: &str) -> Result<T, Error> {
     serde_json::from_str(claims).map_err(|error| Error::Json(error.to_string()))
@@ -17,7 +20,11 @@ fn typed<T: DeserializeOwned>(verified: &Verified<String>) -> Result<Verified<T>
 /// type, are [`Error::Json`]. A clock before 1970-01-01 00:00:00 UTC is [`Error::ClockBeforeEpoch`].
 ///
 /// A [`Verifier`] is made for this call; make one yourself for many tokens.
-pub fn decode<T: DeserializeOwned>(token: &str, key: &DecodingKey, validation: &Validation) -> Result<TokenData<T>, Error> {
+pub fn decode<T: DeserializeOwned>(
+    token: &str,
+    key: &DecodingKey,
+    validation: &Validation,
+) -> Result<TokenData<T>, Error> {
     let data = decode_json(token, key, validation, get_current_timestamp()?)?;
     Ok(TokenData { claims: read(&data.claims)?, header: data.header })
 }

@@ -1,4 +1,4 @@
-use crate::{json, Error};
+use crate::{Error, json};
 use std::fmt;
 use std::str::FromStr;
 
@@ -112,7 +112,8 @@ impl FromStr for Claim {
     type Err = Error;
 
     fn from_str(name: &str) -> Result<Claim, Error> {
-        let found = [Claim::Exp, Claim::Nbf, Claim::Aud, Claim::Iss, Claim::Sub].into_iter().find(|it| it.name() == name);
+        let found =
+            [Claim::Exp, Claim::Nbf, Claim::Aud, Claim::Iss, Claim::Sub].into_iter().find(|it| it.name() == name);
         found.ok_or_else(|| Error::Argument(format!("{name:?} is not one of exp, nbf, aud, iss and sub")))
     }
 }
@@ -167,7 +168,12 @@ impl Validation {
     /// Accepts this algorithm, with the library's strict defaults: without leeway, a token is refused from the time of its `exp` on (RFC
     /// 7519 section 4.1.4), and `nbf` is checked.
     pub fn strict(algorithm: Algorithm) -> Validation {
-        Validation { leeway: 0, reject_tokens_expiring_in_less_than: 1, validate_nbf: true, ..Validation::new(algorithm) }
+        Validation {
+            leeway: 0,
+            reject_tokens_expiring_in_less_than: 1,
+            validate_nbf: true,
+            ..Validation::new(algorithm)
+        }
     }
 
     /// Accepts tokens for one of these audiences, and requires `aud`: a token that names none is
@@ -226,9 +232,9 @@ impl Validation {
 #[cfg(test)]
 mod tests {
     use super::{Algorithm, Validation};
-    use crate::calls::{encode, Kind};
-    use crate::handle::Handle;
     use crate::Error;
+    use crate::calls::{Kind, encode};
+    use crate::handle::Handle;
 
     /// RFC 7519 sections 4.1.4 and 4.1.5, and that claims that are asked for are required.
     #[test]

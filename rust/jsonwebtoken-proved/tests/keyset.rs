@@ -1,12 +1,12 @@
 //! A set of keys that is fetched from a server on the loopback, which rotates them and misbehaves.
 
 use jsonwebtoken_proved::{
-    decode_json, encode_json, Algorithm, DecodingKey, EncodingKey, Error, Header, KeySet, Rotation, Validation,
+    Algorithm, DecodingKey, EncodingKey, Error, Header, KeySet, Rotation, Validation, decode_json, encode_json,
 };
 use std::io::{self, Cursor, Read, Write};
 use std::net::{SocketAddr, TcpListener, TcpStream};
 use std::sync::atomic::{AtomicUsize, Ordering};
-use std::sync::mpsc::{channel, Receiver};
+use std::sync::mpsc::{Receiver, channel};
 use std::sync::{Arc, Mutex};
 use std::thread;
 use std::time::{Duration, Instant};
@@ -66,7 +66,11 @@ struct Server {
 impl Server {
     fn new(first: Answer) -> Server {
         let listening = TcpListener::bind("127.0.0.1:0").unwrap();
-        let server = Server { at: listening.local_addr().unwrap(), answer: Arc::new(Mutex::new(first)), fetches: Arc::default() };
+        let server = Server {
+            at: listening.local_addr().unwrap(),
+            answer: Arc::new(Mutex::new(first)),
+            fetches: Arc::default(),
+        };
         let (answer, fetches) = (Arc::clone(&server.answer), Arc::clone(&server.fetches));
         thread::spawn(move || {
             for accepted in listening.incoming() {
@@ -198,7 +202,10 @@ fn misbehaving() -> Vec<(&'static str, Answer)> {
         ("serves a set and 500", sends(head("500 Oops", length) + &set)),
         ("serves nothing", says("")),
         ("serves more than 1 MiB", says(set.clone() + &" ".repeat(1 << 20))),
-        ("serves more than 1 MiB without a length", sends(format!("HTTP/1.1 200 OK\r\n\r\n{set}{}", " ".repeat(1 << 20)))),
+        (
+            "serves more than 1 MiB without a length",
+            sends(format!("HTTP/1.1 200 OK\r\n\r\n{set}{}", " ".repeat(1 << 20))),
+        ),
         ("serves without end", Answer::Endless),
         ("serves null", says("null")),
         ("serves a list", says("[]")),
@@ -207,8 +214,14 @@ fn misbehaving() -> Vec<(&'static str, Answer)> {
         ("serves keys that are no list", says(r#"{"keys":{"a":1}}"#)),
         ("serves a key without a kid", says(set.replace(r#""kid":"b","#, ""))),
         ("serves a kid in a text", says(set.replace(r#""kid":"b","#, r#""x":"{\"kid\":\"b\",","#))),
-        ("serves keys of an unknown kind", says(r#"{"keys":[{"kty":"x","kid":"b"},{"kty":"EC","crv":"P-521","kid":"b","x":"AA","y":"AA"}]}"#)),
-        ("serves a point that is on no curve", says(r#"{"keys":[{"kty":"EC","crv":"P-256","kid":"b","x":"AQAB","y":"AQAB"}]}"#)),
+        (
+            "serves keys of an unknown kind",
+            says(r#"{"keys":[{"kty":"x","kid":"b"},{"kty":"EC","crv":"P-521","kid":"b","x":"AA","y":"AA"}]}"#),
+        ),
+        (
+            "serves a point that is on no curve",
+            says(r#"{"keys":[{"kty":"EC","crv":"P-256","kid":"b","x":"AQAB","y":"AQAB"}]}"#),
+        ),
         ("serves a secret that is empty", says(r#"{"keys":[{"kty":"oct","kid":"b","k":""}]}"#)),
         ("serves deep lists", says("[".repeat(100_000))),
         ("serves what is not UTF-8", says(b"{\"keys\":[\"\xff\"]}")),
@@ -273,7 +286,8 @@ fn unknown_kids_cause_few_fetches() {
 
 #[test]
 fn a_server_that_misbehaves_changes_nothing() {
-    let tests: Vec<_> = misbehaving().into_iter().map(|(name, it)| (name, thread::spawn(move || misbehaves(&it)))).collect();
+    let tests: Vec<_> =
+        misbehaving().into_iter().map(|(name, it)| (name, thread::spawn(move || misbehaves(&it)))).collect();
     let failed: Vec<_> = tests.into_iter().filter_map(|(name, it)| it.join().is_err().then_some(name)).collect();
     assert_eq!(failed, [""; 0]);
 }

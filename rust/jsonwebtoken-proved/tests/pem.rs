@@ -1,6 +1,6 @@
 //! Public keys in PEM: those of the tokens of RFC 7515 and RFC 8037, as Python's cryptography writes them.
 
-use jsonwebtoken_proved::{decode_json, Algorithm, DecodingKey, Error, Validation, Verifier};
+use jsonwebtoken_proved::{Algorithm, DecodingKey, Error, Validation, Verifier, decode_json};
 
 const RSA: &str = "-----BEGIN PUBLIC KEY-----
 MIIBIjANBgkqhkiG9w0BAQEFAAOCAQ8AMIIBCgKCAQEAofgWCuLjybRlzo0tZWJj
@@ -47,12 +47,16 @@ fn claims(key: &DecodingKey, algorithm: Algorithm, token: &str) -> Result<String
 #[test]
 fn tokens_of_the_keys() {
     let rsa = format!("eyJhbGciOiJSUzI1NiJ9.{PAYLOAD}.{RS256}");
-    for (made, pem) in [(DecodingKey::from_pem as Made, RSA), (DecodingKey::from_rsa_pem, RSA), (DecodingKey::from_rsa_pem, PKCS1)] {
+    for (made, pem) in
+        [(DecodingKey::from_pem as Made, RSA), (DecodingKey::from_rsa_pem, RSA), (DecodingKey::from_rsa_pem, PKCS1)]
+    {
         assert_eq!(claims(&made(pem.as_bytes()).unwrap(), Algorithm::RS256, &rsa).unwrap(), CLAIMS);
     }
     let ec = format!("eyJhbGciOiJFUzI1NiJ9.{PAYLOAD}.{ES256}");
     let with_text = format!("Issued by hand\n{EC}");
-    for (made, pem) in [(DecodingKey::from_pem as Made, EC), (DecodingKey::from_ec_pem, EC), (DecodingKey::from_ec_pem, &with_text)] {
+    for (made, pem) in
+        [(DecodingKey::from_pem as Made, EC), (DecodingKey::from_ec_pem, EC), (DecodingKey::from_ec_pem, &with_text)]
+    {
         assert_eq!(claims(&made(pem.as_bytes()).unwrap(), Algorithm::ES256, &ec).unwrap(), CLAIMS);
     }
     for made in [DecodingKey::from_pem as Made, DecodingKey::from_ed_pem] {

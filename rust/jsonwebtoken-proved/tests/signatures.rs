@@ -1,8 +1,8 @@
 //! Signatures that are checked or made elsewhere, and thumbprints.
 
 use jsonwebtoken_proved::{
-    decode_by_verdict, decode_json, ecdsa_signature, signed_part, thumbprint, Algorithm, DecodingKey, Error, Header, SignedPart,
-    SigningInput, ThumbprintHash, Validation, Verdict,
+    Algorithm, DecodingKey, Error, Header, SignedPart, SigningInput, ThumbprintHash, Validation, Verdict,
+    decode_by_verdict, decode_json, ecdsa_signature, signed_part, thumbprint,
 };
 
 // RFC 7515 appendix A.3
@@ -65,9 +65,9 @@ fn a_verdict_on_something_else() {
 const CLAIMS: &str = r#"{"aud":"my-service","exp":2532524891}"#;
 /// The signature of the claims by ES256 and the key of RFC 7515 appendix A.3, as Python's cryptography made it.
 const DER: [u8; 71] = [
-    48, 69, 2, 33, 0, 155, 158, 226, 40, 132, 85, 140, 161, 255, 196, 89, 147, 107, 4, 163, 243, 89, 78, 80, 180, 33, 91, 191, 254,
-    165, 225, 126, 63, 236, 56, 141, 28, 2, 32, 97, 18, 16, 148, 120, 60, 27, 189, 60, 135, 245, 15, 184, 142, 227, 19, 229, 231,
-    212, 48, 141, 255, 43, 37, 202, 118, 99, 158, 232, 158, 16, 223,
+    48, 69, 2, 33, 0, 155, 158, 226, 40, 132, 85, 140, 161, 255, 196, 89, 147, 107, 4, 163, 243, 89, 78, 80, 180, 33,
+    91, 191, 254, 165, 225, 126, 63, 236, 56, 141, 28, 2, 32, 97, 18, 16, 148, 120, 60, 27, 189, 60, 135, 245, 15, 184,
+    142, 227, 19, 229, 231, 212, 48, 141, 255, 43, 37, 202, 118, 99, 158, 232, 158, 16, 223,
 ];
 
 #[test]
@@ -82,7 +82,10 @@ fn a_signature_that_was_made_elsewhere() {
     assert_eq!((data.claims.as_str(), data.header.as_str()), (CLAIMS, r#"{"alg":"ES256","typ":"JWT"}"#));
     let other = SigningInput::new(&Header::new(Algorithm::ES256), r#"{"aud":"my-service","exp":2532524892}"#).unwrap();
     let forged = other.encode(&ecdsa_signature(&DER, Algorithm::ES256).unwrap()).unwrap();
-    assert_eq!(decode_json(&forged, &DecodingKey::from_jwk(KEY).unwrap(), &validation, 0).unwrap_err(), Error::Signature);
+    assert_eq!(
+        decode_json(&forged, &DecodingKey::from_jwk(KEY).unwrap(), &validation, 0).unwrap_err(),
+        Error::Signature
+    );
 }
 
 #[test]
@@ -94,7 +97,10 @@ fn signatures_that_do_not_serve() {
     assert_eq!(ecdsa_signature(&DER, Algorithm::RS256), Err(Error::Algorithm));
     assert_eq!(ecdsa_signature(&DER[..70], Algorithm::ES256), Err(Error::Signature));
     assert_eq!(SigningInput::new("{}", CLAIMS), Err(Error::Argument("Header not understood".to_string())));
-    assert_eq!(SigningInput::new(r#"{"alg":"ES256"}"#, "[]"), Err(Error::Argument("Claims not understood".to_string())));
+    assert_eq!(
+        SigningInput::new(r#"{"alg":"ES256"}"#, "[]"),
+        Err(Error::Argument("Claims not understood".to_string()))
+    );
 }
 
 #[test]
@@ -104,7 +110,10 @@ fn thumbprints() {
     let rows = [
         (ThumbprintHash::SHA256, "kPrK_qmxVWaYVA9wwBF6Iuo3vVzz7TxHCTwXBygrS4k"),
         (ThumbprintHash::SHA384, "ePy6LSb6I7JWK2uWQyYJQ4DBrwGE4QoxPl6INUviCtqplTLCwzo6fD9Eaw69Wvtt"),
-        (ThumbprintHash::SHA512, "SfSqAgfmPYvpuNzfHCiQXi6Mr51GG78hHopngoabsV9xvLR0hcUfVCoJLfyzi08Dbnds6kmcAt23CpNV-8qLTg"),
+        (
+            ThumbprintHash::SHA512,
+            "SfSqAgfmPYvpuNzfHCiQXi6Mr51GG78hHopngoabsV9xvLR0hcUfVCoJLfyzi08Dbnds6kmcAt23CpNV-8qLTg",
+        ),
     ];
     for (hash, wanted) in rows {
         assert_eq!(thumbprint(key, hash).unwrap(), wanted);

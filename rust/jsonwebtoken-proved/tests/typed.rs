@@ -2,7 +2,8 @@
 #![cfg(feature = "serde")]
 
 use jsonwebtoken_proved::{
-    decode, decode_json, encode, Algorithm, DecodingKey, EncodingKey, Error, Header, KeySet, Rotation, Validation, Verifier,
+    Algorithm, DecodingKey, EncodingKey, Error, Header, KeySet, Rotation, Validation, Verifier, decode, decode_json,
+    encode,
 };
 use serde::{Deserialize, Serialize};
 use serde_json::Value;
@@ -48,7 +49,8 @@ fn claims_of_a_type_by_a_set() {
 
 /// The rows, unless this is a copy of the crate without the repository.
 fn rows() -> Vec<Value> {
-    let path = std::env::var("JWT_ROWS").unwrap_or(concat!(env!("CARGO_MANIFEST_DIR"), "/../../crates/jwt_vectors/data/standard.jsonl").to_string());
+    let path = std::env::var("JWT_ROWS")
+        .unwrap_or(concat!(env!("CARGO_MANIFEST_DIR"), "/../../crates/jwt_vectors/data/standard.jsonl").to_string());
     std::fs::read_to_string(path).unwrap().lines().map(|it| serde_json::from_str(it).unwrap()).collect()
 }
 

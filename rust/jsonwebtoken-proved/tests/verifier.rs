@@ -1,6 +1,6 @@
 //! Keys and conditions that are read once, in one thread and in many.
 
-use jsonwebtoken_proved::{encode_json, Algorithm, DecodingKey, EncodingKey, Error, Header, Validation, Verifier};
+use jsonwebtoken_proved::{Algorithm, DecodingKey, EncodingKey, Error, Header, Validation, Verifier, encode_json};
 use std::sync::{Arc, Barrier};
 use std::thread;
 
@@ -63,8 +63,12 @@ fn long_tokens() {
     assert!(long.len() < 1 << 20 && verifier.decode_json(&long, NOW).is_ok());
     let longer = "a".repeat((1 << 20) + 1);
     assert_eq!(refusal(&verifier, &longer), (Error::TooLong, None));
-    assert_eq!(refusal(&verifier, &longer[1..]), (Error::Malformed("InvalidToken".to_string()), Some("HasThreeParts".to_string())));
-    let (key, validation, short) = (DecodingKey::from_secret(SECRET).unwrap(), Validation::new(Algorithm::HS256), token(r#"{"exp":1700000100}"#));
+    assert_eq!(
+        refusal(&verifier, &longer[1..]),
+        (Error::Malformed("InvalidToken".to_string()), Some("HasThreeParts".to_string()))
+    );
+    let (key, validation, short) =
+        (DecodingKey::from_secret(SECRET).unwrap(), Validation::new(Algorithm::HS256), token(r#"{"exp":1700000100}"#));
     let limited = |limit: usize| Verifier::with_limit(&key, &validation, limit);
     assert!(limited(short.len()).unwrap().decode_json(&short, NOW).is_ok());
     assert_eq!(refusal(&limited(short.len() - 1).unwrap(), &short), (Error::TooLong, None));

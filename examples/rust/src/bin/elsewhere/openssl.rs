@@ -11,16 +11,25 @@ extern "C" {
     fn EVP_MD_CTX_free(context: *mut c_void);
     fn EVP_sha256() -> *const c_void;
     fn EVP_DigestVerifyInit(
-        context: *mut c_void, used: *mut *mut c_void, hash: *const c_void, engine: *mut c_void, key: *mut c_void,
+        context: *mut c_void,
+        used: *mut *mut c_void,
+        hash: *const c_void,
+        engine: *mut c_void,
+        key: *mut c_void,
     ) -> c_int;
     fn EVP_DigestVerify(
-        context: *mut c_void, signature: *const u8, signature_len: usize, message: *const u8, message_len: usize,
+        context: *mut c_void,
+        signature: *const u8,
+        signature_len: usize,
+        message: *const u8,
+        message_len: usize,
     ) -> c_int;
 }
 
 // The bytes before a point in the DER form of a public key on P-256 (RFC 5480 section 2).
 const BEFORE_POINT: [u8; 26] = [
-    0x30, 0x59, 0x30, 0x13, 6, 7, 0x2a, 0x86, 0x48, 0xce, 0x3d, 2, 1, 6, 8, 0x2a, 0x86, 0x48, 0xce, 0x3d, 3, 1, 7, 3, 0x42, 0,
+    0x30, 0x59, 0x30, 0x13, 6, 7, 0x2a, 0x86, 0x48, 0xce, 0x3d, 2, 1, 6, 8, 0x2a, 0x86, 0x48, 0xce, 0x3d, 3, 1, 7, 3,
+    0x42, 0,
 ];
 
 // Returns an unsigned number in DER.
