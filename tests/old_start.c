@@ -3,8 +3,9 @@
 #include <stdlib.h>
 #include <unistd.h>
 
-int __libc_start_main(int (*main)(int, char **, char **), int count, char **words, void (*constructors)(int, char **, char **),
-                      void (*destructors)(void), void (*at_end)(void), void *end_of_stack) {
+int __libc_start_main(int (*main)(int, char **, char **), int count, char **words,
+                      void (*constructors)(int, char **, char **), void (*destructors)(void), void (*at_end)(void),
+                      void *end_of_stack) {
     (void)end_of_stack;
     if (at_end) atexit(at_end);
     if (destructors) atexit(destructors);

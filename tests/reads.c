@@ -13,7 +13,7 @@ ssize_t read(int descriptor, void *buffer, size_t size) {
     static long given;
     ssize_t got;
     if (!next) {
-        next = (ssize_t (*)(int, void *, size_t))dlsym(RTLD_NEXT, "read");
+        next = (ssize_t(*)(int, void *, size_t))dlsym(RTLD_NEXT, "read");
     }
     if (descriptor == STDIN_FILENO && getenv("INTERRUPT") && ++calls % 2 == 1) {
         errno = EINTR;

@@ -31,17 +31,20 @@ static void note(const char *what, const char *of, size_t secret_len, int is_wel
     if (!is_well) printf("FAILED: %s with %s and a secret of %zu bytes: %u\n", what, of, secret_len, found);
 }
 
-static uint32_t encode(const struct algorithm *by, const uint8_t *secret, size_t secret_len, uint8_t *token, size_t *len) {
-    return jwt_encode_hmac((const uint8_t *)by->header, strlen(by->header), (const uint8_t *)CLAIMS, strlen(CLAIMS), secret, secret_len,
-                           token, 1000, len);
+static uint32_t encode(const struct algorithm *by, const uint8_t *secret, size_t secret_len, uint8_t *token,
+                       size_t *len) {
+    return jwt_encode_hmac((const uint8_t *)by->header, strlen(by->header), (const uint8_t *)CLAIMS, strlen(CLAIMS),
+                           secret, secret_len, token, 1000, len);
 }
 
 /* Returns how many jumps and addresses of a verification depend on the secret. */
-static unsigned verified(const struct algorithm *by, const uint8_t *secret, size_t secret_len, const uint8_t *token, size_t len, uint32_t *status) {
+static unsigned verified(const struct algorithm *by, const uint8_t *secret, size_t secret_len, const uint8_t *token,
+                         size_t len, uint32_t *status) {
     uint8_t claims[1000];
     size_t claims_len;
     unsigned before = VALGRIND_COUNT_ERRORS;
-    *status = jwt_decode_hmac(token, len, secret, secret_len, (const uint8_t *)by->options, strlen(by->options), 0, claims, sizeof claims, &claims_len);
+    *status = jwt_decode_hmac(token, len, secret, secret_len, (const uint8_t *)by->options, strlen(by->options), 0,
+                              claims, sizeof claims, &claims_len);
     unsigned after = VALGRIND_COUNT_ERRORS;
     (void)VALGRIND_MAKE_MEM_DEFINED(status, sizeof *status);
     return after - before;
@@ -59,11 +62,13 @@ static void try_secret(const struct algorithm *by, size_t secret_len) {
     note("an accepted token", by->header, secret_len, is_well && status == JWT_OK && found == one, found);
     token[len - 10] = token[len - 10] == 'A' ? 'B' : 'A';
     found = verified(by, secret, secret_len, token, len, &status);
-    note("a forged token", by->header, secret_len, status == JWT_INVALID_SIGNATURE && found >= one && found <= one * MOST_OF_REFUSED, found);
+    note("a forged token", by->header, secret_len,
+         status == JWT_INVALID_SIGNATURE && found >= one && found <= one * MOST_OF_REFUSED, found);
     unsigned before = VALGRIND_COUNT_ERRORS;
     status = encode(by, secret, secret_len, token, &issued_len);
     found = VALGRIND_COUNT_ERRORS - before;
-    note("an issued token", by->header, secret_len, status == JWT_OK && issued_len == len && found == one * by->signature, found);
+    note("an issued token", by->header, secret_len,
+         status == JWT_OK && issued_len == len && found == one * by->signature, found);
     free(secret);
 }
 

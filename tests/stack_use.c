@@ -16,7 +16,8 @@ enum { MOST = 32 << 10 };
 static const struct call {
     const char *name, *token;
 } CALLS[] = {
-    {"HS256", BY_HS256}, {"RS256", BY_RS256}, {"PS256", BY_PS256}, {"ES256", BY_ES256}, {"ES384", BY_ES384}, {"EdDSA", BY_EDDSA},
+    {"HS256", BY_HS256}, {"RS256", BY_RS256}, {"PS256", BY_PS256},
+    {"ES256", BY_ES256}, {"ES384", BY_ES384}, {"EdDSA", BY_EDDSA},
 };
 
 static uint32_t status;
@@ -31,8 +32,9 @@ static void *verify(void *given) {
     char options[64];
     size_t len;
     snprintf(options, sizeof options, "{\"algorithms\":[\"%s\"]}", call->name);
-    status = jwt_decode_set((const uint8_t *)call->token, strlen(call->token), (const uint8_t *)ALL_KEYS, strlen(ALL_KEYS),
-                            (const uint8_t *)options, strlen(options), 0, claims, sizeof claims, &len);
+    status =
+        jwt_decode_set((const uint8_t *)call->token, strlen(call->token), (const uint8_t *)ALL_KEYS, strlen(ALL_KEYS),
+                       (const uint8_t *)options, strlen(options), 0, claims, sizeof claims, &len);
     return NULL;
 }
 
@@ -45,8 +47,8 @@ static size_t stack_of(void *(*run)(void *), const struct call *call) {
     memset(stack, PAINT, STACK);
     pthread_attr_init(&attributes);
     size_t used = 0;
-    if (!pthread_attr_setstack(&attributes, stack, STACK) && !pthread_create(&thread, &attributes, run, (void *)call)
-        && !pthread_join(thread, NULL)) {
+    if (!pthread_attr_setstack(&attributes, stack, STACK) && !pthread_create(&thread, &attributes, run, (void *)call) &&
+        !pthread_join(thread, NULL)) {
         const uint8_t *at = stack;
         while (at < stack + STACK && *at == PAINT) at++;
         used = (size_t)(stack + STACK - at);
@@ -65,7 +67,8 @@ int main(void) {
         const int is_well = thread && whole > thread && status == JWT_OK && whole - thread <= MOST;
         passed += is_well;
         failed += !is_well;
-        printf("%s%s: %zu bytes of stack, status %u\n", is_well ? "" : "FAILED: ", CALLS[i].name, whole - thread, status);
+        printf("%s%s: %zu bytes of stack, status %u\n", is_well ? "" : "FAILED: ", CALLS[i].name, whole - thread,
+               status);
     }
     printf("%u passed, %u failed\n", passed, failed);
     return failed != 0;

@@ -22,8 +22,8 @@
 #define MIXED "{\"algorithms\":[\"RS256\",\"HS256\"]}"
 /* an RSA key of 17 bits, 65537 with exponent 3, and a point that is not on P-256 */
 #define SMALL_RSA "{\"kty\":\"RSA\",\"kid\":\"rsa\",\"n\":\"AQAB\",\"e\":\"Aw\"}"
-#define OFF_CURVE                                                                                                     \
-    "{\"kty\":\"EC\",\"kid\":\"p256\",\"crv\":\"P-256\",\"x\":\"AAAAAAAAAAAAAAAAAAAAAAAAAAAAAAAAAAAAAAAAAAE\","       \
+#define OFF_CURVE                                                                                                      \
+    "{\"kty\":\"EC\",\"kid\":\"p256\",\"crv\":\"P-256\",\"x\":\"AAAAAAAAAAAAAAAAAAAAAAAAAAAAAAAAAAAAAAAAAAE\","        \
     "\"y\":\"AAAAAAAAAAAAAAAAAAAAAAAAAAAAAAAAAAAAAAAAAAE\"}"
 /* the last time at which the claims of keys.h are accepted */
 #define LAST 2532524951u
@@ -47,11 +47,21 @@ void *__real_realloc(void *block, size_t size);
 void *__real_aligned_alloc(size_t align, size_t size);
 static __thread long requests, refused_one;
 
-static bool refuses(void) { return ++requests == refused_one; }
-void *__wrap_malloc(size_t size) { return refuses() ? NULL : __real_malloc(size); }
-void *__wrap_calloc(size_t count, size_t size) { return refuses() ? NULL : __real_calloc(count, size); }
-void *__wrap_realloc(void *block, size_t size) { return refuses() ? NULL : __real_realloc(block, size); }
-void *__wrap_aligned_alloc(size_t align, size_t size) { return refuses() ? NULL : __real_aligned_alloc(align, size); }
+static bool refuses(void) {
+    return ++requests == refused_one;
+}
+void *__wrap_malloc(size_t size) {
+    return refuses() ? NULL : __real_malloc(size);
+}
+void *__wrap_calloc(size_t count, size_t size) {
+    return refuses() ? NULL : __real_calloc(count, size);
+}
+void *__wrap_realloc(void *block, size_t size) {
+    return refuses() ? NULL : __real_realloc(block, size);
+}
+void *__wrap_aligned_alloc(size_t align, size_t size) {
+    return refuses() ? NULL : __real_aligned_alloc(align, size);
+}
 
 /* ---- verifiers */
 
@@ -60,9 +70,12 @@ enum source { OF_SET, OF_KEY, OF_SECRET };
 static uint32_t make(enum source source, const char *keys, const char *options, size_t max_len, bool allows_blank,
                      struct jwt_verifier *verifier) {
     switch (source) {
-    case OF_SET: return jwt_verifier_set(BYTES(keys), BYTES(options), max_len, allows_blank, verifier);
-    case OF_KEY: return jwt_verifier_key(BYTES(keys), BYTES(options), max_len, allows_blank, verifier);
-    default: return jwt_verifier_secret(BYTES(keys), BYTES(options), max_len, allows_blank, verifier);
+    case OF_SET:
+        return jwt_verifier_set(BYTES(keys), BYTES(options), max_len, allows_blank, verifier);
+    case OF_KEY:
+        return jwt_verifier_key(BYTES(keys), BYTES(options), max_len, allows_blank, verifier);
+    default:
+        return jwt_verifier_secret(BYTES(keys), BYTES(options), max_len, allows_blank, verifier);
     }
 }
 
@@ -159,7 +172,9 @@ static void made(void) {
         is("freed", v.at == NULL, 1);
         bool is_blank = rows[i].status == JWT_BLANK_KEY;
         bool serves = strcmp(rows[i].options, HS256) == 0, is_mixed = strcmp(rows[i].options, MIXED) == 0;
-        uint32_t others = is_mixed ? JWT_MIXED_FAMILIES : serves || strstr(rows[i].keys, "RSA") ? JWT_OK : JWT_UNFIT_KEY;
+        uint32_t others = is_mixed                                ? JWT_MIXED_FAMILIES
+                          : serves || strstr(rows[i].keys, "RSA") ? JWT_OK
+                                                                  : JWT_UNFIT_KEY;
         is("blank keys that are allowed", make(rows[i].source, rows[i].keys, rows[i].options, 0, true, &v),
            is_blank ? others : rows[i].status);
         jwt_verifier_free(&v);
@@ -180,7 +195,8 @@ static void slips(void) {
     is("it is unchanged", v.at == at && status(&v, BY_HS256) == JWT_OK, 1);
     is("shared", jwt_verifier_share(&v, &w), JWT_OK);
     is("shared twice", jwt_verifier_share(&v, &w), JWT_VERIFIER_IS_MADE);
-    is("a share of none in the place of one", (jwt_verifier_free(&v), jwt_verifier_share(&v, &w)), JWT_VERIFIER_IS_MADE);
+    is("a share of none in the place of one", (jwt_verifier_free(&v), jwt_verifier_share(&v, &w)),
+       JWT_VERIFIER_IS_MADE);
     is("freed", status(&v, BY_HS256), JWT_NO_VERIFIER);
     is("the share stays", status(&w, BY_HS256), JWT_OK);
     struct jwt_verifier moved = w;
@@ -216,36 +232,64 @@ static void lengths(void) {
 /* ---- the same as without a verifier */
 
 static const char *all_options[] = {
-    HS256, RS256, ES256, "{\"algorithms\":[\"ES384\"]}", EDDSA, MIXED,
-    "{\"algorithms\":[\"HS256\",\"HS512\"],\"sub\":\"b@b.com\"}", "{\"algorithms\":[\"HS256\"],\"leeway\":0,\"sub\":\"nobody\"}",
+    HS256,
+    RS256,
+    ES256,
+    "{\"algorithms\":[\"ES384\"]}",
+    EDDSA,
+    MIXED,
+    "{\"algorithms\":[\"HS256\",\"HS512\"],\"sub\":\"b@b.com\"}",
+    "{\"algorithms\":[\"HS256\"],\"leeway\":0,\"sub\":\"nobody\"}",
 };
 static const char *keys[] = {HMAC_KEY, RSA_KEY, P256_KEY, P384_KEY, ED_KEY};
-static const char *sets[] = {ALL_KEYS, SET_OF(RSA_KEY "," HMAC_KEY), SET_OF(OCT("*") "," ED_KEY "," RSA_KEY "," HMAC_KEY), SET_OF(OCT("YQ") "," P256_KEY)};
+static const char *sets[] = {ALL_KEYS, SET_OF(RSA_KEY "," HMAC_KEY),
+                             SET_OF(OCT("*") "," ED_KEY "," RSA_KEY "," HMAC_KEY), SET_OF(OCT("YQ") "," P256_KEY)};
 static const char *tokens[] = {BY_HS256, BY_RS256, BY_PS256, BY_ES256, BY_ES384, BY_EDDSA, "", "a.b.c", ".."};
 static const uint64_t times[] = {0, 1700000000, 2532524891u, LAST, LAST + 1, UINT64_MAX};
 /* the names of the tests, by their numbers */
-static const char *names[] = {"-", "HasThreeParts", "HeaderIsPart", "HeaderIsJson", "HeaderReads", "CritIsUnderstood", "KeyIsFound", "KeyAlgorithmAgrees", "KeyIsUsable", "AlgorithmsAreListed", "AlgorithmIsListed", "VerifierIsMade", "FamiliesAgree", "SignatureIsPart", "SignatureIsAccepted", "PayloadIsPart", "PayloadIsJson", "ClaimsRead", "ClaimsAreAnObject", "ClaimRulesHold"};
+static const char *names[] = {"-",
+                              "HasThreeParts",
+                              "HeaderIsPart",
+                              "HeaderIsJson",
+                              "HeaderReads",
+                              "CritIsUnderstood",
+                              "KeyIsFound",
+                              "KeyAlgorithmAgrees",
+                              "KeyIsUsable",
+                              "AlgorithmsAreListed",
+                              "AlgorithmIsListed",
+                              "VerifierIsMade",
+                              "FamiliesAgree",
+                              "SignatureIsPart",
+                              "SignatureIsAccepted",
+                              "PayloadIsPart",
+                              "PayloadIsJson",
+                              "ClaimsRead",
+                              "ClaimsAreAnObject",
+                              "ClaimRulesHold"};
 static long compared;
 
 static bool alike(const struct answer *a, const struct answer *b) {
     compared++;
-    return a->status == b->status && a->len == b->len && a->last == b->last && a->test == b->test
-           && memcmp(a->room, b->room, ROOM) == 0;
+    return a->status == b->status && a->len == b->len && a->last == b->last && a->test == b->test &&
+           memcmp(a->room, b->room, ROOM) == 0;
 }
 
-static struct answer stateless(enum source source, const char *key, const char *options, const uint8_t *token, size_t len,
-                               uint64_t now, size_t room) {
+static struct answer stateless(enum source source, const char *key, const char *options, const uint8_t *token,
+                               size_t len, uint64_t now, size_t room) {
     struct answer a = {0, 5, 5, 5, {0}};
     if (source == OF_SET)
         a.status = jwt_decode_set(token, len, BYTES(key), BYTES(options), now, a.room, room, &a.len);
     else
         a.status = jwt_decode_key(token, len, BYTES(key), BYTES(options), now, a.room, room, &a.len);
     uint64_t first;
-    uint32_t told = (source == OF_SET ? jwt_moments_set : jwt_moments_key)(token, len, BYTES(key), BYTES(options), &first, &a.last);
+    uint32_t told =
+        (source == OF_SET ? jwt_moments_set : jwt_moments_key)(token, len, BYTES(key), BYTES(options), &first, &a.last);
     if (told != JWT_OK || (a.status != JWT_OK && a.status != JWT_NO_ROOM)) a.last = 0;
     uint8_t name[32];
     size_t name_len;
-    (source == OF_SET ? jwt_failed_test_set : jwt_failed_test_key)(token, len, BYTES(key), BYTES(options), now, name, sizeof name, &name_len);
+    (source == OF_SET ? jwt_failed_test_set : jwt_failed_test_key)(token, len, BYTES(key), BYTES(options), now, name,
+                                                                   sizeof name, &name_len);
     a.test = 0;
     for (uint32_t i = 1; i < COUNT(names); i++)
         if (name_len == strlen(names[i]) && memcmp(name, names[i], name_len) == 0) a.test = i;
@@ -289,8 +333,10 @@ static void compare_all(enum source source, const char **list, size_t count, siz
             is("made, or not", status == JWT_OK || status == JWT_UNFIT_KEY || status == JWT_MIXED_FAMILIES, 1);
             is("of several families", status == JWT_MIXED_FAMILIES, strcmp(all_options[o], MIXED) == 0);
             for (size_t t = 0; t < COUNT(tokens); t++)
-                if (status == JWT_OK) compare(&v, source, list[k], all_options[o], tokens[t], step);
-                else is("a token, where no verifier is made", accepts(source, list[k], all_options[o], tokens[t]), 0);
+                if (status == JWT_OK)
+                    compare(&v, source, list[k], all_options[o], tokens[t], step);
+                else
+                    is("a token, where no verifier is made", accepts(source, list[k], all_options[o], tokens[t]), 0);
             jwt_verifier_free(&v);
         }
 }
@@ -317,7 +363,8 @@ static void large_set(size_t place, const char *other) {
     }
     len += sprintf(set + len, "%s]}", place < count ? P256_KEY : HMAC_KEY);
     struct jwt_verifier v = JWT_VERIFIER_NONE;
-    is("10,001 keys", jwt_verifier_set((uint8_t *)set, len, BYTES("{\"algorithms\":[\"HS256\",\"HS512\"]}"), 0, false, &v), JWT_OK);
+    is("10,001 keys",
+       jwt_verifier_set((uint8_t *)set, len, BYTES("{\"algorithms\":[\"HS256\",\"HS512\"]}"), 0, false, &v), JWT_OK);
     free(set);
     is("one of them", status(&v, BY_HS256), JWT_OK);
     is("another", status(&v, BY_RS256), JWT_NO_KEY);
@@ -398,10 +445,18 @@ static void under_a_lock(void) {
 
 static struct jwt_verifier shared_one;
 
-static uint32_t makes_of_set(struct jwt_verifier *v) { return make(OF_SET, ALL_KEYS, RS256, 0, false, v); }
-static uint32_t makes_of_key(struct jwt_verifier *v) { return make(OF_KEY, ED_KEY, EDDSA, 0, false, v); }
-static uint32_t makes_of_secret(struct jwt_verifier *v) { return make(OF_SECRET, "s", HS256, 0, false, v); }
-static uint32_t shares(struct jwt_verifier *v) { return jwt_verifier_share(&shared_one, v); }
+static uint32_t makes_of_set(struct jwt_verifier *v) {
+    return make(OF_SET, ALL_KEYS, RS256, 0, false, v);
+}
+static uint32_t makes_of_key(struct jwt_verifier *v) {
+    return make(OF_KEY, ED_KEY, EDDSA, 0, false, v);
+}
+static uint32_t makes_of_secret(struct jwt_verifier *v) {
+    return make(OF_SECRET, "s", HS256, 0, false, v);
+}
+static uint32_t shares(struct jwt_verifier *v) {
+    return jwt_verifier_share(&shared_one, v);
+}
 
 /* how often the call was out of memory, until no request was left to refuse; -1 for another status, or if something is left */
 static long refused_in_turn(uint32_t (*call)(struct jwt_verifier *)) {
@@ -424,7 +479,9 @@ static long decoding_refused_in_turn(struct jwt_verifier *v, const char *token) 
         struct answer a = decode(v, BYTES(token), 0, ROOM);
         bool was_refused = requests >= number;
         refused_one = 0;
-        if (a.status != (was_refused ? JWT_OUT_OF_MEMORY : JWT_OK) || (a.last != 0) == was_refused || a.test != 0 || v->at == NULL) return -1;
+        if (a.status != (was_refused ? JWT_OUT_OF_MEMORY : JWT_OK) || (a.last != 0) == was_refused || a.test != 0 ||
+            v->at == NULL)
+            return -1;
         if (!was_refused) return number - 1;
     }
     return -1;
@@ -446,9 +503,9 @@ static void refused_memory(void) {
 /* ---- members */
 
 static void members(void) {
-    static const char object[] =
-        "{\"sub\":\"b\\u0040b.com\",\"n\":12,\"f\":1.5,\"ok\":true,\"no\":null,\"a\":[1, \"x\\n\"],\"o\":{\"b\":1,\"a\":2},"
-        "\"\":\"empty\",\"sub2\":\"\\ud83d\\ude00\",\"e\":\"\"}";
+    static const char object[] = "{\"sub\":\"b\\u0040b.com\",\"n\":12,\"f\":1.5,\"ok\":true,\"no\":null,\"a\":[1, "
+                                 "\"x\\n\"],\"o\":{\"b\":1,\"a\":2},"
+                                 "\"\":\"empty\",\"sub2\":\"\\ud83d\\ude00\",\"e\":\"\"}";
     static const struct {
         const char *json, *name;
         uint32_t status, type;

@@ -68,7 +68,8 @@ static void write_jwk(struct signer *signer) {
 /* ---- the signature */
 
 /* Signs as a KMS does: with ES256, in DER. */
-static size_t sign(const struct signer *signer, const uint8_t *message, size_t message_len, uint8_t *signature, size_t room) {
+static size_t sign(const struct signer *signer, const uint8_t *message, size_t message_len, uint8_t *signature,
+                   size_t room) {
     size_t len = room;
     EVP_MD_CTX *state = EVP_MD_CTX_new();
     const EVP_MD *hash = signer->algorithm == JWT_EDDSA ? NULL : EVP_sha256();
@@ -82,7 +83,8 @@ static size_t sign(const struct signer *signer, const uint8_t *message, size_t m
 /* ---- the token */
 
 /* Writes the token of the claims, and returns the status. `in_der` leaves a signature with ES256 as it is, by mistake. */
-static uint32_t issue(const struct signer *signer, const char *claims, bool in_der, uint8_t *token, size_t room, size_t *len) {
+static uint32_t issue(const struct signer *signer, const char *claims, bool in_der, uint8_t *token, size_t room,
+                      size_t *len) {
     char header[64];
     uint8_t message[1024], signature[512], der[512];
     uint32_t algorithm;
@@ -102,8 +104,8 @@ static uint32_t issue(const struct signer *signer, const char *claims, bool in_d
 }
 
 /* Writes the claims of a token that is verified by the public key, and returns the status. */
-static uint32_t verify(const struct signer *signer, const uint8_t *token, size_t token_len, uint8_t *claims, size_t room,
-                       size_t *len) {
+static uint32_t verify(const struct signer *signer, const uint8_t *token, size_t token_len, uint8_t *claims,
+                       size_t room, size_t *len) {
     char options[64];
     size_t options_len = (size_t)snprintf(options, sizeof options, "{\"algorithms\":[\"%s\"]}", signer->name);
     return jwt_decode_key(token, token_len, (const uint8_t *)signer->jwk, strlen(signer->jwk), (const uint8_t *)options,

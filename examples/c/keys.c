@@ -20,8 +20,9 @@ static const char rsa_key[] =
     "q2ethFkMLs91kzk2PAcDTW9gb54h4FRWyuXpoQ\",\"e\":\"AQAB\"}";
 static const char es256[] = "eyJhbGciOiJFUzI1NiJ9." PAYLOAD
                             ".DtEhU3ljbEg8L38VWAfUAqOyKAM6-Xx-F4GawxaepmXFCgfTjDxw5djxLa8ISlSApmWQxfKTUJqPP3-Kg6NU1Q";
-static const char curve_key[] = "{\"kty\":\"EC\",\"crv\":\"P-256\",\"x\":\"f83OJ3D2xF1Bg8vub9tLe1gHMzV76e8Tus9uPHvRVEU\","
-                                "\"y\":\"x_FEzRu9m36HLN_tue659LNpXW6pCyStikYjKIWI5a0\"}";
+static const char curve_key[] =
+    "{\"kty\":\"EC\",\"crv\":\"P-256\",\"x\":\"f83OJ3D2xF1Bg8vub9tLe1gHMzV76e8Tus9uPHvRVEU\","
+    "\"y\":\"x_FEzRu9m36HLN_tue659LNpXW6pCyStikYjKIWI5a0\"}";
 /* a key set, and a token by its key, as Python's cryptography signed it */
 static const char set[] = "{\"keys\":[{\"kty\":\"OKP\",\"kid\":\"ed\",\"crv\":\"Ed25519\","
                           "\"x\":\"ebVWLo_mVPlAeLES6KmLp5AfhTrmlb7X4OORC60ElmQ\"}]}";
@@ -52,8 +53,8 @@ static bool says(decoder *decode, const char *token, const char *keys, const cha
     int options_len = snprintf(options, sizeof options, "{\"algorithms\":[\"%s\"]}", algorithm);
     uint32_t status = check(decode, keys);
     if (status == JWT_OK)
-        status = decode((const uint8_t *)token, strlen(token), (const uint8_t *)keys, strlen(keys), (const uint8_t *)options,
-                        (size_t)options_len, 1300819380, buffer, sizeof buffer, &len);
+        status = decode((const uint8_t *)token, strlen(token), (const uint8_t *)keys, strlen(keys),
+                        (const uint8_t *)options, (size_t)options_len, 1300819380, buffer, sizeof buffer, &len);
     if (status != JWT_OK) jwt_status_text(status, buffer, sizeof buffer, &len);
     printf("%.*s\n", (int)len, (const char *)buffer);
     return len == strlen(wanted) && memcmp(buffer, wanted, len) == 0;

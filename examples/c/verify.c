@@ -22,8 +22,8 @@ static bool serves(const uint8_t *bytes, size_t len) {
 static void print_failed_test(const void *key, size_t key_len, uint64_t now) {
     uint8_t name[32];
     size_t len;
-    uint32_t status = jwt_failed_test_hmac((const uint8_t *)token, strlen(token), key, key_len, (const uint8_t *)options,
-                                           strlen(options), now, name, sizeof name, &len);
+    uint32_t status = jwt_failed_test_hmac((const uint8_t *)token, strlen(token), key, key_len,
+                                           (const uint8_t *)options, strlen(options), now, name, sizeof name, &len);
     if (status == JWT_OK) printf("the test %.*s failed\n", (int)len, (const char *)name);
 }
 
@@ -47,7 +47,8 @@ static bool says(const void *key, size_t key_len, uint64_t now, const char *want
 
 int main(void) {
     static const char other[] = "another secret of 32 or more bytes", zeros[300] = {0};
-    int right = says(secret, strlen(secret), 2532524951, "{\"company\":\"ACME\",\"exp\":2532524891,\"sub\":\"b@b.com\"}");
+    int right =
+        says(secret, strlen(secret), 2532524951, "{\"company\":\"ACME\",\"exp\":2532524891,\"sub\":\"b@b.com\"}");
     right += says(secret, strlen(secret), 2532524952, "ExpiredSignature");
     right += says(other, strlen(other), 2532524951, "InvalidSignature");
     right += says("", 0, 2532524951, "bad secret");

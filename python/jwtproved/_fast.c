@@ -34,8 +34,7 @@ struct state {
 };
 
 typedef struct {
-    PyObject_HEAD
-    struct state *state;
+    PyObject_HEAD struct state *state;
     struct jwt_verifier first;
     struct jwt_verifier idle[IDLE];
     size_t idle_count;
@@ -43,9 +42,7 @@ typedef struct {
 } Handles;
 
 /* Raises MemoryError or Refusal(status, test), for a status other than JWT_OK. */
-static void
-refuse(const struct state *state, uint32_t status, uint32_t test)
-{
+static void refuse(const struct state *state, uint32_t status, uint32_t test) {
     PyObject *error;
 
     if (status == JWT_OUT_OF_MEMORY) {
@@ -59,9 +56,7 @@ refuse(const struct state *state, uint32_t status, uint32_t test)
     }
 }
 
-static __typeof__(&jwt_verifier_secret)
-make_of(const struct state *state, const char *kind)
-{
+static __typeof__(&jwt_verifier_secret) make_of(const struct state *state, const char *kind) {
     if (strcmp(kind, "secret") == 0) {
         return state->make_of_secret;
     }
@@ -69,9 +64,7 @@ make_of(const struct state *state, const char *kind)
 }
 
 /* Handles(kind, key, options, longest=0): raises Refusal if the library makes no verifier. */
-static PyObject *
-handles_new(PyTypeObject *type, PyObject *arguments, PyObject *names)
-{
+static PyObject *handles_new(PyTypeObject *type, PyObject *arguments, PyObject *names) {
     struct state *state = PyType_GetModuleState(type);
     const char *kind, *key, *options;
     Py_ssize_t key_len, options_len, longest = 0;
@@ -95,8 +88,8 @@ handles_new(PyTypeObject *type, PyObject *arguments, PyObject *names)
     }
     self->state = state;
     self->is_of_secret = strcmp(kind, "secret") == 0;
-    status = make_of(state, kind)((const uint8_t *)key, (size_t)key_len, (const uint8_t *)options, (size_t)options_len, (size_t)longest,
-                                  false, &self->first);
+    status = make_of(state, kind)((const uint8_t *)key, (size_t)key_len, (const uint8_t *)options, (size_t)options_len,
+                                  (size_t)longest, false, &self->first);
     if (status != JWT_OK) {
         refuse(state, status, 0);
         Py_DECREF(self);
@@ -105,9 +98,7 @@ handles_new(PyTypeObject *type, PyObject *arguments, PyObject *names)
     return (PyObject *)self;
 }
 
-static void
-handles_dealloc(PyObject *object)
-{
+static void handles_dealloc(PyObject *object) {
     Handles *self = (Handles *)object;
     PyTypeObject *type = Py_TYPE(object);
 
@@ -120,9 +111,7 @@ handles_dealloc(PyObject *object)
 }
 
 /* Moves an idle handle to *taken, or shares another one. */
-static uint32_t
-take(Handles *self, struct jwt_verifier *taken)
-{
+static uint32_t take(Handles *self, struct jwt_verifier *taken) {
     if (self->idle_count > 0) {
         *taken = self->idle[--self->idle_count];
         return JWT_OK;
@@ -130,9 +119,7 @@ take(Handles *self, struct jwt_verifier *taken)
     return self->state->share(&self->first, taken);
 }
 
-static void
-give_back(Handles *self, struct jwt_verifier *taken)
-{
+static void give_back(Handles *self, struct jwt_verifier *taken) {
     if (self->idle_count < IDLE) {
         self->idle[self->idle_count++] = *taken;
     } else {
@@ -150,25 +137,22 @@ struct verification {
     uint32_t status, test;
 };
 
-static void
-verify(Handles *self, struct jwt_verifier *handle, struct verification *it)
-{
+static void verify(Handles *self, struct jwt_verifier *handle, struct verification *it) {
     PyThreadState *thread = NULL;
     uint64_t last;
 
     if (!self->is_of_secret || it->token_len >= LONG_TOKEN) {
         thread = PyEval_SaveThread();
     }
-    it->status = self->state->decode(handle, it->token, it->token_len, it->now, it->room, it->room_len, &it->len, &last, &it->test);
+    it->status = self->state->decode(handle, it->token, it->token_len, it->now, it->room, it->room_len, &it->len, &last,
+                                     &it->test);
     if (thread != NULL) {
         PyEval_RestoreThread(thread);
     }
 }
 
 /* Verifies again with the room that the claims need. */
-static PyObject *
-claims_of_long(Handles *self, struct jwt_verifier *handle, struct verification *it)
-{
+static PyObject *claims_of_long(Handles *self, struct jwt_verifier *handle, struct verification *it) {
     PyObject *claims = NULL;
 
     it->room_len = it->len;
@@ -186,9 +170,7 @@ claims_of_long(Handles *self, struct jwt_verifier *handle, struct verification *
     return claims;
 }
 
-static PyObject *
-claims_of(Handles *self, struct jwt_verifier *handle, struct verification *it)
-{
+static PyObject *claims_of(Handles *self, struct jwt_verifier *handle, struct verification *it) {
     verify(self, handle, it);
     if (it->status == JWT_NO_ROOM) {
         return claims_of_long(self, handle, it);
@@ -201,12 +183,10 @@ claims_of(Handles *self, struct jwt_verifier *handle, struct verification *it)
 }
 
 /* decode(token, now): returns the claims as JSON, or raises Refusal or MemoryError. */
-static PyObject *
-handles_decode(PyObject *object, PyObject *const *arguments, Py_ssize_t count)
-{
+static PyObject *handles_decode(PyObject *object, PyObject *const *arguments, Py_ssize_t count) {
     Handles *self = (Handles *)object;
     struct jwt_verifier handle = JWT_VERIFIER_NONE;
-    struct verification it = { 0 };
+    struct verification it = {0};
     uint8_t room[ROOM];
     char *token;
     Py_ssize_t token_len;
@@ -220,7 +200,8 @@ handles_decode(PyObject *object, PyObject *const *arguments, Py_ssize_t count)
     if (PyBytes_AsStringAndSize(arguments[0], &token, &token_len) != 0) {
         return NULL;
     }
-    it = (struct verification){ .token = (const uint8_t *)token, .token_len = (size_t)token_len, .room = room, .room_len = ROOM };
+    it = (struct verification){
+        .token = (const uint8_t *)token, .token_len = (size_t)token_len, .room = room, .room_len = ROOM};
     it.now = PyLong_AsUnsignedLongLong(arguments[1]);
     if (PyErr_Occurred()) {
         return NULL;
@@ -235,19 +216,15 @@ handles_decode(PyObject *object, PyObject *const *arguments, Py_ssize_t count)
     return claims;
 }
 
-static PyMethodDef handles_methods[] = {
-    { "decode", (PyCFunction)(void (*)(void))handles_decode, METH_FASTCALL,
-      PyDoc_STR("Returns the claims as JSON. Raises Refusal, or MemoryError.") },
-    { NULL, NULL, 0, NULL }
-};
+static PyMethodDef handles_methods[] = {{"decode", (PyCFunction)(void (*)(void))handles_decode, METH_FASTCALL,
+                                         PyDoc_STR("Returns the claims as JSON. Raises Refusal, or MemoryError.")},
+                                        {NULL, NULL, 0, NULL}};
 
-static PyType_Slot handles_slots[] = {
-    { Py_tp_doc, (void *)PyDoc_STR("Handles of one verifier.") },
-    { Py_tp_new, handles_new },
-    { Py_tp_dealloc, handles_dealloc },
-    { Py_tp_methods, handles_methods },
-    { 0, NULL }
-};
+static PyType_Slot handles_slots[] = {{Py_tp_doc, (void *)PyDoc_STR("Handles of one verifier.")},
+                                      {Py_tp_new, handles_new},
+                                      {Py_tp_dealloc, handles_dealloc},
+                                      {Py_tp_methods, handles_methods},
+                                      {0, NULL}};
 
 static PyType_Spec handles_spec = {
     .name = "jwtproved._fast.Handles",
@@ -257,9 +234,7 @@ static PyType_Spec handles_spec = {
 };
 
 /* Sets *call to the call of this name. */
-static int
-find(void *library, const char *name, void *call)
-{
+static int find(void *library, const char *name, void *call) {
     void *found = dlsym(library, name);
 
     if (found == NULL) {
@@ -271,9 +246,7 @@ find(void *library, const char *name, void *call)
 }
 
 /* bind(path, refusal): takes the calls of the library at this path, which stays loaded, and the exception for a refusal. */
-static PyObject *
-bind(PyObject *module, PyObject *arguments)
-{
+static PyObject *bind(PyObject *module, PyObject *arguments) {
     struct state *state = PyModule_GetState(module);
     const char *path;
     PyObject *refusal;
@@ -287,10 +260,10 @@ bind(PyObject *module, PyObject *arguments)
         PyErr_SetString(PyExc_ImportError, dlerror());
         return NULL;
     }
-    if (find(library, "jwt_verifier_secret", &state->make_of_secret) || find(library, "jwt_verifier_key", &state->make_of_key)
-        || find(library, "jwt_verifier_set", &state->make_of_set) || find(library, "jwt_verifier_share", &state->share)
-        || find(library, "jwt_verifier_free", &state->free) || find(library, "jwt_verifier_decode", &state->decode))
-    {
+    if (find(library, "jwt_verifier_secret", &state->make_of_secret) ||
+        find(library, "jwt_verifier_key", &state->make_of_key) ||
+        find(library, "jwt_verifier_set", &state->make_of_set) || find(library, "jwt_verifier_share", &state->share) ||
+        find(library, "jwt_verifier_free", &state->free) || find(library, "jwt_verifier_decode", &state->decode)) {
         return NULL;
     }
     Py_INCREF(refusal);
@@ -299,9 +272,7 @@ bind(PyObject *module, PyObject *arguments)
     Py_RETURN_NONE;
 }
 
-static int
-module_exec(PyObject *module)
-{
+static int module_exec(PyObject *module) {
     PyObject *handles = PyType_FromModuleAndSpec(module, &handles_spec, NULL);
     int failed = handles == NULL ? -1 : PyModule_AddObjectRef(module, "Handles", handles);
 
@@ -309,18 +280,14 @@ module_exec(PyObject *module)
     return failed;
 }
 
-static int
-module_traverse(PyObject *module, visitproc visit, void *arg)
-{
+static int module_traverse(PyObject *module, visitproc visit, void *arg) {
     struct state *state = PyModule_GetState(module);
 
     Py_VISIT(state->refusal);
     return 0;
 }
 
-static int
-module_clear(PyObject *module)
-{
+static int module_clear(PyObject *module) {
     struct state *state = PyModule_GetState(module);
 
     Py_CLEAR(state->refusal);
@@ -328,11 +295,10 @@ module_clear(PyObject *module)
 }
 
 static PyMethodDef methods[] = {
-    { "bind", bind, METH_VARARGS, PyDoc_STR("Takes the path of the library, and the exception for a refusal.") },
-    { NULL, NULL, 0, NULL }
-};
+    {"bind", bind, METH_VARARGS, PyDoc_STR("Takes the path of the library, and the exception for a refusal.")},
+    {NULL, NULL, 0, NULL}};
 
-static PyModuleDef_Slot slots[] = { { Py_mod_exec, module_exec }, { 0, NULL } };
+static PyModuleDef_Slot slots[] = {{Py_mod_exec, module_exec}, {0, NULL}};
 
 static struct PyModuleDef definition = {
     .m_base = PyModuleDef_HEAD_INIT,
@@ -344,8 +310,6 @@ static struct PyModuleDef definition = {
     .m_clear = module_clear,
 };
 
-PyMODINIT_FUNC
-PyInit__fast(void)
-{
+PyMODINIT_FUNC PyInit__fast(void) {
     return PyModuleDef_Init(&definition);
 }

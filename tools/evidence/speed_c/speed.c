@@ -18,9 +18,7 @@ struct text {
 
 static struct text token, set, options;
 
-static void
-read_text(struct text *text, const char *prefix, const char *name)
-{
+static void read_text(struct text *text, const char *prefix, const char *name) {
     char path[4096];
     FILE *file;
 
@@ -34,18 +32,14 @@ read_text(struct text *text, const char *prefix, const char *name)
     fclose(file);
 }
 
-static double
-seconds(void)
-{
+static double seconds(void) {
     struct timespec now;
 
     clock_gettime(CLOCK_MONOTONIC, &now);
     return now.tv_sec + now.tv_nsec / 1e9;
 }
 
-static uint32_t
-decode(struct jwt_verifier *verifier, uint8_t *room, size_t size)
-{
+static uint32_t decode(struct jwt_verifier *verifier, uint8_t *room, size_t size) {
     size_t len;
     uint64_t last;
     uint32_t test;
@@ -53,12 +47,11 @@ decode(struct jwt_verifier *verifier, uint8_t *room, size_t size)
     if (verifier != NULL) {
         return jwt_verifier_decode(verifier, token.bytes, token.len, NOW, room, size, &len, &last, &test);
     }
-    return jwt_decode_set(token.bytes, token.len, set.bytes, set.len, options.bytes, options.len, NOW, room, size, &len);
+    return jwt_decode_set(token.bytes, token.len, set.bytes, set.len, options.bytes, options.len, NOW, room, size,
+                          &len);
 }
 
-int
-main(int count, char **words)
-{
+int main(int count, char **words) {
     static uint8_t room[65536];
     struct jwt_verifier verifier = JWT_VERIFIER_NONE;
     int is_verifier = count == 4 && strcmp(words[1], "verifier") == 0;
@@ -72,7 +65,8 @@ main(int count, char **words)
     read_text(&token, words[2], "token");
     read_text(&set, words[2], "set");
     read_text(&options, words[2], "options");
-    if (is_verifier && jwt_verifier_set(set.bytes, set.len, options.bytes, options.len, 0, false, &verifier) != JWT_OK) {
+    if (is_verifier &&
+        jwt_verifier_set(set.bytes, set.len, options.bytes, options.len, 0, false, &verifier) != JWT_OK) {
         fprintf(stderr, "speed: no verifier is made of %s.set and %s.options\n", words[2], words[2]);
         return 1;
     }
