@@ -6,9 +6,9 @@ use Rattle.jwt_header.specs.declared.header.Header.{Header}
 use Rattle.jwt_keys.specs.declared.jwk.Jwk.{Jwk}
 use Rattle.jsonwebtoken.specs.Calls.{HasHeader}
 use Rattle.jsonwebtoken.specs.Order.{Decides}
+use Rattle.jsonwebtoken.specs.Own.{named_own, IsNamedBy}
 use Rattle.jsonwebtoken.specs.Tests.{header_call, header_order, token_tests}
 use Rattle.jwt_command.specs.Kept.{IsKept}
-use Rattle.jwt_command.specs.Own.{named_own, IsNamedBy}
 
 pub named : (keys : List Jwk) (token : List ℕ) (made : Result Header Error) (r : Option Header)
     → Decides (token_tests (header_call token)) header_order (HasHeader (header_call token)) made → IsKept made r

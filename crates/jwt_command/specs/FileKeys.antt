@@ -1,12 +1,12 @@
 -- The keys that a token is verified with, by the bytes of their file.
-use Rattle.std.specs.Prelude.{◌≡◌, ◌⊎◌, ℕ, List, [], ◌∷◌, ◌++◌, Option, Some, None, option_and_then}
+use Rattle.std.specs.Prelude.{◌≡◌, ◌⊎◌, ℕ, List, [], ◌∷◌, ◌++◌, Option, Some, None}
 use Rattle.serde_json.specs.Data.{Data}
 use Rattle.serde_json.specs.Written.{compact_text}
-use Rattle.jwt_base.specs.Algorithm.{algorithm_of}
 use Rattle.jwt_base.specs.JsonText.{ReadsText}
 use Rattle.jwt_base.specs.Kind.{Kind}
 use Rattle.jwt_base.specs.declared.algorithms.Algorithm.{Algorithm}
 use Rattle.jwt_base.specs.declared.algorithms.AlgorithmFamily.TheVariants.{Hmac}
+use Rattle.jsonwebtoken.specs.Own.{own_of}
 use Rattle.jwt_key_files.specs.JwksOfPem.{IsJwkOfPem}
 use Rattle.jwt_key_files.specs.PemKeys.{IsPemOf, IsPemRefused}
 use Rattle.jwt_keys.specs.Jwk.{ReadsKey, key_value}
@@ -21,10 +21,6 @@ use Rattle.jwt_verifier.specs.declared.keys.Keys.{Keys}
 use Rattle.jwt_verifier.specs.declared.keys.Keys.TheVariants.{One, Set}
 use Rattle.jwt_command.specs.declared.request.KeyFile.{KeyFile}
 use Rattle.jwt_command.specs.declared.request.KeyFile.TheVariants as file
-
--- the algorithm that a key is for, by its `alg` (RFC 7517 section 4.4)
-abbrev pub own_of : Jwk → Option Algorithm
-own_of jwk = option_and_then algorithm_of jwk.common.key_algorithm
 
 -- the bytes of the file hold these keys, and the one key is for this algorithm: a secret, a JSON Web Key
 -- (RFC 7517 section 4), a set of these (RFC 7517 section 5), or a public key in PEM (RFC 7468 section 13); there is no

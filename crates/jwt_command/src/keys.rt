@@ -14,18 +14,19 @@ ghost use Rattle.jwt_keys.specs.declared.jwk.Jwk.{Jwk};
 ghost use Rattle.jwt_keys.specs.declared.jwk_set.JwkSet.{JwkSet};
 ghost use Rattle.jwt_secrets.specs.Blank.{IsBlank, IsBlankKey, IsBlankJwk, HasBlankKey};
 ghost use Rattle.jwt_validation.specs.OptionsOf.{options_of};
+ghost use Rattle.jsonwebtoken.specs.Own.{IsNamedBy, own_of};
 ghost use Rattle.jwt_command.specs.LineEnd.{IsSecret};
 ghost use Rattle.jwt_command.specs.Commands.{IsSettled};
-ghost use Rattle.jwt_command.specs.FileKeys.{AreLoaded, HasKeysFault, own_of};
-ghost use Rattle.jwt_command.specs.Own.{named_own, IsNamedBy, IsOwn, IsOwnOf};
+ghost use Rattle.jwt_command.specs.FileKeys.{AreLoaded, HasKeysFault};
+ghost use Rattle.jwt_command.specs.Own.{IsOwn, IsOwnOf};
 
 use crate::fault::{Fault, unless_refused};
 use crate::file_hints::{key_problem, pem_problem, set_problem};
 use crate::files::without_line_end;
 use crate::request::KeyFile;
 use jsonwebtoken::errors::{Error, ErrorKind};
-use jsonwebtoken::jwk::{Jwk, JwkSet};
-use jsonwebtoken::{Algorithm, DecodingKey, Header, Validation, decode_header};
+use jsonwebtoken::jwk::{Jwk, JwkSet, named_algorithm, own_algorithm};
+use jsonwebtoken::{Algorithm, DecodingKey, Validation, decode_header};
 use jwt_key_files::pem::public_key_from_pem;
 use jwt_secrets::{has_blank_key, is_blank, is_blank_key};
 use jwt_verifier::{Keys, PreparedKeys};
@@ -43,7 +44,9 @@ pub struct Loaded {
     pub provider: PreparedKeys,
 }
 
-/// The number of keys of a set that are prepared: to look for one takes longer, the more there are.
+/// The number of keys of a set, from its first, that are prepared to verify many tokens: the hashed
+/// blocks of a secret, or what a modulus needs. Each allocates, and to look for one takes longer, the
+/// more there are. The others verify too, unprepared.
 const PREPARED: usize = 16;
 
 fn prepare_for(
@@ -106,35 +109,12 @@ pub fn prepare(
     }
 }
 
-/// Returns the algorithm of signatures that a key is for, by its `alg`.
-pub fn own_algorithm(jwk: &Jwk) -> Option<Algorithm>
-    ensures { result ≡ own_of jwk.now }
-{
-    match jwk.common.key_algorithm {
-        Some(named) => Algorithm::try_from(named).ok(),
-        None => None,
-    }
-}
-
 /// Returns whether the keys may name the algorithm of a token: one key by its own `alg`, and a set by
 /// that of the key which the token names.
 pub fn names_algorithm(loaded: &Loaded) -> bool {
     match &loaded.keys {
         Keys::One(_) => loaded.own.is_some(),
         Keys::Set(_) => true,
-    }
-}
-
-/// Returns the algorithm that the key of a set which a header names is for.
-fn named_algorithm(set: &JwkSet, header: &Header) -> Option<Algorithm>
-    ensures { result ≡ named_own set.now.keys.items header.now }
-{
-    let Some(kid) = &header.kid else {
-        return None;
-    };
-    match set.find(kid.as_str()) {
-        Some(jwk) => own_algorithm(jwk),
-        None => None,
     }
 }
 

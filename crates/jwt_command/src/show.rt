@@ -89,7 +89,7 @@ fn salvage_page(alloc: Global, salvage: &Salvage, now: u64) -> Result<String, Al
     without_late_controls(alloc, page)
 }
 
-/// Returns a value as JSON, or null if there is none.
+/// Returns the JSON of a value, and `null` for none.
 fn value_text(alloc: Global, value: &Option<Value>) -> Result<String, AllocError> {
     match value {
         Some(value) => value.to_string(alloc),

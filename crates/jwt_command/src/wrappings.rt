@@ -1,4 +1,4 @@
-//! Texts around a token, and other texts where a token is wanted, by their first bytes.
+//! Recognizes by its first bytes what stands around a token, or instead of one.
 
 use memchr::memmem;
 

@@ -1,6 +1,6 @@
 use Rattle.std.proofs.Common.{Some, None, subst, sym}
+use Rattle.jsonwebtoken.specs.Own.{IsNamedBy}
 use Rattle.jwt_command.specs.Kept.{IsKept}
-use Rattle.jwt_command.specs.Own.{IsNamedBy}
 use Rattle.jwt_command.proofs.Owned.{named}
 use Rattle.jwt_command.proofs.keys.set_algorithm.Goals as goal
 
