@@ -1,8 +1,9 @@
 """Builds the library for C, and the programs of a release, for every x86-64, by rattle over the libraries that rt ci built below them.
 
 rt ci builds no library for C. It builds programs for x86-64-v2, and links them so that they ask for glibc 2.34; here a program takes the
-place of that one, linked with start.c so that it asks for what its calls need. A proof is for one processor, so that rattle proves each
-crate again. What it made is kept, with the prover's last line.
+place of that one, linked with start.c so that it asks for what its calls need. A library's proof holds for every processor, and that of
+a program or of the library for C for one: rattle proves these alone again, as jwt's `main`, over the proved libraries. What it made is
+kept, with the prover's last line.
 """
 import base64
 import concurrent.futures

@@ -1,0 +1,80 @@
+-- The claims that are required, and the options that the arguments change.
+use Rattle.std.proofs.Common.{◌≡◌, ℕ, ◌+◌, ◌<◌, ◌∙◌, ◌&&◌, ◌||◌, not, Bool, true, false, cond, List, get_or, length, take, Bor, Option, refl, sym, ap, subst, option_map, unwrap_or}
+use Rattle.std.proofs.lemmas.Bool.{false≢true}
+use Rattle.std.proofs.lemmas.List.Folds.{list_any_more}
+use Rattle.std.specs.Option.{option_or}
+use Rattle.std.specs.Str.{bytes_eq}
+use Rattle.jwt_validation.specs.Options.{Options, Texts, among}
+use Rattle.jwt_command.specs.Requested.{AreChosen, AreRequested, IsBase, changed, given_or, required, strict_if}
+use Rattle.jwt_command.specs.declared.request.Checks.{Checks}
+
+or_behind : (b a c : Bool) → (b || (a || c)) ≡ ((a || b) || c)
+or_behind true true c = refl
+or_behind true false c = refl
+or_behind false true c = refl
+or_behind false false c = refl
+
+-- one more name
+pub one_more : (names : List (Bor (List ℕ))) (i : ℕ) (d : Bor (List ℕ)) (t : List ℕ) (after before others : Bool) → i < length names
+    → after ≡ (bytes_eq (get_or names i d).now t || before) → before ≡ (among (λ s. s.now) (take i names) t || others)
+    → after ≡ (among (λ s. s.now) (take (i + 1) names) t || others)
+one_more names i d t after before others range added held =
+    added ∙ (ap (λ b. bytes_eq (get_or names i d).now t || b) held ∙ (or_behind (bytes_eq (get_or names i d).now t) (among (λ s. s.now) (take i names) t) others
+    ∙ ap (λ b. b || others) (sym (list_any_more (λ s. bytes_eq s.now t) names i d range))))
+
+pub left_out : (is_name b : Bool) → cond is_name false b ≡ (not (true && is_name) && b)
+left_out true b = refl
+left_out false b = refl
+
+-- strict options name the same algorithms
+pub strict_algorithms : (is_strict : Bool) (o : Options) → (strict_if is_strict o).algorithms ≡ o.algorithms
+strict_algorithms true o = refl
+strict_algorithms false o = refl
+
+-- options that are not made strict
+pub not_strict : (is_strict : Bool) (o : Options) → is_strict ≡ false → o ≡ strict_if is_strict o
+not_strict true o off = absurd (false≢true (sym off))
+not_strict false o off = refl
+
+-- a file, made strict, then changed, then with the algorithms that the arguments name
+pub requested : (c : Checks) (bytes : Option (List ℕ)) (file strict done final : Options) → IsBase bytes file
+    → strict ≡ strict_if c.is_strict file → done ≡ changed c strict strict.algorithms
+    → AreChosen c.algorithms done.algorithms final.algorithms → final ≡ record done { algorithms = final.algorithms }
+    → AreRequested c bytes final
+requested c bytes file strict done final base is_strict is_done chosen is_final = (
+  file,
+  base,
+  (
+    final.algorithms,
+    subst (λ a. AreChosen c.algorithms a final.algorithms)
+        (ap (λ o. o.algorithms) is_done ∙ (ap (λ o. o.algorithms) is_strict ∙ strict_algorithms c.is_strict file)) chosen,
+    is_final ∙ (ap {A = Options} {B = Options} (λ o. record o { algorithms = final.algorithms }) is_done
+        ∙ ap {A = Options} {B = Options} (λ o. changed c o final.algorithms) is_strict),
+  ),
+)
+
+-- names, then times, then required claims
+pub changes : (c : Checks) (file named timed : Options) (claims : Texts)
+    → named ≡ record file {
+      aud = given_or c.audiences file.aud;
+      iss = given_or c.issuers file.iss;
+      sub = option_or (option_map (λ s. s.now) c.subject) file.sub;
+      understood = unwrap_or (option_map (λ names. among (λ s. s.now) names.now) c.understood) file.understood;
+    }
+    → timed ≡ record named {
+      leeway = unwrap_or c.leeway named.leeway;
+      reject = unwrap_or c.not_within named.reject;
+      checks_exp = not c.skips_exp && named.checks_exp;
+      checks_nbf = c.checks_nbf || named.checks_nbf;
+    }
+    → ((t : List ℕ) → claims t ≡ required c timed.required t)
+    → record timed { required = claims } ≡ changed c file file.algorithms
+changes c file named timed claims is_named is_timed is_required =
+    (λ i. record timed { required = λ t. is_required t i })
+    ∙ ap {A = Options} {B = Options} (λ o. record o { required = required c o.required })
+    (is_timed ∙ ap {A = Options} {B = Options} (λ o. record o {
+      leeway = unwrap_or c.leeway o.leeway;
+      reject = unwrap_or c.not_within o.reject;
+      checks_exp = not c.skips_exp && o.checks_exp;
+      checks_nbf = c.checks_nbf || o.checks_nbf;
+    }) is_named)

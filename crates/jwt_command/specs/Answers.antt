@@ -1,0 +1,77 @@
+-- The exit status and what is written to standard output, for `verify` and `sign`.
+use Rattle.std.specs.Prelude.{◌≡◌, ◌⊎◌, ℕ, List, [], ◌∷◌, ◌++◌, Option, Some, false}
+use Rattle.serde_json.specs.Data.{Data}
+use Rattle.serde_json.specs.Written.{compact_text, has_float}
+use Rattle.jwt_base.specs.Kind.{Kind}
+use Rattle.jwt_base.specs.KindOf.{IsMemory}
+use Rattle.jwt_base.specs.declared.algorithms.AlgorithmFamily.TheVariants.{Hmac}
+use Rattle.jwt_header.specs.Header.{header_value}
+use Rattle.jwt_header.specs.declared.header.Header.{Header}
+use Rattle.jwt_validation.specs.Options.{Options}
+use Rattle.jsonwebtoken.specs.ByHmac.{encoding_by_hmac}
+use Rattle.jsonwebtoken.specs.Issue.{Issue, Written, IsIssued, encode_order, issue_tests}
+use Rattle.jsonwebtoken.specs.Order.{Passes, FailsFirst}
+use Rattle.jsonwebtoken.specs.Tests.{Contents}
+use Rattle.jwt_command.specs.Accepted.{IsAccepted, IsDenied}
+use Rattle.jwt_verifier.specs.declared.keys.Keys.{Keys}
+use Rattle.jwt_command.specs.declared.verdict.Denial.{Denial}
+use Rattle.jwt_command.specs.declared.verdict.Denial.TheVariants.{Refused, OtherType}
+use Rattle.jwt_command.specs.declared.verify.Form.{Form}
+use Rattle.jwt_command.specs.declared.verify.Form.TheVariants.{Claims, HeaderAndClaims, Json}
+
+-- a value's JSON text and a newline; for a value with a float, this says nothing
+abbrev pub IsLineOf : Data → List ℕ → Type 0
+IsLineOf value text = has_float value ≡ false → text ≡ compact_text value ++ 10 ∷ []
+
+-- the header's JSON text and a newline
+abbrev pub IsHeaderLine : Header → List ℕ → Type 0
+IsHeaderLine header text = (value : Data) × (header_value header ≡ Some value)
+    × (text ≡ compact_text value ++ 10 ∷ [])
+
+-- the output for an accepted token; of one line of JSON, this says nothing
+abbrev pub IsAcceptedText : Form → Header → Data → List ℕ → Type 0
+IsAcceptedText Claims header claims output = IsLineOf claims output
+IsAcceptedText HeaderAndClaims header claims output =
+    (first second : List ℕ) × IsHeaderLine header first × IsLineOf claims second
+    × (output ≡ first ++ second)
+IsAcceptedText Json header claims output = Unit {0}
+
+-- of a refused token nothing is written, unless it is one line of JSON
+abbrev pub IsRefusedText : Form → List ℕ → Type 0
+IsRefusedText Claims output = output ≡ []
+IsRefusedText HeaderAndClaims output = output ≡ []
+IsRefusedText Json output = Unit {0}
+
+-- 3 if memory ran out, and else 1
+abbrev pub HasStatus : Denial → ℕ → Type 0
+HasStatus (Refused refusal) status =
+    (IsMemory refusal.error × (status ≡ 3)) ⊎ (¬ IsMemory refusal.error × (status ≡ 1))
+HasStatus OtherType status = status ≡ 1
+
+-- status 0 for a token that is accepted, and else that of its denial
+abbrev pub IsVerdict : List ℕ → Keys → Options → ℕ → Option (List ℕ) → ℕ → Type 0
+IsVerdict token keys options now typ status =
+    ((t : Contents) × IsAccepted token keys options now typ t × (status ≡ 0))
+    ⊎ ((denial : Denial) × IsDenied token keys options now typ denial × HasStatus denial status)
+
+-- Status 0 and the claims of a token that is accepted, or another status and nothing of one that is refused.
+abbrev pub IsVerifyAnswer : List ℕ → Keys → Options → ℕ → Option (List ℕ) → Form → ℕ → List ℕ → Type 0
+IsVerifyAnswer token keys options now typ form status output =
+    ((t : Contents) × IsAccepted token keys options now typ t × (status ≡ 0)
+    × IsAcceptedText form t.header t.payload_value output)
+    ⊎ ((denial : Denial) × IsDenied token keys options now typ denial
+    × HasStatus denial status × IsRefusedText form output)
+
+-- a token of these claims under this header, signed by HMAC with a secret (RFC 7518 section 3.2)
+abbrev pub signing : Header → Data → List ℕ → Issue
+signing header claims secret =
+    encoding_by_hmac header (Some claims) (record { family = Hmac; bytes = secret })
+
+-- status 0, the token and a newline (RFC 7515 section 7.1); or status 1 and nothing, if a test of `encode` fails
+abbrev pub IsSignAnswer : Header → Data → List ℕ → ℕ → List ℕ → Type 0
+IsSignAnswer header claims secret status output =
+    ((t : Written) × Passes (issue_tests (signing header claims secret)) encode_order t
+    × ((token : List ℕ) × IsIssued (signing header claims secret) t token
+    × (status ≡ 0) × (output ≡ token ++ 10 ∷ [])))
+    ⊎ ((k : Kind) × FailsFirst (issue_tests (signing header claims secret)) encode_order k
+    × (status ≡ 1) × (output ≡ []))

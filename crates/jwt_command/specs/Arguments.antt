@@ -1,0 +1,138 @@
+-- The request that the arguments of the command line stand for.
+use Rattle.std.specs.Prelude.{◌≡◌, ◌⊎◌, ◌&&◌, ◌^◌, ℕ, List, [], Bool, true, false, Option, Some, None, length, ltb, map, option_map, if◌then◌else◌, codes}
+use Rattle.std.specs.Borrow.{Bor}
+use Rattle.std.specs.Option.{option_or}
+use Rattle.std.specs.Str.{all_ascii_digits}
+use Rattle.std.specs.Str.Parse.{digits_value}
+use Rattle.clap.specs.Matches.{first_value, matched_of, one_text, raw_values, subcommand_name_of}
+use Rattle.clap.specs.Simple.{subcommand_rows_of}
+use Rattle.clap.specs.Walk.{rows_of}
+use Rattle.clap.specs.declared.parser.matches.ArgMatches.{ArgMatches}
+use Rattle.clap.specs.declared.parser.matches.Found.{Found}
+use Rattle.jwt_base.specs.Algorithm.{algorithm_named}
+use Rattle.jwt_params.specs.declared.thumbprints.ThumbprintHash.{ThumbprintHash}
+use Rattle.jwt_params.specs.declared.thumbprints.ThumbprintHash.TheVariants.{SHA256, SHA384, SHA512}
+use Rattle.jwt_command.specs.declared.request.Checks.{Checks}
+use Rattle.jwt_command.specs.declared.request.KeyFile.{KeyFile}
+use Rattle.jwt_command.specs.declared.request.KeyFile.TheVariants as file
+use Rattle.jwt_command.specs.declared.request.Request.{Request}
+use Rattle.jwt_command.specs.declared.request.Request.TheVariants.{Verify, Explain, Show, Sign, Keys, Jwk, Thumbprint}
+use Rattle.jwt_command.specs.declared.request.Showing.{Showing}
+use Rattle.jwt_command.specs.declared.request.Signing.{Signing}
+use Rattle.jwt_command.specs.declared.request.Verification.{Verification}
+
+-- the text behind a reference, if there is one
+abbrev pub text_of : Option (Bor (List ℕ)) → Option (List ℕ)
+text_of = option_map (λ s. s.now)
+
+-- the texts of a list, if there is one
+abbrev pub texts_of : Option (Bor (List (Bor (List ℕ)))) → Option (List (List ℕ))
+texts_of = option_map (λ names. map (λ s. s.now) names.now)
+
+-- the values that are given under an id, each time
+abbrev pub values_of : Found → List ℕ → Option (List (List ℕ))
+values_of f id = option_map raw_values (matched_of f id)
+
+-- whether a flag is set
+pub record IsFlag (f : Found) (id : List ℕ) (b : Bool) : Type 0 where
+  pub set : one_text f id ≡ Some (codes "true") → b ≡ true
+  pub unset : one_text f id ≡ Some (codes "false") → b ≡ false
+  pub absent : one_text f id ≡ None → b ≡ false
+
+-- the number that one or more decimal digits stand for, if it has at most 64 bits
+abbrev pub decimal : List ℕ → Option ℕ
+decimal word =
+    if all_ascii_digits word && (ltb 0 (length word)
+    && ltb (digits_value 10 word) (2 ^ 64)) then Some (digits_value 10 word)
+    else None
+
+-- the number of a value; of one that is no such number, but a time or a span, this says that there is a number
+abbrev pub IsNumberOf : Option (List ℕ) → Option ℕ → Type 0
+IsNumberOf None number = number ≡ None
+IsNumberOf (Some word) None = ⊥
+IsNumberOf (Some word) (Some n) = (k : ℕ) → decimal word ≡ Some k → n ≡ k
+
+-- the file of keys: that of the first of these options that is given
+abbrev pub IsKeyFile : Found → KeyFile → Type 0
+IsKeyFile f (file.Secret path is_trimmed) =
+    (first_value f (codes "secret-file") ≡ Some path.now) × IsFlag f (codes "trim") is_trimmed
+IsKeyFile f (file.Jwk path) =
+    (first_value f (codes "secret-file") ≡ None) × (first_value f (codes "jwk") ≡ Some path.now)
+IsKeyFile f (file.Jwks path) =
+    (first_value f (codes "secret-file") ≡ None) × (first_value f (codes "jwk") ≡ None)
+    × (first_value f (codes "jwks") ≡ Some path.now)
+IsKeyFile f (file.Pem path) =
+    (first_value f (codes "secret-file") ≡ None) × (first_value f (codes "jwk") ≡ None)
+    × (first_value f (codes "jwks") ≡ None) × (first_value f (codes "pem") ≡ Some path.now)
+
+-- what a token is checked against
+pub record AreChecks (f : Found) (c : Checks) : Type 0 where
+  pub options : text_of c.options ≡ first_value f (codes "options")
+  pub is_strict : IsFlag f (codes "strict") c.is_strict
+  pub algorithms : texts_of c.algorithms ≡ values_of f (codes "alg")
+  pub audiences : texts_of c.audiences ≡ values_of f (codes "aud")
+  pub issuers : texts_of c.issuers ≡ values_of f (codes "iss")
+  pub subject : text_of c.subject ≡ first_value f (codes "sub")
+  pub leeway : IsNumberOf (first_value f (codes "leeway")) c.leeway
+  pub not_within : IsNumberOf (first_value f (codes "not-within")) c.not_within
+  pub required : texts_of c.required ≡ values_of f (codes "require")
+  pub checks_nbf : IsFlag f (codes "nbf") c.checks_nbf
+  pub skips_exp : IsFlag f (codes "no-exp") c.skips_exp
+  pub understood : texts_of c.understood ≡ values_of f (codes "crit")
+
+-- the arguments that `verify` and `explain` share
+pub record IsChecking (f : Found) (v : Verification) : Type 0 where
+  pub token : text_of v.token ≡ first_value f (codes "token")
+  pub key : IsKeyFile f v.key
+  pub checks : AreChecks f v.checks
+  pub typ : text_of v.typ ≡ first_value f (codes "typ")
+  pub now : IsNumberOf (first_value f (codes "now")) v.now
+  pub is_json : IsFlag f (codes "json") v.is_json
+
+-- the arguments of `sign`; the algorithm is HS256 if none is given
+pub record IsSigningOf (f : Found) (s : Signing) : Type 0 where
+  pub claims : text_of s.claims ≡ first_value f (codes "claims")
+  pub secret : first_value f (codes "secret-file") ≡ Some s.secret.now
+  pub is_trimmed : IsFlag f (codes "trim") s.is_trimmed
+  pub algorithm : option_map algorithm_named (option_or (first_value f (codes "alg")) (Some (codes "HS256"))) ≡ Some (Some s.algorithm)
+  pub kid : text_of s.kid ≡ first_value f (codes "kid")
+  pub typ : text_of s.typ ≡ first_value f (codes "typ")
+  pub exp_in : IsNumberOf (first_value f (codes "exp-in")) s.exp_in
+  pub nbf_in : IsNumberOf (first_value f (codes "nbf-in")) s.nbf_in
+  pub has_iat : IsFlag f (codes "iat") s.has_iat
+  pub now : IsNumberOf (first_value f (codes "now")) s.now
+
+-- the arguments of `show`
+pub record IsShowing (f : Found) (s : Showing) : Type 0 where
+  pub token : text_of s.token ≡ first_value f (codes "token")
+  pub now : IsNumberOf (first_value f (codes "now")) s.now
+  pub is_json : IsFlag f (codes "json") s.is_json
+
+-- the hash of this name, or SHA-256 if none is given (RFC 7638 section 3.4)
+abbrev pub IsHash : Option (List ℕ) → ThumbprintHash → Type 0
+IsHash name SHA256 = (name ≡ None) ⊎ (name ≡ Some (codes "SHA256"))
+IsHash name SHA384 = name ≡ Some (codes "SHA384")
+IsHash name SHA512 = name ≡ Some (codes "SHA512")
+
+-- the path of the file that is listed
+abbrev pub IsFile : Found → Bor (List ℕ) → Type 0
+IsFile f path = Some path.now ≡ option_or (first_value f (codes "file")) (Some [])
+
+-- the command of this name, with these arguments
+abbrev pub IsCommand : List ℕ → Found → Request → Type 0
+IsCommand name f (Verify v) = (name ≡ codes "verify") × IsChecking f v
+    × IsFlag f (codes "header") v.has_header × IsFlag f (codes "lines") v.is_lines
+IsCommand name f (Explain v) = (name ≡ codes "explain") × IsChecking f v
+    × (v.has_header ≡ false) × (v.is_lines ≡ false)
+IsCommand name f (Show s) = (name ≡ codes "show") × IsShowing f s
+IsCommand name f (Sign s) = (name ≡ codes "sign") × IsSigningOf f s
+IsCommand name f (Keys l) = (name ≡ codes "keys") × IsFile f l.file
+IsCommand name f (Jwk l) = (name ≡ codes "jwk") × IsFile f l.file
+IsCommand name f (Thumbprint d) = (name ≡ codes "thumbprint") × IsFile f d.file
+    × IsHash (first_value f (codes "hash")) d.hash
+
+-- the request is that of the command that was found, and of its arguments
+abbrev pub IsRequestOf : ArgMatches → Request → Type 0
+IsRequestOf m r = (name : List ℕ) × (subcommand_name_of m ≡ Some name)
+    × ((f : Found) × (option_map (λ p. p.1) (subcommand_rows_of m) ≡ Some (rows_of f))
+    × IsCommand name f r)

@@ -1,0 +1,174 @@
+-- The exit status and the output of the commands, by the arguments and by the bytes that a command reads.
+use Rattle.std.specs.Prelude.{◌≡◌, ◌≢◌, ◌⊎◌, ⊤, ℕ, max, List, [], ◌∷◌, Bool, true, false, Option, Some, None, option_map, is_some, if◌then◌else◌, codes}
+use Rattle.std.specs.Borrow.{Bor}
+use Rattle.std.specs.Io.KnownBytes.{Appends}
+use Rattle.serde_json.specs.Data.{Members, object}
+use Rattle.jwt_base.specs.Claims.{IsValue}
+use Rattle.jwt_base.specs.JsonText.{IsJson}
+use Rattle.jwt_base.specs.Kind.{Kind}
+use Rattle.jwt_base.specs.declared.algorithms.Algorithm.{Algorithm}
+use Rattle.jwt_validation.specs.Options.{Options}
+use Rattle.jsonwebtoken.specs.Order.{Passes, FailsFirst}
+use Rattle.jsonwebtoken.specs.Tests.{Contents, insecure_call, insecure_order, token_tests}
+use Rattle.jwt_secrets.specs.Blank.{IsBlank}
+use Rattle.jwt_command.specs.Answers.{IsVerdict, IsVerifyAnswer, IsSignAnswer}
+use Rattle.jwt_command.specs.Claimed.{header_asked, with_moments}
+use Rattle.jwt_command.specs.FileKeys.{AreLoaded, IsJwkLine}
+use Rattle.jwt_command.specs.LineEnd.{IsLessLineEnd, IsSecret}
+use Rattle.jwt_command.specs.Own.{IsOwn}
+use Rattle.jwt_command.specs.Requested.{AreRequested}
+use Rattle.jwt_command.specs.declared.keys.Loaded.{Loaded}
+use Rattle.jwt_command.specs.declared.request.Request.{Request}
+use Rattle.jwt_command.specs.declared.request.Request.TheVariants.{Verify, Explain, Show, Sign, Keys, Jwk, Thumbprint}
+use Rattle.jwt_command.specs.declared.request.Showing.{Showing}
+use Rattle.jwt_command.specs.declared.request.Signing.{Signing}
+use Rattle.jwt_command.specs.declared.request.Verification.{Verification}
+use Rattle.jwt_command.specs.declared.verify.Form.{Form}
+use Rattle.jwt_command.specs.declared.verify.Form.TheVariants.{Claims, HeaderAndClaims, Json}
+
+-- a value that an argument has is the one that is taken
+abbrev pub IsGiven : {A : Type 0} → Option A → A → Type 0
+IsGiven None value = ⊤
+IsGiven (Some asked) value = value ≡ asked
+
+-- a token that an argument has is the one that is taken, unless it is `-`
+abbrev pub IsGivenToken : Option (Bor (List ℕ)) → List ℕ → Type 0
+IsGivenToken None bytes = ⊤
+IsGivenToken (Some token) bytes = token.now ≢ codes "-" → bytes ≡ token.now
+
+-- the options for a token: if they name no algorithm, that of its key is the only one (RFC 8725 section 3.1)
+abbrev pub IsSettled : Loaded → List ℕ → Options → Options → Type 0
+IsSettled loaded token options settled =
+    ((options.algorithms ≢ []) × (settled ≡ options))
+    ⊎ ((options.algorithms ≡ []) × ((own : List Algorithm) × IsOwn loaded token own
+    × (settled ≡ record options { algorithms = own })))
+
+-- for private clauses: options that serve one token after the other are these, but for the algorithm of the last token's
+-- key if they name none
+abbrev pub AreReused : Bool → Options → Options → Type 0
+AreReused is_own options reused =
+    ((is_own ≡ true) × (options.algorithms ≡ []) × (record reused { algorithms = [] } ≡ options))
+    ⊎ ((is_own ≡ false) × (options.algorithms ≢ []) × (reused ≡ options))
+
+-- how an accepted token is written
+abbrev pub form_asked : Verification → Form
+form_asked v = if v.is_json then Json else if v.has_header then HeaderAndClaims else Claims
+
+-- the type that the header has to have, if one is asked for
+abbrev pub type_asked : Verification → Option (List ℕ)
+type_asked v = option_map (λ t. t.now) v.typ
+
+-- status and output for the bytes of a token, less their line end, under these keys and options
+abbrev pub IsTokenAnswer : Verification → Loaded → Options → List ℕ → ℕ → Form → ℕ → List ℕ → Type 0
+IsTokenAnswer v loaded options bytes now form status output =
+    (token : List ℕ) × IsLessLineEnd bytes token
+    × ((settled : Options) × IsSettled loaded token options settled
+    × IsVerifyAnswer token loaded.keys settled now (type_asked v) form status output)
+
+-- the status of `explain`, which is that of `verify`
+abbrev pub IsTokenVerdict : Verification → Loaded → Options → List ℕ → ℕ → ℕ → Type 0
+IsTokenVerdict v loaded options bytes now status =
+    (token : List ℕ) × IsLessLineEnd bytes token
+    × ((settled : Options) × IsSettled loaded token options settled
+    × IsVerdict token loaded.keys settled now (type_asked v) status)
+
+-- the keys and the options are those of the arguments, with the files that they name
+abbrev pub ArePrepared : Verification → Loaded → Options → Type 0
+ArePrepared v loaded options =
+    (key : List ℕ) × AreLoaded v.key key loaded.keys loaded.own
+    × ((file : Option (List ℕ)) × (is_some file ≡ is_some v.checks.options)
+    × AreRequested v.checks file options)
+
+-- the answer of `verify` to a token
+abbrev pub IsVerification : Verification → ℕ → List ℕ → Type 0
+IsVerification v status output =
+    (bytes : List ℕ) × IsGivenToken v.token bytes
+    × ((now : ℕ) × IsGiven v.now now
+    × ((loaded : Loaded) × ((options : Options) × ArePrepared v loaded options
+    × IsTokenAnswer v loaded options bytes now (form_asked v) status output)))
+
+-- the status of `explain`
+abbrev pub IsExplanation : Verification → ℕ → Type 0
+IsExplanation v status =
+    (bytes : List ℕ) × IsGivenToken v.token bytes
+    × ((now : ℕ) × IsGiven v.now now
+    × ((loaded : Loaded) × ((options : Options) × ArePrepared v loaded options
+    × IsTokenVerdict v loaded options bytes now status)))
+
+-- status and output of `sign`, by the bytes of the secret's file and of the claims; not everybody can sign with the secret
+abbrev pub IsSigned : Signing → List ℕ → List ℕ → ℕ → ℕ → List ℕ → Type 0
+IsSigned s key text now status output =
+    (secret : List ℕ) × IsSecret s.is_trimmed key secret × (¬ IsBlank secret)
+    × ((members : Members) × IsJson text (object members)
+    × IsSignAnswer (header_asked s) (object (with_moments s now members)) secret status output)
+
+-- the answer of `sign`
+abbrev pub IsSigning : Signing → ℕ → List ℕ → Type 0
+IsSigning s status output =
+    (key : List ℕ) × (text : List ℕ)
+    × ((now : ℕ) × IsGiven s.now now × IsSigned s key text now status output)
+
+-- the status of a line, which is a token
+abbrev pub IsLineStatus : Verification → Loaded → Options → ℕ → Type 0
+IsLineStatus v loaded options status =
+    (bytes : List ℕ) × ((now : ℕ) × IsGiven v.now now
+    × ((output : List ℕ) × IsTokenAnswer v loaded options bytes now Json status output))
+
+-- the greatest of these, or 0
+abbrev pub greatest : List ℕ → ℕ
+greatest [] = 0
+greatest (n ∷ ns) = max n (greatest ns)
+
+-- P holds of each
+abbrev pub Each : (ℕ → Type 0) → List ℕ → Type 0
+Each P [] = ⊤
+Each P (n ∷ ns) = P n × Each P ns
+
+-- the greatest status of some lines; that these are all lines of the input, it can't say
+abbrev pub IsLinesStatus : Verification → Loaded → Options → ℕ → Type 0
+IsLinesStatus v loaded options status =
+    (statuses : List ℕ) × Each (IsLineStatus v loaded options) statuses
+    × (status ≡ greatest statuses)
+
+-- the status of `verify` for many lines
+abbrev pub AreVerified : Verification → ℕ → Type 0
+AreVerified v status =
+    (loaded : Loaded) × ((options : Options) × ArePrepared v loaded options
+    × IsLinesStatus v loaded options status)
+
+-- header and claims can be read, or they can't (RFC 7515 section 5.2, RFC 7519 section 7.2)
+abbrev pub IsReadable : List ℕ → ℕ → Type 0
+IsReadable token status =
+    ((t : Contents) × Passes (token_tests (insecure_call token IsValue)) insecure_order t
+    × (status ≡ 0))
+    ⊎ ((k : Kind) × FailsFirst (token_tests (insecure_call token IsValue)) insecure_order k
+    × (status ≡ 1))
+
+-- the status of `show`
+abbrev pub IsShown : Showing → ℕ → Type 0
+IsShown s status =
+    (bytes : List ℕ) × IsGivenToken s.token bytes
+    × ((token : List ℕ) × IsLessLineEnd bytes token × IsReadable token status)
+
+-- the answer to a request; of the output of the other commands than `verify`, `sign` and `jwk`, and of that of
+-- `verify` for many lines, this says nothing
+abbrev pub IsAnswer : Request → ℕ → List ℕ → Type 0
+IsAnswer (Verify v) status output =
+    ((v.is_lines ≡ true) × AreVerified v status)
+    ⊎ ((v.is_lines ≡ false) × IsVerification v status output)
+IsAnswer (Explain v) status output = IsExplanation v status
+IsAnswer (Show s) status output = IsShown s status
+IsAnswer (Sign s) status output = IsSigning s status output
+IsAnswer (Keys k) status output = status ≡ 0
+IsAnswer (Jwk k) status output = (status ≡ 0) × ((bytes : List ℕ) × IsJwkLine bytes output)
+IsAnswer (Thumbprint d) status output = status ≡ 0
+
+-- the status of a command that has no answer: 2 for arguments, and 3 for files, streams, the clock and memory
+abbrev pub IsFaultStatus : ℕ → Type 0
+IsFaultStatus status = (status ≡ 2) ⊎ (status ≡ 3)
+
+-- the status of the command for a request, and what it appends to what was written, if that is known
+abbrev pub IsStatus : Request → Option (List ℕ) → Option (List ℕ) → ℕ → Type 0
+IsStatus r before after status =
+    IsFaultStatus status
+    ⊎ ((output : List ℕ) × IsAnswer r status output × Appends before after output)

@@ -1,0 +1,62 @@
+-- The keys that a token is verified with, by the bytes of their file.
+use Rattle.std.specs.Prelude.{◌≡◌, ◌⊎◌, ℕ, List, [], ◌∷◌, ◌++◌, Option, Some, None}
+use Rattle.serde_json.specs.Data.{Data}
+use Rattle.serde_json.specs.Written.{compact_text}
+use Rattle.jwt_base.specs.JsonText.{ReadsText}
+use Rattle.jwt_base.specs.Kind.{Kind}
+use Rattle.jwt_base.specs.declared.algorithms.Algorithm.{Algorithm}
+use Rattle.jwt_base.specs.declared.algorithms.AlgorithmFamily.TheVariants.{Hmac}
+use Rattle.jsonwebtoken.specs.Own.{own_of}
+use Rattle.jwt_key_files.specs.JwksOfPem.{IsJwkOfPem}
+use Rattle.jwt_key_files.specs.PemKeys.{IsPemOf, IsPemRefused}
+use Rattle.jwt_keys.specs.Jwk.{ReadsKey, key_value}
+use Rattle.jwt_keys.specs.JwkSet.{ReadsSet}
+use Rattle.jwt_keys.specs.Key.{Key, Plain}
+use Rattle.jwt_keys.specs.KeyOfJwk.{IsKeyOf}
+use Rattle.jwt_keys.specs.declared.jwk.Jwk.{Jwk}
+use Rattle.jwt_keys.specs.declared.jwk_set.JwkSet.{JwkSet}
+use Rattle.jwt_secrets.specs.Blank.{IsBlank, IsBlankKey, IsBlankJwk, HasBlankKey}
+use Rattle.jwt_command.specs.LineEnd.{IsSecret}
+use Rattle.jwt_verifier.specs.declared.keys.Keys.{Keys}
+use Rattle.jwt_verifier.specs.declared.keys.Keys.TheVariants.{One, Set}
+use Rattle.jwt_command.specs.declared.request.KeyFile.{KeyFile}
+use Rattle.jwt_command.specs.declared.request.KeyFile.TheVariants as file
+
+-- the bytes of the file hold these keys, and the one key is for this algorithm: a secret, a JSON Web Key
+-- (RFC 7517 section 4), a set of these (RFC 7517 section 5), or a public key in PEM (RFC 7468 section 13); there is no
+-- secret among them by which anyone can sign (RFC 2104 section 2)
+abbrev pub AreLoaded : KeyFile → List ℕ → Keys → Option Algorithm → Type 0
+AreLoaded (file.Secret path is_trimmed) bytes keys own =
+    (secret : List ℕ) × IsSecret is_trimmed bytes secret × (¬ IsBlank secret)
+    × (keys ≡ One (Plain Hmac secret)) × (own ≡ None)
+AreLoaded (file.Jwk path) bytes keys own =
+    (jwk : Jwk) × ReadsText ReadsKey bytes jwk
+    × ((key : Key) × IsKeyOf jwk.algorithm key × (¬ IsBlankKey key)
+    × (keys ≡ One key) × (own ≡ own_of jwk))
+AreLoaded (file.Jwks path) bytes keys own =
+    (set : JwkSet) × ReadsText ReadsSet bytes set.keys.items × (¬ HasBlankKey set.keys.items)
+    × (keys ≡ Set set) × (own ≡ None)
+AreLoaded (file.Pem path) bytes keys own =
+    (key : Key) × IsPemOf bytes key × (keys ≡ One key) × (own ≡ None)
+
+-- the compact JSON text of the JSON Web Key (RFC 7517 section 4) of the key that the first block of a text holds (RFC 7468
+-- section 3), and a newline
+abbrev pub IsJwkLine : (bytes line : List ℕ) → Type 0
+IsJwkLine bytes line =
+    (jwk : Jwk) × IsJwkOfPem bytes jwk
+    × ((value : Data) × (key_value jwk ≡ Some value) × (line ≡ compact_text value ++ 10 ∷ []))
+
+-- why the bytes of the file hold no keys: anyone can sign with the secret, or for a key (RFC 2104 section 2); they are no
+-- JSON Web Key, or one that verifies nothing (RFC 7517 section 4); they are no set of these (RFC 7517 section 5); or no
+-- public key in PEM
+abbrev pub HasKeysFault : KeyFile → List ℕ → Type 0
+HasKeysFault (file.Secret path is_trimmed) bytes =
+    (secret : List ℕ) × IsSecret is_trimmed bytes secret × IsBlank secret
+HasKeysFault (file.Jwk path) bytes =
+    ((jwk : Jwk) → ¬ ReadsText ReadsKey bytes jwk)
+    ⊎ (((jwk : Jwk) × ReadsText ReadsKey bytes jwk × ((key : Key) → ¬ IsKeyOf jwk.algorithm key))
+    ⊎ ((jwk : Jwk) × ReadsText ReadsKey bytes jwk × IsBlankJwk jwk))
+HasKeysFault (file.Jwks path) bytes =
+    ((keys : List Jwk) → ¬ ReadsText ReadsSet bytes keys)
+    ⊎ ((keys : List Jwk) × ReadsText ReadsSet bytes keys × HasBlankKey keys)
+HasKeysFault (file.Pem path) bytes = (k : Kind) × IsPemRefused bytes k

@@ -1,0 +1,89 @@
+-- The options that the arguments of a command ask for.
+use Rattle.std.specs.Prelude.{◌≡◌, ◌&&◌, ◌||◌, not, ℕ, max, List, [], Bool, true, Option, Some, None, option_map, map, is_some, unwrap_or, if◌then◌else◌, codes}
+use Rattle.std.specs.Borrow.{Bor}
+use Rattle.std.specs.Option.{option_or}
+use Rattle.std.specs.Str.{bytes_eq}
+use Rattle.jwt_base.specs.Algorithm.{algorithm_named}
+use Rattle.jwt_base.specs.JsonText.{ReadsText}
+use Rattle.jwt_base.specs.declared.algorithms.Algorithm.{Algorithm}
+use Rattle.jwt_validation.specs.Options.{Options, Texts, among, default_options, no_texts, requiring_configured}
+use Rattle.jwt_validation.specs.OptionsRead.{ReadsOptions}
+use Rattle.jwt_command.specs.declared.request.Checks.{Checks}
+
+-- the strings that an argument is given; none without the argument
+abbrev pub given : Option (Bor (List (Bor (List ℕ)))) → Texts
+given None = no_texts
+given (Some names) = among (λ s. s.now) names.now
+
+-- the set of the strings that an argument is given, or that of the file without the argument
+abbrev pub given_or : Option (Bor (List (Bor (List ℕ)))) → Option Texts → Option Texts
+given_or None file = file
+given_or (Some names) file = Some (among (λ s. s.now) names.now)
+
+-- the claims of a file that are required, less `exp` if it is not checked (RFC 7519 section 4.1.4)
+abbrev pub kept : Bool → Texts → Texts
+kept skips_exp file t = not (skips_exp && bytes_eq (codes "exp") t) && file t
+
+-- the claims that are required: these, those that the arguments name, and those that they give a value
+abbrev pub required : Checks → Texts → Texts
+required c file t =
+    (is_some c.subject && bytes_eq (codes "sub") t)
+    || ((is_some c.issuers && bytes_eq (codes "iss") t)
+    || ((is_some c.audiences && bytes_eq (codes "aud") t)
+    || (given c.required t || kept c.skips_exp file t)))
+
+-- The options, made strict: nbf is checked, without leeway, a token is refused from its exp on, and the claims that have a
+-- value are required (RFC 7519 sections 4.1.4 and 4.1.5). A time that must be left stays.
+abbrev pub made_strict : Options → Options
+made_strict o = requiring_configured (record o {
+  leeway = 0;
+  reject = max 1 o.reject;
+  checks_nbf = true;
+})
+
+-- the same, if strict options are asked for
+abbrev pub strict_if : Bool → Options → Options
+strict_if is_strict o = if is_strict then made_strict o else o
+
+-- the options of a file, changed by each argument that is given, with these algorithms
+abbrev pub changed : Checks → Options → List Algorithm → Options
+changed c file algorithms = record {
+  required = required c file.required;
+  leeway = unwrap_or c.leeway file.leeway;
+  reject = unwrap_or c.not_within file.reject;
+  checks_exp = not c.skips_exp && file.checks_exp;
+  checks_nbf = c.checks_nbf || file.checks_nbf;
+  checks_aud = file.checks_aud;
+  aud = given_or c.audiences file.aud;
+  iss = given_or c.issuers file.iss;
+  sub = option_or (option_map (λ s. s.now) c.subject) file.sub;
+  algorithms = algorithms;
+  understood = unwrap_or (option_map (λ names. among (λ s. s.now) names.now) c.understood) file.understood;
+}
+
+-- the options of a file's bytes, or those that are the default without a file
+abbrev pub IsBase : Option (List ℕ) → Options → Type 0
+IsBase None options = options ≡ default_options []
+IsBase (Some bytes) options = ReadsText ReadsOptions bytes options
+
+-- the bytes of a file are no options
+abbrev pub IsNoBase : Option (List ℕ) → Type 0
+IsNoBase None = ⊥
+IsNoBase (Some bytes) = (options : Options) → ¬ ReadsText ReadsOptions bytes options
+
+-- the algorithms of these names (RFC 7518 section 3.1)
+abbrev pub AreNamed : List (Bor (List ℕ)) → List Algorithm → Type 0
+AreNamed names algorithms = map (λ s. algorithm_named s.now) names ≡ map Some algorithms
+
+-- the algorithms that the arguments name, or those of the file if they name none
+abbrev pub AreChosen : Option (Bor (List (Bor (List ℕ)))) → List Algorithm → List Algorithm → Type 0
+AreChosen None file algorithms = algorithms ≡ file
+AreChosen (Some names) file algorithms = AreNamed names.now algorithms
+
+-- the options that the arguments ask for, if this is what their file of options holds; each other argument changes what
+-- strict options are
+abbrev pub AreRequested : Checks → Option (List ℕ) → Options → Type 0
+AreRequested c bytes options =
+    (file : Options) × IsBase bytes file
+    × ((algorithms : List Algorithm) × AreChosen c.algorithms file.algorithms algorithms
+    × (options ≡ changed c (strict_if c.is_strict file) algorithms))

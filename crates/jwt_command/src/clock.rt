@@ -1,0 +1,25 @@
+//! The moment at which tokens are checked.
+
+ghost use Rattle.std.specs.Prelude.{IfOk};
+ghost use Rattle.jwt_command.specs.Commands.{IsGiven};
+
+use crate::fault::Fault;
+use std::rt::Clock;
+use std::time::{SystemTime, UNIX_EPOCH};
+
+/// Returns the moment that is given, or that of the system's clock, in seconds since 1970-01-01
+/// 00:00:00 UTC.
+pub fn moment<R: Clock>(rt: &R, given: Option<u64>) -> Result<u64, Fault<'static>>
+    ensures { IfOk result (IsGiven given) }
+{
+    if let Some(moment) = given {
+        return Ok(moment);
+    }
+    let Ok(now) = SystemTime::now(rt) else {
+        return Err(Fault::Clock);
+    };
+    match now.duration_since(UNIX_EPOCH) {
+        Ok(duration) => Ok(duration.as_secs()),
+        Err(_) => Err(Fault::Clock),
+    }
+}

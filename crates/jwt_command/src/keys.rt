@@ -1,0 +1,391 @@
+//! The keys that a token is verified with, from their files.
+
+ghost use Rattle.std.specs.Prelude.{◌≡◌, ◌⊎◌, ℕ, List, None, OnOk, IfOk, IfErr, IsErr};
+ghost use Rattle.jwt_base.specs.JsonText.{ReadsText};
+ghost use Rattle.jwt_base.specs.Kind.{Kind};
+ghost use Rattle.jwt_base.specs.KindOf.{IsMemory};
+ghost use Rattle.jwt_base.specs.declared.algorithms.AlgorithmFamily.TheVariants.{Hmac};
+ghost use Rattle.jwt_key_files.specs.PemKeys.{IsPemOf, IsPemRefused};
+ghost use Rattle.jwt_keys.specs.Jwk.{ReadsKey};
+ghost use Rattle.jwt_keys.specs.JwkSet.{ReadsSet};
+ghost use Rattle.jwt_keys.specs.Key.{Key, Plain};
+ghost use Rattle.jwt_keys.specs.KeyOfJwk.{IsKeyOf};
+ghost use Rattle.jwt_keys.specs.declared.jwk.Jwk.{Jwk};
+ghost use Rattle.jwt_keys.specs.declared.jwk_set.JwkSet.{JwkSet};
+ghost use Rattle.jwt_secrets.specs.Blank.{IsBlank, IsBlankKey, IsBlankJwk, HasBlankKey};
+ghost use Rattle.jwt_validation.specs.OptionsOf.{options_of};
+ghost use Rattle.jsonwebtoken.specs.Own.{IsNamedBy, own_of};
+ghost use Rattle.jwt_command.specs.LineEnd.{IsSecret};
+ghost use Rattle.jwt_command.specs.Commands.{IsSettled};
+ghost use Rattle.jwt_command.specs.FileKeys.{AreLoaded, HasKeysFault};
+ghost use Rattle.jwt_command.specs.Own.{IsOwn, IsOwnOf};
+
+use crate::fault::{Fault, unless_refused};
+use crate::file_hints::{key_problem, pem_problem, set_problem};
+use crate::files::without_line_end;
+use crate::request::KeyFile;
+use jsonwebtoken::errors::{Error, ErrorKind};
+use jsonwebtoken::jwk::{Jwk, JwkSet, named_algorithm, own_algorithm};
+use jsonwebtoken::{Algorithm, DecodingKey, Validation, decode_header};
+use jwt_key_files::pem::public_key_from_pem;
+use jwt_secrets::{has_blank_key, is_blank, is_blank_key};
+use jwt_verifier::{Keys, PreparedKeys};
+use std::alloc::Global;
+
+/// Keys, with what their file says of them.
+#[derive(Drop)]
+pub struct Loaded {
+    pub keys: Keys,
+    /// The algorithm that the one key is for.
+    pub own: Option<Algorithm>,
+    /// Whether the secret ends with a newline.
+    pub has_line_end: bool,
+    /// The provider that verifies with the keys.
+    pub provider: PreparedKeys,
+}
+
+/// The number of keys of a set, from its first, that are prepared to verify many tokens: the hashed
+/// blocks of a secret, or what a modulus needs. Each allocates, and to look for one takes longer, the
+/// more there are. The others verify too, unprepared.
+const PREPARED: usize = 16;
+
+fn prepare_for(
+    alloc: Global,
+    provider: &mut PreparedKeys,
+    key: &DecodingKey,
+    algorithm: Algorithm,
+) -> Result<(), Fault<'static>> {
+    match provider.add(alloc, algorithm, key) {
+        Ok(()) => Ok(()),
+        // the only refusal
+        Err(_) => Err(Fault::Memory),
+    }
+}
+
+/// Prepares a key for the algorithms that are accepted, or for its own if none is named.
+fn prepare_key(
+    alloc: Global,
+    provider: &mut PreparedKeys,
+    key: &DecodingKey,
+    own: Option<Algorithm>,
+    algorithms: &[Algorithm],
+) -> Result<(), Fault<'static>> {
+    if let (Some(algorithm), true) = (own, algorithms.is_empty()) {
+        prepare_for(alloc, provider, key, algorithm)?;
+    }
+    for algorithm in algorithms {
+        prepare_for(alloc, provider, key, *algorithm)?;
+    }
+    Ok(())
+}
+
+/// Prepares the first keys of a set. A key that is malformed is left out.
+fn prepare_set(
+    alloc: Global,
+    provider: &mut PreparedKeys,
+    set: &JwkSet,
+    algorithms: &[Algorithm],
+) -> Result<(), Fault<'static>> {
+    for jwk in set.keys.iter().take(PREPARED) {
+        if let Some(key) = unless_refused(DecodingKey::from_jwk(alloc, jwk))? {
+            prepare_key(alloc, provider, &key, own_algorithm(jwk), algorithms)?;
+        }
+    }
+    Ok(())
+}
+
+/// Prepares the keys for many tokens, by these algorithms, or by those that the keys are for if the
+/// list is empty.
+pub fn prepare(
+    alloc: Global,
+    loaded: &mut Loaded,
+    algorithms: &[Algorithm],
+) -> Result<(), Fault<'static>>
+    ensures { (loaded.new.keys ≡ loaded.old.keys) × (loaded.new.own ≡ loaded.old.own) }
+{
+    match &loaded.keys {
+        Keys::One(key) => { prepare_key(alloc, &mut loaded.provider, key, loaded.own, algorithms) }
+        Keys::Set(set) => prepare_set(alloc, &mut loaded.provider, set, algorithms),
+    }
+}
+
+/// Returns whether the keys may name the algorithm of a token: one key by its own `alg`, and a set by
+/// that of the key which the token names.
+pub fn names_algorithm(loaded: &Loaded) -> bool {
+    match &loaded.keys {
+        Keys::One(_) => loaded.own.is_some(),
+        Keys::Set(_) => true,
+    }
+}
+
+/// Returns the algorithm that the key of a set which a token's header names is for.
+fn set_algorithm(
+    alloc: Global,
+    set: &JwkSet,
+    token: &[u8],
+) -> Result<Option<Algorithm>, Fault<'static>>
+    ensures { IfOk result (IsNamedBy set.now.keys.items token.now) }
+{
+    match unless_refused(decode_header(alloc, token))? {
+        Some(header) => {
+            let algorithm = named_algorithm(set, &header);
+            drop(header);
+            Ok(algorithm)
+        }
+        None => Ok(None),
+    }
+}
+
+/// Returns the algorithm that the key of a token is for, by the key and never by the token.
+fn algorithm_for(
+    alloc: Global,
+    loaded: &Loaded,
+    token: &[u8],
+) -> Result<Option<Algorithm>, Fault<'static>>
+    ensures { IfOk result (IsOwnOf loaded.now.keys loaded.now token.now) }
+{
+    match &loaded.keys {
+        Keys::One(_) => Ok(loaded.own),
+        Keys::Set(set) => set_algorithm(alloc, set, token),
+    }
+}
+
+/// Sets the algorithm that the key of a token is for as the only one that is accepted. If there is
+/// none, no algorithm is.
+pub fn set_own_algorithm(
+    alloc: Global,
+    validation: &mut Validation,
+    loaded: &Loaded,
+    token: &[u8],
+) -> Result<(), Fault<'static>>
+    ensures own { OnOk result (IsOwn loaded.now token.now validation.new.algorithms.items) }
+    ensures rest { OnOk result (options_of validation.new ≡ record (options_of validation.old)
+        { algorithms = validation.new.algorithms.items }) }
+{
+    validation.algorithms.clear();
+    if let Some(algorithm) = algorithm_for(alloc, loaded, token)? {
+        validation.algorithms.push(algorithm)?;
+    }
+    Ok(())
+}
+
+/// Sets the algorithm that the key of a token is for, if the options name none.
+pub fn settle(
+    alloc: Global,
+    validation: &mut Validation,
+    loaded: &Loaded,
+    token: &[u8],
+) -> Result<(), Fault<'static>>
+    ensures { OnOk result (IsSettled loaded.now token.now (options_of validation.old)
+        (options_of validation.new)) }
+{
+    if validation.algorithms.is_empty() {
+        set_own_algorithm(alloc, validation, loaded, token)?;
+    }
+    Ok(())
+}
+
+/// Returns the fault of a file that holds something else than keys, unless memory ran out.
+fn not_keys<'a>(path: &'a str, error: &Error, problem: &'static str) -> Fault<'a>
+    ensures { IsMemory error.now → result ≡ Fault.Memory }
+{
+    match error.kind() {
+        ErrorKind::OutOfMemory => Fault::Memory,
+        _ => Fault::File { path, problem },
+    }
+}
+
+/// Returns the secret that a file holds.
+fn secret(bytes: &[u8], is_trimmed: bool) -> &[u8]
+    ensures { IsSecret is_trimmed bytes.now result.now }
+{
+    if is_trimmed {
+        without_line_end(bytes)
+    } else {
+        bytes
+    }
+}
+
+/// Returns why anyone can sign with a secret.
+fn secret_problem(secret: &[u8]) -> &'static str {
+    if secret.is_empty() {
+        "the secret is empty"
+    } else {
+        "anyone can sign with this secret"
+    }
+}
+
+/// Returns the secret that a file holds, unless anyone can sign with it (RFC 2104 section 2).
+pub fn given_secret<'a, 'b>(
+    path: &'a str,
+    bytes: &'b [u8],
+    is_trimmed: bool,
+) -> Result<&'b [u8], Fault<'a>>
+    ensures ok { IfOk result (λ s. IsSecret is_trimmed bytes.now s.now × (¬ IsBlank s.now)) }
+    ensures err { IsErr result → (secret : List ℕ) × IsSecret is_trimmed bytes.now secret
+        × IsBlank secret }
+{
+    let secret = secret(bytes, is_trimmed);
+    if is_blank(secret) {
+        return Err(Fault::File {
+            path,
+            problem: secret_problem(secret),
+        });
+    }
+    Ok(secret)
+}
+
+fn by_secret<'a>(
+    alloc: Global,
+    path: &'a str,
+    bytes: &[u8],
+    is_trimmed: bool,
+) -> Result<Loaded, Fault<'a>>
+    ensures ok { IfOk result (λ l. (secret : List ℕ) × IsSecret is_trimmed bytes.now secret
+        × (¬ IsBlank secret) × (l.keys ≡ Keys.One (Plain Hmac secret)) × (l.own ≡ None)) }
+    ensures err { IfErr result (λ e. (e ≡ Fault.Memory)
+        ⊎ ((secret : List ℕ) × IsSecret is_trimmed bytes.now secret × IsBlank secret)) }
+{
+    let secret = given_secret(path, bytes, is_trimmed)?;
+    match DecodingKey::from_secret(alloc, secret) {
+        Ok(key) => Ok(Loaded {
+            keys: Keys::One(key),
+            own: None,
+            has_line_end: secret.ends_with(b"\n"),
+            provider: PreparedKeys::new(alloc),
+        }),
+        Err(_) => Err(Fault::Memory),
+    }
+}
+
+/// Returns the keys that are this one, which is for this algorithm, unless anyone can sign for it.
+fn with_key<'a>(
+    alloc: Global,
+    path: &'a str,
+    key: DecodingKey,
+    own: Option<Algorithm>,
+) -> Result<Loaded, Fault<'a>>
+    ensures ok { IfOk result (λ l. (¬ IsBlankKey key) × (l.keys ≡ Keys.One key) × (l.own ≡ own)) }
+    ensures err { IsErr result → IsBlankKey key }
+{
+    if is_blank_key(&key) {
+        return Err(Fault::File {
+            path,
+            problem: "anyone can sign with this key",
+        });
+    }
+    Ok(Loaded {
+        keys: Keys::One(key),
+        own,
+        has_line_end: false,
+        provider: PreparedKeys::new(alloc),
+    })
+}
+
+/// Returns the keys that are this set, unless anyone can sign for one of them.
+fn with_set<'a>(alloc: Global, path: &'a str, set: JwkSet) -> Result<Loaded, Fault<'a>>
+    ensures ok { IfOk result (λ l. (¬ HasBlankKey set.keys.items) × (l.keys ≡ Keys.Set set)
+        × (l.own ≡ None)) }
+    ensures err { IfErr result (λ e. (e ≡ Fault.Memory) ⊎ HasBlankKey set.keys.items) }
+{
+    match has_blank_key(alloc, &set) {
+        Ok(false) => Ok(Loaded {
+            keys: Keys::Set(set),
+            own: None,
+            has_line_end: false,
+            provider: PreparedKeys::new(alloc),
+        }),
+        Ok(true) => Err(Fault::File {
+            path,
+            problem: "anyone can sign with a key of this set",
+        }),
+        Err(_) => Err(Fault::Memory),
+    }
+}
+
+fn by_jwk<'a>(alloc: Global, path: &'a str, bytes: &[u8]) -> Result<Loaded, Fault<'a>>
+    ensures ok { IfOk result (λ l. (jwk : Jwk) × ReadsText ReadsKey bytes.now jwk
+        × ((key : Key) × IsKeyOf jwk.algorithm key × (¬ IsBlankKey key)
+        × (l.keys ≡ Keys.One key) × (l.own ≡ own_of jwk))) }
+    ensures err { IfErr result (λ e. (e ≡ Fault.Memory)
+        ⊎ (((jwk : Jwk) → ¬ ReadsText ReadsKey bytes.now jwk)
+        ⊎ (((jwk : Jwk) × ReadsText ReadsKey bytes.now jwk
+        × ((key : Key) → ¬ IsKeyOf jwk.algorithm key))
+        ⊎ ((jwk : Jwk) × ReadsText ReadsKey bytes.now jwk × IsBlankJwk jwk)))) }
+{
+    let jwk = match Jwk::from_slice(alloc, bytes) {
+        Ok(jwk) => jwk,
+        Err(error) => return Err(not_keys(
+            path,
+            &error,
+            key_problem(bytes, "this is no JSON Web Key"),
+        )),
+    };
+    let own = own_algorithm(&jwk);
+    let read = DecodingKey::from_jwk(alloc, &jwk);
+    drop(jwk);
+    match read {
+        Ok(key) => with_key(alloc, path, key, own),
+        Err(error) => Err(not_keys(
+            path,
+            &error,
+            key_problem(bytes, "this key cannot verify signatures"),
+        )),
+    }
+}
+
+fn by_set<'a>(alloc: Global, path: &'a str, bytes: &[u8]) -> Result<Loaded, Fault<'a>>
+    ensures ok { IfOk result (λ l. (set : JwkSet) × ReadsText ReadsSet bytes.now set.keys.items
+        × (¬ HasBlankKey set.keys.items) × (l.keys ≡ Keys.Set set) × (l.own ≡ None)) }
+    ensures err { IfErr result (λ e. (e ≡ Fault.Memory)
+        ⊎ (((keys : List Jwk) → ¬ ReadsText ReadsSet bytes.now keys)
+        ⊎ ((keys : List Jwk) × ReadsText ReadsSet bytes.now keys × HasBlankKey keys))) }
+{
+    match JwkSet::from_slice(alloc, bytes) {
+        Ok(set) => with_set(alloc, path, set),
+        Err(error) => Err(not_keys(path, &error, set_problem(bytes))),
+    }
+}
+
+fn by_pem<'a>(alloc: Global, path: &'a str, bytes: &[u8]) -> Result<Loaded, Fault<'a>>
+    ensures ok { IfOk result (λ l. (key : Key) × IsPemOf bytes.now key
+        × (l.keys ≡ Keys.One key) × (l.own ≡ None)) }
+    ensures err { IfErr result (λ e. (e ≡ Fault.Memory)
+        ⊎ ((k : Kind) × IsPemRefused bytes.now k)) }
+{
+    match public_key_from_pem(alloc, bytes) {
+        Ok(key) => Ok(Loaded {
+            keys: Keys::One(key),
+            own: None,
+            has_line_end: false,
+            provider: PreparedKeys::new(alloc),
+        }),
+        Err(error) => Err(not_pem(path, &error, bytes)),
+    }
+}
+
+/// Returns the fault of a file that is no public key in PEM, unless memory ran out.
+pub fn not_pem<'a>(path: &'a str, error: &Error, bytes: &[u8]) -> Fault<'a>
+    ensures { IsMemory error.now → result ≡ Fault.Memory }
+{
+    let problem = match error.kind() {
+        ErrorKind::UnsupportedAlgorithm =>
+            "this public key is of a kind that verifies nothing here",
+        ErrorKind::Provider(_) => "this is a private key; a public key is wanted",
+        _ => pem_problem(bytes, "this is no public key in PEM"),
+    };
+    not_keys(path, error, problem)
+}
+
+/// Returns the keys that the bytes of a file hold.
+pub fn load<'a>(alloc: Global, file: KeyFile<'a>, bytes: &[u8]) -> Result<Loaded, Fault<'a>>
+    ensures ok { IfOk result (λ l. AreLoaded file.entry bytes.now l.keys l.own) }
+    ensures err { IfErr result (λ e. (e ≡ Fault.Memory) ⊎ HasKeysFault file.entry bytes.now) }
+{
+    match file {
+        KeyFile::Secret { path, is_trimmed } => by_secret(alloc, path, bytes, is_trimmed),
+        KeyFile::Jwk(path) => by_jwk(alloc, path, bytes),
+        KeyFile::Jwks(path) => by_set(alloc, path, bytes),
+        KeyFile::Pem(path) => by_pem(alloc, path, bytes),
+    }
+}

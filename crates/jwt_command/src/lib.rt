@@ -1,0 +1,163 @@
+//! The command `jwt`: it verifies, shows and signs tokens, and lists keys.
+#![tactic(auto)]
+
+ghost use Rattle.std.specs.Prelude.{◌⊎◌};
+ghost use Rattle.jwt_command.specs.Arguments.{IsRequestOf};
+ghost use Rattle.jwt_command.specs.Commands.{IsFaultStatus, IsStatus};
+ghost use Rattle.jwt_command.specs.declared.request.Request.{Request};
+
+mod advice;
+mod answer;
+mod arguments;
+mod claim_findings;
+mod clock;
+mod escapes;
+mod explain;
+mod explanation;
+mod fault;
+mod file_hints;
+mod files;
+mod findings;
+mod jwk;
+mod keys;
+mod keys_table;
+mod lines;
+mod moments;
+mod options;
+mod orders;
+mod part_findings;
+mod request;
+mod run;
+mod salvage;
+mod show;
+mod sign;
+mod signature_findings;
+mod thumbprint;
+mod times;
+mod verdict;
+mod verify;
+mod wrappings;
+
+use answer::write_output;
+use arguments::command;
+use clap::ArgMatches;
+use fault::Fault;
+use request::{Request, request_asked};
+use run::answer;
+use std::alloc::{AllocError, Global};
+use std::io::{ErrorKind, Write};
+use std::rt::{Env, Runtime};
+use std::{env, io};
+
+/// Returns the words of the command line.
+fn words<R: Env + AllocGlobal>(rt: &R) -> Result<Vec<String>, Fault<'static>> {
+    match env::args(rt) {
+        Ok(words) => Ok(words.collect::<Vec<String>>(rt.alloc())?),
+        Err(error) if error.kind() == ErrorKind::InvalidData => Err(Fault::Usage(
+            "an argument is not UTF-8",
+        )),
+        Err(_) => Err(Fault::Memory),
+    }
+}
+
+/// Returns the exit status of a fault, which is said on standard error.
+fn failed<R: Eprint>(rt: &R, fault: &Fault<'_>) -> u8
+    ensures { IsFaultStatus result }
+{
+    let _ = eprintln!(rt; "error: {fault}");
+    fault.status()
+}
+
+/// Writes the answer to a request, and returns its status.
+fn answered<T: Runtime + AllocGlobal, W: Write>(
+    rt: &T,
+    request: &Request<'_, '_>,
+    writer: &mut W,
+) -> u8
+    ensures { IsStatus request.now (W.contents writer.old) (W.contents writer.new) result }
+{
+    let answer = match answer(rt, request) {
+        Ok(answer) => answer,
+        Err(fault) => return failed(rt, &fault),
+    };
+    if let Err(fault) = write_output(writer, answer.output.as_str()) {
+        return failed(rt, &fault);
+    }
+    let _ = rt.eprint(answer.message.as_str());
+    answer.status
+}
+
+/// Writes the answer to the arguments, and returns the exit status: that of the answer, or 2 for arguments
+/// that ask for nothing that can be done, and 3 for files, streams, the clock and memory.
+pub fn run_command<T: Runtime + AllocGlobal, W: Write>(
+    rt: &T,
+    matches: &ArgMatches<'_>,
+    writer: &mut W,
+) -> u8
+    ensures { IsFaultStatus result ⊎ ((r : Request) × IsRequestOf matches.now r
+        × IsStatus r (W.contents writer.old) (W.contents writer.new) result) }
+{
+    match request_asked(matches) {
+        Ok(request) => answered(rt, &request, writer),
+        Err(fault) => failed(rt, &fault),
+    }
+}
+
+/// Returns a sentence in place of a text that would show a word of the command line, which may be a
+/// token or a secret.
+fn sentence(alloc: Global, error: &clap::Error) -> Result<Option<&'static str>, AllocError> {
+    match error.kind() {
+        clap::error::ErrorKind::InvalidSubcommand => {
+            Ok(Some("there is no such command; 'jwt help' lists them"))
+        }
+        clap::error::ErrorKind::TooManyValues => {
+            Ok(Some("an argument is given a value that it does not take"))
+        }
+        clap::error::ErrorKind::UnknownArgument => {
+            let names_option = error.to_string(alloc)?.contains("argument '-");
+            Ok(if names_option {
+                None
+            } else {
+                Some("there is a word too many on the command line")
+            })
+        }
+        _ => Ok(None),
+    }
+}
+
+/// Prints the help or the version that is asked for, or the mistake in the arguments; returns the
+/// status.
+fn mistaken<R: Print + Eprint + AllocGlobal>(rt: &R, error: &clap::Error) -> u8 {
+    match sentence(rt.alloc(), error) {
+        Ok(Some(sentence)) => failed(rt, &Fault::Usage(sentence)),
+        Ok(None) => {
+            let is_printed = error.print(rt).is_ok();
+            printed_status(error, is_printed)
+        }
+        Err(_) => failed(rt, &Fault::Memory),
+    }
+}
+
+fn printed_status(error: &clap::Error, is_printed: bool) -> u8 {
+    match error.kind() {
+        clap::error::ErrorKind::OutOfMemory => 3,
+        _ if error.use_stderr() => 2,
+        _ if is_printed => 0,
+        _ => 3,
+    }
+}
+
+/// Runs the program with its arguments and the standard streams.
+pub fn start<T: Runtime + AllocGlobal>(rt: &T) -> u8 {
+    let words = match words(rt) {
+        Ok(words) => words,
+        Err(fault) => return failed(rt, &fault),
+    };
+    let Ok(command) = command(rt.alloc()) else {
+        return failed(rt, &Fault::Memory);
+    };
+    match command.try_get_matches_from(words.as_slice()) {
+        Ok(matches) => run_command(rt, &matches, &mut io::writer(rt)),
+        Err(error) => mistaken(rt, &error),
+    }
+}

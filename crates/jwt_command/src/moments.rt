@@ -1,0 +1,48 @@
+//! Moments and spans of time, as arguments give them.
+
+ghost use Rattle.std.specs.Prelude.{◌≡◌, ℕ, Some};
+ghost use Rattle.jwt_command.specs.Arguments.{decimal};
+
+use jiff::{SignedDuration, Timestamp};
+
+/// Returns whether each character is a decimal digit.
+fn is_decimal(text: &str) -> bool {
+    text.as_bytes().iter().all(|byte| byte.is_ascii_digit())
+}
+
+/// Returns the number that one or more decimal digits stand for, if it has at most 64 bits.
+fn number(text: &str) -> Option<u64>
+    ensures { result ≡ decimal text.now }
+{
+    if text.starts_with('+') {
+        return None;
+    }
+    text.parse::<u64>().ok()
+}
+
+/// Returns the moment of a text, in whole seconds since 1970-01-01 00:00:00 UTC: decimal digits, or a
+/// date and time of RFC 3339, whose fraction of a second is left out. `None` stands for another text,
+/// and for a moment before then.
+pub fn moment(text: &str) -> Option<u64>
+    ensures { (n : ℕ) → decimal text.now ≡ Some n → result ≡ Some n }
+{
+    let number = number(text);
+    if number.is_some() || is_decimal(text) {
+        return number;
+    }
+    let moment = text.parse::<Timestamp>().ok()?;
+    u64::try_from(moment.as_second()).ok()
+}
+
+/// Returns the seconds of a span of time, as `90s`, `15m`, `1h 30m` or `PT15M`; decimal digits alone are
+/// seconds. `None` stands for another text, and for a negative span.
+pub fn seconds(text: &str) -> Option<u64>
+    ensures { (n : ℕ) → decimal text.now ≡ Some n → result ≡ Some n }
+{
+    let number = number(text);
+    if number.is_some() || is_decimal(text) {
+        return number;
+    }
+    let span = text.parse::<SignedDuration>().ok()?;
+    u64::try_from(span.as_secs()).ok()
+}

@@ -1,0 +1,322 @@
+//! The request of the arguments.
+
+ghost use Rattle.std.specs.Prelude.{◌≡◌, Some, false, IfOk, codes};
+ghost use Rattle.clap.specs.Matches.{found_of, first_value};
+ghost use Rattle.jwt_base.specs.Algorithm.{algorithm_named};
+ghost use Rattle.jwt_command.specs.Arguments.{AreChecks, IsChecking, IsCommand, IsFile, IsFlag, IsHash, IsKeyFile, IsNumberOf, IsRequestOf, IsShowing, IsSigningOf};
+
+use crate::fault::Fault;
+use crate::moments::{moment, seconds};
+use clap::ArgMatches;
+use jsonwebtoken::Algorithm;
+use jsonwebtoken::jwk::ThumbprintHash;
+
+/// The file of the keys that a token is verified with.
+#[derive(Clone, Copy)]
+pub enum KeyFile<'a> {
+    /// The bytes of a secret, less one newline at their end if it is trimmed.
+    Secret { path: &'a str, is_trimmed: bool },
+    /// A JSON Web Key.
+    Jwk(&'a str),
+    /// A set of JSON Web Keys.
+    Jwks(&'a str),
+    /// A public key in PEM.
+    Pem(&'a str),
+}
+
+/// The arguments that say against which options a token is checked.
+#[derive(Clone, Copy)]
+pub struct Checks<'m, 'a> {
+    pub options: Option<&'a str>,
+    pub is_strict: bool,
+    pub algorithms: Option<&'m [&'a str]>,
+    pub audiences: Option<&'m [&'a str]>,
+    pub issuers: Option<&'m [&'a str]>,
+    pub subject: Option<&'a str>,
+    pub leeway: Option<u64>,
+    pub not_within: Option<u64>,
+    pub required: Option<&'m [&'a str]>,
+    pub checks_nbf: bool,
+    pub skips_exp: bool,
+    pub understood: Option<&'m [&'a str]>,
+}
+
+/// The arguments of `verify` and `explain`, which has neither `--header` nor `--lines`.
+#[derive(Clone, Copy)]
+pub struct Verification<'m, 'a> {
+    pub token: Option<&'a str>,
+    pub key: KeyFile<'a>,
+    pub checks: Checks<'m, 'a>,
+    pub typ: Option<&'a str>,
+    pub now: Option<u64>,
+    pub has_header: bool,
+    pub is_json: bool,
+    pub is_lines: bool,
+}
+
+/// The arguments of `sign`. The times are in seconds from now.
+#[derive(Clone, Copy)]
+pub struct Signing<'a> {
+    pub claims: Option<&'a str>,
+    pub secret: &'a str,
+    pub is_trimmed: bool,
+    pub algorithm: Algorithm,
+    pub kid: Option<&'a str>,
+    pub typ: Option<&'a str>,
+    pub exp_in: Option<u64>,
+    pub nbf_in: Option<u64>,
+    pub has_iat: bool,
+    pub now: Option<u64>,
+}
+
+/// The arguments of `show`.
+#[derive(Clone, Copy)]
+pub struct Showing<'a> {
+    pub token: Option<&'a str>,
+    pub now: Option<u64>,
+    pub is_json: bool,
+}
+
+/// The arguments of `keys` and of `jwk`.
+#[derive(Clone, Copy)]
+pub struct Listing<'a> {
+    pub file: &'a str,
+}
+
+/// The arguments of `thumbprint`.
+#[derive(Drop)]
+pub struct Digesting<'a> {
+    pub file: &'a str,
+    pub hash: ThumbprintHash,
+}
+
+/// A command with its arguments.
+#[derive(Drop)]
+pub enum Request<'m, 'a> {
+    /// Verifies a token and prints its claims.
+    Verify(Verification<'m, 'a>),
+    /// Explains whether a token is accepted.
+    Explain(Verification<'m, 'a>),
+    /// Prints header and claims of a token, unverified.
+    Show(Showing<'a>),
+    /// Signs claims.
+    Sign(Signing<'a>),
+    /// Prints a table of a key set.
+    Keys(Listing<'a>),
+    /// Prints the JSON Web Key of a key in PEM.
+    Jwk(Listing<'a>),
+    /// Prints the thumbprint of a key.
+    Thumbprint(Digesting<'a>),
+}
+
+fn time(matches: &ArgMatches<'_>, id: &str) -> Result<Option<u64>, Fault<'static>>
+    ensures { IfOk result (IsNumberOf (first_value (found_of matches.now) id.now)) }
+{
+    let Some(text) = matches.get_str(id) else {
+        return Ok(None);
+    };
+    match moment(text) {
+        Some(moment) => Ok(Some(moment)),
+        None => Err(Fault::Usage(
+            "--now wants seconds since 1970 UTC, or a time as 2026-01-31T12:00:00Z",
+        )),
+    }
+}
+
+fn span(
+    matches: &ArgMatches<'_>,
+    id: &str,
+    mistake: &'static str,
+) -> Result<Option<u64>, Fault<'static>>
+    ensures { IfOk result (IsNumberOf (first_value (found_of matches.now) id.now)) }
+{
+    let Some(text) = matches.get_str(id) else {
+        return Ok(None);
+    };
+    match seconds(text) {
+        Some(seconds) => Ok(Some(seconds)),
+        None => Err(Fault::Usage(mistake)),
+    }
+}
+
+fn key_file<'a>(matches: &ArgMatches<'a>) -> Result<KeyFile<'a>, Fault<'static>>
+    ensures { IfOk result (IsKeyFile (found_of matches.now)) }
+{
+    let is_trimmed = matches.get_flag("trim");
+    if let Some(path) = matches.get_str("secret-file") {
+        return Ok(KeyFile::Secret { path, is_trimmed });
+    }
+    if let Some(path) = matches.get_str("jwk") {
+        return Ok(KeyFile::Jwk(path));
+    }
+    if let Some(path) = matches.get_str("jwks") {
+        return Ok(KeyFile::Jwks(path));
+    }
+    match matches.get_str("pem") {
+        Some(path) => Ok(KeyFile::Pem(path)),
+        None => Err(Fault::Usage("one of --secret-file, --jwk, --jwks and --pem is needed")),
+    }
+}
+
+fn checks_asked<'m, 'a: 'm>(matches: &'m ArgMatches<'a>) -> Result<Checks<'m, 'a>, Fault<'static>>
+    ensures { IfOk result (AreChecks (found_of matches.now)) }
+{
+    Ok(Checks {
+        options: matches.get_str("options"),
+        is_strict: matches.get_flag("strict"),
+        algorithms: matches.get_strs("alg"),
+        audiences: matches.get_strs("aud"),
+        issuers: matches.get_strs("iss"),
+        subject: matches.get_str("sub"),
+        leeway: span(matches, "leeway", "--leeway wants seconds, or a span as 5m")?,
+        not_within: span(
+            matches,
+            "not-within",
+            "--not-within wants seconds, or a span as 5m",
+        )?,
+        required: matches.get_strs("require"),
+        checks_nbf: matches.get_flag("nbf"),
+        skips_exp: matches.get_flag("no-exp"),
+        understood: matches.get_strs("crit"),
+    })
+}
+
+/// Returns the arguments that `verify` and `explain` share.
+fn checking_asked<'m, 'a: 'm>(
+    matches: &'m ArgMatches<'a>,
+) -> Result<Verification<'m, 'a>, Fault<'static>>
+    ensures { IfOk result (λ v. IsChecking (found_of matches.now) v
+        × (v.has_header ≡ false) × (v.is_lines ≡ false)) }
+{
+    Ok(Verification {
+        token: matches.get_str("token"),
+        key: key_file(matches)?,
+        checks: checks_asked(matches)?,
+        typ: matches.get_str("typ"),
+        now: time(matches, "now")?,
+        has_header: false,
+        is_json: matches.get_flag("json"),
+        is_lines: false,
+    })
+}
+
+fn verification_asked<'m, 'a: 'm>(
+    matches: &'m ArgMatches<'a>,
+) -> Result<Verification<'m, 'a>, Fault<'static>>
+    ensures { IfOk result (λ v. IsChecking (found_of matches.now) v
+        × IsFlag (found_of matches.now) (codes "header") v.has_header
+        × IsFlag (found_of matches.now) (codes "lines") v.is_lines) }
+{
+    let mut request = checking_asked(matches)?;
+    request.has_header = matches.get_flag("header");
+    request.is_lines = matches.get_flag("lines");
+    Ok(request)
+}
+
+/// Returns the algorithm of a name.
+pub fn algorithm(name: &str) -> Result<Algorithm, Fault<'static>>
+    ensures { IfOk result (λ a. algorithm_named name.now ≡ Some a) }
+{
+    match name.parse::<Algorithm>() {
+        Ok(algorithm) => Ok(algorithm),
+        Err(_) => Err(Fault::Usage(
+            "--alg wants HS256, HS384, HS512, RS256, RS384, RS512, PS256, PS384, PS512, ES256, ES384 or EdDSA",
+        )),
+    }
+}
+
+fn signing_asked<'a>(matches: &ArgMatches<'a>) -> Result<Signing<'a>, Fault<'static>>
+    ensures { IfOk result (IsSigningOf (found_of matches.now)) }
+{
+    let Some(secret) = matches.get_str("secret-file") else {
+        return Err(Fault::Usage("--secret-file is needed"));
+    };
+    Ok(Signing {
+        claims: matches.get_str("claims"),
+        secret,
+        is_trimmed: matches.get_flag("trim"),
+        algorithm: algorithm(matches.get_str("alg").unwrap_or("HS256"))?,
+        kid: matches.get_str("kid"),
+        typ: matches.get_str("typ"),
+        exp_in: span(
+            matches,
+            "exp-in",
+            "--exp-in wants a span as 15m, or seconds",
+        )?,
+        nbf_in: span(
+            matches,
+            "nbf-in",
+            "--nbf-in wants a span as 15m, or seconds",
+        )?,
+        has_iat: matches.get_flag("iat"),
+        now: time(matches, "now")?,
+    })
+}
+
+fn hash(matches: &ArgMatches<'_>) -> Result<ThumbprintHash, Fault<'static>>
+    ensures { IfOk result (IsHash (first_value (found_of matches.now) (codes "hash"))) }
+{
+    match matches.get_str("hash") {
+        None | Some("SHA256") => Ok(ThumbprintHash::SHA256),
+        Some("SHA384") => Ok(ThumbprintHash::SHA384),
+        Some("SHA512") => Ok(ThumbprintHash::SHA512),
+        Some(_) => Err(Fault::Usage("--hash wants SHA256, SHA384 or SHA512")),
+    }
+}
+
+fn showing_asked<'a>(matches: &ArgMatches<'a>) -> Result<Showing<'a>, Fault<'static>>
+    ensures { IfOk result (IsShowing (found_of matches.now)) }
+{
+    Ok(Showing {
+        token: matches.get_str("token"),
+        now: time(matches, "now")?,
+        is_json: matches.get_flag("json"),
+    })
+}
+
+fn file<'a>(matches: &ArgMatches<'a>) -> &'a str
+    ensures { IsFile (found_of matches.now) result }
+{
+    matches.get_str("file").unwrap_or("")
+}
+
+fn digesting_asked<'a>(matches: &ArgMatches<'a>) -> Result<Digesting<'a>, Fault<'static>>
+    ensures { IfOk result (λ d. IsFile (found_of matches.now) d.file
+        × IsHash (first_value (found_of matches.now) (codes "hash")) d.hash) }
+{
+    Ok(Digesting {
+        file: file(matches),
+        hash: hash(matches)?,
+    })
+}
+
+/// Returns the request of a command and its arguments.
+fn command_asked<'m, 'a: 'm>(
+    name: &str,
+    found: &'m ArgMatches<'a>,
+) -> Result<Request<'m, 'a>, Fault<'static>>
+    ensures { IfOk result (IsCommand name.now (found_of found.now)) }
+{
+    match name {
+        "verify" => verification_asked(found).map(Request::Verify),
+        "explain" => checking_asked(found).map(Request::Explain),
+        "show" => showing_asked(found).map(Request::Show),
+        "sign" => signing_asked(found).map(Request::Sign),
+        "keys" => Ok(Request::Keys(Listing { file: file(found) })),
+        "jwk" => Ok(Request::Jwk(Listing { file: file(found) })),
+        "thumbprint" => digesting_asked(found).map(Request::Thumbprint),
+        _ => Err(Fault::Usage("a command is needed")),
+    }
+}
+
+/// Returns the request of the arguments.
+pub fn request_asked<'m, 'a: 'm>(
+    matches: &'m ArgMatches<'a>,
+) -> Result<Request<'m, 'a>, Fault<'static>>
+    ensures { IfOk result (IsRequestOf matches.now) }
+{
+    match matches.subcommand() {
+        Some((name, found)) => command_asked(name, found),
+        None => Err(Fault::Usage("a command is needed")),
+    }
+}

@@ -1,0 +1,353 @@
+//! From a request to its answer.
+
+ghost use Rattle.std.specs.Prelude.{◌≡◌, ℕ, List, IfOk, is_some, string_bytes};
+ghost use Rattle.jwt_validation.specs.OptionsOf.{options_of};
+ghost use Rattle.jwt_command.specs.Commands.{ArePrepared, AreVerified, IsAnswer, IsExplanation, IsGiven, IsGivenToken, IsLinesStatus, IsShown, IsSigned, IsSigning, IsTokenAnswer, IsTokenVerdict, IsVerification, form_asked};
+ghost use Rattle.jwt_command.specs.FileKeys.{AreLoaded, IsJwkLine};
+
+use crate::answer::Answer;
+use crate::clock::moment;
+use crate::explain::explain_answer;
+use crate::fault::Fault;
+use crate::files::{file_bytes, input_bytes, without_line_end};
+use crate::jwk::jwk_answer;
+use crate::keys::{Loaded, given_secret, load, names_algorithm, prepare, settle};
+use crate::keys_table::keys_answer;
+use crate::lines::answer_lines;
+use crate::options::validation;
+use crate::request::{Digesting, KeyFile, Listing, Request, Showing, Signing, Verification};
+use crate::show::show_answer;
+use crate::sign::{claims, claims_answer};
+use crate::thumbprint::thumbprint_answer;
+use crate::verify::{Form, verify_answer};
+use jsonwebtoken::Validation;
+use std::alloc::Global;
+use std::rt::{Clock, Files};
+
+/// Returns the token that is given, or that of standard input.
+fn token_bytes<R: Input + AllocGlobal>(
+    rt: &R,
+    given: Option<&str>,
+) -> Result<Vec<u8>, Fault<'static>>
+    ensures { IfOk result (λ b. IsGivenToken given.entry b.items) }
+{
+    match given {
+        None | Some("-") => input_bytes(rt),
+        Some(token) => Ok(token.as_bytes().to_vec(rt.alloc())?),
+    }
+}
+
+fn form(request: &Verification<'_, '_>) -> Form
+    ensures { result ≡ form_asked request.entry.now }
+{
+    if request.is_json {
+        Form::Json
+    } else if request.has_header {
+        Form::HeaderAndClaims
+    } else {
+        Form::Claims
+    }
+}
+
+/// Returns the path of a file of keys.
+fn path_of<'a>(file: KeyFile<'a>) -> &'a str {
+    match file {
+        KeyFile::Secret {
+            path,
+            is_trimmed: _,
+        } => path,
+        KeyFile::Jwk(path) | KeyFile::Jwks(path) | KeyFile::Pem(path) => path,
+    }
+}
+
+/// Returns the bytes of the file of options, if the arguments have one.
+fn options_bytes<'a, R: Files + AllocGlobal>(
+    rt: &R,
+    path: Option<&'a str>,
+) -> Result<Option<Vec<u8>>, Fault<'a>>
+    ensures { IfOk result (λ bytes. is_some bytes ≡ is_some path.entry) }
+{
+    match path {
+        Some(path) => Ok(Some(file_bytes(rt, path)?)),
+        None => Ok(None),
+    }
+}
+
+/// Returns the keys that the arguments name. If the options name no algorithm, the keys have to.
+fn keys_for<'a, R: Files + AllocGlobal>(
+    rt: &R,
+    request: &Verification<'_, 'a>,
+    validation: &Validation,
+) -> Result<Loaded, Fault<'a>>
+    ensures { IfOk result (λ l. (key : List ℕ)
+        × AreLoaded request.entry.now.key key l.keys l.own) }
+{
+    let key = file_bytes(rt, path_of(request.key))?;
+    let loaded = load(rt.alloc(), request.key, &key)?;
+    if validation.algorithms.is_empty() && !names_algorithm(&loaded) {
+        drop(loaded);
+        return Err(Fault::Usage("--alg is needed: the key has no 'alg' of its own"));
+    }
+    Ok(loaded)
+}
+
+/// Returns the keys and the options that tokens are checked with. If neither the arguments nor a file
+/// name an algorithm, the keys have to.
+fn prepared<'a, R: Files + AllocGlobal>(
+    rt: &R,
+    request: &Verification<'_, 'a>,
+) -> Result<(Loaded, Validation), Fault<'a>>
+    ensures { IfOk result (λ p. ArePrepared request.entry.now p.0 (options_of p.1)) }
+{
+    let options = options_bytes(rt, request.checks.options)?;
+    let validation = validation(rt.alloc(), &request.checks, options.as_deref())?;
+    match keys_for(rt, request, &validation) {
+        Ok(loaded) => Ok((loaded, validation)),
+        Err(fault) => {
+            drop(validation);
+            Err(fault)
+        }
+    }
+}
+
+/// Returns the answer of `verify` to the bytes of a token and a line end.
+fn token_answer(
+    alloc: Global,
+    request: &Verification<'_, '_>,
+    loaded: &Loaded,
+    validation: &mut Validation,
+    bytes: &[u8],
+    now: u64,
+    form: Form,
+) -> Result<Answer, Fault<'static>>
+    ensures { IfOk result (λ a. IsTokenAnswer request.entry.now loaded.now
+        (options_of validation.old) bytes.now now form a.status (string_bytes a.output)) }
+{
+    let token = without_line_end(bytes);
+    settle(alloc, validation, loaded, token)?;
+    verify_answer(alloc, token, loaded, validation, now, request.typ, form)
+}
+
+/// Returns the answer of `explain` to the bytes of a token and a line end.
+fn token_explanation(
+    alloc: Global,
+    request: &Verification<'_, '_>,
+    loaded: &Loaded,
+    validation: &mut Validation,
+    bytes: &[u8],
+    now: u64,
+) -> Result<Answer, Fault<'static>>
+    ensures { IfOk result (λ a. IsTokenVerdict request.entry.now loaded.now
+        (options_of validation.old) bytes.now now a.status) }
+{
+    let token = without_line_end(bytes);
+    settle(alloc, validation, loaded, token)?;
+    explain_answer(
+        alloc,
+        token,
+        loaded,
+        validation,
+        &request.checks,
+        now,
+        request.typ,
+        request.is_json,
+    )
+}
+
+/// Returns the answer of `verify` under these keys and options.
+fn verified<R: Input + Clock + AllocGlobal>(
+    rt: &R,
+    request: &Verification<'_, '_>,
+    loaded: &Loaded,
+    validation: &mut Validation,
+) -> Result<Answer, Fault<'static>>
+    ensures { IfOk result (λ a. (bytes : List ℕ) × IsGivenToken request.entry.now.token bytes
+        × ((now : ℕ) × IsGiven request.entry.now.now now
+        × IsTokenAnswer request.entry.now loaded.now (options_of validation.old) bytes now
+        (form_asked request.entry.now) a.status (string_bytes a.output))) }
+{
+    let now = moment(rt, request.now)?;
+    let bytes = token_bytes(rt, request.token)?;
+    let form = form(request);
+    token_answer(rt.alloc(), request, loaded, validation, &bytes, now, form)
+}
+
+fn verify<'a, R: Files + Input + Clock + AllocGlobal>(
+    rt: &R,
+    request: &Verification<'_, 'a>,
+) -> Result<Answer, Fault<'a>>
+    ensures { IfOk result (λ a. IsVerification request.entry.now a.status (string_bytes a.output)) }
+{
+    let (loaded, mut validation) = prepared(rt, request)?;
+    let answer = verified(rt, request, &loaded, &mut validation);
+    drop(loaded);
+    drop(validation);
+    answer
+}
+
+/// Prepares the keys, answers each line of standard input, and returns the status.
+fn lines_status<R: Input + Print + Clock + AllocGlobal>(
+    rt: &R,
+    request: &Verification<'_, '_>,
+    loaded: &mut Loaded,
+    validation: &mut Validation,
+) -> Result<u8, Fault<'static>>
+    ensures { IfOk result (λ status. (loaded.new.keys ≡ loaded.old.keys)
+        × (loaded.new.own ≡ loaded.old.own)
+        × IsLinesStatus request.entry.now loaded.new (options_of validation.old) status) }
+{
+    prepare(rt.alloc(), loaded, &validation.algorithms)?;
+    answer_lines(rt, request, loaded, validation)
+}
+
+/// Answers each line of standard input, and returns the status. The answers are written by then.
+fn verify_lines<'a, R: Files + Input + Print + Clock + AllocGlobal>(
+    rt: &R,
+    request: &Verification<'_, 'a>,
+) -> Result<Answer, Fault<'a>>
+    ensures { IfOk result (λ a. AreVerified request.entry.now a.status) }
+{
+    let (mut loaded, mut validation) = prepared(rt, request)?;
+    let status = lines_status(rt, request, &mut loaded, &mut validation);
+    drop(loaded);
+    drop(validation);
+    Ok(Answer {
+        status: status?,
+        output: String::new(rt.alloc()),
+        message: String::new(rt.alloc()),
+    })
+}
+
+/// Returns the answer of `explain` under these keys and options.
+fn explained<R: Input + Clock + AllocGlobal>(
+    rt: &R,
+    request: &Verification<'_, '_>,
+    loaded: &Loaded,
+    validation: &mut Validation,
+) -> Result<Answer, Fault<'static>>
+    ensures { IfOk result (λ a. (bytes : List ℕ) × IsGivenToken request.entry.now.token bytes
+        × ((now : ℕ) × IsGiven request.entry.now.now now
+        × IsTokenVerdict request.entry.now loaded.now (options_of validation.old) bytes now
+        a.status)) }
+{
+    let now = moment(rt, request.now)?;
+    let bytes = token_bytes(rt, request.token)?;
+    token_explanation(rt.alloc(), request, loaded, validation, &bytes, now)
+}
+
+fn explain<'a, R: Files + Input + Clock + AllocGlobal>(
+    rt: &R,
+    request: &Verification<'_, 'a>,
+) -> Result<Answer, Fault<'a>>
+    ensures { IfOk result (λ a. IsExplanation request.entry.now a.status) }
+{
+    let (loaded, mut validation) = prepared(rt, request)?;
+    let answer = explained(rt, request, &loaded, &mut validation);
+    drop(loaded);
+    drop(validation);
+    answer
+}
+
+/// Returns the answer of `sign` for the bytes of the secret's file and of the claims.
+fn signed<'a>(
+    alloc: Global,
+    request: &Signing<'a>,
+    key: &[u8],
+    text: &[u8],
+    now: u64,
+) -> Result<Answer, Fault<'a>>
+    ensures { IfOk result (λ a. IsSigned request.entry.now key.now text.now now a.status
+        (string_bytes a.output)) }
+{
+    let claims = claims(alloc, text, request, now)?;
+    let secret = given_secret(request.secret, key, request.is_trimmed)?;
+    claims_answer(alloc, request, &claims, secret)
+}
+
+fn show<'a, R: Input + Clock + AllocGlobal>(
+    rt: &R,
+    request: &Showing<'a>,
+) -> Result<Answer, Fault<'a>>
+    ensures { IfOk result (λ a. IsShown request.entry.now a.status) }
+{
+    let now = moment(rt, request.now)?;
+    let input = token_bytes(rt, request.token)?;
+    show_answer(rt.alloc(), without_line_end(&input), now, request.is_json)
+}
+
+fn sign<'a, R: Files + Input + Clock + AllocGlobal>(
+    rt: &R,
+    request: &Signing<'a>,
+) -> Result<Answer, Fault<'a>>
+    ensures { IfOk result (λ a. IsSigning request.entry.now a.status (string_bytes a.output)) }
+{
+    let now = moment(rt, request.now)?;
+    let key = file_bytes(rt, request.secret)?;
+    let text = match request.claims {
+        Some(path) => file_bytes(rt, path)?,
+        None => input_bytes(rt)?,
+    };
+    signed(rt.alloc(), request, &key, &text, now)
+}
+
+/// Returns the bytes of a file of keys, or of standard input if its name is `-`.
+fn key_bytes<'a, R: Files + Input + AllocGlobal>(
+    rt: &R,
+    path: &'a str,
+) -> Result<Vec<u8>, Fault<'a>> {
+    if path == "-" {
+        input_bytes(rt)
+    } else {
+        file_bytes(rt, path)
+    }
+}
+
+fn list<'a, R: Files + Input + AllocGlobal>(
+    rt: &R,
+    request: &Listing<'a>,
+) -> Result<Answer, Fault<'a>>
+    ensures { IfOk result (λ a. a.status ≡ 0) }
+{
+    let bytes = key_bytes(rt, request.file)?;
+    keys_answer(rt.alloc(), request.file, &bytes)
+}
+
+fn convert<'a, R: Files + Input + AllocGlobal>(
+    rt: &R,
+    request: &Listing<'a>,
+) -> Result<Answer, Fault<'a>>
+    ensures { IfOk result (λ a. (a.status ≡ 0)
+        × ((bytes : List ℕ) × IsJwkLine bytes (string_bytes a.output))) }
+{
+    let bytes = key_bytes(rt, request.file)?;
+    jwk_answer(rt.alloc(), request.file, &bytes)
+}
+
+fn digest<'a, R: Files + Input + AllocGlobal>(
+    rt: &R,
+    request: &Digesting<'a>,
+) -> Result<Answer, Fault<'a>>
+    ensures { IfOk result (λ a. a.status ≡ 0) }
+{
+    let bytes = key_bytes(rt, request.file)?;
+    thumbprint_answer(rt.alloc(), request.file, &bytes, &request.hash)
+}
+
+/// Returns the answer to a request.
+pub fn answer<'a, R: Files + Input + Print + Clock + AllocGlobal>(
+    rt: &R,
+    request: &Request<'_, 'a>,
+) -> Result<Answer, Fault<'a>>
+    ensures { IfOk result (λ a. IsAnswer request.now a.status (string_bytes a.output)) }
+{
+    match request {
+        Request::Verify(request) if request.is_lines => verify_lines(rt, request),
+        Request::Verify(request) => verify(rt, request),
+        Request::Explain(request) => explain(rt, request),
+        Request::Show(request) => show(rt, request),
+        Request::Sign(request) => sign(rt, request),
+        Request::Keys(request) => list(rt, request),
+        Request::Jwk(request) => convert(rt, request),
+        Request::Thumbprint(request) => digest(rt, request),
+    }
+}

@@ -1,0 +1,205 @@
+//! The command `sign`.
+
+ghost use Rattle.std.specs.Prelude.{◌≡◌, ◌≢◌, ◌+◌, [], ◌∷◌, ◌++◌, Some, None, IfOk, OnOk, option_map, if◌then◌else◌, codes, string_bytes};
+ghost use Rattle.serde_json.specs.Data.{Members, object};
+ghost use Rattle.serde_json.specs.View.{view, members_view};
+ghost use Rattle.jwt_base.specs.JsonText.{IsJson};
+ghost use Rattle.jwt_base.specs.Kind as kind;
+ghost use Rattle.jwt_base.specs.KindOf.{kind_of};
+ghost use Rattle.jwt_base.specs.Members.{put_some};
+ghost use Rattle.jwt_command.specs.Answers.{IsSignAnswer};
+ghost use Rattle.jwt_command.specs.Claimed.{header_asked, numeric_date, with_moments};
+
+use crate::advice::error_line;
+use crate::answer::Answer;
+use crate::fault::Fault;
+use crate::request::Signing;
+use jsonwebtoken::errors::{Error, ErrorKind, Result as Checked};
+use jsonwebtoken::{EncodingKey, Header, Text, encode};
+use jwt_base::serialization::json_value;
+use jwt_standard::StandardProvider;
+use serde_json::{Map, Value};
+use std::alloc::Global;
+
+/// Returns the header of a token that is signed as the arguments ask for, of the type `JWT` if they name
+/// no other.
+fn header(alloc: Global, request: &Signing<'_>) -> Checked<Header>
+    ensures { IfOk result (λ h. h ≡ header_asked request.entry.now) }
+{
+    let kid = text(alloc, request.kid)?;
+    let typ = text(alloc, request.typ)?;
+    let mut header = Header::new(alloc, request.algorithm)?;
+    header.kid = kid;
+    if typ.is_some() {
+        header.typ = typ;
+    }
+    Ok(header)
+}
+
+fn text(alloc: Global, given: Option<&str>) -> Checked<Option<Text>>
+    ensures { IfOk result (λ t. t ≡ option_map (λ s. s.now) given.entry) }
+{
+    match given {
+        Some(given) => Ok(Some(Text::from_str(alloc, given)?)),
+        None => Ok(None),
+    }
+}
+
+/// Returns the moment that is this many seconds later.
+fn later(now: u64, seconds: u64) -> Result<u64, Fault<'static>>
+    ensures { IfOk result (λ moment. moment ≡ now + seconds) }
+{
+    match now.checked_add(seconds) {
+        Some(moment) => Ok(moment),
+        None => Err(Fault::Usage("the span of --exp-in or --nbf-in is too long")),
+    }
+}
+
+/// Puts the moment that is this many seconds later in the place of a claim, if there is a number.
+fn put_later(
+    alloc: Global,
+    claims: &mut Map<String, Value>,
+    name: &str,
+    now: u64,
+    seconds: Option<u64>,
+) -> Result<(), Fault<'static>>
+    ensures { OnOk result (members_view claims.new.entries ≡ put_some name.now
+        (option_map (λ seconds. numeric_date (now + seconds)) seconds)
+        (members_view claims.old.entries)) }
+{
+    if let Some(seconds) = seconds {
+        let moment = later(now, seconds)?;
+        serde_json::put(claims, alloc, name, Value::from(moment))?;
+    }
+    Ok(())
+}
+
+/// Puts the moment of signing in the place of the claim `iat`, if it is asked for.
+fn put_now(
+    alloc: Global,
+    claims: &mut Map<String, Value>,
+    now: u64,
+    has_iat: bool,
+) -> Result<(), Fault<'static>>
+    ensures { OnOk result (members_view claims.new.entries ≡ put_some (codes "iat")
+        (if has_iat then Some (numeric_date now) else None) (members_view claims.old.entries)) }
+{
+    if has_iat {
+        serde_json::put(claims, alloc, "iat", Value::from(now))?;
+    }
+    Ok(())
+}
+
+/// Puts the moments that the arguments ask for among the claims.
+fn put_moments(
+    alloc: Global,
+    claims: &mut Map<String, Value>,
+    request: &Signing<'_>,
+    now: u64,
+) -> Result<(), Fault<'static>>
+    ensures { OnOk result (members_view claims.new.entries
+        ≡ with_moments request.entry.now now (members_view claims.old.entries)) }
+{
+    put_later(alloc, claims, "exp", now, request.exp_in)?;
+    put_later(alloc, claims, "nbf", now, request.nbf_in)?;
+    put_now(alloc, claims, now, request.has_iat)?;
+    Ok(())
+}
+
+/// Returns the claims of a JSON text, which is that of an object, with the moments that the arguments
+/// ask for.
+pub fn claims(
+    alloc: Global,
+    text: &[u8],
+    request: &Signing<'_>,
+    now: u64,
+) -> Result<Value, Fault<'static>>
+    ensures { IfOk result (λ v. (members : Members) × IsJson text.now (object members)
+        × (view v ≡ object (with_moments request.entry.now now members))) }
+{
+    match json_value(alloc, text) {
+        Ok(Value::Object(members)) => {
+            let mut members = members;
+            put_moments(alloc, &mut members, request, now)?;
+            Ok(Value::Object(members))
+        }
+        Ok(_) => Err(Fault::Usage("the claims have to be a JSON object")),
+        Err(error) => Err(not_claims(&error)),
+    }
+}
+
+fn not_claims(error: &Error) -> Fault<'static> {
+    match error.kind() {
+        ErrorKind::OutOfMemory => Fault::Memory,
+        _ => Fault::Usage("the claims are not JSON"),
+    }
+}
+
+/// Returns the answer for claims: status 0 and the token, or status 1 if `encode` refuses.
+fn sign_answer(
+    alloc: Global,
+    header: &Header,
+    claims: &Value,
+    secret: &[u8],
+) -> Result<Answer, Fault<'static>>
+    ensures { IfOk result (λ a. IsSignAnswer header.now (view claims.now) secret.now a.status
+        (string_bytes a.output)) }
+{
+    let Ok(key) = EncodingKey::from_secret(alloc, secret) else {
+        return Err(Fault::Memory);
+    };
+    match encode(alloc, &StandardProvider, header, claims, &key) {
+        Ok(token) => token_answer(alloc, token),
+        Err(error) => refused(alloc, error),
+    }
+}
+
+/// Returns the answer for claims, under the header that the arguments ask for.
+pub fn claims_answer(
+    alloc: Global,
+    request: &Signing<'_>,
+    claims: &Value,
+    secret: &[u8],
+) -> Result<Answer, Fault<'static>>
+    ensures { IfOk result (λ a. IsSignAnswer (header_asked request.entry.now) (view claims.now)
+        secret.now a.status (string_bytes a.output)) }
+{
+    match header(alloc, request) {
+        Ok(header) => {
+            let answer = sign_answer(alloc, &header, claims, secret);
+            drop(header);
+            answer
+        }
+        Err(_) => Err(Fault::Memory),
+    }
+}
+
+fn token_answer(alloc: Global, token: String) -> Result<Answer, Fault<'static>>
+    ensures { IfOk result (λ a. (a.status ≡ 0)
+        × (string_bytes a.output ≡ string_bytes token ++ 10 ∷ [])) }
+{
+    let mut output = token;
+    output.push('\n')?;
+    Ok(Answer {
+        status: 0,
+        output,
+        message: String::new(alloc),
+    })
+}
+
+fn refused(alloc: Global, error: Error) -> Result<Answer, Fault<'static>>
+    ensures { IfOk result (λ a. (kind_of error ≢ kind.OutOfMemory) × (a.status ≡ 1)
+        × (string_bytes a.output ≡ [])) }
+{
+    if matches!(error.kind(), ErrorKind::OutOfMemory) {
+        drop(error);
+        return Err(Fault::Memory);
+    }
+    let message = error_line(alloc, &error);
+    drop(error);
+    Ok(Answer {
+        status: 1,
+        output: String::new(alloc),
+        message: message?,
+    })
+}

@@ -1,0 +1,187 @@
+//! The command `verify`.
+
+ghost use Rattle.std.specs.Prelude.{◌≡◌, IfOk, option_map, string_bytes};
+ghost use Rattle.serde_json.specs.View.{view};
+ghost use Rattle.jwt_validation.specs.OptionsOf.{options_of};
+ghost use Rattle.jwt_command.specs.Answers.{IsHeaderLine, IsAcceptedText, IsRefusedText, HasStatus, IsVerifyAnswer};
+
+use crate::advice::{denial_lines, denial_name, denied_claim, is_of_memory};
+use crate::answer::{Answer, value_line};
+use crate::fault::Fault;
+use crate::keys::Loaded;
+use crate::orders::TYPE_AGREES;
+use crate::verdict::{Denial, judged};
+use jsonwebtoken::errors::ErrorKind;
+use jsonwebtoken::{Header, TokenData, Validation};
+use serde_json::Value;
+use std::alloc::{AllocError, Global};
+
+/// The room for what a line has beside the claims.
+const LINE: usize = 24;
+
+/// How an answer is written.
+#[derive(Clone, Copy)]
+pub enum Form {
+    /// The claims as JSON.
+    Claims,
+    /// The header as JSON, and the claims as JSON.
+    HeaderAndClaims,
+    /// One line of JSON, for a refusal too.
+    Json,
+}
+
+/// Returns the exit status of a denial: 3 if memory ran out, and else 1.
+pub fn denial_status(denial: &Denial) -> u8
+    ensures { HasStatus denial.now result }
+{
+    match denial {
+        Denial::Refused(refusal) if matches!(refusal.error.kind(), ErrorKind::OutOfMemory) => 3,
+        _ => 1,
+    }
+}
+
+/// Returns the JSON text of a header, and a newline.
+fn header_line(alloc: Global, header: &Header) -> Result<String, Fault<'static>>
+    ensures { IfOk result (λ text. IsHeaderLine header.now (string_bytes text)) }
+{
+    match header.to_value(alloc) {
+        Ok(value) => Ok(value_line(alloc, &value)?),
+        Err(_) => Err(Fault::Memory),
+    }
+}
+
+/// Returns one line of JSON with the claims.
+fn accepted_line(alloc: Global, claims: &Value) -> Result<String, AllocError> {
+    let claims = claims.to_string(alloc)?;
+    let mut line = String::with_capacity(alloc, claims.len() + LINE)?;
+    line.push_str("{\"ok\":true,\"claims\":")?;
+    line.push_str(claims.as_str())?;
+    line.push_str("}\n")?;
+    Ok(line)
+}
+
+/// Adds a member, neither of whose texts needs an escape.
+fn push_member(line: &mut String, name: &str, text: &str) -> Result<(), AllocError> {
+    line.push_str(",\"")?;
+    line.push_str(name)?;
+    line.push_str("\":\"")?;
+    line.push_str(text)?;
+    line.push('"')
+}
+
+/// Returns the name of the test that failed. If memory ran out, none did.
+fn failed_name(denial: &Denial) -> Option<&'static str> {
+    if is_of_memory(denial) {
+        return None;
+    }
+    match denial {
+        Denial::Refused(refusal) => Some(refusal.test.name()),
+        Denial::OtherType => Some(TYPE_AGREES),
+    }
+}
+
+/// Adds the members about a denial.
+fn push_denial(line: &mut String, denial: &Denial) -> Result<(), AllocError> {
+    push_member(line, "kind", denial_name(denial))?;
+    if let Some(claim) = denied_claim(denial) {
+        push_member(line, "claim", claim)?;
+    }
+    if let Some(test) = failed_name(denial) {
+        push_member(line, "test", test)?;
+    }
+    line.push_str("}\n")
+}
+
+/// Returns one line of JSON about a denial.
+fn denied_line(alloc: Global, denial: &Denial) -> Result<String, AllocError> {
+    let mut line = String::from_str(alloc, "{\"ok\":false")?;
+    push_denial(&mut line, denial)?;
+    Ok(line)
+}
+
+fn accepted_text(
+    alloc: Global,
+    contents: &TokenData<Value>,
+    form: Form,
+) -> Result<String, Fault<'static>>
+    ensures { IfOk result (λ text. IsAcceptedText form contents.now.header (view contents.now.claims)
+        (string_bytes text)) }
+{
+    match form {
+        Form::Claims => Ok(value_line(alloc, &contents.claims)?),
+        Form::HeaderAndClaims => {
+            let mut text = header_line(alloc, &contents.header)?;
+            text.push_str(value_line(alloc, &contents.claims)?.as_str())?;
+            Ok(text)
+        }
+        Form::Json => Ok(accepted_line(alloc, &contents.claims)?),
+    }
+}
+
+fn denied_text(alloc: Global, denial: &Denial, form: Form) -> Result<String, AllocError>
+    ensures { IfOk result (λ text. IsRefusedText form (string_bytes text)) }
+{
+    match form {
+        Form::Json => denied_line(alloc, denial),
+        _ => Ok(String::new(alloc)),
+    }
+}
+
+/// Returns the answer to a token that is accepted.
+fn accepted_answer(
+    alloc: Global,
+    contents: &TokenData<Value>,
+    form: Form,
+) -> Result<Answer, Fault<'static>>
+    ensures { IfOk result (λ a. (a.status ≡ 0) × IsAcceptedText form contents.now.header
+        (view contents.now.claims) (string_bytes a.output)) }
+{
+    Ok(Answer {
+        status: 0,
+        output: accepted_text(alloc, contents, form)?,
+        message: String::new(alloc),
+    })
+}
+
+/// Returns the answer to a token that is not accepted, by keys whose file may end with a line end.
+fn denied_answer(
+    alloc: Global,
+    denial: &Denial,
+    has_line_end: bool,
+    form: Form,
+) -> Result<Answer, Fault<'static>>
+    ensures { IfOk result (λ a. HasStatus denial.now a.status
+        × IsRefusedText form (string_bytes a.output)) }
+{
+    let output = denied_text(alloc, denial, form)?;
+    Ok(Answer {
+        status: denial_status(denial),
+        output,
+        message: denial_lines(alloc, denial, has_line_end)?,
+    })
+}
+
+/// Returns the answer to a token: status 0 and its claims if it is accepted, and status 1 if it is
+/// refused.
+pub fn verify_answer(
+    alloc: Global,
+    token: &[u8],
+    loaded: &Loaded,
+    validation: &Validation,
+    now: u64,
+    typ: Option<&str>,
+    form: Form,
+) -> Result<Answer, Fault<'static>>
+    ensures { IfOk result (λ a. IsVerifyAnswer token.now loaded.now.keys
+        (options_of validation.now) now (option_map (λ s. s.now) typ.entry) form a.status
+        (string_bytes a.output)) }
+{
+    match judged(alloc, token, loaded, validation, now, typ) {
+        Ok(contents) => {
+            let answer = accepted_answer(alloc, &contents, form);
+            drop(contents);
+            answer
+        }
+        Err(denial) => denied_answer(alloc, &denial, loaded.has_line_end, form),
+    }
+}
