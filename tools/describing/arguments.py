@@ -4,7 +4,7 @@ import re
 from typing import NamedTuple
 
 TOP = os.path.dirname(os.path.dirname(os.path.dirname(os.path.realpath(__file__))))
-CRATES = ("jwt_command", "jwt")
+CRATES = ("jwt_command",)
 TEXT = r'"((?:[^"\\]|\\.)*)"'
 # a text, which is passed over, or a word with the texts that are all its arguments, or with an opening bracket
 WORDS = re.compile(rf'{TEXT}|(?<![.\w])(\w+)(?:\(((?:\s*{TEXT},?)+)\s*\)|(\()|\b)')

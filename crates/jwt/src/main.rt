@@ -1,4 +1,5 @@
-//! The program `jwt`: the command of the library `jwt_command`, over the arguments and the standard streams.
+//! The program `jwt`: the command of the library `jwt_command`, over the arguments and the standard
+//! streams.
 #![tactic(auto)]
 
 use jwt_command::start;

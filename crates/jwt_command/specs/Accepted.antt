@@ -26,7 +26,7 @@ abbrev pub order_of : Keys → List Test
 order_of (One key) = decode_order
 order_of (Set set) = set_order
 
--- a token, checked with these keys and options at a moment, by the provider of all algorithms
+-- a token, checked with these keys and options at a time, by the provider of all algorithms
 abbrev pub checking : List ℕ → Keys → Options → ℕ → Call Value
 checking token keys options now =
     verifying_call (Compact token) (keys_of keys) options now verifier_refusal StandardAccepts IsValue

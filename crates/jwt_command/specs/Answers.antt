@@ -62,7 +62,7 @@ IsVerifyAnswer token keys options now typ form status output =
     ⊎ ((denial : Denial) × IsDenied token keys options now typ denial
     × HasStatus denial status × IsRefusedText form output)
 
--- a token of these claims under this header, signed by HMAC with a secret (RFC 7518 section 3.2)
+-- a token of these claims under this header, signed with HMAC and a secret (RFC 7518 section 3.2)
 abbrev pub signing : Header → Data → List ℕ → Issue
 signing header claims secret =
     encoding_by_hmac header (Some claims) (record { family = Hmac; bytes = secret })

@@ -21,7 +21,7 @@ use Rattle.jwt_command.specs.declared.request.Showing.{Showing}
 use Rattle.jwt_command.specs.declared.request.Signing.{Signing}
 use Rattle.jwt_command.specs.declared.request.Verification.{Verification}
 
--- the text behind a reference, if there is one
+-- the text that a reference points to, if there is one
 abbrev pub text_of : Option (Bor (List ℕ)) → Option (List ℕ)
 text_of = option_map (λ s. s.now)
 

@@ -14,11 +14,11 @@ header_asked s = record (new_header s.algorithm) {
   kid = option_map (λ t. t.now) s.kid;
 }
 
--- a moment as a claim has it (RFC 7519 section 2)
+-- a time as a claim has it (RFC 7519 section 2)
 abbrev pub numeric_date : ℕ → Data
 numeric_date moment = number (unsigned moment)
 
--- the members, with the moments that the arguments ask for (RFC 7519 sections 4.1.4 to 4.1.6)
+-- the members, with the times that the arguments ask for (RFC 7519 sections 4.1.4 to 4.1.6)
 abbrev pub with_moments : Signing → ℕ → Members → Members
 with_moments s now members =
     put_some (codes "iat") (if s.has_iat then Some (numeric_date now) else None) (

@@ -1,4 +1,4 @@
-//! Findings about claims: those that a token has, beside those that the options ask for.
+//! Findings about claims: those that a token has and those that the options ask for.
 
 use crate::fault::Fault;
 use crate::findings::{Case, Finding, choice, part_value, quoted};
@@ -67,7 +67,7 @@ fn found_texts(alloc: Global, claims: &Value, name: &str) -> Result<String, Allo
     }
 }
 
-/// Returns the name of a claim and its value, which is no moment.
+/// Returns the name of a claim and its value, which is not a time.
 fn found_value(alloc: Global, claims: &Value, name: &str) -> Result<String, AllocError> {
     match claims.get(name) {
         Some(value) => format!(in alloc; "{name} {}", value.to_string(alloc)?),
@@ -75,7 +75,7 @@ fn found_value(alloc: Global, claims: &Value, name: &str) -> Result<String, Allo
     }
 }
 
-/// Returns the name of a claim and its moment.
+/// Returns the name of a claim and its time.
 fn found_moment(alloc: Global, claims: &Value, name: &str, now: u64) -> Result<String, AllocError> {
     match claims.get(name).and_then(Value::as_u64) {
         Some(seconds) => found_seconds(alloc, name, seconds, now),
@@ -83,7 +83,7 @@ fn found_moment(alloc: Global, claims: &Value, name: &str, now: u64) -> Result<S
     }
 }
 
-/// Returns the name of a claim and the moment of its number of seconds.
+/// Returns the name of a claim and the time of its number of seconds.
 fn found_seconds(alloc: Global, name: &str, seconds: u64, now: u64) -> Result<String, AllocError> {
     if is_likely_milliseconds(seconds) {
         return format!(in alloc; "{name} {seconds}, which looks like milliseconds");
@@ -105,7 +105,7 @@ fn form_of(name: &str) -> &'static str {
     }
 }
 
-/// Returns why a number is no moment.
+/// Returns why a number is not a time.
 fn number_problem(number: &Value) -> &'static str {
     if number.is_i64() {
         "which is negative"
@@ -294,7 +294,8 @@ fn failure_about(
     }
 }
 
-/// Adds the failures of the rules, a claim after the other: those of claims that are missing, or the others.
+/// Adds the failures of the rules, a claim after the other: those of claims that are missing, or
+/// the others.
 fn push_failures(
     alloc: Global,
     case: Case<'_>,
@@ -315,8 +316,8 @@ fn push_failures(
     Ok(())
 }
 
-/// Returns the failures of all claim rules that fail, in the order in which they are tested, and of missing
-/// claims in that of [`CLAIMS`].
+/// Returns the failures of all claim rules that fail, in the order in which they are tested, and of
+/// missing claims in that of [`CLAIMS`].
 pub fn claim_failures(
     alloc: Global,
     case: Case<'_>,

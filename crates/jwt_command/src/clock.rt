@@ -1,4 +1,4 @@
-//! The moment at which tokens are checked.
+//! The time at which tokens are checked.
 
 ghost use Rattle.std.specs.Prelude.{IfOk};
 ghost use Rattle.jwt_command.specs.Commands.{IsGiven};
@@ -7,7 +7,7 @@ use crate::fault::Fault;
 use std::rt::Clock;
 use std::time::{SystemTime, UNIX_EPOCH};
 
-/// Returns the moment that is given, or that of the system's clock, in seconds since 1970-01-01
+/// Returns the time that is given, or that of the system's clock, in seconds since 1970-01-01
 /// 00:00:00 UTC.
 pub fn moment<R: Clock>(rt: &R, given: Option<u64>) -> Result<u64, Fault<'static>>
     ensures { IfOk result (IsGiven given) }

@@ -1,4 +1,5 @@
-//! Control characters that JSON leaves as they are (RFC 8259 section 7), and that a terminal may act on.
+//! Control characters that JSON leaves as they are (RFC 8259 section 7), and that a terminal may
+//! act on.
 
 use std::alloc::{AllocError, Global};
 

@@ -73,8 +73,8 @@ fn outcome(
     }
 }
 
-/// Returns the moments at which the claims of a token are accepted, whose signature is. The claim rules
-/// hold at all moments that the claims allow, or at none.
+/// Returns the times at which the claims of a token are accepted, whose signature is. The claim
+/// rules hold at all times that the claims allow, or at none.
 fn moments(
     alloc: Global,
     claims: &Value,
@@ -99,8 +99,8 @@ fn accepted_claims(
     Ok(None)
 }
 
-/// Returns the lines about the claims of a token whose signature is accepted, and the moments at which
-/// it is accepted.
+/// Returns the lines about the claims of a token whose signature is accepted, and the times at
+/// which it is accepted.
 fn times(
     alloc: Global,
     case: Case<'_>,
@@ -215,10 +215,10 @@ fn denied(
     })
 }
 
-/// Returns the answer that explains a token: each test with its result, the first that fails with what
-/// it found and what it asks for, the moments at which the token is accepted, and whether it is accepted
-/// without strict options only, which `checks` name as they were asked for. The status is that of
-/// [`verify_answer`](crate::verify::verify_answer).
+/// Returns the answer that explains a token: each test with its result, the first that fails with
+/// what it found and what it asks for, the times at which the token is accepted, and whether it
+/// is accepted without strict options only, which `checks` name as they were asked for. The status
+/// is that of [`verify_answer`](crate::verify::verify_answer).
 pub fn explain_answer(
     alloc: Global,
     token: &[u8],

@@ -29,11 +29,11 @@ pub struct Explanation<'e> {
     pub outcome: Outcome,
     /// The kind of the refusal, if there is one.
     pub kind: Option<&'e str>,
-    /// The moments at which each test passes.
+    /// The times at which each test passes.
     pub moments: Option<Moments>,
-    /// The moment of the tests, in seconds since 1970-01-01 00:00:00 UTC.
+    /// The time of the tests, in seconds since 1970-01-01 00:00:00 UTC.
     pub now: u64,
-    /// Lines about the claims that are moments.
+    /// Lines about the claims that are times.
     pub times: String,
     /// The refusal under strict options, if the token is accepted without them.
     pub strict: Option<ClaimFailure>,
@@ -119,13 +119,13 @@ fn push_tests(
     Ok(())
 }
 
-/// Returns a moment, and how long it is away.
+/// Returns a time, and how long it is away.
 fn moment_words(alloc: Global, moment: u64, now: u64) -> Result<String, AllocError> {
     let text = moment_text(alloc, moment)?;
     format!(in alloc; "{text} ({})", distance_text(alloc, moment, now)?)
 }
 
-/// Returns the line about the moments at which a token is accepted.
+/// Returns the line about the times at which a token is accepted.
 fn moments_line(alloc: Global, moments: Option<Moments>, now: u64) -> Result<String, AllocError> {
     let Some(moments) = moments else {
         return String::from_str(alloc, "accepted at no moment\n");
@@ -161,7 +161,8 @@ fn first_finding(outcome: &Outcome) -> Option<&Finding> {
     }
 }
 
-/// Returns the last line: why the token is refused, or that it is only accepted without strict options.
+/// Returns the last line: why the token is refused, or that it is only accepted without strict
+/// options.
 fn last_line(alloc: Global, explanation: &Explanation<'_>) -> Result<String, AllocError> {
     if let (Some(kind), Some(finding)) = (explanation.kind, first_finding(&explanation.outcome)) {
         return refusal_line(alloc, "refused", kind, finding);
@@ -177,8 +178,8 @@ fn last_line(alloc: Global, explanation: &Explanation<'_>) -> Result<String, All
     }
 }
 
-/// Returns an explanation for people: a line for each test that is made, when the token is accepted, and
-/// why it is refused.
+/// Returns an explanation for people: a line for each test that is made, when the token is
+/// accepted, and why it is refused.
 pub fn page(alloc: Global, explanation: &Explanation<'_>) -> Result<String, AllocError> {
     let mut page = String::new(alloc);
     push_tests(alloc, &mut page, explanation)?;
@@ -263,7 +264,7 @@ fn put_strict(
     }
 }
 
-/// Puts the moments among the members; null stands for none.
+/// Puts the times among the members; null stands for none.
 fn put_moments(
     alloc: Global,
     members: &mut Map<String, Value>,

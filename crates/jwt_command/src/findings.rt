@@ -1,4 +1,4 @@
-//! Findings: the contents of a token, beside those that a failed test asks for.
+//! Findings: the contents of a token and those that a failed test asks for.
 
 use crate::claim_findings::claim_findings;
 use crate::fault::{Fault, unless_refused};
@@ -20,7 +20,7 @@ pub struct Case<'c> {
     pub token: &'c [u8],
     pub loaded: &'c Loaded,
     pub validation: &'c Validation,
-    /// The moment, in seconds since 1970-01-01 00:00:00 UTC.
+    /// The time, in seconds since 1970-01-01 00:00:00 UTC.
     pub now: u64,
 }
 
@@ -289,7 +289,8 @@ fn by_part(
     }
 }
 
-/// Returns the findings of the test that a refusal carries: one, or one for each claim rule that fails.
+/// Returns the findings of the test that a refusal carries: one, or one for each claim rule that
+/// fails.
 pub fn findings_of(
     alloc: Global,
     case: Case<'_>,

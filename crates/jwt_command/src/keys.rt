@@ -1,5 +1,8 @@
 //! The keys that a token is verified with, from their files.
 
+// A secret's file is taken as it is, unless `--trim` says otherwise: a final newline may be part of
+// a secret. The message about a wrong signature names the newline.
+
 ghost use Rattle.std.specs.Prelude.{◌≡◌, ◌⊎◌, ℕ, List, None, OnOk, IfOk, IfErr, IsErr};
 ghost use Rattle.jwt_base.specs.JsonText.{ReadsText};
 ghost use Rattle.jwt_base.specs.Kind.{Kind};
@@ -45,8 +48,8 @@ pub struct Loaded {
 }
 
 /// The number of keys of a set, from its first, that are prepared to verify many tokens: the hashed
-/// blocks of a secret, or what a modulus needs. Each allocates, and to look for one takes longer, the
-/// more there are. The others verify too, unprepared.
+/// blocks of a secret, or what a modulus needs. Each allocates, and to look for one takes longer,
+/// the more there are. The others verify too, unprepared.
 const PREPARED: usize = 16;
 
 fn prepare_for(
@@ -109,8 +112,8 @@ pub fn prepare(
     }
 }
 
-/// Returns whether the keys may name the algorithm of a token: one key by its own `alg`, and a set by
-/// that of the key which the token names.
+/// Returns whether the keys may name the algorithm of a token: one key by its own `alg`, and a set
+/// by that of the key which the token names.
 pub fn names_algorithm(loaded: &Loaded) -> bool {
     match &loaded.keys {
         Keys::One(_) => loaded.own.is_some(),

@@ -87,8 +87,8 @@ fn answered<T: Runtime + AllocGlobal, W: Write>(
     answer.status
 }
 
-/// Writes the answer to the arguments, and returns the exit status: that of the answer, or 2 for arguments
-/// that ask for nothing that can be done, and 3 for files, streams, the clock and memory.
+/// Writes the answer to the arguments, and returns the exit status: that of the answer, or 2 for
+/// arguments that ask for nothing that can be done, and 3 for files, streams, the clock and memory.
 pub fn run_command<T: Runtime + AllocGlobal, W: Write>(
     rt: &T,
     matches: &ArgMatches<'_>,

@@ -1,5 +1,9 @@
 //! The form of `verify` that answers each line of standard input.
 
+// The status of a refused line is 1 or 3, and that of all lines the greatest, so that a script that
+// reads the status alone does not mistake 'out of memory' for a refusal. A body that leaves a line
+// out would be proved; a row of `tests/jwt.jsonl` fails with it.
+
 ghost use Rattle.std.specs.Prelude.{IfOk, OnOk};
 ghost use Rattle.jwt_validation.specs.Options.{Options};
 ghost use Rattle.jwt_validation.specs.OptionsOf.{options_of};
@@ -18,8 +22,8 @@ use std::alloc::Global;
 use std::io::{self, BufRead, BufReader, BufWriter, ErrorKind, Write};
 use std::rt::Clock;
 
-/// Reads on, to the end of the line if the reader has it in its buffer. Returns whether the line, or the
-/// input, has ended.
+/// Reads on, to the end of the line if the reader has it in its buffer. Returns whether the line,
+/// or the input, has ended.
 fn read_part<R: BufRead>(reader: &mut R, line: &mut Vec<u8>) -> Result<bool, Fault<'static>> {
     let buffer = match reader.fill_buf() {
         Ok(buffer) => buffer,
@@ -36,7 +40,7 @@ fn read_part<R: BufRead>(reader: &mut R, line: &mut Vec<u8>) -> Result<bool, Fau
     Ok(has_ended)
 }
 
-/// Reads a line, in the place of the one before. Returns whether there was one.
+/// Reads a line, instead of the one before. Returns whether there was one.
 fn read_line<R: BufRead>(reader: &mut R, line: &mut Vec<u8>) -> Result<bool, Fault<'static>> {
     line.clear();
     for _ in 0..u64::MAX {
@@ -61,7 +65,8 @@ fn flush<W: Write>(writer: &mut W) -> Result<(), Fault<'static>> {
     }
 }
 
-/// Sets the algorithm that the key of a token is for in place of the last one, if the options name none.
+/// Sets the algorithm that the key of a token is for in place of the last one, if the options name
+/// none.
 fn settle_again(
     alloc: Global,
     validation: &mut Validation,
@@ -108,9 +113,9 @@ fn line_answer<R: Clock + AllocGlobal>(
 }
 
 /// Answers each line of standard input, which is a token, by a line of JSON on standard output. The
-/// answers that are there are written before the program waits for more input. Returns the status: 0 if
-/// every token is accepted, and else the greatest of the tokens' statuses. That each line is judged, the
-/// contract can't say: no contract of the kit says what standard input holds.
+/// answers that are there are written before the program waits for more input. Returns the status:
+/// 0 if every token is accepted, and else the greatest of the tokens' statuses. That each line is
+/// judged, the contract can't say: no contract of the kit says what standard input holds.
 pub fn answer_lines<R: Input + Print + Clock + AllocGlobal>(
     rt: &R,
     request: &Verification<'_, '_>,

@@ -1,5 +1,8 @@
 //! Moments and spans of time, as arguments give them.
 
+// A number of decimal digits is proved to be its value, and another time or span only to be a
+// number, since the kit's `jiff` states nothing of dates and spans.
+
 ghost use Rattle.std.specs.Prelude.{◌≡◌, ℕ, Some};
 ghost use Rattle.jwt_command.specs.Arguments.{decimal};
 
@@ -20,9 +23,9 @@ fn number(text: &str) -> Option<u64>
     text.parse::<u64>().ok()
 }
 
-/// Returns the moment of a text, in whole seconds since 1970-01-01 00:00:00 UTC: decimal digits, or a
-/// date and time of RFC 3339, whose fraction of a second is left out. `None` stands for another text,
-/// and for a moment before then.
+/// Returns the time of a text, in whole seconds since 1970-01-01 00:00:00 UTC: decimal digits, or
+/// a date and time of RFC 3339, whose fraction of a second is left out. `None` stands for another
+/// text, and for a time before then.
 pub fn moment(text: &str) -> Option<u64>
     ensures { (n : ℕ) → decimal text.now ≡ Some n → result ≡ Some n }
 {
@@ -34,8 +37,8 @@ pub fn moment(text: &str) -> Option<u64>
     u64::try_from(moment.as_second()).ok()
 }
 
-/// Returns the seconds of a span of time, as `90s`, `15m`, `1h 30m` or `PT15M`; decimal digits alone are
-/// seconds. `None` stands for another text, and for a negative span.
+/// Returns the seconds of a span of time, such as `90s`, `15m`, `1h 30m` or `PT15M`; decimal digits
+/// alone are seconds. `None` stands for another text, and for a negative span.
 pub fn seconds(text: &str) -> Option<u64>
     ensures { (n : ℕ) → decimal text.now ≡ Some n → result ≡ Some n }
 {

@@ -1,13 +1,19 @@
 //! The options that a token is checked against, from the arguments.
 
-ghost use Rattle.std.specs.Prelude.{◌≡◌, ◌⊎◌, ◌&&◌, ◌||◌, [], IfOk, IfErr, OnOk, option_map, unwrap_or, not};
+// `--require`, `--aud`, `--iss` and `--sub` add to what a file of options requires, while `--alg`,
+// `--leeway` and the others replace it: who names an audience wants a token to have one.
+
+ghost use Rattle.std.specs.Prelude.{◌≡◌, ◌⊎◌, ◌&&◌, ◌||◌, [], IfOk, IfErr, OnOk, option_map};
+ghost use Rattle.std.specs.Prelude.{unwrap_or, not};
 ghost use Rattle.std.specs.Option.{option_or};
 ghost use Rattle.std.specs.HashSet.{contains_text};
 ghost use Rattle.std.specs.Str.{bytes_eq};
 ghost use Rattle.jwt_base.specs.KindOf.{IsMemory};
 ghost use Rattle.jwt_validation.specs.Options.{among, default_options};
 ghost use Rattle.jwt_validation.specs.OptionsOf.{options_of};
-ghost use Rattle.jwt_command.specs.Requested.{AreChosen, AreNamed, AreRequested, IsBase, IsNoBase, changed, given, given_or, kept, made_strict, required, strict_if};
+ghost use Rattle.jwt_command.specs.Requested.{AreChosen, AreNamed, AreRequested, IsBase, IsNoBase};
+ghost use Rattle.jwt_command.specs.Requested.{changed, given, given_or, kept, made_strict};
+ghost use Rattle.jwt_command.specs.Requested.{required, strict_if};
 
 use crate::fault::Fault;
 use crate::request::{Checks, algorithm};
@@ -268,8 +274,8 @@ fn change(
     Ok(())
 }
 
-/// Makes options strict: `nbf` is checked, without leeway, a token is refused from its `exp` on, and the
-/// claims that have a value are required.
+/// Makes options strict: `nbf` is checked, without leeway, a token is refused from its `exp` on,
+/// and the claims that have a value are required.
 fn make_strict(alloc: Global, validation: &mut Validation) -> Result<(), Error>
     ensures { OnOk result (options_of validation.new ≡ made_strict (options_of validation.old)) }
 {
@@ -331,9 +337,9 @@ pub fn as_strict(
     Ok(strict)
 }
 
-/// Returns the options of the arguments: those of the file, whose bytes are given, made strict if that is
-/// asked for, and then changed by each other argument that is given. The algorithms are those of the arguments if they name any, and else those of
-/// the file.
+/// Returns the options of the arguments: those of the file, whose bytes are given, made strict if
+/// that is asked for, and then changed by each other argument that is given. The algorithms are
+/// those of the arguments if they name any, and else those of the file.
 pub fn validation<'a>(
     alloc: Global,
     checks: &Checks<'_, 'a>,

@@ -50,8 +50,8 @@ const OF_A_SET: [Test; 19] = [
     Test::ClaimRulesHold,
 ];
 
-/// Returns the tests of `decode` in the order in which it makes them, or those of `decode_with_set` if
-/// the keys are a set.
+/// Returns the tests of `decode` in the order in which it makes them, or those of `decode_with_set`
+/// if the keys are a set.
 pub fn order(keys: &Keys) -> &'static [Test]
     ensures { result.now ≡ order_of keys.now }
 {

@@ -1,4 +1,4 @@
-//! Findings about the parts of a token: their contents, beside those that a failed test asks for.
+//! Findings about the parts of a token: their contents and those that a failed test asks for.
 
 use crate::fault::{Fault, unless_refused};
 use crate::findings::{Finding, part_value, quoted};

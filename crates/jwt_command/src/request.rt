@@ -3,7 +3,9 @@
 ghost use Rattle.std.specs.Prelude.{◌≡◌, Some, false, IfOk, codes};
 ghost use Rattle.clap.specs.Matches.{found_of, first_value};
 ghost use Rattle.jwt_base.specs.Algorithm.{algorithm_named};
-ghost use Rattle.jwt_command.specs.Arguments.{AreChecks, IsChecking, IsCommand, IsFile, IsFlag, IsHash, IsKeyFile, IsNumberOf, IsRequestOf, IsShowing, IsSigningOf};
+ghost use Rattle.jwt_command.specs.Arguments.{AreChecks, IsChecking, IsCommand, IsFile, IsFlag};
+ghost use Rattle.jwt_command.specs.Arguments.{IsHash, IsKeyFile, IsNumberOf, IsRequestOf};
+ghost use Rattle.jwt_command.specs.Arguments.{IsShowing, IsSigningOf};
 
 use crate::fault::Fault;
 use crate::moments::{moment, seconds};

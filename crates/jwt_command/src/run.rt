@@ -2,7 +2,10 @@
 
 ghost use Rattle.std.specs.Prelude.{◌≡◌, ℕ, List, IfOk, is_some, string_bytes};
 ghost use Rattle.jwt_validation.specs.OptionsOf.{options_of};
-ghost use Rattle.jwt_command.specs.Commands.{ArePrepared, AreVerified, IsAnswer, IsExplanation, IsGiven, IsGivenToken, IsLinesStatus, IsShown, IsSigned, IsSigning, IsTokenAnswer, IsTokenVerdict, IsVerification, form_asked};
+ghost use Rattle.jwt_command.specs.Commands.{ArePrepared, AreVerified, IsAnswer, IsExplanation};
+ghost use Rattle.jwt_command.specs.Commands.{IsGiven, IsGivenToken, IsLinesStatus, IsShown};
+ghost use Rattle.jwt_command.specs.Commands.{IsSigned, IsSigning, IsTokenAnswer, IsTokenVerdict};
+ghost use Rattle.jwt_command.specs.Commands.{IsVerification, form_asked};
 ghost use Rattle.jwt_command.specs.FileKeys.{AreLoaded, IsJwkLine};
 
 use crate::answer::Answer;
@@ -91,8 +94,8 @@ fn keys_for<'a, R: Files + AllocGlobal>(
     Ok(loaded)
 }
 
-/// Returns the keys and the options that tokens are checked with. If neither the arguments nor a file
-/// name an algorithm, the keys have to.
+/// Returns the keys and the options that tokens are checked with. If neither the arguments nor a
+/// file name an algorithm, the keys have to.
 fn prepared<'a, R: Files + AllocGlobal>(
     rt: &R,
     request: &Verification<'_, 'a>,

@@ -39,8 +39,8 @@ fn without_name(run: &[u8]) -> &[u8] {
     }
 }
 
-/// Returns the bytes of a text that are likely a token: the first that begin as a header does, or else the
-/// first with a dot.
+/// Returns the bytes of a text that are likely a token: the first that begin as a header does, or
+/// else the first with a dot.
 fn likely_token(text: &[u8]) -> &[u8] {
     let mut likely = None;
     for run in text.split(|byte| !is_of_token(*byte)) {
@@ -65,7 +65,8 @@ fn digit(byte: u8) -> Option<u8> {
     }
 }
 
-/// Returns the byte that a percent sign and two digits at the front of a text stand for (RFC 3986 section 2.1).
+/// Returns the byte that a percent sign and two digits at the front of a text stand for (RFC 3986
+/// section 2.1).
 fn encoded_byte(text: &[u8]) -> Option<u8> {
     let [b'%', high, low, ..] = text else {
         return None;
@@ -113,8 +114,8 @@ fn value_of(alloc: Global, part: Option<&[u8]>) -> Result<Option<Value>, Fault<'
     }
 }
 
-/// Returns the header and the claims of a text, of which nothing is verified, as far as they are JSON in
-/// base64url. What stands around a token is left out, as quotes or the word Bearer.
+/// Returns the header and the claims of a text, of which nothing is verified, as far as they are
+/// JSON in base64url. What stands around a token is left out, as quotes or the word Bearer.
 pub fn salvaged_from(alloc: Global, text: &[u8]) -> Result<Salvage, Fault<'static>> {
     let token = url_decoded(alloc, likely_token(text))?;
     let is_encrypted = is_encrypted(&token);

@@ -18,7 +18,7 @@ use jsonwebtoken::errors::{Error, ErrorKind};
 use serde_json::Value;
 use std::alloc::{AllocError, Global};
 
-/// Returns the header and the claims for people: JSON in lines, and the moments among the claims.
+/// Returns the header and the claims for people: JSON in lines, and the times among the claims.
 fn page(alloc: Global, header: &Value, claims: &Value, now: u64) -> Result<String, AllocError> {
     let header = header.to_string_pretty(alloc)?;
     let text = claims.to_string_pretty(alloc)?;
@@ -167,7 +167,8 @@ fn salvaged(
     Ok((output, message))
 }
 
-/// Returns the answer to a text whose header or claims can't be read as those of a token: what can be read.
+/// Returns the answer to a text whose header or claims can't be read as those of a token: what can
+/// be read.
 fn refused(
     alloc: Global,
     token: &[u8],
@@ -191,8 +192,8 @@ fn refused(
     })
 }
 
-/// Returns header and claims of a token, of which nothing is verified, with status 0; or status 1 if they
-/// can't be read as those of a token, with those of its parts that are JSON.
+/// Returns header and claims of a token, of which nothing is verified, with status 0; or status 1
+/// if they can't be read as those of a token, with those of its parts that are JSON.
 pub fn show_answer(
     alloc: Global,
     token: &[u8],

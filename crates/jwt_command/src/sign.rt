@@ -1,6 +1,7 @@
 //! The command `sign`.
 
-ghost use Rattle.std.specs.Prelude.{◌≡◌, ◌≢◌, ◌+◌, [], ◌∷◌, ◌++◌, Some, None, IfOk, OnOk, option_map, if◌then◌else◌, codes, string_bytes};
+ghost use Rattle.std.specs.Prelude.{◌≡◌, ◌≢◌, ◌+◌, [], ◌∷◌, ◌++◌, Some, None, IfOk, OnOk};
+ghost use Rattle.std.specs.Prelude.{option_map, if◌then◌else◌, codes, string_bytes};
 ghost use Rattle.serde_json.specs.Data.{Members, object};
 ghost use Rattle.serde_json.specs.View.{view, members_view};
 ghost use Rattle.jwt_base.specs.JsonText.{IsJson};
@@ -21,8 +22,8 @@ use jwt_standard::StandardProvider;
 use serde_json::{Map, Value};
 use std::alloc::Global;
 
-/// Returns the header of a token that is signed as the arguments ask for, of the type `JWT` if they name
-/// no other.
+/// Returns the header of a token that is signed as the arguments ask for, of the type `JWT` if they
+/// name no other.
 fn header(alloc: Global, request: &Signing<'_>) -> Checked<Header>
     ensures { IfOk result (λ h. h ≡ header_asked request.entry.now) }
 {
@@ -45,7 +46,7 @@ fn text(alloc: Global, given: Option<&str>) -> Checked<Option<Text>>
     }
 }
 
-/// Returns the moment that is this many seconds later.
+/// Returns the time that is this many seconds later.
 fn later(now: u64, seconds: u64) -> Result<u64, Fault<'static>>
     ensures { IfOk result (λ moment. moment ≡ now + seconds) }
 {
@@ -55,7 +56,7 @@ fn later(now: u64, seconds: u64) -> Result<u64, Fault<'static>>
     }
 }
 
-/// Puts the moment that is this many seconds later in the place of a claim, if there is a number.
+/// Puts the time that is this many seconds later instead of a claim, if there is a number.
 fn put_later(
     alloc: Global,
     claims: &mut Map<String, Value>,
@@ -74,7 +75,7 @@ fn put_later(
     Ok(())
 }
 
-/// Puts the moment of signing in the place of the claim `iat`, if it is asked for.
+/// Puts the time of signing as the claim `iat`, if it is asked for.
 fn put_now(
     alloc: Global,
     claims: &mut Map<String, Value>,
@@ -90,7 +91,7 @@ fn put_now(
     Ok(())
 }
 
-/// Puts the moments that the arguments ask for among the claims.
+/// Puts the times that the arguments ask for among the claims.
 fn put_moments(
     alloc: Global,
     claims: &mut Map<String, Value>,
@@ -106,8 +107,8 @@ fn put_moments(
     Ok(())
 }
 
-/// Returns the claims of a JSON text, which is that of an object, with the moments that the arguments
-/// ask for.
+/// Returns the claims of a JSON text, which is that of an object, with the times that the
+/// arguments ask for.
 pub fn claims(
     alloc: Global,
     text: &[u8],

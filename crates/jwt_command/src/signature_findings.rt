@@ -1,4 +1,5 @@
-//! Findings about the signature of a token: its number of bytes, beside that of a signature by the key.
+//! Findings about the signature of a token: its number of bytes and that of a signature by the
+//! key.
 
 use crate::fault::{Fault, unless_refused};
 use crate::findings::{Case, Finding};
@@ -16,7 +17,8 @@ const RSA_STEP: u64 = 64;
 /// The number of bytes of the smallest RSA key in use.
 const RSA_LEAST: u64 = 128;
 
-/// Returns the number of bytes of a signature by an RSA key: that of its modulus (RFC 8017 section 8).
+/// Returns the number of bytes of a signature by an RSA key: that of its modulus (RFC 8017 section
+/// 8).
 fn modulus_length(key: &DecodingKey) -> Option<u64> {
     match key.kind() {
         DecodingKeyKind::RsaModulusExponent { n, e: _ } => {
@@ -26,8 +28,8 @@ fn modulus_length(key: &DecodingKey) -> Option<u64> {
     }
 }
 
-/// Returns the number of bytes of a signature with this algorithm by a key (RFC 7518 section 3, RFC 8037
-/// section 3.1).
+/// Returns the number of bytes of a signature with this algorithm by a key (RFC 7518 section 3, RFC
+/// 8037 section 3.1).
 fn length_by(algorithm: Algorithm, key: &DecodingKey) -> Option<u64> {
     match algorithm {
         Algorithm::HS256 => Some(32),
@@ -113,7 +115,8 @@ fn length_reason(lengths: Lengths) -> &'static str {
     }
 }
 
-/// Returns whether a signature looks like one of an elliptic curve in DER: a sequence of two numbers.
+/// Returns whether a signature looks like one of an elliptic curve in DER: a sequence of two
+/// numbers.
 fn is_der(alloc: Global, signature: &[u8], algorithm: Algorithm) -> Result<bool, Fault<'static>> {
     if !matches!(algorithm, Algorithm::ES256 | Algorithm::ES384) {
         return Ok(false);

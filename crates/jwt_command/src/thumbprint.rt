@@ -17,7 +17,8 @@ fn fault_of<'a>(path: &'a str, error: &Error, problem: &'static str) -> Fault<'a
     }
 }
 
-/// Returns the key of a file: a JSON Web Key, or a public key in PEM, which other text may come before.
+/// Returns the key of a file: a JSON Web Key, or a public key in PEM, which other text may come
+/// before.
 fn key<'a>(alloc: Global, path: &'a str, bytes: &[u8]) -> Result<Jwk, Fault<'a>> {
     let problem = "this is neither a JSON Web Key nor a public key in PEM";
     if let Some(jwk) = unless_refused(Jwk::from_slice(alloc, bytes))? {

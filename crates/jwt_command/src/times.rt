@@ -4,18 +4,18 @@ use jiff::Timestamp;
 use serde_json::Value;
 use std::alloc::{AllocError, Global};
 
-/// The claims that are moments (RFC 7519 section 4.1, OpenID Connect Core 1.0 sections 2 and 5.1).
+/// The claims that are times (RFC 7519 section 4.1, OpenID Connect Core 1.0 sections 2 and 5.1).
 const TIME_CLAIMS: [&str; 5] = ["exp", "nbf", "iat", "auth_time", "updated_at"];
 
-/// A moment from which on a number of seconds is likely one of milliseconds: the year 5138.
+/// A time from which on a number of seconds is likely one of milliseconds: the year 5138.
 const LIKELY_MILLISECONDS: u64 = 100_000_000_000;
 
-/// Returns whether a moment in seconds was likely meant in milliseconds.
+/// Returns whether a time in seconds was likely meant in milliseconds.
 pub fn is_likely_milliseconds(seconds: u64) -> bool {
     seconds >= LIKELY_MILLISECONDS
 }
 
-/// Returns a span as its two greatest units, as `3 h 12 min`.
+/// Returns a span as its two greatest units, such as `3 h 12 min`.
 pub fn span_text(alloc: Global, seconds: u64) -> Result<String, AllocError> {
     let minutes = seconds / 60;
     let hours = minutes / 60;
@@ -32,7 +32,7 @@ pub fn span_text(alloc: Global, seconds: u64) -> Result<String, AllocError> {
     format!(in alloc; "{seconds} s")
 }
 
-/// Returns a moment by RFC 3339, or its number if it is after the year 9999.
+/// Returns a time by RFC 3339, or its number if it is after the year 9999.
 pub fn moment_text(alloc: Global, seconds: u64) -> Result<String, AllocError> {
     let moment = match i64::try_from(seconds) {
         Ok(seconds) => Timestamp::from_second(seconds).ok(),
@@ -44,7 +44,7 @@ pub fn moment_text(alloc: Global, seconds: u64) -> Result<String, AllocError> {
     }
 }
 
-/// Returns how long a moment is away from now, as `in 5 min 0 s` or `3 h 12 min ago`.
+/// Returns how long a time is away from now, such as `in 5 min 0 s` or `3 h 12 min ago`.
 pub fn distance_text(alloc: Global, seconds: u64, now: u64) -> Result<String, AllocError> {
     if seconds >= now {
         format!(in alloc; "in {}", span_text(alloc, seconds - now)?)
@@ -66,7 +66,7 @@ fn seconds_line(alloc: Global, name: &str, seconds: u64, now: u64) -> Result<Str
     format!(in alloc; "{name}: {moment}, {distance}\n")
 }
 
-/// Returns the line of a claim that is a moment, if there is one.
+/// Returns the line of a claim that is a time, if there is one.
 fn claim_line(
     alloc: Global,
     claims: &Value,
@@ -79,7 +79,7 @@ fn claim_line(
     }
 }
 
-/// Returns the lines of the claims that are moments.
+/// Returns the lines of the claims that are times.
 pub fn claim_lines(alloc: Global, claims: &Value, now: u64) -> Result<String, AllocError> {
     let mut lines = String::new(alloc);
     for name in &TIME_CLAIMS {

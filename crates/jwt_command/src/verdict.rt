@@ -25,8 +25,8 @@ pub enum Denial {
     OtherType,
 }
 
-/// Returns header and claims of a token that passes each test of `decode`, or of `decode_with_set` if
-/// the keys are a set.
+/// Returns header and claims of a token that passes each test of `decode`, or of `decode_with_set`
+/// if the keys are a set.
 fn decoded(
     alloc: Global,
     token: &[u8],
@@ -58,7 +58,7 @@ fn has_type(header: &Header, typ: Option<&str>) -> bool
     }
 }
 
-/// Returns header and claims of a token that is accepted, at the moment `now`, in seconds since
+/// Returns header and claims of a token that is accepted, at the time `now`, in seconds since
 /// 1970-01-01 00:00:00 UTC. If a type is asked for, the header has to have it.
 pub fn judged(
     alloc: Global,

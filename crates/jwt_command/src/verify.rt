@@ -3,7 +3,8 @@
 ghost use Rattle.std.specs.Prelude.{◌≡◌, IfOk, option_map, string_bytes};
 ghost use Rattle.serde_json.specs.View.{view};
 ghost use Rattle.jwt_validation.specs.OptionsOf.{options_of};
-ghost use Rattle.jwt_command.specs.Answers.{IsHeaderLine, IsAcceptedText, IsRefusedText, HasStatus, IsVerifyAnswer};
+ghost use Rattle.jwt_command.specs.Answers.{IsHeaderLine, IsAcceptedText, IsRefusedText, HasStatus};
+ghost use Rattle.jwt_command.specs.Answers.{IsVerifyAnswer};
 
 use crate::advice::{denial_lines, denial_name, denied_claim, is_of_memory};
 use crate::answer::{Answer, value_line};
@@ -16,7 +17,7 @@ use jsonwebtoken::{Header, TokenData, Validation};
 use serde_json::Value;
 use std::alloc::{AllocError, Global};
 
-/// The room for what a line has beside the claims.
+/// The room for what a line has besides the claims.
 const LINE: usize = 24;
 
 /// How an answer is written.

@@ -172,7 +172,8 @@ fn mark_before(text: &[u8]) -> Option<Wrapping> {
     None
 }
 
-/// Returns whether a percent sign and two hexadecimal digits stand in a text (RFC 3986 section 2.1).
+/// Returns whether a percent sign and two hexadecimal digits stand in a text (RFC 3986 section
+/// 2.1).
 fn is_encoded(text: &[u8]) -> bool {
     text.windows(3).any(|window| {
         matches!(window, [b'%', high, low] if high.is_ascii_hexdigit() && low.is_ascii_hexdigit())
