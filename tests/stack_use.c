@@ -1,45 +1,42 @@
-/* Tests how much stack a call takes that verifies a token: it runs in a thread whose stack is painted before, and what is not as it was
-   painted afterwards was used. So the tables of curves' multiples, which are on the stack, have a bound. */
+/* Tests how much stack a call takes that verifies a token: it runs in a thread whose stack is painted before, and what is
+   not as it was painted afterwards was used. So the tables of curves' multiples, which are on the stack, have a bound. */
 #include "keys.h"
 #include <jwtproved.h>
 #include <pthread.h>
 #include <stdint.h>
 #include <stdio.h>
-#include <stdlib.h>
 #include <string.h>
 #include <sys/mman.h>
 
 enum { STACK = 1 << 20, PAINT = 0xa5 };
 /* What a whole call with each algorithm takes at most, in bytes. */
-enum { MOST = 32 << 10 };
+enum { MOST = 36 << 10 };
 
 static const struct call {
-    const char *name, *token;
-} CALLS[] = {
-    {"HS256", BY_HS256}, {"RS256", BY_RS256}, {"PS256", BY_PS256},
-    {"ES256", BY_ES256}, {"ES384", BY_ES384}, {"EdDSA", BY_EDDSA},
+    const char *name, *token, *options;
+} NO_CALL = {NULL, NULL, NULL},
+  CALLS[] = {
+      {"HS256", BY_HS256, "{\"algorithms\":[\"HS256\"]}"}, {"RS256", BY_RS256, "{\"algorithms\":[\"RS256\"]}"},
+      {"PS256", BY_PS256, "{\"algorithms\":[\"PS256\"]}"}, {"ES256", BY_ES256, "{\"algorithms\":[\"ES256\"]}"},
+      {"ES384", BY_ES384, "{\"algorithms\":[\"ES384\"]}"}, {"EdDSA", BY_EDDSA, "{\"algorithms\":[\"EdDSA\"]}"},
 };
 
 static uint32_t status;
 
-static void *nothing(void *unused) {
-    return unused;
-}
-
+/* Verifies the token of a call, if there is one. */
 static void *verify(void *given) {
     const struct call *call = given;
     uint8_t claims[256];
-    char options[64];
     size_t len;
-    snprintf(options, sizeof options, "{\"algorithms\":[\"%s\"]}", call->name);
-    status =
-        jwt_decode_set((const uint8_t *)call->token, strlen(call->token), (const uint8_t *)ALL_KEYS, strlen(ALL_KEYS),
-                       (const uint8_t *)options, strlen(options), 0, claims, sizeof claims, &len);
+    if (call->token)
+        status = jwt_decode_set((const uint8_t *)call->token, strlen(call->token), (const uint8_t *)ALL_KEYS,
+                                strlen(ALL_KEYS), (const uint8_t *)call->options, strlen(call->options), 0, claims,
+                                sizeof claims, &len);
     return NULL;
 }
 
-/* Returns the bytes of stack that a thread takes which runs this, or 0 if there is none. */
-static size_t stack_of(void *(*run)(void *), const struct call *call) {
+/* Returns the bytes of stack that a thread takes which makes a call, or 0 if there is no thread. */
+static size_t stack_of(const struct call *call) {
     uint8_t *stack = mmap(NULL, STACK, PROT_READ | PROT_WRITE, MAP_PRIVATE | MAP_ANONYMOUS, -1, 0);
     pthread_attr_t attributes;
     pthread_t thread;
@@ -47,8 +44,8 @@ static size_t stack_of(void *(*run)(void *), const struct call *call) {
     memset(stack, PAINT, STACK);
     pthread_attr_init(&attributes);
     size_t used = 0;
-    if (!pthread_attr_setstack(&attributes, stack, STACK) && !pthread_create(&thread, &attributes, run, (void *)call) &&
-        !pthread_join(thread, NULL)) {
+    if (!pthread_attr_setstack(&attributes, stack, STACK) &&
+        !pthread_create(&thread, &attributes, verify, (void *)call) && !pthread_join(thread, NULL)) {
         const uint8_t *at = stack;
         while (at < stack + STACK && *at == PAINT) at++;
         used = (size_t)(stack + STACK - at);
@@ -60,10 +57,10 @@ static size_t stack_of(void *(*run)(void *), const struct call *call) {
 
 int main(void) {
     unsigned passed = 0, failed = 0;
-    const size_t thread = stack_of(nothing, NULL);
+    const size_t thread = stack_of(&NO_CALL);
     for (size_t i = 0; i < sizeof CALLS / sizeof *CALLS; i++) {
         status = UINT32_MAX;
-        const size_t whole = stack_of(verify, &CALLS[i]);
+        const size_t whole = stack_of(&CALLS[i]);
         const int is_well = thread && whole > thread && status == JWT_OK && whole - thread <= MOST;
         passed += is_well;
         failed += !is_well;
