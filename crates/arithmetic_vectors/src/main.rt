@@ -6,6 +6,10 @@
 //! `tools/rows` write. A row is one line of JSON with the members `id`, `call`, those of the call's
 //! inputs, `want`, and `from`, the source of the result that is wanted. A row that differs is
 //! printed, and the last line counts.
+
+// Rows about numbers and points have a program of their own, since `modular` and the crates of
+// curves know nothing of tokens.
+
 #![tactic(auto)]
 
 mod calls;

@@ -1,6 +1,9 @@
 //! The base points' multiples below the 16th, which have z = 1. `tools/rows/base_tables` writes the
 //! tables.
 
+// The table of the base point is a method of a trait (`BaseMultiples`), so that one body serves
+// both curves, and each residue type brings its own curve's constants.
+
 ghost use Rattle.std.specs.Prelude.{ℕ, ◌<◌};
 ghost use Rattle.ecdsa.specs.Curves.{b256, base256, b384, base384};
 ghost use Rattle.weierstrass.specs.Weierstrass.{Point};

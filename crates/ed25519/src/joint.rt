@@ -1,6 +1,9 @@
 //! The sum of a multiple of the base point and a multiple of another point, by windows of four bits
 //! over both numbers at once.
 
+// Windows have four bits, and the base point's multiples below the 16th are constants: a table of
+// 255 would save 5 % and be 17 times as long.
+
 ghost use Rattle.std.specs.Prelude.{◌≡◌, ◌+◌, ◌*◌, ◌<◌, ℕ, length};
 ghost use Rattle.edwards.specs.Edwards.{Point};
 ghost use Rattle.edwards.specs.Factors.{factor_numbers};

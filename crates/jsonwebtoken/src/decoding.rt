@@ -16,6 +16,7 @@ ghost use Rattle.jsonwebtoken.specs.private_clauses.Steps.{Step, whole};
 ghost use Rattle.jsonwebtoken.specs.Tests.{Compact, header_order, decode_order, header_call};
 ghost use Rattle.jsonwebtoken.specs.Tests.{token_tests};
 
+// These are the modules of `decode`: no module may have the name of a function next to it.
 pub(crate) mod crit;
 pub(crate) mod key_set;
 pub(crate) mod own;

@@ -1,4 +1,7 @@
 -- Values that are known by their names.
+-- A name that is known or free has one form: the text of each value, the known values, what any other text becomes,
+-- and which values these are. The value that a text names, the written text and the normal form are defined by the
+-- form, and that equality decides sameness is proved of it.
 use Rattle.std.specs.Prelude.{ℕ, List, Bool, Option, find, option_map, unwrap_or}
 use Rattle.std.specs.Str.{bytes_eq}
 use Rattle.serde_json.specs.Data.{Data, string}

@@ -1,5 +1,8 @@
 //! The names of the algorithms, and the families that their keys belong to.
 
+// Names are compared in the value as it stands, so `from_value` takes no allocator; likewise for
+// curves and types of keys. The list that `AlgorithmFamily::algorithms` returns is a constant.
+
 ghost use Rattle.std.specs.Prelude.{◌≡◌, Ok, Some, None, IfOk, IfErr};
 ghost use Rattle.serde_json.specs.Data.{string};
 ghost use Rattle.serde_json.specs.View.{view};

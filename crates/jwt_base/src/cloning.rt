@@ -1,5 +1,9 @@
 //! Copies that are made with an allocator.
 
+// A copy of a value that may be absent is one generic call, `clone_option`, over a trait of one
+// call (`CloneIn`). A call with a closure would need no trait, but each caller would have to prove
+// what its closure returns.
+
 ghost use Rattle.std.specs.Prelude.{◌≡◌, IfOk, IfErr};
 ghost use Rattle.jwt_base.specs.KindOf.{IsMemory};
 

@@ -214,7 +214,7 @@ fn copied(alloc: Global, text: &str) -> Result<String>
 impl ErrorKind {
     ghost use Rattle.jwt_base.specs.equality.KindEq.{number_of_held, text_of_held};
 
-    // Returns the place in the list of kinds.
+    // Returns the place in the list of kinds, by which equality tells kinds apart.
     fn number(&self) -> u8
         ensures { result ≡ number_of_held self.now }
     {

@@ -6,6 +6,11 @@
 // A call has one clause: some result is that of the library's own definitions, and exactly it
 // stands in status, length and buffer. Since a first failed test is one only if nothing passes,
 // accepted and refused exclude each other, and no further clause says that nothing is lost.
+//
+// The library for C is three crates: what calls return, as functions over slices and results
+// (`jwt_c_calls`); those with a verifier (`jwt_c_verifier`); the exports (`jwt_c`). `rt ci` only
+// checks a static library; `tools/prove` builds it then, by rattle over the libraries that `rt ci`
+// built, or by `rt lib`, which proves these again.
 
 #![tactic(auto)]
 

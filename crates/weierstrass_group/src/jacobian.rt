@@ -1,5 +1,8 @@
 //! Sums in Jacobian coordinates: x = X / Z^2 and y = Y / Z^3, and Z = 0 at the point at infinity.
 
+// P-256 and P-384 are computed in Jacobian coordinates, whose double takes 8 products, where the
+// complete formulas take 14; a sum asks for its exceptional cases.
+
 ghost use Rattle.std.specs.Prelude.{◌≡◌};
 ghost use Rattle.weierstrass_group.specs.Group.{spot_point};
 ghost use Rattle.weierstrass_group.specs.private_clauses.Formulas.{jacobian_double};

@@ -1,5 +1,12 @@
 //! Values that are read from JSON and written as JSON.
 
+// The law of `Claims` is that one value's readings are written alike, not that they are equal.
+// Custom claims may differ in what is no part of them, such as the capacity of a list; a type may
+// have no equality; and no caller loses anything, since what such claims say is what they are
+// written as. `from_owned` takes a payload's value itself if the claims are a `Value`, and
+// `to_text` writes one without a copy; both have a body in the trait, so a custom type needs
+// neither.
+
 ghost use Rattle.std.specs.Prelude.{◌≡◌, Option, Some, None, true, IfOk, IfErr, option_map};
 ghost use Rattle.std.specs.Prelude.{string_bytes};
 ghost use Rattle.std.proofs.Common.{◌∙◌, sym, ap};
