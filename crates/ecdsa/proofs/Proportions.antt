@@ -1,5 +1,6 @@
 -- What is asked of R = [u]G + [v]Q does not see a proportion.
-use Rattle.std.proofs.Common.{◌≡◌, ℕ, ◌+◌, ◌-◌, ◌*◌, ◌%◌, ◌<◌, ◌==◌, ◌&&◌, Bool, true, false, List, length, refl, sym, ap, ◌∙◌, arith}
+use Rattle.std.proofs.Common.{◌≡◌, ℕ, ◌+◌, ◌-◌, ◌*◌, ◌%◌, ◌<◌, ◌==◌, ◌&&◌, Bool, true, false, List, length, refl, sym}
+use Rattle.std.proofs.Common.{ap, ◌∙◌, arith}
 use Rattle.std.specs.Prelude.{◌≢◌, ◌↔◌, nat_lt, slice_index}
 use Rattle.std.proofs.Math.Nat.{mod-eq_of_lt}
 use Rattle.std.proofs.lemmas.Nat.{mod_below}
@@ -37,13 +38,17 @@ unfolding is_public_key is_on_curve key_point cubic_at
 key_is_point p b size public h =
     let x = x_of size public in
     let y = y_of size public in
-    let on_curve : (times p y y == plus p (minus p (times p x (times p x x)) (triple p x)) b) ≡ true = last (length public == 1 + size + size) (slice_index public 0 == 4) (nat_lt x p) (nat_lt y p) (times p y y == plus p (minus p (times p x (times p x x)) (triple p x)) b) h in
-    let same : times p y y ≡ plus p (minus p (times p x (times p x x)) (triple p x)) b = eqb-true (times p y y) (plus p (minus p (times p x (times p x x)) (triple p x)) b) on_curve in
+    let on_curve : (times p y y == plus p (minus p (times p x (times p x x)) (triple p x)) b) ≡ true =
+        last (length public == 1 + size + size) (slice_index public 0 == 4) (nat_lt x p) (nat_lt y p)
+        (times p y y == plus p (minus p (times p x (times p x x)) (triple p x)) b) h in
+    let same : times p y y ≡ plus p (minus p (times p x (times p x x)) (triple p x)) b =
+        eqb-true (times p y y) (plus p (minus p (times p x (times p x x)) (triple p x)) b) on_curve in
     record {
       shape = spot x y;
       on = sym (times_is p y y) ∙ ap (λ n. n % p) same
           ∙ plus_alike p (minus p (times p x (times p x x)) (triple p x)) (minus p (times p x (times p x x)) (times p 3 x)) b b
-          (minus_alike p (times p x (times p x x)) (times p x (times p x x)) (triple p x) (times p 3 x) refl (triple_is p x)) refl;
+          (minus_alike p (times p x (times p x x)) (times p x (times p x x)) (triple p x) (times p 3 x) refl
+              (triple_is p x)) refl;
       alike = alike_self p (record { x = x; y = y; z = 1 });
     }
 
@@ -69,9 +74,11 @@ module _ (p : ℕ) (prime : IsPrime p) where
       -- l i is j
       let e1 : (l * i) % p ≡ j % p =
       ap (λ m. m % p) (let k : l * i ≡ l * i * 1 = omega arith in k) ∙ mul_alike p (l * i) (l * i) 1 (z' * j) refl (sym one')
-      ∙ ap (λ m. m % p) (let k : l * i * (z' * j) ≡ (l * z') * i * j = omega arith in k) ∙ mul_alike p ((l * z') * i) (z * i) j j (mul_alike p (l * z') z i i (sym ez) refl) refl
+      ∙ ap (λ m. m % p) (let k : l * i * (z' * j) ≡ (l * z') * i * j = omega arith in k)
+      ∙ mul_alike p ((l * z') * i) (z * i) j j (mul_alike p (l * z') z i i (sym ez) refl) refl
       ∙ mul_alike p (z * i) 1 j j one refl ∙ ap (λ m. m % p) (let k : 1 * j ≡ j = omega arith in k) in
-      mul_alike p x (l * x') i i ex refl ∙ ap (λ m. m % p) (let k : l * x' * i ≡ x' * (l * i) = omega arith in k) ∙ mul_alike p x' x' (l * i) j refl e1
+      mul_alike p x (l * x') i i ex refl ∙ ap (λ m. m % p) (let k : l * x' * i ≡ x' * (l * i) = omega arith in k)
+          ∙ mul_alike p x' x' (l * i) j refl e1
 
   pub x_alike : (n r : ℕ) (R S : Point) → R.z < p → S.z < p → Alike p R S → HasX p n S r → HasX p n R r
   x_alike n r R S b c a h =
@@ -90,14 +97,16 @@ pub sum_below : (p b : ℕ) → 0 < p → (P Q : Point) → (sum_of p b P Q).z <
 unfolding sum_of products plus
 sum_below p b pos P Q = mod_below _ p pos
 
-pub sum_for_below : (p n b : ℕ) → 0 < p → (base : Point) (size : ℕ) (key : Point) (e r s : ℕ) → (sum_for p n b base size key e r s).z < p
+pub sum_for_below : (p n b : ℕ) → 0 < p → (base : Point) (size : ℕ) (key : Point) (e r s : ℕ)
+    → (sum_for p n b base size key e r s).z < p
 unfolding sum_for
 sum_for_below p n b pos base size key e r s =
     let w = inverse n s in
     sum_below p b pos (multiple_of p b (8 * size) (times n e w) base) (multiple_of p b (8 * size) (times n r w) key)
 
 pub from_joint : (p n b : ℕ) (base : Point) (size : ℕ) (key : Point) (e r s w : ℕ) (R : Point) (u v : List ℕ) → w ≡ inverse n s
-    → little_endian u ≡ times n e w → little_endian v ≡ times n r w → length u ≡ size → length v ≡ size → IsJoint p b u base v key R
+    → little_endian u ≡ times n e w → little_endian v ≡ times n r w → length u ≡ size → length v ≡ size
+    → IsJoint p b u base v key R
     → IsSumFor p n b base size key e r s R
 unfolding sum_for
 from_joint p n b base size key e r s w R u v ew eu ev lu lv j = record {

@@ -17,7 +17,9 @@ pub order_is : (p n l o : ℕ) → 1 < n → n < p → l ≡ minus n 0 1 → o �
 unfolding minus plus
 order_is p n l o above below el eo =
     let one : 1 % n ≡ 1 = mod-eq_of_lt above in
-    let less : l ≡ n - 1 = el ∙ ap (λ m. (0 + (n - m)) % n) one ∙ ap (λ m. m % n) (let k : 0 + (n - 1) ≡ n - 1 = omega arith in k) ∙ mod-eq_of_lt (let k : n - 1 < n = omega arith in k) in
+    let less : l ≡ n - 1 = el ∙ ap (λ m. (0 + (n - m)) % n) one
+        ∙ ap (λ m. m % n) (let k : 0 + (n - 1) ≡ n - 1 = omega arith in k)
+        ∙ mod-eq_of_lt (let k : n - 1 < n = omega arith in k) in
     eo ∙ ap (λ m. m % p) (let k : l + 1 ≡ n = omega arith in k) ∙ mod-eq_of_lt below
 
 pub sum_kept : (p n f s : ℕ) → f + n < p → s ≡ plus p f n → s ≡ f + n
@@ -37,7 +39,8 @@ sum_whole p n f s fb nb e h = go (cases_lt (f + n) p)
         let z : (f + n - p) % p ≡ f + n - p = mod-eq_of_lt (let k : f + n - p < p = omega arith in k) in
         absurd (omega arith)
 
-module _ (p : ℕ) (prime : IsPrime p) (n : ℕ) (n_below : n < p) (p_below : p < n + n) (R : Point) (x_below : R.x < p) (z_below : R.z < p) where
+module _ (p : ℕ) (prime : IsPrime p) (n : ℕ) (n_below : n < p) (p_below : p < n + n) (R : Point) (x_below : R.x < p)
+    (z_below : R.z < p) where
   pos : 0 < p
   pos = let a = prime.above in omega arith
 
@@ -61,7 +64,8 @@ module _ (p : ℕ) (prime : IsPrime p) (n : ℕ) (n_below : n < p) (p_below : p 
       let i = inverse p R.z in
       mul_alike p R.x (c * R.z) i i (ap (λ m. m % p) (sym e) ∙ mod-mod (c * R.z) p) refl
       ∙ ap (λ m. m % p) (let k : c * R.z * i ≡ c * (R.z * i) = omega arith in k)
-      ∙ mul_alike p c c (R.z * i) 1 refl (inverse_is h) ∙ ap (λ m. m % p) (let k : c * 1 ≡ c = omega arith in k) ∙ mod-eq_of_lt l
+      ∙ mul_alike p c c (R.z * i) 1 refl (inverse_is h) ∙ ap (λ m. m % p) (let k : c * 1 ≡ c = omega arith in k)
+      ∙ mod-eq_of_lt l
 
   from_quotient : (c : ℕ) → R.z ≢ 0 → quotient ≡ c → times p c R.z ≡ R.x
   unfolding quotient times
@@ -69,7 +73,8 @@ module _ (p : ℕ) (prime : IsPrime p) (n : ℕ) (n_below : n < p) (p_below : p 
       let i = inverse p R.z in
       mul_alike p c (R.x * i) R.z R.z (ap (λ m. m % p) (sym e) ∙ mod-mod (R.x * i) p) refl
       ∙ ap (λ m. m % p) (let k : R.x * i * R.z ≡ R.x * (R.z * i) = omega arith in k)
-      ∙ mul_alike p R.x R.x (R.z * i) 1 refl (inverse_is h) ∙ ap (λ m. m % p) (let k : R.x * 1 ≡ R.x = omega arith in k) ∙ mod-eq_of_lt x_below
+      ∙ mul_alike p R.x R.x (R.z * i) 1 refl (inverse_is h) ∙ ap (λ m. m % p) (let k : R.x * 1 ≡ R.x = omega arith in k)
+      ∙ mod-eq_of_lt x_below
 
   module _ (r : ℕ) (r_below : r < n) where
     pub first_has : R.z ≢ 0 → times p r R.z ≡ R.x → HasX p n R r

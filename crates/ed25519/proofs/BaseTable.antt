@@ -1,5 +1,6 @@
 -- The table of the base point's multiples, by computing.
-use Rattle.std.proofs.Common.{◌≡◌, ℕ, zero, suc, ◌+◌, ◌-◌, ◌*◌, ◌%◌, ◌^◌, ◌<◌, Bool, true, ◌&&◌, eqb, ltb, List, [], ◌∷◌, length, get_or, refl, ap, ◌∙◌, arith}
+use Rattle.std.proofs.Common.{◌≡◌, ℕ, zero, suc, ◌+◌, ◌-◌, ◌*◌, ◌%◌, ◌^◌, ◌<◌, Bool, true, ◌&&◌, eqb, ltb, List, []}
+use Rattle.std.proofs.Common.{◌∷◌, length, get_or, refl, ap, ◌∙◌, arith}
 use Rattle.std.proofs.lemmas.Bool.{and_parts, eqb-true, ltb-true}
 use Rattle.residues.specs.Modulo.{plus, minus, times}
 use Rattle.edwards.specs.Edwards.{Point, products, sum_of, AreSame}
@@ -38,7 +39,8 @@ affine x y = record { x = x; y = y; z = 1; t = times p x y }
 is_entry : (s e t : ℕ) → Point → Bool
 is_entry s e t Q =
     eqb (times p (v_of (y_of s e)) (times p (x_of s e) (x_of s e))) (u_of (y_of s e)) &&
-    (eqb s (plus p (y_of s e) (x_of s e)) && (eqb e (minus p (y_of s e) (x_of s e)) && (eqb t (times p twice_d (times p (x_of s e) (y_of s e)))
+    (eqb s (plus p (y_of s e) (x_of s e)) &&
+        (eqb e (minus p (y_of s e) (x_of s e)) && (eqb t (times p twice_d (times p (x_of s e) (y_of s e)))
     && (eqb (times p (x_of s e) Q.z) (times p Q.x 1) && eqb (times p (y_of s e) Q.z) (times p Q.y 1)))))
 
 -- the row's three numbers are forms of an entry for Q
@@ -46,7 +48,8 @@ is_form : (a b c : ℕ) → Point → Bool
 is_form a b c Q = ltb a p && (ltb b p && (ltb c p && is_entry (form_of a) (form_of b) (form_of c) Q))
 
 is_row : List ℕ → Point → Bool
-is_row r Q = is_form (whole_of (get_or r 0 0) (get_or r 1 0)) (whole_of (get_or r 2 0) (get_or r 3 0)) (whole_of (get_or r 4 0) (get_or r 5 0)) Q
+is_row r Q = is_form (whole_of (get_or r 0 0) (get_or r 1 0)) (whole_of (get_or r 2 0) (get_or r 3 0))
+    (whole_of (get_or r 4 0) (get_or r 5 0)) Q
 
 are_rows : List (List ℕ) → Point → Bool
 are_rows [] Q = true
@@ -78,7 +81,8 @@ addend s e z t = record { sum = s; difference = e; twice_z = z; scaled_t = t }
 same_addend : (s e z t u v w : ℕ) → s ≡ u → e ≡ v → t ≡ w → addend s e z t ≡ addend u v z w
 same_addend s e z t u v w f g h = ap (λ n. addend n e z t) f ∙ ap (λ n. addend u n z t) g ∙ ap (λ n. addend u v z n) h
 
-entry_is : (s e t i : ℕ) (Q : Point) → IsMultiple base i Q → is_entry s e t Q ≡ true → IsPrepared base i (addend s e (plus p 1 1) t)
+entry_is : (s e t i : ℕ) (Q : Point) → IsMultiple base i Q → is_entry s e t Q ≡ true
+    → IsPrepared base i (addend s e (plus p 1 1) t)
 unfolding is_entry addend_of
 entry_is s e t i Q m h =
     let x = x_of s e in
@@ -92,7 +96,8 @@ entry_is s e t i Q m h =
     let first : AreSame p (affine x y) Q = record { x = eqb-true _ _ g.0; y = eqb-true _ _ g.1 } in
     record {
       point = affine x y;
-      multiple = record { is_point = is_point; same = L.AreSame-trans p d field (affine x y) Q (repeat_of p twice_d i base) m.is_point first m.same };
+      multiple = record { is_point = is_point; same = L.AreSame-trans p d field (affine x y) Q
+          (repeat_of p twice_d i base) m.is_point first m.same };
       addend = same_addend s e (plus p 1 1) t _ _ _ (eqb-true _ _ b.0) (eqb-true _ _ c.0) (eqb-true _ _ f.0);
     }
 
@@ -117,7 +122,8 @@ row_is a b c i Q m h =
 
 -- the row of a digit
 abbrev pub IsRowOf : (i : ℕ) → List ℕ → Type 0
-IsRowOf i r = IsRow i (whole_of (get_or r 0 0) (get_or r 1 0)) (whole_of (get_or r 2 0) (get_or r 3 0)) (whole_of (get_or r 4 0) (get_or r 5 0))
+IsRowOf i r = IsRow i (whole_of (get_or r 0 0) (get_or r 1 0)) (whole_of (get_or r 2 0) (get_or r 3 0))
+    (whole_of (get_or r 4 0) (get_or r 5 0))
 
 pub IsRow-at : (i k : ℕ) → k + 1 ≡ i → k < 15 → IsRowOf i (get_or BASE_TABLE k [])
 unfolding is_row

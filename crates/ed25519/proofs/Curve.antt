@@ -1,5 +1,6 @@
 -- The points of the curve are a group.
-use Rattle.std.proofs.Common.{◌≡◌, ℕ, suc, ◌+◌, ◌-◌, ◌/◌, ◌%◌, ◌^◌, ◌<◌, ◌==◌, ◌&&◌, Bool, true, false, cond, Option, Some, None, inl, inr, List, refl, ap, subst, ◌∙◌, arith, lit<}
+use Rattle.std.proofs.Common.{◌≡◌, ℕ, suc, ◌+◌, ◌-◌, ◌/◌, ◌%◌, ◌^◌, ◌<◌, ◌==◌, ◌&&◌, Bool, true, false, cond, Option}
+use Rattle.std.proofs.Common.{Some, None, inl, inr, List, refl, ap, subst, ◌∙◌, arith, lit<}
 use Rattle.std.proofs.lemmas.Bool.Decides.{eqb_tells}
 use Rattle.std.specs.Prelude.{nat_lt}
 use Rattle.residues.specs.Modulo.{plus, minus, times, power}
@@ -124,20 +125,25 @@ point_none : (y sign : ℕ) (P : Point) → point_at y (signed sign None) ≡ So
 unfolding point_at signed
 point_none y sign P e = none_some e
 
-point_some : (y sign x : ℕ) (P : Point) → IsRoot y x → (o : Option ℕ) → signed sign (Some x) ≡ o → point_at y o ≡ Some P → IsPoint p d P
+point_some : (y sign x : ℕ) (P : Point) → IsRoot y x → (o : Option ℕ) → signed sign (Some x) ≡ o → point_at y o ≡ Some P
+    → IsPoint p d P
 unfolding point_at
 point_some y sign x P is None e h = absurd (none_some h)
 point_some y sign x P is (Some r) e h = subst (IsPoint p d) (same_point h) (IsPoint-found y r (root_signed y x r sign is e))
 
-point_signed : (y sign : ℕ) (P : Point) (o : Option ℕ) → ((x : ℕ) → o ≡ Some x → IsRoot y x) → point_at y (signed sign o) ≡ Some P → IsPoint p d P
+point_signed : (y sign : ℕ) (P : Point) (o : Option ℕ) → ((x : ℕ) → o ≡ Some x → IsRoot y x)
+    → point_at y (signed sign o) ≡ Some P → IsPoint p d P
 point_signed y sign P None found h = absurd (point_none y sign P h)
 point_signed y sign P (Some x) found h = point_some y sign x P (found x refl) (signed sign (Some x)) refl h
 
 -- what was decoded is a point of the curve
 pub IsPoint-decoded : (bytes : List ℕ) (P : Point) → decoded bytes ≡ Some P → IsPoint p d P
 unfolding decoded point_of
-IsPoint-decoded bytes P h = below (little_endian bytes % 2 ^ 255) (little_endian bytes / 2 ^ 255) (nat_lt (little_endian bytes % 2 ^ 255) p) h
+IsPoint-decoded bytes P h = below (little_endian bytes % 2 ^ 255) (little_endian bytes / 2 ^ 255)
+    (nat_lt (little_endian bytes % 2 ^ 255) p) h
   where
-    below : (y sign : ℕ) (b : Bool) → cond b (point_at y (signed sign (root_of (u_of y) (v_of y) (candidate (u_of y) (v_of y))))) None ≡ Some P → IsPoint p d P
+    below : (y sign : ℕ) (b : Bool)
+        → cond b (point_at y (signed sign (root_of (u_of y) (v_of y) (candidate (u_of y) (v_of y))))) None ≡ Some P
+        → IsPoint p d P
     below y sign true e = point_signed y sign P _ (λ x f. root_found y (candidate (u_of y) (v_of y)) x f) e
     below y sign false e = absurd (none_some e)

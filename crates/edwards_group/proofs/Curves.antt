@@ -52,19 +52,26 @@ module _ (p d : ℕ) (field : IsField p) where
       absurd (omega arith)
 
   -- v x^2 = u
-  pub IsPoint-by_root : (x y : ℕ) → Alike p (times p (v_by y) (times p x x)) (u_by y) → IsPoint p d (record { x = x; y = y; z = 1; t = times p x y })
+  pub IsPoint-by_root : (x y : ℕ) → Alike p (times p (v_by y) (times p x x)) (u_by y)
+      → IsPoint p d (record { x = x; y = y; z = 1; t = times p x y })
   unfolding value
   IsPoint-by_root x y h = record {
     finite = one-apart;
-    product = follows p positive I.decoded_product_left I.decoded_product_right I.decoded_product_lines (env x y 0) I.decoded_product tt;
-    equation = follows p positive I.decoded_equation_left I.decoded_equation_right I.decoded_equation_lines (env x y 0) I.decoded_equation (h, tt);
+    product = follows p positive I.decoded_product_left I.decoded_product_right I.decoded_product_lines
+        (env x y 0) I.decoded_product tt;
+    equation = follows p positive I.decoded_equation_left I.decoded_equation_right I.decoded_equation_lines
+        (env x y 0) I.decoded_equation (h, tt);
   }
 
-  pub root_turned : (x y r : ℕ) → Alike p (times p (v_by y) (times p x x)) (minus p 0 (u_by y)) → Alike p (times p r r) (minus p 0 1)
+  pub root_turned : (x y r : ℕ) → Alike p (times p (v_by y) (times p x x)) (minus p 0 (u_by y))
+      → Alike p (times p r r) (minus p 0 1)
       → Alike p (times p (v_by y) (times p (times p x r) (times p x r))) (u_by y)
   unfolding value
-  root_turned x y r h i = follows p positive I.root_turned_left I.root_turned_right I.root_turned_lines (env x y r) I.root_turned (h, (i, tt))
+  root_turned x y r h i = follows p positive I.root_turned_left I.root_turned_right I.root_turned_lines
+      (env x y r) I.root_turned (h, (i, tt))
 
-  pub root_negative : (x y : ℕ) → Alike p (times p (v_by y) (times p (minus p 0 x) (minus p 0 x))) (times p (v_by y) (times p x x))
+  pub root_negative : (x y : ℕ) → Alike p (times p (v_by y) (times p (minus p 0 x) (minus p 0 x)))
+      (times p (v_by y) (times p x x))
   unfolding value
-  root_negative x y = follows p positive I.root_negative_left I.root_negative_right I.root_negative_lines (env x y 0) I.root_negative tt
+  root_negative x y = follows p positive I.root_negative_left I.root_negative_right I.root_negative_lines
+      (env x y 0) I.root_negative tt

@@ -73,10 +73,12 @@ module _ (p d : ℕ) (field : IsField p) where
   cancel c a b n h =
       minus_none p positive a b
       (other_factor c (minus p a b) n
-      (follows p positive I.less_same_left I.less_same_right I.less_same_lines (env (four c a b 0) nil nil 0 0) I.less_same (h, tt)))
+      (follows p positive I.less_same_left I.less_same_right I.less_same_lines (env (four c a b 0) nil nil 0 0)
+          I.less_same (h, tt)))
 
   eight : Alike p 8 0 → ⊥
-  eight h = elim (field.factor 2 4 h) [ inl l ↦ field.two l | inr r ↦ elim (field.factor 2 2 r) [ inl l ↦ field.two l | inr l ↦ field.two l ] ]
+  eight h = elim (field.factor 2 4 h) [ inl l ↦ field.two l | inr r ↦ elim
+      (field.factor 2 2 r) [ inl l ↦ field.two l | inr l ↦ field.two l ] ]
 
   same_products : (e f g h e' f' g' h' : ℕ) → Alike p (times p e g') (times p e' g) → Alike p (times p h f') (times p h' f)
       → AreSame p (products p e f g h) (products p e' f' g' h')
@@ -89,38 +91,45 @@ module _ (p d : ℕ) (field : IsField p) where
       }
 
   assoc_x : (P Q R : Point) → IsPoint p d P → IsPoint p d Q → IsPoint p d R
-      → Alike p (times p (e_of p (sum P Q) R) (g_of p twice_of P (sum Q R))) (times p (e_of p P (sum Q R)) (g_of p twice_of (sum P Q) R))
+      → Alike p (times p (e_of p (sum P Q) R) (g_of p twice_of P (sum Q R)))
+          (times p (e_of p P (sum Q R)) (g_of p twice_of (sum P Q) R))
   unfolding sum_of products value
   assoc_x P Q R a b c =
       follows p positive I.assoc_x_left I.assoc_x_right I.assoc_x_lines (env P Q R d 0) I.assoc_x
       (a.product, (a.equation, (b.product, (b.equation, (c.product, (c.equation, tt))))))
 
   assoc_y : (P Q R : Point) → IsPoint p d P → IsPoint p d Q → IsPoint p d R
-      → Alike p (times p (h_of p (sum P Q) R) (f_of p twice_of P (sum Q R))) (times p (h_of p P (sum Q R)) (f_of p twice_of (sum P Q) R))
+      → Alike p (times p (h_of p (sum P Q) R) (f_of p twice_of P (sum Q R)))
+          (times p (h_of p P (sum Q R)) (f_of p twice_of (sum P Q) R))
   unfolding sum_of products value
   assoc_y P Q R a b c =
       follows p positive I.assoc_y_left I.assoc_y_right I.assoc_y_lines (env P Q R d 0) I.assoc_y
       (a.product, (a.equation, (b.product, (b.equation, (c.product, (c.equation, tt))))))
 
-  pub associative : (P Q R : Point) → IsPoint p d P → IsPoint p d Q → IsPoint p d R → AreSame p (sum (sum P Q) R) (sum P (sum Q R))
+  pub associative : (P Q R : Point) → IsPoint p d P → IsPoint p d Q → IsPoint p d R
+      → AreSame p (sum (sum P Q) R) (sum P (sum Q R))
   unfolding sum_of
   associative P Q R a b c = same_products _ _ _ _ _ _ _ _ (assoc_x P Q R a b c) (assoc_y P Q R a b c)
 
   swapped_e : (P Q : Point) → e_of p P Q ≡ e_of p Q P
   unfolding value
-  swapped_e P Q = exact_minus _ _ _ _ (follows p positive I.swap_e_left I.swap_e_right I.swap_e_lines (env P Q nil d 0) I.swap_e tt)
+  swapped_e P Q = exact_minus _ _ _ _ (follows p positive I.swap_e_left I.swap_e_right I.swap_e_lines
+      (env P Q nil d 0) I.swap_e tt)
 
   swapped_f : (P Q : Point) → f_of p twice_of P Q ≡ f_of p twice_of Q P
   unfolding value
-  swapped_f P Q = exact_minus _ _ _ _ (follows p positive I.swap_f_left I.swap_f_right I.swap_f_lines (env P Q nil d 0) I.swap_f tt)
+  swapped_f P Q = exact_minus _ _ _ _ (follows p positive I.swap_f_left I.swap_f_right I.swap_f_lines
+      (env P Q nil d 0) I.swap_f tt)
 
   swapped_g : (P Q : Point) → g_of p twice_of P Q ≡ g_of p twice_of Q P
   unfolding value
-  swapped_g P Q = exact_plus _ _ _ _ (follows p positive I.swap_g_left I.swap_g_right I.swap_g_lines (env P Q nil d 0) I.swap_g tt)
+  swapped_g P Q = exact_plus _ _ _ _ (follows p positive I.swap_g_left I.swap_g_right I.swap_g_lines
+      (env P Q nil d 0) I.swap_g tt)
 
   swapped_h : (P Q : Point) → h_of p P Q ≡ h_of p Q P
   unfolding value
-  swapped_h P Q = exact_plus _ _ _ _ (follows p positive I.swap_h_left I.swap_h_right I.swap_h_lines (env P Q nil d 0) I.swap_h tt)
+  swapped_h P Q = exact_plus _ _ _ _ (follows p positive I.swap_h_left I.swap_h_right I.swap_h_lines
+      (env P Q nil d 0) I.swap_h tt)
 
   -- the very same numbers
   pub commutative : (P Q : Point) → sum P Q ≡ sum Q P
@@ -134,15 +143,19 @@ module _ (p d : ℕ) (field : IsField p) where
   pub neutral_right : (P : Point) → AreSame p (sum P neutral) P
   unfolding sum_of products neutral value
   neutral_right P = record {
-    x = exact_times _ _ _ _ (follows p positive I.neutral_x_left I.neutral_x_right I.neutral_x_lines (env P nil nil d 0) I.neutral_x tt);
-    y = exact_times _ _ _ _ (follows p positive I.neutral_y_left I.neutral_y_right I.neutral_y_lines (env P nil nil d 0) I.neutral_y tt);
+    x = exact_times _ _ _ _ (follows p positive I.neutral_x_left I.neutral_x_right I.neutral_x_lines
+        (env P nil nil d 0) I.neutral_x tt);
+    y = exact_times _ _ _ _ (follows p positive I.neutral_y_left I.neutral_y_right I.neutral_y_lines
+        (env P nil nil d 0) I.neutral_y tt);
   }
 
   pub inverse_right : (P : Point) → IsPoint p d P → AreSame p (sum P (negative_of p P)) neutral
   unfolding sum_of products neutral negative_of value
   inverse_right P a = record {
-    x = exact_times _ _ _ _ (follows p positive I.inverse_x_left I.inverse_x_right I.inverse_x_lines (env P nil nil d 0) I.inverse_x tt);
-    y = exact_times _ _ _ _ (follows p positive I.inverse_y_left I.inverse_y_right I.inverse_y_lines (env P nil nil d 0) I.inverse_y (a.product, (a.equation, tt)));
+    x = exact_times _ _ _ _ (follows p positive I.inverse_x_left I.inverse_x_right I.inverse_x_lines
+        (env P nil nil d 0) I.inverse_x tt);
+    y = exact_times _ _ _ _ (follows p positive I.inverse_y_left I.inverse_y_right I.inverse_y_lines
+        (env P nil nil d 0) I.inverse_y (a.product, (a.equation, tt)));
   }
 
   one-apart : Alike p 1 0 → ⊥
@@ -157,15 +170,18 @@ module _ (p d : ℕ) (field : IsField p) where
   IsPoint-neutral = record {
     finite = one-apart;
     product = refl;
-    equation = follows p positive I.neutral_equation_left I.neutral_equation_right I.neutral_equation_lines (env nil nil nil d 0) I.neutral_equation tt;
+    equation = follows p positive I.neutral_equation_left I.neutral_equation_right I.neutral_equation_lines
+        (env nil nil nil d 0) I.neutral_equation tt;
   }
 
   pub IsPoint-negative : (P : Point) → IsPoint p d P → IsPoint p d (negative_of p P)
   unfolding negative_of value
   IsPoint-negative P a = record {
     finite = a.finite;
-    product = follows p positive I.inverse_product_left I.inverse_product_right I.inverse_product_lines (env P nil nil d 0) I.inverse_product (a.product, (a.equation, tt));
-    equation = follows p positive I.inverse_equation_left I.inverse_equation_right I.inverse_equation_lines (env P nil nil d 0) I.inverse_equation (a.product, (a.equation, tt));
+    product = follows p positive I.inverse_product_left I.inverse_product_right I.inverse_product_lines
+        (env P nil nil d 0) I.inverse_product (a.product, (a.equation, tt));
+    equation = follows p positive I.inverse_equation_left I.inverse_equation_right I.inverse_equation_lines
+        (env P nil nil d 0) I.inverse_equation (a.product, (a.equation, tt));
   }
 
   pub AreSame-refl : (P : Point) → AreSame p P P
@@ -174,12 +190,14 @@ module _ (p d : ℕ) (field : IsField p) where
   pub AreSame-sym : (P Q : Point) → AreSame p P Q → AreSame p Q P
   AreSame-sym P Q s = record { x = sym s.x; y = sym s.y }
 
-  along : (x1 z1 x2 z2 x3 z3 : ℕ) → (Alike p z2 0 → ⊥) → times p x1 z2 ≡ times p x2 z1 → times p x2 z3 ≡ times p x3 z2 → times p x1 z3 ≡ times p x3 z1
+  along : (x1 z1 x2 z2 x3 z3 : ℕ) → (Alike p z2 0 → ⊥) → times p x1 z2 ≡ times p x2 z1 → times p x2 z3 ≡ times p x3 z2
+      → times p x1 z3 ≡ times p x3 z1
   unfolding value
   along x1 z1 x2 z2 x3 z3 n e f =
       exact_times _ _ _ _
       (cancel z2 (times p x1 z3) (times p x3 z1) n
-      (follows p positive I.along_left I.along_right I.along_lines (env (four x1 0 z1 0) (four x2 0 z2 0) (four x3 0 z3 0) d 0) I.along
+      (follows p positive I.along_left I.along_right I.along_lines
+          (env (four x1 0 z1 0) (four x2 0 z2 0) (four x3 0 z3 0) d 0) I.along
       (alike _ _ e, (alike _ _ f, tt))))
 
   pub AreSame-trans : (P Q R : Point) → IsPoint p d Q → AreSame p P Q → AreSame p Q R → AreSame p P R
@@ -221,7 +239,8 @@ module _ (p d : ℕ) (field : IsField p) where
   pub same_negative : (P Q : Point) → AreSame p P Q → AreSame p (negative_of p P) (negative_of p Q)
   unfolding negative_of value
   same_negative P Q s = record {
-    x = exact_times _ _ _ _ (follows p positive I.inverse_same_x_left I.inverse_same_x_right I.inverse_same_x_lines (env P Q nil d 0) I.inverse_same_x (alike _ _ s.x, tt));
+    x = exact_times _ _ _ _ (follows p positive I.inverse_same_x_left I.inverse_same_x_right I.inverse_same_x_lines
+        (env P Q nil d 0) I.inverse_same_x (alike _ _ s.x, tt));
     y = s.y;
   }
 
@@ -234,15 +253,19 @@ module _ (p d : ℕ) (field : IsField p) where
     unfolding value
     f-apart P Q a b w =
         let v : ℕ → ℕ = env P Q nil d curve.root in
-        let one = curve.nonsquare _ _ (follows p positive I.complete_plus_one_left I.complete_plus_one_right I.complete_plus_one_lines v I.complete_plus_one
+        let one = curve.nonsquare _ _ (follows p positive I.complete_plus_one_left I.complete_plus_one_right
+            I.complete_plus_one_lines v I.complete_plus_one
         (a.product, (a.equation, (b.product, (b.equation, (curve.root_is, (w, tt))))))) in
-        let other = curve.nonsquare _ _ (follows p positive I.complete_plus_other_left I.complete_plus_other_right I.complete_plus_other_lines v I.complete_plus_other
+        let other = curve.nonsquare _ _ (follows p positive I.complete_plus_other_left I.complete_plus_other_right
+            I.complete_plus_other_lines v I.complete_plus_other
         (a.product, (a.equation, (b.product, (b.equation, (curve.root_is, (w, tt))))))) in
         let first : Alike p P.t 0 → ⊥ = λ t. apart_times 2 (times p P.z Q.z) field.two (apart_times P.z Q.z a.finite b.finite)
         (follows p positive I.first_plus_left I.first_plus_right I.first_plus_lines v I.first_plus (t, (w, tt))) in
         let second : Alike p (plus p (times p curve.root Q.x) Q.y) 0 → Alike p (minus p (times p curve.root Q.x) Q.y) 0 → ⊥ =
-        λ s t. apart_times 8 (times p P.z (times p Q.z Q.z)) eight (apart_times P.z (times p Q.z Q.z) a.finite (apart_times Q.z Q.z b.finite b.finite))
-        (follows p positive I.second_plus_left I.second_plus_right I.second_plus_lines v I.second_plus (b.product, (curve.root_is, (w, (s, (t, tt)))))) in
+        λ s t. apart_times 8 (times p P.z (times p Q.z Q.z)) eight
+            (apart_times P.z (times p Q.z Q.z) a.finite (apart_times Q.z Q.z b.finite b.finite))
+        (follows p positive I.second_plus_left I.second_plus_right I.second_plus_lines v I.second_plus (b.product,
+            (curve.root_is, (w, (s, (t, tt)))))) in
         elim (either P.t _ one) [
           | inl t ↦ first t
           | inr s ↦ elim (either P.t _ other) [ inl t ↦ first t | inr t ↦ second s t ]
@@ -252,15 +275,19 @@ module _ (p d : ℕ) (field : IsField p) where
     unfolding value
     g-apart P Q a b w =
         let v : ℕ → ℕ = env P Q nil d curve.root in
-        let one = curve.nonsquare _ _ (follows p positive I.complete_minus_one_left I.complete_minus_one_right I.complete_minus_one_lines v I.complete_minus_one
+        let one = curve.nonsquare _ _ (follows p positive I.complete_minus_one_left I.complete_minus_one_right
+            I.complete_minus_one_lines v I.complete_minus_one
         (a.product, (a.equation, (b.product, (b.equation, (curve.root_is, (w, tt))))))) in
-        let other = curve.nonsquare _ _ (follows p positive I.complete_minus_other_left I.complete_minus_other_right I.complete_minus_other_lines v I.complete_minus_other
+        let other = curve.nonsquare _ _ (follows p positive I.complete_minus_other_left I.complete_minus_other_right
+            I.complete_minus_other_lines v I.complete_minus_other
         (a.product, (a.equation, (b.product, (b.equation, (curve.root_is, (w, tt))))))) in
         let first : Alike p P.t 0 → ⊥ = λ t. apart_times 2 (times p P.z Q.z) field.two (apart_times P.z Q.z a.finite b.finite)
         (follows p positive I.first_minus_left I.first_minus_right I.first_minus_lines v I.first_minus (t, (w, tt))) in
         let second : Alike p (plus p (times p curve.root Q.x) Q.y) 0 → Alike p (minus p (times p curve.root Q.x) Q.y) 0 → ⊥ =
-        λ s t. apart_times 8 (times p P.z (times p Q.z Q.z)) eight (apart_times P.z (times p Q.z Q.z) a.finite (apart_times Q.z Q.z b.finite b.finite))
-        (follows p positive I.second_minus_left I.second_minus_right I.second_minus_lines v I.second_minus (b.product, (curve.root_is, (w, (s, (t, tt)))))) in
+        λ s t. apart_times 8 (times p P.z (times p Q.z Q.z)) eight
+            (apart_times P.z (times p Q.z Q.z) a.finite (apart_times Q.z Q.z b.finite b.finite))
+        (follows p positive I.second_minus_left I.second_minus_right I.second_minus_lines v I.second_minus (b.product,
+            (curve.root_is, (w, (s, (t, tt)))))) in
         elim (either P.t _ one) [
           | inl t ↦ first t
           | inr s ↦ elim (either P.t _ other) [ inl t ↦ first t | inr t ↦ second s t ]
@@ -270,8 +297,10 @@ module _ (p d : ℕ) (field : IsField p) where
     unfolding sum_of products value
     IsPoint-sum P Q a b = record {
       finite = apart_times (f_of p twice_of P Q) (g_of p twice_of P Q) (f-apart P Q a b) (g-apart P Q a b);
-      product = follows p positive I.sum_product_left I.sum_product_right I.sum_product_lines (env P Q nil d 0) I.sum_product tt;
-      equation = follows p positive I.sum_equation_left I.sum_equation_right I.sum_equation_lines (env P Q nil d 0) I.sum_equation
+      product = follows p positive I.sum_product_left I.sum_product_right I.sum_product_lines
+          (env P Q nil d 0) I.sum_product tt;
+      equation = follows p positive I.sum_equation_left I.sum_equation_right I.sum_equation_lines
+          (env P Q nil d 0) I.sum_equation
           (a.product, (a.equation, (b.product, (b.equation, tt))));
     }
 
@@ -279,15 +308,21 @@ module _ (p d : ℕ) (field : IsField p) where
     unfolding sum_of double_of value
     double_same P a =
         same_products _ _ _ _ _ _ _ _
-        (follows p positive I.double_x_left I.double_x_right I.double_x_lines (env P nil nil d 0) I.double_x (a.product, (a.equation, tt)))
-        (follows p positive I.double_y_left I.double_y_right I.double_y_lines (env P nil nil d 0) I.double_y (a.product, (a.equation, tt)))
+        (follows p positive I.double_x_left I.double_x_right I.double_x_lines (env P nil nil d 0) I.double_x (a.product,
+            (a.equation, tt)))
+        (follows p positive I.double_y_left I.double_y_right I.double_y_lines (env P nil nil d 0) I.double_y (a.product,
+            (a.equation, tt)))
 
     pub IsPoint-double : (P : Point) → IsPoint p d P → IsPoint p d (double_of p P)
     unfolding double_of products value
     IsPoint-double P a = record {
       finite = apart_times _ _
-          (λ h. f-apart P P a a (follows p positive I.double_f_none_left I.double_f_none_right I.double_f_none_lines (env P nil nil d 0) I.double_f_none (a.product, (a.equation, (h, tt)))))
-          (λ h. g-apart P P a a (follows p positive I.double_g_none_left I.double_g_none_right I.double_g_none_lines (env P nil nil d 0) I.double_g_none (a.product, (a.equation, (h, tt)))));
-      product = follows p positive I.double_product_left I.double_product_right I.double_product_lines (env P nil nil d 0) I.double_product tt;
-      equation = follows p positive I.double_equation_left I.double_equation_right I.double_equation_lines (env P nil nil d 0) I.double_equation (a.product, (a.equation, tt));
+          (λ h. f-apart P P a a (follows p positive I.double_f_none_left I.double_f_none_right I.double_f_none_lines
+              (env P nil nil d 0) I.double_f_none (a.product, (a.equation, (h, tt)))))
+          (λ h. g-apart P P a a (follows p positive I.double_g_none_left I.double_g_none_right I.double_g_none_lines
+              (env P nil nil d 0) I.double_g_none (a.product, (a.equation, (h, tt)))));
+      product = follows p positive I.double_product_left I.double_product_right I.double_product_lines
+          (env P nil nil d 0) I.double_product tt;
+      equation = follows p positive I.double_equation_left I.double_equation_right I.double_equation_lines
+          (env P nil nil d 0) I.double_equation (a.product, (a.equation, tt));
     }

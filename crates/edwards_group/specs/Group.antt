@@ -52,7 +52,8 @@ pub record IsGroup (p d : ℕ) : Type 0 where
   pub same_reflexive : (P : Point) → AreSame p P P
   pub same_symmetric : (P Q : Point) → AreSame p P Q → AreSame p Q P
   pub same_transitive : (P Q R : Point) → IsPoint p d Q → AreSame p P Q → AreSame p Q R → AreSame p P R
-  pub sum_respects : (P Q R : Point) → IsPoint p d P → IsPoint p d Q → AreSame p P Q → AreSame p (sum_on p d P R) (sum_on p d Q R)
+  pub sum_respects : (P Q R : Point) → IsPoint p d P → IsPoint p d Q → AreSame p P Q
+      → AreSame p (sum_on p d P R) (sum_on p d Q R)
   pub negative_respects : (P Q : Point) → AreSame p P Q → AreSame p (negative_of p P) (negative_of p Q)
   -- the laws
   pub associative : (P Q R : Point) → IsPoint p d P → IsPoint p d Q → IsPoint p d R
@@ -64,7 +65,9 @@ pub record IsGroup (p d : ℕ) : Type 0 where
   -- multiples are repeated sums, and add
   pub multiple_same : (P : Point) (count n : ℕ) → IsPoint p d P → n < 2 ^ count
       → AreSame p (multiple_of p (times p 2 d) count n P) (repeat_on p d n P)
-  pub repeat_plus : (P : Point) (i j : ℕ) → IsPoint p d P → AreSame p (repeat_on p d (i + j) P) (sum_on p d (repeat_on p d i P) (repeat_on p d j P))
-  pub repeat_times : (P : Point) (i j : ℕ) → IsPoint p d P → AreSame p (repeat_on p d (i * j) P) (repeat_on p d i (repeat_on p d j P))
+  pub repeat_plus : (P : Point) (i j : ℕ) → IsPoint p d P
+      → AreSame p (repeat_on p d (i + j) P) (sum_on p d (repeat_on p d i P) (repeat_on p d j P))
+  pub repeat_times : (P : Point) (i j : ℕ) → IsPoint p d P
+      → AreSame p (repeat_on p d (i * j) P) (repeat_on p d i (repeat_on p d j P))
   pub repeat_sum : (P Q : Point) (n : ℕ) → IsPoint p d P → IsPoint p d Q
       → AreSame p (repeat_on p d n (sum_on p d P Q)) (sum_on p d (repeat_on p d n P) (repeat_on p d n Q))

@@ -22,11 +22,13 @@ module _ {T : Type 0} (text : List ℕ) (keys : KeySource) (o : Options) (refusa
   at_moment n = verifying_call (Compact text) keys o n refusal accepts reads
 
   module _ (reads_value : are_in value_tests order ≡ true) where
-    read_of : (n : ℕ) (t : Contents) → Passes (token_tests (at_moment n)) order t → Passes (token_tests (header_call text)) value_tests t
+    read_of : (n : ℕ) (t : Contents) → Passes (token_tests (at_moment n)) order t
+        → Passes (token_tests (header_call text)) value_tests t
     read_of n t p = among (at_moment n) value_tests order t reads_value p
 
     -- no contents pass if the payload is no JSON
-    pub none_read : (c : Test) → IsFirstFailed (token_tests (header_call text)) value_tests c → (n : ℕ) → n ≤ end_of_time → ¬ IsAcceptedAt (at_moment 0) order n
+    pub none_read : (c : Test) → IsFirstFailed (token_tests (header_call text)) value_tests c → (n : ℕ)
+        → n ≤ end_of_time → ¬ IsAcceptedAt (at_moment 0) order n
     none_read c f n le a = not_passed (token_tests (header_call text)) value_tests c f a.0 (read_of n a.0 a.1)
 
     module _ (has : HasMoments (at_moment 0) order) (x : Contents) (p : Passes (token_tests (header_call text)) value_tests x)
@@ -46,9 +48,11 @@ module _ {T : Type 0} (text : List ℕ) (keys : KeySource) (o : Options) (refusa
             (w, (subst (λ f. f ≤ n) (sym same_first) w.from, subst (λ l. n ≤ l) (sym same_last) w.until))
 
         -- at these moments too
-        moved : (k : ℕ) → n ≤ end_of_time → k ≤ end_of_time → m.first ≤ k → k ≤ m.last → Passes (token_tests (at_moment k)) order t
+        moved : (k : ℕ) → n ≤ end_of_time → k ≤ end_of_time → m.first ≤ k → k ≤ m.last
+            → Passes (token_tests (at_moment k)) order t
         moved k le fit lo hi = let w = (has t n le).0 q in
-            (has t k fit).1 (record { base = w.base; rules = w.rules; from = subst (λ f. f ≤ k) same_first lo; until = subst (λ l. k ≤ l) same_last hi })
+            (has t k fit).1 (record { base = w.base; rules = w.rules; from = subst (λ f. f ≤ k) same_first lo;
+                until = subst (λ l. k ≤ l) same_last hi })
 
       -- the claims' moments, if contents pass at the first of them
       pub all_claimed : IsAcceptedAt (at_moment 0) order m.first → AreAcceptedMoments (at_moment 0) order m
@@ -58,7 +62,8 @@ module _ {T : Type 0} (text : List ℕ) (keys : KeySource) (o : Options) (refusa
       }
 
       -- no moment, if none pass at the first of them
-      pub none_claimed : (c : Test) → IsFirstFailed (token_tests (at_moment m.first)) order c → (n : ℕ) → n ≤ end_of_time → ¬ IsAcceptedAt (at_moment 0) order n
+      pub none_claimed : (c : Test) → IsFirstFailed (token_tests (at_moment m.first)) order c → (n : ℕ)
+          → n ≤ end_of_time → ¬ IsAcceptedAt (at_moment 0) order n
       none_claimed c f n le b =
           let w = (within n b.0 b.1 le).1 in
           let last : m.first ≤ m.last = omega (arith, w.0, w.1) in

@@ -1,5 +1,6 @@
 -- A part is ASCII, and so is the message that is signed.
-use Rattle.std.proofs.Common.{◌≡◌, refl, ℕ, ◌<◌, ◌/◌, ◌%◌, ◌*◌, ◌+◌, zero, suc, List, [], ◌∷◌, Bool, true, false, ◌&&◌, slice_index, arith}
+use Rattle.std.proofs.Common.{◌≡◌, refl, ℕ, ◌<◌, ◌/◌, ◌%◌, ◌*◌, ◌+◌, zero, suc, List, [], ◌∷◌, Bool, true, false, ◌&&◌}
+use Rattle.std.proofs.Common.{slice_index, arith}
 use Rattle.std.specs.Prelude.{All, ltb}
 use Rattle.std.specs.List.{list_all}
 use Rattle.std.specs.Str.{IsAscii}
@@ -19,7 +20,8 @@ both false y e = absurd (false≢true e)
 
 all_small : (xs : List ℕ) → list_all (λ b. ltb b 128) xs ≡ true → All (λ b. b < 128) xs
 all_small [] e = All-nil (λ b. b < 128)
-all_small (x ∷ xs) e = let p = both (ltb x 128) (list_all (λ b. ltb b 128) xs) e in All-cons (λ b. b < 128) x xs (ltb-true x 128 p.0) (all_small xs p.1)
+all_small (x ∷ xs) e = let p = both (ltb x 128) (list_all (λ b. ltb b 128) xs) e in
+    All-cons (λ b. b < 128) x xs (ltb-true x 128 p.0) (all_small xs p.1)
 
 pub ascii : (xs : List ℕ) → list_all (λ b. ltb b 128) xs ≡ true → IsAscii xs
 ascii xs e = IsAscii-from_all xs (all_small xs e)

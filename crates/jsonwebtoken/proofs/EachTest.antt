@@ -1,6 +1,8 @@
 -- The lemmas by cases on the tests of a token: contents that pass the same tests are the same, as
 -- far as these tests know them; contents that pass do so under looser options and with more keys.
-use Rattle.std.proofs.Common.{◌≡◌, ℕ, List, [], ◌∷◌, ◌++◌, Bool, true, false, ◌&&◌, ◌||◌, Some, slice_get, refl, sym, ◌∙◌, inl, inr, ◌⊎◌, Result, Ok, Err, IfOk, IfErr, Contains, IfSome, Option, None, find, option_and_then, arith, subst}
+use Rattle.std.proofs.Common.{◌≡◌, ℕ, List, [], ◌∷◌, ◌++◌, Bool, true, false, ◌&&◌, ◌||◌, Some, slice_get, refl, sym}
+use Rattle.std.proofs.Common.{◌∙◌, inl, inr, ◌⊎◌, Result, Ok, Err, IfOk, IfErr, Contains, IfSome, Option, None, find}
+use Rattle.std.proofs.Common.{option_and_then, arith, subst}
 use Rattle.std.specs.Prelude.{MatchResult}
 use Rattle.serde_json.specs.Data.{Data, Members}
 use Rattle.jwt_base.proofs.Parts.{one_part, one_json}
@@ -10,7 +12,12 @@ use Rattle.jsonwebtoken.specs.Order.{IsFirstFailed, Passes}
 use Rattle.jsonwebtoken.specs.Refused.{IsRefusal, DecidesByTest}
 use Rattle.jsonwebtoken.specs.declared.refusal.Refusal.{Refusal}
 use Rattle.jsonwebtoken.proofs.Engine.{not_passed}
-use Rattle.jsonwebtoken.specs.Tests.{Call, Given, Test, HasThreeParts, HeaderIsPart, HeaderIsJson, HeaderReads, CritIsUnderstood, KeyIsFound, KeyAlgorithmAgrees, KeyIsUsable, AlgorithmsAreListed, AlgorithmIsListed, VerifierIsMade, FamiliesAgree, SignatureIsPart, SignatureIsAccepted, PayloadIsPart, PayloadIsJson, ClaimsRead, ClaimsAreAnObject, ClaimRulesHold, Contents, Condition, HasKind, InSet, set_order, KeySource, key_of, message_of, token_tests}
+use Rattle.jsonwebtoken.specs.Tests.{Call, Given, Test, HasThreeParts, HeaderIsPart, HeaderIsJson, HeaderReads}
+use Rattle.jsonwebtoken.specs.Tests.{CritIsUnderstood, KeyIsFound, KeyAlgorithmAgrees, KeyIsUsable, AlgorithmsAreListed}
+use Rattle.jsonwebtoken.specs.Tests.{AlgorithmIsListed, VerifierIsMade, FamiliesAgree, SignatureIsPart}
+use Rattle.jsonwebtoken.specs.Tests.{SignatureIsAccepted, PayloadIsPart, PayloadIsJson, ClaimsRead, ClaimsAreAnObject}
+use Rattle.jsonwebtoken.specs.Tests.{ClaimRulesHold, Contents, Condition, HasKind, InSet, set_order, KeySource, key_of}
+use Rattle.jsonwebtoken.specs.Tests.{message_of, token_tests}
 use Rattle.jsonwebtoken.specs.private_clauses.Steps.{Failed, FailsAt, Step, whole}
 use Rattle.jwt_header.specs.declared.header.Header.{Header}
 use Rattle.jsonwebtoken.proofs.Engine as engine
@@ -30,8 +37,10 @@ use Rattle.jwt_validation.specs.Options.{Options, Texts}
 use Rattle.jsonwebtoken.specs.Crit.{IsUnderstoodName, IsUnderstoodList}
 
 abbrev every_test : List Test
-every_test = HasThreeParts ∷ HeaderIsPart ∷ HeaderIsJson ∷ HeaderReads ∷ CritIsUnderstood ∷ KeyIsFound ∷ KeyAlgorithmAgrees ∷ KeyIsUsable
-    ∷ AlgorithmsAreListed ∷ AlgorithmIsListed ∷ VerifierIsMade ∷ FamiliesAgree ∷ SignatureIsPart ∷ SignatureIsAccepted ∷ PayloadIsPart ∷ PayloadIsJson ∷ ClaimsRead ∷ ClaimsAreAnObject ∷ ClaimRulesHold ∷ []
+every_test = HasThreeParts ∷ HeaderIsPart ∷ HeaderIsJson ∷ HeaderReads ∷ CritIsUnderstood ∷ KeyIsFound
+    ∷ KeyAlgorithmAgrees ∷ KeyIsUsable
+    ∷ AlgorithmsAreListed ∷ AlgorithmIsListed ∷ VerifierIsMade ∷ FamiliesAgree ∷ SignatureIsPart ∷ SignatureIsAccepted
+        ∷ PayloadIsPart ∷ PayloadIsJson ∷ ClaimsRead ∷ ClaimsAreAnObject ∷ ClaimRulesHold ∷ []
 
 abbrev pub number : Test → ℕ
 number HasThreeParts = 0
@@ -150,7 +159,8 @@ parts_first b e =
     let w = (engine.both_true (bytes_known b) (is_in HeaderIsJson b) v).0 in
     (engine.both_true (parts_known b) (is_in HeaderIsPart b) w).0
 
-same_key_of : (keys : KeySource) (known : Bool) (j k : Key) → (is_given keys || known) ≡ true → (known ≡ true → j ≡ k) → key_of keys j ≡ key_of keys k
+same_key_of : (keys : KeySource) (known : Bool) (j k : Key) → (is_given keys || known) ≡ true → (known ≡ true → j ≡ k)
+    → key_of keys j ≡ key_of keys k
 same_key_of (Given given) known j k e same = refl
 same_key_of (InSet ks) known j k e same = same e
 
@@ -159,10 +169,12 @@ module _ {T : Type 0} (call : Call T) where
   met = engine.holds_of number (token_tests call) every_test at_number
 
   -- in whatever order they stand
-  pub among : (a b : List Test) (t : Contents) → are_in a b ≡ true → Passes (token_tests call) b t → Passes (token_tests call) a t
+  pub among : (a b : List Test) (t : Contents) → are_in a b ≡ true → Passes (token_tests call) b t
+      → Passes (token_tests call) a t
   among = engine.among number (token_tests call) every_test at_number
 
-  pub join : (a b : List Test) (t : Contents) → Passes (token_tests call) a t → Passes (token_tests call) b t → Passes (token_tests call) (a ++ b) t
+  pub join : (a b : List Test) (t : Contents) → Passes (token_tests call) a t → Passes (token_tests call) b t
+      → Passes (token_tests call) (a ++ b) t
   join = engine.join (token_tests call)
 
   module _ (b : List Test) (t s : Contents) (p : Passes (token_tests call) b t) (q : Passes (token_tests call) b s) where
@@ -213,11 +225,13 @@ module _ {T : Type 0} (call : Call T) where
     fails_for_these HeaderReads e none h = none s.header (rw (same_value e) h)
     fails_for_these CritIsUnderstood e none h = none (rw (same_header e) h)
     fails_for_these KeyIsFound e none h = none s.jwk (rw (same_header e) h)
-    fails_for_these KeyAlgorithmAgrees e none h = let k = engine.both_true (header_known b) (jwk_known b) e in none (rw (same_header k.0, same_jwk k.1) h)
+    fails_for_these KeyAlgorithmAgrees e none h = let k = engine.both_true (header_known b) (jwk_known b) e in
+        none (rw (same_header k.0, same_jwk k.1) h)
     fails_for_these KeyIsUsable e none h = none s.jwk_key (rw (same_jwk e) h)
     fails_for_these AlgorithmsAreListed e none h = none h
     fails_for_these AlgorithmIsListed e none h = none (rw (same_header e) h)
-    fails_for_these VerifierIsMade e none h = let k = engine.both_true (header_known b) (key_known (is_given call.keys) b) e in none (rw (same_header k.0, same_key k.1) h)
+    fails_for_these VerifierIsMade e none h = let k =
+        engine.both_true (header_known b) (key_known (is_given call.keys) b) e in none (rw (same_header k.0, same_key k.1) h)
     fails_for_these FamiliesAgree e none h = none (rw (same_header e) h)
     fails_for_these SignatureIsPart e none h = none s.signature_bytes (rw (same_parts e) h)
     fails_for_these SignatureIsAccepted e none h =
@@ -231,47 +245,57 @@ module _ {T : Type 0} (call : Call T) where
     fails_for_these ClaimsAreAnObject e none h = none (rw (same_claims e) h)
     fails_for_these ClaimRulesHold e none h = none (rw (same_claims e) h)
 
-  fails_for : (b : List Test) (t s : Contents) → Passes (token_tests call) b t → Passes (token_tests call) b s → (c : Test) → ready (is_given call.keys) c b ≡ true → FailsAt call c t → Condition call c s → ⊥
+  fails_for : (b : List Test) (t s : Contents) → Passes (token_tests call) b t → Passes (token_tests call) b s
+      → (c : Test) → ready (is_given call.keys) c b ≡ true → FailsAt call c t → Condition call c s → ⊥
   fails_for b t s p q = fails_for_these b t s p q
 
-  pub failed_by : (order : List Test) → is_sound (is_given call.keys) order ≡ true → (t : Contents) (f : Test) (k : Kind) → Failed call order t f k
+  pub failed_by : (order : List Test) → is_sound (is_given call.keys) order ≡ true
+      → (t : Contents) (f : Test) (k : Kind) → Failed call order t f k
       → (first : IsFirstFailed (token_tests call) order f) × HasKind call f first.contents k
   failed_by = engine.failed_by (token_tests call) (FailsAt call) (ready (is_given call.keys)) fails_for
 
   -- a result of an order, as the clauses describe it
-  module _ {R : Type 0} (order : List Test) (sound : is_sound (is_given call.keys) order ≡ true) (shows : Contents → R → Type 0) where
-    refusal_of : (f : Refusal) → (x : Contents) × Failed call order x f.test (kind_of f.error) → IsRefusal (token_tests call) order f
+  module _ {R : Type 0} (order : List Test) (sound : is_sound (is_given call.keys) order ≡ true) (shows : Contents → R
+      → Type 0) where
+    refusal_of : (f : Refusal) → (x : Contents) × Failed call order x f.test (kind_of f.error)
+        → IsRefusal (token_tests call) order f
     refusal_of f s = let w = failed_by order sound s.0 f.test (kind_of f.error) s.1 in record { first = w.0; kind = w.1 }
 
-    accepted : (r : Result R Refusal) → Step call order whole shows r → IfOk r (λ y. (t : Contents) × Passes (token_tests call) order t × shows t y)
+    accepted : (r : Result R Refusal) → Step call order whole shows r
+        → IfOk r (λ y. (t : Contents) × Passes (token_tests call) order t × shows t y)
     accepted (Ok y) m = m
     accepted (Err f) m = tt
 
     exact : (r : Result R Refusal) → Step call order whole shows r
-        → ((s t : Contents) (y : R) → Passes (token_tests call) order s → Passes (token_tests call) order t → shows s y → shows t y)
+        → ((s t : Contents) (y : R) → Passes (token_tests call) order s → Passes (token_tests call) order t → shows s y
+            → shows t y)
         → (t : Contents) → Passes (token_tests call) order t → MatchResult r (λ y. shows t y) (λ f. IsMemory f.error)
     exact (Ok y) m same t p = same m.0 t y m.1 p m.2
     exact (Err f) (inl m) same t p = m
     exact (Err f) (inr s) same t p = absurd (not_passed (token_tests call) order f.test (refusal_of f s).first t p)
 
-    refused : (r : Result R Refusal) → Step call order whole shows r → IfErr r (λ f. IsMemory f.error ⊎ IsRefusal (token_tests call) order f)
+    refused : (r : Result R Refusal) → Step call order whole shows r
+        → IfErr r (λ f. IsMemory f.error ⊎ IsRefusal (token_tests call) order f)
     refused (Ok y) m = tt
     refused (Err f) (inl m) = inl m
     refused (Err f) (inr s) = inr (refusal_of f s)
 
     pub decides : (r : Result R Refusal) → Step call order whole shows r
-        → ((s t : Contents) (y : R) → Passes (token_tests call) order s → Passes (token_tests call) order t → shows s y → shows t y)
+        → ((s t : Contents) (y : R) → Passes (token_tests call) order s → Passes (token_tests call) order t → shows s y
+            → shows t y)
         → DecidesByTest (token_tests call) order shows r
     decides r m same = record { accepted = accepted r m; exact = exact r m same; refused = refused r m }
 
   -- the result does not depend on the contents
-  pub same_answer : (order : List Test) → header_known order ≡ true → claims_known order ≡ true → {X : Type 0} (header : X → Header) (claims : X → Data → Type 0)
+  pub same_answer : (order : List Test) → header_known order ≡ true → claims_known order ≡ true
+      → {X : Type 0} (header : X → Header) (claims : X → Data → Type 0)
       → (s t : Contents) (y : X) → Passes (token_tests call) order s → Passes (token_tests call) order t
       → (s.header ≡ header y) × claims y s.payload_value → (t.header ≡ header y) × claims y t.payload_value
   same_answer order h c header claims s t y p q a =
       (rw (← same_header order s t p q h) a.0, rw (← same_claims order s t p q c) a.1)
 
-pub each : {T : Type 0} (call other : Call T) (t : Contents) → ((c : Test) → Condition call c t → Condition other c t) → (order : List Test) → Passes (token_tests call) order t → Passes (token_tests other) order t
+pub each : {T : Type 0} (call other : Call T) (t : Contents) → ((c : Test) → Condition call c t → Condition other c t)
+    → (order : List Test) → Passes (token_tests call) order t → Passes (token_tests other) order t
 each call other t f [] p = tt
 each call other t f (c ∷ cs) p = (f c p.0, each call other t f cs p.1)
 
@@ -283,7 +307,8 @@ more_understood v w sub extras None u = tt
 more_understood v w sub extras (Some ns) u = record {
   some = u.some;
   once = u.once;
-  each = All-weaker (IsUnderstoodName extras v) (IsUnderstoodName extras w) (λ n h. record { extension = h.extension; present = h.present; known = sub n h.known }) ns u.each;
+  each = All-weaker (IsUnderstoodName extras v) (IsUnderstoodName extras w)
+      (λ n h. record { extension = h.extension; present = h.present; known = sub n h.known }) ns u.each;
 }
 
 none_in : (a : Algorithm) → Contains [] a → ⊥
@@ -303,7 +328,8 @@ module _ {T : Type 0} (call : Call T) (t : Contents) (w : Options) (l : Looser c
   looser_at HeaderIsPart h = h
   looser_at HeaderIsJson h = h
   looser_at HeaderReads h = h
-  looser_at CritIsUnderstood h = more_understood call.options.understood w.understood l.understood t.header.extras t.header.crit h
+  looser_at CritIsUnderstood h = more_understood call.options.understood w.understood l.understood t.header.extras
+      t.header.crit h
   looser_at KeyIsFound h = h
   looser_at KeyAlgorithmAgrees h = h
   looser_at KeyIsUsable h = h
@@ -311,7 +337,8 @@ module _ {T : Type 0} (call : Call T) (t : Contents) (w : Options) (l : Looser c
   looser_at AlgorithmIsListed h = l.keeps t.header.alg h
   looser_at VerifierIsMade h = h
   looser_at FamiliesAgree h = All-weaker (Contains w.algorithms) (λ a. family_of a ≡ family_of t.header.alg)
-      (λ a i. let f = l.families a i in sym f.2 ∙ All-contains (λ b. family_of b ≡ family_of t.header.alg) call.options.algorithms f.0 h f.1)
+      (λ a i. let f = l.families a i in sym f.2
+          ∙ All-contains (λ b. family_of b ≡ family_of t.header.alg) call.options.algorithms f.0 h f.1)
       w.algorithms (All-contains_itself w.algorithms)
   looser_at SignatureIsPart h = h
   looser_at SignatureIsAccepted h = h
@@ -322,7 +349,8 @@ module _ {T : Type 0} (call : Call T) (t : Contents) (w : Options) (l : Looser c
   looser_at ClaimRulesHold h = rules-looser call.options w t.payload_value call.now l h
 
   -- contents that pass under some options pass under looser ones
-  pub passes_looser : (order : List Test) → Passes (token_tests call) order t → Passes (token_tests (record call { options = w })) order t
+  pub passes_looser : (order : List Test) → Passes (token_tests call) order t
+      → Passes (token_tests (record call { options = w })) order t
   passes_looser order p = each call (record call { options = w }) t looser_at order p
 
 -- ---- more keys

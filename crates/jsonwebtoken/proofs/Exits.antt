@@ -1,5 +1,6 @@
 -- The exits by `?`, the last call, and a result with a test beside its error or without it.
-use Rattle.std.proofs.Common.{◌≡◌, Option, Some, None, sym, subst, ◌∙◌, ◌⊎◌, ⊎_elim, ◌↔◌, ℕ, List, [], ◌∷◌, ◌++◌, drop, length, ◌+◌, inl, inr, refl, Result, Ok, Err, IfOk, IfErr}
+use Rattle.std.proofs.Common.{◌≡◌, Option, Some, None, sym, subst, ◌∙◌, ◌⊎◌, ⊎_elim, ◌↔◌, ℕ, List, [], ◌∷◌, ◌++◌, drop}
+use Rattle.std.proofs.Common.{length, ◌+◌, inl, inr, refl, Result, Ok, Err, IfOk, IfErr}
 use Rattle.std.specs.Prelude.{IsErrAnd, IsOk, IsSome}
 use Rattle.std.specs.Result.{result_err}
 use Rattle.std.proofs.lemmas.Result.{err_from_is_err_and}
@@ -14,11 +15,13 @@ use Rattle.serde_json.specs.Find.{as_object}
 use Rattle.jsonwebtoken.specs.Calls.{Carries}
 use Rattle.jsonwebtoken.specs.Order.{Tests, Passes, Decides, FailsFirst, FindsFailed}
 use Rattle.jsonwebtoken.specs.Refused.{DecidesByTest, IsRefusal}
-use Rattle.jsonwebtoken.specs.Tests.{Call, Parts, HasParts, key_of, Test, ClaimsAreAnObject, ClaimRulesHold, Contents, header_tests, header_order, verifying_tests, token_tests}
+use Rattle.jsonwebtoken.specs.Tests.{Call, Parts, HasParts, key_of, Test, ClaimsAreAnObject, ClaimRulesHold, Contents}
+use Rattle.jsonwebtoken.specs.Tests.{header_tests, header_order, verifying_tests, token_tests}
 use Rattle.jsonwebtoken.specs.declared.refusal.Refusal.{Refusal}
 use Rattle.jsonwebtoken.specs.private_clauses.FailedAt.{StopsAt}
 use Rattle.jsonwebtoken.specs.private_clauses.Refused.{IsWithTest, IsWithoutTest, IsFailedTest, tested}
-use Rattle.jsonwebtoken.specs.private_clauses.Steps.{Meets, Finds, FailsAt, Step, Failed, bare, holding, no_contents, rule_tests, with_header_part, with_value, whole, verifying_by}
+use Rattle.jsonwebtoken.specs.private_clauses.Steps.{Meets, Finds, FailsAt, Step, Failed, bare, holding, no_contents}
+use Rattle.jsonwebtoken.specs.private_clauses.Steps.{rule_tests, with_header_part, with_value, whole, verifying_by}
 use Rattle.jsonwebtoken.proofs.Engine.{join}
 
 pub not_both : {K : Type 0} (r : Option K) (k : K) → r ≡ Some k → r ≡ None → ⊥
@@ -40,17 +43,21 @@ of_err : {R : Type 0} (Q : Error → Type 0) (r : Result R Error) (e : Error) �
 of_err {R = R} Q r e is q = let held : IfErr {T = R} (Err e) Q = rw is at q in held
 
 -- what holds of the value of a call holds of that of the call as a test
-pub of_made : {R : Type 0} (c : Test) (P : R → Type 0) (made : Result R Error) (r : Result R Refusal) → IsWithTest c made r → IfOk made P → IfOk r P
+pub of_made : {R : Type 0} (c : Test) (P : R → Type 0) (made : Result R Error) (r : Result R Refusal)
+    → IsWithTest c made r → IfOk made P → IfOk r P
 of_made c P made (Ok y) is ok = of_ok P made y is ok
 of_made c P made (Err f) is ok = tt
 
 -- a call that is refused for memory alone
-pub memory_of : {R : Type 0} (c : Test) (made : Result R Error) (f : Refusal) → IsWithTest c made (Err f) → IfErr made IsMemory → IsMemory f.error
+pub memory_of : {R : Type 0} (c : Test) (made : Result R Error) (f : Refusal) → IsWithTest c made (Err f)
+    → IfErr made IsMemory → IsMemory f.error
 memory_of c made f is err = of_err IsMemory made f.error is.1 err
 
 -- a call that looks for a value, as a test
-pub finds_value : {R : Type 0} {Q : Error → Type 0} (c : Test) (P : R → Type 0) (none : Type 0) (K : Kind → Type 0) (made : Result R Error) (r : Result R Refusal)
-    → IsWithTest c made r → IfOk made P → IfErr made (λ e. IsMemory e ⊎ Q e) → ((e : Error) → Q e → none × K (kind_of e)) → Finds c P none K r
+pub finds_value : {R : Type 0} {Q : Error → Type 0} (c : Test) (P : R → Type 0) (none : Type 0) (K : Kind → Type 0)
+    (made : Result R Error) (r : Result R Refusal)
+    → IsWithTest c made r → IfOk made P → IfErr made (λ e. IsMemory e ⊎ Q e)
+    → ((e : Error) → Q e → none × K (kind_of e)) → Finds c P none K r
 finds_value c P none K made (Ok y) is ok err f = of_ok P made y is ok
 finds_value {Q = Q} c P none K made (Err f) is ok err g =
     or_memory (λ q. let x = g f.error q in (x.0, (is.0, x.1))) (of_err (λ e. IsMemory e ⊎ Q e) made f.error is.1 err)
@@ -60,11 +67,14 @@ pub finds : {R : Type 0} (c : Test) (P : R → Type 0) (none : Type 0) (k : Kind
 finds c P none k made r is ok err = finds_value c P none (λ x. x ≡ k) made r is ok err (λ e x. (x.1, x.0))
 
 -- a decision without the test
-pub without : {C R : Type 0} (tests : Tests Test C) (order : List Test) (shows : C → R → Type 0) (q : Result R Refusal) (r : Result R Error)
+pub without : {C R : Type 0} (tests : Tests Test C) (order : List Test) (shows : C → R → Type 0) (q : Result R Refusal)
+    (r : Result R Error)
     → IsWithoutTest q r → DecidesByTest tests order shows q → Decides tests order shows r
-without tests order shows (Ok y) r is d = subst (Decides tests order shows) (sym is) (record { accepted = d.accepted; exact = d.exact; refused = tt })
+without tests order shows (Ok y) r is d =
+    subst (Decides tests order shows) (sym is) (record { accepted = d.accepted; exact = d.exact; refused = tt })
 without tests order shows (Err f) r is d =
-    let fails : IsRefusal tests order f → FailsFirst tests order (kind_of f.error) = λ x. record { failed = f.test; first = x.first; kind = x.kind } in
+    let fails : IsRefusal tests order f → FailsFirst tests order (kind_of f.error) =
+        λ x. record { failed = f.test; first = x.first; kind = x.kind } in
     subst (Decides tests order shows) (sym is) (record { accepted = tt; exact = d.exact; refused = or_memory fails d.refused })
 
 -- a decision without the test that was noted
@@ -79,7 +89,8 @@ noted t made (Ok y) is = rw is refl
 noted t made (Err f) is = rw (is.0, is.1) refl
 
 -- the test alone
-pub first_failed : {C R : Type 0} (tests : Tests Test C) (order : List Test) (shows : C → R → Type 0) (q : Result R Refusal) (r : Result (Option Test) Error)
+pub first_failed : {C R : Type 0} (tests : Tests Test C) (order : List Test) (shows : C → R → Type 0)
+    (q : Result R Refusal) (r : Result (Option Test) Error)
     → IsFailedTest (result_err q) r → DecidesByTest tests order shows q → FindsFailed tests order r
 first_failed tests order shows (Ok y) r is d = subst (FindsFailed tests order) (sym is) (d.accepted.0, d.accepted.1)
 first_failed tests order shows (Err f) r (inl m) d = subst (FindsFailed tests order) (sym m.1) m.0
@@ -96,7 +107,8 @@ not_memory f t (inr n) s = ⊎_elim (λ m. absurd (n.0 m)) (λ x. x) s
 -- an exit by `?`: memory ran out, or the fault fails a test of the order
 module _ {T R : Type 0} (call : Call T) (order : List Test) (at : Contents → Contents) (Shows : Contents → R → Type 0) where
   pub exit : {A : Type 0} (r : Result R Refusal) (f : Refusal) → IsErrAnd r (λ y. y ≡ f)
-      → (A → (x : Contents) × Failed call order (at x) f.test (kind_of f.error)) → IsMemory f.error ⊎ A → Step call order at Shows r
+      → (A → (x : Contents) × Failed call order (at x) f.test (kind_of f.error)) → IsMemory f.error ⊎ A
+      → Step call order at Shows r
   exit r f is g fault = let p = err_from_is_err_and r is in rw (p.1, p.2) (or_memory g fault)
 
   -- the same, if the test is noted beside the result
@@ -105,7 +117,8 @@ module _ {T R : Type 0} (call : Call T) (order : List Test) (at : Contents → C
   exit_noting t r e is g fault = let p = err_from_is_err_and r is in rw (p.1, p.2) (or_memory g fault)
 
   -- the result of a last call, if the test is noted beside it
-  pub last_noting : {P : R → Type 0} {Q : Error → Type 0} (t : Test) (r : Result R Error) → IfOk r P → IfErr r (λ e. IsMemory e ⊎ Q e)
+  pub last_noting : {P : R → Type 0} {Q : Error → Type 0} (t : Test) (r : Result R Error) → IfOk r P
+      → IfErr r (λ e. IsMemory e ⊎ Q e)
       → ((y : R) → P y → (x : Contents) × Passes (token_tests call) order (at x) × Shows x y)
       → ((e : Error) → Q e → (x : Contents) × Failed call order (at x) t (kind_of e)) → Step call order at Shows (tested t r)
   last_noting t (Ok y) ok err g h = g y ok
@@ -119,7 +132,8 @@ module _ {T R : Type 0} (call : Call T) (order : List Test) (at : Contents → C
   last (Err f) m g h = or_memory (λ q. h f.test (kind_of f.error) q) m
 
   -- a last call, with this test
-  pub last_test : {P : R → Type 0} {Q : Error → Type 0} (c : Test) (made : Result R Error) (r : Result R Refusal) → IsWithTest c made r
+  pub last_test : {P : R → Type 0} {Q : Error → Type 0} (c : Test) (made : Result R Error) (r : Result R Refusal)
+      → IsWithTest c made r
       → IfOk made P → IfErr made (λ e. IsMemory e ⊎ Q e)
       → ((y : R) → P y → (x : Contents) × Passes (token_tests call) order (at x) × Shows x y)
       → ((e : Error) → Q e → (x : Contents) × Failed call order (at x) c (kind_of e)) → Step call order at Shows r
@@ -130,12 +144,14 @@ module _ {T R : Type 0} (call : Call T) (order : List Test) (at : Contents → C
 
 module _ {T : Type 0} (call : Call T) where
   -- the tests failed before these, or after those that hold
-  stops_early : (Is : Test → Contents → Type 0) (a b : List Test) (t : Contents) → StopsAt (token_tests call) (FailsAt call) Is a t → StopsAt (token_tests call) (FailsAt call) Is (a ++ b) t
+  stops_early : (Is : Test → Contents → Type 0) (a b : List Test) (t : Contents)
+      → StopsAt (token_tests call) (FailsAt call) Is a t → StopsAt (token_tests call) (FailsAt call) Is (a ++ b) t
   stops_early Is [] b t f = absurd f
   stops_early Is (c ∷ a) b t (inl f) = inl f
   stops_early Is (c ∷ a) b t (inr (h, f)) = inr (h, stops_early Is a b t f)
 
-  stops_later : (Is : Test → Contents → Type 0) (a b : List Test) (t : Contents) → Passes (token_tests call) a t → StopsAt (token_tests call) (FailsAt call) Is b t
+  stops_later : (Is : Test → Contents → Type 0) (a b : List Test) (t : Contents) → Passes (token_tests call) a t
+      → StopsAt (token_tests call) (FailsAt call) Is b t
       → StopsAt (token_tests call) (FailsAt call) Is (a ++ b) t
   stops_later Is [] b t p f = f
   stops_later Is (c ∷ a) b t p f = inr (p.0, stops_later Is a b t p.1 f)
@@ -143,7 +159,8 @@ module _ {T : Type 0} (call : Call T) where
   pub early : (a b : List Test) (t : Contents) (f : Test) (k : Kind) → Failed call a t f k → Failed call (a ++ b) t f k
   early a b t f k = stops_early (λ c s. (c ≡ f) × (token_tests call).has_kind c s k) a b t
 
-  pub later : (a b : List Test) (t : Contents) (f : Test) (k : Kind) → Passes (token_tests call) a t → Failed call b t f k → Failed call (a ++ b) t f k
+  pub later : (a b : List Test) (t : Contents) (f : Test) (k : Kind) → Passes (token_tests call) a t
+      → Failed call b t f k → Failed call (a ++ b) t f k
   later a b t f k = stops_later (λ c s. (c ≡ f) × (token_tests call).has_kind c s k) a b t
 
   -- Of an order: the tests a hold, and the tests b that follow failed. The rest of the order is
@@ -161,7 +178,8 @@ module _ {T : Type 0} (call : Call T) (parts : Parts) (h : Header)
     (has : HasParts call.token parts) where
   -- with the contents that were found after it
   abbrev pub opened : Contents → Contents
-  opened x = record o.0 { parts = parts; header = h; jwk = x.jwk; jwk_key = x.jwk_key; signature_bytes = x.signature_bytes; payload_bytes = x.payload_bytes; payload_value = x.payload_value }
+  opened x = record o.0 { parts = parts; header = h; jwk = x.jwk; jwk_key = x.jwk_key;
+      signature_bytes = x.signature_bytes; payload_bytes = x.payload_bytes; payload_value = x.payload_value }
 
   pub opened_passes : (x : Contents) → Passes (token_tests call) header_order (opened x)
   opened_passes x = let p : Passes (token_tests bare) header_tests (opened x) = rw o.2 at o.1 in (has, p)
@@ -171,14 +189,18 @@ module _ {T : Type 0} (call : Call T) (parts : Parts) (h : Header)
       → Passes (token_tests call) (header_order ++ drop (length header_order) order) (opened x)
   opened_then order x p = join (token_tests call) header_order (drop (length header_order) order) (opened x) (opened_passes x) p
 
-  pub after_opened : (order : List Test) (x : Contents) (f : Test) (k : Kind) → Failed call (drop (length header_order) order) (opened x) f k
+  pub after_opened : (order : List Test) (x : Contents) (f : Test) (k : Kind)
+      → Failed call (drop (length header_order) order) (opened x) f k
       → (s : Contents) × Failed call (header_order ++ drop (length header_order) order) s f k
-  after_opened order x f k s = (opened x, later call header_order (drop (length header_order) order) (opened x) f k (opened_passes x) s)
+  after_opened order x f k s = (opened x, later call header_order (drop (length header_order) order) (opened x) f k
+      (opened_passes x) s)
 
   -- the header beside the claims that were read after it, and their refusal
   pub beside_claims : (order : List Test) (y : T)
-      → ((x : Contents) × Passes (token_tests call) (drop (length header_order) order) (opened x) × call.reads x.payload_value y)
-      → Step call (header_order ++ drop (length header_order) order) whole (Carries call) (Ok (record { header = h; claims = y }))
+      → ((x : Contents) × Passes (token_tests call) (drop (length header_order) order) (opened x)
+          × call.reads x.payload_value y)
+      → Step call (header_order ++ drop (length header_order) order) whole (Carries call)
+          (Ok (record { header = h; claims = y }))
   beside_claims order y f = (opened f.0, opened_then order f.0 f.1, (refl, f.2))
 
   pub no_claims : (order : List Test) (r : Refusal)
@@ -209,7 +231,8 @@ if_ok (Ok y) f = f refl
 if_ok (Err e) f = tt
 
 -- one verifier's results are the other's
-module _ {T : Type 0} (call : Call T) (A : List ℕ → List ℕ → Type 0) (t : Contents) (same : (m s : List ℕ) → A m s ↔ call.accepts t.header.alg (key_of call.keys t.jwk_key) m s) where
+module _ {T : Type 0} (call : Call T) (A : List ℕ → List ℕ → Type 0) (t : Contents) (same : (m s : List ℕ) → A m s
+    ↔ call.accepts t.header.alg (key_of call.keys t.jwk_key) m s) where
   abbrev by_verifier : Call T
   by_verifier = verifying_by call.reads call.options call.now A
 

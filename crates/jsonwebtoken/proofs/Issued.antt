@@ -8,7 +8,9 @@ use Rattle.jwt_keys.specs.Key.{Key}
 use Rattle.jwt_header.specs.Header.{ReadsHeader, header_value}
 use Rattle.jwt_header.specs.HeaderWritten.{normal_header, HasNormalForm}
 use Rattle.jsonwebtoken.specs.Order.{Decides, Passes}
-use Rattle.jsonwebtoken.specs.Issue.{Payload, NoClaims, WrittenAs, Issue, IssueTest, KeyFitsAlgorithm, SignerIsMade, HeaderIsWritten, ClaimsAreWritten, MessageIsSigned, Written, AreWritten, payload_part, IssueCondition, AreIssued, ReadsBack, issue_tests}
+use Rattle.jsonwebtoken.specs.Issue.{Payload, NoClaims, WrittenAs, Issue, IssueTest, KeyFitsAlgorithm, SignerIsMade}
+use Rattle.jsonwebtoken.specs.Issue.{HeaderIsWritten, ClaimsAreWritten, MessageIsSigned, Written, AreWritten}
+use Rattle.jsonwebtoken.specs.Issue.{payload_part, IssueCondition, AreIssued, ReadsBack, issue_tests}
 use Rattle.jsonwebtoken.specs.private_clauses.IssueSteps.{IsPartOf, IsPayloadOf, IssueFailsAt, IssueStep}
 use Rattle.jsonwebtoken.specs.Tests.{Parts, Contents, text_of_parts}
 use Rattle.jsonwebtoken.specs.private_clauses.Steps.{no_contents}
@@ -60,19 +62,24 @@ one_value (WrittenAs x) v w a b =
     a.1 ∙ same ∙ sym b.1
 
 module _ (issue : Issue) where
-  met : (b : List IssueTest) (t : Written) → Passes (issue_tests issue) b t → (c : IssueTest) → engine.has number c b ≡ true → IssueCondition issue c t
+  met : (b : List IssueTest) (t : Written) → Passes (issue_tests issue) b t → (c : IssueTest) → engine.has number c b
+      ≡ true → IssueCondition issue c t
   met = engine.holds_of number (issue_tests issue) every_test at_number
 
   -- values that pass the tests of the written values are the same
-  pub one_written : (b : List IssueTest) (t s : Written) → written_known b ≡ true → Passes (issue_tests issue) b t → Passes (issue_tests issue) b s → t ≡ s
+  pub one_written : (b : List IssueTest) (t s : Written) → written_known b ≡ true → Passes (issue_tests issue) b t
+      → Passes (issue_tests issue) b s → t ≡ s
   one_written b t s e p q =
       let k = engine.both_true (engine.has number HeaderIsWritten b) (engine.has number ClaimsAreWritten b) e in
-      let both : Some t.header_value ≡ Some s.header_value = sym (met b t p HeaderIsWritten k.0) ∙ met b s q HeaderIsWritten k.0 in
+      let both : Some t.header_value ≡ Some s.header_value = sym (met b t p HeaderIsWritten k.0)
+          ∙ met b s q HeaderIsWritten k.0 in
       let headers : t.header_value ≡ s.header_value = cc in
-      let values : t.claims_value ≡ s.claims_value = one_value issue.payload _ _ (met b t p ClaimsAreWritten k.1) (met b s q ClaimsAreWritten k.1) in
+      let values : t.claims_value ≡ s.claims_value = one_value issue.payload _ _ (met b t p ClaimsAreWritten k.1)
+          (met b s q ClaimsAreWritten k.1) in
       λ i. record { header_value = headers i; claims_value = values i }
 
-  fails_for : (b : List IssueTest) (t s : Written) → Passes (issue_tests issue) b t → Passes (issue_tests issue) b s → (c : IssueTest) → ready c b ≡ true → IssueFailsAt issue c t → IssueCondition issue c s → ⊥
+  fails_for : (b : List IssueTest) (t s : Written) → Passes (issue_tests issue) b t → Passes (issue_tests issue) b s
+      → (c : IssueTest) → ready c b ≡ true → IssueFailsAt issue c t → IssueCondition issue c s → ⊥
   fails_for b t s p q KeyFitsAlgorithm e none h = none h
   fails_for b t s p q SignerIsMade e none h = none h
   fails_for b t s p q HeaderIsWritten e none h = none s.header_value h
@@ -80,7 +87,8 @@ module _ (issue : Issue) where
   fails_for b t s p q MessageIsSigned e none h = none (rw (one_written b t s e p q) h)
 
   -- a result of an order, as the clauses describe it
-  module _ {R : Type 0} (order : List IssueTest) (sound : is_sound order ≡ true) (shows : Written → R → Type 0) (r : Result R Error) (m : IssueStep issue order shows r) where
+  module _ {R : Type 0} (order : List IssueTest) (sound : is_sound order ≡ true) (shows : Written → R → Type 0)
+      (r : Result R Error) (m : IssueStep issue order shows r) where
     pub issue_decides : written_known order ≡ true → Decides (issue_tests issue) order shows r
     issue_decides known = engine.decides (issue_tests issue) (IssueFailsAt issue) ready fails_for order sound shows r m
         (λ s t y p q h. rw (one_written order t s known q p) h)
@@ -88,7 +96,8 @@ module _ (issue : Issue) where
 -- ---- the text
 
 -- an issued token reads as the header's normal form and the claims' value
-module _ (issue : Issue) (accepts : Algorithm → Key → List ℕ → List ℕ → Type 0) (t : Written) (c : Parts) (normal : HasNormalForm issue.header)
+module _ (issue : Issue) (accepts : Algorithm → Key → List ℕ → List ℕ → Type 0) (t : Written) (c : Parts)
+    (normal : HasNormalForm issue.header)
     (written : header_value issue.header ≡ Some t.header_value) (header : IsPartOf t.header_value c.header) where
   contents_of : AreIssued issue t c → Data → Contents
   contents_of a v = record no_contents {
@@ -106,10 +115,13 @@ module _ (issue : Issue) (accepts : Algorithm → Key → List ℕ → List ℕ 
   read_back a claims v is deep_h deep_v =
       let payload : IsPartOf v c.payload = rw is at claims in
       let parts = are_parts c (compact_text t.header_value) (compact_text v) a.bytes header.part payload.part a.signature in
-      let reads : ReadsHeader t.header_value (normal_header issue.header) = (normal.reads_back t.header_value written (normal_header issue.header)).1 refl in
+      let reads : ReadsHeader t.header_value (normal_header issue.header) =
+          (normal.reads_back t.header_value written (normal_header issue.header)).1 refl in
       record {
         contents = contents_of a v;
-        passed = (parts, (header.part, (header.compact.reads_back deep_h, (reads, (a.signature, (payload.part, (payload.compact.reads_back deep_v, tt)))))));
+        passed = (parts, (header.part,
+            (header.compact.reads_back deep_h,
+            (reads, (a.signature, (payload.part, (payload.compact.reads_back deep_v, tt)))))));
         header = refl;
         claims = refl;
         accepted = λ key law. law _ _ (message_bytes c _ _ header.part payload.part) a.signature.0 a.signed;

@@ -22,7 +22,9 @@ use Rattle.jsonwebtoken.proofs.Ascii.{ascii, bytes_of}
 abbrev value_of : Algorithm → Data
 value_of a = object (put (codes "alg") (string (name_of a)) (put (codes "typ") (string (codes "JWT")) no_members))
 
-computed : (a : Algorithm) (part bytes : List ℕ) (value : Data) → list_all (λ b. ltb b 128) bytes ≡ true → part ≡ encode_symbols url_characters bytes → read bytes ≡ Some value → header_value (new_header a) ≡ Some value → bytes ≡ compact_text value → IsKnownHeader part a
+computed : (a : Algorithm) (part bytes : List ℕ) (value : Data) → list_all (λ b. ltb b 128) bytes ≡ true
+    → part ≡ encode_symbols url_characters bytes → read bytes ≡ Some value → header_value (new_header a) ≡ Some value
+    → bytes ≡ compact_text value → IsKnownHeader part a
 computed a part bytes value small is_text is_read written is_compact =
     let s = ascii bytes small in record {
       bytes = bytes;

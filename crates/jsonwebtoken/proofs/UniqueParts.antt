@@ -13,8 +13,10 @@ middle a b d = Contains-append_right a (d ∷ b) d (here b d)
 -- the last place of d cuts a list in one way
 at_last : (a b p q : List ℕ) (d : ℕ) → ¬ Contains b d → ¬ Contains q d → a ++ d ∷ b ≡ p ++ d ∷ q → (a ≡ p) × (b ≡ q)
 at_last [] b [] q d h k e = (refl, cc)
-at_last [] b (x ∷ p) q d h k e = let tails : b ≡ p ++ d ∷ q = cc in absurd (h (subst (λ l. Contains l d) (sym tails) (middle p q d)))
-at_last (x ∷ a) b [] q d h k e = let tails : q ≡ a ++ d ∷ b = cc in absurd (k (subst (λ l. Contains l d) (sym tails) (middle a b d)))
+at_last [] b (x ∷ p) q d h k e = let tails : b ≡ p ++ d ∷ q = cc in
+    absurd (h (subst (λ l. Contains l d) (sym tails) (middle p q d)))
+at_last (x ∷ a) b [] q d h k e = let tails : q ≡ a ++ d ∷ b = cc in
+    absurd (k (subst (λ l. Contains l d) (sym tails) (middle a b d)))
 at_last (x ∷ a) b (y ∷ p) q d h k e =
     let heads : x ≡ y = cc in
     let tails : a ++ d ∷ b ≡ p ++ d ∷ q = cc in
@@ -30,7 +32,8 @@ pieces h p s = record { header = h; payload = p; signature = s }
 
 one_way_of : (x : List ℕ) (c d : Parts) → ArePartsOf x c → ArePartsOf x d → c ≡ d
 one_way_of x c d p q =
-    let fronts = at_last (c.header ++ dot ∷ c.payload) c.signature (d.header ++ dot ∷ d.payload) d.signature dot p.signature q.signature (sym (front_of x c p) ∙ front_of x d q) in
+    let fronts = at_last (c.header ++ dot ∷ c.payload) c.signature (d.header ++ dot ∷ d.payload) d.signature dot
+        p.signature q.signature (sym (front_of x c p) ∙ front_of x d q) in
     let heads = at_last c.header c.payload d.header d.payload dot p.payload q.payload fronts.0 in
     let headers : c.header ≡ d.header = heads.0 in
     let payloads : c.payload ≡ d.payload = heads.1 in

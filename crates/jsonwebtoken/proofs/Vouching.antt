@@ -9,7 +9,8 @@ use Rattle.jsonwebtoken.specs.Tests.{Call, Contents, decode_order, VerifierIsMad
 use Rattle.jsonwebtoken.specs.Vouched.{IsVouched, decoding_by_verdict, unasked_order}
 use Rattle.jsonwebtoken.proofs.EachTest.{met, among}
 
-module _ {T : Type 0} (claims : ClaimsOf T) (v : Verdict) (text : List ℕ) (validation : Validation) (now : ℕ) (t : Contents) where
+module _ {T : Type 0} (claims : ClaimsOf T) (v : Verdict) (text : List ℕ) (validation : Validation) (now : ℕ)
+    (t : Contents) where
   abbrev call : Call T
   call = decoding_by_verdict claims v text validation now
 
@@ -19,7 +20,8 @@ module _ {T : Type 0} (claims : ClaimsOf T) (v : Verdict) (text : List ℕ) (val
       record {
         tests = among call unasked_order decode_order t refl p;
         yes = verified.yes;
-        algorithm = (is_made v t.header.alg (key_of call.keys t.jwk_key) (met call decode_order t p VerifierIsMade refl)).algorithm;
+        algorithm = (is_made v t.header.alg (key_of call.keys t.jwk_key)
+            (met call decode_order t p VerifierIsMade refl)).algorithm;
         message = verified.message;
         signature = verified.signature;
       }

@@ -8,7 +8,8 @@ use Rattle.jwt_keys.specs.declared.provider.CryptoProvider.{Ghosts as ProviderOf
 use Rattle.jwt_keys.specs.declared.jwk.Jwk.{Jwk}
 use Rattle.jwt_validation.specs.OptionsOf.{options_of}
 use Rattle.jwt_validation.specs.declared.validation.Validation.{Validation}
-use Rattle.jsonwebtoken.specs.Tests.{Call, Contents, Parts, Token, Compact, Separate, KeySource, Given, InSet, message_of, verifying_call}
+use Rattle.jsonwebtoken.specs.Tests.{Call, Contents, Parts, Token, Compact, Separate, KeySource, Given, InSet}
+use Rattle.jsonwebtoken.specs.Tests.{message_of, verifying_call}
 use Rattle.jsonwebtoken.specs.declared.decoding.TokenData.{TokenData}
 use Rattle.jsonwebtoken.specs.declared.by_verdict.SignedPart.{SignedPart}
 

@@ -15,7 +15,8 @@ use Rattle.jwt_header.specs.Header.{header_value}
 use Rattle.jwt_header.specs.HeaderWritten.{normal_header}
 use Rattle.jwt_header.specs.declared.header.Header.{Header}
 use Rattle.jsonwebtoken.specs.Order.{Tests, Passes}
-use Rattle.jsonwebtoken.specs.Tests.{dot, Parts, message_of, text_of_parts, Test, HasThreeParts, SignatureIsPart, PayloadIsPart, PayloadIsJson, header_tests, Contents, token_tests, header_call}
+use Rattle.jsonwebtoken.specs.Tests.{dot, Parts, message_of, text_of_parts, Test, HasThreeParts, SignatureIsPart}
+use Rattle.jsonwebtoken.specs.Tests.{PayloadIsPart, PayloadIsJson, header_tests, Contents, token_tests, header_call}
 
 -- ---- a call
 

@@ -1,5 +1,6 @@
 -- Tokens whose signature is made elsewhere: the message that is to be signed, and the token with a given signature.
-use Rattle.std.specs.Prelude.{◌≡◌, ◌⊎◌, ◌≤◌, ℕ, List, [], ◌∷◌, ◌++◌, Option, None, Some, Result, IfOk, IfErr, MatchResult, string_bytes}
+use Rattle.std.specs.Prelude.{◌≡◌, ◌⊎◌, ◌≤◌, ℕ, List, [], ◌∷◌, ◌++◌, Option, None, Some, Result, IfOk, IfErr}
+use Rattle.std.specs.Prelude.{MatchResult, string_bytes}
 use Rattle.serde_json.specs.Data.{Data, depth}
 use Rattle.serde_json.specs.Read.{max_depth}
 use Rattle.jwt_base.specs.Algorithm.{family_of}
@@ -10,7 +11,8 @@ use Rattle.jwt_base.specs.declared.errors.Error.{Error}
 use Rattle.jwt_crypto.specs.GivenSignature.{GivenSignature, IsGiven, HasLength, signer_refusal_by, sign_refusal_by}
 use Rattle.jwt_header.specs.HeaderWritten.{normal_header}
 use Rattle.jwt_header.specs.declared.header.Header.{Header}
-use Rattle.jsonwebtoken.specs.Issue.{Issue, IssueTest, HeaderIsWritten, ClaimsAreWritten, WrittenAs, Written, message_to_sign, issue_tests, encode_order, issuing, issued_tests}
+use Rattle.jsonwebtoken.specs.Issue.{Issue, IssueTest, HeaderIsWritten, ClaimsAreWritten, WrittenAs, Written}
+use Rattle.jsonwebtoken.specs.Issue.{message_to_sign, issue_tests, encode_order, issuing, issued_tests}
 use Rattle.jsonwebtoken.specs.Order.{Passes, FailsFirst}
 use Rattle.jsonwebtoken.specs.Tests.{dot, message_of, Contents, token_tests, header_call}
 use Rattle.jsonwebtoken.specs.declared.by_signature.SigningInput.{SigningInput}

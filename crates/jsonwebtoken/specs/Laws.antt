@@ -9,7 +9,8 @@ use Rattle.jwt_validation.specs.Claim.{claims_of}
 use Rattle.jwt_validation.specs.Moments.{RulesOfNoMoment, first_moment, last_moment, end_of_time, Looser}
 use Rattle.jwt_validation.specs.Options.{Options}
 use Rattle.jsonwebtoken.specs.Order.{Passes}
-use Rattle.jsonwebtoken.specs.Tests.{Call, Token, Compact, Separate, Parts, InSet, key_of, text_of_parts, Test, ClaimRulesHold, Contents, decode_order, jws_order, token_tests}
+use Rattle.jsonwebtoken.specs.Tests.{Call, Token, Compact, Separate, Parts, InSet, key_of, text_of_parts, Test}
+use Rattle.jsonwebtoken.specs.Tests.{ClaimRulesHold, Contents, decode_order, jws_order, token_tests}
 
 -- every test but the claim rules does not depend on the time
 abbrev pub is_timeless : Test → Bool

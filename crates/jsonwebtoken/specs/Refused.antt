@@ -13,7 +13,8 @@ module _ {Contents : Type 0} (tests : Tests Test Contents) where
 
   -- The result of a call that makes its tests in this order, as `Decides` has it: a refusal has the first failed test
   -- and its error, unless memory ran out.
-  pub record DecidesByTest {R : Type 0} (order : List Test) (Shows : Contents → R → Type 0) (r : Result R Refusal) : Type 0 where
+  pub record DecidesByTest {R : Type 0} (order : List Test) (Shows : Contents → R → Type 0) (r : Result R Refusal) :
+      Type 0 where
     pub accepted : IfOk r (λ y. (t : Contents) × Passes tests order t × Shows t y)
     pub exact : (t : Contents) → Passes tests order t → MatchResult r (Shows t) (λ refusal. IsMemory refusal.error)
     pub refused : IfErr r (λ refusal. IsMemory refusal.error ⊎ IsRefusal order refusal)

@@ -1,6 +1,10 @@
 -- The names of the tests of a token.
 use Rattle.std.specs.Prelude.{ℕ, List, codes}
-use Rattle.jsonwebtoken.specs.Tests.{Test, HasThreeParts, HeaderIsPart, HeaderIsJson, HeaderReads, CritIsUnderstood, KeyIsFound, KeyAlgorithmAgrees, KeyIsUsable, AlgorithmsAreListed, AlgorithmIsListed, VerifierIsMade, FamiliesAgree, SignatureIsPart, SignatureIsAccepted, PayloadIsPart, PayloadIsJson, ClaimsRead, ClaimsAreAnObject, ClaimRulesHold}
+use Rattle.jsonwebtoken.specs.Tests.{Test, HasThreeParts, HeaderIsPart, HeaderIsJson, HeaderReads, CritIsUnderstood}
+use Rattle.jsonwebtoken.specs.Tests.{KeyIsFound, KeyAlgorithmAgrees, KeyIsUsable, AlgorithmsAreListed}
+use Rattle.jsonwebtoken.specs.Tests.{AlgorithmIsListed, VerifierIsMade, FamiliesAgree, SignatureIsPart}
+use Rattle.jsonwebtoken.specs.Tests.{SignatureIsAccepted, PayloadIsPart, PayloadIsJson, ClaimsRead, ClaimsAreAnObject}
+use Rattle.jsonwebtoken.specs.Tests.{ClaimRulesHold}
 
 abbrev pub test_name : Test → List ℕ
 test_name HasThreeParts = codes "HasThreeParts"

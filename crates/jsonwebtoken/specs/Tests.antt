@@ -1,5 +1,6 @@
 -- The tests of a token, each a sentence of RFC 7515, 7517 or 7519, and the orders that the calls make them in.
-use Rattle.std.specs.Prelude.{◌≡◌, ◌⊎◌, ℕ, List, [], ◌∷◌, ◌++◌, Option, Some, None, Contains, All, IsSome, find, option_and_then}
+use Rattle.std.specs.Prelude.{◌≡◌, ◌⊎◌, ℕ, List, [], ◌∷◌, ◌++◌, Option, Some, None, Contains, All, IsSome, find}
+use Rattle.std.specs.Prelude.{option_and_then}
 use Rattle.serde_json.specs.Data.{Data}
 use Rattle.serde_json.specs.Find.{as_object}
 use Rattle.jwt_base.specs.Algorithm.{family_of, key_algorithm_of}
@@ -19,7 +20,13 @@ use Rattle.jwt_validation.specs.Options.{Options, default_options}
 use Rattle.jsonwebtoken.specs.Order.{Tests}
 use Rattle.jwt_header.specs.declared.header.Header.{Header}
 pub use Rattle.jsonwebtoken.specs.declared.refusal.Test.{Test}
-pub use Rattle.jsonwebtoken.specs.declared.refusal.Test.TheVariants.{HasThreeParts, HeaderIsPart, HeaderIsJson, HeaderReads, CritIsUnderstood, KeyIsFound, KeyAlgorithmAgrees, KeyIsUsable, AlgorithmsAreListed, AlgorithmIsListed, VerifierIsMade, FamiliesAgree, SignatureIsPart, SignatureIsAccepted, PayloadIsPart, PayloadIsJson, ClaimsRead, ClaimsAreAnObject, ClaimRulesHold}
+pub use Rattle.jsonwebtoken.specs.declared.refusal.Test.TheVariants.{HasThreeParts, HeaderIsPart, HeaderIsJson}
+pub use Rattle.jsonwebtoken.specs.declared.refusal.Test.TheVariants.{HeaderReads, CritIsUnderstood, KeyIsFound}
+pub use Rattle.jsonwebtoken.specs.declared.refusal.Test.TheVariants.{KeyAlgorithmAgrees, KeyIsUsable}
+pub use Rattle.jsonwebtoken.specs.declared.refusal.Test.TheVariants.{AlgorithmsAreListed, AlgorithmIsListed}
+pub use Rattle.jsonwebtoken.specs.declared.refusal.Test.TheVariants.{VerifierIsMade, FamiliesAgree, SignatureIsPart}
+pub use Rattle.jsonwebtoken.specs.declared.refusal.Test.TheVariants.{SignatureIsAccepted, PayloadIsPart, PayloadIsJson}
+pub use Rattle.jsonwebtoken.specs.declared.refusal.Test.TheVariants.{ClaimsRead, ClaimsAreAnObject, ClaimRulesHold}
 
 -- ---- a token
 

@@ -10,7 +10,9 @@ use Rattle.jwt_validation.specs.declared.validation.Validation.{Validation}
 use Rattle.jwt_crypto.specs.Verdict.{Verdict, IsVerified, refusal_by}
 use Rattle.jsonwebtoken.specs.Calls.{Carries}
 use Rattle.jsonwebtoken.specs.Order.{Passes, FailsFirst}
-use Rattle.jsonwebtoken.specs.Tests.{Call, Compact, Given, Test, HasThreeParts, AlgorithmsAreListed, AlgorithmIsListed, FamiliesAgree, SignatureIsPart, Contents, token_tests, decode_order, opening_tests, claim_tests, message_of, verifying_call}
+use Rattle.jsonwebtoken.specs.Tests.{Call, Compact, Given, Test, HasThreeParts, AlgorithmsAreListed, AlgorithmIsListed}
+use Rattle.jsonwebtoken.specs.Tests.{FamiliesAgree, SignatureIsPart, Contents, token_tests, decode_order, opening_tests}
+use Rattle.jsonwebtoken.specs.Tests.{claim_tests, message_of, verifying_call}
 use Rattle.jsonwebtoken.specs.declared.decoding.TokenData.{TokenData}
 
 -- the tests of `decode` that ask no provider

@@ -19,12 +19,15 @@ pub url_strict : IsStrict url_safe
 url_strict = (refl, refl)
 
 -- a text that an engine refuses is not the text of any bytes
-no_text : (engine : GeneralPurpose) (text b : List ℕ) (d : DecodeError) → decode_of engine text ≡ Err d → decode_of engine text ≡ Ok b → ⊥
+no_text : (engine : GeneralPurpose) (text b : List ℕ) (d : DecodeError) → decode_of engine text ≡ Err d
+    → decode_of engine text ≡ Ok b → ⊥
 no_text engine text b d failed ok = let both : Err d ≡ Ok b = sym failed ∙ ok in cc
 
 -- an engine's fault is `Base64` if the text is not the text of any bytes
-pub text_refused : (engine : GeneralPurpose) (text : List ℕ) (failure : DecodeAllocError) (e : Error) → kind_of e ≡ base64_kind failure → IsDecodeFailure engine text failure
+pub text_refused : (engine : GeneralPurpose) (text : List ℕ) (failure : DecodeAllocError) (e : Error)
+    → kind_of e ≡ base64_kind failure → IsDecodeFailure engine text failure
     → ((b : List ℕ) → IsBytes b → text ≡ encode_of engine b → decode_of engine text ≡ Ok b)
     → RefusesAs kind.Base64 ((b : List ℕ) → IsBytes b × (text ≡ encode_of engine b) → ⊥) e
 text_refused engine text fault.OutOfMemory e is failed reads = inl is
-text_refused engine text (fault.DecodeError d) e is failed reads = inr (is, λ b h. no_text engine text b d failed (reads b h.0 h.1))
+text_refused engine text (fault.DecodeError d) e is failed reads =
+    inr (is, λ b h. no_text engine text b d failed (reads b h.0 h.1))

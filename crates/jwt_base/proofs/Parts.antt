@@ -44,7 +44,8 @@ pub one_json : (b : List ℕ) (d e : Data) → IsJson b d → IsJson b e → d �
 one_json b d e jd je = let same : Some d ≡ Some e = sym jd.1 ∙ je.1 in cc
 
 -- the engine's fault is `Base64` if the text is not a part
-pub part_refused : (text : List ℕ) (fault : DecodeAllocError) (e : Error) → kind_of e ≡ base64_kind fault → IsDecodeFailure url_safe_no_pad text fault
+pub part_refused : (text : List ℕ) (fault : DecodeAllocError) (e : Error) → kind_of e ≡ base64_kind fault
+    → IsDecodeFailure url_safe_no_pad text fault
     → ((b : List ℕ) → IsBytes b → text ≡ encode_of url_safe_no_pad b → decode_of url_safe_no_pad text ≡ Ok b)
     → RefusesAs kind.Base64 ((b : List ℕ) → IsPart text b → ⊥) e
 part_refused text fault.OutOfMemory e is failed reads = inl is

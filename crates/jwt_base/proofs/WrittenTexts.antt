@@ -10,7 +10,8 @@ use Rattle.jwt_base.specs.declared.errors.Error.{Error}
 use Rattle.jwt_base.proofs.Parts.{one_json}
 
 -- that is so if the value reads as the normal form alone
-pub has_text : {A : Type 0} (reads : Data → A → Type 0) (written : A → Option Data) (normal : A → A) (a : A) (d : Data) (text : List ℕ)
+pub has_text : {A : Type 0} (reads : Data → A → Type 0) (written : A → Option Data) (normal : A → A) (a : A) (d : Data)
+    (text : List ℕ)
     → written a ≡ Some d → ((b : A) → reads d b ↔ (b ≡ normal a)) → IsCompact d text → HasText reads written normal a text
 has_text reads written normal a d text is law compact = record {
   value = d;
@@ -22,6 +23,7 @@ has_text reads written normal a d text is law compact = record {
 }
 
 -- a value without a float is refused a text for memory alone
-pub refused_text : (P : Type 0) (d : Data) (e : Error) → has_float d ≡ false → RefusesAs kind.Json (has_float d ≡ true) e → RefusesAs kind.Json P e
+pub refused_text : (P : Type 0) (d : Data) (e : Error) → has_float d ≡ false
+    → RefusesAs kind.Json (has_float d ≡ true) e → RefusesAs kind.Json P e
 refused_text P d e none (inl m) = inl m
 refused_text P d e none (inr r) = let both : true ≡ false = sym r.1 ∙ none in absurd (cc)

@@ -7,7 +7,8 @@ use Rattle.jwt_base.specs.JsonText.{ReadsText}
 
 -- The text is the compact JSON (RFC 8259) of the value that this is written as. If that nests no
 -- deeper than is read, the text reads as the normal form, and as nothing else.
-pub record HasText {A : Type 0} (reads : Data → A → Type 0) (written : A → Option Data) (normal : A → A) (a : A) (text : List ℕ) : Type 0 where
+pub record HasText {A : Type 0} (reads : Data → A → Type 0) (written : A → Option Data) (normal : A → A) (a : A)
+    (text : List ℕ) : Type 0 where
   pub value : Data
   pub is_written : written a ≡ Some value
   pub is_text : text ≡ compact_text value

@@ -1,5 +1,6 @@
 -- What the calls with a verifier leave, over plain values.
-use Rattle.std.proofs.Common.{◌≡◌, ◌∙◌, ◌≤◌, ◌<◌, ℕ, List, length, Option, Some, None, Result, Ok, Err, IfOk, IfErr, arith, inl, inr, sym, subst}
+use Rattle.std.proofs.Common.{◌≡◌, ◌∙◌, ◌≤◌, ◌<◌, ℕ, List, length, Option, Some, None, Result, Ok, Err, IfOk, IfErr}
+use Rattle.std.proofs.Common.{arith, inl, inr, sym, subst}
 use Rattle.jwt_base.specs.Kind.{Kind}
 use Rattle.jwt_base.specs.Kind as kind
 use Rattle.jwt_validation.specs.Options.{Options}
@@ -9,7 +10,8 @@ use Rattle.jwt_verifier.specs.declared.limits.Limits.{Limits}
 use Rattle.jwt_verifier.specs.declared.verifier.Verifier.{Verifier}
 use Rattle.jwt_c_calls.specs.Calls.{Answer, Gives, Refuses, Misreads, Leaves, AnswersKey, AnswersSet}
 use Rattle.jwt_c_calls.specs.Status.{number, IsGiven, IsKept}
-use Rattle.jwt_c_verifier.specs.Verifiers.{AnswersUntil, AnswersWith, AreOfKey, AreOfSet, IsMade, IsRefusedWith, IsUnmade, TellsTest}
+use Rattle.jwt_c_verifier.specs.Verifiers.{AnswersUntil, AnswersWith, AreOfKey, AreOfSet, IsMade, IsRefusedWith}
+use Rattle.jwt_c_verifier.specs.Verifiers.{IsUnmade, TellsTest}
 use Rattle.jwt_c_verifier.specs.declared.verifiers.Denied.{Denied}
 use Rattle.jwt_c_verifier.proofs.Transfers.{by_key, by_set}
 use Rattle.jwt_c.specs.Held.{verifier_in, IsHeldAs, LeavesBy, LeavesMade, LeavesUntil, Takes}
@@ -17,7 +19,8 @@ use Rattle.jwt_c.specs.declared.shared.Shared.{Shared}
 
 -- ---- making
 
-module _ (Refused : Answer → Type 0) (AreOf : Options → Keys → Type 0) (limits : Limits) (memory : Refused (Refuses kind.OutOfMemory)) where
+module _ (Refused : Answer → Type 0) (AreOf : Options → Keys → Type 0) (limits : Limits)
+    (memory : Refused (Refuses kind.OutOfMemory)) where
   -- a verifier that was made is held, unless memory ran out
   pub made_of : (made : Result Verifier ℕ) (before after : Option Shared) (status : ℕ) → IsMade Refused AreOf limits made
       → IsHeldAs made before after status → LeavesMade Refused AreOf limits before after status
@@ -29,21 +32,25 @@ module _ (Refused : Answer → Type 0) (AreOf : Options → Keys → Type 0) (li
 -- ---- verifying
 
 -- what a verifier leaves by the two sides of a result
-left_by : {V : Type 0} (items : V → List ℕ) (last_of : V → ℕ) (v : Verifier) (token : List ℕ) (now : ℕ) (r : Result V Denied) (last test status len : ℕ) (old new : List ℕ)
+left_by : {V : Type 0} (items : V → List ℕ) (last_of : V → ℕ) (v : Verifier) (token : List ℕ) (now : ℕ)
+    (r : Result V Denied) (last test status len : ℕ) (old new : List ℕ)
     → IfOk r (λ a. (length token ≤ v.limits.max_len) × AnswersUntil v.keys v.validation token now (last_of a) (Gives (items a)))
     → IfErr r (λ d. IsRefusedWith v token now d.status d.test)
     → IfOk r (λ a. (last ≡ last_of a) × (test ≡ 0) × IsGiven (items a) status len old new)
     → IfErr r (λ d. (last ≡ 0) × (test ≡ d.test) × IsKept d.status status len old new)
     → LeavesBy v token now last test status len old new
 left_by items last_of v token now (Ok a) last test status len old new ok err given kept =
-    inr (ok.0, (Gives (items a), subst (λ (n : ℕ). AnswersUntil v.keys v.validation token now n (Gives (items a))) (sym given.0) ok.1, given.1, given.2))
+    inr (ok.0, (Gives (items a), subst (λ (n : ℕ). AnswersUntil v.keys v.validation token now n (Gives (items a)))
+        (sym given.0) ok.1, given.1, given.2))
 left_by items last_of v token now (Err d) last test status len old new ok (inl long) given kept =
     inl (long.0, kept.0, kept.1 ∙ long.2, subst (λ (n : ℕ). IsKept n status len old new) long.1 kept.2)
 left_by items last_of v token now (Err d) last test status len old new ok (inr short) given kept =
-    let told : TellsTest v.keys v.validation token now short.1.0 test = subst (TellsTest v.keys v.validation token now short.1.0) (sym kept.1) short.1.2 in
+    let told : TellsTest v.keys v.validation token now short.1.0 test =
+        subst (TellsTest v.keys v.validation token now short.1.0) (sym kept.1) short.1.2 in
     inr (short.0, (Refuses short.1.0, short.1.1, told, subst (λ (n : ℕ). IsKept n status len old new) short.1.3 kept.2))
 
-pub decided : {V : Type 0} (items : V → List ℕ) (last_of : V → ℕ) (held : Option Shared) (s : Shared) (v : Verifier) (token : List ℕ) (now : ℕ) (r : Result V Denied) (last test status len : ℕ) (old new : List ℕ)
+pub decided : {V : Type 0} (items : V → List ℕ) (last_of : V → ℕ) (held : Option Shared) (s : Shared) (v : Verifier)
+    (token : List ℕ) (now : ℕ) (r : Result V Denied) (last test status len : ℕ) (old new : List ℕ)
     → held ≡ Some s → v ≡ verifier_in s
     → IfOk r (λ a. (length token ≤ v.limits.max_len) × AnswersUntil v.keys v.validation token now (last_of a) (Gives (items a)))
     → IfErr r (λ d. IsRefusedWith v token now d.status d.test)
@@ -52,30 +59,40 @@ pub decided : {V : Type 0} (items : V → List ℕ) (last_of : V → ℕ) (held 
     → LeavesUntil held token now last test status len old new
 decided items last_of held s v token now r last test status len old new h e ok err given kept =
     let left : LeavesBy (verifier_in s) token now last test status len old new =
-    subst (λ (w : Verifier). LeavesBy w token now last test status len old new) e (left_by items last_of v token now r last test status len old new ok err given kept) in
+    subst (λ (w : Verifier). LeavesBy w token now last test status len old new) e
+        (left_by items last_of v token now r last test status len old new ok err given kept) in
     subst (λ (o : Option Shared). LeavesUntil o token now last test status len old new) (sym h) left
 
 -- the answer without the last time
-without_last : (keys : Keys) (validation : Validation) (token : List ℕ) (now last : ℕ) (a : Answer) → AnswersUntil keys validation token now last a → AnswersWith keys validation token now a
+without_last : (keys : Keys) (validation : Validation) (token : List ℕ) (now last : ℕ) (a : Answer)
+    → AnswersUntil keys validation token now last a → AnswersWith keys validation token now a
 without_last keys validation token now last (Gives b) x = (tt, tt, (x.2.0, x.2.1.0, x.2.2))
 without_last keys validation token now last (Refuses k) x = x
 without_last keys validation token now last (Misreads i) x = x
 
 -- which is what the calls leave with the texts that the verifier was made of
-pub as_set : (held : Option Shared) (token : List ℕ) (now last test status len : ℕ) (old new : List ℕ) → LeavesUntil held token now last test status len old new
-    → (options set : List ℕ) → Takes held (AreOfSet options set) (length token) → (a : Answer) × AnswersSet options token set now a × Leaves a status len old new
+pub as_set : (held : Option Shared) (token : List ℕ) (now last test status len : ℕ) (old new : List ℕ)
+    → LeavesUntil held token now last test status len old new
+    → (options set : List ℕ) → Takes held (AreOfSet options set) (length token)
+    → (a : Answer) × AnswersSet options token set now a × Leaves a status len old new
 as_set None token now last test status len old new d options set takes = absurd takes
 as_set (Some s) token now last test status len old new (inl long) options set takes =
-    let over : (verifier_in s).limits.max_len < length token = long.0 in let within : length token ≤ (verifier_in s).limits.max_len = takes.1 in absurd (omega arith)
+    let over : (verifier_in s).limits.max_len < length token = long.0 in
+    let within : length token ≤ (verifier_in s).limits.max_len = takes.1 in absurd (omega arith)
 as_set (Some s) token now last test status len old new (inr left) options set takes =
     let keys = (verifier_in s).keys in let validation = (verifier_in s).validation in let a = left.1.0 in
-    (a, by_set options set token now keys validation a takes.0 (without_last keys validation token now last a left.1.1), left.1.3)
+    (a, by_set options set token now keys validation a takes.0 (without_last keys validation token now last a left.1.1),
+        left.1.3)
 
-pub as_key : (held : Option Shared) (token : List ℕ) (now last test status len : ℕ) (old new : List ℕ) → LeavesUntil held token now last test status len old new
-    → (options key : List ℕ) → Takes held (AreOfKey options key) (length token) → (a : Answer) × AnswersKey options token key now a × Leaves a status len old new
+pub as_key : (held : Option Shared) (token : List ℕ) (now last test status len : ℕ) (old new : List ℕ)
+    → LeavesUntil held token now last test status len old new
+    → (options key : List ℕ) → Takes held (AreOfKey options key) (length token)
+    → (a : Answer) × AnswersKey options token key now a × Leaves a status len old new
 as_key None token now last test status len old new d options key takes = absurd takes
 as_key (Some s) token now last test status len old new (inl long) options key takes =
-    let over : (verifier_in s).limits.max_len < length token = long.0 in let within : length token ≤ (verifier_in s).limits.max_len = takes.1 in absurd (omega arith)
+    let over : (verifier_in s).limits.max_len < length token = long.0 in
+    let within : length token ≤ (verifier_in s).limits.max_len = takes.1 in absurd (omega arith)
 as_key (Some s) token now last test status len old new (inr left) options key takes =
     let keys = (verifier_in s).keys in let validation = (verifier_in s).validation in let a = left.1.0 in
-    (a, by_key options key token now keys validation a takes.0 (without_last keys validation token now last a left.1.1), left.1.3)
+    (a, by_key options key token now keys validation a takes.0 (without_last keys validation token now last a left.1.1),
+        left.1.3)

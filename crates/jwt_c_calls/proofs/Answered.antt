@@ -28,7 +28,8 @@ answered items By (Err e) s n old new p q given kept = (answer_of e, q, kept_by 
 
 -- a text that could not be read has this result, if the call misreads it
 pub misread : {T E : Type 0} (Reads : E → Type 0) (MisreadAs : Input → Type 0) (G : E → List ℕ → Type 0) (R : E → Kind → Type 0)
-    (input : Input) (None : Type 0) → (None → MisreadAs input) → (r : Result T Error) (x : Result T Refusal) → IsReadAs input r x → IfErr r (RefusesAs kind.Json None)
+    (input : Input) (None : Type 0) → (None → MisreadAs input) → (r : Result T Error) (x : Result T Refusal)
+        → IsReadAs input r x → IfErr r (RefusesAs kind.Json None)
     → IfErr x (λ f. AnswersBy Reads MisreadAs G R (answer_of f))
 misread Reads M G R input N means (Ok v) (Ok w) p n = tt
 misread Reads M G R input N means (Ok v) (Err r) p n = absurd p
@@ -38,12 +39,14 @@ misread Reads M G R input N means (Err e) (Err (refused.Input i)) p (inr none) =
 misread Reads M G R input N means (Err e) (Err (refused.Token f)) p n = inl p.1
 
 -- a value that was read is the one that is handed on
-pub read_ok : {T : Type 0} (P : T → Type 0) (input : Input) (r : Result T Error) (v : T) → IsReadAs input r (Ok v) → IfOk r P → P v
+pub read_ok : {T : Type 0} (P : T → Type 0) (input : Input) (r : Result T Error) (v : T) → IsReadAs input r (Ok v)
+    → IfOk r P → P v
 read_ok P input (Ok w) v p q = rw p q
 read_ok P input (Err e) v p q = absurd p
 
 -- a refusal leaves no message
-pub no_message : (header claims : List ℕ) (r : Refusal) (n s len : ℕ) (old new : List ℕ) → AnswersInput header claims (answer_of r) → n ≡ 0
+pub no_message : (header claims : List ℕ) (r : Refusal) (n s len : ℕ) (old new : List ℕ)
+    → AnswersInput header claims (answer_of r) → n ≡ 0
     → IsKept (refusal_status r) s len old new → LeavesInput header claims n s len old new
 no_message header claims (refused.Input i) n s len old new a z k = (Misreads i, a, z, k)
 no_message header claims (refused.Token e) n s len old new a z k = (Refuses (kind_of e), a, z, k)

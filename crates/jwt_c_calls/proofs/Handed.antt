@@ -18,10 +18,13 @@ use Rattle.jwt_c_calls.specs.declared.inputs.Refusal.{Refusal}
 pub shallow : (t : Contents) → IsJson t.payload_bytes t.payload_value → depth t.payload_value ≤ max_depth
 shallow t j = depth-read t.payload_bytes t.payload_value j.1
 
-module _ {D V E : Type 0} (claims : D → Value) (items : V → List ℕ) (Reads : E → Type 0) (M : Input → Type 0) (A : E → Contents → Type 0) (R : E → Kind → Type 0)
-    (deep : (o : E) (t : Contents) → A o t → depth t.payload_value ≤ max_depth) (H : D → Contents → Type 0) (o : E) (reads : Reads o) where
+module _ {D V E : Type 0} (claims : D → Value) (items : V → List ℕ) (Reads : E → Type 0) (M : Input → Type 0) (A : E
+    → Contents → Type 0) (R : E → Kind → Type 0)
+    (deep : (o : E) (t : Contents) → A o t → depth t.payload_value ≤ max_depth) (H : D → Contents → Type 0) (o : E)
+        (reads : Reads o) where
   pub handed_ok : (r : Result D Error) (x : Result V Refusal) → HandsOut claims items r x
-      → IfOk r (λ d. (t : Contents) × A o t × (H d t × (view (claims d) ≡ t.payload_value))) → IfOk x (λ b. AnswersBy Reads M (λ o. IsClaimsText (A o)) R (Gives (items b)))
+      → IfOk r (λ d. (t : Contents) × A o t × (H d t × (view (claims d) ≡ t.payload_value)))
+      → IfOk x (λ b. AnswersBy Reads M (λ o. IsClaimsText (A o)) R (Gives (items b)))
   handed_ok (Ok d) (Ok b) h a =
       let shallow_claims : depth (view (claims d)) ≤ max_depth = rw a.2.1 (deep o a.0 a.1) in
       let json : IsTextOf (items b) a.0.payload_value = rw a.2.1 at (h shallow_claims) in

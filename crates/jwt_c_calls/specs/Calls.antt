@@ -28,7 +28,8 @@ use Rattle.jwt_validation.specs.OptionsRead.{ReadsOptions}
 use Rattle.jwt_crypto.specs.Verdict.{Verdict, IsVerified, refusal_by}
 use Rattle.jsonwebtoken.specs.ByHmac.{decoding_by_hmac}
 use Rattle.jsonwebtoken.specs.Order.{Passes, FailsFirst}
-use Rattle.jsonwebtoken.specs.Tests.{Call, Compact, Contents, Given, InSet, decode_order, header_order, set_order, signed_order, header_call, message_of, verifying_call, token_tests}
+use Rattle.jsonwebtoken.specs.Tests.{Call, Compact, Contents, Given, InSet, decode_order, header_order, set_order}
+use Rattle.jsonwebtoken.specs.Tests.{signed_order, header_call, message_of, verifying_call, token_tests}
 use Rattle.jsonwebtoken.specs.Vouched.{IsVouched}
 use Rattle.jwt_c_calls.specs.Inputs.{ReadsClaimsText}
 use Rattle.jwt_c_calls.specs.Status.{number, input_status, algorithm_numbered, IsGiven, IsKept}

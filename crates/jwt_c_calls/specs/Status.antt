@@ -1,9 +1,15 @@
 -- The form of a result for C: a status, a length and the bytes of a buffer.
-use Rattle.std.specs.Prelude.{◌≡◌, ◌≤◌, ◌<◌, ◌+◌, ◌-◌, ◌==◌, ℕ, List, [], ◌∷◌, ◌++◌, length, drop, Option, Some, None, slice_get, unwrap_or, codes, if◌then◌else◌}
+use Rattle.std.specs.Prelude.{◌≡◌, ◌≤◌, ◌<◌, ◌+◌, ◌-◌, ◌==◌, ℕ, List, [], ◌∷◌, ◌++◌, length, drop, Option, Some, None}
+use Rattle.std.specs.Prelude.{slice_get, unwrap_or, codes, if◌then◌else◌}
 use Rattle.std.specs.Str.{bytes_eq}
 use Rattle.jwt_base.specs.Algorithm.{all_algorithms}
 use Rattle.jwt_base.specs.declared.algorithms.Algorithm.{Algorithm}
-use Rattle.jwt_base.specs.Kind.{Kind, InvalidToken, InvalidSignature, InvalidEcdsaKey, InvalidEddsaKey, RsaFailedSigning, InvalidAlgorithmName, UnsupportedAlgorithm, InvalidKeyFormat, ExpiredSignature, InvalidIssuer, InvalidAudience, InvalidSubject, ImmatureSignature, InvalidAlgorithm, MissingAlgorithm, MissingRequiredClaim, InvalidClaimFormat, InvalidRsaKey, Signing, Provider, Base64, Json, Utf8, OutOfMemory, ClockBeforeEpoch, InvalidCrit, NoKey}
+use Rattle.jwt_base.specs.Kind.{Kind, InvalidToken, InvalidSignature, InvalidEcdsaKey, InvalidEddsaKey}
+use Rattle.jwt_base.specs.Kind.{RsaFailedSigning, InvalidAlgorithmName, UnsupportedAlgorithm, InvalidKeyFormat}
+use Rattle.jwt_base.specs.Kind.{ExpiredSignature, InvalidIssuer, InvalidAudience, InvalidSubject, ImmatureSignature}
+use Rattle.jwt_base.specs.Kind.{InvalidAlgorithm, MissingAlgorithm, MissingRequiredClaim, InvalidClaimFormat}
+use Rattle.jwt_base.specs.Kind.{InvalidRsaKey, Signing, Provider, Base64, Json, Utf8, OutOfMemory, ClockBeforeEpoch}
+use Rattle.jwt_base.specs.Kind.{InvalidCrit, NoKey}
 use Rattle.jwt_c_calls.specs.declared.inputs.Input.{Input}
 use Rattle.jwt_c_calls.specs.declared.inputs.Input.TheVariants as input
 
@@ -23,7 +29,8 @@ claim_place name =
     else (if bytes_eq name (codes "sub") then 4
     else 19))))
 
--- The status of a refusal of this kind: from 1 on of kinds without a claim, from 40 on of a required claim that is missing, and from
+-- The status of a refusal of this kind: from 1 on of kinds without a claim, from 40 on of a required claim that is
+-- missing, and from
 -- 60 on of a claim of another form. The numbers up to 39, 59 and 79 that no kind has are kept for more of each.
 abbrev pub number : Kind → ℕ
 number InvalidToken = 1

@@ -17,12 +17,16 @@ use Rattle.jwt_c_verifier.specs.Verifiers.{IsMade, IsUnmade, unfit_status}
 module _ (Refused : Answer → Type 0) (AreOf : Options → Keys → Type 0) (limits : Limits) where
   -- with the keys and the options that the texts describe
   pub of_values : (keys : Keys) (validation : Validation) (r : Result Verifier ℕ) → AreOf (options_of validation) keys
-      → IfOk r (λ v. (v.keys ≡ keys) × (v.validation ≡ validation) × (v.limits ≡ limits) × AreFit limits.allows_blank validation.algorithms.items keys)
-      → IfErr r (λ status. (why : Unfit) × IsUnfit limits.allows_blank validation.algorithms.items keys why × (status ≡ unfit_status why))
+      → IfOk r (λ v. (v.keys ≡ keys) × (v.validation ≡ validation) × (v.limits ≡ limits)
+          × AreFit limits.allows_blank validation.algorithms.items keys)
+      → IfErr r (λ status. (why : Unfit) × IsUnfit limits.allows_blank validation.algorithms.items keys why
+          × (status ≡ unfit_status why))
       → IsMade Refused AreOf limits r
   of_values keys validation (Ok v) of made unfit =
-      let of_keys : AreOf (options_of validation) v.keys = subst (λ (k : Keys). AreOf (options_of validation) k) (sym made.0) of in
-      let fit_keys : AreFit limits.allows_blank validation.algorithms.items v.keys = subst (λ (k : Keys). AreFit limits.allows_blank validation.algorithms.items k) (sym made.0) made.3 in (
+      let of_keys : AreOf (options_of validation) v.keys = subst (λ (k : Keys). AreOf (options_of validation) k)
+          (sym made.0) of in
+      let fit_keys : AreFit limits.allows_blank validation.algorithms.items v.keys =
+          subst (λ (k : Keys). AreFit limits.allows_blank validation.algorithms.items k) (sym made.0) made.3 in (
         subst (λ (w : Validation). AreOf (options_of w) v.keys) (sym made.1) of_keys,
         made.2,
         subst (λ (w : Validation). AreFit limits.allows_blank w.algorithms.items v.keys) (sym made.1) fit_keys,
@@ -30,6 +34,7 @@ module _ (Refused : Answer → Type 0) (AreOf : Options → Keys → Type 0) (li
   of_values keys validation (Err status) of made unfit = inr (options_of validation, keys, of, unfit)
 
   -- with texts that are refused
-  pub of_refusal : (r : Refusal) (status : ℕ) → Refused (answer_of r) → status ≡ refusal_status r → IsUnmade Refused AreOf limits.allows_blank status
+  pub of_refusal : (r : Refusal) (status : ℕ) → Refused (answer_of r) → status ≡ refusal_status r
+      → IsUnmade Refused AreOf limits.allows_blank status
   of_refusal (refused.Input i) status a is = inl (answer_of (refused.Input i), a, is)
   of_refusal (refused.Token e) status a is = inl (answer_of (refused.Token e), a, is)

@@ -2,7 +2,12 @@
 use Rattle.std.specs.Prelude.{◌≡◌, ◌≢◌, ◌⊎◌, ℕ, List}
 use Rattle.jsonwebtoken.specs.TestName.{test_name}
 use Rattle.jsonwebtoken.specs.declared.refusal.Test.{Test}
-use Rattle.jsonwebtoken.specs.declared.refusal.Test.TheVariants.{HasThreeParts, HeaderIsPart, HeaderIsJson, HeaderReads, CritIsUnderstood, KeyIsFound, KeyAlgorithmAgrees, KeyIsUsable, AlgorithmsAreListed, AlgorithmIsListed, VerifierIsMade, FamiliesAgree, SignatureIsPart, SignatureIsAccepted, PayloadIsPart, PayloadIsJson, ClaimsRead, ClaimsAreAnObject, ClaimRulesHold}
+use Rattle.jsonwebtoken.specs.declared.refusal.Test.TheVariants.{HasThreeParts, HeaderIsPart, HeaderIsJson, HeaderReads}
+use Rattle.jsonwebtoken.specs.declared.refusal.Test.TheVariants.{CritIsUnderstood, KeyIsFound, KeyAlgorithmAgrees}
+use Rattle.jsonwebtoken.specs.declared.refusal.Test.TheVariants.{KeyIsUsable, AlgorithmsAreListed, AlgorithmIsListed}
+use Rattle.jsonwebtoken.specs.declared.refusal.Test.TheVariants.{VerifierIsMade, FamiliesAgree, SignatureIsPart}
+use Rattle.jsonwebtoken.specs.declared.refusal.Test.TheVariants.{SignatureIsAccepted, PayloadIsPart, PayloadIsJson}
+use Rattle.jsonwebtoken.specs.declared.refusal.Test.TheVariants.{ClaimsRead, ClaimsAreAnObject, ClaimRulesHold}
 use Rattle.jwt_c_calls.specs.Status.{no_status, IsGiven, IsKept}
 
 abbrev pub test_number : Test → ℕ

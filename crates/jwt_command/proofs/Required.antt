@@ -1,5 +1,6 @@
 -- The claims that are required, and the options that the arguments change.
-use Rattle.std.proofs.Common.{◌≡◌, ℕ, ◌+◌, ◌<◌, ◌∙◌, ◌&&◌, ◌||◌, not, Bool, true, false, cond, List, get_or, length, take, Bor, Option, refl, sym, ap, subst, option_map, unwrap_or}
+use Rattle.std.proofs.Common.{◌≡◌, ℕ, ◌+◌, ◌<◌, ◌∙◌, ◌&&◌, ◌||◌, not, Bool, true, false, cond, List, get_or, length}
+use Rattle.std.proofs.Common.{take, Bor, Option, refl, sym, ap, subst, option_map, unwrap_or}
 use Rattle.std.proofs.lemmas.Bool.{false≢true}
 use Rattle.std.proofs.lemmas.List.Folds.{list_any_more}
 use Rattle.std.specs.Option.{option_or}
@@ -15,11 +16,13 @@ or_behind false true c = refl
 or_behind false false c = refl
 
 -- one more name
-pub one_more : (names : List (Bor (List ℕ))) (i : ℕ) (d : Bor (List ℕ)) (t : List ℕ) (after before others : Bool) → i < length names
+pub one_more : (names : List (Bor (List ℕ))) (i : ℕ) (d : Bor (List ℕ)) (t : List ℕ) (after before others : Bool)
+    → i < length names
     → after ≡ (bytes_eq (get_or names i d).now t || before) → before ≡ (among (λ s. s.now) (take i names) t || others)
     → after ≡ (among (λ s. s.now) (take (i + 1) names) t || others)
 one_more names i d t after before others range added held =
-    added ∙ (ap (λ b. bytes_eq (get_or names i d).now t || b) held ∙ (or_behind (bytes_eq (get_or names i d).now t) (among (λ s. s.now) (take i names) t) others
+    added ∙ (ap (λ b. bytes_eq (get_or names i d).now t || b) held
+        ∙ (or_behind (bytes_eq (get_or names i d).now t) (among (λ s. s.now) (take i names) t) others
     ∙ ap (λ b. b || others) (sym (list_any_more (λ s. bytes_eq s.now t) names i d range))))
 
 pub left_out : (is_name b : Bool) → cond is_name false b ≡ (not (true && is_name) && b)

@@ -9,7 +9,8 @@ use Rattle.jwt_standard.specs.StandardKeys.{verifier_refusal, StandardAccepts}
 use Rattle.jsonwebtoken.specs.Order.{Passes}
 use Rattle.jsonwebtoken.specs.Refused.{IsRefusal}
 use Rattle.jsonwebtoken.specs.declared.refusal.Test.{Test}
-use Rattle.jsonwebtoken.specs.Tests.{Call, Contents, Compact, KeySource, Given, InSet, decode_order, set_order, token_tests, verifying_call}
+use Rattle.jsonwebtoken.specs.Tests.{Call, Contents, Compact, KeySource, Given, InSet, decode_order, set_order}
+use Rattle.jsonwebtoken.specs.Tests.{token_tests, verifying_call}
 use Rattle.serde_json.specs.declared.value.Value.{Value}
 use Rattle.jwt_verifier.specs.declared.keys.Keys.{Keys}
 use Rattle.jwt_verifier.specs.declared.keys.Keys.TheVariants.{One, Set}

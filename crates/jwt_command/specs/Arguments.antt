@@ -1,5 +1,6 @@
 -- The request that the arguments of the command line stand for.
-use Rattle.std.specs.Prelude.{◌≡◌, ◌⊎◌, ◌&&◌, ◌^◌, ℕ, List, [], Bool, true, false, Option, Some, None, length, ltb, map, option_map, if◌then◌else◌, codes}
+use Rattle.std.specs.Prelude.{◌≡◌, ◌⊎◌, ◌&&◌, ◌^◌, ℕ, List, [], Bool, true, false, Option, Some, None, length, ltb, map}
+use Rattle.std.specs.Prelude.{option_map, if◌then◌else◌, codes}
 use Rattle.std.specs.Borrow.{Bor}
 use Rattle.std.specs.Option.{option_or}
 use Rattle.std.specs.Str.{all_ascii_digits}
@@ -94,7 +95,8 @@ pub record IsSigningOf (f : Found) (s : Signing) : Type 0 where
   pub claims : text_of s.claims ≡ first_value f (codes "claims")
   pub secret : first_value f (codes "secret-file") ≡ Some s.secret.now
   pub is_trimmed : IsFlag f (codes "trim") s.is_trimmed
-  pub algorithm : option_map algorithm_named (option_or (first_value f (codes "alg")) (Some (codes "HS256"))) ≡ Some (Some s.algorithm)
+  pub algorithm : option_map algorithm_named (option_or (first_value f (codes "alg")) (Some (codes "HS256")))
+      ≡ Some (Some s.algorithm)
   pub kid : text_of s.kid ≡ first_value f (codes "kid")
   pub typ : text_of s.typ ≡ first_value f (codes "typ")
   pub exp_in : IsNumberOf (first_value f (codes "exp-in")) s.exp_in

@@ -1,5 +1,6 @@
 -- The options that the arguments of a command ask for.
-use Rattle.std.specs.Prelude.{◌≡◌, ◌&&◌, ◌||◌, not, ℕ, max, List, [], Bool, true, Option, Some, None, option_map, map, is_some, unwrap_or, if◌then◌else◌, codes}
+use Rattle.std.specs.Prelude.{◌≡◌, ◌&&◌, ◌||◌, not, ℕ, max, List, [], Bool, true, Option, Some, None, option_map, map}
+use Rattle.std.specs.Prelude.{is_some, unwrap_or, if◌then◌else◌, codes}
 use Rattle.std.specs.Borrow.{Bor}
 use Rattle.std.specs.Option.{option_or}
 use Rattle.std.specs.Str.{bytes_eq}

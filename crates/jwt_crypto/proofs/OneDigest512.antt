@@ -1,8 +1,10 @@
 -- Two blocks of 128 bytes that one hasher holds give one digest, whatever message follows them.
-use Rattle.std.proofs.Common.{◌≡◌, ◌∙◌, ℕ, suc, zero, ◌+◌, ◌*◌, ◌/◌, List, ◌++◌, length, take, drop, sym, ap, arith, append_assoc}
+use Rattle.std.proofs.Common.{◌≡◌, ◌∙◌, ℕ, suc, zero, ◌+◌, ◌*◌, ◌/◌, List, ◌++◌, length, take, drop, sym, ap, arith}
+use Rattle.std.proofs.Common.{append_assoc}
 use Rattle.std.proofs.lemmas.List.{take-append-le, length-append}
 use Rattle.std.proofs.Math.Seq.{drop-append-add}
-use Rattle.sha2.specs.Sha512.{compress, hash_after, padding, padded_message, final_hash, sha384, sha512, digest_bytes, initial_hash_384, initial_hash_512}
+use Rattle.sha2.specs.Sha512.{compress, hash_after, padding, padded_message, final_hash, sha384, sha512, digest_bytes}
+use Rattle.sha2.specs.Sha512.{initial_hash_384, initial_hash_512}
 use Rattle.sha2.specs.Sha512 as S512
 use Rattle.sha2.specs.Hashers.{Holds384, Holds512}
 use Rattle.sha2.specs.declared.Sha384.{Sha384}
@@ -12,7 +14,8 @@ use Rattle.sha2.specs.declared.Sha512.{Sha512}
 after : (i m n r : List ℕ) → length m ≡ 128 → length n ≡ 128 → hash_after i m 1 ≡ hash_after i n 1
     → (k : ℕ) → hash_after i (m ++ r) (suc k) ≡ hash_after i (n ++ r) (suc k)
 unfolding hash_after
-after i m n r p q h zero = ap (compress i) (take-append-le 128 m r (omega arith)) ∙ h ∙ sym (ap (compress i) (take-append-le 128 n r (omega arith)))
+after i m n r p q h zero = ap (compress i) (take-append-le 128 m r (omega arith)) ∙ h
+    ∙ sym (ap (compress i) (take-append-le 128 n r (omega arith)))
 after i m n r p q h (suc k) =
     let rest : (b : List ℕ) → length b ≡ 128 → drop (suc k * 128) (b ++ r) ≡ drop (k * 128) r
     = λ b e. ap (λ j. drop j (b ++ r)) (omega arith) ∙ rw e at (drop-append-add b r (k * 128)) in
@@ -21,7 +24,8 @@ after i m n r p q h (suc k) =
 
 -- a message behind a block, with its padding
 padded : (b x : List ℕ) → length b ≡ 128 → padded_message (b ++ x) ≡ b ++ (x ++ padding (128 + length x))
-padded b x e = ap (λ l. (b ++ x) ++ padding l) (length-append b x ∙ ap (λ l. l + length x) e) ∙ append_assoc b x (padding (128 + length x))
+padded b x e = ap (λ l. (b ++ x) ++ padding l) (length-append b x ∙ ap (λ l. l + length x) e)
+    ∙ append_assoc b x (padding (128 + length x))
 
 blocks : (b r : List ℕ) → length b ≡ 128 → length (b ++ r) / 128 ≡ suc (length r / 128)
 blocks b r e = let l = length-append b r in omega arith

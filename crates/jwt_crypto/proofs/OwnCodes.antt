@@ -6,7 +6,8 @@ use Rattle.jwt_crypto.specs.HmacKeys.{hash_for, algorithm_for, IsHmacOf}
 use Rattle.jwt_crypto.specs.declared.hmac.Hash.{Hash}
 use Rattle.jwt_crypto.specs.declared.hmac.Hash.TheVariants.{Sha256, Sha384, Sha512}
 
-own_code : (h : Hash) (inner outer secret m : List ℕ) → AreBlocksOf h inner outer secret → mac_by h inner outer m ≡ hmac h secret m
+own_code : (h : Hash) (inner outer secret m : List ℕ) → AreBlocksOf h inner outer secret → mac_by h inner outer m
+    ≡ hmac h secret m
 unfolding hmac
 own_code h inner outer secret m are =
     ap (λ i. nested h i (take (block_len h) outer) m) are.first

@@ -1,5 +1,6 @@
 -- Which secrets are prepared, key by key.
-use Rattle.std.proofs.Common.{◌≡◌, ◌≢◌, ◌↔◌, ◌∙◌, ◌<◌, ◌+◌, ℕ, List, [], ◌∷◌, ◌++◌, length, map, take, drop, set, get_or, sym, ap, refl, arith, Some, None, ⊎_elim}
+use Rattle.std.proofs.Common.{◌≡◌, ◌≢◌, ◌↔◌, ◌∙◌, ◌<◌, ◌+◌, ℕ, List, [], ◌∷◌, ◌++◌, length, map, take, drop, set}
+use Rattle.std.proofs.Common.{get_or, sym, ap, refl, arith, Some, None, ⊎_elim}
 use Rattle.std.specs.Prelude.{Contains}
 use Rattle.std.proofs.Math.Nat.{eq-or-lt_of_le}
 use Rattle.std.proofs.lemmas.List.{get_or-map, get_or_default, length-map, map-set}
@@ -75,4 +76,5 @@ pub cleared_more : (ks : List PreparedKey) (ps : List (Algorithm × List ℕ)) (
     → map prepared_key (set ks i new) ≡ map cleared_key (take (i + 1) ps) ++ drop (i + 1) ps
 cleared_more ks ps i old new p q so_far here e =
     map-set prepared_key ks i new ∙ ap (set (map prepared_key ks) i) e
-    ∙ map_over_more cleared_key ps (map prepared_key ks) i (prepared_key old) p so_far (ap prepared_key here ∙ sym (get_or-map prepared_key ks i old (prepared_key old) q))
+    ∙ map_over_more cleared_key ps (map prepared_key ks) i (prepared_key old) p so_far (ap prepared_key here
+        ∙ sym (get_or-map prepared_key ks i old (prepared_key old) q))

@@ -1,5 +1,6 @@
 -- Secrets whose blocks the same hashers hold give one code.
-use Rattle.std.proofs.Common.{◌≡◌, ◌↔◌, ◌∙◌, ◌≤◌, ◌-◌, ℕ, Bool, true, false, List, ◌++◌, length, replicate, refl, ap, arith, length-append, IsTrue, nat_lt, if◌then◌else◌}
+use Rattle.std.proofs.Common.{◌≡◌, ◌↔◌, ◌∙◌, ◌≤◌, ◌-◌, ℕ, Bool, true, false, List, ◌++◌, length, replicate, refl, ap}
+use Rattle.std.proofs.Common.{arith, length-append, IsTrue, nat_lt, if◌then◌else◌}
 use Rattle.std.specs.Coded.{Coded-set, coded_ℕ, coded_bool, coded_list}
 use Rattle.std.proofs.Math.Logic.{∥∥₁_elim}
 use Rattle.std.proofs.lemmas.List.{length-map, length-replicate}
@@ -29,7 +30,8 @@ either_fits n true x y p q = p
 either_fits n false x y p q = q refl
 
 short_fits : (h : Hash) (k : List ℕ) → length (short_key h k) ≤ block_len h
-short_fits h k = either_fits (block_len h) (nat_lt (block_len h) (length k)) (hash_bytes h k) k (digest_fits h k) (ltb-false (block_len h) (length k))
+short_fits h k = either_fits (block_len h) (nat_lt (block_len h) (length k)) (hash_bytes h k) k (digest_fits h k)
+    (ltb-false (block_len h) (length k))
 
 -- a masked block has the length of a block
 length-block : (mask : ℕ) (h : Hash) (k : List ℕ) → length (masked mask (key_block h k)) ≡ block_len h
@@ -46,13 +48,16 @@ length-block mask h k =
 pub one_code : (h : Hashers) (k l m : List ℕ) → HoldSecret h k → HoldSecret h l → hmac (hash_of h) k m ≡ hmac (hash_of h) l m
 unfolding hmac nested
 one_code (By256 f s) k l m p q =
-    ap (λ i. sha256 (outer_block Sha256 k ++ i)) (one_digest_256 f _ _ m (length-block 0x36 Sha256 k) (length-block 0x36 Sha256 l) p.0 q.0)
+    ap (λ i. sha256 (outer_block Sha256 k ++ i)) (one_digest_256 f _ _ m (length-block 0x36 Sha256 k)
+        (length-block 0x36 Sha256 l) p.0 q.0)
     ∙ one_digest_256 s _ _ _ (length-block 0x5c Sha256 k) (length-block 0x5c Sha256 l) p.1 q.1
 one_code (By384 f s) k l m p q =
-    ap (λ i. sha384 (outer_block Sha384 k ++ i)) (one_digest_384 f _ _ m (length-block 0x36 Sha384 k) (length-block 0x36 Sha384 l) p.0 q.0)
+    ap (λ i. sha384 (outer_block Sha384 k ++ i)) (one_digest_384 f _ _ m (length-block 0x36 Sha384 k)
+        (length-block 0x36 Sha384 l) p.0 q.0)
     ∙ one_digest_384 s _ _ _ (length-block 0x5c Sha384 k) (length-block 0x5c Sha384 l) p.1 q.1
 one_code (By512 f s) k l m p q =
-    ap (λ i. sha512 (outer_block Sha512 k ++ i)) (one_digest_512 f _ _ m (length-block 0x36 Sha512 k) (length-block 0x36 Sha512 l) p.0 q.0)
+    ap (λ i. sha512 (outer_block Sha512 k ++ i)) (one_digest_512 f _ _ m (length-block 0x36 Sha512 k)
+        (length-block 0x36 Sha512 l) p.0 q.0)
     ∙ one_digest_512 s _ _ _ (length-block 0x5c Sha512 k) (length-block 0x5c Sha512 l) p.1 q.1
 
 -- the code under one secret that is held is the code under each

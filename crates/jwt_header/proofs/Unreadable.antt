@@ -18,20 +18,25 @@ use Rattle.jwt_base.proofs.Readings.{weaker}
 abbrev pub RefusesHeader : Data → Error → Type 0
 RefusesHeader d = RefusesAs kind.Json ((h : Header) → ¬ ReadsHeader d h)
 
-pub unreadable-crit : (d : Data) (e : Error) → RefusesAs kind.Json (optional texts (get (codes "crit") d) ≡ None) e → RefusesHeader d e
+pub unreadable-crit : (d : Data) (e : Error) → RefusesAs kind.Json (optional texts (get (codes "crit") d) ≡ None) e
+    → RefusesHeader d e
 unreadable-crit d e = weaker _ _ e (λ none h r. absurd (cc (none, r.crit)))
 
-pub unreadable-enc : (d : Data) (e : Error) → RefusesAs kind.Json (optional enc_from (get (codes "enc") d) ≡ None) e → RefusesHeader d e
+pub unreadable-enc : (d : Data) (e : Error) → RefusesAs kind.Json (optional enc_from (get (codes "enc") d) ≡ None) e
+    → RefusesHeader d e
 unreadable-enc d e = weaker _ _ e (λ none h r. absurd (cc (none, r.enc)))
 
-pub unreadable-zip : (d : Data) (e : Error) → RefusesAs kind.Json (optional zip_from (get (codes "zip") d) ≡ None) e → RefusesHeader d e
+pub unreadable-zip : (d : Data) (e : Error) → RefusesAs kind.Json (optional zip_from (get (codes "zip") d) ≡ None) e
+    → RefusesHeader d e
 unreadable-zip d e = weaker _ _ e (λ none h r. absurd (cc (none, r.zip)))
 
 -- a float among the rest
-float_unread : (d : Data) (ms : Members) → as_object d ≡ Some ms → members_have_float (without header_names ms) ≡ true → (h : Header) → ReadsHeader d h → ⊥
+float_unread : (d : Data) (ms : Members) → as_object d ≡ Some ms → members_have_float (without header_names ms) ≡ true
+    → (h : Header) → ReadsHeader d h → ⊥
 float_unread d ms is float h r =
     let same : without header_names ms ≡ h.extras = cc (rw is at r.extras) in
     true≢false (sym float ∙ ap members_have_float same ∙ r.no_float)
 
-pub unreadable-extras : (d : Data) (ms : Members) (e : Error) → as_object d ≡ Some ms → RefusesAs kind.Json (members_have_float (without header_names ms) ≡ true) e → RefusesHeader d e
+pub unreadable-extras : (d : Data) (ms : Members) (e : Error) → as_object d ≡ Some ms
+    → RefusesAs kind.Json (members_have_float (without header_names ms) ≡ true) e → RefusesHeader d e
 unreadable-extras d ms e is = weaker _ _ e (float_unread d ms is)

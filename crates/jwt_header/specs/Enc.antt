@@ -3,7 +3,8 @@ use Rattle.std.specs.Prelude.{ℕ, List, [], ◌∷◌, Bool, true, false, Optio
 use Rattle.serde_json.specs.Data.{Data}
 use Rattle.jwt_base.specs.Spelling.{Spelling, named, named_from, named_value, normal_named}
 use Rattle.jwt_header.specs.declared.names.Enc.{Enc}
-use Rattle.jwt_header.specs.declared.names.Enc.TheVariants.{A128CBC_HS256, A192CBC_HS384, A256CBC_HS512, A128GCM, A192GCM, A256GCM, Other}
+use Rattle.jwt_header.specs.declared.names.Enc.TheVariants.{A128CBC_HS256, A192CBC_HS384, A256CBC_HS512, A128GCM}
+use Rattle.jwt_header.specs.declared.names.Enc.TheVariants.{A192GCM, A256GCM, Other}
 
 -- the six names of the table (RFC 7518 section 5.1), and any other
 abbrev pub enc_text : Enc → List ℕ

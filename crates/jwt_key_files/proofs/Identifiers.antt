@@ -8,14 +8,16 @@ use Rattle.jwt_base.specs.Kind.{Kind}
 use Rattle.jwt_base.specs.Kind as kind
 use Rattle.jwt_keys.specs.Key.{Key}
 use Rattle.jwt_key_files.specs.Der.{element, length_octets}
-use Rattle.jwt_key_files.specs.PublicKeys.{identifier, object_identifier, subject_public_key_info, IsRsaKey, IsKeyOf, IsRefused, IsPrivateOrMalformed}
+use Rattle.jwt_key_files.specs.PublicKeys.{identifier, object_identifier, subject_public_key_info, IsRsaKey, IsKeyOf}
+use Rattle.jwt_key_files.specs.PublicKeys.{IsRefused, IsPrivateOrMalformed}
 use Rattle.jwt_key_files.specs.declared.scheme.Scheme.{Scheme}
 use Rattle.jwt_key_files.specs.declared.scheme.Scheme.TheVariants as scheme
 use Rattle.jwt_key_files.proofs.Parts.{one_info, no_two, not_private_info}
 
 abbrev pub octets_of : Scheme → List ℕ
 octets_of scheme.Rsa = 6 ∷ 9 ∷ 0x2a ∷ 0x86 ∷ 0x48 ∷ 0x86 ∷ 0xf7 ∷ 0x0d ∷ 1 ∷ 1 ∷ 1 ∷ 5 ∷ 0 ∷ []
-octets_of scheme.P256 = 6 ∷ 7 ∷ 0x2a ∷ 0x86 ∷ 0x48 ∷ 0xce ∷ 0x3d ∷ 2 ∷ 1 ∷ 6 ∷ 8 ∷ 0x2a ∷ 0x86 ∷ 0x48 ∷ 0xce ∷ 0x3d ∷ 3 ∷ 1 ∷ 7 ∷ []
+octets_of scheme.P256 = 6 ∷ 7 ∷ 0x2a ∷ 0x86 ∷ 0x48 ∷ 0xce ∷ 0x3d ∷ 2 ∷ 1 ∷ 6 ∷ 8 ∷ 0x2a ∷ 0x86 ∷ 0x48 ∷ 0xce ∷ 0x3d ∷ 3
+    ∷ 1 ∷ 7 ∷ []
 octets_of scheme.P384 = 6 ∷ 7 ∷ 0x2a ∷ 0x86 ∷ 0x48 ∷ 0xce ∷ 0x3d ∷ 2 ∷ 1 ∷ 6 ∷ 5 ∷ 0x2b ∷ 0x81 ∷ 4 ∷ 0 ∷ 0x22 ∷ []
 octets_of scheme.Ed25519 = 6 ∷ 3 ∷ 0x2b ∷ 0x65 ∷ 0x70 ∷ []
 
@@ -63,10 +65,12 @@ one_scheme s t e =
     by_place s t (sym (by_length s) ∙ ap length (sym (identifier_is s) ∙ e ∙ identifier_is t) ∙ by_length t)
 
 -- octets that were compared with those of an identifier
-pub is_identifier : (s : Scheme) (xs ys : List ℕ) (r : Bool) → r ≡ pointwise eqb xs ys → ys ≡ octets_of s → r ≡ true → xs ≡ identifier s
+pub is_identifier : (s : Scheme) (xs ys : List ℕ) (r : Bool) → r ≡ pointwise eqb xs ys → ys ≡ octets_of s → r ≡ true
+    → xs ≡ identifier s
 is_identifier s xs ys r h y equal = (slice_eq-Decides Decides-eqb xs ys r h).0 equal ∙ y ∙ sym (identifier_is s)
 
-pub not_identifier : (s : Scheme) (xs ys : List ℕ) (r : Bool) → r ≡ pointwise eqb xs ys → ys ≡ octets_of s → r ≡ false → xs ≡ identifier s → ⊥
+pub not_identifier : (s : Scheme) (xs ys : List ℕ) (r : Bool) → r ≡ pointwise eqb xs ys → ys ≡ octets_of s → r ≡ false
+    → xs ≡ identifier s → ⊥
 not_identifier s xs ys r h y unequal e =
     let equal : r ≡ true = (slice_eq-Decides Decides-eqb xs ys r h).1 (e ∙ identifier_is s ∙ sym y) in cc
 
@@ -100,14 +104,16 @@ moved s t o p key e f h =
     let g : IsKeyOf s p key = subst (λ (x : Scheme). IsKeyOf x p key) (sym e) h in
     subst (λ (x : List ℕ). IsKeyOf s x key) (sym f) g
 
-pub refused_key : (b : List ℕ) (x : Kind) (s : Scheme) (a o : List ℕ) → x ≡ kind.InvalidKeyFormat → b ≡ subject_public_key_info a o
+pub refused_key : (b : List ℕ) (x : Kind) (s : Scheme) (a o : List ℕ) → x ≡ kind.InvalidKeyFormat
+    → b ≡ subject_public_key_info a o
     → a ≡ identifier s → ((k : Key) → IsKeyOf s o k → ⊥) → IsRefused b x
 refused_key b x s a o h e named none = record {
   none = λ key p. elim p [
     | inl r ↦ no_two b a o _ _ e r.1.1.3
     | inr i ↦
         let same = one_info b a o _ _ e i.bytes_are in
-        none key (moved s i.algorithm o i.octets key (one_scheme s i.algorithm (sym named ∙ same.algorithm)) same.octets i.is_key)
+        none key (moved s i.algorithm o i.octets key (one_scheme s i.algorithm (sym named ∙ same.algorithm)) same.octets
+            i.is_key)
   ];
   why = inr (inr (h, not_private_info b a o e, λ n. n.is_other s (sym (one_info b a o _ _ e n.bytes_are).algorithm ∙ named)));
 }

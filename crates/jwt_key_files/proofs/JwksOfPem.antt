@@ -1,5 +1,6 @@
 -- The key of a text, and the key of its JSON Web Key.
-use Rattle.std.proofs.Common.{◌≡◌, inl, inr, Bool, true, false, cond, eqb, List, ℕ, [], ◌∷◌, length, None, Result, Ok, Err, subst, sym}
+use Rattle.std.proofs.Common.{◌≡◌, inl, inr, Bool, true, false, cond, eqb, List, ℕ, [], ◌∷◌, length, None, Result, Ok}
+use Rattle.std.proofs.Common.{Err, subst, sym}
 use Rattle.jwt_base.specs.Kind.{Kind}
 use Rattle.jwt_base.specs.Kind as kind
 use Rattle.jwt_base.specs.declared.algorithms.AlgorithmFamily.TheVariants as family
@@ -44,7 +45,8 @@ made_point curve size [] = tt
 made_point curve size (first ∷ rest) = made_by (eqb first 4) _ _ (λ e. cc) tt
 
 made_elliptic : (bytes : List ℕ) → WhatIsMade (elliptic_of bytes)
-made_elliptic bytes = made_by (eqb (length bytes) 65) _ _ (made_point P256 32 bytes) (made_by (eqb (length bytes) 97) _ _ (made_point P384 48 bytes) tt)
+made_elliptic bytes = made_by (eqb (length bytes) 65) _ _ (made_point P256 32 bytes)
+    (made_by (eqb (length bytes) 97) _ _ (made_point P384 48 bytes) tt)
 
 made_parameters : (provider : KeyAnswers) (key : Key) → WhatIsMade (parameters_of provider key)
 made_parameters provider (Plain family.Hmac secret) = λ e. cc
@@ -53,7 +55,8 @@ made_parameters provider (Plain family.Ec point) = made_elliptic point
 made_parameters provider (Plain family.Ed x) = made_by (eqb (length x) 32) _ _ (λ e. cc) tt
 made_parameters provider (Components n e) = λ e. cc
 
-made_key : (parameters : Result AlgorithmParameters Kind) (jwk : Jwk) → WhatIsMade parameters → answered (jwk_of None) parameters ≡ Ok jwk → IsWritable jwk
+made_key : (parameters : Result AlgorithmParameters Kind) (jwk : Jwk) → WhatIsMade parameters
+    → answered (jwk_of None) parameters ≡ Ok jwk → IsWritable jwk
 made_key (Ok parameters) jwk h e = let same : jwk_of None parameters ≡ jwk = cc in subst IsWritable same h
 made_key (Err k) jwk h e = absurd (cc)
 

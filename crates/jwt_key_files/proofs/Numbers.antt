@@ -1,5 +1,6 @@
 -- Numbers and their octets.
-use Rattle.std.proofs.Common.{◌≡◌, ◌⊎◌, inl, inr, ℕ, zero, suc, ◌+◌, ◌*◌, ◌/◌, ◌%◌, ◌<◌, ◌≤◌, List, [], ◌∷◌, ◌++◌, length, get_or, take, drop, add-one, refl, ap, sym, ◌∙◌, arith}
+use Rattle.std.proofs.Common.{◌≡◌, ◌⊎◌, inl, inr, ℕ, zero, suc, ◌+◌, ◌*◌, ◌/◌, ◌%◌, ◌<◌, ◌≤◌, List, [], ◌∷◌, ◌++◌}
+use Rattle.std.proofs.Common.{length, get_or, take, drop, add-one, refl, ap, sym, ◌∙◌, arith}
 use Rattle.std.specs.Prelude.{slice_index}
 use Rattle.std.proofs.lemmas.Bool.{cases_lt}
 use Rattle.std.proofs.lemmas.Bool.Decides.{nat_tests}
@@ -21,7 +22,8 @@ number_cons n x xs = refl
 number_more : (n x : ℕ) (xs : List ℕ) → number_from n (xs ++ (x ∷ [])) ≡ number_from n xs * 0x100 + x
 number_more n x [] = number_cons n x [] ∙ number_nil (n * 0x100 + x) ∙ ap (λ (k : ℕ). k * 0x100 + x) (sym (number_nil n))
 number_more n x (y ∷ xs) =
-    number_cons n y (xs ++ (x ∷ [])) ∙ number_more (n * 0x100 + y) x xs ∙ ap (λ (k : ℕ). k * 0x100 + x) (sym (number_cons n y xs))
+    number_cons n y (xs ++ (x ∷ [])) ∙ number_more (n * 0x100 + y) x xs
+        ∙ ap (λ (k : ℕ). k * 0x100 + x) (sym (number_cons n y xs))
 
 grows : (n : ℕ) (xs : List ℕ) → n ≤ number_from n xs
 grows n [] = omega (arith, number_nil n)
@@ -61,13 +63,16 @@ pub record SameNumber (m n : ℕ) (r s : List ℕ) : Type 0 where
   pub number : m ≡ n
   pub rest : r ≡ s
 
-pub one_number_octets : (m n : ℕ) (r s : List ℕ) → length (number_octets m) ≡ length (number_octets n) → (number_octets m ++ r) ≡ (number_octets n ++ s) → SameNumber m n r s
+pub one_number_octets : (m n : ℕ) (r s : List ℕ) → length (number_octets m) ≡ length (number_octets n)
+    → (number_octets m ++ r) ≡ (number_octets n ++ s) → SameNumber m n r s
 one_number_octets m n r s l e =
     let f : number_octets m ≡ number_octets n =
-    sym (take-append_seam (number_octets m) r) ∙ ap (λ (k : ℕ). take k (number_octets m ++ r)) l ∙ ap (take (length (number_octets n))) e
+    sym (take-append_seam (number_octets m) r) ∙ ap (λ (k : ℕ). take k (number_octets m ++ r)) l
+        ∙ ap (take (length (number_octets n))) e
     ∙ take-append_seam (number_octets n) s in
     let g : r ≡ s =
-    sym (drop-append_seam (number_octets m) r) ∙ ap (λ (k : ℕ). drop k (number_octets m ++ r)) l ∙ ap (drop (length (number_octets n))) e
+    sym (drop-append_seam (number_octets m) r) ∙ ap (λ (k : ℕ). drop k (number_octets m ++ r)) l
+        ∙ ap (drop (length (number_octets n))) e
     ∙ drop-append_seam (number_octets n) s in
     record { number = sym (number_of m) ∙ ap (number_from 0) f ∙ number_of n; rest = g }
 
@@ -98,7 +103,8 @@ from_octets (suc k) xs l small first (suc b) h =
     let q : number_from 0 xs / 0x100 ≡ number_from 0 ys = omega (arith, v, small k, div-add-mod (number_from 0 xs) 0x100) in
     let r : number_from 0 xs % 0x100 ≡ x = omega (arith, v, small k, div-add-mod (number_from 0 xs) 0x100) in
     let less : number_from 0 ys ≤ b = omega (arith, v, h, above) in
-    let front : last_octets b (number_from 0 ys) ≡ ys = from_octets k ys (length-take-le k xs (omega arith)) (small_front k xs small)
+    let front : last_octets b (number_from 0 ys) ≡ ys = from_octets k ys (length-take-le k xs (omega arith))
+        (small_front k xs small)
     (λ p. omega (arith, get_or-take k xs 0 0 p, first (omega arith))) b less in
     octets_more b (number_from 0 xs) above ∙ ap (λ (n : ℕ). last_octets b n ++ (number_from 0 xs % 0x100 ∷ [])) q
     ∙ ap (λ (n : ℕ). last_octets b (number_from 0 ys) ++ (n ∷ [])) r ∙ ap (λ (s : List ℕ). s ++ (x ∷ [])) front ∙ sym split
@@ -110,7 +116,8 @@ nonzero (x ∷ xs) no_zero l = elim (cases_lt 0 x) [
   | inr q ↦ let z : x ≡ 0 = omega arith in absurd (no_zero (xs, ap (λ (k : ℕ). k ∷ xs) z))
 ]
 
-pub octets_are : (xs : List ℕ) → ((i : ℕ) → slice_index xs i < 0x100) → (0 < length xs → 0 < slice_index xs 0) → number_octets (number_from 0 xs) ≡ xs
+pub octets_are : (xs : List ℕ) → ((i : ℕ) → slice_index xs i < 0x100) → (0 < length xs → 0 < slice_index xs 0)
+    → number_octets (number_from 0 xs) ≡ xs
 octets_are xs small first =
     all_octets (number_from 0 xs) ∙ from_octets (length xs) xs refl small first (number_from 0 xs) (omega arith)
 
@@ -135,7 +142,8 @@ no_leading : (b n : ℕ) (xs : List ℕ) → n ≤ b → last_octets b n ≡ (0 
 no_leading zero n xs l e = none_begin n xs e
 no_leading (suc b) n xs l e = elim (cases_lt 0 n) [
   | inl p ↦ elim (front_zero (last_octets b (n / 0x100)) (n % 0x100) xs (sym (octets_more b n p) ∙ e)) [
-    | inl a ↦ omega (arith, a.zero, sym (number_last b (n / 0x100) (omega arith)) ∙ ap (number_from 0) a.none ∙ number_nil 0, div-add-mod n 0x100)
+    | inl a ↦ omega (arith, a.zero, sym (number_last b (n / 0x100) (omega arith)) ∙ ap (number_from 0) a.none
+        ∙ number_nil 0, div-add-mod n 0x100)
     | inr w ↦ no_leading b (n / 0x100) w.more (omega arith) w.begins
   ]
   | inr q ↦
@@ -145,7 +153,8 @@ no_leading (suc b) n xs l e = elim (cases_lt 0 n) [
 ]
 
 -- what was read as a number
-same_front : (n count : ℕ) (b o q s : List ℕ) → o ≡ take count b → length (number_octets n) ≡ count → b ≡ (number_octets n ++ s) → o ≡ number_octets n
+same_front : (n count : ℕ) (b o q s : List ℕ) → o ≡ take count b → length (number_octets n) ≡ count
+    → b ≡ (number_octets n ++ s) → o ≡ number_octets n
 same_front n count b o q s h l e =
     h ∙ ap (λ (k : ℕ). take k b) (sym l) ∙ ap (take (length (number_octets n))) e ∙ take-append_seam (number_octets n) s
 
@@ -154,17 +163,23 @@ pub leading : (count : ℕ) (b o r : List ℕ) → o ≡ take count b → o ≡ 
 leading count b o r h z n s l c e =
     no_leading n n r (omega arith) (sym (all_octets n) ∙ sym (same_front n count b o [] s h c e) ∙ z)
 
-pub overflows : (count : ℕ) (b o q : List ℕ) → o ≡ take count b → q ≡ drop count b → length o ≡ count → length q < number_from 0 o
+pub overflows : (count : ℕ) (b o q : List ℕ) → o ≡ take count b → q ≡ drop count b → length o ≡ count
+    → length q < number_from 0 o
     → (n : ℕ) (s : List ℕ) → n ≤ length s → length (number_octets n) ≡ count → b ≡ (number_octets n ++ s) → ⊥
 overflows count b o q h k i large n s l c e =
-    let f : drop count b ≡ s = ap (λ (m : ℕ). drop m b) (sym c) ∙ ap (drop (length (number_octets n))) e ∙ drop-append_seam (number_octets n) s in
+    let f : drop count b ≡ s = ap (λ (m : ℕ). drop m b) (sym c) ∙ ap (drop (length (number_octets n))) e
+        ∙ drop-append_seam (number_octets n) s in
     omega (arith, ap (number_from 0) (same_front n count b o [] s h c e), number_of n, ap length (k ∙ f))
 
-pub is_number : (count n : ℕ) (b o q : List ℕ) → o ≡ take count b → q ≡ drop count b → length o ≡ count → ((i : ℕ) → slice_index b i < 0x100)
-    → (((r : List ℕ) × (o ≡ 0 ∷ r)) → ⊥) → n ≡ number_from 0 o → (length (number_octets n) ≡ count) × (b ≡ (number_octets n ++ q))
+pub is_number : (count n : ℕ) (b o q : List ℕ) → o ≡ take count b → q ≡ drop count b → length o ≡ count
+    → ((i : ℕ) → slice_index b i < 0x100)
+    → (((r : List ℕ) × (o ≡ 0 ∷ r)) → ⊥) → n ≡ number_from 0 o → (length (number_octets n) ≡ count)
+        × (b ≡ (number_octets n ++ q))
 is_number count n b o q h k l small first e =
-    let are : number_octets n ≡ o = ap number_octets e ∙ octets_are o (λ i. rw h (small_front count b small i)) (nonzero o first) in
-    (ap length are ∙ l, sym (take-append-drop count b) ∙ ap (λ (s : List ℕ). s ++ drop count b) (sym h ∙ sym are) ∙ ap (λ (s : List ℕ). number_octets n ++ s) (sym k))
+    let are : number_octets n ≡ o = ap number_octets e ∙ octets_are o (λ i. rw h (small_front count b small i))
+        (nonzero o first) in
+    (ap length are ∙ l, sym (take-append-drop count b) ∙ ap (λ (s : List ℕ). s ++ drop count b) (sym h ∙ sym are)
+        ∙ ap (λ (s : List ℕ). number_octets n ++ s) (sym k))
 
 -- the loop over octets
 pub one_octet : (n total : ℕ) (xs : List ℕ) (i : ℕ) → i < length xs → number_from n (drop i xs) ≡ total
@@ -175,7 +190,8 @@ one_octet n total xs i l e =
 pub all_read : (n total : ℕ) (xs : List ℕ) (i : ℕ) → length xs ≤ i → number_from n (drop i xs) ≡ total → n ≡ total
 all_read n total xs i l e = sym (number_nil n) ∙ sym (ap (number_from n) (drop_all i xs l)) ∙ e
 
-pub too_large : (n total most : ℕ) (xs : List ℕ) (i : ℕ) → most < 0x1_0000_0000_0000_0000 → i < length xs → 0x100_0000_0000_0000 ≤ n
+pub too_large : (n total most : ℕ) (xs : List ℕ) (i : ℕ) → most < 0x1_0000_0000_0000_0000 → i < length xs
+    → 0x100_0000_0000_0000 ≤ n
     → number_from n (drop i xs) ≡ total → most < total
 too_large n total most xs i m l h e =
     omega (arith, one_octet n total xs i l e, grows (n * 0x100 + get_or xs i 0) (drop (i + 1) xs))

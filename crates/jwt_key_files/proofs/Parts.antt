@@ -41,7 +41,8 @@ unsigned_zero m r c h l q n p e = elim (cases_lt (slice_index n 0) 0x80) [
   | inr a ↦ let f : (0 ∷ n) ≡ (m ∷ r) = sym (e ∙ high n a) ∙ h in omega (arith, empty_first n (tails _ _ _ _ f ∙ q))
 ]
 
-pub unsigned_longer : (m k : ℕ) (r q c : List ℕ) → c ≡ (m ∷ r) → m ≤ 0 → r ≡ (k ∷ q) → k < 0x80 → (n : List ℕ) → IsPositive n → c ≡ signed n → ⊥
+pub unsigned_longer : (m k : ℕ) (r q c : List ℕ) → c ≡ (m ∷ r) → m ≤ 0 → r ≡ (k ∷ q) → k < 0x80 → (n : List ℕ)
+    → IsPositive n → c ≡ signed n → ⊥
 unsigned_longer m k r q c h l i b n p e = elim (cases_lt (slice_index n 0) 0x80) [
   | inl a ↦ omega (arith, first_is m n r (sym (e ∙ low n a) ∙ h))
   | inr a ↦ let f : (0 ∷ n) ≡ (m ∷ r) = sym (e ∙ high n a) ∙ h in omega (arith, first_is k n q (tails _ _ _ _ f ∙ i))
@@ -66,7 +67,8 @@ closes : (n s b : List ℕ) → b ≡ (element 2 (signed n) ++ s) → b ≡ (int
 unfolding integer
 closes n s b e = e
 
-pub no_integer : (b : List ℕ) → ((c s : List ℕ) → b ≡ (element 2 c ++ s) → ⊥) → (n s : List ℕ) → IsPositive n → b ≡ (integer n ++ s) → ⊥
+pub no_integer : (b : List ℕ) → ((c s : List ℕ) → b ≡ (element 2 c ++ s) → ⊥) → (n s : List ℕ) → IsPositive n
+    → b ≡ (integer n ++ s) → ⊥
 no_integer b none n s p e = none (signed n) s (opens n s b e)
 
 pub no_number : (b c r : List ℕ) → b ≡ (element 2 c ++ r) → ((n : List ℕ) → IsPositive n → c ≡ signed n → ⊥)
@@ -88,18 +90,21 @@ rsa_whole b n e h = h
 rsa_content : (b c n e : List ℕ) → b ≡ element 0x30 c → b ≡ rsa_public_key n e → c ≡ (integer n ++ integer e)
 rsa_content b c n e h i = one_whole 0x30 c (integer n ++ integer e) (sym h ∙ rsa_whole b n e i)
 
-pub no_rsa : (b : List ℕ) → ((c : List ℕ) → b ≡ element 0x30 c → ⊥) → (n e : List ℕ) → IsPositive n → IsPositive e → b ≡ rsa_public_key n e → ⊥
+pub no_rsa : (b : List ℕ) → ((c : List ℕ) → b ≡ element 0x30 c → ⊥) → (n e : List ℕ) → IsPositive n → IsPositive e
+    → b ≡ rsa_public_key n e → ⊥
 no_rsa b none n e p q h = none (integer n ++ integer e) (rsa_whole b n e h)
 
 pub no_modulus : (b c : List ℕ) → b ≡ element 0x30 c → ((n s : List ℕ) → IsPositive n → c ≡ (integer n ++ s) → ⊥)
     → (n e : List ℕ) → IsPositive n → IsPositive e → b ≡ rsa_public_key n e → ⊥
 no_modulus b c h none n e p q i = none n (integer e) p (rsa_content b c n e h i)
 
-after_modulus : (b c m r n e : List ℕ) → b ≡ element 0x30 c → c ≡ (integer m ++ r) → b ≡ rsa_public_key n e → r ≡ (integer e ++ [])
+after_modulus : (b c m r n e : List ℕ) → b ≡ element 0x30 c → c ≡ (integer m ++ r) → b ≡ rsa_public_key n e
+    → r ≡ (integer e ++ [])
 after_modulus b c m r n e h i j =
     (one_integer m n r (integer e) (sym i ∙ rsa_content b c n e h j)).rest ∙ sym (append-nil (integer e))
 
-pub no_exponent : (b c m r : List ℕ) → b ≡ element 0x30 c → c ≡ (integer m ++ r) → ((n s : List ℕ) → IsPositive n → r ≡ (integer n ++ s) → ⊥)
+pub no_exponent : (b c m r : List ℕ) → b ≡ element 0x30 c → c ≡ (integer m ++ r)
+    → ((n s : List ℕ) → IsPositive n → r ≡ (integer n ++ s) → ⊥)
     → (n e : List ℕ) → IsPositive n → IsPositive e → b ≡ rsa_public_key n e → ⊥
 no_exponent b c m r h i none n e p q j = none e [] q (after_modulus b c m r n e h i j)
 
@@ -117,7 +122,8 @@ a_sequence : (b n e : List ℕ) → b ≡ element 0x30 (integer n ++ integer e) 
 unfolding rsa_public_key sequence
 a_sequence b n e h = h
 
-pub an_rsa_key : (b c n r e s : List ℕ) → b ≡ element 0x30 c → c ≡ (integer n ++ r) → r ≡ (integer e ++ s) → length s ≤ 0 → b ≡ rsa_public_key n e
+pub an_rsa_key : (b c n r e s : List ℕ) → b ≡ element 0x30 c → c ≡ (integer n ++ r) → r ≡ (integer e ++ s)
+    → length s ≤ 0 → b ≡ rsa_public_key n e
 an_rsa_key b c n r e s h i k l =
     let f : c ≡ (integer n ++ integer e) = i ∙ ap (λ (x : List ℕ). integer n ++ x) (k ∙ ends (integer e) s l) in
     a_sequence b n e (h ∙ ap (element 0x30) f)
@@ -131,7 +137,8 @@ whole_info : (b a k : List ℕ) → b ≡ element 0x30 (element 0x30 a ++ elemen
 unfolding subject_public_key_info sequence bit_string
 whole_info b a k h = h
 
-info_content : (b c a k : List ℕ) → b ≡ element 0x30 c → b ≡ subject_public_key_info a k → c ≡ (element 0x30 a ++ element 3 (0 ∷ k))
+info_content : (b c a k : List ℕ) → b ≡ element 0x30 c → b ≡ subject_public_key_info a k
+    → c ≡ (element 0x30 a ++ element 3 (0 ∷ k))
 info_content b c a k h i = one_whole 0x30 c (element 0x30 a ++ element 3 (0 ∷ k)) (sym h ∙ info_whole b a k i)
 
 pub no_info : (b : List ℕ) → ((c : List ℕ) → b ≡ element 0x30 c → ⊥) → (a k : List ℕ) → b ≡ subject_public_key_info a k → ⊥
@@ -149,18 +156,21 @@ pub no_bits : (b c d r : List ℕ) → b ≡ element 0x30 c → c ≡ (element 0
     → (a k : List ℕ) → b ≡ subject_public_key_info a k → ⊥
 no_bits b c d r h i none a k j = none (0 ∷ k) (after_algorithm b c d r a k h i j).rest
 
-bits_are : (b c d r x a k : List ℕ) → b ≡ element 0x30 c → c ≡ (element 0x30 d ++ r) → r ≡ element 3 x → b ≡ subject_public_key_info a k → x ≡ (0 ∷ k)
+bits_are : (b c d r x a k : List ℕ) → b ≡ element 0x30 c → c ≡ (element 0x30 d ++ r) → r ≡ element 3 x
+    → b ≡ subject_public_key_info a k → x ≡ (0 ∷ k)
 bits_are b c d r x a k h i l j = one_whole 3 x (0 ∷ k) (sym l ∙ (after_algorithm b c d r a k h i j).rest)
 
 pub no_octets : (b c d r x : List ℕ) → b ≡ element 0x30 c → c ≡ (element 0x30 d ++ r) → r ≡ element 3 x → x ≡ []
     → (a k : List ℕ) → b ≡ subject_public_key_info a k → ⊥
 no_octets b c d r x h i l m a k j = let f : [] ≡ (0 ∷ k) = sym m ∙ bits_are b c d r x a k h i l j in cc
 
-pub unused_bits : (b c d r x : List ℕ) (u : ℕ) (y : List ℕ) → b ≡ element 0x30 c → c ≡ (element 0x30 d ++ r) → r ≡ element 3 x → x ≡ (u ∷ y)
+pub unused_bits : (b c d r x : List ℕ) (u : ℕ) (y : List ℕ) → b ≡ element 0x30 c → c ≡ (element 0x30 d ++ r)
+    → r ≡ element 3 x → x ≡ (u ∷ y)
     → (u ≡ 0 → ⊥) → (a k : List ℕ) → b ≡ subject_public_key_info a k → ⊥
 unused_bits b c d r x u y h i l m n a k j = n (heads _ _ _ _ (sym m ∙ bits_are b c d r x a k h i l j))
 
-pub an_info : (b c d r x : List ℕ) (u : ℕ) (y : List ℕ) → b ≡ element 0x30 c → c ≡ (element 0x30 d ++ r) → r ≡ element 3 x → x ≡ (u ∷ y)
+pub an_info : (b c d r x : List ℕ) (u : ℕ) (y : List ℕ) → b ≡ element 0x30 c → c ≡ (element 0x30 d ++ r)
+    → r ≡ element 3 x → x ≡ (u ∷ y)
     → u ≡ 0 → b ≡ subject_public_key_info d y
 an_info b c d r x u y h i l m n =
     let f : x ≡ (0 ∷ y) = m ∙ ap (λ (z : ℕ). z ∷ y) n in
@@ -174,7 +184,8 @@ pub record SameInfo (a d k y : List ℕ) : Type 0 where
 
 pub one_info : (b a k d y : List ℕ) → b ≡ subject_public_key_info a k → b ≡ subject_public_key_info d y → SameInfo a d k y
 one_info b a k d y h i =
-    let g = one_element 0x30 a d (element 3 (0 ∷ k)) (element 3 (0 ∷ y)) (info_content b (element 0x30 a ++ element 3 (0 ∷ k)) d y (info_whole b a k h) i) in
+    let g = one_element 0x30 a d (element 3 (0 ∷ k)) (element 3 (0 ∷ y))
+        (info_content b (element 0x30 a ++ element 3 (0 ∷ k)) d y (info_whole b a k h) i) in
     record { algorithm = g.content; octets = tails _ _ _ _ (one_whole 3 (0 ∷ k) (0 ∷ y) g.rest) }
 
 pub no_two : (b a k n e : List ℕ) → b ≡ subject_public_key_info a k → b ≡ rsa_public_key n e → ⊥
@@ -233,7 +244,8 @@ no_version b c h none x = none (x.version ∷ []) x.rest (private_content b c h 
 pub version_is : (b c d r : List ℕ) → b ≡ element 0x30 c → c ≡ (element 2 d ++ r) → (x : IsPrivateKey b) → d ≡ (x.version ∷ [])
 version_is b c d r h i x = (one_element 2 d (x.version ∷ []) r x.rest (sym i ∙ private_content b c h x)).content
 
-pub a_private : (b c d r q : List ℕ) (m : ℕ) → b ≡ element 0x30 c → c ≡ (element 2 d ++ r) → d ≡ (m ∷ q) → m ≤ 1 → length q ≤ 0 → IsPrivateKey b
+pub a_private : (b c d r q : List ℕ) (m : ℕ) → b ≡ element 0x30 c → c ≡ (element 2 d ++ r) → d ≡ (m ∷ q) → m ≤ 1
+    → length q ≤ 0 → IsPrivateKey b
 a_private b c d r [] m h i e l z =
     whole_private b m r l (h ∙ ap (element 0x30) (i ∙ ap (λ (s : List ℕ). element 2 s ++ r) e))
 a_private b c d r (x ∷ q) m h i e l z = absurd (omega arith)
@@ -241,8 +253,10 @@ a_private b c d r (x ∷ q) m h i e l z = absurd (omega arith)
 pub empty_version : (b c d r : List ℕ) → b ≡ element 0x30 c → c ≡ (element 2 d ++ r) → d ≡ [] → IsPrivateKey b → ⊥
 empty_version b c d r h i e x = let f : [] ≡ (x.version ∷ []) = sym e ∙ version_is b c d r h i x in cc
 
-pub high_version : (b c d r q : List ℕ) (m : ℕ) → b ≡ element 0x30 c → c ≡ (element 2 d ++ r) → d ≡ (m ∷ q) → 1 < m → IsPrivateKey b → ⊥
+pub high_version : (b c d r q : List ℕ) (m : ℕ) → b ≡ element 0x30 c → c ≡ (element 2 d ++ r) → d ≡ (m ∷ q) → 1 < m
+    → IsPrivateKey b → ⊥
 high_version b c d r q m h i e l x = omega (arith, x.is_version, heads _ _ _ _ (sym e ∙ version_is b c d r h i x))
 
-pub long_version : (b c d r q : List ℕ) (m : ℕ) → b ≡ element 0x30 c → c ≡ (element 2 d ++ r) → d ≡ (m ∷ q) → 0 < length q → IsPrivateKey b → ⊥
+pub long_version : (b c d r q : List ℕ) (m : ℕ) → b ≡ element 0x30 c → c ≡ (element 2 d ++ r) → d ≡ (m ∷ q)
+    → 0 < length q → IsPrivateKey b → ⊥
 long_version b c d r q m h i e l x = omega (arith, ap length (tails _ _ _ _ (sym e ∙ version_is b c d r h i x)))

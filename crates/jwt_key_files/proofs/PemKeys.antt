@@ -7,8 +7,10 @@ use Rattle.jwt_base.specs.Kind.{Kind}
 use Rattle.jwt_base.specs.Kind as kind
 use Rattle.jwt_keys.specs.Key.{Key}
 use Rattle.jwt_key_files.specs.Pem.{IsBlock, IsFirst, Begins}
-use Rattle.jwt_key_files.specs.PublicKeys.{subject_public_key_info, IsRsaKey, IsInfoOf, IsPublicKey, NamesAnother, IsRefused, private_key_text}
-use Rattle.jwt_key_files.specs.PemKeys.{IsBlockOf, IsPemOf, IsPrivateLabel, IsLabelled, NamesPrivate, IsBlockRefused, IsInfoRefused}
+use Rattle.jwt_key_files.specs.PublicKeys.{subject_public_key_info, IsRsaKey, IsInfoOf, IsPublicKey, NamesAnother}
+use Rattle.jwt_key_files.specs.PublicKeys.{IsRefused, private_key_text}
+use Rattle.jwt_key_files.specs.PemKeys.{IsBlockOf, IsPemOf, IsPrivateLabel, IsLabelled, NamesPrivate, IsBlockRefused}
+use Rattle.jwt_key_files.specs.PemKeys.{IsInfoRefused}
 use Rattle.jwt_key_files.proofs.Blocks.{one_block}
 use Rattle.jwt_key_files.proofs.Parts.{no_two, not_private_info}
 use Rattle.jwt_key_files.proofs.OneKey.{one_key}
@@ -57,8 +59,10 @@ not_labelled label b r h none x = none x.rest (append_cancel_left label r (codes
 pub labelled : (label b r s : List ℕ) → b ≡ label ++ r → r ≡ codes "-----" ++ s → IsLabelled label b
 labelled label b r s h k = record { rest = s; named = h ∙ ap (λ (t : List ℕ). label ++ t) k }
 
-pub not_private : (block : List ℕ) → (IsLabelled (codes "PRIVATE KEY") block → ⊥) → (IsLabelled (codes "ENCRYPTED PRIVATE KEY") block → ⊥)
-    → (IsLabelled (codes "RSA PRIVATE KEY") block → ⊥) → (IsLabelled (codes "EC PRIVATE KEY") block → ⊥) → NamesPrivate block → ⊥
+pub not_private : (block : List ℕ) → (IsLabelled (codes "PRIVATE KEY") block → ⊥)
+    → (IsLabelled (codes "ENCRYPTED PRIVATE KEY") block → ⊥)
+    → (IsLabelled (codes "RSA PRIVATE KEY") block → ⊥) → (IsLabelled (codes "EC PRIVATE KEY") block → ⊥)
+    → NamesPrivate block → ⊥
 not_private block f g h i p = elim p.is_private [
   | inl a ↦ f (subst (λ (l : List ℕ). IsLabelled l block) a p.labelled)
   | inr u ↦ elim u [
@@ -71,7 +75,8 @@ not_private block f g h i p = elim p.is_private [
 ]
 
 -- the refusals of bytes that are no SubjectPublicKeyInfo, and of those that are
-pub no_info_key : (b : List ℕ) (x : Kind) → x ≡ kind.InvalidKeyFormat → ((a k : List ℕ) → b ≡ subject_public_key_info a k → ⊥) → IsInfoRefused b x
+pub no_info_key : (b : List ℕ) (x : Kind) → x ≡ kind.InvalidKeyFormat
+    → ((a k : List ℕ) → b ≡ subject_public_key_info a k → ⊥) → IsInfoRefused b x
 no_info_key b x h none = record { none = λ key i. none _ _ i.bytes_are; why = inr (h, λ n. none _ _ n.bytes_are) }
 
 pub refused_info : (b a o : List ℕ) (x : Kind) → b ≡ subject_public_key_info a o → IsRefused b x → IsInfoRefused b x
@@ -87,7 +92,8 @@ pub info_only : (b a o : List ℕ) (key : Key) → b ≡ subject_public_key_info
 info_only b a o key h p = elim p [ inl r ↦ absurd (no_two b a o _ _ h r.1.1.3) | inr i ↦ i ]
 
 -- the refusals of blocks
-pub refused_public : (block d : List ℕ) (x : Kind) → IsBlock (codes "PUBLIC KEY") block d → IsInfoRefused d x → IsBlockRefused block x
+pub refused_public : (block d : List ℕ) (x : Kind) → IsBlock (codes "PUBLIC KEY") block d → IsInfoRefused d x
+    → IsBlockRefused block x
 refused_public block d x h r = record {
   none = λ der key p. elim p [
     | inl q ↦ r.none key (subst (λ (s : List ℕ). IsInfoOf s key) (one_block (codes "PUBLIC KEY") block der d q.0 h) q.1)
@@ -95,7 +101,8 @@ refused_public block d x h r = record {
   ];
   why = elim r.why [
     | inl w ↦ inr (inl (w.0, record { der = d; holds = h; another = w.1 }))
-    | inr w ↦ inr (inr (w.0, public_only block d h, λ a. w.1 (subst NamesAnother (one_block (codes "PUBLIC KEY") block a.der d a.holds h) a.another)))
+    | inr w ↦ inr (inr (w.0, public_only block d h,
+        λ a. w.1 (subst NamesAnother (one_block (codes "PUBLIC KEY") block a.der d a.holds h) a.another)))
   ];
 }
 
@@ -109,15 +116,18 @@ refused_rsa_block block d x h e none = record {
   why = inr (inr (e, rsa_only block d h, λ a. not_both block a.der d a.holds h));
 }
 
-pub refused_private : (block : List ℕ) (x : Kind) → x ≡ kind.Provider private_key_text → ((d : List ℕ) → IsBlock (codes "PUBLIC KEY") block d → ⊥)
+pub refused_private : (block : List ℕ) (x : Kind) → x ≡ kind.Provider private_key_text
+    → ((d : List ℕ) → IsBlock (codes "PUBLIC KEY") block d → ⊥)
     → ((d : List ℕ) → IsBlock (codes "RSA PUBLIC KEY") block d → ⊥) → NamesPrivate block → IsBlockRefused block x
 refused_private block x e f g p =
     record { none = λ der key q. elim q [ inl r ↦ f der r.0 | inr r ↦ g der r.0 ]; why = inl (e, p) }
 
-pub refused_other : (block : List ℕ) (x : Kind) → x ≡ kind.InvalidKeyFormat → ((d : List ℕ) → IsBlock (codes "PUBLIC KEY") block d → ⊥)
+pub refused_other : (block : List ℕ) (x : Kind) → x ≡ kind.InvalidKeyFormat
+    → ((d : List ℕ) → IsBlock (codes "PUBLIC KEY") block d → ⊥)
     → ((d : List ℕ) → IsBlock (codes "RSA PUBLIC KEY") block d → ⊥) → (NamesPrivate block → ⊥) → IsBlockRefused block x
 refused_other block x e f g p =
-    record { none = λ der key q. elim q [ inl r ↦ f der r.0 | inr r ↦ g der r.0 ]; why = inr (inr (e, p, λ a. f a.der a.holds)) }
+    record { none = λ der key q. elim q [ inl r ↦ f der r.0 | inr r ↦ g der r.0 ];
+        why = inr (inr (e, p, λ a. f a.der a.holds)) }
 
 -- a text has one first block
 one_place : (text a b : List ℕ) (x : IsFirst text a) (y : IsFirst text b) → x.place ≡ y.place
@@ -138,12 +148,14 @@ one_first text a b x y =
 key_of_one : (block d e : List ℕ) (k l : Key) → IsBlockOf block d k → IsBlockOf block e l → k ≡ l
 key_of_one block d e k l p q = elim p [
   | inl a ↦ elim q [
-    | inl b ↦ one_key e k l (inr (subst (λ (s : List ℕ). IsInfoOf s k) (one_block (codes "PUBLIC KEY") block d e a.0 b.0) a.1)) (inr b.1)
+    | inl b ↦ one_key e k l (inr (subst (λ (s : List ℕ). IsInfoOf s k)
+        (one_block (codes "PUBLIC KEY") block d e a.0 b.0) a.1)) (inr b.1)
     | inr b ↦ absurd (not_both block d e a.0 b.0)
   ]
   | inr a ↦ elim q [
     | inl b ↦ absurd (not_both block e d b.0 a.0)
-    | inr b ↦ one_key e k l (inl (subst (λ (s : List ℕ). IsRsaKey s k) (one_block (codes "RSA PUBLIC KEY") block d e a.0 b.0) a.1)) (inl b.1)
+    | inr b ↦ one_key e k l (inl (subst (λ (s : List ℕ). IsRsaKey s k)
+        (one_block (codes "RSA PUBLIC KEY") block d e a.0 b.0) a.1)) (inl b.1)
   ]
 ]
 

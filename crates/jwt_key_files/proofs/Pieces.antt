@@ -1,5 +1,7 @@
 -- Lemmas about contiguous parts of a list of bytes, and about `find`.
-use Rattle.std.proofs.Common.{◌≡◌, ℕ, zero, suc, ◌+◌, ◌-◌, ◌<◌, List, [], ◌∷◌, ◌++◌, Bool, true, false, cond, Some, None, length, get_or, take, drop, refl, ap, sym, subst, ◌∙◌, arith, append_assoc, append-nil, length-append}
+use Rattle.std.proofs.Common.{◌≡◌, ℕ, zero, suc, ◌+◌, ◌-◌, ◌<◌, List, [], ◌∷◌, ◌++◌, Bool, true, false, cond, Some}
+use Rattle.std.proofs.Common.{None, length, get_or, take, drop, refl, ap, sym, subst, ◌∙◌, arith, append_assoc}
+use Rattle.std.proofs.Common.{append-nil, length-append}
 use Rattle.std.specs.Prelude.{map, find, flat_map, Contains, slice_range}
 use Rattle.std.specs.List.{range_with_len}
 use Rattle.std.proofs.lemmas.List.{length-map, get_or-map}
@@ -12,7 +14,8 @@ use Rattle.jwt_key_files.specs.RsaComponents.{pieces_of, pairs_of}
 has_mapped : {A B : Type 0} (f : A → B) (xs : List A) (x : A) → Contains xs x → Contains (map f xs) (f x)
 has_mapped f xs x h = (h.0, omega (arith, h.1, length-map xs f), get_or-map f xs h.0 x (f x) h.1 ∙ ap f h.2)
 
-has_joined : {A B : Type 0} (f : A → List B) (xs : List A) (x : A) (y : B) (k : ℕ) → k < length xs → get_or xs k x ≡ x → Contains (f x) y
+has_joined : {A B : Type 0} (f : A → List B) (xs : List A) (x : A) (y : B) (k : ℕ) → k < length xs → get_or xs k x ≡ x
+    → Contains (f x) y
     → Contains (flat_map f xs) y
 has_joined f [] x y k l e m = absurd (omega arith)
 has_joined f (z ∷ xs) x y zero l e m =
@@ -98,7 +101,8 @@ found_passes {A} p (x ∷ xs) y e = by (p x) refl (found_passes p xs y) e
     by true h rest f = let same : x ≡ y = cc in ap p (sym same) ∙ h
     by false h rest f = rest f
 
-pub not_missed : {A : Type 0} (p : A → Bool) (xs : List A) (y : A) (k : ℕ) → k < length xs → get_or xs k y ≡ y → p y ≡ true → find p xs ≡ None → ⊥
+pub not_missed : {A : Type 0} (p : A → Bool) (xs : List A) (y : A) (k : ℕ) → k < length xs → get_or xs k y ≡ y
+    → p y ≡ true → find p xs ≡ None → ⊥
 not_missed p [] y k l e h f = omega arith
 not_missed p (x ∷ xs) y zero l e h f =
     let g : cond true (Some x) (find p xs) ≡ None = ap (λ b. cond b (Some x) (find p xs)) (sym (ap p e ∙ h)) ∙ f in cc

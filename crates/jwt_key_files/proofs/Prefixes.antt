@@ -1,5 +1,6 @@
 -- What bytes begin with: at most one length, and at most one element with a tag.
-use Rattle.std.proofs.Common.{◌≡◌, ◌⊎◌, inl, inr, ℕ, ◌+◌, ◌-◌, ◌<◌, ◌≤◌, List, [], ◌∷◌, ◌++◌, length, take, ap, sym, ◌∙◌, arith, append_assoc}
+use Rattle.std.proofs.Common.{◌≡◌, ◌⊎◌, inl, inr, ℕ, ◌+◌, ◌-◌, ◌<◌, ◌≤◌, List, [], ◌∷◌, ◌++◌, length, take, ap, sym}
+use Rattle.std.proofs.Common.{◌∙◌, arith, append_assoc}
 use Rattle.std.proofs.lemmas.Bool.{cases_lt}
 use Rattle.std.proofs.lemmas.Bool.Decides.{nat_tests}
 use Rattle.std.proofs.lemmas.List.{append_cancel_left, append-nil, length-append}
@@ -87,7 +88,8 @@ opened t c r = ap (λ (x : List ℕ). t ∷ x) (append_assoc (length_octets (len
 
 pub one_element : (t : ℕ) (c d r s : List ℕ) → (element t c ++ r) ≡ (element t d ++ s) → SameContent c d r s
 one_element t c d r s e =
-    let f : (t ∷ length_octets (length c) ++ (c ++ r)) ≡ (t ∷ length_octets (length d) ++ (d ++ s)) = sym (opened t c r) ∙ e ∙ opened t d s in
+    let f : (t ∷ length_octets (length c) ++ (c ++ r)) ≡ (t ∷ length_octets (length d) ++ (d ++ s)) = sym (opened t c r)
+        ∙ e ∙ opened t d s in
     let g = one_length (length c) (length d) (c ++ r) (d ++ s) (tails _ _ _ _ f) in
     of_cut c d r s g.number g.rest
 
@@ -116,7 +118,8 @@ none_of_number m r b h l none n s k e = elim (starts m n r s (sym h ∙ e)) [
   | inr x ↦ none n s k (omega (arith, x.first)) x.rest
 ]
 
-pub none_of_small : (m k : ℕ) (r q b : List ℕ) → b ≡ (m ∷ r) → 0x80 ≤ m → length (number_octets k) ≡ m - 0x80 → r ≡ (number_octets k ++ q) → k < 0x80
+pub none_of_small : (m k : ℕ) (r q b : List ℕ) → b ≡ (m ∷ r) → 0x80 ≤ m → length (number_octets k) ≡ m - 0x80
+    → r ≡ (number_octets k ++ q) → k < 0x80
     → (n : ℕ) (s : List ℕ) → b ≡ (length_octets n ++ s) → ⊥
 none_of_small m k r q b h l c i j n s e = elim (starts m n r s (sym h ∙ e)) [
   | inl x ↦ omega (arith, x.below)
@@ -127,14 +130,16 @@ none_of_small m k r q b h l c i j n s e = elim (starts m n r s (sym h ∙ e)) [
 pub octets_short : (m : ℕ) (r b : List ℕ) → b ≡ (m ∷ r) → m < 0x80 → b ≡ (length_octets m ++ r)
 octets_short m r b h l = rw (short m l) h
 
-pub octets_long : (m k : ℕ) (r q b : List ℕ) → b ≡ (m ∷ r) → 0x80 ≤ m → length (number_octets k) ≡ m - 0x80 → r ≡ (number_octets k ++ q) → 0x80 ≤ k
+pub octets_long : (m k : ℕ) (r q b : List ℕ) → b ≡ (m ∷ r) → 0x80 ≤ m → length (number_octets k) ≡ m - 0x80
+    → r ≡ (number_octets k ++ q) → 0x80 ≤ k
     → b ≡ (length_octets k ++ q)
 octets_long m k r q b h l c i a =
     let f : m ≡ 0x80 + length (number_octets k) = omega arith in
     rw (long k a) (h ∙ ap (λ (x : ℕ). x ∷ r) f ∙ ap (λ (x : List ℕ). (0x80 + length (number_octets k)) ∷ x) i)
 
 -- bytes that begin with no element of this tag
-parts : (t : ℕ) (m : ℕ) (r b c s : List ℕ) → b ≡ (m ∷ r) → b ≡ (element t c ++ s) → (m ∷ r) ≡ (t ∷ length_octets (length c) ++ (c ++ s))
+parts : (t : ℕ) (m : ℕ) (r b c s : List ℕ) → b ≡ (m ∷ r) → b ≡ (element t c ++ s)
+    → (m ∷ r) ≡ (t ∷ length_octets (length c) ++ (c ++ s))
 parts t m r b c s h e = sym h ∙ e ∙ opened t c s
 
 pub no_element_of_nil : (t : ℕ) (b : List ℕ) → b ≡ [] → (c s : List ℕ) → b ≡ (element t c ++ s) → ⊥
@@ -143,7 +148,8 @@ no_element_of_nil t b h c s e = let f : [] ≡ (t ∷ length_octets (length c) +
 pub no_element_of_tag : (t m : ℕ) (r b : List ℕ) → b ≡ (m ∷ r) → (m ≡ t → ⊥) → (c s : List ℕ) → b ≡ (element t c ++ s) → ⊥
 no_element_of_tag t m r b h n c s e = n (heads _ _ _ _ (parts t m r b c s h e))
 
-pub no_element_of_length : (t m : ℕ) (r b : List ℕ) → b ≡ (m ∷ r) → ((n : ℕ) (s : List ℕ) → n ≤ length s → r ≡ (length_octets n ++ s) → ⊥)
+pub no_element_of_length : (t m : ℕ) (r b : List ℕ) → b ≡ (m ∷ r)
+    → ((n : ℕ) (s : List ℕ) → n ≤ length s → r ≡ (length_octets n ++ s) → ⊥)
     → (c s : List ℕ) → b ≡ (element t c ++ s) → ⊥
 no_element_of_length t m r b h none c s e =
     none (length c) (c ++ s) (omega (arith, length-append c s)) (tails _ _ _ _ (parts t m r b c s h e))
@@ -154,7 +160,8 @@ no_element_of_short t m n r b q h f l c s e =
     let g = one_length n (length c) q (c ++ s) (sym f ∙ tails _ _ _ _ (parts t m r b c s h e)) in
     omega (arith, ap length g.rest, length-append c s, g.number)
 
-pub element_of_parts : (t m n : ℕ) (r b q c s : List ℕ) → b ≡ (m ∷ r) → m ≡ t → r ≡ (length_octets n ++ q) → length c ≡ n → q ≡ (c ++ s)
+pub element_of_parts : (t m n : ℕ) (r b q c s : List ℕ) → b ≡ (m ∷ r) → m ≡ t → r ≡ (length_octets n ++ q)
+    → length c ≡ n → q ≡ (c ++ s)
     → b ≡ (element t c ++ s)
 element_of_parts t m n r b q c s h i f l e =
     let g : length_octets n ≡ length_octets (length c) = ap length_octets (sym l) in

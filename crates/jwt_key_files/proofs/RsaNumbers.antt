@@ -71,7 +71,8 @@ same_pair b m d n e h i =
     let s = one_rsa_key b m d n e h.modulus h.exponent i.modulus i.exponent h.bytes_are i.bytes_are in
     ap (λ (x : List ℕ). pair_of x d) s.modulus ∙ ap (pair_of n) s.exponent
 
-by_answer : (b n e : List ℕ) → IsOfNumbers b n e → (o : Option (List ℕ × List ℕ)) → rsa_components b ≡ o → rsa_components b ≡ Some (n, e)
+by_answer : (b n e : List ℕ) → IsOfNumbers b n e → (o : Option (List ℕ × List ℕ)) → rsa_components b ≡ o
+    → rsa_components b ≡ Some (n, e)
 by_answer b n e h None f = absurd (some_found b n e h f)
 by_answer b n e h (Some p) f = f ∙ ap Some (same_pair b p.0 p.1 n e (found b p.0 p.1 f) h)
 
@@ -79,10 +80,12 @@ pub the_components : (b n e : List ℕ) → IsPositive n → IsPositive e → b 
 the_components b n e p q h =
     by_answer b n e (record { bytes_are = h; modulus = p; exponent = q }) (rsa_components b) refl
 
-none_by : (b : List ℕ) → ((n e : List ℕ) → IsOfNumbers b n e → ⊥) → (o : Option (List ℕ × List ℕ)) → rsa_components b ≡ o → rsa_components b ≡ None
+none_by : (b : List ℕ) → ((n e : List ℕ) → IsOfNumbers b n e → ⊥) → (o : Option (List ℕ × List ℕ))
+    → rsa_components b ≡ o → rsa_components b ≡ None
 none_by b none None f = f
 none_by b none (Some p) f = absurd (none p.0 p.1 (found b p.0 p.1 f))
 
-pub no_components : (b : List ℕ) → ((n : List ℕ) (e : List ℕ) → IsPositive n → IsPositive e → b ≡ rsa_public_key n e → ⊥) → rsa_components b ≡ None
+pub no_components : (b : List ℕ) → ((n : List ℕ) (e : List ℕ) → IsPositive n → IsPositive e → b ≡ rsa_public_key n e
+    → ⊥) → rsa_components b ≡ None
 no_components b none =
     none_by b (λ n e h. none n e h.modulus h.exponent h.bytes_are) (rsa_components b) refl

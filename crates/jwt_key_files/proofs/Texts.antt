@@ -14,12 +14,14 @@ use Rattle.jwt_key_files.specs.Pem.{IsLineEnd, EndsLine, IsClosed, Begins}
 pub no_prefix : (p b : List ℕ) → pointwise eqb (take (length p) b) p ≡ false → (rest : List ℕ) → b ≡ p ++ rest → ⊥
 no_prefix p b unequal rest e =
     let f : take (length p) b ≡ p = ap (take (length p)) e ∙ take-append_seam p rest in
-    let equal : pointwise eqb (take (length p) b) p ≡ true = (slice_eq-Decides Decides-eqb (take (length p) b) p (pointwise eqb (take (length p) b) p) refl).1 f in
+    let equal : pointwise eqb (take (length p) b) p ≡ true =
+        (slice_eq-Decides Decides-eqb (take (length p) b) p (pointwise eqb (take (length p) b) p) refl).1 f in
     cc
 
 pub a_prefix : (p b x : List ℕ) → pointwise eqb (take (length p) b) p ≡ true → x ≡ drop (length p) b → b ≡ p ++ x
 a_prefix p b x equal e =
-    let f : take (length p) b ≡ p = (slice_eq-Decides Decides-eqb (take (length p) b) p (pointwise eqb (take (length p) b) p) refl).0 equal in
+    let f : take (length p) b ≡ p =
+        (slice_eq-Decides Decides-eqb (take (length p) b) p (pointwise eqb (take (length p) b) p) refl).0 equal in
     sym (take-append-drop (length p) b) ∙ ap (λ (s : List ℕ). s ++ drop (length p) b) f ∙ ap (λ (s : List ℕ). p ++ s) (sym e)
 
 -- what follows a label
@@ -27,12 +29,15 @@ pub no_dashes : (label b r : List ℕ) → b ≡ label ++ r → ((s : List ℕ) 
     → (eol s : List ℕ) → b ≡ label ++ (codes "-----" ++ (eol ++ s)) → ⊥
 no_dashes label b r h none eol s e = none (eol ++ s) (append_cancel_left label r (codes "-----" ++ (eol ++ s)) (sym h ∙ e))
 
-pub no_end : (label b r t : List ℕ) → b ≡ label ++ r → r ≡ codes "-----" ++ t → ((eol s : List ℕ) → IsLineEnd eol → t ≡ eol ++ s → ⊥)
+pub no_end : (label b r t : List ℕ) → b ≡ label ++ r → r ≡ codes "-----" ++ t
+    → ((eol s : List ℕ) → IsLineEnd eol → t ≡ eol ++ s → ⊥)
     → (eol s : List ℕ) → IsLineEnd eol → b ≡ label ++ (codes "-----" ++ (eol ++ s)) → ⊥
 no_end label b r t h i none eol s q e =
-    none eol s q (append_cancel_left (codes "-----") t (eol ++ s) (sym i ∙ append_cancel_left label r (codes "-----" ++ (eol ++ s)) (sym h ∙ e)))
+    none eol s q (append_cancel_left (codes "-----") t (eol ++ s) (sym i
+        ∙ append_cancel_left label r (codes "-----" ++ (eol ++ s)) (sym h ∙ e)))
 
-pub an_opening : (label b r t eol s : List ℕ) → b ≡ label ++ r → r ≡ codes "-----" ++ t → t ≡ eol ++ s → b ≡ label ++ (codes "-----" ++ (eol ++ s))
+pub an_opening : (label b r t eol s : List ℕ) → b ≡ label ++ r → r ≡ codes "-----" ++ t → t ≡ eol ++ s
+    → b ≡ label ++ (codes "-----" ++ (eol ++ s))
 an_opening label b r t eol s h i k = h ∙ ap (λ (x : List ℕ). label ++ x) (i ∙ ap (λ (x : List ℕ). codes "-----" ++ x) k)
 
 -- what follows the mark of an end
@@ -57,7 +62,8 @@ rest_of_closing label b s t h i =
     append_cancel_left (codes "-----") s t (append_cancel_left label (codes "-----" ++ s) (codes "-----" ++ t)
     (append_cancel_left (codes "-----END ") (label ++ (codes "-----" ++ s)) (label ++ (codes "-----" ++ t)) (sym h ∙ i)))
 
-pub closed_ends : (label b s : List ℕ) → b ≡ codes "-----END " ++ (label ++ (codes "-----" ++ s)) → IsClosed label b → EndsLine s
+pub closed_ends : (label b s : List ℕ) → b ≡ codes "-----END " ++ (label ++ (codes "-----" ++ s)) → IsClosed label b
+    → EndsLine s
 closed_ends label b s h x = subst EndsLine (sym (rest_of_closing label b s x.after h x.text_is)) x.ends
 
 -- the place of the first block is within the text

@@ -1,6 +1,7 @@
 -- The distinguished encoding (ITU-T X.690 sections 8 and 10): an element is a tag, the octets of a length, and the content.
 -- Definitions write an element and never read one: that there is one way to read follows, by proof.
-use Rattle.std.specs.Prelude.{ℕ, zero, suc, ◌+◌, ◌/◌, ◌%◌, ◌<◌, List, [], ◌∷◌, ◌++◌, length, slice_index, nat_eq, nat_lt, if◌then◌else◌}
+use Rattle.std.specs.Prelude.{ℕ, zero, suc, ◌+◌, ◌/◌, ◌%◌, ◌<◌, List, [], ◌∷◌, ◌++◌, length, slice_index, nat_eq}
+use Rattle.std.specs.Prelude.{nat_lt, if◌then◌else◌}
 
 -- the last octets of a number, at most so many of them, without leading zeros
 unfoldable pub last_octets : (count n : ℕ) → List ℕ
@@ -11,7 +12,8 @@ last_octets (suc count) n = if nat_eq n 0 then [] else last_octets count (n / 0x
 unfoldable pub number_octets : (n : ℕ) → List ℕ
 number_octets n = last_octets n n
 
--- the octets of a length: itself, or from 0x80 on how many octets the number has, and these (sections 8.1.3.4, 8.1.3.5 and 10.1)
+-- the octets of a length: itself, or from 0x80 on how many octets the number has, and these (sections 8.1.3.4, 8.1.3.5
+-- and 10.1)
 unfoldable pub length_octets : (n : ℕ) → List ℕ
 length_octets n = if nat_lt n 0x80 then n ∷ [] else (0x80 + length (number_octets n)) ∷ number_octets n
 

@@ -1,5 +1,6 @@
 -- The textual encoding of keys, in its strict form (RFC 7468 section 3, `stricttextualmsg`).
-use Rattle.std.specs.Prelude.{◌≡◌, ◌⊎◌, ℕ, zero, suc, ◌+◌, ◌-◌, ◌/◌, ◌<◌, List, [], ◌∷◌, ◌++◌, length, take, drop, slice_index, codes}
+use Rattle.std.specs.Prelude.{◌≡◌, ◌⊎◌, ℕ, zero, suc, ◌+◌, ◌-◌, ◌/◌, ◌<◌, List, [], ◌∷◌, ◌++◌, length, take, drop}
+use Rattle.std.specs.Prelude.{slice_index, codes}
 use Rattle.jwt_base.specs.Base64Url.{IsStandardText}
 
 -- an `eol`: CR LF, LF or CR

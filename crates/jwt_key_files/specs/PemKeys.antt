@@ -10,7 +10,8 @@ use Rattle.jwt_key_files.specs.PublicKeys.{IsRsaKey, IsInfoOf, NamesAnother, pri
 -- the block holds these bytes, which its label says to be the key
 abbrev pub IsBlockOf : (block der : List ℕ) → Key → Type 0
 IsBlockOf block der key =
-    (IsBlock (codes "PUBLIC KEY") block der × IsInfoOf der key) ⊎ (IsBlock (codes "RSA PUBLIC KEY") block der × IsRsaKey der key)
+    (IsBlock (codes "PUBLIC KEY") block der × IsInfoOf der key) ⊎ (IsBlock (codes "RSA PUBLIC KEY") block der
+        × IsRsaKey der key)
 
 -- the first block of the text holds the key
 pub record IsPemOf (text : List ℕ) (key : Key) : Type 0 where
@@ -58,4 +59,5 @@ IsPemRefused text refusal =
 -- the bytes are no SubjectPublicKeyInfo of a key, and this is the kind of the refusal
 pub record IsInfoRefused (der : List ℕ) (refusal : Kind) : Type 0 where
   pub none : (key : Key) → ¬ IsInfoOf der key
-  pub why : ((refusal ≡ kind.UnsupportedAlgorithm) × NamesAnother der) ⊎ ((refusal ≡ kind.InvalidKeyFormat) × ¬ NamesAnother der)
+  pub why : ((refusal ≡ kind.UnsupportedAlgorithm) × NamesAnother der)
+      ⊎ ((refusal ≡ kind.InvalidKeyFormat) × ¬ NamesAnother der)

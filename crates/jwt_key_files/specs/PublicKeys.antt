@@ -104,4 +104,5 @@ pub record IsRefused (bytes : List ℕ) (refusal : Kind) : Type 0 where
 -- and here of bytes that are no RSAPublicKey
 abbrev pub IsPrivateOrMalformed : (bytes : List ℕ) (refusal : Kind) → Type 0
 IsPrivateOrMalformed bytes refusal =
-    ((refusal ≡ kind.Provider private_key_text) × IsPrivateKey bytes) ⊎ ((refusal ≡ kind.InvalidKeyFormat) × ¬ IsPrivateKey bytes)
+    ((refusal ≡ kind.Provider private_key_text) × IsPrivateKey bytes)
+        ⊎ ((refusal ≡ kind.InvalidKeyFormat) × ¬ IsPrivateKey bytes)

@@ -3,7 +3,8 @@ use Rattle.jwt_base.specs.Kind.{Kind}
 use Rattle.jwt_base.specs.Kind as kind
 use Rattle.jwt_keys.specs.Key.{Key, IsRsaOfParts, IsEcOfParts, IsEdOfPart, IsHmacOfPart}
 use Rattle.jwt_params.specs.declared.parameters.AlgorithmParameters.{AlgorithmParameters}
-use Rattle.jwt_params.specs.declared.parameters.AlgorithmParameters.TheVariants.{EllipticCurve, RSA, OctetKey, OctetKeyPair, Other}
+use Rattle.jwt_params.specs.declared.parameters.AlgorithmParameters.TheVariants.{EllipticCurve, RSA, OctetKey}
+use Rattle.jwt_params.specs.declared.parameters.AlgorithmParameters.TheVariants.{OctetKeyPair, Other}
 
 -- the parameters are those of this key; the curve is not checked (RFC 7518 section 6, RFC 8037
 -- section 2)

@@ -14,11 +14,13 @@ use Rattle.jwt_params.specs.Use.{use_from, use_value, normal_use}
 use Rattle.jwt_params.specs.declared.common.CommonParameters.{CommonParameters}
 
 abbrev pub common_names : List (List ℕ)
-common_names = codes "use" ∷ codes "key_ops" ∷ codes "alg" ∷ codes "kid" ∷ codes "x5u" ∷ codes "x5c" ∷ codes "x5t" ∷ codes "x5t#S256" ∷ []
+common_names = codes "use" ∷ codes "key_ops" ∷ codes "alg" ∷ codes "kid" ∷ codes "x5u" ∷ codes "x5c" ∷ codes "x5t"
+    ∷ codes "x5t#S256" ∷ []
 
 -- no parameters
 abbrev pub no_common : CommonParameters
-no_common = record { public_key_use = None; key_operations = None; key_algorithm = None; key_id = None; x509_url = None; x509_chain = None; x509_sha1_fingerprint = None; x509_sha256_fingerprint = None }
+no_common = record { public_key_use = None; key_operations = None; key_algorithm = None; key_id = None; x509_url = None;
+    x509_chain = None; x509_sha1_fingerprint = None; x509_sha256_fingerprint = None }
 
 -- d is an object, and each of the eight names gives its field
 pub record ReadsCommon (d : Data) (c : CommonParameters) : Type 0 where
@@ -52,4 +54,5 @@ common_value c = object (with_common c no_members)
 
 -- a free string that is a known spelling becomes the known value
 abbrev pub normal_common : CommonParameters → CommonParameters
-normal_common c = record c { public_key_use = option_map normal_use c.public_key_use; key_operations = option_map normal_operations c.key_operations }
+normal_common c = record c { public_key_use = option_map normal_use c.public_key_use;
+    key_operations = option_map normal_operations c.key_operations }

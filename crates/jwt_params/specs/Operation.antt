@@ -4,7 +4,8 @@ use Rattle.serde_json.specs.Data.{Data}
 use Rattle.jwt_base.specs.Members.{texts, texts_value}
 use Rattle.jwt_base.specs.Spelling.{Spelling, named, named_from, named_value, normal_named}
 use Rattle.jwt_params.specs.declared.operations.KeyOperations.{KeyOperations}
-use Rattle.jwt_params.specs.declared.operations.KeyOperations.TheVariants.{Sign, Verify, Encrypt, Decrypt, WrapKey, UnwrapKey, DeriveKey, DeriveBits, Other}
+use Rattle.jwt_params.specs.declared.operations.KeyOperations.TheVariants.{Sign, Verify, Encrypt, Decrypt, WrapKey}
+use Rattle.jwt_params.specs.declared.operations.KeyOperations.TheVariants.{UnwrapKey, DeriveKey, DeriveBits, Other}
 
 -- the eight names, "Other values MAY be used" (RFC 7517 section 4.3)
 abbrev pub operation_text : KeyOperations → List ℕ

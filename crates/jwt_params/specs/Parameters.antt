@@ -1,6 +1,7 @@
 -- The types of keys (RFC 7518 section 6, RFC 8037 section 2): how each is read from a JSON value,
 -- and how it is written.
-use Rattle.std.specs.Prelude.{ℕ, List, Bool, false, Option, Some, None, option_map, option_and_then, unwrap_or, codes, if◌then◌else◌}
+use Rattle.std.specs.Prelude.{ℕ, List, Bool, false, Option, Some, None, option_map, option_and_then, unwrap_or, codes}
+use Rattle.std.specs.Prelude.{if◌then◌else◌}
 use Rattle.std.specs.Option.{option_or, option_map_or}
 use Rattle.std.specs.Str.{bytes_eq}
 use Rattle.serde_json.specs.Data.{Data, string, object, Members, no_members, put}

@@ -1,5 +1,6 @@
 -- The numbers of octets, and their bits.
-use Rattle.std.proofs.Common.{◌≡◌, ℕ, zero, suc, ◌+◌, ◌-◌, ◌*◌, ◌^◌, ◌<◌, ◌≤◌, List, [], ◌∷◌, length, get_or, drop, eqb, false, refl, sym, ap, ◌∙◌, arith}
+use Rattle.std.proofs.Common.{◌≡◌, ℕ, zero, suc, ◌+◌, ◌-◌, ◌*◌, ◌^◌, ◌<◌, ◌≤◌, List, [], ◌∷◌, length, get_or, drop, eqb}
+use Rattle.std.proofs.Common.{false, refl, sym, ap, ◌∙◌, arith}
 use Rattle.std.specs.Int.{w8, leading_zeros}
 use Rattle.std.proofs.Math.Nat.{mul-le-mul_right, pow-le-pow_right, pow-succ'}
 use Rattle.std.proofs.lemmas.Nat.{pow-add, leading_top}
@@ -13,7 +14,8 @@ pub number_after_zero : (xs : List ℕ) (i : ℕ) → i < length xs → get_or x
 unfolding os2ip
 number_after_zero xs i h z = rw (drop_more xs i 0 h, z) (omega arith)
 
-pub bits_after_zero : (xs : List ℕ) (i : ℕ) → i < length xs → get_or xs i 0 ≡ 0 → bit_count (drop (i + 1) xs) ≡ bit_count (drop i xs)
+pub bits_after_zero : (xs : List ℕ) (i : ℕ) → i < length xs → get_or xs i 0 ≡ 0 → bit_count (drop (i + 1) xs)
+    ≡ bit_count (drop i xs)
 unfolding bit_count
 bits_after_zero xs i h z = rw (drop_more xs i 0 h, z) refl
 
@@ -60,7 +62,8 @@ bits_between x j L r b low high small e =
     let low' : 2 ^ j * 256 ^ L ≤ x * 256 ^ L + r = above_front x r (2 ^ j) (256 ^ L) low in
     let high' : x * 256 ^ L + r < 2 ^ suc j * 256 ^ L = below_front x r (2 ^ suc j) (256 ^ L) high small in
     let at_low : 2 ^ (b - 1) ≡ 2 ^ j * 256 ^ L =
-    let split : b - 1 ≡ j + 8 * L = omega arith in ap (λ z. 2 ^ z) split ∙ pow-add 2 j (8 * L) ∙ ap (λ z. 2 ^ j * z) (sym (pow_octets L)) in
+    let split : b - 1 ≡ j + 8 * L = omega arith in ap (λ z. 2 ^ z) split ∙ pow-add 2 j (8 * L)
+        ∙ ap (λ z. 2 ^ j * z) (sym (pow_octets L)) in
     let at_high : 2 ^ b ≡ 2 ^ suc j * 256 ^ L =
     ap (λ z. 2 ^ z) e ∙ pow-add 2 (suc j) (8 * L) ∙ ap (λ z. 2 ^ suc j * z) (sym (pow_octets L)) in
     record { below = rw at_high high'; from = λ _. rw at_low low' }

@@ -1,5 +1,6 @@
 -- The results of the tests of a key.
-use Rattle.std.proofs.Common.{◌≡◌, ℕ, ◌-◌, ◌*◌, ◌%◌, ◌<◌, ◌≤◌, ◌⊎◌, inl, inr, Bool, true, false, ◌&&◌, eqb, leb, List, length, get_or, Some, None, refl, sym, ap, ◌∙◌, arith}
+use Rattle.std.proofs.Common.{◌≡◌, ℕ, ◌-◌, ◌*◌, ◌%◌, ◌<◌, ◌≤◌, ◌⊎◌, inl, inr, Bool, true, false, ◌&&◌, eqb, leb, List}
+use Rattle.std.proofs.Common.{length, get_or, Some, None, refl, sym, ap, ◌∙◌, arith}
 use Rattle.std.specs.Prelude.{if◌then◌else◌}
 use Rattle.std.specs.Bool.{then_some}
 use Rattle.std.specs.Int.{w8, leading_zeros}
@@ -35,7 +36,8 @@ bits_refused n s e f l (inr many) =
     and_false (leb 2048 (bit_count n)) (leb (bit_count n) 16384) (lt-leb (bit_count n) 16384 (omega (arith, e, many, fill.1)))
 
 -- octets that do not begin with 0 and are few enough
-pub bits_taken : (n s : List ℕ) (B : ℕ) → bit_count s ≡ bit_count n → 0 < length s → 0 < get_or s 0 0 → get_or s 0 0 < 256 → length s ≤ 2048
+pub bits_taken : (n s : List ℕ) (B : ℕ) → bit_count s ≡ bit_count n → 0 < length s → 0 < get_or s 0 0
+    → get_or s 0 0 < 256 → length s ≤ 2048
     → B ≡ 8 * length s - leading_zeros w8 (get_or s 0 0)
     → then_some (leb 2048 B) B ≡ (if bits_fit (bit_count n) then Some (bit_count n) else None)
 bits_taken n s B e some f l short b =
@@ -69,7 +71,8 @@ short_exponent : (e s : List ℕ) → bit_count s ≡ bit_count e → (0 < lengt
     → length s ≤ 8 → leb (bit_count e) 64 ≡ true
 short_exponent e s same f l few = let fill = bits_fill s f l in le-leb (bit_count e) 64 (omega (arith, same, few, fill.0))
 
-pub exponent_taken : (e s : List ℕ) (r : ℕ) (t : Bool) → bit_count s ≡ bit_count e → (0 < length s → 0 < get_or s 0 0) → get_or s 0 0 < 256
+pub exponent_taken : (e s : List ℕ) (r : ℕ) (t : Bool) → bit_count s ≡ bit_count e → (0 < length s → 0 < get_or s 0 0)
+    → get_or s 0 0 < 256
     → length s ≤ 8 → r ≡ os2ip e → 3 ≤ r → t ≡ eqb (r % 2) 1
     → then_some t r ≡ (if exponent_fits e then Some (os2ip e) else None)
 exponent_taken e s r t same f l few is from odd =
@@ -77,7 +80,8 @@ exponent_taken e s r t same f l few is from odd =
     let large : leb 3 (os2ip e) ≡ true = le-leb 3 (os2ip e) (omega (arith, is, from)) in
     rw (odd, is, short, large) (if_some (eqb (os2ip e % 2) 1) (os2ip e))
 
-pub exponent_below : (e s : List ℕ) (r : ℕ) (t : Bool) → bit_count s ≡ bit_count e → (0 < length s → 0 < get_or s 0 0) → get_or s 0 0 < 256
+pub exponent_below : (e s : List ℕ) (r : ℕ) (t : Bool) → bit_count s ≡ bit_count e → (0 < length s → 0 < get_or s 0 0)
+    → get_or s 0 0 < 256
     → length s ≤ 8 → r ≡ os2ip e → r < 3 → t ≡ false
     → then_some t r ≡ (if exponent_fits e then Some (os2ip e) else None)
 exponent_below e s r t same f l few is below unset =

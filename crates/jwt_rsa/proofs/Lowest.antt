@@ -1,5 +1,6 @@
 -- The lowest octets of a number, and what is consistent with a message.
-use Rattle.std.proofs.Common.{◌≡◌, ◌≢◌, ◌↔◌, ℕ, zero, suc, ◌-◌, ◌*◌, ◌/◌, ◌%◌, ◌^◌, ◌<◌, ◌≤◌, List, length, get_or, drop, refl, sym, ap, subst, ◌∙◌, arith}
+use Rattle.std.proofs.Common.{◌≡◌, ◌≢◌, ◌↔◌, ℕ, zero, suc, ◌-◌, ◌*◌, ◌/◌, ◌%◌, ◌^◌, ◌<◌, ◌≤◌, List, length, get_or}
+use Rattle.std.proofs.Common.{drop, refl, sym, ap, subst, ◌∙◌, arith}
 use Rattle.std.proofs.Math.Nat.{pow-le-pow_right, pow-succ'}
 use Rattle.std.proofs.lemmas.Nat.{mod_below, div-add-mod', div_below}
 use Rattle.modular.specs.Octets.{os2ip, i2osp}
@@ -37,7 +38,8 @@ rest_is : (x n : ℕ) (xs : List ℕ) → xs ≡ i2osp x (suc n) → drop 1 xs �
 unfolding i2osp
 rest_is x n xs e = rw e refl
 
-pub fits_without_front : (x n : ℕ) (xs : List ℕ) → length xs ≡ suc n → xs ≡ i2osp x (length xs) → x < 256 ^ length xs → get_or xs 0 0 ≡ 0
+pub fits_without_front : (x n : ℕ) (xs : List ℕ) → length xs ≡ suc n → xs ≡ i2osp x (length xs) → x < 256 ^ length xs
+    → get_or xs 0 0 ≡ 0
     → (x < 256 ^ n) × (drop 1 xs ≡ i2osp x n)
 fits_without_front x n xs l e small front =
     let e' : xs ≡ i2osp x (suc n) = e ∙ ap (λ z. i2osp x z) l in
@@ -55,7 +57,8 @@ too_large x n xs l e front small =
 pub power_fits : (n e bits s : ℕ) → 0 < n → n < 2 ^ bits → rsavp1 n e s < 256 ^ octet_count bits
 power_fits n e bits s some below =
     let enough : bits ≤ 8 * octet_count bits = omega arith in
-    let most : 2 ^ bits ≤ 2 ^ (8 * octet_count bits) = pow-le-pow_right (omega arith) {i = bits} {j = 8 * octet_count bits} enough in
+    let most : 2 ^ bits ≤ 2 ^ (8 * octet_count bits) =
+        pow-le-pow_right (omega arith) {i = bits} {j = 8 * octet_count bits} enough in
     rw (pow_octets (octet_count bits)) (omega (arith, mod_below (s ^ e) n some, below, most))
 
 pub pss_decides : (h : Hash) (n e bits : ℕ) (m s em : List ℕ) → IsRepresentative n bits s

@@ -29,7 +29,8 @@ none_is (k ∷ ks) key none p =
     none p.0 k lt (sym (get_or-map prepared_key (k ∷ ks) p.0 k key lt) ∙ p.2)
 
 -- a key whose content is a modulus and an exponent is prepared as they are
-pub prepared_as : (p : PreparedRsa) (k : Key) (n e : List ℕ) → ModulusExponent n e ≡ key_content k → IsPreparedKey p k ≡ IsPrepared p n e
+pub prepared_as : (p : PreparedRsa) (k : Key) (n e : List ℕ) → ModulusExponent n e ≡ key_content k
+    → IsPreparedKey p k ≡ IsPrepared p n e
 prepared_as p (Plain f b) n e h = cc
 prepared_as p (Components m x) n e h =
     let same_n : n ≡ m = cc in

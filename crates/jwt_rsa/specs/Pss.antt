@@ -1,5 +1,6 @@
 -- RSASSA-PSS (RFC 8017 section 8.1) with MGF1 by the same hash and a salt as long as the digest (RFC 7518 section 3.5).
-use Rattle.std.specs.Prelude.{◌≡◌, ℕ, ◌+◌, ◌-◌, ◌*◌, ◌/◌, ◌%◌, ◌^◌, ◌<◌, ◌≤◌, List, [], ◌∷◌, ◌++◌, length, map, take, drop, replicate, slice_index, bit_xor}
+use Rattle.std.specs.Prelude.{◌≡◌, ℕ, ◌+◌, ◌-◌, ◌*◌, ◌/◌, ◌%◌, ◌^◌, ◌<◌, ◌≤◌, List, [], ◌∷◌, ◌++◌, length, map, take}
+use Rattle.std.specs.Prelude.{drop, replicate, slice_index, bit_xor}
 use Rattle.std.specs.List.{zip}
 use Rattle.std.proofs.Common.{zero, suc}
 use Rattle.modular.specs.Octets.{os2ip, i2osp}

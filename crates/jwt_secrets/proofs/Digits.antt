@@ -1,5 +1,6 @@
 -- The characters of a text in base64, its digits, and the bytes that these stand for.
-use Rattle.std.proofs.Common.{◌≡◌, ℕ, ◌+◌, ◌-◌, ◌%◌, ◌<◌, ◌≤◌, ◌==◌, Bool, true, false, not, cond, List, [], ◌∷◌, ◌++◌, length, take, drop, get_or, map, filter, refl, ap, sym, subst, ◌∙◌, arith, replicate}
+use Rattle.std.proofs.Common.{◌≡◌, ℕ, ◌+◌, ◌-◌, ◌%◌, ◌<◌, ◌≤◌, ◌==◌, Bool, true, false, not, cond, List, [], ◌∷◌, ◌++◌}
+use Rattle.std.proofs.Common.{length, take, drop, get_or, map, filter, refl, ap, sym, subst, ◌∙◌, arith, replicate}
 use Rattle.std.proofs.lemmas.List.{append-nil, map-append, take-append-drop, length-append, length-drop, length-replicate}
 use Rattle.std.proofs.lemmas.List.Elements.{filter_more}
 use Rattle.std.proofs.Math.Seq.{take-append_seam}
@@ -20,7 +21,8 @@ unfolding characters
 characters_none = refl
 
 one_more : (text : List ℕ) (i : ℕ) → i < length text
-    → characters (take (i + 1) text) ≡ characters (take i text) ++ cond (is_white (get_or text i 0)) [] (of_url (get_or text i 0) ∷ [])
+    → characters (take (i + 1) text) ≡ characters (take i text) ++ cond (is_white (get_or text i 0)) []
+        (of_url (get_or text i 0) ∷ [])
 unfolding characters
 one_more text i within =
     let p : ℕ → Bool = λ byte. not (is_white byte) in
@@ -29,9 +31,11 @@ one_more text i within =
     ap (map of_url) (filter_more p text i 0 within) ∙ map-append of_url so_far (cond (not (is_white x)) (x ∷ []) [])
     ∙ ap (λ (end : List ℕ). map of_url so_far ++ end) (kept (is_white x) x)
 
-pub more_white : (text : List ℕ) (i : ℕ) → i < length text → is_white (get_or text i 0) ≡ true → characters (take (i + 1) text) ≡ characters (take i text)
+pub more_white : (text : List ℕ) (i : ℕ) → i < length text → is_white (get_or text i 0) ≡ true
+    → characters (take (i + 1) text) ≡ characters (take i text)
 more_white text i within white =
-    one_more text i within ∙ ap (λ (b : Bool). characters (take i text) ++ cond b [] (of_url (get_or text i 0) ∷ [])) white ∙ append-nil (characters (take i text))
+    one_more text i within ∙ ap (λ (b : Bool). characters (take i text) ++ cond b [] (of_url (get_or text i 0) ∷ []))
+        white ∙ append-nil (characters (take i text))
 
 pub more_kept : (text : List ℕ) (i : ℕ) → i < length text → is_white (get_or text i 0) ≡ false
     → characters (take (i + 1) text) ≡ characters (take i text) ++ (of_url (get_or text i 0) ∷ [])
@@ -55,7 +59,8 @@ pub stand_for : (digits all : List ℕ) (k : ℕ) → k < 3 → (length digits +
     → StandsFor digits (take (length all - k) all)
 stand_for digits all k few groups part =
     let text = digits ++ replicate k 0x41 in
-    let long : length text ≡ length digits + k = omega (arith, length-append digits (replicate k 0x41), length-replicate {A = ℕ} k 0x41) in
+    let long : length text ≡ length digits + k =
+        omega (arith, length-append digits (replicate k 0x41), length-replicate {A = ℕ} k 0x41) in
     let fits : k ≤ length all = enough text all k few (omega arith) (ap (λ (n : ℕ). n % 4) long ∙ groups) part in
     let more : List ℕ = drop (length all - k) all in
     let count : length more ≡ k = omega (arith, length-drop (length all - k) all) in
@@ -63,7 +68,8 @@ stand_for digits all k few groups part =
       more = more;
       few = omega (arith, count);
       groups = ap (λ (n : ℕ). (length digits + n) % 4) count ∙ groups;
-      part = subst (λ (b : List ℕ). IsPart (digits ++ replicate (length more) 0x41) b) (sym (take-append-drop (length all - k) all))
+      part = subst (λ (b : List ℕ). IsPart (digits ++ replicate (length more) 0x41) b)
+          (sym (take-append-drop (length all - k) all))
           (subst (λ (n : ℕ). IsPart (digits ++ replicate n 0x41) all) (sym count) part);
     }
 
@@ -88,7 +94,8 @@ front a b r s n e =
 
 pub one_list : (digits a b : List ℕ) → StandsFor digits a → StandsFor digits b → a ≡ b
 one_list digits a b s t =
-    let e : length s.more ≡ length t.more = same_count (length digits) (length s.more) (length t.more) s.few t.few s.groups t.groups in
+    let e : length s.more ≡ length t.more = same_count (length digits) (length s.more) (length t.more) s.few t.few
+        s.groups t.groups in
     front a b s.more t.more e
     (one_part (digits ++ replicate (length t.more) 0x41) (a ++ s.more) (b ++ t.more)
     (subst (λ (n : ℕ). IsPart (digits ++ replicate n 0x41) (a ++ s.more)) e s.part) t.part)

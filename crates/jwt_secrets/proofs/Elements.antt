@@ -1,5 +1,6 @@
 -- The elements that bytes begin with, by their tags.
-use Rattle.std.proofs.Common.{◌≡◌, ◌↔◌, ℕ, ◌+◌, ◌<◌, ◌≤◌, List, [], ◌∷◌, ◌++◌, length, get_or, drop, IsTrue, nat_eq, refl, sym, subst, ◌∙◌, add-one, suc, arith}
+use Rattle.std.proofs.Common.{◌≡◌, ◌↔◌, ℕ, ◌+◌, ◌<◌, ◌≤◌, List, [], ◌∷◌, ◌++◌, length, get_or, drop, IsTrue, nat_eq}
+use Rattle.std.proofs.Common.{refl, sym, subst, ◌∙◌, add-one, suc, arith}
 use Rattle.std.proofs.lemmas.Bool.Decides.{nat_tests}
 use Rattle.std.proofs.lemmas.List.{drop_all}
 use Rattle.std.proofs.Math.Seq.{drop-cons}
@@ -39,13 +40,15 @@ one_more tags bytes rest c a i within e so_far r =
       λ h. (so_far r).1 (subst (λ (ts : List ℕ). HasElements ts rest r) (sym same) (s.1 h)),
     )
 
-pub none_more : (tags bytes rest : List ℕ) (i : ℕ) → i < length tags → ((c a : List ℕ) → rest ≡ element (get_or tags i 0) c ++ a → ⊥)
+pub none_more : (tags bytes rest : List ℕ) (i : ℕ) → i < length tags
+    → ((c a : List ℕ) → rest ≡ element (get_or tags i 0) c ++ a → ⊥)
     → GoesOn tags bytes i rest → (r : List ℕ) → HasElements tags bytes r → ⊥
 none_more tags bytes rest i within none so_far r h =
     no_step (get_or tags i 0) (drop (i + 1) tags) rest r none
     (subst (λ (ts : List ℕ). HasElements ts rest r) (tags_from tags i within) ((so_far r).0 h))
 
-pub after_all : (tags bytes rest : List ℕ) (i : ℕ) → length tags ≤ i → GoesOn tags bytes i rest → (r : List ℕ) → HasElements tags bytes r ↔ (rest ≡ r)
+pub after_all : (tags bytes rest : List ℕ) (i : ℕ) → length tags ≤ i → GoesOn tags bytes i rest → (r : List ℕ)
+    → HasElements tags bytes r ↔ (rest ≡ r)
 after_all tags bytes rest i past so_far r =
     let all : drop i tags ≡ [] = drop_all i tags past in
     let end = at_end rest r in (
@@ -64,4 +67,5 @@ some_left n t = grind (arith, nat_tests)
 
 pub no_rest : (tags b rest : List ℕ) → HasElements tags b rest → IsTrue (nat_eq (length rest) 0) ↔ HasElements tags b []
 no_rest tags b [] h = (λ _. h, λ _. refl)
-no_rest tags b (x ∷ r) h = (λ t. absurd (some_left (length r) t), λ k. let e : (x ∷ r) ≡ [] = one_rest tags b (x ∷ r) [] h k in cc)
+no_rest tags b (x ∷ r) h = (λ t. absurd (some_left (length r) t), λ k. let e : (x ∷ r) ≡ [] = one_rest tags b
+    (x ∷ r) [] h k in cc)

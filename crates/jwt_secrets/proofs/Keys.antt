@@ -25,7 +25,8 @@ in_der bytes content e = (
 )
 
 -- a secret that is no key, but may be base64 of one
-pub in_base64 : (secret bytes text : List ℕ) → (IsKey secret → ⊥) → IsBase64 secret bytes → text ≡ bytes → IsKey text ↔ IsKeyText secret
+pub in_base64 : (secret bytes text : List ℕ) → (IsKey secret → ⊥) → IsBase64 secret bytes → text ≡ bytes → IsKey text
+    ↔ IsKeyText secret
 in_base64 secret bytes text other stands e = (
   λ k. inr (bytes, (stands, subst IsKey e k)),
   λ h. elim h [

@@ -1,5 +1,6 @@
 -- What a text is in base64, in each form that programs write: in either alphabet, with or without padding and white space.
-use Rattle.std.specs.Prelude.{◌≡◌, ℕ, ◌+◌, ◌-◌, ◌%◌, ◌<◌, ◌==◌, ◌||◌, Bool, not, List, ◌++◌, length, take, replicate, map, filter, if◌then◌else◌}
+use Rattle.std.specs.Prelude.{◌≡◌, ℕ, ◌+◌, ◌-◌, ◌%◌, ◌<◌, ◌==◌, ◌||◌, Bool, not, List, ◌++◌, length, take, replicate}
+use Rattle.std.specs.Prelude.{map, filter, if◌then◌else◌}
 use Rattle.std.specs.List.{suffix_len}
 use Rattle.jwt_base.specs.Base64Url.{IsPart}
 

@@ -1,4 +1,5 @@
--- The texts of keys, by which anyone can sign if they are taken for secrets of HMAC: a public key is known (RFC 8725 sections 2.1
+-- The texts of keys, by which anyone can sign if they are taken for secrets of HMAC: a public key is known (RFC 8725
+-- sections 2.1
 -- and 3.1).
 use Rattle.std.specs.Prelude.{◌≡◌, ◌⊎◌, ℕ, List, [], ◌∷◌, ◌++◌, IsSome, codes}
 use Rattle.std.specs.List.{Any}
@@ -17,7 +18,8 @@ use Rattle.jwt_secrets.specs.Base64Texts.{IsBase64}
 -- The names of the keys and certificates of SSH (RFC 4253 section 6.6, RFC 5656 section 3, RFC 8709 section 4, PROTOCOL.u2f,
 -- PROTOCOL.certkeys and sshkey.c of OpenSSH), and the beginnings of a file of RFC 4716 and of a block of RFC 7468.
 unfoldable pub marks : List (List ℕ)
-marks = codes "ssh-rsa" ∷ codes "ssh-dss" ∷ codes "ssh-ed25519" ∷ codes "ssh-ed448" ∷ codes "ssh-xmss" ∷ codes "ecdsa-sha2-nistp"
+marks = codes "ssh-rsa" ∷ codes "ssh-dss" ∷ codes "ssh-ed25519" ∷ codes "ssh-ed448" ∷ codes "ssh-xmss"
+    ∷ codes "ecdsa-sha2-nistp"
     ∷ codes "sk-ssh-ed25519@openssh.com" ∷ codes "sk-ecdsa-sha2-nistp256@openssh.com" ∷ codes "-cert-v01@openssh.com"
     ∷ codes "---- BEGIN " ∷ codes "-----BEGIN " ∷ []
 

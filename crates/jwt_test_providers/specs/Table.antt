@@ -1,5 +1,6 @@
 -- The results of the provider of the table.
-use Rattle.std.specs.Prelude.{◌&&◌, ℕ, ◌-◌, List, [], ◌∷◌, Bool, IsTrue, length, drop, nat_lt, if◌then◌else◌, Option, Some, None, Result, Ok, Err, find, option_map, codes}
+use Rattle.std.specs.Prelude.{◌&&◌, ℕ, ◌-◌, List, [], ◌∷◌, Bool, IsTrue, length, drop, nat_lt, if◌then◌else◌, Option}
+use Rattle.std.specs.Prelude.{Some, None, Result, Ok, Err, find, option_map, codes}
 use Rattle.std.specs.List.{list_any}
 use Rattle.std.specs.Str.{bytes_eq}
 use Rattle.jwt_base.specs.Kind.{Kind}
@@ -43,10 +44,12 @@ no_row None = Some (kind.Signing (codes "no row"))
 no_row (Some signature) = None
 
 abbrev pub rsa_answer : List ℕ → Result (List ℕ × List ℕ) Kind
-rsa_answer der = if bytes_eq der (codes "rsa") then Ok (0xC0 ∷ 0xFF ∷ 0xEE ∷ [], 1 ∷ 0 ∷ 1 ∷ []) else Err (kind.InvalidRsaKey (codes "no row"))
+rsa_answer der = if bytes_eq der (codes "rsa") then Ok (0xC0 ∷ 0xFF ∷ 0xEE ∷ [], 1 ∷ 0 ∷ 1 ∷ []) else Err
+    (kind.InvalidRsaKey (codes "no row"))
 
 abbrev pub ec_answer : List ℕ → Algorithm → Result (EllipticCurve × List ℕ × List ℕ) Kind
-ec_answer der a = if bytes_eq der (codes "ec") && bytes_eq (name_of a) (codes "ES256") then Ok (P256, 1 ∷ [], 2 ∷ []) else Err kind.InvalidEcdsaKey
+ec_answer der a = if bytes_eq der (codes "ec") && bytes_eq (name_of a) (codes "ES256") then Ok (P256, 1 ∷ [],
+    2 ∷ []) else Err kind.InvalidEcdsaKey
 
 -- the last 32 bytes
 abbrev pub ed_answer : List ℕ → EllipticCurve → Result (List ℕ) Kind

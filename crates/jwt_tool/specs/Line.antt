@@ -1,5 +1,6 @@
 -- The line and the status for arguments and an input.
-use Rattle.std.specs.Prelude.{None, ◌≡◌, ◌==◌, ◌-◌, true, false, length, take, slice_index, if◌then◌else◌, MatchOption, ℕ, List, [], ◌∷◌, ◌⊎◌, Some, Ok, Err, codes}
+use Rattle.std.specs.Prelude.{None, ◌≡◌, ◌==◌, ◌-◌, true, false, length, take, slice_index, if◌then◌else◌, MatchOption}
+use Rattle.std.specs.Prelude.{ℕ, List, [], ◌∷◌, ◌⊎◌, Some, Ok, Err, codes}
 use Rattle.serde_json.specs.Data.{Data}
 use Rattle.serde_json.specs.Written.{compact_text, has_float}
 use Rattle.serde_json.specs.declared.value.Value.{Value}
@@ -21,7 +22,8 @@ use Rattle.jwt_header.specs.Header.{header_value, new_header}
 use Rattle.jwt_validation.specs.Options.{default_options}
 use Rattle.jsonwebtoken.specs.ByHmac.{decoding_by_hmac, encoding_by_hmac}
 use Rattle.jsonwebtoken.specs.Order.{Passes, FailsFirst}
-use Rattle.jsonwebtoken.specs.Tests.{Call, Contents, header_order, header_call, Given, InSet, decode_order, set_order, token_tests}
+use Rattle.jsonwebtoken.specs.Tests.{Call, Contents, header_order, header_call, Given, InSet, decode_order, set_order}
+use Rattle.jsonwebtoken.specs.Tests.{token_tests}
 use Rattle.jsonwebtoken.specs.Issue.{Issue, Written, IsIssued, encode_order, issue_tests}
 use Rattle.jwt_base.specs.JsonText.{IsJson, ReadsText}
 use Rattle.jwt_tool.specs.Words.{Request, ForHeader, ForThumbprint, ForToken, ForClaims, ForClaimsBySet, request_of}

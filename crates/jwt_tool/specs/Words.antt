@@ -1,5 +1,6 @@
 -- The requests that the arguments of the program stand for.
-use Rattle.std.specs.Prelude.{◌&&◌, ◌^◌, ltb, length, if◌then◌else◌, ℕ, List, [], ◌∷◌, Option, Some, None, option_map, option_and_then, codes}
+use Rattle.std.specs.Prelude.{◌&&◌, ◌^◌, ltb, length, if◌then◌else◌, ℕ, List, [], ◌∷◌, Option, Some, None, option_map}
+use Rattle.std.specs.Prelude.{option_and_then, codes}
 use Rattle.std.specs.Str.{bytes_eq, all_ascii_digits}
 use Rattle.std.specs.Str.Parse.{digits_value}
 use Rattle.jwt_base.specs.Algorithm.{algorithm_named}

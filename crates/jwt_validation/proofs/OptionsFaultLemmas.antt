@@ -1,12 +1,15 @@
 -- A value without a fault is read as options, and a value with one is not.
-use Rattle.std.proofs.Common.{◌≡◌, ℕ, Bool, true, false, ◌||◌, not, List, [], ◌∷◌, Option, Some, None, is_some, option_map, unwrap_or, codes, refl, sym, ap, ◌∙◌, if◌then◌else◌}
+use Rattle.std.proofs.Common.{◌≡◌, ℕ, Bool, true, false, ◌||◌, not, List, [], ◌∷◌, Option, Some, None, is_some}
+use Rattle.std.proofs.Common.{option_map, unwrap_or, codes, refl, sym, ap, ◌∙◌, if◌then◌else◌}
 use Rattle.std.proofs.lemmas.Bool.{false≢true, true≢false}
 use Rattle.std.proofs.lemmas.Option.{none-some, same_Some}
 use Rattle.serde_json.specs.Data.{Data, Members, no_members, member}
 use Rattle.serde_json.specs.Find.{get, as_bool, as_str, as_object}
 use Rattle.jwt_base.specs.Members.{present, optional, read_option, is_named, texts}
 use Rattle.jwt_validation.specs.Options.{Options, defaults}
-use Rattle.jwt_validation.specs.OptionsRead.{option_names, has_other, HasOptionNames, as_whole, or_default, text_set, algorithms_in, settled, usual_options, ReadsTimes, ReadsMembers, ReadsOptions}
+use Rattle.jwt_validation.specs.OptionsRead.{option_names, has_other, HasOptionNames, as_whole, or_default, text_set}
+use Rattle.jwt_validation.specs.OptionsRead.{algorithms_in, settled, usual_options, ReadsTimes, ReadsMembers}
+use Rattle.jwt_validation.specs.OptionsRead.{ReadsOptions}
 use Rattle.jwt_validation.specs.OptionsFault.{Shape, shapes, has_form, member_has_form, is_well, first_malformed, first_other}
 use Rattle.jwt_validation.specs.declared.fault.Form.{Form}
 use Rattle.jwt_validation.specs.declared.fault.Form.TheVariants.{Whole, Flag, OneText, TextList, AlgorithmList}
@@ -102,7 +105,8 @@ times_read : (d : Data) (usual : Options) → member_has_form Whole (present (ge
     → (l : ℕ) × (r : ℕ) × (e : Bool) × (n : Bool) × (a : Bool) × ReadsTimes d usual l r e n a
 times_read d usual wl wr we wn wa =
     let (l, at_l) = default_read usual.leeway Whole as_whole (λ v. refl) (get (codes "leeway") d) wl in
-    let (r, at_r) = default_read usual.reject Whole as_whole (λ v. refl) (get (codes "reject_tokens_expiring_in_less_than") d) wr in
+    let (r, at_r) = default_read usual.reject Whole as_whole (λ v. refl)
+        (get (codes "reject_tokens_expiring_in_less_than") d) wr in
     let (e, at_e) = default_read usual.checks_exp Flag as_bool (λ v. refl) (get (codes "validate_exp") d) we in
     let (n, at_n) = default_read usual.checks_nbf Flag as_bool (λ v. refl) (get (codes "validate_nbf") d) wn in
     let (a, at_a) = default_read usual.checks_aud Flag as_bool (λ v. refl) (get (codes "validate_aud") d) wa in
@@ -115,12 +119,15 @@ faultless_read d names none =
     let (strict, at_strict) = default_read false Flag as_bool (λ v. refl) (get (codes "strict") d) w12 in
     let usual = usual_options strict in
     let (l, r, e, n, a, times) = times_read d usual w2 w3 w4 w5 w6 in
-    let (required, at_required) = default_read defaults.required TextList text_set is_text_set (get (codes "required_spec_claims") d) w1 in
+    let (required, at_required) = default_read defaults.required TextList text_set is_text_set
+        (get (codes "required_spec_claims") d) w1 in
     let (aud, at_aud) = well_read TextList text_set is_text_set (get (codes "aud") d) w7 in
     let (iss, at_iss) = well_read TextList text_set is_text_set (get (codes "iss") d) w8 in
     let (sub, at_sub) = well_read OneText as_str (λ v. refl) (get (codes "sub") d) w9 in
-    let (algorithms, at_algorithms) = default_read [] AlgorithmList algorithms_in (λ v. refl) (get (codes "algorithms") d) w10 in
-    let (understood, at_understood) = default_read defaults.understood TextList text_set is_text_set (get (codes "understood_crit") d) w11 in
+    let (algorithms, at_algorithms) = default_read [] AlgorithmList algorithms_in (λ v. refl)
+        (get (codes "algorithms") d) w10 in
+    let (understood, at_understood) = default_read defaults.understood TextList text_set is_text_set
+        (get (codes "understood_crit") d) w11 in
     let members : Options = record {
       required = required;
       leeway = l;
@@ -164,7 +171,8 @@ read_faultless d o r =
       (
         default_well usual.leeway Whole as_whole (λ v. refl) (get (codes "leeway") d) _ t.at_leeway,
         (
-          default_well usual.reject Whole as_whole (λ v. refl) (get (codes "reject_tokens_expiring_in_less_than") d) _ t.at_reject,
+          default_well usual.reject Whole as_whole (λ v. refl) (get (codes "reject_tokens_expiring_in_less_than") d) _
+              t.at_reject,
           (
             default_well usual.checks_exp Flag as_bool (λ v. refl) (get (codes "validate_exp") d) _ t.at_exp,
             (
@@ -180,7 +188,8 @@ read_faultless d o r =
                       (
                         default_well [] AlgorithmList algorithms_in (λ v. refl) (get (codes "algorithms") d) _ m.algorithms,
                         (
-                          default_well defaults.understood TextList text_set is_text_set (get (codes "understood_crit") d) _ m.understood,
+                          default_well defaults.understood TextList text_set is_text_set
+                              (get (codes "understood_crit") d) _ m.understood,
                           (
                             default_well false Flag as_bool (λ v. refl) (get (codes "strict") d) _ r.at_strict,
                             tt,

@@ -13,7 +13,8 @@ use Rattle.jwt_validation.specs.declared.claims.Name.TheVariants.{Exp, Nbf, Aud,
 use Rattle.jwt_validation.specs.declared.claims.Claim.{Claim}
 use Rattle.jwt_validation.specs.declared.claims.Claim.TheVariants.{Absent, Malformed, Value}
 use Rattle.jwt_validation.specs.declared.rules.Rule.{Rule}
-use Rattle.jwt_validation.specs.declared.rules.Rule.TheVariants.{ExpFormat, NbfFormat, ExpReject, ExpTime, NbfTime, Subject, Issuer, Audience}
+use Rattle.jwt_validation.specs.declared.rules.Rule.TheVariants.{ExpFormat, NbfFormat, ExpReject, ExpTime, NbfTime}
+use Rattle.jwt_validation.specs.declared.rules.Rule.TheVariants.{Subject, Issuer, Audience}
 
 -- ---- the required claims
 

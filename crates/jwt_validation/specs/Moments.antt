@@ -1,5 +1,6 @@
 -- The times at which a value is accepted, and options that accept more.
-use Rattle.std.specs.Prelude.{◌≡◌, ℕ, ◌+◌, ◌-◌, ◌≤◌, List, Bool, IsTrue, IsSome, IsSomeAnd, IfSome, None, Contains, min, if◌then◌else◌, ◌⊎◌, ⊤}
+use Rattle.std.specs.Prelude.{◌≡◌, ℕ, ◌+◌, ◌-◌, ◌≤◌, List, Bool, IsTrue, IsSome, IsSomeAnd, IfSome, None, Contains, min}
+use Rattle.std.specs.Prelude.{if◌then◌else◌, ◌⊎◌, ⊤}
 use Rattle.serde_json.specs.Data.{Data}
 use Rattle.serde_json.specs.Find.{as_object}
 use Rattle.jwt_base.specs.Algorithm.{family_of}
@@ -11,7 +12,8 @@ use Rattle.jwt_validation.specs.declared.claims.Name.{Name}
 use Rattle.jwt_validation.specs.declared.claims.Claim.{Claim}
 use Rattle.jwt_validation.specs.declared.claims.Claim.TheVariants.{Absent, Malformed, Value}
 use Rattle.jwt_validation.specs.declared.rules.Rule.{Rule}
-use Rattle.jwt_validation.specs.declared.rules.Rule.TheVariants.{ExpFormat, NbfFormat, ExpReject, ExpTime, NbfTime, Subject, Issuer, Audience}
+use Rattle.jwt_validation.specs.declared.rules.Rule.TheVariants.{ExpFormat, NbfFormat, ExpReject, ExpTime, NbfTime}
+use Rattle.jwt_validation.specs.declared.rules.Rule.TheVariants.{Subject, Issuer, Audience}
 
 -- the rules that do not speak of the time
 abbrev pub IsTimeless : Rule → Type 0

@@ -32,7 +32,8 @@ HasBlank (Set set) = HasBlankKey set.keys.items
 abbrev pub AreSafe : Bool → Keys → Type 0
 AreSafe allows_blank keys = IsTrue allows_blank ⊎ (¬ HasBlank keys)
 
--- one family has all the algorithms: else every token is refused, since each listed algorithm has to be of the family of the token's
+-- one family has all the algorithms: else every token is refused, since each listed algorithm has to be of the family
+-- of the token's
 -- (RFC 8725 section 3.1)
 abbrev pub AreOfOneFamily : List Algorithm → Type 0
 AreOfOneFamily algorithms = (f : AlgorithmFamily) × All (λ a. family_of a ≡ f) algorithms

@@ -42,7 +42,8 @@ length_add (suc n) f g h k = (
 pub length_times : (c n : ℕ) (f : ℕ → ℕ) → HasLength n f → HasLength n (λ x. c * f x)
 length_times c zero f h = λ x. let e : c * f x ≡ c * 0 = ap (λ z. c * z) (h x) in omega arith
 length_times c (suc n) f h =
-    (c * h.0, λ x. c * h.1 x, length_times c n h.1 h.2, λ x. let e : c * f x ≡ c * (h.0 + x * h.1 x) = ap (λ z. c * z) (h.3 x) in omega arith)
+    (c * h.0, λ x. c * h.1 x, length_times c n h.1 h.2, λ x. let e : c * f x ≡ c * (h.0 + x * h.1 x) =
+        ap (λ z. c * z) (h.3 x) in omega arith)
 
 -- x times a polynomial
 pub length_shift : (n : ℕ) (f : ℕ → ℕ) → HasLength n f → HasLength (suc n) (λ x. x * f x)
@@ -75,8 +76,10 @@ length_next (suc n) f h =
     let next : HasLength n (λ x. g (suc x)) = length_next n g h.2 in
     length_same (suc n) (λ x. h.0 + (g (suc x) + x * g (suc x))) (λ x. f (suc x))
     (λ x. let e : f (suc x) ≡ h.0 + suc x * g (suc x) = h.3 (suc x) in omega arith)
-    (length_add (suc n) (λ _. h.0) (λ x. g (suc x) + x * g (suc x)) (length_to (suc n) 1 (λ _. h.0) (omega arith) (length_con h.0))
-    (length_add (suc n) (λ x. g (suc x)) (λ x. x * g (suc x)) (length_more n (λ x. g (suc x)) next) (length_shift n (λ x. g (suc x)) next)))
+    (length_add (suc n) (λ _. h.0) (λ x. g (suc x) + x * g (suc x)) (length_to (suc n) 1 (λ _. h.0) (omega arith)
+        (length_con h.0))
+    (length_add (suc n) (λ x. g (suc x)) (λ x. x * g (suc x)) (length_more n (λ x. g (suc x)) next)
+        (length_shift n (λ x. g (suc x)) next)))
 
 cancel_suc : (x a b : ℕ) → suc x * a ≡ suc x * b → a ≡ b
 cancel_suc x a b e =
@@ -127,24 +130,30 @@ short_sum r a b m n h k =
 short_product : (r : List ℕ) (a b : Poly) (m n : ℕ) → HasLength m (λ x. ev a (x ∷ r)) → HasLength n (λ x. ev b (x ∷ r))
     → HasLength (length_product m n) (λ x. ev (mul_poly a b) (x ∷ r))
 short_product r a b m n h k =
-    length_same (length_product m n) (λ x. ev a (x ∷ r) * ev b (x ∷ r)) (λ x. ev (mul_poly a b) (x ∷ r)) (λ x. ev_mul a b (x ∷ r))
+    length_same (length_product m n) (λ x. ev a (x ∷ r) * ev b (x ∷ r)) (λ x. ev (mul_poly a b) (x ∷ r))
+        (λ x. ev_mul a b (x ∷ r))
     (length_mul m n (λ x. ev a (x ∷ r)) (λ x. ev b (x ∷ r)) h k)
 
-short_add : (r : List ℕ) (a b : Poly × Poly) (m n : ℕ) → AreShort r a m → AreShort r b n → AreShort r (differences.add a b) (lengths.add m n)
+short_add : (r : List ℕ) (a b : Poly × Poly) (m n : ℕ) → AreShort r a m → AreShort r b n
+    → AreShort r (differences.add a b) (lengths.add m n)
 unfolding differences lengths
 short_add r a b m n h k = (short_sum r a.0 b.0 m n h.0 k.0, short_sum r a.1 b.1 m n h.1 k.1)
 
-short_sub : (r : List ℕ) (a b : Poly × Poly) (m n : ℕ) → AreShort r a m → AreShort r b n → AreShort r (differences.sub a b) (lengths.sub m n)
+short_sub : (r : List ℕ) (a b : Poly × Poly) (m n : ℕ) → AreShort r a m → AreShort r b n
+    → AreShort r (differences.sub a b) (lengths.sub m n)
 unfolding differences lengths
 short_sub r a b m n h k = (short_sum r a.0 b.1 m n h.0 k.1, short_sum r a.1 b.0 m n h.1 k.0)
 
-short_mul : (r : List ℕ) (a b : Poly × Poly) (m n : ℕ) → AreShort r a m → AreShort r b n → AreShort r (differences.mul a b) (lengths.mul m n)
+short_mul : (r : List ℕ) (a b : Poly × Poly) (m n : ℕ) → AreShort r a m → AreShort r b n
+    → AreShort r (differences.mul a b) (lengths.mul m n)
 unfolding differences lengths
 short_mul r a b m n h k =
     let p = length_product m n in
     let e : max p p ≡ p = omega arith in (
-      rw e at (short_sum r (mul_poly a.0 b.0) (mul_poly a.1 b.1) p p (short_product r a.0 b.0 m n h.0 k.0) (short_product r a.1 b.1 m n h.1 k.1)),
-      rw e at (short_sum r (mul_poly a.0 b.1) (mul_poly a.1 b.0) p p (short_product r a.0 b.1 m n h.0 k.1) (short_product r a.1 b.0 m n h.1 k.0)),
+      rw e at (short_sum r (mul_poly a.0 b.0) (mul_poly a.1 b.1) p p (short_product r a.0 b.0 m n h.0 k.0)
+          (short_product r a.1 b.1 m n h.1 k.1)),
+      rw e at (short_sum r (mul_poly a.0 b.1) (mul_poly a.1 b.0) p p (short_product r a.0 b.1 m n h.0 k.1)
+          (short_product r a.1 b.0 m n h.1 k.0)),
     )
 
 pub short_respects : (r : List ℕ) → Respects (Poly × Poly) ℕ differences lengths (AreShort r)
@@ -176,4 +185,5 @@ first_short r = (
 
 pub symbols_short : (r : List ℕ) (n : ℕ) → Related (AreShort r) (symbols (suc n)) (2 ∷ ones n)
 unfolding symbols deeper
-symbols_short r n = (first_short r, lifted_left (λ u k. k ≡ 1) (AreShort r) deeper (λ u k e. deeper_short r u k e) (symbols n) (ones n) (symbols_one n))
+symbols_short r n = (first_short r, lifted_left (λ u k. k ≡ 1) (AreShort r) deeper (λ u k e. deeper_short r u k e)
+    (symbols n) (ones n) (symbols_one n))

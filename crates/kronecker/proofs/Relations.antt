@@ -1,7 +1,8 @@
 -- Two arithmetics that agree give values that agree.
 use Rattle.std.proofs.Common.{◌≡◌, ℕ, zero, suc, ◌<◌, List, [], ◌∷◌, Bool, true, false, refl, arith}
 use Rattle.std.specs.Prelude.{◌&&◌}
-use Rattle.kronecker.proofs.Programs.{Expr, var, num, add, sub, mul, Ops, nth, eval, run, quad, Tower, embed, tower, lifted, places, squares, values, parts, first_pass}
+use Rattle.kronecker.proofs.Programs.{Expr, var, num, add, sub, mul, Ops, nth, eval, run, quad, Tower, embed, tower}
+use Rattle.kronecker.proofs.Programs.{lifted, places, squares, values, parts, first_pass}
 
 pub record Respects (A B : Type 0) (o : Ops A) (o' : Ops B) (R : A → B → Type 0) : Type 0 where
   pub num : (c : ℕ) → R (o.num c) (o'.num c)
@@ -30,11 +31,14 @@ unfolding eval
 eval_related o o' R s xs ys r (var k) = nth_related R (o.num 0) (o'.num 0) (s.num 0) xs ys r k
 eval_related o o' R s xs ys r (num c) = s.num c
 eval_related o o' R s xs ys r (add e f) =
-    s.add (eval o xs e) (eval o xs f) (eval o' ys e) (eval o' ys f) (eval_related o o' R s xs ys r e) (eval_related o o' R s xs ys r f)
+    s.add (eval o xs e) (eval o xs f) (eval o' ys e) (eval o' ys f) (eval_related o o' R s xs ys r e)
+        (eval_related o o' R s xs ys r f)
 eval_related o o' R s xs ys r (sub e f) =
-    s.sub (eval o xs e) (eval o xs f) (eval o' ys e) (eval o' ys f) (eval_related o o' R s xs ys r e) (eval_related o o' R s xs ys r f)
+    s.sub (eval o xs e) (eval o xs f) (eval o' ys e) (eval o' ys f) (eval_related o o' R s xs ys r e)
+        (eval_related o o' R s xs ys r f)
 eval_related o o' R s xs ys r (mul e f) =
-    s.mul (eval o xs e) (eval o xs f) (eval o' ys e) (eval o' ys f) (eval_related o o' R s xs ys r e) (eval_related o o' R s xs ys r f)
+    s.mul (eval o xs e) (eval o xs f) (eval o' ys e) (eval o' ys f) (eval_related o o' R s xs ys r e)
+        (eval_related o o' R s xs ys r f)
 
 pub run_related : {A B : Type 0} (o : Ops A) (o' : Ops B) (R : A → B → Type 0) → Respects A B o o' R
     → (xs : List A) (ys : List B) → Related R xs ys → (es : List Expr) → Related R (run o xs es) (run o' ys es)
@@ -90,7 +94,8 @@ module _ {A B : Type 0} (o : Ops A) (o' : Ops B) (R : A → B → Type 0) (s : R
         );
       }
 
-  pub places_both : (h : ℕ) (xs : List A) (ys : List B) → Related R xs ys → Related (TowerR h R) (places o h xs) (places o' h ys)
+  pub places_both : (h : ℕ) (xs : List A) (ys : List B) → Related R xs ys
+      → Related (TowerR h R) (places o h xs) (places o' h ys)
   unfolding places
   places_both zero xs ys r = r
   places_both (suc h) xs ys r = (

@@ -1,5 +1,6 @@
 -- Differences of polynomials, and the three kinds of numbers that follow them.
-use Rattle.std.proofs.Common.{◌≡◌, ℕ, zero, suc, ◌+◌, ◌-◌, ◌*◌, ◌/◌, ◌%◌, ◌<◌, ◌≤◌, List, [], ◌∷◌, length, refl, sym, ap, subst, ◌∙◌, arith}
+use Rattle.std.proofs.Common.{◌≡◌, ℕ, zero, suc, ◌+◌, ◌-◌, ◌*◌, ◌/◌, ◌%◌, ◌<◌, ◌≤◌, List, [], ◌∷◌, length, refl, sym}
+use Rattle.std.proofs.Common.{ap, subst, ◌∙◌, arith}
 use Rattle.std.proofs.Math.Nat.{mod-mod, mod-add-div, mod-lt, add-mul-mod_self_left}
 use Rattle.std.proofs.lemmas.Nat.{mul-le}
 use Rattle.limbs.proofs.Congruences.{add_alike, mul_alike}
@@ -31,7 +32,8 @@ abbrev pub IsResidue : ℕ → List ℕ → Poly × Poly → ℕ → Type 0
 IsResidue q r u v = ev u.0 r % q ≡ (ev u.1 r + v) % q
 
 -- four numbers as two differences
-crossed : (a b c d p m o n : ℕ) → a + m ≡ b + p → c + n ≡ d + o → (a * c + b * d) + (p * n + m * o) ≡ (a * d + b * c) + (p * o + m * n)
+crossed : (a b c d p m o n : ℕ) → a + m ≡ b + p → c + n ≡ d + o → (a * c + b * d) + (p * n + m * o) ≡ (a * d + b * c)
+    + (p * o + m * n)
 crossed a b c d p m o n e f =
     let e1 : (a + m) * c ≡ (b + p) * c = ap (λ z. z * c) e in
     let e2 : (a + m) * d ≡ (b + p) * d = ap (λ z. z * d) e in
@@ -43,15 +45,18 @@ whole_num : (r : List ℕ) (c : ℕ) → IsWhole r (differences.num c) (wholes.n
 unfolding differences wholes ev
 whole_num r c = omega arith
 
-whole_add : (r : List ℕ) (a b : Poly × Poly) (a' b' : ℕ × ℕ) → IsWhole r a a' → IsWhole r b b' → IsWhole r (differences.add a b) (wholes.add a' b')
+whole_add : (r : List ℕ) (a b : Poly × Poly) (a' b' : ℕ × ℕ) → IsWhole r a a' → IsWhole r b b'
+    → IsWhole r (differences.add a b) (wholes.add a' b')
 unfolding differences wholes whole
 whole_add r a b a' b' x y = rw (ev_add, ev_add) (omega arith)
 
-whole_sub : (r : List ℕ) (a b : Poly × Poly) (a' b' : ℕ × ℕ) → IsWhole r a a' → IsWhole r b b' → IsWhole r (differences.sub a b) (wholes.sub a' b')
+whole_sub : (r : List ℕ) (a b : Poly × Poly) (a' b' : ℕ × ℕ) → IsWhole r a a' → IsWhole r b b'
+    → IsWhole r (differences.sub a b) (wholes.sub a' b')
 unfolding differences wholes whole
 whole_sub r a b a' b' x y = rw (ev_add, ev_add) (omega arith)
 
-whole_mul : (r : List ℕ) (a b : Poly × Poly) (a' b' : ℕ × ℕ) → IsWhole r a a' → IsWhole r b b' → IsWhole r (differences.mul a b) (wholes.mul a' b')
+whole_mul : (r : List ℕ) (a b : Poly × Poly) (a' b' : ℕ × ℕ) → IsWhole r a a' → IsWhole r b b'
+    → IsWhole r (differences.mul a b) (wholes.mul a' b')
 unfolding differences wholes whole
 whole_mul r a b a' b' x y =
     let e0 : ev (add_poly (mul_poly a.0 b.0) (mul_poly a.1 b.1)) r ≡ ev a.0 r * ev b.0 r + ev a.1 r * ev b.1 r =
@@ -70,22 +75,26 @@ bound_num : (r : List ℕ) (c : ℕ) → IsBound r (differences.num c) (bounds.n
 unfolding differences bounds ev
 bound_num r c = omega arith
 
-bound_add : (r : List ℕ) (a b : Poly × Poly) (a' b' : ℕ) → IsBound r a a' → IsBound r b b' → IsBound r (differences.add a b) (bounds.add a' b')
+bound_add : (r : List ℕ) (a b : Poly × Poly) (a' b' : ℕ) → IsBound r a a' → IsBound r b b'
+    → IsBound r (differences.add a b) (bounds.add a' b')
 unfolding differences bounds
 bound_add r a b a' b' x y = rw (ev_add, ev_add) (omega arith)
 
-bound_sub : (r : List ℕ) (a b : Poly × Poly) (a' b' : ℕ) → IsBound r a a' → IsBound r b b' → IsBound r (differences.sub a b) (bounds.sub a' b')
+bound_sub : (r : List ℕ) (a b : Poly × Poly) (a' b' : ℕ) → IsBound r a a' → IsBound r b b'
+    → IsBound r (differences.sub a b) (bounds.sub a' b')
 unfolding differences bounds
 bound_sub r a b a' b' x y = rw (ev_add, ev_add) (omega arith)
 
-bound_mul : (r : List ℕ) (a b : Poly × Poly) (a' b' : ℕ) → IsBound r a a' → IsBound r b b' → IsBound r (differences.mul a b) (bounds.mul a' b')
+bound_mul : (r : List ℕ) (a b : Poly × Poly) (a' b' : ℕ) → IsBound r a a' → IsBound r b b'
+    → IsBound r (differences.mul a b) (bounds.mul a' b')
 unfolding differences bounds
 bound_mul r a b a' b' x y =
     let e0 : ev (add_poly (mul_poly a.0 b.0) (mul_poly a.1 b.1)) r ≡ ev a.0 r * ev b.0 r + ev a.1 r * ev b.1 r =
     ev_add (mul_poly a.0 b.0) (mul_poly a.1 b.1) r ∙ rw (ev_mul a.0 b.0 r, ev_mul a.1 b.1 r) refl in
     let e1 : ev (add_poly (mul_poly a.0 b.1) (mul_poly a.1 b.0)) r ≡ ev a.0 r * ev b.1 r + ev a.1 r * ev b.0 r =
     ev_add (mul_poly a.0 b.1) (mul_poly a.1 b.0) r ∙ rw (ev_mul a.0 b.1 r, ev_mul a.1 b.0 r) refl in
-    let l : (ev a.0 r + ev a.1 r) * (ev b.0 r + ev b.1 r) ≤ a' * b' = mul-le (ev a.0 r + ev a.1 r) (ev b.0 r + ev b.1 r) a' b' x y in
+    let l : (ev a.0 r + ev a.1 r) * (ev b.0 r + ev b.1 r) ≤ a' * b' =
+        mul-le (ev a.0 r + ev a.1 r) (ev b.0 r + ev b.1 r) a' b' x y in
     rw (e0, e1) (omega arith)
 
 pub bound_respects : (r : List ℕ) → Respects (Poly × Poly) ℕ differences bounds (IsBound r)
@@ -117,7 +126,8 @@ module _ (q : ℕ) (pos : 0 < q) (r : List ℕ) where
   unfolding differences modulo ev
   residue_num c = ap (λ z. z % q) (let e : c ≡ 0 + c = omega arith in e)
 
-  residue_add : (a b : Poly × Poly) (a' b' : ℕ) → IsResidue q r a a' → IsResidue q r b b' → IsResidue q r (differences.add a b) ((modulo q).add a' b')
+  residue_add : (a b : Poly × Poly) (a' b' : ℕ) → IsResidue q r a a' → IsResidue q r b b'
+      → IsResidue q r (differences.add a b) ((modulo q).add a' b')
   unfolding differences modulo plus
   residue_add a b a' b' x y =
       rw (ev_add, ev_add)
@@ -125,7 +135,8 @@ module _ (q : ℕ) (pos : 0 < q) (r : List ℕ) where
       ∙ ap (λ z. z % q) (let e : (ev a.1 r + a') + (ev b.1 r + b') ≡ (ev a.1 r + ev b.1 r) + (a' + b') = omega arith in e)
       ∙ add_alike q (ev a.1 r + ev b.1 r) (ev a.1 r + ev b.1 r) (a' + b') ((a' + b') % q) refl (sym (mod-mod (a' + b') q)))
 
-  residue_sub : (a b : Poly × Poly) (a' b' : ℕ) → IsResidue q r a a' → IsResidue q r b b' → IsResidue q r (differences.sub a b) ((modulo q).sub a' b')
+  residue_sub : (a b : Poly × Poly) (a' b' : ℕ) → IsResidue q r a a' → IsResidue q r b b'
+      → IsResidue q r (differences.sub a b) ((modulo q).sub a' b')
   unfolding differences modulo
   residue_sub a b a' b' x y =
       rw (ev_add, ev_add)
@@ -133,12 +144,15 @@ module _ (q : ℕ) (pos : 0 < q) (r : List ℕ) where
       add_alike q (ev a.0 r) (ev a.1 r + a') (ev b.1 r) (ev b.1 r) x refl
       ∙ ap (λ z. z % q) (let e : (ev a.1 r + a') + ev b.1 r ≡ (ev a.1 r + ev b.1 r) + a' = omega arith in e)
       ∙ add_alike q (ev a.1 r + ev b.1 r) (ev a.1 r + ev b.1 r) a' (minus q a' b' + b') refl (sym (minus_back q pos a' b'))
-      ∙ ap (λ z. z % q) (let e : (ev a.1 r + ev b.1 r) + (minus q a' b' + b') ≡ (ev a.1 r + minus q a' b') + (ev b.1 r + b') = omega arith in e)
+      ∙ ap (λ z. z % q) (let e : (ev a.1 r + ev b.1 r) + (minus q a' b' + b') ≡ (ev a.1 r + minus q a' b')
+          + (ev b.1 r + b') = omega arith in e)
       ∙ add_alike q (ev a.1 r + minus q a' b') (ev a.1 r + minus q a' b') (ev b.1 r + b') (ev b.0 r) refl (sym y)
-      ∙ ap (λ z. z % q) (let e : (ev a.1 r + minus q a' b') + ev b.0 r ≡ (ev a.1 r + ev b.0 r) + minus q a' b' = omega arith in e)
+      ∙ ap (λ z. z % q) (let e : (ev a.1 r + minus q a' b') + ev b.0 r ≡ (ev a.1 r + ev b.0 r)
+          + minus q a' b' = omega arith in e)
       )
 
-  residue_mul : (a b : Poly × Poly) (a' b' : ℕ) → IsResidue q r a a' → IsResidue q r b b' → IsResidue q r (differences.mul a b) ((modulo q).mul a' b')
+  residue_mul : (a b : Poly × Poly) (a' b' : ℕ) → IsResidue q r a a' → IsResidue q r b b'
+      → IsResidue q r (differences.mul a b) ((modulo q).mul a' b')
   unfolding differences modulo times
   residue_mul a b a' b' x y =
       let a0 = ev a.0 r in let a1 = ev a.1 r in let b0 = ev b.0 r in let b1 = ev b.1 r in
@@ -149,9 +163,11 @@ module _ (q : ℕ) (pos : 0 < q) (r : List ℕ) where
       rw (e0, e1)
       (
       add_alike q (a0 * b0) ((a1 + a') * (b1 + b')) (a1 * b1) (a1 * b1) (mul_alike q a0 (a1 + a') b0 (b1 + b') x y) refl
-      ∙ ap (λ z. z % q) (let e : (a1 + a') * (b1 + b') + a1 * b1 ≡ ((a1 + a') * b1 + a1 * (b1 + b')) + a' * b' = omega arith in e)
+      ∙ ap (λ z. z % q) (let e : (a1 + a') * (b1 + b') + a1 * b1 ≡ ((a1 + a') * b1 + a1 * (b1 + b')) + a'
+          * b' = omega arith in e)
       ∙ add_alike q ((a1 + a') * b1 + a1 * (b1 + b')) (a0 * b1 + a1 * b0) (a' * b') ((a' * b') % q)
-      (add_alike q ((a1 + a') * b1) (a0 * b1) (a1 * (b1 + b')) (a1 * b0) (mul_alike q (a1 + a') a0 b1 b1 (sym x) refl) (mul_alike q a1 a1 (b1 + b') b0 refl (sym y)))
+      (add_alike q ((a1 + a') * b1) (a0 * b1) (a1 * (b1 + b')) (a1 * b0) (mul_alike q (a1 + a') a0 b1 b1 (sym x) refl)
+          (mul_alike q a1 a1 (b1 + b') b0 refl (sym y)))
       (sym (mod-mod (a' * b') q))
       )
 
@@ -172,7 +188,8 @@ module _ {B : Type 0} (R : List ℕ → Poly × Poly → B → Type 0) (g : ℕ 
   symbols_related [] = tt
   symbols_related (x ∷ r) = (
     first x r,
-    lifted_left (R r) (R (x ∷ r)) (λ u. (cons u.0 (con 0), cons u.1 (con 0))) (λ a b h. later x r a b h) (symbols (length r)) (lifted g r)
+    lifted_left (R r) (R (x ∷ r)) (λ u. (cons u.0 (con 0), cons u.1 (con 0))) (λ a b h. later x r a b h)
+        (symbols (length r)) (lifted g r)
         (symbols_related r),
   )
 

@@ -7,7 +7,8 @@ use Rattle.primes.proofs.Bits.{by_bits, power_is}
 use Rattle.primes.proofs.Pocklington.{pocklington}
 use Rattle.primes.proofs.Trials.{none_divides, by_trial}
 
--- No number up to `last` + 1 divides n; or g has the order q * l modulo n, for two primes q and l: gq and gl are its powers with
+-- No number up to `last` + 1 divides n; or g has the order q * l modulo n, for two primes q and l: gq and gl are its
+-- powers with
 -- these exponents, and u and v the inverses of gq - 1 and gl - 1 (Pocklington).
 pub data Certificate : Type 0 where
   trial : (n last : ℕ) → Certificate
@@ -48,7 +49,8 @@ prime_by n g gq gl u v q l pq pl h =
     let second = and_parts _ _ first.1 in
     let inverses = and_parts _ _ second.1 in
     pocklington n q l g gq gl u v (ltb-true _ _ above.0) pq pl (ltb-true _ _ room.0)
-    (power_of n g (q * l) 1 whole.0) (power_of n g q gq first.0) (power_of n g l gl second.0) (eqb-true _ _ inverses.0) (eqb-true _ _ inverses.1)
+    (power_of n g (q * l) 1 whole.0) (power_of n g q gq first.0) (power_of n g l gl second.0) (eqb-true _ _ inverses.0)
+        (eqb-true _ _ inverses.1)
 
 pub prime_of : (c : Certificate) → holds c ≡ true → IsPrime (number c)
 unfolding holds number

@@ -1,4 +1,5 @@
--- The formulas' sum is the sum by chords and tangents (SEC 1 section 2.2.1, rules 4 and 5; rules 1 to 3 are sum_neutral and sum_opposite).
+-- The formulas' sum is the sum by chords and tangents (SEC 1 section 2.2.1, rules 4 and 5; rules 1 to 3 are sum_neutral
+-- and sum_opposite).
 use Rattle.std.proofs.Common.{◌≡◌, ℕ, zero, suc, ◌*◌, ◌%◌, ◌<◌, [], ◌∷◌, refl, sym, ap, ◌∙◌, arith}
 use Rattle.residues.specs.Modulo.{plus, minus, times}
 use Rattle.weierstrass.specs.Weierstrass.{Point, triple, products, sum_of}
@@ -7,7 +8,8 @@ use Rattle.kronecker.proofs.Symbols.{modulo}
 use Rattle.kronecker.proofs.Sound.{sound, point_of}
 use Rattle.weierstrass_group.specs.Group.{IsUnit, IsCurve, cubic_at, Alike, spot, spot_point, IsOn, third_x, third_y}
 use Rattle.weierstrass_group.proofs.Field.{unit_product, unit_same, unit_cancel, minus_zero, minus_same, times_is}
-use Rattle.weierstrass_group.proofs.Identities.{secant, secant_squares, secant_point, secant_vanishes, secant_bounded, touch, touch_squares, touch_point, touch_vanishes, touch_bounded}
+use Rattle.weierstrass_group.proofs.Identities.{secant, secant_squares, secant_point, secant_vanishes, secant_bounded}
+use Rattle.weierstrass_group.proofs.Identities.{touch, touch_squares, touch_point, touch_vanishes, touch_bounded}
 use Rattle.weierstrass_group.proofs.Sums.{pos, roots, y_unit, two_unit, double_unit, chord_unit, times_zero}
 use Rattle.weierstrass_group.proofs.Law.{is_whole}
 
@@ -23,7 +25,8 @@ module _ (p b : ℕ) (curve : IsCurve p b) where
 
   -- a coordinate of the sum, from the line's
   on_line : (z t s : ℕ) → minus p t (times p s z) % p ≡ 0 % p → t % p ≡ (z * s) % p
-  on_line z t s h = minus_zero p positive t (times p s z) h ∙ times_is p s z ∙ ap (λ m. m % p) (let k : s * z ≡ z * s = omega arith in k)
+  on_line z t s h = minus_zero p positive t (times p s z) h ∙ times_is p s z
+      ∙ ap (λ m. m % p) (let k : s * z ≡ z * s = omega arith in k)
 
   negated : (g : ℕ) → g % p ≡ 0 % p → minus p 0 g % p ≡ 0 % p
   negated g e = minus_same p positive 0 g (sym e)
@@ -64,29 +67,34 @@ module _ (p b : ℕ) (curve : IsCurve p b) where
 
     square_unit : IsUnit p (times p width width)
     unfolding width
-    square_unit = unit_same p (width * width) (times p width width) (sym (times_is p width width)) (unit_product p width width apart apart)
+    square_unit = unit_same p (width * width) (times p width width) (sym (times_is p width width))
+        (unit_product p width width apart apart)
 
     cube_unit : IsUnit p (times p (times p width width) width)
     unfolding width
     cube_unit =
-        unit_same p (times p width width * width) (times p (times p width width) width) (sym (times_is p (times p width width) width))
+        unit_same p (times p width width * width) (times p (times p width width) width)
+            (sym (times_is p (times p width width) width))
         (unit_product p (times p width width) width square_unit apart)
 
     line_x : minus p S.x (times p (third_x p l x1 x2) S.z) % p ≡ 0 % p
     unfolding nth run eval modulo sum_of triple products S width rise gap steep
     line_x =
-        freed (times p width width) (minus p S.x (times p (third_x p l x1 x2) S.z)) (minus p 0 gap) (times p steep S.z) square_unit (negated gap gap_zero)
+        freed (times p width width) (minus p S.x (times p (third_x p l x1 x2) S.z)) (minus p 0 gap)
+            (times p steep S.z) square_unit (negated gap gap_zero)
         (secant_zero 1 (omega arith))
 
     line_y : minus p S.y (times p (third_y p l x1 y1 x2) S.z) % p ≡ 0 % p
     unfolding nth run eval modulo sum_of triple products S width rise gap steep
     line_y =
         freed (times p (times p width width) width) (minus p S.y (times p (third_y p l x1 y1 x2) S.z)) gap
-        (times p (minus p (times p rise steep) (times p (times p width width) (minus p x1 (third_x p l x1 x2)))) S.z) cube_unit gap_zero
+        (times p (minus p (times p rise steep) (times p (times p width width) (minus p x1 (third_x p l x1 x2)))) S.z)
+            cube_unit gap_zero
         (secant_zero 0 (omega arith))
 
     -- rule 4: the chord
-    pub sum_by_chord : Alike p (sum_of p b (spot_point x1 y1) (spot_point x2 y2)) (spot_point (third_x p l x1 x2) (third_y p l x1 y1 x2))
+    pub sum_by_chord : Alike p (sum_of p b (spot_point x1 y1) (spot_point x2 y2))
+        (spot_point (third_x p l x1 x2) (third_y p l x1 y1 x2))
     unfolding S
     sum_by_chord = record {
       factor = S.z;
@@ -98,7 +106,8 @@ module _ (p b : ℕ) (curve : IsCurve p b) where
       };
     }
 
-  module _ (x y l : ℕ) (on : IsOn p b (spot x y)) (slope : times p l (times p 2 y) % p ≡ minus p (times p 3 (times p x x)) 3 % p) where
+  module _ (x y l : ℕ) (on : IsOn p b (spot x y)) (slope : times p l (times p 2 y) % p
+      ≡ minus p (times p 3 (times p x x)) 3 % p) where
     D : Point
     D = sum_of p b (spot_point x y) (spot_point x y)
 
@@ -109,7 +118,8 @@ module _ (p b : ℕ) (curve : IsCurve p b) where
 
     touch_zero : (k : ℕ) → k < 2 → nth 0 (run (modulo p) (y ∷ x ∷ l ∷ b ∷ []) touch) k % p ≡ 0 % p
     unfolding point_of
-    touch_zero k h = sound 1 touch_squares touch 2 touch_point touch_vanishes touch_bounded p positive (x ∷ l ∷ b ∷ []) refl (λ _. y) touch_are k h
+    touch_zero k h = sound 1 touch_squares touch 2 touch_point touch_vanishes touch_bounded p positive
+        (x ∷ l ∷ b ∷ []) refl (λ _. y) touch_are k h
 
     twice : ℕ
     twice = times p 2 y
@@ -129,31 +139,37 @@ module _ (p b : ℕ) (curve : IsCurve p b) where
 
     twice_unit : IsUnit p twice
     unfolding twice
-    twice_unit = unit_same p (2 * y) (times p 2 y) (sym (times_is p 2 y)) (unit_product p 2 y (two_unit p b curve) (y_unit p b curve x y on))
+    twice_unit = unit_same p (2 * y) (times p 2 y) (sym (times_is p 2 y))
+        (unit_product p 2 y (two_unit p b curve) (y_unit p b curve x y on))
 
     twice_square : IsUnit p (times p twice twice)
-    twice_square = unit_same p (twice * twice) (times p twice twice) (sym (times_is p twice twice)) (unit_product p twice twice twice_unit twice_unit)
+    twice_square = unit_same p (twice * twice) (times p twice twice) (sym (times_is p twice twice))
+        (unit_product p twice twice twice_unit twice_unit)
 
     twice_cube : IsUnit p (times p (times p twice twice) twice)
     twice_cube =
-        unit_same p (times p twice twice * twice) (times p (times p twice twice) twice) (sym (times_is p (times p twice twice) twice))
+        unit_same p (times p twice twice * twice) (times p (times p twice twice) twice)
+            (sym (times_is p (times p twice twice) twice))
         (unit_product p (times p twice twice) twice twice_square twice_unit)
 
     tangent_x : minus p D.x (times p (third_x p l x x) D.z) % p ≡ 0 % p
     unfolding nth run eval modulo sum_of triple products D twice up off all_up
     tangent_x =
-        freed (times p twice twice) (minus p D.x (times p (third_x p l x x) D.z)) (minus p 0 off) (times p all_up D.z) twice_square (negated off off_zero)
+        freed (times p twice twice) (minus p D.x (times p (third_x p l x x) D.z)) (minus p 0 off)
+            (times p all_up D.z) twice_square (negated off off_zero)
         (touch_zero 1 (omega arith))
 
     tangent_y : minus p D.y (times p (third_y p l x y x) D.z) % p ≡ 0 % p
     unfolding nth run eval modulo sum_of triple products D twice up off all_up
     tangent_y =
         freed (times p (times p twice twice) twice) (minus p D.y (times p (third_y p l x y x) D.z)) off
-        (times p (minus p (times p up all_up) (times p (times p twice twice) (minus p x (third_x p l x x)))) D.z) twice_cube off_zero
+        (times p (minus p (times p up all_up) (times p (times p twice twice) (minus p x (third_x p l x x)))) D.z)
+            twice_cube off_zero
         (touch_zero 0 (omega arith))
 
     -- rule 5: the tangent
-    pub sum_by_tangent : Alike p (sum_of p b (spot_point x y) (spot_point x y)) (spot_point (third_x p l x x) (third_y p l x y x))
+    pub sum_by_tangent : Alike p (sum_of p b (spot_point x y) (spot_point x y))
+        (spot_point (third_x p l x x) (third_y p l x y x))
     unfolding D
     sum_by_tangent = record {
       factor = D.z;

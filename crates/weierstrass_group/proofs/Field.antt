@@ -12,10 +12,12 @@ abbrev pub Eq : ℕ → ℕ → ℕ → Type 0
 Eq p a b = a % p ≡ b % p
 
 pub minus_zero : (p : ℕ) → 0 < p → (a b : ℕ) → minus p a b % p ≡ 0 % p → a % p ≡ b % p
-minus_zero p pos a b h = sym (minus_back p pos a b) ∙ add_alike p (minus p a b) 0 b b h refl ∙ ap (λ z. z % p) (let e : 0 + b ≡ b = omega arith in e)
+minus_zero p pos a b h = sym (minus_back p pos a b) ∙ add_alike p (minus p a b) 0 b b h refl
+    ∙ ap (λ z. z % p) (let e : 0 + b ≡ b = omega arith in e)
 
 pub minus_same : (p : ℕ) → 0 < p → (a b : ℕ) → a % p ≡ b % p → minus p a b % p ≡ 0 % p
-minus_same p pos a b h = cancel p pos (minus p a b) 0 b (minus_back p pos a b ∙ h ∙ ap (λ z. z % p) (let e : b ≡ 0 + b = omega arith in e))
+minus_same p pos a b h = cancel p pos (minus p a b) 0 b (minus_back p pos a b ∙ h
+    ∙ ap (λ z. z % p) (let e : b ≡ 0 + b = omega arith in e))
 
 pub plus_is : (p a b : ℕ) → plus p a b % p ≡ (a + b) % p
 unfolding plus
@@ -34,7 +36,8 @@ times_alike p a b c d h k = times_is p a c ∙ mul_alike p a b c d h k ∙ sym (
 pub minus_alike : (p a b c d : ℕ) → a % p ≡ b % p → c % p ≡ d % p → minus p a c % p ≡ minus p b d % p
 unfolding minus
 minus_alike p a b c d h k =
-    mod-mod (a + (p - c % p)) p ∙ add_alike p a b (p - c % p) (p - d % p) h (ap (λ z. (p - z) % p) k) ∙ sym (mod-mod (b + (p - d % p)) p)
+    mod-mod (a + (p - c % p)) p ∙ add_alike p a b (p - c % p) (p - d % p) h (ap (λ z. (p - z) % p) k)
+        ∙ sym (mod-mod (b + (p - d % p)) p)
 
 -- arithmetic modulo p does not see that its numbers were reduced
 pub alike_respects : (p : ℕ) → Respects ℕ ℕ (modulo p) (modulo p) (λ a b. a % p ≡ b % p)
@@ -57,10 +60,12 @@ unit_product p a b u v = record {
 }
 
 pub unit_same : (p a b : ℕ) → a % p ≡ b % p → IsUnit p a → IsUnit p b
-unit_same p a b e u = record { inverse = u.inverse; is_inverse = mul_alike p b a u.inverse u.inverse (sym e) refl ∙ u.is_inverse }
+unit_same p a b e u = record { inverse = u.inverse; is_inverse = mul_alike p b a u.inverse u.inverse (sym e) refl
+    ∙ u.is_inverse }
 
 pub unit_inverse : (p a : ℕ) → (u : IsUnit p a) → IsUnit p u.inverse
-unit_inverse p a u = record { inverse = a; is_inverse = ap (λ z. z % p) (let e : u.inverse * a ≡ a * u.inverse = omega arith in e) ∙ u.is_inverse }
+unit_inverse p a u = record { inverse = a;
+    is_inverse = ap (λ z. z % p) (let e : u.inverse * a ≡ a * u.inverse = omega arith in e) ∙ u.is_inverse }
 
 pub unit_cancel : (p c a b : ℕ) → IsUnit p c → (c * a) % p ≡ (c * b) % p → a % p ≡ b % p
 unit_cancel p c a b u h =

@@ -8,7 +8,8 @@ use Rattle.weierstrass_group.proofs.Field.{minus_alike}
 use Rattle.weierstrass_group.proofs.Points.{alike_self, alike_twice}
 use Rattle.weierstrass_group.proofs.Sums.{sum_alike, pos, opposite_sum, opposite_x, opposite_y, opposite_z}
 use Rattle.weierstrass_group.proofs.Law.{sum_neutral, point_alike, is_nothing, is_whole}
-use Rattle.weierstrass_group.specs.Group.{Alike, opposite_of, IsCurve, IsOn, IsPoint, Shape, nowhere, point_at, spot, spot_point}
+use Rattle.weierstrass_group.specs.Group.{Alike, opposite_of, IsCurve, IsOn, IsPoint, Shape, nowhere, point_at, spot}
+use Rattle.weierstrass_group.specs.Group.{spot_point}
 
 module _ (p b : ℕ) (curve : IsCurve p b) where
   less : 0 < p
@@ -19,7 +20,8 @@ module _ (p b : ℕ) (curve : IsCurve p b) where
   minus_times l y =
       cancel p less (minus p 0 (l * y)) (l * minus p 0 y) (l * y)
       (minus_back p less 0 (l * y) ∙ ap (λ n. n % p) (let k : 0 ≡ l * 0 = omega arith in k)
-      ∙ mul_alike p l l 0 (minus p 0 y + y) refl (sym (minus_back p less 0 y)) ∙ ap (λ n. n % p) (let k : l * (minus p 0 y + y) ≡ l * minus p 0 y + l * y = omega arith in k))
+      ∙ mul_alike p l l 0 (minus p 0 y + y) refl (sym (minus_back p less 0 y))
+      ∙ ap (λ n. n % p) (let k : l * (minus p 0 y + y) ≡ l * minus p 0 y + l * y = omega arith in k))
 
   pub opposite_alike : (P Q : Point) → Alike p P Q → Alike p (opposite_of p P) (opposite_of p Q)
   unfolding opposite_of
@@ -37,8 +39,10 @@ module _ (p b : ℕ) (curve : IsCurve p b) where
   minus_square y =
       let m = minus p 0 y in
       cancel p less (m * m) (y * y) (m * y)
-      (ap (λ n. n % p) (let k : m * m + m * y ≡ m * (m + y) = omega arith in k) ∙ mul_alike p m m (m + y) 0 refl (minus_back p less 0 y)
-      ∙ ap (λ n. n % p) (let k : m * 0 ≡ y * 0 = omega arith in k) ∙ mul_alike p y y 0 (m + y) refl (sym (minus_back p less 0 y))
+      (ap (λ n. n % p) (let k : m * m + m * y ≡ m * (m + y) = omega arith in k)
+          ∙ mul_alike p m m (m + y) 0 refl (minus_back p less 0 y)
+      ∙ ap (λ n. n % p) (let k : m * 0 ≡ y * 0 = omega arith in k)
+      ∙ mul_alike p y y 0 (m + y) refl (sym (minus_back p less 0 y))
       ∙ ap (λ n. n % p) (let k : y * (m + y) ≡ y * y + m * y = omega arith in k))
 
   nowhere_opposite : Alike p (opposite_of p (point_at nowhere)) (point_at nowhere)
@@ -46,7 +50,8 @@ module _ (p b : ℕ) (curve : IsCurve p b) where
   nowhere_opposite = record {
     factor = minus p 0 1;
     unit = record { inverse = minus p 0 1; is_inverse = minus_square 1 };
-    is_times = record { x = is_nothing p (minus p 0 1) 0 refl; y = is_whole p (minus p 0 1); z = is_nothing p (minus p 0 1) 0 refl };
+    is_times = record { x = is_nothing p (minus p 0 1) 0 refl; y = is_whole p (minus p 0 1);
+        z = is_nothing p (minus p 0 1) 0 refl };
   }
 
   shape_opposite : (s : Shape) → IsOn p b s → IsPoint p b (opposite_of p (point_at s))
@@ -59,7 +64,8 @@ module _ (p b : ℕ) (curve : IsCurve p b) where
   }
 
   pub opposite_point : (P : Point) → IsPoint p b P → IsPoint p b (opposite_of p P)
-  opposite_point P h = point_alike p b curve (opposite_of p P) (opposite_of p (point_at h.shape)) (opposite_alike P (point_at h.shape) h.alike) (shape_opposite h.shape h.on)
+  opposite_point P h = point_alike p b curve (opposite_of p P) (opposite_of p (point_at h.shape))
+      (opposite_alike P (point_at h.shape) h.alike) (shape_opposite h.shape h.on)
 
   shape_inverse : (s : Shape) → IsOn p b s → Alike p (sum_of p b (point_at s) (opposite_of p (point_at s))) (point_at nowhere)
   unfolding opposite_of opposite_sum
@@ -85,4 +91,5 @@ module _ (p b : ℕ) (curve : IsCurve p b) where
   sum_opposite P h =
       let N = point_at h.shape in
       alike_twice p (sum_of p b P (opposite_of p P)) (sum_of p b N (opposite_of p N)) (point_at nowhere)
-      (sum_alike p less b P N (opposite_of p P) (opposite_of p N) h.alike (opposite_alike P N h.alike)) (shape_inverse h.shape h.on)
+      (sum_alike p less b P N (opposite_of p P) (opposite_of p N) h.alike (opposite_alike P N h.alike))
+          (shape_inverse h.shape h.on)

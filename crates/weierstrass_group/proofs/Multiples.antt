@@ -47,7 +47,8 @@ module _ (p b : ℕ) (curve : IsCurve p b) where
   unfolding times_point
   multiples_sum m zero P h =
       let e : m + 0 ≡ m = omega arith in
-      rw e (back (sum_of p b (times_point p b m P) infinity) (times_point p b m P) (neutral_right (times_point p b m P) (multiple_point m P h)))
+      rw e (back (sum_of p b (times_point p b m P) infinity) (times_point p b m P)
+          (neutral_right (times_point p b m P) (multiple_point m P h)))
   multiples_sum m (suc n) P h =
       let e : m + suc n ≡ suc (m + n) = omega arith in
       let M = times_point p b m P in
@@ -71,8 +72,10 @@ module _ (p b : ℕ) (curve : IsCurve p b) where
       let inner : Alike p (s B (s C D)) (s C (s B D)) =
       after (s B (s C D)) (s (s B C) D) (s C (s B D)) e2 (after (s (s B C) D) (s (s C B) D) (s C (s B D)) e3 e4) in
       let e5 : Alike p (s A (s B (s C D))) (s A (s C (s B D))) = both A A (s B (s C D)) (s C (s B D)) (alike_self p A) inner in
-      let e6 : Alike p (s A (s C (s B D))) (s (s A C) (s B D)) = back (s (s A C) (s B D)) (s A (s C (s B D))) (sum_grouped p b curve A C (s B D) ha hc bd) in
-      after (s (s A B) (s C D)) (s A (s B (s C D))) (s (s A C) (s B D)) e1 (after (s A (s B (s C D))) (s A (s C (s B D))) (s (s A C) (s B D)) e5 e6)
+      let e6 : Alike p (s A (s C (s B D))) (s (s A C) (s B D)) = back (s (s A C) (s B D)) (s A (s C (s B D)))
+          (sum_grouped p b curve A C (s B D) ha hc bd) in
+      after (s (s A B) (s C D)) (s A (s B (s C D))) (s (s A C) (s B D)) e1
+          (after (s A (s B (s C D))) (s A (s C (s B D))) (s (s A C) (s B D)) e5 e6)
 
   -- one step of the definition
   step_is : (Q P : Point) (bit n m : ℕ) → IsPoint p b P → Alike p Q (times_point p b n P) → bit < 2 → m ≡ n + n + bit
@@ -92,20 +95,24 @@ module _ (p b : ℕ) (curve : IsCurve p b) where
       (alike_self p P))
   step_is Q P (suc (suc bit)) n m h a l e = absurd (omega arith)
 
-  steps_are : (count n : ℕ) (P : Point) → IsPoint p b P → n < 2 ^ count → Alike p (steps_of p b P count n infinity) (times_point p b n P)
+  steps_are : (count n : ℕ) (P : Point) → IsPoint p b P → n < 2 ^ count
+      → Alike p (steps_of p b P count n infinity) (times_point p b n P)
   unfolding steps_of times_point
   steps_are zero n P h l = let z : n ≡ 0 = omega arith in rw z (alike_self p infinity)
   steps_are (suc count) n P h l =
       let two = two-pow-succ count in
-      step_is (steps_of p b P count (n / 2) infinity) P (n % 2) (n / 2) n h (steps_are count (n / 2) P h (omega arith)) (omega arith) (omega arith)
+      step_is (steps_of p b P count (n / 2) infinity) P (n % 2) (n / 2) n h (steps_are count (n / 2) P h (omega arith))
+          (omega arith) (omega arith)
 
   -- the definition's multiple is P added n times
-  pub multiple_is : (count n : ℕ) (P : Point) → IsPoint p b P → n < 2 ^ count → Alike p (multiple_of p b count n P) (times_point p b n P)
+  pub multiple_is : (count n : ℕ) (P : Point) → IsPoint p b P → n < 2 ^ count
+      → Alike p (multiple_of p b count n P) (times_point p b n P)
   unfolding multiple_of
   multiple_is count n P h l = steps_are count n P h l
 
   -- sums of such
-  pub joint_sum : (m m' n n' : ℕ) (P Q S T : Point) → IsPoint p b P → IsPoint p b Q → Alike p S (joint p b m P n Q) → Alike p T (joint p b m' P n' Q)
+  pub joint_sum : (m m' n n' : ℕ) (P Q S T : Point) → IsPoint p b P → IsPoint p b Q → Alike p S (joint p b m P n Q)
+      → Alike p T (joint p b m' P n' Q)
       → Alike p (sum_of p b S T) (joint p b (m + m') P (n + n') Q)
   unfolding joint
   joint_sum m m' n n' P Q S T h k a c =
@@ -119,16 +126,19 @@ module _ (p b : ℕ) (curve : IsCurve p b) where
       (after (s (s M N) (s M' N')) (s (s M M') (s N N')) (s (times_point p b (m + m') P) (times_point p b (n + n') Q))
       (exchanged M N M' N' (multiple_point m P h) (multiple_point n Q k) (multiple_point m' P h) (multiple_point n' Q k))
       (back (s (times_point p b (m + m') P) (times_point p b (n + n') Q)) (s (s M M') (s N N'))
-      (both (times_point p b (m + m') P) (s M M') (times_point p b (n + n') Q) (s N N') (multiples_sum m m' P h) (multiples_sum n n' Q k))))
+      (both (times_point p b (m + m') P) (s M M') (times_point p b (n + n') Q) (s N N') (multiples_sum m m' P h)
+          (multiples_sum n n' Q k))))
 
   -- twice
-  pub joint_double : (m n m' n' : ℕ) (P Q S : Point) → IsPoint p b P → IsPoint p b Q → Alike p S (joint p b m P n Q) → m' ≡ m + m → n' ≡ n + n
+  pub joint_double : (m n m' n' : ℕ) (P Q S : Point) → IsPoint p b P → IsPoint p b Q → Alike p S (joint p b m P n Q)
+      → m' ≡ m + m → n' ≡ n + n
       → Alike p (double_of p b S) (joint p b m' P n' Q)
   unfolding double_of
   joint_double m n m' n' P Q S h k a e f = rw (e, f) (joint_sum m m n n P Q S S h k a a)
 
   -- a multiple of P more
-  pub joint_first : (m n d m' : ℕ) (P Q S T : Point) → IsPoint p b P → IsPoint p b Q → Alike p S (joint p b m P n Q) → Alike p T (times_point p b d P) → m' ≡ m + d
+  pub joint_first : (m n d m' : ℕ) (P Q S T : Point) → IsPoint p b P → IsPoint p b Q → Alike p S (joint p b m P n Q)
+      → Alike p T (times_point p b d P) → m' ≡ m + d
       → Alike p (sum_of p b S T) (joint p b m' P n Q)
   unfolding joint times_point
   joint_first m n d m' P Q S T h k a c e =
@@ -138,7 +148,8 @@ module _ (p b : ℕ) (curve : IsCurve p b) where
       (after T D (sum_of p b D infinity) c (back (sum_of p b D infinity) D (neutral_right D (multiple_point d P h)))))
 
   -- a multiple of Q more
-  pub joint_second : (m n d n' : ℕ) (P Q S T : Point) → IsPoint p b P → IsPoint p b Q → Alike p S (joint p b m P n Q) → Alike p T (times_point p b d Q) → n' ≡ n + d
+  pub joint_second : (m n d n' : ℕ) (P Q S T : Point) → IsPoint p b P → IsPoint p b Q → Alike p S (joint p b m P n Q)
+      → Alike p T (times_point p b d Q) → n' ≡ n + d
       → Alike p (sum_of p b S T) (joint p b m P n' Q)
   unfolding joint times_point
   joint_second m n d n' P Q S T h k a c e =
@@ -148,10 +159,14 @@ module _ (p b : ℕ) (curve : IsCurve p b) where
       (after T D (sum_of p b infinity D) c (back (sum_of p b infinity D) D (neutral_left D (multiple_point d Q k)))))
 
   -- what the definition of verification asks for
-  pub joint_is : (count m n : ℕ) (P Q S : Point) → IsPoint p b P → IsPoint p b Q → m < 2 ^ count → n < 2 ^ count → Alike p S (joint p b m P n Q)
+  pub joint_is : (count m n : ℕ) (P Q S : Point) → IsPoint p b P → IsPoint p b Q → m < 2 ^ count → n < 2 ^ count
+      → Alike p S (joint p b m P n Q)
       → Alike p S (sum_of p b (multiple_of p b count m P) (multiple_of p b count n Q))
   unfolding joint
   joint_is count m n P Q S h k l r a =
-      after S (sum_of p b (times_point p b m P) (times_point p b n Q)) (sum_of p b (multiple_of p b count m P) (multiple_of p b count n Q)) a
-      (back (sum_of p b (multiple_of p b count m P) (multiple_of p b count n Q)) (sum_of p b (times_point p b m P) (times_point p b n Q))
-      (both (multiple_of p b count m P) (times_point p b m P) (multiple_of p b count n Q) (times_point p b n Q) (multiple_is count m P h l) (multiple_is count n Q k r)))
+      after S (sum_of p b (times_point p b m P) (times_point p b n Q))
+          (sum_of p b (multiple_of p b count m P) (multiple_of p b count n Q)) a
+      (back (sum_of p b (multiple_of p b count m P) (multiple_of p b count n Q))
+          (sum_of p b (times_point p b m P) (times_point p b n Q))
+      (both (multiple_of p b count m P) (times_point p b m P) (multiple_of p b count n Q) (times_point p b n Q)
+          (multiple_is count m P h l) (multiple_is count n Q k r)))

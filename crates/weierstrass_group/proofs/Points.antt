@@ -18,7 +18,8 @@ pub is_once : (p : ℕ) (P : Point) → IsTimes p 1 P P
 is_once p P = record { x = times_one p P.x; y = times_one p P.y; z = times_one p P.z }
 
 times_twice : (p l m a b c : ℕ) → a % p ≡ (l * b) % p → b % p ≡ (m * c) % p → a % p ≡ (l * m * c) % p
-times_twice p l m a b c h k = h ∙ mul_alike p l l b (m * c) refl k ∙ ap (λ z. z % p) (let e : l * (m * c) ≡ l * m * c = omega arith in e)
+times_twice p l m a b c h k = h ∙ mul_alike p l l b (m * c) refl k
+    ∙ ap (λ z. z % p) (let e : l * (m * c) ≡ l * m * c = omega arith in e)
 
 pub is_times_twice : (p l m : ℕ) (P Q R : Point) → IsTimes p l P Q → IsTimes p m Q R → IsTimes p (l * m) P R
 is_times_twice p l m P Q R h k = record {
@@ -134,17 +135,20 @@ module _ (p : ℕ) (pos : 0 < p) (b l : ℕ) (P Q : Point) where
 
   scaled_x : (sum_of p b (scale p l P) Q).x % p ≡ (l * l * (sum_of p b P Q).x) % p
   unfolding sum_of triple products nth run eval modulo scale
-  scaled_x = minus_zero p pos (sum_of p b (scale p l P) Q).x (times p (times p l l) (sum_of p b P Q).x) (scaled_zero 2 (omega arith))
+  scaled_x = minus_zero p pos (sum_of p b (scale p l P) Q).x (times p (times p l l) (sum_of p b P Q).x)
+      (scaled_zero 2 (omega arith))
       ∙ square (sum_of p b P Q).x
 
   scaled_y : (sum_of p b (scale p l P) Q).y % p ≡ (l * l * (sum_of p b P Q).y) % p
   unfolding sum_of triple products nth run eval modulo scale
-  scaled_y = minus_zero p pos (sum_of p b (scale p l P) Q).y (times p (times p l l) (sum_of p b P Q).y) (scaled_zero 1 (omega arith))
+  scaled_y = minus_zero p pos (sum_of p b (scale p l P) Q).y (times p (times p l l) (sum_of p b P Q).y)
+      (scaled_zero 1 (omega arith))
       ∙ square (sum_of p b P Q).y
 
   scaled_z : (sum_of p b (scale p l P) Q).z % p ≡ (l * l * (sum_of p b P Q).z) % p
   unfolding sum_of triple products nth run eval modulo scale
-  scaled_z = minus_zero p pos (sum_of p b (scale p l P) Q).z (times p (times p l l) (sum_of p b P Q).z) (scaled_zero 0 (omega arith))
+  scaled_z = minus_zero p pos (sum_of p b (scale p l P) Q).z (times p (times p l l) (sum_of p b P Q).z)
+      (scaled_zero 0 (omega arith))
       ∙ square (sum_of p b P Q).z
 
   pub scaled_sum : IsTimes p (l * l) (sum_of p b (scale p l P) Q) (sum_of p b P Q)

@@ -7,9 +7,14 @@ use Rattle.weierstrass.specs.Weierstrass.{Point, triple, products, sum_of}
 use Rattle.kronecker.proofs.Programs.{num, nth, eval, run}
 use Rattle.kronecker.proofs.Symbols.{modulo, minus_back, cancel}
 use Rattle.kronecker.proofs.Sound.{sound, point_of}
-use Rattle.weierstrass_group.proofs.Field.{unit_product, unit_same, unit_cancel, minus_zero, minus_same, plus_is, times_is, plus_alike, times_alike, minus_alike}
+use Rattle.weierstrass_group.proofs.Field.{unit_product, unit_same, unit_cancel, minus_zero, minus_same, plus_is}
+use Rattle.weierstrass_group.proofs.Field.{times_is, plus_alike, times_alike, minus_alike}
 use Rattle.weierstrass_group.proofs.Points.{alike_twice, AreSame, sum_same, scale, scaled_sum}
-use Rattle.weierstrass_group.proofs.Identities.{cubic, chord, chord_squares, chord_point, chord_vanishes, chord_bounded, tangent, tangent_squares, tangent_point, tangent_vanishes, tangent_bounded, opposite, opposite_squares, opposite_point, opposite_vanishes, opposite_bounded, ratio, ratio_squares, ratio_point, ratio_vanishes, ratio_bounded}
+use Rattle.weierstrass_group.proofs.Identities.{cubic, chord, chord_squares, chord_point, chord_vanishes, chord_bounded}
+use Rattle.weierstrass_group.proofs.Identities.{tangent, tangent_squares, tangent_point, tangent_vanishes}
+use Rattle.weierstrass_group.proofs.Identities.{tangent_bounded, opposite, opposite_squares, opposite_point}
+use Rattle.weierstrass_group.proofs.Identities.{opposite_vanishes, opposite_bounded, ratio, ratio_squares, ratio_point}
+use Rattle.weierstrass_group.proofs.Identities.{ratio_vanishes, ratio_bounded}
 use Rattle.weierstrass_group.specs.Group.{Alike, IsCurve, IsOn, IsTimes, IsUnit, cubic_at, spot, spot_point}
 
 times_comm : (p a b : ℕ) → times p a b ≡ times p b a
@@ -23,17 +28,21 @@ plus_comm p a b = ap (λ z. z % p) (let e : a + b ≡ b + a = omega arith in e)
 -- a sum, from its products
 from_products : (p b xx yy zz xy xz yz : ℕ) → Point
 from_products p b xx yy zz xy xz yz =
-    products p xy yz yy (triple p (minus p xz (times p b zz))) (triple p (minus p (minus p (times p b xz) xx) (triple p zz))) (triple p (minus p xx zz))
+    products p xy yz yy (triple p (minus p xz (times p b zz)))
+        (triple p (minus p (minus p (times p b xz) xx) (triple p zz))) (triple p (minus p xx zz))
 
-from_same : (p b xx yy zz xy xz yz xx' yy' zz' xy' xz' yz' : ℕ) → xx ≡ xx' → yy ≡ yy' → zz ≡ zz' → xy ≡ xy' → xz ≡ xz' → yz ≡ yz'
+from_same : (p b xx yy zz xy xz yz xx' yy' zz' xy' xz' yz' : ℕ) → xx ≡ xx' → yy ≡ yy' → zz ≡ zz' → xy ≡ xy' → xz ≡ xz'
+    → yz ≡ yz'
     → from_products p b xx yy zz xy xz yz ≡ from_products p b xx' yy' zz' xy' xz' yz'
 from_same p b xx yy zz xy xz yz xx' yy' zz' xy' xz' yz' e1 e2 e3 e4 e5 e6 = cc
 
 pub sum_turned : (p b : ℕ) (P Q : Point) → sum_of p b P Q ≡ sum_of p b Q P
 unfolding sum_of from_products
 sum_turned p b P Q =
-    from_same p b (times p P.x Q.x) (times p P.y Q.y) (times p P.z Q.z) (plus p (times p P.x Q.y) (times p Q.x P.y)) (plus p (times p P.x Q.z) (times p Q.x P.z))
-    (plus p (times p P.y Q.z) (times p Q.y P.z)) (times p Q.x P.x) (times p Q.y P.y) (times p Q.z P.z) (plus p (times p Q.x P.y) (times p P.x Q.y))
+    from_same p b (times p P.x Q.x) (times p P.y Q.y) (times p P.z Q.z) (plus p (times p P.x Q.y) (times p Q.x P.y))
+        (plus p (times p P.x Q.z) (times p Q.x P.z))
+    (plus p (times p P.y Q.z) (times p Q.y P.z)) (times p Q.x P.x) (times p Q.y P.y) (times p Q.z P.z)
+        (plus p (times p Q.x P.y) (times p P.x Q.y))
     (plus p (times p Q.x P.z) (times p P.x Q.z)) (plus p (times p Q.y P.z) (times p P.y Q.z))
     (times_comm p P.x Q.x) (times_comm p P.y Q.y) (times_comm p P.z Q.z) (plus_comm p (times p P.x Q.y) (times p Q.x P.y))
     (plus_comm p (times p P.x Q.z) (times p Q.x P.z)) (plus_comm p (times p P.y Q.z) (times p Q.y P.z))
@@ -53,7 +62,8 @@ pub sum_left : (p : ℕ) → 0 < p → (b : ℕ) (P P' Q : Point) → Alike p P 
 sum_left p pos b P P' Q a =
     let s : AreSame p (sum_of p b P Q) (sum_of p b (scale p a.factor P') Q) =
     sum_same p b P (scale p a.factor P') Q Q (same_scaled p a.factor P P' a.is_times) (same_self p Q) in
-    let t : IsTimes p (a.factor * a.factor) (sum_of p b (scale p a.factor P') Q) (sum_of p b P' Q) = scaled_sum p pos b a.factor P' Q in
+    let t : IsTimes p (a.factor * a.factor) (sum_of p b (scale p a.factor P') Q) (sum_of p b P' Q) =
+        scaled_sum p pos b a.factor P' Q in
     record {
       factor = a.factor * a.factor;
       unit = unit_product p a.factor a.factor a.unit a.unit;
@@ -61,7 +71,8 @@ sum_left p pos b P P' Q a =
     }
 
 -- sums do not see the proportion
-pub sum_alike : (p : ℕ) → 0 < p → (b : ℕ) (P P' Q Q' : Point) → Alike p P P' → Alike p Q Q' → Alike p (sum_of p b P Q) (sum_of p b P' Q')
+pub sum_alike : (p : ℕ) → 0 < p → (b : ℕ) (P P' Q Q' : Point) → Alike p P P' → Alike p Q Q'
+    → Alike p (sum_of p b P Q) (sum_of p b P' Q')
 sum_alike p pos b P P' Q Q' h k =
     let second : Alike p (sum_of p b Q P') (sum_of p b Q' P') = sum_left p pos b Q Q' P' k in
     alike_twice p (sum_of p b P Q) (sum_of p b P' Q) (sum_of p b P' Q') (sum_left p pos b P P' Q h)
@@ -69,7 +80,8 @@ sum_alike p pos b P P' Q Q' h k =
 
 -- the numerator of the cubic at n / d
 unfoldable pub ratio_at : (p b n d : ℕ) → ℕ
-ratio_at p b n d = plus p (minus p (times p (times p n n) n) (times p 3 (times p n (times p d d)))) (times p b (times p d (times p d d)))
+ratio_at p b n d = plus p (minus p (times p (times p n n) n) (times p 3 (times p n (times p d d))))
+    (times p b (times p d (times p d d)))
 
 pub zero_times : (p a e : ℕ) → e % p ≡ 0 % p → times p a e % p ≡ 0 % p
 zero_times p a e h = times_is p a e ∙ mul_alike p a a e 0 refl h ∙ ap (λ z. z % p) (let k : a * 0 ≡ 0 = omega arith in k)
@@ -87,12 +99,15 @@ module _ (p b : ℕ) (curve : IsCurve p b) where
   pub more : 1 < p
   more = let h : 2 < p = above in omega arith
 
-  zero_sum : (n a e g c : ℕ) → minus p n (plus p (times p a e) (times p g c)) % p ≡ 0 % p → e % p ≡ 0 % p → g % p ≡ 0 % p → n % p ≡ 0 % p
+  zero_sum : (n a e g c : ℕ) → minus p n (plus p (times p a e) (times p g c)) % p ≡ 0 % p → e % p ≡ 0 % p
+      → g % p ≡ 0 % p → n % p ≡ 0 % p
   zero_sum n a e g c h he hg =
       minus_zero p pos n (plus p (times p a e) (times p g c)) h
-      ∙ plus_is p (times p a e) (times p g c) ∙ add_alike p (times p a e) 0 (times p g c) 0 (zero_times p a e he) (times_zero p c g hg)
+      ∙ plus_is p (times p a e) (times p g c) ∙ add_alike p (times p a e) 0 (times p g c) 0 (zero_times p a e he)
+          (times_zero p c g hg)
 
-  pub zero_difference : (n a e g c : ℕ) → minus p n (minus p (times p a e) (times p g c)) % p ≡ 0 % p → e % p ≡ 0 % p → g % p ≡ 0 % p → n % p ≡ 0 % p
+  pub zero_difference : (n a e g c : ℕ) → minus p n (minus p (times p a e) (times p g c)) % p ≡ 0 % p → e % p ≡ 0 % p
+      → g % p ≡ 0 % p → n % p ≡ 0 % p
   zero_difference n a e g c h he hg =
       minus_zero p pos n (minus p (times p a e) (times p g c)) h
       ∙ minus_same p pos (times p a e) (times p g c) (zero_times p a e he ∙ sym (times_zero p c g hg))
@@ -108,8 +123,10 @@ module _ (p b : ℕ) (curve : IsCurve p b) where
       let r = times p n i in
       curve.no_root r
       (zero_sum (cubic_at p b r) (times p i (times p i i)) (ratio_at p b n d) (minus p (times p d i) 1)
-      (minus p (times p 3 (times p r (plus p (times p d i) 1))) (times p b (plus p (plus p (times p (times p d i) (times p d i)) (times p d i)) 1)))
-      (sound 0 ratio_squares ratio 1 ratio_point ratio_vanishes ratio_bounded p pos (n ∷ d ∷ i ∷ b ∷ []) refl (λ _. 0) (λ j e. absurd (omega arith)) 0 (omega arith))
+      (minus p (times p 3 (times p r (plus p (times p d i) 1)))
+          (times p b (plus p (plus p (times p (times p d i) (times p d i)) (times p d i)) 1)))
+      (sound 0 ratio_squares ratio 1 ratio_point ratio_vanishes ratio_bounded p pos (n ∷ d ∷ i ∷ b ∷ []) refl (λ _. 0)
+          (λ j e. absurd (omega arith)) 0 (omega arith))
       h (inverse_zero d u))
 
   pub cubic_same : (x x' : ℕ) → x % p ≡ x' % p → cubic_at p b x % p ≡ cubic_at p b x' % p
@@ -126,7 +143,8 @@ module _ (p b : ℕ) (curve : IsCurve p b) where
     where
       go : IsUnit p y ⊎ (y % p ≡ 0 % p) → IsUnit p y
       go (inl u) = u
-      go (inr e) = absurd (curve.no_root x (sym on ∙ mul_alike p y 0 y y e refl ∙ ap (λ z. z % p) (let k : 0 * y ≡ 0 = omega arith in k)))
+      go (inr e) = absurd (curve.no_root x (sym on ∙ mul_alike p y 0 y y e refl
+          ∙ ap (λ z. z % p) (let k : 0 * y ≡ 0 = omega arith in k)))
 
   pub two_unit : IsUnit p 2
   two_unit = go (curve.field.unit_or_zero 2)
@@ -149,13 +167,15 @@ module _ (p b : ℕ) (curve : IsCurve p b) where
   roots ys k = nth 0 ys k
 
   pub two_roots : (x1 y1 x2 y2 : ℕ) → IsOn p b (spot x1 y1) → IsOn p b (spot x2 y2) → (j : ℕ) → j < 2
-      → (roots (y1 ∷ y2 ∷ []) j * roots (y1 ∷ y2 ∷ []) j) % p ≡ eval (modulo p) (x2 ∷ x1 ∷ b ∷ []) (nth (num 0) (cubic 1 2 ∷ cubic 0 2 ∷ []) j) % p
+      → (roots (y1 ∷ y2 ∷ []) j * roots (y1 ∷ y2 ∷ []) j) % p ≡ eval (modulo p) (x2 ∷ x1 ∷ b ∷ [])
+          (nth (num 0) (cubic 1 2 ∷ cubic 0 2 ∷ []) j) % p
   unfolding nth eval modulo cubic_at roots
   two_roots x1 y1 x2 y2 on1 on2 zero l = on1
   two_roots x1 y1 x2 y2 on1 on2 (suc zero) l = on2
   two_roots x1 y1 x2 y2 on1 on2 (suc (suc j)) l = absurd (omega arith)
 
-  pub three_roots : (x1 y1 x2 y2 x3 y3 : ℕ) → IsOn p b (spot x1 y1) → IsOn p b (spot x2 y2) → IsOn p b (spot x3 y3) → (j : ℕ) → j < 3
+  pub three_roots : (x1 y1 x2 y2 x3 y3 : ℕ) → IsOn p b (spot x1 y1) → IsOn p b (spot x2 y2) → IsOn p b (spot x3 y3)
+      → (j : ℕ) → j < 3
       → (roots (y1 ∷ y2 ∷ y3 ∷ []) j * roots (y1 ∷ y2 ∷ y3 ∷ []) j) % p
       ≡ eval (modulo p) (x2 ∷ x3 ∷ x1 ∷ b ∷ []) (nth (num 0) (cubic 2 3 ∷ cubic 0 3 ∷ cubic 1 3 ∷ []) j) % p
   unfolding nth eval modulo cubic_at roots
@@ -173,7 +193,8 @@ module _ (p b : ℕ) (curve : IsCurve p b) where
       sound 1 tangent_squares tangent 1 tangent_point tangent_vanishes tangent_bounded p pos (x ∷ b ∷ []) refl (λ _. y)
       (one_root x y on) 0 (omega arith) in
       let u : IsUnit p (8 * (y * y * y)) =
-      unit_same p (2 * 2 * 2 * (y * y * y)) (8 * (y * y * y)) (ap (λ n. n % p) (let k : 2 * 2 * 2 * (y * y * y) ≡ 8 * (y * y * y) = omega arith in k))
+      unit_same p (2 * 2 * 2 * (y * y * y)) (8 * (y * y * y))
+          (ap (λ n. n % p) (let k : 2 * 2 * 2 * (y * y * y) ≡ 8 * (y * y * y) = omega arith in k))
       (unit_product p (2 * 2 * 2) (y * y * y) (unit_product p (2 * 2) 2 (unit_product p 2 2 two_unit two_unit) two_unit)
       (unit_product p (y * y) y (unit_product p y y (y_unit x y on) (y_unit x y on)) (y_unit x y on))) in
       unit_same p (8 * (y * y * y)) z
@@ -188,7 +209,8 @@ module _ (p b : ℕ) (curve : IsCurve p b) where
 
     opposite_zero : (k : ℕ) → k < 3 → nth 0 (run (modulo p) (y ∷ x ∷ b ∷ []) opposite) k % p ≡ 0 % p
     unfolding point_of
-    opposite_zero k l = sound 1 opposite_squares opposite 3 opposite_point opposite_vanishes opposite_bounded p pos (x ∷ b ∷ []) refl (λ _. y)
+    opposite_zero k l = sound 1 opposite_squares opposite 3 opposite_point opposite_vanishes opposite_bounded p pos
+        (x ∷ b ∷ []) refl (λ _. y)
         (one_root x y on) k l
 
     pub opposite_x : opposite_sum.x % p ≡ 0 % p
@@ -219,7 +241,8 @@ module _ (p b : ℕ) (curve : IsCurve p b) where
   unfolding nth run eval modulo sum_of triple products ratio_at point_of roots
   chord_unit x1 y1 x2 y2 on1 on2 u = go (curve.field.unit_or_zero (sum_of p b (spot_point x1 y1) (spot_point x2 y2)).z)
     where
-      go : IsUnit p (sum_of p b (spot_point x1 y1) (spot_point x2 y2)).z ⊎ ((sum_of p b (spot_point x1 y1) (spot_point x2 y2)).z % p ≡ 0 % p)
+      go : IsUnit p (sum_of p b (spot_point x1 y1) (spot_point x2 y2)).z
+          ⊎ ((sum_of p b (spot_point x1 y1) (spot_point x2 y2)).z % p ≡ 0 % p)
           → IsUnit p (sum_of p b (spot_point x1 y1) (spot_point x2 y2)).z
       go (inl v) = v
       go (inr e) =
@@ -229,9 +252,11 @@ module _ (p b : ℕ) (curve : IsCurve p b) where
           let n = minus p (times p (plus p y1 y2) (plus p y1 y2)) (times p (plus p x1 x2) d) in
           let h : times p Z Z % p ≡ ratio_at p b n d % p =
           minus_zero p pos (times p Z Z) (ratio_at p b n d)
-          (sound 2 chord_squares chord 1 chord_point chord_vanishes chord_bounded p pos (x2 ∷ x1 ∷ b ∷ []) refl (roots (y1 ∷ y2 ∷ []))
+          (sound 2 chord_squares chord 1 chord_point chord_vanishes chord_bounded p pos (x2 ∷ x1 ∷ b ∷ []) refl
+              (roots (y1 ∷ y2 ∷ []))
           (two_roots x1 y1 x2 y2 on1 on2) 0 (omega arith)) in
-          absurd (no_ratio n d (unit_same p (r * r) d (sym (times_is p r r)) (unit_product p r r u u)) (sym h ∙ times_zero p Z Z e))
+          absurd (no_ratio n d (unit_same p (r * r) d (sym (times_is p r r)) (unit_product p r r u u)) (sym h
+              ∙ times_zero p Z Z e))
 
   -- the sum is at infinity or not
   abbrev pub Complete : Point → Type 0
@@ -254,16 +279,21 @@ module _ (p b : ℕ) (curve : IsCurve p b) where
           let f : (y1 + y2) * y1 ≡ y1 * y1 + y2 * y1 = omega arith in
           let g : y2 * y2 + y2 * y1 ≡ (y1 + y2) * y2 = omega arith in
           let same : y1 % p ≡ y2 % p =
-          unit_cancel p (y1 + y2) y1 y2 u (ap (λ n. n % p) f ∙ add_alike p (y1 * y1) (y2 * y2) (y2 * y1) (y2 * y1) squares_same refl ∙ ap (λ n. n % p) g) in
+          unit_cancel p (y1 + y2) y1 y2 u (ap (λ n. n % p) f
+              ∙ add_alike p (y1 * y1) (y2 * y2) (y2 * y1) (y2 * y1) squares_same refl ∙ ap (λ n. n % p) g) in
           same_complete (sum_of p b (spot_point x1 y1) (spot_point x2 y2)) (sum_of p b (spot_point x1 y1) (spot_point x1 y1))
-          (sum_same p b (spot_point x1 y1) (spot_point x1 y1) (spot_point x2 y2) (spot_point x1 y1) (same_self p (spot_point x1 y1))
+          (sum_same p b (spot_point x1 y1) (spot_point x1 y1) (spot_point x2 y2) (spot_point x1 y1)
+              (same_self p (spot_point x1 y1))
           (record { x = sym e; y = sym same; z = refl }))
           (inl (double_unit x1 y1 on1))
       go (inr h) =
           let opp : y2 % p ≡ minus p 0 y1 % p =
-          cancel p pos y2 (minus p 0 y1) y1 (ap (λ n. n % p) (let k : y2 + y1 ≡ y1 + y2 = omega arith in k) ∙ h ∙ sym (minus_back p pos 0 y1)) in
-          same_complete (sum_of p b (spot_point x1 y1) (spot_point x2 y2)) (sum_of p b (spot_point x1 y1) (spot_point x1 (minus p 0 y1)))
-          (sum_same p b (spot_point x1 y1) (spot_point x1 y1) (spot_point x2 y2) (spot_point x1 (minus p 0 y1)) (same_self p (spot_point x1 y1))
+          cancel p pos y2 (minus p 0 y1) y1 (ap (λ n. n % p) (let k : y2 + y1 ≡ y1 + y2 = omega arith in k) ∙ h
+              ∙ sym (minus_back p pos 0 y1)) in
+          same_complete (sum_of p b (spot_point x1 y1) (spot_point x2 y2))
+              (sum_of p b (spot_point x1 y1) (spot_point x1 (minus p 0 y1)))
+          (sum_same p b (spot_point x1 y1) (spot_point x1 y1) (spot_point x2 y2) (spot_point x1 (minus p 0 y1))
+              (same_self p (spot_point x1 y1))
           (record { x = sym e; y = opp; z = refl }))
           (inr (record { x = opposite_x x1 y1 on1; z = opposite_z x1 y1 on1; y = opposite_y x1 y1 on1 }))
 

@@ -1,5 +1,6 @@
 -- Tables of a base point's multiples with z = 1, by computing.
-use Rattle.std.proofs.Common.{◌≡◌, ℕ, zero, suc, ◌+◌, ◌*◌, ◌%◌, ◌<◌, Bool, true, ◌&&◌, eqb, ltb, List, [], ◌∷◌, length, get_or, inl, inr, refl, ap, arith}
+use Rattle.std.proofs.Common.{◌≡◌, ℕ, zero, suc, ◌+◌, ◌*◌, ◌%◌, ◌<◌, Bool, true, ◌&&◌, eqb, ltb, List, [], ◌∷◌, length}
+use Rattle.std.proofs.Common.{get_or, inl, inr, refl, ap, arith}
 use Rattle.std.proofs.Math.Nat.{mod-eq_of_lt}
 use Rattle.std.proofs.lemmas.Bool.{and_parts, eqb-true, ltb-true}
 use Rattle.weierstrass.specs.Weierstrass.{Point, sum_of}
@@ -25,11 +26,13 @@ unfoldable pub are_below : (p : ℕ) (number_of : List ℕ → ℕ) → List (Li
 are_below p number_of [] = true
 are_below p number_of (r ∷ rs) = ltb (number_of r) p && are_below p number_of rs
 
-pub below_at : (p : ℕ) (number_of : List ℕ → ℕ) (rows : List (List ℕ)) → are_below p number_of rows ≡ true → (k : ℕ) → k < length rows
+pub below_at : (p : ℕ) (number_of : List ℕ → ℕ) (rows : List (List ℕ)) → are_below p number_of rows ≡ true → (k : ℕ)
+    → k < length rows
     → number_of (get_or rows k []) < p
 unfolding are_below
 below_at p number_of [] h k lt = absurd (omega arith)
-below_at p number_of (r ∷ rs) h zero lt = let parts = and_parts (ltb (number_of r) p) (are_below p number_of rs) h in ltb-true (number_of r) p parts.0
+below_at p number_of (r ∷ rs) h zero lt = let parts = and_parts (ltb (number_of r) p) (are_below p number_of rs) h in
+    ltb-true (number_of r) p parts.0
 below_at p number_of (r ∷ rs) h (suc k) lt =
     let parts = and_parts (ltb (number_of r) p) (are_below p number_of rs) h in below_at p number_of rs parts.1 k (omega arith)
 
@@ -64,25 +67,31 @@ module _ (p b : ℕ) (curve : IsCurve p b) (G : Point) (is_point : IsPoint p b G
   next_at j Q a = sum_alike p (pos p b curve) b (times_point p b j G) Q G G a (alike_self p G)
 
   module _ (x_of y_of : List ℕ → ℕ) where
-    row_at : (rows : List (List ℕ)) (Q : Point) (j : ℕ) → IsAt j Q → are_rows p b x_of y_of G rows Q ≡ true → (k : ℕ) → k < length rows
+    row_at : (rows : List (List ℕ)) (Q : Point) (j : ℕ) → IsAt j Q → are_rows p b x_of y_of G rows Q ≡ true → (k : ℕ)
+        → k < length rows
         → IsAt (j + k) (spot_point (x_of (get_or rows k [])) (y_of (get_or rows k [])))
     unfolding are_rows
     row_at [] Q j a h k lt = absurd (omega arith)
     row_at (r ∷ rs) Q j a h zero lt =
         let parts = and_parts (is_affine p Q (x_of r) (y_of r)) (are_rows p b x_of y_of G rs (sum_of p b Q G)) h in
         let e : j + 0 ≡ j = omega arith in
-        rw e (alike_twice p (times_point p b j G) Q (spot_point (x_of r) (y_of r)) a (affine_alike p curve.field Q (x_of r) (y_of r) parts.0))
+        rw e (alike_twice p (times_point p b j G) Q (spot_point (x_of r) (y_of r)) a
+            (affine_alike p curve.field Q (x_of r) (y_of r) parts.0))
     row_at (r ∷ rs) Q j a h (suc k) lt =
         let parts = and_parts (is_affine p Q (x_of r) (y_of r)) (are_rows p b x_of y_of G rs (sum_of p b Q G)) h in
         let e : j + suc k ≡ suc j + k = omega arith in
         rw e (row_at rs (sum_of p b Q G) (suc j) (next_at j Q a) parts.1 k (omega arith))
 
 -- each row is the base point's multiple
-pub row_multiple : (p b : ℕ) (G : Point) (x_of y_of : List ℕ → ℕ) (rows : List (List ℕ)) → are_rows p b x_of y_of G rows G ≡ true
-    → (j k : ℕ) → 1 + k ≡ j → k < length rows → IsMultiple p b j G (spot_point (x_of (get_or rows k [])) (y_of (get_or rows k [])))
+pub row_multiple : (p b : ℕ) (G : Point) (x_of y_of : List ℕ → ℕ) (rows : List (List ℕ))
+    → are_rows p b x_of y_of G rows G ≡ true
+    → (j k : ℕ) → 1 + k ≡ j → k < length rows
+    → IsMultiple p b j G (spot_point (x_of (get_or rows k [])) (y_of (get_or rows k [])))
 row_multiple p b G x_of y_of rows h j k e lt =
     let A = spot_point (x_of (get_or rows k [])) (y_of (get_or rows k [])) in
     affine_multiple p b j G A refl
     (λ curve is_point.
-    let there : Alike p (times_point p b j G) A = rw (← e) (row_at p b curve G is_point x_of y_of rows G 1 (first_at p b curve G is_point) h k lt) in
-    (point_alike p b curve A (times_point p b j G) (alike_turned p (times_point p b j G) A there) (multiple_point p b curve j G is_point), there))
+    let there : Alike p (times_point p b j G) A =
+        rw (← e) (row_at p b curve G is_point x_of y_of rows G 1 (first_at p b curve G is_point) h k lt) in
+    (point_alike p b curve A (times_point p b j G) (alike_turned p (times_point p b j G) A there)
+        (multiple_point p b curve j G is_point), there))

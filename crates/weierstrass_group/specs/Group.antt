@@ -1,4 +1,5 @@
--- Points of the curve y^2 = x^3 - 3x + b modulo p, and what it means that they are a group, with sums by chords and tangents (SEC 1
+-- Points of the curve y^2 = x^3 - 3x + b modulo p, and what it means that they are a group, with sums by chords and
+-- tangents (SEC 1
 -- section 2.2.1).
 use Rattle.std.specs.Prelude.{◌≡◌, ℕ, zero, suc, ◌+◌, ◌*◌, ◌^◌, ◌%◌, ◌<◌, ◌⊎◌}
 use Rattle.residues.specs.Modulo.{plus, minus, times}
@@ -98,6 +99,7 @@ pub record IsGroup (p b : ℕ) : Type 0 where
   pub tangent : (x y l : ℕ) → IsOn p b (spot x y) → times p l (times p 2 y) % p ≡ minus p (times p 3 (times p x x)) 3 % p
       → Alike p (sum_of p b (spot_point x y) (spot_point x y)) (spot_point (third_x p l x x) (third_y p l x y x))
   -- multiples are repeated sums, and add
-  pub multiple_same : (count n : ℕ) (P : Point) → IsPoint p b P → n < 2 ^ count → Alike p (multiple_of p b count n P) (times_point p b n P)
+  pub multiple_same : (count n : ℕ) (P : Point) → IsPoint p b P → n < 2 ^ count
+      → Alike p (multiple_of p b count n P) (times_point p b n P)
   pub multiples_add : (m n : ℕ) (P : Point) → IsPoint p b P
       → Alike p (times_point p b (m + n) P) (sum_of p b (times_point p b m P) (times_point p b n P))

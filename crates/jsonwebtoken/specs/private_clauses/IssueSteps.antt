@@ -9,7 +9,8 @@ use Rattle.jwt_base.specs.KindOf.{kind_of, IsMemory}
 use Rattle.jwt_base.specs.declared.errors.Error.{Error}
 use Rattle.jsonwebtoken.specs.Order.{Passes}
 use Rattle.jsonwebtoken.specs.private_clauses.FailedAt.{FailedAt}
-use Rattle.jsonwebtoken.specs.Issue.{Issue, IssueTest, HeaderIsWritten, ClaimsAreWritten, Written, AreWritten, IssueCondition, issue_tests}
+use Rattle.jsonwebtoken.specs.Issue.{Issue, IssueTest, HeaderIsWritten, ClaimsAreWritten, Written, AreWritten}
+use Rattle.jsonwebtoken.specs.Issue.{IssueCondition, issue_tests}
 use Rattle.jwt_header.specs.Header.{header_value}
 
 -- the part that stands for the value's compact text

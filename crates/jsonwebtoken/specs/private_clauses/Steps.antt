@@ -18,7 +18,10 @@ use Rattle.jwt_params.specs.Common.{no_common}
 use Rattle.jwt_validation.specs.Options.{Options}
 use Rattle.jsonwebtoken.specs.Order.{Passes}
 use Rattle.jsonwebtoken.specs.private_clauses.FailedAt.{FailedBy}
-use Rattle.jsonwebtoken.specs.Tests.{Parts, HasParts, Given, InSet, set_of, named_key, Call, Test, HasThreeParts, HeaderIsPart, HeaderIsJson, HeaderReads, KeyIsFound, KeyIsUsable, SignatureIsPart, PayloadIsPart, PayloadIsJson, ClaimsRead, ClaimsAreAnObject, ClaimRulesHold, Contents, Condition, token_tests, header_call, insecure_call}
+use Rattle.jsonwebtoken.specs.Tests.{Parts, HasParts, Given, InSet, set_of, named_key, Call, Test, HasThreeParts}
+use Rattle.jsonwebtoken.specs.Tests.{HeaderIsPart, HeaderIsJson, HeaderReads, KeyIsFound, KeyIsUsable, SignatureIsPart}
+use Rattle.jsonwebtoken.specs.Tests.{PayloadIsPart, PayloadIsJson, ClaimsRead, ClaimsAreAnObject, ClaimRulesHold}
+use Rattle.jsonwebtoken.specs.Tests.{Contents, Condition, token_tests, header_call, insecure_call}
 use Rattle.jsonwebtoken.specs.declared.decoding.parts.TokenParts.{TokenParts}
 use Rattle.jsonwebtoken.specs.declared.refusal.Refusal.{Refusal}
 

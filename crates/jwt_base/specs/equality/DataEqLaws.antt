@@ -4,7 +4,8 @@ use Rattle.std.specs.Bool.{Decides}
 use Rattle.std.specs.Cmp.{IsEquivalence, unsigned_Decides, signed_Decides, booleans_Decides}
 use Rattle.std.proofs.Common.{sym, ap, true≢false}
 use Rattle.std.proofs.lemmas.Slice.Eq.{bytes_eq-Decides}
-use Rattle.serde_json.specs.Data.{Num, unsigned, negative, float, Data, null, boolean, number, string, array, object, Items, no_items, item, Members, no_members, member}
+use Rattle.serde_json.specs.Data.{Num, unsigned, negative, float, Data, null, boolean, number, string, array, object}
+use Rattle.serde_json.specs.Data.{Items, no_items, item, Members, no_members, member}
 use Rattle.std.specs.Str.{bytes_eq}
 use Rattle.jwt_base.specs.equality.Decided.{decided_by}
 use Rattle.jwt_base.specs.DataEq.{num_eq, data_eq, items_eq, members_eq, num_marked, marked, items_marked, members_marked}
@@ -81,8 +82,10 @@ mutual
   members_decides no_members (member l e ns) = (λ e. absurd (cc), λ e. absurd (cc))
   members_decides (member k d ms) no_members = (λ e. absurd (cc), λ e. absurd (cc))
   members_decides (member k d ms) (member l e ns) = (
-    λ h. let p = both_true (bytes_eq k l) _ h in let q = both_true (data_eq d e) _ p.1 in λ i. member ((bytes_eq-Decides k l).0 p.0 i) ((data_decides d e).0 q.0 i) ((members_decides ms ns).0 q.1 i),
-    λ h. join_true _ _ ((bytes_eq-Decides k l).1 (cc)) (join_true _ _ ((data_decides d e).1 (cc)) ((members_decides ms ns).1 (cc))),
+    λ h. let p = both_true (bytes_eq k l) _ h in let q = both_true (data_eq d e) _ p.1 in
+        λ i. member ((bytes_eq-Decides k l).0 p.0 i) ((data_decides d e).0 q.0 i) ((members_decides ms ns).0 q.1 i),
+    λ h. join_true _ _ ((bytes_eq-Decides k l).1 (cc))
+        (join_true _ _ ((data_decides d e).1 (cc)) ((members_decides ms ns).1 (cc))),
   )
 
 pub members_eq_equiv : IsEquivalence members_eq

@@ -18,17 +18,20 @@ abbrev some_of : {A B : Type 0} → B → (A → B) → Option A → B
 some_of b f None = b
 some_of b f (Some a) = f a
 
-pub option_decides : {A B : Type 0} (test : A → A → Bool) (f : A → B) → ((a b : A) → Decides (test a b) (f a ≡ f b)) → (x y : Option A) → Decides (option_eq test x y) (option_map f x ≡ option_map f y)
+pub option_decides : {A B : Type 0} (test : A → A → Bool) (f : A → B) → ((a b : A) → Decides (test a b) (f a ≡ f b))
+    → (x y : Option A) → Decides (option_eq test x y) (option_map f x ≡ option_map f y)
 option_decides test f same None None = (λ e. refl, λ e. refl)
 option_decides test f same None (Some b) = (λ e. absurd (true≢false (sym e)), λ e. absurd (cc))
 option_decides test f same (Some a) None = (λ e. absurd (true≢false (sym e)), λ e. absurd (cc))
-option_decides test f same (Some a) (Some b) = (λ e. ap Some ((same a b).0 e), λ e. (same a b).1 (ap (some_of (f a) (λ x. x)) e))
+option_decides test f same (Some a) (Some b) =
+    (λ e. ap Some ((same a b).0 e), λ e. (same a b).1 (ap (some_of (f a) (λ x. x)) e))
 
 map_id : {A : Type 0} (x : Option A) → option_map (λ a. a) x ≡ x
 map_id None = refl
 map_id (Some a) = refl
 
-pub option_decides_itself : {A : Type 0} (test : A → A → Bool) → ((a b : A) → Decides (test a b) (a ≡ b)) → (x y : Option A) → Decides (option_eq test x y) (x ≡ y)
+pub option_decides_itself : {A : Type 0} (test : A → A → Bool) → ((a b : A) → Decides (test a b) (a ≡ b))
+    → (x y : Option A) → Decides (option_eq test x y) (x ≡ y)
 option_decides_itself test same x y =
     let both = option_decides test (λ a. a) same x y in
     (λ e. sym (map_id x) ∙ both.0 e ∙ map_id y, λ e. both.1 (ap (option_map (λ a. a)) e))
@@ -46,11 +49,13 @@ module _ {K J : Type 0} (test : K → K → Bool) (f : K → J) (decides : (x y 
   fed_by_mark F G same = record { fed = λ x y e. same x ∙ ap G ((decides x y).0 e) ∙ sym (same y) }
 
 -- lists, item by item
-pub list_decides : {A B : Type 0} (test : A → A → Bool) (f : A → B) → ((a b : A) → Decides (test a b) (f a ≡ f b)) → (xs ys : List A) → Decides (pointwise test xs ys) (map f xs ≡ map f ys)
+pub list_decides : {A B : Type 0} (test : A → A → Bool) (f : A → B) → ((a b : A) → Decides (test a b) (f a ≡ f b))
+    → (xs ys : List A) → Decides (pointwise test xs ys) (map f xs ≡ map f ys)
 list_decides test f same [] [] = (λ e. refl, λ e. refl)
 list_decides test f same [] (y ∷ ys) = (λ e. absurd (true≢false (sym e)), λ e. absurd (cc))
 list_decides test f same (x ∷ xs) [] = (λ e. absurd (true≢false (sym e)), λ e. absurd (cc))
-list_decides test f same (x ∷ xs) (y ∷ ys) = same_as _ (and_decides (test x y) (pointwise test xs ys) (same x y) (list_decides test f same xs ys))
+list_decides test f same (x ∷ xs) (y ∷ ys) =
+    same_as _ (and_decides (test x y) (pointwise test xs ys) (same x y) (list_decides test f same xs ys))
     (λ p i. p.0 i ∷ p.1 i)
     (λ e. (cc, cc))
 
@@ -58,7 +63,8 @@ map_itself : {A : Type 0} (xs : List A) → map (λ a. a) xs ≡ xs
 map_itself [] = refl
 map_itself (x ∷ xs) = ap (λ more. x ∷ more) (map_itself xs)
 
-pub list_decides_itself : {A : Type 0} (test : A → A → Bool) → ((a b : A) → Decides (test a b) (a ≡ b)) → (xs ys : List A) → Decides (pointwise test xs ys) (xs ≡ ys)
+pub list_decides_itself : {A : Type 0} (test : A → A → Bool) → ((a b : A) → Decides (test a b) (a ≡ b))
+    → (xs ys : List A) → Decides (pointwise test xs ys) (xs ≡ ys)
 list_decides_itself test same xs ys =
     let both = list_decides test (λ a. a) same xs ys in
     (λ e. sym (map_itself xs) ∙ both.0 e ∙ map_itself ys, λ e. both.1 (ap (map (λ a. a)) e))
@@ -67,7 +73,8 @@ pub texts_decides : (xs ys : List (List ℕ)) → Decides (pointwise bytes_eq xs
 texts_decides [] [] = (λ e. refl, λ e. refl)
 texts_decides [] (y ∷ ys) = (λ e. absurd (true≢false (sym e)), λ e. absurd (cc))
 texts_decides (x ∷ xs) [] = (λ e. absurd (true≢false (sym e)), λ e. absurd (cc))
-texts_decides (x ∷ xs) (y ∷ ys) = same_as _ (and_decides (bytes_eq x y) (pointwise bytes_eq xs ys) (bytes_eq-Decides x y) (texts_decides xs ys))
+texts_decides (x ∷ xs) (y ∷ ys) =
+    same_as _ (and_decides (bytes_eq x y) (pointwise bytes_eq xs ys) (bytes_eq-Decides x y) (texts_decides xs ys))
     (λ p i. p.0 i ∷ p.1 i)
     (λ e. (cc, cc))
 

@@ -7,7 +7,12 @@ use Rattle.std.proofs.Common.{sym, ap, ◌∙◌}
 use Rattle.std.proofs.lemmas.Slice.Eq.{bytes_eq-Decides}
 use Rattle.std.proofs.lemmas.Bool.Decides.{Decides-eqb}
 use Rattle.jwt_base.specs.equality.Decided.{decided_by, and_decides, same_as}
-use Rattle.jwt_base.specs.Kind.{Kind, InvalidToken, InvalidSignature, InvalidEcdsaKey, InvalidEddsaKey, RsaFailedSigning, InvalidAlgorithmName, UnsupportedAlgorithm, InvalidKeyFormat, ExpiredSignature, InvalidIssuer, InvalidAudience, InvalidSubject, ImmatureSignature, InvalidAlgorithm, MissingAlgorithm, MissingRequiredClaim, InvalidClaimFormat, InvalidRsaKey, Signing, Provider, Base64, Json, Utf8, OutOfMemory, ClockBeforeEpoch, InvalidCrit, NoKey}
+use Rattle.jwt_base.specs.Kind.{Kind, InvalidToken, InvalidSignature, InvalidEcdsaKey, InvalidEddsaKey}
+use Rattle.jwt_base.specs.Kind.{RsaFailedSigning, InvalidAlgorithmName, UnsupportedAlgorithm, InvalidKeyFormat}
+use Rattle.jwt_base.specs.Kind.{ExpiredSignature, InvalidIssuer, InvalidAudience, InvalidSubject, ImmatureSignature}
+use Rattle.jwt_base.specs.Kind.{InvalidAlgorithm, MissingAlgorithm, MissingRequiredClaim, InvalidClaimFormat}
+use Rattle.jwt_base.specs.Kind.{InvalidRsaKey, Signing, Provider, Base64, Json, Utf8, OutOfMemory, ClockBeforeEpoch}
+use Rattle.jwt_base.specs.Kind.{InvalidCrit, NoKey}
 use Rattle.jwt_base.specs.KindOf.{kind_held, kind_of}
 use Rattle.jwt_base.specs.declared.errors.ErrorKind.{ErrorKind}
 use Rattle.jwt_base.specs.declared.errors.Error.{Error}
@@ -52,7 +57,11 @@ held_text (Provider text) = text
 held_text other = []
 
 abbrev every_kind : List ℕ → List Kind
-every_kind text = InvalidToken ∷ InvalidSignature ∷ InvalidEcdsaKey ∷ InvalidEddsaKey ∷ RsaFailedSigning ∷ InvalidAlgorithmName ∷ UnsupportedAlgorithm ∷ InvalidKeyFormat ∷ ExpiredSignature ∷ InvalidIssuer ∷ InvalidAudience ∷ InvalidSubject ∷ ImmatureSignature ∷ InvalidAlgorithm ∷ MissingAlgorithm ∷ MissingRequiredClaim text ∷ InvalidClaimFormat text ∷ InvalidRsaKey text ∷ Signing text ∷ Provider text ∷ Base64 ∷ Json ∷ Utf8 ∷ OutOfMemory ∷ ClockBeforeEpoch ∷ InvalidCrit ∷ NoKey ∷ []
+every_kind text = InvalidToken ∷ InvalidSignature ∷ InvalidEcdsaKey ∷ InvalidEddsaKey ∷ RsaFailedSigning
+    ∷ InvalidAlgorithmName ∷ UnsupportedAlgorithm ∷ InvalidKeyFormat ∷ ExpiredSignature ∷ InvalidIssuer
+    ∷ InvalidAudience ∷ InvalidSubject ∷ ImmatureSignature ∷ InvalidAlgorithm ∷ MissingAlgorithm
+    ∷ MissingRequiredClaim text ∷ InvalidClaimFormat text ∷ InvalidRsaKey text ∷ Signing text ∷ Provider text ∷ Base64
+    ∷ Json ∷ Utf8 ∷ OutOfMemory ∷ ClockBeforeEpoch ∷ InvalidCrit ∷ NoKey ∷ []
 
 abbrev kind_at : ℕ → List ℕ → Kind
 kind_at n text = unwrap_or (slice_get (every_kind text) n) NoKey

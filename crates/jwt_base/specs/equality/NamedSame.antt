@@ -27,7 +27,8 @@ IsKept n a = back n (n.is_other a) (n.text a) ≡ a
 -- for a spelling that keeps every value
 module _ {A : Type 0} (n : Spelling A) (kept : (a : A) → IsKept n a) where
   pub named_decides : (a b : A) → Decides (named_eq n a b) (a ≡ b)
-  named_decides a b = same_as _ (and_decides (beq (n.is_other a) (n.is_other b)) (bytes_eq (n.text a) (n.text b)) (booleans_Decides (n.is_other a) (n.is_other b)) (bytes_eq-Decides (n.text a) (n.text b)))
+  named_decides a b = same_as _ (and_decides (beq (n.is_other a) (n.is_other b)) (bytes_eq (n.text a) (n.text b))
+      (booleans_Decides (n.is_other a) (n.is_other b)) (bytes_eq-Decides (n.text a) (n.text b)))
       (λ p. sym (kept a) ∙ (λ i. back n (p.0 i) (p.1 i)) ∙ kept b)
       (λ e. (ap n.is_other e, ap n.text e))
 

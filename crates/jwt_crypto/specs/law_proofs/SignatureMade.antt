@@ -1,6 +1,7 @@
 -- The consequences of a signature being given for a message, and a proof that it is given for its
 -- own message, algorithm and family of keys.
-use Rattle.std.specs.Prelude.{◌≡◌, ℕ, List, [], Bool, true, false, bytes_eq, length, nat_eq, Option, None, Some, refl, if◌then◌else◌}
+use Rattle.std.specs.Prelude.{◌≡◌, ℕ, List, [], Bool, true, false, bytes_eq, length, nat_eq, Option, None, Some, refl}
+use Rattle.std.specs.Prelude.{if◌then◌else◌}
 use Rattle.std.specs.Bool.{Decides}
 use denote.Enum.Bare.{sameb}
 use Rattle.std.proofs.Common.{sym}
@@ -15,7 +16,8 @@ use Rattle.jwt_base.specs.contracts.algorithms.AlgorithmFamily.{the_type as fami
 use Rattle.jwt_base.specs.equality.VariantsSame.{variant_decides}
 use Rattle.jwt_keys.specs.FamilyRefusal.{family_refusal}
 use Rattle.jwt_keys.specs.Key.{SecretKey}
-use Rattle.jwt_crypto.specs.GivenSignature.{GivenSignature, AreAsMany, HasLength, are_as_many, another_message, length_text, signature_length, signer_refusal_by, sign_refusal_by}
+use Rattle.jwt_crypto.specs.GivenSignature.{GivenSignature, AreAsMany, HasLength, are_as_many, another_message}
+use Rattle.jwt_crypto.specs.GivenSignature.{length_text, signature_length, signer_refusal_by, sign_refusal_by}
 
 -- nothing that is refused is made
 pub never_made : {A : Type 0} {k : Kind} → Some k ≡ None → A
@@ -49,8 +51,10 @@ as_many_is : (n : Option ℕ) (s : List ℕ) → AreAsMany n s → are_as_many n
 as_many_is None s h = (Decides-not (nat_eq (length s) 0) (Decides-eqb (length s) 0)).1 h
 as_many_is (Some n) s h = (Decides-eqb (length s) n).1 h
 
-given_at : (g : GivenSignature) (m : List ℕ) (b c : Bool) → (b ≡ true → m ≡ g.message) → (c ≡ true → HasLength g.algorithm g.signature)
-    → (if b then (if c then None else Some (kind.Signing (length_text g.algorithm))) else Some (kind.Signing another_message)) ≡ None
+given_at : (g : GivenSignature) (m : List ℕ) (b c : Bool) → (b ≡ true → m ≡ g.message)
+    → (c ≡ true → HasLength g.algorithm g.signature)
+    → (if b then (if c then None else Some (kind.Signing (length_text g.algorithm))) else Some
+        (kind.Signing another_message)) ≡ None
     → IsGivenFor g m
 given_at g m true true p q h = record { message = p refl; length = q refl }
 given_at g m true false p q h = cc

@@ -12,7 +12,8 @@ use Rattle.std.proofs.lemmas.Slice.Eq.{bytes_eq-Decides}
 use Rattle.jwt_base.specs.contracts.algorithms.Algorithm.{the_type}
 use Rattle.jwt_base.specs.DataEq.{members_eq}
 use Rattle.jwt_base.specs.equality.DataEqLaws.{members_decides}
-use Rattle.jwt_base.specs.equality.Decided.{option_eq, option_decides, option_decides_itself, and_decides, same_as, texts_decides, decided_by, fed_by_mark}
+use Rattle.jwt_base.specs.equality.Decided.{option_eq, option_decides, option_decides_itself, and_decides, same_as}
+use Rattle.jwt_base.specs.equality.Decided.{texts_decides, decided_by, fed_by_mark}
 use Rattle.jwt_base.specs.equality.NamesFed.{names_fed, names_marked}
 use Rattle.jwt_base.specs.equality.VariantsSame.{variant_decides, variant_fed}
 use Rattle.jwt_header.specs.Header.{marked_header}
@@ -58,22 +59,38 @@ header_decides g h = same_as _
     and_decides _ _ (option_decides_itself (pointwise bytes_eq) texts_decides g.crit h.crit) (
     and_decides _ _ (option_decides_itself enc_eq enc_decides g.enc h.enc) (
     and_decides _ _ (option_decides_itself zip_eq zip_decides g.zip h.zip) (members_decides g.extras h.extras))))))))))))))))
-    (λ p i. record { alg = p.0 i; typ = p.1.0 i; cty = p.1.1.0 i; jku = p.1.1.1.0 i; jwk = p.1.1.1.1.0 i; kid = p.1.1.1.1.1.0 i; x5u = p.1.1.1.1.1.1.0 i; x5t = p.1.1.1.1.1.1.1.0 i; x5t_s256 = p.1.1.1.1.1.1.1.1.0 i; url = p.1.1.1.1.1.1.1.1.1.0 i; nonce = p.1.1.1.1.1.1.1.1.1.1.0 i; x5c = p.1.1.1.1.1.1.1.1.1.1.1.0 i; crit = p.1.1.1.1.1.1.1.1.1.1.1.1.0 i; enc = p.1.1.1.1.1.1.1.1.1.1.1.1.1.0 i; zip = p.1.1.1.1.1.1.1.1.1.1.1.1.1.1.0 i; extras = p.1.1.1.1.1.1.1.1.1.1.1.1.1.1.1 i })
-    (λ e. (ap (λ x. x.alg) e, (ap (λ x. x.typ) e, (ap (λ x. x.cty) e, (ap (λ x. x.jku) e, (ap (λ x. x.jwk) e, (ap (λ x. x.kid) e, (ap (λ x. x.x5u) e, (ap (λ x. x.x5t) e, (ap (λ x. x.x5t_s256) e, (ap (λ x. x.url) e, (ap (λ x. x.nonce) e, (ap (λ x. x.x5c) e, (ap (λ x. x.crit) e, (ap (λ x. x.enc) e, (ap (λ x. x.zip) e, ap (λ x. x.extras) e))))))))))))))))
+    (λ p i. record { alg = p.0 i; typ = p.1.0 i; cty = p.1.1.0 i; jku = p.1.1.1.0 i; jwk = p.1.1.1.1.0 i;
+        kid = p.1.1.1.1.1.0 i; x5u = p.1.1.1.1.1.1.0 i; x5t = p.1.1.1.1.1.1.1.0 i; x5t_s256 = p.1.1.1.1.1.1.1.1.0 i;
+        url = p.1.1.1.1.1.1.1.1.1.0 i; nonce = p.1.1.1.1.1.1.1.1.1.1.0 i; x5c = p.1.1.1.1.1.1.1.1.1.1.1.0 i; crit =
+        p.1.1.1.1.1.1.1.1.1.1.1.1.0 i; enc = p.1.1.1.1.1.1.1.1.1.1.1.1.1.0 i; zip = p.1.1.1.1.1.1.1.1.1.1.1.1.1.1.0 i;
+        extras = p.1.1.1.1.1.1.1.1.1.1.1.1.1.1.1 i })
+    (λ e. (ap (λ x. x.alg) e, (ap (λ x. x.typ) e,
+        (ap (λ x. x.cty) e, (ap (λ x. x.jku) e,
+        (ap (λ x. x.jwk) e, (ap (λ x. x.kid) e,
+        (ap (λ x. x.x5u) e, (ap (λ x. x.x5t) e,
+        (ap (λ x. x.x5t_s256) e, (ap (λ x. x.url) e,
+        (ap (λ x. x.nonce) e, (ap (λ x. x.x5c) e,
+        (ap (λ x. x.crit) e, (ap (λ x. x.enc) e, (ap (λ x. x.zip) e, ap (λ x. x.extras) e))))))))))))))))
 
 pub header_eq_equiv : IsEquivalence header_eq
 header_eq_equiv = decided_by header_eq marked_header header_decides
 
 -- of free members their names alone
 abbrev pub header_fed : Header → HashWrites
-header_fed h = variant_fed the_type h.alg ++ option str h.typ ++ option str h.cty ++ option str h.jku ++ option key_fed h.jwk ++ option str h.kid ++ option str h.x5u ++ option str h.x5t ++ option str h.x5t_s256 ++ option str h.url ++ option str h.nonce ++ option (slice str) h.x5c ++ option (slice str) h.crit ++ option enc_fed h.enc ++ option zip_fed h.zip ++ names_fed h.extras
+header_fed h = variant_fed the_type h.alg ++ option str h.typ ++ option str h.cty ++ option str h.jku
+    ++ option key_fed h.jwk ++ option str h.kid ++ option str h.x5u ++ option str h.x5t ++ option str h.x5t_s256
+    ++ option str h.url ++ option str h.nonce ++ option (slice str) h.x5c ++ option (slice str) h.crit
+    ++ option enc_fed h.enc ++ option zip_fed h.zip ++ names_fed h.extras
 
 jwk_marked : (o : Option Jwk) → option key_fed o ≡ option key_fed (option_map marked_key o)
 jwk_marked None = refl
 jwk_marked (Some k) = ap (λ w. isize (pos 1) ++ w) (key_marked k)
 
 header_marked : (h : Header) → header_fed h ≡ header_fed (marked_header h)
-header_marked h = λ i. variant_fed the_type h.alg ++ option str h.typ ++ option str h.cty ++ option str h.jku ++ jwk_marked h.jwk i ++ option str h.kid ++ option str h.x5u ++ option str h.x5t ++ option str h.x5t_s256 ++ option str h.url ++ option str h.nonce ++ option (slice str) h.x5c ++ option (slice str) h.crit ++ option enc_fed h.enc ++ option zip_fed h.zip ++ names_marked h.extras i
+header_marked h = λ i. variant_fed the_type h.alg ++ option str h.typ ++ option str h.cty ++ option str h.jku
+    ++ jwk_marked h.jwk i ++ option str h.kid ++ option str h.x5u ++ option str h.x5t ++ option str h.x5t_s256
+    ++ option str h.url ++ option str h.nonce ++ option (slice str) h.x5c ++ option (slice str) h.crit
+    ++ option enc_fed h.enc ++ option zip_fed h.zip ++ names_marked h.extras i
 
 pub header_alike : Alike header_eq header_fed
 header_alike = fed_by_mark header_eq marked_header header_decides header_fed header_fed header_marked

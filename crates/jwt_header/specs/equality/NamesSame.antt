@@ -8,7 +8,8 @@ use Rattle.jwt_base.specs.equality.NamedSame.{IsKept, named_eq, named_fed, named
 use Rattle.jwt_header.specs.Enc.{enc_names}
 use Rattle.jwt_header.specs.Zip.{zip_names}
 use Rattle.jwt_header.specs.declared.names.Enc.{Enc}
-use Rattle.jwt_header.specs.declared.names.Enc.TheVariants.{A128CBC_HS256, A192CBC_HS384, A256CBC_HS512, A128GCM, A192GCM, A256GCM, Other}
+use Rattle.jwt_header.specs.declared.names.Enc.TheVariants.{A128CBC_HS256, A192CBC_HS384, A256CBC_HS512, A128GCM}
+use Rattle.jwt_header.specs.declared.names.Enc.TheVariants.{A192GCM, A256GCM, Other}
 use Rattle.jwt_header.specs.declared.names.Zip.{Zip}
 use Rattle.jwt_header.specs.declared.names.Zip.TheVariants.{Deflate, Other as OtherZip}
 

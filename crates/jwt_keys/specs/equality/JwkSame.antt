@@ -19,7 +19,8 @@ abbrev pub key_eq : Jwk → Jwk → Bool
 key_eq k l = common_eq k.common l.common && parameters_eq k.algorithm l.algorithm
 
 pub key_decides : (k l : Jwk) → Decides (key_eq k l) (marked_key k ≡ marked_key l)
-key_decides k l = same_as _ (and_decides (common_eq k.common l.common) _ (common_decides k.common l.common) (parameters_decides k.algorithm l.algorithm))
+key_decides k l = same_as _ (and_decides (common_eq k.common l.common) _ (common_decides k.common l.common)
+    (parameters_decides k.algorithm l.algorithm))
     (λ h i. record { common = h.0 i; algorithm = h.1 i })
     (λ e. (ap (λ x. x.common) e, ap (λ x. x.algorithm) e))
 

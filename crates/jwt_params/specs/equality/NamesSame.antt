@@ -10,7 +10,8 @@ use Rattle.jwt_base.specs.equality.NamedSame.{IsKept, named_eq, named_fed, named
 use Rattle.jwt_params.specs.Operation.{operation_names}
 use Rattle.jwt_params.specs.Use.{use_names}
 use Rattle.jwt_params.specs.declared.operations.KeyOperations.{KeyOperations}
-use Rattle.jwt_params.specs.declared.operations.KeyOperations.TheVariants.{Sign, Verify, Encrypt, Decrypt, WrapKey, UnwrapKey, DeriveKey, DeriveBits, Other}
+use Rattle.jwt_params.specs.declared.operations.KeyOperations.TheVariants.{Sign, Verify, Encrypt, Decrypt, WrapKey}
+use Rattle.jwt_params.specs.declared.operations.KeyOperations.TheVariants.{UnwrapKey, DeriveKey, DeriveBits, Other}
 use Rattle.jwt_params.specs.declared.uses.PublicKeyUse.{PublicKeyUse}
 use Rattle.jwt_params.specs.declared.uses.PublicKeyUse.TheVariants.{Signature, Encryption, Other as OtherUse}
 

@@ -6,7 +6,8 @@ use Rattle.jwt_base.specs.equality.NamesFed.{names_fed, names_marked}
 use Rattle.jwt_base.specs.equality.VariantsSame.{variant_fed}
 use Rattle.jwt_params.specs.contracts.curves.EllipticCurve.{the_type}
 use Rattle.jwt_params.specs.Parameters.{marked_other, marked_parameters}
-use Rattle.jwt_params.specs.equality.ParametersSame.{elliptic_eq, elliptic_decides, pair_eq, pair_decides, other_eq, other_decides, parameters_eq, parameters_decides}
+use Rattle.jwt_params.specs.equality.ParametersSame.{elliptic_eq, elliptic_decides, pair_eq, pair_decides, other_eq}
+use Rattle.jwt_params.specs.equality.ParametersSame.{other_decides, parameters_eq, parameters_decides}
 use Rattle.jwt_params.specs.declared.elliptic.EllipticCurveKeyParameters.{EllipticCurveKeyParameters}
 use Rattle.jwt_params.specs.declared.rsa.RSAKeyParameters.{RSAKeyParameters}
 use Rattle.jwt_params.specs.declared.octet.OctetKeyParameters.{OctetKeyParameters}
@@ -54,4 +55,5 @@ parameters_marked (types.OctetKeyPair p) = refl
 parameters_marked (types.Other p) = names_marked p.fields
 
 pub parameters_alike : Alike parameters_eq parameters_fed
-parameters_alike = fed_by_mark parameters_eq marked_parameters parameters_decides parameters_fed parameters_fed parameters_marked
+parameters_alike = fed_by_mark parameters_eq marked_parameters parameters_decides parameters_fed parameters_fed
+    parameters_marked

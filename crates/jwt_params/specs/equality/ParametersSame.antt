@@ -35,7 +35,8 @@ elliptic_type : (a b : EllipticCurveKeyType) → a ≡ b
 elliptic_type EC EC = refl
 
 pub elliptic_decides : (p q : EllipticCurveKeyParameters) → Decides (elliptic_eq p q) (p ≡ q)
-elliptic_decides p q = same_as _ (and_decides _ _ (variant_decides the_type tt p.curve q.curve) (and_decides _ _ (bytes_eq-Decides p.x q.x) (bytes_eq-Decides p.y q.y)))
+elliptic_decides p q = same_as _ (and_decides _ _ (variant_decides the_type tt p.curve q.curve)
+    (and_decides _ _ (bytes_eq-Decides p.x q.x) (bytes_eq-Decides p.y q.y)))
     (λ h i. record { key_type = elliptic_type p.key_type q.key_type i; curve = h.0 i; x = h.1.0 i; y = h.1.1 i })
     (λ e. (ap (λ x. x.curve) e, (ap (λ x. x.x) e, ap (λ x. x.y) e)))
 
@@ -156,7 +157,8 @@ the_other d (types.OctetKeyPair p) = d
 the_other d (types.Other p) = p
 
 pub parameters_decides : (a b : AlgorithmParameters) → Decides (parameters_eq a b) (marked_parameters a ≡ marked_parameters b)
-parameters_decides (types.EllipticCurve p) (types.EllipticCurve q) = same_as _ (elliptic_decides p q) (ap types.EllipticCurve) (λ e. ap (the_elliptic p) e)
+parameters_decides (types.EllipticCurve p) (types.EllipticCurve q) =
+    same_as _ (elliptic_decides p q) (ap types.EllipticCurve) (λ e. ap (the_elliptic p) e)
 parameters_decides (types.EllipticCurve p) (types.RSA q) = (λ e. absurd (cc), λ e. absurd (cc))
 parameters_decides (types.EllipticCurve p) (types.OctetKey q) = (λ e. absurd (cc), λ e. absurd (cc))
 parameters_decides (types.EllipticCurve p) (types.OctetKeyPair q) = (λ e. absurd (cc), λ e. absurd (cc))
@@ -168,19 +170,22 @@ parameters_decides (types.RSA p) (types.OctetKeyPair q) = (λ e. absurd (cc), λ
 parameters_decides (types.RSA p) (types.Other q) = (λ e. absurd (cc), λ e. absurd (cc))
 parameters_decides (types.OctetKey p) (types.EllipticCurve q) = (λ e. absurd (cc), λ e. absurd (cc))
 parameters_decides (types.OctetKey p) (types.RSA q) = (λ e. absurd (cc), λ e. absurd (cc))
-parameters_decides (types.OctetKey p) (types.OctetKey q) = same_as _ (octet_decides p q) (ap types.OctetKey) (λ e. ap (the_octet p) e)
+parameters_decides (types.OctetKey p) (types.OctetKey q) = same_as _ (octet_decides p q) (ap types.OctetKey)
+    (λ e. ap (the_octet p) e)
 parameters_decides (types.OctetKey p) (types.OctetKeyPair q) = (λ e. absurd (cc), λ e. absurd (cc))
 parameters_decides (types.OctetKey p) (types.Other q) = (λ e. absurd (cc), λ e. absurd (cc))
 parameters_decides (types.OctetKeyPair p) (types.EllipticCurve q) = (λ e. absurd (cc), λ e. absurd (cc))
 parameters_decides (types.OctetKeyPair p) (types.RSA q) = (λ e. absurd (cc), λ e. absurd (cc))
 parameters_decides (types.OctetKeyPair p) (types.OctetKey q) = (λ e. absurd (cc), λ e. absurd (cc))
-parameters_decides (types.OctetKeyPair p) (types.OctetKeyPair q) = same_as _ (pair_decides p q) (ap types.OctetKeyPair) (λ e. ap (the_pair p) e)
+parameters_decides (types.OctetKeyPair p) (types.OctetKeyPair q) = same_as _ (pair_decides p q) (ap types.OctetKeyPair)
+    (λ e. ap (the_pair p) e)
 parameters_decides (types.OctetKeyPair p) (types.Other q) = (λ e. absurd (cc), λ e. absurd (cc))
 parameters_decides (types.Other p) (types.EllipticCurve q) = (λ e. absurd (cc), λ e. absurd (cc))
 parameters_decides (types.Other p) (types.RSA q) = (λ e. absurd (cc), λ e. absurd (cc))
 parameters_decides (types.Other p) (types.OctetKey q) = (λ e. absurd (cc), λ e. absurd (cc))
 parameters_decides (types.Other p) (types.OctetKeyPair q) = (λ e. absurd (cc), λ e. absurd (cc))
-parameters_decides (types.Other p) (types.Other q) = same_as _ (other_decides p q) (ap types.Other) (λ e. ap (the_other (marked_other p)) e)
+parameters_decides (types.Other p) (types.Other q) = same_as _ (other_decides p q) (ap types.Other)
+    (λ e. ap (the_other (marked_other p)) e)
 
 pub parameters_eq_equiv : IsEquivalence parameters_eq
 parameters_eq_equiv = decided_by parameters_eq marked_parameters parameters_decides

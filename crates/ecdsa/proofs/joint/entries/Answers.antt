@@ -50,7 +50,8 @@ module _ {F : Type 0} (number : F → ℕ) (p : ℕ) (t : Sixteen F)
   all_kept (suc (suc (suc (suc (suc (suc (suc (suc (suc (suc (suc (suc (suc zero))))))))))))) l = e13
   all_kept (suc (suc (suc (suc (suc (suc (suc (suc (suc (suc (suc (suc (suc (suc zero)))))))))))))) l = e14
   all_kept (suc (suc (suc (suc (suc (suc (suc (suc (suc (suc (suc (suc (suc (suc (suc zero))))))))))))))) l = e15
-  all_kept (suc (suc (suc (suc (suc (suc (suc (suc (suc (suc (suc (suc (suc (suc (suc (suc k)))))))))))))))) l = absurd (omega arith)
+  all_kept (suc (suc (suc (suc (suc (suc (suc (suc (suc (suc (suc (suc (suc (suc (suc (suc k)))))))))))))))) l =
+      absurd (omega arith)
 
 module _ {F : Type 0} (number : F → ℕ) (p : ℕ) (P : Point) (t : Sixteen F)
     (h0 : numbers number t.zero.zero.point ≡ record { x = 1; y = 1; z = 0 })
@@ -135,11 +136,14 @@ module _ {F : Type 0} (number : F → ℕ) (p : ℕ) (P : Point) (t : Sixteen F)
   all_sums (suc (suc (suc (suc (suc (suc (suc (suc (suc (suc (suc (suc (suc zero))))))))))))) l = m13
   all_sums (suc (suc (suc (suc (suc (suc (suc (suc (suc (suc (suc (suc (suc (suc zero)))))))))))))) l = m14
   all_sums (suc (suc (suc (suc (suc (suc (suc (suc (suc (suc (suc (suc (suc (suc (suc zero))))))))))))))) l = m15
-  all_sums (suc (suc (suc (suc (suc (suc (suc (suc (suc (suc (suc (suc (suc (suc (suc (suc k)))))))))))))))) l = absurd (omega arith)
+  all_sums (suc (suc (suc (suc (suc (suc (suc (suc (suc (suc (suc (suc (suc (suc (suc (suc k)))))))))))))))) l =
+      absurd (omega arith)
 
 pub returns-clause-kept : goal.returns-clause-kept
 returns-clause-kept g c =
-    all_kept g.F.Residue.number g.F.Residue.modulus (record { zero = c.four_from-zero.result; one = c.four_from-one.result; two = c.four_from-two.result; three = c.four_from-three.result })
+    all_kept g.F.Residue.number g.F.Residue.modulus
+        (record { zero = c.four_from-zero.result; one = c.four_from-one.result; two = c.four_from-two.result;
+        three = c.four_from-three.result })
     c.four_from-zero.ensures.zero
     c.four_from-zero.ensures.one
     c.four_from-zero.ensures.two
@@ -160,7 +164,9 @@ returns-clause-kept g c =
 pub returns-clause-sums : goal.returns-clause-sums
 returns-clause-sums g c =
     let n = g.F.Residue.number in
-    all_sums n g.F.Residue.modulus (spot_point (n c.args.x) (n c.args.y)) (record { zero = c.four_from-zero.result; one = c.four_from-one.result; two = c.four_from-two.result; three = c.four_from-three.result })
+    all_sums n g.F.Residue.modulus (spot_point (n c.args.x) (n c.args.y))
+        (record { zero = c.four_from-zero.result; one = c.four_from-one.result; two = c.four_from-two.result;
+        three = c.four_from-three.result })
     (ap (numbers n) (c.four_from-zero.ensures.start ∙ c.entry_for.ensures.same) ∙ c.nothing.ensures)
     c.four_from-zero.ensures.one_is
     c.four_from-zero.ensures.two_is

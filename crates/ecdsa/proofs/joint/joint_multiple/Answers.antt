@@ -28,7 +28,8 @@ loop-i-init g c =
     let same : length u ≡ length v = c.requires.lengths in
     record {
       within = omega arith;
-      sum_is = none_joint_of g.F.Residue.modulus g.F.BaseMultiples.b (little_endian (drop (length u) u)) (little_endian (drop (length u) v))
+      sum_is = none_joint_of g.F.Residue.modulus g.F.BaseMultiples.b (little_endian (drop (length u) u))
+          (little_endian (drop (length u) v))
           g.F.BaseMultiples.base (numbers n c.args.point) (numbers n c.nothing-result.result)
           (little_endian-drop_all u (length u) (omega arith)) (little_endian-drop_all v (length u) (omega arith))
           (z_of (numbers n c.nothing-result.result) c.nothing-result.ensures);
@@ -56,7 +57,8 @@ loop-i-preserved g c =
     let two = c.step-result-in-loop-i.ensures P (16 * m + x / 16) (16 * k + y / 16) others one in
     record {
       within = omega arith;
-      sum_is = joint_at p b (16 * (16 * m + x / 16) + x % 16) (16 * (16 * k + y / 16) + y % 16) (little_endian (drop (i - 1) u)) (little_endian (drop (i - 1) v))
+      sum_is = joint_at p b (16 * (16 * m + x / 16) + x % 16) (16 * (16 * k + y / 16) + y % 16)
+          (little_endian (drop (i - 1) u)) (little_endian (drop (i - 1) v))
           g.F.BaseMultiples.base P (numbers n c.step-result-in-loop-i.result)
           (halves m (little_endian (drop (i - 1) u)) x (little_endian-drop u (i - 1) i (omega arith) (omega arith)))
           (halves k (little_endian (drop (i - 1) v)) y (little_endian-drop v (i - 1) i (omega arith) (omega arith))) two;
@@ -68,6 +70,7 @@ returns g c =
     let u = c.args.first.now in
     let v = c.args.second.now in
     let z : c.loop-i.i ≡ 0 = omega arith in
-    joint_by g.F.Residue.modulus g.F.BaseMultiples.b u v g.F.BaseMultiples.base (numbers n c.args.point) (numbers n c.loop-i.result) (numbers n c.projective.result)
+    joint_by g.F.Residue.modulus g.F.BaseMultiples.b u v g.F.BaseMultiples.base (numbers n c.args.point)
+        (numbers n c.loop-i.result) (numbers n c.projective.result)
     (λ j. omega (arith, c.type_inv.first j)) (λ j. omega (arith, c.type_inv.second j)) c.requires.lengths c.projective.ensures
     (rw z at c.loop-i.invariant.sum_is)

@@ -7,7 +7,8 @@ use Rattle.ecdsa.proofs.joint.joint_multiple.Given as goal
 abbrev pub invariant-loop-i : goal.invariant-loop-i
 invariant-loop-i g l = record {
   within : l.i ≤ length l.first;
-  sum_is : IsJointOf g.F.Residue.modulus g.F.BaseMultiples.b (little_endian (drop l.i l.first)) g.F.BaseMultiples.base (little_endian (drop l.i l.second))
+  sum_is : IsJointOf g.F.Residue.modulus g.F.BaseMultiples.b (little_endian (drop l.i l.first)) g.F.BaseMultiples.base
+      (little_endian (drop l.i l.second))
       (numbers g.F.Residue.number l.fn.point) (numbers g.F.Residue.number l.result);
 }
 

@@ -8,6 +8,8 @@ use Rattle.ed25519.proofs.joint.multiples.Given as goal
 abbrev pub invariant-loop-i : goal.invariant-loop-i
 invariant-loop-i g l = record {
   sized : length l.table ≡ 16;
-  last : IsPoint p d (numbers g.F.Residue.number l.fn.point) → IsMultiple (numbers g.F.Residue.number l.fn.point) (l.i - 1) (numbers g.F.Residue.number l.last);
-  prepared : IsPoint p d (numbers g.F.Residue.number l.fn.point) → ArePrepared g.F.Residue.number (numbers g.F.Residue.number l.fn.point) l.i l.table;
+  last : IsPoint p d (numbers g.F.Residue.number l.fn.point) → IsMultiple (numbers g.F.Residue.number l.fn.point)
+      (l.i - 1) (numbers g.F.Residue.number l.last);
+  prepared : IsPoint p d (numbers g.F.Residue.number l.fn.point)
+      → ArePrepared g.F.Residue.number (numbers g.F.Residue.number l.fn.point) l.i l.table;
 }

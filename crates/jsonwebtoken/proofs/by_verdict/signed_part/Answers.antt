@@ -8,7 +8,8 @@ use Rattle.jsonwebtoken.proofs.by_verdict.signed_part.Goals as goal
 pub returns : goal.returns
 returns c =
     let call = header_call c.args.token.now in
-    let decided = decides call signed_order refl (HasSigned call) c.signed_part_by_steps.result c.signed_part_by_steps.ensures (λ s t y p q e. (
+    let decided = decides call signed_order refl (HasSigned call) c.signed_part_by_steps.result
+        c.signed_part_by_steps.ensures (λ s t y p q e. (
       sym (same_header call signed_order s t p q refl) ∙ e.0,
       sym (ap message_of (same_parts call signed_order s t p q refl)) ∙ e.1,
       sym (same_signature call signed_order s t p q refl) ∙ e.2,

@@ -8,7 +8,8 @@ use Rattle.jsonwebtoken.proofs.dangerous.insecure_decode_claims_by_steps.Goals a
 pub returns-in_err-parts : goal.returns-in_err-parts
 returns-in_err-parts g c =
     let call = insecure_call c.args.token.now g.T.Claims.reads in
-    exit call insecure_claims_order whole (HasClaims call) _ _ c.from_residual.ensures.1 (λ f. (no_contents, inl f)) c.in_err-parts.ensures
+    exit call insecure_claims_order whole (HasClaims call) _ _ c.from_residual.ensures.1 (λ f. (no_contents, inl f))
+        c.in_err-parts.ensures
 
 pub returns-in_err-claims : goal.returns-in_err-claims
 returns-in_err-claims g c =

@@ -14,7 +14,8 @@ use Rattle.jwt_c_calls.proofs.Answered.{misread, read_ok}
 use Rattle.jwt_c_calls.proofs.by_signature.given_answer.Goals as goal
 
 -- the result for a header and claims is the result for the texts that are read as them
-read_first : (g : GivenSignature) (header claims : List ℕ) (h : Header) (d : Data) → ReadsText ReadsHeader header h → ReadsClaimsText claims d
+read_first : (g : GivenSignature) (header claims : List ℕ) (h : Header) (d : Data) → ReadsText ReadsHeader header h
+    → ReadsClaimsText claims d
     → (a : Answer) → AnswersGivenFor g h d a → AnswersGiven g header claims a
 read_first g header claims h d r s (Gives b) x = (x.0, rw x.1 (r, s), x.2)
 read_first g header claims h d r s (Refuses k) (inl m) = inl m
@@ -23,18 +24,26 @@ read_first g header claims h d r s (Misreads i) x = absurd x
 
 pub returns-in_err-claims-clause-err : goal.returns-in_err-claims-clause-err
 returns-in_err-claims-clause-err c =
-    let read = read_ok (ReadsText ReadsHeader c.args.header.now) input.Header c.from_slice.result _ c.in_ok-header.ensures c.from_slice.ensures.ok in
+    let read = read_ok (ReadsText ReadsHeader c.args.header.now) input.Header c.from_slice.result _
+        c.in_ok-header.ensures c.from_slice.ensures.ok in
     let p = err_from_is_err_and c.from_residual-in_err-claims.result c.from_residual-in_err-claims.ensures.1 in
-    rw (p.1, p.2) (misread _ _ _ _ input.Claims _ (λ none. inr ((_, read), (refl, none))) c.read_claims.result (Err _) c.in_err-claims.ensures c.read_claims.ensures.err)
+    rw (p.1, p.2) (misread _ _ _ _ input.Claims _ (λ none. inr ((_, read), (refl, none))) c.read_claims.result
+        (Err _) c.in_err-claims.ensures c.read_claims.ensures.err)
 
 pub returns-clause-ok : goal.returns-clause-ok
 returns-clause-ok c =
-    let header = read_ok (ReadsText ReadsHeader c.args.header.now) input.Header c.from_slice.result _ c.in_ok-header.ensures c.from_slice.ensures.ok in
-    let claims = read_ok (λ v. ReadsClaimsText c.args.claims.now (view v)) input.Claims c.read_claims.result _ c.in_ok-claims.ensures c.read_claims.ensures.ok in
-    IfOk-weaker c.issued.result _ _ (λ b x. read_first c.args.given.now c.args.header.now c.args.claims.now _ _ header claims (Gives b.items) x) c.issued.ensures.ok
+    let header = read_ok (ReadsText ReadsHeader c.args.header.now) input.Header c.from_slice.result _
+        c.in_ok-header.ensures c.from_slice.ensures.ok in
+    let claims = read_ok (λ v. ReadsClaimsText c.args.claims.now (view v)) input.Claims c.read_claims.result _
+        c.in_ok-claims.ensures c.read_claims.ensures.ok in
+    IfOk-weaker c.issued.result _ _ (λ b x. read_first c.args.given.now c.args.header.now c.args.claims.now _ _ header
+        claims (Gives b.items) x) c.issued.ensures.ok
 
 pub returns-clause-err : goal.returns-clause-err
 returns-clause-err c =
-    let header = read_ok (ReadsText ReadsHeader c.args.header.now) input.Header c.from_slice.result _ c.in_ok-header.ensures c.from_slice.ensures.ok in
-    let claims = read_ok (λ v. ReadsClaimsText c.args.claims.now (view v)) input.Claims c.read_claims.result _ c.in_ok-claims.ensures c.read_claims.ensures.ok in
-    IfErr-weaker c.issued.result _ _ (λ r x. read_first c.args.given.now c.args.header.now c.args.claims.now _ _ header claims (answer_of r) x) c.issued.ensures.err
+    let header = read_ok (ReadsText ReadsHeader c.args.header.now) input.Header c.from_slice.result _
+        c.in_ok-header.ensures c.from_slice.ensures.ok in
+    let claims = read_ok (λ v. ReadsClaimsText c.args.claims.now (view v)) input.Claims c.read_claims.result _
+        c.in_ok-claims.ensures c.read_claims.ensures.ok in
+    IfErr-weaker c.issued.result _ _ (λ r x. read_first c.args.given.now c.args.header.now c.args.claims.now _ _ header
+        claims (answer_of r) x) c.issued.ensures.err

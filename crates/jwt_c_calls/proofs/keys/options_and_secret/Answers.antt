@@ -7,6 +7,7 @@ use Rattle.jwt_c_calls.proofs.keys.options_and_secret.Goals as goal
 
 pub returns-clause-ok : goal.returns-clause-ok
 returns-clause-ok c = (
-  read_ok (λ v. ReadsText ReadsOptions c.args.options.now (options_of v)) input.Options c.from_slice.result _ c.in_ok-validation.ensures c.from_slice.ensures.ok,
+  read_ok (λ v. ReadsText ReadsOptions c.args.options.now (options_of v)) input.Options c.from_slice.result _
+      c.in_ok-validation.ensures c.from_slice.ensures.ok,
   c.in_ok-key.ensures.ok,
 )

@@ -6,4 +6,5 @@ use Rattle.jwt_c_calls.proofs.Checked.{checked}
 use Rattle.jwt_c_calls.proofs.secrets.key_status.Goals as goal
 
 pub returns : goal.returns
-returns c = checked input.Key (ReadsText ReadsKey c.args.key.now) SaysOfJwk c.key_answer-answer.result _ c.key_answer-answer.ensures.ok c.key_answer-answer.ensures.err c.answer_status.ensures.ok c.answer_status.ensures.err
+returns c = checked input.Key (ReadsText ReadsKey c.args.key.now) SaysOfJwk c.key_answer-answer.result _
+    c.key_answer-answer.ensures.ok c.key_answer-answer.ensures.err c.answer_status.ensures.ok c.answer_status.ensures.err

@@ -6,4 +6,5 @@ use Rattle.jwt_c_calls.proofs.Checked.{checked}
 use Rattle.jwt_c_calls.proofs.secrets.set_status.Goals as goal
 
 pub returns : goal.returns
-returns c = checked input.Set (ReadsText ReadsSet c.args.set.now) SaysOfSet c.set_answer-answer.result _ c.set_answer-answer.ensures.ok c.set_answer-answer.ensures.err c.answer_status.ensures.ok c.answer_status.ensures.err
+returns c = checked input.Set (ReadsText ReadsSet c.args.set.now) SaysOfSet c.set_answer-answer.result _
+    c.set_answer-answer.ensures.ok c.set_answer-answer.ensures.err c.answer_status.ensures.ok c.answer_status.ensures.err

@@ -4,5 +4,6 @@ use Rattle.jwt_command.proofs.Required.{changes}
 use Rattle.jwt_command.proofs.options.change.Goals as goal
 
 pub returns : goal.returns
-returns c = changes c.args.checks.now (options_of c.args.validation.now) (options_of c.set_names.new.validation) (options_of c.set_times.new.validation) _
+returns c = changes c.args.checks.now (options_of c.args.validation.now) (options_of c.set_names.new.validation)
+    (options_of c.set_times.new.validation) _
     (search rules) c.set_times.ensures c.in_ok-set_required.ensures

@@ -13,7 +13,8 @@ returns g c =
       (
         c.in_ok-now.now,
         c.in_ok-now.ensures,
-        subst (λ b. IsTokenVerdict c.args.request.now c.args.loaded.now (options_of c.args.validation.now) b c.in_ok-now.now a.status) c.deref.ensures.value says,
+        subst (λ b. IsTokenVerdict c.args.request.now c.args.loaded.now (options_of c.args.validation.now) b
+            c.in_ok-now.now a.status) c.deref.ensures.value says,
       ),
     ))
     c.token_explanation.ensures

@@ -7,7 +7,8 @@ returns g c = (
   c.lines_status-status.new.loaded,
   (
     options_of c.in_ok-loaded.validation,
-    same_keys c.args.request.now c.in_ok-loaded.loaded c.lines_status-status.new.loaded (options_of c.in_ok-loaded.validation) c.in_ok-status.ensures.0 c.in_ok-status.ensures.1 c.in_ok-loaded.ensures,
+    same_keys c.args.request.now c.in_ok-loaded.loaded c.lines_status-status.new.loaded
+        (options_of c.in_ok-loaded.validation) c.in_ok-status.ensures.0 c.in_ok-status.ensures.1 c.in_ok-loaded.ensures,
     c.in_ok-status.ensures.2,
   ),
 )

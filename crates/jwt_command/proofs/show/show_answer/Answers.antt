@@ -9,4 +9,5 @@ returns-in-Ok c =
     IfOk-weaker c.shown-answer.result _ _ (λ a is. inl (read.0, read.1, is)) c.shown-answer.ensures
 
 pub returns-in-Err : goal.returns-in-Err
-returns-in-Err c = IfOk-weaker c.refused.result _ _ (λ a says. not_shown c.args.token.now c.in-Err.error a.status c.in-Err.ensures.refused says.0 says.1) c.refused.ensures
+returns-in-Err c = IfOk-weaker c.refused.result _ _
+    (λ a says. not_shown c.args.token.now c.in-Err.error a.status c.in-Err.ensures.refused says.0 says.1) c.refused.ensures

@@ -10,6 +10,8 @@ loop-text-preserved c =
     let i = c.loop-text.text-index in
     let reads : IsStandardText c.text-item.result c.in_ok-standard_bytes.field-0.items = search rules in
     record {
-      so_far = rw (c.in_ok-push.ensures.items, map-append) (one_more IsStandardText ts i c.text-item.result _ c.in_ok-standard_bytes.field-0.items c.loop-text-test.true c.loop-text.invariant.so_far (rw (← c.text-item.is) reads));
+      so_far = rw (c.in_ok-push.ensures.items, map-append)
+          (one_more IsStandardText ts i c.text-item.result _ c.in_ok-standard_bytes.field-0.items c.loop-text-test.true
+          c.loop-text.invariant.so_far (rw (← c.text-item.is) reads));
       left = λ bs r. one_less IsStandardText ts i c.text-item.result c.loop-text-test.true (c.loop-text.invariant.left bs r);
     }

@@ -1,4 +1,5 @@
-use Rattle.jwt_key_files.proofs.Certificates.{no_whole_certificate, no_content, no_signature, more_signed, no_key_info, a_certificate}
+use Rattle.jwt_key_files.proofs.Certificates.{no_whole_certificate, no_content, no_signature, more_signed, no_key_info}
+use Rattle.jwt_key_files.proofs.Certificates.{a_certificate}
 use Rattle.jwt_key_files.proofs.certificate.read_certificate.Goals as goal
 
 pub returns-in_default : goal.returns-in_default
@@ -17,4 +18,5 @@ pub returns-in_default-key_info : goal.returns-in_default-key_info
 returns-in_default-key_info c = no_key_info _ _ _ _ c.in-Some.ensures c.in-Some-read.ensures c.in_default-key_info.ensures
 
 pub returns : goal.returns
-returns c = a_certificate _ _ _ _ _ _ c.in-Some.ensures c.in-Some-read.ensures c.in-Some-skip.ensures c.if-end-gt0.false c.in-Some-key_info.ensures
+returns c = a_certificate _ _ _ _ _ _ c.in-Some.ensures c.in-Some-read.ensures c.in-Some-skip.ensures c.if-end-gt0.false
+    c.in-Some-key_info.ensures

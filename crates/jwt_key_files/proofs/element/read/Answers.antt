@@ -1,4 +1,5 @@
-use Rattle.jwt_key_files.proofs.Prefixes.{no_element_of_nil, no_element_of_tag, no_element_of_length, no_element_of_short, element_of_parts}
+use Rattle.jwt_key_files.proofs.Prefixes.{no_element_of_nil, no_element_of_tag, no_element_of_length}
+use Rattle.jwt_key_files.proofs.Prefixes.{no_element_of_short, element_of_parts}
 use Rattle.jwt_key_files.proofs.element.read.Goals as goal
 
 pub returns-in_default : goal.returns-in_default

@@ -19,5 +19,6 @@ pub returns : goal.returns
 returns c = (
   c.in-Some-read_integer.ensures.0,
   c.in-Some-read_integer-2.ensures.0,
-  an_rsa_key _ _ _ _ _ _ c.in-Some.ensures c.in-Some-read_integer.ensures.1 c.in-Some-read_integer-2.ensures.1 c.if-rest-gt0.false,
+  an_rsa_key _ _ _ _ _ _ c.in-Some.ensures c.in-Some-read_integer.ensures.1 c.in-Some-read_integer-2.ensures.1
+      c.if-rest-gt0.false,
 )

@@ -1,4 +1,5 @@
-use Rattle.jwt_key_files.proofs.Parts.{unsigned_nil, unsigned_negative, unsigned_zero, unsigned_longer, unsigned_low, unsigned_high}
+use Rattle.jwt_key_files.proofs.Parts.{unsigned_nil, unsigned_negative, unsigned_zero, unsigned_longer, unsigned_low}
+use Rattle.jwt_key_files.proofs.Parts.{unsigned_high}
 use Rattle.jwt_key_files.proofs.structures.unsigned.Goals as goal
 
 pub returns-in_default : goal.returns-in_default

@@ -7,5 +7,6 @@ use Rattle.jwt_keys.proofs.jwk_set.read_keys.Given as goal
 abbrev pub invariant-loop-item : goal.invariant-loop-item
 invariant-loop-item l = record {
   so_far : ReadsKeys (items_view (take l.item-index l.items)) l.keys.items;
-  left : (ks : List Jwk) → ReadsKeys (items_view l.items) ks → (more : List Jwk) × ReadsKeys (items_view (drop l.item-index l.items)) more;
+  left : (ks : List Jwk) → ReadsKeys (items_view l.items) ks
+      → (more : List Jwk) × ReadsKeys (items_view (drop l.item-index l.items)) more;
 }

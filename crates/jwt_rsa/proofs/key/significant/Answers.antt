@@ -24,5 +24,6 @@ pub returns-clause-octets : goal.returns-clause-octets
 returns-clause-octets c =
     let xs = c.args.octets.now in
     let i = c.loop-start.start in
-    let rest : (k : ℕ) → get_or (drop i xs) k 0 < 256 = λ k. (let fits = c.type_inv.octets (i + k) in rw get_or-drop (omega (arith, fits))) in
+    let rest : (k : ℕ) → get_or (drop i xs) k 0 < 256 =
+        λ k. (let fits = c.type_inv.octets (i + k) in rw get_or-drop (omega (arith, fits))) in
     front_octets (length xs - i) (drop i xs) rest

@@ -4,11 +4,13 @@ use Rattle.std.proofs.lemmas.Bool.Decides.{nat_tests}
 use Rattle.std.proofs.lemmas.List.Sums.{suffix_len-take_no}
 use Rattle.jwt_secrets.proofs.Digits.{before_padding}
 use Rattle.jwt_secrets.proofs.base64_texts.unpadded.Goals as goal
-use Rattle.jwt_secrets.proofs.base64_texts.unpadded.Goals.{then-loop-count-test+else-characters-count-eq61, else-loop-count-test}
+use Rattle.jwt_secrets.proofs.base64_texts.unpadded.Goals.{then-loop-count-test+else-characters-count-eq61}
+use Rattle.jwt_secrets.proofs.base64_texts.unpadded.Goals.{else-loop-count-test}
 
 pub returns : goal.returns
 returns c =
-    let none : suffix_len (λ byte. byte == 0x3d) (take c.loop-count.count c.args.characters.now) ≡ 0 = elim c.loop-count-test.branch [
+    let none : suffix_len (λ byte. byte == 0x3d) (take c.loop-count.count c.args.characters.now) ≡ 0 =
+        elim c.loop-count-test.branch [
       | then-loop-count-test+else-characters-count-eq61 w ↦ grind (arith, nat_tests, suffix_len-take_no)
       | else-loop-count-test w ↦ grind arith
     ] in

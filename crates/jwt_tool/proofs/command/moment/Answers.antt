@@ -4,4 +4,6 @@ use Rattle.jwt_tool.proofs.Moments.{moment_read}
 use Rattle.jwt_tool.proofs.command.moment.Goals as goal
 
 pub returns : goal.returns
-returns c = c.ok.ensures.value ∙ moment_read c.args.word.now _ (parse_plain (numerals_by_value _ tells_all_ascii_digits) 64 c.args.word.now _ c.parse.ensures.value.0 (search rules))
+returns c = c.ok.ensures.value
+    ∙ moment_read c.args.word.now _ (parse_plain (numerals_by_value _ tells_all_ascii_digits) 64 c.args.word.now _
+    c.parse.ensures.value.0 (search rules))

@@ -9,7 +9,8 @@ OnOk-from (Err e) P f = tt
 
 pub returns-clause-moments : goal.returns-clause-moments
 returns-clause-moments c = (
-  λ ok. let h = c.check.ensures.ok.0 ok in let w = within _ _ _ (omega arith) h.1 in record { is_object = h.0; rules = w.0; from = w.1; until = w.2 },
+  λ ok. let h = c.check.ensures.ok.0 ok in let w = within _ _ _ (omega arith) h.1 in
+      record { is_object = h.0; rules = w.0; from = w.1; until = w.2 },
   λ h. c.check.ensures.ok.1 (h.is_object, held_within _ _ _ h.rules h.from h.until),
 )
 

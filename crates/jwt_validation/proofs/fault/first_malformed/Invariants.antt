@@ -5,4 +5,5 @@ use Rattle.jwt_validation.proofs.fault.first_malformed.Given as goal
 
 -- the options that are left decide
 abbrev pub invariant-loop-name : goal.invariant-loop-name
-invariant-loop-name l = first_malformed (view l.value) (map (λ s. shape s.0.now s.1) l.name-items) ≡ first_malformed (view l.value) (map (λ s. shape s.0.now s.1) (drop l.name-index l.name-items))
+invariant-loop-name l = first_malformed (view l.value) (map (λ s. shape s.0.now s.1) l.name-items)
+    ≡ first_malformed (view l.value) (map (λ s. shape s.0.now s.1) (drop l.name-index l.name-items))

@@ -5,4 +5,5 @@ use Rattle.jwt_validation.proofs.fault.is_algorithm_list.Given as goal
 
 -- the items that are left decide
 abbrev pub invariant-loop-item : goal.invariant-loop-item
-invariant-loop-item l = is_some (item_algorithms (items_view l.item-items)) ≡ is_some (item_algorithms (items_view (drop l.item-index l.item-items)))
+invariant-loop-item l = is_some (item_algorithms (items_view l.item-items))
+    ≡ is_some (item_algorithms (items_view (drop l.item-index l.item-items)))

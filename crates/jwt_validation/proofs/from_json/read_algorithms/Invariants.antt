@@ -5,4 +5,5 @@ use Rattle.jwt_validation.proofs.from_json.read_algorithms.Given as goal
 
 -- the items that are left to read follow those that were read
 abbrev pub invariant-loop-item : goal.invariant-loop-item
-invariant-loop-item l = item_algorithms (items_view l.item-items) ≡ option_map (λ left. l.algorithms.items ++ left) (item_algorithms (items_view (drop l.item-index l.item-items)))
+invariant-loop-item l = item_algorithms (items_view l.item-items) ≡ option_map (λ left. l.algorithms.items ++ left)
+    (item_algorithms (items_view (drop l.item-index l.item-items)))

@@ -7,5 +7,6 @@ pub returns-in_ok-serves-in-Ok-clause-ok : goal.returns-in_ok-serves-in-Ok-claus
 returns-in_ok-serves-in-Ok-clause-ok c =
     let named : IsSome c.args.jwk.now.common.key_id = search rules in (
       λ t. (named, (_, c.in-Ok.ensures.ok, c.in_ok-serves-in-Ok.ensures.ok.0 t)),
-      λ s. c.in_ok-serves-in-Ok.ensures.ok.1 (subst (Serves c.args.algorithms.now) (one_key c.args.jwk.now.algorithm _ _ s.1.1 c.in-Ok.ensures.ok) s.1.2),
+      λ s. c.in_ok-serves-in-Ok.ensures.ok.1
+          (subst (Serves c.args.algorithms.now) (one_key c.args.jwk.now.algorithm _ _ s.1.1 c.in-Ok.ensures.ok) s.1.2),
     )

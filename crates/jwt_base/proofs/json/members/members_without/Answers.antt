@@ -1,4 +1,5 @@
-use Rattle.std.proofs.Common.{◌≡◌, map, [], ◌∷◌, ◌++◌, true, false, inr, string_bytes, string_cmp, sym, ap, ◌∙◌, subst, append_assoc, rules}
+use Rattle.std.proofs.Common.{◌≡◌, map, [], ◌∷◌, ◌++◌, true, false, inr, string_bytes, string_cmp, sym, ap, ◌∙◌, subst}
+use Rattle.std.proofs.Common.{append_assoc, rules}
 use Rattle.std.specs.List.Sorted.{IsStrictlySortedBy}
 use Rattle.std.specs.Map.{keys_of}
 use Rattle.serde_json.proofs.Views.{Entry, members_view-insert_entry}
@@ -50,6 +51,8 @@ loop-name-preserved c =
     record {
       done = l.done ++ e ∷ [];
       entries = all ∙ sym (append_assoc l.done (e ∷ []) left);
-      kept = ap members_view c.in_ok-insert.ensures.entries ∙ members_view-insert_entry c.loop-name.kept.entries c.in_ok-name.name c.in_ok-clone.field-0 ∙ rw (named, c.in_ok-clone.ensures.cases, l.kept) last;
+      kept = ap members_view c.in_ok-insert.ensures.entries
+          ∙ members_view-insert_entry c.loop-name.kept.entries c.in_ok-name.name c.in_ok-clone.field-0
+          ∙ rw (named, c.in_ok-clone.ensures.cases, l.kept) last;
       no_float = no_float_last names l.done e none l.no_float;
     }

@@ -5,7 +5,8 @@ use Rattle.jwt_header.proofs.extras.Extras.among.Goals as goal
 
 pub invariant_of-result : goal.invariant_of-result
 invariant_of-result c = record {
-  free = rw (c.in_ok-members.ensures.ok, c.header_names.ensures) (has_named-without header_names (members_view c.args.members.now.entries));
+  free = rw (c.in_ok-members.ensures.ok, c.header_names.ensures)
+      (has_named-without header_names (members_view c.args.members.now.entries));
   no_float = c.in_ok-members.ensures.no_float;
 }
 

@@ -5,4 +5,5 @@ use Rattle.serde_json.specs.View.{view}
 use Rattle.jwt_header.proofs.extras.Extras.at.Goals as goal
 
 pub returns : goal.returns
-returns c = view_of_ref c.get.result ∙ ap (option_map view) c.get.ensures.value ∙ view-lookup c.args.name.now c.self.inside.members.entries ∙ ap (get_member c.args.name.now) c.self.view_is
+returns c = view_of_ref c.get.result ∙ ap (option_map view) c.get.ensures.value
+    ∙ view-lookup c.args.name.now c.self.inside.members.entries ∙ ap (get_member c.args.name.now) c.self.view_is

@@ -9,4 +9,5 @@ pub returns-clause-normal_form : goal.returns-clause-normal_form
 returns-clause-normal_form c = has_normal_form c.args.self.now
 
 pub returns-clause-no_float : goal.returns-clause-no_float
-returns-clause-no_float c = rw (view-Object c.in_ok-members.members) (written_no_float c.args.self.now _ c.in_ok-members.ensures.ok)
+returns-clause-no_float c = rw (view-Object c.in_ok-members.members)
+    (written_no_float c.args.self.now _ c.in_ok-members.ensures.ok)

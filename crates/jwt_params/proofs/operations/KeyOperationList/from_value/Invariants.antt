@@ -6,4 +6,6 @@ use Rattle.jwt_params.proofs.operations.KeyOperationList.from_value.Given as goa
 
 -- the items that are left to read follow those that were read
 abbrev pub invariant-loop-item : goal.invariant-loop-item
-invariant-loop-item l = option_map (map operation_named) (item_texts (items_view l.item-items)) ≡ option_map (λ left. l.operations.items ++ map operation_named left) (item_texts (items_view (drop l.item-index l.item-items)))
+invariant-loop-item l = option_map (map operation_named) (item_texts (items_view l.item-items))
+    ≡ option_map (λ left. l.operations.items ++ map operation_named left)
+    (item_texts (items_view (drop l.item-index l.item-items)))

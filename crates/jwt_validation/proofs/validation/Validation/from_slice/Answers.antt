@@ -9,4 +9,5 @@ returns-in_err-value-clause-err c =
     rw (p.1, p.2) (no_json ReadsOptions _ _ c.in_err-value.ensures.err)
 
 pub returns-clause-err : goal.returns-clause-err
-returns-clause-err c = IfErr-weaker c.from_value.result _ _ (λ e f. no_value ReadsOptions _ e _ c.in_ok-value.ensures.ok f) c.from_value.ensures.err
+returns-clause-err c = IfErr-weaker c.from_value.result _ _
+    (λ e f. no_value ReadsOptions _ e _ c.in_ok-value.ensures.ok f) c.from_value.ensures.err
