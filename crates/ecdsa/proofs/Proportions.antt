@@ -39,16 +39,16 @@ key_is_point p b size public h =
     let x = x_of size public in
     let y = y_of size public in
     let on_curve : (times p y y == plus p (minus p (times p x (times p x x)) (triple p x)) b) ≡ true =
-        last (length public == 1 + size + size) (slice_index public 0 == 4) (nat_lt x p) (nat_lt y p)
-        (times p y y == plus p (minus p (times p x (times p x x)) (triple p x)) b) h in
+    last (length public == 1 + size + size) (slice_index public 0 == 4) (nat_lt x p) (nat_lt y p)
+    (times p y y == plus p (minus p (times p x (times p x x)) (triple p x)) b) h in
     let same : times p y y ≡ plus p (minus p (times p x (times p x x)) (triple p x)) b =
-        eqb-true (times p y y) (plus p (minus p (times p x (times p x x)) (triple p x)) b) on_curve in
+    eqb-true (times p y y) (plus p (minus p (times p x (times p x x)) (triple p x)) b) on_curve in
     record {
       shape = spot x y;
       on = sym (times_is p y y) ∙ ap (λ n. n % p) same
           ∙ plus_alike p (minus p (times p x (times p x x)) (triple p x)) (minus p (times p x (times p x x)) (times p 3 x)) b b
           (minus_alike p (times p x (times p x x)) (times p x (times p x x)) (triple p x) (times p 3 x) refl
-              (triple_is p x)) refl;
+          (triple_is p x)) refl;
       alike = alike_self p (record { x = x; y = y; z = 1 });
     }
 
@@ -78,7 +78,7 @@ module _ (p : ℕ) (prime : IsPrime p) where
       ∙ mul_alike p ((l * z') * i) (z * i) j j (mul_alike p (l * z') z i i (sym ez) refl) refl
       ∙ mul_alike p (z * i) 1 j j one refl ∙ ap (λ m. m % p) (let k : 1 * j ≡ j = omega arith in k) in
       mul_alike p x (l * x') i i ex refl ∙ ap (λ m. m % p) (let k : l * x' * i ≡ x' * (l * i) = omega arith in k)
-          ∙ mul_alike p x' x' (l * i) j refl e1
+      ∙ mul_alike p x' x' (l * i) j refl e1
 
   pub x_alike : (n r : ℕ) (R S : Point) → R.z < p → S.z < p → Alike p R S → HasX p n S r → HasX p n R r
   x_alike n r R S b c a h =

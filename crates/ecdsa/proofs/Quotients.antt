@@ -18,8 +18,8 @@ unfolding minus plus
 order_is p n l o above below el eo =
     let one : 1 % n ≡ 1 = mod-eq_of_lt above in
     let less : l ≡ n - 1 = el ∙ ap (λ m. (0 + (n - m)) % n) one
-        ∙ ap (λ m. m % n) (let k : 0 + (n - 1) ≡ n - 1 = omega arith in k)
-        ∙ mod-eq_of_lt (let k : n - 1 < n = omega arith in k) in
+    ∙ ap (λ m. m % n) (let k : 0 + (n - 1) ≡ n - 1 = omega arith in k)
+    ∙ mod-eq_of_lt (let k : n - 1 < n = omega arith in k) in
     eo ∙ ap (λ m. m % p) (let k : l + 1 ≡ n = omega arith in k) ∙ mod-eq_of_lt below
 
 pub sum_kept : (p n f s : ℕ) → f + n < p → s ≡ plus p f n → s ≡ f + n

@@ -85,10 +85,10 @@ y_384-lt k h = below_at p384 y_form_384 TABLE_384 y_below_384 k (rw size_384 h)
 
 pub multiple_at_256 : (j k : ℕ) → 1 + k ≡ j → k < 15
     → IsMultiple p256 b256 j base256 (spot_point (number_256 (x_form_256 (get_or TABLE_256 k [])))
-        (number_256 (y_form_256 (get_or TABLE_256 k []))))
+    (number_256 (y_form_256 (get_or TABLE_256 k []))))
 multiple_at_256 j k e h = row_multiple p256 b256 base256 x_256 y_256 TABLE_256 rows_256 j k e (rw size_256 h)
 
 pub multiple_at_384 : (j k : ℕ) → 1 + k ≡ j → k < 15
     → IsMultiple p384 b384 j base384 (spot_point (number_384 (x_form_384 (get_or TABLE_384 k [])))
-        (number_384 (y_form_384 (get_or TABLE_384 k []))))
+    (number_384 (y_form_384 (get_or TABLE_384 k []))))
 multiple_at_384 j k e h = row_multiple p384 b384 base384 x_384 y_384 TABLE_384 rows_384 j k e (rw size_384 h)

@@ -40,7 +40,7 @@ is_entry : (s e t : ℕ) → Point → Bool
 is_entry s e t Q =
     eqb (times p (v_of (y_of s e)) (times p (x_of s e) (x_of s e))) (u_of (y_of s e)) &&
     (eqb s (plus p (y_of s e) (x_of s e)) &&
-        (eqb e (minus p (y_of s e) (x_of s e)) && (eqb t (times p twice_d (times p (x_of s e) (y_of s e)))
+    (eqb e (minus p (y_of s e) (x_of s e)) && (eqb t (times p twice_d (times p (x_of s e) (y_of s e)))
     && (eqb (times p (x_of s e) Q.z) (times p Q.x 1) && eqb (times p (y_of s e) Q.z) (times p Q.y 1)))))
 
 -- the row's three numbers are forms of an entry for Q
@@ -96,8 +96,11 @@ entry_is s e t i Q m h =
     let first : AreSame p (affine x y) Q = record { x = eqb-true _ _ g.0; y = eqb-true _ _ g.1 } in
     record {
       point = affine x y;
-      multiple = record { is_point = is_point; same = L.AreSame-trans p d field (affine x y) Q
-          (repeat_of p twice_d i base) m.is_point first m.same };
+      multiple = record {
+        is_point = is_point;
+        same = L.AreSame-trans p d field (affine x y) Q
+            (repeat_of p twice_d i base) m.is_point first m.same;
+      };
       addend = same_addend s e (plus p 1 1) t _ _ _ (eqb-true _ _ b.0) (eqb-true _ _ c.0) (eqb-true _ _ f.0);
     }
 

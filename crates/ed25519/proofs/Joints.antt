@@ -32,7 +32,7 @@ pub IsMultiple-next : (P Q : Point) (i : ℕ) (A : AddendNumbers) → IsPoint p 
 unfolding twice_d
 IsMultiple-next P Q i A a m e =
     let s = G.◌▸◌ p d field curve (G.sums p d field curve (multiple_same i a m) (G.itself p d field curve a))
-        (G.back p d field curve (G.repeat_more p d field curve i a)) in
+    (G.back p d field curve (G.repeat_more p d field curve i a)) in
     let one : suc i ≡ i + 1 = omega arith in
     rw (e, sum_with_is p twice_d positive Q P, ← one) (record { is_point = s.left; same = s.same })
 
@@ -43,8 +43,12 @@ joint_same : {P Q : Point} (m n : ℕ) → IsJoint P m n Q
     → Same Q (sum_of p twice_d (repeat_of p twice_d m base) (repeat_of p twice_d n P))
 unfolding twice_d
 joint_same m n j =
-    record { left = j.is_point; right = G.is_sum p d field curve (G.is_repeat p d field curve m IsPoint-base)
-        (G.is_repeat p d field curve n j.other); same = j.same }
+    record {
+      left = j.is_point;
+      right = G.is_sum p d field curve (G.is_repeat p d field curve m IsPoint-base)
+          (G.is_repeat p d field curve n j.other);
+      same = j.same;
+    }
 
 joint_by : {P Q : Point} (m n : ℕ) → IsPoint p d P
     → Same Q (sum_of p twice_d (repeat_of p twice_d m base) (repeat_of p twice_d n P)) → IsJoint P m n Q
@@ -61,9 +65,9 @@ IsJoint-double P Q m n j =
     let b = G.is_repeat p d field curve n j.other in
     joint_by (m + m) (n + n) j.other
     (G.◌▸◌ p d field curve (G.◌▸◌ p d field curve (G.doubles p d field curve (joint_same m n j))
-        (G.four p d field curve a b a b))
+    (G.four p d field curve a b a b))
     (G.sums p d field curve (G.back p d field curve (G.repeat_plus p d field curve m m IsPoint-base))
-        (G.back p d field curve (G.repeat_plus p d field curve n n j.other))))
+    (G.back p d field curve (G.repeat_plus p d field curve n n j.other))))
 
 pub IsJoint-sixteenfold : (P Q R S T U : Point) (m n : ℕ) → IsJoint P m n Q → R ≡ double_of p Q → S ≡ double_of p R
     → T ≡ double_of p S → U ≡ double_of p T
@@ -73,12 +77,12 @@ IsJoint-sixteenfold P Q R S T U m n j er es et eu =
     let m4 = m2 + m2 in let n4 = n2 + n2 in
     let m8 = m4 + m4 in let n8 = n4 + n4 in
     let all = IsJoint-double P T m8 n8
-        (subst (IsJoint P m8 n8) (sym et) (IsJoint-double P S m4 n4 (subst (IsJoint P m4 n4) (sym es)
+    (subst (IsJoint P m8 n8) (sym et) (IsJoint-double P S m4 n4 (subst (IsJoint P m4 n4) (sym es)
     (IsJoint-double P R m2 n2 (subst (IsJoint P m2 n2) (sym er) (IsJoint-double P Q m n j)))))) in
     let em : m8 + m8 ≡ 16 * m = omega arith in
     let en : n8 + n8 ≡ 16 * n = omega arith in
     subst (λ x. IsJoint P x (16 * n) U) em
-        (subst (λ x. IsJoint P (m8 + m8) x U) en (subst (IsJoint P (m8 + m8) (n8 + n8)) (sym eu) all))
+    (subst (λ x. IsJoint P (m8 + m8) x U) en (subst (IsJoint P (m8 + m8) (n8 + n8)) (sym eu) all))
 
 prepared_same : {P : Point} (j : ℕ) (A : AddendNumbers) → IsPoint p d P → (a : IsPrepared P j A)
     → Same a.point (repeat_of p twice_d j P)
@@ -94,7 +98,7 @@ IsJoint-other P Q R m n j A h i e =
     rw (e, i.addend, sum_with_is p twice_d positive Q i.point)
     (joint_by m (n + j) h.other
     (G.◌▸◌ p d field curve (G.◌▸◌ p d field curve
-        (G.sums p d field curve (joint_same m n h) (prepared_same j A h.other i)) (G.regroup p d field curve a b c))
+    (G.sums p d field curve (joint_same m n h) (prepared_same j A h.other i)) (G.regroup p d field curve a b c))
     (G.sums p d field curve (G.itself p d field curve a) (G.back p d field curve (G.repeat_plus p d field curve n j h.other)))))
 
 pub IsJoint-base : (P Q R : Point) (m n j : ℕ) (A : AddendNumbers) → IsJoint P m n Q → IsPrepared base j A
@@ -105,11 +109,11 @@ IsJoint-base P Q R m n j A h i e =
     let b = G.is_repeat p d field curve n h.other in
     let c = G.is_repeat p d field curve j IsPoint-base in
     let first = G.◌▸◌ p d field curve (G.sums p d field curve (joint_same m n h) (prepared_same j A IsPoint-base i))
-        (G.regroup p d field curve a b c) in
+    (G.regroup p d field curve a b c) in
     let second = G.◌▸◌ p d field curve (G.sums p d field curve (G.itself p d field curve a)
-        (G.turn p d field curve b c)) (G.back p d field curve (G.regroup p d field curve a c b)) in
+    (G.turn p d field curve b c)) (G.back p d field curve (G.regroup p d field curve a c b)) in
     let third = G.sums p d field curve (G.back p d field curve (G.repeat_plus p d field curve m j IsPoint-base))
-        (G.itself p d field curve b) in
+    (G.itself p d field curve b) in
     rw (e, i.addend, sum_with_is p twice_d positive Q i.point)
     (joint_by (m + j) n h.other (G.◌▸◌ p d field curve (G.◌▸◌ p d field curve first second) third))
 
@@ -158,7 +162,7 @@ pub IsMultiple-more : (Q : Point) (j : ℕ) → IsMultiple base j Q → IsMultip
 unfolding twice_d
 IsMultiple-more Q j m =
     let s = G.◌▸◌ p d field curve (G.sums p d field curve (multiple_same j IsPoint-base m)
-        (G.itself p d field curve IsPoint-base)) (G.back p d field curve (G.repeat_more p d field curve j IsPoint-base)) in
+    (G.itself p d field curve IsPoint-base)) (G.back p d field curve (G.repeat_more p d field curve j IsPoint-base)) in
     let one : suc j ≡ j + 1 = omega arith in
     rw (← one) (record { is_point = s.left; same = s.same })
 

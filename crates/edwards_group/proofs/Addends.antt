@@ -18,13 +18,13 @@ module _ (p k : ℕ) (positive : 0 < p) where
   unfolding value
   addend_c s t = exact_times _ _ _ _
       (follows p positive I.addend_c_left I.addend_c_right I.addend_c_lines
-          (at (0 ∷ 0 ∷ 0 ∷ s ∷ 0 ∷ 0 ∷ 0 ∷ t ∷ 0 ∷ 0 ∷ 0 ∷ 0 ∷ k ∷ [])) I.addend_c tt)
+      (at (0 ∷ 0 ∷ 0 ∷ s ∷ 0 ∷ 0 ∷ 0 ∷ t ∷ 0 ∷ 0 ∷ 0 ∷ 0 ∷ k ∷ [])) I.addend_c tt)
 
   addend_d : (y z : ℕ) → times p y (plus p z z) ≡ times p (plus p y y) z
   unfolding value
   addend_d y z = exact_times _ _ _ _
       (follows p positive I.addend_d_left I.addend_d_right I.addend_d_lines
-          (at (0 ∷ 0 ∷ y ∷ 0 ∷ 0 ∷ 0 ∷ z ∷ 0 ∷ 0 ∷ 0 ∷ 0 ∷ 0 ∷ k ∷ [])) I.addend_d tt)
+      (at (0 ∷ 0 ∷ y ∷ 0 ∷ 0 ∷ 0 ∷ z ∷ 0 ∷ 0 ∷ 0 ∷ 0 ∷ 0 ∷ k ∷ [])) I.addend_d tt)
 
   pub sum_with_is : (P Q : Point) → sum_with p P (addend_of p k Q) ≡ sum_of p k P Q
   unfolding sum_with addend_of sum_of

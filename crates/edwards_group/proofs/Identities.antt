@@ -68,53 +68,66 @@ abbrev pub assoc_x_right : Term
 assoc_x_right = e_term P (sum_terms k Q R) ⊗ g_term k (sum_terms k P Q) R
 
 abbrev pub assoc_x_lines : List (Term × Term × Term)
-assoc_x_lines =
-    (num 64 ⊗ x1 ⊗ x2 ⊗ x2 ⊗ y2 ⊗ t2 ⊗ y3 ⊗ t3 ⊗ t3 ⊗ d ⊗ d ⊕ num 64 ⊗ x1 ⊗ x2 ⊗ y2 ⊗ y2 ⊗ t2 ⊗ x3 ⊗ t3 ⊗ t3 ⊗ d ⊗ d ⊕
-        num 64 ⊗ y1 ⊗ x2 ⊗ x2 ⊗ x2 ⊗ t2 ⊗ y3 ⊗ t3 ⊗ t3 ⊗ d ⊗ d ⊕ num 64 ⊗ y1 ⊗ y2 ⊗ y2 ⊗ y2 ⊗ t2 ⊗ x3 ⊗ t3 ⊗ t3 ⊗ d ⊗ d
-        ⊖ num 64 ⊗ x1 ⊗ x2 ⊗ x2 ⊗ x2 ⊗ z2 ⊗ x3 ⊗ z3 ⊗ t3 ⊗ d ⊖ num 64 ⊗ x1 ⊗ x2 ⊗ x2 ⊗ x2 ⊗ t2 ⊗ x3 ⊗ t3 ⊗ t3 ⊗ d ⊗ d ⊖
-        num 192 ⊗ x1 ⊗ x2 ⊗ x2 ⊗ y2 ⊗ z2 ⊗ y3 ⊗ z3 ⊗ t3 ⊗ d ⊖ num 192 ⊗ x1 ⊗ x2 ⊗ y2 ⊗ y2 ⊗ z2 ⊗ x3 ⊗ z3 ⊗ t3 ⊗ d ⊖ num
-        64 ⊗ x1 ⊗ y2 ⊗ y2 ⊗ y2 ⊗ z2 ⊗ y3 ⊗ z3 ⊗ t3 ⊗ d ⊖ num 64 ⊗ x1 ⊗ y2 ⊗ y2 ⊗ y2 ⊗ t2 ⊗ y3 ⊗ t3 ⊗ t3 ⊗ d ⊗ d ⊖ num 64
-        ⊗ y1 ⊗ x2 ⊗ x2 ⊗ x2 ⊗ z2 ⊗ y3 ⊗ z3 ⊗ t3 ⊗ d ⊖ num 192 ⊗ y1 ⊗ x2 ⊗ x2 ⊗ y2 ⊗ z2 ⊗ x3 ⊗ z3 ⊗ t3 ⊗ d ⊖ num 64 ⊗ y1
-        ⊗ x2 ⊗ x2 ⊗ y2 ⊗ t2 ⊗ x3 ⊗ t3 ⊗ t3 ⊗ d ⊗ d ⊖ num 192 ⊗ y1 ⊗ x2 ⊗ y2 ⊗ y2 ⊗ z2 ⊗ y3 ⊗ z3 ⊗ t3 ⊗ d ⊖ num 64 ⊗ y1 ⊗
-        x2 ⊗ y2 ⊗ y2 ⊗ t2 ⊗ y3 ⊗ t3 ⊗ t3 ⊗ d ⊗ d ⊖ num 64 ⊗ y1 ⊗ y2 ⊗ y2 ⊗ y2 ⊗ z2 ⊗ x3 ⊗ z3 ⊗ t3 ⊗ d, product_left P,
-        product_right P) ∷
-    (num 64 ⊗ x1 ⊗ x2 ⊗ x2 ⊗ y2 ⊗ z2 ⊗ x3 ⊗ z3 ⊗ t3 ⊗ d ⊕ num 64 ⊗ x1 ⊗ x2 ⊗ x2 ⊗ y2 ⊗ t2 ⊗ x3 ⊗ t3 ⊗ t3 ⊗ d ⊗ d ⊕ num
-        64 ⊗ x1 ⊗ x2 ⊗ y2 ⊗ y2 ⊗ z2 ⊗ y3 ⊗ z3 ⊗ t3 ⊗ d ⊕ num 64 ⊗ x1 ⊗ x2 ⊗ y2 ⊗ y2 ⊗ t2 ⊗ y3 ⊗ t3 ⊗ t3 ⊗ d ⊗ d ⊕ num 64
-        ⊗ y1 ⊗ x2 ⊗ x2 ⊗ y2 ⊗ t2 ⊗ y3 ⊗ t3 ⊗ t3 ⊗ d ⊗ d ⊕ num 64 ⊗ y1 ⊗ x2 ⊗ y2 ⊗ y2 ⊗ t2 ⊗ x3 ⊗ t3 ⊗ t3 ⊗ d ⊗ d ⊖ num
-        64 ⊗ y1 ⊗ x2 ⊗ x2 ⊗ y2 ⊗ z2 ⊗ y3 ⊗ z3 ⊗ t3 ⊗ d ⊖ num 64 ⊗ y1 ⊗ x2 ⊗ y2 ⊗ y2 ⊗ z2 ⊗ x3 ⊗ z3 ⊗ t3 ⊗ d,
-        equation_left P, equation_right d P) ∷
-    (num 64 ⊗ x1 ⊗ z1 ⊗ z1 ⊗ x2 ⊗ z2 ⊗ x3 ⊗ z3 ⊗ t3 ⊗ d ⊕ num 64 ⊗ x1 ⊗ z1 ⊗ z1 ⊗ x2 ⊗ t2 ⊗ x3 ⊗ t3 ⊗ t3 ⊗ d ⊗ d ⊕ num
-        64 ⊗ x1 ⊗ z1 ⊗ z1 ⊗ y2 ⊗ z2 ⊗ y3 ⊗ z3 ⊗ t3 ⊗ d ⊕ num 64 ⊗ x1 ⊗ z1 ⊗ z1 ⊗ y2 ⊗ t2 ⊗ y3 ⊗ t3 ⊗ t3 ⊗ d ⊗ d ⊕ num 64
-        ⊗ x1 ⊗ z1 ⊗ t1 ⊗ y2 ⊗ z2 ⊗ y3 ⊗ z3 ⊗ z3 ⊗ d ⊕ num 64 ⊗ x1 ⊗ z1 ⊗ t1 ⊗ y2 ⊗ z2 ⊗ y3 ⊗ t3 ⊗ t3 ⊗ d ⊗ d ⊕ num 64 ⊗
-        x1 ⊗ t1 ⊗ t1 ⊗ x2 ⊗ z2 ⊗ x3 ⊗ z3 ⊗ t3 ⊗ d ⊗ d ⊕ num 64 ⊗ x1 ⊗ t1 ⊗ t1 ⊗ y2 ⊗ z2 ⊗ y3 ⊗ z3 ⊗ t3 ⊗ d ⊗ d ⊕ num 64
-        ⊗ y1 ⊗ z1 ⊗ z1 ⊗ x2 ⊗ t2 ⊗ y3 ⊗ t3 ⊗ t3 ⊗ d ⊗ d ⊕ num 64 ⊗ y1 ⊗ z1 ⊗ z1 ⊗ y2 ⊗ t2 ⊗ x3 ⊗ t3 ⊗ t3 ⊗ d ⊗ d ⊕ num
-        64 ⊗ y1 ⊗ z1 ⊗ t1 ⊗ x2 ⊗ z2 ⊗ y3 ⊗ z3 ⊗ z3 ⊗ d ⊕ num 64 ⊗ y1 ⊗ z1 ⊗ t1 ⊗ x2 ⊗ z2 ⊗ y3 ⊗ t3 ⊗ t3 ⊗ d ⊗ d ⊖ num 64
-        ⊗ x1 ⊗ z1 ⊗ t1 ⊗ x2 ⊗ z2 ⊗ x3 ⊗ z3 ⊗ z3 ⊗ d ⊖ num 64 ⊗ x1 ⊗ z1 ⊗ t1 ⊗ x2 ⊗ z2 ⊗ x3 ⊗ t3 ⊗ t3 ⊗ d ⊗ d ⊖ num 64 ⊗
-        x1 ⊗ t1 ⊗ t1 ⊗ x2 ⊗ t2 ⊗ x3 ⊗ z3 ⊗ z3 ⊗ d ⊗ d ⊖ num 64 ⊗ x1 ⊗ t1 ⊗ t1 ⊗ y2 ⊗ t2 ⊗ y3 ⊗ z3 ⊗ z3 ⊗ d ⊗ d ⊖ num 64
-        ⊗ y1 ⊗ z1 ⊗ z1 ⊗ x2 ⊗ z2 ⊗ y3 ⊗ z3 ⊗ t3 ⊗ d ⊖ num 64 ⊗ y1 ⊗ z1 ⊗ z1 ⊗ y2 ⊗ z2 ⊗ x3 ⊗ z3 ⊗ t3 ⊗ d ⊖ num 64 ⊗ y1 ⊗
-        z1 ⊗ t1 ⊗ y2 ⊗ z2 ⊗ x3 ⊗ z3 ⊗ z3 ⊗ d ⊖ num 64 ⊗ y1 ⊗ z1 ⊗ t1 ⊗ y2 ⊗ z2 ⊗ x3 ⊗ t3 ⊗ t3 ⊗ d ⊗ d ⊖ num 64 ⊗ y1 ⊗ t1
-        ⊗ t1 ⊗ x2 ⊗ z2 ⊗ y3 ⊗ z3 ⊗ t3 ⊗ d ⊗ d ⊖ num 64 ⊗ y1 ⊗ t1 ⊗ t1 ⊗ x2 ⊗ t2 ⊗ y3 ⊗ z3 ⊗ z3 ⊗ d ⊗ d ⊖ num 64 ⊗ y1 ⊗
-        t1 ⊗ t1 ⊗ y2 ⊗ z2 ⊗ x3 ⊗ z3 ⊗ t3 ⊗ d ⊗ d ⊖ num 64 ⊗ y1 ⊗ t1 ⊗ t1 ⊗ y2 ⊗ t2 ⊗ x3 ⊗ z3 ⊗ z3 ⊗ d ⊗ d,
-        product_left Q, product_right Q) ∷
-    (num 64 ⊗ x1 ⊗ z1 ⊗ t1 ⊗ x2 ⊗ t2 ⊗ x3 ⊗ t3 ⊗ t3 ⊗ d ⊗ d ⊕ num 64 ⊗ y1 ⊗ z1 ⊗ t1 ⊗ y2 ⊗ t2 ⊗ x3 ⊗ t3 ⊗ t3 ⊗ d ⊗ d ⊕
-        num 64 ⊗ y1 ⊗ t1 ⊗ t1 ⊗ x2 ⊗ t2 ⊗ y3 ⊗ z3 ⊗ t3 ⊗ d ⊗ d ⊕ num 64 ⊗ y1 ⊗ t1 ⊗ t1 ⊗ y2 ⊗ t2 ⊗ x3 ⊗ z3 ⊗ t3 ⊗ d ⊗ d
-        ⊖ num 64 ⊗ x1 ⊗ z1 ⊗ t1 ⊗ y2 ⊗ t2 ⊗ y3 ⊗ t3 ⊗ t3 ⊗ d ⊗ d ⊖ num 64 ⊗ x1 ⊗ t1 ⊗ t1 ⊗ x2 ⊗ t2 ⊗ x3 ⊗ z3 ⊗ t3 ⊗ d ⊗
-        d ⊖ num 64 ⊗ x1 ⊗ t1 ⊗ t1 ⊗ y2 ⊗ t2 ⊗ y3 ⊗ z3 ⊗ t3 ⊗ d ⊗ d ⊖ num 64 ⊗ y1 ⊗ z1 ⊗ t1 ⊗ x2 ⊗ t2 ⊗ y3 ⊗ t3 ⊗ t3 ⊗ d
-        ⊗ d, equation_left Q, equation_right d Q) ∷
-    (num 64 ⊗ x1 ⊗ z1 ⊗ t1 ⊗ x2 ⊗ x2 ⊗ x2 ⊗ z2 ⊗ x3 ⊗ d ⊕ num 192 ⊗ x1 ⊗ z1 ⊗ t1 ⊗ x2 ⊗ x2 ⊗ y2 ⊗ z2 ⊗ y3 ⊗ d ⊕ num 192
-        ⊗ x1 ⊗ z1 ⊗ t1 ⊗ x2 ⊗ y2 ⊗ y2 ⊗ z2 ⊗ x3 ⊗ d ⊕ num 64 ⊗ x1 ⊗ z1 ⊗ t1 ⊗ y2 ⊗ y2 ⊗ y2 ⊗ z2 ⊗ y3 ⊗ d ⊕ num 64 ⊗ x1 ⊗
-        t1 ⊗ t1 ⊗ x2 ⊗ x2 ⊗ x2 ⊗ t2 ⊗ x3 ⊗ d ⊗ d ⊕ num 64 ⊗ x1 ⊗ t1 ⊗ t1 ⊗ x2 ⊗ x2 ⊗ y2 ⊗ t2 ⊗ y3 ⊗ d ⊗ d ⊕ num 64 ⊗ y1
-        ⊗ z1 ⊗ t1 ⊗ x2 ⊗ x2 ⊗ x2 ⊗ z2 ⊗ y3 ⊗ d ⊕ num 192 ⊗ y1 ⊗ z1 ⊗ t1 ⊗ x2 ⊗ x2 ⊗ y2 ⊗ z2 ⊗ x3 ⊗ d ⊕ num 192 ⊗ y1 ⊗ z1
-        ⊗ t1 ⊗ x2 ⊗ y2 ⊗ y2 ⊗ z2 ⊗ y3 ⊗ d ⊕ num 64 ⊗ y1 ⊗ z1 ⊗ t1 ⊗ y2 ⊗ y2 ⊗ y2 ⊗ z2 ⊗ x3 ⊗ d ⊕ num 64 ⊗ y1 ⊗ t1 ⊗ t1 ⊗
-        x2 ⊗ y2 ⊗ y2 ⊗ t2 ⊗ y3 ⊗ d ⊗ d ⊕ num 64 ⊗ y1 ⊗ t1 ⊗ t1 ⊗ y2 ⊗ y2 ⊗ y2 ⊗ t2 ⊗ x3 ⊗ d ⊗ d ⊖ num 64 ⊗ x1 ⊗ t1 ⊗ t1
-        ⊗ x2 ⊗ y2 ⊗ y2 ⊗ t2 ⊗ x3 ⊗ d ⊗ d ⊖ num 64 ⊗ x1 ⊗ t1 ⊗ t1 ⊗ y2 ⊗ y2 ⊗ y2 ⊗ t2 ⊗ y3 ⊗ d ⊗ d ⊖ num 64 ⊗ y1 ⊗ t1 ⊗
-        t1 ⊗ x2 ⊗ x2 ⊗ x2 ⊗ t2 ⊗ y3 ⊗ d ⊗ d ⊖ num 64 ⊗ y1 ⊗ t1 ⊗ t1 ⊗ x2 ⊗ x2 ⊗ y2 ⊗ t2 ⊗ x3 ⊗ d ⊗ d, product_left R,
-        product_right R) ∷
-    (num 64 ⊗ x1 ⊗ z1 ⊗ t1 ⊗ x2 ⊗ y2 ⊗ y2 ⊗ z2 ⊗ y3 ⊗ d ⊕ num 64 ⊗ y1 ⊗ z1 ⊗ t1 ⊗ x2 ⊗ x2 ⊗ y2 ⊗ z2 ⊗ y3 ⊗ d ⊖ num 64 ⊗
-        x1 ⊗ z1 ⊗ t1 ⊗ x2 ⊗ x2 ⊗ y2 ⊗ z2 ⊗ x3 ⊗ d ⊖ num 64 ⊗ x1 ⊗ t1 ⊗ t1 ⊗ x2 ⊗ x2 ⊗ y2 ⊗ t2 ⊗ x3 ⊗ d ⊗ d ⊖ num 64 ⊗ x1
-        ⊗ t1 ⊗ t1 ⊗ x2 ⊗ y2 ⊗ y2 ⊗ t2 ⊗ y3 ⊗ d ⊗ d ⊖ num 64 ⊗ y1 ⊗ z1 ⊗ t1 ⊗ x2 ⊗ y2 ⊗ y2 ⊗ z2 ⊗ x3 ⊗ d ⊖ num 64 ⊗ y1 ⊗
-        t1 ⊗ t1 ⊗ x2 ⊗ x2 ⊗ y2 ⊗ t2 ⊗ y3 ⊗ d ⊗ d ⊖ num 64 ⊗ y1 ⊗ t1 ⊗ t1 ⊗ x2 ⊗ y2 ⊗ y2 ⊗ t2 ⊗ x3 ⊗ d ⊗ d,
-        equation_left R, equation_right d R) ∷ []
+assoc_x_lines = (
+  num 64 ⊗ x1 ⊗ x2 ⊗ x2 ⊗ y2 ⊗ t2 ⊗ y3 ⊗ t3 ⊗ t3 ⊗ d ⊗ d ⊕ num 64 ⊗ x1 ⊗ x2 ⊗ y2 ⊗ y2 ⊗ t2 ⊗ x3 ⊗ t3 ⊗ t3 ⊗ d ⊗ d ⊕
+      num 64 ⊗ y1 ⊗ x2 ⊗ x2 ⊗ x2 ⊗ t2 ⊗ y3 ⊗ t3 ⊗ t3 ⊗ d ⊗ d ⊕ num 64 ⊗ y1 ⊗ y2 ⊗ y2 ⊗ y2 ⊗ t2 ⊗ x3 ⊗ t3 ⊗ t3 ⊗ d ⊗ d
+      ⊖ num 64 ⊗ x1 ⊗ x2 ⊗ x2 ⊗ x2 ⊗ z2 ⊗ x3 ⊗ z3 ⊗ t3 ⊗ d ⊖ num 64 ⊗ x1 ⊗ x2 ⊗ x2 ⊗ x2 ⊗ t2 ⊗ x3 ⊗ t3 ⊗ t3 ⊗ d ⊗ d ⊖
+      num 192 ⊗ x1 ⊗ x2 ⊗ x2 ⊗ y2 ⊗ z2 ⊗ y3 ⊗ z3 ⊗ t3 ⊗ d ⊖ num 192 ⊗ x1 ⊗ x2 ⊗ y2 ⊗ y2 ⊗ z2 ⊗ x3 ⊗ z3 ⊗ t3 ⊗ d ⊖ num
+      64 ⊗ x1 ⊗ y2 ⊗ y2 ⊗ y2 ⊗ z2 ⊗ y3 ⊗ z3 ⊗ t3 ⊗ d ⊖ num 64 ⊗ x1 ⊗ y2 ⊗ y2 ⊗ y2 ⊗ t2 ⊗ y3 ⊗ t3 ⊗ t3 ⊗ d ⊗ d ⊖ num 64
+      ⊗ y1 ⊗ x2 ⊗ x2 ⊗ x2 ⊗ z2 ⊗ y3 ⊗ z3 ⊗ t3 ⊗ d ⊖ num 192 ⊗ y1 ⊗ x2 ⊗ x2 ⊗ y2 ⊗ z2 ⊗ x3 ⊗ z3 ⊗ t3 ⊗ d ⊖ num 64 ⊗ y1
+      ⊗ x2 ⊗ x2 ⊗ y2 ⊗ t2 ⊗ x3 ⊗ t3 ⊗ t3 ⊗ d ⊗ d ⊖ num 192 ⊗ y1 ⊗ x2 ⊗ y2 ⊗ y2 ⊗ z2 ⊗ y3 ⊗ z3 ⊗ t3 ⊗ d ⊖ num 64 ⊗ y1 ⊗
+      x2 ⊗ y2 ⊗ y2 ⊗ t2 ⊗ y3 ⊗ t3 ⊗ t3 ⊗ d ⊗ d ⊖ num 64 ⊗ y1 ⊗ y2 ⊗ y2 ⊗ y2 ⊗ z2 ⊗ x3 ⊗ z3 ⊗ t3 ⊗ d,
+  product_left P,
+  product_right P,
+) ∷ (
+  num 64 ⊗ x1 ⊗ x2 ⊗ x2 ⊗ y2 ⊗ z2 ⊗ x3 ⊗ z3 ⊗ t3 ⊗ d ⊕ num 64 ⊗ x1 ⊗ x2 ⊗ x2 ⊗ y2 ⊗ t2 ⊗ x3 ⊗ t3 ⊗ t3 ⊗ d ⊗ d ⊕ num
+      64 ⊗ x1 ⊗ x2 ⊗ y2 ⊗ y2 ⊗ z2 ⊗ y3 ⊗ z3 ⊗ t3 ⊗ d ⊕ num 64 ⊗ x1 ⊗ x2 ⊗ y2 ⊗ y2 ⊗ t2 ⊗ y3 ⊗ t3 ⊗ t3 ⊗ d ⊗ d ⊕ num 64
+      ⊗ y1 ⊗ x2 ⊗ x2 ⊗ y2 ⊗ t2 ⊗ y3 ⊗ t3 ⊗ t3 ⊗ d ⊗ d ⊕ num 64 ⊗ y1 ⊗ x2 ⊗ y2 ⊗ y2 ⊗ t2 ⊗ x3 ⊗ t3 ⊗ t3 ⊗ d ⊗ d ⊖ num
+      64 ⊗ y1 ⊗ x2 ⊗ x2 ⊗ y2 ⊗ z2 ⊗ y3 ⊗ z3 ⊗ t3 ⊗ d ⊖ num 64 ⊗ y1 ⊗ x2 ⊗ y2 ⊗ y2 ⊗ z2 ⊗ x3 ⊗ z3 ⊗ t3 ⊗ d,
+  equation_left P,
+  equation_right d P,
+) ∷ (
+  num 64 ⊗ x1 ⊗ z1 ⊗ z1 ⊗ x2 ⊗ z2 ⊗ x3 ⊗ z3 ⊗ t3 ⊗ d ⊕ num 64 ⊗ x1 ⊗ z1 ⊗ z1 ⊗ x2 ⊗ t2 ⊗ x3 ⊗ t3 ⊗ t3 ⊗ d ⊗ d ⊕ num
+      64 ⊗ x1 ⊗ z1 ⊗ z1 ⊗ y2 ⊗ z2 ⊗ y3 ⊗ z3 ⊗ t3 ⊗ d ⊕ num 64 ⊗ x1 ⊗ z1 ⊗ z1 ⊗ y2 ⊗ t2 ⊗ y3 ⊗ t3 ⊗ t3 ⊗ d ⊗ d ⊕ num 64
+      ⊗ x1 ⊗ z1 ⊗ t1 ⊗ y2 ⊗ z2 ⊗ y3 ⊗ z3 ⊗ z3 ⊗ d ⊕ num 64 ⊗ x1 ⊗ z1 ⊗ t1 ⊗ y2 ⊗ z2 ⊗ y3 ⊗ t3 ⊗ t3 ⊗ d ⊗ d ⊕ num 64 ⊗
+      x1 ⊗ t1 ⊗ t1 ⊗ x2 ⊗ z2 ⊗ x3 ⊗ z3 ⊗ t3 ⊗ d ⊗ d ⊕ num 64 ⊗ x1 ⊗ t1 ⊗ t1 ⊗ y2 ⊗ z2 ⊗ y3 ⊗ z3 ⊗ t3 ⊗ d ⊗ d ⊕ num 64
+      ⊗ y1 ⊗ z1 ⊗ z1 ⊗ x2 ⊗ t2 ⊗ y3 ⊗ t3 ⊗ t3 ⊗ d ⊗ d ⊕ num 64 ⊗ y1 ⊗ z1 ⊗ z1 ⊗ y2 ⊗ t2 ⊗ x3 ⊗ t3 ⊗ t3 ⊗ d ⊗ d ⊕ num
+      64 ⊗ y1 ⊗ z1 ⊗ t1 ⊗ x2 ⊗ z2 ⊗ y3 ⊗ z3 ⊗ z3 ⊗ d ⊕ num 64 ⊗ y1 ⊗ z1 ⊗ t1 ⊗ x2 ⊗ z2 ⊗ y3 ⊗ t3 ⊗ t3 ⊗ d ⊗ d ⊖ num 64
+      ⊗ x1 ⊗ z1 ⊗ t1 ⊗ x2 ⊗ z2 ⊗ x3 ⊗ z3 ⊗ z3 ⊗ d ⊖ num 64 ⊗ x1 ⊗ z1 ⊗ t1 ⊗ x2 ⊗ z2 ⊗ x3 ⊗ t3 ⊗ t3 ⊗ d ⊗ d ⊖ num 64 ⊗
+      x1 ⊗ t1 ⊗ t1 ⊗ x2 ⊗ t2 ⊗ x3 ⊗ z3 ⊗ z3 ⊗ d ⊗ d ⊖ num 64 ⊗ x1 ⊗ t1 ⊗ t1 ⊗ y2 ⊗ t2 ⊗ y3 ⊗ z3 ⊗ z3 ⊗ d ⊗ d ⊖ num 64
+      ⊗ y1 ⊗ z1 ⊗ z1 ⊗ x2 ⊗ z2 ⊗ y3 ⊗ z3 ⊗ t3 ⊗ d ⊖ num 64 ⊗ y1 ⊗ z1 ⊗ z1 ⊗ y2 ⊗ z2 ⊗ x3 ⊗ z3 ⊗ t3 ⊗ d ⊖ num 64 ⊗ y1 ⊗
+      z1 ⊗ t1 ⊗ y2 ⊗ z2 ⊗ x3 ⊗ z3 ⊗ z3 ⊗ d ⊖ num 64 ⊗ y1 ⊗ z1 ⊗ t1 ⊗ y2 ⊗ z2 ⊗ x3 ⊗ t3 ⊗ t3 ⊗ d ⊗ d ⊖ num 64 ⊗ y1 ⊗ t1
+      ⊗ t1 ⊗ x2 ⊗ z2 ⊗ y3 ⊗ z3 ⊗ t3 ⊗ d ⊗ d ⊖ num 64 ⊗ y1 ⊗ t1 ⊗ t1 ⊗ x2 ⊗ t2 ⊗ y3 ⊗ z3 ⊗ z3 ⊗ d ⊗ d ⊖ num 64 ⊗ y1 ⊗
+      t1 ⊗ t1 ⊗ y2 ⊗ z2 ⊗ x3 ⊗ z3 ⊗ t3 ⊗ d ⊗ d ⊖ num 64 ⊗ y1 ⊗ t1 ⊗ t1 ⊗ y2 ⊗ t2 ⊗ x3 ⊗ z3 ⊗ z3 ⊗ d ⊗ d,
+  product_left Q,
+  product_right Q,
+) ∷ (
+  num 64 ⊗ x1 ⊗ z1 ⊗ t1 ⊗ x2 ⊗ t2 ⊗ x3 ⊗ t3 ⊗ t3 ⊗ d ⊗ d ⊕ num 64 ⊗ y1 ⊗ z1 ⊗ t1 ⊗ y2 ⊗ t2 ⊗ x3 ⊗ t3 ⊗ t3 ⊗ d ⊗ d ⊕
+      num 64 ⊗ y1 ⊗ t1 ⊗ t1 ⊗ x2 ⊗ t2 ⊗ y3 ⊗ z3 ⊗ t3 ⊗ d ⊗ d ⊕ num 64 ⊗ y1 ⊗ t1 ⊗ t1 ⊗ y2 ⊗ t2 ⊗ x3 ⊗ z3 ⊗ t3 ⊗ d ⊗ d
+      ⊖ num 64 ⊗ x1 ⊗ z1 ⊗ t1 ⊗ y2 ⊗ t2 ⊗ y3 ⊗ t3 ⊗ t3 ⊗ d ⊗ d ⊖ num 64 ⊗ x1 ⊗ t1 ⊗ t1 ⊗ x2 ⊗ t2 ⊗ x3 ⊗ z3 ⊗ t3 ⊗ d ⊗
+      d ⊖ num 64 ⊗ x1 ⊗ t1 ⊗ t1 ⊗ y2 ⊗ t2 ⊗ y3 ⊗ z3 ⊗ t3 ⊗ d ⊗ d ⊖ num 64 ⊗ y1 ⊗ z1 ⊗ t1 ⊗ x2 ⊗ t2 ⊗ y3 ⊗ t3 ⊗ t3 ⊗ d
+      ⊗ d,
+  equation_left Q,
+  equation_right d Q,
+) ∷ (
+  num 64 ⊗ x1 ⊗ z1 ⊗ t1 ⊗ x2 ⊗ x2 ⊗ x2 ⊗ z2 ⊗ x3 ⊗ d ⊕ num 192 ⊗ x1 ⊗ z1 ⊗ t1 ⊗ x2 ⊗ x2 ⊗ y2 ⊗ z2 ⊗ y3 ⊗ d ⊕ num 192
+      ⊗ x1 ⊗ z1 ⊗ t1 ⊗ x2 ⊗ y2 ⊗ y2 ⊗ z2 ⊗ x3 ⊗ d ⊕ num 64 ⊗ x1 ⊗ z1 ⊗ t1 ⊗ y2 ⊗ y2 ⊗ y2 ⊗ z2 ⊗ y3 ⊗ d ⊕ num 64 ⊗ x1 ⊗
+      t1 ⊗ t1 ⊗ x2 ⊗ x2 ⊗ x2 ⊗ t2 ⊗ x3 ⊗ d ⊗ d ⊕ num 64 ⊗ x1 ⊗ t1 ⊗ t1 ⊗ x2 ⊗ x2 ⊗ y2 ⊗ t2 ⊗ y3 ⊗ d ⊗ d ⊕ num 64 ⊗ y1
+      ⊗ z1 ⊗ t1 ⊗ x2 ⊗ x2 ⊗ x2 ⊗ z2 ⊗ y3 ⊗ d ⊕ num 192 ⊗ y1 ⊗ z1 ⊗ t1 ⊗ x2 ⊗ x2 ⊗ y2 ⊗ z2 ⊗ x3 ⊗ d ⊕ num 192 ⊗ y1 ⊗ z1
+      ⊗ t1 ⊗ x2 ⊗ y2 ⊗ y2 ⊗ z2 ⊗ y3 ⊗ d ⊕ num 64 ⊗ y1 ⊗ z1 ⊗ t1 ⊗ y2 ⊗ y2 ⊗ y2 ⊗ z2 ⊗ x3 ⊗ d ⊕ num 64 ⊗ y1 ⊗ t1 ⊗ t1 ⊗
+      x2 ⊗ y2 ⊗ y2 ⊗ t2 ⊗ y3 ⊗ d ⊗ d ⊕ num 64 ⊗ y1 ⊗ t1 ⊗ t1 ⊗ y2 ⊗ y2 ⊗ y2 ⊗ t2 ⊗ x3 ⊗ d ⊗ d ⊖ num 64 ⊗ x1 ⊗ t1 ⊗ t1
+      ⊗ x2 ⊗ y2 ⊗ y2 ⊗ t2 ⊗ x3 ⊗ d ⊗ d ⊖ num 64 ⊗ x1 ⊗ t1 ⊗ t1 ⊗ y2 ⊗ y2 ⊗ y2 ⊗ t2 ⊗ y3 ⊗ d ⊗ d ⊖ num 64 ⊗ y1 ⊗ t1 ⊗
+      t1 ⊗ x2 ⊗ x2 ⊗ x2 ⊗ t2 ⊗ y3 ⊗ d ⊗ d ⊖ num 64 ⊗ y1 ⊗ t1 ⊗ t1 ⊗ x2 ⊗ x2 ⊗ y2 ⊗ t2 ⊗ x3 ⊗ d ⊗ d,
+  product_left R,
+  product_right R,
+) ∷ (
+  num 64 ⊗ x1 ⊗ z1 ⊗ t1 ⊗ x2 ⊗ y2 ⊗ y2 ⊗ z2 ⊗ y3 ⊗ d ⊕ num 64 ⊗ y1 ⊗ z1 ⊗ t1 ⊗ x2 ⊗ x2 ⊗ y2 ⊗ z2 ⊗ y3 ⊗ d ⊖ num 64 ⊗
+      x1 ⊗ z1 ⊗ t1 ⊗ x2 ⊗ x2 ⊗ y2 ⊗ z2 ⊗ x3 ⊗ d ⊖ num 64 ⊗ x1 ⊗ t1 ⊗ t1 ⊗ x2 ⊗ x2 ⊗ y2 ⊗ t2 ⊗ x3 ⊗ d ⊗ d ⊖ num 64 ⊗ x1
+      ⊗ t1 ⊗ t1 ⊗ x2 ⊗ y2 ⊗ y2 ⊗ t2 ⊗ y3 ⊗ d ⊗ d ⊖ num 64 ⊗ y1 ⊗ z1 ⊗ t1 ⊗ x2 ⊗ y2 ⊗ y2 ⊗ z2 ⊗ x3 ⊗ d ⊖ num 64 ⊗ y1 ⊗
+      t1 ⊗ t1 ⊗ x2 ⊗ x2 ⊗ y2 ⊗ t2 ⊗ y3 ⊗ d ⊗ d ⊖ num 64 ⊗ y1 ⊗ t1 ⊗ t1 ⊗ x2 ⊗ y2 ⊗ y2 ⊗ t2 ⊗ x3 ⊗ d ⊗ d,
+  equation_left R,
+  equation_right d R,
+) ∷ []
 
 pub assoc_x : is_identity assoc_x_left assoc_x_right assoc_x_lines ≡ true
 unfolding is_identity
@@ -127,53 +140,66 @@ abbrev pub assoc_y_right : Term
 assoc_y_right = h_term P (sum_terms k Q R) ⊗ f_term k (sum_terms k P Q) R
 
 abbrev pub assoc_y_lines : List (Term × Term × Term)
-assoc_y_lines =
-    (num 64 ⊗ x1 ⊗ x2 ⊗ x2 ⊗ x2 ⊗ z2 ⊗ y3 ⊗ z3 ⊗ t3 ⊗ d ⊕ num 192 ⊗ x1 ⊗ x2 ⊗ x2 ⊗ y2 ⊗ z2 ⊗ x3 ⊗ z3 ⊗ t3 ⊗ d ⊕ num 64 ⊗
-        x1 ⊗ x2 ⊗ x2 ⊗ y2 ⊗ t2 ⊗ x3 ⊗ t3 ⊗ t3 ⊗ d ⊗ d ⊕ num 192 ⊗ x1 ⊗ x2 ⊗ y2 ⊗ y2 ⊗ z2 ⊗ y3 ⊗ z3 ⊗ t3 ⊗ d ⊕ num 64 ⊗
-        x1 ⊗ x2 ⊗ y2 ⊗ y2 ⊗ t2 ⊗ y3 ⊗ t3 ⊗ t3 ⊗ d ⊗ d ⊕ num 64 ⊗ x1 ⊗ y2 ⊗ y2 ⊗ y2 ⊗ z2 ⊗ x3 ⊗ z3 ⊗ t3 ⊗ d ⊕ num 64 ⊗ y1
-        ⊗ x2 ⊗ x2 ⊗ x2 ⊗ z2 ⊗ x3 ⊗ z3 ⊗ t3 ⊗ d ⊕ num 64 ⊗ y1 ⊗ x2 ⊗ x2 ⊗ x2 ⊗ t2 ⊗ x3 ⊗ t3 ⊗ t3 ⊗ d ⊗ d ⊕ num 192 ⊗ y1 ⊗
-        x2 ⊗ x2 ⊗ y2 ⊗ z2 ⊗ y3 ⊗ z3 ⊗ t3 ⊗ d ⊕ num 192 ⊗ y1 ⊗ x2 ⊗ y2 ⊗ y2 ⊗ z2 ⊗ x3 ⊗ z3 ⊗ t3 ⊗ d ⊕ num 64 ⊗ y1 ⊗ y2 ⊗
-        y2 ⊗ y2 ⊗ z2 ⊗ y3 ⊗ z3 ⊗ t3 ⊗ d ⊕ num 64 ⊗ y1 ⊗ y2 ⊗ y2 ⊗ y2 ⊗ t2 ⊗ y3 ⊗ t3 ⊗ t3 ⊗ d ⊗ d ⊖ num 64 ⊗ x1 ⊗ x2 ⊗ x2
-        ⊗ x2 ⊗ t2 ⊗ y3 ⊗ t3 ⊗ t3 ⊗ d ⊗ d ⊖ num 64 ⊗ x1 ⊗ y2 ⊗ y2 ⊗ y2 ⊗ t2 ⊗ x3 ⊗ t3 ⊗ t3 ⊗ d ⊗ d ⊖ num 64 ⊗ y1 ⊗ x2 ⊗
-        x2 ⊗ y2 ⊗ t2 ⊗ y3 ⊗ t3 ⊗ t3 ⊗ d ⊗ d ⊖ num 64 ⊗ y1 ⊗ x2 ⊗ y2 ⊗ y2 ⊗ t2 ⊗ x3 ⊗ t3 ⊗ t3 ⊗ d ⊗ d, product_left P,
-        product_right P) ∷
-    (num 64 ⊗ x1 ⊗ x2 ⊗ x2 ⊗ y2 ⊗ t2 ⊗ y3 ⊗ t3 ⊗ t3 ⊗ d ⊗ d ⊕ num 64 ⊗ x1 ⊗ x2 ⊗ y2 ⊗ y2 ⊗ t2 ⊗ x3 ⊗ t3 ⊗ t3 ⊗ d ⊗ d ⊕
-        num 64 ⊗ y1 ⊗ x2 ⊗ x2 ⊗ y2 ⊗ z2 ⊗ x3 ⊗ z3 ⊗ t3 ⊗ d ⊕ num 64 ⊗ y1 ⊗ x2 ⊗ x2 ⊗ y2 ⊗ t2 ⊗ x3 ⊗ t3 ⊗ t3 ⊗ d ⊗ d ⊕
-        num 64 ⊗ y1 ⊗ x2 ⊗ y2 ⊗ y2 ⊗ z2 ⊗ y3 ⊗ z3 ⊗ t3 ⊗ d ⊕ num 64 ⊗ y1 ⊗ x2 ⊗ y2 ⊗ y2 ⊗ t2 ⊗ y3 ⊗ t3 ⊗ t3 ⊗ d ⊗ d ⊖
-        num 64 ⊗ x1 ⊗ x2 ⊗ x2 ⊗ y2 ⊗ z2 ⊗ y3 ⊗ z3 ⊗ t3 ⊗ d ⊖ num 64 ⊗ x1 ⊗ x2 ⊗ y2 ⊗ y2 ⊗ z2 ⊗ x3 ⊗ z3 ⊗ t3 ⊗ d,
-        equation_left P, equation_right d P) ∷
-    (num 64 ⊗ x1 ⊗ z1 ⊗ z1 ⊗ x2 ⊗ t2 ⊗ y3 ⊗ t3 ⊗ t3 ⊗ d ⊗ d ⊕ num 64 ⊗ x1 ⊗ z1 ⊗ z1 ⊗ y2 ⊗ t2 ⊗ x3 ⊗ t3 ⊗ t3 ⊗ d ⊗ d ⊕
-        num 64 ⊗ x1 ⊗ z1 ⊗ t1 ⊗ y2 ⊗ z2 ⊗ x3 ⊗ z3 ⊗ z3 ⊗ d ⊕ num 64 ⊗ x1 ⊗ z1 ⊗ t1 ⊗ y2 ⊗ z2 ⊗ x3 ⊗ t3 ⊗ t3 ⊗ d ⊗ d ⊕
-        num 64 ⊗ y1 ⊗ z1 ⊗ z1 ⊗ x2 ⊗ z2 ⊗ x3 ⊗ z3 ⊗ t3 ⊗ d ⊕ num 64 ⊗ y1 ⊗ z1 ⊗ z1 ⊗ x2 ⊗ t2 ⊗ x3 ⊗ t3 ⊗ t3 ⊗ d ⊗ d ⊕
-        num 64 ⊗ y1 ⊗ z1 ⊗ z1 ⊗ y2 ⊗ z2 ⊗ y3 ⊗ z3 ⊗ t3 ⊗ d ⊕ num 64 ⊗ y1 ⊗ z1 ⊗ z1 ⊗ y2 ⊗ t2 ⊗ y3 ⊗ t3 ⊗ t3 ⊗ d ⊗ d ⊕
-        num 64 ⊗ y1 ⊗ z1 ⊗ t1 ⊗ x2 ⊗ z2 ⊗ x3 ⊗ z3 ⊗ z3 ⊗ d ⊕ num 64 ⊗ y1 ⊗ z1 ⊗ t1 ⊗ x2 ⊗ z2 ⊗ x3 ⊗ t3 ⊗ t3 ⊗ d ⊗ d ⊕
-        num 64 ⊗ y1 ⊗ t1 ⊗ t1 ⊗ x2 ⊗ z2 ⊗ x3 ⊗ z3 ⊗ t3 ⊗ d ⊗ d ⊕ num 64 ⊗ y1 ⊗ t1 ⊗ t1 ⊗ y2 ⊗ z2 ⊗ y3 ⊗ z3 ⊗ t3 ⊗ d ⊗ d
-        ⊖ num 64 ⊗ x1 ⊗ z1 ⊗ z1 ⊗ x2 ⊗ z2 ⊗ y3 ⊗ z3 ⊗ t3 ⊗ d ⊖ num 64 ⊗ x1 ⊗ z1 ⊗ z1 ⊗ y2 ⊗ z2 ⊗ x3 ⊗ z3 ⊗ t3 ⊗ d ⊖ num
-        64 ⊗ x1 ⊗ z1 ⊗ t1 ⊗ x2 ⊗ z2 ⊗ y3 ⊗ z3 ⊗ z3 ⊗ d ⊖ num 64 ⊗ x1 ⊗ z1 ⊗ t1 ⊗ x2 ⊗ z2 ⊗ y3 ⊗ t3 ⊗ t3 ⊗ d ⊗ d ⊖ num 64
-        ⊗ x1 ⊗ t1 ⊗ t1 ⊗ x2 ⊗ z2 ⊗ y3 ⊗ z3 ⊗ t3 ⊗ d ⊗ d ⊖ num 64 ⊗ x1 ⊗ t1 ⊗ t1 ⊗ x2 ⊗ t2 ⊗ y3 ⊗ z3 ⊗ z3 ⊗ d ⊗ d ⊖ num
-        64 ⊗ x1 ⊗ t1 ⊗ t1 ⊗ y2 ⊗ z2 ⊗ x3 ⊗ z3 ⊗ t3 ⊗ d ⊗ d ⊖ num 64 ⊗ x1 ⊗ t1 ⊗ t1 ⊗ y2 ⊗ t2 ⊗ x3 ⊗ z3 ⊗ z3 ⊗ d ⊗ d ⊖
-        num 64 ⊗ y1 ⊗ z1 ⊗ t1 ⊗ y2 ⊗ z2 ⊗ y3 ⊗ z3 ⊗ z3 ⊗ d ⊖ num 64 ⊗ y1 ⊗ z1 ⊗ t1 ⊗ y2 ⊗ z2 ⊗ y3 ⊗ t3 ⊗ t3 ⊗ d ⊗ d ⊖
-        num 64 ⊗ y1 ⊗ t1 ⊗ t1 ⊗ x2 ⊗ t2 ⊗ x3 ⊗ z3 ⊗ z3 ⊗ d ⊗ d ⊖ num 64 ⊗ y1 ⊗ t1 ⊗ t1 ⊗ y2 ⊗ t2 ⊗ y3 ⊗ z3 ⊗ z3 ⊗ d ⊗ d,
-        product_left Q, product_right Q) ∷
-    (num 64 ⊗ x1 ⊗ z1 ⊗ t1 ⊗ x2 ⊗ t2 ⊗ y3 ⊗ t3 ⊗ t3 ⊗ d ⊗ d ⊕ num 64 ⊗ x1 ⊗ t1 ⊗ t1 ⊗ x2 ⊗ t2 ⊗ y3 ⊗ z3 ⊗ t3 ⊗ d ⊗ d ⊕
-        num 64 ⊗ x1 ⊗ t1 ⊗ t1 ⊗ y2 ⊗ t2 ⊗ x3 ⊗ z3 ⊗ t3 ⊗ d ⊗ d ⊕ num 64 ⊗ y1 ⊗ z1 ⊗ t1 ⊗ y2 ⊗ t2 ⊗ y3 ⊗ t3 ⊗ t3 ⊗ d ⊗ d
-        ⊖ num 64 ⊗ x1 ⊗ z1 ⊗ t1 ⊗ y2 ⊗ t2 ⊗ x3 ⊗ t3 ⊗ t3 ⊗ d ⊗ d ⊖ num 64 ⊗ y1 ⊗ z1 ⊗ t1 ⊗ x2 ⊗ t2 ⊗ x3 ⊗ t3 ⊗ t3 ⊗ d ⊗
-        d ⊖ num 64 ⊗ y1 ⊗ t1 ⊗ t1 ⊗ x2 ⊗ t2 ⊗ x3 ⊗ z3 ⊗ t3 ⊗ d ⊗ d ⊖ num 64 ⊗ y1 ⊗ t1 ⊗ t1 ⊗ y2 ⊗ t2 ⊗ y3 ⊗ z3 ⊗ t3 ⊗ d
-        ⊗ d, equation_left Q, equation_right d Q) ∷
-    (num 64 ⊗ x1 ⊗ t1 ⊗ t1 ⊗ x2 ⊗ y2 ⊗ y2 ⊗ t2 ⊗ y3 ⊗ d ⊗ d ⊕ num 64 ⊗ x1 ⊗ t1 ⊗ t1 ⊗ y2 ⊗ y2 ⊗ y2 ⊗ t2 ⊗ x3 ⊗ d ⊗ d ⊕
-        num 64 ⊗ y1 ⊗ t1 ⊗ t1 ⊗ x2 ⊗ x2 ⊗ x2 ⊗ t2 ⊗ x3 ⊗ d ⊗ d ⊕ num 64 ⊗ y1 ⊗ t1 ⊗ t1 ⊗ x2 ⊗ x2 ⊗ y2 ⊗ t2 ⊗ y3 ⊗ d ⊗ d
-        ⊖ num 64 ⊗ x1 ⊗ z1 ⊗ t1 ⊗ x2 ⊗ x2 ⊗ x2 ⊗ z2 ⊗ y3 ⊗ d ⊖ num 192 ⊗ x1 ⊗ z1 ⊗ t1 ⊗ x2 ⊗ x2 ⊗ y2 ⊗ z2 ⊗ x3 ⊗ d ⊖ num
-        192 ⊗ x1 ⊗ z1 ⊗ t1 ⊗ x2 ⊗ y2 ⊗ y2 ⊗ z2 ⊗ y3 ⊗ d ⊖ num 64 ⊗ x1 ⊗ z1 ⊗ t1 ⊗ y2 ⊗ y2 ⊗ y2 ⊗ z2 ⊗ x3 ⊗ d ⊖ num 64 ⊗
-        x1 ⊗ t1 ⊗ t1 ⊗ x2 ⊗ x2 ⊗ x2 ⊗ t2 ⊗ y3 ⊗ d ⊗ d ⊖ num 64 ⊗ x1 ⊗ t1 ⊗ t1 ⊗ x2 ⊗ x2 ⊗ y2 ⊗ t2 ⊗ x3 ⊗ d ⊗ d ⊖ num 64
-        ⊗ y1 ⊗ z1 ⊗ t1 ⊗ x2 ⊗ x2 ⊗ x2 ⊗ z2 ⊗ x3 ⊗ d ⊖ num 192 ⊗ y1 ⊗ z1 ⊗ t1 ⊗ x2 ⊗ x2 ⊗ y2 ⊗ z2 ⊗ y3 ⊗ d ⊖ num 192 ⊗ y1
-        ⊗ z1 ⊗ t1 ⊗ x2 ⊗ y2 ⊗ y2 ⊗ z2 ⊗ x3 ⊗ d ⊖ num 64 ⊗ y1 ⊗ z1 ⊗ t1 ⊗ y2 ⊗ y2 ⊗ y2 ⊗ z2 ⊗ y3 ⊗ d ⊖ num 64 ⊗ y1 ⊗ t1 ⊗
-        t1 ⊗ x2 ⊗ y2 ⊗ y2 ⊗ t2 ⊗ x3 ⊗ d ⊗ d ⊖ num 64 ⊗ y1 ⊗ t1 ⊗ t1 ⊗ y2 ⊗ y2 ⊗ y2 ⊗ t2 ⊗ y3 ⊗ d ⊗ d, product_left R,
-        product_right R) ∷
-    (num 64 ⊗ x1 ⊗ z1 ⊗ t1 ⊗ x2 ⊗ y2 ⊗ y2 ⊗ z2 ⊗ x3 ⊗ d ⊕ num 64 ⊗ y1 ⊗ z1 ⊗ t1 ⊗ x2 ⊗ x2 ⊗ y2 ⊗ z2 ⊗ x3 ⊗ d ⊖ num 64 ⊗
-        x1 ⊗ z1 ⊗ t1 ⊗ x2 ⊗ x2 ⊗ y2 ⊗ z2 ⊗ y3 ⊗ d ⊖ num 64 ⊗ x1 ⊗ t1 ⊗ t1 ⊗ x2 ⊗ x2 ⊗ y2 ⊗ t2 ⊗ y3 ⊗ d ⊗ d ⊖ num 64 ⊗ x1
-        ⊗ t1 ⊗ t1 ⊗ x2 ⊗ y2 ⊗ y2 ⊗ t2 ⊗ x3 ⊗ d ⊗ d ⊖ num 64 ⊗ y1 ⊗ z1 ⊗ t1 ⊗ x2 ⊗ y2 ⊗ y2 ⊗ z2 ⊗ y3 ⊗ d ⊖ num 64 ⊗ y1 ⊗
-        t1 ⊗ t1 ⊗ x2 ⊗ x2 ⊗ y2 ⊗ t2 ⊗ x3 ⊗ d ⊗ d ⊖ num 64 ⊗ y1 ⊗ t1 ⊗ t1 ⊗ x2 ⊗ y2 ⊗ y2 ⊗ t2 ⊗ y3 ⊗ d ⊗ d,
-        equation_left R, equation_right d R) ∷ []
+assoc_y_lines = (
+  num 64 ⊗ x1 ⊗ x2 ⊗ x2 ⊗ x2 ⊗ z2 ⊗ y3 ⊗ z3 ⊗ t3 ⊗ d ⊕ num 192 ⊗ x1 ⊗ x2 ⊗ x2 ⊗ y2 ⊗ z2 ⊗ x3 ⊗ z3 ⊗ t3 ⊗ d ⊕ num 64 ⊗
+      x1 ⊗ x2 ⊗ x2 ⊗ y2 ⊗ t2 ⊗ x3 ⊗ t3 ⊗ t3 ⊗ d ⊗ d ⊕ num 192 ⊗ x1 ⊗ x2 ⊗ y2 ⊗ y2 ⊗ z2 ⊗ y3 ⊗ z3 ⊗ t3 ⊗ d ⊕ num 64 ⊗
+      x1 ⊗ x2 ⊗ y2 ⊗ y2 ⊗ t2 ⊗ y3 ⊗ t3 ⊗ t3 ⊗ d ⊗ d ⊕ num 64 ⊗ x1 ⊗ y2 ⊗ y2 ⊗ y2 ⊗ z2 ⊗ x3 ⊗ z3 ⊗ t3 ⊗ d ⊕ num 64 ⊗ y1
+      ⊗ x2 ⊗ x2 ⊗ x2 ⊗ z2 ⊗ x3 ⊗ z3 ⊗ t3 ⊗ d ⊕ num 64 ⊗ y1 ⊗ x2 ⊗ x2 ⊗ x2 ⊗ t2 ⊗ x3 ⊗ t3 ⊗ t3 ⊗ d ⊗ d ⊕ num 192 ⊗ y1 ⊗
+      x2 ⊗ x2 ⊗ y2 ⊗ z2 ⊗ y3 ⊗ z3 ⊗ t3 ⊗ d ⊕ num 192 ⊗ y1 ⊗ x2 ⊗ y2 ⊗ y2 ⊗ z2 ⊗ x3 ⊗ z3 ⊗ t3 ⊗ d ⊕ num 64 ⊗ y1 ⊗ y2 ⊗
+      y2 ⊗ y2 ⊗ z2 ⊗ y3 ⊗ z3 ⊗ t3 ⊗ d ⊕ num 64 ⊗ y1 ⊗ y2 ⊗ y2 ⊗ y2 ⊗ t2 ⊗ y3 ⊗ t3 ⊗ t3 ⊗ d ⊗ d ⊖ num 64 ⊗ x1 ⊗ x2 ⊗ x2
+      ⊗ x2 ⊗ t2 ⊗ y3 ⊗ t3 ⊗ t3 ⊗ d ⊗ d ⊖ num 64 ⊗ x1 ⊗ y2 ⊗ y2 ⊗ y2 ⊗ t2 ⊗ x3 ⊗ t3 ⊗ t3 ⊗ d ⊗ d ⊖ num 64 ⊗ y1 ⊗ x2 ⊗
+      x2 ⊗ y2 ⊗ t2 ⊗ y3 ⊗ t3 ⊗ t3 ⊗ d ⊗ d ⊖ num 64 ⊗ y1 ⊗ x2 ⊗ y2 ⊗ y2 ⊗ t2 ⊗ x3 ⊗ t3 ⊗ t3 ⊗ d ⊗ d,
+  product_left P,
+  product_right P,
+) ∷ (
+  num 64 ⊗ x1 ⊗ x2 ⊗ x2 ⊗ y2 ⊗ t2 ⊗ y3 ⊗ t3 ⊗ t3 ⊗ d ⊗ d ⊕ num 64 ⊗ x1 ⊗ x2 ⊗ y2 ⊗ y2 ⊗ t2 ⊗ x3 ⊗ t3 ⊗ t3 ⊗ d ⊗ d ⊕
+      num 64 ⊗ y1 ⊗ x2 ⊗ x2 ⊗ y2 ⊗ z2 ⊗ x3 ⊗ z3 ⊗ t3 ⊗ d ⊕ num 64 ⊗ y1 ⊗ x2 ⊗ x2 ⊗ y2 ⊗ t2 ⊗ x3 ⊗ t3 ⊗ t3 ⊗ d ⊗ d ⊕
+      num 64 ⊗ y1 ⊗ x2 ⊗ y2 ⊗ y2 ⊗ z2 ⊗ y3 ⊗ z3 ⊗ t3 ⊗ d ⊕ num 64 ⊗ y1 ⊗ x2 ⊗ y2 ⊗ y2 ⊗ t2 ⊗ y3 ⊗ t3 ⊗ t3 ⊗ d ⊗ d ⊖
+      num 64 ⊗ x1 ⊗ x2 ⊗ x2 ⊗ y2 ⊗ z2 ⊗ y3 ⊗ z3 ⊗ t3 ⊗ d ⊖ num 64 ⊗ x1 ⊗ x2 ⊗ y2 ⊗ y2 ⊗ z2 ⊗ x3 ⊗ z3 ⊗ t3 ⊗ d,
+  equation_left P,
+  equation_right d P,
+) ∷ (
+  num 64 ⊗ x1 ⊗ z1 ⊗ z1 ⊗ x2 ⊗ t2 ⊗ y3 ⊗ t3 ⊗ t3 ⊗ d ⊗ d ⊕ num 64 ⊗ x1 ⊗ z1 ⊗ z1 ⊗ y2 ⊗ t2 ⊗ x3 ⊗ t3 ⊗ t3 ⊗ d ⊗ d ⊕
+      num 64 ⊗ x1 ⊗ z1 ⊗ t1 ⊗ y2 ⊗ z2 ⊗ x3 ⊗ z3 ⊗ z3 ⊗ d ⊕ num 64 ⊗ x1 ⊗ z1 ⊗ t1 ⊗ y2 ⊗ z2 ⊗ x3 ⊗ t3 ⊗ t3 ⊗ d ⊗ d ⊕
+      num 64 ⊗ y1 ⊗ z1 ⊗ z1 ⊗ x2 ⊗ z2 ⊗ x3 ⊗ z3 ⊗ t3 ⊗ d ⊕ num 64 ⊗ y1 ⊗ z1 ⊗ z1 ⊗ x2 ⊗ t2 ⊗ x3 ⊗ t3 ⊗ t3 ⊗ d ⊗ d ⊕
+      num 64 ⊗ y1 ⊗ z1 ⊗ z1 ⊗ y2 ⊗ z2 ⊗ y3 ⊗ z3 ⊗ t3 ⊗ d ⊕ num 64 ⊗ y1 ⊗ z1 ⊗ z1 ⊗ y2 ⊗ t2 ⊗ y3 ⊗ t3 ⊗ t3 ⊗ d ⊗ d ⊕
+      num 64 ⊗ y1 ⊗ z1 ⊗ t1 ⊗ x2 ⊗ z2 ⊗ x3 ⊗ z3 ⊗ z3 ⊗ d ⊕ num 64 ⊗ y1 ⊗ z1 ⊗ t1 ⊗ x2 ⊗ z2 ⊗ x3 ⊗ t3 ⊗ t3 ⊗ d ⊗ d ⊕
+      num 64 ⊗ y1 ⊗ t1 ⊗ t1 ⊗ x2 ⊗ z2 ⊗ x3 ⊗ z3 ⊗ t3 ⊗ d ⊗ d ⊕ num 64 ⊗ y1 ⊗ t1 ⊗ t1 ⊗ y2 ⊗ z2 ⊗ y3 ⊗ z3 ⊗ t3 ⊗ d ⊗ d
+      ⊖ num 64 ⊗ x1 ⊗ z1 ⊗ z1 ⊗ x2 ⊗ z2 ⊗ y3 ⊗ z3 ⊗ t3 ⊗ d ⊖ num 64 ⊗ x1 ⊗ z1 ⊗ z1 ⊗ y2 ⊗ z2 ⊗ x3 ⊗ z3 ⊗ t3 ⊗ d ⊖ num
+      64 ⊗ x1 ⊗ z1 ⊗ t1 ⊗ x2 ⊗ z2 ⊗ y3 ⊗ z3 ⊗ z3 ⊗ d ⊖ num 64 ⊗ x1 ⊗ z1 ⊗ t1 ⊗ x2 ⊗ z2 ⊗ y3 ⊗ t3 ⊗ t3 ⊗ d ⊗ d ⊖ num 64
+      ⊗ x1 ⊗ t1 ⊗ t1 ⊗ x2 ⊗ z2 ⊗ y3 ⊗ z3 ⊗ t3 ⊗ d ⊗ d ⊖ num 64 ⊗ x1 ⊗ t1 ⊗ t1 ⊗ x2 ⊗ t2 ⊗ y3 ⊗ z3 ⊗ z3 ⊗ d ⊗ d ⊖ num
+      64 ⊗ x1 ⊗ t1 ⊗ t1 ⊗ y2 ⊗ z2 ⊗ x3 ⊗ z3 ⊗ t3 ⊗ d ⊗ d ⊖ num 64 ⊗ x1 ⊗ t1 ⊗ t1 ⊗ y2 ⊗ t2 ⊗ x3 ⊗ z3 ⊗ z3 ⊗ d ⊗ d ⊖
+      num 64 ⊗ y1 ⊗ z1 ⊗ t1 ⊗ y2 ⊗ z2 ⊗ y3 ⊗ z3 ⊗ z3 ⊗ d ⊖ num 64 ⊗ y1 ⊗ z1 ⊗ t1 ⊗ y2 ⊗ z2 ⊗ y3 ⊗ t3 ⊗ t3 ⊗ d ⊗ d ⊖
+      num 64 ⊗ y1 ⊗ t1 ⊗ t1 ⊗ x2 ⊗ t2 ⊗ x3 ⊗ z3 ⊗ z3 ⊗ d ⊗ d ⊖ num 64 ⊗ y1 ⊗ t1 ⊗ t1 ⊗ y2 ⊗ t2 ⊗ y3 ⊗ z3 ⊗ z3 ⊗ d ⊗ d,
+  product_left Q,
+  product_right Q,
+) ∷ (
+  num 64 ⊗ x1 ⊗ z1 ⊗ t1 ⊗ x2 ⊗ t2 ⊗ y3 ⊗ t3 ⊗ t3 ⊗ d ⊗ d ⊕ num 64 ⊗ x1 ⊗ t1 ⊗ t1 ⊗ x2 ⊗ t2 ⊗ y3 ⊗ z3 ⊗ t3 ⊗ d ⊗ d ⊕
+      num 64 ⊗ x1 ⊗ t1 ⊗ t1 ⊗ y2 ⊗ t2 ⊗ x3 ⊗ z3 ⊗ t3 ⊗ d ⊗ d ⊕ num 64 ⊗ y1 ⊗ z1 ⊗ t1 ⊗ y2 ⊗ t2 ⊗ y3 ⊗ t3 ⊗ t3 ⊗ d ⊗ d
+      ⊖ num 64 ⊗ x1 ⊗ z1 ⊗ t1 ⊗ y2 ⊗ t2 ⊗ x3 ⊗ t3 ⊗ t3 ⊗ d ⊗ d ⊖ num 64 ⊗ y1 ⊗ z1 ⊗ t1 ⊗ x2 ⊗ t2 ⊗ x3 ⊗ t3 ⊗ t3 ⊗ d ⊗
+      d ⊖ num 64 ⊗ y1 ⊗ t1 ⊗ t1 ⊗ x2 ⊗ t2 ⊗ x3 ⊗ z3 ⊗ t3 ⊗ d ⊗ d ⊖ num 64 ⊗ y1 ⊗ t1 ⊗ t1 ⊗ y2 ⊗ t2 ⊗ y3 ⊗ z3 ⊗ t3 ⊗ d
+      ⊗ d,
+  equation_left Q,
+  equation_right d Q,
+) ∷ (
+  num 64 ⊗ x1 ⊗ t1 ⊗ t1 ⊗ x2 ⊗ y2 ⊗ y2 ⊗ t2 ⊗ y3 ⊗ d ⊗ d ⊕ num 64 ⊗ x1 ⊗ t1 ⊗ t1 ⊗ y2 ⊗ y2 ⊗ y2 ⊗ t2 ⊗ x3 ⊗ d ⊗ d ⊕
+      num 64 ⊗ y1 ⊗ t1 ⊗ t1 ⊗ x2 ⊗ x2 ⊗ x2 ⊗ t2 ⊗ x3 ⊗ d ⊗ d ⊕ num 64 ⊗ y1 ⊗ t1 ⊗ t1 ⊗ x2 ⊗ x2 ⊗ y2 ⊗ t2 ⊗ y3 ⊗ d ⊗ d
+      ⊖ num 64 ⊗ x1 ⊗ z1 ⊗ t1 ⊗ x2 ⊗ x2 ⊗ x2 ⊗ z2 ⊗ y3 ⊗ d ⊖ num 192 ⊗ x1 ⊗ z1 ⊗ t1 ⊗ x2 ⊗ x2 ⊗ y2 ⊗ z2 ⊗ x3 ⊗ d ⊖ num
+      192 ⊗ x1 ⊗ z1 ⊗ t1 ⊗ x2 ⊗ y2 ⊗ y2 ⊗ z2 ⊗ y3 ⊗ d ⊖ num 64 ⊗ x1 ⊗ z1 ⊗ t1 ⊗ y2 ⊗ y2 ⊗ y2 ⊗ z2 ⊗ x3 ⊗ d ⊖ num 64 ⊗
+      x1 ⊗ t1 ⊗ t1 ⊗ x2 ⊗ x2 ⊗ x2 ⊗ t2 ⊗ y3 ⊗ d ⊗ d ⊖ num 64 ⊗ x1 ⊗ t1 ⊗ t1 ⊗ x2 ⊗ x2 ⊗ y2 ⊗ t2 ⊗ x3 ⊗ d ⊗ d ⊖ num 64
+      ⊗ y1 ⊗ z1 ⊗ t1 ⊗ x2 ⊗ x2 ⊗ x2 ⊗ z2 ⊗ x3 ⊗ d ⊖ num 192 ⊗ y1 ⊗ z1 ⊗ t1 ⊗ x2 ⊗ x2 ⊗ y2 ⊗ z2 ⊗ y3 ⊗ d ⊖ num 192 ⊗ y1
+      ⊗ z1 ⊗ t1 ⊗ x2 ⊗ y2 ⊗ y2 ⊗ z2 ⊗ x3 ⊗ d ⊖ num 64 ⊗ y1 ⊗ z1 ⊗ t1 ⊗ y2 ⊗ y2 ⊗ y2 ⊗ z2 ⊗ y3 ⊗ d ⊖ num 64 ⊗ y1 ⊗ t1 ⊗
+      t1 ⊗ x2 ⊗ y2 ⊗ y2 ⊗ t2 ⊗ x3 ⊗ d ⊗ d ⊖ num 64 ⊗ y1 ⊗ t1 ⊗ t1 ⊗ y2 ⊗ y2 ⊗ y2 ⊗ t2 ⊗ y3 ⊗ d ⊗ d,
+  product_left R,
+  product_right R,
+) ∷ (
+  num 64 ⊗ x1 ⊗ z1 ⊗ t1 ⊗ x2 ⊗ y2 ⊗ y2 ⊗ z2 ⊗ x3 ⊗ d ⊕ num 64 ⊗ y1 ⊗ z1 ⊗ t1 ⊗ x2 ⊗ x2 ⊗ y2 ⊗ z2 ⊗ x3 ⊗ d ⊖ num 64 ⊗
+      x1 ⊗ z1 ⊗ t1 ⊗ x2 ⊗ x2 ⊗ y2 ⊗ z2 ⊗ y3 ⊗ d ⊖ num 64 ⊗ x1 ⊗ t1 ⊗ t1 ⊗ x2 ⊗ x2 ⊗ y2 ⊗ t2 ⊗ y3 ⊗ d ⊗ d ⊖ num 64 ⊗ x1
+      ⊗ t1 ⊗ t1 ⊗ x2 ⊗ y2 ⊗ y2 ⊗ t2 ⊗ x3 ⊗ d ⊗ d ⊖ num 64 ⊗ y1 ⊗ z1 ⊗ t1 ⊗ x2 ⊗ y2 ⊗ y2 ⊗ z2 ⊗ y3 ⊗ d ⊖ num 64 ⊗ y1 ⊗
+      t1 ⊗ t1 ⊗ x2 ⊗ x2 ⊗ y2 ⊗ t2 ⊗ x3 ⊗ d ⊗ d ⊖ num 64 ⊗ y1 ⊗ t1 ⊗ t1 ⊗ x2 ⊗ y2 ⊗ y2 ⊗ t2 ⊗ y3 ⊗ d ⊗ d,
+  equation_left R,
+  equation_right d R,
+) ∷ []
 
 pub assoc_y : is_identity assoc_y_left assoc_y_right assoc_y_lines ≡ true
 unfolding is_identity
@@ -186,30 +212,41 @@ abbrev pub sum_equation_right : Term
 sum_equation_right = equation_right d (sum_terms k P Q)
 
 abbrev pub sum_equation_lines : List (Term × Term × Term)
-sum_equation_lines =
-    (num 128 ⊗ z1 ⊗ t1 ⊗ x2 ⊗ y2 ⊗ z2 ⊗ t2 ⊗ d ⊖ num 64 ⊗ x1 ⊗ x1 ⊗ x2 ⊗ x2 ⊗ x2 ⊗ y2 ⊗ d ⊖ num 64 ⊗ x1 ⊗ x1 ⊗ x2 ⊗ y2 ⊗
-        y2 ⊗ y2 ⊗ d ⊖ num 16 ⊗ x1 ⊗ y1 ⊗ x2 ⊗ x2 ⊗ x2 ⊗ x2 ⊗ d ⊖ num 96 ⊗ x1 ⊗ y1 ⊗ x2 ⊗ x2 ⊗ y2 ⊗ y2 ⊗ d ⊖ num 16 ⊗ x1
-        ⊗ y1 ⊗ y2 ⊗ y2 ⊗ y2 ⊗ y2 ⊗ d ⊖ num 32 ⊗ z1 ⊗ z1 ⊗ x2 ⊗ x2 ⊗ x2 ⊗ y2 ⊗ d ⊖ num 32 ⊗ z1 ⊗ z1 ⊗ x2 ⊗ y2 ⊗ y2 ⊗ y2 ⊗
-        d ⊖ num 16 ⊗ z1 ⊗ t1 ⊗ x2 ⊗ x2 ⊗ x2 ⊗ x2 ⊗ d ⊖ num 96 ⊗ z1 ⊗ t1 ⊗ x2 ⊗ x2 ⊗ y2 ⊗ y2 ⊗ d ⊖ num 16 ⊗ z1 ⊗ t1 ⊗ y2
-        ⊗ y2 ⊗ y2 ⊗ y2 ⊗ d ⊖ num 32 ⊗ t1 ⊗ t1 ⊗ x2 ⊗ x2 ⊗ x2 ⊗ y2 ⊗ d ⊗ d ⊖ num 32 ⊗ t1 ⊗ t1 ⊗ x2 ⊗ y2 ⊗ y2 ⊗ y2 ⊗ d ⊗
-        d, product_left P, product_right P) ∷
-    (num 16 ⊗ x1 ⊗ x1 ⊗ x2 ⊗ x2 ⊗ y2 ⊗ y2 ⊗ d ⊕ num 16 ⊗ z1 ⊗ z1 ⊗ y2 ⊗ y2 ⊗ z2 ⊗ z2 ⊕ num 32 ⊗ z1 ⊗ t1 ⊗ x2 ⊗ x2 ⊗ z2 ⊗
-        t2 ⊗ d ⊕ num 32 ⊗ z1 ⊗ t1 ⊗ y2 ⊗ y2 ⊗ z2 ⊗ t2 ⊗ d ⊕ num 16 ⊗ t1 ⊗ t1 ⊗ y2 ⊗ y2 ⊗ t2 ⊗ t2 ⊗ d ⊗ d ⊖ num 32 ⊗ x1 ⊗
-        y1 ⊗ x2 ⊗ x2 ⊗ x2 ⊗ y2 ⊗ d ⊖ num 32 ⊗ x1 ⊗ y1 ⊗ x2 ⊗ y2 ⊗ y2 ⊗ y2 ⊗ d ⊖ num 16 ⊗ y1 ⊗ y1 ⊗ x2 ⊗ x2 ⊗ y2 ⊗ y2 ⊗ d
-        ⊖ num 16 ⊗ z1 ⊗ z1 ⊗ x2 ⊗ x2 ⊗ y2 ⊗ y2 ⊗ d ⊖ num 16 ⊗ z1 ⊗ z1 ⊗ x2 ⊗ x2 ⊗ z2 ⊗ z2 ⊖ num 16 ⊗ t1 ⊗ t1 ⊗ x2 ⊗ x2 ⊗
-        y2 ⊗ y2 ⊗ d ⊗ d ⊖ num 16 ⊗ t1 ⊗ t1 ⊗ x2 ⊗ x2 ⊗ t2 ⊗ t2 ⊗ d ⊗ d, equation_left P, equation_right d P) ∷
-    (num 0 ⊖ num 128 ⊗ x1 ⊗ x1 ⊗ z1 ⊗ t1 ⊗ x2 ⊗ x2 ⊗ d ⊖ num 64 ⊗ x1 ⊗ x1 ⊗ z1 ⊗ t1 ⊗ z2 ⊗ z2 ⊗ d ⊖ num 64 ⊗ x1 ⊗ x1 ⊗
-        z1 ⊗ t1 ⊗ t2 ⊗ t2 ⊗ d ⊗ d ⊖ num 16 ⊗ z1 ⊗ z1 ⊗ z1 ⊗ z1 ⊗ x2 ⊗ y2 ⊗ d ⊖ num 16 ⊗ z1 ⊗ z1 ⊗ z1 ⊗ z1 ⊗ z2 ⊗ t2 ⊗ d
-        ⊖ num 64 ⊗ z1 ⊗ z1 ⊗ z1 ⊗ t1 ⊗ x2 ⊗ x2 ⊗ d ⊖ num 32 ⊗ z1 ⊗ z1 ⊗ z1 ⊗ t1 ⊗ z2 ⊗ z2 ⊗ d ⊖ num 32 ⊗ z1 ⊗ z1 ⊗ z1 ⊗
-        t1 ⊗ t2 ⊗ t2 ⊗ d ⊗ d ⊖ num 32 ⊗ z1 ⊗ z1 ⊗ t1 ⊗ t1 ⊗ x2 ⊗ y2 ⊗ d ⊗ d ⊖ num 128 ⊗ z1 ⊗ z1 ⊗ t1 ⊗ t1 ⊗ x2 ⊗ y2 ⊗ d
-        ⊖ num 32 ⊗ z1 ⊗ z1 ⊗ t1 ⊗ t1 ⊗ z2 ⊗ t2 ⊗ d ⊗ d ⊖ num 64 ⊗ z1 ⊗ t1 ⊗ t1 ⊗ t1 ⊗ x2 ⊗ x2 ⊗ d ⊗ d ⊖ num 32 ⊗ z1 ⊗ t1
-        ⊗ t1 ⊗ t1 ⊗ z2 ⊗ z2 ⊗ d ⊗ d ⊖ num 32 ⊗ z1 ⊗ t1 ⊗ t1 ⊗ t1 ⊗ t2 ⊗ t2 ⊗ d ⊗ d ⊗ d ⊖ num 16 ⊗ t1 ⊗ t1 ⊗ t1 ⊗ t1 ⊗ x2
-        ⊗ y2 ⊗ d ⊗ d ⊗ d ⊖ num 16 ⊗ t1 ⊗ t1 ⊗ t1 ⊗ t1 ⊗ z2 ⊗ t2 ⊗ d ⊗ d ⊗ d, product_left Q, product_right Q) ∷
-    (num 64 ⊗ x1 ⊗ x1 ⊗ z1 ⊗ t1 ⊗ z2 ⊗ t2 ⊗ d ⊕ num 16 ⊗ z1 ⊗ z1 ⊗ z1 ⊗ z1 ⊗ z2 ⊗ z2 ⊕ num 32 ⊗ z1 ⊗ z1 ⊗ z1 ⊗ t1 ⊗ z2 ⊗
-        t2 ⊗ d ⊕ num 16 ⊗ z1 ⊗ z1 ⊗ t1 ⊗ t1 ⊗ x2 ⊗ x2 ⊗ d ⊕ num 32 ⊗ z1 ⊗ t1 ⊗ t1 ⊗ t1 ⊗ z2 ⊗ t2 ⊗ d ⊗ d ⊕ num 16 ⊗ t1 ⊗
-        t1 ⊗ t1 ⊗ t1 ⊗ t2 ⊗ t2 ⊗ d ⊗ d ⊗ d ⊖ num 64 ⊗ x1 ⊗ x1 ⊗ z1 ⊗ t1 ⊗ x2 ⊗ y2 ⊗ d ⊖ num 32 ⊗ z1 ⊗ z1 ⊗ z1 ⊗ t1 ⊗ x2
-        ⊗ y2 ⊗ d ⊖ num 16 ⊗ z1 ⊗ z1 ⊗ t1 ⊗ t1 ⊗ y2 ⊗ y2 ⊗ d ⊖ num 32 ⊗ z1 ⊗ t1 ⊗ t1 ⊗ t1 ⊗ x2 ⊗ y2 ⊗ d ⊗ d,
-        equation_left Q, equation_right d Q) ∷ []
+sum_equation_lines = (
+  num 128 ⊗ z1 ⊗ t1 ⊗ x2 ⊗ y2 ⊗ z2 ⊗ t2 ⊗ d ⊖ num 64 ⊗ x1 ⊗ x1 ⊗ x2 ⊗ x2 ⊗ x2 ⊗ y2 ⊗ d ⊖ num 64 ⊗ x1 ⊗ x1 ⊗ x2 ⊗ y2 ⊗
+      y2 ⊗ y2 ⊗ d ⊖ num 16 ⊗ x1 ⊗ y1 ⊗ x2 ⊗ x2 ⊗ x2 ⊗ x2 ⊗ d ⊖ num 96 ⊗ x1 ⊗ y1 ⊗ x2 ⊗ x2 ⊗ y2 ⊗ y2 ⊗ d ⊖ num 16 ⊗ x1
+      ⊗ y1 ⊗ y2 ⊗ y2 ⊗ y2 ⊗ y2 ⊗ d ⊖ num 32 ⊗ z1 ⊗ z1 ⊗ x2 ⊗ x2 ⊗ x2 ⊗ y2 ⊗ d ⊖ num 32 ⊗ z1 ⊗ z1 ⊗ x2 ⊗ y2 ⊗ y2 ⊗ y2 ⊗
+      d ⊖ num 16 ⊗ z1 ⊗ t1 ⊗ x2 ⊗ x2 ⊗ x2 ⊗ x2 ⊗ d ⊖ num 96 ⊗ z1 ⊗ t1 ⊗ x2 ⊗ x2 ⊗ y2 ⊗ y2 ⊗ d ⊖ num 16 ⊗ z1 ⊗ t1 ⊗ y2
+      ⊗ y2 ⊗ y2 ⊗ y2 ⊗ d ⊖ num 32 ⊗ t1 ⊗ t1 ⊗ x2 ⊗ x2 ⊗ x2 ⊗ y2 ⊗ d ⊗ d ⊖ num 32 ⊗ t1 ⊗ t1 ⊗ x2 ⊗ y2 ⊗ y2 ⊗ y2 ⊗ d ⊗
+      d,
+  product_left P,
+  product_right P,
+) ∷ (
+  num 16 ⊗ x1 ⊗ x1 ⊗ x2 ⊗ x2 ⊗ y2 ⊗ y2 ⊗ d ⊕ num 16 ⊗ z1 ⊗ z1 ⊗ y2 ⊗ y2 ⊗ z2 ⊗ z2 ⊕ num 32 ⊗ z1 ⊗ t1 ⊗ x2 ⊗ x2 ⊗ z2 ⊗
+      t2 ⊗ d ⊕ num 32 ⊗ z1 ⊗ t1 ⊗ y2 ⊗ y2 ⊗ z2 ⊗ t2 ⊗ d ⊕ num 16 ⊗ t1 ⊗ t1 ⊗ y2 ⊗ y2 ⊗ t2 ⊗ t2 ⊗ d ⊗ d ⊖ num 32 ⊗ x1 ⊗
+      y1 ⊗ x2 ⊗ x2 ⊗ x2 ⊗ y2 ⊗ d ⊖ num 32 ⊗ x1 ⊗ y1 ⊗ x2 ⊗ y2 ⊗ y2 ⊗ y2 ⊗ d ⊖ num 16 ⊗ y1 ⊗ y1 ⊗ x2 ⊗ x2 ⊗ y2 ⊗ y2 ⊗ d
+      ⊖ num 16 ⊗ z1 ⊗ z1 ⊗ x2 ⊗ x2 ⊗ y2 ⊗ y2 ⊗ d ⊖ num 16 ⊗ z1 ⊗ z1 ⊗ x2 ⊗ x2 ⊗ z2 ⊗ z2 ⊖ num 16 ⊗ t1 ⊗ t1 ⊗ x2 ⊗ x2 ⊗
+      y2 ⊗ y2 ⊗ d ⊗ d ⊖ num 16 ⊗ t1 ⊗ t1 ⊗ x2 ⊗ x2 ⊗ t2 ⊗ t2 ⊗ d ⊗ d,
+  equation_left P,
+  equation_right d P,
+) ∷ (
+  num 0 ⊖ num 128 ⊗ x1 ⊗ x1 ⊗ z1 ⊗ t1 ⊗ x2 ⊗ x2 ⊗ d ⊖ num 64 ⊗ x1 ⊗ x1 ⊗ z1 ⊗ t1 ⊗ z2 ⊗ z2 ⊗ d ⊖ num 64 ⊗ x1 ⊗ x1 ⊗
+      z1 ⊗ t1 ⊗ t2 ⊗ t2 ⊗ d ⊗ d ⊖ num 16 ⊗ z1 ⊗ z1 ⊗ z1 ⊗ z1 ⊗ x2 ⊗ y2 ⊗ d ⊖ num 16 ⊗ z1 ⊗ z1 ⊗ z1 ⊗ z1 ⊗ z2 ⊗ t2 ⊗ d
+      ⊖ num 64 ⊗ z1 ⊗ z1 ⊗ z1 ⊗ t1 ⊗ x2 ⊗ x2 ⊗ d ⊖ num 32 ⊗ z1 ⊗ z1 ⊗ z1 ⊗ t1 ⊗ z2 ⊗ z2 ⊗ d ⊖ num 32 ⊗ z1 ⊗ z1 ⊗ z1 ⊗
+      t1 ⊗ t2 ⊗ t2 ⊗ d ⊗ d ⊖ num 32 ⊗ z1 ⊗ z1 ⊗ t1 ⊗ t1 ⊗ x2 ⊗ y2 ⊗ d ⊗ d ⊖ num 128 ⊗ z1 ⊗ z1 ⊗ t1 ⊗ t1 ⊗ x2 ⊗ y2 ⊗ d
+      ⊖ num 32 ⊗ z1 ⊗ z1 ⊗ t1 ⊗ t1 ⊗ z2 ⊗ t2 ⊗ d ⊗ d ⊖ num 64 ⊗ z1 ⊗ t1 ⊗ t1 ⊗ t1 ⊗ x2 ⊗ x2 ⊗ d ⊗ d ⊖ num 32 ⊗ z1 ⊗ t1
+      ⊗ t1 ⊗ t1 ⊗ z2 ⊗ z2 ⊗ d ⊗ d ⊖ num 32 ⊗ z1 ⊗ t1 ⊗ t1 ⊗ t1 ⊗ t2 ⊗ t2 ⊗ d ⊗ d ⊗ d ⊖ num 16 ⊗ t1 ⊗ t1 ⊗ t1 ⊗ t1 ⊗ x2
+      ⊗ y2 ⊗ d ⊗ d ⊗ d ⊖ num 16 ⊗ t1 ⊗ t1 ⊗ t1 ⊗ t1 ⊗ z2 ⊗ t2 ⊗ d ⊗ d ⊗ d,
+  product_left Q,
+  product_right Q,
+) ∷ (
+  num 64 ⊗ x1 ⊗ x1 ⊗ z1 ⊗ t1 ⊗ z2 ⊗ t2 ⊗ d ⊕ num 16 ⊗ z1 ⊗ z1 ⊗ z1 ⊗ z1 ⊗ z2 ⊗ z2 ⊕ num 32 ⊗ z1 ⊗ z1 ⊗ z1 ⊗ t1 ⊗ z2 ⊗
+      t2 ⊗ d ⊕ num 16 ⊗ z1 ⊗ z1 ⊗ t1 ⊗ t1 ⊗ x2 ⊗ x2 ⊗ d ⊕ num 32 ⊗ z1 ⊗ t1 ⊗ t1 ⊗ t1 ⊗ z2 ⊗ t2 ⊗ d ⊗ d ⊕ num 16 ⊗ t1 ⊗
+      t1 ⊗ t1 ⊗ t1 ⊗ t2 ⊗ t2 ⊗ d ⊗ d ⊗ d ⊖ num 64 ⊗ x1 ⊗ x1 ⊗ z1 ⊗ t1 ⊗ x2 ⊗ y2 ⊗ d ⊖ num 32 ⊗ z1 ⊗ z1 ⊗ z1 ⊗ t1 ⊗ x2
+      ⊗ y2 ⊗ d ⊖ num 16 ⊗ z1 ⊗ z1 ⊗ t1 ⊗ t1 ⊗ y2 ⊗ y2 ⊗ d ⊖ num 32 ⊗ z1 ⊗ t1 ⊗ t1 ⊗ t1 ⊗ x2 ⊗ y2 ⊗ d ⊗ d,
+  equation_left Q,
+  equation_right d Q,
+) ∷ []
 
 pub sum_equation : is_identity sum_equation_left sum_equation_right sum_equation_lines ≡ true
 unfolding is_identity
@@ -437,18 +474,23 @@ abbrev pub double_equation_right : Term
 double_equation_right = equation_right d (double_terms P)
 
 abbrev pub double_equation_lines : List (Term × Term × Term)
-double_equation_lines =
-    (num 0 ⊖ num 16 ⊗ x1 ⊗ x1 ⊗ x1 ⊗ x1 ⊗ x1 ⊗ y1 ⊗ d ⊖ num 16 ⊗ x1 ⊗ x1 ⊗ x1 ⊗ x1 ⊗ z1 ⊗ t1 ⊗ d ⊖ num 16 ⊗ x1 ⊗ x1 ⊗ x1
-        ⊗ y1 ⊗ z1 ⊗ z1 ⊗ d ⊖ num 16 ⊗ x1 ⊗ x1 ⊗ x1 ⊗ y1 ⊗ t1 ⊗ t1 ⊗ d ⊗ d ⊖ num 16 ⊗ x1 ⊗ x1 ⊗ z1 ⊗ z1 ⊗ z1 ⊗ t1 ⊗ d ⊖
-        num 16 ⊗ x1 ⊗ x1 ⊗ z1 ⊗ t1 ⊗ t1 ⊗ t1 ⊗ d ⊗ d ⊖ num 4 ⊗ x1 ⊗ y1 ⊗ z1 ⊗ z1 ⊗ z1 ⊗ z1 ⊗ d ⊖ num 8 ⊗ x1 ⊗ y1 ⊗ z1 ⊗
-        z1 ⊗ t1 ⊗ t1 ⊗ d ⊗ d ⊖ num 4 ⊗ x1 ⊗ y1 ⊗ t1 ⊗ t1 ⊗ t1 ⊗ t1 ⊗ d ⊗ d ⊗ d ⊖ num 4 ⊗ z1 ⊗ z1 ⊗ z1 ⊗ z1 ⊗ z1 ⊗ t1 ⊗ d
-        ⊖ num 8 ⊗ z1 ⊗ z1 ⊗ z1 ⊗ t1 ⊗ t1 ⊗ t1 ⊗ d ⊗ d ⊖ num 4 ⊗ z1 ⊗ t1 ⊗ t1 ⊗ t1 ⊗ t1 ⊗ t1 ⊗ d ⊗ d ⊗ d, product_left P,
-        product_right P) ∷
-    (num 4 ⊗ x1 ⊗ x1 ⊗ x1 ⊗ x1 ⊗ z1 ⊗ z1 ⊕ num 8 ⊗ x1 ⊗ x1 ⊗ y1 ⊗ y1 ⊗ z1 ⊗ z1 ⊕ num 12 ⊗ x1 ⊗ x1 ⊗ z1 ⊗ z1 ⊗ t1 ⊗ t1 ⊗
-        d ⊕ num 4 ⊗ y1 ⊗ y1 ⊗ y1 ⊗ y1 ⊗ z1 ⊗ z1 ⊕ num 4 ⊗ y1 ⊗ y1 ⊗ z1 ⊗ z1 ⊗ t1 ⊗ t1 ⊗ d ⊕ num 4 ⊗ z1 ⊗ z1 ⊗ z1 ⊗ z1 ⊗
-        t1 ⊗ t1 ⊗ d ⊕ num 4 ⊗ z1 ⊗ z1 ⊗ t1 ⊗ t1 ⊗ t1 ⊗ t1 ⊗ d ⊗ d ⊖ num 12 ⊗ x1 ⊗ x1 ⊗ x1 ⊗ x1 ⊗ y1 ⊗ y1 ⊗ d ⊖ num 4 ⊗
-        x1 ⊗ x1 ⊗ y1 ⊗ y1 ⊗ y1 ⊗ y1 ⊗ d ⊖ num 4 ⊗ x1 ⊗ x1 ⊗ y1 ⊗ y1 ⊗ z1 ⊗ z1 ⊗ d ⊖ num 4 ⊗ x1 ⊗ x1 ⊗ y1 ⊗ y1 ⊗ t1 ⊗ t1
-        ⊗ d ⊗ d, equation_left P, equation_right d P) ∷ []
+double_equation_lines = (
+  num 0 ⊖ num 16 ⊗ x1 ⊗ x1 ⊗ x1 ⊗ x1 ⊗ x1 ⊗ y1 ⊗ d ⊖ num 16 ⊗ x1 ⊗ x1 ⊗ x1 ⊗ x1 ⊗ z1 ⊗ t1 ⊗ d ⊖ num 16 ⊗ x1 ⊗ x1 ⊗ x1
+      ⊗ y1 ⊗ z1 ⊗ z1 ⊗ d ⊖ num 16 ⊗ x1 ⊗ x1 ⊗ x1 ⊗ y1 ⊗ t1 ⊗ t1 ⊗ d ⊗ d ⊖ num 16 ⊗ x1 ⊗ x1 ⊗ z1 ⊗ z1 ⊗ z1 ⊗ t1 ⊗ d ⊖
+      num 16 ⊗ x1 ⊗ x1 ⊗ z1 ⊗ t1 ⊗ t1 ⊗ t1 ⊗ d ⊗ d ⊖ num 4 ⊗ x1 ⊗ y1 ⊗ z1 ⊗ z1 ⊗ z1 ⊗ z1 ⊗ d ⊖ num 8 ⊗ x1 ⊗ y1 ⊗ z1 ⊗
+      z1 ⊗ t1 ⊗ t1 ⊗ d ⊗ d ⊖ num 4 ⊗ x1 ⊗ y1 ⊗ t1 ⊗ t1 ⊗ t1 ⊗ t1 ⊗ d ⊗ d ⊗ d ⊖ num 4 ⊗ z1 ⊗ z1 ⊗ z1 ⊗ z1 ⊗ z1 ⊗ t1 ⊗ d
+      ⊖ num 8 ⊗ z1 ⊗ z1 ⊗ z1 ⊗ t1 ⊗ t1 ⊗ t1 ⊗ d ⊗ d ⊖ num 4 ⊗ z1 ⊗ t1 ⊗ t1 ⊗ t1 ⊗ t1 ⊗ t1 ⊗ d ⊗ d ⊗ d,
+  product_left P,
+  product_right P,
+) ∷ (
+  num 4 ⊗ x1 ⊗ x1 ⊗ x1 ⊗ x1 ⊗ z1 ⊗ z1 ⊕ num 8 ⊗ x1 ⊗ x1 ⊗ y1 ⊗ y1 ⊗ z1 ⊗ z1 ⊕ num 12 ⊗ x1 ⊗ x1 ⊗ z1 ⊗ z1 ⊗ t1 ⊗ t1 ⊗
+      d ⊕ num 4 ⊗ y1 ⊗ y1 ⊗ y1 ⊗ y1 ⊗ z1 ⊗ z1 ⊕ num 4 ⊗ y1 ⊗ y1 ⊗ z1 ⊗ z1 ⊗ t1 ⊗ t1 ⊗ d ⊕ num 4 ⊗ z1 ⊗ z1 ⊗ z1 ⊗ z1 ⊗
+      t1 ⊗ t1 ⊗ d ⊕ num 4 ⊗ z1 ⊗ z1 ⊗ t1 ⊗ t1 ⊗ t1 ⊗ t1 ⊗ d ⊗ d ⊖ num 12 ⊗ x1 ⊗ x1 ⊗ x1 ⊗ x1 ⊗ y1 ⊗ y1 ⊗ d ⊖ num 4 ⊗
+      x1 ⊗ x1 ⊗ y1 ⊗ y1 ⊗ y1 ⊗ y1 ⊗ d ⊖ num 4 ⊗ x1 ⊗ x1 ⊗ y1 ⊗ y1 ⊗ z1 ⊗ z1 ⊗ d ⊖ num 4 ⊗ x1 ⊗ x1 ⊗ y1 ⊗ y1 ⊗ t1 ⊗ t1
+      ⊗ d ⊗ d,
+  equation_left P,
+  equation_right d P,
+) ∷ []
 
 pub double_equation : is_identity double_equation_left double_equation_right double_equation_lines ≡ true
 unfolding is_identity

@@ -74,11 +74,14 @@ module _ (p d : ℕ) (field : IsField p) where
       minus_none p positive a b
       (other_factor c (minus p a b) n
       (follows p positive I.less_same_left I.less_same_right I.less_same_lines (env (four c a b 0) nil nil 0 0)
-          I.less_same (h, tt)))
+      I.less_same (h, tt)))
 
   eight : Alike p 8 0 → ⊥
-  eight h = elim (field.factor 2 4 h) [ inl l ↦ field.two l | inr r ↦ elim
-      (field.factor 2 2 r) [ inl l ↦ field.two l | inr l ↦ field.two l ] ]
+  eight h = elim (field.factor 2 4 h) [
+    | inl l ↦ field.two l
+    | inr r ↦ elim
+        (field.factor 2 2 r) [ inl l ↦ field.two l | inr l ↦ field.two l ]
+  ]
 
   same_products : (e f g h e' f' g' h' : ℕ) → Alike p (times p e g') (times p e' g) → Alike p (times p h f') (times p h' f)
       → AreSame p (products p e f g h) (products p e' f' g' h')
@@ -92,7 +95,7 @@ module _ (p d : ℕ) (field : IsField p) where
 
   assoc_x : (P Q R : Point) → IsPoint p d P → IsPoint p d Q → IsPoint p d R
       → Alike p (times p (e_of p (sum P Q) R) (g_of p twice_of P (sum Q R)))
-          (times p (e_of p P (sum Q R)) (g_of p twice_of (sum P Q) R))
+      (times p (e_of p P (sum Q R)) (g_of p twice_of (sum P Q) R))
   unfolding sum_of products value
   assoc_x P Q R a b c =
       follows p positive I.assoc_x_left I.assoc_x_right I.assoc_x_lines (env P Q R d 0) I.assoc_x
@@ -100,7 +103,7 @@ module _ (p d : ℕ) (field : IsField p) where
 
   assoc_y : (P Q R : Point) → IsPoint p d P → IsPoint p d Q → IsPoint p d R
       → Alike p (times p (h_of p (sum P Q) R) (f_of p twice_of P (sum Q R)))
-          (times p (h_of p P (sum Q R)) (f_of p twice_of (sum P Q) R))
+      (times p (h_of p P (sum Q R)) (f_of p twice_of (sum P Q) R))
   unfolding sum_of products value
   assoc_y P Q R a b c =
       follows p positive I.assoc_y_left I.assoc_y_right I.assoc_y_lines (env P Q R d 0) I.assoc_y
@@ -197,7 +200,7 @@ module _ (p d : ℕ) (field : IsField p) where
       exact_times _ _ _ _
       (cancel z2 (times p x1 z3) (times p x3 z1) n
       (follows p positive I.along_left I.along_right I.along_lines
-          (env (four x1 0 z1 0) (four x2 0 z2 0) (four x3 0 z3 0) d 0) I.along
+      (env (four x1 0 z1 0) (four x2 0 z2 0) (four x3 0 z3 0) d 0) I.along
       (alike _ _ e, (alike _ _ f, tt))))
 
   pub AreSame-trans : (P Q R : Point) → IsPoint p d Q → AreSame p P Q → AreSame p Q R → AreSame p P R
@@ -254,18 +257,20 @@ module _ (p d : ℕ) (field : IsField p) where
     f-apart P Q a b w =
         let v : ℕ → ℕ = env P Q nil d curve.root in
         let one = curve.nonsquare _ _ (follows p positive I.complete_plus_one_left I.complete_plus_one_right
-            I.complete_plus_one_lines v I.complete_plus_one
+        I.complete_plus_one_lines v I.complete_plus_one
         (a.product, (a.equation, (b.product, (b.equation, (curve.root_is, (w, tt))))))) in
         let other = curve.nonsquare _ _ (follows p positive I.complete_plus_other_left I.complete_plus_other_right
-            I.complete_plus_other_lines v I.complete_plus_other
+        I.complete_plus_other_lines v I.complete_plus_other
         (a.product, (a.equation, (b.product, (b.equation, (curve.root_is, (w, tt))))))) in
         let first : Alike p P.t 0 → ⊥ = λ t. apart_times 2 (times p P.z Q.z) field.two (apart_times P.z Q.z a.finite b.finite)
         (follows p positive I.first_plus_left I.first_plus_right I.first_plus_lines v I.first_plus (t, (w, tt))) in
         let second : Alike p (plus p (times p curve.root Q.x) Q.y) 0 → Alike p (minus p (times p curve.root Q.x) Q.y) 0 → ⊥ =
         λ s t. apart_times 8 (times p P.z (times p Q.z Q.z)) eight
-            (apart_times P.z (times p Q.z Q.z) a.finite (apart_times Q.z Q.z b.finite b.finite))
-        (follows p positive I.second_plus_left I.second_plus_right I.second_plus_lines v I.second_plus (b.product,
-            (curve.root_is, (w, (s, (t, tt)))))) in
+        (apart_times P.z (times p Q.z Q.z) a.finite (apart_times Q.z Q.z b.finite b.finite))
+        (follows p positive I.second_plus_left I.second_plus_right I.second_plus_lines v I.second_plus (
+          b.product,
+          (curve.root_is, (w, (s, (t, tt)))),
+        )) in
         elim (either P.t _ one) [
           | inl t ↦ first t
           | inr s ↦ elim (either P.t _ other) [ inl t ↦ first t | inr t ↦ second s t ]
@@ -276,18 +281,20 @@ module _ (p d : ℕ) (field : IsField p) where
     g-apart P Q a b w =
         let v : ℕ → ℕ = env P Q nil d curve.root in
         let one = curve.nonsquare _ _ (follows p positive I.complete_minus_one_left I.complete_minus_one_right
-            I.complete_minus_one_lines v I.complete_minus_one
+        I.complete_minus_one_lines v I.complete_minus_one
         (a.product, (a.equation, (b.product, (b.equation, (curve.root_is, (w, tt))))))) in
         let other = curve.nonsquare _ _ (follows p positive I.complete_minus_other_left I.complete_minus_other_right
-            I.complete_minus_other_lines v I.complete_minus_other
+        I.complete_minus_other_lines v I.complete_minus_other
         (a.product, (a.equation, (b.product, (b.equation, (curve.root_is, (w, tt))))))) in
         let first : Alike p P.t 0 → ⊥ = λ t. apart_times 2 (times p P.z Q.z) field.two (apart_times P.z Q.z a.finite b.finite)
         (follows p positive I.first_minus_left I.first_minus_right I.first_minus_lines v I.first_minus (t, (w, tt))) in
         let second : Alike p (plus p (times p curve.root Q.x) Q.y) 0 → Alike p (minus p (times p curve.root Q.x) Q.y) 0 → ⊥ =
         λ s t. apart_times 8 (times p P.z (times p Q.z Q.z)) eight
-            (apart_times P.z (times p Q.z Q.z) a.finite (apart_times Q.z Q.z b.finite b.finite))
-        (follows p positive I.second_minus_left I.second_minus_right I.second_minus_lines v I.second_minus (b.product,
-            (curve.root_is, (w, (s, (t, tt)))))) in
+        (apart_times P.z (times p Q.z Q.z) a.finite (apart_times Q.z Q.z b.finite b.finite))
+        (follows p positive I.second_minus_left I.second_minus_right I.second_minus_lines v I.second_minus (
+          b.product,
+          (curve.root_is, (w, (s, (t, tt)))),
+        )) in
         elim (either P.t _ one) [
           | inl t ↦ first t
           | inr s ↦ elim (either P.t _ other) [ inl t ↦ first t | inr t ↦ second s t ]
@@ -308,19 +315,23 @@ module _ (p d : ℕ) (field : IsField p) where
     unfolding sum_of double_of value
     double_same P a =
         same_products _ _ _ _ _ _ _ _
-        (follows p positive I.double_x_left I.double_x_right I.double_x_lines (env P nil nil d 0) I.double_x (a.product,
-            (a.equation, tt)))
-        (follows p positive I.double_y_left I.double_y_right I.double_y_lines (env P nil nil d 0) I.double_y (a.product,
-            (a.equation, tt)))
+        (follows p positive I.double_x_left I.double_x_right I.double_x_lines (env P nil nil d 0) I.double_x (
+          a.product,
+          (a.equation, tt),
+        ))
+        (follows p positive I.double_y_left I.double_y_right I.double_y_lines (env P nil nil d 0) I.double_y (
+          a.product,
+          (a.equation, tt),
+        ))
 
     pub IsPoint-double : (P : Point) → IsPoint p d P → IsPoint p d (double_of p P)
     unfolding double_of products value
     IsPoint-double P a = record {
       finite = apart_times _ _
           (λ h. f-apart P P a a (follows p positive I.double_f_none_left I.double_f_none_right I.double_f_none_lines
-              (env P nil nil d 0) I.double_f_none (a.product, (a.equation, (h, tt)))))
+          (env P nil nil d 0) I.double_f_none (a.product, (a.equation, (h, tt)))))
           (λ h. g-apart P P a a (follows p positive I.double_g_none_left I.double_g_none_right I.double_g_none_lines
-              (env P nil nil d 0) I.double_g_none (a.product, (a.equation, (h, tt)))));
+          (env P nil nil d 0) I.double_g_none (a.product, (a.equation, (h, tt)))));
       product = follows p positive I.double_product_left I.double_product_right I.double_product_lines
           (env P nil nil d 0) I.double_product tt;
       equation = follows p positive I.double_equation_left I.double_equation_right I.double_equation_lines

@@ -49,22 +49,34 @@ module _ (p d : ℕ) (field : IsField p) (curve : IsCurve p d) where
 
   pub sums : {P Q R S : Point} → Same P Q → Same R S → Same (sum P R) (sum Q S)
   sums {P} {Q} {R} {S} s t =
-      let one : Same (sum P R) (sum Q R) = record { left = is_sum s.left t.left; right = is_sum s.right t.left;
-          same = L.same_left p d field P Q R s.left s.right s.same } in
-      let two : Same (sum Q R) (sum Q S) = record { left = is_sum s.right t.left; right = is_sum s.right t.right;
-          same = L.same_right p d field R S Q t.left t.right t.same } in
+      let one : Same (sum P R) (sum Q R) = record {
+        left = is_sum s.left t.left;
+        right = is_sum s.right t.left;
+        same = L.same_left p d field P Q R s.left s.right s.same;
+      } in
+      let two : Same (sum Q R) (sum Q S) = record {
+        left = is_sum s.right t.left;
+        right = is_sum s.right t.right;
+        same = L.same_right p d field R S Q t.left t.right t.same;
+      } in
       one ▸ two
 
   pub negatives : {P Q : Point} → Same P Q → Same (negative P) (negative Q)
-  negatives {P} {Q} s = record { left = is_negative s.left; right = is_negative s.right;
-      same = L.same_negative p d field P Q s.same }
+  negatives {P} {Q} s = record {
+    left = is_negative s.left;
+    right = is_negative s.right;
+    same = L.same_negative p d field P Q s.same;
+  }
 
   pub turn : {P Q : Point} → IsPoint p d P → IsPoint p d Q → Same (sum P Q) (sum Q P)
   turn {P} {Q} a b = equal (is_sum a b) (L.commutative p d field P Q)
 
   pub regroup : {P Q R : Point} → IsPoint p d P → IsPoint p d Q → IsPoint p d R → Same (sum (sum P Q) R) (sum P (sum Q R))
-  regroup {P} {Q} {R} a b c = record { left = is_sum (is_sum a b) c; right = is_sum a (is_sum b c);
-      same = L.associative p d field P Q R a b c }
+  regroup {P} {Q} {R} a b c = record {
+    left = is_sum (is_sum a b) c;
+    right = is_sum a (is_sum b c);
+    same = L.associative p d field P Q R a b c;
+  }
 
   pub plus_none : {P : Point} → IsPoint p d P → Same (sum P neutral) P
   plus_none {P} a = record { left = is_sum a is_neutral; right = a; same = L.neutral_right p d field P }
@@ -76,8 +88,11 @@ module _ (p d : ℕ) (field : IsField p) (curve : IsCurve p d) where
   gone {P} a = record { left = is_sum a (is_negative a); right = is_neutral; same = L.inverse_right p d field P a }
 
   pub doubled : {P : Point} → IsPoint p d P → Same (double_of p P) (sum P P)
-  doubled {P} a = record { left = L.IsPoint-double p d field curve P a; right = is_sum a a;
-      same = L.double_same p d field curve P a }
+  doubled {P} a = record {
+    left = L.IsPoint-double p d field curve P a;
+    right = is_sum a a;
+    same = L.double_same p d field curve P a;
+  }
 
   pub doubles : {P Q : Point} → Same P Q → Same (double_of p P) (sum Q Q)
   doubles s = doubled s.left ▸ sums s s
@@ -181,16 +196,16 @@ module _ (p d : ℕ) (field : IsField p) (curve : IsCurve p d) where
       let right = multiple 256 c a hc in
       let m : IsPoint p d (negative (repeat c A)) = is_negative (is_repeat c a) in
       let joint : Same J (sum (repeat s B) (negative (repeat c A))) =
-          j ▸ sums (itself (is_repeat s b)) (repeat_negative c a) in (
+      j ▸ sums (itself (is_repeat s b)) (repeat_negative c a) in (
         λ h.
             let hit : Same J R = record { left = j.left; right = r; same = h } in
             let all = left ▸ back (plus_none (is_repeat s b)) ▸ sums (itself (is_repeat s b))
-                (back (gone (is_repeat c a)) ▸ turn (is_repeat c a) m)
+            (back (gone (is_repeat c a)) ▸ turn (is_repeat c a) m)
             ▸ back (regroup (is_repeat s b) m (is_repeat c a)) ▸ sums (back joint ▸ hit) (back right) in
             all.same,
         λ h.
             let hit : Same (multiple_of p k 256 s B) (sum R (multiple_of p k 256 c A)) =
-                record { left = left.left; right = is_sum r right.left; same = h } in
+            record { left = left.left; right = is_sum r right.left; same = h } in
             let all = joint ▸ sums (back left ▸ hit ▸ sums (itself r) right) (itself m) ▸ regroup r (is_repeat c a) m
             ▸ sums (itself r) (gone (is_repeat c a)) ▸ plus_none r in
             all.same,

@@ -51,8 +51,12 @@ module _ {T : Type 0} (text : List ℕ) (keys : KeySource) (o : Options) (refusa
         moved : (k : ℕ) → n ≤ end_of_time → k ≤ end_of_time → m.first ≤ k → k ≤ m.last
             → Passes (token_tests (at_moment k)) order t
         moved k le fit lo hi = let w = (has t n le).0 q in
-            (has t k fit).1 (record { base = w.base; rules = w.rules; from = subst (λ f. f ≤ k) same_first lo;
-                until = subst (λ l. k ≤ l) same_last hi })
+            (has t k fit).1 (record {
+              base = w.base;
+              rules = w.rules;
+              from = subst (λ f. f ≤ k) same_first lo;
+              until = subst (λ l. k ≤ l) same_last hi;
+            })
 
       -- the claims' moments, if contents pass at the first of them
       pub all_claimed : IsAcceptedAt (at_moment 0) order m.first → AreAcceptedMoments (at_moment 0) order m

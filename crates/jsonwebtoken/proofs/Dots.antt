@@ -46,8 +46,14 @@ no_dots t [] h = refl
 no_dots t (a ∷ []) h = omega (arith, at_free t h (a / 4), at_free t h (a % 4 * 16))
 no_dots t (a ∷ b ∷ []) h = omega (arith, at_free t h (a / 4), at_free t h (a % 4 * 16 + b / 16), at_free t h (b % 16 * 4))
 no_dots t (a ∷ b ∷ c ∷ rest) h =
-    omega (arith, at_free t h (a / 4), at_free t h (a % 4 * 16 + b / 16), at_free t h (b % 16 * 4 + c / 64),
-        at_free t h (c % 64), no_dots t rest h)
+    omega (
+      arith,
+      at_free t h (a / 4),
+      at_free t h (a % 4 * 16 + b / 16),
+      at_free t h (b % 16 * 4 + c / 64),
+      at_free t h (c % 64),
+      no_dots t rest h,
+    )
 
 url_free : dots url_characters ≡ 0
 unfolding dots
@@ -61,14 +67,20 @@ joined c = c.header ++ 46 ∷ (c.payload ++ 46 ∷ c.signature)
 
 dots-joined : (c : Parts) → dots (joined c) ≡ dots c.header + dots c.payload + dots c.signature + 2
 unfolding joined dots
-dots-joined c = omega (arith, dots-append c.header (46 ∷ (c.payload ++ 46 ∷ c.signature)),
-    dots-append c.payload (46 ∷ c.signature))
+dots-joined c = omega (
+  arith,
+  dots-append c.header (46 ∷ (c.payload ++ 46 ∷ c.signature)),
+  dots-append c.payload (46 ∷ c.signature),
+)
 
 -- the three parts are the cut of their text
 pub are_parts : (c : Parts) (h p s : List ℕ) → IsPart c.header h → IsPart c.payload p → IsPart c.signature s
     → ArePartsOf (c.header ++ 46 ∷ (c.payload ++ 46 ∷ c.signature)) c
-are_parts c h p s ph pp ps = record { joined = refl; payload = free c.payload (part_dots c.payload p pp);
-    signature = free c.signature (part_dots c.signature s ps) }
+are_parts c h p s ph pp ps = record {
+  joined = refl;
+  payload = free c.payload (part_dots c.payload p pp);
+  signature = free c.signature (part_dots c.signature s ps);
+}
 
 -- and a text that is cut in parts has these three
 pub same_as_parts : (c d : Parts) (h p s : List ℕ) → ArePartsOf (c.header ++ 46 ∷ (c.payload ++ 46 ∷ c.signature)) d
@@ -77,9 +89,26 @@ unfolding joined
 same_as_parts c d h p s cut ph pp ps =
     let same : joined c ≡ joined d = cut.joined in
     let counted : dots (joined c) ≡ dots (joined d) = ap dots same in
-    let zero_p : dots c.payload ≡ 0 = omega (arith, counted, dots-joined c, dots-joined d, part_dots d.header h ph,
-        part_dots d.payload p pp, part_dots d.signature s ps) in
-    let zero_s : dots c.signature ≡ 0 = omega (arith, counted, dots-joined c, dots-joined d, part_dots d.header h ph,
-        part_dots d.payload p pp, part_dots d.signature s ps) in
-    one_way (Compact (joined c)) d c cut (record { joined = refl; payload = free c.payload zero_p;
-        signature = free c.signature zero_s })
+    let zero_p : dots c.payload ≡ 0 = omega (
+      arith,
+      counted,
+      dots-joined c,
+      dots-joined d,
+      part_dots d.header h ph,
+      part_dots d.payload p pp,
+      part_dots d.signature s ps,
+    ) in
+    let zero_s : dots c.signature ≡ 0 = omega (
+      arith,
+      counted,
+      dots-joined c,
+      dots-joined d,
+      part_dots d.header h ph,
+      part_dots d.payload p pp,
+      part_dots d.signature s ps,
+    ) in
+    one_way (Compact (joined c)) d c cut (record {
+      joined = refl;
+      payload = free c.payload zero_p;
+      signature = free c.signature zero_s;
+    })

@@ -40,7 +40,7 @@ abbrev every_test : List Test
 every_test = HasThreeParts ∷ HeaderIsPart ∷ HeaderIsJson ∷ HeaderReads ∷ CritIsUnderstood ∷ KeyIsFound
     ∷ KeyAlgorithmAgrees ∷ KeyIsUsable
     ∷ AlgorithmsAreListed ∷ AlgorithmIsListed ∷ VerifierIsMade ∷ FamiliesAgree ∷ SignatureIsPart ∷ SignatureIsAccepted
-        ∷ PayloadIsPart ∷ PayloadIsJson ∷ ClaimsRead ∷ ClaimsAreAnObject ∷ ClaimRulesHold ∷ []
+    ∷ PayloadIsPart ∷ PayloadIsJson ∷ ClaimsRead ∷ ClaimsAreAnObject ∷ ClaimRulesHold ∷ []
 
 abbrev pub number : Test → ℕ
 number HasThreeParts = 0
@@ -268,7 +268,7 @@ module _ {T : Type 0} (call : Call T) where
 
     exact : (r : Result R Refusal) → Step call order whole shows r
         → ((s t : Contents) (y : R) → Passes (token_tests call) order s → Passes (token_tests call) order t → shows s y
-            → shows t y)
+        → shows t y)
         → (t : Contents) → Passes (token_tests call) order t → MatchResult r (λ y. shows t y) (λ f. IsMemory f.error)
     exact (Ok y) m same t p = same m.0 t y m.1 p m.2
     exact (Err f) (inl m) same t p = m
@@ -282,7 +282,7 @@ module _ {T : Type 0} (call : Call T) where
 
     pub decides : (r : Result R Refusal) → Step call order whole shows r
         → ((s t : Contents) (y : R) → Passes (token_tests call) order s → Passes (token_tests call) order t → shows s y
-            → shows t y)
+        → shows t y)
         → DecidesByTest (token_tests call) order shows r
     decides r m same = record { accepted = accepted r m; exact = exact r m same; refused = refused r m }
 
@@ -338,7 +338,7 @@ module _ {T : Type 0} (call : Call T) (t : Contents) (w : Options) (l : Looser c
   looser_at VerifierIsMade h = h
   looser_at FamiliesAgree h = All-weaker (Contains w.algorithms) (λ a. family_of a ≡ family_of t.header.alg)
       (λ a i. let f = l.families a i in sym f.2
-          ∙ All-contains (λ b. family_of b ≡ family_of t.header.alg) call.options.algorithms f.0 h f.1)
+      ∙ All-contains (λ b. family_of b ≡ family_of t.header.alg) call.options.algorithms f.0 h f.1)
       w.algorithms (All-contains_itself w.algorithms)
   looser_at SignatureIsPart h = h
   looser_at SignatureIsAccepted h = h

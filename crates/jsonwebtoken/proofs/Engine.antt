@@ -39,7 +39,7 @@ module _ {Test : Type 0} (number : Test → ℕ) where
     holds_of [] t p c e = absurd (cc)
     holds_of (d ∷ b) t p c e = let w = either_true (eqb (number c) (number d)) (has c b) e in
         ⊎_elim (λ same. let eq : c ≡ d = same_test c d (eqb-true (number c) (number d) same) in rw eq p.0)
-            (λ later. holds_of b t p.1 c later) w
+        (λ later. holds_of b t p.1 c later) w
 
     -- in whatever order they stand
     pub among : (a b : List Test) (t : Contents) → has_all a b ≡ true → Passes tests b t → Passes tests a t
@@ -80,7 +80,7 @@ module _ {Test Contents : Type 0} (tests : Tests Test Contents) where
   module _ (FailsAt : Test → Contents → Type 0)
       (ready : Test → List Test → Bool)
       (fails_for : (b : List Test) (t s : Contents) → Passes tests b t → Passes tests b s → (c : Test)
-          → ready c b ≡ true → FailsAt c t → tests.condition c s → ⊥) where
+      → ready c b ≡ true → FailsAt c t → tests.condition c s → ⊥) where
     -- the first failed test of an order, which is like this
     abbrev Found : (Test → Contents → Type 0) → List Test → Type 0
     Found Is order = (c : Test) × (first : IsFirstFailed tests order c) × Is c first.contents
@@ -103,7 +103,7 @@ module _ {Test Contents : Type 0} (tests : Tests Test Contents) where
     )
     walk Is b (c ∷ cs) t e p (inr (h, f)) =
         rw (append_test b c cs) at (walk Is (b ++ c ∷ []) cs t
-            (both_true (ready c b) (ready_from ready (b ++ c ∷ []) cs) e).1 (join b (c ∷ []) t p (h, tt)) f)
+        (both_true (ready c b) (ready_from ready (b ++ c ∷ []) cs) e).1 (join b (c ∷ []) t p (h, tt)) f)
 
     pub fails_first : (order : List Test) → is_well_ordered ready order ≡ true → (t : Contents) (k : Kind)
         → FailedAt tests FailsAt order t k → FailsFirst tests order k

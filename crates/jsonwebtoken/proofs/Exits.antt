@@ -74,7 +74,7 @@ without tests order shows (Ok y) r is d =
     subst (Decides tests order shows) (sym is) (record { accepted = d.accepted; exact = d.exact; refused = tt })
 without tests order shows (Err f) r is d =
     let fails : IsRefusal tests order f → FailsFirst tests order (kind_of f.error) =
-        λ x. record { failed = f.test; first = x.first; kind = x.kind } in
+    λ x. record { failed = f.test; first = x.first; kind = x.kind } in
     subst (Decides tests order shows) (sym is) (record { accepted = tt; exact = d.exact; refused = or_memory fails d.refused })
 
 -- a decision without the test that was noted
@@ -178,8 +178,15 @@ module _ {T : Type 0} (call : Call T) (parts : Parts) (h : Header)
     (has : HasParts call.token parts) where
   -- with the contents that were found after it
   abbrev pub opened : Contents → Contents
-  opened x = record o.0 { parts = parts; header = h; jwk = x.jwk; jwk_key = x.jwk_key;
-      signature_bytes = x.signature_bytes; payload_bytes = x.payload_bytes; payload_value = x.payload_value }
+  opened x = record o.0 {
+    parts = parts;
+    header = h;
+    jwk = x.jwk;
+    jwk_key = x.jwk_key;
+    signature_bytes = x.signature_bytes;
+    payload_bytes = x.payload_bytes;
+    payload_value = x.payload_value;
+  }
 
   pub opened_passes : (x : Contents) → Passes (token_tests call) header_order (opened x)
   opened_passes x = let p : Passes (token_tests bare) header_tests (opened x) = rw o.2 at o.1 in (has, p)
@@ -192,15 +199,18 @@ module _ {T : Type 0} (call : Call T) (parts : Parts) (h : Header)
   pub after_opened : (order : List Test) (x : Contents) (f : Test) (k : Kind)
       → Failed call (drop (length header_order) order) (opened x) f k
       → (s : Contents) × Failed call (header_order ++ drop (length header_order) order) s f k
-  after_opened order x f k s = (opened x, later call header_order (drop (length header_order) order) (opened x) f k
-      (opened_passes x) s)
+  after_opened order x f k s = (
+    opened x,
+    later call header_order (drop (length header_order) order) (opened x) f k
+        (opened_passes x) s,
+  )
 
   -- the header beside the claims that were read after it, and their refusal
   pub beside_claims : (order : List Test) (y : T)
       → ((x : Contents) × Passes (token_tests call) (drop (length header_order) order) (opened x)
-          × call.reads x.payload_value y)
+      × call.reads x.payload_value y)
       → Step call (header_order ++ drop (length header_order) order) whole (Carries call)
-          (Ok (record { header = h; claims = y }))
+      (Ok (record { header = h; claims = y }))
   beside_claims order y f = (opened f.0, opened_then order f.0 f.1, (refl, f.2))
 
   pub no_claims : (order : List Test) (r : Refusal)

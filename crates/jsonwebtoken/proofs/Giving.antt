@@ -43,7 +43,7 @@ module _ (g : GivenSignature) (header : Header) (written : Option Data) where
       let p = i.0 in
       let a = i.2 in
       let part : p.signature ≡ encode_symbols url_characters g.signature = a.signature.1
-          ∙ ap (encode_symbols url_characters) a.signed.signature in
+      ∙ ap (encode_symbols url_characters) a.signed.signature in
       i.1 ∙ sym (append_assoc p.header (dot ∷ p.payload) (dot ∷ p.signature))
       ∙ ap (λ (m : List ℕ). m ++ dot ∷ p.signature) a.signed.message
       ∙ ap (λ (s : List ℕ). g.message ++ dot ∷ s) part

@@ -72,10 +72,10 @@ module _ (issue : Issue) where
   one_written b t s e p q =
       let k = engine.both_true (engine.has number HeaderIsWritten b) (engine.has number ClaimsAreWritten b) e in
       let both : Some t.header_value ≡ Some s.header_value = sym (met b t p HeaderIsWritten k.0)
-          ∙ met b s q HeaderIsWritten k.0 in
+      ∙ met b s q HeaderIsWritten k.0 in
       let headers : t.header_value ≡ s.header_value = cc in
       let values : t.claims_value ≡ s.claims_value = one_value issue.payload _ _ (met b t p ClaimsAreWritten k.1)
-          (met b s q ClaimsAreWritten k.1) in
+      (met b s q ClaimsAreWritten k.1) in
       λ i. record { header_value = headers i; claims_value = values i }
 
   fails_for : (b : List IssueTest) (t s : Written) → Passes (issue_tests issue) b t → Passes (issue_tests issue) b s
@@ -116,12 +116,19 @@ module _ (issue : Issue) (accepts : Algorithm → Key → List ℕ → List ℕ 
       let payload : IsPartOf v c.payload = rw is at claims in
       let parts = are_parts c (compact_text t.header_value) (compact_text v) a.bytes header.part payload.part a.signature in
       let reads : ReadsHeader t.header_value (normal_header issue.header) =
-          (normal.reads_back t.header_value written (normal_header issue.header)).1 refl in
+      (normal.reads_back t.header_value written (normal_header issue.header)).1 refl in
       record {
         contents = contents_of a v;
-        passed = (parts, (header.part,
-            (header.compact.reads_back deep_h,
-            (reads, (a.signature, (payload.part, (payload.compact.reads_back deep_v, tt)))))));
+        passed = (
+          parts,
+          (
+            header.part,
+            (
+              header.compact.reads_back deep_h,
+              (reads, (a.signature, (payload.part, (payload.compact.reads_back deep_v, tt)))),
+            ),
+          ),
+        );
         header = refl;
         claims = refl;
         accepted = λ key law. law _ _ (message_bytes c _ _ header.part payload.part) a.signature.0 a.signed;

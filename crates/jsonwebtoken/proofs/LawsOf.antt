@@ -36,7 +36,7 @@ text_tests = header_order ++ SignatureIsPart ∷ SignatureIsAccepted ∷ Payload
 module _ {T : Type 0} (call : Call T) (t : Contents) (p : Passes (token_tests call) text_tests t)
     (one : HasOneSignature (call.accepts t.header.alg (key_of call.keys t.jwk_key)))
     (token : Token) (w : Options) (m : ℕ) (u : Contents)
-        (q : Passes (token_tests (record call { token = token; options = w; now = m })) text_tests u)
+    (q : Passes (token_tests (record call { token = token; options = w; now = m })) text_tests u)
     (hb : u.header_bytes ≡ t.header_bytes) (pb : u.payload_bytes ≡ t.payload_bytes) where
   abbrev other : Call T
   other = record call { token = token; options = w; now = m }
@@ -44,10 +44,10 @@ module _ {T : Type 0} (call : Call T) (t : Contents) (p : Passes (token_tests ca
   same_header_of : u.header ≡ t.header
   same_header_of =
       let values : u.header_value ≡ t.header_value =
-          one_json t.header_bytes _ _ (rw hb at (met other text_tests u q HeaderIsJson refl))
-          (met call text_tests t p HeaderIsJson refl) in
+      one_json t.header_bytes _ _ (rw hb at (met other text_tests u q HeaderIsJson refl))
+      (met call text_tests t p HeaderIsJson refl) in
       one_header t.header_value _ _ (rw values at (met other text_tests u q HeaderReads refl))
-          (met call text_tests t p HeaderReads refl)
+      (met call text_tests t p HeaderReads refl)
 
   same_parts_of : key_of call.keys u.jwk_key ≡ key_of call.keys t.jwk_key → u.parts ≡ t.parts
   same_parts_of key =
@@ -56,13 +56,13 @@ module _ {T : Type 0} (call : Call T) (t : Contents) (p : Passes (token_tests ca
       let sp = met call text_tests t p SignatureIsPart refl in
       let sq = met other text_tests u q SignatureIsPart refl in
       let headers : u.parts.header ≡ t.parts.header = (met other text_tests u q HeaderIsPart refl).1
-          ∙ ap (encode_symbols url_characters) hb ∙ sym hp.1 in
+      ∙ ap (encode_symbols url_characters) hb ∙ sym hp.1 in
       let payloads : u.parts.payload ≡ t.parts.payload = (met other text_tests u q PayloadIsPart refl).1
-          ∙ ap (encode_symbols url_characters) pb ∙ sym pp.1 in
+      ∙ ap (encode_symbols url_characters) pb ∙ sym pp.1 in
       let signed = rw (same_header_of, key, headers, payloads) at (met other text_tests u q SignatureIsAccepted refl) in
       let bytes : u.signature_bytes ≡ t.signature_bytes =
       one (message_of t.parts) _ _ (message_bytes t.parts _ _ hp pp) sq.0 sp.0 signed
-          (met call text_tests t p SignatureIsAccepted refl) in
+      (met call text_tests t p SignatureIsAccepted refl) in
       let signatures : u.parts.signature ≡ t.parts.signature = sq.1 ∙ ap (encode_symbols url_characters) bytes ∙ sym sp.1 in
       λ i. record { header = headers i; payload = payloads i; signature = signatures i }
 
@@ -85,7 +85,7 @@ module _ {T : Type 0} (call : Call T) (order : List Test) where
   pub moments : are_in (timeless order) order ≡ true → is_in ClaimRulesHold order ≡ true
       → are_in order (timeless order ++ ClaimRulesHold ∷ []) ≡ true
       → ((t : Contents) (m : ℕ) → Passes (token_tests (record call { now = m })) (timeless order) t
-          ↔ Passes (token_tests call) (timeless order) t) → HasMoments call order
+      ↔ Passes (token_tests call) (timeless order) t) → HasMoments call order
   moments inside has outside same t m le =
       let at = record call { now = m } in (
         λ p. let w = within call.options t.payload_value m le (met at order t p ClaimRulesHold has) in
@@ -111,8 +111,8 @@ module _ {T : Type 0} (call : Call T) (order : List Test) where
       → ((x y : A) (c : Parts) → HasParts (form x) c → HasParts (form y) c → y ≡ x)
       → are_in text_tests order ≡ true
       → ((token : Token) (w : Options) (m : ℕ) (t u : Contents) → Passes (token_tests call) order t
-          → Passes (token_tests (record call { token = token; options = w; now = m })) order u → u.header ≡ t.header
-          → key_of call.keys u.jwk_key ≡ key_of call.keys t.jwk_key)
+      → Passes (token_tests (record call { token = token; options = w; now = m })) order u → u.header ≡ t.header
+      → key_of call.keys u.jwk_key ≡ key_of call.keys t.jwk_key)
       → FixesToken call order A form x
   fixes A form x is_x one_form_of all one_key_of t p one y w m u q hb pb =
       let again = record call { token = form y; options = w; now = m } in
@@ -121,7 +121,7 @@ module _ {T : Type 0} (call : Call T) (order : List Test) where
       let key = one_key_of (form y) w m t u p q (same_header_of call t pt one (form y) w m u qu hb pb) in
       let parts = same_parts_of call t pt one (form y) w m u qu hb pb key in
       one_form_of x y t.parts (rw is_x at (met call text_tests t pt HasThreeParts refl))
-          (rw parts at (met again text_tests u qu HasThreeParts refl))
+      (rw parts at (met again text_tests u qu HasThreeParts refl))
 
 -- jws::decode and decode accept the same
 pub agree : {T : Type 0} (call : Call T) (parts : Parts) → AgreeOn call parts
@@ -130,12 +130,12 @@ agree call parts t = (
       let apart = on_parts call parts in
       let is : t.parts ≡ parts = met apart jws_order t p HasThreeParts refl in
       let cut = rw is at (are_parts t.parts _ _ _ (met apart jws_order t p HeaderIsPart refl)
-          (met apart jws_order t p PayloadIsPart refl) (met apart jws_order t p SignatureIsPart refl)) in
+      (met apart jws_order t p PayloadIsPart refl) (met apart jws_order t p SignatureIsPart refl)) in
       (rw is cut, among apart rest_order jws_order t refl p),
   λ p.
       let text = on_text call parts in
       let cut = met text decode_order t p HasThreeParts refl in
       let is = same_as_parts parts t.parts _ _ _ cut (met text decode_order t p HeaderIsPart refl)
-          (met text decode_order t p PayloadIsPart refl) (met text decode_order t p SignatureIsPart refl) in
+      (met text decode_order t p PayloadIsPart refl) (met text decode_order t p SignatureIsPart refl) in
       (is, among text jws_rest_order decode_order t refl p),
 )

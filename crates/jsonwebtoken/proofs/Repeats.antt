@@ -24,7 +24,7 @@ here_apart : (names : List (List ℕ)) (j : ℕ) (x : List ℕ) → j < length n
 here_apart names j x below is none i d before same =
     let inside : i < length (take j names) = omega (arith, length-take-le j names) in
     let equal : get_or (take j names) i d ≡ x = get_or-take j names i d before ∙ same ∙ get_or_default names j d x below
-        ∙ sym is in
+    ∙ sym is in
     let yes = (bytes_eq-Decides (get_or (take j names) i d) x).1 equal in
     let no = none i d (omega arith) inside in cc
 
@@ -34,7 +34,7 @@ pub still_apart : (names : List (List ℕ)) (j : ℕ) (x : List ℕ) → j < len
     → ApartBelow names j → ApartBelow names (j + 1)
 still_apart names j x below is none earlier =
     below_more (λ k. (i : ℕ) (d : List ℕ) → i < k → get_or names i d ≢ get_or names k d) j earlier
-        (here_apart names j x below is none)
+    (here_apart names j x below is none)
 
 pub all_apart : (names : List (List ℕ)) (n : ℕ) → length names ≤ n → ApartBelow names n → AllPairs (λ a b. a ≢ b) names
 all_apart names n whole apart i j d before below = apart j (omega arith) i d before

@@ -33,7 +33,7 @@ pieces h p s = record { header = h; payload = p; signature = s }
 one_way_of : (x : List ℕ) (c d : Parts) → ArePartsOf x c → ArePartsOf x d → c ≡ d
 one_way_of x c d p q =
     let fronts = at_last (c.header ++ dot ∷ c.payload) c.signature (d.header ++ dot ∷ d.payload) d.signature dot
-        p.signature q.signature (sym (front_of x c p) ∙ front_of x d q) in
+    p.signature q.signature (sym (front_of x c p) ∙ front_of x d q) in
     let heads = at_last c.header c.payload d.header d.payload dot p.payload q.payload fronts.0 in
     let headers : c.header ≡ d.header = heads.0 in
     let payloads : c.payload ≡ d.payload = heads.1 in

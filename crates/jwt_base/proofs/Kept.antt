@@ -31,8 +31,8 @@ unfolding IsStrictlySortedBy
 kept_last names [] e more h free = rw free
 kept_last names (first ∷ done) e more h free =
     put_past _ (string_bytes e.0) (string_bytes first.0) _ _ _ _ (nat_list_cmp_total.antisymm (string_bytes e.0)
-        (string_bytes first.0) ∙ ap ordering_reverse (below_middle first done e more h.0))
-        (kept_last names done e more h.1 free)
+    (string_bytes first.0) ∙ ap ordering_reverse (below_middle first done e more h.0))
+    (kept_last names done e more h.1 free)
 
 same_either : (b : Bool) (l : List ℕ) (a : Data) (ms ns : Members) → ms ≡ ns → cond b ms (member l a ms)
     ≡ cond b ns (member l a ns)

@@ -68,13 +68,13 @@ get_member-without names q (member k d ms) =
     get_member-cond (is_named names k) q _ _
     ∙ ap (cond (is_named names k) (get_member q (without names ms))) (get_member-member q k d (without names ms))
     ∙ left_at (is_named names k) (bytes_eq q k) (is_named names q) (get_member q ms) _ d (get_member-without names q ms)
-        (λ e. ap (is_named names) (same_texts q k e))
+    (λ e. ap (is_named names) (same_texts q k e))
     ∙ ap (cond (is_named names q) None) (sym (get_member-member q k d ms))
 
 put_out_at : (o : Ordering) (names : List (List ℕ)) (k l : List ℕ) (d a : Data) (ms : Members) → slice_cmp nat_cmp k l
     ≡ o → is_named names k ≡ true → without names (put k d ms) ≡ without names ms
     → without names (match_ordering o (member k d (member l a ms)) (member l d ms) (member l a (put k d ms)))
-        ≡ without names (member l a ms)
+    ≡ without names (member l a ms)
 put_out_at Less names k l d a ms is named later = rw named
 put_out_at Equal names k l d a ms is named later =
     let same : k ≡ l = same_texts k l (sym (is_eq-slice_cmp k l) ∙ ap is_eq is) in

@@ -40,13 +40,21 @@ left_by : {V : Type 0} (items : V → List ℕ) (last_of : V → ℕ) (v : Verif
     → IfErr r (λ d. (last ≡ 0) × (test ≡ d.test) × IsKept d.status status len old new)
     → LeavesBy v token now last test status len old new
 left_by items last_of v token now (Ok a) last test status len old new ok err given kept =
-    inr (ok.0, (Gives (items a), subst (λ (n : ℕ). AnswersUntil v.keys v.validation token now n (Gives (items a)))
-        (sym given.0) ok.1, given.1, given.2))
+    inr (
+      ok.0,
+      (
+        Gives (items a),
+        subst (λ (n : ℕ). AnswersUntil v.keys v.validation token now n (Gives (items a)))
+            (sym given.0) ok.1,
+        given.1,
+        given.2,
+      ),
+    )
 left_by items last_of v token now (Err d) last test status len old new ok (inl long) given kept =
     inl (long.0, kept.0, kept.1 ∙ long.2, subst (λ (n : ℕ). IsKept n status len old new) long.1 kept.2)
 left_by items last_of v token now (Err d) last test status len old new ok (inr short) given kept =
     let told : TellsTest v.keys v.validation token now short.1.0 test =
-        subst (TellsTest v.keys v.validation token now short.1.0) (sym kept.1) short.1.2 in
+    subst (TellsTest v.keys v.validation token now short.1.0) (sym kept.1) short.1.2 in
     inr (short.0, (Refuses short.1.0, short.1.1, told, subst (λ (n : ℕ). IsKept n status len old new) short.1.3 kept.2))
 
 pub decided : {V : Type 0} (items : V → List ℕ) (last_of : V → ℕ) (held : Option Shared) (s : Shared) (v : Verifier)
@@ -60,7 +68,7 @@ pub decided : {V : Type 0} (items : V → List ℕ) (last_of : V → ℕ) (held 
 decided items last_of held s v token now r last test status len old new h e ok err given kept =
     let left : LeavesBy (verifier_in s) token now last test status len old new =
     subst (λ (w : Verifier). LeavesBy w token now last test status len old new) e
-        (left_by items last_of v token now r last test status len old new ok err given kept) in
+    (left_by items last_of v token now r last test status len old new ok err given kept) in
     subst (λ (o : Option Shared). LeavesUntil o token now last test status len old new) (sym h) left
 
 -- the answer without the last time
@@ -80,9 +88,11 @@ as_set (Some s) token now last test status len old new (inl long) options set ta
     let over : (verifier_in s).limits.max_len < length token = long.0 in
     let within : length token ≤ (verifier_in s).limits.max_len = takes.1 in absurd (omega arith)
 as_set (Some s) token now last test status len old new (inr left) options set takes =
-    let keys = (verifier_in s).keys in let validation = (verifier_in s).validation in let a = left.1.0 in
-    (a, by_set options set token now keys validation a takes.0 (without_last keys validation token now last a left.1.1),
-        left.1.3)
+    let keys = (verifier_in s).keys in let validation = (verifier_in s).validation in let a = left.1.0 in (
+      a,
+      by_set options set token now keys validation a takes.0 (without_last keys validation token now last a left.1.1),
+      left.1.3,
+    )
 
 pub as_key : (held : Option Shared) (token : List ℕ) (now last test status len : ℕ) (old new : List ℕ)
     → LeavesUntil held token now last test status len old new
@@ -93,6 +103,8 @@ as_key (Some s) token now last test status len old new (inl long) options key ta
     let over : (verifier_in s).limits.max_len < length token = long.0 in
     let within : length token ≤ (verifier_in s).limits.max_len = takes.1 in absurd (omega arith)
 as_key (Some s) token now last test status len old new (inr left) options key takes =
-    let keys = (verifier_in s).keys in let validation = (verifier_in s).validation in let a = left.1.0 in
-    (a, by_key options key token now keys validation a takes.0 (without_last keys validation token now last a left.1.1),
-        left.1.3)
+    let keys = (verifier_in s).keys in let validation = (verifier_in s).validation in let a = left.1.0 in (
+      a,
+      by_key options key token now keys validation a takes.0 (without_last keys validation token now last a left.1.1),
+      left.1.3,
+    )

@@ -29,7 +29,7 @@ answered items By (Err e) s n old new p q given kept = (answer_of e, q, kept_by 
 -- a text that could not be read has this result, if the call misreads it
 pub misread : {T E : Type 0} (Reads : E → Type 0) (MisreadAs : Input → Type 0) (G : E → List ℕ → Type 0) (R : E → Kind → Type 0)
     (input : Input) (None : Type 0) → (None → MisreadAs input) → (r : Result T Error) (x : Result T Refusal)
-        → IsReadAs input r x → IfErr r (RefusesAs kind.Json None)
+    → IsReadAs input r x → IfErr r (RefusesAs kind.Json None)
     → IfErr x (λ f. AnswersBy Reads MisreadAs G R (answer_of f))
 misread Reads M G R input N means (Ok v) (Ok w) p n = tt
 misread Reads M G R input N means (Ok v) (Err r) p n = absurd p

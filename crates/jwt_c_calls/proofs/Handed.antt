@@ -21,7 +21,7 @@ shallow t j = depth-read t.payload_bytes t.payload_value j.1
 module _ {D V E : Type 0} (claims : D → Value) (items : V → List ℕ) (Reads : E → Type 0) (M : Input → Type 0) (A : E
     → Contents → Type 0) (R : E → Kind → Type 0)
     (deep : (o : E) (t : Contents) → A o t → depth t.payload_value ≤ max_depth) (H : D → Contents → Type 0) (o : E)
-        (reads : Reads o) where
+    (reads : Reads o) where
   pub handed_ok : (r : Result D Error) (x : Result V Refusal) → HandsOut claims items r x
       → IfOk r (λ d. (t : Contents) × A o t × (H d t × (view (claims d) ≡ t.payload_value)))
       → IfOk x (λ b. AnswersBy Reads M (λ o. IsClaimsText (A o)) R (Gives (items b)))

@@ -18,15 +18,15 @@ module _ (Refused : Answer → Type 0) (AreOf : Options → Keys → Type 0) (li
   -- with the keys and the options that the texts describe
   pub of_values : (keys : Keys) (validation : Validation) (r : Result Verifier ℕ) → AreOf (options_of validation) keys
       → IfOk r (λ v. (v.keys ≡ keys) × (v.validation ≡ validation) × (v.limits ≡ limits)
-          × AreFit limits.allows_blank validation.algorithms.items keys)
+      × AreFit limits.allows_blank validation.algorithms.items keys)
       → IfErr r (λ status. (why : Unfit) × IsUnfit limits.allows_blank validation.algorithms.items keys why
-          × (status ≡ unfit_status why))
+      × (status ≡ unfit_status why))
       → IsMade Refused AreOf limits r
   of_values keys validation (Ok v) of made unfit =
       let of_keys : AreOf (options_of validation) v.keys = subst (λ (k : Keys). AreOf (options_of validation) k)
-          (sym made.0) of in
+      (sym made.0) of in
       let fit_keys : AreFit limits.allows_blank validation.algorithms.items v.keys =
-          subst (λ (k : Keys). AreFit limits.allows_blank validation.algorithms.items k) (sym made.0) made.3 in (
+      subst (λ (k : Keys). AreFit limits.allows_blank validation.algorithms.items k) (sym made.0) made.3 in (
         subst (λ (w : Validation). AreOf (options_of w) v.keys) (sym made.1) of_keys,
         made.2,
         subst (λ (w : Validation). AreFit limits.allows_blank w.algorithms.items v.keys) (sym made.1) fit_keys,

@@ -23,7 +23,7 @@ module _ (keys : Keys) (validation : Validation) (token : List ℕ) (now : ℕ) 
       → status ≡ number (kind_of refusal.error)
       → (IsMemory refusal.error × (test ≡ 0)) ⊎ ((¬ IsMemory refusal.error) × (test ≡ test_number refusal.test))
       → (k : Kind) × AnswersWith keys validation token now (Refuses k) × TellsTest keys validation token now k test
-          × (status ≡ number k)
+      × (status ≡ number k)
   denied_with (inl m) is (inl none) = (kind_of refusal.error, inl m, inl (m, none.1), is)
   denied_with (inl m) is (inr some) = absurd (some.0 m)
   denied_with (inr r) is (inl none) = (kind_of refusal.error, inl none.0, inl (none.0, none.1), is)

@@ -48,7 +48,7 @@ module _ (keys : Keys) (validation : Validation) (token : List ℕ) (now : ℕ) 
       → (depth (view claims) ≤ max_depth → IsTextOf text (view claims))
       → last ≡ last_moment (options_of validation) (claims_of (view claims))
       → ((t : Contents) × Passes (token_tests (verifier_call keys validation token now)) (order_of keys) t
-          × ((t.header ≡ header) × (view claims ≡ t.payload_value)))
+      × ((t.header ≡ header) × (view claims ≡ t.payload_value)))
       → AnswersUntil keys validation token now last (Gives text)
   accepted_until fits header claims text last shown l a =
       let flat : depth (view claims) ≤ max_depth = rw a.2.1 (shallow a.0 (payload_is_json keys validation token now a.0 a.1)) in
@@ -58,7 +58,7 @@ module _ (keys : Keys) (validation : Validation) (token : List ℕ) (now : ℕ) 
 
   pub handed_until : now ≤ end_of_time → (header : Header) (claims : Value) (limit : ℕ) → length token ≤ limit
       → ((t : Contents) × Passes (token_tests (verifier_call keys validation token now)) (order_of keys) t
-          × ((t.header ≡ header) × (view claims ≡ t.payload_value)))
+      × ((t.header ≡ header) × (view claims ≡ t.payload_value)))
       → (r : Result Accepted Denied) → IfOk r (λ a. depth (view claims) ≤ max_depth → IsTextOf a.text.items (view claims))
       → IfOk r (λ a. a.last ≡ last_moment (options_of validation) (claims_of (view claims)))
       → IfOk r (λ a. (length token ≤ limit) × AnswersUntil keys validation token now a.last (Gives a.text.items))

@@ -22,7 +22,7 @@ pub one_more : (names : List (Bor (List ℕ))) (i : ℕ) (d : Bor (List ℕ)) (t
     → after ≡ (among (λ s. s.now) (take (i + 1) names) t || others)
 one_more names i d t after before others range added held =
     added ∙ (ap (λ b. bytes_eq (get_or names i d).now t || b) held
-        ∙ (or_behind (bytes_eq (get_or names i d).now t) (among (λ s. s.now) (take i names) t) others
+    ∙ (or_behind (bytes_eq (get_or names i d).now t) (among (λ s. s.now) (take i names) t) others
     ∙ ap (λ b. b || others) (sym (list_any_more (λ s. bytes_eq s.now t) names i d range))))
 
 pub left_out : (is_name b : Bool) → cond is_name false b ≡ (not (true && is_name) && b)

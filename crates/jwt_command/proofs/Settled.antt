@@ -12,8 +12,15 @@ pub own_again : (loaded : Loaded) (token : List ℕ) (options before after : Opt
     → IsOwn loaded token after.algorithms → after ≡ record before { algorithms = after.algorithms }
     → IsSettled loaded token options after × AreReused true options after
 own_again loaded token options before after (inl (is, none, same)) own rest = (
-  inr (none, (after.algorithms, own, rest
-      ∙ ap {A = Options} {B = Options} (λ o. record o { algorithms = after.algorithms }) same)),
+  inr (
+    none,
+    (
+      after.algorithms,
+      own,
+      rest
+          ∙ ap {A = Options} {B = Options} (λ o. record o { algorithms = after.algorithms }) same,
+    ),
+  ),
   inl (is, none, ap {A = Options} {B = Options} (λ o. record o { algorithms = [] }) rest ∙ same),
 )
 own_again loaded token options before after (inr (is, some, same)) own rest = absurd (false≢true (sym is))
@@ -33,6 +40,9 @@ one_more_line v loaded options status line after (statuses, each, is) of_line gr
 -- other keys that verify alike
 pub same_keys : (v : Verification) (old new : Loaded) (options : Options) → new.keys ≡ old.keys → new.own ≡ old.own
     → ArePrepared v old options → ArePrepared v new options
-same_keys v old new options keys own (key, loads, rest) =
-    (key, subst (λ a. AreLoaded v.key key new.keys a) (sym own)
-        (subst (λ k. AreLoaded v.key key k old.own) (sym keys) loads), rest)
+same_keys v old new options keys own (key, loads, rest) = (
+  key,
+  subst (λ a. AreLoaded v.key key new.keys a) (sym own)
+      (subst (λ k. AreLoaded v.key key k old.own) (sym keys) loads),
+  rest,
+)

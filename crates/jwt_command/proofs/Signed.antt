@@ -23,5 +23,10 @@ pub not_signed : (header : Header) (claims : Data) (secret : List ℕ) (key : Se
     → status ≡ 1 → output ≡ [] → IsSignAnswer header claims secret status output
 not_signed header claims secret key e status output is_key (inl memory) other is_status is_output = absurd (other memory)
 not_signed header claims secret key e status output is_key (inr failed) other is_status is_output =
-    inr (kind_of e, subst (λ k. FailsFirst (issue_tests (encoding_by_hmac header (Some claims) k)) encode_order
-        (kind_of e)) is_key failed, is_status, is_output)
+    inr (
+      kind_of e,
+      subst (λ k. FailsFirst (issue_tests (encoding_by_hmac header (Some claims) k)) encode_order
+          (kind_of e)) is_key failed,
+      is_status,
+      is_output,
+    )

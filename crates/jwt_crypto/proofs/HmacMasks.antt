@@ -20,7 +20,7 @@ shorter n p k h g =
     let e : length k + (n - length k) ≡ n = omega arith in
     let s : n - length k ≤ p - length k = omega arith in
     rw e at (take-append-add k (replicate (p - length k) 0) (n - length k))
-        ∙ ap (λ ys. k ++ ys) (take-replicate (n - length k) (p - length k) 0 s)
+    ∙ ap (λ ys. k ++ ys) (take-replicate (n - length k) (p - length k) 0 s)
 
 -- masking and then cutting is the same as cutting and then masking
 pub masked_block : (mask n : ℕ) (k block : List ℕ) → length k ≤ n → n ≤ 128 → block ≡ masked mask (filled 128 k)

@@ -35,7 +35,7 @@ one_digest_256 s m n x p q f g =
     let r = x ++ padding (64 + length x) in
     let held : hash_after initial_hash_256 m 1 ≡ hash_after initial_hash_256 n 1 = sym (rw p at f.1.0) ∙ (rw q at g.1.0) in
     let count : (b : List ℕ) → length b ≡ 64 → hash_after initial_hash_256 (padded_message (b ++ x))
-        (length (padded_message (b ++ x)) / 64) ≡ hash_after initial_hash_256 (b ++ r) (suc (length r / 64))
+    (length (padded_message (b ++ x)) / 64) ≡ hash_after initial_hash_256 (b ++ r) (suc (length r / 64))
     = λ b e. ap (λ t. hash_after initial_hash_256 t (length t / 64)) (padded b x e)
-        ∙ ap (hash_after initial_hash_256 (b ++ r)) (blocks b r e) in
+    ∙ ap (hash_after initial_hash_256 (b ++ r)) (blocks b r e) in
     ap (λ h. digest_bytes h 8) (count m p ∙ after initial_hash_256 m n r p q held (length r / 64) ∙ sym (count n q))

@@ -77,4 +77,4 @@ pub cleared_more : (ks : List PreparedKey) (ps : List (Algorithm × List ℕ)) (
 cleared_more ks ps i old new p q so_far here e =
     map-set prepared_key ks i new ∙ ap (set (map prepared_key ks) i) e
     ∙ map_over_more cleared_key ps (map prepared_key ks) i (prepared_key old) p so_far (ap prepared_key here
-        ∙ sym (get_or-map prepared_key ks i old (prepared_key old) q))
+    ∙ sym (get_or-map prepared_key ks i old (prepared_key old) q))

@@ -49,15 +49,15 @@ pub one_code : (h : Hashers) (k l m : List ℕ) → HoldSecret h k → HoldSecre
 unfolding hmac nested
 one_code (By256 f s) k l m p q =
     ap (λ i. sha256 (outer_block Sha256 k ++ i)) (one_digest_256 f _ _ m (length-block 0x36 Sha256 k)
-        (length-block 0x36 Sha256 l) p.0 q.0)
+    (length-block 0x36 Sha256 l) p.0 q.0)
     ∙ one_digest_256 s _ _ _ (length-block 0x5c Sha256 k) (length-block 0x5c Sha256 l) p.1 q.1
 one_code (By384 f s) k l m p q =
     ap (λ i. sha384 (outer_block Sha384 k ++ i)) (one_digest_384 f _ _ m (length-block 0x36 Sha384 k)
-        (length-block 0x36 Sha384 l) p.0 q.0)
+    (length-block 0x36 Sha384 l) p.0 q.0)
     ∙ one_digest_384 s _ _ _ (length-block 0x5c Sha384 k) (length-block 0x5c Sha384 l) p.1 q.1
 one_code (By512 f s) k l m p q =
     ap (λ i. sha512 (outer_block Sha512 k ++ i)) (one_digest_512 f _ _ m (length-block 0x36 Sha512 k)
-        (length-block 0x36 Sha512 l) p.0 q.0)
+    (length-block 0x36 Sha512 l) p.0 q.0)
     ∙ one_digest_512 s _ _ _ (length-block 0x5c Sha512 k) (length-block 0x5c Sha512 l) p.1 q.1
 
 -- the code under one secret that is held is the code under each

@@ -33,7 +33,7 @@ one_fewer xs ys i d so_far h =
     let x = get_or xs i 0 in
     let y = get_or ys i 0 in
     let before : take i ys ≡ take i xs = sym (take-take i (i + 1) ys (omega arith)) ∙ ap (take i) h
-        ∙ take-take i (i + 1) xs (omega arith) in
+    ∙ take-take i (i + 1) xs (omega arith) in
     let here : y ≡ x = sym (get_or-take (i + 1) ys i 0 (omega arith)) ∙ ap (λ l. get_or l i 0) h
-        ∙ get_or-take (i + 1) xs i 0 (omega arith) in
+    ∙ get_or-take (i + 1) xs i 0 (omega arith) in
     ap (λ e. bit_or e (bit_xor x y)) (so_far before) ∙ or_zero_l (bit_xor x y) ∙ xor_of_same x y (sym here)

@@ -9,5 +9,7 @@ use Rattle.jwt_header.specs.Extras.{header_names, IsExtras}
 -- a value with no float, at a name of its own, may stand among the extras
 pub extras-put : (k : List ℕ) (d : Data) (ms : Members) → is_named header_names k ≡ false → has_float d ≡ false
     → IsExtras ms → IsExtras (put k d ms)
-extras-put k d ms free none x = record { free = has_named-put header_names k d ms free x.free;
-    no_float = no_float-put k d ms none x.no_float }
+extras-put k d ms free none x = record {
+  free = has_named-put header_names k d ms free x.free;
+  no_float = no_float-put k d ms none x.no_float;
+}

@@ -104,9 +104,25 @@ one_header d g h r s =
     let enc : g.enc ≡ h.enc = cc (r.enc, s.enc) in
     let zip : g.zip ≡ h.zip = cc (r.zip, s.zip) in
     let extras : g.extras ≡ h.extras = cc (r.extras, s.extras) in
-    λ i. record { alg = alg i; typ = typ i; cty = cty i; jku = jku i; jwk = jwk i; kid = kid i; x5u = x5u i;
-        x5t = x5t i; x5t_s256 = x5t_s256 i; url = url i; nonce = nonce i; x5c = x5c i; crit = crit i; enc = enc i; zip =
-        zip i; extras = extras i }
+    λ i. record {
+      alg = alg i;
+      typ = typ i;
+      cty = cty i;
+      jku = jku i;
+      jwk = jwk i;
+      kid = kid i;
+      x5u = x5u i;
+      x5t = x5t i;
+      x5t_s256 = x5t_s256 i;
+      url = url i;
+      nonce = nonce i;
+      x5c = x5c i;
+      crit = crit i;
+      enc = enc i;
+      zip =
+          zip i;
+      extras = extras i;
+    }
 
 optional-enc_value : (o : Option Enc) → optional enc_from (option_map enc_value o) ≡ Some (option_map normal_enc o)
 optional-enc_value None = refl
@@ -197,11 +213,24 @@ without-members_with : (h : Header) (jwk : Option Data) → IsExtras h.extras �
     ≡ h.extras
 without-members_with h jwk x =
     let none = without-put_some header_names in
-    simp (without-put header_names (codes "alg") refl, none (codes "typ") refl, none (codes "cty") refl,
-        none (codes "jku") refl, none (codes "kid") refl, none (codes "x5u") refl, none (codes "x5t") refl,
-        none (codes "x5t#S256") refl, none (codes "url") refl, none (codes "nonce") refl, none (codes "x5c") refl,
-        none (codes "crit") refl, none (codes "enc") refl, none (codes "zip") refl, none (codes "jwk") refl)
-        (without-free header_names h.extras x.free)
+    simp (
+      without-put header_names (codes "alg") refl,
+      none (codes "typ") refl,
+      none (codes "cty") refl,
+      none (codes "jku") refl,
+      none (codes "kid") refl,
+      none (codes "x5u") refl,
+      none (codes "x5t") refl,
+      none (codes "x5t#S256") refl,
+      none (codes "url") refl,
+      none (codes "nonce") refl,
+      none (codes "x5c") refl,
+      none (codes "crit") refl,
+      none (codes "enc") refl,
+      none (codes "zip") refl,
+      none (codes "jwk") refl,
+    )
+    (without-free header_names h.extras x.free)
 
 reads_members : (h : Header) (jwk : Option Data) → IsExtras h.extras
     → ReadsOptional ReadsKey jwk (option_map normal_key h.jwk) → ReadsHeader (object (members_with h jwk)) (normal_header h)
@@ -253,7 +282,7 @@ read_is_normal d h x r =
     let enc = own_optional enc_from normal_enc (own_named enc_text enc_named enc_kept) (get (codes "enc") d) h.enc r.enc in
     let zip = own_optional zip_from normal_zip (own_named zip_text zip_named zip_kept) (get (codes "zip") d) h.zip r.zip in
     let jwk = normal_optional ReadsKey normal_key (λ e k read. (read_key_is_normal e k read).itself)
-        (get (codes "jwk") d) h.jwk r.jwk in
+    (get (codes "jwk") d) h.jwk r.jwk in
     let written = can_write h.jwk (get (codes "jwk") d) r.jwk in
     record {
       itself = λ i. record h { enc = enc i; zip = zip i; jwk = jwk i };
@@ -283,12 +312,14 @@ same_written : (g h : Header) → IsNormal g → IsNormal h → header_value g �
 same_written g h n m e =
     let d = m.written.0 in
     sym n.itself ∙ one_header d (normal_header g) (normal_header h) (reads_written g d n.extras (e ∙ m.written.1))
-        (reads_written h d m.extras m.written.1) ∙ m.itself
+    (reads_written h d m.extras m.written.1) ∙ m.itself
 
 pub has_normal_form : (h : Header) → IsExtras h.extras → HasNormalForm h
 has_normal_form h x = record {
-  reads_back = λ d is g. (λ r. one_header d g (normal_header h) r (reads_written h d x is),
-      λ e. subst (ReadsHeader d) (sym e) (reads_written h d x is));
+  reads_back = λ d is g. (
+    λ r. one_header d g (normal_header h) r (reads_written h d x is),
+    λ e. subst (ReadsHeader d) (sym e) (reads_written h d x is),
+  );
   once = normal_twice h;
   told_apart = λ n g m. (same_written h g n m, ap header_value);
 }
@@ -304,12 +335,18 @@ abbrev with_list : List ℕ → Option (List (List ℕ)) → Whole → Whole
 with_list k o w = (put_some k (option_map texts_value o) w.0, no_float-put_some texts_value no_float-texts_value k o w.0 w.1)
 
 abbrev with_enc : Option Enc → Whole → Whole
-with_enc o w = (put_some (codes "enc") (option_map enc_value o) w.0, no_float-put_some enc_value (λ e. refl)
-    (codes "enc") o w.0 w.1)
+with_enc o w = (
+  put_some (codes "enc") (option_map enc_value o) w.0,
+  no_float-put_some enc_value (λ e. refl)
+      (codes "enc") o w.0 w.1,
+)
 
 abbrev with_zip : Option Zip → Whole → Whole
-with_zip o w = (put_some (codes "zip") (option_map zip_value o) w.0, no_float-put_some zip_value (λ z. refl)
-    (codes "zip") o w.0 w.1)
+with_zip o w = (
+  put_some (codes "zip") (option_map zip_value o) w.0,
+  no_float-put_some zip_value (λ z. refl)
+      (codes "zip") o w.0 w.1,
+)
 
 abbrev whole_members : Header → Whole → Whole
 whole_members h w =

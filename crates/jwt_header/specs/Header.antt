@@ -36,9 +36,25 @@ pub record ReadsHeader (d : Data) (h : Header) : Type 0 where
 
 -- the algorithm, the type `JWT`, and nothing else
 abbrev pub new_header : Algorithm → Header
-new_header a = record { alg = a; typ = Some (codes "JWT"); cty = None; jku = None; jwk = None; kid = None; x5u = None;
-    x5t = None; x5t_s256 = None; url = None; nonce = None; x5c = None; crit = None; enc = None; zip = None; extras =
-    no_members }
+new_header a = record {
+  alg = a;
+  typ = Some (codes "JWT");
+  cty = None;
+  jku = None;
+  jwk = None;
+  kid = None;
+  x5u = None;
+  x5t = None;
+  x5t_s256 = None;
+  url = None;
+  nonce = None;
+  x5c = None;
+  crit = None;
+  enc = None;
+  zip = None;
+  extras =
+      no_members;
+}
 
 -- the members that are present, except for the key, besides these
 abbrev pub with_named : Header → Members → Members

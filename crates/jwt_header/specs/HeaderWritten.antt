@@ -10,8 +10,11 @@ use Rattle.jwt_keys.specs.JwkWritten.{normal_key}
 
 -- a free string that is a known spelling becomes the known value, and the key its normal form
 abbrev pub normal_header : Header → Header
-normal_header h = record h { enc = option_map normal_enc h.enc; zip = option_map normal_zip h.zip;
-    jwk = option_map normal_key h.jwk }
+normal_header h = record h {
+  enc = option_map normal_enc h.enc;
+  zip = option_map normal_zip h.zip;
+  jwk = option_map normal_key h.jwk;
+}
 
 -- its own normal form, and one that can be written
 pub record IsNormal (h : Header) : Type 0 where

@@ -71,7 +71,7 @@ of_lines (suc n) eol xs ys h all l =
     ap characters_of (next_lines n eol xs (45 ∷ ys))
     ∙ of_plain (take 64 xs) (eol ++ rest) (All-take IsPlain 64 xs all)
     ∙ ap (λ (s : List ℕ). take 64 xs ++ s) (of_end eol rest h
-        ∙ of_lines n eol (drop 64 xs) ys h (All-drop IsPlain 64 xs all) shorter)
+    ∙ of_lines n eol (drop 64 xs) ys h (All-drop IsPlain 64 xs all) shorter)
     ∙ take-append-drop 64 xs
 
 as_lines : (eol xs : List ℕ) → in_lines eol xs ≡ lines_of ((length xs + 63) / 64) eol xs
@@ -81,20 +81,20 @@ as_lines eol xs = refl
 pub of_body : (eol xs ys : List ℕ) → IsLineEnd eol → All IsPlain xs → characters_of (in_lines eol xs ++ (45 ∷ ys)) ≡ xs
 of_body eol xs ys h all =
     ap (λ (s : List ℕ). characters_of (s ++ (45 ∷ ys))) (as_lines eol xs)
-        ∙ of_lines ((length xs + 63) / 64) eol xs ys h all (omega arith)
+    ∙ of_lines ((length xs + 63) / 64) eol xs ys h all (omega arith)
 
 -- the loop over the bytes of a body
 pub stops : (done text total : List ℕ) (i : ℕ) → i < length text → get_or text i 0 ≡ 45
     → (done ++ characters_of (drop i text)) ≡ total → done ≡ total
 stops done text total i l c h =
     sym (append-nil done) ∙ ap (λ (s : List ℕ). done ++ s) (sym (ap characters_of (drop-cons text i 0 l)
-        ∙ at_dash (get_or text i 0) (drop (suc i) text) c)) ∙ h
+    ∙ at_dash (get_or text i 0) (drop (suc i) text) c)) ∙ h
 
 pub skips : (done text total : List ℕ) (i : ℕ) → i < length text → (get_or text i 0 ≡ 13) ⊎ (get_or text i 0 ≡ 10)
     → (done ++ characters_of (drop i text)) ≡ total → (done ++ characters_of (drop (i + 1) text)) ≡ total
 skips done text total i l c h =
     rw add-one (ap (λ (s : List ℕ). done ++ s) (sym (ap characters_of (drop-cons text i 0 l)
-        ∙ at_break (get_or text i 0) (drop (suc i) text) c)) ∙ h)
+    ∙ at_break (get_or text i 0) (drop (suc i) text) c)) ∙ h)
 
 pub takes : (done more text total : List ℕ) (i : ℕ) → i < length text → IsPlain (get_or text i 0)
     → more ≡ (done ++ (get_or text i 0 ∷ []))
@@ -199,14 +199,14 @@ symbols_plain (a ∷ b ∷ c ∷ rest) =
 pub text_plain : (cs d : List ℕ) → IsStandardText cs d → All IsPlain cs
 text_plain cs d h =
     subst (All IsPlain) (sym h.1) (All-append IsPlain (encode_symbols standard_characters d) (padding d)
-        (symbols_plain d) (zero_plain _))
+    (symbols_plain d) (zero_plain _))
 
 -- a text is that of one list of bytes
 pub one_text : (cs d e : List ℕ) → IsStandardText cs d → IsStandardText cs e → d ≡ e
 one_text cs d e h i =
     let f : encode_of standard d ≡ encode_of standard e = sym h.1 ∙ i.1 in
     let g : Ok d ≡ Ok e = sym (decode_of-encode_of standard d refl h.0) ∙ ap (decode_of standard) f
-        ∙ decode_of-encode_of standard e refl i.0 in
+    ∙ decode_of-encode_of standard e refl i.0 in
     cc
 
 -- the block, from the text after its first line
@@ -214,7 +214,7 @@ pub of_block : (label block b : List ℕ) (x : IsBlock label block b) → charac
 of_block label block b x =
     ap characters_of (x.lines ∙ ap (λ (s : List ℕ). in_lines x.eol x.characters ++ s) x.closes.text_is)
     ∙ of_body x.eol x.characters (codes "----END " ++ (label ++ (codes "-----" ++ x.closes.after))) x.is_eol
-        (text_plain x.characters b x.base64)
+    (text_plain x.characters b x.base64)
 
 not_empty : (eol xs ys s : List ℕ) → All IsPlain xs → (in_lines eol xs ++ (45 ∷ ys)) ≡ (10 ∷ s) → ⊥
 not_empty eol [] ys s all e =
@@ -229,7 +229,7 @@ not_empty eol (x ∷ xs) ys s all e =
 pub body_begins : (label block b : List ℕ) (x : IsBlock label block b) (s : List ℕ) → x.body ≡ (10 ∷ s) → ⊥
 body_begins label block b x s e =
     not_empty x.eol x.characters (codes "----END " ++ (label ++ (codes "-----" ++ x.closes.after))) s
-        (text_plain x.characters b x.base64)
+    (text_plain x.characters b x.base64)
     (sym (x.lines ∙ ap (λ (t : List ℕ). in_lines x.eol x.characters ++ t) x.closes.text_is) ∙ e)
 
 -- and from what was read of it
@@ -279,7 +279,7 @@ pub no_bytes : (label block end rest cs b : List ℕ) → IsLineEnd end → bloc
 no_bytes label block end rest cs b q h lone c none x =
     let same = same_end label block end rest b q h lone x in
     none b (subst (λ (s : List ℕ). IsStandardText s b) (sym (of_block label block b x) ∙ ap characters_of same.text
-        ∙ sym c) x.base64)
+    ∙ sym c) x.base64)
 
 lines_are : (label block end rest cs b : List ℕ) → IsLineEnd end → block ≡ (label ++ (codes "-----" ++ (end ++ rest)))
     → ((s : List ℕ) → end ≡ 13 ∷ [] → rest ≡ (10 ∷ s) → ⊥) → cs ≡ characters_of rest → (x : IsBlock label block b)
@@ -288,7 +288,7 @@ lines_are label block end rest cs b q h lone c x =
     let same = same_end label block end rest b q h lone x in
     let f : x.characters ≡ cs = sym (of_block label block b x) ∙ ap characters_of same.text ∙ sym c in
     sym same.text ∙ x.lines ∙ ap (λ (e : List ℕ). in_lines e x.characters ++ x.end) same.line_end
-        ∙ ap (λ (s : List ℕ). in_lines end s ++ x.end) f
+    ∙ ap (λ (s : List ℕ). in_lines end s ++ x.end) f
 
 pub other_lines : (label block end rest cs ls b : List ℕ) → IsLineEnd end → block ≡ (label ++ (codes "-----" ++ (end ++ rest)))
     → ((s : List ℕ) → end ≡ 13 ∷ [] → rest ≡ (10 ∷ s) → ⊥) → cs ≡ characters_of rest → ls ≡ in_lines end cs
@@ -304,7 +304,7 @@ pub not_closed : (label block end rest cs ls tail b : List ℕ) → IsLineEnd en
     → IsBlock label block b → ⊥
 not_closed label block end rest cs ls tail b q h lone c l t none x =
     let f : tail ≡ x.end = append_cancel_left ls tail x.end (sym t ∙ lines_are label block end rest cs b q h lone c x
-        ∙ ap (λ (s : List ℕ). s ++ x.end) (sym l)) in
+    ∙ ap (λ (s : List ℕ). s ++ x.end) (sym l)) in
     none (subst (IsClosed label) (sym f) x.closes)
 
 -- a block with a label holds one list of bytes
@@ -312,7 +312,7 @@ pub one_block : (label block d e : List ℕ) → IsBlock label block d → IsBlo
 one_block label block d e x y =
     let f : (x.eol ++ x.body) ≡ (y.eol ++ y.body) = append_cancel_left (codes "-----") (x.eol ++ x.body) (y.eol ++ y.body)
     (append_cancel_left label (codes "-----" ++ (x.eol ++ x.body)) (codes "-----" ++ (y.eol ++ y.body)) (sym x.opens
-        ∙ y.opens)) in
+    ∙ y.opens)) in
     let g : x.characters ≡ y.characters = sym (of_block label block d x) ∙ sym (of_end x.eol x.body x.is_eol)
-        ∙ ap characters_of f ∙ of_end y.eol y.body y.is_eol ∙ of_block label block e y in
+    ∙ ap characters_of f ∙ of_end y.eol y.body y.is_eol ∙ of_block label block e y in
     one_text y.characters d e (subst (λ (s : List ℕ). IsStandardText s d) g x.base64) y.base64

@@ -34,7 +34,7 @@ pub on_after : (tags rest content more r : List ℕ) (i : ℕ) → i < length ta
     → IsAfter (drop i tags) rest r → IsAfter (drop (i + 1) tags) more r
 on_after tags rest content more r i l e h =
     rw add-one (step_after (get_or tags i 0) (drop (suc i) tags) rest content more r e
-        (subst (λ (t : List ℕ). IsAfter t rest r) (drop-cons tags i 0 l) h))
+    (subst (λ (t : List ℕ). IsAfter t rest r) (drop-cons tags i 0 l) h))
 
 pub back_after : (tags rest content more r : List ℕ) (i : ℕ) → i < length tags
     → rest ≡ (element (get_or tags i 0) content ++ more)
@@ -47,7 +47,7 @@ pub stuck : (tags rest r : List ℕ) (i : ℕ) → i < length tags
     → ((c s : List ℕ) → rest ≡ (element (get_or tags i 0) c ++ s) → ⊥) → IsAfter (drop i tags) rest r → ⊥
 stuck tags rest r i l none h =
     let g : IsAfter (get_or tags i 0 ∷ drop (suc i) tags) rest r =
-        subst (λ (t : List ℕ). IsAfter t rest r) (drop-cons tags i 0 l) h in
+    subst (λ (t : List ℕ). IsAfter t rest r) (drop-cons tags i 0 l) h in
     none g.0 g.1.0 g.1.1.0
 
 pub at_end : (tags rest r : List ℕ) (i : ℕ) → length tags ≤ i → IsAfter (drop i tags) rest r → rest ≡ r
@@ -62,16 +62,21 @@ pub front_element : (b f k r : List ℕ) (t : ℕ) (content : List ℕ) → b �
     → ((c : List ℕ) × (f ≡ element t c)) × (b ≡ (f ++ k))
 front_element b f k r t content e h i =
     let n : length b - length r ≡ length (element t content) =
-        omega (arith, ap length e, length-append (element t content) r) in
+    omega (arith, ap length e, length-append (element t content) r) in
     let g : f ≡ element t content =
-    h ∙ ap (λ (m : ℕ). take m b) n ∙ ap (take (length (element t content))) e ∙ take-append_seam (element t content) r in
-    ((content, g), sym (take-append-drop (length b - length r) b)
-        ∙ ap (λ (s : List ℕ). s ++ drop (length b - length r) b) (sym h) ∙ ap (λ (s : List ℕ). f ++ s) (sym i))
+    h ∙ ap (λ (m : ℕ). take m b) n ∙ ap (take (length (element t content))) e ∙ take-append_seam (element t content) r in (
+      (content, g),
+      sym (take-append-drop (length b - length r) b)
+          ∙ ap (λ (s : List ℕ). s ++ drop (length b - length r) b) (sym h) ∙ ap (λ (s : List ℕ). f ++ s) (sym i),
+    )
 
 -- a version is no serial number
 two_starts : (bytes r s : List ℕ) → IsAfter (0xa0 ∷ serial_to_subject) bytes r → IsAfter serial_to_subject bytes s → ⊥
-two_starts bytes r s h i = omega (arith, heads _ _ _ _ (sym (opened 0xa0 h.0 h.1.0) ∙ sym h.1.1.0 ∙ i.1.1.0
-    ∙ opened 2 i.0 i.1.0))
+two_starts bytes r s h i = omega (
+  arith,
+  heads _ _ _ _ (sym (opened 0xa0 h.0 h.1.0) ∙ sym h.1.1.0 ∙ i.1.1.0
+      ∙ opened 2 i.0 i.1.0),
+)
 
 abbrev pub Fields : (content rest : List ℕ) → Type 0
 Fields content rest = IsAfter (0xa0 ∷ serial_to_subject) content rest ⊎ IsAfter serial_to_subject content rest
@@ -132,7 +137,7 @@ pub more_signed : (b w c s r : List ℕ) → b ≡ element 0x30 w → w ≡ (ele
 more_signed b w c s r e f h l info x =
     let same = one_element 0x30 c x.content s x.signed (sym f ∙ inside b w info e x) in
     let z : r ≡ [] = one_rest (0x30 ∷ 3 ∷ []) s r [] h (subst (λ (t : List ℕ). IsAfter (0x30 ∷ 3 ∷ []) t [])
-        (sym same.rest) x.signature) in
+    (sym same.rest) x.signature) in
     omega (arith, ap length z)
 
 pub no_key_info : (b w c s : List ℕ) → b ≡ element 0x30 w → w ≡ (element 0x30 c ++ s) → ((i : List ℕ) → IsToBeSigned c i → ⊥)
@@ -155,7 +160,7 @@ pub one_certificate : (b i j : List ℕ) → IsCertificate b i → IsCertificate
 one_certificate b i j x y =
     let same = one_element 0x30 x.content y.content x.signed y.signed
     (one_whole 0x30 (element 0x30 x.content ++ x.signed) (element 0x30 y.content ++ y.signed) (sym (whole b i x)
-        ∙ whole b j y)) in
+    ∙ whole b j y)) in
     one_to_be_signed y.content i j (subst (λ (t : List ℕ). IsToBeSigned t i) same.content x.holds) y.holds
 
 -- keys
@@ -166,7 +171,7 @@ one_certified b k l h i =
 pub one_held : (text d e : List ℕ) → HoldsCertificate text d → HoldsCertificate text e → d ≡ e
 one_held text d e x y =
     one_block (codes "CERTIFICATE") y.0 d e (subst (λ (b : List ℕ). IsBlock (codes "CERTIFICATE") b d)
-        (one_first text x.0 y.0 x.1.0 y.1.0) x.1.1) y.1.1
+    (one_first text x.0 y.0 x.1.0 y.1.0) x.1.1) y.1.1
 
 pub one_certified_pem : (text : List ℕ) (k l : Key) → IsCertificatePemOf text k → IsCertificatePemOf text l → k ≡ l
 one_certified_pem text k l h i =

@@ -113,7 +113,7 @@ refused_key b x s a o h e named none = record {
     | inr i ↦
         let same = one_info b a o _ _ e i.bytes_are in
         none key (moved s i.algorithm o i.octets key (one_scheme s i.algorithm (sym named ∙ same.algorithm)) same.octets
-            i.is_key)
+        i.is_key)
   ];
   why = inr (inr (h, not_private_info b a o e, λ n. n.is_other s (sym (one_info b a o _ _ e n.bytes_are).algorithm ∙ named)));
 }

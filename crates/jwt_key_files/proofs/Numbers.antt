@@ -23,7 +23,7 @@ number_more : (n x : ℕ) (xs : List ℕ) → number_from n (xs ++ (x ∷ [])) �
 number_more n x [] = number_cons n x [] ∙ number_nil (n * 0x100 + x) ∙ ap (λ (k : ℕ). k * 0x100 + x) (sym (number_nil n))
 number_more n x (y ∷ xs) =
     number_cons n y (xs ++ (x ∷ [])) ∙ number_more (n * 0x100 + y) x xs
-        ∙ ap (λ (k : ℕ). k * 0x100 + x) (sym (number_cons n y xs))
+    ∙ ap (λ (k : ℕ). k * 0x100 + x) (sym (number_cons n y xs))
 
 grows : (n : ℕ) (xs : List ℕ) → n ≤ number_from n xs
 grows n [] = omega (arith, number_nil n)
@@ -68,11 +68,11 @@ pub one_number_octets : (m n : ℕ) (r s : List ℕ) → length (number_octets m
 one_number_octets m n r s l e =
     let f : number_octets m ≡ number_octets n =
     sym (take-append_seam (number_octets m) r) ∙ ap (λ (k : ℕ). take k (number_octets m ++ r)) l
-        ∙ ap (take (length (number_octets n))) e
+    ∙ ap (take (length (number_octets n))) e
     ∙ take-append_seam (number_octets n) s in
     let g : r ≡ s =
     sym (drop-append_seam (number_octets m) r) ∙ ap (λ (k : ℕ). drop k (number_octets m ++ r)) l
-        ∙ ap (drop (length (number_octets n))) e
+    ∙ ap (drop (length (number_octets n))) e
     ∙ drop-append_seam (number_octets n) s in
     record { number = sym (number_of m) ∙ ap (number_from 0) f ∙ number_of n; rest = g }
 
@@ -104,7 +104,7 @@ from_octets (suc k) xs l small first (suc b) h =
     let r : number_from 0 xs % 0x100 ≡ x = omega (arith, v, small k, div-add-mod (number_from 0 xs) 0x100) in
     let less : number_from 0 ys ≤ b = omega (arith, v, h, above) in
     let front : last_octets b (number_from 0 ys) ≡ ys = from_octets k ys (length-take-le k xs (omega arith))
-        (small_front k xs small)
+    (small_front k xs small)
     (λ p. omega (arith, get_or-take k xs 0 0 p, first (omega arith))) b less in
     octets_more b (number_from 0 xs) above ∙ ap (λ (n : ℕ). last_octets b n ++ (number_from 0 xs % 0x100 ∷ [])) q
     ∙ ap (λ (n : ℕ). last_octets b (number_from 0 ys) ++ (n ∷ [])) r ∙ ap (λ (s : List ℕ). s ++ (x ∷ [])) front ∙ sym split
@@ -142,8 +142,13 @@ no_leading : (b n : ℕ) (xs : List ℕ) → n ≤ b → last_octets b n ≡ (0 
 no_leading zero n xs l e = none_begin n xs e
 no_leading (suc b) n xs l e = elim (cases_lt 0 n) [
   | inl p ↦ elim (front_zero (last_octets b (n / 0x100)) (n % 0x100) xs (sym (octets_more b n p) ∙ e)) [
-    | inl a ↦ omega (arith, a.zero, sym (number_last b (n / 0x100) (omega arith)) ∙ ap (number_from 0) a.none
-        ∙ number_nil 0, div-add-mod n 0x100)
+    | inl a ↦ omega (
+      arith,
+      a.zero,
+      sym (number_last b (n / 0x100) (omega arith)) ∙ ap (number_from 0) a.none
+          ∙ number_nil 0,
+      div-add-mod n 0x100,
+    )
     | inr w ↦ no_leading b (n / 0x100) w.more (omega arith) w.begins
   ]
   | inr q ↦
@@ -168,18 +173,20 @@ pub overflows : (count : ℕ) (b o q : List ℕ) → o ≡ take count b → q �
     → (n : ℕ) (s : List ℕ) → n ≤ length s → length (number_octets n) ≡ count → b ≡ (number_octets n ++ s) → ⊥
 overflows count b o q h k i large n s l c e =
     let f : drop count b ≡ s = ap (λ (m : ℕ). drop m b) (sym c) ∙ ap (drop (length (number_octets n))) e
-        ∙ drop-append_seam (number_octets n) s in
+    ∙ drop-append_seam (number_octets n) s in
     omega (arith, ap (number_from 0) (same_front n count b o [] s h c e), number_of n, ap length (k ∙ f))
 
 pub is_number : (count n : ℕ) (b o q : List ℕ) → o ≡ take count b → q ≡ drop count b → length o ≡ count
     → ((i : ℕ) → slice_index b i < 0x100)
     → (((r : List ℕ) × (o ≡ 0 ∷ r)) → ⊥) → n ≡ number_from 0 o → (length (number_octets n) ≡ count)
-        × (b ≡ (number_octets n ++ q))
+    × (b ≡ (number_octets n ++ q))
 is_number count n b o q h k l small first e =
     let are : number_octets n ≡ o = ap number_octets e ∙ octets_are o (λ i. rw h (small_front count b small i))
-        (nonzero o first) in
-    (ap length are ∙ l, sym (take-append-drop count b) ∙ ap (λ (s : List ℕ). s ++ drop count b) (sym h ∙ sym are)
-        ∙ ap (λ (s : List ℕ). number_octets n ++ s) (sym k))
+    (nonzero o first) in (
+      ap length are ∙ l,
+      sym (take-append-drop count b) ∙ ap (λ (s : List ℕ). s ++ drop count b) (sym h ∙ sym are)
+          ∙ ap (λ (s : List ℕ). number_octets n ++ s) (sym k),
+    )
 
 -- the loop over octets
 pub one_octet : (n total : ℕ) (xs : List ℕ) (i : ℕ) → i < length xs → number_from n (drop i xs) ≡ total

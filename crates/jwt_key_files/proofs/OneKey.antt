@@ -30,7 +30,7 @@ one_key b k l h i = elim h [
         let same = one_info b _ _ _ _ r.bytes_are s.bytes_are in
         key_of r.algorithm r.octets k l r.is_key
         (moved r.algorithm s.algorithm r.octets s.octets l (one_scheme r.algorithm s.algorithm same.algorithm)
-            same.octets s.is_key)
+        same.octets s.is_key)
   ]
 ]
 

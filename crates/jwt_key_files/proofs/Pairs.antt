@@ -26,8 +26,11 @@ one_filled (suc a) zero m n p q e = absurd (not_zero n (replicate a 0 ++ m) q (s
 one_filled (suc a) (suc b) m n p q e = one_filled a b m n p q (tails 0 0 (replicate a 0 ++ m) (replicate b 0 ++ n) e)
 
 size_of_filled : (size : ℕ) (m : List ℕ) → length m ≤ size → length (filled size m) ≡ size
-size_of_filled size m l = omega (arith, length-append (replicate (size - length m) 0) m,
-    length-replicate {A = ℕ} (size - length m) 0)
+size_of_filled size m l = omega (
+  arith,
+  length-append (replicate (size - length m) 0) m,
+  length-replicate {A = ℕ} (size - length m) 0,
+)
 
 record SameHalves (a b c d : List ℕ) : Type 0 where
   first : a ≡ c
@@ -36,7 +39,7 @@ record SameHalves (a b c d : List ℕ) : Type 0 where
 same_halves : (a b c d : List ℕ) → length a ≡ length c → (a ++ b) ≡ (c ++ d) → SameHalves a b c d
 same_halves a b c d l e =
     let first : a ≡ c = sym (take-append_seam a b) ∙ ap (take (length a)) e ∙ ap (λ (n : ℕ). take n (c ++ d)) l
-        ∙ take-append_seam c d in
+    ∙ take-append_seam c d in
     record {
       first = first;
       second = sym (drop-append_seam a b) ∙ ap (drop (length a)) e ∙ ap (λ (n : ℕ). drop n (c ++ d)) l ∙ drop-append_seam c d;
@@ -54,9 +57,9 @@ one_value size d f s x y =
     let halves = same_halves (filled size x.r) (filled size x.s) (filled size y.r) (filled size y.s)
     (size_of_filled size x.r x.r_fits ∙ sym (size_of_filled size y.r y.r_fits)) (sym x.signature_is ∙ y.signature_is) in
     let r : x.r ≡ y.r = one_filled (size - length x.r) (size - length y.r) x.r y.r x.r_is_positive y.r_is_positive
-        halves.first in
+    halves.first in
     let s : x.s ≡ y.s = one_filled (size - length x.s) (size - length y.s) x.s y.s x.s_is_positive y.s_is_positive
-        halves.second in
+    halves.second in
     x.der_is ∙ ap (λ (m : List ℕ). ecdsa_sig_value m x.s) r ∙ ap (ecdsa_sig_value y.r) s ∙ sym y.der_is
 
 -- numbers that do not fit

@@ -185,7 +185,7 @@ pub record SameInfo (a d k y : List ℕ) : Type 0 where
 pub one_info : (b a k d y : List ℕ) → b ≡ subject_public_key_info a k → b ≡ subject_public_key_info d y → SameInfo a d k y
 one_info b a k d y h i =
     let g = one_element 0x30 a d (element 3 (0 ∷ k)) (element 3 (0 ∷ y))
-        (info_content b (element 0x30 a ++ element 3 (0 ∷ k)) d y (info_whole b a k h) i) in
+    (info_content b (element 0x30 a ++ element 3 (0 ∷ k)) d y (info_whole b a k h) i) in
     record { algorithm = g.content; octets = tails _ _ _ _ (one_whole 3 (0 ∷ k) (0 ∷ y) g.rest) }
 
 pub no_two : (b a k n e : List ℕ) → b ≡ subject_public_key_info a k → b ≡ rsa_public_key n e → ⊥

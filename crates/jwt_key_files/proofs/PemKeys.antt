@@ -101,8 +101,11 @@ refused_public block d x h r = record {
   ];
   why = elim r.why [
     | inl w ↦ inr (inl (w.0, record { der = d; holds = h; another = w.1 }))
-    | inr w ↦ inr (inr (w.0, public_only block d h,
-        λ a. w.1 (subst NamesAnother (one_block (codes "PUBLIC KEY") block a.der d a.holds h) a.another)))
+    | inr w ↦ inr (inr (
+      w.0,
+      public_only block d h,
+      λ a. w.1 (subst NamesAnother (one_block (codes "PUBLIC KEY") block a.der d a.holds h) a.another),
+    ))
   ];
 }
 
@@ -126,8 +129,10 @@ pub refused_other : (block : List ℕ) (x : Kind) → x ≡ kind.InvalidKeyForma
     → ((d : List ℕ) → IsBlock (codes "PUBLIC KEY") block d → ⊥)
     → ((d : List ℕ) → IsBlock (codes "RSA PUBLIC KEY") block d → ⊥) → (NamesPrivate block → ⊥) → IsBlockRefused block x
 refused_other block x e f g p =
-    record { none = λ der key q. elim q [ inl r ↦ f der r.0 | inr r ↦ g der r.0 ];
-        why = inr (inr (e, p, λ a. f a.der a.holds)) }
+    record {
+      none = λ der key q. elim q [ inl r ↦ f der r.0 | inr r ↦ g der r.0 ];
+      why = inr (inr (e, p, λ a. f a.der a.holds));
+    }
 
 -- a text has one first block
 one_place : (text a b : List ℕ) (x : IsFirst text a) (y : IsFirst text b) → x.place ≡ y.place

@@ -89,7 +89,7 @@ opened t c r = ap (λ (x : List ℕ). t ∷ x) (append_assoc (length_octets (len
 pub one_element : (t : ℕ) (c d r s : List ℕ) → (element t c ++ r) ≡ (element t d ++ s) → SameContent c d r s
 one_element t c d r s e =
     let f : (t ∷ length_octets (length c) ++ (c ++ r)) ≡ (t ∷ length_octets (length d) ++ (d ++ s)) = sym (opened t c r)
-        ∙ e ∙ opened t d s in
+    ∙ e ∙ opened t d s in
     let g = one_length (length c) (length d) (c ++ r) (d ++ s) (tails _ _ _ _ f) in
     of_cut c d r s g.number g.rest
 

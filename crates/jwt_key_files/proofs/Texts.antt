@@ -15,13 +15,13 @@ pub no_prefix : (p b : List ℕ) → pointwise eqb (take (length p) b) p ≡ fal
 no_prefix p b unequal rest e =
     let f : take (length p) b ≡ p = ap (take (length p)) e ∙ take-append_seam p rest in
     let equal : pointwise eqb (take (length p) b) p ≡ true =
-        (slice_eq-Decides Decides-eqb (take (length p) b) p (pointwise eqb (take (length p) b) p) refl).1 f in
+    (slice_eq-Decides Decides-eqb (take (length p) b) p (pointwise eqb (take (length p) b) p) refl).1 f in
     cc
 
 pub a_prefix : (p b x : List ℕ) → pointwise eqb (take (length p) b) p ≡ true → x ≡ drop (length p) b → b ≡ p ++ x
 a_prefix p b x equal e =
     let f : take (length p) b ≡ p =
-        (slice_eq-Decides Decides-eqb (take (length p) b) p (pointwise eqb (take (length p) b) p) refl).0 equal in
+    (slice_eq-Decides Decides-eqb (take (length p) b) p (pointwise eqb (take (length p) b) p) refl).0 equal in
     sym (take-append-drop (length p) b) ∙ ap (λ (s : List ℕ). s ++ drop (length p) b) f ∙ ap (λ (s : List ℕ). p ++ s) (sym e)
 
 -- what follows a label
@@ -34,7 +34,7 @@ pub no_end : (label b r t : List ℕ) → b ≡ label ++ r → r ≡ codes "----
     → (eol s : List ℕ) → IsLineEnd eol → b ≡ label ++ (codes "-----" ++ (eol ++ s)) → ⊥
 no_end label b r t h i none eol s q e =
     none eol s q (append_cancel_left (codes "-----") t (eol ++ s) (sym i
-        ∙ append_cancel_left label r (codes "-----" ++ (eol ++ s)) (sym h ∙ e)))
+    ∙ append_cancel_left label r (codes "-----" ++ (eol ++ s)) (sym h ∙ e)))
 
 pub an_opening : (label b r t eol s : List ℕ) → b ≡ label ++ r → r ≡ codes "-----" ++ t → t ≡ eol ++ s
     → b ≡ label ++ (codes "-----" ++ (eol ++ s))

@@ -11,7 +11,7 @@ use Rattle.jwt_key_files.specs.PublicKeys.{IsRsaKey, IsInfoOf, NamesAnother, pri
 abbrev pub IsBlockOf : (block der : List ℕ) → Key → Type 0
 IsBlockOf block der key =
     (IsBlock (codes "PUBLIC KEY") block der × IsInfoOf der key) ⊎ (IsBlock (codes "RSA PUBLIC KEY") block der
-        × IsRsaKey der key)
+    × IsRsaKey der key)
 
 -- the first block of the text holds the key
 pub record IsPemOf (text : List ℕ) (key : Key) : Type 0 where

@@ -105,4 +105,4 @@ pub record IsRefused (bytes : List ℕ) (refusal : Kind) : Type 0 where
 abbrev pub IsPrivateOrMalformed : (bytes : List ℕ) (refusal : Kind) → Type 0
 IsPrivateOrMalformed bytes refusal =
     ((refusal ≡ kind.Provider private_key_text) × IsPrivateKey bytes)
-        ⊎ ((refusal ≡ kind.InvalidKeyFormat) × ¬ IsPrivateKey bytes)
+    ⊎ ((refusal ≡ kind.InvalidKeyFormat) × ¬ IsPrivateKey bytes)

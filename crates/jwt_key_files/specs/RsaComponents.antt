@@ -24,7 +24,7 @@ pairs_of lists = flat_map (λ n. map (λ e. (n, e)) lists) lists
 unfoldable pub is_of_numbers : (bytes : List ℕ) (numbers : List ℕ × List ℕ) → Bool
 is_of_numbers bytes numbers =
     bytes_eq bytes (rsa_public_key numbers.0 numbers.1) && (nat_lt 0 (slice_index numbers.0 0) && nat_lt 0
-        (slice_index numbers.1 0))
+    (slice_index numbers.1 0))
 
 -- the two numbers whose RSAPublicKey the bytes are, if there are such
 unfoldable pub rsa_components : (bytes : List ℕ) → Option (List ℕ × List ℕ)

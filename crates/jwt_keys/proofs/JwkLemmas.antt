@@ -86,7 +86,7 @@ written_at k d false None e f is = absurd (cc)
 written_at k d false (Some ms) e f is =
     let same : object (with_common k.common ms) ≡ d = ap (λ x. unwrap_or x d) is in
     subst (λ x. ReadsKey x (normal_key k)) same (reads_members k ms (parameters_free k.algorithm ms e f)
-        (parameters_read k.algorithm ms f))
+    (parameters_read k.algorithm ms f))
 
 pub reads_written : (k : Jwk) (d : Data) → key_value k ≡ Some d → ReadsKey d (normal_key k)
 reads_written k d is = written_at k d _ _ refl refl is
@@ -131,12 +131,14 @@ same_written : (k l : Jwk) → IsNormal k → IsNormal l → key_value k ≡ key
 same_written k l n m e =
     let d = m.written.0 in
     sym n.itself ∙ reads_one_key d (normal_key k) (normal_key l) (reads_written k d (e ∙ m.written.1))
-        (reads_written l d m.written.1) ∙ m.itself
+    (reads_written l d m.written.1) ∙ m.itself
 
 pub has_normal_form : (k : Jwk) → HasNormalForm k
 has_normal_form k = record {
-  reads_back = λ d is l. (λ r. reads_one_key d l (normal_key k) r (reads_written k d is),
-      λ e. subst (ReadsKey d) (sym e) (reads_written k d is));
+  reads_back = λ d is l. (
+    λ r. reads_one_key d l (normal_key k) r (reads_written k d is),
+    λ e. subst (ReadsKey d) (sym e) (reads_written k d is),
+  );
   once = normal_twice k;
   told_apart = λ n l m. (same_written k l n m, ap key_value);
 }

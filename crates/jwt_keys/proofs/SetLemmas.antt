@@ -75,8 +75,11 @@ keys_written (k ∷ ks) ds is = then_at k ks ds _ _ refl refl is (keys_written k
 set_at : (ks : List Jwk) (d : Data) (o : Option (List Data)) → key_values ks ≡ o
     → option_map (λ ds. object (member (codes "keys") (array (items_of ds)) no_members)) o ≡ Some d → ReadsSet d (normal_set ks)
 set_at ks d None e is = absurd (cc)
-set_at ks d (Some ds) e is = subst (λ x. ReadsSet x (normal_set ks)) (ap (λ o. unwrap_or o d) is) (items_of ds, refl,
-    keys_written ks ds e)
+set_at ks d (Some ds) e is = subst (λ x. ReadsSet x (normal_set ks)) (ap (λ o. unwrap_or o d) is) (
+  items_of ds,
+  refl,
+  keys_written ks ds e,
+)
 
 set_written : (ks : List Jwk) (d : Data) → set_value ks ≡ Some d → ReadsSet d (normal_set ks)
 set_written ks d is = set_at ks d _ refl is
@@ -117,19 +120,23 @@ keys_are_written (item d ds) (k ∷ ks) r =
 pub read_is_normal_set : (d : Data) (ks : List Jwk) → ReadsSet d ks → IsNormalSet ks
 read_is_normal_set d ks (ds, at, r) =
     let written = keys_are_written ds ks r in
-    record { itself = keys_stay ds ks r;
-        written = (object (member (codes "keys") (array (items_of written.0)) no_members), rw written.1) }
+    record {
+      itself = keys_stay ds ks r;
+      written = (object (member (codes "keys") (array (items_of written.0)) no_members), rw written.1);
+    }
 
 same_written : (ks ls : List Jwk) → IsNormalSet ks → IsNormalSet ls → set_value ks ≡ set_value ls → ks ≡ ls
 same_written ks ls n m e =
     let d = m.written.0 in
     sym n.itself ∙ one_set d (normal_set ks) (normal_set ls) (set_written ks d (e ∙ m.written.1))
-        (set_written ls d m.written.1) ∙ m.itself
+    (set_written ls d m.written.1) ∙ m.itself
 
 pub has_normal_set : (ks : List Jwk) → HasNormalSet ks
 has_normal_set ks = record {
-  reads_back = λ d is ls. (λ r. one_set d ls (normal_set ks) r (set_written ks d is),
-      λ e. subst (ReadsSet d) (sym e) (set_written ks d is));
+  reads_back = λ d is ls. (
+    λ r. one_set d ls (normal_set ks) r (set_written ks d is),
+    λ e. subst (ReadsSet d) (sym e) (set_written ks d is),
+  );
   once = set_twice ks;
   told_apart = λ n ls m. (same_written ks ls n m, ap set_value);
 }
@@ -148,7 +155,7 @@ one_more_written k None p ds v f is = absurd (cc)
 one_more_written k (Some d) None ds v f is = absurd (cc)
 one_more_written k (Some d) (Some es) ds v f is =
     subst (λ x. items_have_float (items_of x) ≡ false) (ap (λ x. unwrap_or x ds) is)
-        (rw (value_no_float k _ d refl v, f es refl) refl)
+    (rw (value_no_float k _ d refl v, f es refl) refl)
 
 keys_no_float : (ks : List Jwk) (ds : List Data) → key_values ks ≡ Some ds → items_have_float (items_of ds) ≡ false
 keys_no_float [] ds is = subst (λ x. items_have_float (items_of x) ≡ false) (ap (λ x. unwrap_or x ds) is) refl

@@ -31,12 +31,20 @@ one_common d c e r s =
     let x509_url : c.x509_url ≡ e.x509_url = cc (r.x509_url, s.x509_url) in
     let x509_chain : c.x509_chain ≡ e.x509_chain = cc (r.x509_chain, s.x509_chain) in
     let x509_sha1_fingerprint : c.x509_sha1_fingerprint ≡ e.x509_sha1_fingerprint =
-        cc (r.x509_sha1_fingerprint, s.x509_sha1_fingerprint) in
+    cc (r.x509_sha1_fingerprint, s.x509_sha1_fingerprint) in
     let x509_sha256_fingerprint : c.x509_sha256_fingerprint ≡ e.x509_sha256_fingerprint =
-        cc (r.x509_sha256_fingerprint, s.x509_sha256_fingerprint) in
-    λ i. record { public_key_use = public_key_use i; key_operations = key_operations i; key_algorithm = key_algorithm i;
-        key_id = key_id i; x509_url = x509_url i; x509_chain = x509_chain i; x509_sha1_fingerprint =
-        x509_sha1_fingerprint i; x509_sha256_fingerprint = x509_sha256_fingerprint i }
+    cc (r.x509_sha256_fingerprint, s.x509_sha256_fingerprint) in
+    λ i. record {
+      public_key_use = public_key_use i;
+      key_operations = key_operations i;
+      key_algorithm = key_algorithm i;
+      key_id = key_id i;
+      x509_url = x509_url i;
+      x509_chain = x509_chain i;
+      x509_sha1_fingerprint =
+          x509_sha1_fingerprint i;
+      x509_sha256_fingerprint = x509_sha256_fingerprint i;
+    }
 
 use_kept : (s : List ℕ) → use_text (use_named s) ≡ s
 use_kept s = spelled_text use_text known_uses s (uses.Other s) refl
@@ -135,8 +143,16 @@ get-x5t_s256 c ms free = simp (get_member-put_some, absent common_names ms free 
 pub without-with_common : (c : CommonParameters) (ms : Members) → IsFree ms → without common_names (with_common c ms) ≡ ms
 without-with_common c ms free =
     let none = without-put_some common_names in
-    simp (none (codes "use") refl, none (codes "key_ops") refl, none (codes "alg") refl, none (codes "kid") refl,
-        none (codes "x5u") refl, none (codes "x5c") refl, none (codes "x5t") refl, none (codes "x5t#S256") refl) free
+    simp (
+      none (codes "use") refl,
+      none (codes "key_ops") refl,
+      none (codes "alg") refl,
+      none (codes "kid") refl,
+      none (codes "x5u") refl,
+      none (codes "x5c") refl,
+      none (codes "x5t") refl,
+      none (codes "x5t#S256") refl,
+    ) free
 
 -- parameters that were put among free members are read as their normal form
 pub reads_with_common : (c : CommonParameters) (ms : Members) → IsFree ms
@@ -157,16 +173,16 @@ reads_with_common c ms free = record {
 pub common_is_normal : (d : Data) (c : CommonParameters) → ReadsCommon d c → normal_common c ≡ c
 common_is_normal d c r =
     let public_key_use = own_optional use_from normal_use (own_named use_text use_named use_kept)
-        (get (codes "use") d) c.public_key_use r.public_key_use in
+    (get (codes "use") d) c.public_key_use r.public_key_use in
     let key_operations = own_optional operations_from normal_operations own_operations (get (codes "key_ops") d)
-        c.key_operations r.key_operations in
+    c.key_operations r.key_operations in
     λ i. record c { public_key_use = public_key_use i; key_operations = key_operations i }
 
 pub common_twice : (c : CommonParameters) → normal_common (normal_common c) ≡ normal_common c
 common_twice c =
     let public_key_use = again_within normal_use (λ u. ap use_named (use_kept (use_text u))) c.public_key_use in
     let key_operations = again_within normal_operations
-        (λ os. ap (map operation_named) (operations_kept (map operation_text os))) c.key_operations in
+    (λ os. ap (map operation_named) (operations_kept (map operation_text os))) c.key_operations in
     λ i. record (normal_common c) { public_key_use = public_key_use i; key_operations = key_operations i }
 
 -- members without a float
@@ -177,16 +193,22 @@ abbrev with_text : List ℕ → Option (List ℕ) → Whole → Whole
 with_text k o w = (put_some k (option_map string o) w.0, no_float-put_some string (λ s. refl) k o w.0 w.1)
 
 abbrev with_chain : Option (List (List ℕ)) → Whole → Whole
-with_chain o w = (put_some (codes "x5c") (option_map texts_value o) w.0,
-    no_float-put_some texts_value no_float-texts_value (codes "x5c") o w.0 w.1)
+with_chain o w = (
+  put_some (codes "x5c") (option_map texts_value o) w.0,
+  no_float-put_some texts_value no_float-texts_value (codes "x5c") o w.0 w.1,
+)
 
 abbrev with_algorithm : Option KeyAlgorithm → Whole → Whole
-with_algorithm o w = (put_some (codes "alg") (option_map key_algorithm_value o) w.0,
-    no_float-put_some key_algorithm_value (λ a. refl) (codes "alg") o w.0 w.1)
+with_algorithm o w = (
+  put_some (codes "alg") (option_map key_algorithm_value o) w.0,
+  no_float-put_some key_algorithm_value (λ a. refl) (codes "alg") o w.0 w.1,
+)
 
 abbrev with_operations : Option (List KeyOperations) → Whole → Whole
-with_operations o w = (put_some (codes "key_ops") (option_map operations_value o) w.0,
-    no_float-put_some operations_value (λ os. no_float-texts_value (map operation_text os)) (codes "key_ops") o w.0 w.1)
+with_operations o w = (
+  put_some (codes "key_ops") (option_map operations_value o) w.0,
+  no_float-put_some operations_value (λ os. no_float-texts_value (map operation_text os)) (codes "key_ops") o w.0 w.1,
+)
 
 abbrev whole_members : CommonParameters → Whole → Whole
 whole_members c w =

@@ -165,8 +165,15 @@ parameters_twice (types.Other p) = twice_at p _ refl
 named_from-without : (ms : Members) → named_from (object (without common_names ms)) ≡ named_from (object ms)
 named_from-without ms =
     let left = get_member-without common_names in
-    simp (left (codes "kty") ms, left (codes "crv") ms, left (codes "x") ms, left (codes "y") ms, left (codes "n") ms,
-        left (codes "e") ms, left (codes "k") ms)
+    simp (
+      left (codes "kty") ms,
+      left (codes "crv") ms,
+      left (codes "x") ms,
+      left (codes "y") ms,
+      left (codes "n") ms,
+      left (codes "e") ms,
+      left (codes "k") ms,
+    )
 
 -- the parameters of a type are not among the common members
 pub named-without : (d : Data) (ms : Members) → as_object d ≡ Some ms → named_from (object (without common_names ms))

@@ -19,8 +19,16 @@ common_names = codes "use" ∷ codes "key_ops" ∷ codes "alg" ∷ codes "kid" �
 
 -- no parameters
 abbrev pub no_common : CommonParameters
-no_common = record { public_key_use = None; key_operations = None; key_algorithm = None; key_id = None; x509_url = None;
-    x509_chain = None; x509_sha1_fingerprint = None; x509_sha256_fingerprint = None }
+no_common = record {
+  public_key_use = None;
+  key_operations = None;
+  key_algorithm = None;
+  key_id = None;
+  x509_url = None;
+  x509_chain = None;
+  x509_sha1_fingerprint = None;
+  x509_sha256_fingerprint = None;
+}
 
 -- d is an object, and each of the eight names gives its field
 pub record ReadsCommon (d : Data) (c : CommonParameters) : Type 0 where
@@ -54,5 +62,7 @@ common_value c = object (with_common c no_members)
 
 -- a free string that is a known spelling becomes the known value
 abbrev pub normal_common : CommonParameters → CommonParameters
-normal_common c = record c { public_key_use = option_map normal_use c.public_key_use;
-    key_operations = option_map normal_operations c.key_operations }
+normal_common c = record c {
+  public_key_use = option_map normal_use c.public_key_use;
+  key_operations = option_map normal_operations c.key_operations;
+}

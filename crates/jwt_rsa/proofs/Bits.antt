@@ -63,7 +63,7 @@ bits_between x j L r b low high small e =
     let high' : x * 256 ^ L + r < 2 ^ suc j * 256 ^ L = below_front x r (2 ^ suc j) (256 ^ L) high small in
     let at_low : 2 ^ (b - 1) ≡ 2 ^ j * 256 ^ L =
     let split : b - 1 ≡ j + 8 * L = omega arith in ap (λ z. 2 ^ z) split ∙ pow-add 2 j (8 * L)
-        ∙ ap (λ z. 2 ^ j * z) (sym (pow_octets L)) in
+    ∙ ap (λ z. 2 ^ j * z) (sym (pow_octets L)) in
     let at_high : 2 ^ b ≡ 2 ^ suc j * 256 ^ L =
     ap (λ z. 2 ^ z) e ∙ pow-add 2 (suc j) (8 * L) ∙ ap (λ z. 2 ^ suc j * z) (sym (pow_octets L)) in
     record { below = rw at_high high'; from = λ _. rw at_low low' }

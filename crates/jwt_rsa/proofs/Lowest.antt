@@ -58,7 +58,7 @@ pub power_fits : (n e bits s : ℕ) → 0 < n → n < 2 ^ bits → rsavp1 n e s 
 power_fits n e bits s some below =
     let enough : bits ≤ 8 * octet_count bits = omega arith in
     let most : 2 ^ bits ≤ 2 ^ (8 * octet_count bits) =
-        pow-le-pow_right (omega arith) {i = bits} {j = 8 * octet_count bits} enough in
+    pow-le-pow_right (omega arith) {i = bits} {j = 8 * octet_count bits} enough in
     rw (pow_octets (octet_count bits)) (omega (arith, mod_below (s ^ e) n some, below, most))
 
 pub pss_decides : (h : Hash) (n e bits : ℕ) (m s em : List ℕ) → IsRepresentative n bits s

@@ -22,7 +22,7 @@ characters_none = refl
 
 one_more : (text : List ℕ) (i : ℕ) → i < length text
     → characters (take (i + 1) text) ≡ characters (take i text) ++ cond (is_white (get_or text i 0)) []
-        (of_url (get_or text i 0) ∷ [])
+    (of_url (get_or text i 0) ∷ [])
 unfolding characters
 one_more text i within =
     let p : ℕ → Bool = λ byte. not (is_white byte) in
@@ -35,7 +35,7 @@ pub more_white : (text : List ℕ) (i : ℕ) → i < length text → is_white (g
     → characters (take (i + 1) text) ≡ characters (take i text)
 more_white text i within white =
     one_more text i within ∙ ap (λ (b : Bool). characters (take i text) ++ cond b [] (of_url (get_or text i 0) ∷ []))
-        white ∙ append-nil (characters (take i text))
+    white ∙ append-nil (characters (take i text))
 
 pub more_kept : (text : List ℕ) (i : ℕ) → i < length text → is_white (get_or text i 0) ≡ false
     → characters (take (i + 1) text) ≡ characters (take i text) ++ (of_url (get_or text i 0) ∷ [])
@@ -60,7 +60,7 @@ pub stand_for : (digits all : List ℕ) (k : ℕ) → k < 3 → (length digits +
 stand_for digits all k few groups part =
     let text = digits ++ replicate k 0x41 in
     let long : length text ≡ length digits + k =
-        omega (arith, length-append digits (replicate k 0x41), length-replicate {A = ℕ} k 0x41) in
+    omega (arith, length-append digits (replicate k 0x41), length-replicate {A = ℕ} k 0x41) in
     let fits : k ≤ length all = enough text all k few (omega arith) (ap (λ (n : ℕ). n % 4) long ∙ groups) part in
     let more : List ℕ = drop (length all - k) all in
     let count : length more ≡ k = omega (arith, length-drop (length all - k) all) in
@@ -95,7 +95,7 @@ front a b r s n e =
 pub one_list : (digits a b : List ℕ) → StandsFor digits a → StandsFor digits b → a ≡ b
 one_list digits a b s t =
     let e : length s.more ≡ length t.more = same_count (length digits) (length s.more) (length t.more) s.few t.few
-        s.groups t.groups in
+    s.groups t.groups in
     front a b s.more t.more e
     (one_part (digits ++ replicate (length t.more) 0x41) (a ++ s.more) (b ++ t.more)
     (subst (λ (n : ℕ). IsPart (digits ++ replicate n 0x41) (a ++ s.more)) e s.part) t.part)

@@ -67,5 +67,8 @@ some_left n t = grind (arith, nat_tests)
 
 pub no_rest : (tags b rest : List ℕ) → HasElements tags b rest → IsTrue (nat_eq (length rest) 0) ↔ HasElements tags b []
 no_rest tags b [] h = (λ _. h, λ _. refl)
-no_rest tags b (x ∷ r) h = (λ t. absurd (some_left (length r) t), λ k. let e : (x ∷ r) ≡ [] = one_rest tags b
-    (x ∷ r) [] h k in cc)
+no_rest tags b (x ∷ r) h = (
+  λ t. absurd (some_left (length r) t),
+  λ k. let e : (x ∷ r) ≡ [] = one_rest tags b
+      (x ∷ r) [] h k in cc,
+)

@@ -17,7 +17,7 @@ found text mark k occurs = record {
 occurs_in : (text mark : List ℕ) (h : Has text mark) → OccursAt text mark (length h.before)
 occurs_in text mark h =
     let rest : drop (length h.before) text ≡ mark ++ h.after = ap (drop (length h.before)) h.stands
-        ∙ drop-append_seam h.before (mark ++ h.after) in
+    ∙ drop-append_seam h.before (mark ++ h.after) in
     record {
       fits = omega (arith, ap length h.stands, length-append h.before (mark ++ h.after), length-append mark h.after);
       reads = at_reads 0 text mark (length h.before) h.after rest;

@@ -48,8 +48,11 @@ rsa_answer der = if bytes_eq der (codes "rsa") then Ok (0xC0 ∷ 0xFF ∷ 0xEE �
     (kind.InvalidRsaKey (codes "no row"))
 
 abbrev pub ec_answer : List ℕ → Algorithm → Result (EllipticCurve × List ℕ × List ℕ) Kind
-ec_answer der a = if bytes_eq der (codes "ec") && bytes_eq (name_of a) (codes "ES256") then Ok (P256, 1 ∷ [],
-    2 ∷ []) else Err kind.InvalidEcdsaKey
+ec_answer der a = if bytes_eq der (codes "ec") && bytes_eq (name_of a) (codes "ES256") then Ok (
+  P256,
+  1 ∷ [],
+  2 ∷ [],
+) else Err kind.InvalidEcdsaKey
 
 -- the last 32 bytes
 abbrev pub ed_answer : List ℕ → EllipticCurve → Result (List ℕ) Kind

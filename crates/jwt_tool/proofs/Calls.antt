@@ -27,7 +27,7 @@ pub claims_passed : (input : List ℕ) (algorithm : Algorithm) (secret : List �
     (header : Header) (claims : Value)
     → key ≡ Plain Hmac secret → options ≡ default_options (algorithm ∷ [])
     → (t : Contents) × Passes (token_tests (given_call input key options now)) decode_order t
-        × ((t.header ≡ header) × (view claims ≡ t.payload_value))
+    × ((t.header ≡ header) × (view claims ≡ t.payload_value))
     → IsClaimsValue input algorithm secret now (view claims)
 claims_passed input algorithm secret now key options header claims is_key is_options found = (
   found.0,
@@ -52,11 +52,18 @@ pub set_claims_passed : (input : List ℕ) (algorithm : Algorithm) (set : List �
     (options : Options) (header : Header) (claims : Value)
     → ReadsText ReadsSet set keys → options ≡ default_options (algorithm ∷ [])
     → (t : Contents) × Passes (token_tests (given_set_call input keys options now)) set_order t
-        × ((t.header ≡ header) × (view claims ≡ t.payload_value))
+    × ((t.header ≡ header) × (view claims ≡ t.payload_value))
     → IsClaimsValueBySet input algorithm set now (view claims)
-set_claims_passed input algorithm set now keys options header claims text is_options found =
-    (keys, text, (found.0, subst (λ o. Passes (token_tests (given_set_call input keys o now)) set_order found.0)
-        is_options found.1, sym found.2.1))
+set_claims_passed input algorithm set now keys options header claims text is_options found = (
+  keys,
+  text,
+  (
+    found.0,
+    subst (λ o. Passes (token_tests (given_set_call input keys o now)) set_order found.0)
+        is_options found.1,
+    sym found.2.1,
+  ),
+)
 
 pub set_claims_failed : (input : List ℕ) (algorithm : Algorithm) (set : List ℕ) (now : ℕ) (keys : List Jwk)
     (options : Options) (k : Kind)
@@ -75,7 +82,7 @@ pub token_issued : (input : List ℕ) (algorithm : Algorithm) (secret token : Li
     (claims : Data)
     → header ≡ new_header algorithm → key ≡ secret_key secret → IsJson input claims
     → (t : Written) × Passes (issue_tests (given_issue header key claims)) encode_order t
-        × IsIssued (given_issue header key claims) t token
+    × IsIssued (given_issue header key claims) t token
     → IsToken input algorithm secret token
 token_issued input algorithm secret token header key claims is_header is_key read found = (
   claims,
@@ -83,7 +90,7 @@ token_issued input algorithm secret token header key claims is_header is_key rea
   subst (λ k. (t : Written) × Passes (issue_tests (given_issue (new_header algorithm) k claims)) encode_order t
       × IsIssued (given_issue (new_header algorithm) k claims) t token) is_key
       (subst (λ h. (t : Written) × Passes (issue_tests (given_issue h key claims)) encode_order t
-          × IsIssued (given_issue h key claims) t token) is_header found),
+      × IsIssued (given_issue h key claims) t token) is_header found),
 )
 
 pub token_failed : (input : List ℕ) (algorithm : Algorithm) (secret : List ℕ) (header : Header) (key : SecretKey)

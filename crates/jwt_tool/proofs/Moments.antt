@@ -23,7 +23,7 @@ read_as false b c v (Err e) h = refl
 tested : {E : Type 0} (bs : List ℕ) (r : Result ℕ E)
     → OkIff r ((all_ascii_digits bs ≡ true) × (0 < length bs) × (digits_value 10 bs < 2 ^ 64)) (digits_value 10 bs)
     → OkIff r ((all_ascii_digits bs ≡ true) × (ltb 0 (length bs) ≡ true) × (ltb (digits_value 10 bs) (2 ^ 64) ≡ true))
-        (digits_value 10 bs)
+    (digits_value 10 bs)
 tested bs (Ok x) h = ((h.0.0, lt-ltb _ _ h.0.1, lt-ltb _ _ h.0.2), h.1)
 tested bs (Err e) h = λ p. h (p.0, ltb-true _ _ p.1, ltb-true _ _ p.2)
 

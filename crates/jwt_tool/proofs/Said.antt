@@ -28,19 +28,19 @@ pub request_said : (known : Option (List ℕ)) (words : List (List ℕ)) (c : Re
 request_said None words c read input status line is all cut answer = tt
 request_said (Some all) words c read input status line is whole cut answer =
     answers words c _ status line is (subst (λ r. RequestAnswer c (without_final_newline r) status line) whole
-        (subst (λ i. RequestAnswer c i status line) cut answer))
+    (subst (λ i. RequestAnswer c i status line) cut answer))
 
 -- and the bytes that are written then
 pub wrote : (known old new : Option (List ℕ)) (words : List (List ℕ)) (status : ℕ) (line : List ℕ)
     → IfSome known (λ all. Answers words (without_final_newline all) status line)
     → Appends old new (line ++ 10 ∷ []) → IfSome known (λ all. (l : List ℕ) × Appends old new (l ++ 10 ∷ [])
-        × Answers words (without_final_newline all) status l)
+    × Answers words (without_final_newline all) status l)
 wrote None old new words status line said appended = tt
 wrote (Some all) old new words status line said appended = (line, appended, said)
 
 -- a refusal's text, or that of out of memory
 pub refused_said : {L : Type 0} (K : Kind → Type 0) (e : Error) (status : ℕ) (line : List ℕ) → IsMemory e ⊎ K (kind_of e)
     → (line ≡ text_of (kind_of e)) × (status ≡ 1) → (L ⊎ ((k : Kind) × K k × IsRefusal k status line))
-        ⊎ IsMemoryLine status line
+    ⊎ IsMemoryLine status line
 refused_said K e status line (inl memory) said = inr (said.0 ∙ ap text_of memory, said.1)
 refused_said K e status line (inr failed) said = inl (inr (kind_of e, failed, said))

@@ -106,7 +106,7 @@ times_read : (d : Data) (usual : Options) → member_has_form Whole (present (ge
 times_read d usual wl wr we wn wa =
     let (l, at_l) = default_read usual.leeway Whole as_whole (λ v. refl) (get (codes "leeway") d) wl in
     let (r, at_r) = default_read usual.reject Whole as_whole (λ v. refl)
-        (get (codes "reject_tokens_expiring_in_less_than") d) wr in
+    (get (codes "reject_tokens_expiring_in_less_than") d) wr in
     let (e, at_e) = default_read usual.checks_exp Flag as_bool (λ v. refl) (get (codes "validate_exp") d) we in
     let (n, at_n) = default_read usual.checks_nbf Flag as_bool (λ v. refl) (get (codes "validate_nbf") d) wn in
     let (a, at_a) = default_read usual.checks_aud Flag as_bool (λ v. refl) (get (codes "validate_aud") d) wa in
@@ -120,14 +120,14 @@ faultless_read d names none =
     let usual = usual_options strict in
     let (l, r, e, n, a, times) = times_read d usual w2 w3 w4 w5 w6 in
     let (required, at_required) = default_read defaults.required TextList text_set is_text_set
-        (get (codes "required_spec_claims") d) w1 in
+    (get (codes "required_spec_claims") d) w1 in
     let (aud, at_aud) = well_read TextList text_set is_text_set (get (codes "aud") d) w7 in
     let (iss, at_iss) = well_read TextList text_set is_text_set (get (codes "iss") d) w8 in
     let (sub, at_sub) = well_read OneText as_str (λ v. refl) (get (codes "sub") d) w9 in
     let (algorithms, at_algorithms) = default_read [] AlgorithmList algorithms_in (λ v. refl)
-        (get (codes "algorithms") d) w10 in
+    (get (codes "algorithms") d) w10 in
     let (understood, at_understood) = default_read defaults.understood TextList text_set is_text_set
-        (get (codes "understood_crit") d) w11 in
+    (get (codes "understood_crit") d) w11 in
     let members : Options = record {
       required = required;
       leeway = l;

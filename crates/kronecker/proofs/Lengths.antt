@@ -41,9 +41,13 @@ length_add (suc n) f g h k = (
 
 pub length_times : (c n : ℕ) (f : ℕ → ℕ) → HasLength n f → HasLength n (λ x. c * f x)
 length_times c zero f h = λ x. let e : c * f x ≡ c * 0 = ap (λ z. c * z) (h x) in omega arith
-length_times c (suc n) f h =
-    (c * h.0, λ x. c * h.1 x, length_times c n h.1 h.2, λ x. let e : c * f x ≡ c * (h.0 + x * h.1 x) =
-        ap (λ z. c * z) (h.3 x) in omega arith)
+length_times c (suc n) f h = (
+  c * h.0,
+  λ x. c * h.1 x,
+  length_times c n h.1 h.2,
+  λ x. let e : c * f x ≡ c * (h.0 + x * h.1 x) =
+      ap (λ z. c * z) (h.3 x) in omega arith,
+)
 
 -- x times a polynomial
 pub length_shift : (n : ℕ) (f : ℕ → ℕ) → HasLength n f → HasLength (suc n) (λ x. x * f x)
@@ -77,9 +81,9 @@ length_next (suc n) f h =
     length_same (suc n) (λ x. h.0 + (g (suc x) + x * g (suc x))) (λ x. f (suc x))
     (λ x. let e : f (suc x) ≡ h.0 + suc x * g (suc x) = h.3 (suc x) in omega arith)
     (length_add (suc n) (λ _. h.0) (λ x. g (suc x) + x * g (suc x)) (length_to (suc n) 1 (λ _. h.0) (omega arith)
-        (length_con h.0))
+    (length_con h.0))
     (length_add (suc n) (λ x. g (suc x)) (λ x. x * g (suc x)) (length_more n (λ x. g (suc x)) next)
-        (length_shift n (λ x. g (suc x)) next)))
+    (length_shift n (λ x. g (suc x)) next)))
 
 cancel_suc : (x a b : ℕ) → suc x * a ≡ suc x * b → a ≡ b
 cancel_suc x a b e =
@@ -131,7 +135,7 @@ short_product : (r : List ℕ) (a b : Poly) (m n : ℕ) → HasLength m (λ x. e
     → HasLength (length_product m n) (λ x. ev (mul_poly a b) (x ∷ r))
 short_product r a b m n h k =
     length_same (length_product m n) (λ x. ev a (x ∷ r) * ev b (x ∷ r)) (λ x. ev (mul_poly a b) (x ∷ r))
-        (λ x. ev_mul a b (x ∷ r))
+    (λ x. ev_mul a b (x ∷ r))
     (length_mul m n (λ x. ev a (x ∷ r)) (λ x. ev b (x ∷ r)) h k)
 
 short_add : (r : List ℕ) (a b : Poly × Poly) (m n : ℕ) → AreShort r a m → AreShort r b n
@@ -185,5 +189,8 @@ first_short r = (
 
 pub symbols_short : (r : List ℕ) (n : ℕ) → Related (AreShort r) (symbols (suc n)) (2 ∷ ones n)
 unfolding symbols deeper
-symbols_short r n = (first_short r, lifted_left (λ u k. k ≡ 1) (AreShort r) deeper (λ u k e. deeper_short r u k e)
-    (symbols n) (ones n) (symbols_one n))
+symbols_short r n = (
+  first_short r,
+  lifted_left (λ u k. k ≡ 1) (AreShort r) deeper (λ u k e. deeper_short r u k e)
+      (symbols n) (ones n) (symbols_one n),
+)

@@ -32,13 +32,13 @@ eval_related o o' R s xs ys r (var k) = nth_related R (o.num 0) (o'.num 0) (s.nu
 eval_related o o' R s xs ys r (num c) = s.num c
 eval_related o o' R s xs ys r (add e f) =
     s.add (eval o xs e) (eval o xs f) (eval o' ys e) (eval o' ys f) (eval_related o o' R s xs ys r e)
-        (eval_related o o' R s xs ys r f)
+    (eval_related o o' R s xs ys r f)
 eval_related o o' R s xs ys r (sub e f) =
     s.sub (eval o xs e) (eval o xs f) (eval o' ys e) (eval o' ys f) (eval_related o o' R s xs ys r e)
-        (eval_related o o' R s xs ys r f)
+    (eval_related o o' R s xs ys r f)
 eval_related o o' R s xs ys r (mul e f) =
     s.mul (eval o xs e) (eval o xs f) (eval o' ys e) (eval o' ys f) (eval_related o o' R s xs ys r e)
-        (eval_related o o' R s xs ys r f)
+    (eval_related o o' R s xs ys r f)
 
 pub run_related : {A B : Type 0} (o : Ops A) (o' : Ops B) (R : A → B → Type 0) → Respects A B o o' R
     → (xs : List A) (ys : List B) → Related R xs ys → (es : List Expr) → Related R (run o xs es) (run o' ys es)

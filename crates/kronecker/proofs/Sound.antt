@@ -56,7 +56,7 @@ module _ {A : Type 0} (q : ℕ) (pos : 0 < q) (o : Ops A) (R : A → ℕ → Typ
       add_alike q (m + n * y) (m + n * y) v' (c + d * y) refl w.4
       ∙ ap (λ z. z % q) (let e : (m + n * y) + (c + d * y) ≡ (m + c) + (n + d) * y = omega arith in e)
       ∙ add_alike q (m + c) a ((n + d) * y) (b * y) (minus_back q pos a c)
-          (mul_alike q (n + d) b y y (minus_back q pos b d) refl) in (
+      (mul_alike q (n + d) b y y (minus_back q pos b d) refl) in (
         m,
         n,
         s.sub u.0 v.0 a c x.2 w.2,
@@ -66,7 +66,7 @@ module _ {A : Type 0} (q : ℕ) (pos : 0 < q) (o : Ops A) (R : A → ℕ → Typ
 
   root_mul : (u v : A × A) (u' v' : ℕ) → IsRoot R q y u u' → IsRoot R q y v v'
       → IsRoot R q y (o.add (o.mul u.0 v.0) (o.mul f (o.mul u.1 v.1)), o.add (o.mul u.0 v.1) (o.mul u.1 v.0))
-          ((modulo q).mul u' v')
+      ((modulo q).mul u' v')
   unfolding modulo plus times
   root_mul u v u' v' x w =
       let a = x.0 in let b = x.1 in let c = w.0 in let d = w.1 in
@@ -88,10 +88,10 @@ module _ {A : Type 0} (q : ℕ) (pos : 0 < q) (o : Ops A) (R : A → ℕ → Typ
         mod-mod (u' * v') q
             ∙ mul_alike q u' (a + b * y) v' (c + d * y) x.4 w.4
             ∙ ap (λ z. z % q) (let e : (a + b * y) * (c + d * y) ≡ (a * c + (y * y) * (b * d)) + (a * d + b * c)
-                * y = omega arith in e)
+            * y = omega arith in e)
             ∙ add_alike q (a * c + (y * y) * (b * d)) first ((a * d + b * c) * y) (second * y)
             (add_alike q (a * c) (a * c) ((y * y) * (b * d)) (f' * (b * d)) refl
-                (mul_alike q (y * y) f' (b * d) (b * d) square refl) ∙ sym e1)
+            (mul_alike q (y * y) f' (b * d) (b * d) square refl) ∙ sym e1)
             (mul_alike q (a * d + b * c) second y y (sym e2) refl),
       )
 
@@ -114,9 +114,13 @@ module _ {A : Type 0} (q : ℕ) (pos : 0 < q) (o : Ops A) (R : A → ℕ → Typ
   embed_root : (h : ℕ) (a : A) (b : ℕ) → R a b → RootR R q ys h (embed o h a) b
   unfolding embed modulo
   embed_root zero a b r = r
-  embed_root (suc h) a b r =
-      (b, 0, embed_root h a b r, embed_root h (o.num 0) 0 (s.num 0),
-          ap (λ z. z % q) (let e : b ≡ b + 0 * ys h = omega arith in e))
+  embed_root (suc h) a b r = (
+    b,
+    0,
+    embed_root h a b r,
+    embed_root h (o.num 0) 0 (s.num 0),
+    ap (λ z. z % q) (let e : b ≡ b + 0 * ys h = omega arith in e),
+  )
 
   tower_root : (f : ℕ → A) (f' : ℕ → ℕ) → ((k : ℕ) → R (f k) (f' k)) → (h : ℕ)
       → ((k : ℕ) → k < h → (ys k * ys k) % q ≡ f' k % q)
@@ -125,7 +129,7 @@ module _ {A : Type 0} (q : ℕ) (pos : 0 < q) (o : Ops A) (R : A → ℕ → Typ
   tower_root f f' r zero e = s
   tower_root f f' r (suc h) e =
       root_respects q pos (tower o f h) (RootR R q ys h) (tower_root f f' r h (λ k l. e k (omega arith)))
-          (embed o h (f h)) (f' h) (ys h)
+      (embed o h (f h)) (f' h) (ys h)
       (embed_root h (f h) (f' h) (r h)) (e h (omega arith))
 
   places_root : (h : ℕ) (xs : List A) (vs : List ℕ) → Related R xs vs
@@ -133,8 +137,13 @@ module _ {A : Type 0} (q : ℕ) (pos : 0 < q) (o : Ops A) (R : A → ℕ → Typ
   unfolding places point_of modulo
   places_root zero xs vs r = r
   places_root (suc h) xs vs r = (
-    (0, 1, embed_root h (o.num 0) 0 (s.num 0), embed_root h (o.num 1) 1 (s.num 1),
-        ap (λ z. z % q) (let e : ys h ≡ 0 + 1 * ys h = omega arith in e)),
+    (
+      0,
+      1,
+      embed_root h (o.num 0) 0 (s.num 0),
+      embed_root h (o.num 1) 1 (s.num 1),
+      ap (λ z. z % q) (let e : ys h ≡ 0 + 1 * ys h = omega arith in e),
+    ),
     lifted_left (RootR R q ys h) (RootR R q ys (suc h)) (λ a. (a, embed o h (o.num 0)))
         (λ a b k. (b, 0, k, embed_root h (o.num 0) 0 (s.num 0), ap (λ z. z % q) (let e : b ≡ b + 0 * ys h = omega arith in e)))
         (places o h xs) (point_of ys h vs) (places_root h xs vs r),
@@ -147,7 +156,7 @@ module _ {A : Type 0} (q : ℕ) (pos : 0 < q) (o : Ops A) (R : A → ℕ → Typ
   values_root h fs xs vs r e es =
       run_related (tower o (squares o fs xs) h) (modulo q) (RootR R q ys h)
       (tower_root (squares o fs xs) (λ k. eval (modulo q) vs (nth (num 0) fs k))
-          (λ k. eval_related o (modulo q) R s xs vs r (nth (num 0) fs k)) h e)
+      (λ k. eval_related o (modulo q) R s xs vs r (nth (num 0) fs k)) h e)
       (places o h xs) (point_of ys h vs) (places_root h xs vs r) es
 
 -- a number whose parts are 0 is 0
@@ -188,7 +197,7 @@ module _ (h : ℕ) (fs program : List Expr) (outs m k : ℕ) (k_below : k < outs
   unfolding outcome vanish
   same_parts point l vanishes =
       first_tested (TowerR h (IsWhole point)) (λ u. parts (λ a. nat_eq a.0 a.1) h u)
-          (AllParts (λ a. ev a.0 point ≡ ev a.1 point) h)
+      (AllParts (λ a. ev a.0 point ≡ ev a.1 point) h)
       (embed differences h (differences.num 0))
       (λ u v r e. parts_tested (IsWhole point) (λ a. nat_eq a.0 a.1) (λ a. ev a.0 point ≡ ev a.1 point)
       (λ a w i t. let same : w.0 ≡ w.1 = eqb-true w.0 w.1 t in omega arith) h u v r e)
@@ -199,14 +208,14 @@ module _ (h : ℕ) (fs program : List Expr) (outs m k : ℕ) (k_below : k < outs
 
   small_parts : (point : List ℕ) (whole : List ℕ → List ℕ) → ((r : List ℕ) → length r ≡ length point → length (whole r) ≡ m)
       → each_place (λ r b. first_pass (λ u. parts (λ n. nat_lt n b) h u) outs (values bounds h fs (whole r) program))
-          point ≡ true
+      point ≡ true
       → AllParts (λ a. Small point (λ r. ev a.0 (whole r) + ev a.1 (whole r))) h outcome
   unfolding outcome
   small_parts point whole l is_bounded =
       places_small (λ a r. ev a.0 (whole r) + ev a.1 (whole r)) h outcome
       (λ r b. first_pass (λ u. parts (λ n. nat_lt n b) h u) outs (values bounds h fs (whole r) program)) point
       (λ r b e t. first_tested (TowerR h (IsBound (whole r))) (λ u. parts (λ n. nat_lt n b) h u)
-          (AllParts (λ a. ev a.0 (whole r) + ev a.1 (whole r) < b) h)
+      (AllParts (λ a. ev a.0 (whole r) + ev a.1 (whole r) < b) h)
       (embed differences h (differences.num 0))
       (λ u v i j. parts_tested (IsBound (whole r)) (λ n. nat_lt n b) (λ a. ev a.0 (whole r) + ev a.1 (whole r) < b)
       (λ a w c x. let below : w < b = ltb-true w b x in omega arith) h u v i j)
@@ -224,7 +233,7 @@ module _ (h : ℕ) (fs program : List Expr) (outs m k : ℕ) (k_below : k < outs
       (AllParts (λ a. HasLength d (λ x. ev a.0 (x ∷ r)) × HasLength d (λ x. ev a.1 (x ∷ r))) h)
       (embed differences h (differences.num 0))
       (λ u v i j. parts_tested (AreShort r) (λ i. nat_lt i (suc d)) (λ a. HasLength d (λ x. ev a.0 (x ∷ r))
-          × HasLength d (λ x. ev a.1 (x ∷ r)))
+      × HasLength d (λ x. ev a.1 (x ∷ r)))
       (λ a w c t.
       let below : w < suc d = ltb-true w (suc d) t in
       let fits : w ≤ d = omega arith in
@@ -243,7 +252,7 @@ module _ (h : ℕ) (fs program : List Expr) (outs m k : ℕ) (k_below : k < outs
       parts_zero (IsResidue q xs) q ys h outcome (nth 0 (run (modulo q) (point_of ys h xs) program) k)
       (nth_related (RootR (IsResidue q xs) q ys h) (embed differences h (differences.num 0)) 0
       (embed_root q pos differences (IsResidue q xs) (residue_respects q pos xs) ys h (differences.num 0) 0
-          ((residue_respects q pos xs).num 0))
+      ((residue_respects q pos xs).num 0))
       (values differences h fs (symbols m) program) (run (modulo q) (point_of ys h xs) program)
       (values_root q pos differences (IsResidue q xs) (residue_respects q pos xs) ys h fs (symbols m) xs
       (subst (λ (n : ℕ). Related (IsResidue q xs) (symbols n) xs) l (symbols_residue q xs)) squares_are program)
@@ -252,7 +261,7 @@ module _ (h : ℕ) (fs program : List Expr) (outs m k : ℕ) (k_below : k < outs
       (λ a e _ w i.
       cancel q pos w 0 (ev a.1 xs)
       (ap (λ z. z % q) (let t : w + ev a.1 xs ≡ ev a.1 xs + w = omega arith in t) ∙ sym i
-          ∙ ap (λ z. z % q) (let t : ev a.0 xs ≡ 0 + ev a.1 xs = omega arith in t)))
+      ∙ ap (λ z. z % q) (let t : ev a.0 xs ≡ 0 + ev a.1 xs = omega arith in t)))
       h outcome same (parts_all (λ a. Unit {0}) (λ a. tt) h outcome))
 
 -- a program whose values vanish at a point beyond their coefficients
@@ -305,15 +314,15 @@ sound_by_grid h fs program outs n d point lens is_short vanishes is_bounded q po
     h out
     (parts_each (λ c a. ev a.0 (c ∷ xs) ≡ ev a.1 (c ∷ xs)) d h out
     (λ c cl. parts_with (λ a. ev a.0 (c ∷ point c) ≡ ev a.1 (c ∷ point c))
-        (λ a. Small (point c) (λ r. ev a.0 (c ∷ r) + ev a.1 (c ∷ r)))
+    (λ a. Small (point c) (λ r. ev a.0 (c ∷ r) + ev a.1 (c ∷ r)))
     (λ a. ev a.0 (c ∷ xs) ≡ ev a.1 (c ∷ xs))
     (λ a e s.
     sym (ev_at_head c a.0 xs)
     ∙ poly_same (at_head c a.0) (at_head c a.1) (point c) xs (lens c ∙ sym l)
     (small_less (point c) (λ r. ev a.0 (c ∷ r) + ev a.1 (c ∷ r)) (ev (at_head c a.0))
-        (λ r. let z = ev_at_head c a.0 r in omega arith) s)
+    (λ r. let z = ev_at_head c a.0 r in omega arith) s)
     (small_less (point c) (λ r. ev a.0 (c ∷ r) + ev a.1 (c ∷ r)) (ev (at_head c a.1))
-        (λ r. let z = ev_at_head c a.1 r in omega arith) s)
+    (λ r. let z = ev_at_head c a.1 r in omega arith) s)
     (ev_at_head c a.0 (point c) ∙ e ∙ sym (ev_at_head c a.1 (point c)))
     ∙ ev_at_head c a.1 xs)
     h out

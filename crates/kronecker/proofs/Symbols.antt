@@ -94,7 +94,7 @@ bound_mul r a b a' b' x y =
     let e1 : ev (add_poly (mul_poly a.0 b.1) (mul_poly a.1 b.0)) r ≡ ev a.0 r * ev b.1 r + ev a.1 r * ev b.0 r =
     ev_add (mul_poly a.0 b.1) (mul_poly a.1 b.0) r ∙ rw (ev_mul a.0 b.1 r, ev_mul a.1 b.0 r) refl in
     let l : (ev a.0 r + ev a.1 r) * (ev b.0 r + ev b.1 r) ≤ a' * b' =
-        mul-le (ev a.0 r + ev a.1 r) (ev b.0 r + ev b.1 r) a' b' x y in
+    mul-le (ev a.0 r + ev a.1 r) (ev b.0 r + ev b.1 r) a' b' x y in
     rw (e0, e1) (omega arith)
 
 pub bound_respects : (r : List ℕ) → Respects (Poly × Poly) ℕ differences bounds (IsBound r)
@@ -145,10 +145,10 @@ module _ (q : ℕ) (pos : 0 < q) (r : List ℕ) where
       ∙ ap (λ z. z % q) (let e : (ev a.1 r + a') + ev b.1 r ≡ (ev a.1 r + ev b.1 r) + a' = omega arith in e)
       ∙ add_alike q (ev a.1 r + ev b.1 r) (ev a.1 r + ev b.1 r) a' (minus q a' b' + b') refl (sym (minus_back q pos a' b'))
       ∙ ap (λ z. z % q) (let e : (ev a.1 r + ev b.1 r) + (minus q a' b' + b') ≡ (ev a.1 r + minus q a' b')
-          + (ev b.1 r + b') = omega arith in e)
+      + (ev b.1 r + b') = omega arith in e)
       ∙ add_alike q (ev a.1 r + minus q a' b') (ev a.1 r + minus q a' b') (ev b.1 r + b') (ev b.0 r) refl (sym y)
       ∙ ap (λ z. z % q) (let e : (ev a.1 r + minus q a' b') + ev b.0 r ≡ (ev a.1 r + ev b.0 r)
-          + minus q a' b' = omega arith in e)
+      + minus q a' b' = omega arith in e)
       )
 
   residue_mul : (a b : Poly × Poly) (a' b' : ℕ) → IsResidue q r a a' → IsResidue q r b b'
@@ -164,10 +164,10 @@ module _ (q : ℕ) (pos : 0 < q) (r : List ℕ) where
       (
       add_alike q (a0 * b0) ((a1 + a') * (b1 + b')) (a1 * b1) (a1 * b1) (mul_alike q a0 (a1 + a') b0 (b1 + b') x y) refl
       ∙ ap (λ z. z % q) (let e : (a1 + a') * (b1 + b') + a1 * b1 ≡ ((a1 + a') * b1 + a1 * (b1 + b')) + a'
-          * b' = omega arith in e)
+      * b' = omega arith in e)
       ∙ add_alike q ((a1 + a') * b1 + a1 * (b1 + b')) (a0 * b1 + a1 * b0) (a' * b') ((a' * b') % q)
       (add_alike q ((a1 + a') * b1) (a0 * b1) (a1 * (b1 + b')) (a1 * b0) (mul_alike q (a1 + a') a0 b1 b1 (sym x) refl)
-          (mul_alike q a1 a1 (b1 + b') b0 refl (sym y)))
+      (mul_alike q a1 a1 (b1 + b') b0 refl (sym y)))
       (sym (mod-mod (a' * b') q))
       )
 

@@ -50,7 +50,7 @@ prime_by n g gq gl u v q l pq pl h =
     let inverses = and_parts _ _ second.1 in
     pocklington n q l g gq gl u v (ltb-true _ _ above.0) pq pl (ltb-true _ _ room.0)
     (power_of n g (q * l) 1 whole.0) (power_of n g q gq first.0) (power_of n g l gl second.0) (eqb-true _ _ inverses.0)
-        (eqb-true _ _ inverses.1)
+    (eqb-true _ _ inverses.1)
 
 pub prime_of : (c : Certificate) → holds c ≡ true → IsPrime (number c)
 unfolding holds number

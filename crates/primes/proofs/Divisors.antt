@@ -35,9 +35,9 @@ module _ (p : ℕ) (prime : IsPrime p) where
       (let k : (p % e) * b + (p / e) * (e * b) ≡ (e * (p / e) + p % e) * b = omega arith in k) ∙ ap (λ z. z * b) split in
       let gone : ((p / e) * (e * b)) % p ≡ 0 % p = zero_times p (p / e) (e * b) (h ∙ sym zero-remainder) in
       let rest : ((p % e) * b + (p / e) * (e * b)) % p ≡ ((p % e) * b + 0) % p =
-          add_alike p ((p % e) * b) ((p % e) * b) _ 0 refl gone in
+      add_alike p ((p % e) * b) ((p % e) * b) _ 0 refl gone in
       ap (λ z. z % p) (let k : (p % e) * b ≡ (p % e) * b + 0 = omega arith in k) ∙ sym rest ∙ ap (λ z. z % p) all
-          ∙ mul-mod_right p b
+      ∙ mul-mod_right p b
 
   -- Euclid's lemma
   pub euclid : (a b : ℕ) → (a * b) % p ≡ 0 → (a % p ≡ 0) ⊎ (b % p ≡ 0)
@@ -48,7 +48,7 @@ module _ (p : ℕ) (prime : IsPrime p) where
         | inr z ↦ inl (omega arith)
         | inl l ↦
             let r = to_divisor p (λ e. (e * b) % p ≡ 0) (descends b) (suc (a % p)) (a % p) (omega arith) l
-                (mul-mod_first a b p ∙ h) in
+            (mul-mod_first a b p ∙ h) in
             let c_pos = r.1 in let c_le = r.2 in
             elim (cases_lt 1 r.0) [
               | inl big ↦ absurd (prime.apart r.0 big (omega arith) r.3)
@@ -73,7 +73,7 @@ proper q l c pq pl pos less h =
           let f_is : (q * l) / c ≡ q * (((q * l) / c) / q) = omega arith in
           let turn : q * (c * (((q * l) / c) / q)) ≡ q * l =
           (let k : q * (c * (((q * l) / c) / q)) ≡ c * (q * (((q * l) / c) / q)) = omega arith in k)
-              ∙ ap (λ z. c * z) (sym f_is) ∙ cf in
+          ∙ ap (λ z. c * z) (sym f_is) ∙ cf in
           let l_is : c * (((q * l) / c) / q) ≡ l = eq_of_mul-eq-mul_left q (omega arith) _ _ turn in
           inr (ap (λ z. z % c) (sym l_is) ∙ mul-mod_right c (((q * l) / c) / q))
       | inl g ↦
@@ -81,7 +81,7 @@ proper q l c pq pl pos less h =
           let c_is : c ≡ q * (c / q) = omega arith in
           let turn : q * ((c / q) * ((q * l) / c)) ≡ q * l =
           (let k : q * ((c / q) * ((q * l) / c)) ≡ q * (c / q) * ((q * l) / c) = omega arith in k)
-              ∙ ap (λ z. z * ((q * l) / c)) (sym c_is) ∙ cf in
+          ∙ ap (λ z. z * ((q * l) / c)) (sym c_is) ∙ cf in
           let l_is : (c / q) * ((q * l) / c) ≡ l = eq_of_mul-eq-mul_left q (omega arith) _ _ turn in
           let divides : l % (c / q) ≡ 0 = ap (λ z. z % (c / q)) (sym l_is) ∙ mul-mod_right (c / q) ((q * l) / c) in
           inl (cofactor (c / q) ((q * l) / c) l_is c_is divides)

@@ -47,7 +47,7 @@ choose-absorbs (suc n) (suc k) =
     let f = choose-absorbs n (suc k) in
     let A : ℕ = choose n k in let B : ℕ = choose n (suc k) in let C : ℕ = choose n (suc (suc k)) in
     let g : suc (suc k) * (A + B + (B + C)) ≡ suc (suc n) * (A + B) =
-        joined k n (choose n k) (choose n (suc k)) (choose n (suc (suc k))) e f in g
+    joined k n (choose n k) (choose n (suc k)) (choose n (suc (suc k))) e f in g
   where
     joined : (k n A B C : ℕ) → suc k * (A + B) ≡ suc n * A → suc (suc k) * (B + C) ≡ suc n * B
         → suc (suc k) * (A + B + (B + C)) ≡ suc (suc n) * (A + B)
@@ -65,7 +65,7 @@ terms-next a n (suc m) =
     let e = terms-next a n m in
     let top : a ^ suc m ≡ a ^ m * a = pow-suc a m in
     collected a (terms a (suc n) (suc m)) (terms a n (suc m)) (terms a n m) (choose n m) (choose n (suc m)) (a ^ m)
-        (a ^ suc m) e top
+    (a ^ suc m) e top
   where
     collected : (a S T U c e x y : ℕ) → S ≡ T + a * U → y ≡ x * a → S + (c + e) * y ≡ T + e * y + a * (U + c * x)
     collected a S T U c e x y f g = rw (f, g) (omega arith)
@@ -75,7 +75,7 @@ unfolding terms choose
 terms-all a zero = let x = pow-zero a in let y = pow-zero (a + 1) in rw (x, y) refl
 terms-all a (suc n) =
     terms-next a n (suc n) ∙ last a (terms a n (suc n)) (choose n (suc n)) (a ^ suc n) ((a + 1) ^ n)
-        (choose_past n (suc n) (omega arith)) (terms-all a n)
+    (choose_past n (suc n) (omega arith)) (terms-all a n)
     ∙ sym (pow-suc (a + 1) n)
   where
     last : (a T c x S : ℕ) → c ≡ 0 → T ≡ S → T + c * x + a * T ≡ S * (a + 1)
@@ -123,23 +123,26 @@ module _ (p : ℕ) (prime : IsPrime p) where
       let above = prime.above in
       let suc_is : suc (p - 1) ≡ p = omega arith in
       ap (λ z. 0 ^ z % p) (sym suc_is)
-          ∙ ap (λ z. z % p) (pow-suc 0 (p - 1) ∙ (let x = 0 ^ (p - 1) in let e : x * 0 ≡ 0 = omega arith in e))
+      ∙ ap (λ z. z % p) (pow-suc 0 (p - 1) ∙ (let x = 0 ^ (p - 1) in let e : x * 0 ≡ 0 = omega arith in e))
   fermat (suc a) =
       let e : a + 1 ≡ suc a = omega arith in
       ap (λ z. z ^ p % p) (sym e) ∙ more_one a ∙ add_alike p 1 1 (a ^ p) a refl (fermat a)
-          ∙ ap (λ z. z % p) (let f : 1 + a ≡ suc a = omega arith in f)
+      ∙ ap (λ z. z % p) (let f : 1 + a ≡ suc a = omega arith in f)
 
   -- a prime divides a factor
   pub factor : (a b : ℕ) → (a * b) % p ≡ 0 % p → (a % p ≡ 0 % p) ⊎ (b % p ≡ 0 % p)
-  factor a b h = elim (euclid p prime a b (h ∙ zero-remainder)) [ inl x ↦ inl (x ∙ sym zero-remainder) | inr x ↦ inr (x
-      ∙ sym zero-remainder) ]
+  factor a b h = elim (euclid p prime a b (h ∙ zero-remainder)) [
+    | inl x ↦ inl (x ∙ sym zero-remainder)
+    | inr x ↦ inr (x
+        ∙ sym zero-remainder)
+  ]
 
   minus_alike : (x y : ℕ) → x % p ≡ y % p → (x + (p - y % p)) % p ≡ 0 % p
   minus_alike x y e =
       let above = prime.above in
       let below : y % p < p = mod_below y p (omega arith) in
       add_alike p x (y % p) _ _ (e ∙ sym (mod-mod y p)) refl
-          ∙ ap (λ z. z % p) (let k : y % p + (p - y % p) ≡ 0 + p * 1 = omega arith in k) ∙ more_alike p 0 1
+      ∙ ap (λ z. z % p) (let k : y % p + (p - y % p) ≡ 0 + p * 1 = omega arith in k) ∙ more_alike p 0 1
 
   -- c * a = c where c is not 0 says that a is 1
   pub one_left : (c a : ℕ) → (c % p ≡ 0 % p → ⊥) → (a * c) % p ≡ c % p → a % p ≡ 1 % p
@@ -164,7 +167,7 @@ module _ (p : ℕ) (prime : IsPrime p) where
     all_of : (x : ℕ) → ((x * x) ^ half * x) % p ≡ x % p
     all_of x =
         let two : x * x ≡ x ^ 2 = sym (pow-suc x 1 ∙ ap (λ z. z * x) (pow-suc x 0 ∙ ap (λ z. z * x) (pow-zero x)
-            ∙ (let k : 1 * x ≡ x = omega arith in k))) in
+        ∙ (let k : 1 * x ≡ x = omega arith in k))) in
         let e : (x * x) ^ half * x ≡ x ^ p =
         ap (λ z. z ^ half * x) two ∙ ap (λ z. z * x) (pow-pow x 2 half) ∙ sym (pow-suc x (2 * half))
         ∙ ap (λ z. x ^ z) (let k : suc (2 * half) ≡ p = omega arith in k) in
@@ -195,12 +198,12 @@ module _ (p : ℕ) (prime : IsPrime p) where
             ap (λ z. z % p) (let k : 2 * a ≡ a + a = omega arith in k) ∙ add_alike p a ((p - 1) * a) a a (sym turned) refl
             ∙ ap (λ z. z % p) (whole (p - 1) a p (omega arith)) ∙ more_alike p 0 a in
             let two_apart : 2 % p ≡ 0 % p → ⊥ = λ e. let k : 2 % p ≡ 2 = mod-eq_of_lt (omega arith) in let z =
-                zero-remainder in omega arith in
+            zero-remainder in omega arith in
             elim (factor 2 a two_a) [
               | inl x ↦ two_apart x
               | inr x ↦
                   let nil : (a * a) ^ half % p ≡ 0 % p = vanishes half some (mul_alike p a 0 a a x refl
-                      ∙ ap (λ z. z % p) (let k : 0 * a ≡ 0 = omega arith in k)) in
+                  ∙ ap (λ z. z % p) (let k : 0 * a ≡ 0 = omega arith in k)) in
                   let clash : (p - 1) % p ≡ 0 % p = sym raised ∙ nil in
                   let left : (p - 1) % p ≡ p - 1 = mod-eq_of_lt (omega arith) in
                   let z = zero-remainder in omega arith

@@ -45,7 +45,7 @@ module _ (r g q l : ℕ) (above : 1 < r) (pq : IsPrime q) (pl : IsPrime l)
       let split : e * (q * l / e) + q * l % e ≡ q * l = div-add-mod (q * l) e in
       let parts : g ^ (q * l) ≡ (g ^ e) ^ (q * l / e) * g ^ (q * l % e) =
       ap (λ z. g ^ z) (sym split) ∙ pow-add g (e * (q * l / e)) (q * l % e)
-          ∙ ap (λ z. z * g ^ (q * l % e)) (sym (pow-pow g e (q * l / e))) in
+      ∙ ap (λ z. z * g ^ (q * l % e)) (sym (pow-pow g e (q * l / e))) in
       let one : g ^ (q * l) % r ≡ (1 * g ^ (q * l % e)) % r =
       ap (λ z. z % r) parts ∙ mul_alike r _ 1 (g ^ (q * l % e)) _ (one_pow_alike r (g ^ e) (q * l / e) h) refl in
       ap (λ z. z % r) (let G = g ^ (q * l % e) in let k : G ≡ 1 * G = omega arith in k) ∙ sym one ∙ whole
@@ -70,7 +70,7 @@ module _ (r g q l : ℕ) (above : 1 < r) (pq : IsPrime q) (pl : IsPrime l)
       let e2 : j + (q * l - i) ≡ q * l + (j - i) = omega arith in
       let one : (g ^ i * g ^ (q * l - i)) % r ≡ (g ^ j * g ^ (q * l - i)) % r = mul_alike r _ _ _ _ h refl in
       let left : (g ^ i * g ^ (q * l - i)) % r ≡ 1 % r = ap (λ z. z % r) (sym (pow-add g i (q * l - i))
-          ∙ ap (λ z. g ^ z) e1) ∙ whole in
+      ∙ ap (λ z. g ^ z) e1) ∙ whole in
       let right : (g ^ j * g ^ (q * l - i)) % r ≡ g ^ (j - i) % r =
       ap (λ z. z % r) (sym (pow-add g j (q * l - i)) ∙ ap (λ z. g ^ z) e2 ∙ pow-add g (q * l) (j - i))
       ∙ mul_alike r _ 1 _ _ whole refl ∙ ap (λ z. z % r) (let G = g ^ (j - i) in let k : 1 * G ≡ G = omega arith in k) in
@@ -101,7 +101,7 @@ module _ (n q l g gq gl u v : ℕ) (above : 1 < n) (pq : IsPrime q) (pl : IsPrim
       let sum_is : 1 + (n - 1) ≡ n = omega arith in
       let zero_is : (h + (n - 1)) % r ≡ 0 % r = add_alike r h 1 (n - 1) (n - 1) h1 refl ∙ ap (λ z. z % r) sum_is ∙ n0 in
       let w0 : ((h + (n - 1)) * w) % r ≡ 0 % r = mul_alike r _ 0 w w zero_is refl
-          ∙ ap (λ z. z % r) (let k : 0 * w ≡ 0 = omega arith in k) in
+      ∙ ap (λ z. z % r) (let k : 0 * w ≡ 0 = omega arith in k) in
       let clash : 1 ≡ 0 = sym one_r ∙ sym w1 ∙ w0 ∙ none in
       omega arith
 

@@ -22,4 +22,4 @@ minus_alike (suc k) b h =
     let e = negated k b (b / suc k) (b % suc k) split below in
     let one : suc k - 1 ≡ k = omega arith in
     sym (more_alike (suc k) (suc k - b % suc k) b) ∙ ap (λ z. z % suc k) e ∙ more_alike (suc k) (k * b) (b / suc k + 1)
-        ∙ ap (λ z. (z * b) % suc k) (sym one)
+    ∙ ap (λ z. (z * b) % suc k) (sym one)

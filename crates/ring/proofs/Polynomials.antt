@@ -148,9 +148,9 @@ module _ (n : ℕ) where
   add-meaning (hor s t) (hor u v) f =
       ap (λ z. z % suc n) (join-meaning (add s u) (add t v) f)
       ∙ add_alike (suc n) _ _ _ _ (add-meaning s u (λ i. f (suc i)))
-          (mul_alike (suc n) (f 0) (f 0) _ _ refl (add-meaning t v f))
+      (mul_alike (suc n) (f 0) (f 0) _ _ refl (add-meaning t v f))
       ∙ ap (λ z. z % suc n) (rearranged (meaning s (λ i. f (suc i))) (meaning t f) (meaning u (λ i. f (suc i)))
-          (meaning v f) (f 0))
+      (meaning v f) (f 0))
 
   -- minus 1 twice
   twice : (X Y : ℕ) → (Y + n * n * X) % suc n ≡ (Y + X) % suc n
@@ -163,7 +163,7 @@ module _ (n : ℕ) where
       ap (λ z. z % suc n) (let e : a * c + b * d + n * (a * d + b * c) ≡ a * c + n * (a * d + b * c) + b * d = omega arith in e)
       ∙ sym (twice (b * d) (a * c + n * (a * d + b * c)))
       ∙ ap (λ z. z % suc n) (let e : a * c + n * (a * d + b * c) + n * n * (b * d) ≡ (a + n * b)
-          * (c + n * d) = omega arith in e)
+      * (c + n * d) = omega arith in e)
 
   scaled : (c A B x : ℕ) → c * A + x * (c * B) ≡ c * (A + x * B)
   scaled c A B x = omega arith
@@ -173,7 +173,7 @@ module _ (n : ℕ) where
   scale-meaning a b (con c d) f = number-meaning (a * c + b * d) (a * d + b * c) f ∙ product a b c d
   scale-meaning a b (hor s t) f =
       add_alike (suc n) _ _ _ _ (scale-meaning a b s (λ i. f (suc i)))
-          (mul_alike (suc n) (f 0) (f 0) _ _ refl (scale-meaning a b t f))
+      (mul_alike (suc n) (f 0) (f 0) _ _ refl (scale-meaning a b t f))
       ∙ ap (λ z. z % suc n) (scaled (a + n * b) (meaning s (λ i. f (suc i))) (meaning t f) (f 0))
 
   times_number-meaning : (a b : ℕ) (q : Poly) (f : ℕ → ℕ) → meaning (times_number a b q) f % suc n
@@ -191,8 +191,8 @@ module _ (n : ℕ) where
   unfolding meaning over
   over-meaning g k f h (con a b) =
       ap (λ z. z % suc n) (join-meaning (g (con a b)) (con 0 0) f
-          ∙ (let A = meaning (g (con a b)) (λ i. f (suc i)) in let x = f 0 in let e : A + x * (0 + n * 0)
-          ≡ A = omega arith in e)) ∙ h (con a b)
+      ∙ (let A = meaning (g (con a b)) (λ i. f (suc i)) in let x = f 0 in let e : A + x * (0 + n * 0)
+      ≡ A = omega arith in e)) ∙ h (con a b)
   over-meaning g k f h (hor s t) =
       ap (λ z. z % suc n) (join-meaning (g s) (over g t) f)
       ∙ add_alike (suc n) _ _ _ _ (h s) (mul_alike (suc n) (f 0) (f 0) _ _ refl (over-meaning g k f h t))
@@ -209,15 +209,15 @@ module _ (n : ℕ) where
   mul-meaning (con a b) q f = times_number-meaning a b q f
   mul-meaning (hor s t) (con a b) f =
       times_number-meaning a b (hor s t) f
-          ∙ ap (λ z. z % suc n) (times_turned (a + n * b) (meaning s (λ i. f (suc i)) + f 0 * meaning t f))
+      ∙ ap (λ z. z % suc n) (times_turned (a + n * b) (meaning s (λ i. f (suc i)) + f 0 * meaning t f))
   mul-meaning (hor s t) (hor u v) f =
       add-meaning (over (mul s) (hor u v)) (join (con 0 0) (mul t (hor u v))) f
       ∙ add_alike (suc n) _ _ _ _ (over-meaning (mul s) (meaning s (λ i. f (suc i))) f
-          (λ r. mul-meaning s r (λ i. f (suc i))) (hor u v))
+      (λ r. mul-meaning s r (λ i. f (suc i))) (hor u v))
       (ap (λ z. z % suc n) (join-meaning (con 0 0) (mul t (hor u v)) f)
       ∙ add_alike (suc n) (0 + n * 0) (0 + n * 0) _ _ refl (mul_alike (suc n) (f 0) (f 0) _ _ refl (mul-meaning t (hor u v) f)))
       ∙ ap (λ z. z % suc n) (multiplied (meaning s (λ i. f (suc i))) (meaning t f) (meaning u (λ i. f (suc i)) + f 0
-          * meaning v f) (f 0))
+      * meaning v f) (f 0))
 
   variable-meaning : (i : ℕ) (f : ℕ → ℕ) → meaning (variable i) f ≡ f i
   unfolding meaning variable
@@ -247,12 +247,12 @@ module _ (n : ℕ) where
       ∙ sym (add-meaning (poly s) (scale 0 1 (poly t)) f)
   poly-meaning (s ⊗ t) f =
       mod-mod (value (suc n) f s * value (suc n) f t) (suc n) ∙ mul_alike (suc n) _ _ _ _ (poly-meaning s f)
-          (poly-meaning t f) ∙ sym (mul-meaning (poly s) (poly t) f)
+      (poly-meaning t f) ∙ sym (mul-meaning (poly s) (poly t) f)
 
   none : (A B x : ℕ) → A % suc n ≡ 0 % suc n → B % suc n ≡ 0 % suc n → (A + x * B) % suc n ≡ 0 % suc n
   none A B x a b =
       add_alike (suc n) A 0 (x * B) (x * 0) a (mul_alike (suc n) x x B 0 refl b)
-          ∙ ap (λ z. z % suc n) (let e : 0 + x * 0 ≡ 0 = omega arith in e)
+      ∙ ap (λ z. z % suc n) (let e : 0 + x * 0 ≡ 0 = omega arith in e)
 
   is_zero-meaning : (p : Poly) (f : ℕ → ℕ) → is_zero p ≡ true → meaning p f % suc n ≡ 0 % suc n
   unfolding meaning is_zero
@@ -262,7 +262,7 @@ module _ (n : ℕ) where
   is_zero-meaning (hor s t) f h =
       let parts = and_parts (is_zero s) (is_zero t) h in
       none (meaning s (λ i. f (suc i))) (meaning t f) (f 0) (is_zero-meaning s (λ i. f (suc i)) parts.0)
-          (is_zero-meaning t f parts.1)
+      (is_zero-meaning t f parts.1)
 
 module _ (m : ℕ) (positive : 0 < m) where
   term_none : (t : Term) (f : ℕ → ℕ) → is_zero (poly t) ≡ true → value m f t % m ≡ 0 % m
@@ -298,7 +298,7 @@ module _ (m : ℕ) (positive : 0 < m) where
       let nil : (c * z) % m ≡ 0 % m = mul_alike m c c z 0 refl h ∙ ap (λ y. y % m) (let e : c * 0 ≡ 0 = omega arith in e) in
       let same : (c * z) % m % m ≡ 0 = mod-mod (c * z) m ∙ nil ∙ zero-remainder in
       mod-mod (a + (m - (c * z) % m % m)) m ∙ ap (λ y. (a + (m - y)) % m) same
-          ∙ ap (λ y. y % m) (let e : a + (m - 0) ≡ a + m * 1 = omega arith in e) ∙ more_alike m a 1
+      ∙ ap (λ y. y % m) (let e : a + (m - 0) ≡ a + m * 1 = omega arith in e) ∙ more_alike m a 1
 
   -- each line's two sides are alike
   abbrev pub Lines : (ℕ → ℕ) → List (Term × Term × Term) → Type 0
@@ -312,7 +312,7 @@ module _ (m : ℕ) (positive : 0 < m) where
   less-value (l ∷ ls) e f h =
       less-value ls (e ⊖ l.0 ⊗ (l.1 ⊖ l.2)) f h.1
       ∙ gone (value m f e) (value m f l.0) (minus m (value m f l.1) (value m f l.2))
-          (minus_same (value m f l.1) (value m f l.2) h.0)
+      (minus_same (value m f l.1) (value m f l.2) h.0)
 
   -- an identity that holds where the lines do
   pub follows : (e g : Term) (ls : List (Term × Term × Term)) (f : ℕ → ℕ) → is_identity e g ls ≡ true → Lines f ls

@@ -74,14 +74,14 @@ module _ (p b : ℕ) (curve : IsCurve p b) where
     unfolding width
     cube_unit =
         unit_same p (times p width width * width) (times p (times p width width) width)
-            (sym (times_is p (times p width width) width))
+        (sym (times_is p (times p width width) width))
         (unit_product p (times p width width) width square_unit apart)
 
     line_x : minus p S.x (times p (third_x p l x1 x2) S.z) % p ≡ 0 % p
     unfolding nth run eval modulo sum_of triple products S width rise gap steep
     line_x =
         freed (times p width width) (minus p S.x (times p (third_x p l x1 x2) S.z)) (minus p 0 gap)
-            (times p steep S.z) square_unit (negated gap gap_zero)
+        (times p steep S.z) square_unit (negated gap gap_zero)
         (secant_zero 1 (omega arith))
 
     line_y : minus p S.y (times p (third_y p l x1 y1 x2) S.z) % p ≡ 0 % p
@@ -89,7 +89,7 @@ module _ (p b : ℕ) (curve : IsCurve p b) where
     line_y =
         freed (times p (times p width width) width) (minus p S.y (times p (third_y p l x1 y1 x2) S.z)) gap
         (times p (minus p (times p rise steep) (times p (times p width width) (minus p x1 (third_x p l x1 x2)))) S.z)
-            cube_unit gap_zero
+        cube_unit gap_zero
         (secant_zero 0 (omega arith))
 
     -- rule 4: the chord
@@ -149,14 +149,14 @@ module _ (p b : ℕ) (curve : IsCurve p b) where
     twice_cube : IsUnit p (times p (times p twice twice) twice)
     twice_cube =
         unit_same p (times p twice twice * twice) (times p (times p twice twice) twice)
-            (sym (times_is p (times p twice twice) twice))
+        (sym (times_is p (times p twice twice) twice))
         (unit_product p (times p twice twice) twice twice_square twice_unit)
 
     tangent_x : minus p D.x (times p (third_x p l x x) D.z) % p ≡ 0 % p
     unfolding nth run eval modulo sum_of triple products D twice up off all_up
     tangent_x =
         freed (times p twice twice) (minus p D.x (times p (third_x p l x x) D.z)) (minus p 0 off)
-            (times p all_up D.z) twice_square (negated off off_zero)
+        (times p all_up D.z) twice_square (negated off off_zero)
         (touch_zero 1 (omega arith))
 
     tangent_y : minus p D.y (times p (third_y p l x y x) D.z) % p ≡ 0 % p
@@ -164,7 +164,7 @@ module _ (p b : ℕ) (curve : IsCurve p b) where
     tangent_y =
         freed (times p (times p twice twice) twice) (minus p D.y (times p (third_y p l x y x) D.z)) off
         (times p (minus p (times p up all_up) (times p (times p twice twice) (minus p x (third_x p l x x)))) D.z)
-            twice_cube off_zero
+        twice_cube off_zero
         (touch_zero 0 (omega arith))
 
     -- rule 5: the tangent

@@ -37,7 +37,7 @@ pub minus_alike : (p a b c d : ℕ) → a % p ≡ b % p → c % p ≡ d % p → 
 unfolding minus
 minus_alike p a b c d h k =
     mod-mod (a + (p - c % p)) p ∙ add_alike p a b (p - c % p) (p - d % p) h (ap (λ z. (p - z) % p) k)
-        ∙ sym (mod-mod (b + (p - d % p)) p)
+    ∙ sym (mod-mod (b + (p - d % p)) p)
 
 -- arithmetic modulo p does not see that its numbers were reduced
 pub alike_respects : (p : ℕ) → Respects ℕ ℕ (modulo p) (modulo p) (λ a b. a % p ≡ b % p)
@@ -60,12 +60,17 @@ unit_product p a b u v = record {
 }
 
 pub unit_same : (p a b : ℕ) → a % p ≡ b % p → IsUnit p a → IsUnit p b
-unit_same p a b e u = record { inverse = u.inverse; is_inverse = mul_alike p b a u.inverse u.inverse (sym e) refl
-    ∙ u.is_inverse }
+unit_same p a b e u = record {
+  inverse = u.inverse;
+  is_inverse = mul_alike p b a u.inverse u.inverse (sym e) refl
+      ∙ u.is_inverse;
+}
 
 pub unit_inverse : (p a : ℕ) → (u : IsUnit p a) → IsUnit p u.inverse
-unit_inverse p a u = record { inverse = a;
-    is_inverse = ap (λ z. z % p) (let e : u.inverse * a ≡ a * u.inverse = omega arith in e) ∙ u.is_inverse }
+unit_inverse p a u = record {
+  inverse = a;
+  is_inverse = ap (λ z. z % p) (let e : u.inverse * a ≡ a * u.inverse = omega arith in e) ∙ u.is_inverse;
+}
 
 pub unit_cancel : (p c a b : ℕ) → IsUnit p c → (c * a) % p ≡ (c * b) % p → a % p ≡ b % p
 unit_cancel p c a b u h =

@@ -86,8 +86,8 @@ closed =
     add (mul (var 1) (var 2)) (mul (var 3) (var 5)) ∷
     add (mul (var 11) (var 2)) (mul (var 13) (var 4)) ∷
     sub (mul (mul (var 1) (var 1)) (var 0))
-        (add (sub (mul (mul (var 2) (var 2)) (var 2)) (mul (num 3) (mul (var 2) (mul (var 0) (var 0)))))
-        (mul (var 22) (mul (var 0) (mul (var 0) (var 0))))) ∷
+    (add (sub (mul (mul (var 2) (var 2)) (var 2)) (mul (num 3) (mul (var 2) (mul (var 0) (var 0)))))
+    (mul (var 22) (mul (var 0) (mul (var 0) (var 0))))) ∷
     []
 
 abbrev pub closed_squares : List Expr
@@ -129,8 +129,8 @@ chord =
     mul (var 0) (var 0) ∷
     sub (mul (add (var 21) (var 20)) (add (var 21) (var 20))) (mul (add (var 23) (var 22)) (var 0)) ∷
     sub (mul (var 3) (var 3)) (add
-        (sub (mul (mul (var 0) (var 0)) (var 0)) (mul (num 3) (mul (var 0) (mul (var 1) (var 1)))))
-        (mul (var 25) (mul (var 1) (mul (var 1) (var 1))))) ∷
+    (sub (mul (mul (var 0) (var 0)) (var 0)) (mul (num 3) (mul (var 0) (mul (var 1) (var 1)))))
+    (mul (var 25) (mul (var 1) (mul (var 1) (var 1))))) ∷
     []
 
 abbrev pub chord_squares : List Expr
@@ -225,8 +225,8 @@ opposite =
     add (mul (var 1) (var 2)) (mul (var 3) (var 5)) ∷
     add (mul (var 11) (var 2)) (mul (var 13) (var 4)) ∷
     sub (mul (mul (var 1) (var 1)) (var 18))
-        (add (sub (mul (mul (var 20) (var 20)) (var 20)) (mul (num 3) (mul (var 20) (mul (var 18) (var 18)))))
-        (mul (var 38) (mul (var 18) (mul (var 18) (var 18))))) ∷
+    (add (sub (mul (mul (var 20) (var 20)) (var 20)) (mul (num 3) (mul (var 20) (mul (var 18) (var 18)))))
+    (mul (var 38) (mul (var 18) (mul (var 18) (var 18))))) ∷
     sub (var 1) (num 0) ∷
     sub (var 4) (num 0) ∷
     []
@@ -330,13 +330,13 @@ abbrev pub divided : List Expr
 divided =
     sub (mul (var 2) (var 3)) (num 1) ∷
     sub (mul (mul (var 2) (var 2)) (var 3))
-        (add (sub (mul (mul (var 1) (var 1)) (var 1)) (mul (num 3) (mul (var 1) (mul (var 3) (var 3)))))
-        (mul (var 5) (mul (var 3) (mul (var 3) (var 3))))) ∷
+    (add (sub (mul (mul (var 1) (var 1)) (var 1)) (mul (num 3) (mul (var 1) (mul (var 3) (var 3)))))
+    (mul (var 5) (mul (var 3) (mul (var 3) (var 3))))) ∷
     mul (var 2) (var 5) ∷
     mul (var 4) (var 6) ∷
     sub (mul (var 0) (var 0)) (add (sub (mul (var 1) (mul (var 1) (var 1))) (mul (num 3) (var 1))) (var 8)) ∷
     sub (add (mul (var 1) (var 1)) (mul (num 3) (mul (var 2) (add (mul (var 7) (var 8)) (num 1)))))
-        (mul (var 9) (add (add (mul (mul (var 7) (var 8)) (mul (var 7) (var 8))) (mul (var 7) (var 8))) (num 1))) ∷
+    (mul (var 9) (add (add (mul (mul (var 7) (var 8)) (mul (var 7) (var 8))) (mul (var 7) (var 8))) (num 1))) ∷
     sub (var 1) (sub (mul (mul (var 9) (mul (var 9) (var 9))) (var 4)) (mul (var 5) (var 0))) ∷
     []
 
@@ -359,11 +359,11 @@ abbrev pub ratio : List Expr
 ratio =
     sub (mul (var 1) (var 2)) (num 1) ∷
     add (sub (mul (mul (var 1) (var 1)) (var 1)) (mul (num 3) (mul (var 1) (mul (var 2) (var 2)))))
-        (mul (var 4) (mul (var 2) (mul (var 2) (var 2)))) ∷
+    (mul (var 4) (mul (var 2) (mul (var 2) (var 2)))) ∷
     mul (var 2) (var 4) ∷
     add (sub (mul (var 0) (mul (var 0) (var 0))) (mul (num 3) (var 0))) (var 6) ∷
     sub (mul (num 3) (mul (var 1) (add (mul (var 5) (var 6)) (num 1))))
-        (mul (var 7) (add (add (mul (mul (var 5) (var 6)) (mul (var 5) (var 6))) (mul (var 5) (var 6))) (num 1))) ∷
+    (mul (var 7) (add (add (mul (mul (var 5) (var 6)) (mul (var 5) (var 6))) (mul (var 5) (var 6))) (num 1))) ∷
     sub (var 1) (add (mul (mul (var 7) (mul (var 7) (var 7))) (var 3)) (mul (var 4) (var 0))) ∷
     []
 
@@ -411,7 +411,7 @@ secant =
     add (mul (var 28) (var 5)) (var 4) ∷
     sub (mul (var 1) (sub (var 9) (mul (var 3) (var 7)))) (mul (sub (num 0) (var 4)) (mul (var 0) (var 7))) ∷
     sub (mul (mul (var 2) (var 7)) (sub (var 9) (mul (var 3) (var 8))))
-        (mul (var 5) (mul (sub (mul (var 6) (var 1)) (mul (var 2) (sub (var 29) (var 4)))) (var 8))) ∷
+    (mul (var 5) (mul (sub (mul (var 6) (var 1)) (mul (var 2) (sub (var 29) (var 4)))) (var 8))) ∷
     []
 
 abbrev pub secant_squares : List Expr
@@ -458,7 +458,7 @@ touch =
     add (mul (var 26) (var 5)) (var 4) ∷
     sub (mul (var 1) (sub (var 9) (mul (var 3) (var 7)))) (mul (sub (num 0) (var 4)) (mul (var 0) (var 7))) ∷
     sub (mul (mul (var 2) (var 7)) (sub (var 9) (mul (var 3) (var 8))))
-        (mul (var 5) (mul (sub (mul (var 6) (var 1)) (mul (var 2) (sub (var 27) (var 4)))) (var 8))) ∷
+    (mul (var 5) (mul (sub (mul (var 6) (var 1)) (mul (var 2) (sub (var 27) (var 4)))) (var 8))) ∷
     []
 
 abbrev pub touch_squares : List Expr

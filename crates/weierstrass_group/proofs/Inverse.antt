@@ -40,7 +40,7 @@ module _ (p b : ℕ) (curve : IsCurve p b) where
       let m = minus p 0 y in
       cancel p less (m * m) (y * y) (m * y)
       (ap (λ n. n % p) (let k : m * m + m * y ≡ m * (m + y) = omega arith in k)
-          ∙ mul_alike p m m (m + y) 0 refl (minus_back p less 0 y)
+      ∙ mul_alike p m m (m + y) 0 refl (minus_back p less 0 y)
       ∙ ap (λ n. n % p) (let k : m * 0 ≡ y * 0 = omega arith in k)
       ∙ mul_alike p y y 0 (m + y) refl (sym (minus_back p less 0 y))
       ∙ ap (λ n. n % p) (let k : y * (m + y) ≡ y * y + m * y = omega arith in k))
@@ -50,8 +50,11 @@ module _ (p b : ℕ) (curve : IsCurve p b) where
   nowhere_opposite = record {
     factor = minus p 0 1;
     unit = record { inverse = minus p 0 1; is_inverse = minus_square 1 };
-    is_times = record { x = is_nothing p (minus p 0 1) 0 refl; y = is_whole p (minus p 0 1);
-        z = is_nothing p (minus p 0 1) 0 refl };
+    is_times = record {
+      x = is_nothing p (minus p 0 1) 0 refl;
+      y = is_whole p (minus p 0 1);
+      z = is_nothing p (minus p 0 1) 0 refl;
+    };
   }
 
   shape_opposite : (s : Shape) → IsOn p b s → IsPoint p b (opposite_of p (point_at s))
@@ -92,4 +95,4 @@ module _ (p b : ℕ) (curve : IsCurve p b) where
       let N = point_at h.shape in
       alike_twice p (sum_of p b P (opposite_of p P)) (sum_of p b N (opposite_of p N)) (point_at nowhere)
       (sum_alike p less b P N (opposite_of p P) (opposite_of p N) h.alike (opposite_alike P N h.alike))
-          (shape_inverse h.shape h.on)
+      (shape_inverse h.shape h.on)

@@ -106,7 +106,7 @@ lift_same p l J x y h = record {
   x = h.x_is ∙ sym (times_is p (times p l l) x ∙ mul_alike p (times p l l) (l * l) x x (times_is p l l) refl);
   y = h.y_is ∙ sym (times_is p (times p (times p l l) l) y
       ∙ mul_alike p (times p (times p l l) l) (l * l * l) y y (times_is p (times p l l) l
-          ∙ mul_alike p (times p l l) (l * l) l l (times_is p l l) refl) refl);
+      ∙ mul_alike p (times p l l) (l * l) l l (times_is p l l) refl) refl);
   z = h.z_is;
 }
 
@@ -114,11 +114,15 @@ lift_same p l J x y h = record {
 over : (p t u a c i : ℕ) → (c * i) % p ≡ 1 % p → (t * c) % p ≡ (a * u) % p → t % p ≡ (a * times p u i) % p
 over p t u a c i inv e =
     cross p t u a c i inv e ∙ ap (λ n. n % p) (let k : a * i * u ≡ a * (u * i) = omega arith in k)
-        ∙ mul_alike p a a (u * i) (times p u i) refl (sym (times_is p u i))
+    ∙ mul_alike p a a (u * i) (times p u i) refl (sym (times_is p u i))
 
 pub jacobian_alike : (p b : ℕ) (J P Q : Point) → Alike p Q P → IsJacobian p b J P → IsJacobian p b J Q
-jacobian_alike p b J P Q a h = record { shape = h.shape; on = h.on; stands = h.stands;
-    alike = alike_twice p Q P (point_at h.shape) a h.alike }
+jacobian_alike p b J P Q a h = record {
+  shape = h.shape;
+  on = h.on;
+  stands = h.stands;
+  alike = alike_twice p Q P (point_at h.shape) a h.alike;
+}
 
 square_over : (p t t' z z' c d : ℕ) → t % p ≡ t' % p → z % p ≡ z' % p → times p t' c % p ≡ times p (times p z' z') d % p
     → (t * c) % p ≡ (z * z * d) % p
@@ -133,7 +137,7 @@ cube_over p t t' z z' c d et ez e =
     mul_alike p t t' c c et refl ∙ sym (times_is p t' c) ∙ e ∙ times_is p (times p (times p z' z') z') d
     ∙ mul_alike p (times p (times p z' z') z') (z * z * z) d d
     (times_is p (times p z' z') z' ∙ mul_alike p (times p z' z') (z * z) z' z (times_is p z' z'
-        ∙ mul_alike p z' z z' z (sym ez) (sym ez)) (sym ez)) refl
+    ∙ mul_alike p z' z z' z (sym ez) (sym ez)) (sym ez)) refl
 
 zero_times : (p y z : ℕ) → 0 < p → z ≡ 0 → plus p (times p y z) (times p y z) ≡ 0
 unfolding plus times
@@ -152,7 +156,7 @@ r_of p J K = minus p (times p K.y (times p J.z (times p J.z J.z))) (times p J.y 
 unfoldable pub last_of : (p : ℕ) (J K : Point) → Point
 last_of p J K =
     jacobian_last p (times p J.z K.z) (times p J.x (times p K.z K.z)) (times p J.y (times p K.z (times p K.z K.z)))
-        (h_of p J K) (r_of p J K)
+    (h_of p J K) (r_of p J K)
 
 pub is_double : (p : ℕ) (J K : Point) → h_of p J K ≡ 0 → r_of p J K ≡ 0 → jacobian_double p J ≡ jacobian_finite p J K
 unfolding jacobian_finite h_of r_of
@@ -194,7 +198,7 @@ r_zero : (p : ℕ) → 0 < p → (J K : Point) → r_of p J K % p ≡ 0 % p → 
 unfolding r_of
 r_zero p pos J K z =
     reduced_zero p (r_of p J K) (times p K.y (times p J.z (times p J.z J.z)))
-        (times p J.y (times p K.z (times p K.z K.z))) pos refl z
+    (times p J.y (times p K.z (times p K.z K.z))) pos refl z
 
 same_once : (p : ℕ) (S T : Point) → AreSame p S T → Alike p S T
 same_once p S T s = record {
@@ -218,7 +222,7 @@ module _ (p b : ℕ) (curve : IsCurve p b) where
       (plus p (minus p (times p (times p S.x S.x) S.x) (times p 3 (times p S.x (times p S.z S.z))))
       (times p b (times p S.z (times p S.z S.z)))) % p ≡ 0 % p)
       (w : IsUnit p T.z) (ex : (T.x * S.z) % p ≡ (T.z * T.z * S.x) % p)
-          (ey : (T.y * S.z) % p ≡ (T.z * T.z * T.z * S.y) % p) where
+      (ey : (T.y * S.z) % p ≡ (T.z * T.z * T.z * S.y) % p) where
     stands_for : IsJacobian p b T S
     unfolding Rattle.weierstrass_group.proofs.Sums.ratio_at
     stands_for = record {
@@ -236,8 +240,11 @@ module _ (p b : ℕ) (curve : IsCurve p b) where
       alike = record {
         factor = S.z;
         unit = v;
-        is_times = record { x = times_last p S.z S.x v.inverse v.is_inverse;
-            y = times_last p S.z S.y v.inverse v.is_inverse; z = is_whole p S.z };
+        is_times = record {
+          x = times_last p S.z S.x v.inverse v.is_inverse;
+          y = times_last p S.z S.y v.inverse v.is_inverse;
+          z = is_whole p S.z;
+        };
       };
     }
 
@@ -281,7 +288,7 @@ module _ (p b : ℕ) (curve : IsCurve p b) where
         (times_unit (times p 2 (times p (times p (times p l l) l) y)) l
         (times_unit 2 (times p (times p (times p l l) l) y) (two_unit p b curve)
         (times_unit (times p (times p l l) l) y (times_unit (times p l l) l (times_unit l l u u) u)
-            (y_unit p b curve x y on))) u)
+        (y_unit p b curve x y on))) u)
 
     double_stands : (J : Point) → IsLift p l J x y → IsJacobian p b (jacobian_double p J) total
     unfolding made total Rattle.weierstrass_group.proofs.Sums.ratio_at
@@ -319,7 +326,7 @@ module _ (p b : ℕ) (curve : IsCurve p b) where
       go (spot x y) on st a =
           let D = sum_of p b (spot_point x y) (spot_point x y) in
           jacobian_alike p b (jacobian_double p J) D (sum_of p b P P) (sum_alike p positive b P (spot_point x y) P
-              (spot_point x y) a a)
+          (spot_point x y) a a)
           (double_stands x y st.0 on st.1.unit J st.1)
 
   module _ (x1 y1 l : ℕ) (on1 : IsOn p b (spot x1 y1)) (u1 : IsUnit p l) (x2 y2 m : ℕ) (on2 : IsOn p b (spot x2 y2))
@@ -417,8 +424,11 @@ module _ (p b : ℕ) (curve : IsCurve p b) where
 
       same_last : AreSame p (last_of p J K) last
       unfolding nth run eval modulo ja_values ja_program last_of h_of r_of jacobian_last last
-      same_last = record { x = ja_related J one K two sj sk 2; y = ja_related J one K two sj sk 1;
-          z = ja_related J one K two sj sk 0 }
+      same_last = record {
+        x = ja_related J one K two sj sk 2;
+        y = ja_related J one K two sj sk 1;
+        z = ja_related J one K two sj sk 0;
+      }
 
       equal_x : h_of p J K ≡ 0 → x1 % p ≡ x2 % p
       equal_x e =
@@ -453,22 +463,22 @@ module _ (p b : ℕ) (curve : IsCurve p b) where
               let g : y2 * y2 + y2 * y1 ≡ (y1 + y2) * y2 = omega arith in
               let same : y1 % p ≡ y2 % p =
               unit_cancel p (y1 + y2) y1 y2 u (ap (λ n. n % p) f
-                  ∙ add_alike p (y1 * y1) (y2 * y2) (y2 * y1) (y2 * y1) squares_same refl ∙ ap (λ n. n % p) g) in
+              ∙ add_alike p (y1 * y1) (y2 * y2) (y2 * y1) (y2 * y1) squares_same refl ∙ ap (λ n. n % p) g) in
               let d : minus p y2 y1 % p ≡ 0 % p = minus_same p positive y2 y1 (sym same) in
               let z : r_of p J K % p ≡ 0 % p =
               same_r ∙ r_is ∙ times_is p (times p ll lm) (minus p y2 y1) ∙ mul_alike p (times p ll lm) (times p ll lm)
-                  (minus p y2 y1) 0 refl d
+              (minus p y2 y1) 0 refl d
               ∙ ap (λ n. n % p) (let k : times p ll lm * 0 ≡ 0 = omega arith in k) in
               absurd (n (r_zero p positive J K z))
           go (inr h) =
               let opp : y2 % p ≡ minus p 0 y1 % p =
               cancel p positive y2 (minus p 0 y1) y1 (ap (λ n. n % p) (let k : y2 + y1 ≡ y1 + y2 = omega arith in k) ∙ h
-                  ∙ sym (minus_back p positive 0 y1)) in
+              ∙ sym (minus_back p positive 0 y1)) in
               let O = opposite_sum p b curve x1 y1 on1 in
               let S = sum_of p b (spot_point x1 y1) (spot_point x2 y2) in
               let s : AreSame p S O =
               sum_same p b (spot_point x1 y1) (spot_point x1 y1) (spot_point x2 y2) (spot_point x1 (minus p 0 y1))
-                  (same_self p (spot_point x1 y1))
+              (same_self p (spot_point x1 y1))
               (record { x = sym (equal_x e); y = opp; z = refl }) in
               record {
                 factor = O.y;
@@ -491,9 +501,9 @@ module _ (p b : ℕ) (curve : IsCurve p b) where
               let S = sum_of p b (spot_point x1 y1) (spot_point x2 y2) in
               let s = same_last in
               let hu : IsUnit p (h_of p one two) = unit_same p (times p ll (minus p x2 x1)) (h_of p one two) (sym h_is)
-                  (times_unit ll (minus p x2 x1) ll_unit u) in
+              (times_unit ll (minus p x2 x1) ll_unit u) in
               let zu : IsUnit p last.z = unit_same p (times p lm (h_of p one two)) last.z (sym last_z)
-                  (times_unit lm (h_of p one two) lm_unit hu) in
+              (times_unit lm (h_of p one two) lm_unit hu) in
               stands_for S T (chord_unit p b curve x1 y1 x2 y2 on1 on2 u) (on_curve p b curve x1 y1 x2 y2 on1 on2 S refl)
               (unit_same p last.z T.z (sym s.z) zu)
               (square_over p T.x last.x T.z last.z S.z S.x s.x s.z last_x)
@@ -501,7 +511,7 @@ module _ (p b : ℕ) (curve : IsCurve p b) where
           go (inr e) =
               absurd (n (h_zero p positive J K
               (same_h ∙ h_is ∙ times_is p ll (minus p x2 x1) ∙ mul_alike p ll ll (minus p x2 x1) 0 refl e
-                  ∙ ap (λ n. n % p) (let k : ll * 0 ≡ 0 = omega arith in k))))
+              ∙ ap (λ n. n % p) (let k : ll * 0 ≡ 0 = omega arith in k))))
 
       finite_is : IsJacobian p b (jacobian_finite p J K) both
       finite_is = go (h_of p J K == 0) refl (r_of p J K == 0) refl
@@ -540,7 +550,7 @@ module _ (p b : ℕ) (curve : IsCurve p b) where
             alike = alike_twice p (sum_of p b P Q) (sum_of p b (point_at nowhere) (point_at t)) (point_at t)
                 (sum_alike p positive b P (point_at nowhere) Q (point_at t) a c)
                 (rw (sum_turned p b (point_at nowhere) (point_at t))
-                    (sum_neutral p b curve (point_at t) (record { shape = t; on = on2; alike = alike_self p (point_at t) })));
+                (sum_neutral p b curve (point_at t) (record { shape = t; on = on2; alike = alike_self p (point_at t) })));
           })
       go (spot x y) nowhere on1 on2 sj sk a c =
           rw (← is_first p J K (stands_below sj.0 x y J sj.1) sk)
@@ -551,7 +561,7 @@ module _ (p b : ℕ) (curve : IsCurve p b) where
             alike = alike_twice p (sum_of p b P Q) (sum_of p b (spot_point x y) (point_at nowhere)) (spot_point x y)
                 (sum_alike p positive b P (spot_point x y) Q (point_at nowhere) a c)
                 (sum_neutral p b curve (spot_point x y)
-                    (record { shape = spot x y; on = on1; alike = alike_self p (spot_point x y) }));
+                (record { shape = spot x y; on = on1; alike = alike_self p (spot_point x y) }));
           })
       go (spot x1 y1) (spot x2 y2) on1 on2 sj sk a c =
           rw (← is_finite p J K (stands_below sj.0 x1 y1 J sj.1) (stands_below sk.0 x2 y2 K sk.1))

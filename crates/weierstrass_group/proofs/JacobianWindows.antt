@@ -55,11 +55,11 @@ module _ (p b : ℕ) (curve : IsCurve p b) where
       go : (s : Shape) → IsOn p b s → Alike p P (point_at s) → IsJacobian p b P P
       go nowhere on a =
           absurd (unit_zero p 1 (more p b curve) (unit_one p) (sym (ap (λ n. n % p) e)
-              ∙ times_nothing p a.factor P.z a.is_times.z))
+          ∙ times_nothing p a.factor P.z a.is_times.z))
       go (spot x y) on a =
           let l = a.factor in
           let one : l % p ≡ 1 % p = ap (λ n. n % p) (let k : l ≡ l * 1 = omega arith in k) ∙ sym a.is_times.z
-              ∙ ap (λ n. n % p) e in
+          ∙ ap (λ n. n % p) e in
           record {
             shape = spot x y;
             on = on;
@@ -100,12 +100,12 @@ module _ (p b : ℕ) (curve : IsCurve p b) where
         let R = joint p b m P n Q in
         jacobian_alike p b (jacobian_double p J) (sum_of p b R R) (joint p b m' P n' Q)
         (alike_turned p (sum_of p b R R) (joint p b m' P n' Q)
-            (joint_double p b curve m n m' n' P Q R h k (alike_self p R) e f))
+        (joint_double p b curve m n m' n' P Q R h k (alike_self p R) e f))
         (double_is p b curve J R s)
 
     sixteen_is : (m n : ℕ) (J : Point) → IsJacobian p b J (joint p b m P n Q)
         → IsJacobian p b (jacobian_double p (jacobian_double p (jacobian_double p (jacobian_double p J))))
-            (joint p b (16 * m) P (16 * n) Q)
+        (joint p b (16 * m) P (16 * n) Q)
     sixteen_is m n J s =
         let J1 = jacobian_double p J in
         let J2 = jacobian_double p J1 in
@@ -176,7 +176,7 @@ none_joint_of p b m n P Q J em en ez = record {
   stands = λ curve h k.
       rw (em, en)
       (jacobian_alike p b J infinity (sum_of p b infinity infinity)
-          (neutral_right p b curve infinity (infinity_point p b curve)) (none_is p b curve J ez));
+      (neutral_right p b curve infinity (infinity_point p b curve)) (none_is p b curve J ez));
 }
 
 pub joint_by : (p b : ℕ) (u v : List ℕ) (P Q J R : Point) → ((i : ℕ) → get_or u i 0 < 256) → ((i : ℕ) → get_or v i 0 < 256)
@@ -184,5 +184,7 @@ pub joint_by : (p b : ℕ) (u v : List ℕ) (P Q J R : Point) → ((i : ℕ) →
     → IsJoint p b u P v Q R
 joint_by p b u v P Q J R hu hv l er s =
     joint_from p b u v P Q R hu hv l
-    (record { alike = λ curve h k. rw er (projective_is p b curve J (joint p b (little_endian u) P (little_endian v) Q)
-        (s.stands curve h k)) })
+    (record {
+      alike = λ curve h k. rw er (projective_is p b curve J (joint p b (little_endian u) P (little_endian v) Q)
+          (s.stands curve h k));
+    })

@@ -23,7 +23,7 @@ pub times_last : (p l x i : ℕ) → (l * i) % p ≡ 1 % p → x % p ≡ (l * ti
 times_last p l x i u =
     ap (λ n. n % p) (let e : x ≡ 1 * x = omega arith in e) ∙ mul_alike p 1 (l * i) x x (sym u) refl
     ∙ ap (λ n. n % p) (let e : l * i * x ≡ l * (x * i) = omega arith in e) ∙ mul_alike p l l (x * i) (times p x i) refl
-        (sym (times_is p x i))
+    (sym (times_is p x i))
 
 pub is_nothing : (p l x : ℕ) → x % p ≡ 0 % p → x % p ≡ (l * 0) % p
 is_nothing p l x e = e ∙ ap (λ n. n % p) (let k : 0 ≡ l * 0 = omega arith in k)
@@ -36,7 +36,7 @@ pub unit_against_zero : (p : ℕ) → 1 < p → (a c d e : ℕ) → IsUnit p a �
     → (a * c) % p ≡ (d * e) % p → ⊥
 unit_against_zero p l a c d e u v z h =
     unit_zero p (a * c) l (unit_product p a c u v) (h ∙ mul_alike p d 0 e e z refl
-        ∙ ap (λ n. n % p) (let k : 0 * e ≡ 0 = omega arith in k))
+    ∙ ap (λ n. n % p) (let k : 0 * e ≡ 0 = omega arith in k))
 
 pub times_whole : (p l t : ℕ) → t % p ≡ (l * 1) % p → IsUnit p l → IsUnit p t
 times_whole p l t e u = unit_same p l t (sym (e ∙ ap (λ n. n % p) (let k : l * 1 ≡ l = omega arith in k))) u
@@ -62,7 +62,7 @@ module _ (p b : ℕ) (curve : IsCurve p b) where
   unfolding point_of nth run eval modulo sum_of triple products ratio_at roots
   on_curve x1 y1 x2 y2 on1 on2 S e =
       rw e (sound 2 closed_squares closed 1 closed_point closed_vanishes closed_bounded p positive
-          (x2 ∷ x1 ∷ b ∷ []) refl (roots p b curve (y1 ∷ y2 ∷ []))
+      (x2 ∷ x1 ∷ b ∷ []) refl (roots p b curve (y1 ∷ y2 ∷ []))
       (two_roots p b curve x1 y1 x2 y2 on1 on2) 0 (omega arith))
 
   -- x / z and y / z
@@ -79,7 +79,7 @@ module _ (p b : ℕ) (curve : IsCurve p b) where
       zero_difference p b curve (minus p (times p y y) (cubic_at p b x)) (times p i (times p i i))
       (minus p (times p (times p Y Y) Z) (ratio_at p b X Z)) (minus p (times p Z i) 1) c
       (sound 0 divided_squares divided 1 divided_point divided_vanishes divided_bounded p positive
-          (X ∷ Y ∷ Z ∷ i ∷ b ∷ []) refl (λ _. 0)
+      (X ∷ Y ∷ Z ∷ i ∷ b ∷ []) refl (λ _. 0)
       (λ j k. absurd (omega arith)) 0 (omega arith))
       h (inverse_zero p b curve Z u) in
       sym (times_is p y y) ∙ minus_zero p positive (times p y y) (cubic_at p b x) e
@@ -138,7 +138,7 @@ module _ (p b : ℕ) (curve : IsCurve p b) where
   spot_neutral x y on =
       let S = sum_of p b (spot_point x y) (point_at nowhere) in
       let zeros = λ (k : ℕ) (l : k < 3). sound 0 neutral_squares neutral 3 neutral_point neutral_vanishes
-          neutral_bounded p positive (x ∷ y ∷ b ∷ []) refl
+      neutral_bounded p positive (x ∷ y ∷ b ∷ []) refl
       (λ _. 0) (λ j e. absurd (omega arith)) k l in
       record {
         factor = y;
@@ -169,7 +169,7 @@ module _ (p b : ℕ) (curve : IsCurve p b) where
   shapes nowhere t on1 on2 =
       point_alike (sum_of p b (point_at nowhere) (point_at t)) (point_at t)
       (rw (sum_turned p b (point_at nowhere) (point_at t)) (shape_neutral t on2))
-          (record { shape = t; on = on2; alike = alike_self p (point_at t) })
+      (record { shape = t; on = on2; alike = alike_self p (point_at t) })
   shapes (spot x y) nowhere on1 on2 =
       point_alike (sum_of p b (spot_point x y) (point_at nowhere)) (spot_point x y) (spot_neutral x y on1)
       (record { shape = spot x y; on = on1; alike = alike_self p (spot_point x y) })
@@ -246,7 +246,7 @@ module _ (p b : ℕ) (curve : IsCurve p b) where
         let hq = is_spot x2 y2 on2 in
         let hr = is_spot x3 y3 on3 in
         same_ratio left right (sum_point (sum_of p b P Q) R (sum_point P Q hp hq) hr)
-            (sum_point P (sum_of p b Q R) hp (sum_point Q R hq hr))
+        (sum_point P (sum_of p b Q R) hp (sum_point Q R hq hr))
         (sym (times_is p left.x right.z) ∙ ratio_x ∙ times_is p left.z right.x)
         (sym (times_is p left.y right.z) ∙ ratio_y ∙ times_is p left.z right.y)
 
@@ -259,7 +259,7 @@ module _ (p b : ℕ) (curve : IsCurve p b) where
 
   shapes_grouped : (s t u : Shape) → IsOn p b s → IsOn p b t → IsOn p b u
       → Alike p (sum_of p b (sum_of p b (point_at s) (point_at t)) (point_at u))
-          (sum_of p b (point_at s) (sum_of p b (point_at t) (point_at u)))
+      (sum_of p b (point_at s) (sum_of p b (point_at t) (point_at u)))
   unfolding left right
   shapes_grouped nowhere t u on1 on2 on3 =
       let O = point_at nowhere in
@@ -277,7 +277,7 @@ module _ (p b : ℕ) (curve : IsCurve p b) where
       let hp = shape_point (spot x y) on1 in
       let hr = shape_point u on3 in
       sum_alike p positive b (sum_of p b P O) P R (sum_of p b O R) (sum_neutral P hp)
-          (alike_turned p (sum_of p b O R) R (neutral_left R hr))
+      (alike_turned p (sum_of p b O R) R (neutral_left R hr))
   shapes_grouped (spot x1 y1) (spot x2 y2) nowhere on1 on2 on3 =
       let O = point_at nowhere in
       let P = spot_point x1 y1 in
@@ -298,9 +298,9 @@ module _ (p b : ℕ) (curve : IsCurve p b) where
       let R' = point_at l.shape in
       alike_twice p (sum_of p b (sum_of p b P Q) R) (sum_of p b (sum_of p b P' Q') R') (sum_of p b P (sum_of p b Q R))
       (sum_alike p positive b (sum_of p b P Q) (sum_of p b P' Q') R R'
-          (sum_alike p positive b P P' Q Q' h.alike k.alike) l.alike)
+      (sum_alike p positive b P P' Q Q' h.alike k.alike) l.alike)
       (alike_twice p (sum_of p b (sum_of p b P' Q') R') (sum_of p b P' (sum_of p b Q' R')) (sum_of p b P (sum_of p b Q R))
       (shapes_grouped h.shape k.shape l.shape h.on k.on l.on)
       (alike_turned p (sum_of p b P (sum_of p b Q R)) (sum_of p b P' (sum_of p b Q' R'))
       (sum_alike p positive b P P' (sum_of p b Q R) (sum_of p b Q' R') h.alike
-          (sum_alike p positive b Q Q' R R' k.alike l.alike))))
+      (sum_alike p positive b Q Q' R R' k.alike l.alike))))

@@ -48,7 +48,7 @@ module _ (p b : ℕ) (curve : IsCurve p b) where
   multiples_sum m zero P h =
       let e : m + 0 ≡ m = omega arith in
       rw e (back (sum_of p b (times_point p b m P) infinity) (times_point p b m P)
-          (neutral_right (times_point p b m P) (multiple_point m P h)))
+      (neutral_right (times_point p b m P) (multiple_point m P h)))
   multiples_sum m (suc n) P h =
       let e : m + suc n ≡ suc (m + n) = omega arith in
       let M = times_point p b m P in
@@ -73,9 +73,9 @@ module _ (p b : ℕ) (curve : IsCurve p b) where
       after (s B (s C D)) (s (s B C) D) (s C (s B D)) e2 (after (s (s B C) D) (s (s C B) D) (s C (s B D)) e3 e4) in
       let e5 : Alike p (s A (s B (s C D))) (s A (s C (s B D))) = both A A (s B (s C D)) (s C (s B D)) (alike_self p A) inner in
       let e6 : Alike p (s A (s C (s B D))) (s (s A C) (s B D)) = back (s (s A C) (s B D)) (s A (s C (s B D)))
-          (sum_grouped p b curve A C (s B D) ha hc bd) in
+      (sum_grouped p b curve A C (s B D) ha hc bd) in
       after (s (s A B) (s C D)) (s A (s B (s C D))) (s (s A C) (s B D)) e1
-          (after (s A (s B (s C D))) (s A (s C (s B D))) (s (s A C) (s B D)) e5 e6)
+      (after (s A (s B (s C D))) (s A (s C (s B D))) (s (s A C) (s B D)) e5 e6)
 
   -- one step of the definition
   step_is : (Q P : Point) (bit n m : ℕ) → IsPoint p b P → Alike p Q (times_point p b n P) → bit < 2 → m ≡ n + n + bit
@@ -102,7 +102,7 @@ module _ (p b : ℕ) (curve : IsCurve p b) where
   steps_are (suc count) n P h l =
       let two = two-pow-succ count in
       step_is (steps_of p b P count (n / 2) infinity) P (n % 2) (n / 2) n h (steps_are count (n / 2) P h (omega arith))
-          (omega arith) (omega arith)
+      (omega arith) (omega arith)
 
   -- the definition's multiple is P added n times
   pub multiple_is : (count n : ℕ) (P : Point) → IsPoint p b P → n < 2 ^ count
@@ -127,7 +127,7 @@ module _ (p b : ℕ) (curve : IsCurve p b) where
       (exchanged M N M' N' (multiple_point m P h) (multiple_point n Q k) (multiple_point m' P h) (multiple_point n' Q k))
       (back (s (times_point p b (m + m') P) (times_point p b (n + n') Q)) (s (s M M') (s N N'))
       (both (times_point p b (m + m') P) (s M M') (times_point p b (n + n') Q) (s N N') (multiples_sum m m' P h)
-          (multiples_sum n n' Q k))))
+      (multiples_sum n n' Q k))))
 
   -- twice
   pub joint_double : (m n m' n' : ℕ) (P Q S : Point) → IsPoint p b P → IsPoint p b Q → Alike p S (joint p b m P n Q)
@@ -165,8 +165,8 @@ module _ (p b : ℕ) (curve : IsCurve p b) where
   unfolding joint
   joint_is count m n P Q S h k l r a =
       after S (sum_of p b (times_point p b m P) (times_point p b n Q))
-          (sum_of p b (multiple_of p b count m P) (multiple_of p b count n Q)) a
+      (sum_of p b (multiple_of p b count m P) (multiple_of p b count n Q)) a
       (back (sum_of p b (multiple_of p b count m P) (multiple_of p b count n Q))
-          (sum_of p b (times_point p b m P) (times_point p b n Q))
+      (sum_of p b (times_point p b m P) (times_point p b n Q))
       (both (multiple_of p b count m P) (times_point p b m P) (multiple_of p b count n Q) (times_point p b n Q)
-          (multiple_is count m P h l) (multiple_is count n Q k r)))
+      (multiple_is count m P h l) (multiple_is count n Q k r)))

@@ -40,7 +40,7 @@ module _ (p b : ℕ) (curve : IsCurve p b) (n : ℕ) (prime : IsPrime n) (x y : 
   none_and : (P Q : Point) → Alike p P infinity → IsPoint p b Q → Alike p (sum_of p b P Q) Q
   none_and P Q a h =
       alike_twice p (sum_of p b P Q) (sum_of p b infinity Q) Q (sum_alike p (pos p b curve) b P infinity Q Q a
-          (alike_self p Q)) (neutral_left p b curve Q h)
+      (alike_self p Q)) (neutral_left p b curve Q h)
 
   is_multiple : (m : ℕ) → IsPoint p b (times_point p b m G)
   is_multiple m = multiple_point p b curve m G is_point
@@ -53,7 +53,7 @@ module _ (p b : ℕ) (curve : IsCurve p b) (n : ℕ) (prime : IsPrime n) (x y : 
       let A = times_point p b (e * q) G in
       let B = times_point p b e G in
       rw k (alike_twice p (times_point p b (e * q + e) G) (sum_of p b A B) infinity
-          (multiples_sum p b curve (e * q) e G is_point)
+      (multiples_sum p b curve (e * q) e G is_point)
       (alike_twice p (sum_of p b A B) B infinity (none_and A B (multiples_none e q h) (is_multiple e)) h))
 
   -- the remainder too
@@ -67,7 +67,7 @@ module _ (p b : ℕ) (curve : IsCurve p b) (n : ℕ) (prime : IsPrime n) (x y : 
       let R = times_point p b r G in
       let all : Alike p (times_point p b (e * q + r) G) infinity = rw k whole in
       alike_twice p R (sum_of p b A R) infinity
-          (alike_turned p (sum_of p b A R) R (none_and A R (multiples_none e q a) (is_multiple r)))
+      (alike_turned p (sum_of p b A R) R (none_and A R (multiples_none e q a) (is_multiple r)))
       (alike_twice p (sum_of p b A R) (times_point p b (e * q + r) G) infinity
       (alike_turned p (times_point p b (e * q + r) G) (sum_of p b A R) (multiples_sum p b curve (e * q) r G is_point)) all)
 
@@ -75,7 +75,7 @@ module _ (p b : ℕ) (curve : IsCurve p b) (n : ℕ) (prime : IsPrime n) (x y : 
   unfolding IsNothing times_point G infinity
   one_is_not a =
       let g : Alike p G infinity = alike_twice p G (sum_of p b infinity G) infinity
-          (alike_turned p (sum_of p b infinity G) G (neutral_left p b curve G is_point)) a in
+      (alike_turned p (sum_of p b infinity G) G (neutral_left p b curve G is_point)) a in
       unit_zero p 1 (more p b curve) (record { inverse = 1; is_inverse = refl }) (times_nothing p g.factor 1 g.is_times.z)
 
   -- no smaller multiple is at infinity
@@ -101,8 +101,11 @@ module _ (p b : ℕ) (curve : IsCurve p b) (n : ℕ) (prime : IsPrime n) (x y : 
       let M = multiple_of p b count n (spot_point x y) in
       let T = times_point p b n (spot_point x y) in
       let a : Alike p M T = multiple_is p b curve count n (spot_point x y) is_point l in
-      let h : IsPoint p b M = record { shape = (is_multiple n).shape; on = (is_multiple n).on;
-          alike = alike_twice p M T (point_at (is_multiple n).shape) a (is_multiple n).alike } in
+      let h : IsPoint p b M = record {
+        shape = (is_multiple n).shape;
+        on = (is_multiple n).on;
+        alike = alike_twice p M T (point_at (is_multiple n).shape) a (is_multiple n).alike;
+      } in
       alike_twice p T M infinity (alike_turned p M T a) (at_infinity p b curve M h e)
 
 -- 256 bits
@@ -135,10 +138,10 @@ nothing-256 = whole_is 115792089210356248762697446949407573530086143415290314195
 
 pub order-256 : (m : ℕ) → 0 < m → m < 115792089210356248762697446949407573529996955224135760342422259061068512044369
     → Alike 115792089210356248762697446949407573530086143415290314195533631308867097853951
-        (times_point 115792089210356248762697446949407573530086143415290314195533631308867097853951
-        41058363725152142129326129780047268409114441015993725554835256314039467401291 m
-        (spot_point 48439561293906451759052585252797914202762949526041747995844080717082404635286
-        36134250956749795798585127919587881956611106672985015071877198253568414405109)) infinity → ⊥
+    (times_point 115792089210356248762697446949407573530086143415290314195533631308867097853951
+    41058363725152142129326129780047268409114441015993725554835256314039467401291 m
+    (spot_point 48439561293906451759052585252797914202762949526041747995844080717082404635286
+    36134250956749795798585127919587881956611106672985015071877198253568414405109)) infinity → ⊥
 order-256 = order_is 115792089210356248762697446949407573530086143415290314195533631308867097853951
     41058363725152142129326129780047268409114441015993725554835256314039467401291 curve-256
     115792089210356248762697446949407573529996955224135760342422259061068512044369 prime_n256

@@ -44,8 +44,10 @@ module _ (p : ℕ) (prime : IsPrime p) where
   unit_or_zero a = go (cases_lt 0 (a % p))
     where
       go : (0 < a % p) ⊎ (a % p ≤ 0) → IsUnit p a ⊎ (a % p ≡ 0 % p)
-      go (inl l) = inl (record { inverse = power p a (p - 2);
-          is_inverse = power_inverse a (λ e. let z = zero_left in omega arith) })
+      go (inl l) = inl (record {
+        inverse = power p a (p - 2);
+        is_inverse = power_inverse a (λ e. let z = zero_left in omega arith);
+      })
       go (inr l) = inr (let z = zero_left in omega arith)
 
   pub prime_field : 2 < p → IsField p
@@ -108,22 +110,22 @@ module _ (p n r : ℕ) (root : (r * r * r) % p ≡ (3 * r + n) % p) where
       (mul_alike p (s2 % p) s2 (r * r) (r * r) (mod-mod s2 p) refl)
       ∙ ap (λ z. z % p) (let k : (s0 + s1 * r) + s2 * (r * r) ≡ low + (d3 + d4 * r) * (3 * r + n) = omega arith in k)
       ∙ add_alike p low low ((d3 + d4 * r) * (3 * r + n)) ((d3 + d4 * r) * (r * r * r)) refl
-          (mul_alike p (d3 + d4 * r) (d3 + d4 * r) (3 * r + n) (r * r * r) refl (sym root))
+      (mul_alike p (d3 + d4 * r) (d3 + d4 * r) (3 * r + n) (r * r * r) refl (sym root))
       ∙ ap (λ z. z % p) (let k : low + (d3 + d4 * r) * (r * r * r) ≡ (a + b * r + c * (r * r))
-          * (d + e * r + f * (r * r)) = omega arith in k)
+      * (d + e * r + f * (r * r)) = omega arith in k)
 
   next_value : (k half bit : ℕ) (h : Cubic) → k ≡ half + half + bit → bit < 2 → value_at r h % p ≡ r ^ half % p
       → value_at r (next p n bit h) % p ≡ r ^ k % p
   unfolding next
   next_value k half zero h e l f =
       product_value h h ∙ mul_alike p (value_at r h) (r ^ half) (value_at r h) (r ^ half) f f
-          ∙ ap (λ z. z % p) (sym (pow-add r half half))
+      ∙ ap (λ z. z % p) (sym (pow-add r half half))
       ∙ ap (λ z. r ^ z % p) (let i : half + half ≡ k = omega arith in i)
   next_value k half (suc zero) h e l f =
       product_value (product p n h h) (record { one = 0; x = 1; xx = 0 })
       ∙ mul_alike p (value_at r (product p n h h)) (r ^ (half + half)) (value_at r (record { one = 0; x = 1; xx = 0 })) r
       (product_value h h ∙ mul_alike p (value_at r h) (r ^ half) (value_at r h) (r ^ half) f f
-          ∙ ap (λ z. z % p) (sym (pow-add r half half)))
+      ∙ ap (λ z. z % p) (sym (pow-add r half half)))
       (ap (λ z. z % p) (x_value r))
       ∙ ap (λ z. z % p) (sym (pow-suc r (half + half))) ∙ ap (λ z. r ^ z % p) (let i : suc (half + half) ≡ k = omega arith in i)
   next_value k half (suc (suc bit)) h e l f = absurd (omega arith)
@@ -136,7 +138,7 @@ module _ (p n r : ℕ) (root : (r * r * r) % p ≡ (3 * r + n) % p) where
   power_value (suc count) k h =
       let two = two-pow-succ count in
       next_value k (k / 2) (k % 2) (power_of p n count (k / 2)) (omega arith) (omega arith)
-          (power_value count (k / 2) (omega arith))
+      (power_value count (k / 2) (omega arith))
 
 less_value : (p r : ℕ) (u : Cubic) → 0 < p → value_at r u % p ≡ r % p
     → value_at r (record { one = u.one; x = u.x + (p - 1); xx = u.xx }) % p ≡ 0 % p
@@ -146,7 +148,7 @@ less_value p r u h e =
     let whole : suc (p - 1) ≡ p = omega arith in
     let m = p - 1 in
     ap (λ z. z % p) (let k : u.one + (u.x + (p - 1)) * r + u.xx * (r * r) ≡ (u.one + u.x * r + u.xx * (r * r)) + (p - 1)
-        * r = split u.one u.x u.xx (p - 1) r in k)
+    * r = split u.one u.x u.xx (p - 1) r in k)
     ∙ add_alike p a r ((p - 1) * r) ((p - 1) * r) e refl
     ∙ ap (λ z. z % p) (joined (p - 1) r ∙ ap (λ z. z * r) whole) ∙ mul_alike p p 0 r r (mod_self p) refl
     ∙ ap (λ z. z % p) (let k : 0 * r ≡ 0 = omega arith in k)
@@ -171,13 +173,13 @@ no_root_of p b count h above fits u v power_is inverse_is r zero_there =
     let cube = times p r (times p r r) in
     let cube_is : cube % p ≡ (r * r * r) % p =
     times_is p r (times p r r) ∙ mul_alike p r r (times p r r) (r * r) refl (times_is p r r)
-        ∙ ap (λ z. z % p) (let k : r * (r * r) ≡ r * r * r = omega arith in k) in
+    ∙ ap (λ z. z % p) (let k : r * (r * r) ≡ r * r * r = omega arith in k) in
     let less = minus p cube (times p 3 r) in
     let less_is : less % p ≡ n % p =
     cancel p positive less n b (sym (plus_is p less b) ∙ zero_there ∙ sym (minus_back p positive 0 b)) in
     let root : (r * r * r) % p ≡ (3 * r + n) % p =
     sym cube_is ∙ sym (minus_back p positive cube (times p 3 r)) ∙ add_alike p less n (times p 3 r) (3 * r) less_is
-        (times_is p 3 r)
+    (times_is p 3 r)
     ∙ ap (λ z. z % p) (let k : n + 3 * r ≡ 3 * r + n = omega arith in k) in
     let w : Cubic = record { one = u.one; x = u.x + (p - 1); xx = u.xx } in
     let u_is : value_at r u % p ≡ r % p =

@@ -29,7 +29,7 @@ plus_comm p a b = ap (λ z. z % p) (let e : a + b ≡ b + a = omega arith in e)
 from_products : (p b xx yy zz xy xz yz : ℕ) → Point
 from_products p b xx yy zz xy xz yz =
     products p xy yz yy (triple p (minus p xz (times p b zz)))
-        (triple p (minus p (minus p (times p b xz) xx) (triple p zz))) (triple p (minus p xx zz))
+    (triple p (minus p (minus p (times p b xz) xx) (triple p zz))) (triple p (minus p xx zz))
 
 from_same : (p b xx yy zz xy xz yz xx' yy' zz' xy' xz' yz' : ℕ) → xx ≡ xx' → yy ≡ yy' → zz ≡ zz' → xy ≡ xy' → xz ≡ xz'
     → yz ≡ yz'
@@ -40,9 +40,9 @@ pub sum_turned : (p b : ℕ) (P Q : Point) → sum_of p b P Q ≡ sum_of p b Q P
 unfolding sum_of from_products
 sum_turned p b P Q =
     from_same p b (times p P.x Q.x) (times p P.y Q.y) (times p P.z Q.z) (plus p (times p P.x Q.y) (times p Q.x P.y))
-        (plus p (times p P.x Q.z) (times p Q.x P.z))
+    (plus p (times p P.x Q.z) (times p Q.x P.z))
     (plus p (times p P.y Q.z) (times p Q.y P.z)) (times p Q.x P.x) (times p Q.y P.y) (times p Q.z P.z)
-        (plus p (times p Q.x P.y) (times p P.x Q.y))
+    (plus p (times p Q.x P.y) (times p P.x Q.y))
     (plus p (times p Q.x P.z) (times p P.x Q.z)) (plus p (times p Q.y P.z) (times p P.y Q.z))
     (times_comm p P.x Q.x) (times_comm p P.y Q.y) (times_comm p P.z Q.z) (plus_comm p (times p P.x Q.y) (times p Q.x P.y))
     (plus_comm p (times p P.x Q.z) (times p Q.x P.z)) (plus_comm p (times p P.y Q.z) (times p Q.y P.z))
@@ -63,7 +63,7 @@ sum_left p pos b P P' Q a =
     let s : AreSame p (sum_of p b P Q) (sum_of p b (scale p a.factor P') Q) =
     sum_same p b P (scale p a.factor P') Q Q (same_scaled p a.factor P P' a.is_times) (same_self p Q) in
     let t : IsTimes p (a.factor * a.factor) (sum_of p b (scale p a.factor P') Q) (sum_of p b P' Q) =
-        scaled_sum p pos b a.factor P' Q in
+    scaled_sum p pos b a.factor P' Q in
     record {
       factor = a.factor * a.factor;
       unit = unit_product p a.factor a.factor a.unit a.unit;
@@ -104,7 +104,7 @@ module _ (p b : ℕ) (curve : IsCurve p b) where
   zero_sum n a e g c h he hg =
       minus_zero p pos n (plus p (times p a e) (times p g c)) h
       ∙ plus_is p (times p a e) (times p g c) ∙ add_alike p (times p a e) 0 (times p g c) 0 (zero_times p a e he)
-          (times_zero p c g hg)
+      (times_zero p c g hg)
 
   pub zero_difference : (n a e g c : ℕ) → minus p n (minus p (times p a e) (times p g c)) % p ≡ 0 % p → e % p ≡ 0 % p
       → g % p ≡ 0 % p → n % p ≡ 0 % p
@@ -124,9 +124,9 @@ module _ (p b : ℕ) (curve : IsCurve p b) where
       curve.no_root r
       (zero_sum (cubic_at p b r) (times p i (times p i i)) (ratio_at p b n d) (minus p (times p d i) 1)
       (minus p (times p 3 (times p r (plus p (times p d i) 1)))
-          (times p b (plus p (plus p (times p (times p d i) (times p d i)) (times p d i)) 1)))
+      (times p b (plus p (plus p (times p (times p d i) (times p d i)) (times p d i)) 1)))
       (sound 0 ratio_squares ratio 1 ratio_point ratio_vanishes ratio_bounded p pos (n ∷ d ∷ i ∷ b ∷ []) refl (λ _. 0)
-          (λ j e. absurd (omega arith)) 0 (omega arith))
+      (λ j e. absurd (omega arith)) 0 (omega arith))
       h (inverse_zero d u))
 
   pub cubic_same : (x x' : ℕ) → x % p ≡ x' % p → cubic_at p b x % p ≡ cubic_at p b x' % p
@@ -168,7 +168,7 @@ module _ (p b : ℕ) (curve : IsCurve p b) where
 
   pub two_roots : (x1 y1 x2 y2 : ℕ) → IsOn p b (spot x1 y1) → IsOn p b (spot x2 y2) → (j : ℕ) → j < 2
       → (roots (y1 ∷ y2 ∷ []) j * roots (y1 ∷ y2 ∷ []) j) % p ≡ eval (modulo p) (x2 ∷ x1 ∷ b ∷ [])
-          (nth (num 0) (cubic 1 2 ∷ cubic 0 2 ∷ []) j) % p
+      (nth (num 0) (cubic 1 2 ∷ cubic 0 2 ∷ []) j) % p
   unfolding nth eval modulo cubic_at roots
   two_roots x1 y1 x2 y2 on1 on2 zero l = on1
   two_roots x1 y1 x2 y2 on1 on2 (suc zero) l = on2
@@ -194,7 +194,7 @@ module _ (p b : ℕ) (curve : IsCurve p b) where
       (one_root x y on) 0 (omega arith) in
       let u : IsUnit p (8 * (y * y * y)) =
       unit_same p (2 * 2 * 2 * (y * y * y)) (8 * (y * y * y))
-          (ap (λ n. n % p) (let k : 2 * 2 * 2 * (y * y * y) ≡ 8 * (y * y * y) = omega arith in k))
+      (ap (λ n. n % p) (let k : 2 * 2 * 2 * (y * y * y) ≡ 8 * (y * y * y) = omega arith in k))
       (unit_product p (2 * 2 * 2) (y * y * y) (unit_product p (2 * 2) 2 (unit_product p 2 2 two_unit two_unit) two_unit)
       (unit_product p (y * y) y (unit_product p y y (y_unit x y on) (y_unit x y on)) (y_unit x y on))) in
       unit_same p (8 * (y * y * y)) z
@@ -253,10 +253,10 @@ module _ (p b : ℕ) (curve : IsCurve p b) where
           let h : times p Z Z % p ≡ ratio_at p b n d % p =
           minus_zero p pos (times p Z Z) (ratio_at p b n d)
           (sound 2 chord_squares chord 1 chord_point chord_vanishes chord_bounded p pos (x2 ∷ x1 ∷ b ∷ []) refl
-              (roots (y1 ∷ y2 ∷ []))
+          (roots (y1 ∷ y2 ∷ []))
           (two_roots x1 y1 x2 y2 on1 on2) 0 (omega arith)) in
           absurd (no_ratio n d (unit_same p (r * r) d (sym (times_is p r r)) (unit_product p r r u u)) (sym h
-              ∙ times_zero p Z Z e))
+          ∙ times_zero p Z Z e))
 
   -- the sum is at infinity or not
   abbrev pub Complete : Point → Type 0
@@ -280,20 +280,20 @@ module _ (p b : ℕ) (curve : IsCurve p b) where
           let g : y2 * y2 + y2 * y1 ≡ (y1 + y2) * y2 = omega arith in
           let same : y1 % p ≡ y2 % p =
           unit_cancel p (y1 + y2) y1 y2 u (ap (λ n. n % p) f
-              ∙ add_alike p (y1 * y1) (y2 * y2) (y2 * y1) (y2 * y1) squares_same refl ∙ ap (λ n. n % p) g) in
+          ∙ add_alike p (y1 * y1) (y2 * y2) (y2 * y1) (y2 * y1) squares_same refl ∙ ap (λ n. n % p) g) in
           same_complete (sum_of p b (spot_point x1 y1) (spot_point x2 y2)) (sum_of p b (spot_point x1 y1) (spot_point x1 y1))
           (sum_same p b (spot_point x1 y1) (spot_point x1 y1) (spot_point x2 y2) (spot_point x1 y1)
-              (same_self p (spot_point x1 y1))
+          (same_self p (spot_point x1 y1))
           (record { x = sym e; y = sym same; z = refl }))
           (inl (double_unit x1 y1 on1))
       go (inr h) =
           let opp : y2 % p ≡ minus p 0 y1 % p =
           cancel p pos y2 (minus p 0 y1) y1 (ap (λ n. n % p) (let k : y2 + y1 ≡ y1 + y2 = omega arith in k) ∙ h
-              ∙ sym (minus_back p pos 0 y1)) in
+          ∙ sym (minus_back p pos 0 y1)) in
           same_complete (sum_of p b (spot_point x1 y1) (spot_point x2 y2))
-              (sum_of p b (spot_point x1 y1) (spot_point x1 (minus p 0 y1)))
+          (sum_of p b (spot_point x1 y1) (spot_point x1 (minus p 0 y1)))
           (sum_same p b (spot_point x1 y1) (spot_point x1 y1) (spot_point x2 y2) (spot_point x1 (minus p 0 y1))
-              (same_self p (spot_point x1 y1))
+          (same_self p (spot_point x1 y1))
           (record { x = sym e; y = opp; z = refl }))
           (inr (record { x = opposite_x x1 y1 on1; z = opposite_z x1 y1 on1; y = opposite_y x1 y1 on1 }))
 

@@ -76,7 +76,7 @@ module _ (p b : ℕ) (curve : IsCurve p b) (G : Point) (is_point : IsPoint p b G
         let parts = and_parts (is_affine p Q (x_of r) (y_of r)) (are_rows p b x_of y_of G rs (sum_of p b Q G)) h in
         let e : j + 0 ≡ j = omega arith in
         rw e (alike_twice p (times_point p b j G) Q (spot_point (x_of r) (y_of r)) a
-            (affine_alike p curve.field Q (x_of r) (y_of r) parts.0))
+        (affine_alike p curve.field Q (x_of r) (y_of r) parts.0))
     row_at (r ∷ rs) Q j a h (suc k) lt =
         let parts = and_parts (is_affine p Q (x_of r) (y_of r)) (are_rows p b x_of y_of G rs (sum_of p b Q G)) h in
         let e : j + suc k ≡ suc j + k = omega arith in
@@ -92,6 +92,8 @@ row_multiple p b G x_of y_of rows h j k e lt =
     affine_multiple p b j G A refl
     (λ curve is_point.
     let there : Alike p (times_point p b j G) A =
-        rw (← e) (row_at p b curve G is_point x_of y_of rows G 1 (first_at p b curve G is_point) h k lt) in
-    (point_alike p b curve A (times_point p b j G) (alike_turned p (times_point p b j G) A there)
-        (multiple_point p b curve j G is_point), there))
+    rw (← e) (row_at p b curve G is_point x_of y_of rows G 1 (first_at p b curve G is_point) h k lt) in (
+      point_alike p b curve A (times_point p b j G) (alike_turned p (times_point p b j G) A there)
+          (multiple_point p b curve j G is_point),
+      there,
+    ))

@@ -8,4 +8,4 @@ use Rattle.weierstrass_group.specs.Group.{IsCurve, IsPoint, Alike}
 pub record IsJoint (p b : ℕ) (u : List ℕ) (P : Point) (v : List ℕ) (Q R : Point) : Type 0 where
   pub alike : IsCurve p b → IsPoint p b P → IsPoint p b Q
       → Alike p R (sum_of p b (multiple_of p b (8 * length u) (little_endian u) P)
-          (multiple_of p b (8 * length v) (little_endian v) Q))
+      (multiple_of p b (8 * length v) (little_endian v) Q))

@@ -6,4 +6,4 @@ pub returns : goal.returns
 returns c = answered failed_name (AnswersFailedHmac c.args.options.now c.args.token.now c.args.secret.now c.args.now)
     c.hmac_failed_test-answer.result c.leave_name.result c.leave_name.new.len c.args.room.now c.leave_name.new.room
     c.hmac_failed_test-answer.ensures.ok c.hmac_failed_test-answer.ensures.err c.leave_name.ensures.given
-        c.leave_name.ensures.kept
+    c.leave_name.ensures.kept

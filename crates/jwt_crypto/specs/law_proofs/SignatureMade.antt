@@ -54,7 +54,7 @@ as_many_is (Some n) s h = (Decides-eqb (length s) n).1 h
 given_at : (g : GivenSignature) (m : List ℕ) (b c : Bool) → (b ≡ true → m ≡ g.message)
     → (c ≡ true → HasLength g.algorithm g.signature)
     → (if b then (if c then None else Some (kind.Signing (length_text g.algorithm))) else Some
-        (kind.Signing another_message)) ≡ None
+    (kind.Signing another_message)) ≡ None
     → IsGivenFor g m
 given_at g m true true p q h = record { message = p refl; length = q refl }
 given_at g m true false p q h = cc

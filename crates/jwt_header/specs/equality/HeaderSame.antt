@@ -59,18 +59,62 @@ header_decides g h = same_as _
     and_decides _ _ (option_decides_itself (pointwise bytes_eq) texts_decides g.crit h.crit) (
     and_decides _ _ (option_decides_itself enc_eq enc_decides g.enc h.enc) (
     and_decides _ _ (option_decides_itself zip_eq zip_decides g.zip h.zip) (members_decides g.extras h.extras))))))))))))))))
-    (λ p i. record { alg = p.0 i; typ = p.1.0 i; cty = p.1.1.0 i; jku = p.1.1.1.0 i; jwk = p.1.1.1.1.0 i;
-        kid = p.1.1.1.1.1.0 i; x5u = p.1.1.1.1.1.1.0 i; x5t = p.1.1.1.1.1.1.1.0 i; x5t_s256 = p.1.1.1.1.1.1.1.1.0 i;
-        url = p.1.1.1.1.1.1.1.1.1.0 i; nonce = p.1.1.1.1.1.1.1.1.1.1.0 i; x5c = p.1.1.1.1.1.1.1.1.1.1.1.0 i; crit =
-        p.1.1.1.1.1.1.1.1.1.1.1.1.0 i; enc = p.1.1.1.1.1.1.1.1.1.1.1.1.1.0 i; zip = p.1.1.1.1.1.1.1.1.1.1.1.1.1.1.0 i;
-        extras = p.1.1.1.1.1.1.1.1.1.1.1.1.1.1.1 i })
-    (λ e. (ap (λ x. x.alg) e, (ap (λ x. x.typ) e,
-        (ap (λ x. x.cty) e, (ap (λ x. x.jku) e,
-        (ap (λ x. x.jwk) e, (ap (λ x. x.kid) e,
-        (ap (λ x. x.x5u) e, (ap (λ x. x.x5t) e,
-        (ap (λ x. x.x5t_s256) e, (ap (λ x. x.url) e,
-        (ap (λ x. x.nonce) e, (ap (λ x. x.x5c) e,
-        (ap (λ x. x.crit) e, (ap (λ x. x.enc) e, (ap (λ x. x.zip) e, ap (λ x. x.extras) e))))))))))))))))
+    (λ p i. record {
+      alg = p.0 i;
+      typ = p.1.0 i;
+      cty = p.1.1.0 i;
+      jku = p.1.1.1.0 i;
+      jwk = p.1.1.1.1.0 i;
+      kid = p.1.1.1.1.1.0 i;
+      x5u = p.1.1.1.1.1.1.0 i;
+      x5t = p.1.1.1.1.1.1.1.0 i;
+      x5t_s256 = p.1.1.1.1.1.1.1.1.0 i;
+      url = p.1.1.1.1.1.1.1.1.1.0 i;
+      nonce = p.1.1.1.1.1.1.1.1.1.1.0 i;
+      x5c = p.1.1.1.1.1.1.1.1.1.1.1.0 i;
+      crit =
+          p.1.1.1.1.1.1.1.1.1.1.1.1.0 i;
+      enc = p.1.1.1.1.1.1.1.1.1.1.1.1.1.0 i;
+      zip = p.1.1.1.1.1.1.1.1.1.1.1.1.1.1.0 i;
+      extras = p.1.1.1.1.1.1.1.1.1.1.1.1.1.1.1 i;
+    })
+    (λ e. (
+      ap (λ x. x.alg) e,
+      (
+        ap (λ x. x.typ) e,
+        (
+          ap (λ x. x.cty) e,
+          (
+            ap (λ x. x.jku) e,
+            (
+              ap (λ x. x.jwk) e,
+              (
+                ap (λ x. x.kid) e,
+                (
+                  ap (λ x. x.x5u) e,
+                  (
+                    ap (λ x. x.x5t) e,
+                    (
+                      ap (λ x. x.x5t_s256) e,
+                      (
+                        ap (λ x. x.url) e,
+                        (
+                          ap (λ x. x.nonce) e,
+                          (
+                            ap (λ x. x.x5c) e,
+                            (ap (λ x. x.crit) e, (ap (λ x. x.enc) e, (ap (λ x. x.zip) e, ap (λ x. x.extras) e))),
+                          ),
+                        ),
+                      ),
+                    ),
+                  ),
+                ),
+              ),
+            ),
+          ),
+        ),
+      ),
+    ))
 
 pub header_eq_equiv : IsEquivalence header_eq
 header_eq_equiv = decided_by header_eq marked_header header_decides

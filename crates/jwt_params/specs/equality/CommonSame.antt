@@ -37,14 +37,32 @@ common_decides c d = same_as _
     and_decides _ _ (option_decides_itself (pointwise bytes_eq) texts_decides c.x509_chain d.x509_chain) (
     and_decides _ _ (option_decides_itself bytes_eq bytes_eq-Decides c.x509_sha1_fingerprint d.x509_sha1_fingerprint)
     (option_decides_itself bytes_eq bytes_eq-Decides c.x509_sha256_fingerprint d.x509_sha256_fingerprint))))))))
-    (λ p i. record { public_key_use = p.0 i; key_operations = p.1.0 i; key_algorithm = p.1.1.0 i; key_id = p.1.1.1.0 i;
-        x509_url = p.1.1.1.1.0 i; x509_chain = p.1.1.1.1.1.0 i; x509_sha1_fingerprint = p.1.1.1.1.1.1.0 i;
-        x509_sha256_fingerprint = p.1.1.1.1.1.1.1 i })
-    (λ e. (ap (λ x. x.public_key_use) e,
-        (ap (λ x. x.key_operations) e,
-        (ap (λ x. x.key_algorithm) e,
-        (ap (λ x. x.key_id) e, (ap (λ x. x.x509_url) e,
-        (ap (λ x. x.x509_chain) e, (ap (λ x. x.x509_sha1_fingerprint) e, ap (λ x. x.x509_sha256_fingerprint) e))))))))
+    (λ p i. record {
+      public_key_use = p.0 i;
+      key_operations = p.1.0 i;
+      key_algorithm = p.1.1.0 i;
+      key_id = p.1.1.1.0 i;
+      x509_url = p.1.1.1.1.0 i;
+      x509_chain = p.1.1.1.1.1.0 i;
+      x509_sha1_fingerprint = p.1.1.1.1.1.1.0 i;
+      x509_sha256_fingerprint = p.1.1.1.1.1.1.1 i;
+    })
+    (λ e. (
+      ap (λ x. x.public_key_use) e,
+      (
+        ap (λ x. x.key_operations) e,
+        (
+          ap (λ x. x.key_algorithm) e,
+          (
+            ap (λ x. x.key_id) e,
+            (
+              ap (λ x. x.x509_url) e,
+              (ap (λ x. x.x509_chain) e, (ap (λ x. x.x509_sha1_fingerprint) e, ap (λ x. x.x509_sha256_fingerprint) e)),
+            ),
+          ),
+        ),
+      ),
+    ))
 
 pub common_eq_equiv : IsEquivalence common_eq
 common_eq_equiv = decided_by common_eq (λ c. c) common_decides

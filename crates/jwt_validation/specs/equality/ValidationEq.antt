@@ -41,25 +41,25 @@ abbrev pub validation_eq : Validation → Validation → Bool
 validation_eq a b = hash_set_eq string_eq a.required_spec_claims b.required_spec_claims && ((a.leeway == b.leeway)
     && ((a.reject_tokens_expiring_in_less_than == b.reject_tokens_expiring_in_less_than) && (beq a.validate_exp b.validate_exp
     && (beq a.validate_nbf b.validate_nbf &&
-        (beq a.validate_aud b.validate_aud && (option_eq (hash_set_eq string_eq) a.aud b.aud
+    (beq a.validate_aud b.validate_aud && (option_eq (hash_set_eq string_eq) a.aud b.aud
     && (option_eq (hash_set_eq string_eq) a.iss b.iss &&
-        (option_eq string_eq a.sub b.sub && (pointwise (sameb the_type) a.algorithms.items b.algorithms.items
+    (option_eq string_eq a.sub b.sub && (pointwise (sameb the_type) a.algorithms.items b.algorithms.items
     && hash_set_eq string_eq a.understood_crit b.understood_crit)))))))))
 
 pub validation_decides : (a b : Validation) → Decides (validation_eq a b) (options_of a ≡ options_of b)
 validation_decides a b =
     let parts = and_decides _ _ (sets_decide a.required_spec_claims b.required_spec_claims)
-        (and_decides _ _ (Decides-eqb a.leeway b.leeway)
+    (and_decides _ _ (Decides-eqb a.leeway b.leeway)
     (and_decides _ _ (Decides-eqb a.reject_tokens_expiring_in_less_than b.reject_tokens_expiring_in_less_than)
-        (and_decides _ _ (booleans_Decides a.validate_exp b.validate_exp)
+    (and_decides _ _ (booleans_Decides a.validate_exp b.validate_exp)
     (and_decides _ _ (booleans_Decides a.validate_nbf b.validate_nbf)
-        (and_decides _ _ (booleans_Decides a.validate_aud b.validate_aud)
+    (and_decides _ _ (booleans_Decides a.validate_aud b.validate_aud)
     (and_decides _ _ (option_decides (hash_set_eq string_eq) contains_text sets_decide a.aud b.aud)
-        (and_decides _ _ (option_decides (hash_set_eq string_eq) contains_text sets_decide a.iss b.iss)
+    (and_decides _ _ (option_decides (hash_set_eq string_eq) contains_text sets_decide a.iss b.iss)
     (and_decides _ _ (option_decides string_eq string_bytes (λ x y. bytes_eq-Decides (string_bytes x) (string_bytes y))
-        a.sub b.sub)
+    a.sub b.sub)
     (and_decides _ _ (slice_eq-Decides (variant_decides the_type tt) a.algorithms.items b.algorithms.items
-        (pointwise (sameb the_type) a.algorithms.items b.algorithms.items) refl)
+    (pointwise (sameb the_type) a.algorithms.items b.algorithms.items) refl)
     (sets_decide a.understood_crit b.understood_crit)))))))))) in (
       λ h. let p = parts.0 h in λ i. record {
         required = p.0 i;
@@ -74,11 +74,28 @@ validation_decides a b =
         algorithms = p.1.1.1.1.1.1.1.1.1.0 i;
         understood = p.1.1.1.1.1.1.1.1.1.1 i;
       },
-      λ e. parts.1 (λ i. (e i).required,
-          (λ i. (e i).leeway, (λ i. (e i).reject,
-          (λ i. (e i).checks_exp, (λ i. (e i).checks_nbf,
-          (λ i. (e i).checks_aud, (λ i. (e i).aud,
-          (λ i. (e i).iss, (λ i. (e i).sub, (λ i. (e i).algorithms, λ i. (e i).understood)))))))))),
+      λ e. parts.1 (
+        λ i. (e i).required,
+        (
+          λ i. (e i).leeway,
+          (
+            λ i. (e i).reject,
+            (
+              λ i. (e i).checks_exp,
+              (
+                λ i. (e i).checks_nbf,
+                (
+                  λ i. (e i).checks_aud,
+                  (
+                    λ i. (e i).aud,
+                    (λ i. (e i).iss, (λ i. (e i).sub, (λ i. (e i).algorithms, λ i. (e i).understood))),
+                  ),
+                ),
+              ),
+            ),
+          ),
+        ),
+      ),
     )
 
 pub validation_eq_equiv : IsEquivalence validation_eq

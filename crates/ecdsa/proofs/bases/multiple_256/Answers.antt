@@ -16,6 +16,12 @@ from_form-requires-2 c =
 pub returns : goal.returns
 returns c =
     let multiple = multiple_at_256 c.args.digit (c.args.digit - 1) (let s = c.requires.some in omega arith)
-        (let s = c.requires.some in let h = c.requires.few in omega arith) in
-    rw (c.from_form.ensures, c.from_form-2.ensures, c.four_limbs.ensures, c.four_limbs-2.ensures, c.from.ensures,
-        field_256_is) multiple
+    (let s = c.requires.some in let h = c.requires.few in omega arith) in
+    rw (
+      c.from_form.ensures,
+      c.from_form-2.ensures,
+      c.four_limbs.ensures,
+      c.four_limbs-2.ensures,
+      c.from.ensures,
+      field_256_is,
+    ) multiple

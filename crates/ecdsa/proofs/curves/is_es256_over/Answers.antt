@@ -11,7 +11,7 @@ is_signature_by-requires g c =
     let n = g.met.N.Order256 in
     let size : (32) ≤ 66 = omega arith in
     let base : HasBase g.F.Residue.modulus g.F.BaseMultiples.b g.F.BaseMultiples.base =
-        rw (f.is_field, f.is_b, f.is_base) has_base_256 in (
+    rw (f.is_field, f.is_b, f.is_base) has_base_256 in (
       omega arith,
       (
         size,
@@ -23,8 +23,10 @@ is_signature_by-requires g c =
               omega (arith, n.is_order),
               (
                 omega (arith, n.is_order),
-                (omega (arith, f.is_field, n.is_order),
-                    (omega (arith, f.is_field, n.is_order), (c.b_256.ensures ∙ sym f.is_b, base))),
+                (
+                  omega (arith, f.is_field, n.is_order),
+                  (omega (arith, f.is_field, n.is_order), (c.b_256.ensures ∙ sym f.is_b, base)),
+                ),
               ),
             ),
           ),
@@ -35,5 +37,10 @@ is_signature_by-requires g c =
 pub returns : goal.returns
 unfolding IsEs256
 returns g c =
-    rw (g.met.F.Field256.is_field, g.met.N.Order256.is_order, g.met.F.Field256.is_b, g.met.F.Field256.is_base,
-        c.digest_256.ensures) at c.is_signature_by.ensures
+    rw (
+      g.met.F.Field256.is_field,
+      g.met.N.Order256.is_order,
+      g.met.F.Field256.is_b,
+      g.met.F.Field256.is_base,
+      c.digest_256.ensures,
+    ) at c.is_signature_by.ensures

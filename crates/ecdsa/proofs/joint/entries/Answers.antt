@@ -142,8 +142,12 @@ module _ {F : Type 0} (number : F → ℕ) (p : ℕ) (P : Point) (t : Sixteen F)
 pub returns-clause-kept : goal.returns-clause-kept
 returns-clause-kept g c =
     all_kept g.F.Residue.number g.F.Residue.modulus
-        (record { zero = c.four_from-zero.result; one = c.four_from-one.result; two = c.four_from-two.result;
-        three = c.four_from-three.result })
+    (record {
+      zero = c.four_from-zero.result;
+      one = c.four_from-one.result;
+      two = c.four_from-two.result;
+      three = c.four_from-three.result;
+    })
     c.four_from-zero.ensures.zero
     c.four_from-zero.ensures.one
     c.four_from-zero.ensures.two
@@ -165,8 +169,12 @@ pub returns-clause-sums : goal.returns-clause-sums
 returns-clause-sums g c =
     let n = g.F.Residue.number in
     all_sums n g.F.Residue.modulus (spot_point (n c.args.x) (n c.args.y))
-        (record { zero = c.four_from-zero.result; one = c.four_from-one.result; two = c.four_from-two.result;
-        three = c.four_from-three.result })
+    (record {
+      zero = c.four_from-zero.result;
+      one = c.four_from-one.result;
+      two = c.four_from-two.result;
+      three = c.four_from-three.result;
+    })
     (ap (numbers n) (c.four_from-zero.ensures.start ∙ c.entry_for.ensures.same) ∙ c.nothing.ensures)
     c.four_from-zero.ensures.one_is
     c.four_from-zero.ensures.two_is

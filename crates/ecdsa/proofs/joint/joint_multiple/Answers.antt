@@ -71,6 +71,6 @@ returns g c =
     let v = c.args.second.now in
     let z : c.loop-i.i ≡ 0 = omega arith in
     joint_by g.F.Residue.modulus g.F.BaseMultiples.b u v g.F.BaseMultiples.base (numbers n c.args.point)
-        (numbers n c.loop-i.result) (numbers n c.projective.result)
+    (numbers n c.loop-i.result) (numbers n c.projective.result)
     (λ j. omega (arith, c.type_inv.first j)) (λ j. omega (arith, c.type_inv.second j)) c.requires.lengths c.projective.ensures
     (rw z at c.loop-i.invariant.sum_is)

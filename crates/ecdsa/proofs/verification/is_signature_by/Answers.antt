@@ -29,7 +29,7 @@ returns g c =
     let R = numbers f c.sum.result in
     let on : IsPoint p b key = rw c.in-Some.ensures.1 (key_is_point p b g.row.S c.args.public.now tested) in
     let alike : Alike p R (sum_for p m b base g.row.S key e i j) =
-        c.sum.ensures.alike c.requires.base.curve c.requires.base.point on in
+    c.sum.ensures.alike c.requires.base.curve c.requires.base.point on in
     let below = g.met.F.Residue.number_below c.sum.result.z in
     let iff : HasX p m R i ↔ HasX p m (sum_for p m b base g.row.S key e i j) i =
     has_x_of p m b base g.row.S key e i j R c.requires.base.prime below alike in
@@ -37,7 +37,7 @@ returns g c =
     (λ t. iff.0 (c.has_x.ensures.0 t), λ h. c.has_x.ensures.1 (iff.1 h)) in
     verdict p m b base g.row.S c.args.public.now c.args.digest.now c.args.signature.now
     (numbers f c.in-Some.key) (n c.read_reduced-e.result) (n c.in-Some-read_positive.r) (n c.in-Some-read_positive-2.s)
-        c.has_x.result
+    c.has_x.result
     tested c.in-Some.ensures.1 c.if-signature.false c.read_reduced-e.ensures
     r.0 r.1 (g.met.N.Residue.number_below c.in-Some-read_positive.r)
     s.0 s.1 (g.met.N.Residue.number_below c.in-Some-read_positive-2.s)

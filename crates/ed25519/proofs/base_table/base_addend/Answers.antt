@@ -7,5 +7,5 @@ pub returns : goal.returns
 unfolding affine_numbers
 returns c =
     let row = IsRow-at c.args.digit (c.args.digit - 1) (let h = c.requires.some in omega arith)
-        (let h = c.requires.few in omega arith) in
+    (let h = c.requires.few in omega arith) in
     rw (c.from_parts.ensures, c.from_parts-2.ensures, c.from_parts-3.ensures, c.from.ensures) row.prepared

@@ -37,7 +37,7 @@ loop-i-preserved c =
           let one = c.step-result.ensures P _ _ others (c.loop-i.invariant.joint h) in
           let two = c.step-result-in-loop-i.ensures P _ _ others one in
           IsJoint-at (by_halves (little_endian (drop i xs)) (get_or xs (i - 1) 0) _ a)
-              (by_halves (little_endian (drop i ys)) (get_or ys (i - 1) 0) _ b) two;
+          (by_halves (little_endian (drop i ys)) (get_or ys (i - 1) 0) _ b) two;
     }
 
 pub returns : goal.returns

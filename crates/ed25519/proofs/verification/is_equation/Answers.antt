@@ -15,13 +15,13 @@ returns c =
     let commitment : Point = numbers (λ x. whole x % p) c.args.commitment in
     let sum : Point = numbers (λ x. whole x % p) c.joint_multiple.result in
     let hs : little_endian c.args.s.now < 2 ^ 256 =
-        rw c.requires.s at (little_endian-lt c.args.s.now (λ i. let h = c.type_inv.s i in omega arith)) in
+    rw c.requires.s at (little_endian-lt c.args.s.now (λ i. let h = c.type_inv.s i in omega arith)) in
     let hc : little_endian c.args.challenge.now < 2 ^ 256 =
-        rw c.requires.challenge at (little_endian-lt c.args.challenge.now (λ i. let h = c.type_inv.challenge i
-        in omega arith)) in
+    rw c.requires.challenge at (little_endian-lt c.args.challenge.now (λ i. let h = c.type_inv.challenge i
+    in omega arith)) in
     let negative_is = subst (IsPoint p d) (sym c.negative.ensures) (IsPoint-negative key c.requires.key) in
     let joint = rw c.negative.ensures at (c.joint_multiple.ensures negative_is) in
     let all = equation_by key commitment sum (little_endian c.args.s.now) (little_endian c.args.challenge.now)
-        c.requires.key c.requires.commitment hs hc joint in
+    c.requires.key c.requires.commitment hs hc joint in
     let same = c.is_same_point.ensures in
     (λ h. all.0 (same.0 h), λ h. same.1 (all.1 h))

@@ -15,31 +15,31 @@ pub returns-in-Err : goal.returns-in-Err
 returns-in-Err g c =
     let f = not_memory c.in-Err.refusal _ c.in_ok-test_of-in-Err.ensures c.in-Err.ensures in
     none_read c.args.token.now (Given c.args.key.now) (options_of c.args.validation.now)
-        (g.P.CryptoProvider.verifier_refusal c.args.provider.now) (g.P.CryptoProvider.accepts c.args.provider.now)
-        g.T.Claims.reads decode_order refl _ (failed_by (header_call c.args.token.now) value_tests refl f.0 _ _ f.1).0
+    (g.P.CryptoProvider.verifier_refusal c.args.provider.now) (g.P.CryptoProvider.accepts c.args.provider.now)
+    g.T.Claims.reads decode_order refl _ (failed_by (header_call c.args.token.now) value_tests refl f.0 _ _ f.1).0
 
 pub returns-in-None : goal.returns-in-None
 returns-in-None g c =
     let call = decoding g.P.CryptoProvider g.T.Claims c.args.provider.now c.args.token.now c.args.key.now
-        c.args.validation.now 0 in
+    c.args.validation.now 0 in
     let has : HasMoments call decode_order = moments call decode_order refl refl refl (λ t m. (λ p. p, λ p. p)) in
     let x = c.in-Ok.ensures in
     let whole = rw c.in-Ok.is at c.claimed.type_inv in
     let fits : c.in-Ok.moments.first ≤ end_of_time = omega (arith, whole.1.1.1.1.1.0.1.1.0.1) in
     let held = rw c.in-None.is at c.in_ok-failed_test.ensures in
     all_claimed c.args.token.now (Given c.args.key.now) (options_of c.args.validation.now)
-        (g.P.CryptoProvider.verifier_refusal c.args.provider.now) (g.P.CryptoProvider.accepts c.args.provider.now)
-        g.T.Claims.reads decode_order refl has x.0 x.1 c.in-Ok.moments x.2 fits held
+    (g.P.CryptoProvider.verifier_refusal c.args.provider.now) (g.P.CryptoProvider.accepts c.args.provider.now)
+    g.T.Claims.reads decode_order refl has x.0 x.1 c.in-Ok.moments x.2 fits held
 
 pub returns-in-Some : goal.returns-in-Some
 returns-in-Some g c =
     let call = decoding g.P.CryptoProvider g.T.Claims c.args.provider.now c.args.token.now c.args.key.now
-        c.args.validation.now 0 in
+    c.args.validation.now 0 in
     let has : HasMoments call decode_order = moments call decode_order refl refl refl (λ t m. (λ p. p, λ p. p)) in
     let x = c.in-Ok.ensures in
     let whole = rw c.in-Ok.is at c.claimed.type_inv in
     let fits : c.in-Ok.moments.first ≤ end_of_time = omega (arith, whole.1.1.1.1.1.0.1.1.0.1) in
     let failed = rw c.in-Some.is at c.in_ok-failed_test.ensures in
     none_claimed c.args.token.now (Given c.args.key.now) (options_of c.args.validation.now)
-        (g.P.CryptoProvider.verifier_refusal c.args.provider.now) (g.P.CryptoProvider.accepts c.args.provider.now)
-        g.T.Claims.reads decode_order refl has x.0 x.1 c.in-Ok.moments x.2 fits _ failed
+    (g.P.CryptoProvider.verifier_refusal c.args.provider.now) (g.P.CryptoProvider.accepts c.args.provider.now)
+    g.T.Claims.reads decode_order refl has x.0 x.1 c.in-Ok.moments x.2 fits _ failed

@@ -18,7 +18,7 @@ returns-in_err-claims_text g c =
     let p = err_from_is_err_and c.from_residual-in_err-claims_text.result c.from_residual-in_err-claims_text.ensures.1 in
     let h = c.in_ok-header_text.ensures.ok in
     rw (p.1, p.2) (or_memory (λ f. (record unwritten { header_value = h.0 }, inr (h.1.0, inl (f.1, f.0))))
-        c.in_err-claims_text.ensures.err)
+    c.in_err-claims_text.ensures.err)
 
 pub returns : goal.returns
 returns g c =

@@ -7,8 +7,11 @@ returns g c =
     let said = rw c.in_ok-key.ensures.ok at c.decode.ensures.decided in
     record {
       accepted = IfOk-weaker c.decode.result _ _
-          (λ r a. (a.0, vouched g.T.Claims c.args.verdict.now c.args.token.now c.args.validation.now c.args.now a.0 a.1,
-          a.2)) said.accepted;
+          (λ r a. (
+            a.0,
+            vouched g.T.Claims c.args.verdict.now c.args.token.now c.args.validation.now c.args.now a.0 a.1,
+            a.2,
+          )) said.accepted;
       exact = λ t w. said.exact t (passed g.T.Claims c.args.verdict.now c.args.token.now c.args.validation.now c.args.now t w);
       refused = said.refused;
     }

@@ -9,7 +9,7 @@ pub returns : goal.returns
 returns c =
     let call = header_call c.args.token.now in
     let decided = decides call signed_order refl (HasSigned call) c.signed_part_by_steps.result
-        c.signed_part_by_steps.ensures (λ s t y p q e. (
+    c.signed_part_by_steps.ensures (λ s t y p q e. (
       sym (same_header call signed_order s t p q refl) ∙ e.0,
       sym (ap message_of (same_parts call signed_order s t p q refl)) ∙ e.1,
       sym (same_signature call signed_order s t p q refl) ∙ e.2,

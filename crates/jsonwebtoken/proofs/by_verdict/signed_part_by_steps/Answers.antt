@@ -10,14 +10,14 @@ pub returns-in_err-parts : goal.returns-in_err-parts
 returns-in_err-parts c =
     let call = header_call c.args.token.now in
     exit call signed_order whole (HasSigned call) _ _ c.from_residual.ensures.1 (λ f. (no_contents, inl f))
-        c.in_err-parts.ensures
+    c.in_err-parts.ensures
 
 pub returns-in_err-header : goal.returns-in_err-header
 returns-in_err-header c =
     let call = header_call c.args.token.now in
     exit call signed_order whole (HasSigned call) _ _ c.from_residual-in_err-header.ensures.1
     (λ f. stop call signed_order (HasThreeParts ∷ []) header_tests (record f.0 { parts = parts_in c.in_ok-parts.parts })
-        _ _ (c.in_ok-parts.ensures, tt) f.1) c.in_err-header.ensures
+    _ _ (c.in_ok-parts.ensures, tt) f.1) c.in_err-header.ensures
 
 pub returns-in-Ok : goal.returns-in-Ok
 returns-in-Ok c =
@@ -36,4 +36,4 @@ returns-in-Err c =
     let h = c.in_ok-header.ensures in
     let no = rw c.in-Err.is at c.read_part.ensures in
     or_memory (λ f. stop call signed_order header_order (SignatureIsPart ∷ [])
-        (record h.0 { parts = parts_in c.in_ok-parts.parts }) _ _ (c.in_ok-parts.ensures, h.1) (inl f)) no
+    (record h.0 { parts = parts_in c.in_ok-parts.parts }) _ _ (c.in_ok-parts.ensures, h.1) (inl f)) no

@@ -9,6 +9,6 @@ pub returns : goal.returns
 returns g c =
     let call = insecure_call c.args.token.now g.T.Claims.reads in
     let decided = decides call insecure_order refl (Carries call) c.insecure_decode_by_steps.result
-        c.insecure_decode_by_steps.ensures
+    c.insecure_decode_by_steps.ensures
     (same_answer call insecure_order refl refl (λ r. r.header) (λ r v. g.T.Claims.reads v r.claims)) in
     without (token_tests call) insecure_order (Carries call) c.insecure_decode_by_steps.result _ c.without_test.ensures decided

@@ -9,7 +9,7 @@ pub returns : goal.returns
 returns g c =
     let call = insecure_call c.args.token.now g.T.Claims.reads in
     let decided = decides call insecure_claims_order refl (HasClaims call) c.insecure_decode_claims_by_steps.result
-        c.insecure_decode_claims_by_steps.ensures
+    c.insecure_decode_claims_by_steps.ensures
     (λ s t y p q e. rw (← same_claims call insecure_claims_order s t p q refl) e) in
     without (token_tests call) insecure_claims_order (HasClaims call) c.insecure_decode_claims_by_steps.result _
-        c.without_test.ensures decided
+    c.without_test.ensures decided

@@ -9,7 +9,7 @@ pub returns-in_err-parts : goal.returns-in_err-parts
 returns-in_err-parts g c =
     let call = insecure_call c.args.token.now g.T.Claims.reads in
     exit call insecure_claims_order whole (HasClaims call) _ _ c.from_residual.ensures.1 (λ f. (no_contents, inl f))
-        c.in_err-parts.ensures
+    c.in_err-parts.ensures
 
 pub returns-in_err-claims : goal.returns-in_err-claims
 returns-in_err-claims g c =

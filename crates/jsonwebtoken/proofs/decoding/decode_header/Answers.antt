@@ -29,7 +29,7 @@ module _ (token : List ℕ) where
   header_of_parts parts has failed (Ok header) h = (record h.0 { parts = parts }, (has, h.1), h.2)
   header_of_parts parts has failed (Err e) refused =
       or_memory (λ f. stop (header_call token) header_order (HasThreeParts ∷ []) header_tests
-          (record f.0 { parts = parts }) failed (kind_of e) (has, tt) f.1) refused
+      (record f.0 { parts = parts }) failed (kind_of e) (has, tt) f.1) refused
 
 pub returns-in-Err : goal.returns-in-Err
 returns-in-Err c = decided c.args.token.now c.in-Err.refusal.test (Err c.in-Err.refusal.error)
@@ -39,10 +39,10 @@ pub returns-in_err-header : goal.returns-in_err-header
 returns-in_err-header c =
     let p = err_from_is_err_and c.from_residual.result c.from_residual.ensures.1 in
     rw (p.1, p.2) (decided c.args.token.now c.read_header_noting.new.failed (Err _)
-        (header_of_parts c.args.token.now (parts_in c.in-Ok.parts) c.in-Ok.ensures _ (Err _) c.in_err-header.ensures))
+    (header_of_parts c.args.token.now (parts_in c.in-Ok.parts) c.in-Ok.ensures _ (Err _) c.in_err-header.ensures))
 
 pub returns : goal.returns
 returns c =
     decided c.args.token.now c.read_header_noting.new.failed (Ok c.in_ok-header.header)
-        (header_of_parts c.args.token.now (parts_in c.in-Ok.parts) c.in-Ok.ensures c.read_header_noting.new.failed
-        (Ok c.in_ok-header.header) c.in_ok-header.ensures)
+    (header_of_parts c.args.token.now (parts_in c.in-Ok.parts) c.in-Ok.ensures c.read_header_noting.new.failed
+    (Ok c.in_ok-header.header) c.in_ok-header.ensures)

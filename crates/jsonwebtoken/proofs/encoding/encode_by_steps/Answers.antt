@@ -22,14 +22,18 @@ pub returns-in_err-signer : goal.returns-in_err-signer
 returns-in_err-signer g c =
     let p = err_from_is_err_and c.from_residual-in_err-signer.result c.from_residual-in_err-signer.ensures.1 in
     rw (p.1, p.2) (or_memory (λ f. (unwritten, inr (c.in_ok-check_family.ensures, inl ((λ h. not_both _ _ f h), f))))
-        c.in_err-signer.ensures.err)
+    c.in_err-signer.ensures.err)
 
 pub returns-in_err-header_text : goal.returns-in_err-header_text
 returns-in_err-header_text g c =
     let p = err_from_is_err_and c.from_residual-in_err-header_text.result c.from_residual-in_err-header_text.ensures.1 in
-    rw (p.1, p.2) (or_memory (λ f.
-        (unwritten, inr (c.in_ok-check_family.ensures,
-        inr (c.in_ok-signer.ensures.made, inl ((λ d h. not_both _ _ h f.1), f.0))))) c.in_err-header_text.ensures.err)
+    rw (p.1, p.2) (or_memory (λ f. (
+      unwritten,
+      inr (
+        c.in_ok-check_family.ensures,
+        inr (c.in_ok-signer.ensures.made, inl ((λ d h. not_both _ _ h f.1), f.0)),
+      ),
+    )) c.in_err-header_text.ensures.err)
 
 pub returns-in_err-claims_text : goal.returns-in_err-claims_text
 returns-in_err-claims_text g c =
@@ -47,7 +51,7 @@ returns-in_err-signed g c =
     let v = c.in_ok-claims_text.ensures.ok in
     let t : Written = record { header_value = h.0; claims_value = Some v.0 } in
     let message : string_bytes c.in_ok-header_text.header_text ++ dot ∷ c.as_str.result.now ≡ message_to_sign t =
-        rw (c.as_str.ensures.value, h.1.1.part.1, v.1.1.part.1) refl in
+    rw (c.as_str.ensures.value, h.1.1.part.1, v.1.1.part.1) refl in
     let same = c.in_ok-signer.ensures.sign_refusal (message_to_sign t) in
     let no = rw (message, same) at c.in_err-signed.ensures.err in
     rw (p.1, p.2) (or_memory (λ f. (
@@ -74,20 +78,30 @@ returns g c =
     let v = c.in_ok-claims_text.ensures.ok in
     let s = c.in_ok-signed.ensures.signed in
     let t : Written = record { header_value = h.0; claims_value = Some v.0 } in
-    let parts : Parts = record { header = string_bytes c.in_ok-header_text.header_text;
-        payload = string_bytes c.in_ok-claims_text.claims_text; signature = string_bytes c.in_ok-signed.signed.signature } in
+    let parts : Parts = record {
+      header = string_bytes c.in_ok-header_text.header_text;
+      payload = string_bytes c.in_ok-claims_text.claims_text;
+      signature = string_bytes c.in_ok-signed.signed.signature;
+    } in
     let message : message_of parts ≡ message_to_sign t = rw (h.1.1.part.1, v.1.1.part.1) refl in
     let same = c.in_ok-signer.ensures.sign_refusal (message_to_sign t) in
     let unrefused = rw (c.as_str.ensures.value, message, same) at c.in_ok-signed.ensures.ok in
     let signed = (c.in_ok-signer.ensures.signs (message_of parts) s.0).0 (rw c.as_str.ensures.value at s.1.1) in
     let text : string_bytes c.in_ok-token.token ≡ text_of_parts parts =
     c.in_ok-token.ensures.ok ∙ rw (c.as_str-2.ensures.value, c.in_ok-signed.ensures.message, c.as_str.ensures.value)
-        (append_assoc parts.header (dot ∷ parts.payload) (dot ∷ parts.signature)) in
-    let issued : AreIssued issue t parts = record { header = h.1.1.part.1; payload = v.1.1.part.1; bytes = s.0;
-        signature = s.1.0; signed = signed } in (
+    (append_assoc parts.header (dot ∷ parts.payload) (dot ∷ parts.signature)) in
+    let issued : AreIssued issue t parts = record {
+      header = h.1.1.part.1;
+      payload = v.1.1.part.1;
+      bytes = s.0;
+      signature = s.1.0;
+      signed = signed;
+    } in (
       t,
-      (c.in_ok-check_family.ensures,
-          (c.in_ok-signer.ensures.made, (h.1.0, ((v.0, refl, v.1.0, v.1.1.compact.no_float), (unrefused, tt))))),
+      (
+        c.in_ok-check_family.ensures,
+        (c.in_ok-signer.ensures.made, (h.1.0, ((v.0, refl, v.1.0, v.1.1.compact.no_float), (unrefused, tt)))),
+      ),
       (
         (parts, text, issued),
         rw text (read_back issue (g.P.CryptoProvider.accepts c.args.provider.now) t parts

@@ -8,34 +8,44 @@ use Rattle.jsonwebtoken.proofs.jws.verifier_for.Goals as goal
 pub returns-in_err-verifier-clause-tests : goal.returns-in_err-verifier-clause-tests
 returns-in_err-verifier-clause-tests g c =
     exit (allowing (options_of c.args.validation.now) c.args.key.now
-        (g.P.CryptoProvider.verifier_refusal c.args.provider.now)) jws_algorithm_tests (with_header c.args.header.now)
-        ShowsNothing _ _ c.from_residual.ensures.1
+    (g.P.CryptoProvider.verifier_refusal c.args.provider.now)) jws_algorithm_tests (with_header c.args.header.now)
+    ShowsNothing _ _ c.from_residual.ensures.1
     (λ f. (no_contents, inl f)) c.in_err-verifier.ensures.made
 
 pub returns-in_err-check_some_listed-clause-tests : goal.returns-in_err-check_some_listed-clause-tests
 returns-in_err-check_some_listed-clause-tests g c =
     exit (allowing (options_of c.args.validation.now) c.args.key.now
-        (g.P.CryptoProvider.verifier_refusal c.args.provider.now)) jws_algorithm_tests (with_header c.args.header.now)
-        ShowsNothing _ _ c.from_residual-in_err-check_some_listed.ensures.1
+    (g.P.CryptoProvider.verifier_refusal c.args.provider.now)) jws_algorithm_tests (with_header c.args.header.now)
+    ShowsNothing _ _ c.from_residual-in_err-check_some_listed.ensures.1
     (λ f. (no_contents, inr (c.in_ok-verifier.ensures.made, inl f))) c.in_err-check_some_listed.ensures
 
 pub returns-in_err-check_families-clause-tests : goal.returns-in_err-check_families-clause-tests
 returns-in_err-check_families-clause-tests g c =
     exit (allowing (options_of c.args.validation.now) c.args.key.now
-        (g.P.CryptoProvider.verifier_refusal c.args.provider.now)) jws_algorithm_tests (with_header c.args.header.now)
-        ShowsNothing _ _ c.from_residual-in_err-check_families.ensures.1
+    (g.P.CryptoProvider.verifier_refusal c.args.provider.now)) jws_algorithm_tests (with_header c.args.header.now)
+    ShowsNothing _ _ c.from_residual-in_err-check_families.ensures.1
     (λ f. (no_contents, inr (c.in_ok-verifier.ensures.made, inr (c.in_ok-check_some_listed.ensures, inl f))))
-        c.in_err-check_families.ensures
+    c.in_err-check_families.ensures
 
 pub returns-in_err-check_listed-clause-tests : goal.returns-in_err-check_listed-clause-tests
 returns-in_err-check_listed-clause-tests g c =
     exit (allowing (options_of c.args.validation.now) c.args.key.now
-        (g.P.CryptoProvider.verifier_refusal c.args.provider.now)) jws_algorithm_tests (with_header c.args.header.now)
-        ShowsNothing _ _ c.from_residual-in_err-check_listed.ensures.1
-    (λ f. (no_contents, inr (c.in_ok-verifier.ensures.made,
-        inr (c.in_ok-check_some_listed.ensures, inr (c.in_ok-check_families.ensures, inl f))))) c.in_err-check_listed.ensures
+    (g.P.CryptoProvider.verifier_refusal c.args.provider.now)) jws_algorithm_tests (with_header c.args.header.now)
+    ShowsNothing _ _ c.from_residual-in_err-check_listed.ensures.1
+    (λ f. (
+      no_contents,
+      inr (
+        c.in_ok-verifier.ensures.made,
+        inr (c.in_ok-check_some_listed.ensures, inr (c.in_ok-check_families.ensures, inl f)),
+      ),
+    )) c.in_err-check_listed.ensures
 
 pub returns-clause-tests : goal.returns-clause-tests
-returns-clause-tests g c = (no_contents,
-    (c.in_ok-verifier.ensures.made,
-    (c.in_ok-check_some_listed.ensures, (c.in_ok-check_families.ensures, (c.in_ok-check_listed.ensures, tt)))), tt)
+returns-clause-tests g c = (
+  no_contents,
+  (
+    c.in_ok-verifier.ensures.made,
+    (c.in_ok-check_some_listed.ensures, (c.in_ok-check_families.ensures, (c.in_ok-check_listed.ensures, tt))),
+  ),
+  tt,
+)

@@ -15,4 +15,4 @@ returns-clause-ok c =
 pub returns-clause-err : goal.returns-clause-err
 returns-clause-err c =
     IfErr-weaker c.decode.result _ _ (λ e x. or_memory (λ f. inr (_, c.in_ok-key.ensures.ok, f)) x)
-        c.decode.ensures.decided.refused
+    c.decode.ensures.decided.refused

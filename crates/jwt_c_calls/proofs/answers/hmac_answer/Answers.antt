@@ -17,19 +17,19 @@ pub returns-in_err-validation-clause-err : goal.returns-in_err-validation-clause
 returns-in_err-validation-clause-err c =
     let p = err_from_is_err_and c.from_residual.result c.from_residual.ensures.1 in
     rw (p.1, p.2) (misread _ _ _ _ input.Options _ (λ none. (refl, none)) c.from_slice.result
-        (Err _) c.in_err-validation.ensures c.from_slice.ensures.err)
+    (Err _) c.in_err-validation.ensures c.from_slice.ensures.err)
 
 pub returns-clause-ok : goal.returns-clause-ok
 returns-clause-ok c =
     let call = hmac_call c.args.token.now c.args.secret.now c.args.now in
     let said = rw c.in_ok-key.ensures.ok at c.decode-answer.ensures.decided.accepted in
     handed_ok (λ d. d.claims) (λ b. b.items) (ReadsText ReadsOptions c.args.options.now)
-        (MisreadsOne input.Options (ReadsText ReadsOptions c.args.options.now))
-        (λ o. Passes (token_tests (call o)) decode_order) (λ o. FailsFirst (token_tests (call o)) decode_order)
+    (MisreadsOne input.Options (ReadsText ReadsOptions c.args.options.now))
+    (λ o. Passes (token_tests (call o)) decode_order) (λ o. FailsFirst (token_tests (call o)) decode_order)
     (λ o t p. shallow t (met (call o) decode_order t p PayloadIsJson refl)) (λ d t. t.header ≡ d.header)
-        (options_of c.in_ok-validation.validation)
-        (read_ok (λ v. ReadsText ReadsOptions c.args.options.now (options_of v)) input.Options c.from_slice.result _
-        c.in_ok-validation.ensures c.from_slice.ensures.ok)
+    (options_of c.in_ok-validation.validation)
+    (read_ok (λ v. ReadsText ReadsOptions c.args.options.now (options_of v)) input.Options c.from_slice.result _
+    c.in_ok-validation.ensures c.from_slice.ensures.ok)
     c.decode-answer.result c.hand_out.result c.hand_out.ensures said
 
 pub returns-clause-err : goal.returns-clause-err
@@ -37,10 +37,10 @@ returns-clause-err c =
     let call = hmac_call c.args.token.now c.args.secret.now c.args.now in
     let said = rw c.in_ok-key.ensures.ok at c.decode-answer.ensures.decided.refused in
     handed_err (λ d. d.claims) (λ b. b.items) (ReadsText ReadsOptions c.args.options.now)
-        (MisreadsOne input.Options (ReadsText ReadsOptions c.args.options.now))
-        (λ o. Passes (token_tests (call o)) decode_order) (λ o. FailsFirst (token_tests (call o)) decode_order)
+    (MisreadsOne input.Options (ReadsText ReadsOptions c.args.options.now))
+    (λ o. Passes (token_tests (call o)) decode_order) (λ o. FailsFirst (token_tests (call o)) decode_order)
     (λ o t p. shallow t (met (call o) decode_order t p PayloadIsJson refl)) (λ d t. t.header ≡ d.header)
-        (options_of c.in_ok-validation.validation)
-        (read_ok (λ v. ReadsText ReadsOptions c.args.options.now (options_of v)) input.Options c.from_slice.result _
-        c.in_ok-validation.ensures c.from_slice.ensures.ok)
+    (options_of c.in_ok-validation.validation)
+    (read_ok (λ v. ReadsText ReadsOptions c.args.options.now (options_of v)) input.Options c.from_slice.result _
+    c.in_ok-validation.ensures c.from_slice.ensures.ok)
     c.decode-answer.result c.hand_out.result c.hand_out.ensures said

@@ -8,4 +8,4 @@ pub returns-in_err-value-clause-err : goal.returns-in_err-value-clause-err
 returns-in_err-value-clause-err c =
     let p = err_from_is_err_and c.from_residual.result c.from_residual.ensures.1 in
     rw (p.1, p.2) (misread _ _ _ _ input.Claims _ (λ none. (refl, none)) c.read_claims.result
-        (Err _) c.in_err-value.ensures c.read_claims.ensures.err)
+    (Err _) c.in_err-value.ensures c.read_claims.ensures.err)

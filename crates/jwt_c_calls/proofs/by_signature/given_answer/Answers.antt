@@ -25,25 +25,25 @@ read_first g header claims h d r s (Misreads i) x = absurd x
 pub returns-in_err-claims-clause-err : goal.returns-in_err-claims-clause-err
 returns-in_err-claims-clause-err c =
     let read = read_ok (ReadsText ReadsHeader c.args.header.now) input.Header c.from_slice.result _
-        c.in_ok-header.ensures c.from_slice.ensures.ok in
+    c.in_ok-header.ensures c.from_slice.ensures.ok in
     let p = err_from_is_err_and c.from_residual-in_err-claims.result c.from_residual-in_err-claims.ensures.1 in
     rw (p.1, p.2) (misread _ _ _ _ input.Claims _ (λ none. inr ((_, read), (refl, none))) c.read_claims.result
-        (Err _) c.in_err-claims.ensures c.read_claims.ensures.err)
+    (Err _) c.in_err-claims.ensures c.read_claims.ensures.err)
 
 pub returns-clause-ok : goal.returns-clause-ok
 returns-clause-ok c =
     let header = read_ok (ReadsText ReadsHeader c.args.header.now) input.Header c.from_slice.result _
-        c.in_ok-header.ensures c.from_slice.ensures.ok in
+    c.in_ok-header.ensures c.from_slice.ensures.ok in
     let claims = read_ok (λ v. ReadsClaimsText c.args.claims.now (view v)) input.Claims c.read_claims.result _
-        c.in_ok-claims.ensures c.read_claims.ensures.ok in
+    c.in_ok-claims.ensures c.read_claims.ensures.ok in
     IfOk-weaker c.issued.result _ _ (λ b x. read_first c.args.given.now c.args.header.now c.args.claims.now _ _ header
-        claims (Gives b.items) x) c.issued.ensures.ok
+    claims (Gives b.items) x) c.issued.ensures.ok
 
 pub returns-clause-err : goal.returns-clause-err
 returns-clause-err c =
     let header = read_ok (ReadsText ReadsHeader c.args.header.now) input.Header c.from_slice.result _
-        c.in_ok-header.ensures c.from_slice.ensures.ok in
+    c.in_ok-header.ensures c.from_slice.ensures.ok in
     let claims = read_ok (λ v. ReadsClaimsText c.args.claims.now (view v)) input.Claims c.read_claims.result _
-        c.in_ok-claims.ensures c.read_claims.ensures.ok in
+    c.in_ok-claims.ensures c.read_claims.ensures.ok in
     IfErr-weaker c.issued.result _ _ (λ r x. read_first c.args.given.now c.args.header.now c.args.claims.now _ _ header
-        claims (answer_of r) x) c.issued.ensures.err
+    claims (answer_of r) x) c.issued.ensures.err

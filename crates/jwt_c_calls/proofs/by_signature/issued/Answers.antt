@@ -7,7 +7,7 @@ pub returns-in_err-token-clause-err : goal.returns-in_err-token-clause-err
 returns-in_err-token-clause-err c =
     let p = err_from_is_err_and c.from_residual.result c.from_residual.ensures.1 in
     rw (p.1, p.2) (⊎_elim (λ m. inl m) (λ f. inr ((c.args.header.now, view c.args.claims.now), refl, f))
-        c.in_err-token.ensures.decided.refused)
+    c.in_err-token.ensures.decided.refused)
 
 pub returns-clause-ok : goal.returns-clause-ok
 returns-clause-ok c =

@@ -7,4 +7,4 @@ pub returns-in_err-token-clause-err : goal.returns-in_err-token-clause-err
 returns-in_err-token-clause-err c =
     let p = err_from_is_err_and c.from_residual-in_err-token.result c.from_residual-in_err-token.ensures.1 in
     rw (p.1, p.2) (⊎_elim (λ m. inl m) (λ f. inr ((c.args.header.now, view c.args.claims.now), refl, f))
-        (rw c.in_ok-key.ensures.ok at c.in_err-token.ensures.decided.refused))
+    (rw c.in_ok-key.ensures.ok at c.in_err-token.ensures.decided.refused))

@@ -11,10 +11,10 @@ use Rattle.jwt_c_calls.proofs.keys.options_and_set.Goals as goal
 pub returns-in_err-keys-clause-err : goal.returns-in_err-keys-clause-err
 returns-in_err-keys-clause-err c =
     let options = read_ok (λ v. ReadsText ReadsOptions c.args.options.now (options_of v)) input.Options
-        c.from_slice.result _ c.in_ok-validation.ensures c.from_slice.ensures.ok in
+    c.from_slice.result _ c.in_ok-validation.ensures c.from_slice.ensures.ok in
     let p = err_from_is_err_and c.from_residual-in_err-keys.result c.from_residual-in_err-keys.ensures.1 in
     rw (p.1, p.2) (misread _ _ _ _ input.Set _ (λ none. inr ((_, options), (refl, none))) c.from_slice-2.result
-        (Err _) c.in_err-keys.ensures c.from_slice-2.ensures.err)
+    (Err _) c.in_err-keys.ensures c.from_slice-2.ensures.err)
 
 pub returns-clause-ok : goal.returns-clause-ok
 returns-clause-ok c = (

@@ -15,8 +15,8 @@ pub returns-clause-ok : goal.returns-clause-ok
 returns-clause-ok c =
     let object = view c.in_ok-object.object in let value = view c.in-Some.value.now in
     let reads : ReadsClaimsText c.args.json.now object =
-        read_ok (λ v. ReadsClaimsText c.args.json.now (view v)) input.Claims c.read_claims.result _
-        c.in_ok-object.ensures c.read_claims.ensures.ok in
+    read_ok (λ v. ReadsClaimsText c.args.json.now (view v)) input.Claims c.read_claims.result _
+    c.in_ok-object.ensures c.read_claims.ensures.ok in
     let named : get c.args.name.now object ≡ Some value = rw (sym c.in-Ok.ensures.cases.0) (sym c.in-Some.ensures) in
     let outer : depth object ≤ max_depth = depth-read c.args.json.now object reads.0.1 in
     let inner : depth value ≤ depth object = depths.named c.args.name.now object value named in

@@ -10,10 +10,10 @@ pub returns-in_err-jwk-clause-err : goal.returns-in_err-jwk-clause-err
 returns-in_err-jwk-clause-err c =
     let p = err_from_is_err_and c.from_residual.result c.from_residual.ensures.1 in
     rw (p.1, p.2) (misread _ _ _ _ input.Key _ (λ none. (refl, none)) c.from_slice.result (Err _) c.in_err-jwk.ensures
-        c.from_slice.ensures.err)
+    c.from_slice.ensures.err)
 
 pub returns-clause-ok : goal.returns-clause-ok
 returns-clause-ok c =
     let read = read_ok (ReadsText ReadsKey c.args.key.now) input.Key c.from_slice.result _ c.in_ok-jwk.ensures
-        c.from_slice.ensures.ok in
+    c.from_slice.ensures.ok in
     (_, read, c.in_ok-jwk_answer.ensures.ok)

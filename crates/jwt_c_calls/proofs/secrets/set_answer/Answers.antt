@@ -10,10 +10,10 @@ pub returns-in_err-set-clause-err : goal.returns-in_err-set-clause-err
 returns-in_err-set-clause-err c =
     let p = err_from_is_err_and c.from_residual.result c.from_residual.ensures.1 in
     rw (p.1, p.2) (misread _ _ _ _ input.Set _ (λ none. (refl, none)) c.from_slice.result (Err _) c.in_err-set.ensures
-        c.from_slice.ensures.err)
+    c.from_slice.ensures.err)
 
 pub returns-clause-ok : goal.returns-clause-ok
 returns-clause-ok c =
     let read = read_ok (λ s. ReadsText ReadsSet c.args.set.now s.keys.items) input.Set c.from_slice.result _
-        c.in_ok-set.ensures c.from_slice.ensures.ok in
+    c.in_ok-set.ensures c.from_slice.ensures.ok in
     (_, read, c.in_ok-keys_answer.ensures.ok)

@@ -14,4 +14,4 @@ pub returns : goal.returns
 returns c = ap (option_map (λ t. t.now)) (c.copied.ensures
     ∙ looked_up c.get.result c.first_texts.result c.args.status _ c.get.ensures.lookup.1 c.get.ensures.lookup.3)
     ∙ (sym (slice_get-map (λ t. t.now) c.first_texts.result c.args.status)
-        ∙ ap (λ xs. slice_get xs c.args.status) c.first_texts.ensures)
+    ∙ ap (λ xs. slice_get xs c.args.status) c.first_texts.ensures)

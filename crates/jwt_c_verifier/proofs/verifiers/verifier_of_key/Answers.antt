@@ -7,7 +7,7 @@ pub returns-in-Ok : goal.returns-in-Ok
 returns-in-Ok c =
     let of = c.in-Ok.ensures.ok in
     of_values (AnswersWithKey c.args.options.now c.args.key.now (λ _ _ _. ⊥))
-        (AreOfKey c.args.options.now c.args.key.now) c.args.limits _ _ c.verifier_of.result
+    (AreOfKey c.args.options.now c.args.key.now) c.args.limits _ _ c.verifier_of.result
     (of.1, (of.0, of.2, of.3)) c.verifier_of.ensures.ok c.verifier_of.ensures.err
 
 pub returns-in-Err : goal.returns-in-Err

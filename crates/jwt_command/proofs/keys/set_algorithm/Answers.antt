@@ -9,7 +9,7 @@ returns-in-Some c =
     let kept = subst (IsKept c.decode_header.result) c.in-Some.is c.in_ok-header.ensures in
     subst (IsNamedBy c.args.set.now.keys.items c.args.token.now) (sym c.named_algorithm-algorithm.ensures)
     (named c.args.set.now.keys.items c.args.token.now c.decode_header.result (Some c.in-Some.header)
-        c.decode_header.ensures kept)
+    c.decode_header.ensures kept)
 
 pub returns-in-None : goal.returns-in-None
 returns-in-None c =

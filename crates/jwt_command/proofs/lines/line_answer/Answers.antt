@@ -13,8 +13,14 @@ returns g c = λ options reused.
         (
           c.in_ok-now.now,
           c.in_ok-now.ensures,
-          (string_bytes a.output, (c.without_line_end-token.result.now, c.without_line_end-token.ensures,
-              (options_of c.settle_again.new.validation, settled.0, says))),
+          (
+            string_bytes a.output,
+            (
+              c.without_line_end-token.result.now,
+              c.without_line_end-token.ensures,
+              (options_of c.settle_again.new.validation, settled.0, says),
+            ),
+          ),
         ),
       ),
       settled.1,

@@ -6,6 +6,9 @@ use Rattle.jwt_command.proofs.request.request_asked.Goals as goal
 pub returns-in-Some : goal.returns-in-Some
 returns-in-Some c =
     IfOk-weaker c.command_asked.result _ _
-    (λ r says. (c.in-Some.name.now, sym c.in-Some.ensures.name,
-        (found_of c.in-Some.found.now, sym c.in-Some.ensures.rows, says)))
+    (λ r says. (
+      c.in-Some.name.now,
+      sym c.in-Some.ensures.name,
+      (found_of c.in-Some.found.now, sym c.in-Some.ensures.rows, says),
+    ))
     c.command_asked.ensures

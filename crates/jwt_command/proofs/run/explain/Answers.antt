@@ -5,6 +5,13 @@ use Rattle.jwt_command.proofs.run.explain.Goals as goal
 pub returns : goal.returns
 returns g c =
     IfOk-weaker c.explained-answer.result _ _
-    (λ a says. (says.0, says.1, (says.2.0, says.2.1,
-        (c.in_ok-loaded.loaded, (options_of c.in_ok-loaded.validation, c.in_ok-loaded.ensures, says.2.2)))))
+    (λ a says. (
+      says.0,
+      says.1,
+      (
+        says.2.0,
+        says.2.1,
+        (c.in_ok-loaded.loaded, (options_of c.in_ok-loaded.validation, c.in_ok-loaded.ensures, says.2.2)),
+      ),
+    ))
     c.explained-answer.ensures

@@ -12,7 +12,11 @@ returns c =
       c.in_ok-secret.secret.now,
       c.in_ok-secret.ensures.ok.0,
       c.in_ok-secret.ensures.ok.1,
-      (made.0, made.1, subst (λ d. IsSignAnswer (header_asked c.args.request.now) d c.in_ok-secret.secret.now a.status
-          (string_bytes a.output)) made.2 says),
+      (
+        made.0,
+        made.1,
+        subst (λ d. IsSignAnswer (header_asked c.args.request.now) d c.in_ok-secret.secret.now a.status
+            (string_bytes a.output)) made.2 says,
+      ),
     ))
     c.claims_answer.ensures

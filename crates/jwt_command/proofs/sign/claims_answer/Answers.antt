@@ -6,5 +6,5 @@ use Rattle.jwt_command.proofs.sign.claims_answer.Goals as goal
 pub returns-in-Ok : goal.returns-in-Ok
 returns-in-Ok c =
     subst (λ h. IfOk c.sign_answer-answer.result
-        (λ a. IsSignAnswer h (view c.args.claims.now) c.args.secret.now a.status (string_bytes a.output)))
+    (λ a. IsSignAnswer h (view c.args.claims.now) c.args.secret.now a.status (string_bytes a.output)))
     c.in-Ok.ensures c.sign_answer-answer.ensures

@@ -6,4 +6,4 @@ pub returns : goal.returns
 returns c =
     let n = length c.args.bytes.now in
     ap (λ front. front ++ drop n (replicate 128 0)) c.copy_from_slice.ensures.after
-        ∙ ap (λ rest. c.args.bytes.now ++ rest) (drop-replicate n 128 0)
+    ∙ ap (λ rest. c.args.bytes.now ++ rest) (drop-replicate n 128 0)

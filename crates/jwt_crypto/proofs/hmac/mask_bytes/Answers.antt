@@ -10,4 +10,4 @@ loop-byte-preserved c =
     let x = get_or ys i 0 in
     let lt : i < length ys = omega arith in
     map_over_more (λ b. bit_xor b c.args.mask) c.args.bytes.now ys i x (omega arith) c.loop-byte.invariant
-        (get_or_default ys i 0 x lt)
+    (get_or_default ys i 0 x lt)

@@ -9,7 +9,7 @@ returns-then-byte-eq45-clause-ok c = stops _ _ _ c.loop-byte.byte-index c.loop-b
 pub loop-byte-preserved-then-is_line_break : goal.loop-byte-preserved-then-is_line_break
 loop-byte-preserved-then-is_line_break c =
     skips _ _ _ c.loop-byte.byte-index c.loop-byte-test.true (c.is_line_break.ensures.0 c.if-is_line_break.true)
-        c.loop-byte.invariant
+    c.loop-byte.invariant
 
 pub loop-byte-preserved : goal.loop-byte-preserved
 loop-byte-preserved c =

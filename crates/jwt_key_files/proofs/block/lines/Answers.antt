@@ -3,8 +3,12 @@ use Rattle.jwt_key_files.proofs.Blocks.{one_line, all_lines}
 use Rattle.jwt_key_files.proofs.block.lines.Goals as goal
 
 pub loop-rest-smaller : goal.loop-rest-smaller
-loop-rest-smaller c = omega (arith, c.loop-rest-test.true, ap length c.first_line.ensures.rest,
-    length-drop 64 c.loop-rest.rest.now)
+loop-rest-smaller c = omega (
+  arith,
+  c.loop-rest-test.true,
+  ap length c.first_line.ensures.rest,
+  length-drop 64 c.loop-rest.rest.now,
+)
 
 pub loop-rest-preserved : goal.loop-rest-preserved
 loop-rest-preserved c =

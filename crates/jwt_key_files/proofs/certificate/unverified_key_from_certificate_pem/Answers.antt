@@ -16,5 +16,7 @@ returns-in_err-key-clause-err c =
 pub returns-clause-only : goal.returns-clause-only
 returns-clause-only c =
     let holds : HoldsCertificate c.args.pem.now c.in-Some.der.items = rw c.in-Some.is at c.in_ok-der.ensures.ok in
-    λ k p. one_certified_pem _ k _ p (c.in-Some.der.items,
-        (holds, moved_certificate _ _ _ c.as_slice.ensures.value c.in_ok-key.ensures.ok))
+    λ k p. one_certified_pem _ k _ p (
+      c.in-Some.der.items,
+      (holds, moved_certificate _ _ _ c.as_slice.ensures.value c.in_ok-key.ensures.ok),
+    )

@@ -10,4 +10,4 @@ returns c = all_read _ _ _ c.loop-octet.octet-index c.loop-octet-test.false c.lo
 pub returns-then-n-ge72057594037927936 : goal.returns-then-n-ge72057594037927936
 returns-then-n-ge72057594037927936 c =
     too_large _ _ _ _ c.loop-octet.octet-index c.ranges.most.fits c.loop-octet-test.true c.if-n-ge72057594037927936.true
-        c.loop-octet.invariant
+    c.loop-octet.invariant

@@ -14,7 +14,7 @@ returns-in_default-read_number c =
 pub returns-then-n-lt128 : goal.returns-then-n-lt128
 returns-then-n-lt128 c = λ n s l.
     none_of_small _ _ _ _ _ c.in-Some.ensures c.if-first-lt128.false c.in-Some-read_number.ensures.0
-        c.in-Some-read_number.ensures.1 c.if-n-lt128.true n s
+    c.in-Some-read_number.ensures.1 c.if-n-lt128.true n s
 
 pub returns : goal.returns
 returns c = octets_long _ _ _ _ _ c.in-Some.ensures c.if-first-lt128.false c.in-Some-read_number.ensures.0

@@ -14,5 +14,5 @@ returns-in_default c = overflows _ _ _ _ c.split_at.ensures.front c.split_at.ens
 pub returns : goal.returns
 returns c =
     is_number _ _ _ _ _ c.split_at.ensures.front c.split_at.ensures.back c.split_at.ensures.front_len
-        (λ i. Fits-lt-pow (c.type_inv.bytes i))
+    (λ i. Fits-lt-pow (c.type_inv.bytes i))
     (λ w. cc (c.begins_with_0.ensures.1 w, c.if-begins_with_0.false)) c.in-Some.ensures

@@ -24,7 +24,7 @@ pub returns-in_err-key-2-clause-err : goal.returns-in_err-key-2-clause-err
 returns-in_err-key-2-clause-err c =
     let p = err_from_is_err_and c.from_residual-in_err-key-2.result c.from_residual-in_err-key-2.ensures.1 in
     let holds : IsBlock (codes "RSA PUBLIC KEY") c.args.block.now c.in-Some-2.der.items =
-        rw c.in-Some-2.is at c.in_ok-der-2.ensures.ok in
+    rw c.in-Some-2.is at c.in_ok-der-2.ensures.ok in
     rw (p.1, p.2) (elim c.in_err-key-2.ensures.err [
       | inl m ↦ inl m
       | inr w ↦ inr (refused_rsa_block _ _ _ holds w.0
@@ -34,5 +34,5 @@ returns-in_err-key-2-clause-err c =
 pub returns-clause-err : goal.returns-clause-err
 returns-clause-err c =
     inr (refused_other _ _ c.malformed.ensures (rw c.in_default.is at c.in_ok-der.ensures.ok)
-        (rw c.in_default-2.is at c.in_ok-der-2.ensures.ok)
+    (rw c.in_default-2.is at c.in_ok-der-2.ensures.ok)
     (λ p. cc (c.names_private.ensures.1 p, c.if-names_private.false)))

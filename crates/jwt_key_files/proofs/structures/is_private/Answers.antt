@@ -9,20 +9,28 @@ pub returns-in_default-read : goal.returns-in_default-read
 returns-in_default-read c = (λ f. cc, λ x. absurd (no_version _ _ c.in-Some.ensures c.in_default-read.ensures x))
 
 pub returns-in_default-next : goal.returns-in_default-next
-returns-in_default-next c = (λ f. cc,
-    λ x. absurd (empty_version _ _ _ _ c.in-Some.ensures c.in-Some-read.ensures c.in_default-next.ensures x))
+returns-in_default-next c = (
+  λ f. cc,
+  λ x. absurd (empty_version _ _ _ _ c.in-Some.ensures c.in-Some-read.ensures c.in_default-next.ensures x),
+)
 
 pub returns-then-number-gt1 : goal.returns-then-number-gt1
-returns-then-number-gt1 c =
-    (λ f. cc, λ x. absurd (high_version _ _ _ _ _ _ c.in-Some.ensures c.in-Some-read.ensures c.in-Some-next.ensures
-        c.if-number-gt1.true x))
+returns-then-number-gt1 c = (
+  λ f. cc,
+  λ x. absurd (high_version _ _ _ _ _ _ c.in-Some.ensures c.in-Some-read.ensures c.in-Some-next.ensures
+      c.if-number-gt1.true x),
+)
 
 pub returns-then-more-gt0 : goal.returns-then-more-gt0
-returns-then-more-gt0 c =
-    (λ f. cc, λ x. absurd (long_version _ _ _ _ _ _ c.in-Some.ensures c.in-Some-read.ensures c.in-Some-next.ensures
-        c.if-more-gt0.true x))
+returns-then-more-gt0 c = (
+  λ f. cc,
+  λ x. absurd (long_version _ _ _ _ _ _ c.in-Some.ensures c.in-Some-read.ensures c.in-Some-next.ensures
+      c.if-more-gt0.true x),
+)
 
 pub returns : goal.returns
-returns c =
-    (λ f. a_private _ _ _ _ _ _ c.in-Some.ensures c.in-Some-read.ensures c.in-Some-next.ensures c.if-number-gt1.false
-        c.if-more-gt0.false, λ x. refl)
+returns c = (
+  λ f. a_private _ _ _ _ _ _ c.in-Some.ensures c.in-Some-read.ensures c.in-Some-next.ensures c.if-number-gt1.false
+      c.if-more-gt0.false,
+  λ x. refl,
+)

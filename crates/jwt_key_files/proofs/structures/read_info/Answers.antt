@@ -17,9 +17,9 @@ returns-in_default-next c =
 pub returns-then-unused-ne0 : goal.returns-then-unused-ne0
 returns-then-unused-ne0 c =
     unused_bits _ _ _ _ _ _ _ c.in-Some.ensures c.in-Some-read.ensures c.in-Some-read_all.ensures c.in-Some-next.ensures
-        c.if-unused-ne0.true
+    c.if-unused-ne0.true
 
 pub returns : goal.returns
 returns c =
     an_info _ _ _ _ _ _ _ c.in-Some.ensures c.in-Some-read.ensures c.in-Some-read_all.ensures c.in-Some-next.ensures
-        c.if-unused-ne0.false
+    c.if-unused-ne0.false

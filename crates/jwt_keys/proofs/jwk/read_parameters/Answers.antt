@@ -23,4 +23,4 @@ returns-clause-ok c =
     let is : as_object (view c.args.value.now) ≡ Some (members_view c.in-Some.members.now.entries) = search rules in
     let none : named_from (view c.args.value.now) ≡ None = search rules in
     rw c.in_ok-fields.ensures.ok (own_parameters_from-other _ _ is none
-        (rw c.in_ok-fields.ensures.ok at c.in_ok-fields.ensures.no_float))
+    (rw c.in_ok-fields.ensures.ok at c.in_ok-fields.ensures.no_float))

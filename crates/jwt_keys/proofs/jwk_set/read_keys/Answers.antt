@@ -19,4 +19,4 @@ returns-in_err-from_value-clause-err c =
     let i = c.loop-item.item-index in
     let p = err_from_is_err_and c.from_residual.result c.from_residual.ensures.1 in
     rw (p.1, p.2) (unreadable-list vs i c.item-item.result _ c.loop-item-test.true c.loop-item.invariant.left
-        (rw (← c.item-item.is) c.in_err-from_value.ensures.err))
+    (rw (← c.item-item.is) c.in_err-from_value.ensures.err))

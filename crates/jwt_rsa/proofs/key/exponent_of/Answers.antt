@@ -17,7 +17,7 @@ returns c =
     elim c.if-exponent-ge3.branch [
       | then-exponent-ge3 w ↦ c.then_some.ensures
           ∙ exponent_taken c.args.e.now s _ _ e.bits e.front (e.octets 0) c.if-octets-gt8.false is
-              w.if-exponent-ge3.true w.then_some-is
+          w.if-exponent-ge3.true w.then_some-is
       | else-exponent-ge3 w ↦ c.then_some.ensures
           ∙ exponent_below c.args.e.now s _ _ e.bits e.front (e.octets 0) c.if-octets-gt8.false is w.if-exponent-ge3.false
           (w.then_some-is ∙ lt-leb 3 _ w.if-exponent-ge3.false)

@@ -25,5 +25,5 @@ returns-clause-octets c =
     let xs = c.args.octets.now in
     let i = c.loop-start.start in
     let rest : (k : ℕ) → get_or (drop i xs) k 0 < 256 =
-        λ k. (let fits = c.type_inv.octets (i + k) in rw get_or-drop (omega (arith, fits))) in
+    λ k. (let fits = c.type_inv.octets (i + k) in rw get_or-drop (omega (arith, fits))) in
     front_octets (length xs - i) (drop i xs) rest

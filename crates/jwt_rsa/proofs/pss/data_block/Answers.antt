@@ -13,4 +13,4 @@ returns-clause-ok c =
     ∙ ap (λ z. low_bits kept z) (c.in_ok-block.ensures.ok ∙ ap (λ z. xored (take len em) z)
     (c.deref.ensures.value ∙ c.in_ok-mask.ensures.ok ∙ ap (λ z. mgf1 h z len) c.em_digest.ensures))
     ∙ ap (λ z. low_bits kept (xored (take (length em - z - 1) em) (mgf1 h (em_digest h em) (length em - z - 1))))
-        c.hash_len.ensures.exact
+    c.hash_len.ensures.exact

@@ -14,5 +14,5 @@ loop-counter-preserved c =
     c.in_ok-extend_from_slice.ensures.items ∙ rw (c.in_ok-input.ensures.items, c.to_be_bytes.ensures) refl in
     c.in_ok-extend_from_slice-2.ensures.items ∙ ap (λ z. c.loop-counter.blocks.items ++ z) c.deref-in-loop-counter.ensures.value
     ∙ blocks_more c.args.hash c.args.seed.now c.loop-counter.counter c.deref.result.now c.in_ok-block.block.items
-        c.loop-counter.blocks.items
+    c.loop-counter.blocks.items
     (c.deref.ensures.value ∙ input) c.in_ok-block.ensures.ok c.loop-counter.invariant

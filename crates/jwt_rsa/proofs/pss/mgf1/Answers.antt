@@ -7,4 +7,4 @@ unfolding mgf1
 returns-clause-ok c =
     c.truncate.ensures.items ∙ ap (λ z. take c.args.len z) c.in_ok-mask.ensures.ok
     ∙ ap (λ z. take c.args.len (mask_blocks c.args.hash c.args.seed.now ((c.args.len + z - 1) / z)))
-        c.hash_len-size.ensures.exact
+    c.hash_len-size.ensures.exact

@@ -7,5 +7,5 @@ returns-clause-ok c =
     let digits : c.unpadded.result.now ≡ unpadded (characters c.args.text.now) =
     c.unpadded.ensures ∙ ap unpadded (c.as_slice.ensures.value ∙ c.in_ok-characters.ensures.ok) in
     subst (λ (ds : List ℕ). IfOk c.digit_bytes.result (λ o. MatchOption o ((b : List ℕ) → ¬ StandsFor ds b)
-        (λ b. StandsFor ds b.items)))
+    (λ b. StandsFor ds b.items)))
     digits c.digit_bytes.ensures.ok

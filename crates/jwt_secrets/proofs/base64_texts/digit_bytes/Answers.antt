@@ -9,9 +9,9 @@ returns-clause-ok c =
     let digits = c.args.digits.now in
     let all = c.in-Some-2.bytes.items in
     let text : c.as_slice.result.now ≡ digits ++ replicate c.in-Some.count 0x41 = c.as_slice.ensures.value
-        ∙ c.in_ok-groups.ensures.ok in
+    ∙ c.in_ok-groups.ensures.ok in
     let part = rw c.in-Some-2.is at c.in_ok-bytes.ensures.ok in
     let stands = stand_for digits all c.in-Some.count c.in-Some.ensures.0 c.in-Some.ensures.1
-        (subst (λ (t : List ℕ). IsPart t all) text part) in
+    (subst (λ (t : List ℕ). IsPart t all) text part) in
     let left : c.truncate.new.self.items ≡ take (length all - c.in-Some.count) all = cc in
     subst (StandsFor digits) (sym left) stands

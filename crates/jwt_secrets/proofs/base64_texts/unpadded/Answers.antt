@@ -10,7 +10,7 @@ use Rattle.jwt_secrets.proofs.base64_texts.unpadded.Goals.{else-loop-count-test}
 pub returns : goal.returns
 returns c =
     let none : suffix_len (λ byte. byte == 0x3d) (take c.loop-count.count c.args.characters.now) ≡ 0 =
-        elim c.loop-count-test.branch [
+    elim c.loop-count-test.branch [
       | then-loop-count-test+else-characters-count-eq61 w ↦ grind (arith, nat_tests, suffix_len-take_no)
       | else-loop-count-test w ↦ grind arith
     ] in

@@ -6,7 +6,7 @@ abbrev pub invariant-loop-count : goal.invariant-loop-count
 invariant-loop-count l =
     (l.count ≤ length l.characters)
     × (l.count + suffix_len (λ byte. byte == 0x3d) l.characters ≡ length l.characters + suffix_len
-        (λ byte. byte == 0x3d) (take l.count l.characters))
+    (λ byte. byte == 0x3d) (take l.count l.characters))
 
 abbrev pub decreases-loop-count : goal.decreases-loop-count
 decreases-loop-count l = l.count

@@ -15,9 +15,9 @@ returns-then-begin_with_elements c = (
 pub loop-tags-preserved : goal.loop-tags-preserved
 loop-tags-preserved c =
     none_more (BeginWithElements c.args.content.now) c.first_tags-tags-items.result first_tags c.loop-tags.tags-index
-        c.first_tags-tags-items.ensures
+    c.first_tags-tags-items.ensures
     (omega (arith, long_first_tags)) c.loop-tags.invariant
-        (λ h. absurd (false≢true (sym c.if-begin_with_elements.false ∙ c.begin_with_elements.ensures.1 h)))
+    (λ h. absurd (false≢true (sym c.if-begin_with_elements.false ∙ c.begin_with_elements.ensures.1 h)))
 
 pub returns : goal.returns
 returns c = (

@@ -15,5 +15,5 @@ returns-in-None c = (
   λ t. cc,
   λ h. absurd (missed c.args.text.now c.args.mark.now
       (subst (λ (m : List ℕ). Nowhere (OccursAt c.args.text.now m) 0 (length c.args.text.now + 1))
-          c.as_bytes.ensures.value c.in-None.ensures) h),
+      c.as_bytes.ensures.value c.in-None.ensures) h),
 )

@@ -9,7 +9,7 @@ returns-in-Some-clause-ok c =
     let other : IsKey c.args.secret.now → ⊥ = λ k. false≢true (sym c.if-branch.false ∙ c.in_ok-is_key.ensures.ok.1 k) in
     let stands = rw c.in-Some.is at c.in_ok-bytes.ensures.ok in
     answers c.is_key-in-Some.result (in_base64 c.args.secret.now c.in-Some.bytes.items c.as_slice.result.now other
-        stands c.as_slice.ensures.value)
+    stands c.as_slice.ensures.value)
     c.is_key-in-Some.ensures.ok
 
 pub returns-in-None-clause-ok : goal.returns-in-None-clause-ok

@@ -15,9 +15,9 @@ returns-then-are_elements c = (
 pub loop-tags-preserved : goal.loop-tags-preserved
 loop-tags-preserved c =
     none_more (AreElements c.args.content.now) c.all_tags-tags-items.result all_tags c.loop-tags.tags-index
-        c.all_tags-tags-items.ensures
+    c.all_tags-tags-items.ensures
     (omega (arith, long_all_tags)) c.loop-tags.invariant
-        (λ h. absurd (false≢true (sym c.if-are_elements.false ∙ c.are_elements.ensures.1 h)))
+    (λ h. absurd (false≢true (sym c.if-are_elements.false ∙ c.are_elements.ensures.1 h)))
 
 pub returns : goal.returns
 returns c = (

@@ -13,18 +13,18 @@ loop-jwk-preserved c =
     let i = c.loop-jwk.jwk-index in
     let jwk = c.jwk-item.result in
     let within : i < length keys = subst (λ (l : List Jwk). i < length l) c.deref-jwk-items.ensures.value
-        c.loop-jwk-test.true in
+    c.loop-jwk-test.true in
     let is : jwk ≡ get_or keys i jwk = subst (λ (l : List Jwk). jwk ≡ get_or l i jwk) c.deref-jwk-items.ensures.value
-        c.jwk-item.is in
+    c.jwk-item.is in
     let this : ¬ JwkHasKeyText jwk =
-        λ b. absurd (false≢true (sym c.if-branch.false ∙ c.in_ok-jwk_has_key_text.ensures.ok.1 b)) in
+    λ b. absurd (false≢true (sym c.if-branch.false ∙ c.in_ok-jwk_has_key_text.ensures.ok.1 b)) in
     All-more (λ k. ¬ JwkHasKeyText k) keys i jwk within c.loop-jwk.invariant (subst (λ (k : Jwk). ¬ JwkHasKeyText k) is this)
 
 pub returns-clause-ok : goal.returns-clause-ok
 returns-clause-ok c =
     let keys = c.args.set.now.keys.items in
     let past : length keys ≤ c.loop-jwk.jwk-index =
-        subst (λ (l : List Jwk). length l ≤ c.loop-jwk.jwk-index) c.deref-jwk-items.ensures.value c.loop-jwk-test.false in
+    subst (λ (l : List Jwk). length l ≤ c.loop-jwk.jwk-index) c.deref-jwk-items.ensures.value c.loop-jwk-test.false in
     let none : All (λ k. ¬ JwkHasKeyText k) keys =
     subst (λ (l : List Jwk). All (λ k. ¬ JwkHasKeyText k) l) (take_all c.loop-jwk.jwk-index keys past) c.loop-jwk.invariant in
     (λ t. absurd (false≢true t), λ b. absurd (none b.0 b.1 b.2 (subst JwkHasKeyText (sym b.3) b.4)))

@@ -14,4 +14,4 @@ pub returns-in-Err : goal.returns-in-Err
 returns-in-Err c =
     IfOk-weaker c.refusal_answer.result _ _ (λ a said. refused_said
     (λ k. FailsFirst (token_tests (hmac_call c.args.input.now c.args.algorithm c.args.secret.now c.args.now))
-        decode_order k) _ _ _ c.in-Err.ensures.err said) c.refusal_answer.ensures
+    decode_order k) _ _ _ c.in-Err.ensures.err said) c.refusal_answer.ensures

@@ -12,5 +12,5 @@ returns-in-Ok c =
 pub returns-in-Err : goal.returns-in-Err
 returns-in-Err c =
     IfOk-weaker c.refusal_answer.result _ _
-        (λ a said. refused_said (λ k. FailsFirst (token_tests (header_call c.args.input.now)) header_order k)
+    (λ a said. refused_said (λ k. FailsFirst (token_tests (header_call c.args.input.now)) header_order k)
     _ _ _ c.in-Err.ensures.err said) c.refusal_answer.ensures

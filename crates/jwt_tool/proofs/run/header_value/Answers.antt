@@ -14,4 +14,4 @@ returns-clause-err c =
     let read = c.in_ok-header.ensures.accepted in
     let reads : ReadsHeader read.0.header_value c.in_ok-header.header = rw read.2 at read.1.1.1.1.0 in
     IfErr-weaker c.to_value.result _ _
-        (λ e refused. inl (memory_alone read.0.header_value c.in_ok-header.header e reads refused)) c.to_value.ensures.err
+    (λ e refused. inl (memory_alone read.0.header_value c.in_ok-header.header e reads refused)) c.to_value.ensures.err

@@ -10,4 +10,4 @@ returns-in-Ok c = inl (inl (c.in-Ok.ensures.ok, refl))
 pub returns-in-Err : goal.returns-in-Err
 returns-in-Err c =
     IfOk-weaker c.refusal_answer.result _ _ (λ a said. refused_said (λ k. HasThumbprintFault c.args.input.now k) _ _ _
-        c.in-Err.ensures.err said) c.refusal_answer.ensures
+    c.in-Err.ensures.err said) c.refusal_answer.ensures

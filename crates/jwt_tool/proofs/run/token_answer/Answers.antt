@@ -10,5 +10,5 @@ returns-in-Ok c = inl (inl (c.in-Ok.ensures.ok, refl))
 pub returns-in-Err : goal.returns-in-Err
 returns-in-Err c =
     IfOk-weaker c.refusal_answer.result _ _
-        (λ a said. refused_said (λ k. HasTokenFault c.args.input.now c.args.algorithm c.args.secret.now k) _ _ _
-        c.in-Err.ensures.err said) c.refusal_answer.ensures
+    (λ a said. refused_said (λ k. HasTokenFault c.args.input.now c.args.algorithm c.args.secret.now k) _ _ _
+    c.in-Err.ensures.err said) c.refusal_answer.ensures

@@ -14,7 +14,7 @@ returns-in-Some-clause-err c =
     let is_map : IsSome (as_object (view c.args.claims.now)) = search rules in
     let n = c.in-Some.name in
     let tells : Tells c.missing_claim.result (kind.MissingRequiredClaim (text n)) =
-        rw (← c.text.ensures) c.missing_claim.ensures in
+    rw (← c.text.ensures) c.missing_claim.ensures in
     (kind.MissingRequiredClaim (text n), inr (is_map, missing n (rw (← c.read-claims.ensures) c.in-Some.ensures)), tells)
 
 pub returns-in-Some-first_broken-clause-err : goal.returns-in-Some-first_broken-clause-err
@@ -22,7 +22,12 @@ returns-in-Some-first_broken-clause-err c =
     let is_map : IsSome (as_object (view c.args.claims.now)) = search rules in
     let r = c.in-Some-first_broken.rule in
     let tells : Tells c.refusal.result (kind_of_rule (claims_of (view c.args.claims.now)) r) =
-        rw (← c.read-claims.ensures) c.refusal.ensures in
-    (kind_of_rule (claims_of (view c.args.claims.now)) r,
-        inr (is_map, broken (rw (← c.read-claims.ensures) c.in_default.ensures) r
-        (rw (← c.read-claims.ensures) c.in-Some-first_broken.ensures)), tells)
+    rw (← c.read-claims.ensures) c.refusal.ensures in (
+      kind_of_rule (claims_of (view c.args.claims.now)) r,
+      inr (
+        is_map,
+        broken (rw (← c.read-claims.ensures) c.in_default.ensures) r
+            (rw (← c.read-claims.ensures) c.in-Some-first_broken.ensures),
+      ),
+      tells,
+    )

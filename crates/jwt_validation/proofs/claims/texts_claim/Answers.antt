@@ -11,7 +11,7 @@ returns-then-are_texts c =
     let is_array : view c.in-Some.value.now ≡ array (items_view c.in-Array.items.items) = search (rules, the_lemmas) in
     let found : get c.args.name.now (view c.args.claims.now) ≡ Some (view c.in-Some.value.now) = search rules in
     let ok : are_texts c.in-Array.items.items ≡ true = rw (← c.deref.ensures.value) (sym c.are_texts.ensures
-        ∙ c.if-are_texts.true) in
+    ∙ c.if-are_texts.true) in
     rw c.as_slice.ensures.value (texts_in-texts _ _ c.in-Array.items.items found is_array ok)
 
 pub returns-else-are_texts : goal.returns-else-are_texts
@@ -19,5 +19,5 @@ returns-else-are_texts c =
     let is_array : view c.in-Some.value.now ≡ array (items_view c.in-Array.items.items) = search (rules, the_lemmas) in
     let found : get c.args.name.now (view c.args.claims.now) ≡ Some (view c.in-Some.value.now) = search rules in
     let ok : are_texts c.in-Array.items.items ≡ false = rw (← c.deref.ensures.value) (sym c.are_texts.ensures
-        ∙ c.if-are_texts.false) in
+    ∙ c.if-are_texts.false) in
     texts_in-others _ _ c.in-Array.items.items found is_array ok

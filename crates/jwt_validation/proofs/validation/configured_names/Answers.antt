@@ -14,13 +14,13 @@ pub returns-clause-ok : goal.returns-clause-ok
 returns-clause-ok c =
     let v = c.args.validation.now in
     let aud : contains_text c.insert_if.new.names ≡ with_name (is_some (options_of v).aud) (codes "aud")
-        (contains_text v.required_spec_claims) =
+    (contains_text v.required_spec_claims) =
     rw (is_some_mapped contains_text v.aud, sym c.is_some.ensures, sym c.in_ok-names.ensures.ok)
-        (λ i t. c.in_ok-insert_if.ensures.ok t i) in
+    (λ i t. c.in_ok-insert_if.ensures.ok t i) in
     let iss : contains_text c.insert_if-2.new.names ≡ with_name (is_some (options_of v).iss) (codes "iss")
-        (contains_text c.insert_if.new.names) =
+    (contains_text c.insert_if.new.names) =
     rw (is_some_mapped contains_text v.iss, sym c.is_some-2.ensures) (λ i t. c.in_ok-insert_if-2.ensures.ok t i) in
     let sub : contains_text c.insert_if-3.new.names ≡ with_name (is_some (options_of v).sub) (codes "sub")
-        (contains_text c.insert_if-2.new.names) =
+    (contains_text c.insert_if-2.new.names) =
     rw (is_some_mapped string_bytes v.sub, sym c.is_some-3.ensures) (λ i t. c.in_ok-insert_if-3.ensures.ok t i) in
     sub ∙ ap (with_name _ (codes "sub")) (iss ∙ ap (with_name _ (codes "iss")) aud)

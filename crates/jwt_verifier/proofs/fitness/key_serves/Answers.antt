@@ -10,7 +10,7 @@ use Rattle.jwt_verifier.proofs.fitness.key_serves.Goals as goal
 pub loop-algorithm-preserved : goal.loop-algorithm-preserved
 loop-algorithm-preserved c =
     All-more (λ a. ¬ (verifier_refusal a c.args.key.now ≡ None)) c.args.algorithms.now c.loop-algorithm.algorithm-index
-        _ c.loop-algorithm-test.true c.loop-algorithm.invariant
+    _ c.loop-algorithm-test.true c.loop-algorithm.invariant
     (λ b. absurd (false≢true (sym c.if-branch.false ∙ c.in_ok-serves_one.ensures.ok.1 b)))
 
 pub returns-clause-ok : goal.returns-clause-ok
@@ -18,6 +18,6 @@ returns-clause-ok c =
     let Serving : Algorithm → Type 0 = λ a. verifier_refusal a c.args.key.now ≡ None in
     let none : All (λ a. ¬ Serving a) c.args.algorithms.now =
     subst (λ (l : List Algorithm). All (λ a. ¬ Serving a) l)
-        (take_all c.loop-algorithm.algorithm-index c.args.algorithms.now c.loop-algorithm-test.false)
-        c.loop-algorithm.invariant in
+    (take_all c.loop-algorithm.algorithm-index c.args.algorithms.now c.loop-algorithm-test.false)
+    c.loop-algorithm.invariant in
     (λ t. absurd (false≢true t), λ b. absurd (none b.0 b.1 b.2 (subst Serving (sym b.3) b.4)))

@@ -11,7 +11,7 @@ returns-then-is_same g c =
     let n = g.F.Residue.number in
     let K : Point = spot_point (n c.args.x) (n c.args.y) in
     let second = is_second g.F.Residue.modulus (numbers n c.args.start) K (c.is_same.ensures.0 c.if-is_same.true
-        ∙ c.zero.ensures) in
+    ∙ c.zero.ensures) in
     rw c.one.ensures second
 
 pub returns : goal.returns

@@ -20,7 +20,7 @@ unfolding numbers
 returns-then-is_same g c =
     let n = g.F.Residue.number in
     none g.F.Residue.modulus (numbers n c.args.point) (numbers n c.point_at_infinity.result)
-        (c.is_same.ensures.0 c.if-is_same.true ∙ c.zero.ensures) c.point_at_infinity.ensures
+    (c.is_same.ensures.0 c.if-is_same.true ∙ c.zero.ensures) c.point_at_infinity.ensures
 
 pub returns : goal.returns
 unfolding numbers

@@ -10,9 +10,11 @@ loop-place-preserved c = still_apart _ _ _ c.loop-place-test.true c.index-names-
     c.loop-place.invariant
 
 pub returns-then-contains : goal.returns-then-contains
-returns-then-contains c =
-    ((λ no. absurd (cc)), λ apart.
-        absurd (repeated _ _ _ c.loop-place-test.true c.index-names-place.is c.if-contains.ensures.cases apart))
+returns-then-contains c = (
+  (λ no. absurd (cc)),
+  λ apart.
+      absurd (repeated _ _ _ c.loop-place-test.true c.index-names-place.is c.if-contains.ensures.cases apart),
+)
 
 pub returns : goal.returns
 returns c = ((λ yes. all_apart _ _ c.loop-place-test.false c.loop-place.invariant), λ apart. refl)

@@ -12,18 +12,22 @@ returns-in_err-jwk c =
 pub returns-in_err-check_key_algorithm : goal.returns-in_err-check_key_algorithm
 returns-in_err-check_key_algorithm c =
     exit (looking_in c.args.set.now.keys.items) key_tests (with_header c.args.header.now) ShowsKey _ _
-        c.from_residual-in_err-check_key_algorithm.ensures.1
+    c.from_residual-in_err-check_key_algorithm.ensures.1
     (λ f. (record no_contents { jwk = c.in_ok-jwk.jwk.now }, inr (c.in_ok-jwk.ensures, inl f)))
-        c.in_err-check_key_algorithm.ensures
+    c.in_err-check_key_algorithm.ensures
 
 pub returns-in_err-key : goal.returns-in_err-key
 returns-in_err-key c =
     exit (looking_in c.args.set.now.keys.items) key_tests (with_header c.args.header.now) ShowsKey _ _
-        c.from_residual-in_err-key.ensures.1
-    (λ f. (record no_contents { jwk = c.in_ok-jwk.jwk.now },
-        inr (c.in_ok-jwk.ensures, inr (c.in_ok-check_key_algorithm.ensures, inl f)))) c.in_err-key.ensures
+    c.from_residual-in_err-key.ensures.1
+    (λ f. (
+      record no_contents { jwk = c.in_ok-jwk.jwk.now },
+      inr (c.in_ok-jwk.ensures, inr (c.in_ok-check_key_algorithm.ensures, inl f)),
+    )) c.in_err-key.ensures
 
 pub returns : goal.returns
-returns c =
-    (record no_contents { jwk = c.in_ok-jwk.jwk.now; jwk_key = c.in_ok-key.key },
-        (c.in_ok-jwk.ensures, (c.in_ok-check_key_algorithm.ensures, (c.in_ok-key.ensures, tt))), refl)
+returns c = (
+  record no_contents { jwk = c.in_ok-jwk.jwk.now; jwk_key = c.in_ok-key.key },
+  (c.in_ok-jwk.ensures, (c.in_ok-check_key_algorithm.ensures, (c.in_ok-key.ensures, tt))),
+  refl,
+)

@@ -11,10 +11,17 @@ pub returns-in-Some : goal.returns-in-Some
 returns-in-Some c =
     let u = c.in-Some.ensures in
     last_noting bare header_tests (with_header_part c.args.part.now) ShowsHeader {Q = λ e. ⊥} HeaderReads
-        c.known_header.result c.known_header.ensures.ok
+    c.known_header.result c.known_header.ensures.ok
     (IfErr-weaker c.known_header.result _ _ (λ e memory. inl memory) c.known_header.ensures.err)
-    (λ h is. (record no_contents { header_bytes = u.bytes; header_value = u.value;
-        header = new_header c.in-Some.algorithm }, (u.is_part, (u.is_json, (u.reads, tt))), sym is))
+    (λ h is. (
+      record no_contents {
+        header_bytes = u.bytes;
+        header_value = u.value;
+        header = new_header c.in-Some.algorithm;
+      },
+      (u.is_part, (u.is_json, (u.reads, tt))),
+      sym is,
+    ))
     (λ e none. absurd none)
 
 pub returns-in_err-bytes : goal.returns-in_err-bytes
@@ -26,9 +33,11 @@ pub returns-in_err-value : goal.returns-in_err-value
 returns-in_err-value c =
     let read = rw c.as_slice.ensures.value at c.in_err-value.ensures.err in
     exit_noting bare header_tests (with_header_part c.args.part.now) ShowsHeader HeaderIsJson _ _
-        c.from_residual-in_err-value.ensures.1
-    (λ f. (record no_contents { header_bytes = c.in_ok-bytes.bytes.items },
-        inr (c.in_ok-bytes.ensures.ok, inl (f.1, (refl, f.0))))) read
+    c.from_residual-in_err-value.ensures.1
+    (λ f. (
+      record no_contents { header_bytes = c.in_ok-bytes.bytes.items },
+      inr (c.in_ok-bytes.ensures.ok, inl (f.1, (refl, f.0))),
+    )) read
 
 pub returns : goal.returns
 returns c =

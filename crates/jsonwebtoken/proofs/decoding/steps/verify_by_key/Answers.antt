@@ -18,14 +18,20 @@ returns-in_err-claims g c =
     let call = decoding g.P.CryptoProvider g.T.Claims c.args.provider.now [] c.args.key.now c.args.validation.now c.args.now in
     let at = with_opening (parts_in c.args.parts.now) c.args.header.now in
     exit call (algorithm_tests ++ verifying_tests) at (ShowsClaims g.T.Claims.reads) _ _ c.from_residual-in_err-claims.ensures.1
-    (λ f. (f.0, later call algorithm_tests verifying_tests (at f.0) _ _ c.in_ok-verifier.ensures.tests.1
-        (verified_failed call _ (at f.0) c.in_ok-verifier.ensures.accepts _ _ f.1)))
+    (λ f. (
+      f.0,
+      later call algorithm_tests verifying_tests (at f.0) _ _ c.in_ok-verifier.ensures.tests.1
+          (verified_failed call _ (at f.0) c.in_ok-verifier.ensures.accepts _ _ f.1),
+    ))
     c.in_err-claims.ensures
 
 pub returns : goal.returns
 returns g c =
     let call = decoding g.P.CryptoProvider g.T.Claims c.args.provider.now [] c.args.key.now c.args.validation.now c.args.now in
     let f = c.in_ok-claims.ensures in
-    let s = with_opening (parts_in c.args.parts.now) c.args.header.now f.0 in
-    (f.0, join call algorithm_tests verifying_tests s c.in_ok-verifier.ensures.tests.1
-        (verified_passes call _ s c.in_ok-verifier.ensures.accepts f.1), f.2)
+    let s = with_opening (parts_in c.args.parts.now) c.args.header.now f.0 in (
+      f.0,
+      join call algorithm_tests verifying_tests s c.in_ok-verifier.ensures.tests.1
+          (verified_passes call _ s c.in_ok-verifier.ensures.accepts f.1),
+      f.2,
+    )

@@ -29,27 +29,27 @@ use Rattle.jwt_c.proofs.HandleValues.{Z, R, Hd, handle_in}
 pub some_spec : {M : Type 1} → statement M
 some_spec 𝓤 𝓛 𝓜 𝓡 wired =
     let H = 𝓛.H in let 𝓣 = tables 𝓤 H 𝓜 𝓡 𝓡.env in let LZ = heap_laws.the_row_laws in let c =
-        clauses 𝓛 𝓜.mem 𝓡.returns in let fn = code.function in let Lr : RattleType = KeptRow R Z LZ ghosts in
+    clauses 𝓛 𝓜.mem 𝓡.returns in let fn = code.function in let Lr : RattleType = KeptRow R Z LZ ghosts in
     let hs : Stays ended.signature.params ended.kept = (stay_dropped (plain (λ _. Lr)) yes, tt) in
     proved_at 𝓛 ended hs c 𝓜 𝓡 (Goes-dropped 𝓛 0 (plain (λ _. Lr)) yes (λ κs x f. refl), tt) #self fn
-        (code.unfolded 𝓤 H 𝓜 𝓡 wired) (λ z are.
+    (code.unfolded 𝓤 H 𝓜 𝓡 wired) (λ z are.
     let κs = z.0.0 in let qs = z.0.1 in let Post : Val → SProp 𝓤 = (walk_of 𝓛 ended hs c).post z in let Run : List Val
-        → SProp 𝓤 = λ ws. WpFn 𝓤 H 𝓣.C 𝓣.Λ fn ws Post in
+    → SProp 𝓤 = λ ws. WpFn 𝓤 H 𝓣.C 𝓣.Λ fn ws Post in
     let v = z.0.3.0 in let held : Option R.Denot = Some v.value in
     qed 𝓛 ((raw (alive 𝓛 ended.signature κs qs) ⊛ ‵ (owns (types_at ended.signature.params κs) z.0.3 z.0.4))
-        ∷ raw ((c κs z.0.3).requires z.1) ∷ []) ∵ split ! $ move ! (1 ∷ []) $ fsplit ! $
-        kept_out R Z LZ ghosts ! v z.0.4.0 (λ b o h e ws fits.
+    ∷ raw ((c κs z.0.3).requires z.1) ∷ []) ∵ split ! $ move ! (1 ∷ []) $ fsplit ! $
+    kept_out R Z LZ ghosts ! v z.0.4.0 (λ b o h e ws fits.
     let w : Val = both (vptr b o) h in let typed = kept_good R Z LZ ghosts b o h fits in keep ! (0 ∷ 1 ∷ 3 ∷ []) $
     suffices ! (Run (w ∷ [])) (subst (λ (us : List Val). ent 𝓤 (Run (w ∷ [])) (Run us)) (sym (λ i. ws i ++ []))
-        (id⊢ 𝓤 (Run (w ∷ [])))) $
+    (id⊢ 𝓤 (Run (w ∷ [])))) $
     enter ! 𝓣.C 𝓣.Λ fn (w ∷ []) Post $ alloc_all ! (λ l. pass_all ! refl (typed, tt) $
     sets ! (of_opd ! (get_in ! (fld ! refl (stop !)) (sub ! 0 refl (whole !)))) refl (tt, tt) $
-        sets ! (of_opd ! (get_in ! (fld ! refl (stop !)) (sub ! 1 refl (whole !)))) refl fits $
+    sets ! (of_opd ! (get_in ! (fld ! refl (stop !)) (sub ! 1 refl (whole !)))) refl fits $
     sets ! (of_opd ! (get ! refl)) refl (tt, tt) $
-        sets ! (agg ! (and_then ! (get ! refl) (and_then ! (get ! refl) (no_more !)))) refl typed $
+    sets ! (agg ! (and_then ! (get ! refl) (and_then ! (get ! refl) (no_more !)))) refl typed $
     handle_in ! (block_ptr b o) h v.alloc (Some v.value) $
     use0 𝓛 (raw (fact 𝓤 (held ≡ Some v.value))) (fact_i 𝓤 (held ≡ Some v.value) (emp 𝓤) refl) $ nothing ! $ nothing ! $
-        fjoin ! $
+    fjoin ! $
     returns ! (look_at ! 0 refl) $ free_all ! refl $ keep ! (3 ∷ 0 ∷ 2 ∷ 1 ∷ []) $
-        by ! (leaves 𝓛 ended hs c z w (record { at = block_ptr b o; alloc = v.alloc; held = Some v.value }) (tt, tt)
-        (tt, tt)))))
+    by ! (leaves 𝓛 ended hs c z w (record { at = block_ptr b o; alloc = v.alloc; held = Some v.value }) (tt, tt)
+    (tt, tt)))))

@@ -10,9 +10,9 @@ invariant_of-result c = record {
       let n = block_len c.args.hash in
       let block = c.filled_key-key.ensures in
       ap (masked 0x36) (masked_block 0x36 n k c.mask_bytes.result block.fits block.block_fits (c.mask_bytes.ensures
-          ∙ ap (masked 0x36) block.key)) ∙ unmasked 0x36 (filled n k)
+      ∙ ap (masked 0x36) block.key)) ∙ unmasked 0x36 (filled n k)
       ∙ sym (ap (masked 0x5c) (masked_block 0x5c n k c.mask_bytes-2.result block.fits block.block_fits
-          (c.mask_bytes-2.ensures ∙ ap (masked 0x5c) block.key)) ∙ unmasked 0x5c (filled n k));
+      (c.mask_bytes-2.ensures ∙ ap (masked 0x5c) block.key)) ∙ unmasked 0x5c (filled n k));
 }
 
 pub returns-clause-blocks : goal.returns-clause-blocks
@@ -35,8 +35,8 @@ returns-clause-mac c m =
     let n = block_len c.args.hash in
     let block = c.filled_key-key.ensures in
     ap (λ i. nested c.args.hash i (take n c.mask_bytes-2.result) m)
-        (masked_block 0x36 n k c.mask_bytes.result block.fits block.block_fits (c.mask_bytes.ensures
-        ∙ ap (masked 0x36) block.key))
+    (masked_block 0x36 n k c.mask_bytes.result block.fits block.block_fits (c.mask_bytes.ensures
+    ∙ ap (masked 0x36) block.key))
     ∙ ap (λ o. nested c.args.hash (masked 0x36 (filled n k)) o m)
-        (masked_block 0x5c n k c.mask_bytes-2.result block.fits block.block_fits (c.mask_bytes-2.ensures
-        ∙ ap (masked 0x5c) block.key))
+    (masked_block 0x5c n k c.mask_bytes-2.result block.fits block.block_fits (c.mask_bytes-2.ensures
+    ∙ ap (masked 0x5c) block.key))

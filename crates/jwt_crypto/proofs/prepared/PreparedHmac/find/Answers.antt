@@ -5,8 +5,10 @@ use Rattle.jwt_crypto.proofs.prepared.PreparedHmac.find.Goals as goal
 
 pub loop-key-preserved : goal.loop-key-preserved
 loop-key-preserved c =
-    one_more c.args.self.now.keys.items c.loop-key.key-index c.key-item.result (algorithm_for c.args.hash,
-        c.args.secret.now) (omega arith) (rw (← c.deref-key-items.ensures.value) c.key-item.is)
+    one_more c.args.self.now.keys.items c.loop-key.key-index c.key-item.result (
+      algorithm_for c.args.hash,
+      c.args.secret.now,
+    ) (omega arith) (rw (← c.deref-key-items.ensures.value) c.key-item.is)
     (λ e.
     let no-fit = c.if-is_for.false in
     let fits = c.is_for.ensures.1 (same_key c.key-item.result c.args.hash c.args.secret.now e) in

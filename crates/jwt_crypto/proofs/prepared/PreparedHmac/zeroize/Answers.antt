@@ -11,4 +11,4 @@ loop-key-preserved c =
     let here = c.key-item.is in
     let all = length-map c.args.self.now.keys.items prepared_key in
     cleared_more c.loop-key.key-items (prepared_keys c.args.self.now) c.loop-key.key-index c.key-item.result
-        c.zeroize.new.self (omega (arith, all)) (omega arith) c.loop-key.invariant c.key-item.is cc
+    c.zeroize.new.self (omega (arith, all)) (omega arith) c.loop-key.invariant c.key-item.is cc

@@ -5,4 +5,4 @@ use Rattle.jwt_crypto.proofs.prepared.PreparedHmac.zeroize.Given as goal
 abbrev pub invariant-loop-key : goal.invariant-loop-key
 invariant-loop-key l =
     map prepared_key l.key-items ≡ map cleared_key (take l.key-index (prepared_keys l.fn.self))
-        ++ drop l.key-index (prepared_keys l.fn.self)
+    ++ drop l.key-index (prepared_keys l.fn.self)

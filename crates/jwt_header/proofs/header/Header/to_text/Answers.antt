@@ -8,4 +8,4 @@ pub returns-clause-ok : goal.returns-clause-ok
 returns-clause-ok c =
     let reads = c.to_value.ensures.normal_form.reads_back _ c.in_ok-value.ensures.ok in
     IfOk-weaker c.value_text.result _ _ (λ text compact. has_text ReadsHeader header_value normal_header c.args.self.now
-        _ text.items c.in_ok-value.ensures.ok reads compact) c.value_text.ensures.ok
+    _ text.items c.in_ok-value.ensures.ok reads compact) c.value_text.ensures.ok

@@ -10,4 +10,4 @@ pub returns-clause-reads_back : goal.returns-clause-reads_back
 returns-clause-reads_back c =
     let is : members_view c.in_ok-members.members.entries ≡ with_common c.args.self.now no_members = search rules in
     subst (λ v. ReadsCommon v (normal_common c.args.self.now))
-        (sym (view-Object c.in_ok-members.members ∙ ap object is)) (reads_with_common c.args.self.now no_members refl)
+    (sym (view-Object c.in_ok-members.members ∙ ap object is)) (reads_with_common c.args.self.now no_members refl)

@@ -10,7 +10,7 @@ use Rattle.jwt_params.proofs.operations.KeyOperationList.to_value.Goals as goal
 pub returns-clause-reads_back : goal.returns-clause-reads_back
 returns-clause-reads_back c =
     let all : take c.loop-operation.operation-index c.as_slice-operation-items.result.now ≡ c.args.self.now =
-        take_all _ _ c.loop-operation-test.false ∙ c.as_slice-operation-items.ensures in
+    take_all _ _ c.loop-operation-test.false ∙ c.as_slice-operation-items.ensures in
     let texts = c.loop-operation.invariant ∙ ap (λ os. map string (map operation_text os)) all in
     ap operations_from (view-Array c.loop-operation.items ∙ ap (λ ds. array (items_of ds)) texts)
-        ∙ operations_read_back c.args.self.now
+    ∙ operations_read_back c.args.self.now

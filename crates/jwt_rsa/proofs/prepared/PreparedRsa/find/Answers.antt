@@ -5,7 +5,7 @@ use Rattle.jwt_rsa.proofs.prepared.PreparedRsa.find.Goals as goal
 pub loop-key-preserved : goal.loop-key-preserved
 loop-key-preserved c =
     one_more c.args.self.now.keys.items c.loop-key.key-index c.key-item.result (c.args.n.now, c.args.e.now)
-        (omega arith) (rw (← c.deref-key-items.ensures.value) c.key-item.is)
+    (omega arith) (rw (← c.deref-key-items.ensures.value) c.key-item.is)
     (λ e.
     let no-fit = c.if-is_of.false in
     let fits = c.is_of.ensures.1 (same_key c.key-item.result c.args.n.now c.args.e.now e) in
