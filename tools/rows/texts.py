@@ -11,14 +11,19 @@ def text_of(path):
         return file.read()
 
 
+def unlaid(text):
+    """Returns the text without white space, and without a comma or semicolon that stands last in brackets."""
+    return re.sub(r"\s|[,;](?=\s*[)\]}])", "", text)
+
+
 def main(description, texts):
-    """Writes or checks the files that `texts` returns, by their paths below the repository. White space is rt fmt's."""
+    """Writes or checks the files that `texts` returns, by their paths below the repository, but for what rt fmt lays out."""
     parser = argparse.ArgumentParser(description=description, formatter_class=argparse.RawDescriptionHelpFormatter)
     parser.add_argument("--check", action="store_true", help="write nothing, and compare the files' texts")
     given, status = parser.parse_args(), 0
     for path, text in texts().items():
         if given.check:
-            is_same = re.sub(r"\s", "", text_of(path)) == re.sub(r"\s", "", text)
+            is_same = unlaid(text_of(path)) == unlaid(text)
             print(f"{path} has {'this' if is_same else 'ANOTHER'} text")
             status |= not is_same
             continue
