@@ -26,7 +26,7 @@ pub enum Fault<'a> {
     #[error("standard output could not be written")]
     Output,
     /// The system's clock could not be read, or tells a time before 1970.
-    #[error("the system's clock could not be read; --now gives a moment")]
+    #[error("the system's clock could not be read; --now gives a time")]
     Clock,
     /// A request for memory was refused.
     #[error("out of memory")]

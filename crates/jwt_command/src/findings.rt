@@ -254,7 +254,7 @@ fn other_signature(
     };
     Finding::new(
         alloc,
-        "a signature that is not one of this header and payload by this key",
+        "a signature that does not match this header, payload and key",
         wanted,
     )
 }

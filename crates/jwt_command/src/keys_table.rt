@@ -157,7 +157,7 @@ fn algorithm_for(jwk: &Jwk) -> Option<Algorithm> {
 /// Returns as a text whether a verifier by this key is made, and why not.
 fn verifier_text(alloc: Global, jwk: &Jwk) -> Result<&'static str, Fault<'static>> {
     let Some(algorithm) = algorithm_for(jwk) else {
-        return Ok("no: by no algorithm that is supported here");
+        return Ok("no: with no algorithm that is supported here");
     };
     let key = match DecodingKey::from_jwk(alloc, jwk) {
         Ok(key) => key,

@@ -50,7 +50,7 @@ pub fn text_finding(alloc: Global, token: &[u8]) -> Result<Finding, Fault<'stati
     }
     Finding::new(
         alloc,
-        "a text without a dot: an opaque token, or no token",
+        "a text without a dot: an opaque token, or not a token",
         "header, payload and signature with dots between them; its issuer knows an opaque token (RFC 7662)",
     )
 }
