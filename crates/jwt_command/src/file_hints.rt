@@ -1,4 +1,4 @@
-//! The kind of a file that holds something else than is wanted, and which argument reads it.
+//! The kind of a file that holds something else than is wanted, and the argument that reads it.
 
 use memchr::memmem;
 
@@ -41,7 +41,7 @@ fn is_of_ssh(bytes: &[u8]) -> bool {
     bytes.starts_with(b"ssh-") || bytes.starts_with(b"ecdsa-sha2-")
 }
 
-/// Returns what is likely the problem of a file in PEM or of SSH where JSON is wanted, or `plain`.
+/// Returns the likely problem of a file in PEM or of SSH if JSON is wanted, or `plain`.
 fn text_problem(bytes: &[u8], plain: &'static str) -> &'static str {
     if is_certificate(bytes) {
         CERTIFICATE
@@ -54,7 +54,7 @@ fn text_problem(bytes: &[u8], plain: &'static str) -> &'static str {
     }
 }
 
-/// Returns what is likely the problem of a file that is no JSON Web Key that verifies, or `plain`.
+/// Returns the likely problem of a file that is not a JSON Web Key that verifies, or `plain`.
 pub fn key_problem(bytes: &[u8], plain: &'static str) -> &'static str {
     if is_set(bytes) {
         "this is a set of JSON Web Keys, not a single one; --jwks reads a set"
@@ -63,7 +63,7 @@ pub fn key_problem(bytes: &[u8], plain: &'static str) -> &'static str {
     }
 }
 
-/// Returns what is likely the problem of a file that is no set of JSON Web Keys.
+/// Returns the likely problem of a file that is not a set of JSON Web Keys.
 pub fn set_problem(bytes: &[u8]) -> &'static str {
     if is_key(bytes) {
         "this is one JSON Web Key, not a set; --jwk reads one, and {\"keys\": [KEY]} is a set of one"
@@ -72,7 +72,7 @@ pub fn set_problem(bytes: &[u8]) -> &'static str {
     }
 }
 
-/// Returns what is likely the problem of a file that is no public key in PEM, or `plain`.
+/// Returns the likely problem of a file that is not a public key in PEM, or `plain`.
 pub fn pem_problem(bytes: &[u8], plain: &'static str) -> &'static str {
     if is_set(bytes) {
         "this is a set of JSON Web Keys, not PEM; --jwks reads a set"

@@ -122,7 +122,7 @@ fn unless_memory(error: &Error, text: &'static str) -> Result<&'static str, Faul
     }
 }
 
-/// Returns the text in place of one that this error refuses, unless memory ran out.
+/// Returns the text instead of one that this error refuses, unless memory ran out.
 fn text_instead(
     alloc: Global,
     error: &Error,
@@ -140,7 +140,7 @@ fn curve_algorithm(curve: &EllipticCurve) -> Option<Algorithm> {
     }
 }
 
-/// Returns an algorithm by which a key may verify: its own, and else one for its type.
+/// Returns an algorithm with which a key may verify: its own, and else one for its type.
 fn algorithm_for(jwk: &Jwk) -> Option<Algorithm> {
     if let Some(named) = &jwk.common.key_algorithm {
         return named.name().parse::<Algorithm>().ok();

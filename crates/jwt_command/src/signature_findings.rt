@@ -40,7 +40,7 @@ fn length_by(algorithm: Algorithm, key: &DecodingKey) -> Option<u64> {
     }
 }
 
-/// Returns the same for the key of a set that a header names.
+/// Does likewise for the key of a set that a header names.
 fn length_by_set(
     alloc: Global,
     header: &Header,
