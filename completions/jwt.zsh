@@ -19,7 +19,7 @@ _jwt() {
         *' verify')
             _arguments \
                 '::TOKEN: ' \
-                '(--jwk --jwks --pem)--secret-file[Verify by HMAC with the bytes of this file as the secret]:FILE:_files' \
+                '(--jwk --jwks --pem)--secret-file[Verify with HMAC and the bytes of this file as the secret]:FILE:_files' \
                 '(--secret-file --jwks --pem)--jwk[Verify with this JSON Web Key (RFC 7517)]:FILE:_files' \
                 '(--secret-file --jwk --pem)--jwks[Verify with the key of this set that the token'\''s '\''kid'\'' names]:FILE:_files' \
                 '(--secret-file --jwk --jwks)--pem[Verify with this public key in PEM (RFC 7468)]:FILE:_files' \
@@ -36,17 +36,17 @@ _jwt() {
                 '--strict[Check '\''nbf'\'', without leeway, and refuse from '\''exp'\'' on]' \
                 '*--crit[Understand this member in the header'\''s '\''crit'\'']:NAME: ' \
                 '--typ[Accept tokens of this '\''typ'\'' only]:TYPE: ' \
-                '--now[Take this moment for now\: seconds since 1970 UTC, or RFC 3339]:TIME: ' \
+                '--now[Take this time as now\: seconds since 1970 UTC, or RFC 3339]:TIME: ' \
                 '--options[Begin with the options of this JSON file]:FILE:_files' \
                 '--json[Write the answer as one line of JSON]' \
                 '--header[Print the header too, on a line before the claims]' \
-                '--lines[Read a token a line, and answer each by a line of JSON]' \
+                '--lines[Read one token per line, and answer each with a line of JSON]' \
                 '(- *)--help[Print help]'
             ;;
         *' explain')
             _arguments \
                 '::TOKEN: ' \
-                '(--jwk --jwks --pem)--secret-file[Verify by HMAC with the bytes of this file as the secret]:FILE:_files' \
+                '(--jwk --jwks --pem)--secret-file[Verify with HMAC and the bytes of this file as the secret]:FILE:_files' \
                 '(--secret-file --jwks --pem)--jwk[Verify with this JSON Web Key (RFC 7517)]:FILE:_files' \
                 '(--secret-file --jwk --pem)--jwks[Verify with the key of this set that the token'\''s '\''kid'\'' names]:FILE:_files' \
                 '(--secret-file --jwk --jwks)--pem[Verify with this public key in PEM (RFC 7468)]:FILE:_files' \
@@ -63,7 +63,7 @@ _jwt() {
                 '--strict[Check '\''nbf'\'', without leeway, and refuse from '\''exp'\'' on]' \
                 '*--crit[Understand this member in the header'\''s '\''crit'\'']:NAME: ' \
                 '--typ[Accept tokens of this '\''typ'\'' only]:TYPE: ' \
-                '--now[Take this moment for now\: seconds since 1970 UTC, or RFC 3339]:TIME: ' \
+                '--now[Take this time as now\: seconds since 1970 UTC, or RFC 3339]:TIME: ' \
                 '--options[Begin with the options of this JSON file]:FILE:_files' \
                 '--json[Write the answer as one line of JSON]' \
                 '(- *)--help[Print help]'
@@ -71,22 +71,22 @@ _jwt() {
         *' show')
             _arguments \
                 '::TOKEN: ' \
-                '--now[Take this moment for now\: seconds since 1970 UTC, or RFC 3339]:TIME: ' \
+                '--now[Take this time as now\: seconds since 1970 UTC, or RFC 3339]:TIME: ' \
                 '--json[Write one line of JSON]' \
                 '(- *)--help[Print help]'
             ;;
         *' sign')
             _arguments \
-                '--secret-file[Sign by HMAC with the bytes of this file as the secret]:FILE:_files' \
+                '--secret-file[Sign with HMAC and the bytes of this file as the secret]:FILE:_files' \
                 '--trim[Leave one newline at the end of the secret file out of the secret]' \
                 '--claims[Read the claims from this file (default\: standard input)]:FILE:_files' \
-                '--alg[Sign by HS256, HS384 or HS512 (default\: HS256)]:ALG:(HS256 HS384 HS512)' \
+                '--alg[Sign with HS256, HS384 or HS512 (default\: HS256)]:ALG:(HS256 HS384 HS512)' \
                 '--kid[Write this '\''kid'\'' into the header]:NAME: ' \
                 '--typ[Write this '\''typ'\'' into the header (default\: JWT)]:TYPE: ' \
-                '--exp-in[Let the token expire after this span, as 15m or 12h]:SPAN: ' \
+                '--exp-in[Let the token expire after this span, such as 15m or 12h]:SPAN: ' \
                 '--nbf-in[Let the token be valid after this span]:SPAN: ' \
-                '--iat[Write the moment into '\''iat'\'']' \
-                '--now[Take this moment for now\: seconds since 1970 UTC, or RFC 3339]:TIME: ' \
+                '--iat[Write the time into '\''iat'\'']' \
+                '--now[Take this time as now\: seconds since 1970 UTC, or RFC 3339]:TIME: ' \
                 '(- *)--help[Print help]'
             ;;
         *' keys')

@@ -225,7 +225,7 @@ func TestChangedInputs(t *testing.T) {
 	}
 }
 
-// TestECDSASignature has bytes that are no signature in DER, and other algorithms. TestSigningInput has a signature.
+// TestECDSASignature has bytes that are not a signature in DER, and other algorithms. TestSigningInput has a signature.
 func TestECDSASignature(t *testing.T) {
 	for _, it := range []struct {
 		der       []byte

@@ -181,7 +181,7 @@ type row struct {
 	}
 }
 
-// TestAllAlgorithms has the tokens of all algorithms, which Python's cryptography signed, by a key and by a set.
+// TestAllAlgorithms has the tokens of all algorithms, which Python's cryptography signed, with a key and with a set.
 func TestAllAlgorithms(t *testing.T) {
 	seen := map[string]bool{}
 	rowsOf(t, vectors+"standard.jsonl", func(line []byte) {

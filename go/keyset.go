@@ -87,7 +87,7 @@ func checkPositive(option string, duration time.Duration) error {
 }
 
 // NewKeySet returns the set that fetch returns, once the first fetch gave a usable one. It is fetched again until the context ends, and
-// then stays as it is. An error is ErrFetch, ErrKey if the text is no usable set, or ErrOption.
+// then stays as it is. An error is ErrFetch, ErrKey if the text is not a usable set, or ErrOption.
 func NewKeySet(until context.Context, fetch Fetch, with ...KeySetOption) (*KeySet, error) {
 	if until == nil {
 		return nil, optionError("until is nil")

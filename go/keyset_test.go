@@ -131,7 +131,7 @@ func endless(_ *keyServer, conn net.Conn) {
 
 func redirects(to string) reply { return sends(head("302 Found", 0, "Location: "+to+"\r\n")) }
 
-// misbehaving has answers that are no usable set, though many have the key b.
+// misbehaving has answers that are not a usable set, though many have the key b.
 func misbehaving(t *testing.T) map[string]reply {
 	set := setOf("b")
 	file := filepath.Join(t.TempDir(), "keys")

@@ -189,7 +189,7 @@ def logs(server):
 
 
 class Watched(Server):
-    """An nginx of one worker behind watch.c, whose time of day is set, and which counts what the library is asked."""
+    """An nginx of one worker under watch.c, whose time of day is set, and which counts what the library is asked."""
 
     def __init__(self, module, work, server, http_conf=""):
         super().__init__(module, work, server, 1, http_conf, env={"LD_PRELOAD": f"{work}/watch.so"})

@@ -1,3 +1,8 @@
+/*
+ * Remembers accepted tokens.  The cache makes no verdict of its own: that a
+ * token accepted now is accepted until exp and the leeway is among the laws of
+ * decode.
+ */
 #include "ngx_http_jwt.h"
 
 

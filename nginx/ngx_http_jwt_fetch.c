@@ -1,8 +1,9 @@
 /*
  * Fetches a set of keys by a subrequest in the background, which goes on if
- * the request that began it is answered before.  What needs the set waits.
+ * the request that began it is answered before.  Requests that need it wait.
  * Each worker fetches for itself: a set in shared memory would need a verifier
- * there.
+ * there.  The request is nginx's own and has nothing of the client's: no
+ * client chooses what is asked, and none waits if there is a set.
  */
 #include "ngx_http_jwt.h"
 

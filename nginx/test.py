@@ -1,11 +1,11 @@
 #!/usr/bin/env -S python3 -B
 """Tests the module in a real nginx on the loopback. The last line counts.
 
-MODULE is ngx_http_jwt_module.so. With --load it is measured by wrk instead, beside the same server without it, in turns that take
+MODULE is ngx_http_jwt_module.so. With --load it is measured by wrk instead, next to the same server without it, in turns that take
 this many seconds for a file, and as many for a proxy, and then its memory is read during a million requests. With --valgrind the
 requests of the tests are sent to an nginx under valgrind. With --rotate requests are sent for this many seconds while the keys
 rotate, and counted. Tokens by a secret are signed here, by Python's hmac; the others are those of
-crates/jwt_vectors/data/standard.jsonl, which Python's cryptography signed. The tests of the cache and of fetched keys run behind
+crates/jwt_vectors/data/standard.jsonl, which Python's cryptography signed. The tests of the cache and of fetched keys run under
 watch.c, which a C compiler makes: it sets the time of day, and counts what the library is asked.
 """
 import argparse
@@ -165,7 +165,7 @@ def again(server, path):
         before = time.time()
         status = server.get(path, token)[0]
         seen.add(status)
-        # nginx's clock may be that of a moment ago
+        # nginx's clock may be a little late
         if (time.time() < end or before > end + 0.5) and status != (200 if before < end else 401):
             wrong.append((status, before - end))
         time.sleep(0.1)
@@ -387,11 +387,11 @@ def reloads(server):
     server.write("keys.json", {"keys": [oct_key("a", b"a new secret of more than 32 bytes")]})
     server.process.send_signal(signal.SIGHUP)
     test("the new key counts", eventually(lambda: server.get("/", new)[0] == 200 and server.get("/", old)[0] == 401))
-    # nginx asks the old workers to end a moment after the new ones begin
+    # nginx asks the old workers to end shortly after the new ones begin
     time.sleep(1)
     server.write("keys.json", "{")
     server.process.send_signal(signal.SIGHUP)
-    test("a bad file is told", eventually(lambda: 'no JSON Web Key Set' in server.read("error.log")))
+    test("a bad file is reported", eventually(lambda: 'no JSON Web Key Set' in server.read("error.log")))
     test("the key before it stays", all(server.get("/", new)[0] == 200 and server.get("/", old)[0] == 401 for _ in range(20)))
     done.set()
     for thread in threads:
@@ -498,29 +498,29 @@ def apart(server):
 
 
 def moments(server):
-    """A token is accepted from the cache from the moment when it was accepted to the second before exp and the leeway."""
+    """A token is accepted from the cache from the time when it was accepted to the second before exp and the leeway."""
     token, early = signed({**WEB, "sub": "moments"}), signed({**WEB, "sub": "early", "nbf": NOW - 50})
     for kind, path, text, moment, wanted in (
         ("the first time", "/same", token, -60, (200, 1)),
         ("again", "/same", token, -60, (200, 0)),
         ("at its exp", "/same", token, 0, (200, 0)),
-        ("the last moment", "/same", token, 9, (200, 0)),
+        ("the last time", "/same", token, 9, (200, 0)),
         ("the end", "/same", token, 10, (401, 1)),
         ("long after", "/same", token, 10**9, (401, 1)),
         ("back before the end", "/same", token, 9, (200, 0)),
         ("back before it came", "/same", token, -61, (200, 1)),
         ("after that", "/same", token, -60, (200, 0)),
         ("without leeway", "/leeway", token, -2, (200, 1)),
-        ("the last moment without leeway", "/leeway", token, -1, (200, 0)),
+        ("the last time without leeway", "/leeway", token, -1, (200, 0)),
         ("the end without leeway", "/leeway", token, 0, (401, 1)),
         ("more leeway", "/later", token, 15, (200, 1)),
         ("after that, with less", "/same", token, 15, (401, 1)),
-        ("the last moment of more leeway", "/later", token, 19, (200, 0)),
+        ("the last time of more leeway", "/later", token, 19, (200, 0)),
         ("the end of more leeway", "/later", token, 20, (401, 1)),
         ("before nbf", "/same", early, -61, (401, 1)),
-        ("the first moment", "/same", early, -60, (200, 1)),
+        ("the first time after nbf", "/same", early, -60, (200, 1)),
         ("back before nbf", "/same", early, -61, (401, 1)),
-        ("the first moment again", "/same", early, -60, (200, 0)),
+        ("the first time after nbf again", "/same", early, -60, (200, 0)),
     ):
         server.at(NOW + moment)
         got = server.ask(path, text)
@@ -536,7 +536,7 @@ def before_1970(server):
 
 
 def same_verdicts(server):
-    """At every moment, in any order, a token has the same answer with a cache and without: also one that says exp in an odd way."""
+    """At any time, in any order, a token has the same answer with a cache and without: also one that says exp in an odd way."""
     rest = f'"aud":"web","iss":"https://login.example","sub":"{{}}"}}'
     far = NOW + 1000
     payloads = [

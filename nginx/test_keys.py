@@ -203,7 +203,7 @@ def faults(server):
         asks(server, name, {"c": 401, "a": 200, "a!": 401}, 1)
         test(f"{name}: it took {time.monotonic() - began}", time.monotonic() - began < 4)
         asks(server, f"{name}, again", {"c": 401, "a": 200, "b": 401}, 0)
-    test("the faults are told", server.read("error.log").count('auth_jwt: no keys from "/keys"') >= 20)
+    test("the faults are reported", server.read("error.log").count('auth_jwt: no keys from "/keys"') >= 20)
     server.keys.answer = whole(keys("c"))
     later(server, PAUSE)
     asks(server, "a good set after them", {"c": 200, "a": 401}, 1)
@@ -393,7 +393,7 @@ def sources(server):
 
 
 def places(server):
-    """A token is asked for in subrequests, beside other tests, and by a second issuer."""
+    """A token is asked for in subrequests, next to other tests, and by a second issuer."""
     server.keys.answer = late(0.2, whole(keys("a")))
     later(server, PAUSE)
     for path, first in (("/gated", {"a": 200, "a!": 401, "b": 401}), ("/any", {"a": 200, "b": 401})):

@@ -64,7 +64,7 @@ int main(void) {
     int right = says(jwt_decode_key, rs256, rsa_key, "RS256", CLAIMS);
     right += says(jwt_decode_key, es256, curve_key, "ES256", CLAIMS);
     right += says(jwt_decode_set, eddsa, set, "EdDSA", "{\"company\":\"ACME\",\"exp\":2532524891,\"sub\":\"b@b.com\"}");
-    /* a key for other algorithms, one that the set does not have, and a text that is no key */
+    /* a key for other algorithms, one that the set does not have, and a text that is not a key */
     right += says(jwt_decode_key, rs256, curve_key, "RS256", "InvalidKeyFormat");
     right += says(jwt_decode_key, rs256, rsa_key, "PS256", "InvalidAlgorithm");
     right += says(jwt_decode_set, rs256, set, "RS256", "NoKey");

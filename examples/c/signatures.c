@@ -115,7 +115,7 @@ static bool checks(uint32_t algorithm, EVP_PKEY *key, const uint8_t *message, si
 
 /* ---- the token */
 
-/* Writes the claims, or the refusal's text, of a token by a key that is for this algorithm, and returns their length. The
+/* Writes the claims, or the refusal's text, of a token with a key that is for this algorithm, and returns their length. The
    verdict is on `signed_token`: the token itself, or another one by mistake. */
 static size_t answer(const char *token, const char *signed_token, uint32_t algorithm, const char *options,
                      EVP_PKEY *key, uint64_t now, uint8_t *room, size_t room_len) {
@@ -171,6 +171,6 @@ int main(void) {
     EVP_PKEY_free(rsa);
     EVP_PKEY_free(curve);
     EVP_PKEY_free(ed);
-    printf("%d tokens by RSA and curves from C, %d failed\n", right, all - right);
+    printf("%d tokens with RSA and curves from C, %d failed\n", right, all - right);
     return right != all;
 }

@@ -1,4 +1,4 @@
-/* Verifies a token by a secret, and shows refusals by the tests that failed and by their texts. The last line counts. */
+/* Verifies a token with a secret, and shows refusals by the tests that failed and by their texts. The last line counts. */
 #include "jwtproved.h"
 #include <stdio.h>
 #include <string.h>
@@ -55,6 +55,6 @@ int main(void) {
     right += says("secret", 6, 2532524951, "bad secret");
     right += says(zeros, 32, 2532524951, "bad secret");
     right += says(zeros, sizeof zeros, 2532524951, "bad secret");
-    printf("%d tokens by a secret from C, %d failed\n", right, 7 - right);
+    printf("%d tokens with a secret from C, %d failed\n", right, 7 - right);
     return right != 7;
 }

@@ -194,7 +194,7 @@ static PyObject *handles_decode(PyObject *object, PyObject *const *arguments, Py
     uint32_t status;
 
     if (count != 2) {
-        PyErr_SetString(PyExc_TypeError, "decode takes a token and a moment");
+        PyErr_SetString(PyExc_TypeError, "decode takes a token and a time");
         return NULL;
     }
     if (PyBytes_AsStringAndSize(arguments[0], &token, &token_len) != 0) {

@@ -100,7 +100,7 @@ def call_of(row):
     # some headers and keys are those of Rust, and not JSON of one
     if "header" in row.get("header", {}) or "other" in row.get("jwk", {}) or row.get("provider") not in (None, "StandardProvider"):
         return None
-    # of moments that are issued, the package cuts the fraction
+    # of times that are issued, the package cuts the fraction
     if row.get("claims_json") == '{"exp":1.5}':
         return None
     is_of_key = row["call"] == "decode_with_set" or row["call"] == "decode" and "jwk" in row["key"]

@@ -4,6 +4,8 @@ rt ci builds no library for C. It builds programs for x86-64-v2, and links them 
 place of that one, linked with start.c so that it asks for what its calls need. A library's proof holds for every processor, and that of
 a program or of the library for C for one: rattle proves these alone again, as jwt's `main`, over the proved libraries. What it made is
 kept, with the prover's last line.
+
+The program of rt ci can't be changed to ask for an older glibc: before 2.34 nothing would call the constructor that takes its arguments.
 """
 import base64
 import concurrent.futures

@@ -1,5 +1,6 @@
 """Builds the library for C, and all that calls it: out/libjwtproved.a to link, and out/libjwtproved.so to load, each with the parts of
-the kit that it needs. Both export the names jwt_* alone."""
+the kit that it needs. Both export the names jwt_* alone. The static library is linked to a single object first, so that a program can
+link it next to another library of the kit."""
 import os
 import re
 import shutil

@@ -2,6 +2,9 @@
 
 Each has a key, the sum of all that it rests on. They lie below $XDG_CACHE_HOME, or else ~/.cache, in a folder that this user alone may
 write: what another could have put there is not taken.
+
+Refusals of wrong bodies rest on prover, sources of the crate and of those below, edit, and the programs that try it. They are kept only
+if these are the same when the check ends. No failure is kept, and no run of a program or of a test; rt keeps proofs, if the kit's can.
 """
 import contextlib
 import hashlib

@@ -42,7 +42,7 @@ fn kind_meaning(kind: &ErrorKind) -> &'static str {
         ErrorKind::MissingAlgorithm => "no algorithm is accepted; --alg names one",
         ErrorKind::InvalidAlgorithm => "the token's algorithm is not among those that are accepted",
         ErrorKind::InvalidSignature =>
-            "the signature is not one by this key; the token was changed, or signed with another key",
+            "the signature does not match the key; the token was changed, or signed with another key",
         ErrorKind::ExpiredSignature => "the token has expired",
         ErrorKind::ImmatureSignature => "the token is not valid yet, by its 'nbf'",
         ErrorKind::InvalidIssuer => "the token's issuer is not among those of --iss",
@@ -51,7 +51,7 @@ fn kind_meaning(kind: &ErrorKind) -> &'static str {
         ErrorKind::InvalidSubject => "the token's subject is not that of --sub",
         ErrorKind::InvalidKeyFormat =>
             "the key is of another kind than the token's algorithm, or not a key",
-        ErrorKind::UnsupportedAlgorithm => "there is no support for this algorithm",
+        ErrorKind::UnsupportedAlgorithm => "this algorithm is not supported",
         ErrorKind::OutOfMemory => "out of memory",
         ErrorKind::MissingRequiredClaim(_) => "a required claim is absent or malformed",
         ErrorKind::InvalidClaimFormat(_) => "a claim is of a wrong type",

@@ -78,7 +78,7 @@ const NOW: Entry = Entry {
     name: "now",
     shape: Shape::Once,
     value: "TIME",
-    help: "Take this moment for now: seconds since 1970 UTC, or RFC 3339",
+    help: "Take this time as now: seconds since 1970 UTC, or RFC 3339",
 };
 
 const TOKEN: Entry = Entry {
@@ -93,7 +93,7 @@ fn key_entries() -> [Entry; 5] {
         once(
             "secret-file",
             "FILE",
-            "Verify by HMAC with the bytes of this file as the secret",
+            "Verify with HMAC and the bytes of this file as the secret",
         ),
         once("jwk", "FILE", "Verify with this JSON Web Key (RFC 7517)"),
         once(
@@ -238,7 +238,7 @@ fn verify<'a>(alloc: Global) -> Result<Command<'a>, AllocError> {
             ),
             flag(
                 "lines",
-                "Read a token a line, and answer each by a line of JSON",
+                "Read one token per line, and answer each with a line of JSON",
             ),
         ],
     )
@@ -267,7 +267,7 @@ fn sign_entries() -> [Entry; 10] {
         needed(
             "secret-file",
             "FILE",
-            "Sign by HMAC with the bytes of this file as the secret",
+            "Sign with HMAC and the bytes of this file as the secret",
         ),
         flag(
             "trim",
@@ -281,7 +281,7 @@ fn sign_entries() -> [Entry; 10] {
         once(
             "alg",
             "ALG",
-            "Sign by HS256, HS384 or HS512 (default: HS256)",
+            "Sign with HS256, HS384 or HS512 (default: HS256)",
         ),
         once("kid", "NAME", "Write this 'kid' into the header"),
         once(
@@ -292,10 +292,10 @@ fn sign_entries() -> [Entry; 10] {
         once(
             "exp-in",
             "SPAN",
-            "Let the token expire after this span, as 15m or 12h",
+            "Let the token expire after this span, such as 15m or 12h",
         ),
         once("nbf-in", "SPAN", "Let the token be valid after this span"),
-        flag("iat", "Write the moment into 'iat'"),
+        flag("iat", "Write the time into 'iat'"),
         NOW,
     ]
 }

@@ -250,7 +250,7 @@ fn rule_finding(
             wanted: names_or(
                 alloc,
                 &case.validation.aud,
-                "no aud, or its audience by --aud",
+                "no aud, or an audience that --aud names",
             )?,
         }),
         ErrorKind::InvalidSubject => other_subject(alloc, claims, case.validation),

@@ -128,12 +128,12 @@ fn moment_words(alloc: Global, moment: u64, now: u64) -> Result<String, AllocErr
 /// Returns the line about the times at which a token is accepted.
 fn moments_line(alloc: Global, moments: Option<Moments>, now: u64) -> Result<String, AllocError> {
     let Some(moments) = moments else {
-        return String::from_str(alloc, "accepted at no moment\n");
+        return String::from_str(alloc, "accepted at no time\n");
     };
     let last = moment_words(alloc, moments.last, now)?;
     let first = moment_words(alloc, moments.first, now)?;
     match (moments.first, moments.last) {
-        (0, u64::MAX) => String::from_str(alloc, "accepted at every moment\n"),
+        (0, u64::MAX) => String::from_str(alloc, "accepted at any time\n"),
         (0, _) => format!(in alloc; "accepted until {last}\n"),
         (_, u64::MAX) => format!(in alloc; "accepted from {first} on\n"),
         _ => format!(in alloc; "accepted from {first} until {last}\n"),

@@ -1,4 +1,4 @@
-//! The kind of a file that holds something else than is wanted, and which argument reads it.
+//! The kind of a file that holds something else than is wanted, and the argument that reads it.
 
 use memchr::memmem;
 
@@ -41,12 +41,12 @@ fn is_of_ssh(bytes: &[u8]) -> bool {
     bytes.starts_with(b"ssh-") || bytes.starts_with(b"ecdsa-sha2-")
 }
 
-/// Returns what is likely the problem of a file in PEM or of SSH where JSON is wanted, or `plain`.
+/// Returns the likely problem of a file in PEM or of SSH if JSON is wanted, or `plain`.
 fn text_problem(bytes: &[u8], plain: &'static str) -> &'static str {
     if is_certificate(bytes) {
         CERTIFICATE
     } else if memmem::find(bytes, b"-----BEGIN ").is_some() {
-        "this is PEM, and no JSON; --pem reads a public key in PEM, and 'jwt jwk' prints it as JSON"
+        "this is PEM, not JSON; --pem reads a public key in PEM, and 'jwt jwk' prints it as JSON"
     } else if is_of_ssh(bytes) {
         OF_SSH
     } else {
@@ -54,30 +54,30 @@ fn text_problem(bytes: &[u8], plain: &'static str) -> &'static str {
     }
 }
 
-/// Returns what is likely the problem of a file that is no JSON Web Key that verifies, or `plain`.
+/// Returns the likely problem of a file that is not a JSON Web Key that verifies, or `plain`.
 pub fn key_problem(bytes: &[u8], plain: &'static str) -> &'static str {
     if is_set(bytes) {
-        "this is a set of JSON Web Keys, and no single one; --jwks reads a set"
+        "this is a set of JSON Web Keys, not a single one; --jwks reads a set"
     } else {
         text_problem(bytes, plain)
     }
 }
 
-/// Returns what is likely the problem of a file that is no set of JSON Web Keys.
+/// Returns the likely problem of a file that is not a set of JSON Web Keys.
 pub fn set_problem(bytes: &[u8]) -> &'static str {
     if is_key(bytes) {
-        "this is one JSON Web Key, and no set; --jwk reads one, and {\"keys\": [KEY]} is a set of one"
+        "this is one JSON Web Key, not a set; --jwk reads one, and {\"keys\": [KEY]} is a set of one"
     } else {
-        text_problem(bytes, "this is no set of JSON Web Keys")
+        text_problem(bytes, "this is not a set of JSON Web Keys")
     }
 }
 
-/// Returns what is likely the problem of a file that is no public key in PEM, or `plain`.
+/// Returns the likely problem of a file that is not a public key in PEM, or `plain`.
 pub fn pem_problem(bytes: &[u8], plain: &'static str) -> &'static str {
     if is_set(bytes) {
-        "this is a set of JSON Web Keys, and no PEM; --jwks reads a set"
+        "this is a set of JSON Web Keys, not PEM; --jwks reads a set"
     } else if is_key(bytes) {
-        "this is a JSON Web Key, and no PEM; --jwk reads one"
+        "this is a JSON Web Key, not PEM; --jwk reads one"
     } else if is_certificate(bytes) {
         CERTIFICATE
     } else if is_of_ssh(bytes) {

@@ -230,7 +230,7 @@ fn by_header(alloc: Global, case: Case<'_>, test: Test) -> Result<Finding, Fault
     }
 }
 
-/// Returns the value of a part, or `None` if it is no base64url or no JSON.
+/// Returns the value of a part, or `None` if it is not base64url or not JSON.
 pub fn part_value(alloc: Global, part: &[u8]) -> Result<Option<Value>, Fault<'static>> {
     match unless_refused(part_bytes(alloc, part))? {
         Some(bytes) => unless_refused(json_value(alloc, &bytes)),
@@ -254,12 +254,12 @@ fn other_signature(
     };
     Finding::new(
         alloc,
-        "a signature that is not one of this header and payload by this key",
+        "a signature that does not match this header, payload and key",
         wanted,
     )
 }
 
-/// Returns the finding of a signature part that is no base64url.
+/// Returns the finding of a signature part that is not base64url.
 fn no_signature_part(
     alloc: Global,
     case: Case<'_>,

@@ -321,7 +321,7 @@ fn by_jwk<'a>(alloc: Global, path: &'a str, bytes: &[u8]) -> Result<Loaded, Faul
         Err(error) => return Err(not_keys(
             path,
             &error,
-            key_problem(bytes, "this is no JSON Web Key"),
+            key_problem(bytes, "this is not a JSON Web Key"),
         )),
     };
     let own = own_algorithm(&jwk);
@@ -375,7 +375,7 @@ pub fn not_pem<'a>(path: &'a str, error: &Error, bytes: &[u8]) -> Fault<'a>
         ErrorKind::UnsupportedAlgorithm =>
             "this public key is of a kind that verifies nothing here",
         ErrorKind::Provider(_) => "this is a private key; a public key is wanted",
-        _ => pem_problem(bytes, "this is no public key in PEM"),
+        _ => pem_problem(bytes, "this is not a public key in PEM"),
     };
     not_keys(path, error, problem)
 }

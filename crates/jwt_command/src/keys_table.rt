@@ -122,7 +122,7 @@ fn unless_memory(error: &Error, text: &'static str) -> Result<&'static str, Faul
     }
 }
 
-/// Returns the text in place of one that this error refuses, unless memory ran out.
+/// Returns the text instead of one that this error refuses, unless memory ran out.
 fn text_instead(
     alloc: Global,
     error: &Error,
@@ -140,7 +140,7 @@ fn curve_algorithm(curve: &EllipticCurve) -> Option<Algorithm> {
     }
 }
 
-/// Returns an algorithm by which a key may verify: its own, and else one for its type.
+/// Returns an algorithm with which a key may verify: its own, and else one for its type.
 fn algorithm_for(jwk: &Jwk) -> Option<Algorithm> {
     if let Some(named) = &jwk.common.key_algorithm {
         return named.name().parse::<Algorithm>().ok();
@@ -157,7 +157,7 @@ fn algorithm_for(jwk: &Jwk) -> Option<Algorithm> {
 /// Returns as a text whether a verifier by this key is made, and why not.
 fn verifier_text(alloc: Global, jwk: &Jwk) -> Result<&'static str, Fault<'static>> {
     let Some(algorithm) = algorithm_for(jwk) else {
-        return Ok("no: by no algorithm that is supported here");
+        return Ok("no: with no algorithm that is supported here");
     };
     let key = match DecodingKey::from_jwk(alloc, jwk) {
         Ok(key) => key,

@@ -1,4 +1,4 @@
-//! Moments and spans of time, as arguments give them.
+//! Times and spans of time, as arguments give them.
 
 // A number of decimal digits is proved to be its value, and another time or span only to be a
 // number, since the kit's `jiff` states nothing of dates and spans.

@@ -77,7 +77,7 @@ fn not_options<'a>(path: &'a str, error: &Error) -> Fault<'a>
         ErrorKind::OutOfMemory => Fault::Memory,
         _ => Fault::File {
             path,
-            problem: "these are no options of a validation as JSON",
+            problem: "these are not the options of a validation in JSON",
         },
     }
 }

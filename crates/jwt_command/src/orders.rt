@@ -77,7 +77,7 @@ pub fn sentence(test: Test) -> &'static str {
         Test::VerifierIsMade => "the key fits the token's algorithm",
         Test::FamiliesAgree => "all accepted algorithms are of its family",
         Test::SignatureIsPart => "the signature part is base64url without padding",
-        Test::SignatureIsAccepted => "the signature is one by this key",
+        Test::SignatureIsAccepted => "the signature matches the key",
         Test::PayloadIsPart => "the payload part is base64url without padding",
         Test::PayloadIsJson => "the payload is JSON",
         Test::ClaimsRead => "the claims can be read",

@@ -50,7 +50,7 @@ pub fn text_finding(alloc: Global, token: &[u8]) -> Result<Finding, Fault<'stati
     }
     Finding::new(
         alloc,
-        "a text without a dot: an opaque token, or no token",
+        "a text without a dot: an opaque token, or not a token",
         "header, payload and signature with dots between them; its issuer knows an opaque token (RFC 7662)",
     )
 }
@@ -72,7 +72,7 @@ fn byte_name(byte: u8) -> &'static str {
     }
 }
 
-/// Returns why a part is no base64url.
+/// Returns why a part is not base64url.
 fn not_base64url(alloc: Global, part: &[u8]) -> Result<String, AllocError> {
     if let Some(place) = part.iter().position(|byte| !is_of_base64url(*byte)) {
         let name = part.get(place).copied().map_or("", byte_name);
@@ -99,7 +99,7 @@ pub fn type_name(value: &Value) -> &'static str {
     }
 }
 
-/// Returns why a value is no header.
+/// Returns why a value is not a header.
 fn not_header(alloc: Global, header: &Value) -> Result<String, AllocError> {
     if header.as_object().is_none() {
         return String::from_str(alloc, type_name(header));

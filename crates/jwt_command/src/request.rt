@@ -120,7 +120,7 @@ fn time(matches: &ArgMatches<'_>, id: &str) -> Result<Option<u64>, Fault<'static
     match moment(text) {
         Some(moment) => Ok(Some(moment)),
         None => Err(Fault::Usage(
-            "--now wants seconds since 1970 UTC, or a time as 2026-01-31T12:00:00Z",
+            "--now wants seconds since 1970 UTC, or a time such as 2026-01-31T12:00:00Z",
         )),
     }
 }
@@ -170,11 +170,15 @@ fn checks_asked<'m, 'a: 'm>(matches: &'m ArgMatches<'a>) -> Result<Checks<'m, 'a
         audiences: matches.get_strs("aud"),
         issuers: matches.get_strs("iss"),
         subject: matches.get_str("sub"),
-        leeway: span(matches, "leeway", "--leeway wants seconds, or a span as 5m")?,
+        leeway: span(
+            matches,
+            "leeway",
+            "--leeway wants seconds, or a span such as 5m",
+        )?,
         not_within: span(
             matches,
             "not-within",
-            "--not-within wants seconds, or a span as 5m",
+            "--not-within wants seconds, or a span such as 5m",
         )?,
         required: matches.get_strs("require"),
         checks_nbf: matches.get_flag("nbf"),
@@ -243,12 +247,12 @@ fn signing_asked<'a>(matches: &ArgMatches<'a>) -> Result<Signing<'a>, Fault<'sta
         exp_in: span(
             matches,
             "exp-in",
-            "--exp-in wants a span as 15m, or seconds",
+            "--exp-in wants a span such as 15m, or seconds",
         )?,
         nbf_in: span(
             matches,
             "nbf-in",
-            "--nbf-in wants a span as 15m, or seconds",
+            "--nbf-in wants a span such as 15m, or seconds",
         )?,
         has_iat: matches.get_flag("iat"),
         now: time(matches, "now")?,

@@ -115,7 +115,7 @@ fn value_of(alloc: Global, part: Option<&[u8]>) -> Result<Option<Value>, Fault<'
 }
 
 /// Returns the header and the claims of a text, of which nothing is verified, as far as they are
-/// JSON in base64url. What stands around a token is left out, as quotes or the word Bearer.
+/// JSON in base64url. Text around a token is left out, such as quotes or the word Bearer.
 pub fn salvaged_from(alloc: Global, text: &[u8]) -> Result<Salvage, Fault<'static>> {
     let token = url_decoded(alloc, likely_token(text))?;
     let is_encrypted = is_encrypted(&token);

@@ -40,7 +40,7 @@ fn length_by(algorithm: Algorithm, key: &DecodingKey) -> Option<u64> {
     }
 }
 
-/// Returns the same for the key of a set that a header names.
+/// Does likewise for the key of a set that a header names.
 fn length_by_set(
     alloc: Global,
     header: &Header,
@@ -107,7 +107,7 @@ fn length_reason(lengths: Lengths) -> &'static str {
     if lengths.found == 0 {
         "the token is not signed, or cut"
     } else if is_of_rsa && lengths.found >= RSA_LEAST && lengths.found % RSA_STEP == 0 {
-        "it is one by a key of another size"
+        "it is from a key of another size"
     } else if lengths.found < lengths.made {
         "the token is cut"
     } else {

@@ -1,4 +1,4 @@
-//! Moments as people read them.
+//! Times as people read them.
 
 use jiff::Timestamp;
 use serde_json::Value;

@@ -1,4 +1,4 @@
-//! Verifies tokens by a secret, by a key and by a key set, logs why others are refused, and issues one. The last line counts.
+//! Verifies tokens with a secret, a key and a key set, logs why others are refused, and issues one. The last line counts.
 
 use jsonwebtoken_proved::{
     Algorithm, DecodingKey, EncodingKey, Error, Header, Refusal, Validation, Verified, Verifier, encode_json,

@@ -180,7 +180,7 @@ fn says(text: impl AsRef<[u8]>) -> Answer {
     sends([head("200 OK", text.len()).as_bytes(), text].concat())
 }
 
-/// Answers that are no usable set, though many have the key b.
+/// Answers that are not a usable set, though many have the key b.
 fn misbehaving() -> Vec<(&'static str, Answer)> {
     let set = set_of(&["b"]);
     let with_head = |length: u64, text: &str| head("200 OK", length) + text;

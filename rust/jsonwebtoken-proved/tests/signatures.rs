@@ -63,7 +63,7 @@ fn a_verdict_on_something_else() {
 }
 
 const CLAIMS: &str = r#"{"aud":"my-service","exp":2532524891}"#;
-/// The signature of the claims by ES256 and the key of RFC 7515 appendix A.3, as Python's cryptography made it.
+/// The signature of the claims with ES256 and the key of RFC 7515 appendix A.3, as Python's cryptography made it.
 const DER: [u8; 71] = [
     48, 69, 2, 33, 0, 155, 158, 226, 40, 132, 85, 140, 161, 255, 196, 89, 147, 107, 4, 163, 243, 89, 78, 80, 180, 33,
     91, 191, 254, 165, 225, 126, 63, 236, 56, 141, 28, 2, 32, 97, 18, 16, 148, 120, 60, 27, 189, 60, 135, 245, 15, 184,
