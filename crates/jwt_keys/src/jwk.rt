@@ -4,7 +4,7 @@
 // calls, and prove that a text which is no JSON reads as nothing (`ReadsText`).
 
 ghost use Rattle.std.specs.Prelude.{◌≡◌, ◌↔◌, ◌⊎◌, IsTrue, List, ℕ, Ok, Some, None, false, IfOk};
-ghost use Rattle.std.specs.Prelude.{IfErr, string_bytes};
+ghost use Rattle.std.specs.Prelude.{IfErr, string_bytes, bytes_eq};
 ghost use Rattle.serde_json.specs.View.{view, members_view};
 ghost use Rattle.serde_json.specs.Written.{has_float};
 ghost use Rattle.jwt_base.specs.JsonText.{ReadsText};
@@ -124,10 +124,11 @@ impl Jwk {
         ensures { result ≡ has_id kid.now self.now }
     {
         match &self.common.key_id {
-            Some(id) => id.as_str() == kid,
+            Some(id) => is_same_id(id.as_str(), kid),
             None => false,
         }
     }
+
     /// Returns the JSON Web Key of a signing key, for this algorithm, which is not compared
     /// with the key's family. A secret becomes an `OctetKey` that holds it; of a private key in DER
     /// the provider reads the public part. An Edwards curve key whose length is not 48 bytes is
@@ -216,6 +217,22 @@ impl Jwk {
         let members = self.algorithm.members(alloc)?;
         self.common.with_members(alloc, members)
     }
+}
+
+/// Returns whether the ids are the same. The ids of a set differ mostly in the last byte, which is
+/// compared first, without a call.
+fn is_same_id(id: &str, kid: &str) -> bool
+    ensures { result ≡ bytes_eq id.now kid.now }
+{
+    let (bytes, wanted) = (id.as_bytes(), kid.as_bytes());
+    let count = bytes.len();
+    if count != wanted.len() {
+        return false;
+    }
+    if count > 0 && bytes[count - 1] != wanted[count - 1] {
+        return false;
+    }
+    id == kid
 }
 
 impl CloneIn for Jwk {
