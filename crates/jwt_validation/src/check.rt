@@ -5,6 +5,7 @@
 // made in 128 bits.
 
 ghost use Rattle.std.specs.Prelude.{◌≡◌, ◌↔◌, IsOk, OnOk, IfErr, IsSome, MatchOption};
+ghost use Rattle.std.specs.HashSet.{contains_text};
 ghost use Rattle.serde_json.specs.Find.{as_object};
 ghost use Rattle.serde_json.specs.View.{view};
 ghost use Rattle.jwt_base.specs.Kind.{Kind};
@@ -21,6 +22,7 @@ use crate::validation::Validation;
 use jwt_base::errors::{ErrorKind, Result, new_error};
 use serde_json::Value;
 use std::alloc::Global;
+use std::collections::HashSet;
 
 /// Checks claims at the time `now`, in whole seconds since 1970-01-01 00:00:00 UTC.
 ///
@@ -73,13 +75,26 @@ fn check(alloc: Global, claims: &Value, options: &Validation, now: u64) -> Resul
     }
 }
 
+/// The number of names up to which a set is walked: to hash a name takes longer than to compare it
+/// with a few.
+const FEW: usize = 8;
+
+fn is_required(names: &HashSet<String>, name: &str) -> bool
+    ensures { result ≡ contains_text names.now name.now }
+{
+    if names.len() > FEW {
+        return names.contains(name);
+    }
+    names.iter().any(|required| name == required.as_str())
+}
+
 fn first_missing(claims: &SpecClaims, options: &Validation) -> Option<Name>
     ensures { MatchOption result
         ((n : Name) → ¬ IsMissing (options_of options.now) (claims_seen claims.now) n)
         (λ n. IsMissing (options_of options.now) (claims_seen claims.now) n) }
 {
     for name in NAMES {
-        if options.required_spec_claims.contains(name.text()) && !claims.has_value(name) {
+        if !claims.has_value(name) && is_required(&options.required_spec_claims, name.text()) {
             return Some(name);
         }
     }
