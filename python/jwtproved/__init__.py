@@ -1,4 +1,5 @@
 """JSON Web Tokens (RFC 7519), verified by a library whose contracts are proved, under the names of PyJWT."""
+from . import api_jwk, api_jwt, jwks_client
 from ._api import PyJWT, decode, decode_complete, encode, get_unverified_header
 from ._client import PyJWKClient
 from ._keys import PyJWK, PyJWKSet, thumbprint

@@ -12,7 +12,7 @@ from ._api import get_unverified_header
 from ._keys import PyJWK, PyJWKSet
 from ._refusals import unknown
 from ._rules import plain, wrong_type
-from .exceptions import PyJWKClientConnectionError, PyJWKClientError, PyJWTError
+from .exceptions import PyJWKClientConnectionError, PyJWKClientError
 
 if TYPE_CHECKING:
     from concurrent.futures import Future
@@ -78,6 +78,13 @@ def _checked_context(context: Any) -> Any:
     return context
 
 
+def _set_of(data: Any) -> PyJWKSet:
+    """Returns the set that a server's JSON is."""
+    if not isinstance(data, dict):
+        raise PyJWKClientError("The JWKS endpoint did not return a JSON object")
+    return PyJWKSet.from_dict(data)
+
+
 class _Sets:
     """The last set that was fetched, which is fresh for some seconds."""
 
@@ -86,9 +93,14 @@ class _Sets:
         self._until = -math.inf
         self.last: PyJWKSet | None = None
 
-    def put(self, found: PyJWKSet) -> None:
-        # a set that verifies no token replaces no other
-        if self.last is None or found._signing:
+    def put(self, jwk_set: PyJWKSet | dict[str, Any] | None) -> None:
+        """Keeps a set, or its JSON, which a `fetch_data` of a subclass may put here as PyJWT's does. After None no set is fresh."""
+        if jwk_set is None:
+            self._until = -math.inf
+            return
+        found = jwk_set if isinstance(jwk_set, PyJWKSet) else _set_of(jwk_set)
+        # a set without a key that signs replaces none that has one
+        if found._signing or self.last is None or not self.last._signing:
             self.last, self._until = found, _clock() + self._lifespan
 
     def get(self) -> PyJWKSet | None:
@@ -119,10 +131,10 @@ class _Keys:
             self._found[kid] = until, key
             return key
 
-    def renew(self, keys: dict[str, PyJWK]) -> None:
-        """Takes over the keys of a later set, and drops those that it does not have."""
+    def renew(self, later: PyJWKSet) -> None:
+        """Drops the keys that a later set does not have as they are."""
         with self._lock:
-            self._found = {kid: (until, keys[kid]) for kid, (until, _) in self._found.items() if kid in keys}
+            self._found = {kid: kept for kid, kept in self._found.items() if any(kept[1]._jwk_data == it._jwk_data for it in later.keys)}
 
 
 class PyJWKClient:
@@ -166,6 +178,8 @@ class PyJWKClient:
         self._under_way: "Future[PyJWKSet] | None" = None
         # before these times no set is fetched for an unknown kid, or instead of one that is not fresh
         self._refetch_from = self._renew_from = -math.inf
+        # whether a thread refreshes for an unknown kid
+        self._of_thread = threading.local()
 
     def fetch_data(self) -> Any:
         """Fetches the set, and returns it as the server's JSON. Raises PyJWKClientConnectionError, or PyJWKClientError."""
@@ -181,7 +195,7 @@ class PyJWKClient:
         """Returns the set that is kept, or fetches one if there is none that is fresh, or if `refresh` asks for it."""
         kept = self.jwk_set_cache
         if kept is None or refresh:
-            return self._fetched()
+            return self._fetched(getattr(self._of_thread, "seeks", False))
         found = kept.get()
         if found is not None:
             return found
@@ -218,32 +232,27 @@ class PyJWKClient:
         return next((it for it in signing_keys if it.key_id == kid), None)
 
     def _found(self, kid: str) -> PyJWK:
-        seen = self.get_jwk_set()
-        found = seen._signing_by_id.get(kid)
-        if found is None:
-            newest = self._after(seen)
-            found = newest._signing_by_id.get(kid)
-            if found is None and not newest._signing:
-                raise PyJWKClientError("The JWKS endpoint did not contain any signing keys")
+        # by calls of the interface, in PyJWT's order: a subclass may choose among the keys
+        try:
+            found = self.match_kid(self.get_signing_keys(), kid)
+        except PyJWKClientError:
+            if self.jwk_set_cache is None or self.jwk_set_cache.last is None:
+                raise
+            # the set that is kept has no key that signs
+            found = None
+        if found is None and (self.jwk_set_cache is not None or _clock() >= self._refetch_from):
+            found = self._found_later(kid)
         if found is None:
             raise unknown(kid)
         return found
 
-    def _after(self, seen: PyJWKSet) -> PyJWKSet:
-        """Returns a later set than the one that was seen, if there is one, or if it is time to fetch one."""
-        last = None if self.jwk_set_cache is None else self.jwk_set_cache.last
-        if last is not None and last is not seen:
-            return last
-        with self._lock:
-            if self._under_way is None:
-                if _clock() < self._refetch_from:
-                    return seen
-                self._refetch_from = _clock() + self._pause
+    def _found_later(self, kid: str) -> PyJWK | None:
+        """Returns the key of a later set, if there is one, or if it is time to fetch one."""
+        self._of_thread.seeks = True
         try:
-            return self._fetched()
+            return self.match_kid(self.get_signing_keys(refresh=True), kid)
         finally:
-            # the pause is after the end: a server that hangs is not asked again at once
-            self._refetch_from = _clock() + self._pause
+            self._of_thread.seeks = False
 
     def _renewed(self, kept: _Sets, last: PyJWKSet) -> PyJWKSet:
         """Returns the set after one that is no longer fresh, or that one if another thread fetches, or if there is no other."""
@@ -252,24 +261,39 @@ class PyJWKClient:
                 return last
         try:
             self._fetched()
-        except PyJWTError as error:
+        except MemoryError:
+            raise
+        except Exception as error:
+            # of any kind, if a subclass fetches
             import logging
 
             logging.getLogger("jwtproved").warning("the last set of keys of %s is used: %s", self.uri, error)
         return kept.last or last
 
-    def _fetched(self) -> PyJWKSet:
-        """Returns a set that is fetched. Threads that ask for it at the same time get the same."""
+    def _fetched(self, seeks: bool = False) -> PyJWKSet:
+        """Returns a set that is fetched. Threads that ask for it at the same time get the same. One that `seeks` an unknown kid gets the
+        last set during the pause."""
         from concurrent.futures import Future
 
         with self._lock:
             under_way = self._under_way
             if under_way is None:
+                last = None if self.jwk_set_cache is None else self.jwk_set_cache.last
+                if seeks and last is not None and _clock() < self._refetch_from:
+                    return last
                 mine = self._under_way = Future()
-        if under_way is not None:
-            return self._joined(under_way)
+                if seeks:
+                    self._refetch_from = _clock() + self._pause
         try:
-            found = self._set_of(self.fetch_data())
+            return self._fetched_by(mine) if under_way is None else self._joined(under_way)
+        finally:
+            # the pause is after the end: a server that hangs is not asked again at once
+            if seeks:
+                self._refetch_from = _clock() + self._pause
+
+    def _fetched_by(self, mine: "Future[PyJWKSet]") -> PyJWKSet:
+        try:
+            found = _set_of(self.fetch_data())
         except BaseException as error:
             self._end(mine, None)
             mine.set_exception(error)
@@ -295,10 +319,4 @@ class PyJWKClient:
             if found is not None and self.jwk_set_cache is not None:
                 self.jwk_set_cache.put(found)
             if found is not None and found._signing and self._keys is not None:
-                self._keys.renew(found._signing_by_id)
-
-    @staticmethod
-    def _set_of(data: Any) -> PyJWKSet:
-        if not isinstance(data, dict):
-            raise PyJWKClientError("The JWKS endpoint did not return a JSON object")
-        return PyJWKSet.from_dict(data)
+                self._keys.renew(found)

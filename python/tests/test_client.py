@@ -528,9 +528,206 @@ def apps():
     gives(1, lambda: own.fetches)
 
 
+class Fetching(jwt.PyJWKClient):
+    """Fetches what the list `served` has next, and at last its last; an exception is raised."""
+
+    def __init__(self, *served, **arguments):
+        super().__init__("https://login.example/keys", **arguments)
+        self._pause, self.served, self.fetches = 0.3, list(served), 0
+
+    def fetch_data(self):
+        self.fetches += 1
+        got = self.served.pop(0) if len(self.served) > 1 else self.served[0]
+        if isinstance(got, Exception):
+            raise got
+        return json.loads(got)
+
+
+class Putting(Fetching):
+    """Puts what it fetched where PyJWT's own fetch_data puts it."""
+
+    def fetch_data(self):
+        found = None
+        try:
+            found = super().fetch_data()
+            return found
+        finally:
+            self.jwk_set_cache.put(found)
+
+
+def puts():
+    """The set that is kept takes what PyJWT's takes: a set, its JSON, or None."""
+    client = Putting(GOOD, ROTATED, jwt.PyJWKClientError("down"), set_of("c"))
+    gives([CLAIMS] * 2, lambda: [decoded(client, token("a")) for _ in range(2)])
+    gives(CLAIMS, decoded, client, token("b"))
+    raises(jwt.UnknownKeyError, decoded, client, token("a"))
+    gives(2, lambda: client.fetches)
+    raises(jwt.PyJWKClientError, client.get_jwk_set, refresh=True, said="down")
+    gives(CLAIMS, decoded, client, token("b"))
+    gives(3, lambda: client.fetches)
+    time.sleep(0.31)
+    raises(jwt.UnknownKeyError, decoded, client, token("b"))
+    gives(CLAIMS, decoded, client, token("c"))
+    gives(5, lambda: client.fetches)
+    client = Putting(GOOD, lifespan=0.05)
+    for fetches in (1, 2):
+        gives(CLAIMS, decoded, client, token("a"))
+        gives(fetches, lambda: client.fetches)
+        time.sleep(0.06)
+    for served in (b"[]", b"{}", b'{"keys":[]}', b'{"keys":5}', b"null"):
+        client = Putting(GOOD, served)
+        gives(CLAIMS, decoded, client, token("a"))
+        raises(jwt.PyJWTError, client.get_jwk_set, refresh=True)
+        gives(CLAIMS, decoded, client, token("a"))
+        raises(jwt.PyJWTError, Putting(served).get_jwk_set)
+    client = Fetching(ROTATED)
+    client.jwk_set_cache.put(json.loads(GOOD))
+    gives(CLAIMS, decoded, client, token("a"))
+    gives(0, lambda: client.fetches)
+    client.jwk_set_cache.put(None)
+    gives(CLAIMS, decoded, client, token("b"))
+    gives(1, lambda: client.fetches)
+    client.jwk_set_cache.put(jwt.PyJWKSet.from_json(GOOD))
+    gives(CLAIMS, decoded, client, token("a"))
+    client = Fetching(OSError("down"))
+    client.jwk_set_cache.put(None)
+    raises(OSError, decoded, client, token("a"), said="down")
+    for it in ([], "a", 5, b"", {"keys": []}, {}):
+        raises(jwt.PyJWTError, client.jwk_set_cache.put, it)
+    test("nothing is kept", client.jwk_set_cache.get() is None)
+
+
+def fails_by_itself():
+    """A fetch by a subclass may fail with any exception: the last set is used."""
+    for error in (OSError("down"), ValueError("no JSON"), RuntimeError("no answer"), KeyError("keys")):
+        client = Fetching(GOOD, error, lifespan=0.05)
+        gives(CLAIMS, decoded, client, token("a"))
+        time.sleep(0.06)
+        gives([CLAIMS] * 3, lambda client=client: [decoded(client, token("a")) for _ in range(3)])
+        gives(2, lambda client=client: client.fetches)
+        raises(jwt.InvalidSignatureError, decoded, client, token("a", by="b"))
+        raises(type(error), decoded, client, token("b"))
+        raises(type(error), decoded, Fetching(error), token("a"))
+    client = Fetching(GOOD, MemoryError(), lifespan=0.05)
+    gives(CLAIMS, decoded, client, token("a"))
+    time.sleep(0.06)
+    raises(MemoryError, decoded, client, token("a"))
+
+
+def chooses():
+    """A subclass may choose among the keys by each call that PyJWT's get_signing_key makes."""
+    mixed = json.dumps({"keys": [key("a"), key("b", use="enc"), key("c", use="sig")]}).encode()
+
+    class Narrow(Fetching):
+        def get_signing_keys(self, refresh=False):
+            return [it for it in super().get_signing_keys(refresh) if it.public_key_use == "sig"]
+
+    class Wide(Fetching):
+        def get_signing_keys(self, refresh=False):
+            return self.get_jwk_set(refresh).keys
+
+    class Keeping(Fetching):
+        own = None
+
+        def get_signing_keys(self, refresh=False):
+            if self.own is None or refresh:
+                self.own = super().get_signing_keys(refresh)
+            return self.own
+
+    class Matching(Fetching):
+        @staticmethod
+        def match_kid(signing_keys, kid):
+            return next((it for it in signing_keys if it.key_id == kid.lower()), None)
+
+    class Fixed(Fetching):
+        def get_jwk_set(self, refresh=False):
+            return jwt.PyJWKSet.from_json(mixed)
+
+    every = {"cache_jwk_set": False, "cache_keys": True}
+    for kind, accepted, refused in (
+        (Fetching, "ac", "bCx"),
+        (Narrow, "c", "abx"),
+        (Wide, "abc", "x"),
+        (Keeping, "ac", "bx"),
+        (Matching, "aAcC", "bBx"),
+        (Fixed, "ac", "bx"),
+    ):
+        for arguments in ({}, {"cache_jwk_set": False}, every, {"cache_keys": True}):
+            client = kind(mixed, **arguments)
+            for _ in range(2):
+                for it in accepted:
+                    gives(CLAIMS, decoded, client, token(it, by=it.lower()))
+                for it in refused:
+                    raises(jwt.UnknownKeyError, decoded, client, token(it, by=it.lower()), said=f'"{it}"')
+            test(f"{kind.__name__} {arguments}: fetches by get_jwk_set alone", (client.fetches == 0) == (kind is Fixed))
+    for arguments in ({}, every):
+        client = Keeping(GOOD, ROTATED, **arguments)
+        gives(CLAIMS, decoded, client, token("a"))
+        gives(CLAIMS, decoded, client, token("b"))
+        raises(jwt.UnknownKeyError, decoded, client, token("x"))
+        gives(2, lambda client=client: client.fetches)
+    # a key of the same kid that is another one is chosen anew
+    client = Narrow(*[json.dumps({"keys": [key("a", use=it), key("b", use="sig")]}) for it in ("sig", "enc")], **every)
+    gives(CLAIMS, decoded, client, token("a"))
+    gives(CLAIMS, decoded, client, token("b"))
+    raises(jwt.UnknownKeyError, decoded, client, token("a"))
+
+
+def without_kids():
+    """Sets whose keys have no kid follow each other, and are kept as long as others."""
+    one, other = (json.dumps({"keys": [{**key(it), "kid": None}]}).encode() for it in "ab")
+
+    def only(client):
+        return decoded_by(client.get_jwk_set().keys[0])
+
+    def decoded_by(found):
+        return [it for it in "ab" if outcome(jwt.decode, token(it), found, **HS) == CLAIMS]
+
+    client = Fetching(one, other, lifespan=0.2)
+    gives([["a"]] * 3, lambda: [only(client) for _ in range(3)])
+    gives(1, lambda: client.fetches)
+    time.sleep(0.31)
+    gives([["b"]] * 3, lambda: [only(client) for _ in range(3)])
+    gives(2, lambda: client.fetches)
+    client = Fetching(one, GOOD, other, lifespan=0.05)
+    gives(["a"], only, client)
+    gives(CLAIMS, decoded, client, token("a"))
+    time.sleep(0.31)
+    gives(["a"], only, client)
+    gives(3, lambda: client.fetches)
+
+
+class SlowLock:
+    """A lock after which a thread waits, so that others come between two of its steps."""
+
+    def __init__(self):
+        self.lock = threading.Lock()
+
+    def __enter__(self):
+        self.lock.acquire()
+
+    def __exit__(self, *_):
+        self.lock.release()
+        time.sleep(0.002)
+
+
+def threads_at_once():
+    """No thread takes a kid for unknown while another one begins the fetch that brings it."""
+    with concurrent.futures.ThreadPoolExecutor(16) as pool:
+        for _ in range(10):
+            client = Fetching(GOOD, ROTATED)
+            client._lock, client._pause = SlowLock(), 10
+            gives(CLAIMS, decoded, client, token("a"))
+            got = list(pool.map(lambda _: outcome(decoded, client, token("b")), range(16)))
+            test(f"all threads have the new key: {got}", got == [CLAIMS] * 16)
+            test(f"{client.fetches} fetches, not 2", client.fetches == 2)
+
+
 for step in (rotation, refetches, misbehaving, nobody_listens, no_signing_keys, an_old_set, ten_thousand_keys, threads, caches, headers):
     step()
 for step in (redirects_to_another_scheme, threads_end, arguments, all_algorithms, apps):
+    step()
+for step in (puts, fails_by_itself, chooses, without_kids, threads_at_once):
     step()
 print(f"{passed} tests of PyJWKClient, {failed} failed")
 sys.exit(failed > 0)
