@@ -1,0 +1,35 @@
+//! The command of the program `jwt_tool`: it reads standard input, and prints one line.
+#![tactic(auto)]
+
+mod command;
+mod fault;
+mod input;
+mod run;
+
+use fault::ToolFault;
+use run::run;
+use std::rt::Runtime;
+use std::{env, io};
+
+/// Prints the line for the arguments and standard input, and returns the exit status.
+fn print_line<T: Runtime + AllocGlobal>(rt: &T) -> Result<u8, ToolFault> {
+    let Ok(mut words) = env::args(rt) else {
+        return Err(ToolFault::Read);
+    };
+    let _program = words.next();
+    let Ok(words) = words.collect::<Vec<String>>(rt.alloc()) else {
+        return Err(ToolFault::Memory);
+    };
+    run(rt.alloc(), &words, &mut rt.reader(), &mut io::writer(rt))
+}
+
+/// Runs the program with its arguments and the standard streams.
+pub fn start<T: Runtime + AllocGlobal>(rt: &T) -> u8 {
+    match print_line(rt) {
+        Ok(status) => status,
+        Err(fault) => {
+            let _ = eprintln!(rt; "{fault}");
+            3
+        }
+    }
+}
