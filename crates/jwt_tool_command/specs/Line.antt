@@ -1,5 +1,5 @@
 -- The line and the status for arguments and an input.
-use Rattle.std.specs.Prelude.{None, ◌≡◌, ◌==◌, ◌-◌, true, false, length, take, slice_index, if◌then◌else◌, MatchOption}
+use Rattle.std.specs.Prelude.{◌≡◌, ◌==◌, ◌-◌, true, false, length, take, slice_index, if◌then◌else◌, MatchOption}
 use Rattle.std.specs.Prelude.{ℕ, List, [], ◌∷◌, ◌⊎◌, Some, Ok, Err, codes}
 use Rattle.serde_json.specs.Data.{Data}
 use Rattle.serde_json.specs.Written.{compact_text, has_float}

@@ -23,7 +23,8 @@ fn print_line<T: Runtime + AllocGlobal>(rt: &T) -> Result<u8, ToolFault> {
     run(rt.alloc(), &words, &mut rt.reader(), &mut io::writer(rt))
 }
 
-/// Runs the program with its arguments and the standard streams.
+/// Runs the command with the arguments and the standard streams, and returns the exit status. A
+/// [`ToolFault`] is one line on standard error, and the status is 3.
 pub fn start<T: Runtime + AllocGlobal>(rt: &T) -> u8 {
     match print_line(rt) {
         Ok(status) => status,
