@@ -109,6 +109,9 @@ impl Header {
     /// other members may be absent or null, and every further member becomes an extra. A value that
     /// is not an object, a member of a wrong type, a `jwk` that is not a key and a float among the
     /// extras are refused with `Json`.
+    // A function clears the room of its locals at entry, and reading has many: a caller that seldom
+    // reads must not hold them.
+    #[inline(never)]
     pub fn from_value(alloc: Global, value: &Value) -> Result<Header>
         ensures ok { IfOk result (λ h. ReadsHeader (view value.now) h) }
         ensures normal { IfOk result IsNormal }

@@ -196,6 +196,9 @@ fn known_header(alloc: Global, algorithm: Algorithm) -> Result<Header>
 /// Returns the header that a header part stands for, and notes the test that fails. Four parts are
 /// known by their texts, without being read. The test is noted next to the result, so that no
 /// header is moved into a result of another type.
+// A call that returns a header clears the room for it first, and moves it afterwards: inlined, it
+// does neither.
+#[inline(always)]
 pub(crate) fn read_header_noting(alloc: Global, part: &[u8], failed: &mut Test) -> Result<Header>
     ensures { Step bare header_tests (with_header_part part.now) ShowsHeader
         (tested failed.new result) }
