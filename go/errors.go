@@ -55,10 +55,10 @@ type Error struct {
 }
 
 // Error returns the library's text of the refusal, such as "jwt: ExpiredSignature".
-func (err *Error) Error() string { return "jwt: " + err.text }
+func (e *Error) Error() string { return "jwt: " + e.text }
 
 // Unwrap returns the kind of the refusal, such as ErrExpired.
-func (err *Error) Unwrap() error { return err.kind }
+func (e *Error) Unwrap() error { return e.kind }
 
 func optionError(why string, arguments ...any) error {
 	return fmt.Errorf("%w: %s", ErrOption, fmt.Sprintf(why, arguments...))

@@ -36,8 +36,8 @@ func newKey(kind keyKind, text []byte) Key {
 }
 
 // Format does not show the key, whatever the verb.
-func (key Key) Format(state fmt.State, verb rune) {
-	text := key.String()
+func (k Key) Format(state fmt.State, verb rune) {
+	text := k.String()
 	if verb == 'v' && state.Flag('#') {
 		text = "jwt.Key(" + text + ")"
 	}
@@ -59,11 +59,11 @@ func Secret(secret []byte) (Key, error) {
 // textError is the refusal of a key's text that is not UTF-8: that of an argument, and of a key.
 type textError string
 
-func (err textError) Error() string {
-	return ErrKey.Error() + ": the text of the " + string(err) + " is not UTF-8"
+func (e textError) Error() string {
+	return ErrKey.Error() + ": the text of the " + string(e) + " is not UTF-8"
 }
 
-func (err textError) Is(kind error) bool { return kind == ErrKey || kind == ErrOption }
+func (e textError) Is(kind error) bool { return kind == ErrKey || kind == ErrOption }
 
 // JWK returns a JSON Web Key (RFC 7517 section 4) of any kind as a key. One that verifies no tokens is refused, and so is a secret that
 // Secret refuses.

@@ -164,21 +164,21 @@ func fetchBy(client *http.Client, uri string) Fetch {
 }
 
 // Key returns the set as a key for NewVerifier. Its verifiers follow the set as it changes.
-func (set *KeySet) Key() Key {
-	if set == nil || set.current.Load() == nil {
+func (s *KeySet) Key() Key {
+	if s == nil || s.current.Load() == nil {
 		return Key{}
 	}
-	return Key{kind: keySet, bytes: func() []byte { return set.current.Load().key.bytes() }, set: func() *KeySet { return set }}
+	return Key{kind: keySet, bytes: func() []byte { return s.current.Load().key.bytes() }, set: func() *KeySet { return s }}
 }
 
 // Fetched returns when the set that is used was fetched.
-func (set *KeySet) Fetched() time.Time { return set.current.Load().at }
+func (s *KeySet) Fetched() time.Time { return s.current.Load().at }
 
 // Err returns the error of the last fetch, or nil if it gave a usable set.
-func (set *KeySet) Err() error {
-	set.mutex.Lock()
-	defer set.mutex.Unlock()
-	return set.failure
+func (s *KeySet) Err() error {
+	s.mutex.Lock()
+	defer s.mutex.Unlock()
+	return s.failure
 }
 
 // Format does not show the keys, whatever the verb.
@@ -186,65 +186,65 @@ func (*KeySet) Format(state fmt.State, _ rune) {
 	_, _ = io.WriteString(state, "jwt.KeySet([redacted])")
 }
 
-func (set *KeySet) firstFailure() error {
-	if err := set.Err(); err != nil {
+func (s *KeySet) firstFailure() error {
+	if err := s.Err(); err != nil {
 		return err
 	}
-	return fetchError("it took longer than %v", set.timeout)
+	return fetchError("it took longer than %v", s.timeout)
 }
 
 // keep fetches the set in the background.
-func (set *KeySet) keep() {
+func (s *KeySet) keep() {
 	for {
-		pause := set.refresh
-		if set.Err() != nil && set.refetch < pause {
-			pause = set.refetch
+		pause := s.refresh
+		if s.Err() != nil && s.refetch < pause {
+			pause = s.refetch
 		}
 		timer := time.NewTimer(pause)
 		select {
-		case <-set.until.Done():
+		case <-s.until.Done():
 			timer.Stop()
 			return
 		case <-timer.C:
-			set.wait(set.start())
+			s.wait(s.start())
 		}
 	}
 }
 
 // start returns the fetch that is under way, or starts one.
-func (set *KeySet) start() *flight {
-	set.mutex.Lock()
-	defer set.mutex.Unlock()
-	return set.startLocked()
+func (s *KeySet) start() *flight {
+	s.mutex.Lock()
+	defer s.mutex.Unlock()
+	return s.startLocked()
 }
 
-func (set *KeySet) startLocked() *flight {
-	if set.underWay == nil {
+func (s *KeySet) startLocked() *flight {
+	if s.underWay == nil {
 		begun := &flight{time.Now(), make(chan struct{})}
-		set.underWay = begun
-		go set.run(begun)
+		s.underWay = begun
+		go s.run(begun)
 	}
-	return set.underWay
+	return s.underWay
 }
 
 // run fetches the set, and takes it over if it is usable.
-func (set *KeySet) run(begun *flight) {
-	until, cancel := context.WithTimeout(set.until, set.timeout)
+func (s *KeySet) run(begun *flight) {
+	until, cancel := context.WithTimeout(s.until, s.timeout)
 	defer cancel()
-	found, err := set.usable(until)
-	set.mutex.Lock()
-	defer set.mutex.Unlock()
+	found, err := s.usable(until)
+	s.mutex.Lock()
+	defer s.mutex.Unlock()
 	if err == nil {
-		set.current.Store(found)
+		s.current.Store(found)
 	}
-	set.failure = err
-	set.underWay = nil
+	s.failure = err
+	s.underWay = nil
 	close(begun.ended)
 }
 
 // usable returns the set that is fetched, if it is usable.
-func (set *KeySet) usable(until context.Context) (*fetched, error) {
-	text, err := set.fetch(until)
+func (s *KeySet) usable(until context.Context) (*fetched, error) {
+	text, err := s.fetch(until)
 	if err != nil {
 		return nil, fetchError("%v", err)
 	}
@@ -262,8 +262,8 @@ func (set *KeySet) usable(until context.Context) (*fetched, error) {
 }
 
 // wait waits for the end of a fetch, but no longer than until the timeout after its begin.
-func (set *KeySet) wait(begun *flight) {
-	timer := time.NewTimer(time.Until(begun.begun.Add(set.timeout)))
+func (s *KeySet) wait(begun *flight) {
+	timer := time.NewTimer(time.Until(begun.begun.Add(s.timeout)))
 	defer timer.Stop()
 	select {
 	case <-begun.ended:
@@ -272,21 +272,21 @@ func (set *KeySet) wait(begun *flight) {
 }
 
 // after returns the set that follows one without the key of a token, if there is another, or if it is time to fetch one.
-func (set *KeySet) after(seen *fetched) *fetched {
-	set.mutex.Lock()
-	if last := set.current.Load(); last != seen {
-		set.mutex.Unlock()
+func (s *KeySet) after(seen *fetched) *fetched {
+	s.mutex.Lock()
+	if last := s.current.Load(); last != seen {
+		s.mutex.Unlock()
 		return last
 	}
-	if set.underWay == nil && time.Now().Before(set.from) {
-		set.mutex.Unlock()
+	if s.underWay == nil && time.Now().Before(s.from) {
+		s.mutex.Unlock()
 		return seen
 	}
-	begun := set.startLocked()
-	set.mutex.Unlock()
-	set.wait(begun)
-	set.mutex.Lock()
-	defer set.mutex.Unlock()
-	set.from = time.Now().Add(set.refetch)
-	return set.current.Load()
+	begun := s.startLocked()
+	s.mutex.Unlock()
+	s.wait(begun)
+	s.mutex.Lock()
+	defer s.mutex.Unlock()
+	s.from = time.Now().Add(s.refetch)
+	return s.current.Load()
 }

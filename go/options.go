@@ -28,8 +28,8 @@ type options struct {
 // Option is a condition on a token.
 type Option func(*options) error
 
-func (asked *options) requires(name string) bool {
-	for _, it := range asked.Required {
+func (o *options) requires(name string) bool {
+	for _, it := range o.Required {
 		if it == name {
 			return true
 		}
@@ -189,13 +189,13 @@ func moment(now func() time.Time) (uint64, error) {
 }
 
 // contradiction returns an error if two options ask for opposite things.
-func (asked *options) contradiction() error {
+func (o *options) contradiction() error {
 	switch {
-	case asked.noExpiry && asked.requires("exp"):
+	case o.noExpiry && o.requires("exp"):
 		return optionError("WithoutExpiry and WithRequired(%q) contradict each other", "exp")
-	case asked.ValidateAud != nil && asked.Audience != nil:
+	case o.ValidateAud != nil && o.Audience != nil:
 		return optionError("WithAnyAudience and WithAudience contradict each other")
-	case asked.ValidateExp != nil && asked.Remaining != nil:
+	case o.ValidateExp != nil && o.Remaining != nil:
 		return optionError("WithExpired and WithRemaining contradict each other")
 	}
 	return nil
