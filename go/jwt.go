@@ -1,7 +1,7 @@
 // Package jwt verifies and issues JSON Web Tokens (RFC 7519) by a library whose contracts are proved, which pkg-config has to find
 // (docs/INSTALL.md).
 //
-//	key, err := jwt.JWKSet(text)
+//	key, err := jwt.ParseJWKSet(text)
 //	verifier, err := jwt.NewVerifier(key, []string{"RS256"}, jwt.WithAudience("web"), jwt.WithIssuer("https://login.example"))
 //	token, err := verifier.Parse(text)
 //	if errors.Is(err, jwt.ErrExpired) { .. }

@@ -254,7 +254,7 @@ func (s *KeySet) usable(until context.Context) (*fetched, error) {
 	if len(text) > largestSet {
 		return nil, fetchError("it has more than %d bytes", largestSet)
 	}
-	key, err := JWKSet(text)
+	key, err := ParseJWKSet(text)
 	if err != nil {
 		return nil, err
 	}

@@ -8,7 +8,7 @@ import (
 
 // Sign returns the token of claims, which json.Marshal writes, signed with a secret, with HS256, HS384 or HS512. Members of header other
 // than alg and typ are those of the map, which may be nil and may not name another alg. No claim may be a float. A text that is not
-// UTF-8 is ErrOption, and a secret that Secret refuses is ErrKey.
+// UTF-8 is ErrOption, and a secret that NewSecretKey refuses is ErrKey.
 func Sign(claims any, secret []byte, algorithm string, header map[string]any) (string, error) {
 	if err := checkKey(secretKey, secret); err != nil {
 		return "", err
