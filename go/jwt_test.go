@@ -102,6 +102,36 @@ func TestRefusals(t *testing.T) {
 	}
 }
 
+// TestClaimOfError has refusals for a claim, and tells which one.
+func TestClaimOfError(t *testing.T) {
+	key := secretOf(t, secret)
+	for _, it := range []struct {
+		claims, claim string
+		with          []Option
+		want          error
+	}{
+		{`{}`, "exp", nil, ErrMissingClaim},
+		{`{"exp":"x"}`, "exp", nil, ErrMissingClaim},
+		{`{"exp":1700000001}`, "nbf", []Option{WithRequired("nbf")}, ErrMissingClaim},
+		{`{"exp":1700000001}`, "aud", []Option{WithAudience("x")}, ErrMissingClaim},
+		{`{"exp":1700000001}`, "iss", []Option{WithIssuer("x")}, ErrMissingClaim},
+		{`{"exp":1700000001}`, "sub", []Option{WithSubject("x")}, ErrMissingClaim},
+		{`{"exp":"x"}`, "exp", []Option{WithoutExpiry()}, ErrMalformedClaim},
+		{`{"exp":1700000001,"nbf":"x"}`, "nbf", nil, ErrMalformedClaim},
+		{`{"exp":1}`, "", nil, ErrExpired},
+		{`{"exp":1700000001,"iss":"y"}`, "", []Option{WithIssuer("x")}, ErrIssuer},
+	} {
+		_, err := parse(t, signed(`{"alg":"HS256"}`, it.claims, secret), key, []string{"HS256"}, it.with...)
+		var refused *Error
+		if !errors.Is(err, it.want) || !errors.As(err, &refused) || refused.Claim != it.claim {
+			t.Errorf("%s: %v, %+v, not of %q", it.claims, err, refused, it.claim)
+		}
+		if it.claim != "" && !strings.HasSuffix(err.Error(), ": "+it.claim) {
+			t.Errorf("%v does not name %s", err, it.claim)
+		}
+	}
+}
+
 // TestArguments has keys and algorithms that can't be right.
 func TestArguments(t *testing.T) {
 	for _, made := range []func() (Key, error){
@@ -262,14 +292,4 @@ func TestSign(t *testing.T) {
 			t.Errorf("%v: %v, not %v", it, err, it.want)
 		}
 	}
-}
-
-func ExampleParse() {
-	key, _ := NewSecretKey([]byte("0123456789abcdef0123456789abcdef"))
-	token, _ := Sign(map[string]any{"sub": "b@b.com", "exp": time.Now().Add(time.Minute).Unix()}, []byte("0123456789abcdef0123456789abcdef"), "HS256", nil)
-	read, err := Parse(token, key, []string{"HS256"})
-	var claims struct{ Sub string }
-	_ = read.Claims(&claims)
-	fmt.Println(claims.Sub, err)
-	// Output: b@b.com <nil>
 }

@@ -553,7 +553,7 @@ func TestRedirects(t *testing.T) {
 	server := serve(t, redirects(target.uri))
 	_, verifier := following(t, server.uri)
 	wants(t, verifier, tokenOf("a", "a"), nil)
-	secure := httptest.NewTLSServer(http.HandlerFunc(func(to http.ResponseWriter, of *http.Request) { http.Redirect(to, of, target.uri, 302) }))
+	secure := httptest.NewTLSServer(http.HandlerFunc(func(to http.ResponseWriter, of *http.Request) { http.Redirect(to, of, target.uri, http.StatusFound) }))
 	defer secure.Close()
 	_, err := FetchKeySet(context.Background(), secure.URL, secure.Client())
 	if !errors.Is(err, ErrFetch) || !strings.Contains(err.Error(), "from https to http") {
@@ -578,7 +578,8 @@ func TestKeySetArguments(t *testing.T) {
 		made func() (*KeySet, error)
 	}{
 		{"fetch", func() (*KeySet, error) { return NewKeySet(until, nil) }},
-		{"until", func() (*KeySet, error) { return NewKeySet(nil, good) }}, //nolint:staticcheck
+		//lint:ignore SA1012 a nil context is an error
+		{"until", func() (*KeySet, error) { return NewKeySet(nil, good) }},
 		{"place 1", func() (*KeySet, error) { return NewKeySet(until, good, WithRefresh(1), nil) }},
 		{"WithRefresh", func() (*KeySet, error) { return NewKeySet(until, good, WithRefresh(0)) }},
 		{"WithRefetch", func() (*KeySet, error) { return NewKeySet(until, good, WithRefetch(-1)) }},
