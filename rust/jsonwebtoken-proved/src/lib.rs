@@ -39,7 +39,7 @@ pub use keyset::{KeySet, Rotation};
 pub use signature::{SignedPart, SigningInput, Verdict, decode_by_verdict, ecdsa_signature, signed_part};
 #[cfg(feature = "serde")]
 pub use typed::{decode, encode};
-pub use validation::{Algorithm, Claim, Validation};
+pub use validation::{Algorithm, Validation};
 pub use verifier::{Refusal, Verified, Verifier};
 
 use std::borrow::Cow;
