@@ -105,6 +105,8 @@ impl Fetched {
 impl KeySet {
     /// Returns the set that a closure fetches, once it gave a usable one. Of what it reads at most 1 MiB is taken.
     ///
+    /// # Errors
+    ///
     /// If the closure fails, or takes longer than the timeout, or the text has more than 1 MiB, this is [`Error::Fetch`]; if the text is no
     /// set with a key by which tokens are verified, [`Error::Key`]; a time of 0 is [`Error::Argument`].
     pub fn new<R: Read, E: Display>(
@@ -132,6 +134,10 @@ impl KeySet {
     /// made once, as long as the set stays and at most 16 different ones are in use.
     ///
     /// If the set has no key of the token's `kid`, or none that serves an algorithm, a later set decides.
+    ///
+    /// # Errors
+    ///
+    /// The errors are those of [`Verifier::new`] and of [`Verifier::decode_json`]. A `kid` that no set has is [`Error::UnknownKey`].
     pub fn decode_json(&self, token: &str, validation: &Validation, now: u64) -> Result<Verified<String>, Refusal> {
         let seen = self.fetched();
         match seen.decode_json(token, validation, now) {

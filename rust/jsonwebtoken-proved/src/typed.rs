@@ -16,10 +16,14 @@ fn typed<T: DeserializeOwned>(verified: &Verified<String>) -> Result<Verified<T>
     Ok(Verified { claims: read(&verified.claims)?, accepted_until: verified.accepted_until })
 }
 
-/// Verifies a token at the time of the system's clock, and returns its claims. Claims that are accepted, and are not those of the
-/// type, are [`Error::Json`]. A clock before 1970-01-01 00:00:00 UTC is [`Error::ClockBeforeEpoch`].
+/// Verifies a token at the time of the system's clock, and returns its claims.
 ///
 /// A [`Verifier`] is made for this call; make one yourself for many tokens.
+///
+/// # Errors
+///
+/// The errors are those of [`decode_json`]. Claims that are accepted, and are not those of the type, are [`Error::Json`]. A clock before
+/// 1970-01-01 00:00:00 UTC is [`Error::ClockBeforeEpoch`].
 pub fn decode<T: DeserializeOwned>(
     token: &str,
     key: &DecodingKey,
@@ -29,7 +33,11 @@ pub fn decode<T: DeserializeOwned>(
     Ok(TokenData { claims: read(&data.claims)?, header: data.header })
 }
 
-/// Returns the token of claims, signed with HS256, HS384 or HS512. Claims that can't be written are [`Error::Json`].
+/// Returns the token of claims, signed with HS256, HS384 or HS512.
+///
+/// # Errors
+///
+/// The errors are those of [`encode_json`], and claims that can't be written are [`Error::Json`].
 pub fn encode<T: Serialize>(header: &(impl ToHeader + ?Sized), claims: &T, key: &EncodingKey) -> Result<String, Error> {
     let claims = serde_json::to_string(claims).map_err(|error| Error::Json(error.to_string()))?;
     encode_json(header, &claims, key)
@@ -37,6 +45,10 @@ pub fn encode<T: Serialize>(header: &(impl ToHeader + ?Sized), claims: &T, key: 
 
 impl Verifier {
     /// Verifies a token at the time of the system's clock, like [`decode`].
+    ///
+    /// # Errors
+    ///
+    /// The errors are those of [`Verifier::decode_json`], and [`Error::Json`] and [`Error::ClockBeforeEpoch`] as of [`decode`].
     pub fn decode<T: DeserializeOwned>(&self, token: &str) -> Result<Verified<T>, Refusal> {
         typed(&self.decode_json(token, get_current_timestamp()?)?)
     }
@@ -44,6 +56,10 @@ impl Verifier {
 
 impl KeySet {
     /// Verifies a token at the time of the system's clock, like [`decode`], by the key of the set that it names.
+    ///
+    /// # Errors
+    ///
+    /// The errors are those of [`KeySet::decode_json`], and [`Error::Json`] and [`Error::ClockBeforeEpoch`] as of [`decode`].
     pub fn decode<T: DeserializeOwned>(&self, token: &str, validation: &Validation) -> Result<Verified<T>, Refusal> {
         typed(&self.decode_json(token, validation, get_current_timestamp()?)?)
     }
