@@ -33,7 +33,7 @@ mod typed;
 mod validation;
 mod verifier;
 
-pub use error::Error;
+pub use error::{Cause, Error};
 pub use key::{DecodingKey, EncodingKey, ThumbprintHash, thumbprint};
 pub use keyset::{KeySet, Rotation};
 pub use signature::{SignedPart, SigningInput, Verdict, decode_by_verdict, ecdsa_signature, signed_part};

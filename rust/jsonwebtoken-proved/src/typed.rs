@@ -1,7 +1,7 @@
 //! Claims of any type that serde reads and writes.
 
 use crate::{
-    DecodingKey, EncodingKey, Error, KeySet, Refusal, ToHeader, TokenData, decode_json, encode_json,
+    Cause, DecodingKey, EncodingKey, Error, KeySet, Refusal, ToHeader, TokenData, decode_json, encode_json,
     get_current_timestamp,
 };
 use crate::{Validation, Verified, Verifier};
@@ -9,7 +9,7 @@ use serde::Serialize;
 use serde::de::DeserializeOwned;
 
 fn read<T: DeserializeOwned>(claims: &str) -> Result<T, Error> {
-    serde_json::from_str(claims).map_err(|error| Error::Json(error.to_string()))
+    serde_json::from_str(claims).map_err(|error| Error::Json(Cause::new(error)))
 }
 
 fn typed<T: DeserializeOwned>(verified: &Verified<String>) -> Result<Verified<T>, Refusal> {
@@ -39,7 +39,7 @@ pub fn decode<T: DeserializeOwned>(
 ///
 /// The errors are those of [`encode_json`], and claims that can't be written are [`Error::Json`].
 pub fn encode<T: Serialize>(header: &(impl ToHeader + ?Sized), claims: &T, key: &EncodingKey) -> Result<String, Error> {
-    let claims = serde_json::to_string(claims).map_err(|error| Error::Json(error.to_string()))?;
+    let claims = serde_json::to_string(claims).map_err(|error| Error::Json(Cause::new(error)))?;
     encode_json(header, &claims, key)
 }
 

@@ -60,7 +60,12 @@ impl fmt::Display for Refusal {
     }
 }
 
-impl std::error::Error for Refusal {}
+impl std::error::Error for Refusal {
+    /// Returns the source of the refusal's error, whose text the refusal has.
+    fn source(&self) -> Option<&(dyn std::error::Error + 'static)> {
+        self.error.source()
+    }
+}
 
 /// A key and the conditions on a token, which are read once and verify many tokens. Any number of threads may use it at the same time.
 ///
