@@ -109,14 +109,12 @@ static uint32_t
 ngx_http_jwt_decode(ngx_http_jwt_rules_t *rules, ngx_http_jwt_ctx_t *ctx,
     uint64_t now, uint64_t *last)
 {
-    uint32_t              status;
-    ngx_uint_t            i = 0;
-    struct jwt_verifier  *verifiers = rules->verifiers.elts;
+    uint32_t    status;
+    ngx_uint_t  i = 0;
 
     do {
-        status = ngx_http_jwt_decode_by(&verifiers[i], ctx, now, last);
-    } while (ctx->test == JWT_TEST_KEY_IS_FOUND
-             && ++i < rules->verifiers.nelts);
+        status = ngx_http_jwt_decode_by(&rules->verifiers[i], ctx, now, last);
+    } while (ctx->test == JWT_TEST_KEY_IS_FOUND && ++i < rules->count);
 
     return status;
 }
