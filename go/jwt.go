@@ -54,8 +54,8 @@ func (t *Token) Claims(into any) error {
 func (t *Token) RawClaims() json.RawMessage { return append(json.RawMessage(nil), t.claims...) }
 
 // Parse verifies a token with a key that accepts these algorithms. To verify several tokens, make a Verifier.
-func Parse(token string, key Key, algorithms []string, with ...Option) (*Token, error) {
-	verifier, err := NewVerifier(key, algorithms, with...)
+func Parse(token string, key Key, algorithms []string, opts ...Option) (*Token, error) {
+	verifier, err := NewVerifier(key, algorithms, opts...)
 	if err != nil {
 		return nil, err
 	}
@@ -103,8 +103,8 @@ func UnverifiedSignature(token string) (Signature, error) {
 // ParseByVerdict verifies a token whose signature was checked elsewhere: isGenuine says whether this is a signature of its message with
 // its algorithm and the key that the caller trusts. All else is verified as a Verifier does. The error is ErrSignature if isGenuine is
 // false, or if message or signature are not those of the token, and ErrAlgorithm if the algorithm is not.
-func ParseByVerdict(token string, checked Signature, isGenuine bool, algorithms []string, with ...Option) (*Token, error) {
-	asked, text, err := conditions(algorithms, with)
+func ParseByVerdict(token string, checked Signature, isGenuine bool, algorithms []string, opts ...Option) (*Token, error) {
+	asked, text, err := conditions(algorithms, opts)
 	if err != nil {
 		return nil, err
 	}

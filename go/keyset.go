@@ -30,7 +30,7 @@ type Fetch func(context.Context) ([]byte, error)
 type KeySet struct {
 	fetch                     Fetch
 	refresh, refetch, timeout time.Duration
-	until                     context.Context
+	ctx                       context.Context
 	current                   atomic.Pointer[fetched]
 
 	mutex    sync.Mutex
@@ -88,15 +88,15 @@ func checkPositive(option string, duration time.Duration) error {
 
 // NewKeySet returns the set that fetch returns, once the first fetch gave a usable one. It is fetched again until the context ends, and
 // then stays as it is. An error is ErrFetch, ErrKey if the text is not a usable set, or ErrOption.
-func NewKeySet(until context.Context, fetch Fetch, with ...KeySetOption) (*KeySet, error) {
-	if until == nil {
-		return nil, optionError("until is nil")
+func NewKeySet(ctx context.Context, fetch Fetch, opts ...KeySetOption) (*KeySet, error) {
+	if ctx == nil {
+		return nil, optionError("ctx is nil")
 	}
 	if fetch == nil {
 		return nil, optionError("fetch is nil")
 	}
-	set := &KeySet{fetch: fetch, refresh: 5 * time.Minute, refetch: 10 * time.Second, timeout: 10 * time.Second, until: until}
-	for i, it := range with {
+	set := &KeySet{fetch: fetch, refresh: 5 * time.Minute, refetch: 10 * time.Second, timeout: 10 * time.Second, ctx: ctx}
+	for i, it := range opts {
 		if it == nil {
 			return nil, optionError("the option at place %d is nil", i)
 		}
@@ -113,12 +113,12 @@ func NewKeySet(until context.Context, fetch Fetch, with ...KeySetOption) (*KeySe
 
 // FetchKeySet returns the set at an http or https URI, like NewKeySet. The client is http.DefaultClient if it is nil. Of an answer at
 // most 1 MiB is read, its status has to be 200, and a redirect may lead to the same scheme or to https alone.
-func FetchKeySet(until context.Context, uri string, client *http.Client, with ...KeySetOption) (*KeySet, error) {
+func FetchKeySet(ctx context.Context, uri string, client *http.Client, opts ...KeySetOption) (*KeySet, error) {
 	at, err := url.Parse(uri)
 	if err != nil || at.Scheme != "http" && at.Scheme != "https" || at.Hostname() == "" {
 		return nil, optionError("uri is not of the scheme http or https, with a host")
 	}
-	return NewKeySet(until, fetchBy(ownClient(client), uri), with...)
+	return NewKeySet(ctx, fetchBy(ownClient(client), uri), opts...)
 }
 
 // ownClient returns a client that follows no redirect to a scheme that is less safe.
@@ -145,8 +145,8 @@ func ownClient(client *http.Client) *http.Client {
 }
 
 func fetchBy(client *http.Client, uri string) Fetch {
-	return func(until context.Context) ([]byte, error) {
-		request, err := http.NewRequestWithContext(until, http.MethodGet, uri, nil)
+	return func(ctx context.Context) ([]byte, error) {
+		request, err := http.NewRequestWithContext(ctx, http.MethodGet, uri, nil)
 		if err != nil {
 			return nil, err
 		}
@@ -202,7 +202,7 @@ func (s *KeySet) keep() {
 		}
 		timer := time.NewTimer(pause)
 		select {
-		case <-s.until.Done():
+		case <-s.ctx.Done():
 			timer.Stop()
 			return
 		case <-timer.C:
@@ -229,9 +229,9 @@ func (s *KeySet) startLocked() *flight {
 
 // run fetches the set, and takes it over if it is usable.
 func (s *KeySet) run(begun *flight) {
-	until, cancel := context.WithTimeout(s.until, s.timeout)
+	ctx, cancel := context.WithTimeout(s.ctx, s.timeout)
 	defer cancel()
-	found, err := s.usable(until)
+	found, err := s.usable(ctx)
 	s.mutex.Lock()
 	defer s.mutex.Unlock()
 	if err == nil {
@@ -243,12 +243,12 @@ func (s *KeySet) run(begun *flight) {
 }
 
 // usable returns the set that is fetched, if it is usable.
-func (s *KeySet) usable(until context.Context) (*fetched, error) {
-	text, err := s.fetch(until)
+func (s *KeySet) usable(ctx context.Context) (*fetched, error) {
+	text, err := s.fetch(ctx)
 	if err != nil {
 		return nil, fetchError("%v", err)
 	}
-	if err := until.Err(); err != nil {
+	if err := ctx.Err(); err != nil {
 		return nil, fetchError("%v", err)
 	}
 	if len(text) > largestSet {

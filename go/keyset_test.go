@@ -579,7 +579,7 @@ func TestKeySetArguments(t *testing.T) {
 	}{
 		{"fetch", func() (*KeySet, error) { return NewKeySet(until, nil) }},
 		//lint:ignore SA1012 a nil context is an error
-		{"until", func() (*KeySet, error) { return NewKeySet(nil, good) }},
+		{"ctx", func() (*KeySet, error) { return NewKeySet(nil, good) }},
 		{"place 1", func() (*KeySet, error) { return NewKeySet(until, good, WithRefresh(1), nil) }},
 		{"WithRefresh", func() (*KeySet, error) { return NewKeySet(until, good, WithRefresh(0)) }},
 		{"WithRefetch", func() (*KeySet, error) { return NewKeySet(until, good, WithRefetch(-1)) }},

@@ -202,12 +202,12 @@ func (o *options) contradiction() error {
 }
 
 // conditions returns what algorithms and options ask for, and its text for the library.
-func conditions(algorithms []string, with []Option) (*options, []byte, error) {
+func conditions(algorithms []string, opts []Option) (*options, []byte, error) {
 	if err := checkTexts("algorithms", algorithms...); err != nil {
 		return nil, nil, err
 	}
 	asked := &options{Strict: true, Algorithms: algorithms, Required: []string{}}
-	for i, it := range with {
+	for i, it := range opts {
 		if it == nil {
 			return nil, nil, optionError("the option at place %d is nil", i)
 		}

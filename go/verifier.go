@@ -62,8 +62,8 @@ func (Verifier) Format(state fmt.State, _ rune) {
 
 // NewVerifier returns a verifier with a key, for these algorithms, which have to be of one family: that of the key. If neither the key
 // nor any key of a set verifies with one of them, the error is ErrKey.
-func NewVerifier(key Key, algorithms []string, with ...Option) (*Verifier, error) {
-	asked, text, err := conditions(algorithms, with)
+func NewVerifier(key Key, algorithms []string, opts ...Option) (*Verifier, error) {
+	asked, text, err := conditions(algorithms, opts)
 	if err != nil {
 		return nil, err
 	}
