@@ -142,7 +142,7 @@ func TestSigningInput(t *testing.T) {
 	if err != nil {
 		t.Fatal(err)
 	}
-	public, err := Public(&secretly.PublicKey)
+	public, err := NewPublicKey(&secretly.PublicKey)
 	if err != nil {
 		t.Fatal(err)
 	}
@@ -275,7 +275,7 @@ func TestMessages(t *testing.T) {
 	if err != nil {
 		t.Fatal(err)
 	}
-	public, err := Public(signer("a").Public())
+	public, err := NewPublicKey(signer("a").Public())
 	if err != nil {
 		t.Fatal(err)
 	}
@@ -323,7 +323,7 @@ func TestThumbprints(t *testing.T) {
 
 // TestJoe has the token of RFC 7515 appendix A.3 by its key, and what does not belong to it.
 func TestJoe(t *testing.T) {
-	key, err := JWK([]byte(joesKey))
+	key, err := ParseJWK([]byte(joesKey))
 	if err != nil {
 		t.Fatal(err)
 	}
@@ -340,7 +340,7 @@ func TestJoe(t *testing.T) {
 		{joesToken, `{"kty":"oct","k":"c2VjcmV0"}`, []string{"ES256"}, ErrKey},
 		{joesToken, joesKey, []string{"ES384"}, ErrKey},
 	} {
-		key, err := JWK([]byte(it.key))
+		key, err := ParseJWK([]byte(it.key))
 		if err != nil {
 			t.Fatal(err)
 		}

@@ -30,9 +30,9 @@ var (
 	ErrIssuer = errors.New("jwt: the issuer is not accepted")
 	// ErrSubject is another subject.
 	ErrSubject = errors.New("jwt: the subject is another")
-	// ErrMissingClaim is a claim that is required, and missing or malformed.
+	// ErrMissingClaim is a claim that is required, and missing or malformed. Error.Claim is its name.
 	ErrMissingClaim = errors.New("jwt: a required claim is missing or malformed")
-	// ErrMalformedClaim is a claim that is checked and malformed.
+	// ErrMalformedClaim is a claim that is checked and malformed. Error.Claim is its name.
 	ErrMalformedClaim = errors.New("jwt: a claim is malformed")
 	// ErrKey is a key that can't be read, that is for none of the algorithms, or for which others can sign, and algorithms of two families.
 	ErrKey = errors.New("jwt: the key does not serve")
@@ -50,15 +50,17 @@ type Error struct {
 	// TestNumber its number in jwtproved.h. They are empty and 0 if Parse did not refuse a token by one.
 	Test       string
 	TestNumber uint32
-	kind       error
-	text       string
+	// Claim is the name of the claim that ErrMissingClaim or ErrMalformedClaim is about, such as exp. It is empty for other kinds.
+	Claim string
+	kind  error
+	text  string
 }
 
 // Error returns the library's text of the refusal, such as "jwt: ExpiredSignature".
-func (err *Error) Error() string { return "jwt: " + err.text }
+func (e *Error) Error() string { return "jwt: " + e.text }
 
 // Unwrap returns the kind of the refusal, such as ErrExpired.
-func (err *Error) Unwrap() error { return err.kind }
+func (e *Error) Unwrap() error { return e.kind }
 
 func optionError(why string, arguments ...any) error {
 	return fmt.Errorf("%w: %s", ErrOption, fmt.Sprintf(why, arguments...))
@@ -70,7 +72,9 @@ func keyError(why string, arguments ...any) error {
 
 // refusal returns the error of a status, with the test of the token that failed, or 0.
 func refusal(status, test C.uint32_t) error {
-	return &Error{uint32(status), testText(test), uint32(test), kindOf(status), statusText(status)}
+	return &Error{
+		Status: uint32(status), Test: testText(test), TestNumber: uint32(test), Claim: claimOf(status), kind: kindOf(status), text: statusText(status),
+	}
 }
 
 // keyRefusal returns the error of the status with which a key is refused.
@@ -89,6 +93,23 @@ func keyRefusal(status C.uint32_t) error {
 		return &Error{Status: uint32(status), kind: ErrKey, text: "the key does not serve: the algorithms are not of one family"}
 	}
 	return &Error{Status: uint32(status), kind: ErrKey, text: "the key does not serve: " + why}
+}
+
+// claimOf returns the name of the claim that a status is about, or "".
+func claimOf(status C.uint32_t) string {
+	switch status {
+	case C.JWT_MISSING_EXP, C.JWT_MALFORMED_EXP:
+		return "exp"
+	case C.JWT_MISSING_NBF, C.JWT_MALFORMED_NBF:
+		return "nbf"
+	case C.JWT_MISSING_AUD, C.JWT_MALFORMED_AUD:
+		return "aud"
+	case C.JWT_MISSING_ISS, C.JWT_MALFORMED_ISS:
+		return "iss"
+	case C.JWT_MISSING_SUB, C.JWT_MALFORMED_SUB:
+		return "sub"
+	}
+	return ""
 }
 
 func kindOf(status C.uint32_t) error {

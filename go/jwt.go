@@ -1,7 +1,7 @@
 // Package jwt verifies and issues JSON Web Tokens (RFC 7519) by a library whose contracts are proved, which pkg-config has to find
 // (docs/INSTALL.md).
 //
-//	key, err := jwt.JWKSet(text)
+//	key, err := jwt.ParseJWKSet(text)
 //	verifier, err := jwt.NewVerifier(key, []string{"RS256"}, jwt.WithAudience("web"), jwt.WithIssuer("https://login.example"))
 //	token, err := verifier.Parse(text)
 //	if errors.Is(err, jwt.ErrExpired) { .. }
@@ -27,14 +27,14 @@ type Token struct {
 }
 
 // set keeps no signature, by which the token could be used again.
-func (token *Token) set(text string, claims []byte) {
-	token.header, _, _ = strings.Cut(text, ".")
-	token.claims = claims
+func (t *Token) set(text string, claims []byte) {
+	t.header, _, _ = strings.Cut(text, ".")
+	t.claims = claims
 }
 
 // Header returns the members of its header.
 // It reads them when it is called, since that takes nearly as long as to verify a token of 150 bytes with HS256.
-func (token *Token) Header() (map[string]any, error) { return UnverifiedHeader(token.header + "..") }
+func (t *Token) Header() (map[string]any, error) { return UnverifiedHeader(t.header + "..") }
 
 // Claims reads the claims into a value, as json.Unmarshal does. A float, and an integer beyond 64 bits, is the nearest double.
 //
@@ -43,19 +43,19 @@ func (token *Token) Header() (map[string]any, error) { return UnverifiedHeader(t
 // nothing, if two claims have the same name but for folding, or if a claim has the name of exp, nbf, iat, aud, iss, sub or jti but for
 // folding. The names of each nested object are compared with one another too, unless into points to a map of any or to an any that is
 // nil: these keep every name as it is.
-func (token *Token) Claims(into any) error {
-	if err := checkNames(token.claims, mayFold(into)); err != nil {
+func (t *Token) Claims(into any) error {
+	if err := checkNames(t.claims, mayFold(into)); err != nil {
 		return fmt.Errorf("%w: %v", ErrMalformed, err)
 	}
-	return json.Unmarshal(token.claims, into)
+	return json.Unmarshal(t.claims, into)
 }
 
 // RawClaims returns the claims as compact JSON.
-func (token *Token) RawClaims() json.RawMessage { return append(json.RawMessage(nil), token.claims...) }
+func (t *Token) RawClaims() json.RawMessage { return append(json.RawMessage(nil), t.claims...) }
 
 // Parse verifies a token with a key that accepts these algorithms. To verify several tokens, make a Verifier.
-func Parse(token string, key Key, algorithms []string, with ...Option) (*Token, error) {
-	verifier, err := NewVerifier(key, algorithms, with...)
+func Parse(token string, key Key, algorithms []string, opts ...Option) (*Token, error) {
+	verifier, err := NewVerifier(key, algorithms, opts...)
 	if err != nil {
 		return nil, err
 	}
@@ -103,8 +103,8 @@ func UnverifiedSignature(token string) (Signature, error) {
 // ParseByVerdict verifies a token whose signature was checked elsewhere: isGenuine says whether this is a signature of its message with
 // its algorithm and the key that the caller trusts. All else is verified as a Verifier does. The error is ErrSignature if isGenuine is
 // false, or if message or signature are not those of the token, and ErrAlgorithm if the algorithm is not.
-func ParseByVerdict(token string, checked Signature, isGenuine bool, algorithms []string, with ...Option) (*Token, error) {
-	asked, text, err := conditions(algorithms, with)
+func ParseByVerdict(token string, checked Signature, isGenuine bool, algorithms []string, opts ...Option) (*Token, error) {
+	asked, text, err := conditions(algorithms, opts)
 	if err != nil {
 		return nil, err
 	}

@@ -37,7 +37,7 @@ func parse(t *testing.T, token string, key Key, algorithms []string, with ...Opt
 
 func secretOf(t *testing.T, secret []byte) Key {
 	t.Helper()
-	key, err := Secret(secret)
+	key, err := NewSecretKey(secret)
 	if err != nil {
 		t.Fatal(err)
 	}
@@ -102,26 +102,56 @@ func TestRefusals(t *testing.T) {
 	}
 }
 
+// TestClaimOfError has refusals for a claim, and tells which one.
+func TestClaimOfError(t *testing.T) {
+	key := secretOf(t, secret)
+	for _, it := range []struct {
+		claims, claim string
+		with          []Option
+		want          error
+	}{
+		{`{}`, "exp", nil, ErrMissingClaim},
+		{`{"exp":"x"}`, "exp", nil, ErrMissingClaim},
+		{`{"exp":1700000001}`, "nbf", []Option{WithRequired("nbf")}, ErrMissingClaim},
+		{`{"exp":1700000001}`, "aud", []Option{WithAudience("x")}, ErrMissingClaim},
+		{`{"exp":1700000001}`, "iss", []Option{WithIssuer("x")}, ErrMissingClaim},
+		{`{"exp":1700000001}`, "sub", []Option{WithSubject("x")}, ErrMissingClaim},
+		{`{"exp":"x"}`, "exp", []Option{WithoutExpiry()}, ErrMalformedClaim},
+		{`{"exp":1700000001,"nbf":"x"}`, "nbf", nil, ErrMalformedClaim},
+		{`{"exp":1}`, "", nil, ErrExpired},
+		{`{"exp":1700000001,"iss":"y"}`, "", []Option{WithIssuer("x")}, ErrIssuer},
+	} {
+		_, err := parse(t, signed(`{"alg":"HS256"}`, it.claims, secret), key, []string{"HS256"}, it.with...)
+		var refused *Error
+		if !errors.Is(err, it.want) || !errors.As(err, &refused) || refused.Claim != it.claim {
+			t.Errorf("%s: %v, %+v, not of %q", it.claims, err, refused, it.claim)
+		}
+		if it.claim != "" && !strings.HasSuffix(err.Error(), ": "+it.claim) {
+			t.Errorf("%v does not name %s", err, it.claim)
+		}
+	}
+}
+
 // TestArguments has keys and algorithms that can't be right.
 func TestArguments(t *testing.T) {
 	for _, made := range []func() (Key, error){
-		func() (Key, error) { return Secret(nil) },
-		func() (Key, error) { return Secret(make([]byte, 64)) },
-		func() (Key, error) { return JWK([]byte(`{"kty":"oct","k":""}`)) },
-		func() (Key, error) { return JWK([]byte(`{"kty":"oct","k":"AAAA"}`)) },
-		func() (Key, error) { return JWK([]byte(`{"kty":"other"}`)) },
-		func() (Key, error) { return JWK([]byte(`{`)) },
-		func() (Key, error) { return JWK(nil) },
-		func() (Key, error) { return JWK([]byte(`{"kty":"EC"}`)) },
-		func() (Key, error) { return JWK([]byte(`{"kty":"oct","k":"*"}`)) },
-		func() (Key, error) { return JWKSet([]byte(`{"keys":[]}`)) },
-		func() (Key, error) { return JWKSet([]byte(`{"keys":1}`)) },
-		func() (Key, error) { return JWKSet([]byte(`{"keys":[{"kty":"oct","kid":"a","k":""}]}`)) },
-		func() (Key, error) { return PEM([]byte("text")) },
+		func() (Key, error) { return NewSecretKey(nil) },
+		func() (Key, error) { return NewSecretKey(make([]byte, 64)) },
+		func() (Key, error) { return ParseJWK([]byte(`{"kty":"oct","k":""}`)) },
+		func() (Key, error) { return ParseJWK([]byte(`{"kty":"oct","k":"AAAA"}`)) },
+		func() (Key, error) { return ParseJWK([]byte(`{"kty":"other"}`)) },
+		func() (Key, error) { return ParseJWK([]byte(`{`)) },
+		func() (Key, error) { return ParseJWK(nil) },
+		func() (Key, error) { return ParseJWK([]byte(`{"kty":"EC"}`)) },
+		func() (Key, error) { return ParseJWK([]byte(`{"kty":"oct","k":"*"}`)) },
+		func() (Key, error) { return ParseJWKSet([]byte(`{"keys":[]}`)) },
+		func() (Key, error) { return ParseJWKSet([]byte(`{"keys":1}`)) },
+		func() (Key, error) { return ParseJWKSet([]byte(`{"keys":[{"kty":"oct","kid":"a","k":""}]}`)) },
+		func() (Key, error) { return ParsePEM([]byte("text")) },
 		func() (Key, error) {
-			return PEM([]byte("-----BEGIN CERTIFICATE-----\nAAAA\n-----END CERTIFICATE-----\n"))
+			return ParsePEM([]byte("-----BEGIN CERTIFICATE-----\nAAAA\n-----END CERTIFICATE-----\n"))
 		},
-		func() (Key, error) { return Public("text") },
+		func() (Key, error) { return NewPublicKey("text") },
 	} {
 		if key, err := made(); !errors.Is(err, ErrKey) {
 			t.Errorf("%v, %v", key, err)
@@ -189,9 +219,9 @@ func TestAllAlgorithms(t *testing.T) {
 		if json.Unmarshal(line, &it) != nil || it.Want.Ok == nil || len(it.Validation) != 1 {
 			return
 		}
-		key, err := JWKSet(it.Set)
+		key, err := ParseJWKSet(it.Set)
 		if it.Call == "decode" && it.Key.Jwk != nil {
-			key, err = JWK(it.Key.Jwk)
+			key, err = ParseJWK(it.Key.Jwk)
 		} else if it.Call != "decode_with_set" {
 			return
 		}
@@ -217,7 +247,7 @@ func TestAllAlgorithms(t *testing.T) {
 
 // TestPEM has a key that Python's cryptography wrote, and a token by another one (RFC 7515 appendix A.3).
 func TestPEM(t *testing.T) {
-	key, err := PEM([]byte("-----BEGIN PUBLIC KEY-----\nMFkwEwYHKoZIzj0CAQYIKoZIzj0DAQcDQgAEcNoCzyOJM488bjKBVHt5l/ZLeJVc\n" +
+	key, err := ParsePEM([]byte("-----BEGIN PUBLIC KEY-----\nMFkwEwYHKoZIzj0CAQYIKoZIzj0DAQcDQgAEcNoCzyOJM488bjKBVHt5l/ZLeJVc\n" +
 		"0MznCQTwJlkzXa2vw96gkOu6Sd+a4YJAuf9SNLVeTTvyRVkB9PQrdF6zRA==\n-----END PUBLIC KEY-----\n"))
 	if err != nil {
 		t.Fatal(err)
@@ -262,14 +292,4 @@ func TestSign(t *testing.T) {
 			t.Errorf("%v: %v, not %v", it, err, it.want)
 		}
 	}
-}
-
-func ExampleParse() {
-	key, _ := Secret([]byte("0123456789abcdef0123456789abcdef"))
-	token, _ := Sign(map[string]any{"sub": "b@b.com", "exp": time.Now().Add(time.Minute).Unix()}, []byte("0123456789abcdef0123456789abcdef"), "HS256", nil)
-	read, err := Parse(token, key, []string{"HS256"})
-	var claims struct{ Sub string }
-	_ = read.Claims(&claims)
-	fmt.Println(claims.Sub, err)
-	// Output: b@b.com <nil>
 }

@@ -36,8 +36,8 @@ func newKey(kind keyKind, text []byte) Key {
 }
 
 // Format does not show the key, whatever the verb.
-func (key Key) Format(state fmt.State, verb rune) {
-	text := key.String()
+func (k Key) Format(state fmt.State, verb rune) {
+	text := k.String()
 	if verb == 'v' && state.Flag('#') {
 		text = "jwt.Key(" + text + ")"
 	}
@@ -47,9 +47,9 @@ func (key Key) Format(state fmt.State, verb rune) {
 // String does not show the key.
 func (Key) String() string { return "[redacted]" }
 
-// Secret returns a secret as a key, for HS256, HS384 and HS512. RFC 7518 section 3.2 requires at least 32, 48 and 64 bytes. A secret that
-// anyone may have is refused: one that is empty or has zeros alone, a key of SSH, in PEM, in DER, or in JSON, and base64 of these.
-func Secret(secret []byte) (Key, error) {
+// NewSecretKey returns a secret as a key, for HS256, HS384 and HS512. RFC 7518 section 3.2 requires at least 32, 48 and 64 bytes. A secret
+// that anyone may have is refused: one that is empty or has zeros alone, a key of SSH, in PEM, in DER, or in JSON, and base64 of these.
+func NewSecretKey(secret []byte) (Key, error) {
 	if err := checkKey(secretKey, secret); err != nil {
 		return Key{}, err
 	}
@@ -59,29 +59,34 @@ func Secret(secret []byte) (Key, error) {
 // textError is the refusal of a key's text that is not UTF-8: that of an argument, and of a key.
 type textError string
 
-func (err textError) Error() string {
-	return ErrKey.Error() + ": the text of the " + string(err) + " is not UTF-8"
+func (e textError) Error() string {
+	return ErrKey.Error() + ": the text of the " + string(e) + " is not UTF-8"
 }
 
-func (err textError) Is(kind error) bool { return kind == ErrKey || kind == ErrOption }
+func (e textError) Is(kind error) bool { return kind == ErrKey || kind == ErrOption }
 
-// JWK returns a JSON Web Key (RFC 7517 section 4) of any kind as a key. One that verifies no tokens is refused, and so is a secret that
-// Secret refuses.
-func JWK(text []byte) (Key, error) {
+// ParseJWK returns a JSON Web Key (RFC 7517 section 4) of any kind as a key. One that verifies no tokens is refused, and so is a secret
+// that NewSecretKey refuses.
+func ParseJWK(text []byte) (Key, error) {
 	if !utf8.Valid(text) {
 		return Key{}, textError("JSON Web Key")
 	}
 	return tried(newKey(singleKey, text))
 }
 
-// JWKSet returns a JSON Web Key Set (RFC 7517 section 5) as a key. A token names one of its keys by its kid. A set is refused if no key
-// of it that has a kid verifies tokens, or if it has a secret that Secret refuses.
-func JWKSet(text []byte) (Key, error) {
+// ParseJWKSet returns a JSON Web Key Set (RFC 7517 section 5) as a key. A token names one of its keys by its kid. A set is refused if no
+// key of it that has a kid verifies tokens, or if it has a secret that NewSecretKey refuses.
+func ParseJWKSet(text []byte) (Key, error) {
 	if !utf8.Valid(text) {
 		return Key{}, textError("JSON Web Key Set")
 	}
 	return tried(newKey(keySet, text))
 }
+
+// JWKSet is ParseJWKSet.
+//
+// Deprecated: use ParseJWKSet.
+func JWKSet(text []byte) (Key, error) { return ParseJWKSet(text) }
 
 // forAnyKey has options for each kind of key: the algorithms of a verifier are of one family.
 var forAnyKey = []string{
@@ -107,9 +112,9 @@ func tried(key Key) (Key, error) {
 	return Key{}, refused
 }
 
-// PEM returns a public key of RSA, P-256, P-384 or Ed25519 in PEM as a key, in the strict form of RFC 7468 section 3: that of the first
-// block of a text.
-func PEM(text []byte) (Key, error) {
+// ParsePEM returns a public key of RSA, P-256, P-384 or Ed25519 in PEM as a key, in the strict form of RFC 7468 section 3: that of the
+// first block of a text.
+func ParsePEM(text []byte) (Key, error) {
 	jwk, err := keyFromPEM(text)
 	if err != nil {
 		return Key{}, err
@@ -117,8 +122,8 @@ func PEM(text []byte) (Key, error) {
 	return tried(newKey(singleKey, jwk))
 }
 
-// Public returns a public key of RSA, P-256, P-384 or Ed25519 as a key.
-func Public(public crypto.PublicKey) (Key, error) {
+// NewPublicKey returns a public key of RSA, P-256, P-384 or Ed25519 as a key.
+func NewPublicKey(public crypto.PublicKey) (Key, error) {
 	if !canMarshal(public) {
 		return Key{}, keyError("the %T is not complete, or not on its curve", public)
 	}
@@ -126,7 +131,7 @@ func Public(public crypto.PublicKey) (Key, error) {
 	if err != nil {
 		return Key{}, keyError("%v", err)
 	}
-	return PEM(pem.EncodeToMemory(&pem.Block{Type: "PUBLIC KEY", Bytes: der}))
+	return ParsePEM(pem.EncodeToMemory(&pem.Block{Type: "PUBLIC KEY", Bytes: der}))
 }
 
 // canMarshal returns whether crypto/x509 does not panic for a key.

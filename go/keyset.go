@@ -30,7 +30,7 @@ type Fetch func(context.Context) ([]byte, error)
 type KeySet struct {
 	fetch                     Fetch
 	refresh, refetch, timeout time.Duration
-	until                     context.Context
+	ctx                       context.Context
 	current                   atomic.Pointer[fetched]
 
 	mutex    sync.Mutex
@@ -88,15 +88,15 @@ func checkPositive(option string, duration time.Duration) error {
 
 // NewKeySet returns the set that fetch returns, once the first fetch gave a usable one. It is fetched again until the context ends, and
 // then stays as it is. An error is ErrFetch, ErrKey if the text is not a usable set, or ErrOption.
-func NewKeySet(until context.Context, fetch Fetch, with ...KeySetOption) (*KeySet, error) {
-	if until == nil {
-		return nil, optionError("until is nil")
+func NewKeySet(ctx context.Context, fetch Fetch, opts ...KeySetOption) (*KeySet, error) {
+	if ctx == nil {
+		return nil, optionError("ctx is nil")
 	}
 	if fetch == nil {
 		return nil, optionError("fetch is nil")
 	}
-	set := &KeySet{fetch: fetch, refresh: 5 * time.Minute, refetch: 10 * time.Second, timeout: 10 * time.Second, until: until}
-	for i, it := range with {
+	set := &KeySet{fetch: fetch, refresh: 5 * time.Minute, refetch: 10 * time.Second, timeout: 10 * time.Second, ctx: ctx}
+	for i, it := range opts {
 		if it == nil {
 			return nil, optionError("the option at place %d is nil", i)
 		}
@@ -113,12 +113,12 @@ func NewKeySet(until context.Context, fetch Fetch, with ...KeySetOption) (*KeySe
 
 // FetchKeySet returns the set at an http or https URI, like NewKeySet. The client is http.DefaultClient if it is nil. Of an answer at
 // most 1 MiB is read, its status has to be 200, and a redirect may lead to the same scheme or to https alone.
-func FetchKeySet(until context.Context, uri string, client *http.Client, with ...KeySetOption) (*KeySet, error) {
+func FetchKeySet(ctx context.Context, uri string, client *http.Client, opts ...KeySetOption) (*KeySet, error) {
 	at, err := url.Parse(uri)
 	if err != nil || at.Scheme != "http" && at.Scheme != "https" || at.Hostname() == "" {
 		return nil, optionError("uri is not of the scheme http or https, with a host")
 	}
-	return NewKeySet(until, fetchBy(ownClient(client), uri), with...)
+	return NewKeySet(ctx, fetchBy(ownClient(client), uri), opts...)
 }
 
 // ownClient returns a client that follows no redirect to a scheme that is less safe.
@@ -145,8 +145,8 @@ func ownClient(client *http.Client) *http.Client {
 }
 
 func fetchBy(client *http.Client, uri string) Fetch {
-	return func(until context.Context) ([]byte, error) {
-		request, err := http.NewRequestWithContext(until, http.MethodGet, uri, nil)
+	return func(ctx context.Context) ([]byte, error) {
+		request, err := http.NewRequestWithContext(ctx, http.MethodGet, uri, nil)
 		if err != nil {
 			return nil, err
 		}
@@ -164,21 +164,21 @@ func fetchBy(client *http.Client, uri string) Fetch {
 }
 
 // Key returns the set as a key for NewVerifier. Its verifiers follow the set as it changes.
-func (set *KeySet) Key() Key {
-	if set == nil || set.current.Load() == nil {
+func (s *KeySet) Key() Key {
+	if s == nil || s.current.Load() == nil {
 		return Key{}
 	}
-	return Key{kind: keySet, bytes: func() []byte { return set.current.Load().key.bytes() }, set: func() *KeySet { return set }}
+	return Key{kind: keySet, bytes: func() []byte { return s.current.Load().key.bytes() }, set: func() *KeySet { return s }}
 }
 
 // Fetched returns when the set that is used was fetched.
-func (set *KeySet) Fetched() time.Time { return set.current.Load().at }
+func (s *KeySet) Fetched() time.Time { return s.current.Load().at }
 
 // Err returns the error of the last fetch, or nil if it gave a usable set.
-func (set *KeySet) Err() error {
-	set.mutex.Lock()
-	defer set.mutex.Unlock()
-	return set.failure
+func (s *KeySet) Err() error {
+	s.mutex.Lock()
+	defer s.mutex.Unlock()
+	return s.failure
 }
 
 // Format does not show the keys, whatever the verb.
@@ -186,75 +186,75 @@ func (*KeySet) Format(state fmt.State, _ rune) {
 	_, _ = io.WriteString(state, "jwt.KeySet([redacted])")
 }
 
-func (set *KeySet) firstFailure() error {
-	if err := set.Err(); err != nil {
+func (s *KeySet) firstFailure() error {
+	if err := s.Err(); err != nil {
 		return err
 	}
-	return fetchError("it took longer than %v", set.timeout)
+	return fetchError("it took longer than %v", s.timeout)
 }
 
 // keep fetches the set in the background.
-func (set *KeySet) keep() {
+func (s *KeySet) keep() {
 	for {
-		pause := set.refresh
-		if set.Err() != nil && set.refetch < pause {
-			pause = set.refetch
+		pause := s.refresh
+		if s.Err() != nil && s.refetch < pause {
+			pause = s.refetch
 		}
 		timer := time.NewTimer(pause)
 		select {
-		case <-set.until.Done():
+		case <-s.ctx.Done():
 			timer.Stop()
 			return
 		case <-timer.C:
-			set.wait(set.start())
+			s.wait(s.start())
 		}
 	}
 }
 
 // start returns the fetch that is under way, or starts one.
-func (set *KeySet) start() *flight {
-	set.mutex.Lock()
-	defer set.mutex.Unlock()
-	return set.startLocked()
+func (s *KeySet) start() *flight {
+	s.mutex.Lock()
+	defer s.mutex.Unlock()
+	return s.startLocked()
 }
 
-func (set *KeySet) startLocked() *flight {
-	if set.underWay == nil {
+func (s *KeySet) startLocked() *flight {
+	if s.underWay == nil {
 		begun := &flight{time.Now(), make(chan struct{})}
-		set.underWay = begun
-		go set.run(begun)
+		s.underWay = begun
+		go s.run(begun)
 	}
-	return set.underWay
+	return s.underWay
 }
 
 // run fetches the set, and takes it over if it is usable.
-func (set *KeySet) run(begun *flight) {
-	until, cancel := context.WithTimeout(set.until, set.timeout)
+func (s *KeySet) run(begun *flight) {
+	ctx, cancel := context.WithTimeout(s.ctx, s.timeout)
 	defer cancel()
-	found, err := set.usable(until)
-	set.mutex.Lock()
-	defer set.mutex.Unlock()
+	found, err := s.usable(ctx)
+	s.mutex.Lock()
+	defer s.mutex.Unlock()
 	if err == nil {
-		set.current.Store(found)
+		s.current.Store(found)
 	}
-	set.failure = err
-	set.underWay = nil
+	s.failure = err
+	s.underWay = nil
 	close(begun.ended)
 }
 
 // usable returns the set that is fetched, if it is usable.
-func (set *KeySet) usable(until context.Context) (*fetched, error) {
-	text, err := set.fetch(until)
+func (s *KeySet) usable(ctx context.Context) (*fetched, error) {
+	text, err := s.fetch(ctx)
 	if err != nil {
 		return nil, fetchError("%v", err)
 	}
-	if err := until.Err(); err != nil {
+	if err := ctx.Err(); err != nil {
 		return nil, fetchError("%v", err)
 	}
 	if len(text) > largestSet {
 		return nil, fetchError("it has more than %d bytes", largestSet)
 	}
-	key, err := JWKSet(text)
+	key, err := ParseJWKSet(text)
 	if err != nil {
 		return nil, err
 	}
@@ -262,8 +262,8 @@ func (set *KeySet) usable(until context.Context) (*fetched, error) {
 }
 
 // wait waits for the end of a fetch, but no longer than until the timeout after its begin.
-func (set *KeySet) wait(begun *flight) {
-	timer := time.NewTimer(time.Until(begun.begun.Add(set.timeout)))
+func (s *KeySet) wait(begun *flight) {
+	timer := time.NewTimer(time.Until(begun.begun.Add(s.timeout)))
 	defer timer.Stop()
 	select {
 	case <-begun.ended:
@@ -272,21 +272,21 @@ func (set *KeySet) wait(begun *flight) {
 }
 
 // after returns the set that follows one without the key of a token, if there is another, or if it is time to fetch one.
-func (set *KeySet) after(seen *fetched) *fetched {
-	set.mutex.Lock()
-	if last := set.current.Load(); last != seen {
-		set.mutex.Unlock()
+func (s *KeySet) after(seen *fetched) *fetched {
+	s.mutex.Lock()
+	if last := s.current.Load(); last != seen {
+		s.mutex.Unlock()
 		return last
 	}
-	if set.underWay == nil && time.Now().Before(set.from) {
-		set.mutex.Unlock()
+	if s.underWay == nil && time.Now().Before(s.from) {
+		s.mutex.Unlock()
 		return seen
 	}
-	begun := set.startLocked()
-	set.mutex.Unlock()
-	set.wait(begun)
-	set.mutex.Lock()
-	defer set.mutex.Unlock()
-	set.from = time.Now().Add(set.refetch)
-	return set.current.Load()
+	begun := s.startLocked()
+	s.mutex.Unlock()
+	s.wait(begun)
+	s.mutex.Lock()
+	defer s.mutex.Unlock()
+	s.from = time.Now().Add(s.refetch)
+	return s.current.Load()
 }

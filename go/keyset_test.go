@@ -526,7 +526,7 @@ func TestKeysOfOneKid(t *testing.T) {
 	keys = strings.Replace(strings.Replace(keys, `"kid":"a"`, `"kid":"x"`, 1), `"kid":"b"`, `"kid":"x"`, 1)
 	keys = strings.Replace(keys, `"kid":"c"`, `"kid":"c","alg":"ES256"`, 1)
 	text := strings.Replace(keys, `"kid":"d"`, `"kid":"e","k\u0069d":"\u0064"`, 1) + "]}"
-	whole, err := JWKSet([]byte(text))
+	whole, err := ParseJWKSet([]byte(text))
 	if err != nil {
 		t.Fatal(err)
 	}
@@ -553,7 +553,7 @@ func TestRedirects(t *testing.T) {
 	server := serve(t, redirects(target.uri))
 	_, verifier := following(t, server.uri)
 	wants(t, verifier, tokenOf("a", "a"), nil)
-	secure := httptest.NewTLSServer(http.HandlerFunc(func(to http.ResponseWriter, of *http.Request) { http.Redirect(to, of, target.uri, 302) }))
+	secure := httptest.NewTLSServer(http.HandlerFunc(func(to http.ResponseWriter, of *http.Request) { http.Redirect(to, of, target.uri, http.StatusFound) }))
 	defer secure.Close()
 	_, err := FetchKeySet(context.Background(), secure.URL, secure.Client())
 	if !errors.Is(err, ErrFetch) || !strings.Contains(err.Error(), "from https to http") {
@@ -578,7 +578,8 @@ func TestKeySetArguments(t *testing.T) {
 		made func() (*KeySet, error)
 	}{
 		{"fetch", func() (*KeySet, error) { return NewKeySet(until, nil) }},
-		{"until", func() (*KeySet, error) { return NewKeySet(nil, good) }}, //nolint:staticcheck
+		//lint:ignore SA1012 a nil context is an error
+		{"ctx", func() (*KeySet, error) { return NewKeySet(nil, good) }},
 		{"place 1", func() (*KeySet, error) { return NewKeySet(until, good, WithRefresh(1), nil) }},
 		{"WithRefresh", func() (*KeySet, error) { return NewKeySet(until, good, WithRefresh(0)) }},
 		{"WithRefetch", func() (*KeySet, error) { return NewKeySet(until, good, WithRefetch(-1)) }},
@@ -651,7 +652,7 @@ func TestServes(t *testing.T) {
 		// the algorithm of the key itself is compared with that of each token
 		{set(`{"kty":"oct","kid":"a","k":"c2VjcmV0","alg":"HS384"}`), []string{"HS256"}, true},
 	} {
-		key, err := JWKSet([]byte(it.text))
+		key, err := ParseJWKSet([]byte(it.text))
 		if err == nil {
 			_, err = NewVerifier(key, it.algorithms)
 		}
@@ -660,14 +661,14 @@ func TestServes(t *testing.T) {
 		}
 	}
 	for _, it := range []string{rsa17, offCurve} {
-		if key, err := JWK([]byte(it)); !errors.Is(err, ErrKey) {
+		if key, err := ParseJWK([]byte(it)); !errors.Is(err, ErrKey) {
 			t.Errorf("%s: %v, %v", it, key, err)
 		}
 	}
 	if _, err := NewVerifier(secretOf(t, secret), []string{"RS256"}); !errors.Is(err, ErrKey) || !strings.Contains(err.Error(), "RS256") {
 		t.Error(err)
 	}
-	if _, err := JWKSet([]byte(unnamed)); !errors.Is(err, ErrKey) || !strings.Contains(err.Error(), "kid") {
+	if _, err := ParseJWKSet([]byte(unnamed)); !errors.Is(err, ErrKey) || !strings.Contains(err.Error(), "kid") {
 		t.Error(err)
 	}
 	var refused *Error

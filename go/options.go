@@ -28,8 +28,8 @@ type options struct {
 // Option is a condition on a token.
 type Option func(*options) error
 
-func (asked *options) requires(name string) bool {
-	for _, it := range asked.Required {
+func (o *options) requires(name string) bool {
+	for _, it := range o.Required {
 		if it == name {
 			return true
 		}
@@ -189,25 +189,25 @@ func moment(now func() time.Time) (uint64, error) {
 }
 
 // contradiction returns an error if two options ask for opposite things.
-func (asked *options) contradiction() error {
+func (o *options) contradiction() error {
 	switch {
-	case asked.noExpiry && asked.requires("exp"):
+	case o.noExpiry && o.requires("exp"):
 		return optionError("WithoutExpiry and WithRequired(%q) contradict each other", "exp")
-	case asked.ValidateAud != nil && asked.Audience != nil:
+	case o.ValidateAud != nil && o.Audience != nil:
 		return optionError("WithAnyAudience and WithAudience contradict each other")
-	case asked.ValidateExp != nil && asked.Remaining != nil:
+	case o.ValidateExp != nil && o.Remaining != nil:
 		return optionError("WithExpired and WithRemaining contradict each other")
 	}
 	return nil
 }
 
 // conditions returns what algorithms and options ask for, and its text for the library.
-func conditions(algorithms []string, with []Option) (*options, []byte, error) {
+func conditions(algorithms []string, opts []Option) (*options, []byte, error) {
 	if err := checkTexts("algorithms", algorithms...); err != nil {
 		return nil, nil, err
 	}
 	asked := &options{Strict: true, Algorithms: algorithms, Required: []string{}}
-	for i, it := range with {
+	for i, it := range opts {
 		if it == nil {
 			return nil, nil, optionError("the option at place %d is nil", i)
 		}

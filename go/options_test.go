@@ -123,9 +123,9 @@ func TestUTF8(t *testing.T) {
 // TestUTF8OfKeys has keys whose text is not UTF-8.
 func TestUTF8OfKeys(t *testing.T) {
 	for _, made := range []func() (Key, error){
-		func() (Key, error) { return JWK([]byte("{\"kty\":\"oct\",\"k\":\"c2VjcmV0\",\"kid\":\"\xff\"}")) },
+		func() (Key, error) { return ParseJWK([]byte("{\"kty\":\"oct\",\"k\":\"c2VjcmV0\",\"kid\":\"\xff\"}")) },
 		func() (Key, error) {
-			return JWKSet([]byte("{\"keys\":[{\"kty\":\"oct\",\"k\":\"c2VjcmV0\",\"kid\":\"\xff\"}]}"))
+			return ParseJWKSet([]byte("{\"keys\":[{\"kty\":\"oct\",\"k\":\"c2VjcmV0\",\"kid\":\"\xff\"}]}"))
 		},
 	} {
 		if _, err := made(); !errors.Is(err, ErrOption) || !errors.Is(err, ErrKey) {
@@ -157,7 +157,7 @@ func TestPublicKeys(t *testing.T) {
 		&ecdsa.PublicKey{Curve: elliptic.P256(), X: new(big.Int).Lsh(one, 256), Y: one}, &ecdsa.PublicKey{Curve: elliptic.P521(), X: one, Y: one},
 		ed25519.PublicKey(nil), ed25519.PublicKey("short"), (*ed25519.PublicKey)(nil),
 	} {
-		if key, err := Public(it); !errors.Is(err, ErrKey) {
+		if key, err := NewPublicKey(it); !errors.Is(err, ErrKey) {
 			t.Errorf("%T %v: %v, %v", it, it, key, err)
 		}
 	}

@@ -69,9 +69,9 @@ func TestZeros(t *testing.T) {
 
 // madeWith returns the errors of the calls that take a secret, as bytes, as a key and in a set.
 func madeWith(made []byte) []error {
-	_, bySecret := Secret(made)
-	_, byJWK := JWK([]byte(jwkOf(made)))
-	_, bySet := JWKSet([]byte(`{"keys":[` + jwkOf(secret) + `,` + jwkOf(made) + `,` + jwkOf(secret) + `]}`))
+	_, bySecret := NewSecretKey(made)
+	_, byJWK := ParseJWK([]byte(jwkOf(made)))
+	_, bySet := ParseJWKSet([]byte(`{"keys":[` + jwkOf(secret) + `,` + jwkOf(made) + `,` + jwkOf(secret) + `]}`))
 	_, signing := Sign(map[string]any{}, made, "HS256", nil)
 	return []error{bySecret, byJWK, bySet, signing}
 }
@@ -90,7 +90,7 @@ func TestKeysThatAnyoneHas(t *testing.T) {
 		`{"kty":"oct","k":"c2VjcmV0","\u006b":""}`,
 		`{"\u006bty":"\u006fct","\u006b":"\u0041AAA"}`,
 	} {
-		if key, err := JWK([]byte(it)); !isBlank(err) {
+		if key, err := ParseJWK([]byte(it)); !isBlank(err) {
 			t.Errorf("%s: %v, %v", it, key, err)
 		}
 		for _, set := range []string{
@@ -98,7 +98,7 @@ func TestKeysThatAnyoneHas(t *testing.T) {
 			`{"keys":[` + it + `],"KEYS":[{"kty":"oct","kid":"a","k":"c2VjcmV0"}]}`,
 			`{"keys":[{"kty":"oct","kid":"a","k":"c2VjcmV0"},` + it + `],"\u212aeys":[]}`,
 		} {
-			if key, err := JWKSet([]byte(set)); !isBlank(err) {
+			if key, err := ParseJWKSet([]byte(set)); !isBlank(err) {
 				t.Errorf("%s: %v, %v", set, key, err)
 			}
 		}
@@ -109,12 +109,12 @@ func TestKeysThatAnyoneHas(t *testing.T) {
 		`{"keys":` + keys + `,"keys":` + blank + `}`,
 		`{"keys":` + keys + `,"\u006beys":` + blank + `}`,
 	} {
-		if key, err := JWKSet([]byte(it)); !isBlank(err) {
+		if key, err := ParseJWKSet([]byte(it)); !isBlank(err) {
 			t.Errorf("%s: %v, %v", it, key, err)
 		}
 	}
 	for _, it := range []string{`{"KEYS":[{"kty":"oct","kid":"a","k":"c2VjcmV0"}]}`, `{"keys":{}}`, `{"keys":[5]}`, `[]`, `null`, `{}`} {
-		if key, err := JWKSet([]byte(it)); !errors.Is(err, ErrKey) {
+		if key, err := ParseJWKSet([]byte(it)); !errors.Is(err, ErrKey) {
 			t.Errorf("%s: %v, %v", it, key, err)
 		}
 	}
@@ -133,11 +133,11 @@ func TestKeysThatNobodyHas(t *testing.T) {
 		{`{"kty":"oct","kid":"a"}`, ErrKey},
 		{`{"kty":"oct","kid":"a","k":5}`, ErrKey},
 	} {
-		key, err := JWK([]byte(it.key))
+		key, err := ParseJWK([]byte(it.key))
 		if err == nil {
 			_, err = parse(t, token, key, []string{"HS256"})
 		}
-		set, bySet := JWKSet([]byte(`{"keys":[` + it.key + `]}`))
+		set, bySet := ParseJWKSet([]byte(`{"keys":[` + it.key + `]}`))
 		if bySet == nil {
 			_, bySet = parse(t, token, set, []string{"HS256"})
 		}

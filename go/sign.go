@@ -8,7 +8,7 @@ import (
 
 // Sign returns the token of claims, which json.Marshal writes, signed with a secret, with HS256, HS384 or HS512. Members of header other
 // than alg and typ are those of the map, which may be nil and may not name another alg. No claim may be a float. A text that is not
-// UTF-8 is ErrOption, and a secret that Secret refuses is ErrKey.
+// UTF-8 is ErrOption, and a secret that NewSecretKey refuses is ErrKey.
 func Sign(claims any, secret []byte, algorithm string, header map[string]any) (string, error) {
 	if err := checkKey(secretKey, secret); err != nil {
 		return "", err
@@ -47,11 +47,11 @@ func NewSigningInput(claims any, algorithm string, header map[string]any) (*Sign
 // Token returns the token with this signature of the message. With ES256 and ES384 that is two numbers one after the other, which
 // ECDSASignature makes of a signature in DER. Its length is compared with that of the algorithm, and a wrong one is ErrOption; whether
 // the signature is right is left to those who verify the token.
-func (input *SigningInput) Token(signature []byte) (string, error) {
-	if input == nil || input.header == nil {
+func (in *SigningInput) Token(signature []byte) (string, error) {
+	if in == nil || in.header == nil {
 		return "", optionError("NewSigningInput did not make this SigningInput")
 	}
-	token, err := encodeSignature(input.header, input.claims, Signature{input.Algorithm, input.Message, signature})
+	token, err := encodeSignature(in.header, in.claims, Signature{in.Algorithm, in.Message, signature})
 	return string(token), err
 }
 

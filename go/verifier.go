@@ -36,22 +36,22 @@ type handles struct {
 	idle  sync.Pool
 }
 
-func (all *handles) take() (*handle, error) {
-	if it, is := all.idle.Get().(*handle); is {
+func (h *handles) take() (*handle, error) {
+	if it, is := h.idle.Get().(*handle); is {
 		return it, nil
 	}
-	all.mutex.Lock()
-	defer all.mutex.Unlock()
-	return all.first.share()
+	h.mutex.Lock()
+	defer h.mutex.Unlock()
+	return h.first.share()
 }
 
-func (all *handles) decode(token string, now uint64) (*Token, error) {
-	one, err := all.take()
+func (h *handles) decode(token string, now uint64) (*Token, error) {
+	one, err := h.take()
 	if err != nil {
 		return nil, err
 	}
 	claims, err := one.decode(token, now)
-	all.idle.Put(one)
+	h.idle.Put(one)
 	return claims, err
 }
 
@@ -62,8 +62,8 @@ func (Verifier) Format(state fmt.State, _ rune) {
 
 // NewVerifier returns a verifier with a key, for these algorithms, which have to be of one family: that of the key. If neither the key
 // nor any key of a set verifies with one of them, the error is ErrKey.
-func NewVerifier(key Key, algorithms []string, with ...Option) (*Verifier, error) {
-	asked, text, err := conditions(algorithms, with)
+func NewVerifier(key Key, algorithms []string, opts ...Option) (*Verifier, error) {
+	asked, text, err := conditions(algorithms, opts)
 	if err != nil {
 		return nil, err
 	}
@@ -86,31 +86,31 @@ func NewVerifier(key Key, algorithms []string, with ...Option) (*Verifier, error
 }
 
 // Parse verifies a token. The error is nil, or of one of the kinds of this package. A token of more than 1 MiB is ErrMalformed.
-func (verifier *Verifier) Parse(token string) (*Token, error) {
-	if verifier == nil || verifier.made == nil {
+func (v *Verifier) Parse(token string) (*Token, error) {
+	if v == nil || v.made == nil {
 		return nil, optionError("NewVerifier did not make this Verifier")
 	}
-	return verifier.made.verify(token)
+	return v.made.verify(token)
 }
 
 // verify returns the claims of a token. If the set of a KeySet has no key of its kid, a later set decides.
-func (made *verifying) verify(token string) (*Token, error) {
-	by := made.latest()
-	claims, err := made.verifyBy(by, token)
-	if err == nil || made.set == nil || !mayHaveLaterKey(token, err) {
+func (v *verifying) verify(token string) (*Token, error) {
+	by := v.latest()
+	claims, err := v.verifyBy(by, token)
+	if err == nil || v.set == nil || !mayHaveLaterKey(token, err) {
 		return claims, err
 	}
-	if later := made.set.after(by.set); later == by.set {
+	if later := v.set.after(by.set); later == by.set {
 		return nil, err
 	}
-	return made.verifyBy(made.latest(), token)
+	return v.verifyBy(v.latest(), token)
 }
 
-func (made *verifying) verifyBy(by *handlesOf, token string) (*Token, error) {
+func (v *verifying) verifyBy(by *handlesOf, token string) (*Token, error) {
 	if by.err != nil {
 		return nil, by.err
 	}
-	now, err := moment(made.now)
+	now, err := moment(v.now)
 	if err != nil {
 		return nil, err
 	}
@@ -133,22 +133,22 @@ func mayHaveLaterKey(token string, err error) bool {
 }
 
 // latest returns the handles for the last set that was fetched, or for a key that stays.
-func (made *verifying) latest() *handlesOf {
-	if it := made.current.Load(); it != nil && (made.set == nil || it.set == made.set.current.Load()) {
+func (v *verifying) latest() *handlesOf {
+	if it := v.current.Load(); it != nil && (v.set == nil || it.set == v.set.current.Load()) {
 		return it
 	}
-	made.mutex.Lock()
-	defer made.mutex.Unlock()
-	it, key := &handlesOf{}, made.key
-	if made.set != nil {
-		it.set = made.set.current.Load()
+	v.mutex.Lock()
+	defer v.mutex.Unlock()
+	it, key := &handlesOf{}, v.key
+	if v.set != nil {
+		it.set = v.set.current.Load()
 		key = it.set.key
 	}
-	if last := made.current.Load(); last != nil && last.set == it.set {
+	if last := v.current.Load(); last != nil && last.set == it.set {
 		return last
 	}
-	if it.handles, it.err = newHandles(key, made.options); !errors.Is(it.err, ErrOutOfMemory) {
-		made.current.Store(it)
+	if it.handles, it.err = newHandles(key, v.options); !errors.Is(it.err, ErrOutOfMemory) {
+		v.current.Store(it)
 	}
 	return it
 }

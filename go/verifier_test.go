@@ -62,7 +62,7 @@ func (it *failing) key(t *testing.T) Key {
 	if it.Call == "failed_test" {
 		return secretOf(t, []byte(it.Key.Secret))
 	}
-	key, err := JWKSet(it.Set)
+	key, err := ParseJWKSet(it.Set)
 	if err != nil {
 		t.Fatal(it.ID, err)
 	}
@@ -118,7 +118,7 @@ func TestNoTest(t *testing.T) {
 		t.Fatal(err)
 	}
 	_, tooLong := verifier.Parse(strings.Repeat("a", 1<<20+1))
-	_, blank := Secret(nil)
+	_, blank := NewSecretKey(nil)
 	for _, err := range []error{tooLong, blank} {
 		var refused *Error
 		if !errors.As(err, &refused) || refused.Test != "" || refused.TestNumber != 0 || refused.Status == 0 {
@@ -161,11 +161,11 @@ func TestRoom(t *testing.T) {
 
 // TestFamilies has algorithms of two families, by which no token would be accepted.
 func TestFamilies(t *testing.T) {
-	set, err := JWKSet([]byte(setOf("a")))
+	set, err := ParseJWKSet([]byte(setOf("a")))
 	if err != nil {
 		t.Fatal(err)
 	}
-	jwk, err := JWK([]byte(joesKey))
+	jwk, err := ParseJWK([]byte(joesKey))
 	if err != nil {
 		t.Fatal(err)
 	}
@@ -214,7 +214,7 @@ func TestMemoryOfVerifiers(t *testing.T) {
 	for i := range kids {
 		kids[i] = fmt.Sprint(i)
 	}
-	key, err := JWKSet([]byte(setOf(kids...)))
+	key, err := ParseJWKSet([]byte(setOf(kids...)))
 	if err != nil {
 		t.Fatal(err)
 	}
@@ -241,7 +241,7 @@ func TestMemoryOfVerifiers(t *testing.T) {
 // benchmarked returns a verifier and a token of 149 bytes.
 func benchmarked(b *testing.B) (*Verifier, string) {
 	b.Helper()
-	key, err := Secret(secret)
+	key, err := NewSecretKey(secret)
 	if err != nil {
 		b.Fatal(err)
 	}

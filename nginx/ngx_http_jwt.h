@@ -78,7 +78,8 @@ struct ngx_http_jwt_rules_s {
     ngx_http_jwt_rules_t     *next;
     ngx_http_jwt_loc_conf_t  *conf;     /* of the first location */
     ngx_str_t                 options;
-    ngx_array_t               verifiers;   /* of a fetched set: the last */
+    struct jwt_verifier      *verifiers;  /* of a fetched set: the last */
+    ngx_uint_t                count;    /* of verifiers */
     ngx_http_jwt_slot_t      *slots;
     uint64_t                  uses;     /* of slots */
 

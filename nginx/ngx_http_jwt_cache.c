@@ -109,14 +109,12 @@ static uint32_t
 ngx_http_jwt_decode(ngx_http_jwt_rules_t *rules, ngx_http_jwt_ctx_t *ctx,
     uint64_t now, uint64_t *last)
 {
-    uint32_t              status;
-    ngx_uint_t            i = 0;
-    struct jwt_verifier  *verifiers = rules->verifiers.elts;
+    uint32_t    status;
+    ngx_uint_t  i = 0;
 
     do {
-        status = ngx_http_jwt_decode_by(&verifiers[i], ctx, now, last);
-    } while (ctx->test == JWT_TEST_KEY_IS_FOUND
-             && ++i < rules->verifiers.nelts);
+        status = ngx_http_jwt_decode_by(&rules->verifiers[i], ctx, now, last);
+    } while (ctx->test == JWT_TEST_KEY_IS_FOUND && ++i < rules->count);
 
     return status;
 }
@@ -131,12 +129,12 @@ uint32_t
 ngx_http_jwt_verify(ngx_http_jwt_rules_t *rules, ngx_http_jwt_ctx_t *ctx)
 {
     uint32_t              hash, status;
-    uint64_t              now = ngx_time(), last;
-    ngx_str_t             claims;
+    uint64_t              now, last;
     ngx_uint_t            is_found;
     ngx_http_jwt_slot_t  *slot;
 
     ctx->test = 0;
+    now = ngx_time();
 
     if (ngx_time() < 0) {
         return JWT_CLOCK_BEFORE_EPOCH;
@@ -152,10 +150,9 @@ ngx_http_jwt_verify(ngx_http_jwt_rules_t *rules, ngx_http_jwt_ctx_t *ctx)
 
     if (is_found && slot->first <= now && now <= slot->last) {
         slot->used = ++rules->uses;
-        claims.len = slot->claims_len;
-        claims.data = slot->text + slot->token_len;
-        ctx->claims.len = claims.len;
-        ctx->claims.data = ngx_pstrdup(ctx->request->pool, &claims);
+        ctx->claims.len = slot->claims_len;
+        ctx->claims.data = slot->text + slot->token_len;
+        ctx->claims.data = ngx_pstrdup(ctx->request->pool, &ctx->claims);
 
         return ctx->claims.data != NULL ? JWT_OK : JWT_OUT_OF_MEMORY;
     }

@@ -132,8 +132,10 @@ ngx_http_jwt_is_fetch(ngx_http_request_t *r)
 static ngx_int_t
 ngx_http_jwt_add(ngx_array_t *set, ngx_buf_t *b)
 {
-    off_t    size = ngx_buf_size(b);
+    off_t    size;
     u_char  *p;
+
+    size = ngx_buf_size(b);
 
     if (size > NGX_HTTP_JWT_SET - (off_t) set->nelts) {
         return NGX_ERROR;

@@ -156,15 +156,14 @@ ngx_http_jwt_free_rules(void *data)
 {
     ngx_uint_t             i;
     ngx_http_jwt_rules_t  *rules = data;
-    struct jwt_verifier   *verifiers = rules->verifiers.elts;
 
-    for (i = 0; i < rules->verifiers.nelts; i++) {
-        jwt_verifier_free(&verifiers[i]);
+    for (i = 0; i < rules->count; i++) {
+        jwt_verifier_free(&rules->verifiers[i]);
     }
 }
 
 
-/* Makes rules without verifiers. */
+/* Makes rules whose verifiers are none. */
 static ngx_http_jwt_rules_t *
 ngx_http_jwt_add_rules(ngx_pool_t *pool, ngx_http_jwt_loc_conf_t *conf,
     ngx_str_t *options)
@@ -181,16 +180,14 @@ ngx_http_jwt_add_rules(ngx_pool_t *pool, ngx_http_jwt_loc_conf_t *conf,
     ngx_memzero(rules, sizeof(ngx_http_jwt_rules_t));
     rules->conf = conf;
     rules->options = *options;
+    rules->count = conf->keys->nelts + (conf->uri.len > 0);
     ngx_queue_init(&rules->waiting);
 
     rules->slots = ngx_pcalloc(pool, conf->slot_count
                                      * sizeof(ngx_http_jwt_slot_t));
-
-    if (rules->slots == NULL
-        || ngx_array_init(&rules->verifiers, pool, conf->keys->nelts + 1,
-                          sizeof(struct jwt_verifier))
-           != NGX_OK)
-    {
+    rules->verifiers = ngx_pcalloc(pool, rules->count
+                                         * sizeof(struct jwt_verifier));
+    if (rules->slots == NULL || rules->verifiers == NULL) {
         return NULL;
     }
 
@@ -200,32 +197,20 @@ ngx_http_jwt_add_rules(ngx_pool_t *pool, ngx_http_jwt_loc_conf_t *conf,
 
 
 /*
- * Makes a verifier for each key file, and adds one for the set to fetch.  This
- * is done while the configuration is read, so that nginx keeps the old one if a
- * file is bad; workers then use their copies.
+ * Makes the verifier of each key file, and leaves that of the set to fetch as
+ * none.  This is done while the configuration is read, so that nginx keeps the
+ * old one if a file is bad; workers then use their copies.
  */
 static char *
 ngx_http_jwt_make_verifiers(ngx_conf_t *cf, ngx_http_jwt_rules_t *rules)
 {
-    uint32_t                  status;
-    ngx_str_t                *options = &rules->options;
-    ngx_uint_t                i, n;
-    ngx_http_jwt_key_t       *key = rules->conf->keys->elts;
-    ngx_http_jwt_loc_conf_t  *conf = rules->conf;
-    struct jwt_verifier      *verifier;
+    uint32_t             status;
+    ngx_str_t           *options = &rules->options;
+    ngx_uint_t           i;
+    ngx_http_jwt_key_t  *key = rules->conf->keys->elts;
 
-    n = conf->keys->nelts + (conf->uri.len > 0);
-
-    for (i = 0; i < n; i++) {
-        /* there is room for all, so that none is moved */
-        verifier = ngx_array_push(&rules->verifiers);
-        ngx_memzero(verifier, sizeof(struct jwt_verifier));
-
-        if (i == conf->keys->nelts) {
-            break;
-        }
-
-        if (!key[i].is_set && n > 1) {
+    for (i = 0; i < rules->conf->keys->nelts; i++) {
+        if (!key[i].is_set && rules->count > 1) {
             ngx_conf_log_error(NGX_LOG_EMERG, cf, 0, "auth_jwt_key_file "
                                "\"%V\": a single key has to be the only "
                                "source of keys", &key[i].name);
@@ -234,7 +219,7 @@ ngx_http_jwt_make_verifiers(ngx_conf_t *cf, ngx_http_jwt_rules_t *rules)
 
         status = (key[i].is_set ? jwt_verifier_set : jwt_verifier_key)
                      (key[i].text.data, key[i].text.len, options->data,
-                      options->len, 0, 0, verifier);
+                      options->len, 0, 0, &rules->verifiers[i]);
 
         if (status != JWT_OK) {
             return ngx_http_jwt_report(cf, "auth_jwt_key_file", &key[i].name,
@@ -297,8 +282,7 @@ ngx_http_jwt_take_set(ngx_http_jwt_rules_t *rules, ngx_array_t *set)
     }
 
     if (status == JWT_OK) {
-        kept = (struct jwt_verifier *) rules->verifiers.elts
-               + rules->verifiers.nelts - 1;
+        kept = &rules->verifiers[rules->count - 1];
         jwt_verifier_free(kept);
         *kept = next;
         rules->sets++;

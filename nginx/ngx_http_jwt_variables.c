@@ -213,9 +213,10 @@ ngx_http_jwt_member_variable(ngx_http_request_t *r,
     ngx_int_t            rc;
     ngx_str_t            name = *(ngx_str_t *) data, object, value;
     ngx_uint_t           is_kid = name.data[4] == 'r';
-    ngx_http_jwt_ctx_t  *ctx = ngx_http_jwt_find_ctx(r);
+    ngx_http_jwt_ctx_t  *ctx;
 
     v->not_found = 1;
+    ctx = ngx_http_jwt_find_ctx(r);
 
     if (ctx == NULL || ctx->token.len == 0
         || is_kid == (ctx->status == JWT_OK))
@@ -253,9 +254,10 @@ ngx_http_jwt_text_variable(ngx_http_request_t *r,
     size_t               len;
     u_char              *text;
     ngx_uint_t           is_test = ((ngx_str_t *) data)->data[4] == 'f';
-    ngx_http_jwt_ctx_t  *ctx = ngx_http_jwt_find_ctx(r);
+    ngx_http_jwt_ctx_t  *ctx;
 
     v->not_found = 1;
+    ctx = ngx_http_jwt_find_ctx(r);
 
     if (ctx == NULL || (is_test && ctx->test == 0)) {
         return NGX_OK;

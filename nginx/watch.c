@@ -1,6 +1,7 @@
 /*
- * For test.py, in front of the libraries of an nginx (LD_PRELOAD): the time of day is the number in the file MOMENT, and each token
- * and each key or set that the library is asked about adds a byte to the file CALLS.
+ * For test.py, in front of the libraries of an nginx (LD_PRELOAD): the time of
+ * day is the number in the file MOMENT, and each token and each key or set that
+ * the library is asked about adds a byte to the file CALLS.
  */
 #define _GNU_SOURCE
 #include <dlfcn.h>
@@ -10,16 +11,18 @@
 #include <sys/time.h>
 #include <unistd.h>
 
-typedef uint32_t decode(struct jwt_verifier *, const uint8_t *, size_t, uint64_t, uint8_t *, size_t, size_t *, uint64_t *,
-                        uint32_t *);
+typedef uint32_t decode(struct jwt_verifier *, const uint8_t *, size_t,
+    uint64_t, uint8_t *, size_t, size_t *, uint64_t *, uint32_t *);
 typedef uint32_t check(const uint8_t *, size_t);
+
 
 static ssize_t
 with_file(const char *name, int flags, char *text, size_t len)
 {
-    int      file = open(name, flags | O_CLOEXEC, 0600);
+    int      file;
     ssize_t  done;
 
+    file = open(name, flags | O_CLOEXEC, 0600);
     if (file < 0) {
         return -1;
     }
@@ -43,14 +46,21 @@ gettimeofday(struct timeval *restrict now, void *restrict zone)
 }
 
 
-/* The library's own call: it is loaded with the module, so that this file does not see it by itself. */
+/*
+ * The library's own call: it is loaded with the module, so that this file does
+ * not see it by itself.
+ */
 static void *
 behind(const char *name)
 {
     char   call = '.';
-    void  *library = dlopen("libjwtproved.so.0", RTLD_NOW | RTLD_NOLOAD);
+    void  *library;
 
-    if (library == NULL || with_file(CALLS, O_WRONLY | O_APPEND | O_CREAT, &call, 1) != 1) {
+    library = dlopen("libjwtproved.so.0", RTLD_NOW | RTLD_NOLOAD);
+
+    if (library == NULL
+        || with_file(CALLS, O_WRONLY | O_APPEND | O_CREAT, &call, 1) != 1)
+    {
         abort();
     }
 
@@ -59,20 +69,24 @@ behind(const char *name)
 
 
 uint32_t
-jwt_verifier_decode(struct jwt_verifier *verifier, const uint8_t *token, size_t token_len, uint64_t now, uint8_t *buffer,
-                    size_t buffer_len, size_t *len, uint64_t *last, uint32_t *test)
+jwt_verifier_decode(struct jwt_verifier *verifier, const uint8_t *token,
+    size_t token_len, uint64_t now, uint8_t *buffer, size_t buffer_len,
+    size_t *len, uint64_t *last, uint32_t *test)
 {
-    decode  *found = behind("jwt_verifier_decode");
+    decode  *found;
 
-    return found(verifier, token, token_len, now, buffer, buffer_len, len, last, test);
+    found = behind("jwt_verifier_decode");
+    return found(verifier, token, token_len, now, buffer, buffer_len, len,
+                 last, test);
 }
 
 
 uint32_t
 jwt_check_set(const uint8_t *set, size_t set_len)
 {
-    check  *found = behind("jwt_check_set");
+    check  *found;
 
+    found = behind("jwt_check_set");
     return found(set, set_len);
 }
 
@@ -80,7 +94,8 @@ jwt_check_set(const uint8_t *set, size_t set_len)
 uint32_t
 jwt_check_key(const uint8_t *key, size_t key_len)
 {
-    check  *found = behind("jwt_check_key");
+    check  *found;
 
+    found = behind("jwt_check_key");
     return found(key, key_len);
 }

@@ -355,6 +355,10 @@ static void verdicts(void) {
     a.status = jwt_decode_verdict(BYTES(token), JWT_ES256, NULL, 0, NULL, 0, true, BYTES(ES256_LISTED "}"), 1000,
                                   a.room, ROOM, &a.len);
     is("a yes to nothing", status_of(&a), JWT_INVALID_SIGNATURE);
+    a = fresh();
+    a.status = jwt_decode_verdict(BYTES("eyJhbGciOiJFUzI1NiJ9.e30.AAAA"), JWT_ES256, (const uint8_t *)token, message,
+                                  BYTES("s"), true, BYTES(ES256_LISTED "}"), 1000, a.room, ROOM, &a.len);
+    is("a yes to another token", status_of(&a), JWT_INVALID_SIGNATURE);
 }
 
 static void signed_parts(void) {
@@ -646,8 +650,9 @@ static void issued(void) {
 #define BY_CURVE_MESSAGE "eyJhbGciOiJFUzI1NiIsInR5cCI6IkpXVCJ9.eyJleHAiOjk0MH0"
 #define RS256_MESSAGE "eyJhbGciOiJSUzI1NiJ9.eyJleHAiOjk0MH0"
 #define PS512_MESSAGE "eyJhbGciOiJQUzUxMiJ9.eyJleHAiOjk0MH0"
-/* 64 letters, and their text */
+/* 64 letters, two numbers of them in DER, and their text */
 #define LETTERS "aaaaaaaaaaaaaaaaaaaaaaaaaaaaaaaaaaaaaaaaaaaaaaaaaaaaaaaaaaaaaaaa"
+#define DER_OF_LETTERS "0D\2 aaaaaaaaaaaaaaaaaaaaaaaaaaaaaaaa\2 aaaaaaaaaaaaaaaaaaaaaaaaaaaaaaaa"
 #define LETTERS_PART "YWFhYWFhYWFhYWFhYWFhYWFhYWFhYWFhYWFhYWFhYWFhYWFhYWFhYWFhYWFhYWFhYWFhYWFhYWFhYWFhYWFhYQ"
 
 static struct answer by_signature(const char *header, const char *claims, uint32_t algorithm, const char *message,
@@ -697,6 +702,8 @@ static void issued_by_signature(void) {
     } refused[] = {
         {BY_CURVE_HEADER, BY_CURVE_CLAIMS, JWT_ES256, BY_CURVE_MESSAGE, LETTERS "a", JWT_SIGNING},
         {BY_CURVE_HEADER, BY_CURVE_CLAIMS, JWT_ES256, BY_CURVE_MESSAGE, "", JWT_SIGNING},
+        /* two numbers in DER */
+        {BY_CURVE_HEADER, BY_CURVE_CLAIMS, JWT_ES256, BY_CURVE_MESSAGE, DER_OF_LETTERS, JWT_SIGNING},
         /* as many bytes as the modulus has, and never none (RFC 8017 sections 8.1.1 and 8.2.1) */
         {"{\"alg\":\"RS256\"}", BY_CURVE_CLAIMS, JWT_RS256, RS256_MESSAGE, "", JWT_SIGNING},
         {"{\"alg\":\"PS512\"}", BY_CURVE_CLAIMS, JWT_PS512, PS512_MESSAGE, "", JWT_SIGNING},
@@ -738,6 +745,8 @@ static void pairs(void) {
     is("a 0 too many", status_of(&a), JWT_INVALID_SIGNATURE);
     a = numbers_of(der, sizeof der - 1, JWT_ES256, ROOM);
     is("numbers cut short", status_of(&a), JWT_INVALID_SIGNATURE);
+    a = numbers_of(BYTES(DER_OF_LETTERS), JWT_ES256, ROOM);
+    is("the numbers of letters", gives(&a, LETTERS), 1);
     a = numbers_of(NULL, 0, JWT_ES256, ROOM);
     is("no numbers", status_of(&a), JWT_INVALID_SIGNATURE);
     a = numbers_of(der, sizeof der, JWT_RS256, ROOM);

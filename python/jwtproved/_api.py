@@ -20,6 +20,23 @@ _PLAIN = {str, int, type(None)}
 _MOST = 64
 
 
+def _plain_call(
+    key: Key,
+    algorithms: Names,
+    options: dict[str, Any] | None,
+    audience: Names,
+    issuer: Names,
+    subject: str | None,
+    leeway: Moment,
+    understood_crit: Names,
+) -> tuple[Any, ...] | None:
+    """Returns what the checker for the arguments of a call is kept under, or None if they are to be read again."""
+    if options is not None or understood_crit is not None or type(algorithms) is not list or type(key) not in (str, bytes):
+        return None
+    asked = (audience, issuer, subject, leeway, *algorithms)
+    return (type(key), key, *asked) if _PLAIN.issuperset(map(type, asked)) else None
+
+
 def _checker(key: Key, rules: Rules) -> Checker:
     if not rules.algorithms:
         raise DecodeError('It is required that you pass in a value for the "algorithms" argument when calling decode().')
@@ -63,25 +80,23 @@ class PyJWT:
 
         A refusal raises an exception below InvalidTokenError.
         """
-        token = jwt.encode("utf-8", "surrogatepass") if type(jwt) is str else token_of("jwt", jwt)
-        if options is None and understood_crit is None and type(algorithms) is list and type(key) in (str, bytes):
-            asked = (audience, issuer, subject, leeway, *algorithms)
-            if _PLAIN.issuperset(map(type, asked)):
-                return (self._kept.get((type(key), key, asked)) or self._keep(key, asked)).decode(token, moment_of(None))
-        given = options_of(options)
-        rules = rules_of(algorithms, {**self._own, **given}, audience, issuer, subject, leeway, understood_crit)
-        if given.get("verify_signature") is False:
-            return self._unverified(token, rules)
-        return _checker(key, rules).decode(token, moment_of(None))
+        token = token_of("jwt", jwt)
+        call = _plain_call(key, algorithms, options, audience, issuer, subject, leeway, understood_crit)
+        checker = None if call is None else self._kept.get(call)
+        if checker is None:
+            given = options_of(options)
+            rules = rules_of(algorithms, {**self._own, **given}, audience, issuer, subject, leeway, understood_crit)
+            if given.get("verify_signature") is False:
+                return self._unverified(token, rules)
+            checker = _checker(key, rules)
+            if call is not None:
+                self._keep(call, checker)
+        return checker.decode(token, moment_of(None))
 
-    def _keep(self, key: str | bytes, asked: tuple[Any, ...]) -> Checker:
-        """Returns the checker for the arguments of a call, which are not read again if they come again."""
-        audience, issuer, subject, leeway, *algorithms = asked
-        made = _checker(key, rules_of(algorithms, self._own, audience, issuer, subject, leeway))
+    def _keep(self, call: tuple[Any, ...], checker: Checker) -> None:
         if len(self._kept) >= _MOST:
             self._kept.clear()
-        self._kept[type(key), key, asked] = made
-        return made
+        self._kept[call] = checker
 
     def decode_complete(self, jwt: Token, key: Key = "", algorithms: Names = None, **arguments: Any) -> dict[str, Any]:
         """Returns the claims that `decode` returns as `payload`, with the token's `header` and the bytes of its `signature`."""

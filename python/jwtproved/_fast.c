@@ -298,7 +298,16 @@ static PyMethodDef methods[] = {
     {"bind", bind, METH_VARARGS, PyDoc_STR("Takes the path of the library, and the exception for a refusal.")},
     {NULL, NULL, 0, NULL}};
 
-static PyModuleDef_Slot slots[] = {{Py_mod_exec, module_exec}, {0, NULL}};
+static PyModuleDef_Slot slots[] = {{Py_mod_exec, module_exec},
+#ifdef Py_mod_multiple_interpreters
+                                   /* all state is the module's, of which each interpreter has its own */
+                                   {Py_mod_multiple_interpreters, Py_MOD_PER_INTERPRETER_GIL_SUPPORTED},
+#endif
+#ifdef Py_mod_gil
+                                   /* the idle handles are guarded by it */
+                                   {Py_mod_gil, Py_MOD_GIL_USED},
+#endif
+                                   {0, NULL}};
 
 static struct PyModuleDef definition = {
     .m_base = PyModuleDef_HEAD_INIT,

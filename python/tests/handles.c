@@ -22,15 +22,11 @@ static atomic_int living;
 /* Returns how many handles there are. */
 int living_handles(void);
 
-int
-living_handles(void)
-{
+int living_handles(void) {
     return living;
 }
 
-static void
-enter(struct jwt_verifier *verifier)
-{
+static void enter(struct jwt_verifier *verifier) {
     struct held *held = verifier->at;
 
     if (held == NULL || atomic_exchange(&held->is_busy, 1)) {
@@ -39,15 +35,11 @@ enter(struct jwt_verifier *verifier)
     }
 }
 
-static void
-leave(struct jwt_verifier *verifier)
-{
+static void leave(struct jwt_verifier *verifier) {
     atomic_store(&((struct held *)verifier->at)->is_busy, 0);
 }
 
-static uint32_t
-make(struct jwt_verifier *verifier)
-{
+static uint32_t make(struct jwt_verifier *verifier) {
     verifier->at = calloc(1, sizeof(struct held));
     if (verifier->at == NULL) {
         return JWT_OUT_OF_MEMORY;
@@ -56,40 +48,30 @@ make(struct jwt_verifier *verifier)
     return JWT_OK;
 }
 
-uint32_t
-jwt_verifier_secret(const uint8_t *secret, size_t secret_len, const uint8_t *options, size_t options_len, size_t max_token_len,
-                    bool allows_blank, struct jwt_verifier *verifier)
-{
+uint32_t jwt_verifier_secret(const uint8_t *secret, size_t secret_len, const uint8_t *options, size_t options_len,
+                             size_t max_token_len, bool allows_blank, struct jwt_verifier *verifier) {
     (void)secret, (void)options, (void)options_len, (void)max_token_len, (void)allows_blank;
     return secret_len == 3 ? JWT_UNFIT_KEY : make(verifier);
 }
 
-uint32_t
-jwt_verifier_key(const uint8_t *key, size_t key_len, const uint8_t *options, size_t options_len, size_t max_token_len, bool allows_blank,
-                 struct jwt_verifier *verifier)
-{
+uint32_t jwt_verifier_key(const uint8_t *key, size_t key_len, const uint8_t *options, size_t options_len,
+                          size_t max_token_len, bool allows_blank, struct jwt_verifier *verifier) {
     return jwt_verifier_secret(key, key_len, options, options_len, max_token_len, allows_blank, verifier);
 }
 
-uint32_t
-jwt_verifier_set(const uint8_t *set, size_t set_len, const uint8_t *options, size_t options_len, size_t max_token_len, bool allows_blank,
-                 struct jwt_verifier *verifier)
-{
+uint32_t jwt_verifier_set(const uint8_t *set, size_t set_len, const uint8_t *options, size_t options_len,
+                          size_t max_token_len, bool allows_blank, struct jwt_verifier *verifier) {
     return jwt_verifier_secret(set, set_len, options, options_len, max_token_len, allows_blank, verifier);
 }
 
-uint32_t
-jwt_verifier_share(struct jwt_verifier *verifier, struct jwt_verifier *other)
-{
+uint32_t jwt_verifier_share(struct jwt_verifier *verifier, struct jwt_verifier *other) {
     enter(verifier);
     usleep(50);
     leave(verifier);
     return make(other);
 }
 
-void
-jwt_verifier_free(struct jwt_verifier *verifier)
-{
+void jwt_verifier_free(struct jwt_verifier *verifier) {
     if (verifier->at != NULL) {
         enter(verifier);
         free(verifier->at);
@@ -98,9 +80,7 @@ jwt_verifier_free(struct jwt_verifier *verifier)
     }
 }
 
-static uint32_t
-say(const char *claims, size_t size, uint8_t *buffer, size_t buffer_len, size_t *len)
-{
+static uint32_t say(const char *claims, size_t size, uint8_t *buffer, size_t buffer_len, size_t *len) {
     *len = size;
     if (buffer_len < size) {
         return JWT_NO_ROOM;
@@ -110,10 +90,8 @@ say(const char *claims, size_t size, uint8_t *buffer, size_t buffer_len, size_t 
     return JWT_OK;
 }
 
-uint32_t
-jwt_verifier_decode(struct jwt_verifier *verifier, const uint8_t *token, size_t token_len, uint64_t now, uint8_t *buffer, size_t buffer_len,
-                    size_t *len, uint64_t *last, uint32_t *test)
-{
+uint32_t jwt_verifier_decode(struct jwt_verifier *verifier, const uint8_t *token, size_t token_len, uint64_t now,
+                             uint8_t *buffer, size_t buffer_len, size_t *len, uint64_t *last, uint32_t *test) {
     uint32_t status = token_len == 5 ? JWT_OUT_OF_MEMORY : JWT_INVALID_SIGNATURE;
 
     (void)token;

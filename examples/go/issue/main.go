@@ -45,8 +45,8 @@ func main() {
 	issued := claims{"b@b.com", time.Now().Add(time.Minute).Unix()}
 	bySecret, noToken := jwt.Sign(issued, secret, "HS256", nil)
 	byKey, noSignature := signedElsewhere(private, issued)
-	verifyingSecret, _ := jwt.Secret(secret)
-	public, _ := jwt.Public(&private.PublicKey)
+	verifyingSecret, _ := jwt.NewSecretKey(secret)
+	public, _ := jwt.NewPublicKey(&private.PublicKey)
 	one, refusedOne := jwt.Parse(bySecret, verifyingSecret, []string{"HS256"})
 	other, refusedOther := jwt.Parse(byKey, public, []string{"ES256"}, jwt.WithSubject("b@b.com"))
 	for _, err := range []error{noSecret, noKey, noToken, noSignature, refusedOne, refusedOther} {

@@ -32,11 +32,11 @@ func by(key jwt.Key, err error, algorithm string, now int64, with ...jwt.Option)
 }
 
 func main() {
-	key, err := jwt.Secret([]byte(secret))
+	key, err := jwt.NewSecretKey([]byte(secret))
 	bySecret, late := by(key, err, "HS256", 2532524890, jwt.WithSubject("b@b.com")), by(key, err, "HS256", 2532524891)
-	key, err = jwt.JWKSet([]byte(set))
+	key, err = jwt.ParseJWKSet([]byte(set))
 	bySet := by(key, err, "HS256", 2532524890)
-	key, err = jwt.JWK([]byte(jwk))
+	key, err = jwt.ParseJWK([]byte(jwk))
 	byKey, byAnn := by(key, err, "ES256", 1300819379), by(key, err, "ES256", 1300819379, jwt.WithIssuer("ann"))
 	failed := 0
 	for _, it := range []struct {

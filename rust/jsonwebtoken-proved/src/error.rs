@@ -1,5 +1,42 @@
 use crate::status;
+use std::error::Error as StdError;
 use std::fmt;
+use std::sync::Arc;
+
+/// The error of another crate that an [`Error`] comes from. Two of them are equal if their texts are.
+#[derive(Clone)]
+pub struct Cause(Arc<dyn StdError + Send + Sync>);
+
+impl Cause {
+    pub(crate) fn new(error: impl Into<Box<dyn StdError + Send + Sync>>) -> Cause {
+        Cause(Arc::from(error.into()))
+    }
+
+    /// Returns the error itself.
+    pub fn get(&self) -> &(dyn StdError + Send + Sync + 'static) {
+        &*self.0
+    }
+}
+
+impl PartialEq for Cause {
+    fn eq(&self, other: &Cause) -> bool {
+        self.to_string() == other.to_string()
+    }
+}
+
+impl Eq for Cause {}
+
+impl fmt::Debug for Cause {
+    fn fmt(&self, f: &mut fmt::Formatter<'_>) -> fmt::Result {
+        fmt::Debug::fmt(&self.0, f)
+    }
+}
+
+impl fmt::Display for Cause {
+    fn fmt(&self, f: &mut fmt::Formatter<'_>) -> fmt::Result {
+        fmt::Display::fmt(&self.0, f)
+    }
+}
 
 /// The reason for which there is no result. All but the last seven are refusals of the token.
 #[derive(Clone, Debug, PartialEq, Eq)]
@@ -31,16 +68,18 @@ pub enum Error {
     MalformedClaim(&'static str),
     /// The token is longer than the verifier allows.
     TooLong,
-    /// The claims are not those of the type that was asked for, or can't be written.
-    Json(String),
+    /// The claims are not those of the type that was asked for, or can't be written: the error of `serde_json`, which is the
+    /// [`source`](StdError::source).
+    Json(Cause),
     /// The key can't be read, does not serve, or is a secret that others may know.
     Key(String),
     /// The signature does not have a length of its algorithm.
     Signing,
     /// An argument is not understood: the text says which one.
     Argument(String),
-    /// A set of keys can't be fetched. This says nothing about a token.
-    Fetch(String),
+    /// A set of keys can't be fetched: the error of the closure that fetches it, for example, which is the [`source`](StdError::source).
+    /// This says nothing about a token.
+    Fetch(Cause),
     /// Memory ran out in the library, so the verification did not finish.
     OutOfMemory,
     /// The system clock is before 1970-01-01 00:00:00 UTC, so that no token can be judged.
@@ -112,15 +151,22 @@ impl fmt::Display for Error {
             Error::MissingClaim(name) => write!(f, "the required claim {name} is missing or malformed"),
             Error::MalformedClaim(name) => write!(f, "the claim {name} is malformed"),
             Error::TooLong => f.write_str("the token is too long"),
-            Error::Json(text) => write!(f, "the claims do not fit their type: {text}"),
+            Error::Json(_) => f.write_str("the claims do not fit their type"),
             Error::Key(text) => write!(f, "the key does not serve: {text}"),
             Error::Signing => f.write_str("the signature does not have a length of its algorithm"),
             Error::Argument(text) => write!(f, "an argument is not understood: {text}"),
-            Error::Fetch(text) => write!(f, "the set of keys can't be fetched: {text}"),
+            Error::Fetch(_) => f.write_str("the set of keys can't be fetched"),
             Error::OutOfMemory => f.write_str("out of memory"),
             Error::ClockBeforeEpoch => f.write_str("the system clock is before 1970-01-01"),
         }
     }
 }
 
-impl std::error::Error for Error {}
+impl StdError for Error {
+    fn source(&self) -> Option<&(dyn StdError + 'static)> {
+        match self {
+            Error::Json(cause) | Error::Fetch(cause) => Some(cause.get()),
+            _ => None,
+        }
+    }
+}

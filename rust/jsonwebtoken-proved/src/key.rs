@@ -13,6 +13,8 @@ pub struct DecodingKey {
 impl DecodingKey {
     /// Returns a secret as a key, for HS256, HS384 and HS512. RFC 7518 section 3.2 requires at least 32, 48 and 64 bytes.
     ///
+    /// # Errors
+    ///
     /// A secret that others may know is [`Error::Key`]: a secret that is empty or has only zeros, and the text of a key of another
     /// kind: a text that contains an SSH key or PEM, the JSON of a JSON Web Key or a set, a key or a certificate in DER, or base64 of
     /// any of these.
@@ -20,36 +22,58 @@ impl DecodingKey {
         Ok(DecodingKey { kind: Kind::Secret, text: checked(secret)? })
     }
 
-    /// Returns a JSON Web Key of any kind as a key (RFC 7517 section 4). One that can't be read, or that verifies with no algorithm, is
-    /// [`Error::Key`], and so is a secret that [`DecodingKey::from_secret`] refuses.
+    /// Returns a JSON Web Key of any kind as a key (RFC 7517 section 4).
+    ///
+    /// # Errors
+    ///
+    /// A key that can't be read, or that verifies with no algorithm, is [`Error::Key`], and so is a secret that
+    /// [`DecodingKey::from_secret`] refuses.
     pub fn from_jwk(jwk: &str) -> Result<DecodingKey, Error> {
         usable(Kind::Jwk, jwk)
     }
 
-    /// Returns a JSON Web Key Set as a key (RFC 7517 section 5), of which a token names one by its `kid`. One that can't be read, or of
-    /// which no key with a `kid` verifies with any algorithm, is [`Error::Key`], and so is one with a secret that
-    /// [`DecodingKey::from_secret`] refuses.
+    /// Returns a JSON Web Key Set as a key (RFC 7517 section 5), of which a token names one by its `kid`.
+    ///
+    /// # Errors
+    ///
+    /// A set that can't be read, or of which no key with a `kid` verifies with any algorithm, is [`Error::Key`], and so is one with a
+    /// secret that [`DecodingKey::from_secret`] refuses.
     pub fn from_jwk_set(set: &str) -> Result<DecodingKey, Error> {
         usable(Kind::Set, set)
     }
 
-    /// Returns a public key in PEM (RFC 7468) as a key: a SubjectPublicKeyInfo or an RSAPublicKey. Text before it is skipped. One that
-    /// can't be read, or that verifies with no algorithm, is [`Error::Key`].
+    /// Returns a public key in PEM (RFC 7468) as a key: a SubjectPublicKeyInfo or an RSAPublicKey. Text before it is skipped.
+    ///
+    /// # Errors
+    ///
+    /// A key that can't be read, or that verifies with no algorithm, is [`Error::Key`].
     pub fn from_pem(pem: &[u8]) -> Result<DecodingKey, Error> {
         DecodingKey::from_jwk(&calls::key_from_pem(pem).map_err(Error::from_key_status)?)
     }
 
-    /// Returns a public RSA key in PEM as a key, like [`DecodingKey::from_pem`]. A key of another kind is [`Error::Key`].
+    /// Returns a public RSA key in PEM as a key, like [`DecodingKey::from_pem`].
+    ///
+    /// # Errors
+    ///
+    /// The errors are those of [`DecodingKey::from_pem`], and a key of another kind is [`Error::Key`].
     pub fn from_rsa_pem(pem: &[u8]) -> Result<DecodingKey, Error> {
         DecodingKey::from_pem(pem)?.of_type("RSA")
     }
 
-    /// Returns a public key on P-256 or P-384 in PEM as a key, like [`DecodingKey::from_pem`]. A key of another kind is [`Error::Key`].
+    /// Returns a public key on P-256 or P-384 in PEM as a key, like [`DecodingKey::from_pem`].
+    ///
+    /// # Errors
+    ///
+    /// The errors are those of [`DecodingKey::from_pem`], and a key of another kind is [`Error::Key`].
     pub fn from_ec_pem(pem: &[u8]) -> Result<DecodingKey, Error> {
         DecodingKey::from_pem(pem)?.of_type("EC")
     }
 
-    /// Returns a public Ed25519 key in PEM as a key, like [`DecodingKey::from_pem`]. A key of another kind is [`Error::Key`].
+    /// Returns a public Ed25519 key in PEM as a key, like [`DecodingKey::from_pem`].
+    ///
+    /// # Errors
+    ///
+    /// The errors are those of [`DecodingKey::from_pem`], and a key of another kind is [`Error::Key`].
     pub fn from_ed_pem(pem: &[u8]) -> Result<DecodingKey, Error> {
         DecodingKey::from_pem(pem)?.of_type("OKP")
     }
@@ -103,7 +127,11 @@ pub struct EncodingKey {
 }
 
 impl EncodingKey {
-    /// Returns a secret as a key. One that [`DecodingKey::from_secret`] refuses is [`Error::Key`].
+    /// Returns a secret as a key.
+    ///
+    /// # Errors
+    ///
+    /// A secret that [`DecodingKey::from_secret`] refuses is [`Error::Key`].
     pub fn from_secret(secret: &[u8]) -> Result<EncodingKey, Error> {
         Ok(EncodingKey { secret: checked(secret)? })
     }
@@ -126,7 +154,11 @@ pub enum ThumbprintHash {
     SHA512 = 512,
 }
 
-/// Returns the thumbprint of a JSON Web Key (RFC 7638). A key that can't be read, or of a kind that has none, is [`Error::Key`].
+/// Returns the thumbprint of a JSON Web Key (RFC 7638).
+///
+/// # Errors
+///
+/// A key that can't be read, or of a kind that has none, is [`Error::Key`].
 pub fn thumbprint(jwk: &str, hash: ThumbprintHash) -> Result<String, Error> {
     calls::thumbprint(jwk, hash as u32).map_err(Error::from_key_status)
 }

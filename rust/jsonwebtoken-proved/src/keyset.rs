@@ -1,8 +1,9 @@
 //! A set of keys that is fetched, and fetched again as its keys rotate.
 
 use crate::calls;
-use crate::{DecodingKey, Error, Refusal, Validation, Verified, Verifier};
-use std::fmt::{self, Display};
+use crate::{Cause, DecodingKey, Error, Refusal, Validation, Verified, Verifier};
+use std::error::Error as StdError;
+use std::fmt;
 use std::io::Read;
 use std::panic::{AssertUnwindSafe, catch_unwind};
 use std::sync::{Arc, Condvar, Mutex, MutexGuard, PoisonError};
@@ -105,9 +106,11 @@ impl Fetched {
 impl KeySet {
     /// Returns the set that a closure fetches, once it gave a usable one. Of what it reads at most 1 MiB is taken.
     ///
+    /// # Errors
+    ///
     /// If the closure fails, or takes longer than the timeout, or the text has more than 1 MiB, this is [`Error::Fetch`]; if the text is no
     /// set with a key by which tokens are verified, [`Error::Key`]; a time of 0 is [`Error::Argument`].
-    pub fn new<R: Read, E: Display>(
+    pub fn new<R: Read, E: Into<Box<dyn StdError + Send + Sync>>>(
         fetch: impl FnMut() -> Result<R, E> + Send + 'static,
         rotation: Rotation,
     ) -> Result<KeySet, Error> {
@@ -117,12 +120,12 @@ impl KeySet {
         // dropping it ends the thread
         let set = KeySet { shared: Arc::clone(&shared) };
         let spawned = thread::Builder::new().name("jwtproved".to_string()).spawn(move || keep(&shared, fetch));
-        spawned.map_err(|error| Error::Fetch(error.to_string()))?;
+        spawned.map_err(failed)?;
         let state = set.shared.wait(set.shared.lock());
         match (&state.current, &state.failure) {
             (Some(_), _) => {}
             (None, Some(error)) => return Err(error.clone()),
-            (None, None) => return Err(Error::Fetch("it took longer than the timeout".to_string())),
+            (None, None) => return Err(failed("it took longer than the timeout")),
         }
         drop(state);
         Ok(set)
@@ -132,6 +135,10 @@ impl KeySet {
     /// made once, as long as the set stays and at most 16 different ones are in use.
     ///
     /// If the set has no key of the token's `kid`, or none that serves an algorithm, a later set decides.
+    ///
+    /// # Errors
+    ///
+    /// The errors are those of [`Verifier::new`] and of [`Verifier::decode_json`]. A `kid` that no set has is [`Error::UnknownKey`].
     pub fn decode_json(&self, token: &str, validation: &Validation, now: u64) -> Result<Verified<String>, Refusal> {
         let seen = self.fetched();
         match seen.decode_json(token, validation, now) {
@@ -239,23 +246,28 @@ impl Shared {
 }
 
 /// Fetches the set when it is time to, until it is dropped.
-fn keep<R: Read, E: Display>(shared: &Shared, mut fetch: impl FnMut() -> Result<R, E>) {
+fn keep<R: Read, E: Into<Box<dyn StdError + Send + Sync>>>(shared: &Shared, mut fetch: impl FnMut() -> Result<R, E>) {
     while shared.wait_for_work() {
         let found = catch_unwind(AssertUnwindSafe(|| text_of(&mut fetch)));
-        let text = found.unwrap_or_else(|_| Err(Error::Fetch("the closure panicked".to_string())));
+        let text = found.unwrap_or_else(|_| Err(failed("the closure panicked")));
         shared.end(text.and_then(|it| usable(&it)));
     }
 }
 
-fn text_of<R: Read, E: Display>(fetch: &mut impl FnMut() -> Result<R, E>) -> Result<String, Error> {
-    let failed = |why: &dyn Display| Error::Fetch(why.to_string());
+fn text_of<R: Read, E: Into<Box<dyn StdError + Send + Sync>>>(
+    fetch: &mut impl FnMut() -> Result<R, E>,
+) -> Result<String, Error> {
     let mut text = Vec::new();
-    let reader = fetch().map_err(|error| failed(&error))?;
-    reader.take(LARGEST + 1).read_to_end(&mut text).map_err(|error| failed(&error))?;
+    let reader = fetch().map_err(failed)?;
+    reader.take(LARGEST + 1).read_to_end(&mut text).map_err(failed)?;
     if text.len() as u64 > LARGEST {
-        return Err(failed(&format!("it has more than {LARGEST} bytes")));
+        return Err(failed(format!("it has more than {LARGEST} bytes")));
     }
-    String::from_utf8(text).map_err(|error| failed(&error))
+    String::from_utf8(text).map_err(failed)
+}
+
+fn failed(why: impl Into<Box<dyn StdError + Send + Sync>>) -> Error {
+    Error::Fetch(Cause::new(why))
 }
 
 /// Returns a set, if one of its keys with a `kid` verifies tokens.

@@ -16,7 +16,7 @@
 //!
 //! A [`Verifier`] reads a key and a [`Validation`] once, and verifies many tokens; a [`KeySet`] fetches keys that rotate. With the feature
 //! `serde`, `decode` and `encode` read and write claims of your own types, at the time of the system's clock.
-#![warn(missing_docs)]
+#![warn(missing_docs, clippy::missing_errors_doc)]
 #![deny(unsafe_op_in_unsafe_fn)]
 
 mod calls;
@@ -33,13 +33,13 @@ mod typed;
 mod validation;
 mod verifier;
 
-pub use error::Error;
+pub use error::{Cause, Error};
 pub use key::{DecodingKey, EncodingKey, ThumbprintHash, thumbprint};
 pub use keyset::{KeySet, Rotation};
 pub use signature::{SignedPart, SigningInput, Verdict, decode_by_verdict, ecdsa_signature, signed_part};
 #[cfg(feature = "serde")]
 pub use typed::{decode, encode};
-pub use validation::{Algorithm, Claim, Validation};
+pub use validation::{Algorithm, Validation};
 pub use verifier::{Refusal, Verified, Verifier};
 
 use std::borrow::Cow;
@@ -96,7 +96,11 @@ impl ToHeader for str {
 /// Verifies a token at the time `now`, in seconds since 1970-01-01 00:00:00 UTC, and returns its claims as compact JSON. Floats, and
 /// integers beyond 64 bits, are written as the nearest double.
 ///
-/// A [`Verifier`] is made for this call, with its limit of 1 MiB and its errors; make one yourself for many tokens.
+/// A [`Verifier`] is made for this call, with its limit of 1 MiB; make one yourself for many tokens.
+///
+/// # Errors
+///
+/// The errors are those of [`Verifier::new`] and of [`Verifier::decode_json`].
 pub fn decode_json(
     token: &str,
     key: &DecodingKey,
@@ -108,19 +112,29 @@ pub fn decode_json(
 }
 
 /// Returns the header of a token, as compact JSON. Nothing is verified.
+///
+/// # Errors
+///
+/// A text that is not a token, or whose header can't be read, is [`Error::Malformed`].
 pub fn decode_header(token: &str) -> Result<String, Error> {
     calls::decode_header(token).map_err(Error::from_status)
 }
 
-/// Returns the token of claims, which are JSON of an object, signed with HS256, HS384 or HS512. A claim that is a float is
-/// [`Error::Malformed`], an algorithm of another family [`Error::Algorithm`], and a text that is not a header, or not claims,
-/// [`Error::Argument`].
+/// Returns the token of claims, which are JSON of an object, signed with HS256, HS384 or HS512.
+///
+/// # Errors
+///
+/// A claim that is a float is [`Error::Malformed`], an algorithm of another family [`Error::Algorithm`], and a text that is not a header,
+/// or not claims, [`Error::Argument`].
 pub fn encode_json(header: &(impl ToHeader + ?Sized), claims: &str, key: &EncodingKey) -> Result<String, Error> {
     calls::encode(&header.to_header(), claims, &key.secret).map_err(Error::from_status)
 }
 
-/// Returns the time of the system's clock, in seconds since 1970-01-01 00:00:00 UTC. A clock before that time is
-/// [`Error::ClockBeforeEpoch`].
+/// Returns the time of the system's clock, in seconds since 1970-01-01 00:00:00 UTC.
+///
+/// # Errors
+///
+/// A clock before that time is [`Error::ClockBeforeEpoch`].
 pub fn get_current_timestamp() -> Result<u64, Error> {
     seconds_of(SystemTime::now())
 }

@@ -28,6 +28,10 @@ pub struct Verdict<'a> {
 }
 
 /// Returns the parts of a token that other cryptography has to check. Nothing is verified.
+///
+/// # Errors
+///
+/// A text that is not a token, or whose header or signature can't be read, is [`Error::Malformed`].
 pub fn signed_part(token: &str) -> Result<SignedPart<'_>, Error> {
     let (algorithm, len, signature) = calls::signed_part(token).map_err(Error::from_status)?;
     let algorithm = Algorithm::from_number(algorithm).ok_or(Error::Algorithm)?;
@@ -35,6 +39,8 @@ pub fn signed_part(token: &str) -> Result<SignedPart<'_>, Error> {
 }
 
 /// Verifies a token like [`decode_json`](crate::decode_json), but its signature was checked elsewhere.
+///
+/// # Errors
 ///
 /// A no, or a verdict on another message or signature than the token's, is [`Error::Signature`]. A verdict by another algorithm than the
 /// token's is [`Error::Algorithm`].
@@ -71,8 +77,11 @@ pub struct SigningInput {
 }
 
 impl SigningInput {
-    /// Returns the token of a header and claims, which are JSON of an object, without its signature. The errors are those of
-    /// [`encode_json`](crate::encode_json).
+    /// Returns the token of a header and claims, which are JSON of an object, without its signature.
+    ///
+    /// # Errors
+    ///
+    /// The errors are those of [`encode_json`](crate::encode_json), but any algorithm is accepted.
     pub fn new(header: &(impl ToHeader + ?Sized), claims: &str) -> Result<SigningInput, Error> {
         let header = header.to_header().into_owned();
         let (algorithm, message) = calls::signing_input(&header, claims).map_err(Error::from_status)?;
@@ -90,17 +99,23 @@ impl SigningInput {
         self.message.as_bytes()
     }
 
-    /// Returns the token with a signature of the message. A signature without a length of the algorithm is [`Error::Signing`]: 64 bytes
-    /// for ES256 and EdDSA, 96 for ES384, 32, 48 or 64 for HMAC, and at least 1 for RSA. Whether it is the message's is left to those who
-    /// verify the token.
+    /// Returns the token with a signature of the message. Whether it is the message's is left to those who verify the token.
+    ///
+    /// # Errors
+    ///
+    /// A signature without a length of the algorithm is [`Error::Signing`]: 64 bytes for ES256 and EdDSA, 96 for ES384, 32, 48 or 64 for
+    /// HMAC, and at least 1 for RSA.
     pub fn encode(&self, signature: &[u8]) -> Result<String, Error> {
         let signed = Signed { algorithm: self.algorithm.number(), message: self.message(), signature };
         calls::encode_signature(&self.header, &self.claims, signed).map_err(Error::from_status)
     }
 }
 
-/// Returns a signature with ES256 or ES384 as a token has it, from one in DER (RFC 3279 section 2.2.3), as OpenSSL and a KMS make it. Another
-/// algorithm is [`Error::Algorithm`], and bytes that are not the DER of two numbers of its length are [`Error::Signature`].
+/// Returns a signature with ES256 or ES384 as a token has it, from one in DER (RFC 3279 section 2.2.3), as OpenSSL and a KMS make it.
+///
+/// # Errors
+///
+/// Another algorithm is [`Error::Algorithm`], and bytes that are not the DER of two numbers of its length are [`Error::Signature`].
 pub fn ecdsa_signature(der: &[u8], algorithm: Algorithm) -> Result<Vec<u8>, Error> {
     calls::ecdsa_signature(der, algorithm.number()).map_err(Error::from_status)
 }

@@ -1,4 +1,5 @@
 use crate::{Error, json};
+use std::collections::HashSet;
 use std::fmt;
 use std::str::FromStr;
 
@@ -80,42 +81,18 @@ pub(crate) fn names(algorithms: &[Algorithm]) -> String {
     json::list(algorithms.iter().map(ToString::to_string))
 }
 
-/// A claim that can be required (RFC 7519 section 4.1).
-#[derive(Clone, Copy, Debug, PartialEq, Eq)]
-pub enum Claim {
-    /// The end, in seconds since 1970-01-01 00:00:00 UTC.
-    Exp,
-    /// The begin, in seconds since 1970-01-01 00:00:00 UTC.
-    Nbf,
-    /// The audiences.
-    Aud,
-    /// The issuer.
-    Iss,
-    /// The subject.
-    Sub,
+/// The claims that can be required (RFC 7519 section 4.1): the library has no rule for another one.
+const SPEC_CLAIMS: [&str; 5] = ["exp", "nbf", "aud", "iss", "sub"];
+
+fn texts<T: ToString>(items: &[T]) -> HashSet<String> {
+    items.iter().map(ToString::to_string).collect()
 }
 
-impl Claim {
-    fn name(self) -> &'static str {
-        match self {
-            Claim::Exp => "exp",
-            Claim::Nbf => "nbf",
-            Claim::Aud => "aud",
-            Claim::Iss => "iss",
-            Claim::Sub => "sub",
-        }
-    }
-}
-
-/// Reads the name of a claim that can be required. Another name is [`Error::Argument`]: the library has no rule for that claim.
-impl FromStr for Claim {
-    type Err = Error;
-
-    fn from_str(name: &str) -> Result<Claim, Error> {
-        let found =
-            [Claim::Exp, Claim::Nbf, Claim::Aud, Claim::Iss, Claim::Sub].into_iter().find(|it| it.name() == name);
-        found.ok_or_else(|| Error::Argument(format!("{name:?} is not one of exp, nbf, aud, iss and sub")))
-    }
+/// Returns texts as JSON, in their order.
+fn sorted(texts: &HashSet<String>) -> String {
+    let mut found: Vec<&String> = texts.iter().collect();
+    found.sort();
+    json::list(found)
 }
 
 /// The conditions on a token.
@@ -123,9 +100,10 @@ impl FromStr for Claim {
 pub struct Validation {
     /// The algorithms that are accepted, all of the key's family.
     pub algorithms: Vec<Algorithm>,
-    /// The claims that have to be there, `exp` alone at first. A claim that `audiences`, `issuers` or `subject` asks for has to be
-    /// there too.
-    pub required: Vec<Claim>,
+    /// The claims that have to be there, among `exp`, `nbf`, `aud`, `iss` and `sub`: `exp` alone at first. Another name is
+    /// [`Error::Argument`]. A claim that [`aud`](Validation::aud), [`iss`](Validation::iss) or [`sub`](Validation::sub) asks for has to
+    /// be there too.
+    pub required_spec_claims: HashSet<String>,
     /// By how many seconds clocks may differ: 60 at first, and 0 by [`Validation::strict`].
     pub leeway: u64,
     /// In how many seconds a token must not have expired yet: 0 at first, and 1 by [`Validation::strict`].
@@ -137,11 +115,11 @@ pub struct Validation {
     /// Whether `aud` is checked: at first it is, so that a token that names one is refused if no audience is accepted.
     pub validate_aud: bool,
     /// The audiences of which the token has to name one.
-    pub audiences: Option<Vec<String>>,
+    pub aud: Option<HashSet<String>>,
     /// The issuers of which the token has to name one.
-    pub issuers: Option<Vec<String>>,
+    pub iss: Option<HashSet<String>>,
     /// The subject that the token has to name.
-    pub subject: Option<String>,
+    pub sub: Option<String>,
     /// The names that the header's `crit` may have (RFC 7515 section 4.1.11): none at first.
     pub understood_crit: Vec<String>,
 }
@@ -152,15 +130,15 @@ impl Validation {
     pub fn new(algorithm: Algorithm) -> Validation {
         Validation {
             algorithms: vec![algorithm],
-            required: vec![Claim::Exp],
+            required_spec_claims: texts(&["exp"]),
             leeway: 60,
             reject_tokens_expiring_in_less_than: 0,
             validate_exp: true,
             validate_nbf: false,
             validate_aud: true,
-            audiences: None,
-            issuers: None,
-            subject: None,
+            aud: None,
+            iss: None,
+            sub: None,
             understood_crit: Vec::new(),
         }
     }
@@ -178,30 +156,31 @@ impl Validation {
 
     /// Accepts tokens for one of these audiences, and requires `aud`: a token that names none is
     /// [`Error::MissingClaim`](crate::Error::MissingClaim).
-    pub fn set_audience(&mut self, audiences: &[impl ToString]) {
-        self.audiences = Some(audiences.iter().map(ToString::to_string).collect());
+    pub fn set_audience<T: ToString>(&mut self, audiences: &[T]) {
+        self.aud = Some(texts(audiences));
     }
 
     /// Accepts tokens of one of these issuers, and requires `iss`: a token that names none is
     /// [`Error::MissingClaim`](crate::Error::MissingClaim).
-    pub fn set_issuer(&mut self, issuers: &[impl ToString]) {
-        self.issuers = Some(issuers.iter().map(ToString::to_string).collect());
+    pub fn set_issuer<T: ToString>(&mut self, issuers: &[T]) {
+        self.iss = Some(texts(issuers));
     }
 
-    /// Requires these claims and no other, besides those that `audiences`, `issuers` and `subject` ask for.
-    pub fn set_required(&mut self, claims: &[Claim]) {
-        self.required = claims.to_vec();
+    /// Requires these claims, among `exp`, `nbf`, `aud`, `iss` and `sub`, and no other, besides those that [`aud`](Validation::aud),
+    /// [`iss`](Validation::iss) and [`sub`](Validation::sub) ask for.
+    pub fn set_required_spec_claims<T: ToString>(&mut self, claims: &[T]) {
+        self.required_spec_claims = texts(claims);
     }
 
     /// Returns the options of `jwtproved.h`, as JSON. All members with defaults are there; that it is strict makes the library require
     /// each of aud, iss and sub that is there too.
     pub(crate) fn options(&self) -> Result<String, Error> {
         self.check()?;
-        let audiences = self.audiences.as_ref().filter(|_| self.validate_aud);
+        let audiences = self.aud.as_ref().filter(|_| self.validate_aud);
         let mut members = vec![
             "\"strict\":true".to_string(),
             format!("\"algorithms\":{}", names(&self.algorithms)),
-            format!("\"required_spec_claims\":{}", json::list(self.required.iter().map(|it| it.name()))),
+            format!("\"required_spec_claims\":{}", sorted(&self.required_spec_claims)),
             format!("\"leeway\":{}", self.leeway),
             format!("\"reject_tokens_expiring_in_less_than\":{}", self.reject_tokens_expiring_in_less_than),
             format!("\"validate_exp\":{}", self.validate_exp),
@@ -209,21 +188,27 @@ impl Validation {
             format!("\"validate_aud\":{}", self.validate_aud),
             format!("\"understood_crit\":{}", json::list(&self.understood_crit)),
         ];
-        members.extend(audiences.map(|it| format!("\"aud\":{}", json::list(it))));
-        members.extend(self.issuers.as_ref().map(|it| format!("\"iss\":{}", json::list(it))));
-        members.extend(self.subject.as_ref().map(|it| format!("\"sub\":{}", json::string(it))));
+        members.extend(audiences.map(|it| format!("\"aud\":{}", sorted(it))));
+        members.extend(self.iss.as_ref().map(|it| format!("\"iss\":{}", sorted(it))));
+        members.extend(self.sub.as_ref().map(|it| format!("\"sub\":{}", json::string(it))));
         Ok(format!("{{{}}}", members.join(",")))
     }
 
-    /// Refuses empty lists, which could only be a slip.
+    /// Refuses empty lists, and claims without a rule, which could only be a slip.
     fn check(&self) -> Result<(), Error> {
         let lists = [
             ("algorithms", self.algorithms.is_empty()),
-            ("audiences", self.audiences.as_ref().map_or(false, Vec::is_empty)),
-            ("issuers", self.issuers.as_ref().map_or(false, Vec::is_empty)),
+            ("aud", self.aud.as_ref().map_or(false, HashSet::is_empty)),
+            ("iss", self.iss.as_ref().map_or(false, HashSet::is_empty)),
         ];
-        match lists.into_iter().find(|it| it.1) {
-            Some((name, _)) => Err(Error::Argument(format!("{name} is empty"))),
+        if let Some((name, _)) = lists.into_iter().find(|it| it.1) {
+            return Err(Error::Argument(format!("{name} is empty")));
+        }
+        match self.required_spec_claims.iter().find(|it| !SPEC_CLAIMS.contains(&it.as_str())) {
+            Some(name) => Err(Error::Argument(format!(
+                "required_spec_claims has {name:?}, not one of {}",
+                SPEC_CLAIMS.join(", ")
+            ))),
             None => Ok(()),
         }
     }

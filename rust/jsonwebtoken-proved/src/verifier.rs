@@ -60,7 +60,12 @@ impl fmt::Display for Refusal {
     }
 }
 
-impl std::error::Error for Refusal {}
+impl std::error::Error for Refusal {
+    /// Returns the source of the refusal's error, whose text the refusal has.
+    fn source(&self) -> Option<&(dyn std::error::Error + 'static)> {
+        self.error.source()
+    }
+}
 
 /// A key and the conditions on a token, which are read once and verify many tokens. Any number of threads may use it at the same time.
 ///
@@ -91,6 +96,8 @@ struct Handles {
 impl Verifier {
     /// Returns the verifier of a key and conditions, for tokens of at most 1 MiB.
     ///
+    /// # Errors
+    ///
     /// A key that serves none of the algorithms is [`Error::Key`], and so is a set of which no key with a `kid` does; conditions that
     /// are not understood, and algorithms of several families, are [`Error::Argument`].
     pub fn new(key: &DecodingKey, validation: &Validation) -> Result<Verifier, Error> {
@@ -98,7 +105,11 @@ impl Verifier {
     }
 
     /// Returns the verifier of a key and conditions like [`Verifier::new`], for tokens of at most `longest` bytes. Reading a token
-    /// allocates in proportion to its length. A limit of 0 is [`Error::Argument`].
+    /// allocates in proportion to its length.
+    ///
+    /// # Errors
+    ///
+    /// The errors are those of [`Verifier::new`], and a limit of 0 is [`Error::Argument`].
     pub fn with_limit(key: &DecodingKey, validation: &Validation, longest: usize) -> Result<Verifier, Error> {
         if longest == 0 {
             return Err(Error::Argument("longest is 0".to_string()));
@@ -114,6 +125,10 @@ impl Verifier {
 
     /// Verifies a token at the time `now`, in seconds since 1970-01-01 00:00:00 UTC, and returns its claims as compact JSON. Floats, and
     /// integers beyond 64 bits, are written as the nearest double.
+    ///
+    /// # Errors
+    ///
+    /// A token that is not accepted is a [`Refusal`], whose error says why; [`Error::OutOfMemory`] says nothing about the token.
     pub fn decode_json(&self, token: &str, now: u64) -> Result<Verified<String>, Refusal> {
         let mut handle = self.handle()?;
         let answer = handle.decode(token, now);

@@ -3,6 +3,7 @@
 use jsonwebtoken_proved::{
     Algorithm, DecodingKey, EncodingKey, Error, Header, KeySet, Rotation, Validation, decode_json, encode_json,
 };
+use std::error::Error as StdError;
 use std::io::{self, Cursor, Read, Write};
 use std::net::{SocketAddr, TcpListener, TcpStream};
 use std::sync::atomic::{AtomicUsize, Ordering};
@@ -500,5 +501,22 @@ fn arguments() {
     refuses(&set, "c", "c", Error::UnknownKey);
     assert_eq!(Rotation::default().refetch, Duration::from_secs(10));
     let failing = || Err::<io::Empty, _>("the reason");
-    assert!(matches!(KeySet::new(failing, rotation()), Err(Error::Fetch(text)) if text.contains("the reason")));
+    assert!(matches!(KeySet::new(failing, rotation()), Err(Error::Fetch(cause)) if cause.to_string() == "the reason"));
+}
+
+#[test]
+fn the_error_of_the_closure_is_the_source() {
+    let failing = || Err::<io::Empty, _>(io::Error::new(io::ErrorKind::ConnectionRefused, "the reason"));
+    let error = KeySet::new(failing, rotation()).unwrap_err();
+    assert_eq!(error.to_string(), "the set of keys can't be fetched");
+    let source = error.source().and_then(|it| it.downcast_ref::<io::Error>()).unwrap();
+    assert_eq!((source.kind(), source.to_string().as_str()), (io::ErrorKind::ConnectionRefused, "the reason"));
+    assert!(format!("{error:?}").contains("the reason"));
+    assert_eq!(error, error.clone());
+    let another = KeySet::new(|| Err::<io::Empty, _>("another"), rotation()).unwrap_err();
+    assert_ne!(error, another);
+    assert_eq!(another.source().map(ToString::to_string).as_deref(), Some("another"));
+    assert!(Error::Signature.source().is_none());
+    let boxed = || -> Result<io::Empty, Box<dyn StdError + Send + Sync>> { Err("boxed".into()) };
+    assert_eq!(KeySet::new(boxed, rotation()).unwrap_err().source().map(ToString::to_string).as_deref(), Some("boxed"));
 }

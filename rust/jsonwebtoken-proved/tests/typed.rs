@@ -7,6 +7,7 @@ use jsonwebtoken_proved::{
 };
 use serde::{Deserialize, Serialize};
 use serde_json::Value;
+use std::error::Error as _;
 
 const SECRET: &[u8] = b"0123456789abcdef0123456789abcdef";
 
@@ -32,6 +33,7 @@ fn claims_of_a_type() {
     assert_eq!((verified.claims.sub.as_str(), verified.accepted_until), ("b@b.com", 4102444860));
     let refusal = verifier.decode::<Session>(&other).unwrap_err();
     assert!(matches!(refusal.error, Error::Json(_)));
+    assert!(refusal.source().unwrap().is::<serde_json::Error>());
     assert_eq!(refusal.failed_test(), None);
     let refusal = verifier.decode::<Session>(&expired).unwrap_err();
     assert_eq!((refusal.failed_test().as_deref(), refusal.error), (Some("ClaimRulesHold"), Error::Expired));

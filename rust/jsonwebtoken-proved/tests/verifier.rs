@@ -31,7 +31,7 @@ fn claims_and_the_last_time() {
     assert!(verifier.decode_json(&token(claims), verified.accepted_until).is_ok());
     assert_eq!(verifier.decode_json(&token(claims), verified.accepted_until + 1).unwrap_err().error, Error::Expired);
     let mut validation = Validation::new(Algorithm::HS256);
-    validation.set_required(&[]);
+    validation.set_required_spec_claims(&[""; 0]);
     let forever = Verifier::new(&DecodingKey::from_secret(SECRET).unwrap(), &validation).unwrap();
     assert_eq!(forever.decode_json(&token("{}"), NOW).unwrap().accepted_until, u64::MAX);
 }

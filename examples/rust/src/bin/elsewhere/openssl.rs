@@ -3,27 +3,17 @@
 use std::ffi::{c_int, c_long, c_void};
 use std::ptr;
 
+type Ptr = *mut c_void;
+
 #[link(name = "crypto")]
 extern "C" {
-    fn d2i_PUBKEY(key: *mut *mut c_void, der: *mut *const u8, len: c_long) -> *mut c_void;
-    fn EVP_PKEY_free(key: *mut c_void);
-    fn EVP_MD_CTX_new() -> *mut c_void;
-    fn EVP_MD_CTX_free(context: *mut c_void);
-    fn EVP_sha256() -> *const c_void;
-    fn EVP_DigestVerifyInit(
-        context: *mut c_void,
-        used: *mut *mut c_void,
-        hash: *const c_void,
-        engine: *mut c_void,
-        key: *mut c_void,
-    ) -> c_int;
-    fn EVP_DigestVerify(
-        context: *mut c_void,
-        signature: *const u8,
-        signature_len: usize,
-        message: *const u8,
-        message_len: usize,
-    ) -> c_int;
+    fn d2i_PUBKEY(key: *mut Ptr, der: *mut *const u8, len: c_long) -> Ptr;
+    fn EVP_PKEY_free(key: Ptr);
+    fn EVP_MD_CTX_new() -> Ptr;
+    fn EVP_MD_CTX_free(context: Ptr);
+    fn EVP_sha256() -> Ptr;
+    fn EVP_DigestVerifyInit(context: Ptr, used: *mut Ptr, hash: Ptr, engine: Ptr, key: Ptr) -> c_int;
+    fn EVP_DigestVerify(context: Ptr, signature: *const u8, len: usize, message: *const u8, size: usize) -> c_int;
 }
 
 // The bytes before a point in the DER form of a public key on P-256 (RFC 5480 section 2).
@@ -36,7 +26,7 @@ const BEFORE_POINT: [u8; 26] = [
 fn der_number(bytes: &[u8]) -> Vec<u8> {
     let start = bytes.iter().position(|byte| *byte != 0).unwrap_or(bytes.len());
     let mut number = bytes[start..].to_vec();
-    if number.first().map_or(true, |byte| *byte >= 0x80) {
+    if !matches!(number.first(), Some(0..=0x7f)) {
         number.insert(0, 0);
     }
     [vec![2, number.len() as u8], number].concat()

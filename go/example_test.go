@@ -1,0 +1,151 @@
+package jwt_test
+
+import (
+	"context"
+	"crypto/ed25519"
+	"errors"
+	"fmt"
+	"time"
+
+	"curbsorrel.example/jwt"
+)
+
+// A real secret comes from a file, and is random.
+var secret = []byte("0123456789abcdef0123456789abcdef")
+
+func Example() {
+	key, err := jwt.NewSecretKey(secret)
+	if err != nil {
+		panic(err)
+	}
+	verifier, err := jwt.NewVerifier(key, []string{"HS256"}, jwt.WithAudience("web"))
+	if err != nil {
+		panic(err)
+	}
+	issued := map[string]any{"sub": "ada", "aud": "web", "exp": time.Now().Add(time.Minute).Unix()}
+	text, err := jwt.Sign(issued, secret, "HS256", nil)
+	if err != nil {
+		panic(err)
+	}
+	token, err := verifier.Parse(text)
+	if err != nil {
+		panic(err)
+	}
+	var claims struct {
+		Subject string `json:"sub"`
+	}
+	if err := token.Claims(&claims); err != nil {
+		panic(err)
+	}
+	fmt.Println(claims.Subject)
+	// Output: ada
+}
+
+func ExampleParse() {
+	key, _ := jwt.NewSecretKey(secret)
+	text, _ := jwt.Sign(map[string]any{"sub": "ada", "exp": 2532524891}, secret, "HS256", nil)
+	token, err := jwt.Parse(text, key, []string{"HS256"})
+	if err != nil {
+		panic(err)
+	}
+	fmt.Println(string(token.RawClaims()))
+	// Output: {"exp":2532524891,"sub":"ada"}
+}
+
+func ExampleParseJWK() {
+	// RFC 7515 appendix A.3
+	key, err := jwt.ParseJWK([]byte(`{"kty":"EC","crv":"P-256","x":"f83OJ3D2xF1Bg8vub9tLe1gHMzV76e8Tus9uPHvRVEU","y":"x_FEzRu9m36HLN_tue659LNpXW6pCyStikYjKIWI5a0"}`))
+	if err != nil {
+		panic(err)
+	}
+	then := func() time.Time { return time.Unix(1300819379, 0) }
+	token, err := jwt.Parse("eyJhbGciOiJFUzI1NiJ9.eyJpc3MiOiJqb2UiLA0KICJleHAiOjEzMDA4MTkzODAsDQogImh0dHA6Ly9leGFtcGxlLmNvbS9pc19yb290Ijp0cnVlfQ."+
+		"DtEhU3ljbEg8L38VWAfUAqOyKAM6-Xx-F4GawxaepmXFCgfTjDxw5djxLa8ISlSApmWQxfKTUJqPP3-Kg6NU1Q", key, []string{"ES256"}, jwt.WithTime(then))
+	if err != nil {
+		panic(err)
+	}
+	fmt.Println(string(token.RawClaims()))
+	// Output: {"exp":1300819380,"http://example.com/is_root":true,"iss":"joe"}
+}
+
+func ExampleError() {
+	key, _ := jwt.NewSecretKey(secret)
+	text, _ := jwt.Sign(map[string]any{"exp": 2532524891}, secret, "HS256", nil)
+	_, err := jwt.Parse(text, key, []string{"HS256"}, jwt.WithIssuer("https://login.example"))
+	var refused *jwt.Error
+	if errors.Is(err, jwt.ErrMissingClaim) && errors.As(err, &refused) {
+		fmt.Println(refused.Claim, refused.Test)
+	}
+	// Output: iss ClaimRulesHold
+}
+
+func ExampleNewKeySet() {
+	fetch := func(context.Context) ([]byte, error) {
+		return []byte(`{"keys":[{"kty":"oct","kid":"a","k":"MDEyMzQ1Njc4OWFiY2RlZjAxMjM0NTY3ODlhYmNkZWY"}]}`), nil
+	}
+	ctx, cancel := context.WithCancel(context.Background())
+	defer cancel()
+	set, err := jwt.NewKeySet(ctx, fetch, jwt.WithRefresh(time.Hour))
+	if err != nil {
+		panic(err)
+	}
+	verifier, err := jwt.NewVerifier(set.Key(), []string{"HS256"})
+	if err != nil {
+		panic(err)
+	}
+	text, _ := jwt.Sign(map[string]any{"exp": 2532524891}, secret, "HS256", map[string]any{"kid": "a"})
+	_, err = verifier.Parse(text)
+	fmt.Println(err)
+	text, _ = jwt.Sign(map[string]any{"exp": 2532524891}, secret, "HS256", map[string]any{"kid": "b"})
+	_, err = verifier.Parse(text)
+	fmt.Println(errors.Is(err, jwt.ErrUnknownKey))
+	// Output:
+	// <nil>
+	// true
+}
+
+func ExampleNewSigningInput() {
+	public, private, _ := ed25519.GenerateKey(nil)
+	input, err := jwt.NewSigningInput(map[string]any{"sub": "ada", "exp": 2532524891}, "EdDSA", nil)
+	if err != nil {
+		panic(err)
+	}
+	// a KMS signs likewise
+	text, err := input.Token(ed25519.Sign(private, input.Message))
+	if err != nil {
+		panic(err)
+	}
+	key, _ := jwt.NewPublicKey(public)
+	token, err := jwt.Parse(text, key, []string{"EdDSA"}, jwt.WithSubject("ada"))
+	if err != nil {
+		panic(err)
+	}
+	fmt.Println(string(token.RawClaims()))
+	// Output: {"exp":2532524891,"sub":"ada"}
+}
+
+func ExampleParseByVerdict() {
+	public, private, _ := ed25519.GenerateKey(nil)
+	input, _ := jwt.NewSigningInput(map[string]any{"exp": 2532524891}, "EdDSA", nil)
+	text, _ := input.Token(ed25519.Sign(private, input.Message))
+	signature, err := jwt.UnverifiedSignature(text)
+	if err != nil {
+		panic(err)
+	}
+	// the key is for EdDSA, whatever the header names
+	signature.Algorithm = "EdDSA"
+	isGenuine := ed25519.Verify(public, signature.Message, signature.Bytes)
+	token, err := jwt.ParseByVerdict(text, signature, isGenuine, []string{"EdDSA"})
+	if err != nil {
+		panic(err)
+	}
+	fmt.Println(string(token.RawClaims()))
+	// Output: {"exp":2532524891}
+}
+
+func ExampleThumbprint() {
+	// RFC 8037 appendix A.3
+	text, err := jwt.Thumbprint([]byte(`{"kty":"OKP","crv":"Ed25519","x":"11qYAYKxCrfVS_7TyWQHOg7hcvPapiMlrwIaaPcHURo"}`), 256)
+	fmt.Println(text, err)
+	// Output: kPrK_qmxVWaYVA9wwBF6Iuo3vVzz7TxHCTwXBygrS4k <nil>
+}
