@@ -83,11 +83,6 @@ func ParseJWKSet(text []byte) (Key, error) {
 	return tried(newKey(keySet, text))
 }
 
-// JWKSet is ParseJWKSet.
-//
-// Deprecated: use ParseJWKSet.
-func JWKSet(text []byte) (Key, error) { return ParseJWKSet(text) }
-
 // forAnyKey has options for each kind of key: the algorithms of a verifier are of one family.
 var forAnyKey = []string{
 	`{"algorithms":["RS256"]}`, `{"algorithms":["ES256","ES384"]}`, `{"algorithms":["EdDSA"]}`, `{"algorithms":["HS256"]}`,
