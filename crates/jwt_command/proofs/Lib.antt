@@ -1,5 +1,4 @@
 pub mod Numbers
-pub mod Owned
 pub mod Required
 pub mod Settled
 pub mod Shown

@@ -1,34 +1,23 @@
 -- Options that serve one token after the other.
-use Rattle.std.proofs.Common.{◌≡◌, ℕ, ◌∙◌, true, false, max, List, [], ◌∷◌, ap, sym, subst, inl, inr}
-use Rattle.std.proofs.lemmas.Bool.{false≢true}
+use Rattle.std.proofs.Common.{◌≡◌, ◌≢◌, ℕ, ◌∙◌, Bool, true, false, max, List, [], ◌∷◌, ap, refl, sym, subst, inl, inr}
+use Rattle.jwt_base.specs.declared.algorithms.Algorithm.{Algorithm}
 use Rattle.jwt_validation.specs.Options.{Options}
-use Rattle.jwt_command.specs.Commands.{ArePrepared, AreReused, IsLineStatus, IsLinesStatus, IsSettled}
+use Rattle.jwt_command.specs.Commands.{ArePrepared, IsLineStatus, IsLinesStatus, IsSettled}
 use Rattle.jwt_command.specs.FileKeys.{AreLoaded}
-use Rattle.jwt_command.specs.Own.{IsOwn}
 use Rattle.jwt_command.specs.declared.keys.Loaded.{Loaded}
 use Rattle.jwt_command.specs.declared.request.Verification.{Verification}
 
-pub own_again : (loaded : Loaded) (token : List ℕ) (options before after : Options) → AreReused true options before
-    → IsOwn loaded token after.algorithms → after ≡ record before { algorithms = after.algorithms }
-    → IsSettled loaded token options after × AreReused true options after
-own_again loaded token options before after (inl (is, none, same)) own rest = (
-  inr (
-    none,
-    (
-      after.algorithms,
-      own,
-      rest
-          ∙ ap {A = Options} {B = Options} (λ o. record o { algorithms = after.algorithms }) same,
-    ),
-  ),
-  inl (is, none, ap {A = Options} {B = Options} (λ o. record o { algorithms = [] }) rest ∙ same),
-)
-own_again loaded token options before after (inr (is, some, same)) own rest = absurd (false≢true (sym is))
-
-pub not_own : (loaded : Loaded) (token : List ℕ) (options before : Options) → AreReused false options before
-    → IsSettled loaded token options before × AreReused false options before
-not_own loaded token options before (inl (is, none, same)) = absurd (false≢true is)
-not_own loaded token options before (inr (is, some, same)) = (inl (some, same), inr (is, some, same))
+-- once the algorithm of the token's key is taken from the list, the options are as they were
+pub as_before : (loaded : Loaded) (token : List ℕ) (options settled after : Options) (is_own : Bool)
+    → (is_own ≡ true → options.algorithms ≡ []) → (is_own ≡ false → options.algorithms ≢ [])
+    → IsSettled loaded token options settled
+    → (is_own ≡ true → after ≡ record settled { algorithms = [] }) → (is_own ≡ false → after ≡ settled) → after ≡ options
+as_before loaded token options settled after true none some (inl (other, same)) own given = absurd (other (none refl))
+as_before loaded token options settled after true none some (inr (empty, (_, _, same))) own given =
+    own refl ∙ (ap {A = Options} {B = Options} (λ o. record o { algorithms = [] }) same
+    ∙ ap {A = List Algorithm} {B = Options} (λ a. record options { algorithms = a }) (sym empty))
+as_before loaded token options settled after false none some (inl (_, same)) own given = given refl ∙ same
+as_before loaded token options settled after false none some (inr (empty, _)) own given = absurd (some refl empty)
 
 -- one more line
 pub one_more_line : (v : Verification) (loaded : Loaded) (options : Options) (status line after : ℕ)

@@ -1,5 +1,5 @@
 -- Which tokens are accepted, by the tests of `decode` and `decode_with_set`.
-use Rattle.std.specs.Prelude.{◌≡◌, ◌⊎◌, ⊤, ℕ, List, Option, Some, None, map, option_map}
+use Rattle.std.specs.Prelude.{◌≡◌, ⊤, ℕ, List, Option, Some, None, map, option_map}
 use Rattle.std.specs.Char.{to_ascii_lowercase}
 use Rattle.jwt_base.specs.Claims.{IsValue}
 use Rattle.jwt_base.specs.KindOf.{IsMemory}
@@ -48,9 +48,9 @@ HasType (Some typ) header =
 abbrev pub IsAccepted : List ℕ → Keys → Options → ℕ → Option (List ℕ) → Contents → Type 0
 IsAccepted token keys options now typ t = PassesAll token keys options now t × HasType typ t.header
 
--- the token is not accepted: by its first failed test, by memory, or by its type
+-- the token is not accepted: by its first failed test, or by its type
 abbrev pub IsDenied : List ℕ → Keys → Options → ℕ → Option (List ℕ) → Denial → Type 0
 IsDenied token keys options now typ (Refused refusal) =
-    IsMemory refusal.error ⊎ IsRefusal (token_tests (checking token keys options now)) (order_of keys) refusal
+    (¬ IsMemory refusal.error) × IsRefusal (token_tests (checking token keys options now)) (order_of keys) refusal
 IsDenied token keys options now typ OtherType =
     (t : Contents) × PassesAll token keys options now t × ¬ HasType typ t.header

@@ -3,7 +3,6 @@ use Rattle.std.specs.Prelude.{◌≡◌, ◌⊎◌, ℕ, List, [], ◌∷◌, �
 use Rattle.serde_json.specs.Data.{Data}
 use Rattle.serde_json.specs.Written.{compact_text, has_float}
 use Rattle.jwt_base.specs.Kind.{Kind}
-use Rattle.jwt_base.specs.KindOf.{IsMemory}
 use Rattle.jwt_base.specs.declared.algorithms.AlgorithmFamily.TheVariants.{Hmac}
 use Rattle.jwt_header.specs.Header.{header_value}
 use Rattle.jwt_header.specs.declared.header.Header.{Header}
@@ -15,7 +14,6 @@ use Rattle.jsonwebtoken.specs.Tests.{Contents}
 use Rattle.jwt_command.specs.Accepted.{IsAccepted, IsDenied}
 use Rattle.jwt_verifier.specs.declared.keys.Keys.{Keys}
 use Rattle.jwt_command.specs.declared.verdict.Denial.{Denial}
-use Rattle.jwt_command.specs.declared.verdict.Denial.TheVariants.{Refused, OtherType}
 use Rattle.jwt_command.specs.declared.verify.Form.{Form}
 use Rattle.jwt_command.specs.declared.verify.Form.TheVariants.{Claims, HeaderAndClaims, Json}
 
@@ -42,25 +40,19 @@ IsRefusedText Claims output = output ≡ []
 IsRefusedText HeaderAndClaims output = output ≡ []
 IsRefusedText Json output = Unit {0}
 
--- 3 if memory ran out, and else 1
-abbrev pub HasStatus : Denial → ℕ → Type 0
-HasStatus (Refused refusal) status =
-    (IsMemory refusal.error × (status ≡ 3)) ⊎ (¬ IsMemory refusal.error × (status ≡ 1))
-HasStatus OtherType status = status ≡ 1
-
--- status 0 for a token that is accepted, and else that of its denial
+-- status 0 for a token that is accepted, and 1 for one that is denied
 abbrev pub IsVerdict : List ℕ → Keys → Options → ℕ → Option (List ℕ) → ℕ → Type 0
 IsVerdict token keys options now typ status =
     ((t : Contents) × IsAccepted token keys options now typ t × (status ≡ 0))
-    ⊎ ((denial : Denial) × IsDenied token keys options now typ denial × HasStatus denial status)
+    ⊎ ((denial : Denial) × IsDenied token keys options now typ denial × (status ≡ 1))
 
--- Status 0 and the claims of a token that is accepted, or another status and nothing of one that is refused.
+-- Status 0 and the claims of a token that is accepted, or status 1 and nothing of one that is denied.
 abbrev pub IsVerifyAnswer : List ℕ → Keys → Options → ℕ → Option (List ℕ) → Form → ℕ → List ℕ → Type 0
 IsVerifyAnswer token keys options now typ form status output =
     ((t : Contents) × IsAccepted token keys options now typ t × (status ≡ 0)
     × IsAcceptedText form t.header t.payload_value output)
     ⊎ ((denial : Denial) × IsDenied token keys options now typ denial
-    × HasStatus denial status × IsRefusedText form output)
+    × (status ≡ 1) × IsRefusedText form output)
 
 -- a token of these claims under this header, signed with HMAC and a secret (RFC 7518 section 3.2)
 abbrev pub signing : Header → Data → List ℕ → Issue

@@ -1,5 +1,5 @@
 -- The exit status and the output of the commands, by the arguments and by the bytes that a command reads.
-use Rattle.std.specs.Prelude.{◌≡◌, ◌≢◌, ◌⊎◌, ⊤, ℕ, max, List, [], ◌∷◌, Bool, true, false, Option, Some, None}
+use Rattle.std.specs.Prelude.{◌≡◌, ◌≢◌, ◌⊎◌, ⊤, ℕ, max, List, [], ◌∷◌, true, false, Option, Some, None}
 use Rattle.std.specs.Prelude.{option_map, is_some, if◌then◌else◌, codes}
 use Rattle.std.specs.Borrow.{Bor}
 use Rattle.std.specs.Io.KnownBytes.{Appends}
@@ -43,13 +43,6 @@ IsSettled loaded token options settled =
     ((options.algorithms ≢ []) × (settled ≡ options))
     ⊎ ((options.algorithms ≡ []) × ((own : List Algorithm) × IsOwn loaded token own
     × (settled ≡ record options { algorithms = own })))
-
--- for private clauses: options that serve one token after the other are these, but for the algorithm of the last token's
--- key if they name none
-abbrev pub AreReused : Bool → Options → Options → Type 0
-AreReused is_own options reused =
-    ((is_own ≡ true) × (options.algorithms ≡ []) × (record reused { algorithms = [] } ≡ options))
-    ⊎ ((is_own ≡ false) × (options.algorithms ≢ []) × (reused ≡ options))
 
 -- how an accepted token is written
 abbrev pub form_asked : Verification → Form

@@ -4,7 +4,6 @@ pub mod Arguments
 pub mod Claimed
 pub mod Commands
 pub mod FileKeys
-pub mod Kept
 pub mod LineEnd
 pub mod Own
 pub mod Requested

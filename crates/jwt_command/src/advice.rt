@@ -59,14 +59,6 @@ fn kind_meaning(kind: &ErrorKind) -> &'static str {
     }
 }
 
-/// Returns whether memory ran out, so that nothing is said of the token.
-pub fn is_of_memory(denial: &Denial) -> bool {
-    match denial {
-        Denial::Refused(refusal) => matches!(refusal.error.kind(), ErrorKind::OutOfMemory),
-        Denial::OtherType => false,
-    }
-}
-
 /// Returns the line that says what an error means.
 pub fn error_line(alloc: Global, error: &Error) -> Result<String, AllocError> {
     let kind = error.kind();

@@ -13,7 +13,7 @@ use std::io::Write;
 /// The answer of a command.
 #[derive(Drop)]
 pub struct Answer {
-    /// The exit status: 0 for success, 1 for a refusal, 3 if memory ran out.
+    /// The exit status: 0 for success, 1 for a refusal.
     pub status: u8,
     /// The text for standard output.
     pub output: String,

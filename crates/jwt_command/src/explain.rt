@@ -2,9 +2,10 @@
 
 ghost use Rattle.std.specs.Prelude.{◌≡◌, IfOk, option_map};
 ghost use Rattle.jwt_validation.specs.OptionsOf.{options_of};
-ghost use Rattle.jwt_command.specs.Answers.{HasStatus, IsVerdict};
+ghost use Rattle.jwt_command.specs.Answers.{IsVerdict};
+ghost use Rattle.jwt_command.specs.Commands.{IsSettled};
 
-use crate::advice::{denial_name, is_of_memory};
+use crate::advice::denial_name;
 use crate::answer::Answer;
 use crate::claim_findings::{ClaimFailure, claim_failures};
 use crate::explanation::{Explanation, Outcome, json_line, page};
@@ -17,7 +18,6 @@ use crate::part_findings::cut;
 use crate::request::Checks;
 use crate::times::claim_lines;
 use crate::verdict::{Denial, denial_of};
-use crate::verify::denial_status;
 use jsonwebtoken::{Header, Moments, Test, Validation, claimed_moments, decode_header, validate};
 use serde_json::Value;
 use std::alloc::{AllocError, Global};
@@ -54,16 +54,13 @@ fn type_finding(alloc: Global, token: &[u8], typ: Option<&str>) -> Result<Findin
     }
 }
 
-/// Returns why a token is not accepted. If memory ran out, no test failed, and there is no outcome.
+/// Returns why a token is not accepted.
 fn outcome(
     alloc: Global,
     case: Case<'_>,
     typ: Option<&str>,
     denial: &Denial,
 ) -> Result<Outcome, Fault<'static>> {
-    if is_of_memory(denial) {
-        return Err(Fault::Memory);
-    }
     match denial {
         Denial::OtherType => Ok(Outcome::OtherType(type_finding(alloc, case.token, typ)?)),
         Denial::Refused(refusal) => Ok(Outcome::Failed(
@@ -202,14 +199,14 @@ fn denied(
     denial: &Denial,
     is_json: bool,
 ) -> Result<Answer, Fault<'static>>
-    ensures { IfOk result (λ a. HasStatus denial.now a.status) }
+    ensures { IfOk result (λ a. a.status ≡ 1) }
 {
     let outcome = outcome(alloc, case, typ, denial)?;
     let explanation = explanation(alloc, case, outcome, Some(denial_name(denial)), None)?;
     let output = written(alloc, &explanation, is_json);
     drop(explanation);
     Ok(Answer {
-        status: denial_status(denial),
+        status: 1,
         output: output?,
         message: String::new(alloc),
     })
@@ -218,27 +215,31 @@ fn denied(
 /// Returns the answer that explains a token: each test with its result, the first that fails with
 /// what it found and what it asks for, the times at which the token is accepted, and whether it
 /// is accepted without strict options only, which `checks` name as they were asked for. The status
-/// is that of [`verify_answer`](crate::verify::verify_answer).
+/// is that of [`verify_answer`](crate::verify::verify_answer), and the algorithm of the token's key
+/// is listed as there.
 pub fn explain_answer(
     alloc: Global,
     token: &[u8],
     loaded: &Loaded,
-    validation: &Validation,
+    validation: &mut Validation,
     checks: &Checks<'_, '_>,
     now: u64,
     typ: Option<&str>,
     is_json: bool,
 ) -> Result<Answer, Fault<'static>>
-    ensures { IfOk result (λ a. IsVerdict token.now loaded.now.keys (options_of validation.now) now
+    ensures { IfOk result (λ a.
+        IsSettled loaded.now token.now (options_of validation.old) (options_of validation.new)
+        × IsVerdict token.now loaded.now.keys (options_of validation.new) now
         (option_map (λ s. s.now) typ.entry) a.status) }
 {
+    let denial = denial_of(alloc, token, loaded, validation, now, typ)?;
     let case = Case {
         token,
         loaded,
         validation,
         now,
     };
-    match denial_of(alloc, token, loaded, validation, now, typ) {
+    match denial {
         None => accepted(alloc, case, checks, is_json),
         Some(denial) => denied(alloc, case, typ, &denial, is_json),
     }

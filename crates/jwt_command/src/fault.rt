@@ -1,7 +1,6 @@
 //! The faults that leave a command without an answer.
 
-ghost use Rattle.std.specs.Prelude.{◌≡◌, ◌⊎◌, IfOk};
-ghost use Rattle.jwt_command.specs.Kept.{IsKept};
+ghost use Rattle.std.specs.Prelude.{◌≡◌, ◌⊎◌};
 
 use jsonwebtoken::errors::{ErrorKind, Result as Checked};
 use std::alloc::{AllocError, AllocFailed};
@@ -58,9 +57,7 @@ impl<T: Drop> From<AllocFailed<T>> for Fault<'_> {
 }
 
 /// Returns the value that a call made, or `None` if it was refused for another reason than memory.
-pub fn unless_refused<R>(made: Checked<R>) -> Result<Option<R>, Fault<'static>>
-    ensures { IfOk result (IsKept made) }
-{
+pub fn unless_refused<R>(made: Checked<R>) -> Result<Option<R>, Fault<'static>> {
     match made {
         Ok(value) => Ok(Some(value)),
         Err(error) if matches!(error.kind(), ErrorKind::OutOfMemory) => Err(Fault::Memory),

@@ -3,7 +3,7 @@
 // A secret's file is taken as it is, unless `--trim` says otherwise: a final newline may be part of
 // a secret. The message about a wrong signature names the newline.
 
-ghost use Rattle.std.specs.Prelude.{◌≡◌, ◌⊎◌, ℕ, List, None, OnOk, IfOk, IfErr, IsErr};
+ghost use Rattle.std.specs.Prelude.{◌≡◌, ◌⊎◌, ℕ, List, None, IfOk, IfErr, IsErr};
 ghost use Rattle.jwt_base.specs.JsonText.{ReadsText};
 ghost use Rattle.jwt_base.specs.Kind.{Kind};
 ghost use Rattle.jwt_base.specs.KindOf.{IsMemory};
@@ -16,20 +16,17 @@ ghost use Rattle.jwt_keys.specs.KeyOfJwk.{IsKeyOf};
 ghost use Rattle.jwt_keys.specs.declared.jwk.Jwk.{Jwk};
 ghost use Rattle.jwt_keys.specs.declared.jwk_set.JwkSet.{JwkSet};
 ghost use Rattle.jwt_secrets.specs.Blank.{IsBlank, IsBlankKey, IsBlankJwk, HasBlankKey};
-ghost use Rattle.jwt_validation.specs.OptionsOf.{options_of};
-ghost use Rattle.jsonwebtoken.specs.Own.{IsNamedBy, own_of};
+ghost use Rattle.jsonwebtoken.specs.Own.{own_of};
 ghost use Rattle.jwt_command.specs.LineEnd.{IsSecret};
-ghost use Rattle.jwt_command.specs.Commands.{IsSettled};
 ghost use Rattle.jwt_command.specs.FileKeys.{AreLoaded, HasKeysFault};
-ghost use Rattle.jwt_command.specs.Own.{IsOwn, IsOwnOf};
 
 use crate::fault::{Fault, unless_refused};
 use crate::file_hints::{key_problem, pem_problem, set_problem};
 use crate::files::without_line_end;
 use crate::request::KeyFile;
 use jsonwebtoken::errors::{Error, ErrorKind};
-use jsonwebtoken::jwk::{Jwk, JwkSet, named_algorithm, own_algorithm};
-use jsonwebtoken::{Algorithm, DecodingKey, Validation, decode_header};
+use jsonwebtoken::jwk::{Jwk, JwkSet, own_algorithm};
+use jsonwebtoken::{Algorithm, DecodingKey};
 use jwt_key_files::pem::public_key_from_pem;
 use jwt_secrets::{has_blank_key, is_blank, is_blank_key};
 use jwt_verifier::{Keys, PreparedKeys};
@@ -119,73 +116,6 @@ pub fn names_algorithm(loaded: &Loaded) -> bool {
         Keys::One(_) => loaded.own.is_some(),
         Keys::Set(_) => true,
     }
-}
-
-/// Returns the algorithm that the key of a set which a token's header names is for.
-fn set_algorithm(
-    alloc: Global,
-    set: &JwkSet,
-    token: &[u8],
-) -> Result<Option<Algorithm>, Fault<'static>>
-    ensures { IfOk result (IsNamedBy set.now.keys.items token.now) }
-{
-    match unless_refused(decode_header(alloc, token))? {
-        Some(header) => {
-            let algorithm = named_algorithm(set, &header);
-            drop(header);
-            Ok(algorithm)
-        }
-        None => Ok(None),
-    }
-}
-
-/// Returns the algorithm that the key of a token is for, by the key and never by the token.
-fn algorithm_for(
-    alloc: Global,
-    loaded: &Loaded,
-    token: &[u8],
-) -> Result<Option<Algorithm>, Fault<'static>>
-    ensures { IfOk result (IsOwnOf loaded.now.keys loaded.now token.now) }
-{
-    match &loaded.keys {
-        Keys::One(_) => Ok(loaded.own),
-        Keys::Set(set) => set_algorithm(alloc, set, token),
-    }
-}
-
-/// Sets the algorithm that the key of a token is for as the only one that is accepted. If there is
-/// none, no algorithm is.
-pub fn set_own_algorithm(
-    alloc: Global,
-    validation: &mut Validation,
-    loaded: &Loaded,
-    token: &[u8],
-) -> Result<(), Fault<'static>>
-    ensures own { OnOk result (IsOwn loaded.now token.now validation.new.algorithms.items) }
-    ensures rest { OnOk result (options_of validation.new ≡ record (options_of validation.old)
-        { algorithms = validation.new.algorithms.items }) }
-{
-    validation.algorithms.clear();
-    if let Some(algorithm) = algorithm_for(alloc, loaded, token)? {
-        validation.algorithms.push(algorithm)?;
-    }
-    Ok(())
-}
-
-/// Sets the algorithm that the key of a token is for, if the options name none.
-pub fn settle(
-    alloc: Global,
-    validation: &mut Validation,
-    loaded: &Loaded,
-    token: &[u8],
-) -> Result<(), Fault<'static>>
-    ensures { OnOk result (IsSettled loaded.now token.now (options_of validation.old)
-        (options_of validation.new)) }
-{
-    if validation.algorithms.is_empty() {
-        set_own_algorithm(alloc, validation, loaded, token)?;
-    }
-    Ok(())
 }
 
 /// Returns the fault of a file that holds something else than keys, unless memory ran out.

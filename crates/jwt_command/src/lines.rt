@@ -1,19 +1,18 @@
 //! The form of `verify` that answers each line of standard input.
 
-// The status of a refused line is 1 or 3, and that of all lines the greatest, so that a script that
-// reads the status alone does not mistake 'out of memory' for a refusal. A body that leaves a line
-// out would be proved; a row of `tests/jwt.jsonl` fails with it.
+// The first line at which memory runs out ends the command with status 3, so that a script that
+// reads the status alone does not mistake it for a refusal. A body that leaves a line out would be
+// proved; a row of `tests/jwt.jsonl` fails with it.
 
-ghost use Rattle.std.specs.Prelude.{IfOk, OnOk};
-ghost use Rattle.jwt_validation.specs.Options.{Options};
+ghost use Rattle.std.specs.Prelude.{◌≡◌, ◌≢◌, [], true, false, IfOk};
 ghost use Rattle.jwt_validation.specs.OptionsOf.{options_of};
-ghost use Rattle.jwt_command.specs.Commands.{AreReused, IsLineStatus, IsLinesStatus, IsSettled};
+ghost use Rattle.jwt_command.specs.Commands.{IsLineStatus, IsLinesStatus};
 
 use crate::answer::Answer;
 use crate::clock::moment;
 use crate::fault::Fault;
 use crate::files::without_line_end;
-use crate::keys::{Loaded, set_own_algorithm};
+use crate::keys::Loaded;
 use crate::request::Verification;
 use crate::verify::{Form, verify_answer};
 use jsonwebtoken::Validation;
@@ -65,51 +64,44 @@ fn flush<W: Write>(writer: &mut W) -> Result<(), Fault<'static>> {
     }
 }
 
-/// Sets the algorithm that the key of a token is for in place of the last one, if the options name
-/// none.
-fn settle_again(
-    alloc: Global,
-    validation: &mut Validation,
-    loaded: &Loaded,
-    is_own: bool,
-    token: &[u8],
-) -> Result<(), Fault<'static>>
-    ensures { (options : Options) → AreReused is_own options (options_of validation.old)
-        → OnOk result (IsSettled loaded.now token.now options (options_of validation.new)
-        × AreReused is_own options (options_of validation.new)) }
+/// Returns whether the options name no algorithm.
+fn names_none(validation: &Validation) -> bool
+    ensures none { result ≡ true → validation.now.algorithms.items ≡ [] }
+    ensures some { result ≡ false → validation.now.algorithms.items ≢ [] }
 {
-    if is_own {
-        set_own_algorithm(alloc, validation, loaded, token)?;
-    }
-    Ok(())
+    validation.algorithms.is_empty()
 }
 
-/// Returns the line of JSON for a token, which may have a line end.
+/// Takes the algorithm of a token's key from the list, if the options name none.
+fn forget_own(validation: &mut Validation, is_own: bool)
+    ensures own { is_own ≡ true → options_of validation.new ≡ record (options_of validation.old)
+        { algorithms = [] } }
+    ensures given { is_own ≡ false → options_of validation.new ≡ options_of validation.old }
+{
+    if is_own {
+        validation.algorithms.clear();
+    }
+}
+
+/// Returns the line of JSON for a token, which may have a line end. The options stay.
 fn line_answer<R: Clock + AllocGlobal>(
     rt: &R,
     request: &Verification<'_, '_>,
     loaded: &Loaded,
     validation: &mut Validation,
-    is_own: bool,
     line: &[u8],
 ) -> Result<Answer, Fault<'static>>
-    ensures { (options : Options) → AreReused is_own options (options_of validation.old)
-        → IfOk result (λ a. IsLineStatus request.entry.now loaded.now options a.status
-        × AreReused is_own options (options_of validation.new)) }
+    ensures { IfOk result (λ a.
+        IsLineStatus request.entry.now loaded.now (options_of validation.old) a.status
+        × (options_of validation.new ≡ options_of validation.old)) }
 {
-    let alloc = rt.alloc();
+    let is_own = names_none(validation);
     let now = moment(rt, request.now)?;
     let token = without_line_end(line);
-    settle_again(alloc, validation, loaded, is_own, token)?;
-    verify_answer(
-        alloc,
-        token,
-        loaded,
-        validation,
-        now,
-        request.typ,
-        Form::Json,
-    )
+    let typ = request.typ;
+    let answer = verify_answer(rt.alloc(), token, loaded, validation, now, typ, Form::Json)?;
+    forget_own(validation, is_own);
+    Ok(answer)
 }
 
 /// Answers each line of standard input, which is a token, by a line of JSON on standard output. The
@@ -124,7 +116,6 @@ pub fn answer_lines<R: Input + Print + Clock + AllocGlobal>(
 ) -> Result<u8, Fault<'static>>
     ensures { IfOk result (IsLinesStatus request.entry.now loaded.now (options_of validation.old)) }
 {
-    let is_own = validation.algorithms.is_empty();
     let Ok(mut reader) = BufReader::new(rt.alloc(), rt.reader()) else {
         return Err(Fault::Memory);
     };
@@ -140,7 +131,7 @@ pub fn answer_lines<R: Input + Print + Clock + AllocGlobal>(
         if !read_line(&mut reader, &mut line)? {
             break;
         }
-        let answer = line_answer(rt, request, loaded, validation, is_own, &line)?;
+        let answer = line_answer(rt, request, loaded, validation, &line)?;
         write(&mut writer, answer.output.as_str())?;
         status = u8::max(answer.status, status);
     }

@@ -14,7 +14,7 @@ use crate::explain::explain_answer;
 use crate::fault::Fault;
 use crate::files::{file_bytes, input_bytes, without_line_end};
 use crate::jwk::jwk_answer;
-use crate::keys::{Loaded, given_secret, load, names_algorithm, prepare, settle};
+use crate::keys::{Loaded, given_secret, load, names_algorithm, prepare};
 use crate::keys_table::keys_answer;
 use crate::lines::answer_lines;
 use crate::options::validation;
@@ -127,7 +127,6 @@ fn token_answer(
         (options_of validation.old) bytes.now now form a.status (string_bytes a.output)) }
 {
     let token = without_line_end(bytes);
-    settle(alloc, validation, loaded, token)?;
     verify_answer(alloc, token, loaded, validation, now, request.typ, form)
 }
 
@@ -144,7 +143,6 @@ fn token_explanation(
         (options_of validation.old) bytes.now now a.status) }
 {
     let token = without_line_end(bytes);
-    settle(alloc, validation, loaded, token)?;
     explain_answer(
         alloc,
         token,

@@ -3,16 +3,16 @@
 ghost use Rattle.std.specs.Prelude.{◌≡◌, IfOk, option_map, string_bytes};
 ghost use Rattle.serde_json.specs.View.{view};
 ghost use Rattle.jwt_validation.specs.OptionsOf.{options_of};
-ghost use Rattle.jwt_command.specs.Answers.{IsHeaderLine, IsAcceptedText, IsRefusedText, HasStatus};
+ghost use Rattle.jwt_command.specs.Answers.{IsHeaderLine, IsAcceptedText, IsRefusedText};
 ghost use Rattle.jwt_command.specs.Answers.{IsVerifyAnswer};
+ghost use Rattle.jwt_command.specs.Commands.{IsSettled};
 
-use crate::advice::{denial_lines, denial_name, denied_claim, is_of_memory};
+use crate::advice::{denial_lines, denial_name, denied_claim};
 use crate::answer::{Answer, value_line};
 use crate::fault::Fault;
 use crate::keys::Loaded;
 use crate::orders::TYPE_AGREES;
 use crate::verdict::{Denial, judged};
-use jsonwebtoken::errors::ErrorKind;
 use jsonwebtoken::{Header, TokenData, Validation};
 use serde_json::Value;
 use std::alloc::{AllocError, Global};
@@ -29,16 +29,6 @@ pub enum Form {
     HeaderAndClaims,
     /// One line of JSON, for a refusal too.
     Json,
-}
-
-/// Returns the exit status of a denial: 3 if memory ran out, and else 1.
-pub fn denial_status(denial: &Denial) -> u8
-    ensures { HasStatus denial.now result }
-{
-    match denial {
-        Denial::Refused(refusal) if matches!(refusal.error.kind(), ErrorKind::OutOfMemory) => 3,
-        _ => 1,
-    }
 }
 
 /// Returns the JSON text of a header, and a newline.
@@ -70,14 +60,11 @@ fn push_member(line: &mut String, name: &str, text: &str) -> Result<(), AllocErr
     line.push('"')
 }
 
-/// Returns the name of the test that failed. If memory ran out, none did.
-fn failed_name(denial: &Denial) -> Option<&'static str> {
-    if is_of_memory(denial) {
-        return None;
-    }
+/// Returns the name of the test that failed.
+fn failed_name(denial: &Denial) -> &'static str {
     match denial {
-        Denial::Refused(refusal) => Some(refusal.test.name()),
-        Denial::OtherType => Some(TYPE_AGREES),
+        Denial::Refused(refusal) => refusal.test.name(),
+        Denial::OtherType => TYPE_AGREES,
     }
 }
 
@@ -87,9 +74,7 @@ fn push_denial(line: &mut String, denial: &Denial) -> Result<(), AllocError> {
     if let Some(claim) = denied_claim(denial) {
         push_member(line, "claim", claim)?;
     }
-    if let Some(test) = failed_name(denial) {
-        push_member(line, "test", test)?;
-    }
+    push_member(line, "test", failed_name(denial))?;
     line.push_str("}\n")
 }
 
@@ -151,33 +136,33 @@ fn denied_answer(
     has_line_end: bool,
     form: Form,
 ) -> Result<Answer, Fault<'static>>
-    ensures { IfOk result (λ a. HasStatus denial.now a.status
-        × IsRefusedText form (string_bytes a.output)) }
+    ensures { IfOk result (λ a. (a.status ≡ 1) × IsRefusedText form (string_bytes a.output)) }
 {
     let output = denied_text(alloc, denial, form)?;
     Ok(Answer {
-        status: denial_status(denial),
+        status: 1,
         output,
         message: denial_lines(alloc, denial, has_line_end)?,
     })
 }
 
 /// Returns the answer to a token: status 0 and its claims if it is accepted, and status 1 if it is
-/// refused.
+/// refused. If the options name no algorithm, that of the token's key is listed there, and stays.
 pub fn verify_answer(
     alloc: Global,
     token: &[u8],
     loaded: &Loaded,
-    validation: &Validation,
+    validation: &mut Validation,
     now: u64,
     typ: Option<&str>,
     form: Form,
 ) -> Result<Answer, Fault<'static>>
-    ensures { IfOk result (λ a. IsVerifyAnswer token.now loaded.now.keys
-        (options_of validation.now) now (option_map (λ s. s.now) typ.entry) form a.status
-        (string_bytes a.output)) }
+    ensures { IfOk result (λ a.
+        IsSettled loaded.now token.now (options_of validation.old) (options_of validation.new)
+        × IsVerifyAnswer token.now loaded.now.keys (options_of validation.new) now
+        (option_map (λ s. s.now) typ.entry) form a.status (string_bytes a.output)) }
 {
-    match judged(alloc, token, loaded, validation, now, typ) {
+    match judged(alloc, token, loaded, validation, now, typ)? {
         Ok(contents) => {
             let answer = accepted_answer(alloc, &contents, form);
             drop(contents);

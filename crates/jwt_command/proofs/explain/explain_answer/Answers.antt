@@ -3,5 +3,7 @@ use Rattle.std.proofs.lemmas.Result.{IfOk-weaker}
 use Rattle.jwt_command.proofs.explain.explain_answer.Goals as goal
 
 pub returns-in-Some : goal.returns-in-Some
-returns-in-Some c = IfOk-weaker c.denied.result _ _ (λ a has. inr (c.in-Some.denial, c.in-Some.ensures.denied, has))
-    c.denied.ensures
+returns-in-Some c =
+    let says = c.in_ok-denial.ensures in
+    let denied = rw c.in-Some.is at says.denied in
+    IfOk-weaker c.denied.result _ _ (λ a has. (says.settled, inr (c.in-Some.denial, denied, has))) c.denied.ensures

@@ -1,28 +1,22 @@
 use Rattle.std.proofs.Common.{string_bytes}
-use Rattle.std.proofs.lemmas.Result.{IfOk-weaker}
 use Rattle.jwt_validation.specs.OptionsOf.{options_of}
+use Rattle.jwt_command.proofs.Settled.{as_before}
 use Rattle.jwt_command.proofs.lines.line_answer.Goals as goal
 
 pub returns : goal.returns
-returns g c = λ options reused.
-    let settled = c.in_ok-settle_again.ensures options reused in
-    IfOk-weaker c.verify_answer.result _ _
-    (λ a says. (
+returns g c =
+    let token = c.without_line_end-token in
+    let settled = options_of c.verify_answer.new.validation in
+    let says = c.in_ok-answer.ensures in (
       (
         c.args.line.now,
         (
           c.in_ok-now.now,
           c.in_ok-now.ensures,
-          (
-            string_bytes a.output,
-            (
-              c.without_line_end-token.result.now,
-              c.without_line_end-token.ensures,
-              (options_of c.settle_again.new.validation, settled.0, says),
-            ),
-          ),
+          (string_bytes c.in_ok-answer.answer.output, (token.result.now, token.ensures, (settled, says.0, says.1))),
         ),
       ),
-      settled.1,
-    ))
-    c.verify_answer.ensures
+      as_before c.args.loaded.now token.result.now (options_of c.args.validation.now) settled
+          (options_of c.forget_own.new.validation) c.names_none-is_own.result c.names_none-is_own.ensures.none
+          c.names_none-is_own.ensures.some says.0 c.forget_own.ensures.own c.forget_own.ensures.given,
+    )
