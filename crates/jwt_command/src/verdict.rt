@@ -172,8 +172,9 @@ fn typed(contents: TokenData<Value>, typ: Option<&str>) -> Result<TokenData<Valu
 
 /// Returns the denial of a token that is refused, unless memory ran out.
 fn refused(refusal: Refusal) -> Result<Denial, Fault<'static>>
-    ensures { IfOk result (λ denial. (denial ≡ Denial.Refused refusal)
+    ensures ok { IfOk result (λ denial. (denial ≡ Denial.Refused refusal)
         × ¬ IsMemory refusal.error) }
+    ensures err { IfErr result (λ fault. (fault ≡ Fault.Memory) × IsMemory refusal.error) }
 {
     if matches!(refusal.error.kind(), ErrorKind::OutOfMemory) {
         return Err(Fault::Memory);
@@ -200,6 +201,7 @@ pub fn judged(
         × (t.header ≡ d.header) × (view d.claims ≡ t.payload_value))) }
     ensures denied { IfOk result (λ verdict. IfErr verdict (IsDenied token.now loaded.now.keys
         (options_of validation.new) now (option_map (λ s. s.now) typ.entry))) }
+    ensures err { IfErr result (λ fault. fault ≡ Fault.Memory) }
 {
     match decoded(alloc, token, loaded, validation, now) {
         Ok(contents) => Ok(typed(contents, typ)),
@@ -226,6 +228,7 @@ pub fn denial_of(
         (option_map (λ s. s.now) typ.entry) t)) }
     ensures denied { IfOk result (λ denial. IfSome denial (IsDenied token.now loaded.now.keys
         (options_of validation.new) now (option_map (λ s. s.now) typ.entry))) }
+    ensures err { IfErr result (λ fault. fault ≡ Fault.Memory) }
 {
     let verdict = judged(alloc, token, loaded, validation, now, typ)?;
     Ok(verdict.err())
