@@ -346,7 +346,7 @@ module _ {T : Type 0} (call : Call T) (t : Contents) (w : Options) (l : Looser c
   looser_at PayloadIsJson h = h
   looser_at ClaimsRead h = h
   looser_at ClaimsAreAnObject h = h
-  looser_at ClaimRulesHold h = rules-looser call.options w t.payload_value call.now l h
+  looser_at ClaimRulesHold h = rules-looser call.options w t.payload_value call.time l h
 
   -- contents that pass under some options pass under looser ones
   pub passes_looser : (order : List Test) → Passes (token_tests call) order t

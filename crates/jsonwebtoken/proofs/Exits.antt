@@ -219,21 +219,21 @@ module _ {T : Type 0} (call : Call T) (parts : Parts) (h : Header)
   no_claims order r refused = or_memory (λ s. after_opened order s.0 r.test (kind_of r.error) s.1) refused
 
 -- the claim rules never both hold and have a fault
-pub not_held : (v : Options) (d : Data) (now : ℕ) (k : Kind) → IsRuleFault v d now k → RulesHold v d now → ⊥
-not_held v d now k (missing n is) held = held.required n is
-not_held v d now k (broken none r first) held = first.fails (held.rules r)
+pub not_held : (v : Options) (d : Data) (time : ℕ) (k : Kind) → IsRuleFault v d time k → RulesHold v d time → ⊥
+not_held v d time k (missing n is) held = held.required n is
+not_held v d time k (broken none r first) held = first.fails (held.rules r)
 
 -- claims that `validate` refuses fail one of its tests
-pub rules_failed : (o : Options) (d : Data) (now : ℕ) (c : Test) (e : Error)
+pub rules_failed : (o : Options) (d : Data) (time : ℕ) (c : Test) (e : Error)
     → (IsSome (as_object d) × (c ≡ ClaimRulesHold)) ⊎ ((¬ IsSome (as_object d)) × (c ≡ ClaimsAreAnObject))
-    → ((k : Kind) × IsFault o d now k × Tells e k)
-    → IsMemory e ⊎ Failed (holding o now) rule_tests (with_value d no_contents) c (kind_of e)
-rules_failed o d now c e (inl (object, is)) (k, inl (none, json), told) = absurd (none object)
-rules_failed o d now c e (inr (none, is)) (k, inr (object, fault), told) = absurd (none object)
-rules_failed o d now c e is (k, fault, inr memory) = inl memory.0
-rules_failed o d now c e (inl (object, is)) (k, inr (some, fault), inl told) =
-    inr (rw told (inr (object, inl (not_held o d now k fault, (sym is, fault)))))
-rules_failed o d now c e (inr (none, is)) (k, inl (fails, json), inl told) = inr (rw told (inl (fails, (sym is, json))))
+    → ((k : Kind) × IsFault o d time k × Tells e k)
+    → IsMemory e ⊎ Failed (holding o time) rule_tests (with_value d no_contents) c (kind_of e)
+rules_failed o d time c e (inl (object, is)) (k, inl (none, json), told) = absurd (none object)
+rules_failed o d time c e (inr (none, is)) (k, inr (object, fault), told) = absurd (none object)
+rules_failed o d time c e is (k, fault, inr memory) = inl memory.0
+rules_failed o d time c e (inl (object, is)) (k, inr (some, fault), inl told) =
+    inr (rw told (inr (object, inl (not_held o d time k fault, (sym is, fault)))))
+rules_failed o d time c e (inr (none, is)) (k, inl (fails, json), inl told) = inr (rw told (inl (fails, (sym is, json))))
 
 -- a value of a result that is there only if this holds
 pub if_ok : {R E X : Type 0} (r : Result R E) → (IsOk r → X) → IfOk r (λ _. X)
@@ -244,7 +244,7 @@ if_ok (Err e) f = tt
 module _ {T : Type 0} (call : Call T) (A : List ℕ → List ℕ → Type 0) (t : Contents) (same : (m s : List ℕ) → A m s
     ↔ call.accepts t.header.alg (key_of call.keys t.jwk_key) m s) where
   abbrev by_verifier : Call T
-  by_verifier = verifying_by call.reads call.options call.now A
+  by_verifier = verifying_by call.reads call.options call.time A
 
   pub verified_passes : Passes (token_tests by_verifier) verifying_tests t → Passes (token_tests call) verifying_tests t
   verified_passes p = (p.0, ((same _ _).0 p.1.0, p.1.1))

@@ -36,10 +36,10 @@ text_tests = header_order ++ SignatureIsPart ∷ SignatureIsAccepted ∷ Payload
 module _ {T : Type 0} (call : Call T) (t : Contents) (p : Passes (token_tests call) text_tests t)
     (one : HasOneSignature (call.accepts t.header.alg (key_of call.keys t.jwk_key)))
     (token : Token) (w : Options) (m : ℕ) (u : Contents)
-    (q : Passes (token_tests (record call { token = token; options = w; now = m })) text_tests u)
+    (q : Passes (token_tests (record call { token = token; options = w; time = m })) text_tests u)
     (hb : u.header_bytes ≡ t.header_bytes) (pb : u.payload_bytes ≡ t.payload_bytes) where
   abbrev other : Call T
-  other = record call { token = token; options = w; now = m }
+  other = record call { token = token; options = w; time = m }
 
   same_header_of : u.header ≡ t.header
   same_header_of =
@@ -84,10 +84,10 @@ module _ {T : Type 0} (call : Call T) (order : List Test) where
 
   pub moments : are_in (timeless order) order ≡ true → is_in ClaimRulesHold order ≡ true
       → are_in order (timeless order ++ ClaimRulesHold ∷ []) ≡ true
-      → ((t : Contents) (m : ℕ) → Passes (token_tests (record call { now = m })) (timeless order) t
+      → ((t : Contents) (m : ℕ) → Passes (token_tests (record call { time = m })) (timeless order) t
       ↔ Passes (token_tests call) (timeless order) t) → HasMoments call order
   moments inside has outside same t m le =
-      let at = record call { now = m } in (
+      let at = record call { time = m } in (
         λ p. let w = within call.options t.payload_value m le (met at order t p ClaimRulesHold has) in
             record { base = (same t m).0 (among at (timeless order) order t inside p); rules = w.0; from = w.1; until = w.2 },
         λ w. among at order (timeless order ++ ClaimRulesHold ∷ []) t outside
@@ -98,10 +98,10 @@ module _ {T : Type 0} (call : Call T) (order : List Test) where
   -- the key that the header names
   pub named_key : is_in KeyIsFound order ≡ true → is_in KeyIsUsable order ≡ true
       → (token : Token) (w : Options) (m : ℕ) (t u : Contents) → Passes (token_tests call) order t
-      → Passes (token_tests (record call { token = token; options = w; now = m })) order u → u.header ≡ t.header
+      → Passes (token_tests (record call { token = token; options = w; time = m })) order u → u.header ≡ t.header
       → u.jwk_key ≡ t.jwk_key
   named_key found usable token w m t u p q same =
-      let again = record call { token = token; options = w; now = m } in
+      let again = record call { token = token; options = w; time = m } in
       let of_u = rw same at (met again order u q KeyIsFound found) in
       let jwks : Some u.jwk ≡ Some t.jwk = sym of_u ∙ met call order t p KeyIsFound found in
       let jwk : u.jwk ≡ t.jwk = cc in
@@ -111,11 +111,11 @@ module _ {T : Type 0} (call : Call T) (order : List Test) where
       → ((x y : A) (c : Parts) → HasParts (form x) c → HasParts (form y) c → y ≡ x)
       → are_in text_tests order ≡ true
       → ((token : Token) (w : Options) (m : ℕ) (t u : Contents) → Passes (token_tests call) order t
-      → Passes (token_tests (record call { token = token; options = w; now = m })) order u → u.header ≡ t.header
+      → Passes (token_tests (record call { token = token; options = w; time = m })) order u → u.header ≡ t.header
       → key_of call.keys u.jwk_key ≡ key_of call.keys t.jwk_key)
       → FixesToken call order A form x
   fixes A form x is_x one_form_of all one_key_of t p one y w m u q hb pb =
-      let again = record call { token = form y; options = w; now = m } in
+      let again = record call { token = form y; options = w; time = m } in
       let pt = among call text_tests order t all p in
       let qu = among again text_tests order u all q in
       let key = one_key_of (form y) w m t u p q (same_header_of call t pt one (form y) w m u qu hb pb) in

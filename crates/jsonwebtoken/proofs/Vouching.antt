@@ -9,10 +9,10 @@ use Rattle.jsonwebtoken.specs.Tests.{Call, Contents, decode_order, VerifierIsMad
 use Rattle.jsonwebtoken.specs.Vouched.{IsVouched, decoding_by_verdict, unasked_order}
 use Rattle.jsonwebtoken.proofs.EachTest.{met, among}
 
-module _ {T : Type 0} (claims : ClaimsOf T) (v : Verdict) (text : List ℕ) (validation : Validation) (now : ℕ)
+module _ {T : Type 0} (claims : ClaimsOf T) (v : Verdict) (text : List ℕ) (validation : Validation) (time : ℕ)
     (t : Contents) where
   abbrev call : Call T
-  call = decoding_by_verdict claims v text validation now
+  call = decoding_by_verdict claims v text validation time
 
   pub vouched : Passes (token_tests call) decode_order t → IsVouched call v t
   vouched p =

@@ -10,7 +10,7 @@ use Rattle.jsonwebtoken.specs.Tests.{Call, Contents, Test, token_tests}
 module _ {T : Type 0} (call : Call T) (order : List Test) where
   -- at this time some contents pass
   abbrev pub IsAcceptedAt : ℕ → Type 0
-  IsAcceptedAt n = (t : Contents) × Passes (token_tests (record call { now = n })) order t
+  IsAcceptedAt n = (t : Contents) × Passes (token_tests (record call { time = n })) order t
 
   -- some contents pass from the first time to the last, and at no other (RFC 7519 sections 4.1.4 and 4.1.5)
   pub record AreAcceptedMoments (m : Moments) : Type 0 where

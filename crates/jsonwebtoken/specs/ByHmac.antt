@@ -10,8 +10,8 @@ use Rattle.jsonwebtoken.specs.Tests.{Call, Compact, KeySource, verifying_call}
 
 -- the call of `decode` with a key, and of `decode_with_set` with the keys of a set
 abbrev pub decoding_by_hmac : {T : Type 0} → (Data → T → Type 0) → List ℕ → KeySource → Options → ℕ → Call T
-decoding_by_hmac reads text keys options now =
-    verifying_call (Compact text) keys options now hmac_verifier_refusal HmacAccepts reads
+decoding_by_hmac reads text keys options time =
+    verifying_call (Compact text) keys options time hmac_verifier_refusal HmacAccepts reads
 
 -- the call of `encode` of claims that are written as this value, if they are written at all
 abbrev pub encoding_by_hmac : Header → Option Data → SecretKey → Issue

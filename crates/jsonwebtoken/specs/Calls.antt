@@ -18,23 +18,23 @@ use Rattle.jsonwebtoken.specs.declared.by_verdict.SignedPart.{SignedPart}
 module _ {P S V T : Type 0} (provider : ProviderOf P S V) (claims : ClaimsOf T) where
   -- a call that verifies a token at a time
   abbrev pub verifying : P → Token → KeySource → Validation → ℕ → Call T
-  verifying p token keys validation now =
-      verifying_call token keys (options_of validation) now
+  verifying p token keys validation time =
+      verifying_call token keys (options_of validation) time
       (provider.verifier_refusal p) (provider.accepts p) claims.reads
 
   -- the call of `decode`
   abbrev pub decoding : P → List ℕ → Key → Validation → ℕ → Call T
-  decoding p text key validation now = verifying p (Compact text) (Given key) validation now
+  decoding p text key validation time = verifying p (Compact text) (Given key) validation time
 
   -- the call of `decode_with_set`
   abbrev pub decoding_by_set : P → List ℕ → List Jwk → Validation → ℕ → Call T
-  decoding_by_set p text keys validation now =
-      verifying p (Compact text) (InSet keys) validation now
+  decoding_by_set p text keys validation time =
+      verifying p (Compact text) (InSet keys) validation time
 
   -- the call of `jws::decode`
   abbrev pub decoding_parts : P → Parts → Key → Validation → ℕ → Call T
-  decoding_parts p parts key validation now =
-      verifying p (Separate parts) (Given key) validation now
+  decoding_parts p parts key validation time =
+      verifying p (Separate parts) (Given key) validation time
 
 -- ---- how a result shows the contents
 

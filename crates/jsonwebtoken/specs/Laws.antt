@@ -34,7 +34,7 @@ module _ {T : Type 0} (call : Call T) (order : List Test) where
   -- any contents pass exactly at these times (RFC 7519 sections 4.1.4 and 4.1.5)
   abbrev pub HasMoments : Type 0
   HasMoments = (t : Contents) (m : ℕ) → m ≤ end_of_time
-      → Passes (token_tests (record call { now = m })) order t ↔ IsWithin t m
+      → Passes (token_tests (record call { time = m })) order t ↔ IsWithin t m
 
   -- contents that pass do so under looser options too
   abbrev pub KeepsLooser : Type 0
@@ -57,7 +57,7 @@ module _ {T : Type 0} (call : Call T) (order : List Test) where
   FixesToken A form x = (t : Contents) → Passes (token_tests call) order t
       → HasOneSignature (call.accepts t.header.alg (key_of call.keys t.jwk_key))
       → (y : A) (w : Options) (m : ℕ) (u : Contents)
-      → Passes (token_tests (record call { token = form y; options = w; now = m })) order u
+      → Passes (token_tests (record call { token = form y; options = w; time = m })) order u
       → u.header_bytes ≡ t.header_bytes → u.payload_bytes ≡ t.payload_bytes → y ≡ x
 
   -- the laws of every call that verifies

@@ -90,7 +90,7 @@ pub record Call (T : Type 0) : Type 1 where
   pub token : Token
   pub keys : KeySource
   pub options : Options
-  pub now : ℕ
+  pub time : ℕ
   pub refusal : Algorithm → Key → Option Kind
   pub accepts : Algorithm → Key → List ℕ → List ℕ → Type 0
   pub reads : Data → T → Type 0
@@ -156,7 +156,7 @@ module _ {T : Type 0} (call : Call T) where
   -- RFC 7519 section 7.2
   Condition ClaimsAreAnObject t = IsSome (as_object t.payload_value)
   -- RFC 7519 section 4.1
-  Condition ClaimRulesHold t = RulesHold call.options t.payload_value call.now
+  Condition ClaimRulesHold t = RulesHold call.options t.payload_value call.time
 
   -- the kinds of a failed test
   abbrev pub HasKind : Test → Contents → Kind → Type 0
@@ -178,7 +178,7 @@ module _ {T : Type 0} (call : Call T) where
   HasKind PayloadIsJson t k = k ≡ kind.Json
   HasKind ClaimsRead t k = k ≡ kind.Json
   HasKind ClaimsAreAnObject t k = k ≡ kind.Json
-  HasKind ClaimRulesHold t k = IsRuleFault call.options t.payload_value call.now k
+  HasKind ClaimRulesHold t k = IsRuleFault call.options t.payload_value call.time k
 
   -- the tests of a token
   abbrev pub token_tests : Tests Test Contents
@@ -243,11 +243,11 @@ set_order = HasThreeParts ∷ opening_tests ++ key_tests ++ algorithm_tests ++ v
 abbrev pub verifying_call : {T : Type 0} → Token → KeySource → Options → ℕ
     → (Algorithm → Key → Option Kind) → (Algorithm → Key → List ℕ → List ℕ → Type 0)
     → (Data → T → Type 0) → Call T
-verifying_call token keys options now refusal accepts reads = record {
+verifying_call token keys options time refusal accepts reads = record {
   token = token;
   keys = keys;
   options = options;
-  now = now;
+  time = time;
   refusal = refusal;
   accepts = accepts;
   reads = reads;

@@ -22,9 +22,9 @@ unasked_order = HasThreeParts ∷ opening_tests
 
 -- the call of `decode` with the provider of a verdict and a key of its algorithm's family
 abbrev pub decoding_by_verdict : {T : Type 0} → ClaimsOf T → Verdict → List ℕ → Validation → ℕ → Call T
-decoding_by_verdict claims v text validation now =
+decoding_by_verdict claims v text validation time =
     verifying_call (Compact text) (Given (Plain (family_of v.algorithm) []))
-    (options_of validation) now (refusal_by v) (λ _ _. IsVerified v) claims.reads
+    (options_of validation) time (refusal_by v) (λ _ _. IsVerified v) claims.reads
 
 -- The tests that ask no provider hold, and the verdict is yes to the token's own message and signature
 -- (RFC 7515 section 5.2), by the algorithm that the header names.

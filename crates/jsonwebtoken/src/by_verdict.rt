@@ -63,7 +63,7 @@ pub fn signed_part(alloc: Global, token: &[u8]) -> Result<SignedPart<'_>>
 }
 
 /// Verifies a token in its compact form whose signature the caller has checked, at the time
-/// `now`, in whole seconds since 1970-01-01 00:00:00 UTC, and returns its header and its claims.
+/// `time`, in whole seconds since 1970-01-01 00:00:00 UTC, and returns its header and its claims.
 /// The verdict is about an algorithm, a message and a signature; a verdict on another token, or by
 /// another algorithm than the header's, is of no use.
 ///
@@ -75,11 +75,11 @@ pub fn decode_by_verdict<T: Claims>(
     token: &[u8],
     verdict: &VerdictProvider<'_>,
     validation: &Validation,
-    now: u64,
+    time: u64,
 ) -> Result<TokenData<T>>
-    ensures { DecidesVouched (decoding_by_verdict T.Claims verdict.now token.now validation.now now)
+    ensures { DecidesVouched (decoding_by_verdict T.Claims verdict.now token.now validation.now time)
         verdict.now result }
 {
     let key = verdict.key(alloc)?;
-    decode(alloc, verdict, token, &key, validation, now)
+    decode(alloc, verdict, token, &key, validation, time)
 }

@@ -51,11 +51,11 @@ fn decode_noting<P: CryptoProvider, T: Claims>(
     token: &[u8],
     key: &DecodingKey,
     validation: &Validation,
-    now: u64,
+    time: u64,
     failed: &mut Test,
 ) -> Result<TokenData<T>>
     ensures { let call = decoding P.CryptoProvider T.Claims
-        provider.now token.now key.now validation.now now in
+        provider.now token.now key.now validation.now time in
         Step call decode_order whole (Carries call) (tested failed.new result) }
 {
     let parts = match token_parts(token) {
@@ -63,7 +63,7 @@ fn decode_noting<P: CryptoProvider, T: Claims>(
         Err(refusal) => return Err(note(refusal, failed)),
     };
     let header = read_header_noting(alloc, parts.header, failed)?;
-    let claims = read_claims_by_key(alloc, provider, &parts, &header, key, validation, now);
+    let claims = read_claims_by_key(alloc, provider, &parts, &header, key, validation, time);
     match claims {
         Ok(claims) => Ok(TokenData { header, claims }),
         Err(refusal) => Err(note(refusal, failed)),
@@ -81,18 +81,18 @@ pub fn decode_or_refusal<P: CryptoProvider, T: Claims>(
     token: &[u8],
     key: &DecodingKey,
     validation: &Validation,
-    now: u64,
+    time: u64,
 ) -> Result<TokenData<T>, Refusal>
     ensures { let call = decoding P.CryptoProvider T.Claims
-        provider.now token.now key.now validation.now now in
+        provider.now token.now key.now validation.now time in
         DecidesByTest (token_tests call) decode_order (Carries call) result }
 {
     let mut failed = Test::HasThreeParts;
-    let decoded = decode_noting(alloc, provider, token, key, validation, now, &mut failed);
+    let decoded = decode_noting(alloc, provider, token, key, validation, time, &mut failed);
     with_test(failed, decoded)
 }
 
-/// Verifies a token in its compact form with the key, at the time `now`, in whole seconds since
+/// Verifies a token in its compact form with the key, at the time `time`, in whole seconds since
 /// 1970-01-01 00:00:00 UTC, and returns its header and its claims.
 ///
 /// These tests are made in this order, and a refused token has the kind of the first that fails:
@@ -118,7 +118,7 @@ pub fn decode_or_refusal<P: CryptoProvider, T: Claims>(
 /// let key = DecodingKey::from_secret(alloc, b"secret")?;
 /// let mut validation = Validation::new(alloc, Algorithm::HS256)?;
 /// validation.set_audience(alloc, &["my-service"])?;
-/// let data: TokenData<Value> = decode(alloc, &HmacProvider, token, &key, &validation, now)?;
+/// let data: TokenData<Value> = decode(alloc, &HmacProvider, token, &key, &validation, time)?;
 /// ```
 pub fn decode<P: CryptoProvider, T: Claims>(
     alloc: Global,
@@ -126,10 +126,10 @@ pub fn decode<P: CryptoProvider, T: Claims>(
     token: &[u8],
     key: &DecodingKey,
     validation: &Validation,
-    now: u64,
+    time: u64,
 ) -> Result<TokenData<T>>
     ensures decided { let call = decoding P.CryptoProvider T.Claims
-        provider.now token.now key.now validation.now now in
+        provider.now token.now key.now validation.now time in
         Decides (token_tests call) decode_order (Carries call) result }
 
     // The key is of the family of the header's algorithm.
@@ -140,11 +140,11 @@ pub fn decode<P: CryptoProvider, T: Claims>(
     // claims. If the provider accepts at most one signature of each message, the header's and the
     // payload's bytes fix the token.
     ensures laws { HasLaws
-        (decoding P.CryptoProvider T.Claims provider.now token.now key.now validation.now now)
+        (decoding P.CryptoProvider T.Claims provider.now token.now key.now validation.now time)
         decode_order (List ℕ) Compact token.now }
 {
     let mut failed = Test::HasThreeParts;
-    decode_noting(alloc, provider, token, key, validation, now, &mut failed)
+    decode_noting(alloc, provider, token, key, validation, time, &mut failed)
 }
 
 /// Returns the header of a token in its compact form. Nothing is verified: neither the payload nor

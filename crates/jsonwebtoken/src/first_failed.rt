@@ -30,7 +30,7 @@ pub(crate) fn test_of(refusal: Option<Refusal>) -> Result<Option<Test>>
 
 /// Returns the first test of [`decode`](crate::decode) that fails for these arguments, or `None` if
 /// none does, and then `decode` accepts the token. The order of the tests is that of `decode`, and
-/// `now` is in whole seconds since 1970-01-01 00:00:00 UTC. The only refusal is `OutOfMemory`.
+/// `time` is in whole seconds since 1970-01-01 00:00:00 UTC. The only refusal is `OutOfMemory`.
 ///
 /// Whoever issued a refused token need not be told which test failed: the answer is for those who
 /// run the verifier.
@@ -40,19 +40,19 @@ pub fn failed_test<P: CryptoProvider, T: Claims>(
     token: &[u8],
     key: &DecodingKey,
     validation: &Validation,
-    now: u64,
+    time: u64,
 ) -> Result<Option<Test>>
     ensures { let call = decoding P.CryptoProvider T.Claims
-        provider.now token.now key.now validation.now now in
+        provider.now token.now key.now validation.now time in
         FindsFailed (token_tests call) decode_order result }
 {
-    let found = decode_or_refusal::<P, T>(alloc, provider, token, key, validation, now);
+    let found = decode_or_refusal::<P, T>(alloc, provider, token, key, validation, time);
     test_of(found.err())
 }
 
 /// Returns the first test of [`decode_with_set`](crate::decode_with_set) that fails for these
 /// arguments, or `None` if none does, and then `decode_with_set` accepts the token. The order of
-/// the tests is that of `decode_with_set`, and `now` is in whole seconds since 1970-01-01 00:00:00
+/// the tests is that of `decode_with_set`, and `time` is in whole seconds since 1970-01-01 00:00:00
 /// UTC. The only refusal is `OutOfMemory`.
 pub fn failed_test_with_set<P: CryptoProvider, T: Claims>(
     alloc: Global,
@@ -60,12 +60,12 @@ pub fn failed_test_with_set<P: CryptoProvider, T: Claims>(
     token: &[u8],
     set: &JwkSet,
     validation: &Validation,
-    now: u64,
+    time: u64,
 ) -> Result<Option<Test>>
     ensures { let call = decoding_by_set P.CryptoProvider T.Claims
-        provider.now token.now set.now.keys.items validation.now now in
+        provider.now token.now set.now.keys.items validation.now time in
         FindsFailed (token_tests call) set_order result }
 {
-    let found = decode_with_set_or_refusal::<P, T>(alloc, provider, token, set, validation, now);
+    let found = decode_with_set_or_refusal::<P, T>(alloc, provider, token, set, validation, time);
     test_of(found.err())
 }

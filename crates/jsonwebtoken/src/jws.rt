@@ -199,16 +199,16 @@ fn read_claims_by_key<P: CryptoProvider, T: Claims>(
     header: &Header,
     key: &DecodingKey,
     validation: &Validation,
-    now: u64,
+    time: u64,
 ) -> Result<T, Refusal>
     ensures { let call = decoding_parts P.CryptoProvider T.Claims
-        provider.now (parts_in parts.now) key.now validation.now now in
+        provider.now (parts_in parts.now) key.now validation.now time in
         Step call (CritIsUnderstood ∷ (jws_algorithm_tests ++ verifying_tests))
         (with_opening (parts_in parts.now) header.now) (ShowsClaims T.reads) result }
 {
     check_crit(header, validation)?;
     let verifier = verifier_for(alloc, provider, header, key, validation)?;
-    let claims = verify_and_read_claims(alloc, &verifier, parts, validation, now)?;
+    let claims = verify_and_read_claims(alloc, &verifier, parts, validation, time)?;
     Ok(claims)
 }
 
@@ -218,14 +218,14 @@ fn decode_parts<P: CryptoProvider, T: Claims>(
     parts: &TokenParts<'_>,
     key: &DecodingKey,
     validation: &Validation,
-    now: u64,
+    time: u64,
 ) -> Result<TokenData<T>, Refusal>
     ensures { let call = decoding_parts P.CryptoProvider T.Claims
-        provider.now (parts_in parts.now) key.now validation.now now in
+        provider.now (parts_in parts.now) key.now validation.now time in
         Step call jws_order whole (Carries call) result }
 {
     let header = read_header(alloc, parts.header)?;
-    let claims = read_claims_by_key(alloc, provider, parts, &header, key, validation, now);
+    let claims = read_claims_by_key(alloc, provider, parts, &header, key, validation, time);
     match claims {
         Ok(claims) => Ok(TokenData { header, claims }),
         Err(refusal) => Err(refusal),
@@ -247,10 +247,10 @@ fn decode_by_steps<P: CryptoProvider, T: Claims>(
     token: &Jws<T>,
     key: &DecodingKey,
     validation: &Validation,
-    now: u64,
+    time: u64,
 ) -> Result<TokenData<T>, Refusal>
     ensures { let call = decoding_parts P.CryptoProvider T.Claims
-        provider.now (parts_of token.now) key.now validation.now now in
+        provider.now (parts_of token.now) key.now validation.now time in
         Step call jws_order whole (Carries call) result }
 {
     let message = with_test(Test::HasThreeParts, signed_message(alloc, token))?;
@@ -260,11 +260,11 @@ fn decode_by_steps<P: CryptoProvider, T: Claims>(
         payload: token.payload.as_bytes(),
         signature: token.signature.as_bytes(),
     };
-    let data = decode_parts(alloc, provider, &parts, key, validation, now)?;
+    let data = decode_parts(alloc, provider, &parts, key, validation, time)?;
     Ok(data)
 }
 
-/// Verifies a token in parts with the key, at the time `now`, in whole seconds since 1970-01-01
+/// Verifies a token in parts with the key, at the time `time`, in whole seconds since 1970-01-01
 /// 00:00:00 UTC, and returns its header and its claims. It accepts exactly the parts whose texts,
 /// joined by dots, [`decode`](crate::decode) accepts.
 ///
@@ -279,10 +279,10 @@ pub fn decode<P: CryptoProvider, T: Claims>(
     token: &Jws<T>,
     key: &DecodingKey,
     validation: &Validation,
-    now: u64,
+    time: u64,
 ) -> Result<TokenData<T>>
     ensures decided { let call = decoding_parts P.CryptoProvider T.Claims
-        provider.now (parts_of token.now) key.now validation.now now in
+        provider.now (parts_of token.now) key.now validation.now time in
         Decides (token_tests call) jws_order (Carries call) result }
 
     // The key is of the family of the header's algorithm.
@@ -294,14 +294,14 @@ pub fn decode<P: CryptoProvider, T: Claims>(
     // payload's bytes fix the three parts.
     ensures laws { HasLaws
         (decoding_parts P.CryptoProvider T.Claims provider.now (parts_of token.now) key.now
-        validation.now now)
+        validation.now time)
         jws_order Parts Separate (parts_of token.now) }
 
     // It accepts three parts exactly when `decode` accepts their text, with the same header and
     // claims.
     ensures agrees { (p : Parts) → AgreeOn
         (decoding_parts P.CryptoProvider T.Claims provider.now (parts_of token.now) key.now
-        validation.now now) p }
+        validation.now time) p }
 {
-    without_test(decode_by_steps(alloc, provider, token, key, validation, now))
+    without_test(decode_by_steps(alloc, provider, token, key, validation, time))
 }

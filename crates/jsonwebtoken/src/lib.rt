@@ -9,7 +9,7 @@
 //! let key = DecodingKey::from_secret(alloc, b"secret")?;
 //! let mut validation = Validation::new(alloc, Algorithm::HS256)?;
 //! validation.set_audience(alloc, &["my-service"])?;
-//! let data: TokenData<Value> = decode(alloc, &HmacProvider, token, &key, &validation, now)?;
+//! let data: TokenData<Value> = decode(alloc, &HmacProvider, token, &key, &validation, time)?;
 //! ```
 #![tactic(auto)]
 

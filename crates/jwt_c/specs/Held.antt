@@ -46,18 +46,18 @@ Takes held AreOf len = MatchOption held ⊥
 -- the result of a verifier, with the last time at which the token is accepted, or 0 if it is not, and the
 -- number of the first failed test, or 0 if none failed
 abbrev pub LeavesBy : Verifier → List ℕ → ℕ → ℕ → ℕ → ℕ → ℕ → List ℕ → List ℕ → Type 0
-LeavesBy v token now last test status len before after =
+LeavesBy v token time last test status len before after =
     ((v.limits.max_len < length token) × (last ≡ 0) × (test ≡ 0)
     × IsKept token_too_long status len before after)
     ⊎ ((length token ≤ v.limits.max_len)
-    × ((a : Answer) × AnswersUntil v.keys v.validation token now last a
-    × TellsTestOf v.keys v.validation token now a test × Leaves a status len before after))
+    × ((a : Answer) × AnswersUntil v.keys v.validation token time last a
+    × TellsTestOf v.keys v.validation token time a test × Leaves a status len before after))
 
 -- that of the verifier which a handle holds
 abbrev pub LeavesUntil : Option Shared → List ℕ → ℕ → ℕ → ℕ → ℕ → ℕ → List ℕ → List ℕ → Type 0
-LeavesUntil held token now last test status len before after = MatchOption held
+LeavesUntil held token time last test status len before after = MatchOption held
     ((last ≡ 0) × (test ≡ 0) × IsKept no_verifier status len before after)
-    (λ s. LeavesBy (verifier_in s) token now last test status len before after)
+    (λ s. LeavesBy (verifier_in s) token time last test status len before after)
 
 -- ---- for private clauses
 

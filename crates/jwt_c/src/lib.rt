@@ -64,7 +64,7 @@ use std::alloc::Global;
 
 const VERSION: &str = "0.1.0";
 
-/// Verifies a token with HMAC and a secret, at the time `now`, and writes its claims as JSON. The
+/// Verifies a token with HMAC and a secret, at the time `time`, and writes its claims as JSON. The
 /// options are the JSON text of [`Validation::from_value`](jsonwebtoken::Validation::from_value),
 /// and are read first.
 #[unsafe(no_mangle)]
@@ -73,18 +73,18 @@ pub extern "C" fn jwt_decode_hmac(
     token: &[u8],
     secret: &[u8],
     options: &[u8],
-    now: u64,
+    time: u64,
     room: &mut [u8],
     len: &mut usize,
 ) -> u32
-    ensures { (a : Answer) × AnswersHmac options.now token.now secret.now now a
+    ensures { (a : Answer) × AnswersHmac options.now token.now secret.now time a
         × Leaves a result len.new room.old room.new }
 {
-    let answer = hmac_answer(alloc, token, secret, options, now);
+    let answer = hmac_answer(alloc, token, secret, options, time);
     leave(answer, room, len)
 }
 
-/// Verifies a token with a key, by any of the twelve algorithms, at the time `now`, and writes its
+/// Verifies a token with a key, by any of the twelve algorithms, at the time `time`, and writes its
 /// claims as JSON.
 ///
 /// The key is the JSON text of one JSON Web Key (RFC 7517 section 4) of any kind: a secret, RSA, an
@@ -105,14 +105,14 @@ pub extern "C" fn jwt_decode_key(
     token: &[u8],
     key: &[u8],
     options: &[u8],
-    now: u64,
+    time: u64,
     room: &mut [u8],
     len: &mut usize,
 ) -> u32
-    ensures { (a : Answer) × AnswersKey options.now token.now key.now now a
+    ensures { (a : Answer) × AnswersKey options.now token.now key.now time a
         × Leaves a result len.new room.old room.new }
 {
-    let answer = key_answer(alloc, token, key, options, now);
+    let answer = key_answer(alloc, token, key, options, time);
     leave(answer, room, len)
 }
 
@@ -126,21 +126,21 @@ pub extern "C" fn jwt_decode_set(
     token: &[u8],
     set: &[u8],
     options: &[u8],
-    now: u64,
+    time: u64,
     room: &mut [u8],
     len: &mut usize,
 ) -> u32
-    ensures { (a : Answer) × AnswersSet options.now token.now set.now now a
+    ensures { (a : Answer) × AnswersSet options.now token.now set.now time a
         × Leaves a result len.new room.old room.new }
 {
-    let answer = set_answer(alloc, token, set, options, now);
+    let answer = set_answer(alloc, token, set, options, time);
     leave(answer, room, len)
 }
 
 /// Writes the name of the first test of a token that fails, such as `SignatureIsAccepted`, and
 /// nothing if none fails: then `jwt_decode_hmac` accepts the token with the same arguments. The
 /// tests and their order are those of [`decode`](jsonwebtoken::decode), with HMAC and a secret, at
-/// the time `now`, in whole seconds since 1970-01-01 00:00:00 UTC. The options are read first, and
+/// the time `time`, in whole seconds since 1970-01-01 00:00:00 UTC. The options are read first, and
 /// any other text is refused with 101. The only other refusal is `OutOfMemory`.
 ///
 /// Whoever issued a refused token need not be told which test failed: the answer is for those who
@@ -151,14 +151,14 @@ pub extern "C" fn jwt_failed_test_hmac(
     token: &[u8],
     secret: &[u8],
     options: &[u8],
-    now: u64,
+    time: u64,
     room: &mut [u8],
     len: &mut usize,
 ) -> u32
-    ensures { (a : Answer) × AnswersFailedHmac options.now token.now secret.now now a
+    ensures { (a : Answer) × AnswersFailedHmac options.now token.now secret.now time a
         × Leaves a result len.new room.old room.new }
 {
-    let answer = hmac_failed_test(alloc, token, secret, options, now);
+    let answer = hmac_failed_test(alloc, token, secret, options, time);
     leave_name(answer, room, len)
 }
 
@@ -173,14 +173,14 @@ pub extern "C" fn jwt_failed_test_key(
     token: &[u8],
     key: &[u8],
     options: &[u8],
-    now: u64,
+    time: u64,
     room: &mut [u8],
     len: &mut usize,
 ) -> u32
-    ensures { (a : Answer) × AnswersFailedKey options.now token.now key.now now a
+    ensures { (a : Answer) × AnswersFailedKey options.now token.now key.now time a
         × Leaves a result len.new room.old room.new }
 {
-    let answer = key_failed_test(alloc, token, key, options, now);
+    let answer = key_failed_test(alloc, token, key, options, time);
     leave_name(answer, room, len)
 }
 
@@ -194,14 +194,14 @@ pub extern "C" fn jwt_failed_test_set(
     token: &[u8],
     set: &[u8],
     options: &[u8],
-    now: u64,
+    time: u64,
     room: &mut [u8],
     len: &mut usize,
 ) -> u32
-    ensures { (a : Answer) × AnswersFailedSet options.now token.now set.now now a
+    ensures { (a : Answer) × AnswersFailedSet options.now token.now set.now time a
         × Leaves a result len.new room.old room.new }
 {
-    let answer = set_failed_test(alloc, token, set, options, now);
+    let answer = set_failed_test(alloc, token, set, options, time);
     leave_name(answer, room, len)
 }
 
@@ -276,16 +276,16 @@ pub extern "C" fn jwt_decode_verdict(
     signature: &[u8],
     verdict: bool,
     options: &[u8],
-    now: u64,
+    time: u64,
     room: &mut [u8],
     len: &mut usize,
 ) -> u32
     ensures { (a : Answer) × AnswersSaid (algorithm_numbered algorithm) options.now token.now
-        (record { message = message.now; signature = signature.now; says_yes = verdict }) now a
+        (record { message = message.now; signature = signature.now; says_yes = verdict }) time a
         × Leaves a result len.new room.old room.new }
 {
     let answer = said_answer(
-        alloc, token, algorithm, message, signature, verdict, options, now,
+        alloc, token, algorithm, message, signature, verdict, options, time,
     );
     leave(answer, room, len)
 }
@@ -603,7 +603,7 @@ pub extern "C" fn jwt_verifier_share(
     }
 }
 
-/// Verifies a token at the time `now`, and writes its claims as JSON: what `jwt_decode_set` or
+/// Verifies a token at the time `time`, and writes its claims as JSON: what `jwt_decode_set` or
 /// `jwt_decode_key` writes with the texts that the verifier was made of. It sets `last` to the last
 /// time at which it accepts the token, or to 0 if it refuses it, and `test` to the number of the
 /// first test that failed, or to 0 if none did. The status is 108 for a handle that holds no
@@ -613,29 +613,29 @@ pub extern "C" fn jwt_verifier_decode(
     alloc: Global,
     verifier: &mut Handle,
     token: &[u8],
-    now: u64,
+    time: u64,
     room: &mut [u8],
     len: &mut usize,
     last: &mut u64,
     test: &mut u32,
 ) -> u32
     ensures held { verifier.new.held ≡ verifier.old.held }
-    ensures decided { LeavesUntil verifier.old.held token.now now last.new test.new result len.new
+    ensures decided { LeavesUntil verifier.old.held token.now time last.new test.new result len.new
         room.old room.new }
 
     // What the calls without a verifier leave, with any texts that it was made of.
     ensures set { (options set : List ℕ)
         → Takes verifier.old.held (AreOfSet options set) (length token.now)
-        → (a : Answer) × AnswersSet options token.now set now a
+        → (a : Answer) × AnswersSet options token.now set time a
         × Leaves a result len.new room.old room.new }
     ensures key { (options key : List ℕ)
         → Takes verifier.old.held (AreOfKey options key) (length token.now)
-        → (a : Answer) × AnswersKey options token.now key now a
+        → (a : Answer) × AnswersKey options token.now key time a
         × Leaves a result len.new room.old room.new }
 {
     match verifier.take(alloc) {
         Some(made) => {
-            let answer = answer_until(alloc, &made.verifier, token, now);
+            let answer = answer_until(alloc, &made.verifier, token, time);
             *verifier = Handle::of(made);
             leave_until(answer, room, len, last, test)
         }

@@ -93,25 +93,25 @@ AnswersBy Reads MisreadAs Shows Refused (Misreads i) = MisreadAs i
 
 -- `decode` with HMAC and the secret
 abbrev pub hmac_call : List ℕ → List ℕ → ℕ → Options → Call Value
-hmac_call token secret now options =
-    decoding_by_hmac IsValue token (Given (Plain Hmac secret)) options now
+hmac_call token secret time options =
+    decoding_by_hmac IsValue token (Given (Plain Hmac secret)) options time
 
 -- `decode` with a verdict
 abbrev pub verdict_call : List ℕ → Verdict → ℕ → Options → Call Value
-verdict_call token v now options =
-    verifying_call (Compact token) (Given (Plain (family_of v.algorithm) [])) options now
+verdict_call token v time options =
+    verifying_call (Compact token) (Given (Plain (family_of v.algorithm) [])) options time
     (refusal_by v) (λ _ _. IsVerified v) IsValue
 
 -- `decode` by all twelve algorithms, with the key
 abbrev pub key_call : List ℕ → Key → ℕ → Options → Call Value
-key_call token key now options =
-    verifying_call (Compact token) (Given key) options now
+key_call token key time options =
+    verifying_call (Compact token) (Given key) options time
     verifier_refusal StandardAccepts IsValue
 
 -- `decode_with_set` by all twelve algorithms
 abbrev pub set_call : List ℕ → List Jwk → ℕ → Options → Call Value
-set_call token keys now options =
-    verifying_call (Compact token) (InSet keys) options now
+set_call token keys time options =
+    verifying_call (Compact token) (InSet keys) options time
     verifier_refusal StandardAccepts IsValue
 
 -- the text is that of the claims of accepted contents
@@ -129,46 +129,46 @@ AnswersWhere text Accepted Refused = AnswersBy
 -- accepted contents pass every test of `decode`; a refusal has the kind of the first that fails
 -- (RFC 7519 section 7.2)
 abbrev pub AnswersHmac : List ℕ → List ℕ → List ℕ → ℕ → Answer → Type 0
-AnswersHmac text token secret now = AnswersWhere text
-    (λ o. Passes (token_tests (hmac_call token secret now o)) decode_order)
-    (λ o. FailsFirst (token_tests (hmac_call token secret now o)) decode_order)
+AnswersHmac text token secret time = AnswersWhere text
+    (λ o. Passes (token_tests (hmac_call token secret time o)) decode_order)
+    (λ o. FailsFirst (token_tests (hmac_call token secret time o)) decode_order)
 
 -- the same for `decode_with_set`; the options' text is read before that of the key set
 abbrev pub AnswersSet : List ℕ → List ℕ → List ℕ → ℕ → Answer → Type 0
-AnswersSet text token set now = AnswersBy {E = Options × List Jwk}
+AnswersSet text token set time = AnswersBy {E = Options × List Jwk}
     (λ e. ReadsText ReadsOptions text e.0 × ReadsText ReadsSet set e.1)
     (MisreadsTwo input.Options (ReadsText ReadsOptions text) input.Set (ReadsText ReadsSet set))
-    (λ e. IsClaimsText (Passes (token_tests (set_call token e.1 now e.0)) set_order))
-    (λ e. FailsFirst (token_tests (set_call token e.1 now e.0)) set_order)
+    (λ e. IsClaimsText (Passes (token_tests (set_call token e.1 time e.0)) set_order))
+    (λ e. FailsFirst (token_tests (set_call token e.1 time e.0)) set_order)
 
 -- contents that `decode` accepts with the key that a JSON Web Key stands for (RFC 7518 section 6)
 abbrev pub PassesByJwk : List ℕ → ℕ → Options → Jwk → Contents → Type 0
-PassesByJwk token now options jwk t = (key : Key) × IsKeyOf jwk.algorithm key
-    × Passes (token_tests (key_call token key now options)) decode_order t
+PassesByJwk token time options jwk t = (key : Key) × IsKeyOf jwk.algorithm key
+    × Passes (token_tests (key_call token key time options)) decode_order t
 
 -- the kind with which a JSON Web Key that stands for no key is refused; else that of the first test
 -- that fails with its key
 abbrev pub FailsByJwk : List ℕ → ℕ → Options → Jwk → Kind → Type 0
-FailsByJwk token now options jwk k =
+FailsByJwk token time options jwk k =
     ((k ≡ refusal_of jwk.algorithm) × ((key : Key) → ¬ IsKeyOf jwk.algorithm key))
     ⊎ ((key : Key) × IsKeyOf jwk.algorithm key
-    × FailsFirst (token_tests (key_call token key now options)) decode_order k)
+    × FailsFirst (token_tests (key_call token key time options)) decode_order k)
 
 -- `decode` with a JSON Web Key; the options' text is read before that of the key, and the key before
 -- the token
 abbrev pub AnswersKey : List ℕ → List ℕ → List ℕ → ℕ → Answer → Type 0
-AnswersKey text token key now = AnswersBy {E = Options × Jwk}
+AnswersKey text token key time = AnswersBy {E = Options × Jwk}
     (λ e. ReadsText ReadsOptions text e.0 × ReadsText ReadsKey key e.1)
     (MisreadsTwo input.Options (ReadsText ReadsOptions text) input.Key (ReadsText ReadsKey key))
-    (λ e. IsClaimsText (PassesByJwk token now e.0 e.1))
-    (λ e. FailsByJwk token now e.0 e.1)
+    (λ e. IsClaimsText (PassesByJwk token time e.0 e.1))
+    (λ e. FailsByJwk token time e.0 e.1)
 
 -- accepted contents are those that the verdict vouches for; a refusal has the kind of the first
 -- test of `decode` that fails
 abbrev pub AnswersVerdict : List ℕ → List ℕ → Verdict → ℕ → Answer → Type 0
-AnswersVerdict text token v now = AnswersWhere text
-    (λ o. IsVouched (verdict_call token v now o) v)
-    (λ o. FailsFirst (token_tests (verdict_call token v now o)) decode_order)
+AnswersVerdict text token v time = AnswersWhere text
+    (λ o. IsVouched (verdict_call token v time o) v)
+    (λ o. FailsFirst (token_tests (verdict_call token v time o)) decode_order)
 
 -- a caller's verdict, by the algorithm that is named by its number
 pub record Said : Type 0 where
@@ -181,9 +181,9 @@ verdict_by s a = record { algorithm = a; message = s.message; signature = s.sign
 
 -- a number of no algorithm is refused, before the options are read
 abbrev pub AnswersSaid : Option Algorithm → List ℕ → List ℕ → Said → ℕ → Answer → Type 0
-AnswersSaid None text token s now a = a ≡ Refuses kind.InvalidAlgorithmName
-AnswersSaid (Some algorithm) text token s now a =
-    AnswersVerdict text token (verdict_by s algorithm) now a
+AnswersSaid None text token s time a = a ≡ Refuses kind.InvalidAlgorithmName
+AnswersSaid (Some algorithm) text token s time a =
+    AnswersVerdict text token (verdict_by s algorithm) time a
 
 -- the claims hold no number but integers from -2^63 to 2^64 - 1, else `Json`
 abbrev pub AnswersNumbers : List ℕ → Answer → Type 0

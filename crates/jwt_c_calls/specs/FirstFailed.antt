@@ -20,15 +20,15 @@ NamesFailed call order bytes =
 
 -- the first failed test of `decode` with HMAC and the secret (RFC 7519 section 7.2)
 abbrev pub AnswersFailedHmac : List ℕ → List ℕ → List ℕ → ℕ → Answer → Type 0
-AnswersFailedHmac text token secret now = AnswersWithOptions text
-    (λ o. NamesFailed (hmac_call token secret now o) decode_order)
+AnswersFailedHmac text token secret time = AnswersWithOptions text
+    (λ o. NamesFailed (hmac_call token secret time o) decode_order)
 
 -- that of `decode` by all twelve algorithms, with the key that a JSON Web Key stands for
 abbrev pub AnswersFailedKey : List ℕ → List ℕ → List ℕ → ℕ → Answer → Type 0
-AnswersFailedKey text token key now = AnswersWithKey text key
-    (λ o k. NamesFailed (key_call token k now o) decode_order)
+AnswersFailedKey text token key time = AnswersWithKey text key
+    (λ o k. NamesFailed (key_call token k time o) decode_order)
 
 -- that of `decode_with_set` by all twelve algorithms
 abbrev pub AnswersFailedSet : List ℕ → List ℕ → List ℕ → ℕ → Answer → Type 0
-AnswersFailedSet text token set now = AnswersWithSet text set
-    (λ o keys. NamesFailed (set_call token keys now o) set_order)
+AnswersFailedSet text token set time = AnswersWithSet text set
+    (λ o keys. NamesFailed (set_call token keys time o) set_order)

@@ -57,16 +57,16 @@ pub fn hmac_answer(
     token: &[u8],
     secret: &[u8],
     options: &[u8],
-    now: u64,
+    time: u64,
 ) -> Result<Vec<u8>, Refusal>
-    ensures ok { IfOk result (λ b. AnswersHmac options.now token.now secret.now now
+    ensures ok { IfOk result (λ b. AnswersHmac options.now token.now secret.now time
         (Gives b.items)) }
-    ensures err { IfErr result (λ r. AnswersHmac options.now token.now secret.now now
+    ensures err { IfErr result (λ r. AnswersHmac options.now token.now secret.now time
         (answer_of r)) }
 {
     let validation = read_as(Input::Options, Validation::from_slice(alloc, options))?;
     let key = DecodingKey::from_secret(alloc, secret)?;
-    let answer = decode(alloc, &HmacProvider, token, &key, &validation, now);
+    let answer = decode(alloc, &HmacProvider, token, &key, &validation, time);
     hand_out(alloc, answer)
 }
 
@@ -77,16 +77,16 @@ fn by_jwk(
     token: &[u8],
     jwk: &Jwk,
     validation: &Validation,
-    now: u64,
+    time: u64,
 ) -> Result<TokenData<Value>, Error>
     ensures ok { IfOk result (λ d. (t : Contents)
-        × PassesByJwk token.now now (options_of validation.now) jwk.now t
+        × PassesByJwk token.now time (options_of validation.now) jwk.now t
         × ((t.header ≡ d.header) × (view d.claims ≡ t.payload_value))) }
     ensures err { IfErr result (λ e. IsMemory e
-        ⊎ FailsByJwk token.now now (options_of validation.now) jwk.now (kind_of e)) }
+        ⊎ FailsByJwk token.now time (options_of validation.now) jwk.now (kind_of e)) }
 {
     let key = DecodingKey::from_jwk(alloc, jwk)?;
-    decode(alloc, &StandardProvider, token, &key, validation, now)
+    decode(alloc, &StandardProvider, token, &key, validation, time)
 }
 
 /// Returns the claims of a token that is verified with a key, which is the JSON text of one JSON
@@ -96,14 +96,14 @@ pub fn key_answer(
     token: &[u8],
     key: &[u8],
     options: &[u8],
-    now: u64,
+    time: u64,
 ) -> Result<Vec<u8>, Refusal>
-    ensures ok { IfOk result (λ b. AnswersKey options.now token.now key.now now (Gives b.items)) }
-    ensures err { IfErr result (λ r. AnswersKey options.now token.now key.now now (answer_of r)) }
+    ensures ok { IfOk result (λ b. AnswersKey options.now token.now key.now time (Gives b.items)) }
+    ensures err { IfErr result (λ r. AnswersKey options.now token.now key.now time (answer_of r)) }
 {
     let validation = read_as(Input::Options, Validation::from_slice(alloc, options))?;
     let jwk = read_as(Input::Key, Jwk::from_slice(alloc, key))?;
-    let answer = by_jwk(alloc, token, &jwk, &validation, now);
+    let answer = by_jwk(alloc, token, &jwk, &validation, time);
     hand_out(alloc, answer)
 }
 
@@ -114,14 +114,14 @@ pub fn set_answer(
     token: &[u8],
     set: &[u8],
     options: &[u8],
-    now: u64,
+    time: u64,
 ) -> Result<Vec<u8>, Refusal>
-    ensures ok { IfOk result (λ b. AnswersSet options.now token.now set.now now (Gives b.items)) }
-    ensures err { IfErr result (λ r. AnswersSet options.now token.now set.now now (answer_of r)) }
+    ensures ok { IfOk result (λ b. AnswersSet options.now token.now set.now time (Gives b.items)) }
+    ensures err { IfErr result (λ r. AnswersSet options.now token.now set.now time (answer_of r)) }
 {
     let validation = read_as(Input::Options, Validation::from_slice(alloc, options))?;
     let keys = read_as(Input::Set, JwkSet::from_slice(alloc, set))?;
-    let answer = decode_with_set(alloc, &StandardProvider, token, &keys, &validation, now);
+    let answer = decode_with_set(alloc, &StandardProvider, token, &keys, &validation, time);
     hand_out(alloc, answer)
 }
 
@@ -130,15 +130,15 @@ fn verdict_answer(
     token: &[u8],
     verdict: &VerdictProvider<'_>,
     options: &[u8],
-    now: u64,
+    time: u64,
 ) -> Result<Vec<u8>, Refusal>
-    ensures ok { IfOk result (λ b. AnswersVerdict options.now token.now verdict.now now
+    ensures ok { IfOk result (λ b. AnswersVerdict options.now token.now verdict.now time
         (Gives b.items)) }
-    ensures err { IfErr result (λ r. AnswersVerdict options.now token.now verdict.now now
+    ensures err { IfErr result (λ r. AnswersVerdict options.now token.now verdict.now time
         (answer_of r)) }
 {
     let validation = read_as(Input::Options, Validation::from_slice(alloc, options))?;
-    let answer = decode_by_verdict(alloc, token, verdict, &validation, now);
+    let answer = decode_by_verdict(alloc, token, verdict, &validation, time);
     hand_out(alloc, answer)
 }
 
@@ -152,20 +152,20 @@ pub fn said_answer(
     signature: &[u8],
     verdict: bool,
     options: &[u8],
-    now: u64,
+    time: u64,
 ) -> Result<Vec<u8>, Refusal>
     ensures ok { IfOk result (λ b. AnswersSaid (algorithm_numbered algorithm) options.now token.now
-        (record { message = message.now; signature = signature.now; says_yes = verdict }) now
+        (record { message = message.now; signature = signature.now; says_yes = verdict }) time
         (Gives b.items)) }
     ensures err { IfErr result (λ r. AnswersSaid
         (algorithm_numbered algorithm) options.now token.now
-        (record { message = message.now; signature = signature.now; says_yes = verdict }) now
+        (record { message = message.now; signature = signature.now; says_yes = verdict }) time
         (answer_of r)) }
 {
     match numbered_algorithm(algorithm) {
         Some(by) => {
             let said = VerdictProvider::new(by, message, signature, verdict);
-            verdict_answer(alloc, token, &said, options, now)
+            verdict_answer(alloc, token, &said, options, time)
         }
         None => Err(Refusal::Token(new_error(ErrorKind::InvalidAlgorithmName))),
     }

@@ -22,11 +22,11 @@ pub fn hmac_failed_test(
     token: &[u8],
     secret: &[u8],
     options: &[u8],
-    now: u64,
+    time: u64,
 ) -> Result<Option<Test>, Refusal>
-    ensures ok { IfOk result (λ f. AnswersFailedHmac options.now token.now secret.now now
+    ensures ok { IfOk result (λ f. AnswersFailedHmac options.now token.now secret.now time
         (Gives (failed_name f))) }
-    ensures err { IfErr result (λ r. AnswersFailedHmac options.now token.now secret.now now
+    ensures err { IfErr result (λ r. AnswersFailedHmac options.now token.now secret.now time
         (answer_of r)) }
 {
     let (validation, key) = options_and_secret(alloc, options, secret)?;
@@ -36,7 +36,7 @@ pub fn hmac_failed_test(
         token,
         &key,
         &validation,
-        now,
+        time,
     )?;
     Ok(failed)
 }
@@ -49,11 +49,11 @@ pub fn key_failed_test(
     token: &[u8],
     key: &[u8],
     options: &[u8],
-    now: u64,
+    time: u64,
 ) -> Result<Option<Test>, Refusal>
-    ensures ok { IfOk result (λ f. AnswersFailedKey options.now token.now key.now now
+    ensures ok { IfOk result (λ f. AnswersFailedKey options.now token.now key.now time
         (Gives (failed_name f))) }
-    ensures err { IfErr result (λ r. AnswersFailedKey options.now token.now key.now now
+    ensures err { IfErr result (λ r. AnswersFailedKey options.now token.now key.now time
         (answer_of r)) }
 {
     let (validation, key) = options_and_key(alloc, options, key)?;
@@ -63,7 +63,7 @@ pub fn key_failed_test(
         token,
         &key,
         &validation,
-        now,
+        time,
     )?;
     Ok(failed)
 }
@@ -75,11 +75,11 @@ pub fn set_failed_test(
     token: &[u8],
     set: &[u8],
     options: &[u8],
-    now: u64,
+    time: u64,
 ) -> Result<Option<Test>, Refusal>
-    ensures ok { IfOk result (λ f. AnswersFailedSet options.now token.now set.now now
+    ensures ok { IfOk result (λ f. AnswersFailedSet options.now token.now set.now time
         (Gives (failed_name f))) }
-    ensures err { IfErr result (λ r. AnswersFailedSet options.now token.now set.now now
+    ensures err { IfErr result (λ r. AnswersFailedSet options.now token.now set.now time
         (answer_of r)) }
 {
     let (validation, keys) = options_and_set(alloc, options, set)?;
@@ -89,7 +89,7 @@ pub fn set_failed_test(
         token,
         &keys,
         &validation,
-        now,
+        time,
     )?;
     Ok(failed)
 }

@@ -17,12 +17,12 @@ use Rattle.jwt_c_verifier.specs.Verifiers.{AnswersWith, IsRefusedWith, TellsTest
 use Rattle.jwt_c_verifier.specs.declared.verifiers.Accepted.{Accepted}
 use Rattle.jwt_c_verifier.specs.declared.verifiers.Denied.{Denied}
 
-module _ (keys : Keys) (validation : Validation) (token : List ℕ) (now : ℕ) (refusal : Refusal) (status test : ℕ) where
-  pub denied_with : IsMemory refusal.error ⊎ IsRefusal (token_tests (verifier_call keys validation token now))
+module _ (keys : Keys) (validation : Validation) (token : List ℕ) (time : ℕ) (refusal : Refusal) (status test : ℕ) where
+  pub denied_with : IsMemory refusal.error ⊎ IsRefusal (token_tests (verifier_call keys validation token time))
       (order_of keys) refusal
       → status ≡ number (kind_of refusal.error)
       → (IsMemory refusal.error × (test ≡ 0)) ⊎ ((¬ IsMemory refusal.error) × (test ≡ test_number refusal.test))
-      → (k : Kind) × AnswersWith keys validation token now (Refuses k) × TellsTest keys validation token now k test
+      → (k : Kind) × AnswersWith keys validation token time (Refuses k) × TellsTest keys validation token time k test
       × (status ≡ number k)
   denied_with (inl m) is (inl none) = (kind_of refusal.error, inl m, inl (m, none.1), is)
   denied_with (inl m) is (inr some) = absurd (some.0 m)
@@ -35,7 +35,7 @@ module _ (keys : Keys) (validation : Validation) (token : List ℕ) (now : ℕ) 
   )
 
 -- memory ran out as the claims were written
-pub out_of_memory : (v : Verifier) (token : List ℕ) (now : ℕ) → length token ≤ v.limits.max_len → (r : Result Accepted Denied)
-    → IfErr r (λ d. (d.status ≡ 22) × (d.test ≡ 0)) → IfErr r (λ d. IsRefusedWith v token now d.status d.test)
-out_of_memory v token now short (Ok a) e = tt
-out_of_memory v token now short (Err d) e = inr (short, (kind.OutOfMemory, inl refl, inl (refl, e.1), e.0))
+pub out_of_memory : (v : Verifier) (token : List ℕ) (time : ℕ) → length token ≤ v.limits.max_len → (r : Result Accepted Denied)
+    → IfErr r (λ d. (d.status ≡ 22) × (d.test ≡ 0)) → IfErr r (λ d. IsRefusedWith v token time d.status d.test)
+out_of_memory v token time short (Ok a) e = tt
+out_of_memory v token time short (Err d) e = inr (short, (kind.OutOfMemory, inl refl, inl (refl, e.1), e.0))

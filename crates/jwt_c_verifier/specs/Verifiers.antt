@@ -96,47 +96,47 @@ IsMade Refused AreOf limits (Err status) = IsUnmade Refused AreOf limits.allows_
 
 -- `decode` or `decode_with_set` by all twelve algorithms, with these keys and options
 abbrev pub verifier_call : Keys → Validation → List ℕ → ℕ → Call Value
-verifier_call keys validation token now =
-    verifying_call (Compact token) (source_of keys) (options_of validation) now
+verifier_call keys validation token time =
+    verifying_call (Compact token) (source_of keys) (options_of validation) time
     verifier_refusal StandardAccepts IsValue
 
 -- the claims of an accepted token, or the kind with which it is refused
 abbrev pub AnswersWith : Keys → Validation → List ℕ → ℕ → Answer → Type 0
-AnswersWith keys validation token now = AnswersBy {E = Unit {0}} (λ _. Unit {0}) (λ _. ⊥)
-    (λ _. IsClaimsText (Passes (token_tests (verifier_call keys validation token now))
+AnswersWith keys validation token time = AnswersBy {E = Unit {0}} (λ _. Unit {0}) (λ _. ⊥)
+    (λ _. IsClaimsText (Passes (token_tests (verifier_call keys validation token time))
     (order_of keys)))
-    (λ _. FailsFirst (token_tests (verifier_call keys validation token now)) (order_of keys))
+    (λ _. FailsFirst (token_tests (verifier_call keys validation token time)) (order_of keys))
 
 -- from this time on, these contents pass exactly up to the last one (RFC 7519 section 4.1.4)
 abbrev pub IsLast : {T : Type 0} → Call T → List Test → ℕ → Contents → ℕ → Type 0
-IsLast call order now t last = (m : ℕ) → now ≤ m → m ≤ end_of_time
-    → Passes (token_tests (record call { now = m })) order t ↔ (m ≤ last)
+IsLast call order time t last = (m : ℕ) → time ≤ m → m ≤ end_of_time
+    → Passes (token_tests (record call { time = m })) order t ↔ (m ≤ last)
 
 -- The claims of an accepted token, which is accepted up to the last time and not after it; or the
 -- kind with which it is refused.
 abbrev pub AnswersUntil : Keys → Validation → List ℕ → ℕ → ℕ → Answer → Type 0
-AnswersUntil keys validation token now last = AnswersBy {E = Unit {0}} (λ _. Unit {0}) (λ _. ⊥)
-    (λ _. IsClaimsText (λ t. Passes (token_tests (verifier_call keys validation token now))
-    (order_of keys) t × IsLast (verifier_call keys validation token now) (order_of keys) now t last))
-    (λ _. FailsFirst (token_tests (verifier_call keys validation token now)) (order_of keys))
+AnswersUntil keys validation token time last = AnswersBy {E = Unit {0}} (λ _. Unit {0}) (λ _. ⊥)
+    (λ _. IsClaimsText (λ t. Passes (token_tests (verifier_call keys validation token time))
+    (order_of keys) t × IsLast (verifier_call keys validation token time) (order_of keys) time t last))
+    (λ _. FailsFirst (token_tests (verifier_call keys validation token time)) (order_of keys))
 
 -- the number of the first failed test of a token that is refused with this kind, or 0 if memory ran out
 abbrev pub TellsTest : Keys → Validation → List ℕ → ℕ → Kind → ℕ → Type 0
-TellsTest keys validation token now k test = ((k ≡ kind.OutOfMemory) × (test ≡ 0))
+TellsTest keys validation token time k test = ((k ≡ kind.OutOfMemory) × (test ≡ 0))
     ⊎ ((f : Test)
-    × IsFirstFailed (token_tests (verifier_call keys validation token now)) (order_of keys) f
+    × IsFirstFailed (token_tests (verifier_call keys validation token time)) (order_of keys) f
     × (test ≡ test_number f))
 
 -- the number of the first failed test, or 0 if none failed
 abbrev pub TellsTestOf : Keys → Validation → List ℕ → ℕ → Answer → ℕ → Type 0
-TellsTestOf keys validation token now (Gives bytes) test = test ≡ 0
-TellsTestOf keys validation token now (Refuses k) test = TellsTest keys validation token now k test
-TellsTestOf keys validation token now (Misreads i) test = ⊥
+TellsTestOf keys validation token time (Gives bytes) test = test ≡ 0
+TellsTestOf keys validation token time (Refuses k) test = TellsTest keys validation token time k test
+TellsTestOf keys validation token time (Misreads i) test = ⊥
 
 -- the status of a token that is refused, and the number of the test: by its length; or with a kind
 abbrev pub IsRefusedWith : Verifier → List ℕ → ℕ → ℕ → ℕ → Type 0
-IsRefusedWith v token now status test =
+IsRefusedWith v token time status test =
     ((v.limits.max_len < length token) × (status ≡ token_too_long) × (test ≡ 0))
     ⊎ ((length token ≤ v.limits.max_len) × ((k : Kind)
-    × AnswersWith v.keys v.validation token now (Refuses k)
-    × TellsTest v.keys v.validation token now k test × (status ≡ number k)))
+    × AnswersWith v.keys v.validation token time (Refuses k)
+    × TellsTest v.keys v.validation token time k test × (status ≡ number k)))

@@ -214,14 +214,14 @@ pub fn answer_until(
     alloc: Global,
     verifier: &Verifier,
     token: &[u8],
-    now: u64,
+    time: u64,
 ) -> Result<Accepted, Denied>
     ensures ok { IfOk result (λ a. (length token.now ≤ verifier.now.limits.max_len)
-        × AnswersUntil verifier.now.keys verifier.now.validation token.now now a.last
+        × AnswersUntil verifier.now.keys verifier.now.validation token.now time a.last
         (Gives a.text.items)) }
-    ensures err { IfErr result (λ d. IsRefusedWith verifier.now token.now now d.status d.test) }
+    ensures err { IfErr result (λ d. IsRefusedWith verifier.now token.now time d.status d.test) }
 {
-    match verifier.decode_or_refusal::<Value>(alloc, token, now) {
+    match verifier.decode_or_refusal::<Value>(alloc, token, time) {
         Ok(decoded) => hand_out(alloc, &decoded, &verifier.validation),
         Err(Rejection::TooLong) => Err(Denied {
             status: 111,

@@ -29,13 +29,13 @@ order_of (Set set) = set_order
 
 -- a token, checked with these keys and options at a time, by the provider of all algorithms
 abbrev pub checking : List ℕ → Keys → Options → ℕ → Call Value
-checking token keys options now =
-    verifying_call (Compact token) (keys_of keys) options now verifier_refusal StandardAccepts IsValue
+checking token keys options time =
+    verifying_call (Compact token) (keys_of keys) options time verifier_refusal StandardAccepts IsValue
 
 -- the token passes every test (RFC 7515 section 5.2, RFC 7519 section 7.2)
 abbrev pub PassesAll : List ℕ → Keys → Options → ℕ → Contents → Type 0
-PassesAll token keys options now t =
-    Passes (token_tests (checking token keys options now)) (order_of keys) t
+PassesAll token keys options time t =
+    Passes (token_tests (checking token keys options time)) (order_of keys) t
 
 -- the header has the type that is asked for, if there is one, in letters of either case
 -- (RFC 7515 section 4.1.9, RFC 8725 section 3.11)
@@ -46,11 +46,11 @@ HasType (Some typ) header =
 
 -- the token is accepted
 abbrev pub IsAccepted : List ℕ → Keys → Options → ℕ → Option (List ℕ) → Contents → Type 0
-IsAccepted token keys options now typ t = PassesAll token keys options now t × HasType typ t.header
+IsAccepted token keys options time typ t = PassesAll token keys options time t × HasType typ t.header
 
 -- the token is not accepted: by its first failed test, or by its type
 abbrev pub IsDenied : List ℕ → Keys → Options → ℕ → Option (List ℕ) → Denial → Type 0
-IsDenied token keys options now typ (Refused refusal) =
-    (¬ IsMemory refusal.error) × IsRefusal (token_tests (checking token keys options now)) (order_of keys) refusal
-IsDenied token keys options now typ OtherType =
-    (t : Contents) × PassesAll token keys options now t × ¬ HasType typ t.header
+IsDenied token keys options time typ (Refused refusal) =
+    (¬ IsMemory refusal.error) × IsRefusal (token_tests (checking token keys options time)) (order_of keys) refusal
+IsDenied token keys options time typ OtherType =
+    (t : Contents) × PassesAll token keys options time t × ¬ HasType typ t.header

@@ -42,16 +42,16 @@ IsRefusedText Json output = Unit {0}
 
 -- status 0 for a token that is accepted, and 1 for one that is denied
 abbrev pub IsVerdict : List ℕ → Keys → Options → ℕ → Option (List ℕ) → ℕ → Type 0
-IsVerdict token keys options now typ status =
-    ((t : Contents) × IsAccepted token keys options now typ t × (status ≡ 0))
-    ⊎ ((denial : Denial) × IsDenied token keys options now typ denial × (status ≡ 1))
+IsVerdict token keys options time typ status =
+    ((t : Contents) × IsAccepted token keys options time typ t × (status ≡ 0))
+    ⊎ ((denial : Denial) × IsDenied token keys options time typ denial × (status ≡ 1))
 
 -- Status 0 and the claims of a token that is accepted, or status 1 and nothing of one that is denied.
 abbrev pub IsVerifyAnswer : List ℕ → Keys → Options → ℕ → Option (List ℕ) → Form → ℕ → List ℕ → Type 0
-IsVerifyAnswer token keys options now typ form status output =
-    ((t : Contents) × IsAccepted token keys options now typ t × (status ≡ 0)
+IsVerifyAnswer token keys options time typ form status output =
+    ((t : Contents) × IsAccepted token keys options time typ t × (status ≡ 0)
     × IsAcceptedText form t.header t.payload_value output)
-    ⊎ ((denial : Denial) × IsDenied token keys options now typ denial
+    ⊎ ((denial : Denial) × IsDenied token keys options time typ denial
     × (status ≡ 1) × IsRefusedText form output)
 
 -- a token of these claims under this header, signed with HMAC and a secret (RFC 7518 section 3.2)

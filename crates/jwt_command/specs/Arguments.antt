@@ -87,7 +87,7 @@ pub record IsChecking (f : Found) (v : Verification) : Type 0 where
   pub key : IsKeyFile f v.key
   pub checks : AreChecks f v.checks
   pub typ : text_of v.typ ≡ first_value f (codes "typ")
-  pub now : IsNumberOf (first_value f (codes "now")) v.now
+  pub time : IsNumberOf (first_value f (codes "now")) v.time
   pub is_json : IsFlag f (codes "json") v.is_json
 
 -- the arguments of `sign`; the algorithm is HS256 if none is given
@@ -102,12 +102,12 @@ pub record IsSigningOf (f : Found) (s : Signing) : Type 0 where
   pub exp_in : IsNumberOf (first_value f (codes "exp-in")) s.exp_in
   pub nbf_in : IsNumberOf (first_value f (codes "nbf-in")) s.nbf_in
   pub has_iat : IsFlag f (codes "iat") s.has_iat
-  pub now : IsNumberOf (first_value f (codes "now")) s.now
+  pub time : IsNumberOf (first_value f (codes "now")) s.time
 
 -- the arguments of `show`
 pub record IsShowing (f : Found) (s : Showing) : Type 0 where
   pub token : text_of s.token ≡ first_value f (codes "token")
-  pub now : IsNumberOf (first_value f (codes "now")) s.now
+  pub time : IsNumberOf (first_value f (codes "now")) s.time
   pub is_json : IsFlag f (codes "json") s.is_json
 
 -- the hash of this name, or SHA-256 if none is given (RFC 7638 section 3.4)

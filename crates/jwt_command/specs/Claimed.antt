@@ -20,7 +20,7 @@ numeric_date moment = number (unsigned moment)
 
 -- the members, with the times that the arguments ask for (RFC 7519 sections 4.1.4 to 4.1.6)
 abbrev pub with_moments : Signing → ℕ → Members → Members
-with_moments s now members =
-    put_some (codes "iat") (if s.has_iat then Some (numeric_date now) else None) (
-    put_some (codes "nbf") (option_map (λ seconds. numeric_date (now + seconds)) s.nbf_in) (
-    put_some (codes "exp") (option_map (λ seconds. numeric_date (now + seconds)) s.exp_in) members))
+with_moments s time members =
+    put_some (codes "iat") (if s.has_iat then Some (numeric_date time) else None) (
+    put_some (codes "nbf") (option_map (λ seconds. numeric_date (time + seconds)) s.nbf_in) (
+    put_some (codes "exp") (option_map (λ seconds. numeric_date (time + seconds)) s.exp_in) members))

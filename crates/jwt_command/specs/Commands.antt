@@ -54,17 +54,17 @@ type_asked v = option_map (λ t. t.now) v.typ
 
 -- status and output for the bytes of a token, less their line end, under these keys and options
 abbrev pub IsTokenAnswer : Verification → Loaded → Options → List ℕ → ℕ → Form → ℕ → List ℕ → Type 0
-IsTokenAnswer v loaded options bytes now form status output =
+IsTokenAnswer v loaded options bytes time form status output =
     (token : List ℕ) × IsLessLineEnd bytes token
     × ((settled : Options) × IsSettled loaded token options settled
-    × IsVerifyAnswer token loaded.keys settled now (type_asked v) form status output)
+    × IsVerifyAnswer token loaded.keys settled time (type_asked v) form status output)
 
 -- the status of `explain`, which is that of `verify`
 abbrev pub IsTokenVerdict : Verification → Loaded → Options → List ℕ → ℕ → ℕ → Type 0
-IsTokenVerdict v loaded options bytes now status =
+IsTokenVerdict v loaded options bytes time status =
     (token : List ℕ) × IsLessLineEnd bytes token
     × ((settled : Options) × IsSettled loaded token options settled
-    × IsVerdict token loaded.keys settled now (type_asked v) status)
+    × IsVerdict token loaded.keys settled time (type_asked v) status)
 
 -- the keys and the options are those of the arguments, with the files that they name
 abbrev pub ArePrepared : Verification → Loaded → Options → Type 0
@@ -77,36 +77,36 @@ ArePrepared v loaded options =
 abbrev pub IsVerification : Verification → ℕ → List ℕ → Type 0
 IsVerification v status output =
     (bytes : List ℕ) × IsGivenToken v.token bytes
-    × ((now : ℕ) × IsGiven v.now now
+    × ((time : ℕ) × IsGiven v.time time
     × ((loaded : Loaded) × ((options : Options) × ArePrepared v loaded options
-    × IsTokenAnswer v loaded options bytes now (form_asked v) status output)))
+    × IsTokenAnswer v loaded options bytes time (form_asked v) status output)))
 
 -- the status of `explain`
 abbrev pub IsExplanation : Verification → ℕ → Type 0
 IsExplanation v status =
     (bytes : List ℕ) × IsGivenToken v.token bytes
-    × ((now : ℕ) × IsGiven v.now now
+    × ((time : ℕ) × IsGiven v.time time
     × ((loaded : Loaded) × ((options : Options) × ArePrepared v loaded options
-    × IsTokenVerdict v loaded options bytes now status)))
+    × IsTokenVerdict v loaded options bytes time status)))
 
 -- status and output of `sign`, by the bytes of the secret's file and of the claims; not everybody can sign with the secret
 abbrev pub IsSigned : Signing → List ℕ → List ℕ → ℕ → ℕ → List ℕ → Type 0
-IsSigned s key text now status output =
+IsSigned s key text time status output =
     (secret : List ℕ) × IsSecret s.is_trimmed key secret × (¬ IsBlank secret)
     × ((members : Members) × IsJson text (object members)
-    × IsSignAnswer (header_asked s) (object (with_moments s now members)) secret status output)
+    × IsSignAnswer (header_asked s) (object (with_moments s time members)) secret status output)
 
 -- the answer of `sign`
 abbrev pub IsSigning : Signing → ℕ → List ℕ → Type 0
 IsSigning s status output =
     (key : List ℕ) × (text : List ℕ)
-    × ((now : ℕ) × IsGiven s.now now × IsSigned s key text now status output)
+    × ((time : ℕ) × IsGiven s.time time × IsSigned s key text time status output)
 
 -- the status of a line, which is a token
 abbrev pub IsLineStatus : Verification → Loaded → Options → ℕ → Type 0
 IsLineStatus v loaded options status =
-    (bytes : List ℕ) × ((now : ℕ) × IsGiven v.now now
-    × ((output : List ℕ) × IsTokenAnswer v loaded options bytes now Json status output))
+    (bytes : List ℕ) × ((time : ℕ) × IsGiven v.time time
+    × ((output : List ℕ) × IsTokenAnswer v loaded options bytes time Json status output))
 
 -- the greatest of these, or 0
 abbrev pub greatest : List ℕ → ℕ

@@ -76,21 +76,26 @@ fn found_value(alloc: Global, claims: &Value, name: &str) -> Result<String, Allo
 }
 
 /// Returns the name of a claim and its time.
-fn found_moment(alloc: Global, claims: &Value, name: &str, now: u64) -> Result<String, AllocError> {
+fn found_moment(
+    alloc: Global,
+    claims: &Value,
+    name: &str,
+    time: u64,
+) -> Result<String, AllocError> {
     match claims.get(name).and_then(Value::as_u64) {
-        Some(seconds) => found_seconds(alloc, name, seconds, now),
+        Some(seconds) => found_seconds(alloc, name, seconds, time),
         None => found_value(alloc, claims, name),
     }
 }
 
 /// Returns the name of a claim and the time of its number of seconds.
-fn found_seconds(alloc: Global, name: &str, seconds: u64, now: u64) -> Result<String, AllocError> {
+fn found_seconds(alloc: Global, name: &str, seconds: u64, time: u64) -> Result<String, AllocError> {
     if is_likely_milliseconds(seconds) {
         return format!(in alloc; "{name} {seconds}, which looks like milliseconds");
     }
     let moment = moment_text(alloc, seconds)?;
-    let distance = distance_text(alloc, seconds, now)?;
-    if name == "exp" && seconds < now {
+    let distance = distance_text(alloc, seconds, time)?;
+    if name == "exp" && seconds < time {
         return format!(in alloc; "exp {moment}, expired {distance}");
     }
     format!(in alloc; "{name} {moment}, {distance}")
@@ -184,7 +189,7 @@ fn wanted_end(alloc: Global, validation: &Validation) -> Result<String, AllocErr
 
 fn expired(alloc: Global, claims: &Value, case: Case<'_>) -> Result<Finding, AllocError> {
     Ok(Finding {
-        found: found_moment(alloc, claims, "exp", case.now)?,
+        found: found_moment(alloc, claims, "exp", case.time)?,
         wanted: wanted_end(alloc, case.validation)?,
     })
 }
@@ -193,7 +198,7 @@ fn expired(alloc: Global, claims: &Value, case: Case<'_>) -> Result<Finding, All
 fn out_of_time(alloc: Global, claims: &Value, case: Case<'_>) -> Result<Finding, AllocError> {
     let left = case.validation.reject_tokens_expiring_in_less_than;
     Ok(Finding {
-        found: found_moment(alloc, claims, "exp", case.now)?,
+        found: found_moment(alloc, claims, "exp", case.time)?,
         wanted: format!(in alloc; "exp of at least {left} seconds since 1970 (--not-within)")?,
     })
 }
@@ -209,7 +214,7 @@ fn immature(alloc: Global, claims: &Value, case: Case<'_>) -> Result<Finding, Al
         )?
     };
     Ok(Finding {
-        found: found_moment(alloc, claims, "nbf", case.now)?,
+        found: found_moment(alloc, claims, "nbf", case.time)?,
         wanted,
     })
 }
@@ -285,7 +290,7 @@ fn failure_about(
             leave_out(&mut options, other);
         }
     }
-    let held = validate(alloc, claims, &options, case.now);
+    let held = validate(alloc, claims, &options, case.time);
     drop(options);
     match held {
         Ok(()) => Ok(None),

@@ -15,10 +15,10 @@ pub fn moment<R: Clock>(rt: &R, given: Option<u64>) -> Result<u64, Fault<'static
     if let Some(moment) = given {
         return Ok(moment);
     }
-    let Ok(now) = SystemTime::now(rt) else {
+    let Ok(time) = SystemTime::now(rt) else {
         return Err(Fault::Clock);
     };
-    match now.duration_since(UNIX_EPOCH) {
+    match time.duration_since(UNIX_EPOCH) {
         Ok(duration) => Ok(duration.as_secs()),
         Err(_) => Err(Fault::Clock),
     }

@@ -105,7 +105,7 @@ fn times(
 ) -> Result<(String, Option<Moments>), Fault<'static>> {
     match accepted_claims(alloc, case.token, outcome)? {
         Some(claims) => {
-            let lines = claim_lines(alloc, &claims, case.now);
+            let lines = claim_lines(alloc, &claims, case.time);
             let moments = moments(alloc, &claims, case.validation);
             drop(claims);
             Ok((lines?, moments?))
@@ -155,7 +155,7 @@ fn explanation<'e>(
         outcome,
         kind,
         moments,
-        now: case.now,
+        time: case.time,
         times,
         strict,
     })
@@ -223,21 +223,21 @@ pub fn explain_answer(
     loaded: &Loaded,
     validation: &mut Validation,
     checks: &Checks<'_, '_>,
-    now: u64,
+    time: u64,
     typ: Option<&str>,
     is_json: bool,
 ) -> Result<Answer, Fault<'static>>
     ensures { IfOk result (λ a.
         IsSettled loaded.now token.now (options_of validation.old) (options_of validation.new)
-        × IsVerdict token.now loaded.now.keys (options_of validation.new) now
+        × IsVerdict token.now loaded.now.keys (options_of validation.new) time
         (option_map (λ s. s.now) typ.entry) a.status) }
 {
-    let denial = denial_of(alloc, token, loaded, validation, now, typ)?;
+    let denial = denial_of(alloc, token, loaded, validation, time, typ)?;
     let case = Case {
         token,
         loaded,
         validation,
-        now,
+        time,
     };
     match denial {
         None => accepted(alloc, case, checks, is_json),

@@ -32,7 +32,7 @@ pub struct Explanation<'e> {
     /// The times at which each test passes.
     pub moments: Option<Moments>,
     /// The time of the tests, in seconds since 1970-01-01 00:00:00 UTC.
-    pub now: u64,
+    pub time: u64,
     /// Lines about the claims that are times.
     pub times: String,
     /// The refusal under strict options, if the token is accepted without them.
@@ -120,18 +120,18 @@ fn push_tests(
 }
 
 /// Returns a time, and how long it is away.
-fn moment_words(alloc: Global, moment: u64, now: u64) -> Result<String, AllocError> {
+fn moment_words(alloc: Global, moment: u64, time: u64) -> Result<String, AllocError> {
     let text = moment_text(alloc, moment)?;
-    format!(in alloc; "{text} ({})", distance_text(alloc, moment, now)?)
+    format!(in alloc; "{text} ({})", distance_text(alloc, moment, time)?)
 }
 
 /// Returns the line about the times at which a token is accepted.
-fn moments_line(alloc: Global, moments: Option<Moments>, now: u64) -> Result<String, AllocError> {
+fn moments_line(alloc: Global, moments: Option<Moments>, time: u64) -> Result<String, AllocError> {
     let Some(moments) = moments else {
         return String::from_str(alloc, "accepted at no time\n");
     };
-    let last = moment_words(alloc, moments.last, now)?;
-    let first = moment_words(alloc, moments.first, now)?;
+    let last = moment_words(alloc, moments.last, time)?;
+    let first = moment_words(alloc, moments.first, time)?;
     match (moments.first, moments.last) {
         (0, u64::MAX) => String::from_str(alloc, "accepted at any time\n"),
         (0, _) => format!(in alloc; "accepted until {last}\n"),

@@ -21,7 +21,7 @@ pub struct Case<'c> {
     pub loaded: &'c Loaded,
     pub validation: &'c Validation,
     /// The time, in seconds since 1970-01-01 00:00:00 UTC.
-    pub now: u64,
+    pub time: u64,
 }
 
 /// The contents that a test found, and those that it asks for.

@@ -96,10 +96,10 @@ fn line_answer<R: Clock + AllocGlobal>(
         × (options_of validation.new ≡ options_of validation.old)) }
 {
     let is_own = names_none(validation);
-    let now = moment(rt, request.now)?;
+    let time = moment(rt, request.time)?;
     let token = without_line_end(line);
     let typ = request.typ;
-    let answer = verify_answer(rt.alloc(), token, loaded, validation, now, typ, Form::Json)?;
+    let answer = verify_answer(rt.alloc(), token, loaded, validation, time, typ, Form::Json)?;
     forget_own(validation, is_own);
     Ok(answer)
 }

@@ -50,7 +50,7 @@ pub struct Verification<'m, 'a> {
     pub key: KeyFile<'a>,
     pub checks: Checks<'m, 'a>,
     pub typ: Option<&'a str>,
-    pub now: Option<u64>,
+    pub time: Option<u64>,
     pub has_header: bool,
     pub is_json: bool,
     pub is_lines: bool,
@@ -68,14 +68,14 @@ pub struct Signing<'a> {
     pub exp_in: Option<u64>,
     pub nbf_in: Option<u64>,
     pub has_iat: bool,
-    pub now: Option<u64>,
+    pub time: Option<u64>,
 }
 
 /// The arguments of `show`.
 #[derive(Clone, Copy)]
 pub struct Showing<'a> {
     pub token: Option<&'a str>,
-    pub now: Option<u64>,
+    pub time: Option<u64>,
     pub is_json: bool,
 }
 
@@ -199,7 +199,7 @@ fn checking_asked<'m, 'a: 'm>(
         key: key_file(matches)?,
         checks: checks_asked(matches)?,
         typ: matches.get_str("typ"),
-        now: time(matches, "now")?,
+        time: time(matches, "now")?,
         has_header: false,
         is_json: matches.get_flag("json"),
         is_lines: false,
@@ -255,7 +255,7 @@ fn signing_asked<'a>(matches: &ArgMatches<'a>) -> Result<Signing<'a>, Fault<'sta
             "--nbf-in wants a span such as 15m, or seconds",
         )?,
         has_iat: matches.get_flag("iat"),
-        now: time(matches, "now")?,
+        time: time(matches, "now")?,
     })
 }
 
@@ -275,7 +275,7 @@ fn showing_asked<'a>(matches: &ArgMatches<'a>) -> Result<Showing<'a>, Fault<'sta
 {
     Ok(Showing {
         token: matches.get_str("token"),
-        now: time(matches, "now")?,
+        time: time(matches, "now")?,
         is_json: matches.get_flag("json"),
     })
 }

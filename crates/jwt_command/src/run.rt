@@ -120,14 +120,14 @@ fn token_answer(
     loaded: &Loaded,
     validation: &mut Validation,
     bytes: &[u8],
-    now: u64,
+    time: u64,
     form: Form,
 ) -> Result<Answer, Fault<'static>>
     ensures { IfOk result (λ a. IsTokenAnswer request.entry.now loaded.now
-        (options_of validation.old) bytes.now now form a.status (string_bytes a.output)) }
+        (options_of validation.old) bytes.now time form a.status (string_bytes a.output)) }
 {
     let token = without_line_end(bytes);
-    verify_answer(alloc, token, loaded, validation, now, request.typ, form)
+    verify_answer(alloc, token, loaded, validation, time, request.typ, form)
 }
 
 /// Returns the answer of `explain` to the bytes of a token and a line end.
@@ -137,10 +137,10 @@ fn token_explanation(
     loaded: &Loaded,
     validation: &mut Validation,
     bytes: &[u8],
-    now: u64,
+    time: u64,
 ) -> Result<Answer, Fault<'static>>
     ensures { IfOk result (λ a. IsTokenVerdict request.entry.now loaded.now
-        (options_of validation.old) bytes.now now a.status) }
+        (options_of validation.old) bytes.now time a.status) }
 {
     let token = without_line_end(bytes);
     explain_answer(
@@ -149,7 +149,7 @@ fn token_explanation(
         loaded,
         validation,
         &request.checks,
-        now,
+        time,
         request.typ,
         request.is_json,
     )
@@ -163,14 +163,14 @@ fn verified<R: Input + Clock + AllocGlobal>(
     validation: &mut Validation,
 ) -> Result<Answer, Fault<'static>>
     ensures { IfOk result (λ a. (bytes : List ℕ) × IsGivenToken request.entry.now.token bytes
-        × ((now : ℕ) × IsGiven request.entry.now.now now
-        × IsTokenAnswer request.entry.now loaded.now (options_of validation.old) bytes now
+        × ((time : ℕ) × IsGiven request.entry.now.time time
+        × IsTokenAnswer request.entry.now loaded.now (options_of validation.old) bytes time
         (form_asked request.entry.now) a.status (string_bytes a.output))) }
 {
-    let now = moment(rt, request.now)?;
+    let time = moment(rt, request.time)?;
     let bytes = token_bytes(rt, request.token)?;
     let form = form(request);
-    token_answer(rt.alloc(), request, loaded, validation, &bytes, now, form)
+    token_answer(rt.alloc(), request, loaded, validation, &bytes, time, form)
 }
 
 fn verify<'a, R: Files + Input + Clock + AllocGlobal>(
@@ -227,13 +227,13 @@ fn explained<R: Input + Clock + AllocGlobal>(
     validation: &mut Validation,
 ) -> Result<Answer, Fault<'static>>
     ensures { IfOk result (λ a. (bytes : List ℕ) × IsGivenToken request.entry.now.token bytes
-        × ((now : ℕ) × IsGiven request.entry.now.now now
-        × IsTokenVerdict request.entry.now loaded.now (options_of validation.old) bytes now
+        × ((time : ℕ) × IsGiven request.entry.now.time time
+        × IsTokenVerdict request.entry.now loaded.now (options_of validation.old) bytes time
         a.status)) }
 {
-    let now = moment(rt, request.now)?;
+    let time = moment(rt, request.time)?;
     let bytes = token_bytes(rt, request.token)?;
-    token_explanation(rt.alloc(), request, loaded, validation, &bytes, now)
+    token_explanation(rt.alloc(), request, loaded, validation, &bytes, time)
 }
 
 fn explain<'a, R: Files + Input + Clock + AllocGlobal>(
@@ -255,12 +255,12 @@ fn signed<'a>(
     request: &Signing<'a>,
     key: &[u8],
     text: &[u8],
-    now: u64,
+    time: u64,
 ) -> Result<Answer, Fault<'a>>
-    ensures { IfOk result (λ a. IsSigned request.entry.now key.now text.now now a.status
+    ensures { IfOk result (λ a. IsSigned request.entry.now key.now text.now time a.status
         (string_bytes a.output)) }
 {
-    let claims = claims(alloc, text, request, now)?;
+    let claims = claims(alloc, text, request, time)?;
     let secret = given_secret(request.secret, key, request.is_trimmed)?;
     claims_answer(alloc, request, &claims, secret)
 }
@@ -271,9 +271,9 @@ fn show<'a, R: Input + Clock + AllocGlobal>(
 ) -> Result<Answer, Fault<'a>>
     ensures { IfOk result (λ a. IsShown request.entry.now a.status) }
 {
-    let now = moment(rt, request.now)?;
+    let time = moment(rt, request.time)?;
     let input = token_bytes(rt, request.token)?;
-    show_answer(rt.alloc(), without_line_end(&input), now, request.is_json)
+    show_answer(rt.alloc(), without_line_end(&input), time, request.is_json)
 }
 
 fn sign<'a, R: Files + Input + Clock + AllocGlobal>(
@@ -282,13 +282,13 @@ fn sign<'a, R: Files + Input + Clock + AllocGlobal>(
 ) -> Result<Answer, Fault<'a>>
     ensures { IfOk result (λ a. IsSigning request.entry.now a.status (string_bytes a.output)) }
 {
-    let now = moment(rt, request.now)?;
+    let time = moment(rt, request.time)?;
     let key = file_bytes(rt, request.secret)?;
     let text = match request.claims {
         Some(path) => file_bytes(rt, path)?,
         None => input_bytes(rt)?,
     };
-    signed(rt.alloc(), request, &key, &text, now)
+    signed(rt.alloc(), request, &key, &text, time)
 }
 
 /// Returns the bytes of a file of keys, or of standard input if its name is `-`.

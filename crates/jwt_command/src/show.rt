@@ -19,10 +19,10 @@ use serde_json::Value;
 use std::alloc::{AllocError, Global};
 
 /// Returns the header and the claims for people: JSON in lines, and the times among the claims.
-fn page(alloc: Global, header: &Value, claims: &Value, now: u64) -> Result<String, AllocError> {
+fn page(alloc: Global, header: &Value, claims: &Value, time: u64) -> Result<String, AllocError> {
     let header = header.to_string_pretty(alloc)?;
     let text = claims.to_string_pretty(alloc)?;
-    let times = claim_lines(alloc, claims, now)?;
+    let times = claim_lines(alloc, claims, time)?;
     format!(in alloc; "{header}\n{text}\n{times}")
 }
 
@@ -38,13 +38,13 @@ fn written(
     alloc: Global,
     header: &Value,
     claims: &Value,
-    now: u64,
+    time: u64,
     is_json: bool,
 ) -> Result<String, AllocError> {
     let text = if is_json {
         json_line(alloc, header, claims)?
     } else {
-        page(alloc, header, claims, now)?
+        page(alloc, header, claims, time)?
     };
     without_late_controls(alloc, text)
 }
@@ -52,7 +52,7 @@ fn written(
 fn shown(
     alloc: Global,
     data: &TokenData<Value>,
-    now: u64,
+    time: u64,
     is_json: bool,
 ) -> Result<Answer, Fault<'static>>
     ensures { IfOk result (λ a. a.status ≡ 0) }
@@ -60,7 +60,7 @@ fn shown(
     let Ok(header) = data.header.to_value(alloc) else {
         return Err(Fault::Memory);
     };
-    let output = written(alloc, &header, &data.claims, now, is_json);
+    let output = written(alloc, &header, &data.claims, time, is_json);
     drop(header);
     Ok(Answer {
         status: 0,
@@ -79,12 +79,12 @@ fn push_value(alloc: Global, page: &mut String, value: &Option<Value>) -> Result
 }
 
 /// Returns for people what can be read of a text that is not a token as it stands.
-fn salvage_page(alloc: Global, salvage: &Salvage, now: u64) -> Result<String, AllocError> {
+fn salvage_page(alloc: Global, salvage: &Salvage, time: u64) -> Result<String, AllocError> {
     let mut page = String::new(alloc);
     push_value(alloc, &mut page, &salvage.header)?;
     push_value(alloc, &mut page, &salvage.claims)?;
     if let Some(claims) = &salvage.claims {
-        page.push_str(claim_lines(alloc, claims, now)?.as_str())?;
+        page.push_str(claim_lines(alloc, claims, time)?.as_str())?;
     }
     without_late_controls(alloc, page)
 }
@@ -152,7 +152,7 @@ fn salvage_message(
 fn salvaged(
     alloc: Global,
     token: &[u8],
-    now: u64,
+    time: u64,
     is_json: bool,
     kind: &ErrorKind,
 ) -> Result<(String, String), Fault<'static>> {
@@ -161,7 +161,7 @@ fn salvaged(
     let output = if is_json {
         salvage_line(alloc, &salvage, &finding)?
     } else {
-        salvage_page(alloc, &salvage, now)?
+        salvage_page(alloc, &salvage, time)?
     };
     let message = salvage_message(alloc, &salvage, &finding, kind)?;
     Ok((output, message))
@@ -172,7 +172,7 @@ fn salvaged(
 fn refused(
     alloc: Global,
     token: &[u8],
-    now: u64,
+    time: u64,
     is_json: bool,
     error: Error,
 ) -> Result<Answer, Fault<'static>>
@@ -182,7 +182,7 @@ fn refused(
         drop(error);
         return Err(Fault::Memory);
     }
-    let salvaged = salvaged(alloc, token, now, is_json, error.kind());
+    let salvaged = salvaged(alloc, token, time, is_json, error.kind());
     drop(error);
     let (output, message) = salvaged?;
     Ok(Answer {
@@ -197,17 +197,17 @@ fn refused(
 pub fn show_answer(
     alloc: Global,
     token: &[u8],
-    now: u64,
+    time: u64,
     is_json: bool,
 ) -> Result<Answer, Fault<'static>>
     ensures { IfOk result (λ a. IsReadable token.now a.status) }
 {
     match insecure_decode(alloc, token) {
         Ok(data) => {
-            let answer = shown(alloc, &data, now, is_json);
+            let answer = shown(alloc, &data, time, is_json);
             drop(data);
             answer
         }
-        Err(error) => refused(alloc, token, now, is_json, error),
+        Err(error) => refused(alloc, token, time, is_json, error),
     }
 }

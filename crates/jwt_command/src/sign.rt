@@ -47,10 +47,10 @@ fn text(alloc: Global, given: Option<&str>) -> Checked<Option<Text>>
 }
 
 /// Returns the time that is this many seconds later.
-fn later(now: u64, seconds: u64) -> Result<u64, Fault<'static>>
-    ensures { IfOk result (λ moment. moment ≡ now + seconds) }
+fn later(time: u64, seconds: u64) -> Result<u64, Fault<'static>>
+    ensures { IfOk result (λ moment. moment ≡ time + seconds) }
 {
-    match now.checked_add(seconds) {
+    match time.checked_add(seconds) {
         Some(moment) => Ok(moment),
         None => Err(Fault::Usage("the span of --exp-in or --nbf-in is too long")),
     }
@@ -61,15 +61,15 @@ fn put_later(
     alloc: Global,
     claims: &mut Map<String, Value>,
     name: &str,
-    now: u64,
+    time: u64,
     seconds: Option<u64>,
 ) -> Result<(), Fault<'static>>
     ensures { OnOk result (members_view claims.new.entries ≡ put_some name.now
-        (option_map (λ seconds. numeric_date (now + seconds)) seconds)
+        (option_map (λ seconds. numeric_date (time + seconds)) seconds)
         (members_view claims.old.entries)) }
 {
     if let Some(seconds) = seconds {
-        let moment = later(now, seconds)?;
+        let moment = later(time, seconds)?;
         serde_json::put(claims, alloc, name, Value::from(moment))?;
     }
     Ok(())
@@ -79,14 +79,14 @@ fn put_later(
 fn put_now(
     alloc: Global,
     claims: &mut Map<String, Value>,
-    now: u64,
+    time: u64,
     has_iat: bool,
 ) -> Result<(), Fault<'static>>
     ensures { OnOk result (members_view claims.new.entries ≡ put_some (codes "iat")
-        (if has_iat then Some (numeric_date now) else None) (members_view claims.old.entries)) }
+        (if has_iat then Some (numeric_date time) else None) (members_view claims.old.entries)) }
 {
     if has_iat {
-        serde_json::put(claims, alloc, "iat", Value::from(now))?;
+        serde_json::put(claims, alloc, "iat", Value::from(time))?;
     }
     Ok(())
 }
@@ -96,14 +96,14 @@ fn put_moments(
     alloc: Global,
     claims: &mut Map<String, Value>,
     request: &Signing<'_>,
-    now: u64,
+    time: u64,
 ) -> Result<(), Fault<'static>>
     ensures { OnOk result (members_view claims.new.entries
-        ≡ with_moments request.entry.now now (members_view claims.old.entries)) }
+        ≡ with_moments request.entry.now time (members_view claims.old.entries)) }
 {
-    put_later(alloc, claims, "exp", now, request.exp_in)?;
-    put_later(alloc, claims, "nbf", now, request.nbf_in)?;
-    put_now(alloc, claims, now, request.has_iat)?;
+    put_later(alloc, claims, "exp", time, request.exp_in)?;
+    put_later(alloc, claims, "nbf", time, request.nbf_in)?;
+    put_now(alloc, claims, time, request.has_iat)?;
     Ok(())
 }
 
@@ -113,15 +113,15 @@ pub fn claims(
     alloc: Global,
     text: &[u8],
     request: &Signing<'_>,
-    now: u64,
+    time: u64,
 ) -> Result<Value, Fault<'static>>
     ensures { IfOk result (λ v. (members : Members) × IsJson text.now (object members)
-        × (view v ≡ object (with_moments request.entry.now now members))) }
+        × (view v ≡ object (with_moments request.entry.now time members))) }
 {
     match json_value(alloc, text) {
         Ok(Value::Object(members)) => {
             let mut members = members;
-            put_moments(alloc, &mut members, request, now)?;
+            put_moments(alloc, &mut members, request, time)?;
             Ok(Value::Object(members))
         }
         Ok(_) => Err(Fault::Usage("the claims have to be a JSON object")),

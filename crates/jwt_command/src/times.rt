@@ -45,16 +45,16 @@ pub fn moment_text(alloc: Global, seconds: u64) -> Result<String, AllocError> {
 }
 
 /// Returns how long a time is away from now, such as `in 5 min 0 s` or `3 h 12 min ago`.
-pub fn distance_text(alloc: Global, seconds: u64, now: u64) -> Result<String, AllocError> {
-    if seconds >= now {
-        format!(in alloc; "in {}", span_text(alloc, seconds - now)?)
+pub fn distance_text(alloc: Global, seconds: u64, time: u64) -> Result<String, AllocError> {
+    if seconds >= time {
+        format!(in alloc; "in {}", span_text(alloc, seconds - time)?)
     } else {
-        format!(in alloc; "{} ago", span_text(alloc, now - seconds)?)
+        format!(in alloc; "{} ago", span_text(alloc, time - seconds)?)
     }
 }
 
 /// Returns the line of a claim that is this number of seconds.
-fn seconds_line(alloc: Global, name: &str, seconds: u64, now: u64) -> Result<String, AllocError> {
+fn seconds_line(alloc: Global, name: &str, seconds: u64, time: u64) -> Result<String, AllocError> {
     if is_likely_milliseconds(seconds) {
         let meant = moment_text(alloc, seconds / 1000)?;
         return format!(in alloc;
@@ -62,7 +62,7 @@ fn seconds_line(alloc: Global, name: &str, seconds: u64, now: u64) -> Result<Str
         );
     }
     let moment = moment_text(alloc, seconds)?;
-    let distance = distance_text(alloc, seconds, now)?;
+    let distance = distance_text(alloc, seconds, time)?;
     format!(in alloc; "{name}: {moment}, {distance}\n")
 }
 
@@ -71,19 +71,19 @@ fn claim_line(
     alloc: Global,
     claims: &Value,
     name: &str,
-    now: u64,
+    time: u64,
 ) -> Result<Option<String>, AllocError> {
     match claims.get(name).and_then(Value::as_u64) {
-        Some(seconds) => Ok(Some(seconds_line(alloc, name, seconds, now)?)),
+        Some(seconds) => Ok(Some(seconds_line(alloc, name, seconds, time)?)),
         None => Ok(None),
     }
 }
 
 /// Returns the lines of the claims that are times.
-pub fn claim_lines(alloc: Global, claims: &Value, now: u64) -> Result<String, AllocError> {
+pub fn claim_lines(alloc: Global, claims: &Value, time: u64) -> Result<String, AllocError> {
     let mut lines = String::new(alloc);
     for name in &TIME_CLAIMS {
-        if let Some(line) = claim_line(alloc, claims, name, now)? {
+        if let Some(line) = claim_line(alloc, claims, name, time)? {
             lines.push_str(line.as_str())?;
         }
     }

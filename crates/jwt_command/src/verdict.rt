@@ -56,10 +56,10 @@ fn decoded_by_own_key(
     loaded: &Loaded,
     key: &DecodingKey,
     validation: &mut Validation,
-    now: u64,
+    time: u64,
 ) -> Result<TokenData<Value>, Refusal>
     ensures decided { let options = options_of validation.new in
-        let call = checking token.now (Keys.One key.now) options now in
+        let call = checking token.now (Keys.One key.now) options time in
         IsErrAnd result (λ refusal. IsMemory refusal.error)
         ⊎ ((validation.new.algorithms.items ≡ listed loaded.now.own)
         × DecidesByTest (token_tests call) decode_order (Carries call) result) }
@@ -68,7 +68,7 @@ fn decoded_by_own_key(
 {
     let provider = &loaded.provider;
     match list(validation, loaded.own) {
-        Ok(()) => decode_or_refusal(alloc, &provider, token, key, validation, now),
+        Ok(()) => decode_or_refusal(alloc, &provider, token, key, validation, time),
         Err(error) => Err(Refusal {
             test: Test::HeaderReads,
             error,
@@ -83,10 +83,10 @@ fn decoded_by_own(
     token: &[u8],
     loaded: &Loaded,
     validation: &mut Validation,
-    now: u64,
+    time: u64,
 ) -> Result<TokenData<Value>, Refusal>
     ensures decided { let options = options_of validation.new in
-        let call = checking token.now loaded.now.keys options now in
+        let call = checking token.now loaded.now.keys options time in
         IsErrAnd result (λ refusal. IsMemory refusal.error)
         ⊎ (IsOwn loaded.now token.now validation.new.algorithms.items
         × DecidesByTest (token_tests call) (order_of loaded.now.keys) (Carries call) result) }
@@ -95,9 +95,9 @@ fn decoded_by_own(
 {
     let provider = &loaded.provider;
     match &loaded.keys {
-        Keys::One(key) => decoded_by_own_key(alloc, token, loaded, key, validation, now),
+        Keys::One(key) => decoded_by_own_key(alloc, token, loaded, key, validation, time),
         Keys::Set(set) => {
-            decode_with_set_by_own_algorithm(alloc, &provider, token, set, validation, now)
+            decode_with_set_by_own_algorithm(alloc, &provider, token, set, validation, time)
         }
     }
 }
@@ -108,15 +108,17 @@ fn decoded_by_listed(
     token: &[u8],
     loaded: &Loaded,
     validation: &Validation,
-    now: u64,
+    time: u64,
 ) -> Result<TokenData<Value>, Refusal>
-    ensures { let call = checking token.now loaded.now.keys (options_of validation.now) now in
+    ensures { let call = checking token.now loaded.now.keys (options_of validation.now) time in
         DecidesByTest (token_tests call) (order_of loaded.now.keys) (Carries call) result }
 {
     let provider = &loaded.provider;
     match &loaded.keys {
-        Keys::One(key) => decode_or_refusal(alloc, &provider, token, key, validation, now),
-        Keys::Set(set) => decode_with_set_or_refusal(alloc, &provider, token, set, validation, now),
+        Keys::One(key) => decode_or_refusal(alloc, &provider, token, key, validation, time),
+        Keys::Set(set) => decode_with_set_or_refusal(
+            alloc, &provider, token, set, validation, time,
+        ),
     }
 }
 
@@ -128,17 +130,17 @@ fn decoded(
     token: &[u8],
     loaded: &Loaded,
     validation: &mut Validation,
-    now: u64,
+    time: u64,
 ) -> Result<TokenData<Value>, Refusal>
-    ensures { let call = checking token.now loaded.now.keys (options_of validation.new) now in
+    ensures { let call = checking token.now loaded.now.keys (options_of validation.new) time in
         IsErrAnd result (λ refusal. IsMemory refusal.error)
         ⊎ (IsSettled loaded.now token.now (options_of validation.old) (options_of validation.new)
         × DecidesByTest (token_tests call) (order_of loaded.now.keys) (Carries call) result) }
 {
     if validation.algorithms.is_empty() {
-        decoded_by_own(alloc, token, loaded, validation, now)
+        decoded_by_own(alloc, token, loaded, validation, time)
     } else {
-        decoded_by_listed(alloc, token, loaded, validation, now)
+        decoded_by_listed(alloc, token, loaded, validation, time)
     }
 }
 
@@ -182,7 +184,7 @@ fn refused(refusal: Refusal) -> Result<Denial, Fault<'static>>
     Ok(Denial::Refused(refusal))
 }
 
-/// Returns header and claims of a token that is accepted, at the time `now`, in seconds since
+/// Returns header and claims of a token that is accepted, at the time `time`, in seconds since
 /// 1970-01-01 00:00:00 UTC, or why it is not. If a type is asked for, the header has to have it. If
 /// no algorithm is listed, that of the token's key is, and stays listed.
 pub fn judged(
@@ -190,20 +192,20 @@ pub fn judged(
     token: &[u8],
     loaded: &Loaded,
     validation: &mut Validation,
-    now: u64,
+    time: u64,
     typ: Option<&str>,
 ) -> Result<Result<TokenData<Value>, Denial>, Fault<'static>>
     ensures settled { OnOk result (IsSettled loaded.now token.now (options_of validation.old)
         (options_of validation.new)) }
     ensures accepted { IfOk result (λ verdict. IfOk verdict (λ d. (t : Contents)
-        × IsAccepted token.now loaded.now.keys (options_of validation.new) now
+        × IsAccepted token.now loaded.now.keys (options_of validation.new) time
         (option_map (λ s. s.now) typ.entry) t
         × (t.header ≡ d.header) × (view d.claims ≡ t.payload_value))) }
     ensures denied { IfOk result (λ verdict. IfErr verdict (IsDenied token.now loaded.now.keys
-        (options_of validation.new) now (option_map (λ s. s.now) typ.entry))) }
+        (options_of validation.new) time (option_map (λ s. s.now) typ.entry))) }
     ensures err { IfErr result (λ fault. fault ≡ Fault.Memory) }
 {
-    match decoded(alloc, token, loaded, validation, now) {
+    match decoded(alloc, token, loaded, validation, time) {
         Ok(contents) => Ok(typed(contents, typ)),
         Err(refusal) => {
             let denial = refused(refusal)?;
@@ -218,18 +220,18 @@ pub fn denial_of(
     token: &[u8],
     loaded: &Loaded,
     validation: &mut Validation,
-    now: u64,
+    time: u64,
     typ: Option<&str>,
 ) -> Result<Option<Denial>, Fault<'static>>
     ensures settled { OnOk result (IsSettled loaded.now token.now (options_of validation.old)
         (options_of validation.new)) }
     ensures accepted { IfOk result (λ denial. IfNone denial ((t : Contents)
-        × IsAccepted token.now loaded.now.keys (options_of validation.new) now
+        × IsAccepted token.now loaded.now.keys (options_of validation.new) time
         (option_map (λ s. s.now) typ.entry) t)) }
     ensures denied { IfOk result (λ denial. IfSome denial (IsDenied token.now loaded.now.keys
-        (options_of validation.new) now (option_map (λ s. s.now) typ.entry))) }
+        (options_of validation.new) time (option_map (λ s. s.now) typ.entry))) }
     ensures err { IfErr result (λ fault. fault ≡ Fault.Memory) }
 {
-    let verdict = judged(alloc, token, loaded, validation, now, typ)?;
+    let verdict = judged(alloc, token, loaded, validation, time, typ)?;
     Ok(verdict.err())
 }

@@ -153,16 +153,16 @@ pub fn verify_answer(
     token: &[u8],
     loaded: &Loaded,
     validation: &mut Validation,
-    now: u64,
+    time: u64,
     typ: Option<&str>,
     form: Form,
 ) -> Result<Answer, Fault<'static>>
     ensures { IfOk result (λ a.
         IsSettled loaded.now token.now (options_of validation.old) (options_of validation.new)
-        × IsVerifyAnswer token.now loaded.now.keys (options_of validation.new) now
+        × IsVerifyAnswer token.now loaded.now.keys (options_of validation.new) time
         (option_map (λ s. s.now) typ.entry) form a.status (string_bytes a.output)) }
 {
-    match judged(alloc, token, loaded, validation, now, typ)? {
+    match judged(alloc, token, loaded, validation, time, typ)? {
         Ok(contents) => {
             let answer = accepted_answer(alloc, &contents, form);
             drop(contents);

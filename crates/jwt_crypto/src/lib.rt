@@ -8,7 +8,7 @@
 //! ```rust
 //! let provider = PreparedHmac::new(alloc, Algorithm::HS256, b"secret")?; // once
 //! // ..
-//! decode(alloc, provider, token, &key, &validation, now)
+//! decode(alloc, provider, token, &key, &validation, time)
 //! ```
 #![tactic(auto)]
 

@@ -9,5 +9,5 @@ use Rattle.jwt_example.specs.declared.session.Session.{Session}
 
 -- the call of `decode_with_set` by the provider of HMAC, whose claims are a session
 abbrev pub reading_session : List ℕ → List Jwk → Options → ℕ → Call Session
-reading_session text keys options now =
-    decoding_by_hmac ReadsSession text (InSet keys) options now
+reading_session text keys options time =
+    decoding_by_hmac ReadsSession text (InSet keys) options time

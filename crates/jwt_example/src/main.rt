@@ -49,11 +49,11 @@ fn show<T: Runtime + AllocGlobal>(
     rt: &T,
     service: &Service,
     token: &str,
-    now: u64,
+    time: u64,
 ) -> Result<(), Fault> {
-    let printed = match service.read(rt.alloc(), token, now) {
-        Ok(session) => println!(rt; "{now}: {session:?}"),
-        Err(refusal) => println!(rt; "{now}: {refusal}"),
+    let printed = match service.read(rt.alloc(), token, time) {
+        Ok(session) => println!(rt; "{time}: {session:?}"),
+        Err(refusal) => println!(rt; "{time}: {refusal}"),
     };
     Ok(printed?)
 }
@@ -123,16 +123,16 @@ fn show_keys<T: Runtime + AllocGlobal>(rt: &T) -> Result<(), Fault> {
 }
 
 /// Returns the session that the service reads of its own token, at a time at which it begins.
-fn session_from(alloc: Global, service: &Service, now: u64) -> Result<Session, Fault> {
-    let session = ada(alloc, now.saturating_add(3600))?;
+fn session_from(alloc: Global, service: &Service, time: u64) -> Result<Session, Fault> {
+    let session = ada(alloc, time.saturating_add(3600))?;
     let token = service.issue(alloc, &session)?;
-    Ok(service.read(alloc, token.as_str(), now)?)
+    Ok(service.read(alloc, token.as_str(), time)?)
 }
 
 /// Shows a session of the service that begins now, by the system's clock.
 fn show_now<T: Runtime + AllocGlobal>(rt: &T, service: &Service) -> Result<(), Fault> {
-    let now = moment(rt)?;
-    let session = session_from(rt.alloc(), service, now)?;
+    let time = moment(rt)?;
+    let session = session_from(rt.alloc(), service, time)?;
     println!(rt; "by the system's clock: {:?}", session.user)?;
     Ok(())
 }

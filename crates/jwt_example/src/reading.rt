@@ -13,7 +13,7 @@ use jsonwebtoken::jwk::JwkSet;
 use jsonwebtoken::{TokenData, Validation, decode_with_set};
 use std::alloc::Global;
 
-/// Returns the session of a token, verified at the time `now`, in seconds since 1970-01-01
+/// Returns the session of a token, verified at the time `time`, in seconds since 1970-01-01
 /// 00:00:00 UTC, with the key of the set that the token names. Its contract is that of
 /// `decode_with_set`, of which the session alone is kept.
 pub fn session_of(
@@ -21,10 +21,10 @@ pub fn session_of(
     token: &[u8],
     keys: &JwkSet,
     validation: &Validation,
-    now: u64,
+    time: u64,
 ) -> Result<Session>
     ensures { let call = reading_session token.now keys.now.keys.items
-        (options_of validation.now) now in
+        (options_of validation.now) time in
         Decides (token_tests call) set_order (HasClaims call) result }
 {
     let data: TokenData<Session> = decode_with_set(
@@ -33,7 +33,7 @@ pub fn session_of(
         token,
         keys,
         validation,
-        now,
+        time,
     )?;
     Ok(data.claims)
 }

@@ -18,20 +18,20 @@ use std::alloc::Global;
 use std::rt::Runtime;
 
 /// Returns the claims of a token, verified with a secret.
-pub fn verified(alloc: Global, token: &[u8], now: u64) -> Result<Value> {
+pub fn verified(alloc: Global, token: &[u8], time: u64) -> Result<Value> {
     let key = DecodingKey::from_secret(alloc, b"secret")?;
     let mut validation = Validation::new(alloc, Algorithm::HS256)?;
     validation.set_audience(alloc, &["my-service"])?;
-    let data: TokenData<Value> = decode(alloc, &HmacProvider, token, &key, &validation, now)?;
+    let data: TokenData<Value> = decode(alloc, &HmacProvider, token, &key, &validation, time)?;
     Ok(data.claims)
 }
 
 /// Returns why a token is refused, for a log, or `None` if it is accepted.
-pub fn refusal_text(alloc: Global, token: &[u8], now: u64) -> Result<Option<String>> {
+pub fn refusal_text(alloc: Global, token: &[u8], time: u64) -> Result<Option<String>> {
     let key = DecodingKey::from_secret(alloc, b"secret")?;
     let validation = Validation::new(alloc, Algorithm::HS256)?;
     let provider = &HmacProvider;
-    match decode_or_refusal::<_, Value>(alloc, provider, token, &key, &validation, now) {
+    match decode_or_refusal::<_, Value>(alloc, provider, token, &key, &validation, time) {
         Ok(_) => Ok(None),
         Err(refusal) => {
             let (test, kind) = (refusal.test.name(), refusal.error.kind().name());
@@ -62,14 +62,14 @@ pub fn issued(alloc: Global, claims: &Value) -> Result<String> {
 
 /// Returns the claims of an identity provider's token, verified with the key of its set that the
 /// token names.
-pub fn verified_by_set(alloc: Global, token: &[u8], set: &[u8], now: u64) -> Result<Value> {
+pub fn verified_by_set(alloc: Global, token: &[u8], set: &[u8], time: u64) -> Result<Value> {
     let set = JwkSet::from_slice(alloc, set)?;
     let mut validation = Validation::new_strict(alloc, Algorithm::RS256)?;
     validation.set_issuer(alloc, &["https://login.example"])?;
     validation.set_audience(alloc, &["my-service"])?;
     validation.require_configured(alloc)?; // a token without iss or aud is refused
     let provider = &StandardProvider;
-    let data: TokenData<Value> = decode_with_set(alloc, provider, token, &set, &validation, now)?;
+    let data: TokenData<Value> = decode_with_set(alloc, provider, token, &set, &validation, time)?;
     Ok(data.claims)
 }
 
@@ -84,27 +84,27 @@ fn verified_by<P: CryptoProvider>(
     alloc: Global,
     provider: &P,
     token: &[u8],
-    now: u64,
+    time: u64,
 ) -> Result<TokenData<Value>> {
     let key = DecodingKey::from_secret(alloc, b"secret")?;
     let validation = Validation::new(alloc, Algorithm::HS256)?;
-    decode(alloc, provider, token, &key, &validation, now)
+    decode(alloc, provider, token, &key, &validation, time)
 }
 
 /// Prepares the secret, and verifies a token with it.
-fn prepared_and_verified(alloc: Global, token: &[u8], now: u64) -> Result<TokenData<Value>> {
+fn prepared_and_verified(alloc: Global, token: &[u8], time: u64) -> Result<TokenData<Value>> {
     let prepared = prepared_secret(alloc)?;
-    verified_by(alloc, &*prepared, token, now)
+    verified_by(alloc, &*prepared, token, time)
 }
 
 /// Returns the header and claims of an ES256 token, whose signature is checked elsewhere.
-pub fn verified_elsewhere(alloc: Global, token: &[u8], now: u64) -> Result<TokenData<Value>> {
+pub fn verified_elsewhere(alloc: Global, token: &[u8], time: u64) -> Result<TokenData<Value>> {
     let part = Box::new(alloc, signed_part(alloc, token)?)?;
     let signature = part.signature.as_slice();
     let yes = my_es256_accepts(part.message, signature); // with a key that is for ES256
     let verdict = VerdictProvider::new(Algorithm::ES256, part.message, signature, yes);
     let options = es256_options(alloc)?;
-    decode_by_verdict(alloc, token, &verdict, &options, now)
+    decode_by_verdict(alloc, token, &verdict, &options, time)
 }
 
 /// Returns options that are read from JSON.

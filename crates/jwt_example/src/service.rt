@@ -61,10 +61,10 @@ impl Service {
         encode(alloc, &HmacProvider, &header, session, &self.signing.key)
     }
 
-    /// Returns the session of a token, at the time `now`, in seconds since 1970-01-01 00:00:00
+    /// Returns the session of a token, at the time `time`, in seconds since 1970-01-01 00:00:00
     /// UTC.
-    pub fn read(&self, alloc: Global, token: &str, now: u64) -> Result<Session> {
-        session_of(alloc, token.as_bytes(), &self.keys, &self.validation, now)
+    pub fn read(&self, alloc: Global, token: &str, time: u64) -> Result<Session> {
+        session_of(alloc, token.as_bytes(), &self.keys, &self.validation, time)
     }
 }
 

@@ -50,7 +50,7 @@ fn of_test(alloc: Global, answer: Outcome<Option<Test>>) -> Answer {
 
 fn by_key<P: CryptoProvider, T: Claims>(row: Row<'_>, trial: &mut Trial, provider: &P) -> Answer {
     let inputs = with_key(row, &["token", "key", "validation", "now", "provider"])?;
-    let now = row.number("now")?;
+    let time = row.number("now")?;
     trial.begin();
     let answer = failed_test::<P, T>(
         row.alloc(),
@@ -58,7 +58,7 @@ fn by_key<P: CryptoProvider, T: Claims>(row: Row<'_>, trial: &mut Trial, provide
         inputs.token.as_slice(),
         &inputs.key,
         &inputs.options,
-        now,
+        time,
     );
     trial.end();
     of_test(row.alloc(), answer)
@@ -66,7 +66,7 @@ fn by_key<P: CryptoProvider, T: Claims>(row: Row<'_>, trial: &mut Trial, provide
 
 fn by_set<P: CryptoProvider>(row: Row<'_>, trial: &mut Trial, provider: &P) -> Answer {
     let inputs = with_set(row, &["token", "set", "validation", "now", "provider"])?;
-    let now = row.number("now")?;
+    let time = row.number("now")?;
     trial.begin();
     let answer = failed_test_with_set::<P, Value>(
         row.alloc(),
@@ -74,7 +74,7 @@ fn by_set<P: CryptoProvider>(row: Row<'_>, trial: &mut Trial, provider: &P) -> A
         inputs.token.as_slice(),
         &inputs.set,
         &inputs.options,
-        now,
+        time,
     );
     trial.end();
     of_test(row.alloc(), answer)
@@ -97,7 +97,7 @@ fn of_refusal(alloc: Global, refusal: &Refusal) -> Answer {
 
 fn decoded<P: CryptoProvider>(row: Row<'_>, trial: &mut Trial, provider: &P) -> Answer {
     let inputs = with_key(row, &["token", "key", "validation", "now", "provider"])?;
-    let now = row.number("now")?;
+    let time = row.number("now")?;
     let token = inputs.token.as_slice();
     trial.begin();
     let answer = decode_or_refusal(
@@ -106,7 +106,7 @@ fn decoded<P: CryptoProvider>(row: Row<'_>, trial: &mut Trial, provider: &P) -> 
         token,
         &inputs.key,
         &inputs.options,
-        now,
+        time,
     );
     trial.end();
     match answer {
@@ -117,7 +117,7 @@ fn decoded<P: CryptoProvider>(row: Row<'_>, trial: &mut Trial, provider: &P) -> 
 
 fn number<P: CryptoProvider>(row: Row<'_>, trial: &mut Trial, provider: &P) -> Answer {
     let inputs = with_key(row, &["token", "key", "validation", "now", "provider"])?;
-    let now = row.number("now")?;
+    let time = row.number("now")?;
     let token = inputs.token.as_slice();
     trial.begin();
     let answer = decode_or_refusal::<P, u64>(
@@ -126,7 +126,7 @@ fn number<P: CryptoProvider>(row: Row<'_>, trial: &mut Trial, provider: &P) -> A
         token,
         &inputs.key,
         &inputs.options,
-        now,
+        time,
     );
     trial.end();
     match answer {
@@ -137,7 +137,7 @@ fn number<P: CryptoProvider>(row: Row<'_>, trial: &mut Trial, provider: &P) -> A
 
 fn decoded_by_set<P: CryptoProvider>(row: Row<'_>, trial: &mut Trial, provider: &P) -> Answer {
     let inputs = with_set(row, &["token", "set", "validation", "now", "provider"])?;
-    let now = row.number("now")?;
+    let time = row.number("now")?;
     let token = inputs.token.as_slice();
     trial.begin();
     let answer = decode_with_set_or_refusal(
@@ -146,7 +146,7 @@ fn decoded_by_set<P: CryptoProvider>(row: Row<'_>, trial: &mut Trial, provider: 
         token,
         &inputs.set,
         &inputs.options,
-        now,
+        time,
     );
     trial.end();
     match answer {
@@ -157,7 +157,7 @@ fn decoded_by_set<P: CryptoProvider>(row: Row<'_>, trial: &mut Trial, provider: 
 
 fn decoded_by_own<P: CryptoProvider>(row: Row<'_>, trial: &mut Trial, provider: &P) -> Answer {
     let mut inputs = with_set(row, &["token", "set", "validation", "now", "provider"])?;
-    let now = row.number("now")?;
+    let time = row.number("now")?;
     let WithSet {
         token,
         set,
@@ -170,7 +170,7 @@ fn decoded_by_own<P: CryptoProvider>(row: Row<'_>, trial: &mut Trial, provider: 
         token.as_slice(),
         set,
         options,
-        now,
+        time,
     );
     trial.end();
     match answer {

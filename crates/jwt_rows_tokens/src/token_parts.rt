@@ -57,9 +57,9 @@ fn decoded<P: CryptoProvider>(row: Row<'_>, trial: &mut Trial, provider: &P) -> 
     let token = parts(row, &["parts", "key", "validation", "now", "provider"])?;
     let key = decoding_key(row)?;
     let options = validation(row)?;
-    let now = row.number("now")?;
+    let time = row.number("now")?;
     trial.begin();
-    let answer = jws::decode(row.alloc(), provider, &token, &key, &options, now);
+    let answer = jws::decode(row.alloc(), provider, &token, &key, &options, time);
     trial.end();
     of_token(row.alloc(), answer)
 }

@@ -49,7 +49,7 @@ pub fn of_token(alloc: Global, answer: Outcome<TokenData<Value>>) -> Answer {
 
 fn decoded<P: CryptoProvider>(row: Row<'_>, trial: &mut Trial, provider: &P) -> Answer {
     let inputs = with_key(row, &["token", "key", "validation", "now", "provider"])?;
-    let now = row.number("now")?;
+    let time = row.number("now")?;
     let token = inputs.token.as_slice();
     trial.begin();
     let answer = decode(
@@ -58,7 +58,7 @@ fn decoded<P: CryptoProvider>(row: Row<'_>, trial: &mut Trial, provider: &P) -> 
         token,
         &inputs.key,
         &inputs.options,
-        now,
+        time,
     );
     trial.end();
     of_token(row.alloc(), answer)
@@ -72,7 +72,7 @@ fn claims_value(alloc: Global, answer: Outcome<TokenData<u64>>) -> Outcome<Value
 
 fn number<P: CryptoProvider>(row: Row<'_>, trial: &mut Trial, provider: &P) -> Answer {
     let inputs = with_key(row, &["token", "key", "validation", "now", "provider"])?;
-    let now = row.number("now")?;
+    let time = row.number("now")?;
     let token = inputs.token.as_slice();
     trial.begin();
     let answer = decode(
@@ -81,7 +81,7 @@ fn number<P: CryptoProvider>(row: Row<'_>, trial: &mut Trial, provider: &P) -> A
         token,
         &inputs.key,
         &inputs.options,
-        now,
+        time,
     );
     trial.end();
     of_value(row.alloc(), claims_value(row.alloc(), answer))

@@ -11,7 +11,7 @@ use jwt_rows::trial::Trial;
 /// Verifies the token by the set.
 pub fn decoded<P: CryptoProvider>(row: Row<'_>, trial: &mut Trial, provider: &P) -> Answer {
     let inputs = with_set(row, &["token", "set", "validation", "now", "provider"])?;
-    let now = row.number("now")?;
+    let time = row.number("now")?;
     let token = inputs.token.as_slice();
     trial.begin();
     let answer = decode_with_set(
@@ -20,7 +20,7 @@ pub fn decoded<P: CryptoProvider>(row: Row<'_>, trial: &mut Trial, provider: &P)
         token,
         &inputs.set,
         &inputs.options,
-        now,
+        time,
     );
     trial.end();
     of_token(row.alloc(), answer)

@@ -71,9 +71,9 @@ fn decoded(row: Row<'_>, trial: &mut Trial) -> Answer {
 fn decoded_by(row: Row<'_>, trial: &mut Trial, verdict: &VerdictProvider<'_>) -> Answer {
     let token = row.bytes("token")?;
     let options = validation(row)?;
-    let now = row.number("now")?;
+    let time = row.number("now")?;
     trial.begin();
-    let answer = decode_by_verdict(row.alloc(), token.as_slice(), verdict, &options, now);
+    let answer = decode_by_verdict(row.alloc(), token.as_slice(), verdict, &options, time);
     trial.end();
     of_token(row.alloc(), answer)
 }

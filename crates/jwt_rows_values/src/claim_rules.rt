@@ -20,9 +20,9 @@ fn claims_are_valid(row: Row<'_>, trial: &mut Trial) -> Answer {
     row.takes(&["claims", "claims_json", "validation", "now"])?;
     let claims = row.json("claims", "claims_json")?;
     let options = validation(row)?;
-    let now = row.number("now")?;
+    let time = row.number("now")?;
     trial.begin();
-    let answer = validate(row.alloc(), &claims, &options, now);
+    let answer = validate(row.alloc(), &claims, &options, time);
     trial.end();
     of_nothing(row.alloc(), answer)
 }

@@ -37,7 +37,7 @@ fn current(row: Row<'_>, trial: &mut Trial) -> Answer {
     let answer = get_current_timestamp(&clock);
     trial.end();
     match answer {
-        Ok(now) => accepted(row.alloc(), Value::from(now)),
+        Ok(time) => accepted(row.alloc(), Value::from(time)),
         Err(refusal) => refused(row.alloc(), &refusal),
     }
 }

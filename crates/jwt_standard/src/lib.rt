@@ -6,7 +6,7 @@
 //!
 //! ```rust
 //! let provider = &StandardProvider;
-//! let data: TokenData<Value> = decode_with_set(alloc, provider, token, &set, &validation, now)?;
+//! let data: TokenData<Value> = decode_with_set(alloc, provider, token, &set, &validation, time)?;
 //! ```
 #![tactic(auto)]
 

@@ -39,11 +39,11 @@ fn secret_key(alloc: Global, secret: &[u8]) -> Answer<Box<DecodingKey>> {
     Ok(Box::new(alloc, DecodingKey::from_secret(alloc, secret)?)?)
 }
 
-fn no_claims(alloc: Global, now: u64) -> Answer<TokenData<NoClaims>> {
+fn no_claims(alloc: Global, time: u64) -> Answer<TokenData<NoClaims>> {
     let key = secret_key(alloc, b"secret")?;
     let validation = Validation::new(alloc, Algorithm::HS256)?;
     let token = SIGNED.as_bytes();
-    decode(alloc, &HmacProvider, token, &key, &validation, now)
+    decode(alloc, &HmacProvider, token, &key, &validation, time)
 }
 
 #[test]

@@ -21,56 +21,56 @@ use Rattle.serde_json.specs.Data.{Data}
 use Rattle.jwt_tool_command.specs.Line.{IsClaimsValue, IsToken, HasTokenFault, hmac_call, IsClaimsValueBySet, HasSetFault}
 
 abbrev given_call : List ℕ → Key → Options → ℕ → Call Value
-given_call input key options now = decoding_by_hmac IsValue input (Given key) options now
+given_call input key options time = decoding_by_hmac IsValue input (Given key) options time
 
-pub claims_passed : (input : List ℕ) (algorithm : Algorithm) (secret : List ℕ) (now : ℕ) (key : Key) (options : Options)
+pub claims_passed : (input : List ℕ) (algorithm : Algorithm) (secret : List ℕ) (time : ℕ) (key : Key) (options : Options)
     (header : Header) (claims : Value)
     → key ≡ Plain Hmac secret → options ≡ default_options (algorithm ∷ [])
-    → (t : Contents) × Passes (token_tests (given_call input key options now)) decode_order t
+    → (t : Contents) × Passes (token_tests (given_call input key options time)) decode_order t
     × ((t.header ≡ header) × (view claims ≡ t.payload_value))
-    → IsClaimsValue input algorithm secret now (view claims)
-claims_passed input algorithm secret now key options header claims is_key is_options found = (
+    → IsClaimsValue input algorithm secret time (view claims)
+claims_passed input algorithm secret time key options header claims is_key is_options found = (
   found.0,
-  subst (λ o. Passes (token_tests (given_call input (Plain Hmac secret) o now)) decode_order found.0) is_options
-      (subst (λ k. Passes (token_tests (given_call input k options now)) decode_order found.0) is_key found.1),
+  subst (λ o. Passes (token_tests (given_call input (Plain Hmac secret) o time)) decode_order found.0) is_options
+      (subst (λ k. Passes (token_tests (given_call input k options time)) decode_order found.0) is_key found.1),
   sym found.2.1,
 )
 
-pub claims_failed : (input : List ℕ) (algorithm : Algorithm) (secret : List ℕ) (now : ℕ) (key : Key) (options : Options)
+pub claims_failed : (input : List ℕ) (algorithm : Algorithm) (secret : List ℕ) (time : ℕ) (key : Key) (options : Options)
     (k : Kind)
     → key ≡ Plain Hmac secret → options ≡ default_options (algorithm ∷ [])
-    → FailsFirst (token_tests (given_call input key options now)) decode_order k
-    → FailsFirst (token_tests (hmac_call input algorithm secret now)) decode_order k
-claims_failed input algorithm secret now key options k is_key is_options failed =
-    subst (λ o. FailsFirst (token_tests (given_call input (Plain Hmac secret) o now)) decode_order k) is_options
-    (subst (λ q. FailsFirst (token_tests (given_call input q options now)) decode_order k) is_key failed)
+    → FailsFirst (token_tests (given_call input key options time)) decode_order k
+    → FailsFirst (token_tests (hmac_call input algorithm secret time)) decode_order k
+claims_failed input algorithm secret time key options k is_key is_options failed =
+    subst (λ o. FailsFirst (token_tests (given_call input (Plain Hmac secret) o time)) decode_order k) is_options
+    (subst (λ q. FailsFirst (token_tests (given_call input q options time)) decode_order k) is_key failed)
 
 abbrev given_set_call : List ℕ → List Jwk → Options → ℕ → Call Value
-given_set_call input keys options now = decoding_by_hmac IsValue input (InSet keys) options now
+given_set_call input keys options time = decoding_by_hmac IsValue input (InSet keys) options time
 
-pub set_claims_passed : (input : List ℕ) (algorithm : Algorithm) (set : List ℕ) (now : ℕ) (keys : List Jwk)
+pub set_claims_passed : (input : List ℕ) (algorithm : Algorithm) (set : List ℕ) (time : ℕ) (keys : List Jwk)
     (options : Options) (header : Header) (claims : Value)
     → ReadsText ReadsSet set keys → options ≡ default_options (algorithm ∷ [])
-    → (t : Contents) × Passes (token_tests (given_set_call input keys options now)) set_order t
+    → (t : Contents) × Passes (token_tests (given_set_call input keys options time)) set_order t
     × ((t.header ≡ header) × (view claims ≡ t.payload_value))
-    → IsClaimsValueBySet input algorithm set now (view claims)
-set_claims_passed input algorithm set now keys options header claims text is_options found = (
+    → IsClaimsValueBySet input algorithm set time (view claims)
+set_claims_passed input algorithm set time keys options header claims text is_options found = (
   keys,
   text,
   (
     found.0,
-    subst (λ o. Passes (token_tests (given_set_call input keys o now)) set_order found.0)
+    subst (λ o. Passes (token_tests (given_set_call input keys o time)) set_order found.0)
         is_options found.1,
     sym found.2.1,
   ),
 )
 
-pub set_claims_failed : (input : List ℕ) (algorithm : Algorithm) (set : List ℕ) (now : ℕ) (keys : List Jwk)
+pub set_claims_failed : (input : List ℕ) (algorithm : Algorithm) (set : List ℕ) (time : ℕ) (keys : List Jwk)
     (options : Options) (k : Kind)
     → ReadsText ReadsSet set keys → options ≡ default_options (algorithm ∷ [])
-    → FailsFirst (token_tests (given_set_call input keys options now)) set_order k → HasSetFault input algorithm set now k
-set_claims_failed input algorithm set now keys options k text is_options failed =
-    inr (keys, text, subst (λ o. FailsFirst (token_tests (given_set_call input keys o now)) set_order k) is_options failed)
+    → FailsFirst (token_tests (given_set_call input keys options time)) set_order k → HasSetFault input algorithm set time k
+set_claims_failed input algorithm set time keys options k text is_options failed =
+    inr (keys, text, subst (λ o. FailsFirst (token_tests (given_set_call input keys o time)) set_order k) is_options failed)
 
 abbrev given_issue : Header → SecretKey → Data → Issue
 given_issue header key claims = encoding_by_hmac header (Some claims) key

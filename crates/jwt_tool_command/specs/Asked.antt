@@ -7,5 +7,5 @@ abbrev pub asked : Command → Request
 asked Header = ForHeader
 asked (Thumbprint hash) = ForThumbprint hash
 asked (Encode algorithm secret) = ForToken algorithm secret.now
-asked (Decode algorithm secret now) = ForClaims algorithm secret.now now
-asked (DecodeWithSet algorithm set now) = ForClaimsBySet algorithm set.now now
+asked (Decode algorithm secret time) = ForClaims algorithm secret.now time
+asked (DecodeWithSet algorithm set time) = ForClaimsBySet algorithm set.now time

@@ -86,49 +86,49 @@ ThumbprintLine input hash status line =
 -- the input's token, checked with HMAC and a secret at a time, with the default options for that
 -- one algorithm
 abbrev pub hmac_call : List ℕ → Algorithm → List ℕ → ℕ → Call Value
-hmac_call input algorithm secret now =
-    decoding_by_hmac IsValue input (Given (Plain Hmac secret)) (default_options (algorithm ∷ [])) now
+hmac_call input algorithm secret time =
+    decoding_by_hmac IsValue input (Given (Plain Hmac secret)) (default_options (algorithm ∷ [])) time
 
 -- the claims of a token that passes every test of decode (RFC 7519 section 7.2)
 abbrev pub IsClaimsValue : List ℕ → Algorithm → List ℕ → ℕ → Data → Type 0
-IsClaimsValue input algorithm secret now value =
-    (t : Contents) × Passes (token_tests (hmac_call input algorithm secret now)) decode_order t
+IsClaimsValue input algorithm secret time value =
+    (t : Contents) × Passes (token_tests (hmac_call input algorithm secret time)) decode_order t
     × (t.payload_value ≡ value)
 
 -- the token's claims, or the kind of its first failed test (RFC 7519 section 7.2)
 abbrev pub ClaimsLine : List ℕ → Algorithm → List ℕ → ℕ → ℕ → List ℕ → Type 0
-ClaimsLine input algorithm secret now status line =
-    ((value : Data) × IsClaimsValue input algorithm secret now value × ValueLine value status line)
-    ⊎ ((k : Kind) × FailsFirst (token_tests (hmac_call input algorithm secret now)) decode_order k
+ClaimsLine input algorithm secret time status line =
+    ((value : Data) × IsClaimsValue input algorithm secret time value × ValueLine value status line)
+    ⊎ ((k : Kind) × FailsFirst (token_tests (hmac_call input algorithm secret time)) decode_order k
     × IsRefusal k status line)
 
 -- the input's token, checked with HMAC and the key of the set that its header names, under the same
 -- options
 abbrev pub hmac_set_call : List ℕ → Algorithm → List Jwk → ℕ → Call Value
-hmac_set_call input algorithm keys now =
-    decoding_by_hmac IsValue input (InSet keys) (default_options (algorithm ∷ [])) now
+hmac_set_call input algorithm keys time =
+    decoding_by_hmac IsValue input (InSet keys) (default_options (algorithm ∷ [])) time
 
 -- the text is that of a set by which the token passes every test, and these are its claims
 -- (RFC 7517 section 5, RFC 7519 section 7.2)
 abbrev pub IsClaimsValueBySet : List ℕ → Algorithm → List ℕ → ℕ → Data → Type 0
-IsClaimsValueBySet input algorithm set now value = (keys : List Jwk) × ReadsText ReadsSet set keys
-    × ((t : Contents) × Passes (token_tests (hmac_set_call input algorithm keys now)) set_order t
+IsClaimsValueBySet input algorithm set time value = (keys : List Jwk) × ReadsText ReadsSet set keys
+    × ((t : Contents) × Passes (token_tests (hmac_set_call input algorithm keys time)) set_order t
     × (t.payload_value ≡ value))
 
 -- the text is not that of a set (RFC 7517 section 5), or the first failed test has this kind
 abbrev pub HasSetFault : List ℕ → Algorithm → List ℕ → ℕ → Kind → Type 0
-HasSetFault input algorithm set now k =
+HasSetFault input algorithm set time k =
     ((k ≡ kind.Json) × ((keys : List Jwk) → ¬ ReadsText ReadsSet set keys))
     ⊎ ((keys : List Jwk) × ReadsText ReadsSet set keys
-    × FailsFirst (token_tests (hmac_set_call input algorithm keys now)) set_order k)
+    × FailsFirst (token_tests (hmac_set_call input algorithm keys time)) set_order k)
 
 -- the token's claims by a set, or the text of the refusal (RFC 7517 section 5, RFC 7519 section
 -- 7.2)
 abbrev pub SetClaimsLine : List ℕ → Algorithm → List ℕ → ℕ → ℕ → List ℕ → Type 0
-SetClaimsLine input algorithm set now status line =
-    ((value : Data) × IsClaimsValueBySet input algorithm set now value
+SetClaimsLine input algorithm set time status line =
+    ((value : Data) × IsClaimsValueBySet input algorithm set time value
     × ValueLine value status line)
-    ⊎ ((k : Kind) × HasSetFault input algorithm set now k × IsRefusal k status line)
+    ⊎ ((k : Kind) × HasSetFault input algorithm set time k × IsRefusal k status line)
 
 -- the token of claims, under the header of the algorithm with the type `JWT` (RFC 7519 section 5.1)
 abbrev pub hmac_issue : Algorithm → List ℕ → Data → Issue
@@ -160,10 +160,10 @@ RequestLine ForHeader input status line = HeaderLine input status line
 RequestLine (ForThumbprint hash) input status line = ThumbprintLine input hash status line
 RequestLine (ForToken algorithm secret) input status line =
     TokenLine input algorithm secret status line
-RequestLine (ForClaims algorithm secret now) input status line =
-    ClaimsLine input algorithm secret now status line
-RequestLine (ForClaimsBySet algorithm set now) input status line =
-    SetClaimsLine input algorithm set now status line
+RequestLine (ForClaims algorithm secret time) input status line =
+    ClaimsLine input algorithm secret time status line
+RequestLine (ForClaimsBySet algorithm set time) input status line =
+    SetClaimsLine input algorithm set time status line
 
 -- the line and the status for arguments that ask for nothing
 abbrev pub IsUsage : ℕ → List ℕ → Type 0

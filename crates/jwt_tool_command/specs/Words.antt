@@ -54,7 +54,7 @@ encoding_request word algorithm secret =
 abbrev pub claims_asked : (Algorithm → List ℕ → ℕ → Request) → List ℕ → List ℕ → List ℕ
     → Option Request
 claims_asked request algorithm by moment =
-    option_and_then (λ a. option_map (λ now. request a by now) (moment_of moment))
+    option_and_then (λ a. option_map (λ time. request a by time) (moment_of moment))
     (algorithm_named algorithm)
 
 -- `decode` with a secret, or `decode-set` with the text of a set

@@ -30,14 +30,14 @@ pub enum Command<'a> {
     Decode {
         algorithm: Algorithm,
         secret: &'a str,
-        now: u64,
+        time: u64,
     },
     /// Verifies a token with HMAC and the key that its header names in a key set (RFC 7517 section
     /// 5), given as its JSON text, and prints its claims.
     DecodeWithSet {
         algorithm: Algorithm,
         set: &'a str,
-        now: u64,
+        time: u64,
     },
 }
 
@@ -52,8 +52,13 @@ pub fn requested_command(words: &[String]) -> Option<Command<'_>>
         [word, algorithm, secret] => {
             encode_command(word.as_str(), algorithm.as_str(), secret.as_str())
         }
-        [word, algorithm, by, now] => {
-            decode_command(word.as_str(), algorithm.as_str(), by.as_str(), now.as_str())
+        [word, algorithm, by, time] => {
+            decode_command(
+                word.as_str(),
+                algorithm.as_str(),
+                by.as_str(),
+                time.as_str(),
+            )
         }
         _ => None,
     }
@@ -99,37 +104,37 @@ fn encode_command<'a>(word: &str, algorithm: &str, secret: &'a str) -> Option<Co
     Some(Command::Encode { algorithm, secret })
 }
 
-fn decode_command<'a>(word: &str, algorithm: &str, by: &'a str, now: &str) -> Option<Command<'a>>
-    ensures { option_map asked result ≡ decoding_request word.now algorithm.now by.now now.now }
+fn decode_command<'a>(word: &str, algorithm: &str, by: &'a str, time: &str) -> Option<Command<'a>>
+    ensures { option_map asked result ≡ decoding_request word.now algorithm.now by.now time.now }
 {
     match word {
-        "decode" => decode_by_secret(algorithm, by, now),
-        "decode-set" => decode_by_set(algorithm, by, now),
+        "decode" => decode_by_secret(algorithm, by, time),
+        "decode-set" => decode_by_set(algorithm, by, time),
         _ => None,
     }
 }
 
-fn decode_by_secret<'a>(algorithm: &str, secret: &'a str, now: &str) -> Option<Command<'a>>
-    ensures { option_map asked result ≡ claims_asked ForClaims algorithm.now secret.now now.now }
+fn decode_by_secret<'a>(algorithm: &str, secret: &'a str, time: &str) -> Option<Command<'a>>
+    ensures { option_map asked result ≡ claims_asked ForClaims algorithm.now secret.now time.now }
 {
     let algorithm = algorithm_of(algorithm)?;
-    let now = moment(now)?;
+    let time = moment(time)?;
     Some(Command::Decode {
         algorithm,
         secret,
-        now,
+        time,
     })
 }
 
-fn decode_by_set<'a>(algorithm: &str, set: &'a str, now: &str) -> Option<Command<'a>>
-    ensures { option_map asked result ≡ claims_asked ForClaimsBySet algorithm.now set.now now.now }
+fn decode_by_set<'a>(algorithm: &str, set: &'a str, time: &str) -> Option<Command<'a>>
+    ensures { option_map asked result ≡ claims_asked ForClaimsBySet algorithm.now set.now time.now }
 {
     let algorithm = algorithm_of(algorithm)?;
-    let now = moment(now)?;
+    let time = moment(time)?;
     Some(Command::DecodeWithSet {
         algorithm,
         set,
-        now,
+        time,
     })
 }
 

@@ -116,13 +116,13 @@ fn command_answer(alloc: Global, command: Command<'_>, input: &[u8]) -> Result<A
         Command::Decode {
             algorithm,
             secret,
-            now,
-        } => claims_answer(alloc, algorithm, secret, now, input),
+            time,
+        } => claims_answer(alloc, algorithm, secret, time, input),
         Command::DecodeWithSet {
             algorithm,
             set,
-            now,
-        } => set_claims_answer(alloc, algorithm, set, now, input),
+            time,
+        } => set_claims_answer(alloc, algorithm, set, time, input),
     }
 }
 
@@ -171,15 +171,15 @@ fn claims_answer(
     alloc: Global,
     algorithm: Algorithm,
     secret: &str,
-    now: u64,
+    time: u64,
     input: &[u8],
 ) -> Result<Answer, ToolFault>
     ensures { IfOk result (λ a. ValueAnswer ValueLine
-        (IsClaimsValue input.now algorithm secret.now now)
-        (λ k. FailsFirst (token_tests (hmac_call input.now algorithm secret.now now)) decode_order
+        (IsClaimsValue input.now algorithm secret.now time)
+        (λ k. FailsFirst (token_tests (hmac_call input.now algorithm secret.now time)) decode_order
         k) a.status (string_bytes a.line)) }
 {
-    match claims_value(alloc, algorithm, secret, now, input) {
+    match claims_value(alloc, algorithm, secret, time, input) {
         Ok(value) => value_answer(alloc, &value),
         Err(e) => refusal_answer(alloc, &e),
     }
@@ -191,14 +191,14 @@ fn set_claims_answer(
     alloc: Global,
     algorithm: Algorithm,
     set: &str,
-    now: u64,
+    time: u64,
     input: &[u8],
 ) -> Result<Answer, ToolFault>
     ensures { IfOk result (λ a. ValueAnswer ValueLine
-        (IsClaimsValueBySet input.now algorithm set.now now)
-        (HasSetFault input.now algorithm set.now now) a.status (string_bytes a.line)) }
+        (IsClaimsValueBySet input.now algorithm set.now time)
+        (HasSetFault input.now algorithm set.now time) a.status (string_bytes a.line)) }
 {
-    match set_claims_value(alloc, algorithm, set, now, input) {
+    match set_claims_value(alloc, algorithm, set, time, input) {
         Ok(value) => value_answer(alloc, &value),
         Err(e) => refusal_answer(alloc, &e),
     }
@@ -250,17 +250,17 @@ fn claims_value(
     alloc: Global,
     algorithm: Algorithm,
     secret: &str,
-    now: u64,
+    time: u64,
     input: &[u8],
 ) -> Result<Value>
-    ensures ok { IfOk result (λ v. IsClaimsValue input.now algorithm secret.now now (view v)) }
+    ensures ok { IfOk result (λ v. IsClaimsValue input.now algorithm secret.now time (view v)) }
     ensures err { IfErr result (λ e. IsMemory e
-        ⊎ FailsFirst (token_tests (hmac_call input.now algorithm secret.now now)) decode_order
+        ⊎ FailsFirst (token_tests (hmac_call input.now algorithm secret.now time)) decode_order
         (kind_of e)) }
 {
     let key = DecodingKey::from_secret(alloc, secret.as_bytes())?;
     let validation = Validation::new(alloc, algorithm)?;
-    let data: TokenData<Value> = decode(alloc, &HmacProvider, input, &key, &validation, now)?;
+    let data: TokenData<Value> = decode(alloc, &HmacProvider, input, &key, &validation, time)?;
     Ok(data.claims)
 }
 
@@ -268,16 +268,16 @@ fn set_claims_value(
     alloc: Global,
     algorithm: Algorithm,
     set: &str,
-    now: u64,
+    time: u64,
     input: &[u8],
 ) -> Result<Value>
-    ensures ok { IfOk result (λ v. IsClaimsValueBySet input.now algorithm set.now now (view v)) }
+    ensures ok { IfOk result (λ v. IsClaimsValueBySet input.now algorithm set.now time (view v)) }
     ensures err { IfErr result (λ e. IsMemory e
-        ⊎ HasSetFault input.now algorithm set.now now (kind_of e)) }
+        ⊎ HasSetFault input.now algorithm set.now time (kind_of e)) }
 {
     let keys = JwkSet::from_slice(alloc, set.as_bytes())?;
     let rules = Validation::new(alloc, algorithm)?;
-    let data: TokenData<Value> = decode_with_set(alloc, &HmacProvider, input, &keys, &rules, now)?;
+    let data: TokenData<Value> = decode_with_set(alloc, &HmacProvider, input, &keys, &rules, time)?;
     Ok(data.claims)
 }
 

@@ -58,14 +58,14 @@ SharesMember set = Any (λ t. IsTrue (set t))
 -- and `NbfTime` by 4.1.5, `Subject` by 4.1.2, `Issuer` by 4.1.1, `Audience` by 4.1.3; `ExpReject`
 -- is a rule of this library. A token is accepted at `exp` itself, or at `exp` with leeway.
 abbrev pub Holds : Options → Claims → ℕ → Rule → Type 0
-Holds v c now ExpFormat = IsTrue v.checks_exp → IsWellFormed c.exp
-Holds v c now NbfFormat = IsTrue v.checks_nbf → IsWellFormed c.nbf
-Holds v c now ExpReject = IsTrue v.checks_exp → IfValue c.exp (λ t. v.reject ≤ t)
-Holds v c now ExpTime = IsTrue v.checks_exp → IfValue c.exp (λ t. now + v.reject ≤ t + v.leeway)
-Holds v c now NbfTime = IsTrue v.checks_nbf → IfValue c.nbf (λ t. t ≤ now + v.leeway)
-Holds v c now Subject = IfSome v.sub (λ s. IsWellFormed c.sub × IfValue c.sub (λ t. t ≡ s))
-Holds v c now Issuer = IfSome v.iss (λ set. IsWellFormed c.iss × IfValue c.iss (SharesMember set))
-Holds v c now Audience =
+Holds v c time ExpFormat = IsTrue v.checks_exp → IsWellFormed c.exp
+Holds v c time NbfFormat = IsTrue v.checks_nbf → IsWellFormed c.nbf
+Holds v c time ExpReject = IsTrue v.checks_exp → IfValue c.exp (λ t. v.reject ≤ t)
+Holds v c time ExpTime = IsTrue v.checks_exp → IfValue c.exp (λ t. time + v.reject ≤ t + v.leeway)
+Holds v c time NbfTime = IsTrue v.checks_nbf → IfValue c.nbf (λ t. t ≤ time + v.leeway)
+Holds v c time Subject = IfSome v.sub (λ s. IsWellFormed c.sub × IfValue c.sub (λ t. t ≡ s))
+Holds v c time Issuer = IfSome v.iss (λ set. IsWellFormed c.iss × IfValue c.iss (SharesMember set))
+Holds v c time Audience =
     IsTrue v.checks_aud → IsWellFormed c.aud × IfValue c.aud (SharesMember (audience v))
 
 -- a malformed claim has the kind for that
@@ -86,30 +86,30 @@ kind_of_rule c Issuer = format_or c.iss Iss kind.InvalidIssuer
 kind_of_rule c Audience = format_or c.aud Aud kind.InvalidAudience
 
 -- the rule fails, and each one before it holds
-pub record IsFirstBroken (v : Options) (c : Claims) (now : ℕ) (r : Rule) : Type 0 where
-  pub fails : ¬ Holds v c now r
-  pub before : (q : Rule) → place q < place r → Holds v c now q
+pub record IsFirstBroken (v : Options) (c : Claims) (time : ℕ) (r : Rule) : Type 0 where
+  pub fails : ¬ Holds v c time r
+  pub before : (q : Rule) → place q < place r → Holds v c time q
 
 -- ---- accepted claims, and the kinds of a refusal
 
 -- no required claim is missing, and each rule holds (RFC 7519 section 4.1)
-pub record RulesHold (v : Options) (d : Data) (now : ℕ) : Type 0 where
+pub record RulesHold (v : Options) (d : Data) (time : ℕ) : Type 0 where
   pub required : (n : Name) → ¬ IsMissing v (claims_of d) n
-  pub rules : (r : Rule) → Holds v (claims_of d) now r
+  pub rules : (r : Rule) → Holds v (claims_of d) time r
 
 -- the kind of any missing claim; if none is missing, that of the first broken rule
-pub data IsRuleFault (v : Options) (d : Data) (now : ℕ) : Kind → Type 0 where
+pub data IsRuleFault (v : Options) (d : Data) (time : ℕ) : Kind → Type 0 where
   missing : (n : Name) → IsMissing v (claims_of d) n
-      → IsRuleFault v d now (kind.MissingRequiredClaim (text n))
+      → IsRuleFault v d time (kind.MissingRequiredClaim (text n))
   broken : ((n : Name) → ¬ IsMissing v (claims_of d) n)
-      → (r : Rule) → IsFirstBroken v (claims_of d) now r
-      → IsRuleFault v d now (kind_of_rule (claims_of d) r)
+      → (r : Rule) → IsFirstBroken v (claims_of d) time r
+      → IsRuleFault v d time (kind_of_rule (claims_of d) r)
 
 -- `Json` of a value that is not an object (RFC 7519 section 7.2), else the kind that the rules give
 abbrev pub IsFault : Options → Data → ℕ → Kind → Type 0
-IsFault v d now k =
+IsFault v d time k =
     ((¬ IsSome (as_object d)) × (k ≡ kind.Json))
-    ⊎ (IsSome (as_object d) × IsRuleFault v d now k)
+    ⊎ (IsSome (as_object d) × IsRuleFault v d time k)
 
 -- the kinds that hold the name of a claim
 abbrev pub NamesClaim : Kind → Type 0

@@ -48,15 +48,15 @@ last_moment v c =
 -- the conditions on the claims that do not depend on the time
 pub record RulesOfNoMoment (v : Options) (d : Data) : Type 0 where
   pub required : (n : Name) → ¬ IsMissing v (claims_of d) n
-  pub timeless : (r : Rule) → IsTimeless r → (now : ℕ) → Holds v (claims_of d) now r
+  pub timeless : (r : Rule) → IsTimeless r → (time : ℕ) → Holds v (claims_of d) time r
 
 -- an object that keeps these, at a time from the first to the last
 -- (RFC 7519 sections 4.1.4 and 4.1.5)
-pub record IsAcceptedWithin (v : Options) (d : Data) (now : ℕ) : Type 0 where
+pub record IsAcceptedWithin (v : Options) (d : Data) (time : ℕ) : Type 0 where
   pub is_object : IsSome (as_object d)
   pub rules : RulesOfNoMoment v d
-  pub from : first_moment v (claims_of d) ≤ now
-  pub until : now ≤ last_moment v (claims_of d)
+  pub from : first_moment v (claims_of d) ≤ time
+  pub until : time ≤ last_moment v (claims_of d)
 
 -- each member of the one set is in the other
 abbrev pub IsSubset : Texts → Texts → Type 0

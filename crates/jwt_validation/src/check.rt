@@ -24,7 +24,7 @@ use serde_json::Value;
 use std::alloc::Global;
 use std::collections::HashSet;
 
-/// Checks claims at the time `now`, in whole seconds since 1970-01-01 00:00:00 UTC.
+/// Checks claims at the time `time`, in whole seconds since 1970-01-01 00:00:00 UTC.
 ///
 /// Claims that are not a JSON object are refused with `Json`. Then each required claim must be
 /// present and well formed, else the error is `MissingRequiredClaim` of one that is not. Then the
@@ -33,9 +33,9 @@ use std::collections::HashSet;
 /// - if `exp` is checked, it is a whole number, else `InvalidClaimFormat`;
 /// - if `nbf` is checked, it is a whole number, else `InvalidClaimFormat`;
 /// - `exp` is at least the time that must be left, else `InvalidToken`;
-/// - `exp` plus the leeway is at least `now` plus the time that must be left, else
+/// - `exp` plus the leeway is at least `time` plus the time that must be left, else
 ///   `ExpiredSignature`;
-/// - `nbf` is at most `now` plus the leeway, else `ImmatureSignature`;
+/// - `nbf` is at most `time` plus the leeway, else `ImmatureSignature`;
 /// - `sub` is the configured subject, else `InvalidSubject`;
 /// - `iss` names a configured issuer, else `InvalidIssuer`;
 /// - `aud` names a configured audience, else `InvalidAudience`.
@@ -43,24 +43,24 @@ use std::collections::HashSet;
 /// The last three are `InvalidClaimFormat` if the claim has a wrong type. A claim that is absent
 /// and not required breaks no rule. `OutOfMemory` may come instead of `MissingRequiredClaim` and
 /// `InvalidClaimFormat` alone.
-pub fn validate(alloc: Global, claims: &Value, options: &Validation, now: u64) -> Result<()>
+pub fn validate(alloc: Global, claims: &Value, options: &Validation, time: u64) -> Result<()>
     ensures ok { IsOk result ↔ (IsSome (as_object (view claims.now))
-        × RulesHold (options_of options.now) (view claims.now) now) }
+        × RulesHold (options_of options.now) (view claims.now) time) }
     ensures err { IfErr result (λ e. (k : Kind)
-        × IsFault (options_of options.now) (view claims.now) now k × Tells e k) }
+        × IsFault (options_of options.now) (view claims.now) time k × Tells e k) }
     ensures moments { IsOk result ↔ IsAcceptedWithin (options_of options.now)
-        (view claims.now) now }
+        (view claims.now) time }
     ensures looser { OnOk result ((w : Options) → Looser (options_of options.now) w
-        → RulesHold w (view claims.now) now) }
+        → RulesHold w (view claims.now) time) }
 {
-    check(alloc, claims, options, now)
+    check(alloc, claims, options, time)
 }
 
-fn check(alloc: Global, claims: &Value, options: &Validation, now: u64) -> Result<()>
+fn check(alloc: Global, claims: &Value, options: &Validation, time: u64) -> Result<()>
     ensures ok { IsOk result ↔ (IsSome (as_object (view claims.now))
-        × RulesHold (options_of options.now) (view claims.now) now) }
+        × RulesHold (options_of options.now) (view claims.now) time) }
     ensures err { IfErr result (λ e. (k : Kind)
-        × IsFault (options_of options.now) (view claims.now) now k × Tells e k) }
+        × IsFault (options_of options.now) (view claims.now) time k × Tells e k) }
 {
     if !claims.is_object() {
         return Err(new_error(ErrorKind::Json));
@@ -69,7 +69,7 @@ fn check(alloc: Global, claims: &Value, options: &Validation, now: u64) -> Resul
     if let Some(name) = first_missing(&claims, options) {
         return Err(missing_claim(alloc, name.text()));
     }
-    match first_broken(&claims, options, now) {
+    match first_broken(&claims, options, time) {
         Some(rule) => Err(refusal(alloc, rule, &claims)),
         None => Ok(()),
     }
@@ -101,13 +101,13 @@ fn first_missing(claims: &SpecClaims, options: &Validation) -> Option<Name>
     None
 }
 
-fn first_broken(claims: &SpecClaims, options: &Validation, now: u64) -> Option<Rule>
+fn first_broken(claims: &SpecClaims, options: &Validation, time: u64) -> Option<Rule>
     ensures { MatchOption result
-        ((r : Rule) → Holds (options_of options.now) (claims_seen claims.now) now r)
-        (λ r. IsFirstBroken (options_of options.now) (claims_seen claims.now) now r) }
+        ((r : Rule) → Holds (options_of options.now) (claims_seen claims.now) time r)
+        (λ r. IsFirstBroken (options_of options.now) (claims_seen claims.now) time r) }
 {
     for rule in RULES {
-        if !holds(rule, claims, options, now) {
+        if !holds(rule, claims, options, time) {
             return Some(rule);
         }
     }

@@ -24,8 +24,8 @@ order_of (Set set) = set_order
 
 -- the call of `decode` or of `decode_with_set` by `StandardProvider`, with these keys and options
 abbrev pub call_with : {T : Type 0} → ClaimsOf T → Keys → Validation → List ℕ → ℕ → Call T
-call_with claims keys validation token now =
-    verifying_call (Compact token) (source_of keys) (options_of validation) now
+call_with claims keys validation token time =
+    verifying_call (Compact token) (source_of keys) (options_of validation) time
     verifier_refusal StandardAccepts claims.reads
 
 -- A result that meets this relation, for a token of this length. A token that is longer than the limit is

@@ -176,22 +176,22 @@ impl Verifier {
         &self,
         alloc: Global,
         token: &[u8],
-        now: u64,
+        time: u64,
     ) -> Checked<TokenData<T>>
         ensures decided { let call = call_with T.Claims self.now.keys self.now.validation
-            token.now now in
+            token.now time in
             Decides (token_tests call) (order_of self.now.keys) (Carries call) result }
-        ensures laws { HasLaws (call_with T.Claims self.now.keys self.now.validation token.now now)
+        ensures laws { HasLaws (call_with T.Claims self.now.keys self.now.validation token.now time)
             (order_of self.now.keys) (List ℕ) Compact token.now }
     {
         let provider = &self.prepared;
         match &self.keys {
-            Keys::One(key) => decode(alloc, &provider, token, key, &self.validation, now),
-            Keys::Set(set) => decode_with_set(alloc, &provider, token, set, &self.validation, now),
+            Keys::One(key) => decode(alloc, &provider, token, key, &self.validation, time),
+            Keys::Set(set) => decode_with_set(alloc, &provider, token, set, &self.validation, time),
         }
     }
 
-    /// Verifies a token in its compact form at the time `now`, in whole seconds since 1970-01-01
+    /// Verifies a token in its compact form at the time `time`, in whole seconds since 1970-01-01
     /// 00:00:00 UTC, and returns its header and its claims: what [`decode`] or [`decode_with_set`]
     /// returns by `StandardProvider` with the verifier's keys and options. A token that is longer
     /// than the limit is refused with `TooLong` before anything of it is read.
@@ -199,23 +199,23 @@ impl Verifier {
         &self,
         alloc: Global,
         token: &[u8],
-        now: u64,
+        time: u64,
     ) -> Result<TokenData<T>, Rejection<Error>>
         ensures decided { let call = call_with T.Claims self.now.keys self.now.validation
-            token.now now in
+            token.now time in
             IsBounded (Decides (token_tests call) (order_of self.now.keys) (Carries call))
             self.now.limits.max_len (length token.now) result }
 
         // The laws of `decode` and `decode_with_set` hold: the token is accepted exactly at the
         // times from the first to the last, among others.
         ensures laws { length token.now ≤ self.now.limits.max_len
-            → HasLaws (call_with T.Claims self.now.keys self.now.validation token.now now)
+            → HasLaws (call_with T.Claims self.now.keys self.now.validation token.now time)
             (order_of self.now.keys) (List ℕ) Compact token.now }
     {
         if self.is_too_long(token) {
             return Err(Rejection::TooLong);
         }
-        match self.decode_whole(alloc, token, now) {
+        match self.decode_whole(alloc, token, time) {
             Ok(decoded) => Ok(decoded),
             Err(refused) => Err(Rejection::Failed(refused)),
         }
@@ -226,18 +226,18 @@ impl Verifier {
         &self,
         alloc: Global,
         token: &[u8],
-        now: u64,
+        time: u64,
     ) -> Result<TokenData<T>, Refusal>
-        ensures { let call = call_with T.Claims self.now.keys self.now.validation token.now now in
+        ensures { let call = call_with T.Claims self.now.keys self.now.validation token.now time in
             DecidesByTest (token_tests call) (order_of self.now.keys) (Carries call) result }
     {
         let provider = &self.prepared;
         match &self.keys {
             Keys::One(key) => {
-                decode_or_refusal(alloc, &provider, token, key, &self.validation, now)
+                decode_or_refusal(alloc, &provider, token, key, &self.validation, time)
             }
             Keys::Set(set) => {
-                decode_with_set_or_refusal(alloc, &provider, token, set, &self.validation, now)
+                decode_with_set_or_refusal(alloc, &provider, token, set, &self.validation, time)
             }
         }
     }
@@ -248,16 +248,16 @@ impl Verifier {
         &self,
         alloc: Global,
         token: &[u8],
-        now: u64,
+        time: u64,
     ) -> Result<TokenData<T>, Rejection<Refusal>>
-        ensures { let call = call_with T.Claims self.now.keys self.now.validation token.now now in
+        ensures { let call = call_with T.Claims self.now.keys self.now.validation token.now time in
             IsBounded (DecidesByTest (token_tests call) (order_of self.now.keys) (Carries call))
             self.now.limits.max_len (length token.now) result }
     {
         if self.is_too_long(token) {
             return Err(Rejection::TooLong);
         }
-        match self.decode_whole_or_refusal(alloc, token, now) {
+        match self.decode_whole_or_refusal(alloc, token, time) {
             Ok(decoded) => Ok(decoded),
             Err(refused) => Err(Rejection::Failed(refused)),
         }

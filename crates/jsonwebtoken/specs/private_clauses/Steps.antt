@@ -148,7 +148,7 @@ allowing o key refusal = record bare { options = o; keys = Given key; refusal = 
 
 -- of the options and the time
 abbrev pub holding : Options → ℕ → Call (Unit {0})
-holding o now = record bare { options = o; now = now }
+holding o time = record bare { options = o; time = time }
 
 -- of what one verifier accepts
 abbrev pub accepting : (List ℕ → List ℕ → Type 0) → Call (Unit {0})
@@ -156,10 +156,10 @@ accepting accepts = record bare { accepts = λ _ _. accepts }
 
 -- of claims, options and the time
 abbrev pub claiming : {T : Type 0} → (Data → T → Type 0) → Options → ℕ → Call T
-claiming reads o now = record (reading reads) { options = o; now = now }
+claiming reads o time = record (reading reads) { options = o; time = time }
 
 -- of claims, options, the time and what one verifier accepts
 abbrev pub verifying_by : {T : Type 0} → (Data → T → Type 0) → Options → ℕ
     → (List ℕ → List ℕ → Type 0) → Call T
-verifying_by reads o now accepts =
-    record (reading reads) { options = o; now = now; accepts = λ _ _. accepts }
+verifying_by reads o time accepts =
+    record (reading reads) { options = o; time = time; accepts = λ _ _. accepts }

@@ -89,16 +89,16 @@ pub(crate) fn read_claims_by_set<P: CryptoProvider, T: Claims>(
     header: &Header,
     set: &JwkSet,
     validation: &Validation,
-    now: u64,
+    time: u64,
 ) -> Result<T, Refusal>
     ensures { let call = decoding_by_set P.CryptoProvider T.Claims
-        provider.now [] set.now.keys.items validation.now now in
+        provider.now [] set.now.keys.items validation.now time in
         Step call (CritIsUnderstood ∷ key_tests ++ (algorithm_tests ++ verifying_tests))
         (with_opening (parts_in parts.now) header.now) (ShowsClaims T.reads) result }
 {
     check_crit(header, validation)?;
     let key = key_in_set(alloc, set, header)?;
-    let claims = verify_by_key(alloc, provider, parts, header, &key, validation, now)?;
+    let claims = verify_by_key(alloc, provider, parts, header, &key, validation, time)?;
     Ok(claims)
 }
 
@@ -109,11 +109,11 @@ fn decode_with_set_noting<P: CryptoProvider, T: Claims>(
     token: &[u8],
     set: &JwkSet,
     validation: &Validation,
-    now: u64,
+    time: u64,
     failed: &mut Test,
 ) -> Result<TokenData<T>>
     ensures { let call = decoding_by_set P.CryptoProvider T.Claims
-        provider.now token.now set.now.keys.items validation.now now in
+        provider.now token.now set.now.keys.items validation.now time in
         Step call set_order whole (Carries call) (tested failed.new result) }
 {
     let parts = match token_parts(token) {
@@ -121,7 +121,7 @@ fn decode_with_set_noting<P: CryptoProvider, T: Claims>(
         Err(refusal) => return Err(note(refusal, failed)),
     };
     let header = read_header_noting(alloc, parts.header, failed)?;
-    let claims = read_claims_by_set(alloc, provider, &parts, &header, set, validation, now);
+    let claims = read_claims_by_set(alloc, provider, &parts, &header, set, validation, time);
     match claims {
         Ok(claims) => Ok(TokenData { header, claims }),
         Err(refusal) => Err(note(refusal, failed)),
@@ -136,19 +136,27 @@ pub fn decode_with_set_or_refusal<P: CryptoProvider, T: Claims>(
     token: &[u8],
     set: &JwkSet,
     validation: &Validation,
-    now: u64,
+    time: u64,
 ) -> Result<TokenData<T>, Refusal>
     ensures { let call = decoding_by_set P.CryptoProvider T.Claims
-        provider.now token.now set.now.keys.items validation.now now in
+        provider.now token.now set.now.keys.items validation.now time in
         DecidesByTest (token_tests call) set_order (Carries call) result }
 {
     let mut failed = Test::HasThreeParts;
-    let decoded = decode_with_set_noting(alloc, provider, token, set, validation, now, &mut failed);
+    let decoded = decode_with_set_noting(
+        alloc,
+        provider,
+        token,
+        set,
+        validation,
+        time,
+        &mut failed,
+    );
     with_test(failed, decoded)
 }
 
 /// Verifies a token in its compact form with the key of the set that its header names, at the
-/// time `now`, in whole seconds since 1970-01-01 00:00:00 UTC, and returns its header and its
+/// time `time`, in whole seconds since 1970-01-01 00:00:00 UTC, and returns its header and its
 /// claims.
 ///
 /// The tests are those of [`decode`](crate::decode), in the same order, and three more of the key,
@@ -164,7 +172,7 @@ pub fn decode_with_set_or_refusal<P: CryptoProvider, T: Claims>(
 /// let set = JwkSet::from_slice(alloc, set)?;
 /// // ..
 /// let provider = &StandardProvider;
-/// let data: TokenData<Value> = decode_with_set(alloc, provider, token, &set, &validation, now)?;
+/// let data: TokenData<Value> = decode_with_set(alloc, provider, token, &set, &validation, time)?;
 /// ```
 pub fn decode_with_set<P: CryptoProvider, T: Claims>(
     alloc: Global,
@@ -172,10 +180,10 @@ pub fn decode_with_set<P: CryptoProvider, T: Claims>(
     token: &[u8],
     set: &JwkSet,
     validation: &Validation,
-    now: u64,
+    time: u64,
 ) -> Result<TokenData<T>>
     ensures decided { let call = decoding_by_set P.CryptoProvider T.Claims
-        provider.now token.now set.now.keys.items validation.now now in
+        provider.now token.now set.now.keys.items validation.now time in
         Decides (token_tests call) set_order (Carries call) result }
 
     // The key is of the family of the header's algorithm. A token is accepted exactly at the times
@@ -184,16 +192,16 @@ pub fn decode_with_set<P: CryptoProvider, T: Claims>(
     // payload's bytes fix the token.
     ensures laws { HasLaws
         (decoding_by_set P.CryptoProvider T.Claims provider.now token.now set.now.keys.items
-        validation.now now)
+        validation.now time)
         set_order (List ℕ) Compact token.now }
 
     // A token that it accepts is accepted with more keys after those of the set, with the same
     // header and claims.
     ensures more_keys { KeepsWithMore
         (decoding_by_set P.CryptoProvider T.Claims provider.now token.now set.now.keys.items
-        validation.now now)
+        validation.now time)
         set_order set.now.keys.items }
 {
     let mut failed = Test::HasThreeParts;
-    decode_with_set_noting(alloc, provider, token, set, validation, now, &mut failed)
+    decode_with_set_noting(alloc, provider, token, set, validation, time, &mut failed)
 }

@@ -74,10 +74,10 @@ fn read_claims_by_own<P: CryptoProvider, T: Claims>(
     header: &Header,
     set: &JwkSet,
     validation: &mut Validation,
-    now: u64,
+    time: u64,
 ) -> Result<T, Refusal>
     ensures read { let call = decoding_by_set P.CryptoProvider T.Claims
-        provider.now [] set.now.keys.items validation.new now in
+        provider.now [] set.now.keys.items validation.new time in
         IsErrAnd result (λ refusal. IsMemory refusal.error)
         ⊎ ((validation.new.algorithms.items ≡ listed (named_own set.now.keys.items header.now))
         × Step call (CritIsUnderstood ∷ key_tests ++ (algorithm_tests ++ verifying_tests))
@@ -86,7 +86,7 @@ fn read_claims_by_own<P: CryptoProvider, T: Claims>(
         { algorithms = validation.new.algorithms.items } }
 {
     match list(validation, named_algorithm(set, header)) {
-        Ok(()) => read_claims_by_set(alloc, provider, parts, header, set, validation, now),
+        Ok(()) => read_claims_by_set(alloc, provider, parts, header, set, validation, time),
         Err(error) => Err(Refusal {
             test: Test::HeaderReads,
             error,
@@ -101,11 +101,11 @@ fn decode_by_own_noting<P: CryptoProvider, T: Claims>(
     token: &[u8],
     set: &JwkSet,
     validation: &mut Validation,
-    now: u64,
+    time: u64,
     failed: &mut Test,
 ) -> Result<TokenData<T>>
     ensures decided { let call = decoding_by_set P.CryptoProvider T.Claims
-        provider.now token.now set.now.keys.items validation.new now in
+        provider.now token.now set.now.keys.items validation.new time in
         IsErrAnd result IsMemory
         ⊎ ((own : Option Algorithm) × IsNamedBy set.now.keys.items token.now own
         × (validation.new.algorithms.items ≡ listed own)
@@ -119,7 +119,7 @@ fn decode_by_own_noting<P: CryptoProvider, T: Claims>(
         Err(refusal) => return Err(note(refusal, failed)),
     };
     let header = read_header_noting(alloc, parts.header, failed)?;
-    let claims = read_claims_by_own(alloc, provider, &parts, &header, set, validation, now);
+    let claims = read_claims_by_own(alloc, provider, &parts, &header, set, validation, time);
     match claims {
         Ok(claims) => Ok(TokenData { header, claims }),
         Err(refusal) => Err(note(refusal, failed)),
@@ -139,12 +139,12 @@ pub fn decode_with_set_by_own_algorithm<P: CryptoProvider, T: Claims>(
     token: &[u8],
     set: &JwkSet,
     validation: &mut Validation,
-    now: u64,
+    time: u64,
 ) -> Result<TokenData<T>, Refusal>
     // Unless memory ran out, there is the algorithm that the token's key is for, or none, and the
     // result is that of `decode_with_set_or_refusal` with just this algorithm.
     ensures decided { let call = decoding_by_set P.CryptoProvider T.Claims
-        provider.now token.now set.now.keys.items validation.new now in
+        provider.now token.now set.now.keys.items validation.new time in
         IsErrAnd result (λ refusal. IsMemory refusal.error)
         ⊎ ((own : Option Algorithm) × IsNamedBy set.now.keys.items token.now own
         × (validation.new.algorithms.items ≡ listed own)
@@ -155,6 +155,6 @@ pub fn decode_with_set_by_own_algorithm<P: CryptoProvider, T: Claims>(
         { algorithms = validation.new.algorithms.items } }
 {
     let mut failed = Test::HasThreeParts;
-    let decoded = decode_by_own_noting(alloc, provider, token, set, validation, now, &mut failed);
+    let decoded = decode_by_own_noting(alloc, provider, token, set, validation, time, &mut failed);
     with_test(failed, decoded)
 }

@@ -302,14 +302,14 @@ fn check_claims(
     alloc: Global,
     claims: &Value,
     validation: &Validation,
-    now: u64,
+    time: u64,
 ) -> Result<(), Refusal>
-    ensures { Step (holding (options_of validation.now) now) rule_tests
+    ensures { Step (holding (options_of validation.now) time) rule_tests
         (with_value (view claims.now)) ShowsNothing result }
 {
     with_test(
         failed_rule(claims),
-        validate(alloc, claims, validation, now),
+        validate(alloc, claims, validation, time),
     )
 }
 
@@ -319,14 +319,14 @@ fn read_claims<T: Claims>(
     alloc: Global,
     part: &[u8],
     validation: &Validation,
-    now: u64,
+    time: u64,
 ) -> Result<T, Refusal>
-    ensures { Step (claiming T.reads (options_of validation.now) now) claim_tests
+    ensures { Step (claiming T.reads (options_of validation.now) time) claim_tests
         (with_payload_part part.now) (ShowsClaims T.reads) result }
 {
     let bytes = read_part(alloc, Test::PayloadIsPart, part)?;
     let value = read_json(alloc, Test::PayloadIsJson, bytes.as_slice())?;
-    let held = check_claims(alloc, &value, validation, now);
+    let held = check_claims(alloc, &value, validation, time);
     let claims = claims_of_value(alloc, value)?;
     held?;
     Ok(claims)
@@ -339,14 +339,14 @@ pub(crate) fn verify_and_read_claims<V: JwtVerifier, T: Claims>(
     verifier: &V,
     parts: &TokenParts<'_>,
     validation: &Validation,
-    now: u64,
+    time: u64,
 ) -> Result<T, Refusal>
     ensures { Step
-        (verifying_by T.reads (options_of validation.now) now (V.accepts verifier.now))
+        (verifying_by T.reads (options_of validation.now) time (V.accepts verifier.now))
         verifying_tests (with_parts (parts_in parts.now)) (ShowsClaims T.reads) result }
 {
     check_signature(alloc, verifier, parts)?;
-    read_claims(alloc, parts.payload, validation, now)
+    read_claims(alloc, parts.payload, validation, time)
 }
 
 /// Returns the claims that a payload part stands for, to which no rule applies.
@@ -368,16 +368,16 @@ pub(crate) fn verify_by_key<P: CryptoProvider, T: Claims>(
     header: &Header,
     key: &DecodingKey,
     validation: &Validation,
-    now: u64,
+    time: u64,
 ) -> Result<T, Refusal>
     ensures { let call = decoding P.CryptoProvider T.Claims
-        provider.now [] key.now validation.now now in
+        provider.now [] key.now validation.now time in
         Step call (algorithm_tests ++ verifying_tests) (with_opening
         (parts_in parts.now) header.now)
         (ShowsClaims T.reads) result }
 {
     let verifier = verifier_for(alloc, provider, header, key, validation)?;
-    let claims = verify_and_read_claims(alloc, &verifier, parts, validation, now)?;
+    let claims = verify_and_read_claims(alloc, &verifier, parts, validation, time)?;
     Ok(claims)
 }
 
@@ -390,13 +390,13 @@ pub(crate) fn read_claims_by_key<P: CryptoProvider, T: Claims>(
     header: &Header,
     key: &DecodingKey,
     validation: &Validation,
-    now: u64,
+    time: u64,
 ) -> Result<T, Refusal>
     ensures { let call = decoding P.CryptoProvider T.Claims
-        provider.now [] key.now validation.now now in
+        provider.now [] key.now validation.now time in
         Step call (CritIsUnderstood ∷ (algorithm_tests ++ verifying_tests))
         (with_opening (parts_in parts.now) header.now) (ShowsClaims T.reads) result }
 {
     check_crit(header, validation)?;
-    verify_by_key(alloc, provider, parts, header, key, validation, now)
+    verify_by_key(alloc, provider, parts, header, key, validation, time)
 }

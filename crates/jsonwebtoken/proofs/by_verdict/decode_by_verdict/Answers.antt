@@ -9,9 +9,9 @@ returns g c =
       accepted = IfOk-weaker c.decode.result _ _
           (λ r a. (
             a.0,
-            vouched g.T.Claims c.args.verdict.now c.args.token.now c.args.validation.now c.args.now a.0 a.1,
+            vouched g.T.Claims c.args.verdict.now c.args.token.now c.args.validation.now c.args.time a.0 a.1,
             a.2,
           )) said.accepted;
-      exact = λ t w. said.exact t (passed g.T.Claims c.args.verdict.now c.args.token.now c.args.validation.now c.args.now t w);
+      exact = λ t w. said.exact t (passed g.T.Claims c.args.verdict.now c.args.token.now c.args.validation.now c.args.time t w);
       refused = said.refused;
     }

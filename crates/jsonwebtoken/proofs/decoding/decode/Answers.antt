@@ -11,7 +11,7 @@ use Rattle.jsonwebtoken.proofs.decoding.decode.Goals as goal
 pub returns-clause-decided : goal.returns-clause-decided
 returns-clause-decided g c =
     let call = decoding g.P.CryptoProvider g.T.Claims c.args.provider.now c.args.token.now c.args.key.now
-    c.args.validation.now c.args.now in
+    c.args.validation.now c.args.time in
     unnoted (token_tests call) decode_order (Carries call) _ c.decode_noting.result
     (decides call decode_order refl (Carries call) _ c.decode_noting.ensures
     (same_answer call decode_order refl refl (λ r. r.header) (λ r v. g.T.Claims.reads v r.claims)))
@@ -19,7 +19,7 @@ returns-clause-decided g c =
 pub returns-clause-family : goal.returns-clause-family
 returns-clause-family g c =
     let call = decoding g.P.CryptoProvider g.T.Claims c.args.provider.now c.args.token.now c.args.key.now
-    c.args.validation.now c.args.now in
+    c.args.validation.now c.args.time in
     let decided = unnoted (token_tests call) decode_order (Carries call) _ c.decode_noting.result
     (decides call decode_order refl (Carries call) _ c.decode_noting.ensures
     (same_answer call decode_order refl refl (λ r. r.header) (λ r v. g.T.Claims.reads v r.claims))) in
@@ -31,7 +31,7 @@ returns-clause-family g c =
 pub returns-clause-laws : goal.returns-clause-laws
 returns-clause-laws g c =
     let call = decoding g.P.CryptoProvider g.T.Claims c.args.provider.now c.args.token.now c.args.key.now
-    c.args.validation.now c.args.now in
+    c.args.validation.now c.args.time in
     record {
       family = key_fits call decode_order refl (g.met.P.CryptoProvider.same_family c.args.provider.now);
       moments = moments call decode_order refl refl refl (λ t m. (λ p. p, λ p. p));

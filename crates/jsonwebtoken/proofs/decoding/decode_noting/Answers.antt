@@ -11,7 +11,7 @@ returns-in-Err g c = rw (c.note.ensures.test, c.note.ensures.error) (or_memory (
 pub returns-in_err-header : goal.returns-in_err-header
 returns-in_err-header g c =
     let call = decoding g.P.CryptoProvider g.T.Claims c.args.provider.now c.args.token.now c.args.key.now
-    c.args.validation.now c.args.now in
+    c.args.validation.now c.args.time in
     exit_noting call decode_order whole (Carries call) _ _ _ c.from_residual.ensures.1
     (λ f. stop call decode_order (HasThreeParts ∷ []) header_tests (record f.0 { parts = parts_in c.in-Ok.parts }) _ _
     (c.in-Ok.ensures, tt) f.1) c.in_err-header.ensures
@@ -19,14 +19,14 @@ returns-in_err-header g c =
 pub returns-in-Ok-claims : goal.returns-in-Ok-claims
 returns-in-Ok-claims g c =
     let call = decoding g.P.CryptoProvider g.T.Claims c.args.provider.now c.args.token.now c.args.key.now
-    c.args.validation.now c.args.now in
+    c.args.validation.now c.args.time in
     beside_claims call (parts_in c.in-Ok.parts) c.in_ok-header.header c.in_ok-header.ensures c.in-Ok.ensures
     decode_order c.in-Ok-claims.claims c.in-Ok-claims.ensures
 
 pub returns-in-Err-claims : goal.returns-in-Err-claims
 returns-in-Err-claims g c =
     let call = decoding g.P.CryptoProvider g.T.Claims c.args.provider.now c.args.token.now c.args.key.now
-    c.args.validation.now c.args.now in
+    c.args.validation.now c.args.time in
     rw (c.note-in-Err-claims.ensures.test, c.note-in-Err-claims.ensures.error)
     (no_claims call (parts_in c.in-Ok.parts) c.in_ok-header.header c.in_ok-header.ensures c.in-Ok.ensures decode_order
     c.in-Err-claims.refusal c.in-Err-claims.ensures)

@@ -12,7 +12,7 @@ use Rattle.jsonwebtoken.proofs.jws.decode.Goals as goal
 pub returns-clause-decided : goal.returns-clause-decided
 returns-clause-decided g c =
     let call = decoding_parts g.P.CryptoProvider g.T.Claims c.args.provider.now (parts_of c.args.token.now)
-    c.args.key.now c.args.validation.now c.args.now in
+    c.args.key.now c.args.validation.now c.args.time in
     without (token_tests call) jws_order (Carries call) c.decode_by_steps.result _ c.without_test.ensures
     (decides call jws_order refl (Carries call) c.decode_by_steps.result c.decode_by_steps.ensures
     (same_answer call jws_order refl refl (λ r. r.header) (λ r v. g.T.Claims.reads v r.claims)))
@@ -20,7 +20,7 @@ returns-clause-decided g c =
 pub returns-clause-family : goal.returns-clause-family
 returns-clause-family g c =
     let call = decoding_parts g.P.CryptoProvider g.T.Claims c.args.provider.now (parts_of c.args.token.now)
-    c.args.key.now c.args.validation.now c.args.now in
+    c.args.key.now c.args.validation.now c.args.time in
     let decided =
     without (token_tests call) jws_order (Carries call) c.decode_by_steps.result _ c.without_test.ensures
     (decides call jws_order refl (Carries call) c.decode_by_steps.result c.decode_by_steps.ensures
@@ -33,7 +33,7 @@ returns-clause-family g c =
 pub returns-clause-laws : goal.returns-clause-laws
 returns-clause-laws g c =
     let call = decoding_parts g.P.CryptoProvider g.T.Claims c.args.provider.now (parts_of c.args.token.now)
-    c.args.key.now c.args.validation.now c.args.now in
+    c.args.key.now c.args.validation.now c.args.time in
     record {
       family = key_fits call jws_order refl (g.met.P.CryptoProvider.same_family c.args.provider.now);
       moments = moments call jws_order refl refl refl (λ t m. (λ p. p, λ p. p));
@@ -44,5 +44,5 @@ returns-clause-laws g c =
 pub returns-clause-agrees : goal.returns-clause-agrees
 returns-clause-agrees g c =
     let call = decoding_parts g.P.CryptoProvider g.T.Claims c.args.provider.now (parts_of c.args.token.now)
-    c.args.key.now c.args.validation.now c.args.now in
+    c.args.key.now c.args.validation.now c.args.time in
     λ p. agree call p

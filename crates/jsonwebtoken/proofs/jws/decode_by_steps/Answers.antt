@@ -10,7 +10,7 @@ use Rattle.jsonwebtoken.proofs.jws.decode_by_steps.Goals as goal
 pub returns-in_err-message : goal.returns-in_err-message
 returns-in_err-message g c =
     let call = decoding_parts g.P.CryptoProvider g.T.Claims c.args.provider.now (parts_of c.args.token.now)
-    c.args.key.now c.args.validation.now c.args.now in
+    c.args.key.now c.args.validation.now c.args.time in
     exit call jws_order whole (Carries call) {A = ⊥} _ _ c.from_residual.ensures.1 (λ none. absurd none)
     (inl (memory_of _ c.signed_message.result _ c.in_err-message.ensures c.signed_message.ensures.err))
 

@@ -8,7 +8,7 @@ use Rattle.jsonwebtoken.proofs.jws.decode_parts.Goals as goal
 pub returns-in_err-header : goal.returns-in_err-header
 returns-in_err-header g c =
     let call = decoding_parts g.P.CryptoProvider g.T.Claims c.args.provider.now (parts_in c.args.parts.now)
-    c.args.key.now c.args.validation.now c.args.now in
+    c.args.key.now c.args.validation.now c.args.time in
     exit call jws_order whole (Carries call) _ _ c.from_residual.ensures.1
     (λ f. stop call jws_order (HasThreeParts ∷ []) header_tests (record f.0 { parts = parts_in c.args.parts.now }) _ _
     (refl, tt) f.1) c.in_err-header.ensures
@@ -16,13 +16,13 @@ returns-in_err-header g c =
 pub returns-in-Ok : goal.returns-in-Ok
 returns-in-Ok g c =
     let call = decoding_parts g.P.CryptoProvider g.T.Claims c.args.provider.now (parts_in c.args.parts.now)
-    c.args.key.now c.args.validation.now c.args.now in
+    c.args.key.now c.args.validation.now c.args.time in
     beside_claims call (parts_in c.args.parts.now) c.in_ok-header.header c.in_ok-header.ensures refl jws_order
     c.in-Ok.claims (rw c.in-Ok.is at c.read_claims_by_key-claims.ensures)
 
 pub returns-in-Err : goal.returns-in-Err
 returns-in-Err g c =
     let call = decoding_parts g.P.CryptoProvider g.T.Claims c.args.provider.now (parts_in c.args.parts.now)
-    c.args.key.now c.args.validation.now c.args.now in
+    c.args.key.now c.args.validation.now c.args.time in
     no_claims call (parts_in c.args.parts.now) c.in_ok-header.header c.in_ok-header.ensures refl jws_order
     c.in-Err.refusal (rw c.in-Err.is at c.read_claims_by_key-claims.ensures)

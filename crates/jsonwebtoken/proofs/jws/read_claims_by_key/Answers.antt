@@ -9,7 +9,7 @@ use Rattle.jsonwebtoken.proofs.jws.read_claims_by_key.Goals as goal
 pub returns-in_err-check_crit : goal.returns-in_err-check_crit
 returns-in_err-check_crit g c =
     let call = decoding_parts g.P.CryptoProvider g.T.Claims c.args.provider.now (parts_in c.args.parts.now)
-    c.args.key.now c.args.validation.now c.args.now in
+    c.args.key.now c.args.validation.now c.args.time in
     exit call (CritIsUnderstood ∷ (jws_algorithm_tests ++ verifying_tests))
     (with_opening (parts_in c.args.parts.now) c.args.header.now) (ShowsClaims g.T.Claims.reads) _ _
     c.from_residual.ensures.1
@@ -18,7 +18,7 @@ returns-in_err-check_crit g c =
 pub returns-in_err-verifier : goal.returns-in_err-verifier
 returns-in_err-verifier g c =
     let call = decoding_parts g.P.CryptoProvider g.T.Claims c.args.provider.now (parts_in c.args.parts.now)
-    c.args.key.now c.args.validation.now c.args.now in
+    c.args.key.now c.args.validation.now c.args.time in
     let at = with_opening (parts_in c.args.parts.now) c.args.header.now in
     exit call (CritIsUnderstood ∷ (jws_algorithm_tests ++ verifying_tests)) at (ShowsClaims g.T.Claims.reads) _ _
     c.from_residual-in_err-verifier.ensures.1
@@ -34,7 +34,7 @@ returns-in_err-verifier g c =
 pub returns-in_err-claims : goal.returns-in_err-claims
 returns-in_err-claims g c =
     let call = decoding_parts g.P.CryptoProvider g.T.Claims c.args.provider.now (parts_in c.args.parts.now)
-    c.args.key.now c.args.validation.now c.args.now in
+    c.args.key.now c.args.validation.now c.args.time in
     let at = with_opening (parts_in c.args.parts.now) c.args.header.now in
     exit call (CritIsUnderstood ∷ (jws_algorithm_tests ++ verifying_tests)) at (ShowsClaims g.T.Claims.reads) _ _
     c.from_residual-in_err-claims.ensures.1
@@ -52,7 +52,7 @@ returns-in_err-claims g c =
 pub returns : goal.returns
 returns g c =
     let call = decoding_parts g.P.CryptoProvider g.T.Claims c.args.provider.now (parts_in c.args.parts.now)
-    c.args.key.now c.args.validation.now c.args.now in
+    c.args.key.now c.args.validation.now c.args.time in
     let f = c.in_ok-claims.ensures in
     let s = with_opening (parts_in c.args.parts.now) c.args.header.now f.0 in (
       f.0,

@@ -21,7 +21,7 @@ returns-in_err-validation-clause-err c =
 
 pub returns-clause-ok : goal.returns-clause-ok
 returns-clause-ok c =
-    let call = hmac_call c.args.token.now c.args.secret.now c.args.now in
+    let call = hmac_call c.args.token.now c.args.secret.now c.args.time in
     let said = rw c.in_ok-key.ensures.ok at c.decode-answer.ensures.decided.accepted in
     handed_ok (λ d. d.claims) (λ b. b.items) (ReadsText ReadsOptions c.args.options.now)
     (MisreadsOne input.Options (ReadsText ReadsOptions c.args.options.now))
@@ -34,7 +34,7 @@ returns-clause-ok c =
 
 pub returns-clause-err : goal.returns-clause-err
 returns-clause-err c =
-    let call = hmac_call c.args.token.now c.args.secret.now c.args.now in
+    let call = hmac_call c.args.token.now c.args.secret.now c.args.time in
     let said = rw c.in_ok-key.ensures.ok at c.decode-answer.ensures.decided.refused in
     handed_err (λ d. d.claims) (λ b. b.items) (ReadsText ReadsOptions c.args.options.now)
     (MisreadsOne input.Options (ReadsText ReadsOptions c.args.options.now))

@@ -38,9 +38,9 @@ returns-clause-ok c =
     c.from_slice-2.ensures.ok in
     handed_ok (λ d. d.claims) (λ b. b.items) (λ (e : Options × Jwk). ReadsText ReadsOptions c.args.options.now e.0
     × ReadsText ReadsKey c.args.key.now e.1) (MisreadsTwo input.Options (ReadsText ReadsOptions c.args.options.now)
-    input.Key (ReadsText ReadsKey c.args.key.now)) (λ e. PassesByJwk token c.args.now e.0 e.1)
-    (λ e. FailsByJwk token c.args.now e.0 e.1)
-    (λ e t p. shallow t (met (key_call token p.0 c.args.now e.0) decode_order t p.2 PayloadIsJson refl))
+    input.Key (ReadsText ReadsKey c.args.key.now)) (λ e. PassesByJwk token c.args.time e.0 e.1)
+    (λ e. FailsByJwk token c.args.time e.0 e.1)
+    (λ e t p. shallow t (met (key_call token p.0 c.args.time e.0) decode_order t p.2 PayloadIsJson refl))
     (λ d t. t.header ≡ d.header) (options_of c.in_ok-validation.validation, c.in_ok-jwk.jwk) (options, jwk)
     c.by_jwk-answer.result c.hand_out.result c.hand_out.ensures c.by_jwk-answer.ensures.ok
 
@@ -53,8 +53,8 @@ returns-clause-err c =
     c.from_slice-2.ensures.ok in
     handed_err (λ d. d.claims) (λ b. b.items) (λ (e : Options × Jwk). ReadsText ReadsOptions c.args.options.now e.0
     × ReadsText ReadsKey c.args.key.now e.1) (MisreadsTwo input.Options (ReadsText ReadsOptions c.args.options.now)
-    input.Key (ReadsText ReadsKey c.args.key.now)) (λ e. PassesByJwk token c.args.now e.0 e.1)
-    (λ e. FailsByJwk token c.args.now e.0 e.1)
-    (λ e t p. shallow t (met (key_call token p.0 c.args.now e.0) decode_order t p.2 PayloadIsJson refl))
+    input.Key (ReadsText ReadsKey c.args.key.now)) (λ e. PassesByJwk token c.args.time e.0 e.1)
+    (λ e. FailsByJwk token c.args.time e.0 e.1)
+    (λ e t p. shallow t (met (key_call token p.0 c.args.time e.0) decode_order t p.2 PayloadIsJson refl))
     (λ d t. t.header ≡ d.header) (options_of c.in_ok-validation.validation, c.in_ok-jwk.jwk) (options, jwk)
     c.by_jwk-answer.result c.hand_out.result c.hand_out.ensures c.by_jwk-answer.ensures.err

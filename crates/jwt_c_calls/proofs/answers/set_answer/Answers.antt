@@ -33,7 +33,7 @@ returns-in_err-keys-clause-err c =
 
 pub returns-clause-ok : goal.returns-clause-ok
 returns-clause-ok c =
-    let call : Options × List Jwk → Call Value = λ e. set_call c.args.token.now e.1 c.args.now e.0 in
+    let call : Options × List Jwk → Call Value = λ e. set_call c.args.token.now e.1 c.args.time e.0 in
     let options = read_ok (λ v. ReadsText ReadsOptions c.args.options.now (options_of v)) input.Options
     c.from_slice.result _ c.in_ok-validation.ensures c.from_slice.ensures.ok in
     let keys = read_ok (λ s. ReadsText ReadsSet c.args.set.now s.keys.items) input.Set c.from_slice-2.result _
@@ -48,7 +48,7 @@ returns-clause-ok c =
 
 pub returns-clause-err : goal.returns-clause-err
 returns-clause-err c =
-    let call : Options × List Jwk → Call Value = λ e. set_call c.args.token.now e.1 c.args.now e.0 in
+    let call : Options × List Jwk → Call Value = λ e. set_call c.args.token.now e.1 c.args.time e.0 in
     let options = read_ok (λ v. ReadsText ReadsOptions c.args.options.now (options_of v)) input.Options
     c.from_slice.result _ c.in_ok-validation.ensures c.from_slice.ensures.ok in
     let keys = read_ok (λ s. ReadsText ReadsSet c.args.set.now s.keys.items) input.Set c.from_slice-2.result _

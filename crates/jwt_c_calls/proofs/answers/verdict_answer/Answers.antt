@@ -23,7 +23,7 @@ returns-in_err-validation-clause-err c =
 pub returns-clause-ok : goal.returns-clause-ok
 returns-clause-ok c =
     let v = c.args.verdict.now in
-    let call = verdict_call c.args.token.now v c.args.now in
+    let call = verdict_call c.args.token.now v c.args.time in
     handed_ok (λ d. d.claims) (λ b. b.items) (ReadsText ReadsOptions c.args.options.now)
     (MisreadsOne input.Options (ReadsText ReadsOptions c.args.options.now)) (λ o. IsVouched (call o) v)
     (λ o. FailsFirst (token_tests (call o)) decode_order)
@@ -36,7 +36,7 @@ returns-clause-ok c =
 pub returns-clause-err : goal.returns-clause-err
 returns-clause-err c =
     let v = c.args.verdict.now in
-    let call = verdict_call c.args.token.now v c.args.now in
+    let call = verdict_call c.args.token.now v c.args.time in
     handed_err (λ d. d.claims) (λ b. b.items) (ReadsText ReadsOptions c.args.options.now)
     (MisreadsOne input.Options (ReadsText ReadsOptions c.args.options.now)) (λ o. IsVouched (call o) v)
     (λ o. FailsFirst (token_tests (call o)) decode_order)

@@ -6,14 +6,14 @@ use Rattle.jwt_c_verifier.proofs.verifiers.answer_until.Goals as goal
 
 pub returns-in-Ok-clause-ok : goal.returns-in-Ok-clause-ok
 returns-in-Ok-clause-ok c =
-    let fits : c.args.now ≤ end_of_time = omega arith in
+    let fits : c.args.time ≤ end_of_time = omega arith in
     let v = c.args.verifier.now in let decoded = c.in-Ok.decoded in
-    handed_until v.keys v.validation c.args.token.now c.args.now fits decoded.header decoded.claims v.limits.max_len
+    handed_until v.keys v.validation c.args.token.now c.args.time fits decoded.header decoded.claims v.limits.max_len
     c.in-Ok.ensures.0 c.in-Ok.ensures.1.accepted
     c.hand_out.result c.hand_out.ensures.text c.hand_out.ensures.last
 
 pub returns-in-Ok-clause-err : goal.returns-in-Ok-clause-err
-returns-in-Ok-clause-err c = out_of_memory c.args.verifier.now c.args.token.now c.args.now c.in-Ok.ensures.0
+returns-in-Ok-clause-err c = out_of_memory c.args.verifier.now c.args.token.now c.args.time c.in-Ok.ensures.0
     c.hand_out.result c.hand_out.ensures.err
 
 pub returns-in-Err-Failed-clause-err : goal.returns-in-Err-Failed-clause-err
@@ -21,7 +21,7 @@ returns-in-Err-Failed-clause-err c =
     let v = c.args.verifier.now in let decided = rw c.in-Err-Failed.field-0-is at c.in-Err-Failed.ensures in
     inr (
       decided.0,
-      denied_with v.keys v.validation c.args.token.now c.args.now c.in-Err-Failed.refusal
+      denied_with v.keys v.validation c.args.token.now c.args.time c.in-Err-Failed.refusal
           c.reason_of.result.status c.reason_of.result.test decided.1.refused
           (rw c.in-Err-Failed.field-0-is at c.reason_of.ensures.status)
           (rw c.in-Err-Failed.field-0-is at c.reason_of.ensures.test),

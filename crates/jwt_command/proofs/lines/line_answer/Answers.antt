@@ -11,8 +11,8 @@ returns g c =
       (
         c.args.line.now,
         (
-          c.in_ok-now.now,
-          c.in_ok-now.ensures,
+          c.in_ok-time.time,
+          c.in_ok-time.ensures,
           (string_bytes c.in_ok-answer.answer.output, (token.result.now, token.ensures, (settled, says.0, says.1))),
         ),
       ),

@@ -11,10 +11,10 @@ returns g c =
       c.in_ok-bytes.bytes.items,
       c.in_ok-bytes.ensures,
       (
-        c.in_ok-now.now,
-        c.in_ok-now.ensures,
+        c.in_ok-time.time,
+        c.in_ok-time.ensures,
         subst (λ b. IsTokenVerdict c.args.request.now c.args.loaded.now (options_of c.args.validation.now) b
-            c.in_ok-now.now a.status) c.deref.ensures.value says,
+            c.in_ok-time.time a.status) c.deref.ensures.value says,
       ),
     ))
     c.token_explanation.ensures

@@ -11,12 +11,12 @@ returns g c =
       c.in_ok-bytes.bytes.items,
       c.in_ok-bytes.ensures,
       (
-        c.in_ok-now.now,
-        c.in_ok-now.ensures,
+        c.in_ok-time.time,
+        c.in_ok-time.ensures,
         subst (λ f. IsTokenAnswer c.args.request.now c.args.loaded.now (options_of c.args.validation.now)
-            c.in_ok-bytes.bytes.items c.in_ok-now.now f a.status (string_bytes a.output)) c.form-form.ensures
+            c.in_ok-bytes.bytes.items c.in_ok-time.time f a.status (string_bytes a.output)) c.form-form.ensures
             (subst (λ b. IsTokenAnswer c.args.request.now c.args.loaded.now (options_of c.args.validation.now) b
-            c.in_ok-now.now c.form-form.result a.status (string_bytes a.output)) c.deref.ensures.value says),
+            c.in_ok-time.time c.form-form.result a.status (string_bytes a.output)) c.deref.ensures.value says),
       ),
     ))
     c.token_answer.ensures

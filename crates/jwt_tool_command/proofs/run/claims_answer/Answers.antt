@@ -13,5 +13,5 @@ returns-in-Ok c =
 pub returns-in-Err : goal.returns-in-Err
 returns-in-Err c =
     IfOk-weaker c.refusal_answer.result _ _ (λ a said. refused_said
-    (λ k. FailsFirst (token_tests (hmac_call c.args.input.now c.args.algorithm c.args.secret.now c.args.now))
+    (λ k. FailsFirst (token_tests (hmac_call c.args.input.now c.args.algorithm c.args.secret.now c.args.time))
     decode_order k) _ _ _ c.in-Err.ensures.err said) c.refusal_answer.ensures

@@ -11,5 +11,5 @@ returns-in-Ok c =
 pub returns-in-Err : goal.returns-in-Err
 returns-in-Err c =
     IfOk-weaker c.refusal_answer.result _ _ (λ a said. refused_said
-    (HasSetFault c.args.input.now c.args.algorithm c.args.set.now c.args.now) _ _ _ c.in-Err.ensures.err said)
+    (HasSetFault c.args.input.now c.args.algorithm c.args.set.now c.args.time) _ _ _ c.in-Err.ensures.err said)
     c.refusal_answer.ensures

@@ -12,11 +12,11 @@ returns-in_err-keys-clause-err c =
 pub returns-in_err-data-clause-err : goal.returns-in_err-data-clause-err
 returns-in_err-data-clause-err c =
     let p = err_from_is_err_and c.from_residual-in_err-data.result c.from_residual-in_err-data.ensures.1 in
-    rw (p.1, p.2) (or_memory (set_claims_failed _ c.args.algorithm _ c.args.now _ _ _
+    rw (p.1, p.2) (or_memory (set_claims_failed _ c.args.algorithm _ c.args.time _ _ _
     (rw c.as_bytes.ensures.value at c.in_ok-keys.ensures.ok) c.in_ok-rules.ensures.ok)
     c.in_err-data.ensures.decided.refused)
 
 pub returns-clause-ok : goal.returns-clause-ok
 returns-clause-ok c =
-    set_claims_passed _ c.args.algorithm _ c.args.now _ _ _ _ (rw c.as_bytes.ensures.value at c.in_ok-keys.ensures.ok)
+    set_claims_passed _ c.args.algorithm _ c.args.time _ _ _ _ (rw c.as_bytes.ensures.value at c.in_ok-keys.ensures.ok)
     c.in_ok-rules.ensures.ok c.in_ok-data.ensures.decided.accepted

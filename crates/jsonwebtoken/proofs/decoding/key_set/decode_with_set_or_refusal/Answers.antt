@@ -8,7 +8,7 @@ use Rattle.jsonwebtoken.proofs.decoding.key_set.decode_with_set_or_refusal.Goals
 pub returns : goal.returns
 returns g c =
     let call = decoding_by_set g.P.CryptoProvider g.T.Claims c.args.provider.now c.args.token.now
-    c.args.set.now.keys.items c.args.validation.now c.args.now in
+    c.args.set.now.keys.items c.args.validation.now c.args.time in
     decides call set_order refl (Carries call) c.with_test.result
     (rw (noted _ c.decode_with_set_noting-decoded.result _ c.with_test.ensures) at
     c.decode_with_set_noting-decoded.ensures) (same_answer call set_order refl refl (λ r. r.header)

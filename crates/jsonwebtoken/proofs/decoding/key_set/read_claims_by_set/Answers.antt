@@ -10,7 +10,7 @@ use Rattle.jsonwebtoken.proofs.decoding.key_set.read_claims_by_set.Goals as goal
 pub returns-in_err-check_crit : goal.returns-in_err-check_crit
 returns-in_err-check_crit g c =
     let call = decoding_by_set g.P.CryptoProvider g.T.Claims c.args.provider.now [] c.args.set.now.keys.items
-    c.args.validation.now c.args.now in
+    c.args.validation.now c.args.time in
     exit call (CritIsUnderstood ∷ key_tests ++ (algorithm_tests ++ verifying_tests))
     (with_opening (parts_in c.args.parts.now) c.args.header.now) (ShowsClaims g.T.Claims.reads) _ _
     c.from_residual.ensures.1
@@ -19,7 +19,7 @@ returns-in_err-check_crit g c =
 pub returns-in_err-key : goal.returns-in_err-key
 returns-in_err-key g c =
     let call = decoding_by_set g.P.CryptoProvider g.T.Claims c.args.provider.now [] c.args.set.now.keys.items
-    c.args.validation.now c.args.now in
+    c.args.validation.now c.args.time in
     let at = with_opening (parts_in c.args.parts.now) c.args.header.now in
     exit call (CritIsUnderstood ∷ key_tests ++ (algorithm_tests ++ verifying_tests)) at (ShowsClaims g.T.Claims.reads) _
     _ c.from_residual-in_err-key.ensures.1
@@ -35,7 +35,7 @@ returns-in_err-key g c =
 pub returns-in_err-claims : goal.returns-in_err-claims
 returns-in_err-claims g c =
     let call = decoding_by_set g.P.CryptoProvider g.T.Claims c.args.provider.now [] c.args.set.now.keys.items
-    c.args.validation.now c.args.now in
+    c.args.validation.now c.args.time in
     let at = with_opening (parts_in c.args.parts.now) c.args.header.now in
     let n = record c.in_ok-key.ensures.0 { jwk_key = c.in_ok-key.key } in
     exit call (CritIsUnderstood ∷ key_tests ++ (algorithm_tests ++ verifying_tests)) at (ShowsClaims g.T.Claims.reads) _
@@ -54,7 +54,7 @@ returns-in_err-claims g c =
 pub returns : goal.returns
 returns g c =
     let call = decoding_by_set g.P.CryptoProvider g.T.Claims c.args.provider.now [] c.args.set.now.keys.items
-    c.args.validation.now c.args.now in
+    c.args.validation.now c.args.time in
     let n = record c.in_ok-key.ensures.0 { jwk_key = c.in_ok-key.key } in
     let f = c.in_ok-claims.ensures in
     let x = record f.0 { jwk = n.jwk; jwk_key = n.jwk_key } in

@@ -21,7 +21,7 @@ returns-in-Err-clause-decided g c =
 pub returns-in_err-header-clause-decided : goal.returns-in_err-header-clause-decided
 returns-in_err-header-clause-decided g c =
     let call = decoding_by_set g.P.CryptoProvider g.T.Claims c.args.provider.now c.args.token.now
-    c.args.set.now.keys.items (record c.args.validation.now { algorithms = c.clear.new.self }) c.args.now in
+    c.args.set.now.keys.items (record c.args.validation.now { algorithms = c.clear.new.self }) c.args.time in
     let parts = parts_in c.in-Ok.parts in
     let p = err_from_is_err_and c.from_residual.result c.from_residual.ensures.1 in
     rw (p.1, p.2)
@@ -37,7 +37,7 @@ returns-in_err-header-clause-decided g c =
 pub returns-in-Ok-claims-clause-decided : goal.returns-in-Ok-claims-clause-decided
 returns-in-Ok-claims-clause-decided g c =
     let call = decoding_by_set g.P.CryptoProvider g.T.Claims c.args.provider.now c.args.token.now
-    c.args.set.now.keys.items c.read_claims_by_own-claims.new.validation c.args.now in
+    c.args.set.now.keys.items c.read_claims_by_own-claims.new.validation c.args.time in
     let parts = parts_in c.in-Ok.parts in
     let h = c.in_ok-header.header in
     let token = header_call c.args.token.now in
@@ -56,7 +56,7 @@ returns-in-Ok-claims-clause-decided g c =
 pub returns-in-Err-claims-clause-decided : goal.returns-in-Err-claims-clause-decided
 returns-in-Err-claims-clause-decided g c =
     let call = decoding_by_set g.P.CryptoProvider g.T.Claims c.args.provider.now c.args.token.now
-    c.args.set.now.keys.items c.read_claims_by_own-claims.new.validation c.args.now in
+    c.args.set.now.keys.items c.read_claims_by_own-claims.new.validation c.args.time in
     let parts = parts_in c.in-Ok.parts in
     let h = c.in_ok-header.header in
     let token = header_call c.args.token.now in

@@ -9,7 +9,7 @@ use Rattle.jsonwebtoken.proofs.decoding.own.decode_with_set_by_own_algorithm.Goa
 pub returns-clause-decided : goal.returns-clause-decided
 returns-clause-decided g c =
     let call = decoding_by_set g.P.CryptoProvider g.T.Claims c.args.provider.now c.args.token.now
-    c.args.set.now.keys.items c.decode_by_own_noting-decoded.new.validation c.args.now in
+    c.args.set.now.keys.items c.decode_by_own_noting-decoded.new.validation c.args.time in
     ⊎_elim (λ m. inl (memory_noted _ c.decode_by_own_noting-decoded.result _ c.with_test.ensures m))
     (λ f. inr (
       f.0,

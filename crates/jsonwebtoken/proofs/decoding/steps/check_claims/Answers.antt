@@ -9,10 +9,10 @@ pub returns : goal.returns
 returns c =
     let o = options_of c.args.validation.now in
     let d = view c.args.claims.now in
-    last_test (holding o c.args.now) rule_tests (with_value d) ShowsNothing c.failed_rule.result c.validate.result _
+    last_test (holding o c.args.time) rule_tests (with_value d) ShowsNothing c.failed_rule.result c.validate.result _
     c.with_test.ensures
     (if_ok c.validate.result c.validate.ensures.ok.0)
-    (IfErr-weaker c.validate.result _ _ (λ e f. rules_failed o d c.args.now c.failed_rule.result e c.failed_rule.ensures
+    (IfErr-weaker c.validate.result _ _ (λ e f. rules_failed o d c.args.time c.failed_rule.result e c.failed_rule.ensures
     f) c.validate.ensures.err)
     (λ y held. (no_contents, (held.0, (held.1, tt)), tt))
     (λ e f. (no_contents, f))

@@ -7,7 +7,7 @@ use Rattle.jsonwebtoken.proofs.decoding.steps.read_claims_by_key.Goals as goal
 
 pub returns-in_err-check_crit : goal.returns-in_err-check_crit
 returns-in_err-check_crit g c =
-    let call = decoding g.P.CryptoProvider g.T.Claims c.args.provider.now [] c.args.key.now c.args.validation.now c.args.now in
+    let call = decoding g.P.CryptoProvider g.T.Claims c.args.provider.now [] c.args.key.now c.args.validation.now c.args.time in
     exit call (CritIsUnderstood ∷ (algorithm_tests ++ verifying_tests))
     (with_opening (parts_in c.args.parts.now) c.args.header.now) (ShowsClaims g.T.Claims.reads) _ _
     c.from_residual.ensures.1
@@ -15,7 +15,7 @@ returns-in_err-check_crit g c =
 
 pub returns : goal.returns
 returns g c =
-    let call = decoding g.P.CryptoProvider g.T.Claims c.args.provider.now [] c.args.key.now c.args.validation.now c.args.now in
+    let call = decoding g.P.CryptoProvider g.T.Claims c.args.provider.now [] c.args.key.now c.args.validation.now c.args.time in
     let at = with_opening (parts_in c.args.parts.now) c.args.header.now in
     last call (CritIsUnderstood ∷ (algorithm_tests ++ verifying_tests))
     (with_opening (parts_in c.args.parts.now) c.args.header.now) (ShowsClaims g.T.Claims.reads)

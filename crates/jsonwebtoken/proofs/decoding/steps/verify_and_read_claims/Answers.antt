@@ -8,7 +8,7 @@ use Rattle.jsonwebtoken.proofs.decoding.steps.verify_and_read_claims.Goals as go
 
 pub returns-in_err-check_signature : goal.returns-in_err-check_signature
 returns-in_err-check_signature g c =
-    let call = verifying_by g.T.Claims.reads (options_of c.args.validation.now) c.args.now
+    let call = verifying_by g.T.Claims.reads (options_of c.args.validation.now) c.args.time
     (g.V.JwtVerifier.accepts c.args.verifier.now) in
     let at = with_parts (parts_in c.args.parts.now) in
     exit call verifying_tests at (ShowsClaims g.T.Claims.reads) _ _ c.from_residual.ensures.1
@@ -16,13 +16,13 @@ returns-in_err-check_signature g c =
 
 pub returns : goal.returns
 returns g c =
-    let call = verifying_by g.T.Claims.reads (options_of c.args.validation.now) c.args.now
+    let call = verifying_by g.T.Claims.reads (options_of c.args.validation.now) c.args.time
     (g.V.JwtVerifier.accepts c.args.verifier.now) in
     let at = with_parts (parts_in c.args.parts.now) in
     let s = c.in_ok-check_signature.ensures in
     last call verifying_tests at (ShowsClaims g.T.Claims.reads) c.read_claims.result c.read_claims.ensures
     (λ y f. let x = record f.0 { signature_bytes = s.0.signature_bytes } in
     (x, join call signature_tests claim_tests (at x) s.1 f.1, f.2))
-    (λ d k (f : (x : Contents) × Failed (claiming g.T.Claims.reads (options_of c.args.validation.now) c.args.now)
+    (λ d k (f : (x : Contents) × Failed (claiming g.T.Claims.reads (options_of c.args.validation.now) c.args.time)
     claim_tests (with_payload_part c.args.parts.now.payload.now x) d k). let x =
     record f.0 { signature_bytes = s.0.signature_bytes } in (x, later call signature_tests claim_tests (at x) d k s.1 f.1))
