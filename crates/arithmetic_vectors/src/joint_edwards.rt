@@ -9,23 +9,6 @@ use serde_json::Value;
 
 type Point = ExtendedPoint<FieldElement>;
 
-// The point of an encoding.
-fn point(row: Row<'_>, name: &'static str) -> Result<Point, Fault> {
-    let octets = row.octets(name)?;
-    let octets = octets.as_slice();
-    if octets.len() != 32 {
-        return Err(Fault::Member(name));
-    }
-    decode(octets).ok_or(Fault::Member(name))
-}
-
-// The number at a name, in 32 octets of which the least significant is the first.
-fn scalar(row: Row<'_>, name: &'static str) -> Result<Vec<u8>, Fault> {
-    let mut scalar = row.octets(name)?;
-    scalar.as_mut_slice().reverse();
-    Ok(scalar)
-}
-
 /// Returns whether the sum of the multiples is the point at `multiple`.
 pub fn edwards_joint_multiple(row: Row<'_>) -> Result<Value, Fault> {
     row.takes(&["curve", "scalar", "other_scalar", "other", "multiple"])?;
@@ -39,4 +22,21 @@ pub fn edwards_joint_multiple(row: Row<'_>) -> Result<Value, Fault> {
     }
     let given = joint_multiple(first, second, other);
     Ok(Value::Bool(is_same_point(given, wanted)))
+}
+
+// The number at a name, in 32 octets of which the least significant is the first.
+fn scalar(row: Row<'_>, name: &'static str) -> Result<Vec<u8>, Fault> {
+    let mut scalar = row.octets(name)?;
+    scalar.as_mut_slice().reverse();
+    Ok(scalar)
+}
+
+// The point of an encoding.
+fn point(row: Row<'_>, name: &'static str) -> Result<Point, Fault> {
+    let octets = row.octets(name)?;
+    let octets = octets.as_slice();
+    if octets.len() != 32 {
+        return Err(Fault::Member(name));
+    }
+    decode(octets).ok_or(Fault::Member(name))
 }

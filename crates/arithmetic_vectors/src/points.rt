@@ -18,6 +18,61 @@ use serde_json::Value;
 use std::alloc::Global;
 use weierstrass::points::{ProjectivePoint, add, double, point_at_infinity};
 
+type Residues256 = Montgomery<FieldModulus256, 4>;
+
+type Residues384 = Montgomery<FieldModulus384, 6>;
+
+/// Counts the right ones among the sums of the multiples of a point by -k to k with each other.
+/// `multiples` lists those by -2k to 2k, and the coordinates of the first of both points are
+/// multiplied by `scale`.
+pub fn right_sums(row: Row<'_>) -> Result<Value, Fault> {
+    sums_by_curve::<Residues256, Residues384>(row)
+}
+
+/// Returns whether the multiple of the curve's base point by the number at `scalar` is the point at
+/// `multiple`.
+pub fn is_multiple(row: Row<'_>) -> Result<Value, Fault> {
+    multiple_by_curve::<Residues256, Residues384>(row)
+}
+
+/// Returns whether the sum of the multiple of the curve's base point by the number at `scalar` and
+/// that of the point at `other` by the number at `other_scalar` is the point at `multiple`. A point
+/// of Ed25519 is the hexadecimal string of its encoding (RFC 8032 section 5.1.2).
+pub fn is_joint_multiple(row: Row<'_>) -> Result<Value, Fault> {
+    joint_multiple_by_curve::<Residues256, Residues384>(row)
+}
+
+fn sums_by_curve<F: Field256, G: Field384>(row: Row<'_>) -> Result<Value, Fault> {
+    match row.text("curve")? {
+        "P-256" => sums::<F, 32>(row, b_256()),
+        "P-384" => sums::<G, 48>(row, b_384()),
+        _ => Err(Fault::Member("curve")),
+    }
+}
+
+fn sums<F: Residue, const S: usize>(row: Row<'_>, b: F) -> Result<Value, Fault>
+    requires { S ≤ 66 }
+{
+    row.takes(&["curve", "multiples", "scale"])?;
+    let points = multiples::<F, S>(row, b)?;
+    let scale = scale::<F, S>(row)?;
+    Ok(Value::from(count_sums(b, points.as_slice(), scale)))
+}
+
+// Returns the points of the list at `multiples`.
+fn multiples<F: Residue, const S: usize>(
+    row: Row<'_>,
+    b: F,
+) -> Result<Vec<ProjectivePoint<F>>, Fault>
+    requires { S ≤ 66 }
+{
+    let mut points = Vec::new(row.alloc());
+    for value in row.list("multiples")? {
+        points.push(point_of::<F, S>(row.alloc(), b, value)?)?;
+    }
+    Ok(points)
+}
+
 // Returns the point that a value describes, on the curve with this b and with coordinates of `S`
 // octets.
 fn point_of<F: Residue, const S: usize>(
@@ -39,20 +94,6 @@ fn point_of<F: Residue, const S: usize>(
     }
 }
 
-// Returns the points of the list at `multiples`.
-fn multiples<F: Residue, const S: usize>(
-    row: Row<'_>,
-    b: F,
-) -> Result<Vec<ProjectivePoint<F>>, Fault>
-    requires { S ≤ 66 }
-{
-    let mut points = Vec::new(row.alloc());
-    for value in row.list("multiples")? {
-        points.push(point_of::<F, S>(row.alloc(), b, value)?)?;
-    }
-    Ok(points)
-}
-
 // Returns the residue at `scale`, which is not 0.
 fn scale<F: Residue, const S: usize>(row: Row<'_>) -> Result<F, Fault> {
     let octets = row.octets("scale")?;
@@ -64,6 +105,43 @@ fn scale<F: Residue, const S: usize>(row: Row<'_>) -> Result<F, Fault> {
         Some(scale) if !scale.is_same(F::zero()) => Ok(scale),
         _ => Err(Fault::Member("scale")),
     }
+}
+
+// Counts the right ones among the sums of the multiples by -k to k with each other. The list has
+// the multiples by -2k to 2k.
+fn count_sums<F: Residue>(b: F, points: &[ProjectivePoint<F>], scale: F) -> u64 {
+    let quarter = points.len() / 4;
+    let mut right = 0_u64;
+    for place in quarter..points.len().saturating_sub(quarter) {
+        for other_place in quarter..points.len().saturating_sub(quarter) {
+            let wanted_place = place
+                .saturating_add(other_place)
+                .saturating_sub(2 * quarter);
+            if is_sum(b, points, scale, (place, other_place, wanted_place)) {
+                right = right.saturating_add(1);
+            }
+        }
+    }
+    right
+}
+
+// Whether the sum of the points at two places of a list of multiples is the one at the wanted
+// place, and for one place twice, its double too.
+fn is_sum<F: Residue>(
+    b: F,
+    points: &[ProjectivePoint<F>],
+    scale: F,
+    (place, other_place, wanted_place): (usize, usize, usize),
+) -> bool {
+    let one = points.get(place).copied();
+    let other = points.get(other_place).copied();
+    let wanted = points.get(wanted_place).copied();
+    let (Some(one), Some(other), Some(wanted)) = (one, other, wanted) else {
+        return false;
+    };
+    let one = scaled(one, scale);
+    is_point(add(b, one, other), wanted)
+        && (place != other_place || is_point(double(b, one), wanted))
 }
 
 // Returns the same point by other coordinates.
@@ -87,60 +165,12 @@ fn is_point<F: Residue>(given: ProjectivePoint<F>, wanted: ProjectivePoint<F>) -
         && given.y.is_same(wanted.y.times(given.z))
 }
 
-// Whether the sum of the points at two places of a list of multiples is the one at the wanted
-// place, and for one place twice, its double too.
-fn is_sum<F: Residue>(
-    b: F,
-    points: &[ProjectivePoint<F>],
-    scale: F,
-    (place, other_place, wanted_place): (usize, usize, usize),
-) -> bool {
-    let one = points.get(place).copied();
-    let other = points.get(other_place).copied();
-    let wanted = points.get(wanted_place).copied();
-    let (Some(one), Some(other), Some(wanted)) = (one, other, wanted) else {
-        return false;
-    };
-    let one = scaled(one, scale);
-    is_point(add(b, one, other), wanted)
-        && (place != other_place || is_point(double(b, one), wanted))
-}
-
-// Counts the right ones among the sums of the multiples by -k to k with each other. The list has
-// the multiples by -2k to 2k.
-fn count_sums<F: Residue>(b: F, points: &[ProjectivePoint<F>], scale: F) -> u64 {
-    let quarter = points.len() / 4;
-    let mut right = 0_u64;
-    for place in quarter..points.len().saturating_sub(quarter) {
-        for other_place in quarter..points.len().saturating_sub(quarter) {
-            let wanted_place = place
-                .saturating_add(other_place)
-                .saturating_sub(2 * quarter);
-            if is_sum(b, points, scale, (place, other_place, wanted_place)) {
-                right = right.saturating_add(1);
-            }
-        }
+fn multiple_by_curve<F: Field256, G: Field384>(row: Row<'_>) -> Result<Value, Fault> {
+    match row.text("curve")? {
+        "P-256" => multiple::<F, 32>(row, b_256()),
+        "P-384" => multiple::<G, 48>(row, b_384()),
+        _ => Err(Fault::Member("curve")),
     }
-    right
-}
-
-fn sums<F: Residue, const S: usize>(row: Row<'_>, b: F) -> Result<Value, Fault>
-    requires { S ≤ 66 }
-{
-    row.takes(&["curve", "multiples", "scale"])?;
-    let points = multiples::<F, S>(row, b)?;
-    let scale = scale::<F, S>(row)?;
-    Ok(Value::from(count_sums(b, points.as_slice(), scale)))
-}
-
-// The number at a name, in `S` octets of which the least significant is the first.
-fn scalar<const S: usize>(row: Row<'_>, name: &'static str) -> Result<Vec<u8>, Fault> {
-    let mut scalar = row.octets(name)?;
-    if scalar.len() != S {
-        return Err(Fault::Member(name));
-    }
-    scalar.as_mut_slice().reverse();
-    Ok(scalar)
 }
 
 // Whether the multiple of the base point by the number at `scalar` is the point at `multiple`.
@@ -153,6 +183,25 @@ fn multiple<F: BaseMultiples, const S: usize>(row: Row<'_>, b: F) -> Result<Valu
     match joint(scalar.as_slice(), &[0_u8; S], base_point::<F>()) {
         Some(given) => Ok(Value::Bool(is_point(given, wanted))),
         None => Err(Fault::Member("scalar")),
+    }
+}
+
+// The number at a name, in `S` octets of which the least significant is the first.
+fn scalar<const S: usize>(row: Row<'_>, name: &'static str) -> Result<Vec<u8>, Fault> {
+    let mut scalar = row.octets(name)?;
+    if scalar.len() != S {
+        return Err(Fault::Member(name));
+    }
+    scalar.as_mut_slice().reverse();
+    Ok(scalar)
+}
+
+fn joint_multiple_by_curve<F: Field256, G: Field384>(row: Row<'_>) -> Result<Value, Fault> {
+    match row.text("curve")? {
+        "P-256" => joint_multiple::<F, 32>(row, b_256()),
+        "P-384" => joint_multiple::<G, 48>(row, b_384()),
+        "Ed25519" => edwards_joint_multiple(row),
+        _ => Err(Fault::Member("curve")),
     }
 }
 
@@ -170,53 +219,4 @@ fn joint_multiple<F: BaseMultiples, const S: usize>(row: Row<'_>, b: F) -> Resul
         Some(given) => Ok(Value::Bool(is_point(given, wanted))),
         None => Err(Fault::Member("other")),
     }
-}
-
-fn sums_by_curve<F: Field256, G: Field384>(row: Row<'_>) -> Result<Value, Fault> {
-    match row.text("curve")? {
-        "P-256" => sums::<F, 32>(row, b_256()),
-        "P-384" => sums::<G, 48>(row, b_384()),
-        _ => Err(Fault::Member("curve")),
-    }
-}
-
-fn multiple_by_curve<F: Field256, G: Field384>(row: Row<'_>) -> Result<Value, Fault> {
-    match row.text("curve")? {
-        "P-256" => multiple::<F, 32>(row, b_256()),
-        "P-384" => multiple::<G, 48>(row, b_384()),
-        _ => Err(Fault::Member("curve")),
-    }
-}
-
-fn joint_multiple_by_curve<F: Field256, G: Field384>(row: Row<'_>) -> Result<Value, Fault> {
-    match row.text("curve")? {
-        "P-256" => joint_multiple::<F, 32>(row, b_256()),
-        "P-384" => joint_multiple::<G, 48>(row, b_384()),
-        "Ed25519" => edwards_joint_multiple(row),
-        _ => Err(Fault::Member("curve")),
-    }
-}
-
-type Residues256 = Montgomery<FieldModulus256, 4>;
-
-type Residues384 = Montgomery<FieldModulus384, 6>;
-
-/// Counts the right ones among the sums of the multiples of a point by -k to k with each other.
-/// `multiples` lists those by -2k to 2k, and the coordinates of the first of both points are
-/// multiplied by `scale`.
-pub fn right_sums(row: Row<'_>) -> Result<Value, Fault> {
-    sums_by_curve::<Residues256, Residues384>(row)
-}
-
-/// Returns whether the multiple of the curve's base point by the number at `scalar` is the point at
-/// `multiple`.
-pub fn is_multiple(row: Row<'_>) -> Result<Value, Fault> {
-    multiple_by_curve::<Residues256, Residues384>(row)
-}
-
-/// Returns whether the sum of the multiple of the curve's base point by the number at `scalar` and
-/// that of the point at `other` by the number at `other_scalar` is the point at `multiple`. A point
-/// of Ed25519 is the hexadecimal string of its encoding (RFC 8032 section 5.1.2).
-pub fn is_joint_multiple(row: Row<'_>) -> Result<Value, Fault> {
-    joint_multiple_by_curve::<Residues256, Residues384>(row)
 }

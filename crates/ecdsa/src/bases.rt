@@ -252,6 +252,26 @@ static TABLE_384: [[u128; 6]; 15] = [
     ],
 ];
 
+impl BaseMultiples for Montgomery<FieldModulus256, 4> {
+    ghost b = { b256 };
+
+    ghost base = { base256 };
+
+    fn base_multiple(digit: u8) -> (Self, Self) {
+        multiple_256(digit)
+    }
+}
+
+impl BaseMultiples for Montgomery<FieldModulus384, 6> {
+    ghost b = { b384 };
+
+    ghost base = { base384 };
+
+    fn base_multiple(digit: u8) -> (Self, Self) {
+        multiple_384(digit)
+    }
+}
+
 // The coordinates of a multiple of P-256's base point.
 fn multiple_256(
     digit: u8,
@@ -290,24 +310,4 @@ fn multiple_384(
         from_form(six_limbs(row[0], row[1], row[2])),
         from_form(six_limbs(row[3], row[4], row[5])),
     )
-}
-
-impl BaseMultiples for Montgomery<FieldModulus256, 4> {
-    ghost b = { b256 };
-
-    ghost base = { base256 };
-
-    fn base_multiple(digit: u8) -> (Self, Self) {
-        multiple_256(digit)
-    }
-}
-
-impl BaseMultiples for Montgomery<FieldModulus384, 6> {
-    ghost b = { b384 };
-
-    ghost base = { base384 };
-
-    fn base_multiple(digit: u8) -> (Self, Self) {
-        multiple_384(digit)
-    }
 }

@@ -18,6 +18,31 @@ use weierstrass::points::ProjectivePoint;
 use weierstrass_group::entries::{Sixteen, add_entry, entry_at, entry_for, following, four_from};
 use weierstrass_group::jacobian::{add_affine, double, nothing, projective};
 
+/// Returns the sum of the base point's multiple by the first number and the multiple of a point, of
+/// Z = 1, by the second. The least significant byte of a number is its first.
+pub fn joint_multiple<F: BaseMultiples>(
+    first: &[u8],
+    second: &[u8],
+    point: ProjectivePoint<F>,
+) -> ProjectivePoint<F>
+    requires lengths { length first.now ≡ length second.now }
+    requires affine { F.number point.z ≡ 1 }
+    ensures { IsJoint F.modulus F.b first.now F.base second.now (numbers F.number point)
+        (numbers F.number result) }
+{
+    let others = entries(point.x, point.y);
+    let mut result = nothing();
+    let mut i = first.len();
+    while i > 0 {
+        i -= 1;
+        let u = first[i];
+        let v = second[i];
+        result = step(result, &others, u / 16, v / 16);
+        result = step(result, &others, u % 16, v % 16);
+    }
+    projective(result)
+}
+
 // The entries from the point at infinity on, each the sum of the one before and the point of these
 // coordinates, whose z is 1.
 fn entries<F: Residue>(x: F, y: F) -> Sixteen<F>
@@ -37,12 +62,22 @@ fn entries<F: Residue>(x: F, y: F) -> Sixteen<F>
     }
 }
 
-// 16 times the point.
-fn sixteenfold<F: BaseMultiples>(start: ProjectivePoint<F>) -> ProjectivePoint<F>
-    ensures { (P : Point) (m n : ℕ) → IsJointOf F.modulus F.b m F.base n P (numbers F.number start)
-        → IsJointOf F.modulus F.b (16 * m) F.base (16 * n) P (numbers F.number result) }
+// Half a byte more of each number.
+fn step<F: BaseMultiples>(
+    start: ProjectivePoint<F>,
+    others: &Sixteen<F>,
+    first: u8,
+    second: u8,
+) -> ProjectivePoint<F>
+    requires first { first < 16 }
+    requires second { second < 16 }
+    requires kept { (k : ℕ) → k < 16 → IsEntry F F.modulus F.number (entry_of others.now k) }
+    ensures { (P : Point) (m n : ℕ) → AreMultiples F F.modulus F.b F.number P others.now
+        → IsJointOf F.modulus F.b m F.base n P (numbers F.number start)
+        → IsJointOf F.modulus F.b (16 * m + first) F.base (16 * n + second) P
+        (numbers F.number result) }
 {
-    double(double(double(double(start))))
+    add_of_base(add_of_other(sixteenfold(start), others, second), first)
 }
 
 // One of the base point's multiples more.
@@ -73,45 +108,10 @@ fn add_of_other<F: BaseMultiples>(
     add_entry(start, entry_at(others, digit))
 }
 
-// Half a byte more of each number.
-fn step<F: BaseMultiples>(
-    start: ProjectivePoint<F>,
-    others: &Sixteen<F>,
-    first: u8,
-    second: u8,
-) -> ProjectivePoint<F>
-    requires first { first < 16 }
-    requires second { second < 16 }
-    requires kept { (k : ℕ) → k < 16 → IsEntry F F.modulus F.number (entry_of others.now k) }
-    ensures { (P : Point) (m n : ℕ) → AreMultiples F F.modulus F.b F.number P others.now
-        → IsJointOf F.modulus F.b m F.base n P (numbers F.number start)
-        → IsJointOf F.modulus F.b (16 * m + first) F.base (16 * n + second) P
-        (numbers F.number result) }
+// 16 times the point.
+fn sixteenfold<F: BaseMultiples>(start: ProjectivePoint<F>) -> ProjectivePoint<F>
+    ensures { (P : Point) (m n : ℕ) → IsJointOf F.modulus F.b m F.base n P (numbers F.number start)
+        → IsJointOf F.modulus F.b (16 * m) F.base (16 * n) P (numbers F.number result) }
 {
-    add_of_base(add_of_other(sixteenfold(start), others, second), first)
-}
-
-/// Returns the sum of the base point's multiple by the first number and the multiple of a point, of
-/// Z = 1, by the second. The least significant byte of a number is its first.
-pub fn joint_multiple<F: BaseMultiples>(
-    first: &[u8],
-    second: &[u8],
-    point: ProjectivePoint<F>,
-) -> ProjectivePoint<F>
-    requires lengths { length first.now ≡ length second.now }
-    requires affine { F.number point.z ≡ 1 }
-    ensures { IsJoint F.modulus F.b first.now F.base second.now (numbers F.number point)
-        (numbers F.number result) }
-{
-    let others = entries(point.x, point.y);
-    let mut result = nothing();
-    let mut i = first.len();
-    while i > 0 {
-        i -= 1;
-        let u = first[i];
-        let v = second[i];
-        result = step(result, &others, u / 16, v / 16);
-        result = step(result, &others, u % 16, v % 16);
-    }
-    projective(result)
+    double(double(double(double(start))))
 }

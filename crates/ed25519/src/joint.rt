@@ -35,6 +35,34 @@ pub fn negative<F: Field>(point: ExtendedPoint<F>) -> ExtendedPoint<F>
     }
 }
 
+/// Returns the sum of the base point's multiple by the first number and the point's multiple by the
+/// second. The least significant byte of a number is its first.
+pub fn joint_multiple(
+    first: &[u8],
+    second: &[u8],
+    point: ExtendedPoint<FieldElement>,
+) -> ExtendedPoint<FieldElement>
+    requires first { length first.now ≡ 32 }
+    requires second { length second.now ≡ 32 }
+    ensures { IsPoint p d (numbers ⟦<FieldElement as Residue>⟧.number point)
+        → IsJoint (numbers ⟦<FieldElement as Residue>⟧.number point)
+        (little_endian first.now)
+        (little_endian second.now)
+        (numbers ⟦<FieldElement as Residue>⟧.number result) }
+{
+    let others = multiples(point);
+    let mut result = neutral_factors();
+    let mut i = 32;
+    while i > 0 {
+        i -= 1;
+        let u = first[i];
+        let v = second[i];
+        result = step(result, &others, u / 16, v / 16);
+        result = step(result, &others, u % 16, v % 16);
+    }
+    extended(result)
+}
+
 // The multiples of the point below the 16th.
 fn multiples<F: Field>(point: ExtendedPoint<F>) -> [Addend<F>; 16]
     ensures { IsPoint p d (numbers F.number point)
@@ -51,12 +79,22 @@ fn multiples<F: Field>(point: ExtendedPoint<F>) -> [Addend<F>; 16]
     table
 }
 
-// 16 times the point.
-fn sixteenfold<F: Field>(point: Factors<F>) -> Factors<F>
-    ensures { (P : Point) (m n : ℕ) → IsJoint P m n (factor_numbers F.number p point)
-        → IsJoint P (16 * m) (16 * n) (factor_numbers F.number p result) }
+// Half a byte more of each number.
+fn step(
+    start: Factors<FieldElement>,
+    others: &[Addend<FieldElement>; 16],
+    first: u8,
+    second: u8,
+) -> Factors<FieldElement>
+    requires first { first < 16 }
+    requires second { second < 16 }
+    ensures { (P : Point) (m n : ℕ)
+        → ArePrepared ⟦<FieldElement as Residue>⟧.number P 16 others.now
+        → IsJoint P m n (factor_numbers ⟦<FieldElement as Residue>⟧.number p start)
+        → IsJoint P (16 * m + first) (16 * n + second)
+        (factor_numbers ⟦<FieldElement as Residue>⟧.number p result) }
 {
-    double_factors(double_factors(double_factors(double_factors(point))))
+    add_of_base(add_of_other(sixteenfold(start), others, second), first)
 }
 
 // One of the base point's multiples more.
@@ -86,48 +124,10 @@ fn add_of_other<F: Field>(point: Factors<F>, others: &[Addend<F>; 16], digit: u8
     add_to(extended(point), others[usize::from(digit)])
 }
 
-// Half a byte more of each number.
-fn step(
-    start: Factors<FieldElement>,
-    others: &[Addend<FieldElement>; 16],
-    first: u8,
-    second: u8,
-) -> Factors<FieldElement>
-    requires first { first < 16 }
-    requires second { second < 16 }
-    ensures { (P : Point) (m n : ℕ)
-        → ArePrepared ⟦<FieldElement as Residue>⟧.number P 16 others.now
-        → IsJoint P m n (factor_numbers ⟦<FieldElement as Residue>⟧.number p start)
-        → IsJoint P (16 * m + first) (16 * n + second)
-        (factor_numbers ⟦<FieldElement as Residue>⟧.number p result) }
+// 16 times the point.
+fn sixteenfold<F: Field>(point: Factors<F>) -> Factors<F>
+    ensures { (P : Point) (m n : ℕ) → IsJoint P m n (factor_numbers F.number p point)
+        → IsJoint P (16 * m) (16 * n) (factor_numbers F.number p result) }
 {
-    add_of_base(add_of_other(sixteenfold(start), others, second), first)
-}
-
-/// Returns the sum of the base point's multiple by the first number and the point's multiple by the
-/// second. The least significant byte of a number is its first.
-pub fn joint_multiple(
-    first: &[u8],
-    second: &[u8],
-    point: ExtendedPoint<FieldElement>,
-) -> ExtendedPoint<FieldElement>
-    requires first { length first.now ≡ 32 }
-    requires second { length second.now ≡ 32 }
-    ensures { IsPoint p d (numbers ⟦<FieldElement as Residue>⟧.number point)
-        → IsJoint (numbers ⟦<FieldElement as Residue>⟧.number point)
-        (little_endian first.now)
-        (little_endian second.now)
-        (numbers ⟦<FieldElement as Residue>⟧.number result) }
-{
-    let others = multiples(point);
-    let mut result = neutral_factors();
-    let mut i = 32;
-    while i > 0 {
-        i -= 1;
-        let u = first[i];
-        let v = second[i];
-        result = step(result, &others, u / 16, v / 16);
-        result = step(result, &others, u % 16, v % 16);
-    }
-    extended(result)
+    double_factors(double_factors(double_factors(double_factors(point))))
 }

@@ -19,18 +19,6 @@ use jwt_keys::provider::CryptoProvider;
 use jwt_validation::{Moments, Validation, claimed_moments};
 use std::alloc::Global;
 
-/// Returns the times that the claims of a token allow, whatever else holds of it.
-fn claimed(alloc: Global, token: &[u8], validation: &Validation) -> Result<Moments, Refusal>
-    ensures { Step (header_call token.now) value_tests whole (AreClaimed
-        (options_of validation.now))
-        result }
-{
-    let parts = token_parts(token)?;
-    let bytes = read_part(alloc, Test::PayloadIsPart, parts.payload)?;
-    let value = read_json(alloc, Test::PayloadIsJson, bytes.as_slice())?;
-    Ok(claimed_moments(&value, validation))
-}
-
 /// Returns the first and the last time at which [`decode`](crate::decode) accepts the token with
 /// these arguments, in whole seconds since 1970-01-01 00:00:00 UTC, or `None` if it accepts the
 /// token at no time. It is accepted at all times from the first to the last, and at no other
@@ -83,4 +71,16 @@ pub fn first_and_last_moment_with_set<P: CryptoProvider, T: Claims>(
         None => Ok(Some(moments)),
         Some(_) => Ok(None),
     }
+}
+
+/// Returns the times that the claims of a token allow, whatever else holds of it.
+fn claimed(alloc: Global, token: &[u8], validation: &Validation) -> Result<Moments, Refusal>
+    ensures { Step (header_call token.now) value_tests whole (AreClaimed
+        (options_of validation.now))
+        result }
+{
+    let parts = token_parts(token)?;
+    let bytes = read_part(alloc, Test::PayloadIsPart, parts.payload)?;
+    let value = read_json(alloc, Test::PayloadIsJson, bytes.as_slice())?;
+    Ok(claimed_moments(&value, validation))
 }

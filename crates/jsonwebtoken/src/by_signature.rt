@@ -26,23 +26,6 @@ pub struct SigningInput {
     pub message: String,
 }
 
-fn signing_input_by_steps<T: Claims>(
-    alloc: Global,
-    header: &Header,
-    claims: &T,
-) -> Result<SigningInput>
-    ensures { IssueStep (signing header.now (T.written claims.now)) signing_order
-        (IsSigningInput header.now) result }
-{
-    let header_text = header_part(alloc, header)?;
-    let claims_text = claims_part(alloc, claims)?;
-    let message = with_part(header_text, claims_text.as_str())?;
-    Ok(SigningInput {
-        algorithm: header.alg,
-        message,
-    })
-}
-
 /// Returns the message of a token that is to be signed elsewhere, and the algorithm: header part,
 /// dot, claims part, as [`encode`](crate::encode) writes them. The signature's bytes go to
 /// [`encode_by_signature`].
@@ -86,4 +69,21 @@ pub fn encode_by_signature<T: Claims>(
 {
     let key = given.key(alloc)?;
     encode(alloc, given, header, claims, &key)
+}
+
+fn signing_input_by_steps<T: Claims>(
+    alloc: Global,
+    header: &Header,
+    claims: &T,
+) -> Result<SigningInput>
+    ensures { IssueStep (signing header.now (T.written claims.now)) signing_order
+        (IsSigningInput header.now) result }
+{
+    let header_text = header_part(alloc, header)?;
+    let claims_text = claims_part(alloc, claims)?;
+    let message = with_part(header_text, claims_text.as_str())?;
+    Ok(SigningInput {
+        algorithm: header.alg,
+        message,
+    })
 }

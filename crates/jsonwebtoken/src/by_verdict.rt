@@ -33,22 +33,6 @@ pub struct SignedPart<'a> {
     pub signature: Vec<u8>,
 }
 
-fn signed_part_by_steps(alloc: Global, token: &[u8]) -> Result<SignedPart<'_>, Refusal>
-    ensures { Step (header_call token.now) signed_order whole (HasSigned (header_call token.now))
-        result }
-{
-    let parts = token_parts(token)?;
-    let header = read_header(alloc, parts.header)?;
-    match read_part(alloc, Test::SignatureIsPart, parts.signature) {
-        Ok(signature) => Ok(SignedPart {
-            header,
-            message: parts.message,
-            signature,
-        }),
-        Err(refusal) => Err(refusal),
-    }
-}
-
 /// Returns the parts of a token in its compact form that a verifier elsewhere is asked about: the
 /// header, the message that is signed, and the signature's bytes. Nothing is verified. The
 /// verifier's verdict goes to [`decode_by_verdict`].
@@ -82,4 +66,20 @@ pub fn decode_by_verdict<T: Claims>(
 {
     let key = verdict.key(alloc)?;
     decode(alloc, verdict, token, &key, validation, time)
+}
+
+fn signed_part_by_steps(alloc: Global, token: &[u8]) -> Result<SignedPart<'_>, Refusal>
+    ensures { Step (header_call token.now) signed_order whole (HasSigned (header_call token.now))
+        result }
+{
+    let parts = token_parts(token)?;
+    let header = read_header(alloc, parts.header)?;
+    match read_part(alloc, Test::SignatureIsPart, parts.signature) {
+        Ok(signature) => Ok(SignedPart {
+            header,
+            message: parts.message,
+            signature,
+        }),
+        Err(refusal) => Err(refusal),
+    }
 }

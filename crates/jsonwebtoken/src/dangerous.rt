@@ -15,18 +15,6 @@ use jwt_base::errors::Result;
 use jwt_base::json::Claims;
 use std::alloc::Global;
 
-fn insecure_decode_by_steps<T: Claims>(alloc: Global, token: &[u8]) -> Result<TokenData<T>, Refusal>
-    ensures { Step (insecure_call token.now T.reads) insecure_order whole
-        (Carries (insecure_call token.now T.reads)) result }
-{
-    let parts = token_parts(token)?;
-    let header = read_header(alloc, parts.header)?;
-    match read_payload(alloc, parts.payload) {
-        Ok(claims) => Ok(TokenData { header, claims }),
-        Err(refusal) => Err(refusal),
-    }
-}
-
 /// Returns the header and the claims of a token in its compact form. Nothing is verified.
 ///
 /// The tests are those of [`decode`](crate::decode) on the dots, the header part and the payload
@@ -39,15 +27,6 @@ pub fn insecure_decode<T: Claims>(alloc: Global, token: &[u8]) -> Result<TokenDa
     without_test(insecure_decode_by_steps(alloc, token))
 }
 
-fn insecure_decode_claims_by_steps<T: Claims>(alloc: Global, token: &[u8]) -> Result<T, Refusal>
-    ensures { Step (insecure_call token.now T.reads) insecure_claims_order whole
-        (HasClaims (insecure_call token.now T.reads)) result }
-{
-    let parts = token_parts(token)?;
-    let claims = read_payload(alloc, parts.payload)?;
-    Ok(claims)
-}
-
 /// Returns the claims of a token in its compact form. Nothing is verified, and the header is not
 /// read.
 ///
@@ -57,4 +36,25 @@ pub fn insecure_decode_claims<T: Claims>(alloc: Global, token: &[u8]) -> Result<
         Decides (token_tests call) insecure_claims_order (HasClaims call) result }
 {
     without_test(insecure_decode_claims_by_steps(alloc, token))
+}
+
+fn insecure_decode_by_steps<T: Claims>(alloc: Global, token: &[u8]) -> Result<TokenData<T>, Refusal>
+    ensures { Step (insecure_call token.now T.reads) insecure_order whole
+        (Carries (insecure_call token.now T.reads)) result }
+{
+    let parts = token_parts(token)?;
+    let header = read_header(alloc, parts.header)?;
+    match read_payload(alloc, parts.payload) {
+        Ok(claims) => Ok(TokenData { header, claims }),
+        Err(refusal) => Err(refusal),
+    }
+}
+
+fn insecure_decode_claims_by_steps<T: Claims>(alloc: Global, token: &[u8]) -> Result<T, Refusal>
+    ensures { Step (insecure_call token.now T.reads) insecure_claims_order whole
+        (HasClaims (insecure_call token.now T.reads)) result }
+{
+    let parts = token_parts(token)?;
+    let claims = read_payload(alloc, parts.payload)?;
+    Ok(claims)
 }

@@ -44,32 +44,6 @@ pub struct TokenData<T> {
     pub claims: T,
 }
 
-/// Verifies a token, and notes the test that fails.
-fn decode_noting<P: CryptoProvider, T: Claims>(
-    alloc: Global,
-    provider: &P,
-    token: &[u8],
-    key: &DecodingKey,
-    validation: &Validation,
-    time: u64,
-    failed: &mut Test,
-) -> Result<TokenData<T>>
-    ensures { let call = decoding P.CryptoProvider T.Claims
-        provider.now token.now key.now validation.now time in
-        Step call decode_order whole (Carries call) (tested failed.new result) }
-{
-    let parts = match token_parts(token) {
-        Ok(parts) => parts,
-        Err(refusal) => return Err(note(refusal, failed)),
-    };
-    let header = read_header_noting(alloc, parts.header, failed)?;
-    let claims = read_claims_by_key(alloc, provider, &parts, &header, key, validation, time);
-    match claims {
-        Ok(claims) => Ok(TokenData { header, claims }),
-        Err(refusal) => Err(note(refusal, failed)),
-    }
-}
-
 /// Verifies a token like [`decode`]; a refusal has the first test that fails, and its error. If
 /// memory ran out, the refusal's error is `OutOfMemory`.
 ///
@@ -162,4 +136,30 @@ pub fn decode_header(alloc: Global, token: &[u8]) -> Result<Header>
     let mut failed = Test::HasThreeParts;
     let header = read_header_noting(alloc, parts.header, &mut failed)?;
     Ok(header)
+}
+
+/// Verifies a token, and notes the test that fails.
+fn decode_noting<P: CryptoProvider, T: Claims>(
+    alloc: Global,
+    provider: &P,
+    token: &[u8],
+    key: &DecodingKey,
+    validation: &Validation,
+    time: u64,
+    failed: &mut Test,
+) -> Result<TokenData<T>>
+    ensures { let call = decoding P.CryptoProvider T.Claims
+        provider.now token.now key.now validation.now time in
+        Step call decode_order whole (Carries call) (tested failed.new result) }
+{
+    let parts = match token_parts(token) {
+        Ok(parts) => parts,
+        Err(refusal) => return Err(note(refusal, failed)),
+    };
+    let header = read_header_noting(alloc, parts.header, failed)?;
+    let claims = read_claims_by_key(alloc, provider, &parts, &header, key, validation, time);
+    match claims {
+        Ok(claims) => Ok(TokenData { header, claims }),
+        Err(refusal) => Err(note(refusal, failed)),
+    }
 }

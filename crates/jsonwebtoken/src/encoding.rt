@@ -16,28 +16,6 @@ use jwt_keys::encoding_key::EncodingKey;
 use jwt_keys::provider::CryptoProvider;
 use std::alloc::Global;
 
-fn encode_by_steps<P: CryptoProvider, T: Claims>(
-    alloc: Global,
-    provider: &P,
-    header: &Header,
-    claims: &T,
-    key: &EncodingKey,
-) -> Result<String>
-    ensures { let issue = encoding P.CryptoProvider T.Claims provider.now header.now claims.now
-        key.now in
-        IssueStep issue encode_order (λ t x. IsIssued issue t (string_bytes x)
-        × ReadsBack issue (P.accepts provider.now) t (string_bytes x)) result }
-{
-    let algorithm = header.alg;
-    check_family(key, algorithm)?;
-    let signer = provider.signer_factory(alloc, &algorithm, key)?;
-    let header_text = header_part(alloc, header)?;
-    let claims_text = claims_part(alloc, claims)?;
-    let signed = sign_parts(alloc, &signer, header_text, claims_text.as_str())?;
-    let token = with_part(signed.message, signed.signature.as_str())?;
-    Ok(token)
-}
-
 /// Signs a header and claims with the key, and returns the token: header part, dot, claims part,
 /// dot, signature part. The first two parts are base64url of compact JSON texts (RFC 7515 section
 /// 7.1, RFC 7519 section 7.1).
@@ -74,4 +52,26 @@ pub fn encode<P: CryptoProvider, T: Claims>(
         → ReadsBack issue (P.accepts provider.now) t (string_bytes x)) }
 {
     encode_by_steps(alloc, provider, header, claims, key)
+}
+
+fn encode_by_steps<P: CryptoProvider, T: Claims>(
+    alloc: Global,
+    provider: &P,
+    header: &Header,
+    claims: &T,
+    key: &EncodingKey,
+) -> Result<String>
+    ensures { let issue = encoding P.CryptoProvider T.Claims provider.now header.now claims.now
+        key.now in
+        IssueStep issue encode_order (λ t x. IsIssued issue t (string_bytes x)
+        × ReadsBack issue (P.accepts provider.now) t (string_bytes x)) result }
+{
+    let algorithm = header.alg;
+    check_family(key, algorithm)?;
+    let signer = provider.signer_factory(alloc, &algorithm, key)?;
+    let header_text = header_part(alloc, header)?;
+    let claims_text = claims_part(alloc, claims)?;
+    let signed = sign_parts(alloc, &signer, header_text, claims_text.as_str())?;
+    let token = with_part(signed.message, signed.signature.as_str())?;
+    Ok(token)
 }

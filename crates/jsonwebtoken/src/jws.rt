@@ -103,43 +103,6 @@ impl<C> Jws<C> {
     }
 }
 
-fn required_text(alloc: Global, value: &Value, name: &str) -> Result<String>
-    ensures ok { IfOk result (λ t. text_at name.now (view value.now) ≡ Some (string_bytes t)) }
-    ensures err { IfErr result (RefusesAs kind.Json (text_at name.now (view value.now) ≡ None)) }
-{
-    match value.get(name).and_then(Value::as_str) {
-        Some(text) => Ok(String::from_str(alloc, text)?),
-        None => Err(new_error(ErrorKind::Json)),
-    }
-}
-
-fn encode_by_steps<P: CryptoProvider, T: Claims>(
-    alloc: Global,
-    provider: &P,
-    header: &Header,
-    claims: Option<&T>,
-    key: &EncodingKey,
-) -> Result<Jws<T>>
-    ensures { let issue = encoding_parts P.CryptoProvider T.Claims
-        provider.now header.now claims.entry key.now in
-        IssueStep issue jws_encode_order (λ t j. AreIssued issue t (parts_of j)
-        × ReadsBack issue (P.accepts provider.now) t (text_of_parts (parts_of j))) result }
-{
-    let algorithm = header.alg;
-    check_family(key, algorithm)?;
-    let protected = header_part(alloc, header)?;
-    let payload = payload_part(alloc, claims)?;
-    let signer = provider.signer_factory(alloc, &algorithm, key)?;
-    let front = String::from_str(alloc, protected.as_str())?;
-    let signed = sign_parts(alloc, &signer, front, payload.as_str())?;
-    Ok(Jws {
-        protected,
-        payload,
-        signature: signed.signature,
-        _pd: PhantomData,
-    })
-}
-
 /// Signs a header and claims with the key, and returns the token in parts. Without claims the
 /// payload part is empty.
 ///
@@ -165,103 +128,6 @@ pub fn encode<P: CryptoProvider, T: Claims>(
         → ReadsBack issue (P.accepts provider.now) t (text_of_parts (parts_of j))) }
 {
     encode_by_steps(alloc, provider, header, claims, key)
-}
-
-/// Returns the verifier by the key and the header's algorithm, which is among those that are
-/// allowed: the tests of the algorithms of [`decode`](crate::decode) in another order.
-fn verifier_for<P: CryptoProvider>(
-    alloc: Global,
-    provider: &P,
-    header: &Header,
-    key: &DecodingKey,
-    validation: &Validation,
-) -> Result<P::Verifier, Refusal>
-    ensures tests { Step
-        (allowing (options_of validation.now) key.now (P.verifier_refusal provider.now))
-        jws_algorithm_tests (with_header header.now) ShowsNothing result }
-    ensures accepts { IfOk result (λ v. (m s : List ℕ) →
-        P.Verifier.accepts v m s ↔ P.accepts provider.now header.now.alg key.now m s) }
-{
-    let algorithm = header.alg;
-    let verifier = make_verifier(alloc, provider, algorithm, key)?;
-    check_some_listed(validation)?;
-    check_families(validation, algorithm)?;
-    check_listed(validation, algorithm)?;
-    Ok(verifier)
-}
-
-/// Returns the claims of a token that passes, by the key, the tests that follow those of its
-/// header.
-fn read_claims_by_key<P: CryptoProvider, T: Claims>(
-    alloc: Global,
-    provider: &P,
-    parts: &TokenParts<'_>,
-    header: &Header,
-    key: &DecodingKey,
-    validation: &Validation,
-    time: u64,
-) -> Result<T, Refusal>
-    ensures { let call = decoding_parts P.CryptoProvider T.Claims
-        provider.now (parts_in parts.now) key.now validation.now time in
-        Step call (CritIsUnderstood ∷ (jws_algorithm_tests ++ verifying_tests))
-        (with_opening (parts_in parts.now) header.now) (ShowsClaims T.reads) result }
-{
-    check_crit(header, validation)?;
-    let verifier = verifier_for(alloc, provider, header, key, validation)?;
-    let claims = verify_and_read_claims(alloc, &verifier, parts, validation, time)?;
-    Ok(claims)
-}
-
-fn decode_parts<P: CryptoProvider, T: Claims>(
-    alloc: Global,
-    provider: &P,
-    parts: &TokenParts<'_>,
-    key: &DecodingKey,
-    validation: &Validation,
-    time: u64,
-) -> Result<TokenData<T>, Refusal>
-    ensures { let call = decoding_parts P.CryptoProvider T.Claims
-        provider.now (parts_in parts.now) key.now validation.now time in
-        Step call jws_order whole (Carries call) result }
-{
-    let header = read_header(alloc, parts.header)?;
-    let claims = read_claims_by_key(alloc, provider, parts, &header, key, validation, time);
-    match claims {
-        Ok(claims) => Ok(TokenData { header, claims }),
-        Err(refusal) => Err(refusal),
-    }
-}
-
-/// Returns the message that is signed (RFC 7515 section 5.1).
-fn signed_message<T>(alloc: Global, token: &Jws<T>) -> Result<String>
-    ensures ok { IfOk result (λ m. string_bytes m ≡ message_of (parts_of token.now)) }
-    ensures err { IfErr result IsMemory }
-{
-    let front = String::from_str(alloc, token.protected.as_str())?;
-    with_part(front, token.payload.as_str())
-}
-
-fn decode_by_steps<P: CryptoProvider, T: Claims>(
-    alloc: Global,
-    provider: &P,
-    token: &Jws<T>,
-    key: &DecodingKey,
-    validation: &Validation,
-    time: u64,
-) -> Result<TokenData<T>, Refusal>
-    ensures { let call = decoding_parts P.CryptoProvider T.Claims
-        provider.now (parts_of token.now) key.now validation.now time in
-        Step call jws_order whole (Carries call) result }
-{
-    let message = with_test(Test::HasThreeParts, signed_message(alloc, token))?;
-    let parts = TokenParts {
-        message: message.as_bytes(),
-        header: token.protected.as_bytes(),
-        payload: token.payload.as_bytes(),
-        signature: token.signature.as_bytes(),
-    };
-    let data = decode_parts(alloc, provider, &parts, key, validation, time)?;
-    Ok(data)
 }
 
 /// Verifies a token in parts with the key, at the time `time`, in whole seconds since 1970-01-01
@@ -304,4 +170,138 @@ pub fn decode<P: CryptoProvider, T: Claims>(
         validation.now time) p }
 {
     without_test(decode_by_steps(alloc, provider, token, key, validation, time))
+}
+
+fn required_text(alloc: Global, value: &Value, name: &str) -> Result<String>
+    ensures ok { IfOk result (λ t. text_at name.now (view value.now) ≡ Some (string_bytes t)) }
+    ensures err { IfErr result (RefusesAs kind.Json (text_at name.now (view value.now) ≡ None)) }
+{
+    match value.get(name).and_then(Value::as_str) {
+        Some(text) => Ok(String::from_str(alloc, text)?),
+        None => Err(new_error(ErrorKind::Json)),
+    }
+}
+
+fn encode_by_steps<P: CryptoProvider, T: Claims>(
+    alloc: Global,
+    provider: &P,
+    header: &Header,
+    claims: Option<&T>,
+    key: &EncodingKey,
+) -> Result<Jws<T>>
+    ensures { let issue = encoding_parts P.CryptoProvider T.Claims
+        provider.now header.now claims.entry key.now in
+        IssueStep issue jws_encode_order (λ t j. AreIssued issue t (parts_of j)
+        × ReadsBack issue (P.accepts provider.now) t (text_of_parts (parts_of j))) result }
+{
+    let algorithm = header.alg;
+    check_family(key, algorithm)?;
+    let protected = header_part(alloc, header)?;
+    let payload = payload_part(alloc, claims)?;
+    let signer = provider.signer_factory(alloc, &algorithm, key)?;
+    let front = String::from_str(alloc, protected.as_str())?;
+    let signed = sign_parts(alloc, &signer, front, payload.as_str())?;
+    Ok(Jws {
+        protected,
+        payload,
+        signature: signed.signature,
+        _pd: PhantomData,
+    })
+}
+
+fn decode_by_steps<P: CryptoProvider, T: Claims>(
+    alloc: Global,
+    provider: &P,
+    token: &Jws<T>,
+    key: &DecodingKey,
+    validation: &Validation,
+    time: u64,
+) -> Result<TokenData<T>, Refusal>
+    ensures { let call = decoding_parts P.CryptoProvider T.Claims
+        provider.now (parts_of token.now) key.now validation.now time in
+        Step call jws_order whole (Carries call) result }
+{
+    let message = with_test(Test::HasThreeParts, signed_message(alloc, token))?;
+    let parts = TokenParts {
+        message: message.as_bytes(),
+        header: token.protected.as_bytes(),
+        payload: token.payload.as_bytes(),
+        signature: token.signature.as_bytes(),
+    };
+    let data = decode_parts(alloc, provider, &parts, key, validation, time)?;
+    Ok(data)
+}
+
+/// Returns the message that is signed (RFC 7515 section 5.1).
+fn signed_message<T>(alloc: Global, token: &Jws<T>) -> Result<String>
+    ensures ok { IfOk result (λ m. string_bytes m ≡ message_of (parts_of token.now)) }
+    ensures err { IfErr result IsMemory }
+{
+    let front = String::from_str(alloc, token.protected.as_str())?;
+    with_part(front, token.payload.as_str())
+}
+
+fn decode_parts<P: CryptoProvider, T: Claims>(
+    alloc: Global,
+    provider: &P,
+    parts: &TokenParts<'_>,
+    key: &DecodingKey,
+    validation: &Validation,
+    time: u64,
+) -> Result<TokenData<T>, Refusal>
+    ensures { let call = decoding_parts P.CryptoProvider T.Claims
+        provider.now (parts_in parts.now) key.now validation.now time in
+        Step call jws_order whole (Carries call) result }
+{
+    let header = read_header(alloc, parts.header)?;
+    let claims = read_claims_by_key(alloc, provider, parts, &header, key, validation, time);
+    match claims {
+        Ok(claims) => Ok(TokenData { header, claims }),
+        Err(refusal) => Err(refusal),
+    }
+}
+
+/// Returns the claims of a token that passes, by the key, the tests that follow those of its
+/// header.
+fn read_claims_by_key<P: CryptoProvider, T: Claims>(
+    alloc: Global,
+    provider: &P,
+    parts: &TokenParts<'_>,
+    header: &Header,
+    key: &DecodingKey,
+    validation: &Validation,
+    time: u64,
+) -> Result<T, Refusal>
+    ensures { let call = decoding_parts P.CryptoProvider T.Claims
+        provider.now (parts_in parts.now) key.now validation.now time in
+        Step call (CritIsUnderstood ∷ (jws_algorithm_tests ++ verifying_tests))
+        (with_opening (parts_in parts.now) header.now) (ShowsClaims T.reads) result }
+{
+    check_crit(header, validation)?;
+    let verifier = verifier_for(alloc, provider, header, key, validation)?;
+    let claims = verify_and_read_claims(alloc, &verifier, parts, validation, time)?;
+    Ok(claims)
+}
+
+/// Returns the verifier by the key and the header's algorithm, which is among those that are
+/// allowed: the tests of the algorithms of [`decode`](crate::decode) in another order.
+fn verifier_for<P: CryptoProvider>(
+    alloc: Global,
+    provider: &P,
+    header: &Header,
+    key: &DecodingKey,
+    validation: &Validation,
+) -> Result<P::Verifier, Refusal>
+    ensures tests { Step
+        (allowing (options_of validation.now) key.now (P.verifier_refusal provider.now))
+        jws_algorithm_tests (with_header header.now) ShowsNothing result }
+    ensures accepts { IfOk result (λ v. (m s : List ℕ) →
+        P.Verifier.accepts v m s ↔ P.accepts provider.now header.now.alg key.now m s) }
+{
+    let algorithm = header.alg;
+    let verifier = make_verifier(alloc, provider, algorithm, key)?;
+    check_some_listed(validation)?;
+    check_families(validation, algorithm)?;
+    check_listed(validation, algorithm)?;
+    Ok(verifier)
 }

@@ -13,28 +13,6 @@ ghost use Rattle.jsonwebtoken.specs.private_clauses.KnownHeaders.{IsKnownHeader}
 use jwt_base::algorithms::Algorithm;
 use jwt_header::Header;
 
-/// Returns the part for the algorithm, if it is one of these four.
-fn known_text(algorithm: Algorithm) -> Option<&'static str>
-    ensures { IfSome result (λ t. IsKnownHeader t.now algorithm) }
-{
-    match algorithm {
-        Algorithm::HS256 => Some("eyJhbGciOiJIUzI1NiIsInR5cCI6IkpXVCJ9"),
-        Algorithm::RS256 => Some("eyJhbGciOiJSUzI1NiIsInR5cCI6IkpXVCJ9"),
-        Algorithm::ES256 => Some("eyJhbGciOiJFUzI1NiIsInR5cCI6IkpXVCJ9"),
-        Algorithm::EdDSA => Some("eyJhbGciOiJFZERTQSIsInR5cCI6IkpXVCJ9"),
-        _ => None,
-    }
-}
-
-fn is_known(part: &[u8], algorithm: Algorithm) -> bool
-    ensures { IsTrue result → IsKnownHeader part.now algorithm }
-{
-    match known_text(algorithm) {
-        Some(text) => part == text.as_bytes(),
-        None => false,
-    }
-}
-
 /// Returns the algorithm of a part, if it is one of the four.
 pub(crate) fn known_algorithm(part: &[u8]) -> Option<Algorithm>
     ensures { IfSome result (IsKnownHeader part.now) }
@@ -50,6 +28,39 @@ pub(crate) fn known_algorithm(part: &[u8]) -> Option<Algorithm>
         }
     }
     None
+}
+
+/// Returns the part of a header, if it is one of the four.
+pub(crate) fn known_part(header: &Header) -> Option<&'static str>
+    ensures known { IfSome result (λ t. IsKnownHeader t.now header.now.alg) }
+    ensures alone { IfSome result (λ t. header.now ≡ new_header header.now.alg) }
+{
+    if has_type_alone(header) {
+        return known_text(header.alg);
+    }
+    None
+}
+
+fn is_known(part: &[u8], algorithm: Algorithm) -> bool
+    ensures { IsTrue result → IsKnownHeader part.now algorithm }
+{
+    match known_text(algorithm) {
+        Some(text) => part == text.as_bytes(),
+        None => false,
+    }
+}
+
+/// Returns the part for the algorithm, if it is one of these four.
+fn known_text(algorithm: Algorithm) -> Option<&'static str>
+    ensures { IfSome result (λ t. IsKnownHeader t.now algorithm) }
+{
+    match algorithm {
+        Algorithm::HS256 => Some("eyJhbGciOiJIUzI1NiIsInR5cCI6IkpXVCJ9"),
+        Algorithm::RS256 => Some("eyJhbGciOiJSUzI1NiIsInR5cCI6IkpXVCJ9"),
+        Algorithm::ES256 => Some("eyJhbGciOiJFUzI1NiIsInR5cCI6IkpXVCJ9"),
+        Algorithm::EdDSA => Some("eyJhbGciOiJFZERTQSIsInR5cCI6IkpXVCJ9"),
+        _ => None,
+    }
 }
 
 /// Returns whether the header has the type `JWT` and nothing else but its algorithm.
@@ -78,15 +89,4 @@ fn has_type_alone(header: &Header) -> bool
         return false;
     };
     typ.as_str() == "JWT" && extras.inner().is_empty()
-}
-
-/// Returns the part of a header, if it is one of the four.
-pub(crate) fn known_part(header: &Header) -> Option<&'static str>
-    ensures known { IfSome result (λ t. IsKnownHeader t.now header.now.alg) }
-    ensures alone { IfSome result (λ t. header.now ≡ new_header header.now.alg) }
-{
-    if has_type_alone(header) {
-        return known_text(header.alg);
-    }
-    None
 }

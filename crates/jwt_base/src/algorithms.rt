@@ -54,18 +54,6 @@ impl AlgorithmFamily {
         }
     }
 
-    // Returns the name in JSON.
-    fn name(self) -> &'static str
-        ensures { result.now ≡ family_name_of self }
-    {
-        match self {
-            AlgorithmFamily::Hmac => "Hmac",
-            AlgorithmFamily::Rsa => "Rsa",
-            AlgorithmFamily::Ec => "Ec",
-            AlgorithmFamily::Ed => "Ed",
-        }
-    }
-
     /// Returns the name as a JSON string. The only refusal is `OutOfMemory`.
     pub fn to_value(&self, alloc: Global) -> Result<Value>
         ensures ok { IfOk result (λ v. view v ≡ string (family_name_of self.now)) }
@@ -86,17 +74,17 @@ impl AlgorithmFamily {
             None => Err(new_error(ErrorKind::Json)),
         }
     }
-}
 
-fn family_of_name(name: &str) -> Option<AlgorithmFamily>
-    ensures { result ≡ family_named name.now }
-{
-    match name {
-        "Hmac" => Some(AlgorithmFamily::Hmac),
-        "Rsa" => Some(AlgorithmFamily::Rsa),
-        "Ec" => Some(AlgorithmFamily::Ec),
-        "Ed" => Some(AlgorithmFamily::Ed),
-        _ => None,
+    // Returns the name in JSON.
+    fn name(self) -> &'static str
+        ensures { result.now ≡ family_name_of self }
+    {
+        match self {
+            AlgorithmFamily::Hmac => "Hmac",
+            AlgorithmFamily::Rsa => "Rsa",
+            AlgorithmFamily::Ec => "Ec",
+            AlgorithmFamily::Ed => "Ed",
+        }
     }
 }
 
@@ -194,26 +182,6 @@ impl Default for Algorithm {
 
     fn default() -> Algorithm {
         Algorithm::HS256
-    }
-}
-
-fn algorithm_of_name(name: &str) -> Option<Algorithm>
-    ensures { result ≡ algorithm_named name.now }
-{
-    match name {
-        "HS256" => Some(Algorithm::HS256),
-        "HS384" => Some(Algorithm::HS384),
-        "HS512" => Some(Algorithm::HS512),
-        "RS256" => Some(Algorithm::RS256),
-        "RS384" => Some(Algorithm::RS384),
-        "RS512" => Some(Algorithm::RS512),
-        "PS256" => Some(Algorithm::PS256),
-        "PS384" => Some(Algorithm::PS384),
-        "PS512" => Some(Algorithm::PS512),
-        "ES256" => Some(Algorithm::ES256),
-        "ES384" => Some(Algorithm::ES384),
-        "EdDSA" => Some(Algorithm::EdDSA),
-        _ => None,
     }
 }
 
@@ -377,29 +345,6 @@ impl TryFrom<KeyAlgorithm> for Algorithm {
     }
 }
 
-fn key_algorithm_of_name(name: &str) -> Option<KeyAlgorithm>
-    ensures { result ≡ key_algorithm_named name.now }
-{
-    match name {
-        "HS256" => Some(KeyAlgorithm::HS256),
-        "HS384" => Some(KeyAlgorithm::HS384),
-        "HS512" => Some(KeyAlgorithm::HS512),
-        "RS256" => Some(KeyAlgorithm::RS256),
-        "RS384" => Some(KeyAlgorithm::RS384),
-        "RS512" => Some(KeyAlgorithm::RS512),
-        "PS256" => Some(KeyAlgorithm::PS256),
-        "PS384" => Some(KeyAlgorithm::PS384),
-        "PS512" => Some(KeyAlgorithm::PS512),
-        "ES256" => Some(KeyAlgorithm::ES256),
-        "ES384" => Some(KeyAlgorithm::ES384),
-        "EdDSA" => Some(KeyAlgorithm::EdDSA),
-        "RSA1_5" => Some(KeyAlgorithm::RSA1_5),
-        "RSA-OAEP" => Some(KeyAlgorithm::RSA_OAEP),
-        "RSA-OAEP-256" => Some(KeyAlgorithm::RSA_OAEP_256),
-        _ => None,
-    }
-}
-
 /// Parses the name in JSON. Any other string, including `UNKNOWN_ALGORITHM`, is refused with
 /// `InvalidAlgorithmName`.
 impl FromStr for KeyAlgorithm {
@@ -440,5 +385,60 @@ impl fmt::Display for KeyAlgorithm {
             KeyAlgorithm::RSA_OAEP_256 => write!(f, "RSA_OAEP_256"),
             KeyAlgorithm::UNKNOWN_ALGORITHM => write!(f, "UNKNOWN_ALGORITHM"),
         }
+    }
+}
+
+fn family_of_name(name: &str) -> Option<AlgorithmFamily>
+    ensures { result ≡ family_named name.now }
+{
+    match name {
+        "Hmac" => Some(AlgorithmFamily::Hmac),
+        "Rsa" => Some(AlgorithmFamily::Rsa),
+        "Ec" => Some(AlgorithmFamily::Ec),
+        "Ed" => Some(AlgorithmFamily::Ed),
+        _ => None,
+    }
+}
+
+fn algorithm_of_name(name: &str) -> Option<Algorithm>
+    ensures { result ≡ algorithm_named name.now }
+{
+    match name {
+        "HS256" => Some(Algorithm::HS256),
+        "HS384" => Some(Algorithm::HS384),
+        "HS512" => Some(Algorithm::HS512),
+        "RS256" => Some(Algorithm::RS256),
+        "RS384" => Some(Algorithm::RS384),
+        "RS512" => Some(Algorithm::RS512),
+        "PS256" => Some(Algorithm::PS256),
+        "PS384" => Some(Algorithm::PS384),
+        "PS512" => Some(Algorithm::PS512),
+        "ES256" => Some(Algorithm::ES256),
+        "ES384" => Some(Algorithm::ES384),
+        "EdDSA" => Some(Algorithm::EdDSA),
+        _ => None,
+    }
+}
+
+fn key_algorithm_of_name(name: &str) -> Option<KeyAlgorithm>
+    ensures { result ≡ key_algorithm_named name.now }
+{
+    match name {
+        "HS256" => Some(KeyAlgorithm::HS256),
+        "HS384" => Some(KeyAlgorithm::HS384),
+        "HS512" => Some(KeyAlgorithm::HS512),
+        "RS256" => Some(KeyAlgorithm::RS256),
+        "RS384" => Some(KeyAlgorithm::RS384),
+        "RS512" => Some(KeyAlgorithm::RS512),
+        "PS256" => Some(KeyAlgorithm::PS256),
+        "PS384" => Some(KeyAlgorithm::PS384),
+        "PS512" => Some(KeyAlgorithm::PS512),
+        "ES256" => Some(KeyAlgorithm::ES256),
+        "ES384" => Some(KeyAlgorithm::ES384),
+        "EdDSA" => Some(KeyAlgorithm::EdDSA),
+        "RSA1_5" => Some(KeyAlgorithm::RSA1_5),
+        "RSA-OAEP" => Some(KeyAlgorithm::RSA_OAEP),
+        "RSA-OAEP-256" => Some(KeyAlgorithm::RSA_OAEP_256),
+        _ => None,
     }
 }

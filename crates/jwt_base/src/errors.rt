@@ -204,13 +204,6 @@ impl ErrorKind {
     }
 }
 
-fn copied(alloc: Global, text: &str) -> Result<String>
-    ensures ok { IfOk result (λ t. string_bytes t ≡ text.now) }
-    ensures err { IfErr result IsMemory }
-{
-    Ok(String::from_str(alloc, text)?)
-}
-
 impl ErrorKind {
     ghost use Rattle.jwt_base.specs.equality.KindEq.{number_of_held, text_of_held};
 
@@ -447,4 +440,11 @@ impl fmt::Display for Error {
         let kind = &self.kind;
         write!(f, "{kind}")
     }
+}
+
+fn copied(alloc: Global, text: &str) -> Result<String>
+    ensures ok { IfOk result (λ t. string_bytes t ≡ text.now) }
+    ensures err { IfErr result IsMemory }
+{
+    Ok(String::from_str(alloc, text)?)
 }

@@ -18,28 +18,7 @@ pub struct Verifying {
     validation: Box<Validation>,
 }
 
-fn read_jwk(alloc: Global, value: &Value) -> Result<Box<Jwk>> {
-    Ok(Box::new(alloc, Jwk::from_value(alloc, value)?)?)
-}
-
-fn key_of(alloc: Global, value: &Value) -> Result<Box<DecodingKey>> {
-    let jwk = read_jwk(alloc, value)?;
-    Ok(Box::new(alloc, DecodingKey::from_jwk(alloc, &jwk)?)?)
-}
-
-fn read_validation(alloc: Global, value: &Value) -> Result<Box<Validation>> {
-    Ok(Box::new(alloc, Validation::from_value(alloc, value)?)?)
-}
-
 impl Verifying {
-    fn read(alloc: Global, token: &str, key: &Value, options: &Value) -> Result<Verifying> {
-        Ok(Verifying {
-            token: Vec::from_slice(alloc, token.as_bytes())?,
-            key: key_of(alloc, key)?,
-            validation: read_validation(alloc, options)?,
-        })
-    }
-
     /// Returns the values that the text describes: a JSON object of a token, `token`, its key,
     /// `jwk`, and the options, `validation`.
     pub fn new(alloc: Global, text: &str) -> Result<Verifying> {
@@ -76,4 +55,25 @@ impl Verifying {
         drop(answer);
         is_ok
     }
+
+    fn read(alloc: Global, token: &str, key: &Value, options: &Value) -> Result<Verifying> {
+        Ok(Verifying {
+            token: Vec::from_slice(alloc, token.as_bytes())?,
+            key: key_of(alloc, key)?,
+            validation: read_validation(alloc, options)?,
+        })
+    }
+}
+
+fn key_of(alloc: Global, value: &Value) -> Result<Box<DecodingKey>> {
+    let jwk = read_jwk(alloc, value)?;
+    Ok(Box::new(alloc, DecodingKey::from_jwk(alloc, &jwk)?)?)
+}
+
+fn read_jwk(alloc: Global, value: &Value) -> Result<Box<Jwk>> {
+    Ok(Box::new(alloc, Jwk::from_value(alloc, value)?)?)
+}
+
+fn read_validation(alloc: Global, value: &Value) -> Result<Box<Validation>> {
+    Ok(Box::new(alloc, Validation::from_value(alloc, value)?)?)
 }

@@ -55,14 +55,6 @@ struct Reading {
     validation: Box<Validation>,
 }
 
-fn decoding_key(alloc: Global) -> Result<Box<DecodingKey>> {
-    Ok(Box::new(alloc, DecodingKey::from_secret(alloc, b"secret")?)?)
-}
-
-fn validation(alloc: Global) -> Result<Box<Validation>> {
-    Ok(Box::new(alloc, Validation::new(alloc, Algorithm::HS256)?)?)
-}
-
 impl Reading {
     fn new(alloc: Global) -> Result<Reading> {
         Ok(Reading {
@@ -79,14 +71,6 @@ struct Issuing {
     header: Box<Header>,
 }
 
-fn encoding_key(alloc: Global) -> Result<Box<EncodingKey>> {
-    Ok(Box::new(alloc, EncodingKey::from_secret(alloc, b"secret")?)?)
-}
-
-fn header(alloc: Global) -> Result<Box<Header>> {
-    Ok(Box::new(alloc, Header::new(alloc, Algorithm::HS256)?)?)
-}
-
 impl Issuing {
     fn new(alloc: Global) -> Result<Issuing> {
         Ok(Issuing {
@@ -94,11 +78,6 @@ impl Issuing {
             header: header(alloc)?,
         })
     }
-}
-
-fn prepared_provider(alloc: Global) -> Result<Box<PreparedHmac>> {
-    let provider = PreparedHmac::new(alloc, Algorithm::HS256, b"secret")?;
-    Ok(Box::new(alloc, provider)?)
 }
 
 /// The values that the work needs, whose making is not measured.
@@ -168,6 +147,42 @@ impl Prepared {
     }
 }
 
+/// Does the work on the text this many times.
+pub fn repeat(
+    alloc: Global,
+    prepared: &Prepared,
+    text: &str,
+    count: u64,
+) -> Result<(), BenchFault> {
+    let bytes = text.as_bytes();
+    match prepared.work {
+        Work::CompareFirst => compare(alloc, bytes, 0, count),
+        Work::CompareLast => compare(alloc, bytes, bytes.len().saturating_sub(1), count),
+        _ => repeat_calls(alloc, prepared, text, count),
+    }
+}
+
+fn decoding_key(alloc: Global) -> Result<Box<DecodingKey>> {
+    Ok(Box::new(alloc, DecodingKey::from_secret(alloc, b"secret")?)?)
+}
+
+fn validation(alloc: Global) -> Result<Box<Validation>> {
+    Ok(Box::new(alloc, Validation::new(alloc, Algorithm::HS256)?)?)
+}
+
+fn encoding_key(alloc: Global) -> Result<Box<EncodingKey>> {
+    Ok(Box::new(alloc, EncodingKey::from_secret(alloc, b"secret")?)?)
+}
+
+fn header(alloc: Global) -> Result<Box<Header>> {
+    Ok(Box::new(alloc, Header::new(alloc, Algorithm::HS256)?)?)
+}
+
+fn prepared_provider(alloc: Global) -> Result<Box<PreparedHmac>> {
+    let provider = PreparedHmac::new(alloc, Algorithm::HS256, b"secret")?;
+    Ok(Box::new(alloc, provider)?)
+}
+
 fn has_header(alloc: Global, token: &[u8]) -> bool {
     let answer = decode_header(alloc, token);
     let is_ok = black_box(&answer).is_ok();
@@ -202,19 +217,4 @@ fn repeat_calls(
         }
     }
     Ok(())
-}
-
-/// Does the work on the text this many times.
-pub fn repeat(
-    alloc: Global,
-    prepared: &Prepared,
-    text: &str,
-    count: u64,
-) -> Result<(), BenchFault> {
-    let bytes = text.as_bytes();
-    match prepared.work {
-        Work::CompareFirst => compare(alloc, bytes, 0, count),
-        Work::CompareLast => compare(alloc, bytes, bytes.len().saturating_sub(1), count),
-        _ => repeat_calls(alloc, prepared, text, count),
-    }
 }

@@ -34,13 +34,6 @@ impl Model for Handle {
     ghost also_owns = { λ h. handle_owns shared_row h.alloc h.at h.held };
 }
 
-/// Returns the value, which may go to another thread.
-fn sendable<T: Send>(value: T) -> T
-    ensures { result ≡ value }
-{
-    value
-}
-
 impl Handle {
     /// Returns the handle that holds nothing.
     pub(crate) fn none(alloc: Global) -> Handle
@@ -108,4 +101,11 @@ impl Drop for Handle {
             drop(value);
         }
     }
+}
+
+/// Returns the value, which may go to another thread.
+fn sendable<T: Send>(value: T) -> T
+    ensures { result ≡ value }
+{
+    value
 }

@@ -27,13 +27,6 @@ pub(crate) fn put(alloc: Global, made: Option<Shared>, verifier: &mut Handle) ->
     22
 }
 
-fn hold(alloc: Global, made: Verifier, verifier: &mut Handle) -> u32
-    ensures { MatchOption verifier.new.held (result ≡ 22)
-        (λ s. (result ≡ 0) × (verifier_in s ≡ made)) }
-{
-    put(alloc, Shared::new(alloc, made).ok(), verifier)
-}
-
 /// Leaves a verifier that was made, or its status, in a handle. One that holds a verifier already
 /// is unchanged.
 pub(crate) fn leave_made(alloc: Global, made: Result<Verifier, u32>, verifier: &mut Handle) -> u32
@@ -76,4 +69,11 @@ pub(crate) fn leave_until(
             denied.status
         }
     }
+}
+
+fn hold(alloc: Global, made: Verifier, verifier: &mut Handle) -> u32
+    ensures { MatchOption verifier.new.held (result ≡ 22)
+        (λ s. (result ≡ 0) × (verifier_in s ≡ made)) }
+{
+    put(alloc, Shared::new(alloc, made).ok(), verifier)
 }

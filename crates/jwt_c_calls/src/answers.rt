@@ -38,19 +38,6 @@ use serde_json::Value;
 use std::alloc::Global;
 use std::result::Result;
 
-// Returns the claims as their text, or the refusal.
-fn hand_out(alloc: Global, answer: Result<TokenData<Value>, Error>) -> Result<Vec<u8>, Refusal>
-    ensures { HandsOut (λ d. d.claims) (λ b. b.items) answer result }
-{
-    match answer {
-        Ok(data) => match data.claims.to_vec(alloc) {
-            Ok(text) => Ok(text),
-            Err(refused) => Err(Refusal::from(refused)),
-        },
-        Err(refused) => Err(Refusal::from(refused)),
-    }
-}
-
 /// Returns the claims of a token that is verified with HMAC and a secret.
 pub fn hmac_answer(
     alloc: Global,
@@ -68,25 +55,6 @@ pub fn hmac_answer(
     let key = DecodingKey::from_secret(alloc, secret)?;
     let answer = decode(alloc, &HmacProvider, token, &key, &validation, time);
     hand_out(alloc, answer)
-}
-
-// Returns the claims of a token that is verified with the key that a JSON Web Key stands for, by
-// the algorithm that the header names, or the kind of the refusal.
-fn by_jwk(
-    alloc: Global,
-    token: &[u8],
-    jwk: &Jwk,
-    validation: &Validation,
-    time: u64,
-) -> Result<TokenData<Value>, Error>
-    ensures ok { IfOk result (λ d. (t : Contents)
-        × PassesByJwk token.now time (options_of validation.now) jwk.now t
-        × ((t.header ≡ d.header) × (view d.claims ≡ t.payload_value))) }
-    ensures err { IfErr result (λ e. IsMemory e
-        ⊎ FailsByJwk token.now time (options_of validation.now) jwk.now (kind_of e)) }
-{
-    let key = DecodingKey::from_jwk(alloc, jwk)?;
-    decode(alloc, &StandardProvider, token, &key, validation, time)
 }
 
 /// Returns the claims of a token that is verified with a key, which is the JSON text of one JSON
@@ -125,23 +93,6 @@ pub fn set_answer(
     hand_out(alloc, answer)
 }
 
-fn verdict_answer(
-    alloc: Global,
-    token: &[u8],
-    verdict: &VerdictProvider<'_>,
-    options: &[u8],
-    time: u64,
-) -> Result<Vec<u8>, Refusal>
-    ensures ok { IfOk result (λ b. AnswersVerdict options.now token.now verdict.now time
-        (Gives b.items)) }
-    ensures err { IfErr result (λ r. AnswersVerdict options.now token.now verdict.now time
-        (answer_of r)) }
-{
-    let validation = read_as(Input::Options, Validation::from_slice(alloc, options))?;
-    let answer = decode_by_verdict(alloc, token, verdict, &validation, time);
-    hand_out(alloc, answer)
-}
-
 /// Returns the claims of a token whose signature the caller has checked, by the algorithm of this
 /// number.
 pub fn said_answer(
@@ -171,18 +122,6 @@ pub fn said_answer(
     }
 }
 
-fn header_of(alloc: Global, token: &[u8]) -> Result<Value, Error>
-    ensures ok { IfOk result (λ v. (t : Contents)
-        × Passes (token_tests (header_call token.now)) header_order t
-        × (header_value t.header ≡ Some (view v))) }
-    ensures no_float { IfOk result (λ v. has_float (view v) ≡ false) }
-    ensures err { IfErr result (λ e. IsMemory e
-        ⊎ FailsFirst (token_tests (header_call token.now)) header_order (kind_of e)) }
-{
-    let header = decode_header(alloc, token)?;
-    header.to_value(alloc)
-}
-
 /// Returns the header of a token, which is not verified, as its text.
 pub fn header_answer(alloc: Global, token: &[u8]) -> Result<Vec<u8>, Refusal>
     ensures ok { IfOk result (λ b. AnswersHeader token.now (Gives b.items)) }
@@ -203,4 +142,65 @@ pub fn numbers_answer(alloc: Global, claims: &[u8]) -> Result<(), Refusal>
         return Err(Refusal::Token(new_error(ErrorKind::Json)));
     }
     Ok(())
+}
+
+// Returns the claims as their text, or the refusal.
+fn hand_out(alloc: Global, answer: Result<TokenData<Value>, Error>) -> Result<Vec<u8>, Refusal>
+    ensures { HandsOut (λ d. d.claims) (λ b. b.items) answer result }
+{
+    match answer {
+        Ok(data) => match data.claims.to_vec(alloc) {
+            Ok(text) => Ok(text),
+            Err(refused) => Err(Refusal::from(refused)),
+        },
+        Err(refused) => Err(Refusal::from(refused)),
+    }
+}
+
+// Returns the claims of a token that is verified with the key that a JSON Web Key stands for, by
+// the algorithm that the header names, or the kind of the refusal.
+fn by_jwk(
+    alloc: Global,
+    token: &[u8],
+    jwk: &Jwk,
+    validation: &Validation,
+    time: u64,
+) -> Result<TokenData<Value>, Error>
+    ensures ok { IfOk result (λ d. (t : Contents)
+        × PassesByJwk token.now time (options_of validation.now) jwk.now t
+        × ((t.header ≡ d.header) × (view d.claims ≡ t.payload_value))) }
+    ensures err { IfErr result (λ e. IsMemory e
+        ⊎ FailsByJwk token.now time (options_of validation.now) jwk.now (kind_of e)) }
+{
+    let key = DecodingKey::from_jwk(alloc, jwk)?;
+    decode(alloc, &StandardProvider, token, &key, validation, time)
+}
+
+fn verdict_answer(
+    alloc: Global,
+    token: &[u8],
+    verdict: &VerdictProvider<'_>,
+    options: &[u8],
+    time: u64,
+) -> Result<Vec<u8>, Refusal>
+    ensures ok { IfOk result (λ b. AnswersVerdict options.now token.now verdict.now time
+        (Gives b.items)) }
+    ensures err { IfErr result (λ r. AnswersVerdict options.now token.now verdict.now time
+        (answer_of r)) }
+{
+    let validation = read_as(Input::Options, Validation::from_slice(alloc, options))?;
+    let answer = decode_by_verdict(alloc, token, verdict, &validation, time);
+    hand_out(alloc, answer)
+}
+
+fn header_of(alloc: Global, token: &[u8]) -> Result<Value, Error>
+    ensures ok { IfOk result (λ v. (t : Contents)
+        × Passes (token_tests (header_call token.now)) header_order t
+        × (header_value t.header ≡ Some (view v))) }
+    ensures no_float { IfOk result (λ v. has_float (view v) ≡ false) }
+    ensures err { IfErr result (λ e. IsMemory e
+        ⊎ FailsFirst (token_tests (header_call token.now)) header_order (kind_of e)) }
+{
+    let header = decode_header(alloc, token)?;
+    header.to_value(alloc)
 }

@@ -18,16 +18,6 @@ use serde_json::Value;
 use std::alloc::Global;
 use std::result::Result;
 
-fn input_of(alloc: Global, header: &Header, claims: &Value) -> Result<SigningInput, Refusal>
-    ensures ok { IfOk result (λ s. AnswersInputOf header.now (view claims.now)
-        (Gives (string_bytes s.message))) }
-    ensures algorithm { IfOk result (λ s. header.now.alg ≡ s.algorithm) }
-    ensures err { IfErr result (λ r. AnswersInputOf header.now (view claims.now) (answer_of r)) }
-{
-    let input = signing_input(alloc, header, claims)?;
-    Ok(input)
-}
-
 /// Returns the message of a token that is to be signed elsewhere, and the header's algorithm.
 pub fn input_answer(alloc: Global, header: &[u8], claims: &[u8]) -> Result<SigningInput, Refusal>
     ensures ok { IfOk result (λ s. AnswersInput header.now claims.now
@@ -38,35 +28,6 @@ pub fn input_answer(alloc: Global, header: &[u8], claims: &[u8]) -> Result<Signi
     let header = read_as(Input::Header, Header::from_slice(alloc, header))?;
     let claims = read_as(Input::Claims, read_claims(alloc, claims))?;
     input_of(alloc, &header, &claims)
-}
-
-fn issued(
-    alloc: Global,
-    header: &Header,
-    claims: &Value,
-    given: &SignatureProvider<'_>,
-) -> Result<Vec<u8>, Refusal>
-    ensures ok { IfOk result (λ b. AnswersGivenFor given.now header.now (view claims.now)
-        (Gives b.items)) }
-    ensures err { IfErr result (λ r. AnswersGivenFor given.now header.now (view claims.now)
-        (answer_of r)) }
-{
-    let token = encode_by_signature(alloc, header, claims, given)?;
-    Ok(token.into_bytes())
-}
-
-fn given_answer(
-    alloc: Global,
-    header: &[u8],
-    claims: &[u8],
-    given: &SignatureProvider<'_>,
-) -> Result<Vec<u8>, Refusal>
-    ensures ok { IfOk result (λ b. AnswersGiven given.now header.now claims.now (Gives b.items)) }
-    ensures err { IfErr result (λ r. AnswersGiven given.now header.now claims.now (answer_of r)) }
-{
-    let header = read_as(Input::Header, Header::from_slice(alloc, header))?;
-    let claims = read_as(Input::Claims, read_claims(alloc, claims))?;
-    issued(alloc, &header, &claims, given)
 }
 
 /// Returns the token of a header and claims that were signed elsewhere, by the algorithm of this
@@ -104,4 +65,43 @@ pub fn ecdsa_answer(alloc: Global, der: &[u8], algorithm: u32) -> Result<Vec<u8>
         Some(by) => Ok(ecdsa_signature(alloc, der, by)?),
         None => Err(Refusal::Token(new_error(ErrorKind::InvalidAlgorithmName))),
     }
+}
+
+fn input_of(alloc: Global, header: &Header, claims: &Value) -> Result<SigningInput, Refusal>
+    ensures ok { IfOk result (λ s. AnswersInputOf header.now (view claims.now)
+        (Gives (string_bytes s.message))) }
+    ensures algorithm { IfOk result (λ s. header.now.alg ≡ s.algorithm) }
+    ensures err { IfErr result (λ r. AnswersInputOf header.now (view claims.now) (answer_of r)) }
+{
+    let input = signing_input(alloc, header, claims)?;
+    Ok(input)
+}
+
+fn given_answer(
+    alloc: Global,
+    header: &[u8],
+    claims: &[u8],
+    given: &SignatureProvider<'_>,
+) -> Result<Vec<u8>, Refusal>
+    ensures ok { IfOk result (λ b. AnswersGiven given.now header.now claims.now (Gives b.items)) }
+    ensures err { IfErr result (λ r. AnswersGiven given.now header.now claims.now (answer_of r)) }
+{
+    let header = read_as(Input::Header, Header::from_slice(alloc, header))?;
+    let claims = read_as(Input::Claims, read_claims(alloc, claims))?;
+    issued(alloc, &header, &claims, given)
+}
+
+fn issued(
+    alloc: Global,
+    header: &Header,
+    claims: &Value,
+    given: &SignatureProvider<'_>,
+) -> Result<Vec<u8>, Refusal>
+    ensures ok { IfOk result (λ b. AnswersGivenFor given.now header.now (view claims.now)
+        (Gives b.items)) }
+    ensures err { IfErr result (λ r. AnswersGivenFor given.now header.now (view claims.now)
+        (answer_of r)) }
+{
+    let token = encode_by_signature(alloc, header, claims, given)?;
+    Ok(token.into_bytes())
 }

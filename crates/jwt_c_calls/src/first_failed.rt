@@ -94,16 +94,6 @@ pub fn set_failed_test(
     Ok(failed)
 }
 
-/// Returns the name of a test that fails, or no bytes if none does.
-fn failed_name(failed: Option<Test>) -> &'static [u8]
-    ensures { result.now ≡ failed_name failed }
-{
-    match failed {
-        Some(test) => test.name().as_bytes(),
-        None => &[],
-    }
-}
-
 /// Writes the name of the test that fails, or no bytes if none does, or the reason for which there
 /// is no answer.
 pub fn leave_name(answer: Result<Option<Test>, Refusal>, room: &mut [u8], len: &mut usize) -> u32
@@ -116,5 +106,15 @@ pub fn leave_name(answer: Result<Option<Test>, Refusal>, room: &mut [u8], len: &
             *len = 0;
             status_of(&refusal)
         }
+    }
+}
+
+/// Returns the name of a test that fails, or no bytes if none does.
+fn failed_name(failed: Option<Test>) -> &'static [u8]
+    ensures { result.now ≡ failed_name failed }
+{
+    match failed {
+        Some(test) => test.name().as_bytes(),
+        None => &[],
     }
 }

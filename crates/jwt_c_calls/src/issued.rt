@@ -16,17 +16,6 @@ use serde_json::Value;
 use std::alloc::Global;
 use std::result::Result;
 
-fn issued(alloc: Global, header: &Header, claims: &Value, secret: &[u8]) -> Result<Vec<u8>, Refusal>
-    ensures ok { IfOk result (λ b. AnswersIssue secret.now header.now (view claims.now)
-        (Gives b.items)) }
-    ensures err { IfErr result (λ r. AnswersIssue secret.now header.now (view claims.now)
-        (answer_of r)) }
-{
-    let key = EncodingKey::from_secret(alloc, secret)?;
-    let token = encode(alloc, &HmacProvider, header, claims, &key)?;
-    Ok(token.into_bytes())
-}
-
 /// Returns the token of a header and claims, signed with HMAC and a secret.
 pub fn encode_answer(
     alloc: Global,
@@ -54,15 +43,6 @@ pub fn numbered_hash(bits: u32) -> Option<ThumbprintHash>
     }
 }
 
-fn hashed(alloc: Global, key: &[u8], hash: ThumbprintHash) -> Result<Vec<u8>, Refusal>
-    ensures ok { IfOk result (λ b. AnswersHashed hash key.now (Gives b.items)) }
-    ensures err { IfErr result (λ r. AnswersHashed hash key.now (answer_of r)) }
-{
-    let key = read_as(Input::Key, Jwk::from_slice(alloc, key))?;
-    let text = key.thumbprint(alloc, &HmacProvider, hash)?;
-    Ok(text.into_bytes())
-}
-
 /// Returns the thumbprint of a key, by the hash of this many bits.
 pub fn thumbprint_answer(alloc: Global, key: &[u8], bits: u32) -> Result<Vec<u8>, Refusal>
     ensures ok { IfOk result (λ b. AnswersThumbprint (hash_numbered bits) key.now (Gives b.items)) }
@@ -72,4 +52,24 @@ pub fn thumbprint_answer(alloc: Global, key: &[u8], bits: u32) -> Result<Vec<u8>
         Some(hash) => hashed(alloc, key, hash),
         None => Err(Refusal::Token(new_error(ErrorKind::InvalidAlgorithmName))),
     }
+}
+
+fn issued(alloc: Global, header: &Header, claims: &Value, secret: &[u8]) -> Result<Vec<u8>, Refusal>
+    ensures ok { IfOk result (λ b. AnswersIssue secret.now header.now (view claims.now)
+        (Gives b.items)) }
+    ensures err { IfErr result (λ r. AnswersIssue secret.now header.now (view claims.now)
+        (answer_of r)) }
+{
+    let key = EncodingKey::from_secret(alloc, secret)?;
+    let token = encode(alloc, &HmacProvider, header, claims, &key)?;
+    Ok(token.into_bytes())
+}
+
+fn hashed(alloc: Global, key: &[u8], hash: ThumbprintHash) -> Result<Vec<u8>, Refusal>
+    ensures ok { IfOk result (λ b. AnswersHashed hash key.now (Gives b.items)) }
+    ensures err { IfErr result (λ r. AnswersHashed hash key.now (answer_of r)) }
+{
+    let key = read_as(Input::Key, Jwk::from_slice(alloc, key))?;
+    let text = key.thumbprint(alloc, &HmacProvider, hash)?;
+    Ok(text.into_bytes())
 }

@@ -25,30 +25,6 @@ pub struct Found {
     pub text: Vec<u8>,
 }
 
-fn type_of(value: &Value) -> u32
-    ensures { result ≡ type_number (view value.now) }
-{
-    match value {
-        Value::Null => 1,
-        Value::Bool(_) => 2,
-        Value::Number(_) => 3,
-        Value::String(_) => 4,
-        Value::Array(_) => 5,
-        Value::Object(_) => 6,
-    }
-}
-
-fn text_of(alloc: Global, value: &Value) -> Result<Vec<u8>, Refusal>
-    ensures ok { IfOk result (λ b. depth (view value.now) ≤ max_depth
-        → IsValueText (view value.now) b.items) }
-    ensures err { IfErr result (λ r. answer_of r ≡ Refuses kind.OutOfMemory) }
-{
-    match value.as_str() {
-        Some(text) => Ok(text.as_bytes().to_vec(alloc)?),
-        None => Ok(value.to_vec(alloc)?),
-    }
-}
-
 /// Returns the member of this name of the object that a JSON text describes, or `None` if the
 /// object has none. A text of anything else is refused.
 pub fn member_answer(alloc: Global, json: &[u8], name: &[u8]) -> Result<Option<Found>, Refusal>
@@ -68,4 +44,28 @@ pub fn member_answer(alloc: Global, json: &[u8], name: &[u8]) -> Result<Option<F
         type_number: type_of(value),
         text,
     }))
+}
+
+fn text_of(alloc: Global, value: &Value) -> Result<Vec<u8>, Refusal>
+    ensures ok { IfOk result (λ b. depth (view value.now) ≤ max_depth
+        → IsValueText (view value.now) b.items) }
+    ensures err { IfErr result (λ r. answer_of r ≡ Refuses kind.OutOfMemory) }
+{
+    match value.as_str() {
+        Some(text) => Ok(text.as_bytes().to_vec(alloc)?),
+        None => Ok(value.to_vec(alloc)?),
+    }
+}
+
+fn type_of(value: &Value) -> u32
+    ensures { result ≡ type_number (view value.now) }
+{
+    match value {
+        Value::Null => 1,
+        Value::Bool(_) => 2,
+        Value::Number(_) => 3,
+        Value::String(_) => 4,
+        Value::Array(_) => 5,
+        Value::Object(_) => 6,
+    }
 }

@@ -16,58 +16,6 @@ use serde_json::Value;
 use std::alloc::Global;
 use std::result::Result;
 
-fn form_text(form: Form) -> &'static str
-    ensures { result.now ≡ form_text form }
-{
-    match form {
-        Form::Whole => " is not a whole number from 0 to 2^64 - 1",
-        Form::Flag => " is not true or false",
-        Form::OneText => " is not a string",
-        Form::TextList => " is not a list of strings",
-        Form::AlgorithmList => " is not a list of names of algorithms",
-    }
-}
-
-// Returns the name as JSON, and this text after it.
-fn named(alloc: Global, name: &str, text: &str) -> Result<Vec<u8>, Refusal>
-    ensures ok { IfOk result (λ b. b.items ≡ compact_text (string name.now) ++ text.now) }
-    ensures err { IfErr result (λ r. answer_of r ≡ Refuses kind.OutOfMemory) }
-{
-    let name = Value::String(String::from_str(alloc, name)?);
-    let mut said = name.to_vec(alloc)?;
-    said.extend_from_slice(text.as_bytes())?;
-    Ok(said)
-}
-
-fn said(alloc: Global, text: &str) -> Result<Vec<u8>, Refusal>
-    ensures ok { IfOk result (λ b. b.items ≡ text.now) }
-    ensures err { IfErr result (λ r. answer_of r ≡ Refuses kind.OutOfMemory) }
-{
-    Ok(text.as_bytes().to_vec(alloc)?)
-}
-
-fn fault_text(alloc: Global, fault: OptionsFault<'_>) -> Result<Vec<u8>, Refusal>
-    ensures ok { IfOk result (λ b. b.items ≡ fault_text fault.entry) }
-    ensures err { IfErr result (λ r. answer_of r ≡ Refuses kind.OutOfMemory) }
-{
-    match fault {
-        OptionsFault::NotAnObject => said(alloc, "the options are not a JSON object"),
-        OptionsFault::Unknown(name) => named(alloc, name, " is not an option"),
-        OptionsFault::Malformed(name, form) => named(alloc, name, form_text(form)),
-    }
-}
-
-// Returns what keeps a value from being options, or nothing.
-fn value_fault(alloc: Global, value: &Value) -> Result<Vec<u8>, Refusal>
-    ensures ok { IfOk result (λ b. IsValueFault (view value.now) b.items) }
-    ensures err { IfErr result (λ r. answer_of r ≡ Refuses kind.OutOfMemory) }
-{
-    match options_fault(value) {
-        Some(fault) => fault_text(alloc, fault),
-        None => Ok(Vec::new(alloc)),
-    }
-}
-
 /// Returns what keeps a text from being options: which member, and why; or nothing, if it is the
 /// JSON text of options.
 pub fn options_answer(alloc: Global, text: &[u8]) -> Result<Vec<u8>, Refusal>
@@ -85,4 +33,56 @@ pub fn options_answer(alloc: Global, text: &[u8]) -> Result<Vec<u8>, Refusal>
         }
     };
     value_fault(alloc, &value)
+}
+
+fn fault_text(alloc: Global, fault: OptionsFault<'_>) -> Result<Vec<u8>, Refusal>
+    ensures ok { IfOk result (λ b. b.items ≡ fault_text fault.entry) }
+    ensures err { IfErr result (λ r. answer_of r ≡ Refuses kind.OutOfMemory) }
+{
+    match fault {
+        OptionsFault::NotAnObject => said(alloc, "the options are not a JSON object"),
+        OptionsFault::Unknown(name) => named(alloc, name, " is not an option"),
+        OptionsFault::Malformed(name, form) => named(alloc, name, form_text(form)),
+    }
+}
+
+fn said(alloc: Global, text: &str) -> Result<Vec<u8>, Refusal>
+    ensures ok { IfOk result (λ b. b.items ≡ text.now) }
+    ensures err { IfErr result (λ r. answer_of r ≡ Refuses kind.OutOfMemory) }
+{
+    Ok(text.as_bytes().to_vec(alloc)?)
+}
+
+// Returns the name as JSON, and this text after it.
+fn named(alloc: Global, name: &str, text: &str) -> Result<Vec<u8>, Refusal>
+    ensures ok { IfOk result (λ b. b.items ≡ compact_text (string name.now) ++ text.now) }
+    ensures err { IfErr result (λ r. answer_of r ≡ Refuses kind.OutOfMemory) }
+{
+    let name = Value::String(String::from_str(alloc, name)?);
+    let mut said = name.to_vec(alloc)?;
+    said.extend_from_slice(text.as_bytes())?;
+    Ok(said)
+}
+
+fn form_text(form: Form) -> &'static str
+    ensures { result.now ≡ form_text form }
+{
+    match form {
+        Form::Whole => " is not a whole number from 0 to 2^64 - 1",
+        Form::Flag => " is not true or false",
+        Form::OneText => " is not a string",
+        Form::TextList => " is not a list of strings",
+        Form::AlgorithmList => " is not a list of names of algorithms",
+    }
+}
+
+// Returns what keeps a value from being options, or nothing.
+fn value_fault(alloc: Global, value: &Value) -> Result<Vec<u8>, Refusal>
+    ensures ok { IfOk result (λ b. IsValueFault (view value.now) b.items) }
+    ensures err { IfErr result (λ r. answer_of r ≡ Refuses kind.OutOfMemory) }
+{
+    match options_fault(value) {
+        Some(fault) => fault_text(alloc, fault),
+        None => Ok(Vec::new(alloc)),
+    }
 }

@@ -25,45 +25,6 @@ use jwt_secrets::{has_blank_key, is_blank, is_blank_jwk};
 use std::alloc::Global;
 use std::result::Result;
 
-fn secret_answer(alloc: Global, secret: &[u8]) -> Result<u32, Error>
-    ensures ok { IfOk result (SaysOfSecret secret.now) }
-    ensures err { IfErr result (λ e. (¬ IsBlank secret.now) × IsMemory e) }
-{
-    if is_blank(secret) {
-        return Ok(107);
-    }
-    if is_key_text(alloc, secret)? {
-        return Ok(113);
-    }
-    Ok(0)
-}
-
-fn jwk_answer(alloc: Global, jwk: &Jwk) -> Result<u32, Error>
-    ensures ok { IfOk result (SaysOfJwk jwk.now) }
-    ensures err { IfErr result IsMemory }
-{
-    if is_blank_jwk(alloc, jwk)? {
-        return Ok(107);
-    }
-    if jwk_has_key_text(alloc, jwk)? {
-        return Ok(113);
-    }
-    Ok(0)
-}
-
-fn keys_answer(alloc: Global, set: &JwkSet) -> Result<u32, Error>
-    ensures ok { IfOk result (SaysOfSet set.now.keys.items) }
-    ensures err { IfErr result IsMemory }
-{
-    if has_blank_key(alloc, set)? {
-        return Ok(107);
-    }
-    if set_has_key_text(alloc, set)? {
-        return Ok(113);
-    }
-    Ok(0)
-}
-
 /// Returns the status that tells whether anyone can sign with a secret, or it is the text of a key
 /// of another kind.
 pub fn secret_status(alloc: Global, secret: &[u8]) -> u32
@@ -73,36 +34,6 @@ pub fn secret_status(alloc: Global, secret: &[u8]) -> u32
         Ok(status) => status,
         Err(refused) => number_of(refused.kind()),
     }
-}
-
-fn answer_status(answer: Result<u32, Refusal>) -> u32
-    ensures ok { IfOk answer (λ status. result ≡ status) }
-    ensures err { IfErr answer (λ r. result ≡ refusal_status r) }
-{
-    match answer {
-        Ok(status) => status,
-        Err(refusal) => status_of(&refusal),
-    }
-}
-
-fn key_answer(alloc: Global, key: &[u8]) -> Result<u32, Refusal>
-    ensures ok { IfOk result (λ status. (jwk : Jwk) × ReadsText ReadsKey key.now jwk
-        × SaysOfJwk jwk status) }
-    ensures err { IfErr result (λ r. AnswersBy (ReadsText ReadsKey key.now)
-        (MisreadsOne input.Key (ReadsText ReadsKey key.now)) (λ _ _. ⊥) (λ _ _. ⊥) (answer_of r)) }
-{
-    let jwk = read_as(Input::Key, Jwk::from_slice(alloc, key))?;
-    Ok(jwk_answer(alloc, &jwk)?)
-}
-
-fn set_answer(alloc: Global, set: &[u8]) -> Result<u32, Refusal>
-    ensures ok { IfOk result (λ status. (keys : List Jwk) × ReadsText ReadsSet set.now keys
-        × SaysOfSet keys status) }
-    ensures err { IfErr result (λ r. AnswersBy (ReadsText ReadsSet set.now)
-        (MisreadsOne input.Set (ReadsText ReadsSet set.now)) (λ _ _. ⊥) (λ _ _. ⊥) (answer_of r)) }
-{
-    let set = read_as(Input::Set, JwkSet::from_slice(alloc, set))?;
-    Ok(keys_answer(alloc, &set)?)
 }
 
 /// Returns the status that tells whether anyone can sign for a key, or its secret is the text of a
@@ -121,4 +52,73 @@ pub fn set_status(alloc: Global, set: &[u8]) -> u32
 {
     let answer = set_answer(alloc, set);
     answer_status(answer)
+}
+
+fn secret_answer(alloc: Global, secret: &[u8]) -> Result<u32, Error>
+    ensures ok { IfOk result (SaysOfSecret secret.now) }
+    ensures err { IfErr result (λ e. (¬ IsBlank secret.now) × IsMemory e) }
+{
+    if is_blank(secret) {
+        return Ok(107);
+    }
+    if is_key_text(alloc, secret)? {
+        return Ok(113);
+    }
+    Ok(0)
+}
+
+fn key_answer(alloc: Global, key: &[u8]) -> Result<u32, Refusal>
+    ensures ok { IfOk result (λ status. (jwk : Jwk) × ReadsText ReadsKey key.now jwk
+        × SaysOfJwk jwk status) }
+    ensures err { IfErr result (λ r. AnswersBy (ReadsText ReadsKey key.now)
+        (MisreadsOne input.Key (ReadsText ReadsKey key.now)) (λ _ _. ⊥) (λ _ _. ⊥) (answer_of r)) }
+{
+    let jwk = read_as(Input::Key, Jwk::from_slice(alloc, key))?;
+    Ok(jwk_answer(alloc, &jwk)?)
+}
+
+fn jwk_answer(alloc: Global, jwk: &Jwk) -> Result<u32, Error>
+    ensures ok { IfOk result (SaysOfJwk jwk.now) }
+    ensures err { IfErr result IsMemory }
+{
+    if is_blank_jwk(alloc, jwk)? {
+        return Ok(107);
+    }
+    if jwk_has_key_text(alloc, jwk)? {
+        return Ok(113);
+    }
+    Ok(0)
+}
+
+fn answer_status(answer: Result<u32, Refusal>) -> u32
+    ensures ok { IfOk answer (λ status. result ≡ status) }
+    ensures err { IfErr answer (λ r. result ≡ refusal_status r) }
+{
+    match answer {
+        Ok(status) => status,
+        Err(refusal) => status_of(&refusal),
+    }
+}
+
+fn set_answer(alloc: Global, set: &[u8]) -> Result<u32, Refusal>
+    ensures ok { IfOk result (λ status. (keys : List Jwk) × ReadsText ReadsSet set.now keys
+        × SaysOfSet keys status) }
+    ensures err { IfErr result (λ r. AnswersBy (ReadsText ReadsSet set.now)
+        (MisreadsOne input.Set (ReadsText ReadsSet set.now)) (λ _ _. ⊥) (λ _ _. ⊥) (answer_of r)) }
+{
+    let set = read_as(Input::Set, JwkSet::from_slice(alloc, set))?;
+    Ok(keys_answer(alloc, &set)?)
+}
+
+fn keys_answer(alloc: Global, set: &JwkSet) -> Result<u32, Error>
+    ensures ok { IfOk result (SaysOfSet set.now.keys.items) }
+    ensures err { IfErr result IsMemory }
+{
+    if has_blank_key(alloc, set)? {
+        return Ok(107);
+    }
+    if set_has_key_text(alloc, set)? {
+        return Ok(113);
+    }
+    Ok(0)
 }

@@ -16,20 +16,6 @@ use crate::inputs::{Input, Refusal};
 use jsonwebtoken::Algorithm;
 use jsonwebtoken::errors::ErrorKind;
 
-fn claim_place(name: &str) -> u32
-    ensures place { result ≡ claim_place name.now }
-    ensures few { result ≤ 19 }
-{
-    match name {
-        "exp" => 0,
-        "nbf" => 1,
-        "aud" => 2,
-        "iss" => 3,
-        "sub" => 4,
-        _ => 19,
-    }
-}
-
 /// Returns the status of a refusal of this kind.
 pub fn number_of(kind: &ErrorKind) -> u32
     ensures { result ≡ number (kind_held kind.now) }
@@ -65,18 +51,6 @@ pub fn number_of(kind: &ErrorKind) -> u32
     }
 }
 
-fn input_status(input: Input) -> u32
-    ensures { result ≡ input_status input }
-{
-    match input {
-        Input::Options => 101,
-        Input::Set => 103,
-        Input::Header => 104,
-        Input::Claims => 105,
-        Input::Key => 106,
-    }
-}
-
 /// Returns the status of a refusal.
 pub fn status_of(refusal: &Refusal) -> u32
     ensures { result ≡ refusal_status refusal.now }
@@ -84,65 +58,6 @@ pub fn status_of(refusal: &Refusal) -> u32
     match refusal {
         Refusal::Input(input) => input_status(*input),
         Refusal::Token(refused) => number_of(refused.kind()),
-    }
-}
-
-fn first_texts() -> [&'static str; 26]
-    ensures { map (λ s. s.now) result ≡ first_texts }
-{
-    [
-        "OK",
-        "InvalidToken",
-        "InvalidSignature",
-        "InvalidEcdsaKey",
-        "InvalidEddsaKey",
-        "RsaFailedSigning",
-        "InvalidAlgorithmName",
-        "UnsupportedAlgorithm",
-        "InvalidKeyFormat",
-        "ExpiredSignature",
-        "InvalidIssuer",
-        "InvalidAudience",
-        "InvalidSubject",
-        "ImmatureSignature",
-        "InvalidAlgorithm",
-        "MissingAlgorithm",
-        "RSA key invalid: ",
-        "Signing failed: ",
-        "Custom provider error: ",
-        "Base64 error",
-        "JSON error",
-        "UTF-8 error",
-        "Out of memory",
-        "Clock before 1970",
-        "InvalidCrit",
-        "NoKey",
-    ]
-}
-
-fn first_text(status: u32) -> Option<&'static str>
-    ensures { option_map (λ t. t.now) result ≡ slice_get first_texts status }
-{
-    first_texts().get(status as usize).copied()
-}
-
-fn refusal_text(status: u32) -> Option<&'static str>
-    ensures { option_map (λ t. t.now) result ≡ refusal_text status }
-{
-    match status {
-        40 => Some("Missing required claim: exp"),
-        41 => Some("Missing required claim: nbf"),
-        42 => Some("Missing required claim: aud"),
-        43 => Some("Missing required claim: iss"),
-        44 => Some("Missing required claim: sub"),
-        59 => Some("Missing required claim: "),
-        60 => Some("Invalid format for claim: exp"),
-        61 => Some("Invalid format for claim: nbf"),
-        62 => Some("Invalid format for claim: aud"),
-        63 => Some("Invalid format for claim: iss"),
-        64 => Some("Invalid format for claim: sub"),
-        79 => Some("Invalid format for claim: "),
-        _ => first_text(status),
     }
 }
 
@@ -235,4 +150,89 @@ pub fn leave(answer: Result<Vec<u8>, Refusal>, room: &mut [u8], len: &mut usize)
             status_of(&refusal)
         }
     }
+}
+
+fn input_status(input: Input) -> u32
+    ensures { result ≡ input_status input }
+{
+    match input {
+        Input::Options => 101,
+        Input::Set => 103,
+        Input::Header => 104,
+        Input::Claims => 105,
+        Input::Key => 106,
+    }
+}
+
+fn claim_place(name: &str) -> u32
+    ensures place { result ≡ claim_place name.now }
+    ensures few { result ≤ 19 }
+{
+    match name {
+        "exp" => 0,
+        "nbf" => 1,
+        "aud" => 2,
+        "iss" => 3,
+        "sub" => 4,
+        _ => 19,
+    }
+}
+
+fn refusal_text(status: u32) -> Option<&'static str>
+    ensures { option_map (λ t. t.now) result ≡ refusal_text status }
+{
+    match status {
+        40 => Some("Missing required claim: exp"),
+        41 => Some("Missing required claim: nbf"),
+        42 => Some("Missing required claim: aud"),
+        43 => Some("Missing required claim: iss"),
+        44 => Some("Missing required claim: sub"),
+        59 => Some("Missing required claim: "),
+        60 => Some("Invalid format for claim: exp"),
+        61 => Some("Invalid format for claim: nbf"),
+        62 => Some("Invalid format for claim: aud"),
+        63 => Some("Invalid format for claim: iss"),
+        64 => Some("Invalid format for claim: sub"),
+        79 => Some("Invalid format for claim: "),
+        _ => first_text(status),
+    }
+}
+
+fn first_text(status: u32) -> Option<&'static str>
+    ensures { option_map (λ t. t.now) result ≡ slice_get first_texts status }
+{
+    first_texts().get(status as usize).copied()
+}
+
+fn first_texts() -> [&'static str; 26]
+    ensures { map (λ s. s.now) result ≡ first_texts }
+{
+    [
+        "OK",
+        "InvalidToken",
+        "InvalidSignature",
+        "InvalidEcdsaKey",
+        "InvalidEddsaKey",
+        "RsaFailedSigning",
+        "InvalidAlgorithmName",
+        "UnsupportedAlgorithm",
+        "InvalidKeyFormat",
+        "ExpiredSignature",
+        "InvalidIssuer",
+        "InvalidAudience",
+        "InvalidSubject",
+        "ImmatureSignature",
+        "InvalidAlgorithm",
+        "MissingAlgorithm",
+        "RSA key invalid: ",
+        "Signing failed: ",
+        "Custom provider error: ",
+        "Base64 error",
+        "JSON error",
+        "UTF-8 error",
+        "Out of memory",
+        "Clock before 1970",
+        "InvalidCrit",
+        "NoKey",
+    ]
 }

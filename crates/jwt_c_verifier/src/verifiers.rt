@@ -45,37 +45,6 @@ pub fn limits(max_len: usize, allows_blank: bool) -> Limits
     }
 }
 
-fn status_of_unfit(unfit: Unfit) -> u32
-    ensures { result ≡ unfit_status unfit }
-{
-    match unfit {
-        Unfit::Blank => 107,
-        Unfit::Mixed => 114,
-        Unfit::Useless => 110,
-        Unfit::Memory => 22,
-    }
-}
-
-// Returns the verifier with these keys and options, or the status of the reason for which there is
-// none.
-fn verifier_of(
-    alloc: Global,
-    keys: Keys,
-    validation: Validation,
-    limits: Limits,
-) -> Result<Verifier, u32>
-    ensures ok { IfOk result (λ v. (v.keys ≡ keys) × (v.validation ≡ validation)
-        × (v.limits ≡ limits) × AreFit limits.allows_blank validation.algorithms.items keys) }
-    ensures err { IfErr result (λ status. (why : UnfitValue)
-        × IsUnfit limits.allows_blank validation.algorithms.items keys why
-        × (status ≡ unfit_status why)) }
-{
-    match Verifier::with_limits(alloc, keys, validation, limits) {
-        Ok(verifier) => Ok(verifier),
-        Err(unfit) => Err(status_of_unfit(unfit)),
-    }
-}
-
 /// Returns the verifier with the options and the key set that two texts describe, or the status of
 /// the reason for which there is none.
 pub fn verifier_of_set(
@@ -136,26 +105,6 @@ pub struct Accepted {
     pub last: u64,
 }
 
-// Returns the claims as their text, and the last time that they allow.
-fn claims_until(
-    alloc: Global,
-    decoded: &TokenData<Value>,
-    validation: &Validation,
-) -> Result<Accepted, Error>
-    ensures text { IfOk result (λ a. depth (view decoded.now.claims) ≤ max_depth
-        → IsTextOf a.text.items (view decoded.now.claims)) }
-    ensures last { IfOk result (λ a. a.last
-        ≡ last_moment (options_of validation.now) (claims_of (view decoded.now.claims))) }
-    ensures err { IfErr result IsMemory }
-{
-    let moments = claimed_moments(&decoded.claims, validation);
-    let text = decoded.claims.to_vec(alloc)?;
-    Ok(Accepted {
-        text,
-        last: moments.last,
-    })
-}
-
 /// The reason for which a token is not accepted, in numbers.
 #[derive(Clone, Copy)]
 pub struct Denied {
@@ -166,24 +115,57 @@ pub struct Denied {
     pub test: u32,
 }
 
-fn failed_test(refusal: &Refusal) -> u32
-    ensures { (IsMemory refusal.now.error × (result ≡ 0))
-        ⊎ ((¬ IsMemory refusal.now.error) × (result ≡ number_of_test refusal.now.test)) }
+/// Returns the claims of a token that is verified with a verifier, and the last time at which the
+/// token is accepted; or the reason for which it is refused.
+pub fn answer_until(
+    alloc: Global,
+    verifier: &Verifier,
+    token: &[u8],
+    time: u64,
+) -> Result<Accepted, Denied>
+    ensures ok { IfOk result (λ a. (length token.now ≤ verifier.now.limits.max_len)
+        × AnswersUntil verifier.now.keys verifier.now.validation token.now time a.last
+        (Gives a.text.items)) }
+    ensures err { IfErr result (λ d. IsRefusedWith verifier.now token.now time d.status d.test) }
 {
-    match refusal.error.kind() {
-        ErrorKind::OutOfMemory => 0,
-        _ => test_number(refusal.test),
+    match verifier.decode_or_refusal::<Value>(alloc, token, time) {
+        Ok(decoded) => hand_out(alloc, &decoded, &verifier.validation),
+        Err(Rejection::TooLong) => Err(Denied {
+            status: 111,
+            test: 0,
+        }),
+        Err(Rejection::Failed(refusal)) => Err(reason_of(&refusal)),
     }
 }
 
-fn reason_of(refusal: &Refusal) -> Denied
-    ensures status { result.status ≡ number (kind_of refusal.now.error) }
-    ensures test { (IsMemory refusal.now.error × (result.test ≡ 0))
-        ⊎ ((¬ IsMemory refusal.now.error) × (result.test ≡ number_of_test refusal.now.test)) }
+// Returns the verifier with these keys and options, or the status of the reason for which there is
+// none.
+fn verifier_of(
+    alloc: Global,
+    keys: Keys,
+    validation: Validation,
+    limits: Limits,
+) -> Result<Verifier, u32>
+    ensures ok { IfOk result (λ v. (v.keys ≡ keys) × (v.validation ≡ validation)
+        × (v.limits ≡ limits) × AreFit limits.allows_blank validation.algorithms.items keys) }
+    ensures err { IfErr result (λ status. (why : UnfitValue)
+        × IsUnfit limits.allows_blank validation.algorithms.items keys why
+        × (status ≡ unfit_status why)) }
 {
-    Denied {
-        status: number_of(refusal.error.kind()),
-        test: failed_test(refusal),
+    match Verifier::with_limits(alloc, keys, validation, limits) {
+        Ok(verifier) => Ok(verifier),
+        Err(unfit) => Err(status_of_unfit(unfit)),
+    }
+}
+
+fn status_of_unfit(unfit: Unfit) -> u32
+    ensures { result ≡ unfit_status unfit }
+{
+    match unfit {
+        Unfit::Blank => 107,
+        Unfit::Mixed => 114,
+        Unfit::Useless => 110,
+        Unfit::Memory => 22,
     }
 }
 
@@ -208,25 +190,43 @@ fn hand_out(
     }
 }
 
-/// Returns the claims of a token that is verified with a verifier, and the last time at which the
-/// token is accepted; or the reason for which it is refused.
-pub fn answer_until(
+// Returns the claims as their text, and the last time that they allow.
+fn claims_until(
     alloc: Global,
-    verifier: &Verifier,
-    token: &[u8],
-    time: u64,
-) -> Result<Accepted, Denied>
-    ensures ok { IfOk result (λ a. (length token.now ≤ verifier.now.limits.max_len)
-        × AnswersUntil verifier.now.keys verifier.now.validation token.now time a.last
-        (Gives a.text.items)) }
-    ensures err { IfErr result (λ d. IsRefusedWith verifier.now token.now time d.status d.test) }
+    decoded: &TokenData<Value>,
+    validation: &Validation,
+) -> Result<Accepted, Error>
+    ensures text { IfOk result (λ a. depth (view decoded.now.claims) ≤ max_depth
+        → IsTextOf a.text.items (view decoded.now.claims)) }
+    ensures last { IfOk result (λ a. a.last
+        ≡ last_moment (options_of validation.now) (claims_of (view decoded.now.claims))) }
+    ensures err { IfErr result IsMemory }
 {
-    match verifier.decode_or_refusal::<Value>(alloc, token, time) {
-        Ok(decoded) => hand_out(alloc, &decoded, &verifier.validation),
-        Err(Rejection::TooLong) => Err(Denied {
-            status: 111,
-            test: 0,
-        }),
-        Err(Rejection::Failed(refusal)) => Err(reason_of(&refusal)),
+    let moments = claimed_moments(&decoded.claims, validation);
+    let text = decoded.claims.to_vec(alloc)?;
+    Ok(Accepted {
+        text,
+        last: moments.last,
+    })
+}
+
+fn reason_of(refusal: &Refusal) -> Denied
+    ensures status { result.status ≡ number (kind_of refusal.now.error) }
+    ensures test { (IsMemory refusal.now.error × (result.test ≡ 0))
+        ⊎ ((¬ IsMemory refusal.now.error) × (result.test ≡ number_of_test refusal.now.test)) }
+{
+    Denied {
+        status: number_of(refusal.error.kind()),
+        test: failed_test(refusal),
+    }
+}
+
+fn failed_test(refusal: &Refusal) -> u32
+    ensures { (IsMemory refusal.now.error × (result ≡ 0))
+        ⊎ ((¬ IsMemory refusal.now.error) × (result ≡ number_of_test refusal.now.test)) }
+{
+    match refusal.error.kind() {
+        ErrorKind::OutOfMemory => 0,
+        _ => test_number(refusal.test),
     }
 }

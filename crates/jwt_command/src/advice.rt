@@ -12,50 +12,11 @@ pub fn denial_name(denial: &Denial) -> &'static str {
     }
 }
 
-/// Returns the claim that an error names.
-fn named_claim(error: &Error) -> Option<&str> {
-    match error.kind() {
-        ErrorKind::MissingRequiredClaim(name) | ErrorKind::InvalidClaimFormat(name) => Some(
-            name.as_str(),
-        ),
-        _ => None,
-    }
-}
-
 /// Returns the claim that a denial names.
 pub fn denied_claim(denial: &Denial) -> Option<&str> {
     match denial {
         Denial::Refused(refusal) => named_claim(&refusal.error),
         Denial::OtherType => None,
-    }
-}
-
-fn kind_meaning(kind: &ErrorKind) -> &'static str {
-    match kind {
-        ErrorKind::InvalidToken =>
-            "the text is not three parts with dots between them, or 'exp' is below --not-within",
-        ErrorKind::Base64 => "a part is not base64url without padding, or the key is not",
-        ErrorKind::Json => "the header or the claims are not JSON of the form that a token has",
-        ErrorKind::InvalidCrit =>
-            "the header's 'crit' names an extension that is not understood; --crit names those that are",
-        ErrorKind::NoKey => "the set has no key with the token's 'kid', or the token has none",
-        ErrorKind::MissingAlgorithm => "no algorithm is accepted; --alg names one",
-        ErrorKind::InvalidAlgorithm => "the token's algorithm is not among those that are accepted",
-        ErrorKind::InvalidSignature =>
-            "the signature does not match the key; the token was changed, or signed with another key",
-        ErrorKind::ExpiredSignature => "the token has expired",
-        ErrorKind::ImmatureSignature => "the token is not valid yet, by its 'nbf'",
-        ErrorKind::InvalidIssuer => "the token's issuer is not among those of --iss",
-        ErrorKind::InvalidAudience =>
-            "the token is for another audience; --aud names those that are accepted",
-        ErrorKind::InvalidSubject => "the token's subject is not that of --sub",
-        ErrorKind::InvalidKeyFormat =>
-            "the key is of another kind than the token's algorithm, or not a key",
-        ErrorKind::UnsupportedAlgorithm => "this algorithm is not supported",
-        ErrorKind::OutOfMemory => "out of memory",
-        ErrorKind::MissingRequiredClaim(_) => "a required claim is absent or malformed",
-        ErrorKind::InvalidClaimFormat(_) => "a claim is of a wrong type",
-        _ => "the token is refused",
     }
 }
 
@@ -94,4 +55,43 @@ pub fn denial_lines(
         lines.push_str(LINE_END)?;
     }
     Ok(lines)
+}
+
+/// Returns the claim that an error names.
+fn named_claim(error: &Error) -> Option<&str> {
+    match error.kind() {
+        ErrorKind::MissingRequiredClaim(name) | ErrorKind::InvalidClaimFormat(name) => Some(
+            name.as_str(),
+        ),
+        _ => None,
+    }
+}
+
+fn kind_meaning(kind: &ErrorKind) -> &'static str {
+    match kind {
+        ErrorKind::InvalidToken =>
+            "the text is not three parts with dots between them, or 'exp' is below --not-within",
+        ErrorKind::Base64 => "a part is not base64url without padding, or the key is not",
+        ErrorKind::Json => "the header or the claims are not JSON of the form that a token has",
+        ErrorKind::InvalidCrit =>
+            "the header's 'crit' names an extension that is not understood; --crit names those that are",
+        ErrorKind::NoKey => "the set has no key with the token's 'kid', or the token has none",
+        ErrorKind::MissingAlgorithm => "no algorithm is accepted; --alg names one",
+        ErrorKind::InvalidAlgorithm => "the token's algorithm is not among those that are accepted",
+        ErrorKind::InvalidSignature =>
+            "the signature does not match the key; the token was changed, or signed with another key",
+        ErrorKind::ExpiredSignature => "the token has expired",
+        ErrorKind::ImmatureSignature => "the token is not valid yet, by its 'nbf'",
+        ErrorKind::InvalidIssuer => "the token's issuer is not among those of --iss",
+        ErrorKind::InvalidAudience =>
+            "the token is for another audience; --aud names those that are accepted",
+        ErrorKind::InvalidSubject => "the token's subject is not that of --sub",
+        ErrorKind::InvalidKeyFormat =>
+            "the key is of another kind than the token's algorithm, or not a key",
+        ErrorKind::UnsupportedAlgorithm => "this algorithm is not supported",
+        ErrorKind::OutOfMemory => "out of memory",
+        ErrorKind::MissingRequiredClaim(_) => "a required claim is absent or malformed",
+        ErrorKind::InvalidClaimFormat(_) => "a claim is of a wrong type",
+        _ => "the token is refused",
+    }
 }

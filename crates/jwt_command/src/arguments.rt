@@ -29,51 +29,6 @@ struct Entry {
     help: &'static str,
 }
 
-const fn flag(name: &'static str, help: &'static str) -> Entry {
-    Entry {
-        name,
-        shape: Shape::Flag,
-        value: "",
-        help,
-    }
-}
-
-const fn once(name: &'static str, value: &'static str, help: &'static str) -> Entry {
-    Entry {
-        name,
-        shape: Shape::Once,
-        value,
-        help,
-    }
-}
-
-const fn repeated(name: &'static str, value: &'static str, help: &'static str) -> Entry {
-    Entry {
-        name,
-        shape: Shape::Repeated,
-        value,
-        help,
-    }
-}
-
-const fn needed(name: &'static str, value: &'static str, help: &'static str) -> Entry {
-    Entry {
-        name,
-        shape: Shape::Needed,
-        value,
-        help,
-    }
-}
-
-const fn place(name: &'static str, value: &'static str, help: &'static str) -> Entry {
-    Entry {
-        name,
-        shape: Shape::NeededPlace,
-        value,
-        help,
-    }
-}
-
 const NOW: Entry = Entry {
     name: "now",
     shape: Shape::Once,
@@ -87,6 +42,82 @@ const TOKEN: Entry = Entry {
     value: "TOKEN",
     help: "The token; '-', or none, reads it from standard input",
 };
+
+/// Returns the command with all that it takes.
+pub fn command<'a>(alloc: Global) -> Result<Command<'a>, AllocError> {
+    let command = Command::new(alloc, "jwt")
+        .version("0.1.0")
+        .about("Verify, explain, show and sign JSON Web Tokens")
+        .subcommand_required(true)
+        .arg_required_else_help(true);
+    let command = with_subcommand(command, verify(alloc))?;
+    let command = with_subcommand(command, explain(alloc))?;
+    let command = with_subcommand(command, show(alloc))?;
+    let command = with_subcommand(command, sign(alloc))?;
+    let command = with_subcommand(command, keys(alloc))?;
+    let command = with_subcommand(command, jwk(alloc))?;
+    with_subcommand(command, thumbprint(alloc))
+}
+
+fn explain<'a>(alloc: Global) -> Result<Command<'a>, AllocError> {
+    let command = Command::new(alloc, "explain").about(
+        "Explain each test of a token, and when it is accepted",
+    );
+    checking(alloc, command)
+}
+
+fn checking<'a>(alloc: Global, command: Command<'a>) -> Result<Command<'a>, AllocError> {
+    let command = with_entries(alloc, command, &[TOKEN])?;
+    let command = with_keys(alloc, command)?;
+    let command = with_entries(alloc, command, &option_entries())?;
+    with_entries(
+        alloc,
+        command,
+        &[flag("json", "Write the answer as one line of JSON")],
+    )
+}
+
+fn with_entries<'a>(
+    alloc: Global,
+    command: Command<'a>,
+    entries: &[Entry],
+) -> Result<Command<'a>, AllocError> {
+    let mut command = command;
+    for entry in entries {
+        command = command.arg(argument(alloc, *entry))?;
+    }
+    Ok(command)
+}
+
+fn argument<'a>(alloc: Global, entry: Entry) -> Arg<'a> {
+    let named = Arg::new(alloc, entry.name).help(entry.help);
+    match entry.shape {
+        Shape::Flag => named.long(entry.name).action(ArgAction::SetTrue),
+        Shape::Once => named
+            .long(entry.name)
+            .value_name(entry.value)
+            .action(ArgAction::Set),
+        Shape::Needed => named
+            .long(entry.name)
+            .value_name(entry.value)
+            .action(ArgAction::Set)
+            .required(true),
+        Shape::Repeated => named
+            .long(entry.name)
+            .value_name(entry.value)
+            .action(ArgAction::Append),
+        Shape::Place => named.value_name(entry.value).action(ArgAction::Set),
+        Shape::NeededPlace => named
+            .value_name(entry.value)
+            .action(ArgAction::Set)
+            .required(true),
+    }
+}
+
+fn with_keys<'a>(alloc: Global, command: Command<'a>) -> Result<Command<'a>, AllocError> {
+    let command = with_entries(alloc, command, &key_entries())?;
+    command.group(key_group(alloc)?)
+}
 
 fn key_entries() -> [Entry; 5] {
     [
@@ -111,6 +142,33 @@ fn key_entries() -> [Entry; 5] {
             "Leave one newline at the end of the secret file out of the secret",
         ),
     ]
+}
+
+const fn once(name: &'static str, value: &'static str, help: &'static str) -> Entry {
+    Entry {
+        name,
+        shape: Shape::Once,
+        value,
+        help,
+    }
+}
+
+const fn flag(name: &'static str, help: &'static str) -> Entry {
+    Entry {
+        name,
+        shape: Shape::Flag,
+        value: "",
+        help,
+    }
+}
+
+fn key_group<'a>(alloc: Global) -> Result<ArgGroup<'a>, AllocError> {
+    let group = ArgGroup::new(alloc, "key").required(true);
+    group
+        .arg("secret-file")?
+        .arg("jwk")?
+        .arg("jwks")?
+        .arg("pem")
 }
 
 fn option_entries() -> [Entry; 14] {
@@ -163,66 +221,27 @@ fn option_entries() -> [Entry; 14] {
     ]
 }
 
-fn argument<'a>(alloc: Global, entry: Entry) -> Arg<'a> {
-    let named = Arg::new(alloc, entry.name).help(entry.help);
-    match entry.shape {
-        Shape::Flag => named.long(entry.name).action(ArgAction::SetTrue),
-        Shape::Once => named
-            .long(entry.name)
-            .value_name(entry.value)
-            .action(ArgAction::Set),
-        Shape::Needed => named
-            .long(entry.name)
-            .value_name(entry.value)
-            .action(ArgAction::Set)
-            .required(true),
-        Shape::Repeated => named
-            .long(entry.name)
-            .value_name(entry.value)
-            .action(ArgAction::Append),
-        Shape::Place => named.value_name(entry.value).action(ArgAction::Set),
-        Shape::NeededPlace => named
-            .value_name(entry.value)
-            .action(ArgAction::Set)
-            .required(true),
+const fn repeated(name: &'static str, value: &'static str, help: &'static str) -> Entry {
+    Entry {
+        name,
+        shape: Shape::Repeated,
+        value,
+        help,
     }
 }
 
-fn with_entries<'a>(
-    alloc: Global,
+/// Adds a command to the others, if there was memory for it.
+fn with_subcommand<'a>(
     command: Command<'a>,
-    entries: &[Entry],
+    added: Result<Command<'a>, AllocError>,
 ) -> Result<Command<'a>, AllocError> {
-    let mut command = command;
-    for entry in entries {
-        command = command.arg(argument(alloc, *entry))?;
+    match added {
+        Ok(added) => command.subcommand(added),
+        Err(error) => {
+            drop(command);
+            Err(error)
+        }
     }
-    Ok(command)
-}
-
-fn key_group<'a>(alloc: Global) -> Result<ArgGroup<'a>, AllocError> {
-    let group = ArgGroup::new(alloc, "key").required(true);
-    group
-        .arg("secret-file")?
-        .arg("jwk")?
-        .arg("jwks")?
-        .arg("pem")
-}
-
-fn with_keys<'a>(alloc: Global, command: Command<'a>) -> Result<Command<'a>, AllocError> {
-    let command = with_entries(alloc, command, &key_entries())?;
-    command.group(key_group(alloc)?)
-}
-
-fn checking<'a>(alloc: Global, command: Command<'a>) -> Result<Command<'a>, AllocError> {
-    let command = with_entries(alloc, command, &[TOKEN])?;
-    let command = with_keys(alloc, command)?;
-    let command = with_entries(alloc, command, &option_entries())?;
-    with_entries(
-        alloc,
-        command,
-        &[flag("json", "Write the answer as one line of JSON")],
-    )
 }
 
 fn verify<'a>(alloc: Global) -> Result<Command<'a>, AllocError> {
@@ -244,13 +263,6 @@ fn verify<'a>(alloc: Global) -> Result<Command<'a>, AllocError> {
     )
 }
 
-fn explain<'a>(alloc: Global) -> Result<Command<'a>, AllocError> {
-    let command = Command::new(alloc, "explain").about(
-        "Explain each test of a token, and when it is accepted",
-    );
-    checking(alloc, command)
-}
-
 fn show<'a>(alloc: Global) -> Result<Command<'a>, AllocError> {
     let command = Command::new(alloc, "show").about(
         "Print header and claims of a token, unverified",
@@ -260,6 +272,11 @@ fn show<'a>(alloc: Global) -> Result<Command<'a>, AllocError> {
         command,
         &[TOKEN, NOW, flag("json", "Write one line of JSON")],
     )
+}
+
+fn sign<'a>(alloc: Global) -> Result<Command<'a>, AllocError> {
+    let command = Command::new(alloc, "sign").about("Sign claims, and print the token");
+    with_entries(alloc, command, &sign_entries())
 }
 
 fn sign_entries() -> [Entry; 10] {
@@ -300,9 +317,13 @@ fn sign_entries() -> [Entry; 10] {
     ]
 }
 
-fn sign<'a>(alloc: Global) -> Result<Command<'a>, AllocError> {
-    let command = Command::new(alloc, "sign").about("Sign claims, and print the token");
-    with_entries(alloc, command, &sign_entries())
+const fn needed(name: &'static str, value: &'static str, help: &'static str) -> Entry {
+    Entry {
+        name,
+        shape: Shape::Needed,
+        value,
+        help,
+    }
 }
 
 fn keys<'a>(alloc: Global) -> Result<Command<'a>, AllocError> {
@@ -316,6 +337,15 @@ fn keys<'a>(alloc: Global) -> Result<Command<'a>, AllocError> {
             "A set of JSON Web Keys (RFC 7517); '-' reads it from standard input",
         )],
     )
+}
+
+const fn place(name: &'static str, value: &'static str, help: &'static str) -> Entry {
+    Entry {
+        name,
+        shape: Shape::NeededPlace,
+        value,
+        help,
+    }
 }
 
 fn jwk<'a>(alloc: Global) -> Result<Command<'a>, AllocError> {
@@ -347,34 +377,4 @@ fn thumbprint<'a>(alloc: Global) -> Result<Command<'a>, AllocError> {
             once("hash", "HASH", "SHA256, SHA384 or SHA512 (default: SHA256)"),
         ],
     )
-}
-
-/// Adds a command to the others, if there was memory for it.
-fn with_subcommand<'a>(
-    command: Command<'a>,
-    added: Result<Command<'a>, AllocError>,
-) -> Result<Command<'a>, AllocError> {
-    match added {
-        Ok(added) => command.subcommand(added),
-        Err(error) => {
-            drop(command);
-            Err(error)
-        }
-    }
-}
-
-/// Returns the command with all that it takes.
-pub fn command<'a>(alloc: Global) -> Result<Command<'a>, AllocError> {
-    let command = Command::new(alloc, "jwt")
-        .version("0.1.0")
-        .about("Verify, explain, show and sign JSON Web Tokens")
-        .subcommand_required(true)
-        .arg_required_else_help(true);
-    let command = with_subcommand(command, verify(alloc))?;
-    let command = with_subcommand(command, explain(alloc))?;
-    let command = with_subcommand(command, show(alloc))?;
-    let command = with_subcommand(command, sign(alloc))?;
-    let command = with_subcommand(command, keys(alloc))?;
-    let command = with_subcommand(command, jwk(alloc))?;
-    with_subcommand(command, thumbprint(alloc))
 }

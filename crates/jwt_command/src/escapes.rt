@@ -3,18 +3,6 @@
 
 use std::alloc::{AllocError, Global};
 
-/// Returns whether a character is a control character from U+007F to U+009F.
-fn is_late_control(character: char) -> bool {
-    matches!(character, '\u{7f}'..='\u{9f}')
-}
-
-/// Adds the escape of a character.
-fn push_escape(alloc: Global, text: &mut String, character: char) -> Result<(), AllocError> {
-    let code = character as u32;
-    let escape = format!(in alloc; "\\u{code:04x}")?;
-    text.push_str(escape.as_str())
-}
-
 /// Returns the text with its control characters from U+007F to U+009F written as escapes of JSON.
 pub fn without_late_controls(alloc: Global, text: String) -> Result<String, AllocError> {
     if !text.chars().any(is_late_control) {
@@ -29,4 +17,16 @@ pub fn without_late_controls(alloc: Global, text: String) -> Result<String, Allo
         }
     }
     Ok(escaped)
+}
+
+/// Returns whether a character is a control character from U+007F to U+009F.
+fn is_late_control(character: char) -> bool {
+    matches!(character, '\u{7f}'..='\u{9f}')
+}
+
+/// Adds the escape of a character.
+fn push_escape(alloc: Global, text: &mut String, character: char) -> Result<(), AllocError> {
+    let code = character as u32;
+    let escape = format!(in alloc; "\\u{code:04x}")?;
+    text.push_str(escape.as_str())
 }

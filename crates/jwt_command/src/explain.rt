@@ -22,196 +22,6 @@ use jsonwebtoken::{Header, Moments, Test, Validation, claimed_moments, decode_he
 use serde_json::Value;
 use std::alloc::{AllocError, Global};
 
-/// Returns the type of a header, as a finding says it.
-fn type_found(alloc: Global, header: &Header) -> Result<String, AllocError> {
-    match &header.typ {
-        Some(found) => format!(in alloc; "the type {}", quoted(alloc, found.as_str())?),
-        None => String::from_str(alloc, "no type"),
-    }
-}
-
-/// Returns the finding of a header whose type is not the one that is asked for.
-fn other_type(
-    alloc: Global,
-    header: &Header,
-    typ: Option<&str>,
-) -> Result<Finding, Fault<'static>> {
-    Ok(Finding {
-        found: type_found(alloc, header)?,
-        wanted: quoted(alloc, typ.unwrap_or(""))?,
-    })
-}
-
-/// Returns the finding of a type that is not the one that is asked for.
-fn type_finding(alloc: Global, token: &[u8], typ: Option<&str>) -> Result<Finding, Fault<'static>> {
-    match decode_header(alloc, token) {
-        Ok(header) => {
-            let finding = other_type(alloc, &header, typ);
-            drop(header);
-            finding
-        }
-        Err(_) => Err(Fault::Memory),
-    }
-}
-
-/// Returns why a token is not accepted.
-fn outcome(
-    alloc: Global,
-    case: Case<'_>,
-    typ: Option<&str>,
-    denial: &Denial,
-) -> Result<Outcome, Fault<'static>> {
-    match denial {
-        Denial::OtherType => Ok(Outcome::OtherType(type_finding(alloc, case.token, typ)?)),
-        Denial::Refused(refusal) => Ok(Outcome::Failed(
-            refusal.test,
-            findings_of(alloc, case, refusal)?,
-        )),
-    }
-}
-
-/// Returns the times at which the claims of a token are accepted, whose signature is. The claim
-/// rules hold at all times that the claims allow, or at none.
-fn moments(
-    alloc: Global,
-    claims: &Value,
-    validation: &Validation,
-) -> Result<Option<Moments>, Fault<'static>> {
-    let moments = claimed_moments(claims, validation);
-    let held = validate(alloc, claims, validation, moments.first);
-    Ok(unless_refused(held)?.map(|()| moments))
-}
-
-/// Returns the claims of a token whose signature is accepted, or `None` if an earlier test failed.
-fn accepted_claims(
-    alloc: Global,
-    token: &[u8],
-    outcome: &Outcome,
-) -> Result<Option<Value>, Fault<'static>> {
-    if let Outcome::Accepted | Outcome::Failed(Test::ClaimRulesHold, _) = outcome
-        && let Some(parts) = cut(token)
-    {
-        return part_value(alloc, parts.payload);
-    }
-    Ok(None)
-}
-
-/// Returns the lines about the claims of a token whose signature is accepted, and the times at
-/// which it is accepted.
-fn times(
-    alloc: Global,
-    case: Case<'_>,
-    outcome: &Outcome,
-) -> Result<(String, Option<Moments>), Fault<'static>> {
-    match accepted_claims(alloc, case.token, outcome)? {
-        Some(claims) => {
-            let lines = claim_lines(alloc, &claims, case.time);
-            let moments = moments(alloc, &claims, case.validation);
-            drop(claims);
-            Ok((lines?, moments?))
-        }
-        None => Ok((String::new(alloc), None)),
-    }
-}
-
-/// Returns the refusal of a token that is accepted, if strict options would refuse it.
-fn refusal_if_strict(
-    alloc: Global,
-    case: Case<'_>,
-    checks: &Checks<'_, '_>,
-) -> Result<Option<ClaimFailure>, Fault<'static>> {
-    if checks.is_strict {
-        return Ok(None);
-    }
-    let strict = as_strict(alloc, case.validation, checks)?;
-    let case = Case {
-        validation: &strict,
-        ..case
-    };
-    let failures = match accepted_claims(alloc, case.token, &Outcome::Accepted) {
-        Ok(Some(claims)) => {
-            let failures = claim_failures(alloc, case, &claims);
-            drop(claims);
-            failures
-        }
-        Ok(None) => Ok(Vec::new(alloc)),
-        Err(fault) => Err(fault),
-    };
-    drop(strict);
-    Ok(failures?.into_iter().next())
-}
-
-/// Returns the explanation of an outcome.
-fn explanation<'e>(
-    alloc: Global,
-    case: Case<'e>,
-    outcome: Outcome,
-    kind: Option<&'e str>,
-    strict: Option<ClaimFailure>,
-) -> Result<Explanation<'e>, Fault<'static>> {
-    let (times, moments) = times(alloc, case, &outcome)?;
-    Ok(Explanation {
-        order: order(&case.loaded.keys),
-        outcome,
-        kind,
-        moments,
-        time: case.time,
-        times,
-        strict,
-    })
-}
-
-fn written(
-    alloc: Global,
-    explanation: &Explanation<'_>,
-    is_json: bool,
-) -> Result<String, Fault<'static>> {
-    if is_json {
-        json_line(alloc, explanation)
-    } else {
-        Ok(page(alloc, explanation)?)
-    }
-}
-
-fn accepted(
-    alloc: Global,
-    case: Case<'_>,
-    checks: &Checks<'_, '_>,
-    is_json: bool,
-) -> Result<Answer, Fault<'static>>
-    ensures { IfOk result (λ a. a.status ≡ 0) }
-{
-    let strict = refusal_if_strict(alloc, case, checks)?;
-    let explanation = explanation(alloc, case, Outcome::Accepted, None, strict)?;
-    let output = written(alloc, &explanation, is_json);
-    drop(explanation);
-    Ok(Answer {
-        status: 0,
-        output: output?,
-        message: String::new(alloc),
-    })
-}
-
-fn denied(
-    alloc: Global,
-    case: Case<'_>,
-    typ: Option<&str>,
-    denial: &Denial,
-    is_json: bool,
-) -> Result<Answer, Fault<'static>>
-    ensures { IfOk result (λ a. a.status ≡ 1) }
-{
-    let outcome = outcome(alloc, case, typ, denial)?;
-    let explanation = explanation(alloc, case, outcome, Some(denial_name(denial)), None)?;
-    let output = written(alloc, &explanation, is_json);
-    drop(explanation);
-    Ok(Answer {
-        status: 1,
-        output: output?,
-        message: String::new(alloc),
-    })
-}
-
 /// Returns the answer that explains a token: each test with its result, the first that fails with
 /// what it found and what it asks for, the times at which the token is accepted, and whether it
 /// is accepted without strict options only, which `checks` name as they were asked for. The status
@@ -243,4 +53,194 @@ pub fn explain_answer(
         None => accepted(alloc, case, checks, is_json),
         Some(denial) => denied(alloc, case, typ, &denial, is_json),
     }
+}
+
+fn accepted(
+    alloc: Global,
+    case: Case<'_>,
+    checks: &Checks<'_, '_>,
+    is_json: bool,
+) -> Result<Answer, Fault<'static>>
+    ensures { IfOk result (λ a. a.status ≡ 0) }
+{
+    let strict = refusal_if_strict(alloc, case, checks)?;
+    let explanation = explanation(alloc, case, Outcome::Accepted, None, strict)?;
+    let output = written(alloc, &explanation, is_json);
+    drop(explanation);
+    Ok(Answer {
+        status: 0,
+        output: output?,
+        message: String::new(alloc),
+    })
+}
+
+/// Returns the refusal of a token that is accepted, if strict options would refuse it.
+fn refusal_if_strict(
+    alloc: Global,
+    case: Case<'_>,
+    checks: &Checks<'_, '_>,
+) -> Result<Option<ClaimFailure>, Fault<'static>> {
+    if checks.is_strict {
+        return Ok(None);
+    }
+    let strict = as_strict(alloc, case.validation, checks)?;
+    let case = Case {
+        validation: &strict,
+        ..case
+    };
+    let failures = match accepted_claims(alloc, case.token, &Outcome::Accepted) {
+        Ok(Some(claims)) => {
+            let failures = claim_failures(alloc, case, &claims);
+            drop(claims);
+            failures
+        }
+        Ok(None) => Ok(Vec::new(alloc)),
+        Err(fault) => Err(fault),
+    };
+    drop(strict);
+    Ok(failures?.into_iter().next())
+}
+
+/// Returns the claims of a token whose signature is accepted, or `None` if an earlier test failed.
+fn accepted_claims(
+    alloc: Global,
+    token: &[u8],
+    outcome: &Outcome,
+) -> Result<Option<Value>, Fault<'static>> {
+    if let Outcome::Accepted | Outcome::Failed(Test::ClaimRulesHold, _) = outcome
+        && let Some(parts) = cut(token)
+    {
+        return part_value(alloc, parts.payload);
+    }
+    Ok(None)
+}
+
+/// Returns why a token is not accepted.
+fn outcome(
+    alloc: Global,
+    case: Case<'_>,
+    typ: Option<&str>,
+    denial: &Denial,
+) -> Result<Outcome, Fault<'static>> {
+    match denial {
+        Denial::OtherType => Ok(Outcome::OtherType(type_finding(alloc, case.token, typ)?)),
+        Denial::Refused(refusal) => Ok(Outcome::Failed(
+            refusal.test,
+            findings_of(alloc, case, refusal)?,
+        )),
+    }
+}
+
+/// Returns the finding of a type that is not the one that is asked for.
+fn type_finding(alloc: Global, token: &[u8], typ: Option<&str>) -> Result<Finding, Fault<'static>> {
+    match decode_header(alloc, token) {
+        Ok(header) => {
+            let finding = other_type(alloc, &header, typ);
+            drop(header);
+            finding
+        }
+        Err(_) => Err(Fault::Memory),
+    }
+}
+
+/// Returns the finding of a header whose type is not the one that is asked for.
+fn other_type(
+    alloc: Global,
+    header: &Header,
+    typ: Option<&str>,
+) -> Result<Finding, Fault<'static>> {
+    Ok(Finding {
+        found: type_found(alloc, header)?,
+        wanted: quoted(alloc, typ.unwrap_or(""))?,
+    })
+}
+
+/// Returns the type of a header, as a finding says it.
+fn type_found(alloc: Global, header: &Header) -> Result<String, AllocError> {
+    match &header.typ {
+        Some(found) => format!(in alloc; "the type {}", quoted(alloc, found.as_str())?),
+        None => String::from_str(alloc, "no type"),
+    }
+}
+
+/// Returns the explanation of an outcome.
+fn explanation<'e>(
+    alloc: Global,
+    case: Case<'e>,
+    outcome: Outcome,
+    kind: Option<&'e str>,
+    strict: Option<ClaimFailure>,
+) -> Result<Explanation<'e>, Fault<'static>> {
+    let (times, moments) = times(alloc, case, &outcome)?;
+    Ok(Explanation {
+        order: order(&case.loaded.keys),
+        outcome,
+        kind,
+        moments,
+        time: case.time,
+        times,
+        strict,
+    })
+}
+
+/// Returns the lines about the claims of a token whose signature is accepted, and the times at
+/// which it is accepted.
+fn times(
+    alloc: Global,
+    case: Case<'_>,
+    outcome: &Outcome,
+) -> Result<(String, Option<Moments>), Fault<'static>> {
+    match accepted_claims(alloc, case.token, outcome)? {
+        Some(claims) => {
+            let lines = claim_lines(alloc, &claims, case.time);
+            let moments = moments(alloc, &claims, case.validation);
+            drop(claims);
+            Ok((lines?, moments?))
+        }
+        None => Ok((String::new(alloc), None)),
+    }
+}
+
+/// Returns the times at which the claims of a token are accepted, whose signature is. The claim
+/// rules hold at all times that the claims allow, or at none.
+fn moments(
+    alloc: Global,
+    claims: &Value,
+    validation: &Validation,
+) -> Result<Option<Moments>, Fault<'static>> {
+    let moments = claimed_moments(claims, validation);
+    let held = validate(alloc, claims, validation, moments.first);
+    Ok(unless_refused(held)?.map(|()| moments))
+}
+
+fn written(
+    alloc: Global,
+    explanation: &Explanation<'_>,
+    is_json: bool,
+) -> Result<String, Fault<'static>> {
+    if is_json {
+        json_line(alloc, explanation)
+    } else {
+        Ok(page(alloc, explanation)?)
+    }
+}
+
+fn denied(
+    alloc: Global,
+    case: Case<'_>,
+    typ: Option<&str>,
+    denial: &Denial,
+    is_json: bool,
+) -> Result<Answer, Fault<'static>>
+    ensures { IfOk result (λ a. a.status ≡ 1) }
+{
+    let outcome = outcome(alloc, case, typ, denial)?;
+    let explanation = explanation(alloc, case, outcome, Some(denial_name(denial)), None)?;
+    let output = written(alloc, &explanation, is_json);
+    drop(explanation);
+    Ok(Answer {
+        status: 1,
+        output: output?,
+        message: String::new(alloc),
+    })
 }

@@ -45,50 +45,36 @@ const FAILED: &str = "FAILED";
 /// The width of the longest name of a test.
 const WIDTH: usize = 19;
 
-/// Adds a line about a test.
-fn push_test(
-    page: &mut String,
-    verdict: &str,
-    name: &str,
-    sentence: &str,
-) -> Result<(), AllocError> {
-    page.push_str(verdict)?;
-    page.push_str("  ")?;
-    page.push_str(name)?;
-    for _ in name.len()..WIDTH + 2 {
-        page.push(' ')?;
-    }
-    page.push_str(sentence)?;
-    page.push('\n')
+/// Returns an explanation for people: a line for each test that is made, when the token is
+/// accepted, and why it is refused.
+pub fn page(alloc: Global, explanation: &Explanation<'_>) -> Result<String, AllocError> {
+    let mut page = String::new(alloc);
+    push_tests(alloc, &mut page, explanation)?;
+    page.push_str(explanation.times.as_str())?;
+    let moments = moments_line(alloc, explanation.moments, explanation.now)?;
+    page.push_str(moments.as_str())?;
+    page.push_str(last_line(alloc, explanation)?.as_str())?;
+    Ok(page)
 }
 
-fn push_finding(page: &mut String, finding: &Finding) -> Result<(), AllocError> {
-    page.push_str("        found:  ")?;
-    page.push_str(finding.found.as_str())?;
-    page.push_str("\n        wanted: ")?;
-    page.push_str(finding.wanted.as_str())?;
-    page.push('\n')
-}
-
-/// Adds the line of the test that fails, what it found and what it asks for.
-fn push_failed(page: &mut String, test: Test, findings: &[Finding]) -> Result<(), AllocError> {
-    push_test(page, FAILED, test.name(), sentence(test))?;
-    for finding in findings {
-        push_finding(page, finding)?;
+/// Returns an explanation as one line of JSON.
+pub fn json_line(alloc: Global, explanation: &Explanation<'_>) -> Result<String, Fault<'static>> {
+    let mut members = Map::new(alloc);
+    put(
+        alloc,
+        &mut members,
+        "ok",
+        Value::Bool(explanation.kind.is_none()),
+    )?;
+    if let Some(kind) = explanation.kind {
+        put_text(alloc, &mut members, "kind", kind)?;
     }
-    Ok(())
-}
-
-/// Adds the line about tests that are not made.
-fn push_left(alloc: Global, page: &mut String, count: usize) -> Result<(), AllocError> {
-    match count {
-        0 => Ok(()),
-        1 => page.push_str("-       1 test after this one is not made\n"),
-        _ => {
-            let line = format!(in alloc; "-       {count} tests after this one are not made\n")?;
-            page.push_str(line.as_str())
-        }
-    }
+    put_outcome(alloc, &mut members, &explanation.outcome)?;
+    put_strict(alloc, &mut members, &explanation.strict)?;
+    put_moments(alloc, &mut members, explanation.moments)?;
+    let mut line = Value::Object(members).to_string(alloc)?;
+    line.push('\n')?;
+    Ok(line)
 }
 
 /// Adds a line for each test up to the first that fails, and one line for those after it.
@@ -119,10 +105,50 @@ fn push_tests(
     Ok(())
 }
 
-/// Returns a time, and how long it is away.
-fn moment_words(alloc: Global, moment: u64, time: u64) -> Result<String, AllocError> {
-    let text = moment_text(alloc, moment)?;
-    format!(in alloc; "{text} ({})", distance_text(alloc, moment, time)?)
+/// Adds the line of the test that fails, what it found and what it asks for.
+fn push_failed(page: &mut String, test: Test, findings: &[Finding]) -> Result<(), AllocError> {
+    push_test(page, FAILED, test.name(), sentence(test))?;
+    for finding in findings {
+        push_finding(page, finding)?;
+    }
+    Ok(())
+}
+
+/// Adds a line about a test.
+fn push_test(
+    page: &mut String,
+    verdict: &str,
+    name: &str,
+    sentence: &str,
+) -> Result<(), AllocError> {
+    page.push_str(verdict)?;
+    page.push_str("  ")?;
+    page.push_str(name)?;
+    for _ in name.len()..WIDTH + 2 {
+        page.push(' ')?;
+    }
+    page.push_str(sentence)?;
+    page.push('\n')
+}
+
+fn push_finding(page: &mut String, finding: &Finding) -> Result<(), AllocError> {
+    page.push_str("        found:  ")?;
+    page.push_str(finding.found.as_str())?;
+    page.push_str("\n        wanted: ")?;
+    page.push_str(finding.wanted.as_str())?;
+    page.push('\n')
+}
+
+/// Adds the line about tests that are not made.
+fn push_left(alloc: Global, page: &mut String, count: usize) -> Result<(), AllocError> {
+    match count {
+        0 => Ok(()),
+        1 => page.push_str("-       1 test after this one is not made\n"),
+        _ => {
+            let line = format!(in alloc; "-       {count} tests after this one are not made\n")?;
+            page.push_str(line.as_str())
+        }
+    }
 }
 
 /// Returns the line about the times at which a token is accepted.
@@ -140,25 +166,10 @@ fn moments_line(alloc: Global, moments: Option<Moments>, time: u64) -> Result<St
     }
 }
 
-/// Returns the line about a refusal.
-fn refusal_line(
-    alloc: Global,
-    start: &str,
-    kind: &str,
-    finding: &Finding,
-) -> Result<String, AllocError> {
-    let found = finding.found.as_str();
-    let wanted = finding.wanted.as_str();
-    format!(in alloc; "{start}: {kind}: found {found}; wanted {wanted}\n")
-}
-
-/// Returns the finding that a token is refused for.
-fn first_finding(outcome: &Outcome) -> Option<&Finding> {
-    match outcome {
-        Outcome::Accepted => None,
-        Outcome::Failed(_, findings) => findings.first(),
-        Outcome::OtherType(finding) => Some(finding),
-    }
+/// Returns a time, and how long it is away.
+fn moment_words(alloc: Global, moment: u64, time: u64) -> Result<String, AllocError> {
+    let text = moment_text(alloc, moment)?;
+    format!(in alloc; "{text} ({})", distance_text(alloc, moment, time)?)
 }
 
 /// Returns the last line: why the token is refused, or that it is only accepted without strict
@@ -178,16 +189,25 @@ fn last_line(alloc: Global, explanation: &Explanation<'_>) -> Result<String, All
     }
 }
 
-/// Returns an explanation for people: a line for each test that is made, when the token is
-/// accepted, and why it is refused.
-pub fn page(alloc: Global, explanation: &Explanation<'_>) -> Result<String, AllocError> {
-    let mut page = String::new(alloc);
-    push_tests(alloc, &mut page, explanation)?;
-    page.push_str(explanation.times.as_str())?;
-    let moments = moments_line(alloc, explanation.moments, explanation.now)?;
-    page.push_str(moments.as_str())?;
-    page.push_str(last_line(alloc, explanation)?.as_str())?;
-    Ok(page)
+/// Returns the finding that a token is refused for.
+fn first_finding(outcome: &Outcome) -> Option<&Finding> {
+    match outcome {
+        Outcome::Accepted => None,
+        Outcome::Failed(_, findings) => findings.first(),
+        Outcome::OtherType(finding) => Some(finding),
+    }
+}
+
+/// Returns the line about a refusal.
+fn refusal_line(
+    alloc: Global,
+    start: &str,
+    kind: &str,
+    finding: &Finding,
+) -> Result<String, AllocError> {
+    let found = finding.found.as_str();
+    let wanted = finding.wanted.as_str();
+    format!(in alloc; "{start}: {kind}: found {found}; wanted {wanted}\n")
 }
 
 fn put(
@@ -210,26 +230,6 @@ fn put_text(
     put(alloc, members, name, Value::String(text))
 }
 
-fn put_finding(
-    alloc: Global,
-    members: &mut Map<String, Value>,
-    finding: &Finding,
-) -> Result<(), AllocError> {
-    put_text(alloc, members, "found", finding.found.as_str())?;
-    put_text(alloc, members, "wanted", finding.wanted.as_str())
-}
-
-/// Returns objects with the findings after the first.
-fn others(alloc: Global, findings: &[Finding]) -> Result<Vec<Value>, AllocError> {
-    let mut others = Vec::new(alloc);
-    for finding in findings.iter().skip(1) {
-        let mut members = Map::new(alloc);
-        put_finding(alloc, &mut members, finding)?;
-        others.push(Value::Object(members))?;
-    }
-    Ok(others)
-}
-
 /// Puts the test that fails among the members, what it found and what it asks for.
 fn put_outcome(
     alloc: Global,
@@ -250,6 +250,26 @@ fn put_outcome(
         put(alloc, members, "others", Value::Array(others))?;
     }
     Ok(())
+}
+
+fn put_finding(
+    alloc: Global,
+    members: &mut Map<String, Value>,
+    finding: &Finding,
+) -> Result<(), AllocError> {
+    put_text(alloc, members, "found", finding.found.as_str())?;
+    put_text(alloc, members, "wanted", finding.wanted.as_str())
+}
+
+/// Returns objects with the findings after the first.
+fn others(alloc: Global, findings: &[Finding]) -> Result<Vec<Value>, AllocError> {
+    let mut others = Vec::new(alloc);
+    for finding in findings.iter().skip(1) {
+        let mut members = Map::new(alloc);
+        put_finding(alloc, &mut members, finding)?;
+        others.push(Value::Object(members))?;
+    }
+    Ok(others)
 }
 
 /// Puts the kind of the refusal under strict options among the members, if there is one.
@@ -276,24 +296,4 @@ fn put_moments(
     };
     put(alloc, members, "first", first)?;
     put(alloc, members, "last", last)
-}
-
-/// Returns an explanation as one line of JSON.
-pub fn json_line(alloc: Global, explanation: &Explanation<'_>) -> Result<String, Fault<'static>> {
-    let mut members = Map::new(alloc);
-    put(
-        alloc,
-        &mut members,
-        "ok",
-        Value::Bool(explanation.kind.is_none()),
-    )?;
-    if let Some(kind) = explanation.kind {
-        put_text(alloc, &mut members, "kind", kind)?;
-    }
-    put_outcome(alloc, &mut members, &explanation.outcome)?;
-    put_strict(alloc, &mut members, &explanation.strict)?;
-    put_moments(alloc, &mut members, explanation.moments)?;
-    let mut line = Value::Object(members).to_string(alloc)?;
-    line.push('\n')?;
-    Ok(line)
 }

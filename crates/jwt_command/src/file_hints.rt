@@ -2,57 +2,12 @@
 
 use memchr::memmem;
 
-/// Returns whether a text is an object with this member, by its letters.
-fn has_member(text: &[u8], quoted: &[u8]) -> bool {
-    let Some(place) = memmem::find(text, quoted) else {
-        return false;
-    };
-    let behind = text.get(place..).unwrap_or(b"").iter().skip(quoted.len());
-    behind.copied().find(|byte| !byte.is_ascii_whitespace()) == Some(b':')
-}
-
-fn is_object(bytes: &[u8]) -> bool {
-    bytes.trim_ascii_start().starts_with(b"{")
-}
-
-/// Returns whether a file is likely a set of JSON Web Keys (RFC 7517 section 5).
-fn is_set(bytes: &[u8]) -> bool {
-    is_object(bytes) && has_member(bytes, b"\"keys\"")
-}
-
-/// Returns whether a file is likely a JSON Web Key (RFC 7517 section 4).
-fn is_key(bytes: &[u8]) -> bool {
-    is_object(bytes) && has_member(bytes, b"\"kty\"") && !is_set(bytes)
-}
-
 /// The problem of a certificate, whose signature would have to be verified first.
 const CERTIFICATE: &str =
     "this is a certificate; 'openssl x509 -pubkey -noout' prints its key in PEM";
 
 /// The problem of a key of SSH (RFC 4253 section 6.6).
 const OF_SSH: &str = "this is a key of SSH; 'ssh-keygen -e -m PKCS8 -f FILE' prints it in PEM";
-
-/// Returns whether a file is likely a certificate in PEM (RFC 7468 section 5).
-fn is_certificate(bytes: &[u8]) -> bool {
-    memmem::find(bytes, b"-----BEGIN CERTIFICATE-----").is_some()
-}
-
-fn is_of_ssh(bytes: &[u8]) -> bool {
-    bytes.starts_with(b"ssh-") || bytes.starts_with(b"ecdsa-sha2-")
-}
-
-/// Returns the likely problem of a file in PEM or of SSH if JSON is wanted, or `plain`.
-fn text_problem(bytes: &[u8], plain: &'static str) -> &'static str {
-    if is_certificate(bytes) {
-        CERTIFICATE
-    } else if memmem::find(bytes, b"-----BEGIN ").is_some() {
-        "this is PEM, not JSON; --pem reads a public key in PEM, and 'jwt jwk' prints it as JSON"
-    } else if is_of_ssh(bytes) {
-        OF_SSH
-    } else {
-        plain
-    }
-}
 
 /// Returns the likely problem of a file that is not a JSON Web Key that verifies, or `plain`.
 pub fn key_problem(bytes: &[u8], plain: &'static str) -> &'static str {
@@ -85,4 +40,49 @@ pub fn pem_problem(bytes: &[u8], plain: &'static str) -> &'static str {
     } else {
         plain
     }
+}
+
+/// Returns whether a file is likely a set of JSON Web Keys (RFC 7517 section 5).
+fn is_set(bytes: &[u8]) -> bool {
+    is_object(bytes) && has_member(bytes, b"\"keys\"")
+}
+
+fn is_object(bytes: &[u8]) -> bool {
+    bytes.trim_ascii_start().starts_with(b"{")
+}
+
+/// Returns whether a text is an object with this member, by its letters.
+fn has_member(text: &[u8], quoted: &[u8]) -> bool {
+    let Some(place) = memmem::find(text, quoted) else {
+        return false;
+    };
+    let behind = text.get(place..).unwrap_or(b"").iter().skip(quoted.len());
+    behind.copied().find(|byte| !byte.is_ascii_whitespace()) == Some(b':')
+}
+
+/// Returns the likely problem of a file in PEM or of SSH if JSON is wanted, or `plain`.
+fn text_problem(bytes: &[u8], plain: &'static str) -> &'static str {
+    if is_certificate(bytes) {
+        CERTIFICATE
+    } else if memmem::find(bytes, b"-----BEGIN ").is_some() {
+        "this is PEM, not JSON; --pem reads a public key in PEM, and 'jwt jwk' prints it as JSON"
+    } else if is_of_ssh(bytes) {
+        OF_SSH
+    } else {
+        plain
+    }
+}
+
+/// Returns whether a file is likely a certificate in PEM (RFC 7468 section 5).
+fn is_certificate(bytes: &[u8]) -> bool {
+    memmem::find(bytes, b"-----BEGIN CERTIFICATE-----").is_some()
+}
+
+fn is_of_ssh(bytes: &[u8]) -> bool {
+    bytes.starts_with(b"ssh-") || bytes.starts_with(b"ecdsa-sha2-")
+}
+
+/// Returns whether a file is likely a JSON Web Key (RFC 7517 section 4).
+fn is_key(bytes: &[u8]) -> bool {
+    is_object(bytes) && has_member(bytes, b"\"kty\"") && !is_set(bytes)
 }

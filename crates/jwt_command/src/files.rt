@@ -7,26 +7,6 @@ use std::fs;
 use std::io::{self, ErrorKind, Read};
 use std::rt::Files;
 
-/// Returns why a file could not be read.
-fn problem_of(kind: ErrorKind) -> &'static str {
-    match kind {
-        ErrorKind::NotFound => "there is no such file",
-        ErrorKind::PermissionDenied => "permission to read it is denied",
-        ErrorKind::IsADirectory => "this is a folder",
-        _ => "the file could not be read",
-    }
-}
-
-fn fault_of<'a>(path: &'a str, error: &io::Error) -> Fault<'a> {
-    match error.kind() {
-        ErrorKind::OutOfMemory => Fault::Memory,
-        kind => Fault::File {
-            path,
-            problem: problem_of(kind),
-        },
-    }
-}
-
 /// Returns the bytes of a file, of which there is at least one.
 pub fn file_bytes<'a, R: Files + AllocGlobal>(rt: &R, path: &'a str) -> Result<Vec<u8>, Fault<'a>> {
     match fs::read(rt, path) {
@@ -57,5 +37,25 @@ pub fn without_line_end(bytes: &[u8]) -> &[u8]
         [front @ .., b'\r', b'\n'] => front,
         [front @ .., b'\n'] => front,
         _ => bytes,
+    }
+}
+
+fn fault_of<'a>(path: &'a str, error: &io::Error) -> Fault<'a> {
+    match error.kind() {
+        ErrorKind::OutOfMemory => Fault::Memory,
+        kind => Fault::File {
+            path,
+            problem: problem_of(kind),
+        },
+    }
+}
+
+/// Returns why a file could not be read.
+fn problem_of(kind: ErrorKind) -> &'static str {
+    match kind {
+        ErrorKind::NotFound => "there is no such file",
+        ErrorKind::PermissionDenied => "permission to read it is denied",
+        ErrorKind::IsADirectory => "this is a folder",
+        _ => "the file could not be read",
     }
 }

@@ -76,216 +76,11 @@ pub fn choice(alloc: Global, names: &[String]) -> Result<String, AllocError> {
     Ok(words)
 }
 
-fn algorithm_names(alloc: Global, algorithms: &[Algorithm]) -> Result<String, AllocError> {
-    let mut names = Vec::new(alloc);
-    for algorithm in algorithms {
-        names.push(String::from_str(alloc, algorithm.name())?)?;
-    }
-    choice(alloc, &names)
-}
-
-fn kid_names(alloc: Global, set: &JwkSet) -> Result<String, AllocError> {
-    let mut names = Vec::new(alloc);
-    for jwk in &set.keys {
-        if let Some(kid) = &jwk.common.key_id {
-            names.push(quoted(alloc, kid.as_str())?)?;
-        }
-    }
-    choice(alloc, &names)
-}
-
-fn key_name(family: AlgorithmFamily) -> &'static str {
-    match family {
-        AlgorithmFamily::Hmac => "a secret, for HS256, HS384 and HS512",
-        AlgorithmFamily::Rsa => "an RSA key, for RS256 to RS512 and PS256 to PS512",
-        AlgorithmFamily::Ec => "a key of an elliptic curve, for ES256 (P-256) or ES384 (P-384)",
-        AlgorithmFamily::Ed => "an Ed25519 key, for EdDSA",
-    }
-}
-
-fn no_such_kid(alloc: Global, kid: &Option<Text>, keys: &Keys) -> Result<Finding, Fault<'static>> {
-    let found = match kid {
-        Some(kid) => format!(in alloc; "the kid {}", quoted(alloc, kid.as_str())?)?,
-        None => String::from_str(alloc, "a header without a kid")?,
-    };
-    let names = match keys {
-        Keys::Set(set) => kid_names(alloc, set)?,
-        Keys::One(_) => String::new(alloc),
-    };
-    let wanted = if names.is_empty() {
-        String::from_str(alloc, "the kid of a key of the set, of which none has one")?
-    } else {
-        format!(in alloc; "the kid of a key of the set: {names}")?
-    };
-    Ok(Finding { found, wanted })
-}
-
-/// Returns the name of the algorithm that the key of a set is for.
-fn named_algorithm(header: &Header, keys: &Keys) -> &'static str {
-    let (Some(kid), Keys::Set(set)) = (&header.kid, keys) else {
-        return "none";
-    };
-    match set.find(kid.as_str()) {
-        Some(jwk) => match &jwk.common.key_algorithm {
-            Some(named) => named.name(),
-            None => "none",
-        },
-        None => "none",
-    }
-}
-
-fn other_algorithm(
-    alloc: Global,
-    header: &Header,
-    wanted: &str,
-) -> Result<Finding, Fault<'static>> {
-    Ok(Finding {
-        found: format!(in alloc; "the algorithm {}", header.alg.name())?,
-        wanted: String::from_str(alloc, wanted)?,
-    })
-}
-
-/// Returns the finding of an algorithm that is not listed, or that others of its list do not fit.
-fn not_listed(
-    alloc: Global,
-    header: &Header,
-    validation: &Validation,
-) -> Result<Finding, Fault<'static>> {
-    let names = algorithm_names(alloc, &validation.algorithms)?;
-    other_algorithm(alloc, header, names.as_str())
-}
-
-fn no_family(
-    alloc: Global,
-    header: &Header,
-    validation: &Validation,
-) -> Result<Finding, Fault<'static>> {
-    let names = algorithm_names(alloc, &validation.algorithms)?;
-    Ok(Finding {
-        found: format!(in alloc; "{names} are accepted, of different families")?,
-        wanted: format!(in alloc; "algorithms of the family of {} alone", header.alg.name())?,
-    })
-}
-
-fn no_verifier(alloc: Global, header: &Header, keys: &Keys) -> Result<Finding, Fault<'static>> {
-    let found = match keys {
-        Keys::One(key) => key_name(key.family()),
-        Keys::Set(_) => "a key of the set that does not fit",
-    };
-    Ok(Finding {
-        found: String::from_str(alloc, found)?,
-        wanted: format!(in alloc; "a key for {}, the token's algorithm", header.alg.name())?,
-    })
-}
-
-fn crit_names(alloc: Global, header: &Header) -> Result<String, AllocError> {
-    let mut names = Vec::new(alloc);
-    if let Some(texts) = &header.crit {
-        for text in texts.as_slice() {
-            names.push(quoted(alloc, text.as_str())?)?;
-        }
-    }
-    choice(alloc, &names)
-}
-
-fn not_understood(alloc: Global, header: &Header) -> Result<Finding, Fault<'static>> {
-    Ok(Finding {
-        found: format!(in alloc; "a 'crit' that lists {}", crit_names(alloc, header)?)?,
-        wanted: String::from_str(
-            alloc,
-            "names that the header has and --crit gives, each once, and no name of RFC 7515 itself",
-        )?,
-    })
-}
-
-/// Returns the finding of a test of the header's members.
-fn header_finding(
-    alloc: Global,
-    case: Case<'_>,
-    test: Test,
-    header: &Header,
-) -> Result<Finding, Fault<'static>> {
-    match test {
-        Test::CritIsUnderstood => not_understood(alloc, header),
-        Test::KeyIsFound => no_such_kid(alloc, &header.kid, &case.loaded.keys),
-        Test::KeyAlgorithmAgrees => other_algorithm(
-            alloc,
-            header,
-            named_algorithm(header, &case.loaded.keys),
-        ),
-        Test::AlgorithmIsListed => not_listed(alloc, header, case.validation),
-        Test::FamiliesAgree => no_family(alloc, header, case.validation),
-        _ => no_verifier(alloc, header, &case.loaded.keys),
-    }
-}
-
-fn by_header(alloc: Global, case: Case<'_>, test: Test) -> Result<Finding, Fault<'static>> {
-    match decode_header(alloc, case.token) {
-        Ok(header) => {
-            let finding = header_finding(alloc, case, test, &header);
-            drop(header);
-            finding
-        }
-        Err(_) => Err(Fault::Memory),
-    }
-}
-
 /// Returns the value of a part, or `None` if it is not base64url or not JSON.
 pub fn part_value(alloc: Global, part: &[u8]) -> Result<Option<Value>, Fault<'static>> {
     match unless_refused(part_bytes(alloc, part))? {
         Some(bytes) => unless_refused(json_value(alloc, &bytes)),
         None => Ok(None),
-    }
-}
-
-/// Returns the finding of a signature that is not accepted.
-fn other_signature(
-    alloc: Global,
-    case: Case<'_>,
-    parts: Parts<'_>,
-) -> Result<Finding, Fault<'static>> {
-    if let Some(finding) = length_finding(alloc, case, parts)? {
-        return Ok(finding);
-    }
-    let wanted = if case.loaded.has_line_end {
-        "the secret that it was signed with: the file ends with a newline, which --trim leaves out"
-    } else {
-        "the key that the token was signed with, and the token as it was issued"
-    };
-    Finding::new(
-        alloc,
-        "a signature that does not match this header, payload and key",
-        wanted,
-    )
-}
-
-/// Returns the finding of a signature part that is not base64url.
-fn no_signature_part(
-    alloc: Global,
-    case: Case<'_>,
-    parts: Parts<'_>,
-) -> Result<Finding, Fault<'static>> {
-    if parts.signature.iter().all(|byte| is_of_base64url(*byte))
-        && let Some(finding) = length_finding(alloc, case, parts)?
-    {
-        return Ok(finding);
-    }
-    part_finding(alloc, case.token, parts.signature, Test::SignatureIsPart)
-}
-
-/// Returns the finding of a test of the whole text or of a part.
-fn by_part(
-    alloc: Global,
-    case: Case<'_>,
-    parts: Parts<'_>,
-    test: Test,
-) -> Result<Finding, Fault<'static>> {
-    match test {
-        Test::HeaderIsPart | Test::HeaderIsJson | Test::HeaderReads => {
-            part_finding(alloc, case.token, parts.header, test)
-        }
-        Test::SignatureIsPart => no_signature_part(alloc, case, parts),
-        _ => part_finding(alloc, case.token, parts.payload, test),
     }
 }
 
@@ -330,5 +125,210 @@ fn finding_of(alloc: Global, case: Case<'_>, test: Test) -> Result<Finding, Faul
         ),
         Test::SignatureIsAccepted => other_signature(alloc, case, parts),
         _ => by_header(alloc, case, test),
+    }
+}
+
+/// Returns the finding of a test of the whole text or of a part.
+fn by_part(
+    alloc: Global,
+    case: Case<'_>,
+    parts: Parts<'_>,
+    test: Test,
+) -> Result<Finding, Fault<'static>> {
+    match test {
+        Test::HeaderIsPart | Test::HeaderIsJson | Test::HeaderReads => {
+            part_finding(alloc, case.token, parts.header, test)
+        }
+        Test::SignatureIsPart => no_signature_part(alloc, case, parts),
+        _ => part_finding(alloc, case.token, parts.payload, test),
+    }
+}
+
+/// Returns the finding of a signature part that is not base64url.
+fn no_signature_part(
+    alloc: Global,
+    case: Case<'_>,
+    parts: Parts<'_>,
+) -> Result<Finding, Fault<'static>> {
+    if parts.signature.iter().all(|byte| is_of_base64url(*byte))
+        && let Some(finding) = length_finding(alloc, case, parts)?
+    {
+        return Ok(finding);
+    }
+    part_finding(alloc, case.token, parts.signature, Test::SignatureIsPart)
+}
+
+/// Returns the finding of a signature that is not accepted.
+fn other_signature(
+    alloc: Global,
+    case: Case<'_>,
+    parts: Parts<'_>,
+) -> Result<Finding, Fault<'static>> {
+    if let Some(finding) = length_finding(alloc, case, parts)? {
+        return Ok(finding);
+    }
+    let wanted = if case.loaded.has_line_end {
+        "the secret that it was signed with: the file ends with a newline, which --trim leaves out"
+    } else {
+        "the key that the token was signed with, and the token as it was issued"
+    };
+    Finding::new(
+        alloc,
+        "a signature that does not match this header, payload and key",
+        wanted,
+    )
+}
+
+fn by_header(alloc: Global, case: Case<'_>, test: Test) -> Result<Finding, Fault<'static>> {
+    match decode_header(alloc, case.token) {
+        Ok(header) => {
+            let finding = header_finding(alloc, case, test, &header);
+            drop(header);
+            finding
+        }
+        Err(_) => Err(Fault::Memory),
+    }
+}
+
+/// Returns the finding of a test of the header's members.
+fn header_finding(
+    alloc: Global,
+    case: Case<'_>,
+    test: Test,
+    header: &Header,
+) -> Result<Finding, Fault<'static>> {
+    match test {
+        Test::CritIsUnderstood => not_understood(alloc, header),
+        Test::KeyIsFound => no_such_kid(alloc, &header.kid, &case.loaded.keys),
+        Test::KeyAlgorithmAgrees => other_algorithm(
+            alloc,
+            header,
+            named_algorithm(header, &case.loaded.keys),
+        ),
+        Test::AlgorithmIsListed => not_listed(alloc, header, case.validation),
+        Test::FamiliesAgree => no_family(alloc, header, case.validation),
+        _ => no_verifier(alloc, header, &case.loaded.keys),
+    }
+}
+
+fn not_understood(alloc: Global, header: &Header) -> Result<Finding, Fault<'static>> {
+    Ok(Finding {
+        found: format!(in alloc; "a 'crit' that lists {}", crit_names(alloc, header)?)?,
+        wanted: String::from_str(
+            alloc,
+            "names that the header has and --crit gives, each once, and no name of RFC 7515 itself",
+        )?,
+    })
+}
+
+fn crit_names(alloc: Global, header: &Header) -> Result<String, AllocError> {
+    let mut names = Vec::new(alloc);
+    if let Some(texts) = &header.crit {
+        for text in texts.as_slice() {
+            names.push(quoted(alloc, text.as_str())?)?;
+        }
+    }
+    choice(alloc, &names)
+}
+
+fn no_such_kid(alloc: Global, kid: &Option<Text>, keys: &Keys) -> Result<Finding, Fault<'static>> {
+    let found = match kid {
+        Some(kid) => format!(in alloc; "the kid {}", quoted(alloc, kid.as_str())?)?,
+        None => String::from_str(alloc, "a header without a kid")?,
+    };
+    let names = match keys {
+        Keys::Set(set) => kid_names(alloc, set)?,
+        Keys::One(_) => String::new(alloc),
+    };
+    let wanted = if names.is_empty() {
+        String::from_str(alloc, "the kid of a key of the set, of which none has one")?
+    } else {
+        format!(in alloc; "the kid of a key of the set: {names}")?
+    };
+    Ok(Finding { found, wanted })
+}
+
+fn kid_names(alloc: Global, set: &JwkSet) -> Result<String, AllocError> {
+    let mut names = Vec::new(alloc);
+    for jwk in &set.keys {
+        if let Some(kid) = &jwk.common.key_id {
+            names.push(quoted(alloc, kid.as_str())?)?;
+        }
+    }
+    choice(alloc, &names)
+}
+
+fn other_algorithm(
+    alloc: Global,
+    header: &Header,
+    wanted: &str,
+) -> Result<Finding, Fault<'static>> {
+    Ok(Finding {
+        found: format!(in alloc; "the algorithm {}", header.alg.name())?,
+        wanted: String::from_str(alloc, wanted)?,
+    })
+}
+
+/// Returns the name of the algorithm that the key of a set is for.
+fn named_algorithm(header: &Header, keys: &Keys) -> &'static str {
+    let (Some(kid), Keys::Set(set)) = (&header.kid, keys) else {
+        return "none";
+    };
+    match set.find(kid.as_str()) {
+        Some(jwk) => match &jwk.common.key_algorithm {
+            Some(named) => named.name(),
+            None => "none",
+        },
+        None => "none",
+    }
+}
+
+/// Returns the finding of an algorithm that is not listed, or that others of its list do not fit.
+fn not_listed(
+    alloc: Global,
+    header: &Header,
+    validation: &Validation,
+) -> Result<Finding, Fault<'static>> {
+    let names = algorithm_names(alloc, &validation.algorithms)?;
+    other_algorithm(alloc, header, names.as_str())
+}
+
+fn algorithm_names(alloc: Global, algorithms: &[Algorithm]) -> Result<String, AllocError> {
+    let mut names = Vec::new(alloc);
+    for algorithm in algorithms {
+        names.push(String::from_str(alloc, algorithm.name())?)?;
+    }
+    choice(alloc, &names)
+}
+
+fn no_family(
+    alloc: Global,
+    header: &Header,
+    validation: &Validation,
+) -> Result<Finding, Fault<'static>> {
+    let names = algorithm_names(alloc, &validation.algorithms)?;
+    Ok(Finding {
+        found: format!(in alloc; "{names} are accepted, of different families")?,
+        wanted: format!(in alloc; "algorithms of the family of {} alone", header.alg.name())?,
+    })
+}
+
+fn no_verifier(alloc: Global, header: &Header, keys: &Keys) -> Result<Finding, Fault<'static>> {
+    let found = match keys {
+        Keys::One(key) => key_name(key.family()),
+        Keys::Set(_) => "a key of the set that does not fit",
+    };
+    Ok(Finding {
+        found: String::from_str(alloc, found)?,
+        wanted: format!(in alloc; "a key for {}, the token's algorithm", header.alg.name())?,
+    })
+}
+
+fn key_name(family: AlgorithmFamily) -> &'static str {
+    match family {
+        AlgorithmFamily::Hmac => "a secret, for HS256, HS384 and HS512",
+        AlgorithmFamily::Rsa => "an RSA key, for RS256 to RS512 and PS256 to PS512",
+        AlgorithmFamily::Ec => "a key of an elliptic curve, for ES256 (P-256) or ES384 (P-384)",
+        AlgorithmFamily::Ed => "an Ed25519 key, for EdDSA",
     }
 }

@@ -49,51 +49,6 @@ pub struct Loaded {
 /// the more there are. The others verify too, unprepared.
 const PREPARED: usize = 16;
 
-fn prepare_for(
-    alloc: Global,
-    provider: &mut PreparedKeys,
-    key: &DecodingKey,
-    algorithm: Algorithm,
-) -> Result<(), Fault<'static>> {
-    match provider.add(alloc, algorithm, key) {
-        Ok(()) => Ok(()),
-        // the only refusal
-        Err(_) => Err(Fault::Memory),
-    }
-}
-
-/// Prepares a key for the algorithms that are accepted, or for its own if none is named.
-fn prepare_key(
-    alloc: Global,
-    provider: &mut PreparedKeys,
-    key: &DecodingKey,
-    own: Option<Algorithm>,
-    algorithms: &[Algorithm],
-) -> Result<(), Fault<'static>> {
-    if let (Some(algorithm), true) = (own, algorithms.is_empty()) {
-        prepare_for(alloc, provider, key, algorithm)?;
-    }
-    for algorithm in algorithms {
-        prepare_for(alloc, provider, key, *algorithm)?;
-    }
-    Ok(())
-}
-
-/// Prepares the first keys of a set. A key that is malformed is left out.
-fn prepare_set(
-    alloc: Global,
-    provider: &mut PreparedKeys,
-    set: &JwkSet,
-    algorithms: &[Algorithm],
-) -> Result<(), Fault<'static>> {
-    for jwk in set.keys.iter().take(PREPARED) {
-        if let Some(key) = unless_refused(DecodingKey::from_jwk(alloc, jwk))? {
-            prepare_key(alloc, provider, &key, own_algorithm(jwk), algorithms)?;
-        }
-    }
-    Ok(())
-}
-
 /// Prepares the keys for many tokens, by these algorithms, or by those that the keys are for if the
 /// list is empty.
 pub fn prepare(
@@ -118,14 +73,95 @@ pub fn names_algorithm(loaded: &Loaded) -> bool {
     }
 }
 
-/// Returns the fault of a file that holds something else than keys, unless memory ran out.
-fn not_keys<'a>(path: &'a str, error: &Error, problem: &'static str) -> Fault<'a>
+/// Returns the secret that a file holds, unless anyone can sign with it (RFC 2104 section 2).
+pub fn given_secret<'a, 'b>(
+    path: &'a str,
+    bytes: &'b [u8],
+    is_trimmed: bool,
+) -> Result<&'b [u8], Fault<'a>>
+    ensures ok { IfOk result (λ s. IsSecret is_trimmed bytes.now s.now × (¬ IsBlank s.now)) }
+    ensures err { IsErr result → (secret : List ℕ) × IsSecret is_trimmed bytes.now secret
+        × IsBlank secret }
+{
+    let secret = secret(bytes, is_trimmed);
+    if is_blank(secret) {
+        return Err(Fault::File {
+            path,
+            problem: secret_problem(secret),
+        });
+    }
+    Ok(secret)
+}
+
+/// Returns the fault of a file that is no public key in PEM, unless memory ran out.
+pub fn not_pem<'a>(path: &'a str, error: &Error, bytes: &[u8]) -> Fault<'a>
     ensures { IsMemory error.now → result ≡ Fault.Memory }
 {
-    match error.kind() {
-        ErrorKind::OutOfMemory => Fault::Memory,
-        _ => Fault::File { path, problem },
+    let problem = match error.kind() {
+        ErrorKind::UnsupportedAlgorithm =>
+            "this public key is of a kind that verifies nothing here",
+        ErrorKind::Provider(_) => "this is a private key; a public key is wanted",
+        _ => pem_problem(bytes, "this is not a public key in PEM"),
+    };
+    not_keys(path, error, problem)
+}
+
+/// Returns the keys that the bytes of a file hold.
+pub fn load<'a>(alloc: Global, file: KeyFile<'a>, bytes: &[u8]) -> Result<Loaded, Fault<'a>>
+    ensures ok { IfOk result (λ l. AreLoaded file.entry bytes.now l.keys l.own) }
+    ensures err { IfErr result (λ e. (e ≡ Fault.Memory) ⊎ HasKeysFault file.entry bytes.now) }
+{
+    match file {
+        KeyFile::Secret { path, is_trimmed } => by_secret(alloc, path, bytes, is_trimmed),
+        KeyFile::Jwk(path) => by_jwk(alloc, path, bytes),
+        KeyFile::Jwks(path) => by_set(alloc, path, bytes),
+        KeyFile::Pem(path) => by_pem(alloc, path, bytes),
     }
+}
+
+/// Prepares a key for the algorithms that are accepted, or for its own if none is named.
+fn prepare_key(
+    alloc: Global,
+    provider: &mut PreparedKeys,
+    key: &DecodingKey,
+    own: Option<Algorithm>,
+    algorithms: &[Algorithm],
+) -> Result<(), Fault<'static>> {
+    if let (Some(algorithm), true) = (own, algorithms.is_empty()) {
+        prepare_for(alloc, provider, key, algorithm)?;
+    }
+    for algorithm in algorithms {
+        prepare_for(alloc, provider, key, *algorithm)?;
+    }
+    Ok(())
+}
+
+fn prepare_for(
+    alloc: Global,
+    provider: &mut PreparedKeys,
+    key: &DecodingKey,
+    algorithm: Algorithm,
+) -> Result<(), Fault<'static>> {
+    match provider.add(alloc, algorithm, key) {
+        Ok(()) => Ok(()),
+        // the only refusal
+        Err(_) => Err(Fault::Memory),
+    }
+}
+
+/// Prepares the first keys of a set. A key that is malformed is left out.
+fn prepare_set(
+    alloc: Global,
+    provider: &mut PreparedKeys,
+    set: &JwkSet,
+    algorithms: &[Algorithm],
+) -> Result<(), Fault<'static>> {
+    for jwk in set.keys.iter().take(PREPARED) {
+        if let Some(key) = unless_refused(DecodingKey::from_jwk(alloc, jwk))? {
+            prepare_key(alloc, provider, &key, own_algorithm(jwk), algorithms)?;
+        }
+    }
+    Ok(())
 }
 
 /// Returns the secret that a file holds.
@@ -148,24 +184,14 @@ fn secret_problem(secret: &[u8]) -> &'static str {
     }
 }
 
-/// Returns the secret that a file holds, unless anyone can sign with it (RFC 2104 section 2).
-pub fn given_secret<'a, 'b>(
-    path: &'a str,
-    bytes: &'b [u8],
-    is_trimmed: bool,
-) -> Result<&'b [u8], Fault<'a>>
-    ensures ok { IfOk result (λ s. IsSecret is_trimmed bytes.now s.now × (¬ IsBlank s.now)) }
-    ensures err { IsErr result → (secret : List ℕ) × IsSecret is_trimmed bytes.now secret
-        × IsBlank secret }
+/// Returns the fault of a file that holds something else than keys, unless memory ran out.
+fn not_keys<'a>(path: &'a str, error: &Error, problem: &'static str) -> Fault<'a>
+    ensures { IsMemory error.now → result ≡ Fault.Memory }
 {
-    let secret = secret(bytes, is_trimmed);
-    if is_blank(secret) {
-        return Err(Fault::File {
-            path,
-            problem: secret_problem(secret),
-        });
+    match error.kind() {
+        ErrorKind::OutOfMemory => Fault::Memory,
+        _ => Fault::File { path, problem },
     }
-    Ok(secret)
 }
 
 fn by_secret<'a>(
@@ -186,51 +212,6 @@ fn by_secret<'a>(
             own: None,
             has_line_end: secret.ends_with(b"\n"),
             provider: PreparedKeys::new(alloc),
-        }),
-        Err(_) => Err(Fault::Memory),
-    }
-}
-
-/// Returns the keys that are this one, which is for this algorithm, unless anyone can sign for it.
-fn with_key<'a>(
-    alloc: Global,
-    path: &'a str,
-    key: DecodingKey,
-    own: Option<Algorithm>,
-) -> Result<Loaded, Fault<'a>>
-    ensures ok { IfOk result (λ l. (¬ IsBlankKey key) × (l.keys ≡ Keys.One key) × (l.own ≡ own)) }
-    ensures err { IsErr result → IsBlankKey key }
-{
-    if is_blank_key(&key) {
-        return Err(Fault::File {
-            path,
-            problem: "anyone can sign with this key",
-        });
-    }
-    Ok(Loaded {
-        keys: Keys::One(key),
-        own,
-        has_line_end: false,
-        provider: PreparedKeys::new(alloc),
-    })
-}
-
-/// Returns the keys that are this set, unless anyone can sign for one of them.
-fn with_set<'a>(alloc: Global, path: &'a str, set: JwkSet) -> Result<Loaded, Fault<'a>>
-    ensures ok { IfOk result (λ l. (¬ HasBlankKey set.keys.items) × (l.keys ≡ Keys.Set set)
-        × (l.own ≡ None)) }
-    ensures err { IfErr result (λ e. (e ≡ Fault.Memory) ⊎ HasBlankKey set.keys.items) }
-{
-    match has_blank_key(alloc, &set) {
-        Ok(false) => Ok(Loaded {
-            keys: Keys::Set(set),
-            own: None,
-            has_line_end: false,
-            provider: PreparedKeys::new(alloc),
-        }),
-        Ok(true) => Err(Fault::File {
-            path,
-            problem: "anyone can sign with a key of this set",
         }),
         Err(_) => Err(Fault::Memory),
     }
@@ -267,6 +248,30 @@ fn by_jwk<'a>(alloc: Global, path: &'a str, bytes: &[u8]) -> Result<Loaded, Faul
     }
 }
 
+/// Returns the keys that are this one, which is for this algorithm, unless anyone can sign for it.
+fn with_key<'a>(
+    alloc: Global,
+    path: &'a str,
+    key: DecodingKey,
+    own: Option<Algorithm>,
+) -> Result<Loaded, Fault<'a>>
+    ensures ok { IfOk result (λ l. (¬ IsBlankKey key) × (l.keys ≡ Keys.One key) × (l.own ≡ own)) }
+    ensures err { IsErr result → IsBlankKey key }
+{
+    if is_blank_key(&key) {
+        return Err(Fault::File {
+            path,
+            problem: "anyone can sign with this key",
+        });
+    }
+    Ok(Loaded {
+        keys: Keys::One(key),
+        own,
+        has_line_end: false,
+        provider: PreparedKeys::new(alloc),
+    })
+}
+
 fn by_set<'a>(alloc: Global, path: &'a str, bytes: &[u8]) -> Result<Loaded, Fault<'a>>
     ensures ok { IfOk result (λ l. (set : JwkSet) × ReadsText ReadsSet bytes.now set.keys.items
         × (¬ HasBlankKey set.keys.items) × (l.keys ≡ Keys.Set set) × (l.own ≡ None)) }
@@ -277,6 +282,27 @@ fn by_set<'a>(alloc: Global, path: &'a str, bytes: &[u8]) -> Result<Loaded, Faul
     match JwkSet::from_slice(alloc, bytes) {
         Ok(set) => with_set(alloc, path, set),
         Err(error) => Err(not_keys(path, &error, set_problem(bytes))),
+    }
+}
+
+/// Returns the keys that are this set, unless anyone can sign for one of them.
+fn with_set<'a>(alloc: Global, path: &'a str, set: JwkSet) -> Result<Loaded, Fault<'a>>
+    ensures ok { IfOk result (λ l. (¬ HasBlankKey set.keys.items) × (l.keys ≡ Keys.Set set)
+        × (l.own ≡ None)) }
+    ensures err { IfErr result (λ e. (e ≡ Fault.Memory) ⊎ HasBlankKey set.keys.items) }
+{
+    match has_blank_key(alloc, &set) {
+        Ok(false) => Ok(Loaded {
+            keys: Keys::Set(set),
+            own: None,
+            has_line_end: false,
+            provider: PreparedKeys::new(alloc),
+        }),
+        Ok(true) => Err(Fault::File {
+            path,
+            problem: "anyone can sign with a key of this set",
+        }),
+        Err(_) => Err(Fault::Memory),
     }
 }
 
@@ -294,31 +320,5 @@ fn by_pem<'a>(alloc: Global, path: &'a str, bytes: &[u8]) -> Result<Loaded, Faul
             provider: PreparedKeys::new(alloc),
         }),
         Err(error) => Err(not_pem(path, &error, bytes)),
-    }
-}
-
-/// Returns the fault of a file that is no public key in PEM, unless memory ran out.
-pub fn not_pem<'a>(path: &'a str, error: &Error, bytes: &[u8]) -> Fault<'a>
-    ensures { IsMemory error.now → result ≡ Fault.Memory }
-{
-    let problem = match error.kind() {
-        ErrorKind::UnsupportedAlgorithm =>
-            "this public key is of a kind that verifies nothing here",
-        ErrorKind::Provider(_) => "this is a private key; a public key is wanted",
-        _ => pem_problem(bytes, "this is not a public key in PEM"),
-    };
-    not_keys(path, error, problem)
-}
-
-/// Returns the keys that the bytes of a file hold.
-pub fn load<'a>(alloc: Global, file: KeyFile<'a>, bytes: &[u8]) -> Result<Loaded, Fault<'a>>
-    ensures ok { IfOk result (λ l. AreLoaded file.entry bytes.now l.keys l.own) }
-    ensures err { IfErr result (λ e. (e ≡ Fault.Memory) ⊎ HasKeysFault file.entry bytes.now) }
-{
-    match file {
-        KeyFile::Secret { path, is_trimmed } => by_secret(alloc, path, bytes, is_trimmed),
-        KeyFile::Jwk(path) => by_jwk(alloc, path, bytes),
-        KeyFile::Jwks(path) => by_set(alloc, path, bytes),
-        KeyFile::Pem(path) => by_pem(alloc, path, bytes),
     }
 }

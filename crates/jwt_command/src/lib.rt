@@ -49,23 +49,35 @@ use std::io::{ErrorKind, Write};
 use std::rt::{Env, Runtime};
 use std::{env, io};
 
-/// Returns the words of the command line.
-fn words<R: Env + AllocGlobal>(rt: &R) -> Result<Vec<String>, Fault<'static>> {
-    match env::args(rt) {
-        Ok(words) => Ok(words.collect::<Vec<String>>(rt.alloc())?),
-        Err(error) if error.kind() == ErrorKind::InvalidData => Err(Fault::Usage(
-            "an argument is not UTF-8",
-        )),
-        Err(_) => Err(Fault::Memory),
+/// Writes the answer to the arguments, and returns the exit status: that of the answer, or 2 for
+/// arguments that ask for nothing that can be done, and 3 for files, streams, the clock and memory.
+pub fn run_command<T: Runtime + AllocGlobal, W: Write>(
+    rt: &T,
+    matches: &ArgMatches<'_>,
+    writer: &mut W,
+) -> u8
+    ensures { IsFaultStatus result ⊎ ((r : Request) × IsRequestOf matches.now r
+        × IsStatus r (W.contents writer.old) (W.contents writer.new) result) }
+{
+    match request_asked(matches) {
+        Ok(request) => answered(rt, &request, writer),
+        Err(fault) => failed(rt, &fault),
     }
 }
 
-/// Returns the exit status of a fault, which is said on standard error.
-fn failed<R: Eprint>(rt: &R, fault: &Fault<'_>) -> u8
-    ensures { IsFaultStatus result }
-{
-    let _ = eprintln!(rt; "error: {fault}");
-    fault.status()
+/// Runs the program with its arguments and the standard streams.
+pub fn start<T: Runtime + AllocGlobal>(rt: &T) -> u8 {
+    let words = match words(rt) {
+        Ok(words) => words,
+        Err(fault) => return failed(rt, &fault),
+    };
+    let Ok(command) = command(rt.alloc()) else {
+        return failed(rt, &Fault::Memory);
+    };
+    match command.try_get_matches_from(words.as_slice()) {
+        Ok(matches) => run_command(rt, &matches, &mut io::writer(rt)),
+        Err(error) => mistaken(rt, &error),
+    }
 }
 
 /// Writes the answer to a request, and returns its status.
@@ -87,19 +99,35 @@ fn answered<T: Runtime + AllocGlobal, W: Write>(
     answer.status
 }
 
-/// Writes the answer to the arguments, and returns the exit status: that of the answer, or 2 for
-/// arguments that ask for nothing that can be done, and 3 for files, streams, the clock and memory.
-pub fn run_command<T: Runtime + AllocGlobal, W: Write>(
-    rt: &T,
-    matches: &ArgMatches<'_>,
-    writer: &mut W,
-) -> u8
-    ensures { IsFaultStatus result ⊎ ((r : Request) × IsRequestOf matches.now r
-        × IsStatus r (W.contents writer.old) (W.contents writer.new) result) }
+/// Returns the exit status of a fault, which is said on standard error.
+fn failed<R: Eprint>(rt: &R, fault: &Fault<'_>) -> u8
+    ensures { IsFaultStatus result }
 {
-    match request_asked(matches) {
-        Ok(request) => answered(rt, &request, writer),
-        Err(fault) => failed(rt, &fault),
+    let _ = eprintln!(rt; "error: {fault}");
+    fault.status()
+}
+
+/// Returns the words of the command line.
+fn words<R: Env + AllocGlobal>(rt: &R) -> Result<Vec<String>, Fault<'static>> {
+    match env::args(rt) {
+        Ok(words) => Ok(words.collect::<Vec<String>>(rt.alloc())?),
+        Err(error) if error.kind() == ErrorKind::InvalidData => Err(Fault::Usage(
+            "an argument is not UTF-8",
+        )),
+        Err(_) => Err(Fault::Memory),
+    }
+}
+
+/// Prints the help or the version that is asked for, or the mistake in the arguments; returns the
+/// status.
+fn mistaken<R: Print + Eprint + AllocGlobal>(rt: &R, error: &clap::Error) -> u8 {
+    match sentence(rt.alloc(), error) {
+        Ok(Some(sentence)) => failed(rt, &Fault::Usage(sentence)),
+        Ok(None) => {
+            let is_printed = error.print(rt).is_ok();
+            printed_status(error, is_printed)
+        }
+        Err(_) => failed(rt, &Fault::Memory),
     }
 }
 
@@ -125,39 +153,11 @@ fn sentence(alloc: Global, error: &clap::Error) -> Result<Option<&'static str>, 
     }
 }
 
-/// Prints the help or the version that is asked for, or the mistake in the arguments; returns the
-/// status.
-fn mistaken<R: Print + Eprint + AllocGlobal>(rt: &R, error: &clap::Error) -> u8 {
-    match sentence(rt.alloc(), error) {
-        Ok(Some(sentence)) => failed(rt, &Fault::Usage(sentence)),
-        Ok(None) => {
-            let is_printed = error.print(rt).is_ok();
-            printed_status(error, is_printed)
-        }
-        Err(_) => failed(rt, &Fault::Memory),
-    }
-}
-
 fn printed_status(error: &clap::Error, is_printed: bool) -> u8 {
     match error.kind() {
         clap::error::ErrorKind::OutOfMemory => 3,
         _ if error.use_stderr() => 2,
         _ if is_printed => 0,
         _ => 3,
-    }
-}
-
-/// Runs the program with its arguments and the standard streams.
-pub fn start<T: Runtime + AllocGlobal>(rt: &T) -> u8 {
-    let words = match words(rt) {
-        Ok(words) => words,
-        Err(fault) => return failed(rt, &fault),
-    };
-    let Ok(command) = command(rt.alloc()) else {
-        return failed(rt, &Fault::Memory);
-    };
-    match command.try_get_matches_from(words.as_slice()) {
-        Ok(matches) => run_command(rt, &matches, &mut io::writer(rt)),
-        Err(error) => mistaken(rt, &error),
     }
 }

@@ -8,21 +8,6 @@ ghost use Rattle.jwt_command.specs.Arguments.{decimal};
 
 use jiff::{SignedDuration, Timestamp};
 
-/// Returns whether each character is a decimal digit.
-fn is_decimal(text: &str) -> bool {
-    text.as_bytes().iter().all(|byte| byte.is_ascii_digit())
-}
-
-/// Returns the number that one or more decimal digits stand for, if it has at most 64 bits.
-fn number(text: &str) -> Option<u64>
-    ensures { result ≡ decimal text.now }
-{
-    if text.starts_with('+') {
-        return None;
-    }
-    text.parse::<u64>().ok()
-}
-
 /// Returns the time of a text, in whole seconds since 1970-01-01 00:00:00 UTC: decimal digits, or
 /// a date and time of RFC 3339, whose fraction of a second is left out. `None` stands for another
 /// text, and for a time before then.
@@ -48,4 +33,19 @@ pub fn seconds(text: &str) -> Option<u64>
     }
     let span = text.parse::<SignedDuration>().ok()?;
     u64::try_from(span.as_secs()).ok()
+}
+
+/// Returns the number that one or more decimal digits stand for, if it has at most 64 bits.
+fn number(text: &str) -> Option<u64>
+    ensures { result ≡ decimal text.now }
+{
+    if text.starts_with('+') {
+        return None;
+    }
+    text.parse::<u64>().ok()
+}
+
+/// Returns whether each character is a decimal digit.
+fn is_decimal(text: &str) -> bool {
+    text.as_bytes().iter().all(|byte| byte.is_ascii_digit())
 }

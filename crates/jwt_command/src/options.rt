@@ -25,15 +25,84 @@ use std::collections::HashSet;
 /// The claims that can be required.
 const REQUIRABLE: [&str; 5] = ["exp", "nbf", "aud", "iss", "sub"];
 
-/// Returns the algorithms of these names.
-fn algorithms(alloc: Global, names: &[&str]) -> Result<Vec<Algorithm>, Fault<'static>>
-    ensures { IfOk result (λ a. AreNamed names.now a.items) }
+/// Returns the options that the arguments would ask for if they asked for strict ones too.
+pub fn as_strict(
+    alloc: Global,
+    validation: &Validation,
+    checks: &Checks<'_, '_>,
+) -> Result<Validation, Fault<'static>> {
+    let Ok(mut strict) = validation.clone(alloc) else {
+        return Err(Fault::Memory);
+    };
+    make_strict_if(alloc, &mut strict, true)?;
+    set_times(&mut strict, checks);
+    Ok(strict)
+}
+
+/// Returns the options of the arguments: those of the file, whose bytes are given, made strict if
+/// that is asked for, and then changed by each other argument that is given. The algorithms are
+/// those of the arguments if they name any, and else those of the file.
+pub fn validation<'a>(
+    alloc: Global,
+    checks: &Checks<'_, 'a>,
+    bytes: Option<&[u8]>,
+) -> Result<Validation, Fault<'a>>
+    ensures { IfOk result (λ v. AreRequested checks.now (option_map (λ b. b.now) bytes.entry)
+        (options_of v)) }
 {
-    let mut algorithms = Vec::new(alloc);
-    for name in names {
-        algorithms.push(algorithm(name)?)?;
+    let mut validation = base(alloc, checks.options, bytes)?;
+    make_strict_if(alloc, &mut validation, checks.is_strict)?;
+    change(alloc, &mut validation, checks)?;
+    set_algorithms(alloc, &mut validation, checks.algorithms)?;
+    Ok(validation)
+}
+
+/// Makes options strict, if that is asked for.
+fn make_strict_if(
+    alloc: Global,
+    validation: &mut Validation,
+    is_strict: bool,
+) -> Result<(), Fault<'static>>
+    ensures strict { OnOk result (options_of validation.new
+        ≡ strict_if is_strict (options_of validation.old)) }
+    ensures algorithms { OnOk result (validation.new.algorithms.items
+        ≡ validation.old.algorithms.items) }
+{
+    if !is_strict {
+        return Ok(());
     }
-    Ok(algorithms)
+    match make_strict(alloc, validation) {
+        Ok(()) => Ok(()),
+        Err(_) => Err(Fault::Memory),
+    }
+}
+
+/// Makes options strict: `nbf` is checked, without leeway, a token is refused from its `exp` on,
+/// and the claims that have a value are required.
+fn make_strict(alloc: Global, validation: &mut Validation) -> Result<(), Error>
+    ensures { OnOk result (options_of validation.new ≡ made_strict (options_of validation.old)) }
+{
+    validation.leeway = 0;
+    let seconds = validation.reject_tokens_expiring_in_less_than;
+    validation.reject_tokens_expiring_in_less_than = u64::max(1, seconds);
+    validation.validate_nbf = true;
+    validation.require_configured(alloc)
+}
+
+/// Changes the times and the checks that the arguments name.
+fn set_times(validation: &mut Validation, checks: &Checks<'_, '_>)
+    ensures { options_of validation.new ≡ record (options_of validation.old) {
+      leeway = unwrap_or checks.now.leeway validation.old.leeway;
+      reject = unwrap_or checks.now.not_within validation.old.reject_tokens_expiring_in_less_than;
+      checks_exp = not checks.now.skips_exp && validation.old.validate_exp;
+      checks_nbf = checks.now.checks_nbf || validation.old.validate_nbf;
+    } }
+{
+    validation.leeway = checks.leeway.unwrap_or(validation.leeway);
+    let seconds = validation.reject_tokens_expiring_in_less_than;
+    validation.reject_tokens_expiring_in_less_than = checks.not_within.unwrap_or(seconds);
+    validation.validate_exp = !checks.skips_exp && validation.validate_exp;
+    validation.validate_nbf = checks.checks_nbf || validation.validate_nbf;
 }
 
 /// Returns the options that a JSON file describes, or those that are the default without a file.
@@ -82,104 +151,42 @@ fn not_options<'a>(path: &'a str, error: &Error) -> Fault<'a>
     }
 }
 
-/// Adds the name of a claim.
-fn require(alloc: Global, claims: &mut HashSet<String>, name: &str) -> Result<(), Fault<'static>>
-    ensures { OnOk result ((t : _) → contains_text claims.new t
-        ≡ (bytes_eq name.now t || contains_text claims.old t)) }
-{
-    claims.insert(String::from_str(alloc, name)?)?;
-    Ok(())
-}
-
-/// Adds the name of a claim, if an argument gives the claim a value.
-fn require_if(
+/// Changes the options as the arguments ask for, but for the algorithms.
+fn change(
     alloc: Global,
-    claims: &mut HashSet<String>,
-    has_value: bool,
-    name: &str,
-) -> Result<(), Fault<'static>>
-    ensures { OnOk result ((t : _) → contains_text claims.new t
-        ≡ ((has_value && bytes_eq name.now t) || contains_text claims.old t)) }
-{
-    if has_value {
-        require(alloc, claims, name)?;
-    }
-    Ok(())
-}
-
-/// Adds the names of claims, each of which can be required.
-fn require_all(
-    alloc: Global,
-    claims: &mut HashSet<String>,
-    names: &[&str],
-) -> Result<(), Fault<'static>>
-    ensures { OnOk result ((t : _) → contains_text claims.new t
-        ≡ (among (λ s. s.now) names.now t || contains_text claims.old t)) }
-{
-    for name in names {
-        if !REQUIRABLE.contains(name) {
-            return Err(Fault::Usage("--require wants exp, nbf, aud, iss or sub"));
-        }
-        require(alloc, claims, name)?;
-    }
-    Ok(())
-}
-
-/// Adds the names of claims that an argument has.
-fn require_named(
-    alloc: Global,
-    claims: &mut HashSet<String>,
-    names: Option<&[&str]>,
-) -> Result<(), Fault<'static>>
-    ensures { OnOk result ((t : _) → contains_text claims.new t
-        ≡ (given names.entry t || contains_text claims.old t)) }
-{
-    match names {
-        Some(names) => require_all(alloc, claims, names),
-        None => Ok(()),
-    }
-}
-
-/// Removes the name of the claim `exp`, if it is not checked.
-fn skip_exp(claims: &mut HashSet<String>, skips_exp: bool)
-    ensures { (t : _) → contains_text claims.new t ≡ kept skips_exp (contains_text claims.old) t }
-{
-    if skips_exp {
-        claims.remove("exp");
-    }
-}
-
-/// Changes the claims that are required as the arguments ask for.
-fn set_required(
-    alloc: Global,
-    claims: &mut HashSet<String>,
+    validation: &mut Validation,
     checks: &Checks<'_, '_>,
 ) -> Result<(), Fault<'static>>
-    ensures { OnOk result ((t : _) → contains_text claims.new t
-        ≡ required checks.now (contains_text claims.old) t) }
+    ensures { OnOk result (options_of validation.new
+        ≡ changed checks.now (options_of validation.old) validation.old.algorithms.items) }
 {
-    skip_exp(claims, checks.skips_exp);
-    require_named(alloc, claims, checks.required)?;
-    require_if(alloc, claims, checks.audiences.is_some(), "aud")?;
-    require_if(alloc, claims, checks.issuers.is_some(), "iss")?;
-    require_if(alloc, claims, checks.subject.is_some(), "sub")?;
+    let Ok(()) = set_names(alloc, validation, checks) else {
+        return Err(Fault::Memory);
+    };
+    set_times(validation, checks);
+    set_required(alloc, &mut validation.required_spec_claims, checks)?;
     Ok(())
 }
 
-/// Changes the times and the checks that the arguments name.
-fn set_times(validation: &mut Validation, checks: &Checks<'_, '_>)
-    ensures { options_of validation.new ≡ record (options_of validation.old) {
-      leeway = unwrap_or checks.now.leeway validation.old.leeway;
-      reject = unwrap_or checks.now.not_within validation.old.reject_tokens_expiring_in_less_than;
-      checks_exp = not checks.now.skips_exp && validation.old.validate_exp;
-      checks_nbf = checks.now.checks_nbf || validation.old.validate_nbf;
-    } }
+/// Changes the names that the arguments have.
+fn set_names(
+    alloc: Global,
+    validation: &mut Validation,
+    checks: &Checks<'_, '_>,
+) -> Result<(), Error>
+    ensures { OnOk result (options_of validation.new ≡ record (options_of validation.old) {
+      aud = given_or checks.now.audiences (options_of validation.old).aud;
+      iss = given_or checks.now.issuers (options_of validation.old).iss;
+      sub = option_or (option_map (λ s. s.now) checks.now.subject) (options_of validation.old).sub;
+      understood = unwrap_or (option_map (λ names. among (λ s. s.now) names.now)
+          checks.now.understood) (options_of validation.old).understood;
+    }) }
 {
-    validation.leeway = checks.leeway.unwrap_or(validation.leeway);
-    let seconds = validation.reject_tokens_expiring_in_less_than;
-    validation.reject_tokens_expiring_in_less_than = checks.not_within.unwrap_or(seconds);
-    validation.validate_exp = !checks.skips_exp && validation.validate_exp;
-    validation.validate_nbf = checks.checks_nbf || validation.validate_nbf;
+    set_audiences(alloc, validation, checks.audiences)?;
+    set_issuers(alloc, validation, checks.issuers)?;
+    set_subject(alloc, validation, checks.subject)?;
+    set_understood(alloc, validation, checks.understood)?;
+    Ok(())
 }
 
 fn set_audiences(
@@ -236,74 +243,88 @@ fn set_understood(
     }
 }
 
-/// Changes the names that the arguments have.
-fn set_names(
+/// Changes the claims that are required as the arguments ask for.
+fn set_required(
     alloc: Global,
-    validation: &mut Validation,
+    claims: &mut HashSet<String>,
     checks: &Checks<'_, '_>,
-) -> Result<(), Error>
-    ensures { OnOk result (options_of validation.new ≡ record (options_of validation.old) {
-      aud = given_or checks.now.audiences (options_of validation.old).aud;
-      iss = given_or checks.now.issuers (options_of validation.old).iss;
-      sub = option_or (option_map (λ s. s.now) checks.now.subject) (options_of validation.old).sub;
-      understood = unwrap_or (option_map (λ names. among (λ s. s.now) names.now)
-          checks.now.understood) (options_of validation.old).understood;
-    }) }
+) -> Result<(), Fault<'static>>
+    ensures { OnOk result ((t : _) → contains_text claims.new t
+        ≡ required checks.now (contains_text claims.old) t) }
 {
-    set_audiences(alloc, validation, checks.audiences)?;
-    set_issuers(alloc, validation, checks.issuers)?;
-    set_subject(alloc, validation, checks.subject)?;
-    set_understood(alloc, validation, checks.understood)?;
+    skip_exp(claims, checks.skips_exp);
+    require_named(alloc, claims, checks.required)?;
+    require_if(alloc, claims, checks.audiences.is_some(), "aud")?;
+    require_if(alloc, claims, checks.issuers.is_some(), "iss")?;
+    require_if(alloc, claims, checks.subject.is_some(), "sub")?;
     Ok(())
 }
 
-/// Changes the options as the arguments ask for, but for the algorithms.
-fn change(
-    alloc: Global,
-    validation: &mut Validation,
-    checks: &Checks<'_, '_>,
-) -> Result<(), Fault<'static>>
-    ensures { OnOk result (options_of validation.new
-        ≡ changed checks.now (options_of validation.old) validation.old.algorithms.items) }
+/// Removes the name of the claim `exp`, if it is not checked.
+fn skip_exp(claims: &mut HashSet<String>, skips_exp: bool)
+    ensures { (t : _) → contains_text claims.new t ≡ kept skips_exp (contains_text claims.old) t }
 {
-    let Ok(()) = set_names(alloc, validation, checks) else {
-        return Err(Fault::Memory);
-    };
-    set_times(validation, checks);
-    set_required(alloc, &mut validation.required_spec_claims, checks)?;
+    if skips_exp {
+        claims.remove("exp");
+    }
+}
+
+/// Adds the names of claims that an argument has.
+fn require_named(
+    alloc: Global,
+    claims: &mut HashSet<String>,
+    names: Option<&[&str]>,
+) -> Result<(), Fault<'static>>
+    ensures { OnOk result ((t : _) → contains_text claims.new t
+        ≡ (given names.entry t || contains_text claims.old t)) }
+{
+    match names {
+        Some(names) => require_all(alloc, claims, names),
+        None => Ok(()),
+    }
+}
+
+/// Adds the names of claims, each of which can be required.
+fn require_all(
+    alloc: Global,
+    claims: &mut HashSet<String>,
+    names: &[&str],
+) -> Result<(), Fault<'static>>
+    ensures { OnOk result ((t : _) → contains_text claims.new t
+        ≡ (among (λ s. s.now) names.now t || contains_text claims.old t)) }
+{
+    for name in names {
+        if !REQUIRABLE.contains(name) {
+            return Err(Fault::Usage("--require wants exp, nbf, aud, iss or sub"));
+        }
+        require(alloc, claims, name)?;
+    }
     Ok(())
 }
 
-/// Makes options strict: `nbf` is checked, without leeway, a token is refused from its `exp` on,
-/// and the claims that have a value are required.
-fn make_strict(alloc: Global, validation: &mut Validation) -> Result<(), Error>
-    ensures { OnOk result (options_of validation.new ≡ made_strict (options_of validation.old)) }
+/// Adds the name of a claim.
+fn require(alloc: Global, claims: &mut HashSet<String>, name: &str) -> Result<(), Fault<'static>>
+    ensures { OnOk result ((t : _) → contains_text claims.new t
+        ≡ (bytes_eq name.now t || contains_text claims.old t)) }
 {
-    validation.leeway = 0;
-    let seconds = validation.reject_tokens_expiring_in_less_than;
-    validation.reject_tokens_expiring_in_less_than = u64::max(1, seconds);
-    validation.validate_nbf = true;
-    validation.require_configured(alloc)
+    claims.insert(String::from_str(alloc, name)?)?;
+    Ok(())
 }
 
-/// Makes options strict, if that is asked for.
-fn make_strict_if(
+/// Adds the name of a claim, if an argument gives the claim a value.
+fn require_if(
     alloc: Global,
-    validation: &mut Validation,
-    is_strict: bool,
+    claims: &mut HashSet<String>,
+    has_value: bool,
+    name: &str,
 ) -> Result<(), Fault<'static>>
-    ensures strict { OnOk result (options_of validation.new
-        ≡ strict_if is_strict (options_of validation.old)) }
-    ensures algorithms { OnOk result (validation.new.algorithms.items
-        ≡ validation.old.algorithms.items) }
+    ensures { OnOk result ((t : _) → contains_text claims.new t
+        ≡ ((has_value && bytes_eq name.now t) || contains_text claims.old t)) }
 {
-    if !is_strict {
-        return Ok(());
+    if has_value {
+        require(alloc, claims, name)?;
     }
-    match make_strict(alloc, validation) {
-        Ok(()) => Ok(()),
-        Err(_) => Err(Fault::Memory),
-    }
+    Ok(())
 }
 
 /// Changes the algorithms, if the arguments name any.
@@ -323,34 +344,13 @@ fn set_algorithms(
     Ok(())
 }
 
-/// Returns the options that the arguments would ask for if they asked for strict ones too.
-pub fn as_strict(
-    alloc: Global,
-    validation: &Validation,
-    checks: &Checks<'_, '_>,
-) -> Result<Validation, Fault<'static>> {
-    let Ok(mut strict) = validation.clone(alloc) else {
-        return Err(Fault::Memory);
-    };
-    make_strict_if(alloc, &mut strict, true)?;
-    set_times(&mut strict, checks);
-    Ok(strict)
-}
-
-/// Returns the options of the arguments: those of the file, whose bytes are given, made strict if
-/// that is asked for, and then changed by each other argument that is given. The algorithms are
-/// those of the arguments if they name any, and else those of the file.
-pub fn validation<'a>(
-    alloc: Global,
-    checks: &Checks<'_, 'a>,
-    bytes: Option<&[u8]>,
-) -> Result<Validation, Fault<'a>>
-    ensures { IfOk result (λ v. AreRequested checks.now (option_map (λ b. b.now) bytes.entry)
-        (options_of v)) }
+/// Returns the algorithms of these names.
+fn algorithms(alloc: Global, names: &[&str]) -> Result<Vec<Algorithm>, Fault<'static>>
+    ensures { IfOk result (λ a. AreNamed names.now a.items) }
 {
-    let mut validation = base(alloc, checks.options, bytes)?;
-    make_strict_if(alloc, &mut validation, checks.is_strict)?;
-    change(alloc, &mut validation, checks)?;
-    set_algorithms(alloc, &mut validation, checks.algorithms)?;
-    Ok(validation)
+    let mut algorithms = Vec::new(alloc);
+    for name in names {
+        algorithms.push(algorithm(name)?)?;
+    }
+    Ok(algorithms)
 }

@@ -60,15 +60,63 @@ pub fn is_of_base64url(byte: u8) -> bool {
     byte.is_ascii_alphanumeric() || byte == b'-' || byte == b'_'
 }
 
-fn byte_name(byte: u8) -> &'static str {
-    match byte {
-        b'=' => "'=', which is padding",
-        b'+' | b'/' => "'+' or '/', of the other alphabet of base64",
-        b' ' => "a space",
-        b'\r' | b'\n' => "a line end",
-        b'"' => "a quotation mark",
-        b'.' => "a dot",
-        _ => "a character that base64url does not have",
+/// Returns the name of the type of a value.
+pub fn type_name(value: &Value) -> &'static str {
+    match value {
+        Value::Null => "null",
+        Value::Bool(_) => "a truth value",
+        Value::Number(_) => "a number",
+        Value::String(_) => "a string",
+        Value::Array(_) => "an array",
+        Value::Object(_) => "an object",
+    }
+}
+
+/// Returns the finding of a test of a part of a token.
+pub fn part_finding(
+    alloc: Global,
+    token: &[u8],
+    part: &[u8],
+    test: Test,
+) -> Result<Finding, Fault<'static>> {
+    if let Test::HeaderIsPart | Test::SignatureIsPart | Test::PayloadIsPart = test
+        && let Some(found) = wrapping_of(token)
+    {
+        return Finding::new(alloc, found.found, found.wanted);
+    }
+    Ok(Finding {
+        found: found_of(alloc, part, test)?,
+        wanted: String::from_str(alloc, wanted_of(test))?,
+    })
+}
+
+/// Returns the finding of a text whose header or claims can't be read.
+pub fn unread_finding(alloc: Global, token: &[u8]) -> Result<Finding, Fault<'static>> {
+    let Some(parts) = cut(token) else {
+        return text_finding(alloc, token);
+    };
+    if let Some(test) = header_test(alloc, token, parts.header)? {
+        return part_finding(alloc, token, parts.header, test);
+    }
+    let test = match unless_refused(part_bytes(alloc, parts.payload))? {
+        Some(_) => Test::PayloadIsJson,
+        None => Test::PayloadIsPart,
+    };
+    part_finding(alloc, token, parts.payload, test)
+}
+
+fn found_of(alloc: Global, part: &[u8], test: Test) -> Result<String, Fault<'static>> {
+    if let Test::HeaderIsPart | Test::SignatureIsPart | Test::PayloadIsPart = test {
+        return Ok(not_base64url(alloc, part)?);
+    }
+    match part_value(alloc, part)? {
+        None if part.is_empty() => Ok(String::from_str(alloc, "no bytes")?),
+        None => Ok(String::from_str(alloc, "bytes that are not JSON")?),
+        Some(value) => {
+            let found = found_value(alloc, &value, test);
+            drop(value);
+            Ok(found?)
+        }
     }
 }
 
@@ -87,15 +135,22 @@ fn not_base64url(alloc: Global, part: &[u8]) -> Result<String, AllocError> {
     )
 }
 
-/// Returns the name of the type of a value.
-pub fn type_name(value: &Value) -> &'static str {
-    match value {
-        Value::Null => "null",
-        Value::Bool(_) => "a truth value",
-        Value::Number(_) => "a number",
-        Value::String(_) => "a string",
-        Value::Array(_) => "an array",
-        Value::Object(_) => "an object",
+fn byte_name(byte: u8) -> &'static str {
+    match byte {
+        b'=' => "'=', which is padding",
+        b'+' | b'/' => "'+' or '/', of the other alphabet of base64",
+        b' ' => "a space",
+        b'\r' | b'\n' => "a line end",
+        b'"' => "a quotation mark",
+        b'.' => "a dot",
+        _ => "a character that base64url does not have",
+    }
+}
+
+fn found_value(alloc: Global, value: &Value, test: Test) -> Result<String, AllocError> {
+    match test {
+        Test::HeaderReads => not_header(alloc, value),
+        _ => String::from_str(alloc, type_name(value)),
     }
 }
 
@@ -127,46 +182,6 @@ fn wanted_of(test: Test) -> &'static str {
     }
 }
 
-fn found_value(alloc: Global, value: &Value, test: Test) -> Result<String, AllocError> {
-    match test {
-        Test::HeaderReads => not_header(alloc, value),
-        _ => String::from_str(alloc, type_name(value)),
-    }
-}
-
-fn found_of(alloc: Global, part: &[u8], test: Test) -> Result<String, Fault<'static>> {
-    if let Test::HeaderIsPart | Test::SignatureIsPart | Test::PayloadIsPart = test {
-        return Ok(not_base64url(alloc, part)?);
-    }
-    match part_value(alloc, part)? {
-        None if part.is_empty() => Ok(String::from_str(alloc, "no bytes")?),
-        None => Ok(String::from_str(alloc, "bytes that are not JSON")?),
-        Some(value) => {
-            let found = found_value(alloc, &value, test);
-            drop(value);
-            Ok(found?)
-        }
-    }
-}
-
-/// Returns the finding of a test of a part of a token.
-pub fn part_finding(
-    alloc: Global,
-    token: &[u8],
-    part: &[u8],
-    test: Test,
-) -> Result<Finding, Fault<'static>> {
-    if let Test::HeaderIsPart | Test::SignatureIsPart | Test::PayloadIsPart = test
-        && let Some(found) = wrapping_of(token)
-    {
-        return Finding::new(alloc, found.found, found.wanted);
-    }
-    Ok(Finding {
-        found: found_of(alloc, part, test)?,
-        wanted: String::from_str(alloc, wanted_of(test))?,
-    })
-}
-
 /// Returns the first test of a header that can't be read, or `None` if it can.
 fn header_test(alloc: Global, token: &[u8], header: &[u8]) -> Result<Option<Test>, Fault<'static>> {
     if unless_refused(part_bytes(alloc, header))?.is_none() {
@@ -179,19 +194,4 @@ fn header_test(alloc: Global, token: &[u8], header: &[u8]) -> Result<Option<Test
         return Ok(Some(Test::HeaderReads));
     }
     Ok(None)
-}
-
-/// Returns the finding of a text whose header or claims can't be read.
-pub fn unread_finding(alloc: Global, token: &[u8]) -> Result<Finding, Fault<'static>> {
-    let Some(parts) = cut(token) else {
-        return text_finding(alloc, token);
-    };
-    if let Some(test) = header_test(alloc, token, parts.header)? {
-        return part_finding(alloc, token, parts.header, test);
-    }
-    let test = match unless_refused(part_bytes(alloc, parts.payload))? {
-        Some(_) => Test::PayloadIsJson,
-        None => Test::PayloadIsPart,
-    };
-    part_finding(alloc, token, parts.payload, test)
 }

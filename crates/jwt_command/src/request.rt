@@ -111,34 +111,79 @@ pub enum Request<'m, 'a> {
     Thumbprint(Digesting<'a>),
 }
 
-fn time(matches: &ArgMatches<'_>, id: &str) -> Result<Option<u64>, Fault<'static>>
-    ensures { IfOk result (IsNumberOf (first_value (found_of matches.now) id.now)) }
+/// Returns the algorithm of a name.
+pub fn algorithm(name: &str) -> Result<Algorithm, Fault<'static>>
+    ensures { IfOk result (λ a. algorithm_named name.now ≡ Some a) }
 {
-    let Some(text) = matches.get_str(id) else {
-        return Ok(None);
-    };
-    match moment(text) {
-        Some(moment) => Ok(Some(moment)),
-        None => Err(Fault::Usage(
-            "--now wants seconds since 1970 UTC, or a time such as 2026-01-31T12:00:00Z",
+    match name.parse::<Algorithm>() {
+        Ok(algorithm) => Ok(algorithm),
+        Err(_) => Err(Fault::Usage(
+            "--alg wants HS256, HS384, HS512, RS256, RS384, RS512, PS256, PS384, PS512, ES256, ES384 or EdDSA",
         )),
     }
 }
 
-fn span(
-    matches: &ArgMatches<'_>,
-    id: &str,
-    mistake: &'static str,
-) -> Result<Option<u64>, Fault<'static>>
-    ensures { IfOk result (IsNumberOf (first_value (found_of matches.now) id.now)) }
+/// Returns the request of the arguments.
+pub fn request_asked<'m, 'a: 'm>(
+    matches: &'m ArgMatches<'a>,
+) -> Result<Request<'m, 'a>, Fault<'static>>
+    ensures { IfOk result (IsRequestOf matches.now) }
 {
-    let Some(text) = matches.get_str(id) else {
-        return Ok(None);
-    };
-    match seconds(text) {
-        Some(seconds) => Ok(Some(seconds)),
-        None => Err(Fault::Usage(mistake)),
+    match matches.subcommand() {
+        Some((name, found)) => command_asked(name, found),
+        None => Err(Fault::Usage("a command is needed")),
     }
+}
+
+/// Returns the request of a command and its arguments.
+fn command_asked<'m, 'a: 'm>(
+    name: &str,
+    found: &'m ArgMatches<'a>,
+) -> Result<Request<'m, 'a>, Fault<'static>>
+    ensures { IfOk result (IsCommand name.now (found_of found.now)) }
+{
+    match name {
+        "verify" => verification_asked(found).map(Request::Verify),
+        "explain" => checking_asked(found).map(Request::Explain),
+        "show" => showing_asked(found).map(Request::Show),
+        "sign" => signing_asked(found).map(Request::Sign),
+        "keys" => Ok(Request::Keys(Listing { file: file(found) })),
+        "jwk" => Ok(Request::Jwk(Listing { file: file(found) })),
+        "thumbprint" => digesting_asked(found).map(Request::Thumbprint),
+        _ => Err(Fault::Usage("a command is needed")),
+    }
+}
+
+fn verification_asked<'m, 'a: 'm>(
+    matches: &'m ArgMatches<'a>,
+) -> Result<Verification<'m, 'a>, Fault<'static>>
+    ensures { IfOk result (λ v. IsChecking (found_of matches.now) v
+        × IsFlag (found_of matches.now) (codes "header") v.has_header
+        × IsFlag (found_of matches.now) (codes "lines") v.is_lines) }
+{
+    let mut request = checking_asked(matches)?;
+    request.has_header = matches.get_flag("header");
+    request.is_lines = matches.get_flag("lines");
+    Ok(request)
+}
+
+/// Returns the arguments that `verify` and `explain` share.
+fn checking_asked<'m, 'a: 'm>(
+    matches: &'m ArgMatches<'a>,
+) -> Result<Verification<'m, 'a>, Fault<'static>>
+    ensures { IfOk result (λ v. IsChecking (found_of matches.now) v
+        × (v.has_header ≡ false) × (v.is_lines ≡ false)) }
+{
+    Ok(Verification {
+        token: matches.get_str("token"),
+        key: key_file(matches)?,
+        checks: checks_asked(matches)?,
+        typ: matches.get_str("typ"),
+        time: time(matches, "now")?,
+        has_header: false,
+        is_json: matches.get_flag("json"),
+        is_lines: false,
+    })
 }
 
 fn key_file<'a>(matches: &ArgMatches<'a>) -> Result<KeyFile<'a>, Fault<'static>>
@@ -158,6 +203,12 @@ fn key_file<'a>(matches: &ArgMatches<'a>) -> Result<KeyFile<'a>, Fault<'static>>
         Some(path) => Ok(KeyFile::Pem(path)),
         None => Err(Fault::Usage("one of --secret-file, --jwk, --jwks and --pem is needed")),
     }
+}
+
+fn file<'a>(matches: &ArgMatches<'a>) -> &'a str
+    ensures { IsFile (found_of matches.now) result }
+{
+    matches.get_str("file").unwrap_or("")
 }
 
 fn checks_asked<'m, 'a: 'm>(matches: &'m ArgMatches<'a>) -> Result<Checks<'m, 'a>, Fault<'static>>
@@ -187,48 +238,44 @@ fn checks_asked<'m, 'a: 'm>(matches: &'m ArgMatches<'a>) -> Result<Checks<'m, 'a
     })
 }
 
-/// Returns the arguments that `verify` and `explain` share.
-fn checking_asked<'m, 'a: 'm>(
-    matches: &'m ArgMatches<'a>,
-) -> Result<Verification<'m, 'a>, Fault<'static>>
-    ensures { IfOk result (λ v. IsChecking (found_of matches.now) v
-        × (v.has_header ≡ false) × (v.is_lines ≡ false)) }
+fn span(
+    matches: &ArgMatches<'_>,
+    id: &str,
+    mistake: &'static str,
+) -> Result<Option<u64>, Fault<'static>>
+    ensures { IfOk result (IsNumberOf (first_value (found_of matches.now) id.now)) }
 {
-    Ok(Verification {
-        token: matches.get_str("token"),
-        key: key_file(matches)?,
-        checks: checks_asked(matches)?,
-        typ: matches.get_str("typ"),
-        time: time(matches, "now")?,
-        has_header: false,
-        is_json: matches.get_flag("json"),
-        is_lines: false,
-    })
+    let Some(text) = matches.get_str(id) else {
+        return Ok(None);
+    };
+    match seconds(text) {
+        Some(seconds) => Ok(Some(seconds)),
+        None => Err(Fault::Usage(mistake)),
+    }
 }
 
-fn verification_asked<'m, 'a: 'm>(
-    matches: &'m ArgMatches<'a>,
-) -> Result<Verification<'m, 'a>, Fault<'static>>
-    ensures { IfOk result (λ v. IsChecking (found_of matches.now) v
-        × IsFlag (found_of matches.now) (codes "header") v.has_header
-        × IsFlag (found_of matches.now) (codes "lines") v.is_lines) }
+fn time(matches: &ArgMatches<'_>, id: &str) -> Result<Option<u64>, Fault<'static>>
+    ensures { IfOk result (IsNumberOf (first_value (found_of matches.now) id.now)) }
 {
-    let mut request = checking_asked(matches)?;
-    request.has_header = matches.get_flag("header");
-    request.is_lines = matches.get_flag("lines");
-    Ok(request)
-}
-
-/// Returns the algorithm of a name.
-pub fn algorithm(name: &str) -> Result<Algorithm, Fault<'static>>
-    ensures { IfOk result (λ a. algorithm_named name.now ≡ Some a) }
-{
-    match name.parse::<Algorithm>() {
-        Ok(algorithm) => Ok(algorithm),
-        Err(_) => Err(Fault::Usage(
-            "--alg wants HS256, HS384, HS512, RS256, RS384, RS512, PS256, PS384, PS512, ES256, ES384 or EdDSA",
+    let Some(text) = matches.get_str(id) else {
+        return Ok(None);
+    };
+    match moment(text) {
+        Some(moment) => Ok(Some(moment)),
+        None => Err(Fault::Usage(
+            "--now wants seconds since 1970 UTC, or a time such as 2026-01-31T12:00:00Z",
         )),
     }
+}
+
+fn showing_asked<'a>(matches: &ArgMatches<'a>) -> Result<Showing<'a>, Fault<'static>>
+    ensures { IfOk result (IsShowing (found_of matches.now)) }
+{
+    Ok(Showing {
+        token: matches.get_str("token"),
+        time: time(matches, "now")?,
+        is_json: matches.get_flag("json"),
+    })
 }
 
 fn signing_asked<'a>(matches: &ArgMatches<'a>) -> Result<Signing<'a>, Fault<'static>>
@@ -259,33 +306,6 @@ fn signing_asked<'a>(matches: &ArgMatches<'a>) -> Result<Signing<'a>, Fault<'sta
     })
 }
 
-fn hash(matches: &ArgMatches<'_>) -> Result<ThumbprintHash, Fault<'static>>
-    ensures { IfOk result (IsHash (first_value (found_of matches.now) (codes "hash"))) }
-{
-    match matches.get_str("hash") {
-        None | Some("SHA256") => Ok(ThumbprintHash::SHA256),
-        Some("SHA384") => Ok(ThumbprintHash::SHA384),
-        Some("SHA512") => Ok(ThumbprintHash::SHA512),
-        Some(_) => Err(Fault::Usage("--hash wants SHA256, SHA384 or SHA512")),
-    }
-}
-
-fn showing_asked<'a>(matches: &ArgMatches<'a>) -> Result<Showing<'a>, Fault<'static>>
-    ensures { IfOk result (IsShowing (found_of matches.now)) }
-{
-    Ok(Showing {
-        token: matches.get_str("token"),
-        time: time(matches, "now")?,
-        is_json: matches.get_flag("json"),
-    })
-}
-
-fn file<'a>(matches: &ArgMatches<'a>) -> &'a str
-    ensures { IsFile (found_of matches.now) result }
-{
-    matches.get_str("file").unwrap_or("")
-}
-
 fn digesting_asked<'a>(matches: &ArgMatches<'a>) -> Result<Digesting<'a>, Fault<'static>>
     ensures { IfOk result (λ d. IsFile (found_of matches.now) d.file
         × IsHash (first_value (found_of matches.now) (codes "hash")) d.hash) }
@@ -296,33 +316,13 @@ fn digesting_asked<'a>(matches: &ArgMatches<'a>) -> Result<Digesting<'a>, Fault<
     })
 }
 
-/// Returns the request of a command and its arguments.
-fn command_asked<'m, 'a: 'm>(
-    name: &str,
-    found: &'m ArgMatches<'a>,
-) -> Result<Request<'m, 'a>, Fault<'static>>
-    ensures { IfOk result (IsCommand name.now (found_of found.now)) }
+fn hash(matches: &ArgMatches<'_>) -> Result<ThumbprintHash, Fault<'static>>
+    ensures { IfOk result (IsHash (first_value (found_of matches.now) (codes "hash"))) }
 {
-    match name {
-        "verify" => verification_asked(found).map(Request::Verify),
-        "explain" => checking_asked(found).map(Request::Explain),
-        "show" => showing_asked(found).map(Request::Show),
-        "sign" => signing_asked(found).map(Request::Sign),
-        "keys" => Ok(Request::Keys(Listing { file: file(found) })),
-        "jwk" => Ok(Request::Jwk(Listing { file: file(found) })),
-        "thumbprint" => digesting_asked(found).map(Request::Thumbprint),
-        _ => Err(Fault::Usage("a command is needed")),
-    }
-}
-
-/// Returns the request of the arguments.
-pub fn request_asked<'m, 'a: 'm>(
-    matches: &'m ArgMatches<'a>,
-) -> Result<Request<'m, 'a>, Fault<'static>>
-    ensures { IfOk result (IsRequestOf matches.now) }
-{
-    match matches.subcommand() {
-        Some((name, found)) => command_asked(name, found),
-        None => Err(Fault::Usage("a command is needed")),
+    match matches.get_str("hash") {
+        None | Some("SHA256") => Ok(ThumbprintHash::SHA256),
+        Some("SHA384") => Ok(ThumbprintHash::SHA384),
+        Some("SHA512") => Ok(ThumbprintHash::SHA512),
+        Some(_) => Err(Fault::Usage("--hash wants SHA256, SHA384 or SHA512")),
     }
 }

@@ -27,39 +27,59 @@ use jsonwebtoken::Validation;
 use std::alloc::Global;
 use std::rt::{Clock, Files};
 
-/// Returns the token that is given, or that of standard input.
-fn token_bytes<R: Input + AllocGlobal>(
+/// Returns the answer to a request.
+pub fn answer<'a, R: Files + Input + Print + Clock + AllocGlobal>(
     rt: &R,
-    given: Option<&str>,
-) -> Result<Vec<u8>, Fault<'static>>
-    ensures { IfOk result (λ b. IsGivenToken given.entry b.items) }
+    request: &Request<'_, 'a>,
+) -> Result<Answer, Fault<'a>>
+    ensures { IfOk result (λ a. IsAnswer request.now a.status (string_bytes a.output)) }
 {
-    match given {
-        None | Some("-") => input_bytes(rt),
-        Some(token) => Ok(token.as_bytes().to_vec(rt.alloc())?),
+    match request {
+        Request::Verify(request) if request.is_lines => verify_lines(rt, request),
+        Request::Verify(request) => verify(rt, request),
+        Request::Explain(request) => explain(rt, request),
+        Request::Show(request) => show(rt, request),
+        Request::Sign(request) => sign(rt, request),
+        Request::Keys(request) => list(rt, request),
+        Request::Jwk(request) => convert(rt, request),
+        Request::Thumbprint(request) => digest(rt, request),
     }
 }
 
-fn form(request: &Verification<'_, '_>) -> Form
-    ensures { result ≡ form_asked request.entry.now }
+/// Answers each line of standard input, and returns the status. The answers are written by then.
+fn verify_lines<'a, R: Files + Input + Print + Clock + AllocGlobal>(
+    rt: &R,
+    request: &Verification<'_, 'a>,
+) -> Result<Answer, Fault<'a>>
+    ensures { IfOk result (λ a. AreVerified request.entry.now a.status) }
 {
-    if request.is_json {
-        Form::Json
-    } else if request.has_header {
-        Form::HeaderAndClaims
-    } else {
-        Form::Claims
-    }
+    let (mut loaded, mut validation) = prepared(rt, request)?;
+    let status = lines_status(rt, request, &mut loaded, &mut validation);
+    drop(loaded);
+    drop(validation);
+    Ok(Answer {
+        status: status?,
+        output: String::new(rt.alloc()),
+        message: String::new(rt.alloc()),
+    })
 }
 
-/// Returns the path of a file of keys.
-fn path_of<'a>(file: KeyFile<'a>) -> &'a str {
-    match file {
-        KeyFile::Secret {
-            path,
-            is_trimmed: _,
-        } => path,
-        KeyFile::Jwk(path) | KeyFile::Jwks(path) | KeyFile::Pem(path) => path,
+/// Returns the keys and the options that tokens are checked with. If neither the arguments nor a
+/// file name an algorithm, the keys have to.
+fn prepared<'a, R: Files + AllocGlobal>(
+    rt: &R,
+    request: &Verification<'_, 'a>,
+) -> Result<(Loaded, Validation), Fault<'a>>
+    ensures { IfOk result (λ p. ArePrepared request.entry.now p.0 (options_of p.1)) }
+{
+    let options = options_bytes(rt, request.checks.options)?;
+    let validation = validation(rt.alloc(), &request.checks, options.as_deref())?;
+    match keys_for(rt, request, &validation) {
+        Ok(loaded) => Ok((loaded, validation)),
+        Err(fault) => {
+            drop(validation);
+            Err(fault)
+        }
     }
 }
 
@@ -94,22 +114,85 @@ fn keys_for<'a, R: Files + AllocGlobal>(
     Ok(loaded)
 }
 
-/// Returns the keys and the options that tokens are checked with. If neither the arguments nor a
-/// file name an algorithm, the keys have to.
-fn prepared<'a, R: Files + AllocGlobal>(
+/// Returns the path of a file of keys.
+fn path_of<'a>(file: KeyFile<'a>) -> &'a str {
+    match file {
+        KeyFile::Secret {
+            path,
+            is_trimmed: _,
+        } => path,
+        KeyFile::Jwk(path) | KeyFile::Jwks(path) | KeyFile::Pem(path) => path,
+    }
+}
+
+/// Prepares the keys, answers each line of standard input, and returns the status.
+fn lines_status<R: Input + Print + Clock + AllocGlobal>(
+    rt: &R,
+    request: &Verification<'_, '_>,
+    loaded: &mut Loaded,
+    validation: &mut Validation,
+) -> Result<u8, Fault<'static>>
+    ensures { IfOk result (λ status. (loaded.new.keys ≡ loaded.old.keys)
+        × (loaded.new.own ≡ loaded.old.own)
+        × IsLinesStatus request.entry.now loaded.new (options_of validation.old) status) }
+{
+    prepare(rt.alloc(), loaded, &validation.algorithms)?;
+    answer_lines(rt, request, loaded, validation)
+}
+
+fn verify<'a, R: Files + Input + Clock + AllocGlobal>(
     rt: &R,
     request: &Verification<'_, 'a>,
-) -> Result<(Loaded, Validation), Fault<'a>>
-    ensures { IfOk result (λ p. ArePrepared request.entry.now p.0 (options_of p.1)) }
+) -> Result<Answer, Fault<'a>>
+    ensures { IfOk result (λ a. IsVerification request.entry.now a.status (string_bytes a.output)) }
 {
-    let options = options_bytes(rt, request.checks.options)?;
-    let validation = validation(rt.alloc(), &request.checks, options.as_deref())?;
-    match keys_for(rt, request, &validation) {
-        Ok(loaded) => Ok((loaded, validation)),
-        Err(fault) => {
-            drop(validation);
-            Err(fault)
-        }
+    let (loaded, mut validation) = prepared(rt, request)?;
+    let answer = verified(rt, request, &loaded, &mut validation);
+    drop(loaded);
+    drop(validation);
+    answer
+}
+
+/// Returns the answer of `verify` under these keys and options.
+fn verified<R: Input + Clock + AllocGlobal>(
+    rt: &R,
+    request: &Verification<'_, '_>,
+    loaded: &Loaded,
+    validation: &mut Validation,
+) -> Result<Answer, Fault<'static>>
+    ensures { IfOk result (λ a. (bytes : List ℕ) × IsGivenToken request.entry.now.token bytes
+        × ((time : ℕ) × IsGiven request.entry.now.time time
+        × IsTokenAnswer request.entry.now loaded.now (options_of validation.old) bytes time
+        (form_asked request.entry.now) a.status (string_bytes a.output))) }
+{
+    let time = moment(rt, request.time)?;
+    let bytes = token_bytes(rt, request.token)?;
+    let form = form(request);
+    token_answer(rt.alloc(), request, loaded, validation, &bytes, time, form)
+}
+
+/// Returns the token that is given, or that of standard input.
+fn token_bytes<R: Input + AllocGlobal>(
+    rt: &R,
+    given: Option<&str>,
+) -> Result<Vec<u8>, Fault<'static>>
+    ensures { IfOk result (λ b. IsGivenToken given.entry b.items) }
+{
+    match given {
+        None | Some("-") => input_bytes(rt),
+        Some(token) => Ok(token.as_bytes().to_vec(rt.alloc())?),
+    }
+}
+
+fn form(request: &Verification<'_, '_>) -> Form
+    ensures { result ≡ form_asked request.entry.now }
+{
+    if request.is_json {
+        Form::Json
+    } else if request.has_header {
+        Form::HeaderAndClaims
+    } else {
+        Form::Claims
     }
 }
 
@@ -128,6 +211,36 @@ fn token_answer(
 {
     let token = without_line_end(bytes);
     verify_answer(alloc, token, loaded, validation, time, request.typ, form)
+}
+
+fn explain<'a, R: Files + Input + Clock + AllocGlobal>(
+    rt: &R,
+    request: &Verification<'_, 'a>,
+) -> Result<Answer, Fault<'a>>
+    ensures { IfOk result (λ a. IsExplanation request.entry.now a.status) }
+{
+    let (loaded, mut validation) = prepared(rt, request)?;
+    let answer = explained(rt, request, &loaded, &mut validation);
+    drop(loaded);
+    drop(validation);
+    answer
+}
+
+/// Returns the answer of `explain` under these keys and options.
+fn explained<R: Input + Clock + AllocGlobal>(
+    rt: &R,
+    request: &Verification<'_, '_>,
+    loaded: &Loaded,
+    validation: &mut Validation,
+) -> Result<Answer, Fault<'static>>
+    ensures { IfOk result (λ a. (bytes : List ℕ) × IsGivenToken request.entry.now.token bytes
+        × ((time : ℕ) × IsGiven request.entry.now.time time
+        × IsTokenVerdict request.entry.now loaded.now (options_of validation.old) bytes time
+        a.status)) }
+{
+    let time = moment(rt, request.time)?;
+    let bytes = token_bytes(rt, request.token)?;
+    token_explanation(rt.alloc(), request, loaded, validation, &bytes, time)
 }
 
 /// Returns the answer of `explain` to the bytes of a token and a line end.
@@ -153,116 +266,6 @@ fn token_explanation(
         request.typ,
         request.is_json,
     )
-}
-
-/// Returns the answer of `verify` under these keys and options.
-fn verified<R: Input + Clock + AllocGlobal>(
-    rt: &R,
-    request: &Verification<'_, '_>,
-    loaded: &Loaded,
-    validation: &mut Validation,
-) -> Result<Answer, Fault<'static>>
-    ensures { IfOk result (λ a. (bytes : List ℕ) × IsGivenToken request.entry.now.token bytes
-        × ((time : ℕ) × IsGiven request.entry.now.time time
-        × IsTokenAnswer request.entry.now loaded.now (options_of validation.old) bytes time
-        (form_asked request.entry.now) a.status (string_bytes a.output))) }
-{
-    let time = moment(rt, request.time)?;
-    let bytes = token_bytes(rt, request.token)?;
-    let form = form(request);
-    token_answer(rt.alloc(), request, loaded, validation, &bytes, time, form)
-}
-
-fn verify<'a, R: Files + Input + Clock + AllocGlobal>(
-    rt: &R,
-    request: &Verification<'_, 'a>,
-) -> Result<Answer, Fault<'a>>
-    ensures { IfOk result (λ a. IsVerification request.entry.now a.status (string_bytes a.output)) }
-{
-    let (loaded, mut validation) = prepared(rt, request)?;
-    let answer = verified(rt, request, &loaded, &mut validation);
-    drop(loaded);
-    drop(validation);
-    answer
-}
-
-/// Prepares the keys, answers each line of standard input, and returns the status.
-fn lines_status<R: Input + Print + Clock + AllocGlobal>(
-    rt: &R,
-    request: &Verification<'_, '_>,
-    loaded: &mut Loaded,
-    validation: &mut Validation,
-) -> Result<u8, Fault<'static>>
-    ensures { IfOk result (λ status. (loaded.new.keys ≡ loaded.old.keys)
-        × (loaded.new.own ≡ loaded.old.own)
-        × IsLinesStatus request.entry.now loaded.new (options_of validation.old) status) }
-{
-    prepare(rt.alloc(), loaded, &validation.algorithms)?;
-    answer_lines(rt, request, loaded, validation)
-}
-
-/// Answers each line of standard input, and returns the status. The answers are written by then.
-fn verify_lines<'a, R: Files + Input + Print + Clock + AllocGlobal>(
-    rt: &R,
-    request: &Verification<'_, 'a>,
-) -> Result<Answer, Fault<'a>>
-    ensures { IfOk result (λ a. AreVerified request.entry.now a.status) }
-{
-    let (mut loaded, mut validation) = prepared(rt, request)?;
-    let status = lines_status(rt, request, &mut loaded, &mut validation);
-    drop(loaded);
-    drop(validation);
-    Ok(Answer {
-        status: status?,
-        output: String::new(rt.alloc()),
-        message: String::new(rt.alloc()),
-    })
-}
-
-/// Returns the answer of `explain` under these keys and options.
-fn explained<R: Input + Clock + AllocGlobal>(
-    rt: &R,
-    request: &Verification<'_, '_>,
-    loaded: &Loaded,
-    validation: &mut Validation,
-) -> Result<Answer, Fault<'static>>
-    ensures { IfOk result (λ a. (bytes : List ℕ) × IsGivenToken request.entry.now.token bytes
-        × ((time : ℕ) × IsGiven request.entry.now.time time
-        × IsTokenVerdict request.entry.now loaded.now (options_of validation.old) bytes time
-        a.status)) }
-{
-    let time = moment(rt, request.time)?;
-    let bytes = token_bytes(rt, request.token)?;
-    token_explanation(rt.alloc(), request, loaded, validation, &bytes, time)
-}
-
-fn explain<'a, R: Files + Input + Clock + AllocGlobal>(
-    rt: &R,
-    request: &Verification<'_, 'a>,
-) -> Result<Answer, Fault<'a>>
-    ensures { IfOk result (λ a. IsExplanation request.entry.now a.status) }
-{
-    let (loaded, mut validation) = prepared(rt, request)?;
-    let answer = explained(rt, request, &loaded, &mut validation);
-    drop(loaded);
-    drop(validation);
-    answer
-}
-
-/// Returns the answer of `sign` for the bytes of the secret's file and of the claims.
-fn signed<'a>(
-    alloc: Global,
-    request: &Signing<'a>,
-    key: &[u8],
-    text: &[u8],
-    time: u64,
-) -> Result<Answer, Fault<'a>>
-    ensures { IfOk result (λ a. IsSigned request.entry.now key.now text.now time a.status
-        (string_bytes a.output)) }
-{
-    let claims = claims(alloc, text, request, time)?;
-    let secret = given_secret(request.secret, key, request.is_trimmed)?;
-    claims_answer(alloc, request, &claims, secret)
 }
 
 fn show<'a, R: Input + Clock + AllocGlobal>(
@@ -291,16 +294,20 @@ fn sign<'a, R: Files + Input + Clock + AllocGlobal>(
     signed(rt.alloc(), request, &key, &text, time)
 }
 
-/// Returns the bytes of a file of keys, or of standard input if its name is `-`.
-fn key_bytes<'a, R: Files + Input + AllocGlobal>(
-    rt: &R,
-    path: &'a str,
-) -> Result<Vec<u8>, Fault<'a>> {
-    if path == "-" {
-        input_bytes(rt)
-    } else {
-        file_bytes(rt, path)
-    }
+/// Returns the answer of `sign` for the bytes of the secret's file and of the claims.
+fn signed<'a>(
+    alloc: Global,
+    request: &Signing<'a>,
+    key: &[u8],
+    text: &[u8],
+    time: u64,
+) -> Result<Answer, Fault<'a>>
+    ensures { IfOk result (λ a. IsSigned request.entry.now key.now text.now time a.status
+        (string_bytes a.output)) }
+{
+    let claims = claims(alloc, text, request, time)?;
+    let secret = given_secret(request.secret, key, request.is_trimmed)?;
+    claims_answer(alloc, request, &claims, secret)
 }
 
 fn list<'a, R: Files + Input + AllocGlobal>(
@@ -311,6 +318,18 @@ fn list<'a, R: Files + Input + AllocGlobal>(
 {
     let bytes = key_bytes(rt, request.file)?;
     keys_answer(rt.alloc(), request.file, &bytes)
+}
+
+/// Returns the bytes of a file of keys, or of standard input if its name is `-`.
+fn key_bytes<'a, R: Files + Input + AllocGlobal>(
+    rt: &R,
+    path: &'a str,
+) -> Result<Vec<u8>, Fault<'a>> {
+    if path == "-" {
+        input_bytes(rt)
+    } else {
+        file_bytes(rt, path)
+    }
 }
 
 fn convert<'a, R: Files + Input + AllocGlobal>(
@@ -332,23 +351,4 @@ fn digest<'a, R: Files + Input + AllocGlobal>(
 {
     let bytes = key_bytes(rt, request.file)?;
     thumbprint_answer(rt.alloc(), request.file, &bytes, &request.hash)
-}
-
-/// Returns the answer to a request.
-pub fn answer<'a, R: Files + Input + Print + Clock + AllocGlobal>(
-    rt: &R,
-    request: &Request<'_, 'a>,
-) -> Result<Answer, Fault<'a>>
-    ensures { IfOk result (λ a. IsAnswer request.now a.status (string_bytes a.output)) }
-{
-    match request {
-        Request::Verify(request) if request.is_lines => verify_lines(rt, request),
-        Request::Verify(request) => verify(rt, request),
-        Request::Explain(request) => explain(rt, request),
-        Request::Show(request) => show(rt, request),
-        Request::Sign(request) => sign(rt, request),
-        Request::Keys(request) => list(rt, request),
-        Request::Jwk(request) => convert(rt, request),
-        Request::Thumbprint(request) => digest(rt, request),
-    }
 }

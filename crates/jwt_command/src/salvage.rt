@@ -15,65 +15,20 @@ pub struct Salvage {
     pub is_encrypted: bool,
 }
 
-/// Returns whether a byte may stand in a token, or in one that is padded or URL-encoded.
-fn is_of_token(byte: u8) -> bool {
-    byte.is_ascii_alphanumeric() || matches!(byte, b'-' | b'_' | b'.' | b'=' | b'+' | b'/' | b'%')
-}
-
-/// Returns whether some bytes have a dot, which may be URL-encoded.
-fn has_dot(run: &[u8]) -> bool {
-    run.contains(&b'.')
-        || run
-            .windows(3)
-            .any(|window| window.eq_ignore_ascii_case(b"%2e"))
-}
-
-/// Returns the bytes after a name and '='.
-fn without_name(run: &[u8]) -> &[u8] {
-    let Some(place) = run.iter().position(|byte| matches!(*byte, b'=' | b'.')) else {
-        return run;
-    };
-    match run.get(place..) {
-        Some([b'=', first, ..]) if first.is_ascii_alphanumeric() => &run[place + 1..],
-        _ => run,
-    }
-}
-
-/// Returns the bytes of a text that are likely a token: the first that begin as a header does, or
-/// else the first with a dot.
-fn likely_token(text: &[u8]) -> &[u8] {
-    let mut likely = None;
-    for run in text.split(|byte| !is_of_token(*byte)) {
-        let run = without_name(run);
-        if has_dot(run) {
-            if run.starts_with(b"eyJ") {
-                return run;
-            }
-            likely = likely.or(Some(run));
-        }
-    }
-    likely.unwrap_or(text)
-}
-
-/// Returns the value of a hexadecimal digit.
-fn digit(byte: u8) -> Option<u8> {
-    match byte {
-        b'0'..=b'9' => Some(byte - b'0'),
-        b'a'..=b'f' => Some(byte - b'a' + 10),
-        b'A'..=b'F' => Some(byte - b'A' + 10),
-        _ => None,
-    }
-}
-
-/// Returns the byte that a percent sign and two digits at the front of a text stand for (RFC 3986
-/// section 2.1).
-fn encoded_byte(text: &[u8]) -> Option<u8> {
-    let [b'%', high, low, ..] = text else {
-        return None;
-    };
-    let high = digit(*high)?;
-    let low = digit(*low)?;
-    Some(high << 4 | low)
+/// Returns the header and the claims of a text, of which nothing is verified, as far as they are
+/// JSON in base64url. Text around a token is left out, such as quotes or the word Bearer.
+pub fn salvaged_from(alloc: Global, text: &[u8]) -> Result<Salvage, Fault<'static>> {
+    let token = url_decoded(alloc, likely_token(text))?;
+    let is_encrypted = is_encrypted(&token);
+    let mut parts = token.split(|byte| *byte == b'.');
+    let header = value_of(alloc, parts.next())?;
+    let payload = if is_encrypted { None } else { parts.next() };
+    let claims = value_of(alloc, payload)?;
+    Ok(Salvage {
+        header,
+        claims,
+        is_encrypted,
+    })
 }
 
 /// Returns a text with each byte that is URL-encoded in its place.
@@ -93,6 +48,74 @@ fn url_decoded(alloc: Global, text: &[u8]) -> Result<Vec<u8>, AllocError> {
     Ok(bytes)
 }
 
+/// Returns the byte that a percent sign and two digits at the front of a text stand for (RFC 3986
+/// section 2.1).
+fn encoded_byte(text: &[u8]) -> Option<u8> {
+    let [b'%', high, low, ..] = text else {
+        return None;
+    };
+    let high = digit(*high)?;
+    let low = digit(*low)?;
+    Some(high << 4 | low)
+}
+
+/// Returns the value of a hexadecimal digit.
+fn digit(byte: u8) -> Option<u8> {
+    match byte {
+        b'0'..=b'9' => Some(byte - b'0'),
+        b'a'..=b'f' => Some(byte - b'a' + 10),
+        b'A'..=b'F' => Some(byte - b'A' + 10),
+        _ => None,
+    }
+}
+
+/// Returns the bytes of a text that are likely a token: the first that begin as a header does, or
+/// else the first with a dot.
+fn likely_token(text: &[u8]) -> &[u8] {
+    let mut likely = None;
+    for run in text.split(|byte| !is_of_token(*byte)) {
+        let run = without_name(run);
+        if has_dot(run) {
+            if run.starts_with(b"eyJ") {
+                return run;
+            }
+            likely = likely.or(Some(run));
+        }
+    }
+    likely.unwrap_or(text)
+}
+
+/// Returns whether a byte may stand in a token, or in one that is padded or URL-encoded.
+fn is_of_token(byte: u8) -> bool {
+    byte.is_ascii_alphanumeric() || matches!(byte, b'-' | b'_' | b'.' | b'=' | b'+' | b'/' | b'%')
+}
+
+/// Returns the bytes after a name and '='.
+fn without_name(run: &[u8]) -> &[u8] {
+    let Some(place) = run.iter().position(|byte| matches!(*byte, b'=' | b'.')) else {
+        return run;
+    };
+    match run.get(place..) {
+        Some([b'=', first, ..]) if first.is_ascii_alphanumeric() => &run[place + 1..],
+        _ => run,
+    }
+}
+
+/// Returns whether some bytes have a dot, which may be URL-encoded.
+fn has_dot(run: &[u8]) -> bool {
+    run.contains(&b'.')
+        || run
+            .windows(3)
+            .any(|window| window.eq_ignore_ascii_case(b"%2e"))
+}
+
+fn value_of(alloc: Global, part: Option<&[u8]>) -> Result<Option<Value>, Fault<'static>> {
+    match part {
+        Some(part) => part_value(alloc, &plain_part(alloc, part)?),
+        None => Ok(None),
+    }
+}
+
 /// Returns a part without padding, in the alphabet of base64url.
 fn plain_part(alloc: Global, part: &[u8]) -> Result<Vec<u8>, AllocError> {
     let mut plain = Vec::new(alloc);
@@ -105,27 +128,4 @@ fn plain_part(alloc: Global, part: &[u8]) -> Result<Vec<u8>, AllocError> {
         }
     }
     Ok(plain)
-}
-
-fn value_of(alloc: Global, part: Option<&[u8]>) -> Result<Option<Value>, Fault<'static>> {
-    match part {
-        Some(part) => part_value(alloc, &plain_part(alloc, part)?),
-        None => Ok(None),
-    }
-}
-
-/// Returns the header and the claims of a text, of which nothing is verified, as far as they are
-/// JSON in base64url. Text around a token is left out, such as quotes or the word Bearer.
-pub fn salvaged_from(alloc: Global, text: &[u8]) -> Result<Salvage, Fault<'static>> {
-    let token = url_decoded(alloc, likely_token(text))?;
-    let is_encrypted = is_encrypted(&token);
-    let mut parts = token.split(|byte| *byte == b'.');
-    let header = value_of(alloc, parts.next())?;
-    let payload = if is_encrypted { None } else { parts.next() };
-    let claims = value_of(alloc, payload)?;
-    Ok(Salvage {
-        header,
-        claims,
-        is_encrypted,
-    })
 }

@@ -22,91 +22,6 @@ use jwt_standard::StandardProvider;
 use serde_json::{Map, Value};
 use std::alloc::Global;
 
-/// Returns the header of a token that is signed as the arguments ask for, of the type `JWT` if they
-/// name no other.
-fn header(alloc: Global, request: &Signing<'_>) -> Checked<Header>
-    ensures { IfOk result (λ h. h ≡ header_asked request.entry.now) }
-{
-    let kid = text(alloc, request.kid)?;
-    let typ = text(alloc, request.typ)?;
-    let mut header = Header::new(alloc, request.algorithm)?;
-    header.kid = kid;
-    if typ.is_some() {
-        header.typ = typ;
-    }
-    Ok(header)
-}
-
-fn text(alloc: Global, given: Option<&str>) -> Checked<Option<Text>>
-    ensures { IfOk result (λ t. t ≡ option_map (λ s. s.now) given.entry) }
-{
-    match given {
-        Some(given) => Ok(Some(Text::from_str(alloc, given)?)),
-        None => Ok(None),
-    }
-}
-
-/// Returns the time that is this many seconds later.
-fn later(time: u64, seconds: u64) -> Result<u64, Fault<'static>>
-    ensures { IfOk result (λ moment. moment ≡ time + seconds) }
-{
-    match time.checked_add(seconds) {
-        Some(moment) => Ok(moment),
-        None => Err(Fault::Usage("the span of --exp-in or --nbf-in is too long")),
-    }
-}
-
-/// Puts the time that is this many seconds later instead of a claim, if there is a number.
-fn put_later(
-    alloc: Global,
-    claims: &mut Map<String, Value>,
-    name: &str,
-    time: u64,
-    seconds: Option<u64>,
-) -> Result<(), Fault<'static>>
-    ensures { OnOk result (members_view claims.new.entries ≡ put_some name.now
-        (option_map (λ seconds. numeric_date (time + seconds)) seconds)
-        (members_view claims.old.entries)) }
-{
-    if let Some(seconds) = seconds {
-        let moment = later(time, seconds)?;
-        serde_json::put(claims, alloc, name, Value::from(moment))?;
-    }
-    Ok(())
-}
-
-/// Puts the time of signing as the claim `iat`, if it is asked for.
-fn put_now(
-    alloc: Global,
-    claims: &mut Map<String, Value>,
-    time: u64,
-    has_iat: bool,
-) -> Result<(), Fault<'static>>
-    ensures { OnOk result (members_view claims.new.entries ≡ put_some (codes "iat")
-        (if has_iat then Some (numeric_date time) else None) (members_view claims.old.entries)) }
-{
-    if has_iat {
-        serde_json::put(claims, alloc, "iat", Value::from(time))?;
-    }
-    Ok(())
-}
-
-/// Puts the times that the arguments ask for among the claims.
-fn put_moments(
-    alloc: Global,
-    claims: &mut Map<String, Value>,
-    request: &Signing<'_>,
-    time: u64,
-) -> Result<(), Fault<'static>>
-    ensures { OnOk result (members_view claims.new.entries
-        ≡ with_moments request.entry.now time (members_view claims.old.entries)) }
-{
-    put_later(alloc, claims, "exp", time, request.exp_in)?;
-    put_later(alloc, claims, "nbf", time, request.nbf_in)?;
-    put_now(alloc, claims, time, request.has_iat)?;
-    Ok(())
-}
-
 /// Returns the claims of a JSON text, which is that of an object, with the times that the
 /// arguments ask for.
 pub fn claims(
@@ -129,11 +44,116 @@ pub fn claims(
     }
 }
 
+/// Returns the answer for claims, under the header that the arguments ask for.
+pub fn claims_answer(
+    alloc: Global,
+    request: &Signing<'_>,
+    claims: &Value,
+    secret: &[u8],
+) -> Result<Answer, Fault<'static>>
+    ensures { IfOk result (λ a. IsSignAnswer (header_asked request.entry.now) (view claims.now)
+        secret.now a.status (string_bytes a.output)) }
+{
+    match header(alloc, request) {
+        Ok(header) => {
+            let answer = sign_answer(alloc, &header, claims, secret);
+            drop(header);
+            answer
+        }
+        Err(_) => Err(Fault::Memory),
+    }
+}
+
+fn text(alloc: Global, given: Option<&str>) -> Checked<Option<Text>>
+    ensures { IfOk result (λ t. t ≡ option_map (λ s. s.now) given.entry) }
+{
+    match given {
+        Some(given) => Ok(Some(Text::from_str(alloc, given)?)),
+        None => Ok(None),
+    }
+}
+
+/// Puts the times that the arguments ask for among the claims.
+fn put_moments(
+    alloc: Global,
+    claims: &mut Map<String, Value>,
+    request: &Signing<'_>,
+    time: u64,
+) -> Result<(), Fault<'static>>
+    ensures { OnOk result (members_view claims.new.entries
+        ≡ with_moments request.entry.now time (members_view claims.old.entries)) }
+{
+    put_later(alloc, claims, "exp", time, request.exp_in)?;
+    put_later(alloc, claims, "nbf", time, request.nbf_in)?;
+    put_now(alloc, claims, time, request.has_iat)?;
+    Ok(())
+}
+
+/// Puts the time that is this many seconds later instead of a claim, if there is a number.
+fn put_later(
+    alloc: Global,
+    claims: &mut Map<String, Value>,
+    name: &str,
+    time: u64,
+    seconds: Option<u64>,
+) -> Result<(), Fault<'static>>
+    ensures { OnOk result (members_view claims.new.entries ≡ put_some name.now
+        (option_map (λ seconds. numeric_date (time + seconds)) seconds)
+        (members_view claims.old.entries)) }
+{
+    if let Some(seconds) = seconds {
+        let moment = later(time, seconds)?;
+        serde_json::put(claims, alloc, name, Value::from(moment))?;
+    }
+    Ok(())
+}
+
+/// Returns the time that is this many seconds later.
+fn later(time: u64, seconds: u64) -> Result<u64, Fault<'static>>
+    ensures { IfOk result (λ moment. moment ≡ time + seconds) }
+{
+    match time.checked_add(seconds) {
+        Some(moment) => Ok(moment),
+        None => Err(Fault::Usage("the span of --exp-in or --nbf-in is too long")),
+    }
+}
+
+/// Puts the time of signing as the claim `iat`, if it is asked for.
+fn put_now(
+    alloc: Global,
+    claims: &mut Map<String, Value>,
+    time: u64,
+    has_iat: bool,
+) -> Result<(), Fault<'static>>
+    ensures { OnOk result (members_view claims.new.entries ≡ put_some (codes "iat")
+        (if has_iat then Some (numeric_date time) else None) (members_view claims.old.entries)) }
+{
+    if has_iat {
+        serde_json::put(claims, alloc, "iat", Value::from(time))?;
+    }
+    Ok(())
+}
+
 fn not_claims(error: &Error) -> Fault<'static> {
     match error.kind() {
         ErrorKind::OutOfMemory => Fault::Memory,
         _ => Fault::Usage("the claims are not JSON"),
     }
+}
+
+/// Returns the header of a token that is signed as the arguments ask for, of the type `JWT` if they
+/// name no other.
+fn header(alloc: Global, request: &Signing<'_>) -> Checked<Header>
+    ensures { IfOk result (λ h. h ≡ header_asked request.entry.now) }
+{
+    let kid = text(alloc, request.kid)?;
+    let typ = text(alloc, request.typ)?;
+    let mut header = Header::new(alloc, request.algorithm)?;
+    header.kid = kid;
+    if typ.is_some() {
+        header.typ = typ;
+    }
+    Ok(header)
 }
 
 /// Returns the answer for claims: status 0 and the token, or status 1 if `encode` refuses.
@@ -152,26 +172,6 @@ fn sign_answer(
     match encode(alloc, &StandardProvider, header, claims, &key) {
         Ok(token) => token_answer(alloc, token),
         Err(error) => refused(alloc, error),
-    }
-}
-
-/// Returns the answer for claims, under the header that the arguments ask for.
-pub fn claims_answer(
-    alloc: Global,
-    request: &Signing<'_>,
-    claims: &Value,
-    secret: &[u8],
-) -> Result<Answer, Fault<'static>>
-    ensures { IfOk result (λ a. IsSignAnswer (header_asked request.entry.now) (view claims.now)
-        secret.now a.status (string_bytes a.output)) }
-{
-    match header(alloc, request) {
-        Ok(header) => {
-            let answer = sign_answer(alloc, &header, claims, secret);
-            drop(header);
-            answer
-        }
-        Err(_) => Err(Fault::Memory),
     }
 }
 

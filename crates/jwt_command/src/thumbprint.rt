@@ -10,11 +10,19 @@ use jwt_key_files::jwk::jwk_from_pem;
 use jwt_standard::StandardProvider;
 use std::alloc::Global;
 
-fn fault_of<'a>(path: &'a str, error: &Error, problem: &'static str) -> Fault<'a> {
-    match error.kind() {
-        ErrorKind::OutOfMemory => Fault::Memory,
-        _ => Fault::File { path, problem },
-    }
+/// Returns the thumbprint of the key of a file (RFC 7638 section 3).
+pub fn thumbprint_answer<'a>(
+    alloc: Global,
+    path: &'a str,
+    bytes: &[u8],
+    hash: &ThumbprintHash,
+) -> Result<Answer, Fault<'a>>
+    ensures { IfOk result (λ a. a.status ≡ 0) }
+{
+    let jwk = key(alloc, path, bytes)?;
+    let answer = key_answer(alloc, path, &jwk, hash);
+    drop(jwk);
+    answer
 }
 
 /// Returns the key of a file: a JSON Web Key, or a public key in PEM, which other text may come
@@ -30,14 +38,10 @@ fn key<'a>(alloc: Global, path: &'a str, bytes: &[u8]) -> Result<Jwk, Fault<'a>>
     }
 }
 
-/// Returns the hash again.
-fn same_hash(hash: &ThumbprintHash) -> ThumbprintHash
-    ensures { result ≡ hash.now }
-{
-    match hash {
-        ThumbprintHash::SHA256 => ThumbprintHash::SHA256,
-        ThumbprintHash::SHA384 => ThumbprintHash::SHA384,
-        ThumbprintHash::SHA512 => ThumbprintHash::SHA512,
+fn fault_of<'a>(path: &'a str, error: &Error, problem: &'static str) -> Fault<'a> {
+    match error.kind() {
+        ErrorKind::OutOfMemory => Fault::Memory,
+        _ => Fault::File { path, problem },
     }
 }
 
@@ -63,17 +67,13 @@ fn key_answer<'a>(
     }
 }
 
-/// Returns the thumbprint of the key of a file (RFC 7638 section 3).
-pub fn thumbprint_answer<'a>(
-    alloc: Global,
-    path: &'a str,
-    bytes: &[u8],
-    hash: &ThumbprintHash,
-) -> Result<Answer, Fault<'a>>
-    ensures { IfOk result (λ a. a.status ≡ 0) }
+/// Returns the hash again.
+fn same_hash(hash: &ThumbprintHash) -> ThumbprintHash
+    ensures { result ≡ hash.now }
 {
-    let jwk = key(alloc, path, bytes)?;
-    let answer = key_answer(alloc, path, &jwk, hash);
-    drop(jwk);
-    answer
+    match hash {
+        ThumbprintHash::SHA256 => ThumbprintHash::SHA256,
+        ThumbprintHash::SHA384 => ThumbprintHash::SHA384,
+        ThumbprintHash::SHA512 => ThumbprintHash::SHA512,
+    }
 }

@@ -53,17 +53,15 @@ pub fn distance_text(alloc: Global, seconds: u64, time: u64) -> Result<String, A
     }
 }
 
-/// Returns the line of a claim that is this number of seconds.
-fn seconds_line(alloc: Global, name: &str, seconds: u64, time: u64) -> Result<String, AllocError> {
-    if is_likely_milliseconds(seconds) {
-        let meant = moment_text(alloc, seconds / 1000)?;
-        return format!(in alloc;
-            "{name}: {seconds} looks like milliseconds, {meant}; JWT times are in seconds\n"
-        );
+/// Returns the lines of the claims that are times.
+pub fn claim_lines(alloc: Global, claims: &Value, time: u64) -> Result<String, AllocError> {
+    let mut lines = String::new(alloc);
+    for name in &TIME_CLAIMS {
+        if let Some(line) = claim_line(alloc, claims, name, time)? {
+            lines.push_str(line.as_str())?;
+        }
     }
-    let moment = moment_text(alloc, seconds)?;
-    let distance = distance_text(alloc, seconds, time)?;
-    format!(in alloc; "{name}: {moment}, {distance}\n")
+    Ok(lines)
 }
 
 /// Returns the line of a claim that is a time, if there is one.
@@ -79,13 +77,15 @@ fn claim_line(
     }
 }
 
-/// Returns the lines of the claims that are times.
-pub fn claim_lines(alloc: Global, claims: &Value, time: u64) -> Result<String, AllocError> {
-    let mut lines = String::new(alloc);
-    for name in &TIME_CLAIMS {
-        if let Some(line) = claim_line(alloc, claims, name, time)? {
-            lines.push_str(line.as_str())?;
-        }
+/// Returns the line of a claim that is this number of seconds.
+fn seconds_line(alloc: Global, name: &str, seconds: u64, time: u64) -> Result<String, AllocError> {
+    if is_likely_milliseconds(seconds) {
+        let meant = moment_text(alloc, seconds / 1000)?;
+        return format!(in alloc;
+            "{name}: {seconds} looks like milliseconds, {meant}; JWT times are in seconds\n"
+        );
     }
-    Ok(lines)
+    let moment = moment_text(alloc, seconds)?;
+    let distance = distance_text(alloc, seconds, time)?;
+    format!(in alloc; "{name}: {moment}, {distance}\n")
 }

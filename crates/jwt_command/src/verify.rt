@@ -31,121 +31,6 @@ pub enum Form {
     Json,
 }
 
-/// Returns the JSON text of a header, and a newline.
-fn header_line(alloc: Global, header: &Header) -> Result<String, Fault<'static>>
-    ensures { IfOk result (λ text. IsHeaderLine header.now (string_bytes text)) }
-{
-    match header.to_value(alloc) {
-        Ok(value) => Ok(value_line(alloc, &value)?),
-        Err(_) => Err(Fault::Memory),
-    }
-}
-
-/// Returns one line of JSON with the claims.
-fn accepted_line(alloc: Global, claims: &Value) -> Result<String, AllocError> {
-    let claims = claims.to_string(alloc)?;
-    let mut line = String::with_capacity(alloc, claims.len() + LINE)?;
-    line.push_str("{\"ok\":true,\"claims\":")?;
-    line.push_str(claims.as_str())?;
-    line.push_str("}\n")?;
-    Ok(line)
-}
-
-/// Adds a member, neither of whose texts needs an escape.
-fn push_member(line: &mut String, name: &str, text: &str) -> Result<(), AllocError> {
-    line.push_str(",\"")?;
-    line.push_str(name)?;
-    line.push_str("\":\"")?;
-    line.push_str(text)?;
-    line.push('"')
-}
-
-/// Returns the name of the test that failed.
-fn failed_name(denial: &Denial) -> &'static str {
-    match denial {
-        Denial::Refused(refusal) => refusal.test.name(),
-        Denial::OtherType => TYPE_AGREES,
-    }
-}
-
-/// Adds the members about a denial.
-fn push_denial(line: &mut String, denial: &Denial) -> Result<(), AllocError> {
-    push_member(line, "kind", denial_name(denial))?;
-    if let Some(claim) = denied_claim(denial) {
-        push_member(line, "claim", claim)?;
-    }
-    push_member(line, "test", failed_name(denial))?;
-    line.push_str("}\n")
-}
-
-/// Returns one line of JSON about a denial.
-fn denied_line(alloc: Global, denial: &Denial) -> Result<String, AllocError> {
-    let mut line = String::from_str(alloc, "{\"ok\":false")?;
-    push_denial(&mut line, denial)?;
-    Ok(line)
-}
-
-fn accepted_text(
-    alloc: Global,
-    contents: &TokenData<Value>,
-    form: Form,
-) -> Result<String, Fault<'static>>
-    ensures { IfOk result (λ text. IsAcceptedText form contents.now.header (view contents.now.claims)
-        (string_bytes text)) }
-{
-    match form {
-        Form::Claims => Ok(value_line(alloc, &contents.claims)?),
-        Form::HeaderAndClaims => {
-            let mut text = header_line(alloc, &contents.header)?;
-            text.push_str(value_line(alloc, &contents.claims)?.as_str())?;
-            Ok(text)
-        }
-        Form::Json => Ok(accepted_line(alloc, &contents.claims)?),
-    }
-}
-
-fn denied_text(alloc: Global, denial: &Denial, form: Form) -> Result<String, AllocError>
-    ensures { IfOk result (λ text. IsRefusedText form (string_bytes text)) }
-{
-    match form {
-        Form::Json => denied_line(alloc, denial),
-        _ => Ok(String::new(alloc)),
-    }
-}
-
-/// Returns the answer to a token that is accepted.
-fn accepted_answer(
-    alloc: Global,
-    contents: &TokenData<Value>,
-    form: Form,
-) -> Result<Answer, Fault<'static>>
-    ensures { IfOk result (λ a. (a.status ≡ 0) × IsAcceptedText form contents.now.header
-        (view contents.now.claims) (string_bytes a.output)) }
-{
-    Ok(Answer {
-        status: 0,
-        output: accepted_text(alloc, contents, form)?,
-        message: String::new(alloc),
-    })
-}
-
-/// Returns the answer to a token that is not accepted, by keys whose file may end with a line end.
-fn denied_answer(
-    alloc: Global,
-    denial: &Denial,
-    has_line_end: bool,
-    form: Form,
-) -> Result<Answer, Fault<'static>>
-    ensures { IfOk result (λ a. (a.status ≡ 1) × IsRefusedText form (string_bytes a.output)) }
-{
-    let output = denied_text(alloc, denial, form)?;
-    Ok(Answer {
-        status: 1,
-        output,
-        message: denial_lines(alloc, denial, has_line_end)?,
-    })
-}
-
 /// Returns the answer to a token: status 0 and its claims if it is accepted, and status 1 if it is
 /// refused. If the options name no algorithm, that of the token's key is listed there, and stays.
 pub fn verify_answer(
@@ -169,5 +54,120 @@ pub fn verify_answer(
             answer
         }
         Err(denial) => denied_answer(alloc, &denial, loaded.has_line_end, form),
+    }
+}
+
+/// Returns the answer to a token that is accepted.
+fn accepted_answer(
+    alloc: Global,
+    contents: &TokenData<Value>,
+    form: Form,
+) -> Result<Answer, Fault<'static>>
+    ensures { IfOk result (λ a. (a.status ≡ 0) × IsAcceptedText form contents.now.header
+        (view contents.now.claims) (string_bytes a.output)) }
+{
+    Ok(Answer {
+        status: 0,
+        output: accepted_text(alloc, contents, form)?,
+        message: String::new(alloc),
+    })
+}
+
+fn accepted_text(
+    alloc: Global,
+    contents: &TokenData<Value>,
+    form: Form,
+) -> Result<String, Fault<'static>>
+    ensures { IfOk result (λ text. IsAcceptedText form contents.now.header (view contents.now.claims)
+        (string_bytes text)) }
+{
+    match form {
+        Form::Claims => Ok(value_line(alloc, &contents.claims)?),
+        Form::HeaderAndClaims => {
+            let mut text = header_line(alloc, &contents.header)?;
+            text.push_str(value_line(alloc, &contents.claims)?.as_str())?;
+            Ok(text)
+        }
+        Form::Json => Ok(accepted_line(alloc, &contents.claims)?),
+    }
+}
+
+/// Returns the JSON text of a header, and a newline.
+fn header_line(alloc: Global, header: &Header) -> Result<String, Fault<'static>>
+    ensures { IfOk result (λ text. IsHeaderLine header.now (string_bytes text)) }
+{
+    match header.to_value(alloc) {
+        Ok(value) => Ok(value_line(alloc, &value)?),
+        Err(_) => Err(Fault::Memory),
+    }
+}
+
+/// Returns one line of JSON with the claims.
+fn accepted_line(alloc: Global, claims: &Value) -> Result<String, AllocError> {
+    let claims = claims.to_string(alloc)?;
+    let mut line = String::with_capacity(alloc, claims.len() + LINE)?;
+    line.push_str("{\"ok\":true,\"claims\":")?;
+    line.push_str(claims.as_str())?;
+    line.push_str("}\n")?;
+    Ok(line)
+}
+
+/// Returns the answer to a token that is not accepted, by keys whose file may end with a line end.
+fn denied_answer(
+    alloc: Global,
+    denial: &Denial,
+    has_line_end: bool,
+    form: Form,
+) -> Result<Answer, Fault<'static>>
+    ensures { IfOk result (λ a. (a.status ≡ 1) × IsRefusedText form (string_bytes a.output)) }
+{
+    let output = denied_text(alloc, denial, form)?;
+    Ok(Answer {
+        status: 1,
+        output,
+        message: denial_lines(alloc, denial, has_line_end)?,
+    })
+}
+
+fn denied_text(alloc: Global, denial: &Denial, form: Form) -> Result<String, AllocError>
+    ensures { IfOk result (λ text. IsRefusedText form (string_bytes text)) }
+{
+    match form {
+        Form::Json => denied_line(alloc, denial),
+        _ => Ok(String::new(alloc)),
+    }
+}
+
+/// Returns one line of JSON about a denial.
+fn denied_line(alloc: Global, denial: &Denial) -> Result<String, AllocError> {
+    let mut line = String::from_str(alloc, "{\"ok\":false")?;
+    push_denial(&mut line, denial)?;
+    Ok(line)
+}
+
+/// Adds the members about a denial.
+fn push_denial(line: &mut String, denial: &Denial) -> Result<(), AllocError> {
+    push_member(line, "kind", denial_name(denial))?;
+    if let Some(claim) = denied_claim(denial) {
+        push_member(line, "claim", claim)?;
+    }
+    push_member(line, "test", failed_name(denial))?;
+    line.push_str("}\n")
+}
+
+/// Adds a member, neither of whose texts needs an escape.
+fn push_member(line: &mut String, name: &str, text: &str) -> Result<(), AllocError> {
+    line.push_str(",\"")?;
+    line.push_str(name)?;
+    line.push_str("\":\"")?;
+    line.push_str(text)?;
+    line.push('"')
+}
+
+/// Returns the name of the test that failed.
+fn failed_name(denial: &Denial) -> &'static str {
+    match denial {
+        Denial::Refused(refusal) => refusal.test.name(),
+        Denial::OtherType => TYPE_AGREES,
     }
 }

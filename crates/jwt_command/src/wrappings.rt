@@ -143,12 +143,28 @@ const NO_TOKEN: Wrapping = Wrapping {
     wanted: "a token: the caller had none",
 };
 
-/// Returns whether a text begins with this word, in letters of either case.
-fn begins_with(text: &[u8], word: &str) -> bool {
-    match text.get(..word.len()) {
-        Some(front) => front.eq_ignore_ascii_case(word.as_bytes()),
-        None => false,
+/// Returns why a text is not a token as it stands, if that is a well-known reason.
+pub fn wrapping_of(text: &[u8]) -> Option<Wrapping> {
+    if NOTHING.iter().any(|word| text == *word) {
+        return Some(NO_TOKEN);
     }
+    if let Some(found) = scheme_before(text) {
+        return Some(found);
+    }
+    match mark_before(text) {
+        Some(found) => Some(found),
+        None => contents(text),
+    }
+}
+
+/// Returns whether a text has the five parts of an encrypted token.
+pub fn is_encrypted(text: &[u8]) -> bool {
+    parts(text) == 5
+}
+
+/// Returns the number of parts of a text, between dots.
+fn parts(text: &[u8]) -> usize {
+    text.split(|byte| *byte == b'.').count()
 }
 
 fn scheme_before(text: &[u8]) -> Option<Wrapping> {
@@ -163,11 +179,35 @@ fn scheme_before(text: &[u8]) -> Option<Wrapping> {
     None
 }
 
+/// Returns whether a text begins with this word, in letters of either case.
+fn begins_with(text: &[u8], word: &str) -> bool {
+    match text.get(..word.len()) {
+        Some(front) => front.eq_ignore_ascii_case(word.as_bytes()),
+        None => false,
+    }
+}
+
 fn mark_before(text: &[u8]) -> Option<Wrapping> {
     for mark in &MARKS {
         if text.starts_with(mark.bytes) {
             return Some(mark.wrapping);
         }
+    }
+    None
+}
+
+fn contents(text: &[u8]) -> Option<Wrapping> {
+    if is_encoded(text) {
+        return Some(ENCODED);
+    }
+    if is_named(text) {
+        return Some(NAMED);
+    }
+    if is_shortened(text) {
+        return Some(SHORTENED);
+    }
+    if parts(text) == 5 {
+        return Some(ENCRYPTED);
     }
     None
 }
@@ -192,44 +232,4 @@ fn is_named(text: &[u8]) -> bool {
 
 fn is_shortened(text: &[u8]) -> bool {
     memmem::find(text, b"...").is_some() || memmem::find(text, b"\xe2\x80\xa6").is_some()
-}
-
-/// Returns the number of parts of a text, between dots.
-fn parts(text: &[u8]) -> usize {
-    text.split(|byte| *byte == b'.').count()
-}
-
-fn contents(text: &[u8]) -> Option<Wrapping> {
-    if is_encoded(text) {
-        return Some(ENCODED);
-    }
-    if is_named(text) {
-        return Some(NAMED);
-    }
-    if is_shortened(text) {
-        return Some(SHORTENED);
-    }
-    if parts(text) == 5 {
-        return Some(ENCRYPTED);
-    }
-    None
-}
-
-/// Returns why a text is not a token as it stands, if that is a well-known reason.
-pub fn wrapping_of(text: &[u8]) -> Option<Wrapping> {
-    if NOTHING.iter().any(|word| text == *word) {
-        return Some(NO_TOKEN);
-    }
-    if let Some(found) = scheme_before(text) {
-        return Some(found);
-    }
-    match mark_before(text) {
-        Some(found) => Some(found),
-        None => contents(text),
-    }
-}
-
-/// Returns whether a text has the five parts of an encrypted token.
-pub fn is_encrypted(text: &[u8]) -> bool {
-    parts(text) == 5
 }

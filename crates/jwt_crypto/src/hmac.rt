@@ -42,16 +42,6 @@ pub enum Hash {
 }
 
 impl Hash {
-    // Returns B, the length of a block in bytes.
-    fn block_len(self) -> usize
-        ensures { result ≡ block_len self }
-    {
-        match self {
-            Hash::Sha256 => 64,
-            Hash::Sha384 | Hash::Sha512 => 128,
-        }
-    }
-
     pub(crate) fn algorithm(self) -> Algorithm
         ensures { result ≡ algorithm_for self }
     {
@@ -73,79 +63,15 @@ impl Hash {
             Hash::Sha512 => Sha512::digest(bytes).to_vec(alloc)?,
         })
     }
-}
 
-// Computes the two hashes of the formula, each fed with a block and then with the rest.
-fn nested_by<const N: usize, D: Digest<Output = [u8; N]>>(
-    inner: &[u8],
-    outer: &[u8],
-    message: &[u8],
-) -> [u8; N]
-    ensures { (i : List ℕ) × D.digest_of (inner.now ++ message.now) i
-        × D.digest_of (outer.now ++ i) result }
-{
-    let mut first = D::new();
-    first.update(inner);
-    first.update(message);
-    let middle = first.finalize();
-    let mut second = D::new();
-    second.update(outer);
-    second.update(middle.as_slice());
-    second.finalize()
-}
-
-fn nested_256(inner: &[u8], outer: &[u8], message: &[u8]) -> [u8; 32]
-    ensures { result ≡ nested Hash.Sha256 inner.now outer.now message.now }
-{
-    nested_by::<32, Sha256>(inner, outer, message)
-}
-
-fn nested_384(inner: &[u8], outer: &[u8], message: &[u8]) -> [u8; 48]
-    ensures { result ≡ nested Hash.Sha384 inner.now outer.now message.now }
-{
-    nested_by::<48, Sha384>(inner, outer, message)
-}
-
-fn nested_512(inner: &[u8], outer: &[u8], message: &[u8]) -> [u8; 64]
-    ensures { result ≡ nested Hash.Sha512 inner.now outer.now message.now }
-{
-    nested_by::<64, Sha512>(inner, outer, message)
-}
-
-// Returns the bytes, filled with zero bytes.
-fn fill(bytes: &[u8]) -> [u8; 128]
-    requires { length bytes.now ≤ 128 }
-    ensures { result ≡ filled 128 bytes.now }
-{
-    let mut key = [0u8; 128];
-    key[..bytes.len()].copy_from_slice(bytes);
-    key
-}
-
-// Returns each byte xor the mask.
-fn mask_bytes(bytes: &[u8; 128], mask: u8) -> [u8; 128]
-    ensures { result ≡ masked mask bytes.now }
-{
-    let mut masked = *bytes;
-    for byte in masked.iter_mut() {
-        *byte ^= mask;
-    }
-    masked
-}
-
-// Returns the secret, or its digest if it is longer than a block, filled with zero bytes.
-fn filled_key(hash: Hash, secret: &[u8]) -> [u8; 128]
-    ensures key { result ≡ filled 128 (short_key hash secret.now) }
-    ensures fits { length (short_key hash secret.now) ≤ block_len hash }
-    ensures block_fits { block_len hash ≤ 128 }
-{
-    if secret.len() <= hash.block_len() {
-        return fill(secret);
-    }
-    match hash {
-        Hash::Sha256 => fill(Sha256::digest(secret).as_slice()),
-        Hash::Sha384 => fill(Sha384::digest(secret).as_slice()),
-        Hash::Sha512 => fill(Sha512::digest(secret).as_slice()),
+    // Returns B, the length of a block in bytes.
+    fn block_len(self) -> usize
+        ensures { result ≡ block_len self }
+    {
+        match self {
+            Hash::Sha256 => 64,
+            Hash::Sha384 | Hash::Sha512 => 128,
+        }
     }
 }
 
@@ -240,16 +166,6 @@ pub(crate) fn hash_for_key(algorithm: Algorithm, family: AlgorithmFamily) -> Res
         return Err(new_error(ErrorKind::InvalidKeyFormat));
     }
     Ok(hash)
-}
-
-fn hash_of_thumbprint(hash: ThumbprintHash) -> Hash
-    ensures { result ≡ hash_named hash }
-{
-    match hash {
-        ThumbprintHash::SHA256 => Hash::Sha256,
-        ThumbprintHash::SHA384 => Hash::Sha384,
-        ThumbprintHash::SHA512 => Hash::Sha512,
-    }
 }
 
 pub(crate) fn unsupported() -> Error
@@ -432,4 +348,88 @@ impl CryptoProvider for HmacProvider {
     }
 
     ghost same_family = { λ _ a k h. family_made a (key_family k) h };
+}
+
+// Returns the secret, or its digest if it is longer than a block, filled with zero bytes.
+fn filled_key(hash: Hash, secret: &[u8]) -> [u8; 128]
+    ensures key { result ≡ filled 128 (short_key hash secret.now) }
+    ensures fits { length (short_key hash secret.now) ≤ block_len hash }
+    ensures block_fits { block_len hash ≤ 128 }
+{
+    if secret.len() <= hash.block_len() {
+        return fill(secret);
+    }
+    match hash {
+        Hash::Sha256 => fill(Sha256::digest(secret).as_slice()),
+        Hash::Sha384 => fill(Sha384::digest(secret).as_slice()),
+        Hash::Sha512 => fill(Sha512::digest(secret).as_slice()),
+    }
+}
+
+// Returns the bytes, filled with zero bytes.
+fn fill(bytes: &[u8]) -> [u8; 128]
+    requires { length bytes.now ≤ 128 }
+    ensures { result ≡ filled 128 bytes.now }
+{
+    let mut key = [0u8; 128];
+    key[..bytes.len()].copy_from_slice(bytes);
+    key
+}
+
+// Returns each byte xor the mask.
+fn mask_bytes(bytes: &[u8; 128], mask: u8) -> [u8; 128]
+    ensures { result ≡ masked mask bytes.now }
+{
+    let mut masked = *bytes;
+    for byte in masked.iter_mut() {
+        *byte ^= mask;
+    }
+    masked
+}
+
+fn nested_256(inner: &[u8], outer: &[u8], message: &[u8]) -> [u8; 32]
+    ensures { result ≡ nested Hash.Sha256 inner.now outer.now message.now }
+{
+    nested_by::<32, Sha256>(inner, outer, message)
+}
+
+// Computes the two hashes of the formula, each fed with a block and then with the rest.
+fn nested_by<const N: usize, D: Digest<Output = [u8; N]>>(
+    inner: &[u8],
+    outer: &[u8],
+    message: &[u8],
+) -> [u8; N]
+    ensures { (i : List ℕ) × D.digest_of (inner.now ++ message.now) i
+        × D.digest_of (outer.now ++ i) result }
+{
+    let mut first = D::new();
+    first.update(inner);
+    first.update(message);
+    let middle = first.finalize();
+    let mut second = D::new();
+    second.update(outer);
+    second.update(middle.as_slice());
+    second.finalize()
+}
+
+fn nested_384(inner: &[u8], outer: &[u8], message: &[u8]) -> [u8; 48]
+    ensures { result ≡ nested Hash.Sha384 inner.now outer.now message.now }
+{
+    nested_by::<48, Sha384>(inner, outer, message)
+}
+
+fn nested_512(inner: &[u8], outer: &[u8], message: &[u8]) -> [u8; 64]
+    ensures { result ≡ nested Hash.Sha512 inner.now outer.now message.now }
+{
+    nested_by::<64, Sha512>(inner, outer, message)
+}
+
+fn hash_of_thumbprint(hash: ThumbprintHash) -> Hash
+    ensures { result ≡ hash_named hash }
+{
+    match hash {
+        ThumbprintHash::SHA256 => Hash::Sha256,
+        ThumbprintHash::SHA384 => Hash::Sha384,
+        ThumbprintHash::SHA512 => Hash::Sha512,
+    }
 }

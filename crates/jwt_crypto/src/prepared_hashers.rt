@@ -27,71 +27,6 @@ pub(crate) enum Hashers {
     By512(Sha512, Sha512),
 }
 
-// Feeds the message to the first hasher, and its digest to the second.
-fn finish_by<const N: usize, D: Digest<Output = [u8; N]>>(
-    mut first: D,
-    mut second: D,
-    message: &[u8],
-) -> [u8; N]
-    ensures { (inner outer : List ℕ) → D.holds first inner → D.holds second outer
-        → (i : List ℕ) × D.digest_of (inner ++ message.now) i × D.digest_of (outer ++ i) result }
-{
-    first.update(message);
-    second.update(first.finalize().as_slice());
-    second.finalize()
-}
-
-fn copy_256(hasher: &Sha256) -> Sha256
-    ensures { result ≡ hasher.now }
-{
-    let Ok(copy) = hasher.clone() else {
-        unreachable!()
-    };
-    copy
-}
-
-fn copy_384(hasher: &Sha384) -> Sha384
-    ensures { result ≡ hasher.now }
-{
-    let Ok(copy) = hasher.clone() else {
-        unreachable!()
-    };
-    copy
-}
-
-fn copy_512(hasher: &Sha512) -> Sha512
-    ensures { result ≡ hasher.now }
-{
-    let Ok(copy) = hasher.clone() else {
-        unreachable!()
-    };
-    copy
-}
-
-fn code_256(first: &Sha256, second: &Sha256, message: &[u8]) -> [u8; 32]
-    ensures { (secret : List ℕ) → Holds256 first.now (inner_block Hash.Sha256 secret)
-        → Holds256 second.now (outer_block Hash.Sha256 secret)
-        → result ≡ hmac Hash.Sha256 secret message.now }
-{
-    finish_by::<32, Sha256>(copy_256(first), copy_256(second), message)
-}
-
-fn code_384(first: &Sha384, second: &Sha384, message: &[u8]) -> [u8; 48]
-    ensures { (secret : List ℕ) → Holds384 first.now (inner_block Hash.Sha384 secret)
-        → Holds384 second.now (outer_block Hash.Sha384 secret)
-        → result ≡ hmac Hash.Sha384 secret message.now }
-{
-    finish_by::<48, Sha384>(copy_384(first), copy_384(second), message)
-}
-
-fn code_512(first: &Sha512, second: &Sha512, message: &[u8]) -> [u8; 64]
-    ensures { (secret : List ℕ) → Holds512 first.now (inner_block Hash.Sha512 secret)
-        → Holds512 second.now (outer_block Hash.Sha512 secret)
-        → result ≡ hmac Hash.Sha512 secret message.now }
-{
-    finish_by::<64, Sha512>(copy_512(first), copy_512(second), message)
-}
-
 impl Hashers {
     fn new(hash: Hash, secret: &[u8]) -> Hashers
         ensures hash { hash_of result ≡ hash }
@@ -243,4 +178,69 @@ impl PreparedKey {
         self.secret.fill(0);
         self.held = PreparedHashers::new(self.held.hash(), self.secret.as_slice());
     }
+}
+
+fn copy_256(hasher: &Sha256) -> Sha256
+    ensures { result ≡ hasher.now }
+{
+    let Ok(copy) = hasher.clone() else {
+        unreachable!()
+    };
+    copy
+}
+
+fn copy_384(hasher: &Sha384) -> Sha384
+    ensures { result ≡ hasher.now }
+{
+    let Ok(copy) = hasher.clone() else {
+        unreachable!()
+    };
+    copy
+}
+
+fn copy_512(hasher: &Sha512) -> Sha512
+    ensures { result ≡ hasher.now }
+{
+    let Ok(copy) = hasher.clone() else {
+        unreachable!()
+    };
+    copy
+}
+
+fn code_256(first: &Sha256, second: &Sha256, message: &[u8]) -> [u8; 32]
+    ensures { (secret : List ℕ) → Holds256 first.now (inner_block Hash.Sha256 secret)
+        → Holds256 second.now (outer_block Hash.Sha256 secret)
+        → result ≡ hmac Hash.Sha256 secret message.now }
+{
+    finish_by::<32, Sha256>(copy_256(first), copy_256(second), message)
+}
+
+// Feeds the message to the first hasher, and its digest to the second.
+fn finish_by<const N: usize, D: Digest<Output = [u8; N]>>(
+    mut first: D,
+    mut second: D,
+    message: &[u8],
+) -> [u8; N]
+    ensures { (inner outer : List ℕ) → D.holds first inner → D.holds second outer
+        → (i : List ℕ) × D.digest_of (inner ++ message.now) i × D.digest_of (outer ++ i) result }
+{
+    first.update(message);
+    second.update(first.finalize().as_slice());
+    second.finalize()
+}
+
+fn code_384(first: &Sha384, second: &Sha384, message: &[u8]) -> [u8; 48]
+    ensures { (secret : List ℕ) → Holds384 first.now (inner_block Hash.Sha384 secret)
+        → Holds384 second.now (outer_block Hash.Sha384 secret)
+        → result ≡ hmac Hash.Sha384 secret message.now }
+{
+    finish_by::<48, Sha384>(copy_384(first), copy_384(second), message)
+}
+
+fn code_512(first: &Sha512, second: &Sha512, message: &[u8]) -> [u8; 64]
+    ensures { (secret : List ℕ) → Holds512 first.now (inner_block Hash.Sha512 secret)
+        → Holds512 second.now (outer_block Hash.Sha512 secret)
+        → result ≡ hmac Hash.Sha512 secret message.now }
+{
+    finish_by::<64, Sha512>(copy_512(first), copy_512(second), message)
 }

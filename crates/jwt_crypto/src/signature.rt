@@ -61,34 +61,6 @@ impl<'a> Model for SignatureProvider<'a> {
     } };
 }
 
-// Returns how many bytes a signature by the algorithm has, unless the key decides it.
-fn length_of(algorithm: Algorithm) -> Option<usize>
-    ensures { result ≡ signature_length algorithm }
-{
-    match algorithm {
-        Algorithm::HS256 => Some(32),
-        Algorithm::HS384 => Some(48),
-        Algorithm::HS512 | Algorithm::ES256 | Algorithm::EdDSA => Some(64),
-        Algorithm::ES384 => Some(96),
-        _ => None,
-    }
-}
-
-// Returns the string of the refusal of a signature of another length.
-fn length_message(algorithm: Algorithm) -> &'static str
-    ensures { result.now ≡ length_text algorithm }
-{
-    match algorithm {
-        Algorithm::HS256 => "a signature by HS256 has 32 bytes",
-        Algorithm::HS384 => "a signature by HS384 has 48 bytes",
-        Algorithm::HS512 => "a signature by HS512 has 64 bytes",
-        Algorithm::ES256 => "a signature by ES256 has 64 bytes: r and s, and no DER",
-        Algorithm::ES384 => "a signature by ES384 has 96 bytes: r and s, and no DER",
-        Algorithm::EdDSA => "a signature by EdDSA has 64 bytes",
-        _ => "a signature by RSA has as many bytes as the modulus",
-    }
-}
-
 impl<'a> SignatureProvider<'a> {
     /// Returns the provider of this signature. `signature` has the signature's bytes (not its
     /// base64url text): for ES256 and ES384 r and s as numbers of fixed length, for RSA and EdDSA
@@ -108,6 +80,23 @@ impl<'a> SignatureProvider<'a> {
             algorithm,
             message,
             signature,
+        }
+    }
+
+    /// Returns a key of the algorithm's family, which holds no bytes: the key that counts is the
+    /// one that the signature was made with. The only refusal is `OutOfMemory`.
+    pub fn key(&self, alloc: Global) -> Result<EncodingKey>
+        ensures ok { IfOk result (λ k. k ≡ record {
+          family = family_of self.now.algorithm;
+          bytes = [];
+        }) }
+        ensures err { IfErr result IsMemory }
+    {
+        match self.algorithm.family() {
+            AlgorithmFamily::Hmac => EncodingKey::from_secret(alloc, &[]),
+            AlgorithmFamily::Rsa => EncodingKey::from_rsa_der(alloc, &[]),
+            AlgorithmFamily::Ec => EncodingKey::from_ec_der(alloc, &[]),
+            AlgorithmFamily::Ed => EncodingKey::from_ed_der(alloc, &[]),
         }
     }
 
@@ -145,23 +134,6 @@ impl<'a> SignatureProvider<'a> {
             return Err(new_error(ErrorKind::Signing(reason)));
         }
         Ok(self.signature.to_vec(alloc)?)
-    }
-
-    /// Returns a key of the algorithm's family, which holds no bytes: the key that counts is the
-    /// one that the signature was made with. The only refusal is `OutOfMemory`.
-    pub fn key(&self, alloc: Global) -> Result<EncodingKey>
-        ensures ok { IfOk result (λ k. k ≡ record {
-          family = family_of self.now.algorithm;
-          bytes = [];
-        }) }
-        ensures err { IfErr result IsMemory }
-    {
-        match self.algorithm.family() {
-            AlgorithmFamily::Hmac => EncodingKey::from_secret(alloc, &[]),
-            AlgorithmFamily::Rsa => EncodingKey::from_rsa_der(alloc, &[]),
-            AlgorithmFamily::Ec => EncodingKey::from_ec_der(alloc, &[]),
-            AlgorithmFamily::Ed => EncodingKey::from_ed_der(alloc, &[]),
-        }
     }
 }
 
@@ -306,4 +278,32 @@ impl<'a> CryptoProvider for SignatureProvider<'a> {
     }
 
     ghost same_family = { λ p a k h. never_made h };
+}
+
+// Returns how many bytes a signature by the algorithm has, unless the key decides it.
+fn length_of(algorithm: Algorithm) -> Option<usize>
+    ensures { result ≡ signature_length algorithm }
+{
+    match algorithm {
+        Algorithm::HS256 => Some(32),
+        Algorithm::HS384 => Some(48),
+        Algorithm::HS512 | Algorithm::ES256 | Algorithm::EdDSA => Some(64),
+        Algorithm::ES384 => Some(96),
+        _ => None,
+    }
+}
+
+// Returns the string of the refusal of a signature of another length.
+fn length_message(algorithm: Algorithm) -> &'static str
+    ensures { result.now ≡ length_text algorithm }
+{
+    match algorithm {
+        Algorithm::HS256 => "a signature by HS256 has 32 bytes",
+        Algorithm::HS384 => "a signature by HS384 has 48 bytes",
+        Algorithm::HS512 => "a signature by HS512 has 64 bytes",
+        Algorithm::ES256 => "a signature by ES256 has 64 bytes: r and s, and no DER",
+        Algorithm::ES384 => "a signature by ES384 has 96 bytes: r and s, and no DER",
+        Algorithm::EdDSA => "a signature by EdDSA has 64 bytes",
+        _ => "a signature by RSA has as many bytes as the modulus",
+    }
 }

@@ -74,6 +74,20 @@ impl<'a> VerdictProvider<'a> {
         }
     }
 
+    /// Returns a key of the algorithm's family, which holds no bytes: the key that counts is the
+    /// one that the caller checked the signature with. The only refusal is `OutOfMemory`.
+    pub fn key(&self, alloc: Global) -> Result<DecodingKey>
+        ensures ok { IfOk result (λ k. k ≡ Plain (family_of self.now.algorithm) []) }
+        ensures err { IfErr result IsMemory }
+    {
+        match self.algorithm.family() {
+            AlgorithmFamily::Hmac => DecodingKey::from_secret(alloc, &[]),
+            AlgorithmFamily::Rsa => DecodingKey::from_rsa_der(alloc, &[]),
+            AlgorithmFamily::Ec => DecodingKey::from_ec_der(alloc, &[]),
+            AlgorithmFamily::Ed => DecodingKey::from_ed_der(alloc, &[]),
+        }
+    }
+
     // Returns the same verdict.
     fn again(&self) -> VerdictProvider<'a>
         ensures { result ≡ self.now }
@@ -90,20 +104,6 @@ impl<'a> VerdictProvider<'a> {
         ensures { IsTrue result ↔ IsVerified self.now message.now signature.now }
     {
         self.verdict && message == self.message && signature == self.signature
-    }
-
-    /// Returns a key of the algorithm's family, which holds no bytes: the key that counts is the
-    /// one that the caller checked the signature with. The only refusal is `OutOfMemory`.
-    pub fn key(&self, alloc: Global) -> Result<DecodingKey>
-        ensures ok { IfOk result (λ k. k ≡ Plain (family_of self.now.algorithm) []) }
-        ensures err { IfErr result IsMemory }
-    {
-        match self.algorithm.family() {
-            AlgorithmFamily::Hmac => DecodingKey::from_secret(alloc, &[]),
-            AlgorithmFamily::Rsa => DecodingKey::from_rsa_der(alloc, &[]),
-            AlgorithmFamily::Ec => DecodingKey::from_ec_der(alloc, &[]),
-            AlgorithmFamily::Ed => DecodingKey::from_ed_der(alloc, &[]),
-        }
     }
 }
 

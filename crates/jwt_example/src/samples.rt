@@ -73,30 +73,6 @@ pub fn verified_by_set(alloc: Global, token: &[u8], set: &[u8], time: u64) -> Re
     Ok(data.claims)
 }
 
-/// Returns a provider that has the secret prepared.
-fn prepared_secret(alloc: Global) -> Result<Box<PreparedHmac>> {
-    let provider = PreparedHmac::new(alloc, Algorithm::HS256, b"secret")?; // once
-    Ok(Box::new(alloc, provider)?)
-}
-
-/// Returns the header and claims of a token, verified with the secret by a provider.
-fn verified_by<P: CryptoProvider>(
-    alloc: Global,
-    provider: &P,
-    token: &[u8],
-    time: u64,
-) -> Result<TokenData<Value>> {
-    let key = DecodingKey::from_secret(alloc, b"secret")?;
-    let validation = Validation::new(alloc, Algorithm::HS256)?;
-    decode(alloc, provider, token, &key, &validation, time)
-}
-
-/// Prepares the secret, and verifies a token with it.
-fn prepared_and_verified(alloc: Global, token: &[u8], time: u64) -> Result<TokenData<Value>> {
-    let prepared = prepared_secret(alloc)?;
-    verified_by(alloc, &*prepared, token, time)
-}
-
 /// Returns the header and claims of an ES256 token, whose signature is checked elsewhere.
 pub fn verified_elsewhere(alloc: Global, token: &[u8], time: u64) -> Result<TokenData<Value>> {
     let part = Box::new(alloc, signed_part(alloc, token)?)?;
@@ -105,18 +81,6 @@ pub fn verified_elsewhere(alloc: Global, token: &[u8], time: u64) -> Result<Toke
     let verdict = VerdictProvider::new(Algorithm::ES256, part.message, signature, yes);
     let options = es256_options(alloc)?;
     decode_by_verdict(alloc, token, &verdict, &options, time)
-}
-
-/// Returns options that are read from JSON.
-fn es256_options(alloc: Global) -> Result<Box<Validation>> {
-    let options = b"{\"algorithms\":[\"ES256\"]}"; // as from a file
-    Ok(Box::new(alloc, Validation::from_slice(alloc, options)?)?)
-}
-
-/// Stands for the caller's cryptography: it says yes to one signature of one message, those of RFC
-/// 7515 appendix A.3.
-fn my_es256_accepts(message: &[u8], signature: &[u8]) -> bool {
-    message == MESSAGE.as_bytes() && signature == SIGNATURE.as_slice()
 }
 
 /// Returns an ES256 token, signed with a key that is kept in a KMS.
@@ -128,17 +92,6 @@ pub fn issued_elsewhere(alloc: Global, claims: &Value) -> Result<String> {
     let signature = ecdsa_signature(alloc, der.as_slice(), Algorithm::ES256)?;
     let given = SignatureProvider::new(Algorithm::ES256, message, signature.as_slice());
     encode_by_signature(alloc, &header, claims, &given)
-}
-
-/// Returns the header of ES256 tokens.
-fn es256_header(alloc: Global) -> Result<Box<Header>> {
-    let header = Header::new(alloc, Algorithm::ES256)?;
-    Ok(Box::new(alloc, header)?)
-}
-
-/// Stands for the caller's KMS: it signs one message, with the key of RFC 7515 appendix A.3.
-fn my_kms_signs(alloc: Global, _message: &[u8]) -> Result<Vec<u8>> {
-    Ok(DER.as_slice().to_vec(alloc)?)
 }
 
 /// A signature of the header `{"alg":"ES256","typ":"JWT"}` and the claims
@@ -180,35 +133,36 @@ const SIGNATURE: [u8; 64] = [
     84, 213,
 ];
 
-/// Returns the claims alone, or the refusal.
-fn claims_of(answer: Result<TokenData<Value>>) -> Result<Value> {
-    Ok(answer?.claims)
+/// Prints the result of each sample.
+pub fn show_samples<T: Runtime + AllocGlobal>(rt: &T) -> Result<(), Fault> {
+    let claims = verified(rt.alloc(), TOKEN.as_bytes(), 0)?;
+    show_issued(rt, &claims)?;
+    print(rt, Ok(claims))?;
+    show_verified(rt)?;
+    show_reasons(rt)
 }
 
-/// Returns the claims that are accepted as a text, or the refusal.
-fn shown(alloc: Global, answer: Result<Value>) -> Result<String> {
-    match answer {
-        Ok(claims) => Ok(claims.to_string(alloc)?),
-        Err(refusal) => Ok(format!(in alloc; "{refusal}")?),
-    }
+/// Stands for the caller's cryptography: it says yes to one signature of one message, those of RFC
+/// 7515 appendix A.3.
+fn my_es256_accepts(message: &[u8], signature: &[u8]) -> bool {
+    message == MESSAGE.as_bytes() && signature == SIGNATURE.as_slice()
 }
 
-/// Prints the claims that are accepted, or the refusal.
-fn print<T: Runtime + AllocGlobal>(rt: &T, answer: Result<Value>) -> Result<(), Fault> {
-    let text = shown(rt.alloc(), answer)?;
-    println!(rt; "{text}")?;
-    Ok(())
+/// Returns options that are read from JSON.
+fn es256_options(alloc: Global) -> Result<Box<Validation>> {
+    let options = b"{\"algorithms\":[\"ES256\"]}"; // as from a file
+    Ok(Box::new(alloc, Validation::from_slice(alloc, options)?)?)
 }
 
-/// Prints why a token is refused, and when it is accepted.
-fn show_reasons<T: Runtime + AllocGlobal>(rt: &T) -> Result<(), Fault> {
-    let alloc = rt.alloc();
-    for token in [TOKEN, NAMED, "a.b"] {
-        let refused = refusal_text(alloc, token.as_bytes(), 2532524952)?;
-        let moments = accepted_moments(alloc, token.as_bytes())?;
-        println!(rt; "{refused:?} {moments:?}")?;
-    }
-    Ok(())
+/// Returns the header of ES256 tokens.
+fn es256_header(alloc: Global) -> Result<Box<Header>> {
+    let header = Header::new(alloc, Algorithm::ES256)?;
+    Ok(Box::new(alloc, header)?)
+}
+
+/// Stands for the caller's KMS: it signs one message, with the key of RFC 7515 appendix A.3.
+fn my_kms_signs(alloc: Global, _message: &[u8]) -> Result<Vec<u8>> {
+    Ok(DER.as_slice().to_vec(alloc)?)
 }
 
 /// Prints the tokens that are issued for claims, and the algorithm that a header names.
@@ -218,6 +172,21 @@ fn show_issued<T: Runtime + AllocGlobal>(rt: &T, claims: &Value) -> Result<(), F
     println!(rt; "{}", issued_elsewhere(alloc, claims)?)?;
     println!(rt; "{}", algorithm_of(alloc, TOKEN.as_bytes())?)?;
     Ok(())
+}
+
+/// Prints the claims that are accepted, or the refusal.
+fn print<T: Runtime + AllocGlobal>(rt: &T, answer: Result<Value>) -> Result<(), Fault> {
+    let text = shown(rt.alloc(), answer)?;
+    println!(rt; "{text}")?;
+    Ok(())
+}
+
+/// Returns the claims that are accepted as a text, or the refusal.
+fn shown(alloc: Global, answer: Result<Value>) -> Result<String> {
+    match answer {
+        Ok(claims) => Ok(claims.to_string(alloc)?),
+        Err(refusal) => Ok(format!(in alloc; "{refusal}")?),
+    }
 }
 
 /// Prints the claims that are verified by the key of a set, by a verdict and by two providers, one
@@ -232,11 +201,42 @@ fn show_verified<T: Runtime + AllocGlobal>(rt: &T) -> Result<(), Fault> {
     print(rt, claims_of(verified_by(alloc, &LongSecrets, named, 0)))
 }
 
-/// Prints the result of each sample.
-pub fn show_samples<T: Runtime + AllocGlobal>(rt: &T) -> Result<(), Fault> {
-    let claims = verified(rt.alloc(), TOKEN.as_bytes(), 0)?;
-    show_issued(rt, &claims)?;
-    print(rt, Ok(claims))?;
-    show_verified(rt)?;
-    show_reasons(rt)
+/// Returns the claims alone, or the refusal.
+fn claims_of(answer: Result<TokenData<Value>>) -> Result<Value> {
+    Ok(answer?.claims)
+}
+
+/// Prepares the secret, and verifies a token with it.
+fn prepared_and_verified(alloc: Global, token: &[u8], time: u64) -> Result<TokenData<Value>> {
+    let prepared = prepared_secret(alloc)?;
+    verified_by(alloc, &*prepared, token, time)
+}
+
+/// Returns a provider that has the secret prepared.
+fn prepared_secret(alloc: Global) -> Result<Box<PreparedHmac>> {
+    let provider = PreparedHmac::new(alloc, Algorithm::HS256, b"secret")?; // once
+    Ok(Box::new(alloc, provider)?)
+}
+
+/// Returns the header and claims of a token, verified with the secret by a provider.
+fn verified_by<P: CryptoProvider>(
+    alloc: Global,
+    provider: &P,
+    token: &[u8],
+    time: u64,
+) -> Result<TokenData<Value>> {
+    let key = DecodingKey::from_secret(alloc, b"secret")?;
+    let validation = Validation::new(alloc, Algorithm::HS256)?;
+    decode(alloc, provider, token, &key, &validation, time)
+}
+
+/// Prints why a token is refused, and when it is accepted.
+fn show_reasons<T: Runtime + AllocGlobal>(rt: &T) -> Result<(), Fault> {
+    let alloc = rt.alloc();
+    for token in [TOKEN, NAMED, "a.b"] {
+        let refused = refusal_text(alloc, token.as_bytes(), 2532524952)?;
+        let moments = accepted_moments(alloc, token.as_bytes())?;
+        println!(rt; "{refused:?} {moments:?}")?;
+    }
+    Ok(())
 }

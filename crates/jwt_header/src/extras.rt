@@ -179,17 +179,6 @@ pub fn is_header_name(name: &str) -> bool
     is_one_of(name, &header_names())
 }
 
-// Returns the names that a header has fields for (RFC 7515 section 4.1, RFC 7516 section 4.1, RFC
-// 8555 section 6).
-fn header_names() -> [&'static str; 15]
-    ensures { map (λ s. s.now) result ≡ header_names }
-{
-    [
-        "alg", "typ", "cty", "jku", "jwk", "kid", "x5u", "x5c", "x5t", "x5t#S256", "crit", "enc",
-        "zip", "url", "nonce",
-    ]
-}
-
 /// Compares the names and the values. Any two floats count as equal.
 impl PartialEq for Extras {
     ghost use Rattle.std.specs.Cmp.{partial_equiv_from_equiv};
@@ -225,4 +214,15 @@ impl Hash for Extras {
     fn hash<H: Hasher>(&self, state: &mut H) {
         hash_names(&self.members, state);
     }
+}
+
+// Returns the names that a header has fields for (RFC 7515 section 4.1, RFC 7516 section 4.1, RFC
+// 8555 section 6).
+fn header_names() -> [&'static str; 15]
+    ensures { map (λ s. s.now) result ≡ header_names }
+{
+    [
+        "alg", "typ", "cty", "jku", "jwk", "kid", "x5u", "x5c", "x5t", "x5t#S256", "crit", "enc",
+        "zip", "url", "nonce",
+    ]
 }

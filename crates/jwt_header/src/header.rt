@@ -266,110 +266,6 @@ impl Header {
     }
 }
 
-fn read_algorithm(value: &Value) -> Result<Algorithm>
-    ensures ok { IfOk result (λ a. option_and_then algorithm_from
-        (get (codes "alg") (view value.now)) ≡ Some a) }
-    ensures err { IfErr result (RefusesAs kind.Json
-        (option_and_then algorithm_from (get (codes "alg") (view value.now)) ≡ None)) }
-{
-    match value.get("alg") {
-        Some(name) => Algorithm::from_value(name),
-        None => Err(new_error(ErrorKind::Json)),
-    }
-}
-
-fn optional_enc(alloc: Global, value: &Value) -> Result<Option<Enc>>
-    ensures ok { IfOk result (λ e. optional enc_from (get (codes "enc") (view value.now))
-        ≡ Some e) }
-    ensures err { IfErr result
-        (RefusesAs kind.Json (optional enc_from (get (codes "enc") (view value.now)) ≡ None)) }
-{
-    match present(value, "enc") {
-        None => Ok(None),
-        Some(enc) => Ok(Some(Enc::from_value(alloc, enc)?)),
-    }
-}
-
-fn optional_jwk(alloc: Global, value: &Value) -> Result<Option<Jwk>>
-    ensures ok { IfOk result (ReadsOptional ReadsKey (get (codes "jwk") (view value.now))) }
-    ensures err { IfErr result (RefusesAs kind.Json
-        ((k : Option Jwk) → ¬ ReadsOptional ReadsKey (get (codes "jwk") (view value.now)) k)) }
-{
-    match present(value, "jwk") {
-        None => Ok(None),
-        Some(jwk) => Ok(Some(Jwk::from_value(alloc, jwk)?)),
-    }
-}
-
-fn optional_zip(alloc: Global, value: &Value) -> Result<Option<Zip>>
-    ensures ok { IfOk result (λ z. optional zip_from (get (codes "zip") (view value.now))
-        ≡ Some z) }
-    ensures err { IfErr result
-        (RefusesAs kind.Json (optional zip_from (get (codes "zip") (view value.now)) ≡ None)) }
-{
-    match present(value, "zip") {
-        None => Ok(None),
-        Some(zip) => Ok(Some(Zip::from_value(alloc, zip)?)),
-    }
-}
-
-// Returns the value that the key is written as, if there is one.
-fn written_jwk(alloc: Global, jwk: &Option<Jwk>) -> Result<Option<Value>>
-    ensures ok { IfOk result (λ v. written_optional key_value jwk.now ≡ Some (option_map view v)) }
-    ensures err { IfErr result (RefusesAs kind.Json (written_optional key_value jwk.now ≡ None)) }
-{
-    match jwk {
-        Some(jwk) => {
-            let value = jwk.to_value(alloc)?;
-            Ok(Some(value))
-        }
-        None => Ok(None),
-    }
-}
-
-fn put_written(
-    alloc: Global,
-    members: &mut Map<String, Value>,
-    name: &str,
-    value: Option<Value>,
-) -> Result<()>
-    ensures ok { OnOk result (members_view members.new.entries
-        ≡ put_some name.now (option_map view value) (members_view members.old.entries)) }
-    ensures err { IfErr result IsMemory }
-{
-    match value {
-        Some(value) => {
-            serde_json::put(members, alloc, name, value)?;
-            Ok(())
-        }
-        None => Ok(()),
-    }
-}
-
-fn put_enc(alloc: Global, members: &mut Map<String, Value>, enc: &Option<Enc>) -> Result<()>
-    ensures ok { OnOk result (members_view members.new.entries
-        ≡ put_some (codes "enc") (option_map enc_value enc.now)
-        (members_view members.old.entries)) }
-    ensures err { IfErr result IsMemory }
-{
-    match enc {
-        Some(enc) => put_text(alloc, members, "enc", enc.as_str()),
-        None => Ok(()),
-    }
-}
-
-fn put_zip(alloc: Global, members: &mut Map<String, Value>, zip: &Option<Zip>) -> Result<()>
-    ensures ok { OnOk result (members_view members.new.entries
-        ≡ put_some (codes "zip") (option_map zip_value zip.now)
-        (members_view members.old.entries)) }
-    ensures err { IfErr result IsMemory }
-{
-    match zip {
-        Some(zip) => put_text(alloc, members, "zip", zip.as_str()),
-        None => Ok(()),
-    }
-}
-
 /// Compares the fields. Any two floats among the extras and the members of `jwk` count as equal.
 impl PartialEq for Header {
     ghost use Rattle.std.specs.Cmp.{partial_equiv_from_equiv};
@@ -444,5 +340,109 @@ impl Hash for Header {
         self.enc.hash(state);
         self.zip.hash(state);
         self.extras.hash(state);
+    }
+}
+
+fn read_algorithm(value: &Value) -> Result<Algorithm>
+    ensures ok { IfOk result (λ a. option_and_then algorithm_from
+        (get (codes "alg") (view value.now)) ≡ Some a) }
+    ensures err { IfErr result (RefusesAs kind.Json
+        (option_and_then algorithm_from (get (codes "alg") (view value.now)) ≡ None)) }
+{
+    match value.get("alg") {
+        Some(name) => Algorithm::from_value(name),
+        None => Err(new_error(ErrorKind::Json)),
+    }
+}
+
+fn optional_jwk(alloc: Global, value: &Value) -> Result<Option<Jwk>>
+    ensures ok { IfOk result (ReadsOptional ReadsKey (get (codes "jwk") (view value.now))) }
+    ensures err { IfErr result (RefusesAs kind.Json
+        ((k : Option Jwk) → ¬ ReadsOptional ReadsKey (get (codes "jwk") (view value.now)) k)) }
+{
+    match present(value, "jwk") {
+        None => Ok(None),
+        Some(jwk) => Ok(Some(Jwk::from_value(alloc, jwk)?)),
+    }
+}
+
+fn optional_enc(alloc: Global, value: &Value) -> Result<Option<Enc>>
+    ensures ok { IfOk result (λ e. optional enc_from (get (codes "enc") (view value.now))
+        ≡ Some e) }
+    ensures err { IfErr result
+        (RefusesAs kind.Json (optional enc_from (get (codes "enc") (view value.now)) ≡ None)) }
+{
+    match present(value, "enc") {
+        None => Ok(None),
+        Some(enc) => Ok(Some(Enc::from_value(alloc, enc)?)),
+    }
+}
+
+fn optional_zip(alloc: Global, value: &Value) -> Result<Option<Zip>>
+    ensures ok { IfOk result (λ z. optional zip_from (get (codes "zip") (view value.now))
+        ≡ Some z) }
+    ensures err { IfErr result
+        (RefusesAs kind.Json (optional zip_from (get (codes "zip") (view value.now)) ≡ None)) }
+{
+    match present(value, "zip") {
+        None => Ok(None),
+        Some(zip) => Ok(Some(Zip::from_value(alloc, zip)?)),
+    }
+}
+
+// Returns the value that the key is written as, if there is one.
+fn written_jwk(alloc: Global, jwk: &Option<Jwk>) -> Result<Option<Value>>
+    ensures ok { IfOk result (λ v. written_optional key_value jwk.now ≡ Some (option_map view v)) }
+    ensures err { IfErr result (RefusesAs kind.Json (written_optional key_value jwk.now ≡ None)) }
+{
+    match jwk {
+        Some(jwk) => {
+            let value = jwk.to_value(alloc)?;
+            Ok(Some(value))
+        }
+        None => Ok(None),
+    }
+}
+
+fn put_written(
+    alloc: Global,
+    members: &mut Map<String, Value>,
+    name: &str,
+    value: Option<Value>,
+) -> Result<()>
+    ensures ok { OnOk result (members_view members.new.entries
+        ≡ put_some name.now (option_map view value) (members_view members.old.entries)) }
+    ensures err { IfErr result IsMemory }
+{
+    match value {
+        Some(value) => {
+            serde_json::put(members, alloc, name, value)?;
+            Ok(())
+        }
+        None => Ok(()),
+    }
+}
+
+fn put_zip(alloc: Global, members: &mut Map<String, Value>, zip: &Option<Zip>) -> Result<()>
+    ensures ok { OnOk result (members_view members.new.entries
+        ≡ put_some (codes "zip") (option_map zip_value zip.now)
+        (members_view members.old.entries)) }
+    ensures err { IfErr result IsMemory }
+{
+    match zip {
+        Some(zip) => put_text(alloc, members, "zip", zip.as_str()),
+        None => Ok(()),
+    }
+}
+
+fn put_enc(alloc: Global, members: &mut Map<String, Value>, enc: &Option<Enc>) -> Result<()>
+    ensures ok { OnOk result (members_view members.new.entries
+        ≡ put_some (codes "enc") (option_map enc_value enc.now)
+        (members_view members.old.entries)) }
+    ensures err { IfErr result IsMemory }
+{
+    match enc {
+        Some(enc) => put_text(alloc, members, "enc", enc.as_str()),
+        None => Ok(()),
     }
 }

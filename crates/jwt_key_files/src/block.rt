@@ -30,21 +30,40 @@ pub(crate) fn after<'a>(prefix: &[u8], bytes: &'a [u8]) -> Option<&'a [u8]>
     Some(rest)
 }
 
-fn is_line_break(byte: u8) -> bool
-    ensures { IsTrue result ↔ IsLineBreak byte }
+// Returns the text after the first `-----BEGIN ` that a line begins with.
+pub(crate) fn first_block(text: &[u8]) -> Option<&[u8]>
+    ensures { MatchOption result ((b : List ℕ) → ¬ IsFirst text.now b)
+        (λ b. IsFirst text.now b.now) }
 {
-    byte == 13 || byte == 10
+    for place in 0..text.len() {
+        if let Some(block) = block_at(text, place) {
+            return Some(block);
+        }
+    }
+    None
 }
 
-// Returns whether a line begins at this place.
-fn starts_line(text: &[u8], place: usize) -> bool
-    requires { place ≤ length text.now }
-    ensures { IsTrue result ↔ StartsLine text.now place }
+// Returns the bytes of the block with this label whose text after `-----BEGIN ` this is.
+pub(crate) fn block_bytes(alloc: Global, label: &[u8], block: &[u8]) -> Result<Option<Vec<u8>>>
+    ensures ok { IfOk result (λ o. MatchOption o ((b : List ℕ) → ¬ IsBlock label.now block.now b)
+        (λ b. IsBlock label.now block.now b.items)) }
+    ensures err { IfErr result IsMemory }
 {
-    if place == 0 {
-        return true;
+    let Some((eol, body)) = opened(label, block) else {
+        return Ok(None);
+    };
+    let characters = characters(alloc, body)?;
+    let Some(bytes) = decoded(alloc, characters.as_slice())? else {
+        return Ok(None);
+    };
+    let lines = lines(alloc, eol, characters.as_slice())?;
+    let Some(end) = after(lines.as_slice(), body) else {
+        return Ok(None);
+    };
+    if !is_closed(label, end) {
+        return Ok(None);
     }
-    is_line_break(text[place - 1])
+    Ok(Some(bytes))
 }
 
 // Returns the text after `-----BEGIN `, if a line begins with it at this place.
@@ -63,17 +82,42 @@ fn block_at(text: &[u8], place: usize) -> Option<&[u8]>
     Some(block)
 }
 
-// Returns the text after the first `-----BEGIN ` that a line begins with.
-pub(crate) fn first_block(text: &[u8]) -> Option<&[u8]>
-    ensures { MatchOption result ((b : List ℕ) → ¬ IsFirst text.now b)
-        (λ b. IsFirst text.now b.now) }
+// Returns whether a line begins at this place.
+fn starts_line(text: &[u8], place: usize) -> bool
+    requires { place ≤ length text.now }
+    ensures { IsTrue result ↔ StartsLine text.now place }
 {
-    for place in 0..text.len() {
-        if let Some(block) = block_at(text, place) {
-            return Some(block);
-        }
+    if place == 0 {
+        return true;
     }
-    None
+    is_line_break(text[place - 1])
+}
+
+fn is_line_break(byte: u8) -> bool
+    ensures { IsTrue result ↔ IsLineBreak byte }
+{
+    byte == 13 || byte == 10
+}
+
+// Returns the line end and the text after the first line, if this is the rest of the line that
+// begins a block with the label.
+fn opened<'a>(label: &[u8], block: &'a [u8]) -> Option<(&'a [u8], &'a [u8])>
+    ensures { MatchOption result
+        ((eol : List ℕ) (s : List ℕ) → IsLineEnd eol
+        → block.now ≢ label.now ++ (codes "-----" ++ (eol ++ s)))
+        (λ p. IsLineEnd p.0.now × (block.now ≡ label.now ++ (codes "-----" ++ (p.0.now ++ p.1.now)))
+        × ((s : List ℕ) → p.0.now ≡ 13 ∷ [] → p.1.now ≢ 10 ∷ s)) }
+{
+    let Some(rest) = after(label, block) else {
+        return None;
+    };
+    let Some(rest) = after(b"-----", rest) else {
+        return None;
+    };
+    let Some((eol, body)) = line_end(rest) else {
+        return None;
+    };
+    Some((eol, body))
 }
 
 // Returns the line end that the text begins with, and the text after it.
@@ -112,16 +156,19 @@ fn characters(alloc: Global, text: &[u8]) -> Result<Vec<u8>>
     Ok(characters)
 }
 
-// Returns the first line of the characters, which has 64 of them or all, and the characters after
-// it.
-fn first_line(characters: &[u8]) -> (&[u8], &[u8])
-    ensures line { result.0.now ≡ take 64 characters.now }
-    ensures rest { result.1.now ≡ drop 64 characters.now }
+// Returns the bytes that the characters are the base64 text of.
+fn decoded(alloc: Global, characters: &[u8]) -> Result<Option<Vec<u8>>>
+    ensures ok { IfOk result (λ o. MatchOption o ((b : List ℕ) → ¬ IsStandardText characters.now b)
+        (λ b. IsStandardText characters.now b.items)) }
+    ensures err { IfErr result IsMemory }
 {
-    if characters.len() < 64 {
-        return (characters, b"".as_slice());
+    match standard_bytes(alloc, characters) {
+        Ok(bytes) => Ok(Some(bytes)),
+        Err(error) => match error.kind() {
+            ErrorKind::OutOfMemory => Err(error),
+            _ => Ok(None),
+        },
     }
-    characters.split_at(64)
 }
 
 // Returns the characters in lines of 64.
@@ -140,50 +187,26 @@ fn lines(alloc: Global, eol: &[u8], characters: &[u8]) -> Result<Vec<u8>>
     Ok(text)
 }
 
-// Returns the bytes that the characters are the base64 text of.
-fn decoded(alloc: Global, characters: &[u8]) -> Result<Option<Vec<u8>>>
-    ensures ok { IfOk result (λ o. MatchOption o ((b : List ℕ) → ¬ IsStandardText characters.now b)
-        (λ b. IsStandardText characters.now b.items)) }
-    ensures err { IfErr result IsMemory }
+// Returns the first line of the characters, which has 64 of them or all, and the characters after
+// it.
+fn first_line(characters: &[u8]) -> (&[u8], &[u8])
+    ensures line { result.0.now ≡ take 64 characters.now }
+    ensures rest { result.1.now ≡ drop 64 characters.now }
 {
-    match standard_bytes(alloc, characters) {
-        Ok(bytes) => Ok(Some(bytes)),
-        Err(error) => match error.kind() {
-            ErrorKind::OutOfMemory => Err(error),
-            _ => Ok(None),
-        },
+    if characters.len() < 64 {
+        return (characters, b"".as_slice());
     }
+    characters.split_at(64)
 }
 
-// Returns the line end and the text after the first line, if this is the rest of the line that
-// begins a block with the label.
-fn opened<'a>(label: &[u8], block: &'a [u8]) -> Option<(&'a [u8], &'a [u8])>
-    ensures { MatchOption result
-        ((eol : List ℕ) (s : List ℕ) → IsLineEnd eol
-        → block.now ≢ label.now ++ (codes "-----" ++ (eol ++ s)))
-        (λ p. IsLineEnd p.0.now × (block.now ≡ label.now ++ (codes "-----" ++ (p.0.now ++ p.1.now)))
-        × ((s : List ℕ) → p.0.now ≡ 13 ∷ [] → p.1.now ≢ 10 ∷ s)) }
+// Returns whether the line that the text begins with ends a block with this label.
+fn is_closed(label: &[u8], text: &[u8]) -> bool
+    ensures { IsTrue result ↔ IsClosed label.now text.now }
 {
-    let Some(rest) = after(label, block) else {
-        return None;
+    let Some(rest) = closing(label, text) else {
+        return false;
     };
-    let Some(rest) = after(b"-----", rest) else {
-        return None;
-    };
-    let Some((eol, body)) = line_end(rest) else {
-        return None;
-    };
-    Some((eol, body))
-}
-
-// Returns whether the text or a line ends where the text begins.
-fn ends_line(text: &[u8]) -> bool
-    ensures { IsTrue result ↔ EndsLine text.now }
-{
-    match next(text) {
-        Some((byte, _)) => is_line_break(byte),
-        None => true,
-    }
+    ends_line(rest)
 }
 
 // Returns the text after `-----END `, this label and `-----`.
@@ -204,35 +227,12 @@ fn closing<'a>(label: &[u8], text: &'a [u8]) -> Option<&'a [u8]>
     Some(rest)
 }
 
-// Returns whether the line that the text begins with ends a block with this label.
-fn is_closed(label: &[u8], text: &[u8]) -> bool
-    ensures { IsTrue result ↔ IsClosed label.now text.now }
+// Returns whether the text or a line ends where the text begins.
+fn ends_line(text: &[u8]) -> bool
+    ensures { IsTrue result ↔ EndsLine text.now }
 {
-    let Some(rest) = closing(label, text) else {
-        return false;
-    };
-    ends_line(rest)
-}
-
-// Returns the bytes of the block with this label whose text after `-----BEGIN ` this is.
-pub(crate) fn block_bytes(alloc: Global, label: &[u8], block: &[u8]) -> Result<Option<Vec<u8>>>
-    ensures ok { IfOk result (λ o. MatchOption o ((b : List ℕ) → ¬ IsBlock label.now block.now b)
-        (λ b. IsBlock label.now block.now b.items)) }
-    ensures err { IfErr result IsMemory }
-{
-    let Some((eol, body)) = opened(label, block) else {
-        return Ok(None);
-    };
-    let characters = characters(alloc, body)?;
-    let Some(bytes) = decoded(alloc, characters.as_slice())? else {
-        return Ok(None);
-    };
-    let lines = lines(alloc, eol, characters.as_slice())?;
-    let Some(end) = after(lines.as_slice(), body) else {
-        return Ok(None);
-    };
-    if !is_closed(label, end) {
-        return Ok(None);
+    match next(text) {
+        Some((byte, _)) => is_line_break(byte),
+        None => true,
     }
-    Ok(Some(bytes))
 }

@@ -21,63 +21,42 @@ use jwt_base::errors::Result;
 use jwt_keys::decoding_key::DecodingKey;
 use std::alloc::Global;
 
-// Returns the bytes after elements of these tags.
-fn skip<'a>(tags: &[u8], bytes: &'a [u8]) -> Option<&'a [u8]>
-    ensures { MatchOption result ((rest : List ℕ) → ¬ IsAfter tags.now bytes.now rest)
-        (λ rest. IsAfter tags.now bytes.now rest.now) }
+/// Returns the public key of an X.509 certificate in DER (RFC 5280 section 4.1). NOTHING IS
+/// VERIFIED: not the signature, not the issuer, not the dates, not what the key may be used for.
+/// Anyone can write such a certificate; the key is only as good as the way by which the certificate
+/// came. The key is that which `public_key_from_der` reads of the SubjectPublicKeyInfo.
+///
+/// Of the certificate's other elements only the tags are looked at, and of its extensions nothing.
+/// A key of another algorithm is refused with `UnsupportedAlgorithm`, and bytes that are no
+/// certificate, or whose key is malformed, with `InvalidKeyFormat`.
+pub fn unverified_key_from_certificate(alloc: Global, der: &[u8]) -> Result<DecodingKey>
+    ensures ok { IfOk result (IsCertificateOf der.now) }
+    ensures only { IfOk result (λ key. (k : Key) → IsCertificateOf der.now k → k ≡ key) }
+    ensures err { IfErr result (λ e. IsMemory e ⊎ IsCertificateRefused der.now (kind_of e)) }
 {
-    let mut rest = bytes;
-    for tag in tags {
-        let Some((_, more)) = read(*tag, rest) else {
-            return None;
-        };
-        rest = more;
-    }
-    Some(rest)
+    let Some(info) = read_certificate(der) else {
+        return Err(malformed());
+    };
+    let key = info_key(alloc, info)?;
+    Ok(key)
 }
 
-// Returns the element of this tag that the bytes begin with, and the bytes after it.
-fn first_element(tag: u8, bytes: &[u8]) -> Option<(&[u8], &[u8])>
-    ensures { MatchOption result ((content : List ℕ) (rest : List ℕ)
-        → bytes.now ≢ element tag content ++ rest)
-        (λ p. ((content : List ℕ) × (p.0.now ≡ element tag content))
-        × (bytes.now ≡ p.0.now ++ p.1.now)) }
+/// Returns the public key of the X.509 certificate that the first block of a PEM text holds, under
+/// the label `CERTIFICATE` (RFC 7468 section 5). As by `unverified_key_from_certificate`, NOTHING
+/// IS VERIFIED. The text is as `public_key_from_pem` reads it.
+///
+/// A key of another algorithm is refused with `UnsupportedAlgorithm`, and any other text with
+/// `InvalidKeyFormat`.
+pub fn unverified_key_from_certificate_pem(alloc: Global, pem: &[u8]) -> Result<DecodingKey>
+    ensures ok { IfOk result (IsCertificatePemOf pem.now) }
+    ensures only { IfOk result (λ key. (k : Key) → IsCertificatePemOf pem.now k → k ≡ key) }
+    ensures err { IfErr result (λ e. IsMemory e ⊎ IsCertificatePemRefused pem.now (kind_of e)) }
 {
-    let Some((_, rest)) = read(tag, bytes) else {
-        return None;
+    let Some(der) = certificate_bytes(alloc, pem)? else {
+        return Err(malformed());
     };
-    Some(bytes.split_at(bytes.len() - rest.len()))
-}
-
-// Returns the fields of a TBSCertificate from the key on.
-fn from_key(content: &[u8]) -> Option<&[u8]>
-    ensures { MatchOption result
-        ((rest : List ℕ) → ¬ (IsAfter (0xa0 ∷ serial_to_subject) content.now rest
-        ⊎ IsAfter serial_to_subject content.now rest))
-        (λ rest. IsAfter (0xa0 ∷ serial_to_subject) content.now rest.now
-        ⊎ IsAfter serial_to_subject content.now rest.now) }
-{
-    if let Some(rest) = skip(&[0xa0, 2, 0x30, 0x30, 0x30, 0x30], content) {
-        return Some(rest);
-    }
-    if let Some(rest) = skip(&[2, 0x30, 0x30, 0x30, 0x30], content) {
-        return Some(rest);
-    }
-    None
-}
-
-// Returns the SubjectPublicKeyInfo of a TBSCertificate with this content.
-fn key_info(content: &[u8]) -> Option<&[u8]>
-    ensures { MatchOption result ((info : List ℕ) → ¬ IsToBeSigned content.now info)
-        (λ info. IsToBeSigned content.now info.now) }
-{
-    let Some(rest) = from_key(content) else {
-        return None;
-    };
-    let Some((info, _)) = first_element(0x30, rest) else {
-        return None;
-    };
-    Some(info)
+    let key = unverified_key_from_certificate(alloc, der.as_slice())?;
+    Ok(key)
 }
 
 // Returns the SubjectPublicKeyInfo of a certificate.
@@ -103,24 +82,63 @@ fn read_certificate(der: &[u8]) -> Option<&[u8]>
     Some(info)
 }
 
-/// Returns the public key of an X.509 certificate in DER (RFC 5280 section 4.1). NOTHING IS
-/// VERIFIED: not the signature, not the issuer, not the dates, not what the key may be used for.
-/// Anyone can write such a certificate; the key is only as good as the way by which the certificate
-/// came. The key is that which `public_key_from_der` reads of the SubjectPublicKeyInfo.
-///
-/// Of the certificate's other elements only the tags are looked at, and of its extensions nothing.
-/// A key of another algorithm is refused with `UnsupportedAlgorithm`, and bytes that are no
-/// certificate, or whose key is malformed, with `InvalidKeyFormat`.
-pub fn unverified_key_from_certificate(alloc: Global, der: &[u8]) -> Result<DecodingKey>
-    ensures ok { IfOk result (IsCertificateOf der.now) }
-    ensures only { IfOk result (λ key. (k : Key) → IsCertificateOf der.now k → k ≡ key) }
-    ensures err { IfErr result (λ e. IsMemory e ⊎ IsCertificateRefused der.now (kind_of e)) }
+// Returns the bytes after elements of these tags.
+fn skip<'a>(tags: &[u8], bytes: &'a [u8]) -> Option<&'a [u8]>
+    ensures { MatchOption result ((rest : List ℕ) → ¬ IsAfter tags.now bytes.now rest)
+        (λ rest. IsAfter tags.now bytes.now rest.now) }
 {
-    let Some(info) = read_certificate(der) else {
-        return Err(malformed());
+    let mut rest = bytes;
+    for tag in tags {
+        let Some((_, more)) = read(*tag, rest) else {
+            return None;
+        };
+        rest = more;
+    }
+    Some(rest)
+}
+
+// Returns the SubjectPublicKeyInfo of a TBSCertificate with this content.
+fn key_info(content: &[u8]) -> Option<&[u8]>
+    ensures { MatchOption result ((info : List ℕ) → ¬ IsToBeSigned content.now info)
+        (λ info. IsToBeSigned content.now info.now) }
+{
+    let Some(rest) = from_key(content) else {
+        return None;
     };
-    let key = info_key(alloc, info)?;
-    Ok(key)
+    let Some((info, _)) = first_element(0x30, rest) else {
+        return None;
+    };
+    Some(info)
+}
+
+// Returns the fields of a TBSCertificate from the key on.
+fn from_key(content: &[u8]) -> Option<&[u8]>
+    ensures { MatchOption result
+        ((rest : List ℕ) → ¬ (IsAfter (0xa0 ∷ serial_to_subject) content.now rest
+        ⊎ IsAfter serial_to_subject content.now rest))
+        (λ rest. IsAfter (0xa0 ∷ serial_to_subject) content.now rest.now
+        ⊎ IsAfter serial_to_subject content.now rest.now) }
+{
+    if let Some(rest) = skip(&[0xa0, 2, 0x30, 0x30, 0x30, 0x30], content) {
+        return Some(rest);
+    }
+    if let Some(rest) = skip(&[2, 0x30, 0x30, 0x30, 0x30], content) {
+        return Some(rest);
+    }
+    None
+}
+
+// Returns the element of this tag that the bytes begin with, and the bytes after it.
+fn first_element(tag: u8, bytes: &[u8]) -> Option<(&[u8], &[u8])>
+    ensures { MatchOption result ((content : List ℕ) (rest : List ℕ)
+        → bytes.now ≢ element tag content ++ rest)
+        (λ p. ((content : List ℕ) × (p.0.now ≡ element tag content))
+        × (bytes.now ≡ p.0.now ++ p.1.now)) }
+{
+    let Some((_, rest)) = read(tag, bytes) else {
+        return None;
+    };
+    Some(bytes.split_at(bytes.len() - rest.len()))
 }
 
 // Returns the bytes of the first block of the text, if its label is that of a certificate.
@@ -136,22 +154,4 @@ fn certificate_bytes(alloc: Global, pem: &[u8]) -> Result<Option<Vec<u8>>>
         return Ok(None);
     };
     Ok(Some(der))
-}
-
-/// Returns the public key of the X.509 certificate that the first block of a PEM text holds, under
-/// the label `CERTIFICATE` (RFC 7468 section 5). As by `unverified_key_from_certificate`, NOTHING
-/// IS VERIFIED. The text is as `public_key_from_pem` reads it.
-///
-/// A key of another algorithm is refused with `UnsupportedAlgorithm`, and any other text with
-/// `InvalidKeyFormat`.
-pub fn unverified_key_from_certificate_pem(alloc: Global, pem: &[u8]) -> Result<DecodingKey>
-    ensures ok { IfOk result (IsCertificatePemOf pem.now) }
-    ensures only { IfOk result (λ key. (k : Key) → IsCertificatePemOf pem.now k → k ≡ key) }
-    ensures err { IfErr result (λ e. IsMemory e ⊎ IsCertificatePemRefused pem.now (kind_of e)) }
-{
-    let Some(der) = certificate_bytes(alloc, pem)? else {
-        return Err(malformed());
-    };
-    let key = unverified_key_from_certificate(alloc, der.as_slice())?;
-    Ok(key)
 }

@@ -17,17 +17,6 @@ use jwt_keys::decoding_key::DecodingKey;
 use jwt_keys::jwk::Jwk;
 use std::alloc::Global;
 
-// Returns the JSON Web Key of a key that was read. A provider is asked for other keys alone.
-fn jwk_of(alloc: Global, key: &DecodingKey) -> Result<Jwk>
-    requires { IsRead key.now }
-    ensures ok { IfOk result (IsJwkOf key.now) }
-    ensures way_back { IfOk result (λ jwk. StandsFor jwk.algorithm key.now) }
-    ensures err { IfErr result IsMemory }
-{
-    let jwk = Jwk::from_decoding_key(alloc, &HmacProvider, key, None)?;
-    Ok(jwk)
-}
-
 /// Returns the JSON Web Key of the public key that the first block of a PEM text holds, without
 /// `alg` and other common members. `from_jwk` returns the key that `public_key_from_pem` returns,
 /// and `to_text` does not refuse this one with `Json`. The refusals are those of
@@ -41,5 +30,16 @@ pub fn jwk_from_pem(alloc: Global, pem: &[u8]) -> Result<Jwk>
 {
     let key = public_key_from_pem(alloc, pem)?;
     let jwk = jwk_of(alloc, &key)?;
+    Ok(jwk)
+}
+
+// Returns the JSON Web Key of a key that was read. A provider is asked for other keys alone.
+fn jwk_of(alloc: Global, key: &DecodingKey) -> Result<Jwk>
+    requires { IsRead key.now }
+    ensures ok { IfOk result (IsJwkOf key.now) }
+    ensures way_back { IfOk result (λ jwk. StandsFor jwk.algorithm key.now) }
+    ensures err { IfErr result IsMemory }
+{
+    let jwk = Jwk::from_decoding_key(alloc, &HmacProvider, key, None)?;
     Ok(jwk)
 }

@@ -14,29 +14,6 @@ use jwt_base::errors::Result;
 use jwt_keys::decoding_key::DecodingKey;
 use std::alloc::Global;
 
-// Returns whether the block has this label.
-fn is_labelled(label: &[u8], block: &[u8]) -> bool
-    ensures { IsTrue result ↔ IsLabelled label.now block.now }
-{
-    let Some(rest) = after(label, block) else {
-        return false;
-    };
-    let Some(_) = after(b"-----", rest) else {
-        return false;
-    };
-    true
-}
-
-// Returns whether the block is labelled as a private key.
-fn names_private(block: &[u8]) -> bool
-    ensures { IsTrue result ↔ NamesPrivate block.now }
-{
-    is_labelled(b"PRIVATE KEY", block)
-        || is_labelled(b"ENCRYPTED PRIVATE KEY", block)
-        || is_labelled(b"RSA PRIVATE KEY", block)
-        || is_labelled(b"EC PRIVATE KEY", block)
-}
-
 // Returns the key of a SubjectPublicKeyInfo.
 pub(crate) fn info_key(alloc: Global, der: &[u8]) -> Result<DecodingKey>
     ensures ok { IfOk result (IsInfoOf der.now) }
@@ -47,26 +24,6 @@ pub(crate) fn info_key(alloc: Global, der: &[u8]) -> Result<DecodingKey>
     };
     let key = public_key_from_der(alloc, der)?;
     Ok(key)
-}
-
-// Returns the key of the block whose text after `-----BEGIN ` this is.
-fn key_of_block(alloc: Global, block: &[u8]) -> Result<DecodingKey>
-    ensures ok { IfOk result (λ key. (der : List ℕ) × IsBlockOf block.now der key) }
-    ensures err { IfErr result (λ e. IsMemory e ⊎ IsBlockRefused block.now (kind_of e)) }
-{
-    if let Some(der) = block_bytes(alloc, b"PUBLIC KEY", block)? {
-        let key = info_key(alloc, der.as_slice())?;
-        return Ok(key);
-    }
-    if let Some(der) = block_bytes(alloc, b"RSA PUBLIC KEY", block)? {
-        let key = rsa_key(alloc, der.as_slice())?;
-        return Ok(key);
-    }
-    if names_private(block) {
-        let error = private_key(alloc)?;
-        return Err(error);
-    }
-    Err(malformed())
 }
 
 /// Returns the public key that the first block of a PEM text holds (RFC 7468 section 3, in its
@@ -91,4 +48,47 @@ pub fn public_key_from_pem(alloc: Global, pem: &[u8]) -> Result<DecodingKey>
     };
     let key = key_of_block(alloc, block)?;
     Ok(key)
+}
+
+// Returns the key of the block whose text after `-----BEGIN ` this is.
+fn key_of_block(alloc: Global, block: &[u8]) -> Result<DecodingKey>
+    ensures ok { IfOk result (λ key. (der : List ℕ) × IsBlockOf block.now der key) }
+    ensures err { IfErr result (λ e. IsMemory e ⊎ IsBlockRefused block.now (kind_of e)) }
+{
+    if let Some(der) = block_bytes(alloc, b"PUBLIC KEY", block)? {
+        let key = info_key(alloc, der.as_slice())?;
+        return Ok(key);
+    }
+    if let Some(der) = block_bytes(alloc, b"RSA PUBLIC KEY", block)? {
+        let key = rsa_key(alloc, der.as_slice())?;
+        return Ok(key);
+    }
+    if names_private(block) {
+        let error = private_key(alloc)?;
+        return Err(error);
+    }
+    Err(malformed())
+}
+
+// Returns whether the block is labelled as a private key.
+fn names_private(block: &[u8]) -> bool
+    ensures { IsTrue result ↔ NamesPrivate block.now }
+{
+    is_labelled(b"PRIVATE KEY", block)
+        || is_labelled(b"ENCRYPTED PRIVATE KEY", block)
+        || is_labelled(b"RSA PRIVATE KEY", block)
+        || is_labelled(b"EC PRIVATE KEY", block)
+}
+
+// Returns whether the block has this label.
+fn is_labelled(label: &[u8], block: &[u8]) -> bool
+    ensures { IsTrue result ↔ IsLabelled label.now block.now }
+{
+    let Some(rest) = after(label, block) else {
+        return false;
+    };
+    let Some(_) = after(b"-----", rest) else {
+        return false;
+    };
+    true
 }

@@ -35,18 +35,6 @@ pub(crate) fn private_key(alloc: Global) -> Result<Error>
     Ok(new_error(ErrorKind::Provider(text)))
 }
 
-// Returns the error that refuses bytes that are no public key.
-fn refusal(alloc: Global, der: &[u8]) -> Result<Error>
-    ensures ok { IfOk result (λ e. IsPrivateOrMalformed der.now (kind_of e)) }
-    ensures err { IfErr result IsMemory }
-{
-    if is_private(der) {
-        let error = private_key(alloc)?;
-        return Ok(error);
-    }
-    Ok(malformed())
-}
-
 // Returns the key of an RSAPublicKey.
 pub(crate) fn rsa_key(alloc: Global, der: &[u8]) -> Result<DecodingKey>
     ensures ok { IfOk result (IsRsaKey der.now) }
@@ -58,61 +46,6 @@ pub(crate) fn rsa_key(alloc: Global, der: &[u8]) -> Result<DecodingKey>
     };
     let key = DecodingKey::from_rsa_raw_components(alloc, modulus, exponent)?;
     Ok(key)
-}
-
-// Returns the key of an RSAPublicKey, and refuses a private key as such.
-fn bare_key(alloc: Global, der: &[u8]) -> Result<DecodingKey>
-    ensures ok { IfOk result (IsRsaKey der.now) }
-    ensures err { IfErr result (λ e. IsMemory e
-        ⊎ (((k : Key) → ¬ IsRsaKey der.now k) × IsPrivateOrMalformed der.now (kind_of e))) }
-{
-    let Some(_) = read_rsa(der) else {
-        let error = refusal(alloc, der)?;
-        return Err(error);
-    };
-    let key = rsa_key(alloc, der)?;
-    Ok(key)
-}
-
-// Returns the key of an uncompressed point, whose coordinates have this many octets.
-fn point_key(alloc: Global, size: usize, octets: &[u8]) -> Result<DecodingKey>
-    requires { size ≤ 48 }
-    ensures ok { IfOk result (IsPoint size octets.now) }
-    ensures err { IfErr result (RefusesAs kind.InvalidKeyFormat
-        ((k : Key) → ¬ IsPoint size octets.now k)) }
-{
-    if octets.len() != 1 + size + size || octets[0] != 4 {
-        return Err(malformed());
-    }
-    let key = DecodingKey::from_ec_der(alloc, octets)?;
-    Ok(key)
-}
-
-// Returns the key of Ed25519 of these octets.
-fn edwards_key(alloc: Global, octets: &[u8]) -> Result<DecodingKey>
-    ensures ok { IfOk result (IsEdwardsKey octets.now) }
-    ensures err { IfErr result (RefusesAs kind.InvalidKeyFormat
-        ((k : Key) → ¬ IsEdwardsKey octets.now k)) }
-{
-    if octets.len() != 32 {
-        return Err(malformed());
-    }
-    let key = DecodingKey::from_ed_der(alloc, octets)?;
-    Ok(key)
-}
-
-// Returns the key of this algorithm that the octets are.
-fn key_of(alloc: Global, scheme: Scheme, octets: &[u8]) -> Result<DecodingKey>
-    ensures ok { IfOk result (IsKeyOf scheme octets.now) }
-    ensures err { IfErr result (RefusesAs kind.InvalidKeyFormat
-        ((k : Key) → ¬ IsKeyOf scheme octets.now k)) }
-{
-    match scheme {
-        Scheme::Rsa => rsa_key(alloc, octets),
-        Scheme::P256 => point_key(alloc, 32, octets),
-        Scheme::P384 => point_key(alloc, 48, octets),
-        Scheme::Ed25519 => edwards_key(alloc, octets),
-    }
 }
 
 /// Returns the public key that the bytes are, in DER (ITU-T X.690 section 10): a
@@ -159,4 +92,71 @@ pub fn rsa_components_from_der(der: &[u8]) -> Option<(&[u8], &[u8])>
         return None;
     };
     Some((modulus, exponent))
+}
+
+// Returns the key of an RSAPublicKey, and refuses a private key as such.
+fn bare_key(alloc: Global, der: &[u8]) -> Result<DecodingKey>
+    ensures ok { IfOk result (IsRsaKey der.now) }
+    ensures err { IfErr result (λ e. IsMemory e
+        ⊎ (((k : Key) → ¬ IsRsaKey der.now k) × IsPrivateOrMalformed der.now (kind_of e))) }
+{
+    let Some(_) = read_rsa(der) else {
+        let error = refusal(alloc, der)?;
+        return Err(error);
+    };
+    let key = rsa_key(alloc, der)?;
+    Ok(key)
+}
+
+// Returns the error that refuses bytes that are no public key.
+fn refusal(alloc: Global, der: &[u8]) -> Result<Error>
+    ensures ok { IfOk result (λ e. IsPrivateOrMalformed der.now (kind_of e)) }
+    ensures err { IfErr result IsMemory }
+{
+    if is_private(der) {
+        let error = private_key(alloc)?;
+        return Ok(error);
+    }
+    Ok(malformed())
+}
+
+// Returns the key of this algorithm that the octets are.
+fn key_of(alloc: Global, scheme: Scheme, octets: &[u8]) -> Result<DecodingKey>
+    ensures ok { IfOk result (IsKeyOf scheme octets.now) }
+    ensures err { IfErr result (RefusesAs kind.InvalidKeyFormat
+        ((k : Key) → ¬ IsKeyOf scheme octets.now k)) }
+{
+    match scheme {
+        Scheme::Rsa => rsa_key(alloc, octets),
+        Scheme::P256 => point_key(alloc, 32, octets),
+        Scheme::P384 => point_key(alloc, 48, octets),
+        Scheme::Ed25519 => edwards_key(alloc, octets),
+    }
+}
+
+// Returns the key of an uncompressed point, whose coordinates have this many octets.
+fn point_key(alloc: Global, size: usize, octets: &[u8]) -> Result<DecodingKey>
+    requires { size ≤ 48 }
+    ensures ok { IfOk result (IsPoint size octets.now) }
+    ensures err { IfErr result (RefusesAs kind.InvalidKeyFormat
+        ((k : Key) → ¬ IsPoint size octets.now k)) }
+{
+    if octets.len() != 1 + size + size || octets[0] != 4 {
+        return Err(malformed());
+    }
+    let key = DecodingKey::from_ec_der(alloc, octets)?;
+    Ok(key)
+}
+
+// Returns the key of Ed25519 of these octets.
+fn edwards_key(alloc: Global, octets: &[u8]) -> Result<DecodingKey>
+    ensures ok { IfOk result (IsEdwardsKey octets.now) }
+    ensures err { IfErr result (RefusesAs kind.InvalidKeyFormat
+        ((k : Key) → ¬ IsEdwardsKey octets.now k)) }
+{
+    if octets.len() != 32 {
+        return Err(malformed());
+    }
+    let key = DecodingKey::from_ed_der(alloc, octets)?;
+    Ok(key)
 }

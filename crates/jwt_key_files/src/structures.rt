@@ -7,44 +7,6 @@ ghost use Rattle.jwt_key_files.specs.PublicKeys.{IsPrivateKey};
 
 use crate::element::{next, read, read_all};
 
-// Returns the octets of the positive number that an INTEGER with this content is.
-fn unsigned(content: &[u8]) -> Option<&[u8]>
-    ensures { MatchOption result ((n : List ℕ) → IsPositive n → content.now ≢ signed n)
-        (λ n. IsPositive n.now × (content.now ≡ signed n.now)) }
-{
-    let Some((first, rest)) = next(content) else {
-        return None;
-    };
-    if first >= 0x80 {
-        return None;
-    }
-    if first > 0 {
-        return Some(content);
-    }
-    let Some((second, _)) = next(rest) else {
-        return None;
-    };
-    if second < 0x80 {
-        return None;
-    }
-    Some(rest)
-}
-
-// Returns the octets of the positive INTEGER that the bytes begin with, and the bytes after it.
-fn read_integer(bytes: &[u8]) -> Option<(&[u8], &[u8])>
-    ensures { MatchOption result ((n : List ℕ) (rest : List ℕ) → IsPositive n
-        → bytes.now ≢ integer n ++ rest)
-        (λ p. IsPositive p.0.now × (bytes.now ≡ integer p.0.now ++ p.1.now)) }
-{
-    let Some((content, rest)) = read(2, bytes) else {
-        return None;
-    };
-    let Some(octets) = unsigned(content) else {
-        return None;
-    };
-    Some((octets, rest))
-}
-
 // Returns the modulus and the exponent of an RSAPublicKey.
 pub(crate) fn read_rsa(der: &[u8]) -> Option<(&[u8], &[u8])>
     ensures { MatchOption result
@@ -111,4 +73,42 @@ pub(crate) fn is_private(der: &[u8]) -> bool
         return false;
     }
     true
+}
+
+// Returns the octets of the positive INTEGER that the bytes begin with, and the bytes after it.
+fn read_integer(bytes: &[u8]) -> Option<(&[u8], &[u8])>
+    ensures { MatchOption result ((n : List ℕ) (rest : List ℕ) → IsPositive n
+        → bytes.now ≢ integer n ++ rest)
+        (λ p. IsPositive p.0.now × (bytes.now ≡ integer p.0.now ++ p.1.now)) }
+{
+    let Some((content, rest)) = read(2, bytes) else {
+        return None;
+    };
+    let Some(octets) = unsigned(content) else {
+        return None;
+    };
+    Some((octets, rest))
+}
+
+// Returns the octets of the positive number that an INTEGER with this content is.
+fn unsigned(content: &[u8]) -> Option<&[u8]>
+    ensures { MatchOption result ((n : List ℕ) → IsPositive n → content.now ≢ signed n)
+        (λ n. IsPositive n.now × (content.now ≡ signed n.now)) }
+{
+    let Some((first, rest)) = next(content) else {
+        return None;
+    };
+    if first >= 0x80 {
+        return None;
+    }
+    if first > 0 {
+        return Some(content);
+    }
+    let Some((second, _)) = next(rest) else {
+        return None;
+    };
+    if second < 0x80 {
+        return None;
+    }
+    Some(rest)
 }

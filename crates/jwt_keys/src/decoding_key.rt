@@ -107,32 +107,6 @@ impl Model for DecodingKey {
 impl DecodingKey {
     ghost use Rattle.jwt_keys.specs.KeyOf.{content_of};
 
-    fn plain(family: AlgorithmFamily, bytes: Vec<u8>) -> DecodingKey
-        ensures { result ≡ Plain family bytes.items }
-    {
-        DecodingKey {
-            family,
-            kind: DecodingKeyKind::SecretOrDer(bytes),
-        }
-    }
-
-    fn copied(alloc: Global, family: AlgorithmFamily, bytes: &[u8]) -> Result<DecodingKey>
-        ensures ok { IfOk result (λ k. k ≡ Plain family bytes.now) }
-        ensures err { IfErr result IsMemory }
-    {
-        let bytes = bytes.to_vec(alloc)?;
-        Ok(DecodingKey::plain(family, bytes))
-    }
-
-    fn components(n: Vec<u8>, e: Vec<u8>) -> DecodingKey
-        ensures { result ≡ Components n.items e.items }
-    {
-        DecodingKey {
-            family: AlgorithmFamily::Rsa,
-            kind: DecodingKeyKind::RsaModulusExponent { n, e },
-        }
-    }
-
     /// Returns the HMAC key of these bytes. The only refusal is `OutOfMemory`.
     pub fn from_secret(alloc: Global, secret: &[u8]) -> Result<DecodingKey>
         ensures ok { IfOk result (λ k. k ≡ Plain family.Hmac secret.now) }
@@ -273,15 +247,6 @@ impl DecodingKey {
         }
     }
 
-    fn from_secret_part(alloc: Global, secret: &str) -> Result<DecodingKey>
-        ensures ok { IfOk result (IsHmacOfPart secret.now) }
-        ensures err { IfErr result (RefusesAs kind.Base64
-            ((k : Key) → ¬ IsHmacOfPart secret.now k)) }
-    {
-        let bytes = part_bytes(alloc, secret.as_bytes())?;
-        Ok(DecodingKey::plain(AlgorithmFamily::Hmac, bytes))
-    }
-
     /// Returns the family of the algorithms that the key is for.
     pub fn family(&self) -> AlgorithmFamily
         ensures { result ≡ key_family self.now }
@@ -327,6 +292,41 @@ impl DecodingKey {
             family: self.family,
             kind: self.kind.clone(alloc)?,
         })
+    }
+
+    fn plain(family: AlgorithmFamily, bytes: Vec<u8>) -> DecodingKey
+        ensures { result ≡ Plain family bytes.items }
+    {
+        DecodingKey {
+            family,
+            kind: DecodingKeyKind::SecretOrDer(bytes),
+        }
+    }
+
+    fn copied(alloc: Global, family: AlgorithmFamily, bytes: &[u8]) -> Result<DecodingKey>
+        ensures ok { IfOk result (λ k. k ≡ Plain family bytes.now) }
+        ensures err { IfErr result IsMemory }
+    {
+        let bytes = bytes.to_vec(alloc)?;
+        Ok(DecodingKey::plain(family, bytes))
+    }
+
+    fn components(n: Vec<u8>, e: Vec<u8>) -> DecodingKey
+        ensures { result ≡ Components n.items e.items }
+    {
+        DecodingKey {
+            family: AlgorithmFamily::Rsa,
+            kind: DecodingKeyKind::RsaModulusExponent { n, e },
+        }
+    }
+
+    fn from_secret_part(alloc: Global, secret: &str) -> Result<DecodingKey>
+        ensures ok { IfOk result (IsHmacOfPart secret.now) }
+        ensures err { IfErr result (RefusesAs kind.Base64
+            ((k : Key) → ¬ IsHmacOfPart secret.now k)) }
+    {
+        let bytes = part_bytes(alloc, secret.as_bytes())?;
+        Ok(DecodingKey::plain(AlgorithmFamily::Hmac, bytes))
     }
 }
 

@@ -30,16 +30,6 @@ impl Model for EncodingKey {
 }
 
 impl EncodingKey {
-    fn new(alloc: Global, family: AlgorithmFamily, bytes: &[u8]) -> Result<EncodingKey>
-        ensures ok { IfOk result (λ k. k ≡ record { family = family; bytes = bytes.now }) }
-        ensures err { IfErr result IsMemory }
-    {
-        Ok(EncodingKey {
-            family,
-            bytes: bytes.to_vec(alloc)?,
-        })
-    }
-
     /// Returns the HMAC key of these bytes. The only refusal is `OutOfMemory`.
     pub fn from_secret(alloc: Global, secret: &[u8]) -> Result<EncodingKey>
         ensures ok { IfOk result (λ k. k ≡ record { family = family.Hmac; bytes = secret.now }) }
@@ -129,6 +119,16 @@ impl EncodingKey {
         ensures err { IfErr result IsMemory }
     {
         EncodingKey::new(alloc, self.family, self.as_bytes())
+    }
+
+    fn new(alloc: Global, family: AlgorithmFamily, bytes: &[u8]) -> Result<EncodingKey>
+        ensures ok { IfOk result (λ k. k ≡ record { family = family; bytes = bytes.now }) }
+        ensures err { IfErr result IsMemory }
+    {
+        Ok(EncodingKey {
+            family,
+            bytes: bytes.to_vec(alloc)?,
+        })
     }
 }
 

@@ -219,41 +219,10 @@ impl Jwk {
     }
 }
 
-/// Returns whether the ids are the same. The ids of a set differ mostly in the last byte, which is
-/// compared first, without a call.
-fn is_same_id(id: &str, kid: &str) -> bool
-    ensures { result ≡ bytes_eq id.now kid.now }
-{
-    let (bytes, wanted) = (id.as_bytes(), kid.as_bytes());
-    let count = bytes.len();
-    if count != wanted.len() {
-        return false;
-    }
-    if count > 0 && bytes[count - 1] != wanted[count - 1] {
-        return false;
-    }
-    id == kid
-}
-
 impl CloneIn for Jwk {
     fn clone_in(&self, alloc: Global) -> Result<Jwk> {
         self.clone(alloc)
     }
-}
-
-// Returns the parameters among the members that are not common to all keys.
-fn read_parameters(alloc: Global, value: &Value) -> Result<AlgorithmParameters>
-    ensures ok { IfOk result (λ a. own_parameters_from (view value.now) ≡ Some a) }
-    ensures err { IfErr result (RefusesAs kind.Json (own_parameters_from (view value.now) ≡ None)) }
-{
-    let Some(members) = value.as_object() else {
-        return Err(new_error(ErrorKind::Json));
-    };
-    if let Some(named) = AlgorithmParameters::named(alloc, value)? {
-        return Ok(named);
-    }
-    let fields = FreeMembers::among(alloc, members)?;
-    Ok(AlgorithmParameters::Other(OtherKeyParameters { fields }))
 }
 
 /// Compares the parameters. Any two floats count as equal.
@@ -302,4 +271,35 @@ impl Hash for Jwk {
         self.common.hash(state);
         self.algorithm.hash(state);
     }
+}
+
+/// Returns whether the ids are the same. The ids of a set differ mostly in the last byte, which is
+/// compared first, without a call.
+fn is_same_id(id: &str, kid: &str) -> bool
+    ensures { result ≡ bytes_eq id.now kid.now }
+{
+    let (bytes, wanted) = (id.as_bytes(), kid.as_bytes());
+    let count = bytes.len();
+    if count != wanted.len() {
+        return false;
+    }
+    if count > 0 && bytes[count - 1] != wanted[count - 1] {
+        return false;
+    }
+    id == kid
+}
+
+// Returns the parameters among the members that are not common to all keys.
+fn read_parameters(alloc: Global, value: &Value) -> Result<AlgorithmParameters>
+    ensures ok { IfOk result (λ a. own_parameters_from (view value.now) ≡ Some a) }
+    ensures err { IfErr result (RefusesAs kind.Json (own_parameters_from (view value.now) ≡ None)) }
+{
+    let Some(members) = value.as_object() else {
+        return Err(new_error(ErrorKind::Json));
+    };
+    if let Some(named) = AlgorithmParameters::named(alloc, value)? {
+        return Ok(named);
+    }
+    let fields = FreeMembers::among(alloc, members)?;
+    Ok(AlgorithmParameters::Other(OtherKeyParameters { fields }))
 }

@@ -129,51 +129,6 @@ impl JwkSet {
     }
 }
 
-fn first_of<'k>(keys: &'k [Jwk], kid: &str) -> Option<&'k Jwk>
-    ensures { option_map (λ k. k.now) result ≡ find (has_id kid.now) keys.now }
-{
-    for key in keys {
-        if key.has_id(kid) {
-            return Some(key);
-        }
-    }
-    None
-}
-
-fn clone_keys(alloc: Global, keys: &[Jwk]) -> Result<Vec<Jwk>>
-    ensures ok { IfOk result (λ copy. copy.items ≡ keys.now) }
-    ensures err { IfErr result IsMemory }
-{
-    let mut copy = Vec::new(alloc);
-    for key in keys {
-        copy.push(key.clone(alloc)?)?;
-    }
-    Ok(copy)
-}
-
-fn read_keys(alloc: Global, items: &[Value]) -> Result<Vec<Jwk>>
-    ensures ok { IfOk result (λ ks. ReadsKeys (items_view items.now) ks.items) }
-    ensures err { IfErr result (RefusesAs kind.Json
-        ((ks : List Jwk) → ¬ ReadsKeys (items_view items.now) ks)) }
-{
-    let mut keys = Vec::new(alloc);
-    for item in items {
-        keys.push(Jwk::from_value(alloc, item)?)?;
-    }
-    Ok(keys)
-}
-
-fn write_keys(alloc: Global, keys: &[Jwk]) -> Result<Vec<Value>>
-    ensures ok { IfOk result (λ vs. key_values keys.now ≡ Some (map view vs.items)) }
-    ensures err { IfErr result (RefusesAs kind.Json (key_values keys.now ≡ None)) }
-{
-    let mut values = Vec::new(alloc);
-    for key in keys {
-        values.push(key.to_value(alloc)?)?;
-    }
-    Ok(values)
-}
-
 /// Compares the keys, in order. Any two floats count as equal.
 impl PartialEq for JwkSet {
     ghost use Rattle.std.specs.Cmp.{partial_equiv_from_equiv};
@@ -219,4 +174,49 @@ impl Hash for JwkSet {
     fn hash<H: Hasher>(&self, state: &mut H) {
         self.keys.hash(state);
     }
+}
+
+fn first_of<'k>(keys: &'k [Jwk], kid: &str) -> Option<&'k Jwk>
+    ensures { option_map (λ k. k.now) result ≡ find (has_id kid.now) keys.now }
+{
+    for key in keys {
+        if key.has_id(kid) {
+            return Some(key);
+        }
+    }
+    None
+}
+
+fn clone_keys(alloc: Global, keys: &[Jwk]) -> Result<Vec<Jwk>>
+    ensures ok { IfOk result (λ copy. copy.items ≡ keys.now) }
+    ensures err { IfErr result IsMemory }
+{
+    let mut copy = Vec::new(alloc);
+    for key in keys {
+        copy.push(key.clone(alloc)?)?;
+    }
+    Ok(copy)
+}
+
+fn read_keys(alloc: Global, items: &[Value]) -> Result<Vec<Jwk>>
+    ensures ok { IfOk result (λ ks. ReadsKeys (items_view items.now) ks.items) }
+    ensures err { IfErr result (RefusesAs kind.Json
+        ((ks : List Jwk) → ¬ ReadsKeys (items_view items.now) ks)) }
+{
+    let mut keys = Vec::new(alloc);
+    for item in items {
+        keys.push(Jwk::from_value(alloc, item)?)?;
+    }
+    Ok(keys)
+}
+
+fn write_keys(alloc: Global, keys: &[Jwk]) -> Result<Vec<Value>>
+    ensures ok { IfOk result (λ vs. key_values keys.now ≡ Some (map view vs.items)) }
+    ensures err { IfErr result (RefusesAs kind.Json (key_values keys.now ≡ None)) }
+{
+    let mut values = Vec::new(alloc);
+    for key in keys {
+        values.push(key.to_value(alloc)?)?;
+    }
+    Ok(values)
 }

@@ -149,96 +149,6 @@ pub fn common_names() -> [&'static str; 8]
     ]
 }
 
-fn optional_use(alloc: Global, value: &Value) -> Result<Option<PublicKeyUse>>
-    ensures ok { IfOk result (λ u. optional use_from (get (codes "use") (view value.now))
-        ≡ Some u) }
-    ensures err { IfErr result
-        (RefusesAs kind.Json (optional use_from (get (codes "use") (view value.now)) ≡ None)) }
-{
-    match present(value, "use") {
-        None => Ok(None),
-        Some(member) => Ok(Some(PublicKeyUse::from_value(alloc, member)?)),
-    }
-}
-
-fn optional_operations(alloc: Global, value: &Value) -> Result<Option<KeyOperationList>>
-    ensures ok { IfOk result (λ o. optional operations_from (get (codes "key_ops") (view value.now))
-        ≡ Some o) }
-    ensures err { IfErr result
-        (RefusesAs kind.Json (optional operations_from (get (codes "key_ops") (view value.now))
-        ≡ None)) }
-{
-    match present(value, "key_ops") {
-        None => Ok(None),
-        Some(member) => Ok(Some(KeyOperationList::from_value(alloc, member)?)),
-    }
-}
-
-fn optional_algorithm(value: &Value) -> Result<Option<KeyAlgorithm>>
-    ensures ok { IfOk result (λ a. optional key_algorithm_from (get (codes "alg") (view value.now))
-        ≡ Some a) }
-    ensures err { IfErr result
-        (RefusesAs kind.Json (optional key_algorithm_from (get (codes "alg") (view value.now))
-        ≡ None)) }
-{
-    match present(value, "alg") {
-        None => Ok(None),
-        Some(member) => Ok(Some(KeyAlgorithm::from_value(member)?)),
-    }
-}
-
-fn put_use(
-    alloc: Global,
-    members: &mut Map<String, Value>,
-    public_key_use: &Option<PublicKeyUse>,
-) -> Result<()>
-    ensures ok { OnOk result (members_view members.new.entries
-        ≡ put_some (codes "use") (option_map use_value public_key_use.now)
-        (members_view members.old.entries)) }
-    ensures err { IfErr result IsMemory }
-{
-    match public_key_use {
-        Some(public_key_use) => put_text(alloc, members, "use", public_key_use.as_str()),
-        None => Ok(()),
-    }
-}
-
-fn put_operations(
-    alloc: Global,
-    members: &mut Map<String, Value>,
-    operations: &Option<KeyOperationList>,
-) -> Result<()>
-    ensures ok { OnOk result (members_view members.new.entries
-        ≡ put_some (codes "key_ops") (option_map operations_value operations.now)
-        (members_view members.old.entries)) }
-    ensures err { IfErr result IsMemory }
-{
-    match operations {
-        Some(operations) => {
-            let value = operations.to_value(alloc)?;
-            serde_json::put(members, alloc, "key_ops", value)?;
-            Ok(())
-        }
-        None => Ok(()),
-    }
-}
-
-fn put_algorithm(
-    alloc: Global,
-    members: &mut Map<String, Value>,
-    algorithm: &Option<KeyAlgorithm>,
-) -> Result<()>
-    ensures ok { OnOk result (members_view members.new.entries
-        ≡ put_some (codes "alg") (option_map key_algorithm_value algorithm.now)
-        (members_view members.old.entries)) }
-    ensures err { IfErr result IsMemory }
-{
-    match algorithm {
-        Some(algorithm) => put_text(alloc, members, "alg", algorithm.name()),
-        None => Ok(()),
-    }
-}
-
 /// Has no parameters.
 impl Default for CommonParameters {
     ghost use Rattle.jwt_params.specs.Common.{no_common};
@@ -316,5 +226,95 @@ impl Hash for CommonParameters {
         self.x509_chain.hash(state);
         self.x509_sha1_fingerprint.hash(state);
         self.x509_sha256_fingerprint.hash(state);
+    }
+}
+
+fn put_algorithm(
+    alloc: Global,
+    members: &mut Map<String, Value>,
+    algorithm: &Option<KeyAlgorithm>,
+) -> Result<()>
+    ensures ok { OnOk result (members_view members.new.entries
+        ≡ put_some (codes "alg") (option_map key_algorithm_value algorithm.now)
+        (members_view members.old.entries)) }
+    ensures err { IfErr result IsMemory }
+{
+    match algorithm {
+        Some(algorithm) => put_text(alloc, members, "alg", algorithm.name()),
+        None => Ok(()),
+    }
+}
+
+fn put_operations(
+    alloc: Global,
+    members: &mut Map<String, Value>,
+    operations: &Option<KeyOperationList>,
+) -> Result<()>
+    ensures ok { OnOk result (members_view members.new.entries
+        ≡ put_some (codes "key_ops") (option_map operations_value operations.now)
+        (members_view members.old.entries)) }
+    ensures err { IfErr result IsMemory }
+{
+    match operations {
+        Some(operations) => {
+            let value = operations.to_value(alloc)?;
+            serde_json::put(members, alloc, "key_ops", value)?;
+            Ok(())
+        }
+        None => Ok(()),
+    }
+}
+
+fn put_use(
+    alloc: Global,
+    members: &mut Map<String, Value>,
+    public_key_use: &Option<PublicKeyUse>,
+) -> Result<()>
+    ensures ok { OnOk result (members_view members.new.entries
+        ≡ put_some (codes "use") (option_map use_value public_key_use.now)
+        (members_view members.old.entries)) }
+    ensures err { IfErr result IsMemory }
+{
+    match public_key_use {
+        Some(public_key_use) => put_text(alloc, members, "use", public_key_use.as_str()),
+        None => Ok(()),
+    }
+}
+
+fn optional_use(alloc: Global, value: &Value) -> Result<Option<PublicKeyUse>>
+    ensures ok { IfOk result (λ u. optional use_from (get (codes "use") (view value.now))
+        ≡ Some u) }
+    ensures err { IfErr result
+        (RefusesAs kind.Json (optional use_from (get (codes "use") (view value.now)) ≡ None)) }
+{
+    match present(value, "use") {
+        None => Ok(None),
+        Some(member) => Ok(Some(PublicKeyUse::from_value(alloc, member)?)),
+    }
+}
+
+fn optional_operations(alloc: Global, value: &Value) -> Result<Option<KeyOperationList>>
+    ensures ok { IfOk result (λ o. optional operations_from (get (codes "key_ops") (view value.now))
+        ≡ Some o) }
+    ensures err { IfErr result
+        (RefusesAs kind.Json (optional operations_from (get (codes "key_ops") (view value.now))
+        ≡ None)) }
+{
+    match present(value, "key_ops") {
+        None => Ok(None),
+        Some(member) => Ok(Some(KeyOperationList::from_value(alloc, member)?)),
+    }
+}
+
+fn optional_algorithm(value: &Value) -> Result<Option<KeyAlgorithm>>
+    ensures ok { IfOk result (λ a. optional key_algorithm_from (get (codes "alg") (view value.now))
+        ≡ Some a) }
+    ensures err { IfErr result
+        (RefusesAs kind.Json (optional key_algorithm_from (get (codes "alg") (view value.now))
+        ≡ None)) }
+{
+    match present(value, "alg") {
+        None => Ok(None),
+        Some(member) => Ok(Some(KeyAlgorithm::from_value(member)?)),
     }
 }

@@ -51,15 +51,6 @@ impl EllipticCurveKeyType {
     }
 }
 
-fn elliptic_type_of_name(name: &str) -> Option<EllipticCurveKeyType>
-    ensures { result ≡ types.elliptic_type_named name.now }
-{
-    match name {
-        "EC" => Some(EllipticCurveKeyType::EC),
-        _ => None,
-    }
-}
-
 impl Default for EllipticCurveKeyType {
     ghost use Rattle.jwt_params.specs.declared.key_types.EllipticCurveKeyType.TheVariants.{EC};
 
@@ -110,15 +101,6 @@ impl RSAKeyType {
     }
 }
 
-fn rsa_type_of_name(name: &str) -> Option<RSAKeyType>
-    ensures { result ≡ types.rsa_type_named name.now }
-{
-    match name {
-        "RSA" => Some(RSAKeyType::RSA),
-        _ => None,
-    }
-}
-
 impl Default for RSAKeyType {
     ghost use Rattle.jwt_params.specs.declared.key_types.RSAKeyType.TheVariants.{RSA};
 
@@ -166,15 +148,6 @@ impl OctetKeyType {
             Some(key_type) => Ok(key_type),
             None => Err(new_error(ErrorKind::Json)),
         }
-    }
-}
-
-fn octet_type_of_name(name: &str) -> Option<OctetKeyType>
-    ensures { result ≡ types.octet_type_named name.now }
-{
-    match name {
-        "oct" => Some(OctetKeyType::Octet),
-        _ => None,
     }
 }
 
@@ -229,15 +202,6 @@ impl OctetKeyPairType {
     }
 }
 
-fn octet_pair_type_of_name(name: &str) -> Option<OctetKeyPairType>
-    ensures { result ≡ types.octet_pair_type_named name.now }
-{
-    match name {
-        "OKP" => Some(OctetKeyPairType::OctetKeyPair),
-        _ => None,
-    }
-}
-
 impl Default for OctetKeyPairType {
     ghost use Rattle.jwt_params.specs.declared.key_types.OctetKeyPairType.TheVariants.{OctetKeyPair};
 
@@ -245,5 +209,41 @@ impl Default for OctetKeyPairType {
 
     fn default() -> OctetKeyPairType {
         OctetKeyPairType::OctetKeyPair
+    }
+}
+
+fn elliptic_type_of_name(name: &str) -> Option<EllipticCurveKeyType>
+    ensures { result ≡ types.elliptic_type_named name.now }
+{
+    match name {
+        "EC" => Some(EllipticCurveKeyType::EC),
+        _ => None,
+    }
+}
+
+fn rsa_type_of_name(name: &str) -> Option<RSAKeyType>
+    ensures { result ≡ types.rsa_type_named name.now }
+{
+    match name {
+        "RSA" => Some(RSAKeyType::RSA),
+        _ => None,
+    }
+}
+
+fn octet_type_of_name(name: &str) -> Option<OctetKeyType>
+    ensures { result ≡ types.octet_type_named name.now }
+{
+    match name {
+        "oct" => Some(OctetKeyType::Octet),
+        _ => None,
+    }
+}
+
+fn octet_pair_type_of_name(name: &str) -> Option<OctetKeyPairType>
+    ensures { result ≡ types.octet_pair_type_named name.now }
+{
+    match name {
+        "OKP" => Some(OctetKeyPairType::OctetKeyPair),
+        _ => None,
     }
 }

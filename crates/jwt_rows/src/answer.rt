@@ -26,22 +26,6 @@ pub fn pair(alloc: Global, first: (&str, Value), second: (&str, Value)) -> Answe
     Ok(Value::Object(members))
 }
 
-fn text(alloc: Global, text: &str) -> Answer {
-    Ok(Value::String(String::from_str(alloc, text)?))
-}
-
-// Returns the string that a kind holds.
-fn held_text(kind: &ErrorKind) -> Option<&str> {
-    match kind {
-        ErrorKind::MissingRequiredClaim(text) => Some(text.as_str()),
-        ErrorKind::InvalidClaimFormat(text) => Some(text.as_str()),
-        ErrorKind::InvalidRsaKey(text) => Some(text.as_str()),
-        ErrorKind::Signing(text) => Some(text.as_str()),
-        ErrorKind::Provider(text) => Some(text.as_str()),
-        _ => None,
-    }
-}
-
 /// Returns the name of a kind, and after it in parentheses the string that it holds.
 pub fn kind_text(alloc: Global, kind: &ErrorKind) -> Result<String, Fault> {
     let name = kind.name();
@@ -149,4 +133,20 @@ pub fn add_text(
     let string = text(alloc, given)?;
     put(members, alloc, name, string)?;
     Ok(())
+}
+
+// Returns the string that a kind holds.
+fn held_text(kind: &ErrorKind) -> Option<&str> {
+    match kind {
+        ErrorKind::MissingRequiredClaim(text) => Some(text.as_str()),
+        ErrorKind::InvalidClaimFormat(text) => Some(text.as_str()),
+        ErrorKind::InvalidRsaKey(text) => Some(text.as_str()),
+        ErrorKind::Signing(text) => Some(text.as_str()),
+        ErrorKind::Provider(text) => Some(text.as_str()),
+        _ => None,
+    }
+}
+
+fn text(alloc: Global, text: &str) -> Answer {
+    Ok(Value::String(String::from_str(alloc, text)?))
 }

@@ -100,11 +100,6 @@ pub struct WithSet {
     pub options: Box<Validation>,
 }
 
-fn key_set(row: Row<'_>) -> Result<Box<JwkSet>, Fault> {
-    let set = JwkSet::from_value(row.alloc(), row.value("set")?)?;
-    Ok(Box::new(row.alloc(), set)?)
-}
-
 /// Returns the token, the key set and the options.
 pub fn with_set(row: Row<'_>, names: &[&str]) -> Result<Box<WithSet>, Fault> {
     let token = bytes_among(row, names, "token")?;
@@ -143,11 +138,6 @@ pub struct Elsewhere {
 
 const MALFORMED: Fault = Fault::Member("signature");
 
-// Returns the bytes that a member describes.
-fn bytes_at(alloc: Global, described: &Value, name: &str) -> Result<Vec<u8>, Fault> {
-    bytes_of(alloc, described.get(name).ok_or(MALFORMED)?)
-}
-
 /// Returns the signature that an object describes.
 pub fn elsewhere_of(alloc: Global, described: &Value) -> Result<Box<Elsewhere>, Fault> {
     let algorithm = algorithm_of(described.get("algorithm").ok_or(MALFORMED)?)?;
@@ -165,4 +155,14 @@ pub fn elsewhere_of(alloc: Global, described: &Value) -> Result<Box<Elsewhere>, 
 pub fn made<T: Drop>(answer: Outcome<T>) -> Outcome<()> {
     let _made = answer?;
     Ok(())
+}
+
+fn key_set(row: Row<'_>) -> Result<Box<JwkSet>, Fault> {
+    let set = JwkSet::from_value(row.alloc(), row.value("set")?)?;
+    Ok(Box::new(row.alloc(), set)?)
+}
+
+// Returns the bytes that a member describes.
+fn bytes_at(alloc: Global, described: &Value, name: &str) -> Result<Vec<u8>, Fault> {
+    bytes_of(alloc, described.get(name).ok_or(MALFORMED)?)
 }

@@ -30,10 +30,6 @@ pub fn answer<P: CryptoProvider>(
     Ok(Some(answer?))
 }
 
-fn jwk_answer(alloc: Global, jwk: &Jwk) -> Answer {
-    accepted(alloc, jwk.to_value(alloc)?)
-}
-
 /// Returns the result of a call that returns a JSON Web Key.
 pub fn of_jwk(alloc: Global, answer: errors::Result<Jwk>) -> Answer {
     match answer {
@@ -50,14 +46,6 @@ fn of_encoding_key<P: CryptoProvider>(row: Row<'_>, trial: &mut Trial, provider:
     of_jwk(row.alloc(), answer)
 }
 
-// Returns the algorithm that the row names, if it names one.
-fn optional_algorithm(row: Row<'_>) -> Result<Option<Algorithm>, Fault> {
-    match row.optional("algorithm") {
-        Some(name) => Ok(Some(algorithm_of(name)?)),
-        None => Ok(None),
-    }
-}
-
 fn of_decoding_key<P: CryptoProvider>(row: Row<'_>, trial: &mut Trial, provider: &P) -> Answer {
     row.takes(&["key", "algorithm", "provider"])?;
     let algorithm = optional_algorithm(row)?;
@@ -66,4 +54,16 @@ fn of_decoding_key<P: CryptoProvider>(row: Row<'_>, trial: &mut Trial, provider:
     let answer = Jwk::from_decoding_key(row.alloc(), provider, &key, algorithm);
     trial.end();
     of_jwk(row.alloc(), answer)
+}
+
+// Returns the algorithm that the row names, if it names one.
+fn optional_algorithm(row: Row<'_>) -> Result<Option<Algorithm>, Fault> {
+    match row.optional("algorithm") {
+        Some(name) => Ok(Some(algorithm_of(name)?)),
+        None => Ok(None),
+    }
+}
+
+fn jwk_answer(alloc: Global, jwk: &Jwk) -> Answer {
+    accepted(alloc, jwk.to_value(alloc)?)
 }

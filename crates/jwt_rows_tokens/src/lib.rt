@@ -30,6 +30,18 @@ use serde_json::Value;
 
 type Found = Result<Option<Value>, Fault>;
 
+/// Makes the call of this name with the row's inputs, if it is among those of this crate, and
+/// returns its result.
+pub fn answer(call: &str, row: Row<'_>, trial: &mut Trial) -> Result<Option<Value>, Fault> {
+    if let Some(answer) = of_keys(call, row, trial)? {
+        return Ok(Some(answer));
+    }
+    if let Some(answer) = of_tokens(call, row, trial)? {
+        return Ok(Some(answer));
+    }
+    by_provider::answer(call, row, trial)
+}
+
 fn of_keys(call: &str, row: Row<'_>, trial: &mut Trial) -> Found {
     if let Some(answer) = key_bytes::answer(call, row, trial)? {
         return Ok(Some(answer));
@@ -54,16 +66,4 @@ fn of_tokens(call: &str, row: Row<'_>, trial: &mut Trial) -> Found {
         return Ok(Some(answer));
     }
     sizes::answer(call, row, trial)
-}
-
-/// Makes the call of this name with the row's inputs, if it is among those of this crate, and
-/// returns its result.
-pub fn answer(call: &str, row: Row<'_>, trial: &mut Trial) -> Result<Option<Value>, Fault> {
-    if let Some(answer) = of_keys(call, row, trial)? {
-        return Ok(Some(answer));
-    }
-    if let Some(answer) = of_tokens(call, row, trial)? {
-        return Ok(Some(answer));
-    }
-    by_provider::answer(call, row, trial)
 }

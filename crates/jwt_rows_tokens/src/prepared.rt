@@ -25,29 +25,13 @@ pub fn answer(call: &str, row: Row<'_>, trial: &mut Trial) -> Result<Option<Valu
     Ok(Some(answer?))
 }
 
-// Returns whether the provider has prepared the listed secret for the listed algorithm.
-fn has(alloc: Global, provider: &PreparedHmac, asked: &Value) -> Result<bool, Fault> {
-    let malformed = Fault::Member("asked");
-    let (Some(algorithm), Some(secret)) = (asked.get(0_usize), asked.get(1_usize)) else {
-        return Err(malformed);
-    };
-    let algorithm = algorithm_of(algorithm)?;
-    let secret = bytes_of(alloc, secret)?;
-    Ok(provider.is_prepared(algorithm, secret.as_slice()))
-}
-
-// Returns which of the secrets at `asked` the provider has prepared.
-fn those_prepared(row: Row<'_>, provider: &PreparedHmac) -> Answer {
-    let mut flags = Vec::new(row.alloc());
-    for asked in row.list("asked")? {
-        let flag = has(row.alloc(), provider, asked)?;
-        flags.push(Value::Bool(flag))?;
+/// Returns the result of `add`, with the secrets or keys that were prepared before it and after it.
+pub fn of_added(alloc: Global, answer: errors::Result<()>, before: &Value, after: Value) -> Answer {
+    match answer {
+        Ok(()) => accepted(alloc, after),
+        Err(_refusal) if !value_eq(before, &after) => changed(alloc),
+        Err(refusal) => refused(alloc, &refusal),
     }
-    Ok(Value::Array(flags))
-}
-
-fn provider_answer(row: Row<'_>, provider: &PreparedHmac) -> Answer {
-    accepted(row.alloc(), those_prepared(row, provider)?)
 }
 
 fn made(row: Row<'_>, trial: &mut Trial) -> Answer {
@@ -62,13 +46,29 @@ fn made(row: Row<'_>, trial: &mut Trial) -> Answer {
     }
 }
 
-/// Returns the result of `add`, with the secrets or keys that were prepared before it and after it.
-pub fn of_added(alloc: Global, answer: errors::Result<()>, before: &Value, after: Value) -> Answer {
-    match answer {
-        Ok(()) => accepted(alloc, after),
-        Err(_refusal) if !value_eq(before, &after) => changed(alloc),
-        Err(refusal) => refused(alloc, &refusal),
+fn provider_answer(row: Row<'_>, provider: &PreparedHmac) -> Answer {
+    accepted(row.alloc(), those_prepared(row, provider)?)
+}
+
+// Returns which of the secrets at `asked` the provider has prepared.
+fn those_prepared(row: Row<'_>, provider: &PreparedHmac) -> Answer {
+    let mut flags = Vec::new(row.alloc());
+    for asked in row.list("asked")? {
+        let flag = has(row.alloc(), provider, asked)?;
+        flags.push(Value::Bool(flag))?;
     }
+    Ok(Value::Array(flags))
+}
+
+// Returns whether the provider has prepared the listed secret for the listed algorithm.
+fn has(alloc: Global, provider: &PreparedHmac, asked: &Value) -> Result<bool, Fault> {
+    let malformed = Fault::Member("asked");
+    let (Some(algorithm), Some(secret)) = (asked.get(0_usize), asked.get(1_usize)) else {
+        return Err(malformed);
+    };
+    let algorithm = algorithm_of(algorithm)?;
+    let secret = bytes_of(alloc, secret)?;
+    Ok(provider.is_prepared(algorithm, secret.as_slice()))
 }
 
 fn added(row: Row<'_>, trial: &mut Trial) -> Answer {

@@ -47,14 +47,6 @@ pub fn call_of<T: JsonType + Hash + Debug>(
     Ok(Some(answer?))
 }
 
-// Returns a result's value, or its compact JSON text if the row asks for that.
-fn value_or_text(row: Row<'_>, value: Value) -> Answer {
-    match row.optional("text") {
-        Some(_) if row.flag("text")? => Ok(Value::String(value.to_string(row.alloc())?)),
-        _ => Ok(value),
-    }
-}
-
 /// Returns the result of a call that returned a value of such a type.
 pub fn of_type<T: JsonType>(row: Row<'_>, answer: errors::Result<T>) -> Answer {
     match answer {
@@ -64,26 +56,6 @@ pub fn of_type<T: JsonType>(row: Row<'_>, answer: errors::Result<T>) -> Answer {
         },
         Err(refusal) => refused(row.alloc(), &refusal),
     }
-}
-
-// Returns the JSON value at `value`, or that of the text which `value_json` describes.
-fn json_among(row: Row<'_>, names: &[&str]) -> Result<Value, Fault> {
-    row.takes(names)?;
-    row.json("value", "value_json")
-}
-
-fn read<T: JsonType>(row: Row<'_>, trial: &mut Trial) -> Answer {
-    let value = json_among(row, &["value", "value_json", "text"])?;
-    trial.begin();
-    let answer = T::read(row.alloc(), &value);
-    trial.end();
-    of_type(row, answer)
-}
-
-// Returns the value that the row describes at `value` or `value_json`.
-fn described_among<T: JsonType>(row: Row<'_>, names: &[&str]) -> Result<Box<T>, Fault> {
-    let value = json_among(row, names)?;
-    T::described(row.alloc(), &value)
 }
 
 /// Returns the value that the row describes at `value` or `value_json`, of a row that has no other
@@ -98,50 +70,10 @@ pub fn only_described<T: JsonType>(row: Row<'_>) -> Result<Box<T>, Fault> {
     T::described(row.alloc(), row.value("value")?)
 }
 
-// Returns the values that the row describes at `left` and `right`.
-fn two_described<T: JsonType>(row: Row<'_>) -> Result<(Box<T>, Box<T>), Fault> {
-    row.takes(&["left", "right"])?;
-    let left = T::described(row.alloc(), row.value("left")?)?;
-    Ok((left, T::described(row.alloc(), row.value("right")?)?))
-}
-
 /// Returns the bytes at `bytes`, of a row that has no other input.
 pub fn only_bytes(row: Row<'_>) -> Result<Vec<u8>, Fault> {
     row.takes(&["bytes"])?;
     row.bytes("bytes")
-}
-
-fn written<T: JsonType>(row: Row<'_>, trial: &mut Trial) -> Answer {
-    let value = described_among::<T>(row, &["value", "value_json", "text"])?;
-    trial.begin();
-    let answer = value.written(row.alloc());
-    trial.end();
-    match answer {
-        Ok(value) => accepted(row.alloc(), value_or_text(row, value)?),
-        Err(refusal) => of_value(row.alloc(), Err(refusal)),
-    }
-}
-
-fn debug_text<T: JsonType + Debug>(row: Row<'_>) -> Answer {
-    let value = described_by_json::<T>(row)?;
-    let text = format!(in row.alloc(); "{:?}", *value)?;
-    accepted(row.alloc(), Value::String(text))
-}
-
-fn copied<T: JsonType + PartialEq>(row: Row<'_>, trial: &mut Trial) -> Answer {
-    let value = described_by_json::<T>(row)?;
-    trial.begin();
-    let answer = value.copied(row.alloc());
-    trial.end();
-    match answer {
-        Ok(copy) => of_flag(row.alloc(), Ok(copy == *value)),
-        Err(refusal) => refused(row.alloc(), &refusal),
-    }
-}
-
-fn are_equal<T: JsonType + PartialEq>(row: Row<'_>, trial: &mut Trial) -> Answer {
-    let (left, right) = two_described::<T>(row)?;
-    compared(row, trial, &*left, &*right)
 }
 
 /// Returns whether two values are equal.
@@ -150,11 +82,6 @@ pub fn compared<T: PartialEq>(row: Row<'_>, trial: &mut Trial, left: &T, right: 
     let are_equal = left == right;
     trial.end();
     of_flag(row.alloc(), Ok(are_equal))
-}
-
-fn hash_alike<T: JsonType + Hash>(row: Row<'_>, trial: &mut Trial) -> Answer {
-    let (left, right) = two_described::<T>(row)?;
-    hashed(row, trial, &*left, &*right)
 }
 
 /// Returns whether two values hash alike.
@@ -180,4 +107,77 @@ pub fn default_of<T: JsonType + Default>(row: Row<'_>, trial: &mut Trial) -> Ans
 /// Puts a value behind a pointer.
 pub fn boxed<T: Drop>(alloc: Global, value: Result<T, Fault>) -> Result<Box<T>, Fault> {
     Ok(Box::new(alloc, value?)?)
+}
+
+fn read<T: JsonType>(row: Row<'_>, trial: &mut Trial) -> Answer {
+    let value = json_among(row, &["value", "value_json", "text"])?;
+    trial.begin();
+    let answer = T::read(row.alloc(), &value);
+    trial.end();
+    of_type(row, answer)
+}
+
+// Returns the JSON value at `value`, or that of the text which `value_json` describes.
+fn json_among(row: Row<'_>, names: &[&str]) -> Result<Value, Fault> {
+    row.takes(names)?;
+    row.json("value", "value_json")
+}
+
+fn written<T: JsonType>(row: Row<'_>, trial: &mut Trial) -> Answer {
+    let value = described_among::<T>(row, &["value", "value_json", "text"])?;
+    trial.begin();
+    let answer = value.written(row.alloc());
+    trial.end();
+    match answer {
+        Ok(value) => accepted(row.alloc(), value_or_text(row, value)?),
+        Err(refusal) => of_value(row.alloc(), Err(refusal)),
+    }
+}
+
+// Returns the value that the row describes at `value` or `value_json`.
+fn described_among<T: JsonType>(row: Row<'_>, names: &[&str]) -> Result<Box<T>, Fault> {
+    let value = json_among(row, names)?;
+    T::described(row.alloc(), &value)
+}
+
+// Returns a result's value, or its compact JSON text if the row asks for that.
+fn value_or_text(row: Row<'_>, value: Value) -> Answer {
+    match row.optional("text") {
+        Some(_) if row.flag("text")? => Ok(Value::String(value.to_string(row.alloc())?)),
+        _ => Ok(value),
+    }
+}
+
+fn copied<T: JsonType + PartialEq>(row: Row<'_>, trial: &mut Trial) -> Answer {
+    let value = described_by_json::<T>(row)?;
+    trial.begin();
+    let answer = value.copied(row.alloc());
+    trial.end();
+    match answer {
+        Ok(copy) => of_flag(row.alloc(), Ok(copy == *value)),
+        Err(refusal) => refused(row.alloc(), &refusal),
+    }
+}
+
+fn are_equal<T: JsonType + PartialEq>(row: Row<'_>, trial: &mut Trial) -> Answer {
+    let (left, right) = two_described::<T>(row)?;
+    compared(row, trial, &*left, &*right)
+}
+
+// Returns the values that the row describes at `left` and `right`.
+fn two_described<T: JsonType>(row: Row<'_>) -> Result<(Box<T>, Box<T>), Fault> {
+    row.takes(&["left", "right"])?;
+    let left = T::described(row.alloc(), row.value("left")?)?;
+    Ok((left, T::described(row.alloc(), row.value("right")?)?))
+}
+
+fn hash_alike<T: JsonType + Hash>(row: Row<'_>, trial: &mut Trial) -> Answer {
+    let (left, right) = two_described::<T>(row)?;
+    hashed(row, trial, &*left, &*right)
+}
+
+fn debug_text<T: JsonType + Debug>(row: Row<'_>) -> Answer {
+    let value = described_by_json::<T>(row)?;
+    let text = format!(in row.alloc(); "{:?}", *value)?;
+    accepted(row.alloc(), Value::String(text))
 }

@@ -18,6 +18,15 @@ use serde_json::Value;
 
 type Found = Result<Option<Value>, Fault>;
 
+/// Makes the call of this name with the row's inputs, if it is among those of this crate, and
+/// returns its result.
+pub fn answer(call: &str, row: Row<'_>, trial: &mut Trial) -> Result<Option<Value>, Fault> {
+    if let Some(answer) = of_keys(call, row, trial)? {
+        return Ok(Some(answer));
+    }
+    of_headers(call, row, trial)
+}
+
 fn of_keys(call: &str, row: Row<'_>, trial: &mut Trial) -> Found {
     if let Some(answer) = parameters::answer(call, row, trial)? {
         return Ok(Some(answer));
@@ -39,13 +48,4 @@ fn of_headers(call: &str, row: Row<'_>, trial: &mut Trial) -> Found {
         return Ok(Some(answer));
     }
     extras::answer(call, row, trial)
-}
-
-/// Makes the call of this name with the row's inputs, if it is among those of this crate, and
-/// returns its result.
-pub fn answer(call: &str, row: Row<'_>, trial: &mut Trial) -> Result<Option<Value>, Fault> {
-    if let Some(answer) = of_keys(call, row, trial)? {
-        return Ok(Some(answer));
-    }
-    of_headers(call, row, trial)
 }

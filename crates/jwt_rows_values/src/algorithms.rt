@@ -27,6 +27,12 @@ pub fn answer(call: &str, row: Row<'_>, trial: &mut Trial) -> Result<Option<Valu
     of_keys::answer(call, row, trial)
 }
 
+/// Returns the algorithm at `algorithm`, of a row that has no other input.
+pub fn only_given(row: Row<'_>) -> Result<Algorithm, Fault> {
+    row.takes(&["algorithm"])?;
+    given(row, "algorithm")
+}
+
 fn of_algorithms(call: &str, row: Row<'_>, trial: &mut Trial) -> Result<Option<Value>, Fault> {
     let answer = match call {
         "Algorithm::name" => name(row, trial),
@@ -43,28 +49,6 @@ fn of_algorithms(call: &str, row: Row<'_>, trial: &mut Trial) -> Result<Option<V
         _ => return Ok(None),
     };
     Ok(Some(answer?))
-}
-
-// Returns the algorithm at a name.
-fn given(row: Row<'_>, name: &'static str) -> Result<Algorithm, Fault> {
-    algorithm_of(row.value(name)?)
-}
-
-/// Returns the algorithm at `algorithm`, of a row that has no other input.
-pub fn only_given(row: Row<'_>) -> Result<Algorithm, Fault> {
-    row.takes(&["algorithm"])?;
-    given(row, "algorithm")
-}
-
-// Returns the algorithms at `left` and `right`.
-fn two_given(row: Row<'_>) -> Result<(Algorithm, Algorithm), Fault> {
-    row.takes(&["left", "right"])?;
-    let left = given(row, "left")?;
-    Ok((left, given(row, "right")?))
-}
-
-fn of_algorithm(alloc: Global, answer: Outcome<Algorithm>) -> Answer {
-    of_text(alloc, answer.map(Algorithm::name))
 }
 
 fn name(row: Row<'_>, trial: &mut Trial) -> Answer {
@@ -89,6 +73,10 @@ fn parsed(row: Row<'_>, trial: &mut Trial) -> Answer {
     let answer = text.parse::<Algorithm>();
     trial.end();
     of_algorithm(row.alloc(), answer)
+}
+
+fn of_algorithm(alloc: Global, answer: Outcome<Algorithm>) -> Answer {
+    of_text(alloc, answer.map(Algorithm::name))
 }
 
 fn read(row: Row<'_>, trial: &mut Trial) -> Answer {
@@ -134,6 +122,18 @@ fn copied(row: Row<'_>, trial: &mut Trial) -> Answer {
 fn are_equal(row: Row<'_>, trial: &mut Trial) -> Answer {
     let (left, right) = two_given(row)?;
     compared(row, trial, &left, &right)
+}
+
+// Returns the algorithms at `left` and `right`.
+fn two_given(row: Row<'_>) -> Result<(Algorithm, Algorithm), Fault> {
+    row.takes(&["left", "right"])?;
+    let left = given(row, "left")?;
+    Ok((left, given(row, "right")?))
+}
+
+// Returns the algorithm at a name.
+fn given(row: Row<'_>, name: &'static str) -> Result<Algorithm, Fault> {
+    algorithm_of(row.value(name)?)
 }
 
 fn hash_alike(row: Row<'_>, trial: &mut Trial) -> Answer {

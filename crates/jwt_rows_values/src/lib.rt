@@ -18,6 +18,15 @@ use serde_json::Value;
 
 type Found = Result<Option<Value>, Fault>;
 
+/// Makes the call of this name with the row's inputs, if it is among those of this crate, and
+/// returns its result.
+pub fn answer(call: &str, row: Row<'_>, trial: &mut Trial) -> Result<Option<Value>, Fault> {
+    if let Some(answer) = of_names(call, row, trial)? {
+        return Ok(Some(answer));
+    }
+    of_rules(call, row, trial)
+}
+
 fn of_names(call: &str, row: Row<'_>, trial: &mut Trial) -> Found {
     if let Some(answer) = errors::answer(call, row, trial)? {
         return Ok(Some(answer));
@@ -42,13 +51,4 @@ fn of_rules(call: &str, row: Row<'_>, trial: &mut Trial) -> Found {
         return Ok(Some(answer));
     }
     clock::answer(call, row, trial)
-}
-
-/// Makes the call of this name with the row's inputs, if it is among those of this crate, and
-/// returns its result.
-pub fn answer(call: &str, row: Row<'_>, trial: &mut Trial) -> Result<Option<Value>, Fault> {
-    if let Some(answer) = of_names(call, row, trial)? {
-        return Ok(Some(answer));
-    }
-    of_rules(call, row, trial)
 }

@@ -12,15 +12,6 @@ use jwt_base::errors::{Error, ErrorKind, Result, new_error};
 use jwt_key_files::public_key::rsa_components_from_der;
 use std::alloc::Global;
 
-// Returns the error that refuses bytes that are no RSAPublicKey.
-fn no_key(alloc: Global) -> Result<Error>
-    ensures ok { IfOk result (λ e. kind_of e ≡ kind.InvalidRsaKey no_key_text) }
-    ensures err { IfErr result IsMemory }
-{
-    let text = String::from_str(alloc, "the bytes are not an RSAPublicKey in DER")?;
-    Ok(new_error(ErrorKind::InvalidRsaKey(text)))
-}
-
 // Returns copies of the modulus and the exponent of an RSAPublicKey.
 pub(crate) fn components(alloc: Global, der: &[u8]) -> Result<(Vec<u8>, Vec<u8>)>
     ensures ok { IfOk result (λ p. components_read der.now ≡ Ok (p.0.items, p.1.items)) }
@@ -37,4 +28,13 @@ pub(crate) fn components(alloc: Global, der: &[u8]) -> Result<(Vec<u8>, Vec<u8>)
     let n = modulus.to_vec(alloc)?;
     let e = exponent.to_vec(alloc)?;
     Ok((n, e))
+}
+
+// Returns the error that refuses bytes that are no RSAPublicKey.
+fn no_key(alloc: Global) -> Result<Error>
+    ensures ok { IfOk result (λ e. kind_of e ≡ kind.InvalidRsaKey no_key_text) }
+    ensures err { IfErr result IsMemory }
+{
+    let text = String::from_str(alloc, "the bytes are not an RSAPublicKey in DER")?;
+    Ok(new_error(ErrorKind::InvalidRsaKey(text)))
 }

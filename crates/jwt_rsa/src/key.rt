@@ -18,44 +18,6 @@ use jwt_crypto::Hash;
 use modular::{Modulus, Natural, limb_from_octets};
 use std::alloc::Global;
 
-// The octets without those of 0 at their front.
-fn significant(octets: &[u8]) -> &[u8]
-    ensures number { os2ip result.now ≡ os2ip octets.now }
-    ensures bits { bit_count result.now ≡ bit_count octets.now }
-    ensures front { 0 < length result.now → 0 < slice_index result.now 0 }
-    ensures octets { (k : ℕ) → slice_index result.now k < 256 }
-{
-    let mut start = 0;
-    while start < octets.len() && octets[start] == 0 {
-        start += 1;
-    }
-    &octets[start..]
-}
-
-// The number of bits of a modulus, if as many serve.
-fn modulus_bits(n: &[u8]) -> Option<usize>
-    ensures { result ≡ (if bits_fit (bit_count n.now) then Some (bit_count n.now) else None) }
-{
-    let octets = significant(n);
-    if octets.len() < 256 || octets.len() > 2048 {
-        return None;
-    }
-    let bits = 8 * octets.len() - octets[0].leading_zeros() as usize;
-    (bits >= 2048).then_some(bits)
-}
-
-// The exponent, if it serves.
-fn exponent_of(e: &[u8]) -> Option<u64>
-    ensures { result ≡ (if exponent_fits e.now then Some (os2ip e.now) else None) }
-{
-    let octets = significant(e);
-    if octets.len() > 8 {
-        return None;
-    }
-    let exponent = limb_from_octets(octets);
-    (exponent >= 3 && exponent % 2 == 1).then_some(exponent)
-}
-
 // A public key.
 #[derive(Drop)]
 pub(crate) struct PublicKey {
@@ -96,11 +58,43 @@ impl PublicKey {
         })
     }
 
-    // The length of the modulus in octets.
-    fn octet_count(&self) -> usize
-        ensures { result ≡ octet_count self.now.bits }
+    // Whether the signature is one of the message by this scheme.
+    pub(crate) fn accepts(
+        &self,
+        alloc: Global,
+        scheme: Scheme,
+        message: &[u8],
+        signature: &[u8],
+    ) -> Result<bool>
+        ensures verdict { IfOk result (λ yes. IsTrue yes
+            ↔ IsSignature scheme self.now.modulus self.now.exponent self.now.bits message.now
+            signature.now) }
+        ensures memory { IfErr result IsMemory }
     {
-        (self.bits + 7) / 8
+        match scheme {
+            Scheme::Pkcs1(hash) => self.accepts_pkcs1(alloc, hash, message, signature),
+            Scheme::Pss(hash) => self.accepts_pss(alloc, hash, message, signature),
+        }
+    }
+
+    // RSASSA-PKCS1-v1_5-VERIFY.
+    fn accepts_pkcs1(
+        &self,
+        alloc: Global,
+        hash: Hash,
+        message: &[u8],
+        signature: &[u8],
+    ) -> Result<bool>
+        ensures verdict { IfOk result (λ yes. IsTrue yes
+            ↔ IsPkcs1Signature hash self.now.modulus self.now.exponent self.now.bits message.now
+            signature.now) }
+        ensures memory { IfErr result IsMemory }
+    {
+        let Some(octets) = self.opened(alloc, signature)? else {
+            return Ok(false);
+        };
+        let wanted = encoded(alloc, hash, message, self.octet_count())?;
+        Ok(octets.as_slice() == wanted.as_slice())
     }
 
     // RSAVP1 of the signature's number, in as many octets as the modulus has, if it is in range.
@@ -126,24 +120,11 @@ impl PublicKey {
         Ok(Some(power.to_octets(alloc, count)?))
     }
 
-    // RSASSA-PKCS1-v1_5-VERIFY.
-    fn accepts_pkcs1(
-        &self,
-        alloc: Global,
-        hash: Hash,
-        message: &[u8],
-        signature: &[u8],
-    ) -> Result<bool>
-        ensures verdict { IfOk result (λ yes. IsTrue yes
-            ↔ IsPkcs1Signature hash self.now.modulus self.now.exponent self.now.bits message.now
-            signature.now) }
-        ensures memory { IfErr result IsMemory }
+    // The length of the modulus in octets.
+    fn octet_count(&self) -> usize
+        ensures { result ≡ octet_count self.now.bits }
     {
-        let Some(octets) = self.opened(alloc, signature)? else {
-            return Ok(false);
-        };
-        let wanted = encoded(alloc, hash, message, self.octet_count())?;
-        Ok(octets.as_slice() == wanted.as_slice())
+        (self.bits + 7) / 8
     }
 
     // RSASSA-PSS-VERIFY.
@@ -169,23 +150,42 @@ impl PublicKey {
         let yes = is_consistent(alloc, hash, front_bits(em_bits), message, em)?;
         Ok(yes)
     }
+}
 
-    // Whether the signature is one of the message by this scheme.
-    pub(crate) fn accepts(
-        &self,
-        alloc: Global,
-        scheme: Scheme,
-        message: &[u8],
-        signature: &[u8],
-    ) -> Result<bool>
-        ensures verdict { IfOk result (λ yes. IsTrue yes
-            ↔ IsSignature scheme self.now.modulus self.now.exponent self.now.bits message.now
-            signature.now) }
-        ensures memory { IfErr result IsMemory }
-    {
-        match scheme {
-            Scheme::Pkcs1(hash) => self.accepts_pkcs1(alloc, hash, message, signature),
-            Scheme::Pss(hash) => self.accepts_pss(alloc, hash, message, signature),
-        }
+// The number of bits of a modulus, if as many serve.
+fn modulus_bits(n: &[u8]) -> Option<usize>
+    ensures { result ≡ (if bits_fit (bit_count n.now) then Some (bit_count n.now) else None) }
+{
+    let octets = significant(n);
+    if octets.len() < 256 || octets.len() > 2048 {
+        return None;
     }
+    let bits = 8 * octets.len() - octets[0].leading_zeros() as usize;
+    (bits >= 2048).then_some(bits)
+}
+
+// The octets without those of 0 at their front.
+fn significant(octets: &[u8]) -> &[u8]
+    ensures number { os2ip result.now ≡ os2ip octets.now }
+    ensures bits { bit_count result.now ≡ bit_count octets.now }
+    ensures front { 0 < length result.now → 0 < slice_index result.now 0 }
+    ensures octets { (k : ℕ) → slice_index result.now k < 256 }
+{
+    let mut start = 0;
+    while start < octets.len() && octets[start] == 0 {
+        start += 1;
+    }
+    &octets[start..]
+}
+
+// The exponent, if it serves.
+fn exponent_of(e: &[u8]) -> Option<u64>
+    ensures { result ≡ (if exponent_fits e.now then Some (os2ip e.now) else None) }
+{
+    let octets = significant(e);
+    if octets.len() > 8 {
+        return None;
+    }
+    let exponent = limb_from_octets(octets);
+    (exponent >= 3 && exponent % 2 == 1).then_some(exponent)
 }

@@ -9,6 +9,20 @@ use jwt_base::errors::Result;
 use jwt_crypto::Hash;
 use std::alloc::Global;
 
+// The encoded message, in this many octets.
+pub(crate) fn encoded(alloc: Global, hash: Hash, message: &[u8], count: usize) -> Result<Vec<u8>>
+    ensures ok { IfOk result (λ v. v.items ≡ encoded hash message.now count) }
+    ensures err { IfErr result IsMemory }
+{
+    let info = digest_info_of(alloc, hash, message)?;
+    let padding = vec![in alloc; 0xff; count.saturating_sub(3 + info.len())]?;
+    let mut octets = vec![in alloc; 0, 1]?;
+    octets.extend_from_slice(&padding)?;
+    octets.push(0)?;
+    octets.extend_from_slice(&info)?;
+    Ok(octets)
+}
+
 // The octets of DigestInfo before the digest.
 fn digest_info(hash: Hash) -> &'static [u8]
     ensures { result.now ≡ digest_info hash }
@@ -38,18 +52,4 @@ fn digest_info_of(alloc: Global, hash: Hash, message: &[u8]) -> Result<Vec<u8>>
     let mut info = Vec::from_slice(alloc, digest_info(hash))?;
     info.extend_from_slice(&digest)?;
     Ok(info)
-}
-
-// The encoded message, in this many octets.
-pub(crate) fn encoded(alloc: Global, hash: Hash, message: &[u8], count: usize) -> Result<Vec<u8>>
-    ensures ok { IfOk result (λ v. v.items ≡ encoded hash message.now count) }
-    ensures err { IfErr result IsMemory }
-{
-    let info = digest_info_of(alloc, hash, message)?;
-    let padding = vec![in alloc; 0xff; count.saturating_sub(3 + info.len())]?;
-    let mut octets = vec![in alloc; 0, 1]?;
-    octets.extend_from_slice(&padding)?;
-    octets.push(0)?;
-    octets.extend_from_slice(&info)?;
-    Ok(octets)
 }

@@ -112,18 +112,6 @@ impl PreparedRsa {
         self.find(n, e).is_some()
     }
 
-    fn find(&self, n: &[u8], e: &[u8]) -> Option<&PreparedKey>
-        ensures some { IfSome result (λ k. prepared_key k.now ≡ (n.now, e.now)) }
-        ensures found { IsSome result ↔ IsPrepared self.now n.now e.now }
-    {
-        for key in self.keys.iter() {
-            if key.is_of(n, e) {
-                return Some(key);
-            }
-        }
-        None
-    }
-
     pub(crate) fn keyed<'a>(&'a self, alloc: Global, n: &[u8], e: &[u8]) -> Result<Keyed<'a>>
         ensures made { OnOk result (components_refusal n.now e.now ≡ None) }
         ensures err { IfErr result (Refuses (components_refusal n.now e.now)) }
@@ -137,5 +125,17 @@ impl PreparedRsa {
         }
         let key = PublicKey::new(alloc, n, e)?;
         Ok(Keyed::Fresh(key))
+    }
+
+    fn find(&self, n: &[u8], e: &[u8]) -> Option<&PreparedKey>
+        ensures some { IfSome result (λ k. prepared_key k.now ≡ (n.now, e.now)) }
+        ensures found { IsSome result ↔ IsPrepared self.now n.now e.now }
+    {
+        for key in self.keys.iter() {
+            if key.is_of(n, e) {
+                return Some(key);
+            }
+        }
+        None
     }
 }

@@ -11,6 +11,17 @@ use jwt_base::errors::{ErrorKind, Result};
 use jwt_base::serialization::part_bytes;
 use std::alloc::Global;
 
+/// Returns the bytes that a text is base64 of: in the standard or the URL alphabet, with or without
+/// padding and white space (RFC 4648 sections 4 and 5). The only refusal is `OutOfMemory`.
+pub fn base64_bytes(alloc: Global, text: &[u8]) -> Result<Option<Vec<u8>>>
+    ensures ok { IfOk result (λ o. MatchOption o ((b : List ℕ) → ¬ IsBase64 text.now b)
+        (λ b. IsBase64 text.now b.items)) }
+    ensures err { IfErr result IsMemory }
+{
+    let characters = characters(alloc, text)?;
+    digit_bytes(alloc, unpadded(characters.as_slice()))
+}
+
 fn is_white(byte: u8) -> bool
     ensures { result ≡ is_white byte }
 {
@@ -53,6 +64,23 @@ fn unpadded(characters: &[u8]) -> &[u8]
     &characters[..count]
 }
 
+// Returns the bytes that the digits stand for.
+fn digit_bytes(alloc: Global, digits: &[u8]) -> Result<Option<Vec<u8>>>
+    ensures ok { IfOk result (λ o. MatchOption o ((b : List ℕ) → ¬ StandsFor digits.now b)
+        (λ b. StandsFor digits.now b.items)) }
+    ensures err { IfErr result IsMemory }
+{
+    let Some(count) = lacking(digits.len()) else {
+        return Ok(None);
+    };
+    let groups = filled(alloc, digits, count)?;
+    let Some(mut bytes) = decoded(alloc, groups.as_slice())? else {
+        return Ok(None);
+    };
+    bytes.truncate(bytes.len().saturating_sub(count));
+    Ok(Some(bytes))
+}
+
 // Returns how many digits so many lack to groups of four, which has no answer if three are lacking.
 fn lacking(count: usize) -> Option<usize>
     ensures { MatchOption result ((k : ℕ) → k < 3 → (count + k) % 4 ≢ 0)
@@ -91,32 +119,4 @@ fn decoded(alloc: Global, groups: &[u8]) -> Result<Option<Vec<u8>>>
             _ => Ok(None),
         },
     }
-}
-
-// Returns the bytes that the digits stand for.
-fn digit_bytes(alloc: Global, digits: &[u8]) -> Result<Option<Vec<u8>>>
-    ensures ok { IfOk result (λ o. MatchOption o ((b : List ℕ) → ¬ StandsFor digits.now b)
-        (λ b. StandsFor digits.now b.items)) }
-    ensures err { IfErr result IsMemory }
-{
-    let Some(count) = lacking(digits.len()) else {
-        return Ok(None);
-    };
-    let groups = filled(alloc, digits, count)?;
-    let Some(mut bytes) = decoded(alloc, groups.as_slice())? else {
-        return Ok(None);
-    };
-    bytes.truncate(bytes.len().saturating_sub(count));
-    Ok(Some(bytes))
-}
-
-/// Returns the bytes that a text is base64 of: in the standard or the URL alphabet, with or without
-/// padding and white space (RFC 4648 sections 4 and 5). The only refusal is `OutOfMemory`.
-pub fn base64_bytes(alloc: Global, text: &[u8]) -> Result<Option<Vec<u8>>>
-    ensures ok { IfOk result (λ o. MatchOption o ((b : List ℕ) → ¬ IsBase64 text.now b)
-        (λ b. IsBase64 text.now b.items)) }
-    ensures err { IfErr result IsMemory }
-{
-    let characters = characters(alloc, text)?;
-    digit_bytes(alloc, unpadded(characters.as_slice()))
 }

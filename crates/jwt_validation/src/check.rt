@@ -56,6 +56,10 @@ pub fn validate(alloc: Global, claims: &Value, options: &Validation, time: u64) 
     check(alloc, claims, options, time)
 }
 
+/// The number of names up to which a set is walked: to hash a name takes longer than to compare it
+/// with a few.
+const FEW: usize = 8;
+
 fn check(alloc: Global, claims: &Value, options: &Validation, time: u64) -> Result<()>
     ensures ok { IsOk result ↔ (IsSome (as_object (view claims.now))
         × RulesHold (options_of options.now) (view claims.now) time) }
@@ -75,19 +79,6 @@ fn check(alloc: Global, claims: &Value, options: &Validation, time: u64) -> Resu
     }
 }
 
-/// The number of names up to which a set is walked: to hash a name takes longer than to compare it
-/// with a few.
-const FEW: usize = 8;
-
-fn is_required(names: &HashSet<String>, name: &str) -> bool
-    ensures { result ≡ contains_text names.now name.now }
-{
-    if names.len() > FEW {
-        return names.contains(name);
-    }
-    names.iter().any(|required| name == required.as_str())
-}
-
 fn first_missing(claims: &SpecClaims, options: &Validation) -> Option<Name>
     ensures { MatchOption result
         ((n : Name) → ¬ IsMissing (options_of options.now) (claims_seen claims.now) n)
@@ -99,6 +90,15 @@ fn first_missing(claims: &SpecClaims, options: &Validation) -> Option<Name>
         }
     }
     None
+}
+
+fn is_required(names: &HashSet<String>, name: &str) -> bool
+    ensures { result ≡ contains_text names.now name.now }
+{
+    if names.len() > FEW {
+        return names.contains(name);
+    }
+    names.iter().any(|required| name == required.as_str())
 }
 
 fn first_broken(claims: &SpecClaims, options: &Validation, time: u64) -> Option<Rule>

@@ -96,6 +96,13 @@ impl<'a> SpecClaims<'a> {
     }
 }
 
+/// Returns whether one of the strings is in the set.
+pub fn shares_member(texts: &[Value], set: &HashSet<String>) -> bool
+    ensures { IsTrue result ↔ SharesMember (contains_text set.now) (texts_among texts.now) }
+{
+    some_in(texts, set)
+}
+
 fn time_claim(claims: &Value, name: &str) -> Claim<u64>
     ensures { result ≡ time_in (get name.now (view claims.now)) }
 {
@@ -141,13 +148,6 @@ fn are_texts(values: &[Value]) -> bool
     ensures { result ≡ list_all (λ v. is_some (as_str (view v))) values.now }
 {
     values.iter().all(Value::is_string)
-}
-
-/// Returns whether one of the strings is in the set.
-pub fn shares_member(texts: &[Value], set: &HashSet<String>) -> bool
-    ensures { IsTrue result ↔ SharesMember (contains_text set.now) (texts_among texts.now) }
-{
-    some_in(texts, set)
 }
 
 fn some_in(texts: &[Value], set: &HashSet<String>) -> bool

@@ -39,6 +39,28 @@ pub enum OptionsFault<'v> {
     Malformed(&'static str, Form),
 }
 
+/// Returns what keeps a JSON value from being the options that
+/// [`Validation::from_value`](crate::Validation::from_value) reads, or `None` if it reads them.
+///
+/// A value that is not an object is at fault first, and then the first member, in the order of
+/// their names, that no option is named; and then the first option whose value has another form.
+pub fn options_fault(value: &Value) -> Option<OptionsFault<'_>>
+    ensures none { IfNone result ((o : Options) × ReadsOptions (view value.now) o) }
+    ensures some { IfSome result (λ f. HasFault (view value.now) f) }
+    ensures unread { IfSome result (λ _. (o : Options) → ¬ ReadsOptions (view value.now) o) }
+{
+    let Some(members) = value.as_object() else {
+        return Some(OptionsFault::NotAnObject);
+    };
+    if let Some(name) = first_other(members) {
+        return Some(OptionsFault::Unknown(name));
+    }
+    match first_malformed(value) {
+        Some((name, form)) => Some(OptionsFault::Malformed(name, form)),
+        None => None,
+    }
+}
+
 fn shapes() -> [(&'static str, Form); 12]
     ensures { map (λ s. shape s.0.now s.1) result ≡ shapes }
 {
@@ -56,6 +78,18 @@ fn shapes() -> [(&'static str, Form); 12]
         ("understood_crit", Form::TextList),
         ("strict", Form::Flag),
     ]
+}
+
+fn has_form(value: &Value, form: Form) -> bool
+    ensures { result ≡ has_form form (view value.now) }
+{
+    match form {
+        Form::Whole => value.as_u64().is_some(),
+        Form::Flag => value.is_boolean(),
+        Form::OneText => value.is_string(),
+        Form::TextList => is_text_list(value),
+        Form::AlgorithmList => is_algorithm_list(value),
+    }
 }
 
 fn is_text_list(value: &Value) -> bool
@@ -86,27 +120,6 @@ fn is_algorithm_list(value: &Value) -> bool
     true
 }
 
-fn has_form(value: &Value, form: Form) -> bool
-    ensures { result ≡ has_form form (view value.now) }
-{
-    match form {
-        Form::Whole => value.as_u64().is_some(),
-        Form::Flag => value.is_boolean(),
-        Form::OneText => value.is_string(),
-        Form::TextList => is_text_list(value),
-        Form::AlgorithmList => is_algorithm_list(value),
-    }
-}
-
-fn is_well(value: &Value, name: &str, form: Form) -> bool
-    ensures { result ≡ is_well (view value.now) (shape name.now form) }
-{
-    match present(value, name) {
-        Some(member) => has_form(member, form),
-        None => true,
-    }
-}
-
 fn first_malformed(value: &Value) -> Option<(&'static str, Form)>
     ensures { option_map (λ s. shape s.0.now s.1) result ≡ first_malformed (view value.now) shapes }
 {
@@ -118,6 +131,15 @@ fn first_malformed(value: &Value) -> Option<(&'static str, Form)>
     None
 }
 
+fn is_well(value: &Value, name: &str, form: Form) -> bool
+    ensures { result ≡ is_well (view value.now) (shape name.now form) }
+{
+    match present(value, name) {
+        Some(member) => has_form(member, form),
+        None => true,
+    }
+}
+
 fn first_other(members: &Map<String, Value>) -> Option<&str>
     ensures { option_map (λ s. s.now) result ≡ first_other (members_view members.now.entries) }
 {
@@ -127,26 +149,4 @@ fn first_other(members: &Map<String, Value>) -> Option<&str>
         }
     }
     None
-}
-
-/// Returns what keeps a JSON value from being the options that
-/// [`Validation::from_value`](crate::Validation::from_value) reads, or `None` if it reads them.
-///
-/// A value that is not an object is at fault first, and then the first member, in the order of
-/// their names, that no option is named; and then the first option whose value has another form.
-pub fn options_fault(value: &Value) -> Option<OptionsFault<'_>>
-    ensures none { IfNone result ((o : Options) × ReadsOptions (view value.now) o) }
-    ensures some { IfSome result (λ f. HasFault (view value.now) f) }
-    ensures unread { IfSome result (λ _. (o : Options) → ¬ ReadsOptions (view value.now) o) }
-{
-    let Some(members) = value.as_object() else {
-        return Some(OptionsFault::NotAnObject);
-    };
-    if let Some(name) = first_other(members) {
-        return Some(OptionsFault::Unknown(name));
-    }
-    match first_malformed(value) {
-        Some((name, form)) => Some(OptionsFault::Malformed(name, form)),
-        None => None,
-    }
 }

@@ -44,17 +44,70 @@ pub(crate) fn read_validation(alloc: Global, value: &Value) -> Result<Validation
     settle(alloc, members, is_strict)
 }
 
-// Returns the validation that the members make: strict options require the configured claims too.
-fn settle(alloc: Global, members: Validation, is_strict: bool) -> Result<Validation>
-    ensures ok { IfOk result (λ v. options_of v ≡ settled is_strict (options_of members)) }
-    ensures err { IfErr result IsMemory }
+pub(crate) fn option_names() -> [&'static str; 12]
+    ensures { map (λ s. s.now) result ≡ option_names }
 {
-    if !is_strict {
-        return Ok(members);
+    [
+        "required_spec_claims",
+        "leeway",
+        "reject_tokens_expiring_in_less_than",
+        "validate_exp",
+        "validate_nbf",
+        "validate_aud",
+        "aud",
+        "iss",
+        "sub",
+        "algorithms",
+        "understood_crit",
+        "strict",
+    ]
+}
+
+// The times in seconds, and which claims are checked.
+#[derive(Clone, Copy)]
+struct Times {
+    leeway: u64,
+    reject: u64,
+    checks_exp: bool,
+    checks_nbf: bool,
+    checks_aud: bool,
+}
+
+fn has_other(members: &Map<String, Value>) -> bool
+    ensures { result ≡ has_other option_names (members_view members.now.entries) }
+{
+    for (name, _) in members {
+        if !is_one_of(name.as_str(), &option_names()) {
+            return true;
+        }
     }
-    let mut validation = members;
-    validation.require_configured(alloc)?;
-    Ok(validation)
+    false
+}
+
+// Refuses with `Json` a value that is not an object, and an object with a member of another name.
+fn check_names(value: &Value) -> Result<()>
+    ensures { MatchResult result (λ _. HasOptionNames (view value.now))
+        (λ e. RefusesAs kind.Json (¬ HasOptionNames (view value.now)) e) }
+{
+    match value.as_object() {
+        Some(members) if !has_other(members) => Ok(()),
+        _ => Err(new_error(ErrorKind::Json)),
+    }
+}
+
+fn optional_flag(value: &Value, name: &str, default: bool) -> Result<bool>
+    ensures ok { IfOk result (λ b. or_default default as_bool (get name.now (view value.now))
+        ≡ Some b) }
+    ensures err { IfErr result
+        (RefusesAs kind.Json (or_default default as_bool (get name.now (view value.now)) ≡ None)) }
+{
+    match present(value, name) {
+        None => Ok(default),
+        Some(member) => match member.as_bool() {
+            Some(flag) => Ok(flag),
+            None => Err(new_error(ErrorKind::Json)),
+        },
+    }
 }
 
 // Returns the validation of the members; absent ones have the values of strict options, or of the
@@ -87,55 +140,21 @@ fn read_members(alloc: Global, value: &Value, is_strict: bool) -> Result<Validat
     })
 }
 
-pub(crate) fn option_names() -> [&'static str; 12]
-    ensures { map (λ s. s.now) result ≡ option_names }
+fn read_times(value: &Value, is_strict: bool) -> Result<Times>
+    ensures ok { IfOk result
+        (λ t. ReadsTimes (view value.now) (usual_options is_strict) t.leeway t.reject t.checks_exp
+        t.checks_nbf t.checks_aud) }
+    ensures err { IfErr result (RefusesAs kind.Json ((l r : ℕ) (e n a : Bool)
+        → ¬ ReadsTimes (view value.now) (usual_options is_strict) l r e n a)) }
 {
-    [
-        "required_spec_claims",
-        "leeway",
-        "reject_tokens_expiring_in_less_than",
-        "validate_exp",
-        "validate_nbf",
-        "validate_aud",
-        "aud",
-        "iss",
-        "sub",
-        "algorithms",
-        "understood_crit",
-        "strict",
-    ]
-}
-
-fn has_other(members: &Map<String, Value>) -> bool
-    ensures { result ≡ has_other option_names (members_view members.now.entries) }
-{
-    for (name, _) in members {
-        if !is_one_of(name.as_str(), &option_names()) {
-            return true;
-        }
-    }
-    false
-}
-
-// Refuses with `Json` a value that is not an object, and an object with a member of another name.
-fn check_names(value: &Value) -> Result<()>
-    ensures { MatchResult result (λ _. HasOptionNames (view value.now))
-        (λ e. RefusesAs kind.Json (¬ HasOptionNames (view value.now)) e) }
-{
-    match value.as_object() {
-        Some(members) if !has_other(members) => Ok(()),
-        _ => Err(new_error(ErrorKind::Json)),
-    }
-}
-
-// The times in seconds, and which claims are checked.
-#[derive(Clone, Copy)]
-struct Times {
-    leeway: u64,
-    reject: u64,
-    checks_exp: bool,
-    checks_nbf: bool,
-    checks_aud: bool,
+    let usual = usual_times(is_strict);
+    Ok(Times {
+        leeway: optional_number(value, "leeway", usual.leeway)?,
+        reject: optional_number(value, "reject_tokens_expiring_in_less_than", usual.reject)?,
+        checks_exp: optional_flag(value, "validate_exp", usual.checks_exp)?,
+        checks_nbf: optional_flag(value, "validate_nbf", usual.checks_nbf)?,
+        checks_aud: optional_flag(value, "validate_aud", usual.checks_aud)?,
+    })
 }
 
 // Returns the values of absent members.
@@ -164,23 +183,6 @@ fn usual_times(is_strict: bool) -> Times
     }
 }
 
-fn read_times(value: &Value, is_strict: bool) -> Result<Times>
-    ensures ok { IfOk result
-        (λ t. ReadsTimes (view value.now) (usual_options is_strict) t.leeway t.reject t.checks_exp
-        t.checks_nbf t.checks_aud) }
-    ensures err { IfErr result (RefusesAs kind.Json ((l r : ℕ) (e n a : Bool)
-        → ¬ ReadsTimes (view value.now) (usual_options is_strict) l r e n a)) }
-{
-    let usual = usual_times(is_strict);
-    Ok(Times {
-        leeway: optional_number(value, "leeway", usual.leeway)?,
-        reject: optional_number(value, "reject_tokens_expiring_in_less_than", usual.reject)?,
-        checks_exp: optional_flag(value, "validate_exp", usual.checks_exp)?,
-        checks_nbf: optional_flag(value, "validate_nbf", usual.checks_nbf)?,
-        checks_aud: optional_flag(value, "validate_aud", usual.checks_aud)?,
-    })
-}
-
 fn optional_number(value: &Value, name: &str, default: u64) -> Result<u64>
     ensures ok { IfOk result (λ n. or_default default as_whole (get name.now (view value.now))
         ≡ Some n) }
@@ -193,46 +195,6 @@ fn optional_number(value: &Value, name: &str, default: u64) -> Result<u64>
             Some(number) => Ok(number),
             None => Err(new_error(ErrorKind::Json)),
         },
-    }
-}
-
-fn optional_flag(value: &Value, name: &str, default: bool) -> Result<bool>
-    ensures ok { IfOk result (λ b. or_default default as_bool (get name.now (view value.now))
-        ≡ Some b) }
-    ensures err { IfErr result
-        (RefusesAs kind.Json (or_default default as_bool (get name.now (view value.now)) ≡ None)) }
-{
-    match present(value, name) {
-        None => Ok(default),
-        Some(member) => match member.as_bool() {
-            Some(flag) => Ok(flag),
-            None => Err(new_error(ErrorKind::Json)),
-        },
-    }
-}
-
-fn optional_string(alloc: Global, value: &Value, name: &str) -> Result<Option<String>>
-    ensures ok { IfOk result
-        (λ t. optional as_str (get name.now (view value.now)) ≡ Some (option_map string_bytes t)) }
-    ensures err { IfErr result
-        (RefusesAs kind.Json (optional as_str (get name.now (view value.now)) ≡ None)) }
-{
-    match optional_text(alloc, value, name)? {
-        Some(text) => Ok(Some(text.into_string())),
-        None => Ok(None),
-    }
-}
-
-fn optional_set(alloc: Global, value: &Value, name: &str) -> Result<Option<HashSet<String>>>
-    ensures ok { IfOk result
-        (λ s. optional text_set (get name.now (view value.now))
-        ≡ Some (option_map contains_text s)) }
-    ensures err { IfErr result
-        (RefusesAs kind.Json (optional text_set (get name.now (view value.now)) ≡ None)) }
-{
-    match present(value, name) {
-        None => Ok(None),
-        Some(list) => Ok(Some(read_set(alloc, list)?)),
     }
 }
 
@@ -251,17 +213,16 @@ fn required_names(alloc: Global, value: &Value) -> Result<HashSet<String>>
     }
 }
 
-fn understood_names(alloc: Global, value: &Value) -> Result<HashSet<String>>
+fn optional_set(alloc: Global, value: &Value, name: &str) -> Result<Option<HashSet<String>>>
     ensures ok { IfOk result
-        (λ s. or_default no_texts text_set (get (codes "understood_crit") (view value.now))
-        ≡ Some (contains_text s)) }
+        (λ s. optional text_set (get name.now (view value.now))
+        ≡ Some (option_map contains_text s)) }
     ensures err { IfErr result
-        (RefusesAs kind.Json (optional text_set (get (codes "understood_crit") (view value.now))
-        ≡ None)) }
+        (RefusesAs kind.Json (optional text_set (get name.now (view value.now)) ≡ None)) }
 {
-    match optional_set(alloc, value, "understood_crit")? {
-        Some(names) => Ok(names),
-        None => Ok(HashSet::new(alloc)),
+    match present(value, name) {
+        None => Ok(None),
+        Some(list) => Ok(Some(read_set(alloc, list)?)),
     }
 }
 
@@ -293,6 +254,18 @@ fn one_text(alloc: Global, text: &str) -> Result<HashSet<String>>
     Ok(set)
 }
 
+fn optional_string(alloc: Global, value: &Value, name: &str) -> Result<Option<String>>
+    ensures ok { IfOk result
+        (λ t. optional as_str (get name.now (view value.now)) ≡ Some (option_map string_bytes t)) }
+    ensures err { IfErr result
+        (RefusesAs kind.Json (optional as_str (get name.now (view value.now)) ≡ None)) }
+{
+    match optional_text(alloc, value, name)? {
+        Some(text) => Ok(Some(text.into_string())),
+        None => Ok(None),
+    }
+}
+
 fn listed_algorithms(alloc: Global, value: &Value) -> Result<Vec<Algorithm>>
     ensures ok { IfOk result
         (λ a. or_default [] algorithms_in (get (codes "algorithms") (view value.now))
@@ -322,4 +295,31 @@ fn read_algorithms(alloc: Global, value: &Value) -> Result<Vec<Algorithm>>
         algorithms.push(algorithm)?;
     }
     Ok(algorithms)
+}
+
+fn understood_names(alloc: Global, value: &Value) -> Result<HashSet<String>>
+    ensures ok { IfOk result
+        (λ s. or_default no_texts text_set (get (codes "understood_crit") (view value.now))
+        ≡ Some (contains_text s)) }
+    ensures err { IfErr result
+        (RefusesAs kind.Json (optional text_set (get (codes "understood_crit") (view value.now))
+        ≡ None)) }
+{
+    match optional_set(alloc, value, "understood_crit")? {
+        Some(names) => Ok(names),
+        None => Ok(HashSet::new(alloc)),
+    }
+}
+
+// Returns the validation that the members make: strict options require the configured claims too.
+fn settle(alloc: Global, members: Validation, is_strict: bool) -> Result<Validation>
+    ensures ok { IfOk result (λ v. options_of v ≡ settled is_strict (options_of members)) }
+    ensures err { IfErr result IsMemory }
+{
+    if !is_strict {
+        return Ok(members);
+    }
+    let mut validation = members;
+    validation.require_configured(alloc)?;
+    Ok(validation)
 }

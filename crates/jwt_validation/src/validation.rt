@@ -246,6 +246,41 @@ impl Validation {
     }
 }
 
+pub(crate) fn insert_text(alloc: Global, set: &mut HashSet<String>, text: &str) -> Result<()>
+    ensures ok { OnOk result ((t : _) → contains_text set.new t
+        ≡ (bytes_eq text.now t || contains_text set.old t)) }
+    ensures err { IfErr result IsMemory }
+{
+    set.insert(String::from_str(alloc, text)?)?;
+    Ok(())
+}
+
+/// Compares the fields, sets as sets.
+impl PartialEq for Validation {
+    ghost use Rattle.std.specs.Prelude.{◌≡◌, ◌↔◌, IsTrue};
+    ghost use Rattle.std.specs.Cmp.{partial_equiv_from_equiv};
+    ghost use Rattle.jwt_validation.specs.OptionsOf.{options_of};
+    ghost use Rattle.jwt_validation.specs.equality.ValidationEq.{validation_eq};
+    ghost use Rattle.jwt_validation.specs.equality.ValidationEq.{validation_eq_equiv};
+
+    ghost eq = { validation_eq };
+
+    ghost laws = { partial_equiv_from_equiv validation_eq_equiv };
+
+    fn eq(&self, other: &Validation) -> bool
+        ensures test { result ≡ validation_eq self.now other.now }
+        ensures same { IsTrue result ↔ (options_of self.now ≡ options_of other.now) }
+    {
+        asks_same(self, other)
+    }
+}
+
+impl Eq for Validation {
+    ghost use Rattle.jwt_validation.specs.equality.ValidationEq.{validation_eq_equiv};
+
+    ghost laws = { validation_eq_equiv };
+}
+
 fn with_algorithms(alloc: Global, algorithms: Vec<Algorithm>) -> Result<Validation>
     ensures ok { IfOk result (λ v. options_of v ≡ default_options algorithms.items) }
     ensures err { IfErr result IsMemory }
@@ -278,32 +313,6 @@ fn set_of(alloc: Global, texts: &[&str]) -> Result<HashSet<String>>
     Ok(set)
 }
 
-pub(crate) fn insert_text(alloc: Global, set: &mut HashSet<String>, text: &str) -> Result<()>
-    ensures ok { OnOk result ((t : _) → contains_text set.new t
-        ≡ (bytes_eq text.now t || contains_text set.old t)) }
-    ensures err { IfErr result IsMemory }
-{
-    set.insert(String::from_str(alloc, text)?)?;
-    Ok(())
-}
-
-// Adds the name of a claim, if the claim is configured.
-fn insert_if(
-    alloc: Global,
-    names: &mut HashSet<String>,
-    is_configured: bool,
-    name: &str,
-) -> Result<()>
-    ensures ok { OnOk result ((t : _) → contains_text names.new t
-        ≡ with_name is_configured name.now (contains_text names.old) t) }
-    ensures err { IfErr result IsMemory }
-{
-    if is_configured {
-        insert_text(alloc, names, name)?;
-    }
-    Ok(())
-}
-
 // Returns the names of the claims that are required or configured.
 fn configured_names(alloc: Global, validation: &Validation) -> Result<HashSet<String>>
     ensures ok { IfOk result (λ names. contains_text names
@@ -323,6 +332,23 @@ fn copied_set(set: &HashSet<String>) -> Result<HashSet<String>>
 {
     let copy = set.clone()?;
     Ok(copy)
+}
+
+// Adds the name of a claim, if the claim is configured.
+fn insert_if(
+    alloc: Global,
+    names: &mut HashSet<String>,
+    is_configured: bool,
+    name: &str,
+) -> Result<()>
+    ensures ok { OnOk result ((t : _) → contains_text names.new t
+        ≡ with_name is_configured name.now (contains_text names.old) t) }
+    ensures err { IfErr result IsMemory }
+{
+    if is_configured {
+        insert_text(alloc, names, name)?;
+    }
+    Ok(())
 }
 
 fn copied_choice(set: &Option<HashSet<String>>) -> Result<Option<HashSet<String>>>
@@ -345,32 +371,6 @@ fn copied_text(alloc: Global, text: &Option<String>) -> Result<Option<String>>
         Some(text) => Ok(Some(String::from_str(alloc, text.as_str())?)),
         None => Ok(None),
     }
-}
-
-/// Compares the fields, sets as sets.
-impl PartialEq for Validation {
-    ghost use Rattle.std.specs.Prelude.{◌≡◌, ◌↔◌, IsTrue};
-    ghost use Rattle.std.specs.Cmp.{partial_equiv_from_equiv};
-    ghost use Rattle.jwt_validation.specs.OptionsOf.{options_of};
-    ghost use Rattle.jwt_validation.specs.equality.ValidationEq.{validation_eq};
-    ghost use Rattle.jwt_validation.specs.equality.ValidationEq.{validation_eq_equiv};
-
-    ghost eq = { validation_eq };
-
-    ghost laws = { partial_equiv_from_equiv validation_eq_equiv };
-
-    fn eq(&self, other: &Validation) -> bool
-        ensures test { result ≡ validation_eq self.now other.now }
-        ensures same { IsTrue result ↔ (options_of self.now ≡ options_of other.now) }
-    {
-        asks_same(self, other)
-    }
-}
-
-impl Eq for Validation {
-    ghost use Rattle.jwt_validation.specs.equality.ValidationEq.{validation_eq_equiv};
-
-    ghost laws = { validation_eq_equiv };
 }
 
 fn asks_same(one: &Validation, other: &Validation) -> bool

@@ -45,6 +45,104 @@ impl From<Error> for Unfit {
     }
 }
 
+/// Refuses keys of which no verifier can be made for these algorithms: with which anyone can sign,
+/// unless that is allowed; then any, if the algorithms are of several families; and then those of
+/// which none serves.
+pub(crate) fn check_keys(
+    alloc: Global,
+    keys: &Keys,
+    algorithms: &[Algorithm],
+    allows_blank: bool,
+) -> Result<(), Unfit>
+    ensures ok { OnOk result (AreFit allows_blank algorithms.now keys.now) }
+    ensures err { IfErr result (IsUnfit allows_blank algorithms.now keys.now) }
+{
+    check_safe(alloc, keys, allows_blank)?;
+    check_families(algorithms)?;
+    check_served(alloc, keys, algorithms)?;
+    Ok(())
+}
+
+fn check_safe(alloc: Global, keys: &Keys, allows_blank: bool) -> Result<(), Unfit>
+    ensures ok { OnOk result (AreSafe allows_blank keys.now) }
+    ensures err { IfErr result (λ why. (why ≡ Unfit.Memory)
+        ⊎ ((why ≡ Unfit.Blank) × (¬ IsTrue allows_blank) × HasBlank keys.now)) }
+{
+    if allows_blank {
+        return Ok(());
+    }
+    if have_blank(alloc, keys)? {
+        return Err(Unfit::Blank);
+    }
+    Ok(())
+}
+
+fn have_blank(alloc: Global, keys: &Keys) -> Checked<bool>
+    ensures ok { IfOk result (λ yes. IsTrue yes ↔ HasBlank keys.now) }
+    ensures err { IfErr result IsMemory }
+{
+    match keys {
+        Keys::One(key) => Ok(is_blank_key(key)),
+        Keys::Set(set) => has_blank_key(alloc, set),
+    }
+}
+
+fn check_families(algorithms: &[Algorithm]) -> Result<(), Unfit>
+    ensures ok { OnOk result (AreOfOneFamily algorithms.now) }
+    ensures err { IfErr result (λ why. (why ≡ Unfit.Mixed) × (¬ AreOfOneFamily algorithms.now)) }
+{
+    if are_of_one_family(algorithms) {
+        Ok(())
+    } else {
+        Err(Unfit::Mixed)
+    }
+}
+
+fn are_of_one_family(algorithms: &[Algorithm]) -> bool
+    ensures { IsTrue result ↔ AreOfOneFamily algorithms.now }
+{
+    match algorithms.first() {
+        Some(first) => algorithms
+            .iter()
+            .all(|other| other.family() == first.family()),
+        None => true,
+    }
+}
+
+fn check_served(alloc: Global, keys: &Keys, algorithms: &[Algorithm]) -> Result<(), Unfit>
+    ensures ok { OnOk result (CanServe algorithms.now keys.now) }
+    ensures err { IfErr result (λ why. (why ≡ Unfit.Memory)
+        ⊎ ((why ≡ Unfit.Useless) × (¬ CanServe algorithms.now keys.now))) }
+{
+    if keys_serve(alloc, keys, algorithms)? {
+        Ok(())
+    } else {
+        Err(Unfit::Useless)
+    }
+}
+
+fn keys_serve(alloc: Global, keys: &Keys, algorithms: &[Algorithm]) -> Checked<bool>
+    ensures ok { IfOk result (λ yes. IsTrue yes ↔ CanServe algorithms.now keys.now) }
+    ensures err { IfErr result IsMemory }
+{
+    match keys {
+        Keys::One(key) => key_serves(alloc, key, algorithms),
+        Keys::Set(set) => set_serves(alloc, set, algorithms),
+    }
+}
+
+fn key_serves(alloc: Global, key: &DecodingKey, algorithms: &[Algorithm]) -> Checked<bool>
+    ensures ok { IfOk result (λ yes. IsTrue yes ↔ Serves algorithms.now key.now) }
+    ensures err { IfErr result IsMemory }
+{
+    for algorithm in algorithms {
+        if serves_one(alloc, key, algorithm)? {
+            return Ok(true);
+        }
+    }
+    Ok(false)
+}
+
 fn serves_one(alloc: Global, key: &DecodingKey, algorithm: &Algorithm) -> Checked<bool>
     ensures ok { IfOk result (λ yes. IsTrue yes
         ↔ (verifier_refusal algorithm.now key.now ≡ None)) }
@@ -59,12 +157,13 @@ fn serves_one(alloc: Global, key: &DecodingKey, algorithm: &Algorithm) -> Checke
     }
 }
 
-fn key_serves(alloc: Global, key: &DecodingKey, algorithms: &[Algorithm]) -> Checked<bool>
-    ensures ok { IfOk result (λ yes. IsTrue yes ↔ Serves algorithms.now key.now) }
+fn set_serves(alloc: Global, set: &JwkSet, algorithms: &[Algorithm]) -> Checked<bool>
+    ensures ok { IfOk result (λ yes. IsTrue yes
+        ↔ Any (JwkServes algorithms.now) set.now.keys.items) }
     ensures err { IfErr result IsMemory }
 {
-    for algorithm in algorithms {
-        if serves_one(alloc, key, algorithm)? {
+    for jwk in &set.keys {
+        if jwk_serves(alloc, jwk, algorithms)? {
             return Ok(true);
         }
     }
@@ -90,103 +189,4 @@ fn jwk_serves(alloc: Global, jwk: &Jwk, algorithms: &[Algorithm]) -> Checked<boo
             _ => Ok(false),
         },
     }
-}
-
-fn set_serves(alloc: Global, set: &JwkSet, algorithms: &[Algorithm]) -> Checked<bool>
-    ensures ok { IfOk result (λ yes. IsTrue yes
-        ↔ Any (JwkServes algorithms.now) set.now.keys.items) }
-    ensures err { IfErr result IsMemory }
-{
-    for jwk in &set.keys {
-        if jwk_serves(alloc, jwk, algorithms)? {
-            return Ok(true);
-        }
-    }
-    Ok(false)
-}
-
-fn keys_serve(alloc: Global, keys: &Keys, algorithms: &[Algorithm]) -> Checked<bool>
-    ensures ok { IfOk result (λ yes. IsTrue yes ↔ CanServe algorithms.now keys.now) }
-    ensures err { IfErr result IsMemory }
-{
-    match keys {
-        Keys::One(key) => key_serves(alloc, key, algorithms),
-        Keys::Set(set) => set_serves(alloc, set, algorithms),
-    }
-}
-
-fn have_blank(alloc: Global, keys: &Keys) -> Checked<bool>
-    ensures ok { IfOk result (λ yes. IsTrue yes ↔ HasBlank keys.now) }
-    ensures err { IfErr result IsMemory }
-{
-    match keys {
-        Keys::One(key) => Ok(is_blank_key(key)),
-        Keys::Set(set) => has_blank_key(alloc, set),
-    }
-}
-
-fn check_safe(alloc: Global, keys: &Keys, allows_blank: bool) -> Result<(), Unfit>
-    ensures ok { OnOk result (AreSafe allows_blank keys.now) }
-    ensures err { IfErr result (λ why. (why ≡ Unfit.Memory)
-        ⊎ ((why ≡ Unfit.Blank) × (¬ IsTrue allows_blank) × HasBlank keys.now)) }
-{
-    if allows_blank {
-        return Ok(());
-    }
-    if have_blank(alloc, keys)? {
-        return Err(Unfit::Blank);
-    }
-    Ok(())
-}
-
-fn are_of_one_family(algorithms: &[Algorithm]) -> bool
-    ensures { IsTrue result ↔ AreOfOneFamily algorithms.now }
-{
-    match algorithms.first() {
-        Some(first) => algorithms
-            .iter()
-            .all(|other| other.family() == first.family()),
-        None => true,
-    }
-}
-
-fn check_families(algorithms: &[Algorithm]) -> Result<(), Unfit>
-    ensures ok { OnOk result (AreOfOneFamily algorithms.now) }
-    ensures err { IfErr result (λ why. (why ≡ Unfit.Mixed) × (¬ AreOfOneFamily algorithms.now)) }
-{
-    if are_of_one_family(algorithms) {
-        Ok(())
-    } else {
-        Err(Unfit::Mixed)
-    }
-}
-
-fn check_served(alloc: Global, keys: &Keys, algorithms: &[Algorithm]) -> Result<(), Unfit>
-    ensures ok { OnOk result (CanServe algorithms.now keys.now) }
-    ensures err { IfErr result (λ why. (why ≡ Unfit.Memory)
-        ⊎ ((why ≡ Unfit.Useless) × (¬ CanServe algorithms.now keys.now))) }
-{
-    if keys_serve(alloc, keys, algorithms)? {
-        Ok(())
-    } else {
-        Err(Unfit::Useless)
-    }
-}
-
-/// Refuses keys of which no verifier can be made for these algorithms: with which anyone can sign,
-/// unless that is allowed; then any, if the algorithms are of several families; and then those of
-/// which none serves.
-pub(crate) fn check_keys(
-    alloc: Global,
-    keys: &Keys,
-    algorithms: &[Algorithm],
-    allows_blank: bool,
-) -> Result<(), Unfit>
-    ensures ok { OnOk result (AreFit allows_blank algorithms.now keys.now) }
-    ensures err { IfErr result (IsUnfit allows_blank algorithms.now keys.now) }
-{
-    check_safe(alloc, keys, allows_blank)?;
-    check_families(algorithms)?;
-    check_served(alloc, keys, algorithms)?;
-    Ok(())
 }

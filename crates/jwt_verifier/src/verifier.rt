@@ -29,78 +29,6 @@ use std::result::Result;
 /// The greatest number of keys of a set that are prepared, each of which allocates.
 const PREPARED: usize = 4096;
 
-/// Returns the value that a call made, or `None` if it was refused for another reason than memory.
-fn unless_refused<R>(made: Checked<R>) -> Checked<Option<R>>
-    ensures { IfErr result IsMemory }
-{
-    match made {
-        Ok(value) => Ok(Some(value)),
-        Err(error) if matches!(error.kind(), ErrorKind::OutOfMemory) => {
-            Err(new_error(ErrorKind::OutOfMemory))
-        }
-        Err(_) => Ok(None),
-    }
-}
-
-/// Prepares a key to verify with these algorithms.
-fn prepare_key(
-    alloc: Global,
-    prepared: &mut PreparedKeys,
-    key: &DecodingKey,
-    algorithms: &[Algorithm],
-) -> Checked<()>
-    ensures { IfErr result IsMemory }
-{
-    for algorithm in algorithms {
-        prepared.add(alloc, *algorithm, key)?;
-    }
-    Ok(())
-}
-
-/// Prepares the first keys of a set. A key that is malformed is left out.
-fn prepare_set(
-    alloc: Global,
-    prepared: &mut PreparedKeys,
-    set: &JwkSet,
-    algorithms: &[Algorithm],
-) -> Checked<()>
-    ensures { IfErr result IsMemory }
-{
-    for jwk in set.keys.iter().take(PREPARED) {
-        if let Some(key) = unless_refused(DecodingKey::from_jwk(alloc, jwk))? {
-            prepare_key(alloc, prepared, &key, algorithms)?;
-        }
-    }
-    Ok(())
-}
-
-/// Prepares the keys for many tokens, with these algorithms.
-fn prepare(alloc: Global, keys: &Keys, algorithms: &[Algorithm]) -> Checked<PreparedKeys>
-    ensures { IfErr result IsMemory }
-{
-    let mut prepared = PreparedKeys::new(alloc);
-    match keys {
-        Keys::One(key) => prepare_key(alloc, &mut prepared, key, algorithms)?,
-        Keys::Set(set) => prepare_set(alloc, &mut prepared, set, algorithms)?,
-    }
-    Ok(prepared)
-}
-
-/// Prepares the keys, unless no verifier can be made of them.
-fn prepare_fit(
-    alloc: Global,
-    keys: &Keys,
-    algorithms: &[Algorithm],
-    allows_blank: bool,
-) -> Result<PreparedKeys, Unfit>
-    ensures ok { OnOk result (AreFit allows_blank algorithms.now keys.now) }
-    ensures err { IfErr result (IsUnfit allows_blank algorithms.now keys.now) }
-{
-    check_keys(alloc, keys, algorithms, allows_blank)?;
-    let prepared = prepare(alloc, keys, algorithms)?;
-    Ok(prepared)
-}
-
 /// The reason for which a verifier does not accept a token.
 #[derive(Debug, Drop)]
 pub enum Rejection<E> {
@@ -165,32 +93,6 @@ impl Verifier {
         })
     }
 
-    fn is_too_long(&self, token: &[u8]) -> bool
-        ensures { IsTrue result ↔ (self.now.limits.max_len < length token.now) }
-    {
-        token.len() > self.limits.max_len
-    }
-
-    /// Verifies a token of any length.
-    fn decode_whole<T: Claims>(
-        &self,
-        alloc: Global,
-        token: &[u8],
-        time: u64,
-    ) -> Checked<TokenData<T>>
-        ensures decided { let call = call_with T.Claims self.now.keys self.now.validation
-            token.now time in
-            Decides (token_tests call) (order_of self.now.keys) (Carries call) result }
-        ensures laws { HasLaws (call_with T.Claims self.now.keys self.now.validation token.now time)
-            (order_of self.now.keys) (List ℕ) Compact token.now }
-    {
-        let provider = &self.prepared;
-        match &self.keys {
-            Keys::One(key) => decode(alloc, &provider, token, key, &self.validation, time),
-            Keys::Set(set) => decode_with_set(alloc, &provider, token, set, &self.validation, time),
-        }
-    }
-
     /// Verifies a token in its compact form at the time `time`, in whole seconds since 1970-01-01
     /// 00:00:00 UTC, and returns its header and its claims: what [`decode`] or [`decode_with_set`]
     /// returns by `StandardProvider` with the verifier's keys and options. A token that is longer
@@ -221,6 +123,53 @@ impl Verifier {
         }
     }
 
+    /// Verifies a token like [`Verifier::decode`]; a refusal has the first test that failed, and
+    /// its error. Whoever issued the token need not be told which test it was.
+    pub fn decode_or_refusal<T: Claims>(
+        &self,
+        alloc: Global,
+        token: &[u8],
+        time: u64,
+    ) -> Result<TokenData<T>, Rejection<Refusal>>
+        ensures { let call = call_with T.Claims self.now.keys self.now.validation token.now time in
+            IsBounded (DecidesByTest (token_tests call) (order_of self.now.keys) (Carries call))
+            self.now.limits.max_len (length token.now) result }
+    {
+        if self.is_too_long(token) {
+            return Err(Rejection::TooLong);
+        }
+        match self.decode_whole_or_refusal(alloc, token, time) {
+            Ok(decoded) => Ok(decoded),
+            Err(refused) => Err(Rejection::Failed(refused)),
+        }
+    }
+
+    fn is_too_long(&self, token: &[u8]) -> bool
+        ensures { IsTrue result ↔ (self.now.limits.max_len < length token.now) }
+    {
+        token.len() > self.limits.max_len
+    }
+
+    /// Verifies a token of any length.
+    fn decode_whole<T: Claims>(
+        &self,
+        alloc: Global,
+        token: &[u8],
+        time: u64,
+    ) -> Checked<TokenData<T>>
+        ensures decided { let call = call_with T.Claims self.now.keys self.now.validation
+            token.now time in
+            Decides (token_tests call) (order_of self.now.keys) (Carries call) result }
+        ensures laws { HasLaws (call_with T.Claims self.now.keys self.now.validation token.now time)
+            (order_of self.now.keys) (List ℕ) Compact token.now }
+    {
+        let provider = &self.prepared;
+        match &self.keys {
+            Keys::One(key) => decode(alloc, &provider, token, key, &self.validation, time),
+            Keys::Set(set) => decode_with_set(alloc, &provider, token, set, &self.validation, time),
+        }
+    }
+
     /// Verifies a token of any length.
     fn decode_whole_or_refusal<T: Claims>(
         &self,
@@ -241,25 +190,76 @@ impl Verifier {
             }
         }
     }
+}
 
-    /// Verifies a token like [`Verifier::decode`]; a refusal has the first test that failed, and
-    /// its error. Whoever issued the token need not be told which test it was.
-    pub fn decode_or_refusal<T: Claims>(
-        &self,
-        alloc: Global,
-        token: &[u8],
-        time: u64,
-    ) -> Result<TokenData<T>, Rejection<Refusal>>
-        ensures { let call = call_with T.Claims self.now.keys self.now.validation token.now time in
-            IsBounded (DecidesByTest (token_tests call) (order_of self.now.keys) (Carries call))
-            self.now.limits.max_len (length token.now) result }
-    {
-        if self.is_too_long(token) {
-            return Err(Rejection::TooLong);
+/// Prepares the keys, unless no verifier can be made of them.
+fn prepare_fit(
+    alloc: Global,
+    keys: &Keys,
+    algorithms: &[Algorithm],
+    allows_blank: bool,
+) -> Result<PreparedKeys, Unfit>
+    ensures ok { OnOk result (AreFit allows_blank algorithms.now keys.now) }
+    ensures err { IfErr result (IsUnfit allows_blank algorithms.now keys.now) }
+{
+    check_keys(alloc, keys, algorithms, allows_blank)?;
+    let prepared = prepare(alloc, keys, algorithms)?;
+    Ok(prepared)
+}
+
+/// Prepares the keys for many tokens, with these algorithms.
+fn prepare(alloc: Global, keys: &Keys, algorithms: &[Algorithm]) -> Checked<PreparedKeys>
+    ensures { IfErr result IsMemory }
+{
+    let mut prepared = PreparedKeys::new(alloc);
+    match keys {
+        Keys::One(key) => prepare_key(alloc, &mut prepared, key, algorithms)?,
+        Keys::Set(set) => prepare_set(alloc, &mut prepared, set, algorithms)?,
+    }
+    Ok(prepared)
+}
+
+/// Prepares a key to verify with these algorithms.
+fn prepare_key(
+    alloc: Global,
+    prepared: &mut PreparedKeys,
+    key: &DecodingKey,
+    algorithms: &[Algorithm],
+) -> Checked<()>
+    ensures { IfErr result IsMemory }
+{
+    for algorithm in algorithms {
+        prepared.add(alloc, *algorithm, key)?;
+    }
+    Ok(())
+}
+
+/// Prepares the first keys of a set. A key that is malformed is left out.
+fn prepare_set(
+    alloc: Global,
+    prepared: &mut PreparedKeys,
+    set: &JwkSet,
+    algorithms: &[Algorithm],
+) -> Checked<()>
+    ensures { IfErr result IsMemory }
+{
+    for jwk in set.keys.iter().take(PREPARED) {
+        if let Some(key) = unless_refused(DecodingKey::from_jwk(alloc, jwk))? {
+            prepare_key(alloc, prepared, &key, algorithms)?;
         }
-        match self.decode_whole_or_refusal(alloc, token, time) {
-            Ok(decoded) => Ok(decoded),
-            Err(refused) => Err(Rejection::Failed(refused)),
+    }
+    Ok(())
+}
+
+/// Returns the value that a call made, or `None` if it was refused for another reason than memory.
+fn unless_refused<R>(made: Checked<R>) -> Checked<Option<R>>
+    ensures { IfErr result IsMemory }
+{
+    match made {
+        Ok(value) => Ok(Some(value)),
+        Err(error) if matches!(error.kind(), ErrorKind::OutOfMemory) => {
+            Err(new_error(ErrorKind::OutOfMemory))
         }
+        Err(_) => Ok(None),
     }
 }

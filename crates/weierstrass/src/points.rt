@@ -35,33 +35,6 @@ pub fn three_times<F: Residue>(a: F) -> F
     a.plus(a).plus(a)
 }
 
-// a * b + a * b.
-#[inline(always)]
-fn twice_product<F: Residue>(a: F, b: F) -> F
-    ensures { F.number result
-        ≡ plus F.modulus (times F.modulus (F.number a) (F.number b))
-        (times F.modulus (F.number a) (F.number b)) }
-{
-    let product = a.times(b);
-    product.plus(product)
-}
-
-// The last six products of a sum.
-#[inline(always)]
-fn multiply<F: Residue>(xy: F, yz: F, yy: F, n: F, w: F, t: F) -> ProjectivePoint<F>
-    ensures { numbers F.number result
-        ≡ products F.modulus (F.number xy) (F.number yz) (F.number yy) (F.number n) (F.number w)
-        (F.number t) }
-{
-    let more = yy.plus(n);
-    let less = yy.minus(n);
-    ProjectivePoint {
-        x: xy.times(more).minus(yz.times(w)),
-        y: less.times(more).plus(t.times(w)),
-        z: yz.times(less).plus(xy.times(t)),
-    }
-}
-
 /// Returns the sum of two points of the curve with this b.
 pub fn add<F: Residue>(
     b: F,
@@ -97,4 +70,31 @@ pub fn double<F: Residue>(b: F, point: ProjectivePoint<F>) -> ProjectivePoint<F>
     let w = three_times(b.times(xz).minus(xx).minus(three_times(zz)));
     let t = three_times(xx.minus(zz));
     multiply(xy, yz, yy, n, w, t)
+}
+
+// The last six products of a sum.
+#[inline(always)]
+fn multiply<F: Residue>(xy: F, yz: F, yy: F, n: F, w: F, t: F) -> ProjectivePoint<F>
+    ensures { numbers F.number result
+        ≡ products F.modulus (F.number xy) (F.number yz) (F.number yy) (F.number n) (F.number w)
+        (F.number t) }
+{
+    let more = yy.plus(n);
+    let less = yy.minus(n);
+    ProjectivePoint {
+        x: xy.times(more).minus(yz.times(w)),
+        y: less.times(more).plus(t.times(w)),
+        z: yz.times(less).plus(xy.times(t)),
+    }
+}
+
+// a * b + a * b.
+#[inline(always)]
+fn twice_product<F: Residue>(a: F, b: F) -> F
+    ensures { F.number result
+        ≡ plus F.modulus (times F.modulus (F.number a) (F.number b))
+        (times F.modulus (F.number a) (F.number b)) }
+{
+    let product = a.times(b);
+    product.plus(product)
 }

@@ -47,23 +47,6 @@ pub fn entry_for<F: Residue>(point: ProjectivePoint<F>) -> Entry<F>
     Entry { point, zz, zzz }
 }
 
-// The entry of this digit, which is below 4.
-fn pick<F: Residue>(four: &Four<F>, digit: u8) -> Entry<F>
-    requires { digit < 4 }
-    ensures { result ≡ picked four.now digit }
-{
-    if digit == 0 {
-        return four.zero;
-    }
-    if digit == 1 {
-        return four.one;
-    }
-    if digit == 2 {
-        return four.two;
-    }
-    four.three
-}
-
 /// Returns the entry of this digit, which is below 16.
 pub fn entry_at<F: Residue>(table: &Sixteen<F>, digit: u8) -> Entry<F>
     requires { digit < 16 }
@@ -132,4 +115,21 @@ pub fn following<F: Residue>(four: &Four<F>, x: F, y: F) -> Entry<F>
         (F.number y)) }
 {
     entry_for(add_affine(four.three.point, x, y))
+}
+
+// The entry of this digit, which is below 4.
+fn pick<F: Residue>(four: &Four<F>, digit: u8) -> Entry<F>
+    requires { digit < 4 }
+    ensures { result ≡ picked four.now digit }
+{
+    if digit == 0 {
+        return four.zero;
+    }
+    if digit == 1 {
+        return four.one;
+    }
+    if digit == 2 {
+        return four.two;
+    }
+    four.three
 }

@@ -33,24 +33,6 @@ pub fn double<F: Residue>(point: ProjectivePoint<F>) -> ProjectivePoint<F>
     }
 }
 
-// The last lines of a sum.
-#[inline(always)]
-fn last<F: Residue>(zz: F, u: F, s: F, h: F, r: F) -> ProjectivePoint<F>
-    ensures { numbers F.number result
-        ≡ jacobian_last F.modulus (F.number zz) (F.number u) (F.number s) (F.number h)
-        (F.number r) }
-{
-    let hh = h.times(h);
-    let hhh = h.times(hh);
-    let v = u.times(hh);
-    let x = r.times(r).minus(hhh).minus(v.plus(v));
-    ProjectivePoint {
-        x,
-        y: r.times(v.minus(x)).minus(s.times(hhh)),
-        z: zz.times(h),
-    }
-}
-
 /// Returns the point at infinity.
 pub fn nothing<F: Residue>() -> ProjectivePoint<F>
     ensures { numbers F.number result ≡ record { x = 1; y = 1; z = 0 } }
@@ -59,6 +41,53 @@ pub fn nothing<F: Residue>() -> ProjectivePoint<F>
         x: F::one(),
         y: F::one(),
         z: F::zero(),
+    }
+}
+
+/// Returns the sum of two points, of which the other comes with the square and the cube of its z.
+pub fn add<F: Residue>(
+    one: ProjectivePoint<F>,
+    other: ProjectivePoint<F>,
+    zz: F,
+    zzz: F,
+) -> ProjectivePoint<F>
+    requires square { F.number zz ≡ times F.modulus (F.number other.z) (F.number other.z) }
+    requires cube { F.number zzz ≡ times F.modulus (F.number other.z) (times F.modulus
+        (F.number other.z) (F.number other.z)) }
+    ensures { numbers F.number result
+        ≡ jacobian_sum F.modulus (numbers F.number one) (numbers F.number other) }
+{
+    if one.z.is_same(F::zero()) {
+        return other;
+    }
+    if other.z.is_same(F::zero()) {
+        return one;
+    }
+    add_finite(one, other, zz, zzz)
+}
+
+/// Returns the sum of a point and the start with these coordinates, whose z is 1.
+pub fn add_affine<F: Residue>(start: ProjectivePoint<F>, x: F, y: F) -> ProjectivePoint<F>
+    ensures { numbers F.number result
+        ≡ jacobian_sum F.modulus (numbers F.number start) (spot_point (F.number x) (F.number y)) }
+{
+    if start.z.is_same(F::zero()) {
+        return ProjectivePoint { x, y, z: F::one() };
+    }
+    add_finite_affine(start, x, y)
+}
+
+/// Returns the projective point.
+pub fn projective<F: Residue>(point: ProjectivePoint<F>) -> ProjectivePoint<F>
+    ensures { numbers F.number result ≡ projective_of F.modulus (numbers F.number point) }
+{
+    if point.z.is_same(F::zero()) {
+        return point_at_infinity();
+    }
+    ProjectivePoint {
+        x: point.x.times(point.z),
+        y: point.y,
+        z: point.z.times(point.z.times(point.z)),
     }
 }
 
@@ -89,26 +118,22 @@ fn add_finite<F: Residue>(
     last(one.z.times(other.z), u, s, h, r)
 }
 
-/// Returns the sum of two points, of which the other comes with the square and the cube of its z.
-pub fn add<F: Residue>(
-    one: ProjectivePoint<F>,
-    other: ProjectivePoint<F>,
-    zz: F,
-    zzz: F,
-) -> ProjectivePoint<F>
-    requires square { F.number zz ≡ times F.modulus (F.number other.z) (F.number other.z) }
-    requires cube { F.number zzz ≡ times F.modulus (F.number other.z) (times F.modulus
-        (F.number other.z) (F.number other.z)) }
+// The last lines of a sum.
+#[inline(always)]
+fn last<F: Residue>(zz: F, u: F, s: F, h: F, r: F) -> ProjectivePoint<F>
     ensures { numbers F.number result
-        ≡ jacobian_sum F.modulus (numbers F.number one) (numbers F.number other) }
+        ≡ jacobian_last F.modulus (F.number zz) (F.number u) (F.number s) (F.number h)
+        (F.number r) }
 {
-    if one.z.is_same(F::zero()) {
-        return other;
+    let hh = h.times(h);
+    let hhh = h.times(hh);
+    let v = u.times(hh);
+    let x = r.times(r).minus(hhh).minus(v.plus(v));
+    ProjectivePoint {
+        x,
+        y: r.times(v.minus(x)).minus(s.times(hhh)),
+        z: zz.times(h),
     }
-    if other.z.is_same(F::zero()) {
-        return one;
-    }
-    add_finite(one, other, zz, zzz)
 }
 
 // The sum of finite points, of which the other has z = 1.
@@ -127,29 +152,4 @@ fn add_finite_affine<F: Residue>(start: ProjectivePoint<F>, x: F, y: F) -> Proje
         return nothing();
     }
     last(start.z, start.x, start.y, h, r)
-}
-
-/// Returns the sum of a point and the start with these coordinates, whose z is 1.
-pub fn add_affine<F: Residue>(start: ProjectivePoint<F>, x: F, y: F) -> ProjectivePoint<F>
-    ensures { numbers F.number result
-        ≡ jacobian_sum F.modulus (numbers F.number start) (spot_point (F.number x) (F.number y)) }
-{
-    if start.z.is_same(F::zero()) {
-        return ProjectivePoint { x, y, z: F::one() };
-    }
-    add_finite_affine(start, x, y)
-}
-
-/// Returns the projective point.
-pub fn projective<F: Residue>(point: ProjectivePoint<F>) -> ProjectivePoint<F>
-    ensures { numbers F.number result ≡ projective_of F.modulus (numbers F.number point) }
-{
-    if point.z.is_same(F::zero()) {
-        return point_at_infinity();
-    }
-    ProjectivePoint {
-        x: point.x.times(point.z),
-        y: point.y,
-        z: point.z.times(point.z.times(point.z)),
-    }
 }

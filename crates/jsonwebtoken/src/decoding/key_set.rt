@@ -34,52 +34,6 @@ use jwt_keys::provider::CryptoProvider;
 use jwt_validation::Validation;
 use std::alloc::Global;
 
-/// Returns the first key of the set with the header's `kid`. If the header has none, or no key has
-/// it, the refusal is `NoKey`.
-fn find_key<'k>(set: &'k JwkSet, header: &Header) -> Result<&'k Jwk, Refusal>
-    ensures { Finds KeyIsFound (λ k. named_key set.now.keys.items header.now ≡ Some k.now)
-        (named_key set.now.keys.items header.now ≡ None) (λ k. k ≡ kind.NoKey) result }
-{
-    let Some(kid) = &header.kid else {
-        return Err(Refusal::new(Test::KeyIsFound, ErrorKind::NoKey));
-    };
-    set.find(kid.as_str())
-        .ok_or(Refusal::new(Test::KeyIsFound, ErrorKind::NoKey))
-}
-
-/// Refuses with `InvalidAlgorithm` a key that is for another algorithm (RFC 7517 section 4.4).
-fn check_key_algorithm(jwk: &Jwk, algorithm: Algorithm) -> Result<(), Refusal>
-    ensures { Asks KeyAlgorithmAgrees (AgreesWith algorithm jwk.now)
-        (λ k. k ≡ kind.InvalidAlgorithm) result }
-{
-    match jwk.common.key_algorithm {
-        Some(named) if named != KeyAlgorithm::from(algorithm) => Err(Refusal::new(
-            Test::KeyAlgorithmAgrees,
-            ErrorKind::InvalidAlgorithm,
-        )),
-        _ => Ok(()),
-    }
-}
-
-/// Returns the key that a JSON Web Key stands for.
-fn key_of_jwk(alloc: Global, jwk: &Jwk) -> Result<DecodingKey, Refusal>
-    ensures { Finds KeyIsUsable (IsKeyOf jwk.now.algorithm)
-        ((k : Key) → ¬ IsKeyOf jwk.now.algorithm k) (λ k. k ≡ refusal_of jwk.now.algorithm) result }
-{
-    with_test(Test::KeyIsUsable, DecodingKey::from_jwk(alloc, jwk))
-}
-
-/// Returns the key that the header names.
-fn key_in_set(alloc: Global, set: &JwkSet, header: &Header) -> Result<DecodingKey, Refusal>
-    ensures { Step (looking_in set.now.keys.items) key_tests (with_header header.now) ShowsKey
-        result }
-{
-    let jwk = find_key(set, header)?;
-    check_key_algorithm(jwk, header.alg)?;
-    let key = key_of_jwk(alloc, jwk)?;
-    Ok(key)
-}
-
 /// Returns the claims of a token that passes, by the key of the set that its header names, the
 /// tests that follow those of the header.
 pub(crate) fn read_claims_by_set<P: CryptoProvider, T: Claims>(
@@ -100,32 +54,6 @@ pub(crate) fn read_claims_by_set<P: CryptoProvider, T: Claims>(
     let key = key_in_set(alloc, set, header)?;
     let claims = verify_by_key(alloc, provider, parts, header, &key, validation, time)?;
     Ok(claims)
-}
-
-/// Verifies a token, and notes the test that fails.
-fn decode_with_set_noting<P: CryptoProvider, T: Claims>(
-    alloc: Global,
-    provider: &P,
-    token: &[u8],
-    set: &JwkSet,
-    validation: &Validation,
-    time: u64,
-    failed: &mut Test,
-) -> Result<TokenData<T>>
-    ensures { let call = decoding_by_set P.CryptoProvider T.Claims
-        provider.now token.now set.now.keys.items validation.now time in
-        Step call set_order whole (Carries call) (tested failed.new result) }
-{
-    let parts = match token_parts(token) {
-        Ok(parts) => parts,
-        Err(refusal) => return Err(note(refusal, failed)),
-    };
-    let header = read_header_noting(alloc, parts.header, failed)?;
-    let claims = read_claims_by_set(alloc, provider, &parts, &header, set, validation, time);
-    match claims {
-        Ok(claims) => Ok(TokenData { header, claims }),
-        Err(refusal) => Err(note(refusal, failed)),
-    }
 }
 
 /// Verifies a token like [`decode_with_set`]; a refusal has the first test that fails, and its
@@ -204,4 +132,76 @@ pub fn decode_with_set<P: CryptoProvider, T: Claims>(
 {
     let mut failed = Test::HasThreeParts;
     decode_with_set_noting(alloc, provider, token, set, validation, time, &mut failed)
+}
+
+/// Returns the key that the header names.
+fn key_in_set(alloc: Global, set: &JwkSet, header: &Header) -> Result<DecodingKey, Refusal>
+    ensures { Step (looking_in set.now.keys.items) key_tests (with_header header.now) ShowsKey
+        result }
+{
+    let jwk = find_key(set, header)?;
+    check_key_algorithm(jwk, header.alg)?;
+    let key = key_of_jwk(alloc, jwk)?;
+    Ok(key)
+}
+
+/// Returns the first key of the set with the header's `kid`. If the header has none, or no key has
+/// it, the refusal is `NoKey`.
+fn find_key<'k>(set: &'k JwkSet, header: &Header) -> Result<&'k Jwk, Refusal>
+    ensures { Finds KeyIsFound (λ k. named_key set.now.keys.items header.now ≡ Some k.now)
+        (named_key set.now.keys.items header.now ≡ None) (λ k. k ≡ kind.NoKey) result }
+{
+    let Some(kid) = &header.kid else {
+        return Err(Refusal::new(Test::KeyIsFound, ErrorKind::NoKey));
+    };
+    set.find(kid.as_str())
+        .ok_or(Refusal::new(Test::KeyIsFound, ErrorKind::NoKey))
+}
+
+/// Refuses with `InvalidAlgorithm` a key that is for another algorithm (RFC 7517 section 4.4).
+fn check_key_algorithm(jwk: &Jwk, algorithm: Algorithm) -> Result<(), Refusal>
+    ensures { Asks KeyAlgorithmAgrees (AgreesWith algorithm jwk.now)
+        (λ k. k ≡ kind.InvalidAlgorithm) result }
+{
+    match jwk.common.key_algorithm {
+        Some(named) if named != KeyAlgorithm::from(algorithm) => Err(Refusal::new(
+            Test::KeyAlgorithmAgrees,
+            ErrorKind::InvalidAlgorithm,
+        )),
+        _ => Ok(()),
+    }
+}
+
+/// Returns the key that a JSON Web Key stands for.
+fn key_of_jwk(alloc: Global, jwk: &Jwk) -> Result<DecodingKey, Refusal>
+    ensures { Finds KeyIsUsable (IsKeyOf jwk.now.algorithm)
+        ((k : Key) → ¬ IsKeyOf jwk.now.algorithm k) (λ k. k ≡ refusal_of jwk.now.algorithm) result }
+{
+    with_test(Test::KeyIsUsable, DecodingKey::from_jwk(alloc, jwk))
+}
+
+/// Verifies a token, and notes the test that fails.
+fn decode_with_set_noting<P: CryptoProvider, T: Claims>(
+    alloc: Global,
+    provider: &P,
+    token: &[u8],
+    set: &JwkSet,
+    validation: &Validation,
+    time: u64,
+    failed: &mut Test,
+) -> Result<TokenData<T>>
+    ensures { let call = decoding_by_set P.CryptoProvider T.Claims
+        provider.now token.now set.now.keys.items validation.now time in
+        Step call set_order whole (Carries call) (tested failed.new result) }
+{
+    let parts = match token_parts(token) {
+        Ok(parts) => parts,
+        Err(refusal) => return Err(note(refusal, failed)),
+    };
+    let header = read_header_noting(alloc, parts.header, failed)?;
+    let claims = read_claims_by_set(alloc, provider, &parts, &header, set, validation, time);
+    match claims {
+        Ok(claims) => Ok(TokenData { header, claims }),
+        Err(refusal) => Err(note(refusal, failed)),
+    }
 }

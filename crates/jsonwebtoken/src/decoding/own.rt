@@ -51,47 +51,37 @@ pub fn named_algorithm(set: &JwkSet, header: &Header) -> Option<Algorithm>
     }
 }
 
-/// Lists this algorithm alone, or none.
-fn list(validation: &mut Validation, own: Option<Algorithm>) -> Result<()>
-    ensures own { OnOk result (validation.new.algorithms.items ≡ listed own) }
-    ensures rest { options_of validation.new ≡ record (options_of validation.old)
-        { algorithms = validation.new.algorithms.items } }
-    ensures err { IfErr result IsMemory }
-{
-    validation.algorithms.clear();
-    if let Some(algorithm) = own {
-        validation.algorithms.push(algorithm)?;
-    }
-    Ok(())
-}
-
-/// Returns the claims of a token that passes, by the key of the set that its header names and by
-/// the algorithm which that key is for, the tests that follow those of the header.
-fn read_claims_by_own<P: CryptoProvider, T: Claims>(
+/// Verifies a token like [`decode_with_set_or_refusal`](crate::decode_with_set_or_refusal), by the
+/// algorithm that the key of the set which its header names is for: the key's own `alg` is the only
+/// algorithm that is accepted, instead of those of `validation`, and stays listed there. If that
+/// key has no `alg`, or there is no such key, no algorithm is accepted.
+///
+/// An algorithm of the key and never of the token is accepted (RFC 8725 section 3.1). The header is
+/// read once.
+pub fn decode_with_set_by_own_algorithm<P: CryptoProvider, T: Claims>(
     alloc: Global,
     provider: &P,
-    parts: &TokenParts<'_>,
-    header: &Header,
+    token: &[u8],
     set: &JwkSet,
     validation: &mut Validation,
     time: u64,
-) -> Result<T, Refusal>
-    ensures read { let call = decoding_by_set P.CryptoProvider T.Claims
-        provider.now [] set.now.keys.items validation.new time in
+) -> Result<TokenData<T>, Refusal>
+    // Unless memory ran out, there is the algorithm that the token's key is for, or none, and the
+    // result is that of `decode_with_set_or_refusal` with just this algorithm.
+    ensures decided { let call = decoding_by_set P.CryptoProvider T.Claims
+        provider.now token.now set.now.keys.items validation.new time in
         IsErrAnd result (λ refusal. IsMemory refusal.error)
-        ⊎ ((validation.new.algorithms.items ≡ listed (named_own set.now.keys.items header.now))
-        × Step call (CritIsUnderstood ∷ key_tests ++ (algorithm_tests ++ verifying_tests))
-        (with_opening (parts_in parts.now) header.now) (ShowsClaims T.reads) result) }
+        ⊎ ((own : Option Algorithm) × IsNamedBy set.now.keys.items token.now own
+        × (validation.new.algorithms.items ≡ listed own)
+        × DecidesByTest (token_tests call) set_order (Carries call) result) }
+
+    // The other options stay.
     ensures rest { options_of validation.new ≡ record (options_of validation.old)
         { algorithms = validation.new.algorithms.items } }
 {
-    match list(validation, named_algorithm(set, header)) {
-        Ok(()) => read_claims_by_set(alloc, provider, parts, header, set, validation, time),
-        Err(error) => Err(Refusal {
-            test: Test::HeaderReads,
-            error,
-        }),
-    }
+    let mut failed = Test::HasThreeParts;
+    let decoded = decode_by_own_noting(alloc, provider, token, set, validation, time, &mut failed);
+    with_test(failed, decoded)
 }
 
 /// Verifies a token, and notes the test that fails.
@@ -126,35 +116,45 @@ fn decode_by_own_noting<P: CryptoProvider, T: Claims>(
     }
 }
 
-/// Verifies a token like [`decode_with_set_or_refusal`](crate::decode_with_set_or_refusal), by the
-/// algorithm that the key of the set which its header names is for: the key's own `alg` is the only
-/// algorithm that is accepted, instead of those of `validation`, and stays listed there. If that
-/// key has no `alg`, or there is no such key, no algorithm is accepted.
-///
-/// An algorithm of the key and never of the token is accepted (RFC 8725 section 3.1). The header is
-/// read once.
-pub fn decode_with_set_by_own_algorithm<P: CryptoProvider, T: Claims>(
+/// Returns the claims of a token that passes, by the key of the set that its header names and by
+/// the algorithm which that key is for, the tests that follow those of the header.
+fn read_claims_by_own<P: CryptoProvider, T: Claims>(
     alloc: Global,
     provider: &P,
-    token: &[u8],
+    parts: &TokenParts<'_>,
+    header: &Header,
     set: &JwkSet,
     validation: &mut Validation,
     time: u64,
-) -> Result<TokenData<T>, Refusal>
-    // Unless memory ran out, there is the algorithm that the token's key is for, or none, and the
-    // result is that of `decode_with_set_or_refusal` with just this algorithm.
-    ensures decided { let call = decoding_by_set P.CryptoProvider T.Claims
-        provider.now token.now set.now.keys.items validation.new time in
+) -> Result<T, Refusal>
+    ensures read { let call = decoding_by_set P.CryptoProvider T.Claims
+        provider.now [] set.now.keys.items validation.new time in
         IsErrAnd result (λ refusal. IsMemory refusal.error)
-        ⊎ ((own : Option Algorithm) × IsNamedBy set.now.keys.items token.now own
-        × (validation.new.algorithms.items ≡ listed own)
-        × DecidesByTest (token_tests call) set_order (Carries call) result) }
-
-    // The other options stay.
+        ⊎ ((validation.new.algorithms.items ≡ listed (named_own set.now.keys.items header.now))
+        × Step call (CritIsUnderstood ∷ key_tests ++ (algorithm_tests ++ verifying_tests))
+        (with_opening (parts_in parts.now) header.now) (ShowsClaims T.reads) result) }
     ensures rest { options_of validation.new ≡ record (options_of validation.old)
         { algorithms = validation.new.algorithms.items } }
 {
-    let mut failed = Test::HasThreeParts;
-    let decoded = decode_by_own_noting(alloc, provider, token, set, validation, time, &mut failed);
-    with_test(failed, decoded)
+    match list(validation, named_algorithm(set, header)) {
+        Ok(()) => read_claims_by_set(alloc, provider, parts, header, set, validation, time),
+        Err(error) => Err(Refusal {
+            test: Test::HeaderReads,
+            error,
+        }),
+    }
+}
+
+/// Lists this algorithm alone, or none.
+fn list(validation: &mut Validation, own: Option<Algorithm>) -> Result<()>
+    ensures own { OnOk result (validation.new.algorithms.items ≡ listed own) }
+    ensures rest { options_of validation.new ≡ record (options_of validation.old)
+        { algorithms = validation.new.algorithms.items } }
+    ensures err { IfErr result IsMemory }
+{
+    validation.algorithms.clear();
+    if let Some(algorithm) = own {
+        validation.algorithms.push(algorithm)?;
+    }
+    Ok(())
 }

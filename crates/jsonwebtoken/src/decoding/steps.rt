@@ -99,49 +99,6 @@ pub(crate) fn check_families(validation: &Validation, algorithm: Algorithm) -> R
     }
 }
 
-/// Refuses with `InvalidSignature` a signature that the verifier does not accept.
-fn check_verdict<V: JwtVerifier>(
-    alloc: Global,
-    verifier: &V,
-    message: &[u8],
-    signature: &[u8],
-) -> Result<(), Refusal>
-    ensures { Asks SignatureIsAccepted (V.accepts verifier.now message.now signature.now)
-        (λ k. k ≡ kind.InvalidSignature) result }
-{
-    let verdict = verifier.verify(alloc, message, signature);
-    if with_test(Test::SignatureIsAccepted, verdict)? {
-        Ok(())
-    } else {
-        Err(Refusal::new(Test::SignatureIsAccepted, ErrorKind::InvalidSignature))
-    }
-}
-
-/// Returns the bytes before the last dot, and those after it.
-fn last_dot(text: &[u8]) -> Option<(&[u8], &[u8])>
-    ensures some { IfSome result (λ p. (text.now ≡ p.0.now ++ dot ∷ p.1.now)
-        × (¬ Contains p.1.now dot)) }
-    ensures none { IfNone result (¬ Contains text.now dot) }
-{
-    let at = memrchr(b'.', text)?;
-    Some((&text[..at], &text[at + 1..]))
-}
-
-/// Returns the parts of the token, found from its end.
-fn find_parts(token: &[u8]) -> Option<TokenParts<'_>>
-    ensures some { IfSome result (λ p. ArePartsOf token.now (parts_in p)) }
-    ensures none { IfNone result ((p : Parts) → ¬ ArePartsOf token.now p) }
-{
-    let (message, signature) = last_dot(token)?;
-    let (header, payload) = last_dot(message)?;
-    Some(TokenParts {
-        message,
-        header,
-        payload,
-        signature,
-    })
-}
-
 /// Returns the parts of the token. A token with fewer than two dots is refused with `InvalidToken`.
 pub(crate) fn token_parts(token: &[u8]) -> Result<TokenParts<'_>, Refusal>
     ensures { Finds HasThreeParts (λ p. ArePartsOf token.now (parts_in p))
@@ -164,33 +121,6 @@ pub(crate) fn read_json(alloc: Global, test: Test, bytes: &[u8]) -> Result<Value
         (λ k. k ≡ kind.Json) result }
 {
     with_test(test, json_value(alloc, bytes))
-}
-
-/// Returns the header with the algorithm and the type `JWT` alone, as [`Header::new`] does. A
-/// header is large, so it is made in the result here, and not moved from that of another call.
-fn known_header(alloc: Global, algorithm: Algorithm) -> Result<Header>
-    ensures ok { IfOk result (λ header. header ≡ new_header algorithm) }
-    ensures err { IfErr result IsMemory }
-{
-    let typ = Text::from_str(alloc, "JWT")?;
-    Ok(Header {
-        alg: algorithm,
-        typ: Some(typ),
-        cty: None,
-        jku: None,
-        jwk: None,
-        kid: None,
-        x5u: None,
-        x5t: None,
-        x5t_s256: None,
-        url: None,
-        nonce: None,
-        x5c: None,
-        crit: None,
-        enc: None,
-        zip: None,
-        extras: Extras::new(alloc),
-    })
 }
 
 /// Returns the header that a header part stands for, and notes the test that fails. Four parts are
@@ -265,73 +195,6 @@ pub(crate) fn verifier_for<P: CryptoProvider>(
     Ok(verifier)
 }
 
-fn check_signature<V: JwtVerifier>(
-    alloc: Global,
-    verifier: &V,
-    parts: &TokenParts<'_>,
-) -> Result<(), Refusal>
-    ensures { Step (accepting (V.accepts verifier.now)) signature_tests
-        (with_parts (parts_in parts.now)) ShowsNothing result }
-{
-    let bytes = read_part(alloc, Test::SignatureIsPart, parts.signature)?;
-    check_verdict(alloc, verifier, parts.message, bytes.as_slice())
-}
-
-/// Returns the claims of a JSON value.
-fn claims_of_value<T: Claims>(alloc: Global, value: Value) -> Result<T, Refusal>
-    ensures { Finds ClaimsRead (λ c. T.reads (view value) c) ((c : T) → ¬ T.reads (view value) c)
-        (λ k. k ≡ kind.Json) result }
-{
-    with_test(Test::ClaimsRead, T::from_owned(alloc, value))
-}
-
-/// Returns the test that claims fail which [`validate`] refuses.
-fn failed_rule(claims: &Value) -> Test
-    ensures { (IsSome (as_object (view claims.now)) × (result ≡ ClaimRulesHold))
-        ⊎ ((¬ IsSome (as_object (view claims.now))) × (result ≡ ClaimsAreAnObject)) }
-{
-    if claims.is_object() {
-        Test::ClaimRulesHold
-    } else {
-        Test::ClaimsAreAnObject
-    }
-}
-
-/// Refuses claims that are not an object, or that break a rule.
-fn check_claims(
-    alloc: Global,
-    claims: &Value,
-    validation: &Validation,
-    time: u64,
-) -> Result<(), Refusal>
-    ensures { Step (holding (options_of validation.now) time) rule_tests
-        (with_value (view claims.now)) ShowsNothing result }
-{
-    with_test(
-        failed_rule(claims),
-        validate(alloc, claims, validation, time),
-    )
-}
-
-/// Returns the claims that a payload part stands for. The JSON value is lent to the rules and then
-/// consumed by the claims, whose refusal comes first.
-fn read_claims<T: Claims>(
-    alloc: Global,
-    part: &[u8],
-    validation: &Validation,
-    time: u64,
-) -> Result<T, Refusal>
-    ensures { Step (claiming T.reads (options_of validation.now) time) claim_tests
-        (with_payload_part part.now) (ShowsClaims T.reads) result }
-{
-    let bytes = read_part(alloc, Test::PayloadIsPart, part)?;
-    let value = read_json(alloc, Test::PayloadIsJson, bytes.as_slice())?;
-    let held = check_claims(alloc, &value, validation, time);
-    let claims = claims_of_value(alloc, value)?;
-    held?;
-    Ok(claims)
-}
-
 /// Returns the claims of a token whose signature the verifier accepts, and whose claims hold at the
 /// time.
 pub(crate) fn verify_and_read_claims<V: JwtVerifier, T: Claims>(
@@ -399,4 +262,141 @@ pub(crate) fn read_claims_by_key<P: CryptoProvider, T: Claims>(
 {
     check_crit(header, validation)?;
     verify_by_key(alloc, provider, parts, header, key, validation, time)
+}
+
+/// Returns the parts of the token, found from its end.
+fn find_parts(token: &[u8]) -> Option<TokenParts<'_>>
+    ensures some { IfSome result (λ p. ArePartsOf token.now (parts_in p)) }
+    ensures none { IfNone result ((p : Parts) → ¬ ArePartsOf token.now p) }
+{
+    let (message, signature) = last_dot(token)?;
+    let (header, payload) = last_dot(message)?;
+    Some(TokenParts {
+        message,
+        header,
+        payload,
+        signature,
+    })
+}
+
+/// Returns the bytes before the last dot, and those after it.
+fn last_dot(text: &[u8]) -> Option<(&[u8], &[u8])>
+    ensures some { IfSome result (λ p. (text.now ≡ p.0.now ++ dot ∷ p.1.now)
+        × (¬ Contains p.1.now dot)) }
+    ensures none { IfNone result (¬ Contains text.now dot) }
+{
+    let at = memrchr(b'.', text)?;
+    Some((&text[..at], &text[at + 1..]))
+}
+
+/// Returns the header with the algorithm and the type `JWT` alone, as [`Header::new`] does. A
+/// header is large, so it is made in the result here, and not moved from that of another call.
+fn known_header(alloc: Global, algorithm: Algorithm) -> Result<Header>
+    ensures ok { IfOk result (λ header. header ≡ new_header algorithm) }
+    ensures err { IfErr result IsMemory }
+{
+    let typ = Text::from_str(alloc, "JWT")?;
+    Ok(Header {
+        alg: algorithm,
+        typ: Some(typ),
+        cty: None,
+        jku: None,
+        jwk: None,
+        kid: None,
+        x5u: None,
+        x5t: None,
+        x5t_s256: None,
+        url: None,
+        nonce: None,
+        x5c: None,
+        crit: None,
+        enc: None,
+        zip: None,
+        extras: Extras::new(alloc),
+    })
+}
+
+fn check_signature<V: JwtVerifier>(
+    alloc: Global,
+    verifier: &V,
+    parts: &TokenParts<'_>,
+) -> Result<(), Refusal>
+    ensures { Step (accepting (V.accepts verifier.now)) signature_tests
+        (with_parts (parts_in parts.now)) ShowsNothing result }
+{
+    let bytes = read_part(alloc, Test::SignatureIsPart, parts.signature)?;
+    check_verdict(alloc, verifier, parts.message, bytes.as_slice())
+}
+
+/// Refuses with `InvalidSignature` a signature that the verifier does not accept.
+fn check_verdict<V: JwtVerifier>(
+    alloc: Global,
+    verifier: &V,
+    message: &[u8],
+    signature: &[u8],
+) -> Result<(), Refusal>
+    ensures { Asks SignatureIsAccepted (V.accepts verifier.now message.now signature.now)
+        (λ k. k ≡ kind.InvalidSignature) result }
+{
+    let verdict = verifier.verify(alloc, message, signature);
+    if with_test(Test::SignatureIsAccepted, verdict)? {
+        Ok(())
+    } else {
+        Err(Refusal::new(Test::SignatureIsAccepted, ErrorKind::InvalidSignature))
+    }
+}
+
+/// Returns the claims that a payload part stands for. The JSON value is lent to the rules and then
+/// consumed by the claims, whose refusal comes first.
+fn read_claims<T: Claims>(
+    alloc: Global,
+    part: &[u8],
+    validation: &Validation,
+    time: u64,
+) -> Result<T, Refusal>
+    ensures { Step (claiming T.reads (options_of validation.now) time) claim_tests
+        (with_payload_part part.now) (ShowsClaims T.reads) result }
+{
+    let bytes = read_part(alloc, Test::PayloadIsPart, part)?;
+    let value = read_json(alloc, Test::PayloadIsJson, bytes.as_slice())?;
+    let held = check_claims(alloc, &value, validation, time);
+    let claims = claims_of_value(alloc, value)?;
+    held?;
+    Ok(claims)
+}
+
+/// Refuses claims that are not an object, or that break a rule.
+fn check_claims(
+    alloc: Global,
+    claims: &Value,
+    validation: &Validation,
+    time: u64,
+) -> Result<(), Refusal>
+    ensures { Step (holding (options_of validation.now) time) rule_tests
+        (with_value (view claims.now)) ShowsNothing result }
+{
+    with_test(
+        failed_rule(claims),
+        validate(alloc, claims, validation, time),
+    )
+}
+
+/// Returns the test that claims fail which [`validate`] refuses.
+fn failed_rule(claims: &Value) -> Test
+    ensures { (IsSome (as_object (view claims.now)) × (result ≡ ClaimRulesHold))
+        ⊎ ((¬ IsSome (as_object (view claims.now))) × (result ≡ ClaimsAreAnObject)) }
+{
+    if claims.is_object() {
+        Test::ClaimRulesHold
+    } else {
+        Test::ClaimsAreAnObject
+    }
+}
+
+/// Returns the claims of a JSON value.
+fn claims_of_value<T: Claims>(alloc: Global, value: Value) -> Result<T, Refusal>
+    ensures { Finds ClaimsRead (λ c. T.reads (view value) c) ((c : T) → ¬ T.reads (view value) c)
+        (λ k. k ≡ kind.Json) result }
+{
+    with_test(Test::ClaimsRead, T::from_owned(alloc, value))
 }

@@ -37,16 +37,6 @@ pub(crate) fn check_family(key: &EncodingKey, algorithm: Algorithm) -> Result<()
     Err(new_error(ErrorKind::InvalidAlgorithm))
 }
 
-/// Returns the part that stands for the compact text of a value without floats.
-fn value_part(alloc: Global, value: &Value) -> Result<String>
-    requires { holds_float (view value.now) ≡ false }
-    ensures ok { IfOk result (λ t. IsPartOf (view value.now) (string_bytes t)) }
-    ensures err { IfErr result IsMemory }
-{
-    let text = value.to_vec(alloc)?;
-    part_text(alloc, text.as_slice())
-}
-
 /// Returns the header part. The part of four headers is known without being written.
 pub(crate) fn header_part(alloc: Global, header: &Header) -> Result<String>
     ensures ok { IfOk result (λ t. (d : Data)
@@ -98,17 +88,6 @@ pub(crate) fn with_part(mut text: String, part: &str) -> Result<String>
     Ok(text)
 }
 
-/// Returns the part of a signature of the message.
-fn signature_part<S: JwtSigner>(alloc: Global, signer: &S, message: &[u8]) -> Result<String>
-    ensures signed { IfOk result (λ t. (b : List ℕ)
-        × (IsPart (string_bytes t) b × S.signs signer.now message.now b)) }
-    ensures ok { OnOk result (S.sign_refusal signer.now message.now ≡ None) }
-    ensures err { IfErr result (Refuses (S.sign_refusal signer.now message.now)) }
-{
-    let signature = signer.sign(alloc, message)?;
-    part_text(alloc, signature.as_slice())
-}
-
 /// The message of a token that is signed, and the part of its signature.
 #[derive(Drop)]
 pub(crate) struct SignedMessage {
@@ -135,4 +114,25 @@ pub(crate) fn sign_parts<S: JwtSigner>(
     let message = with_part(header, payload)?;
     let signature = signature_part(alloc, signer, message.as_bytes())?;
     Ok(SignedMessage { message, signature })
+}
+
+/// Returns the part that stands for the compact text of a value without floats.
+fn value_part(alloc: Global, value: &Value) -> Result<String>
+    requires { holds_float (view value.now) ≡ false }
+    ensures ok { IfOk result (λ t. IsPartOf (view value.now) (string_bytes t)) }
+    ensures err { IfErr result IsMemory }
+{
+    let text = value.to_vec(alloc)?;
+    part_text(alloc, text.as_slice())
+}
+
+/// Returns the part of a signature of the message.
+fn signature_part<S: JwtSigner>(alloc: Global, signer: &S, message: &[u8]) -> Result<String>
+    ensures signed { IfOk result (λ t. (b : List ℕ)
+        × (IsPart (string_bytes t) b × S.signs signer.now message.now b)) }
+    ensures ok { OnOk result (S.sign_refusal signer.now message.now ≡ None) }
+    ensures err { IfErr result (Refuses (S.sign_refusal signer.now message.now)) }
+{
+    let signature = signer.sign(alloc, message)?;
+    part_text(alloc, signature.as_slice())
 }

@@ -25,18 +25,6 @@ pub fn has_float(value: &Value) -> bool
     }
 }
 
-#[cycle(floats)]
-fn any_item_has_float(items: &[Value]) -> bool
-    ensures { result ≡ items_have_float (items_view items.now) }
-{
-    for item in items {
-        if has_float(item) {
-            return true;
-        }
-    }
-    false
-}
-
 /// Returns whether a float stands anywhere in the members.
 #[cycle(floats)]
 pub fn any_member_has_float(members: &Map<String, Value>) -> bool
@@ -77,6 +65,18 @@ pub fn hash_names<H: Hasher>(members: &Map<String, Value>, state: &mut H)
     for (name, _) in members.iter() {
         name.as_str().hash(state);
     }
+}
+
+#[cycle(floats)]
+fn any_item_has_float(items: &[Value]) -> bool
+    ensures { result ≡ items_have_float (items_view items.now) }
+{
+    for item in items {
+        if has_float(item) {
+            return true;
+        }
+    }
+    false
 }
 
 #[cycle(same)]

@@ -7,21 +7,6 @@ use jsonwebtoken::{DecodingKey, DecodingKeyKind, errors};
 use serde_json::{Map, Value};
 use std::alloc::Global;
 
-// Adds the content of a key: its bytes, or its two numbers.
-fn add_kind(
-    alloc: Global,
-    members: &mut Map<String, Value>,
-    kind: &DecodingKeyKind,
-) -> Result<(), Fault> {
-    match kind {
-        DecodingKeyKind::SecretOrDer(bytes) => add_bytes(alloc, members, "bytes", bytes.as_slice()),
-        DecodingKeyKind::RsaModulusExponent { n, e } => {
-            add_bytes(alloc, members, "n", n.as_slice())?;
-            add_bytes(alloc, members, "e", e.as_slice())
-        }
-    }
-}
-
 /// Returns the result of a call that returned the content of a key.
 pub fn kind_answer(alloc: Global, kind: &DecodingKeyKind) -> Answer {
     let mut members = Map::new(alloc);
@@ -42,5 +27,20 @@ pub fn of_decoding_key(alloc: Global, answer: errors::Result<DecodingKey>) -> An
     match answer {
         Ok(key) => key_answer(alloc, &key),
         Err(refusal) => refused(alloc, &refusal),
+    }
+}
+
+// Adds the content of a key: its bytes, or its two numbers.
+fn add_kind(
+    alloc: Global,
+    members: &mut Map<String, Value>,
+    kind: &DecodingKeyKind,
+) -> Result<(), Fault> {
+    match kind {
+        DecodingKeyKind::SecretOrDer(bytes) => add_bytes(alloc, members, "bytes", bytes.as_slice()),
+        DecodingKeyKind::RsaModulusExponent { n, e } => {
+            add_bytes(alloc, members, "n", n.as_slice())?;
+            add_bytes(alloc, members, "e", e.as_slice())
+        }
     }
 }

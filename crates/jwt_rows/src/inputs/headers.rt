@@ -22,8 +22,30 @@ pub fn header_of(alloc: Global, value: &Value) -> Result<Box<Header>, Fault> {
     }
 }
 
-fn read(alloc: Global, value: &Value) -> Result<Box<Header>, Fault> {
-    Ok(Box::new(alloc, Header::from_value(alloc, value)?)?)
+/// Returns the extras that a value describes.
+pub fn extras_of(alloc: Global, value: &Value) -> Result<Extras, Fault> {
+    match value.as_array() {
+        Some(pairs) => inserted_extras(alloc, pairs),
+        None => Ok(Extras::from_value(alloc, value)?),
+    }
+}
+
+/// Returns the value that shows extras: the object of their members.
+pub fn shown_extras(extras: &Extras) -> Answer {
+    Ok(Value::Object(extras.inner().clone()?))
+}
+
+/// Returns the value that shows a header: its JSON value, or for one with a key an object of the
+/// key's kind, `jwk`, and the JSON value.
+pub fn shown_header(alloc: Global, header: &Header) -> Answer {
+    let value = header.to_value(alloc)?;
+    match &header.jwk {
+        Some(key) => {
+            let kind = shown_kind(alloc, &key.algorithm)?;
+            pair(alloc, ("jwk", kind), ("value", value))
+        }
+        None => Ok(value),
+    }
 }
 
 fn changed_header(alloc: Global, members: &Value, fields: &Value) -> Result<Box<Header>, Fault> {
@@ -33,6 +55,10 @@ fn changed_header(alloc: Global, members: &Value, fields: &Value) -> Result<Box<
     set_key(alloc, &mut header, fields)?;
     set_extras(alloc, &mut header, fields)?;
     Ok(header)
+}
+
+fn read(alloc: Global, value: &Value) -> Result<Box<Header>, Fault> {
+    Ok(Box::new(alloc, Header::from_value(alloc, value)?)?)
 }
 
 fn set_names(alloc: Global, header: &mut Header, fields: &Value) -> Result<(), Fault> {
@@ -62,14 +88,6 @@ fn set_extras(alloc: Global, header: &mut Header, fields: &Value) -> Result<(), 
     Ok(())
 }
 
-/// Returns the extras that a value describes.
-pub fn extras_of(alloc: Global, value: &Value) -> Result<Extras, Fault> {
-    match value.as_array() {
-        Some(pairs) => inserted_extras(alloc, pairs),
-        None => Ok(Extras::from_value(alloc, value)?),
-    }
-}
-
 fn inserted_extras(alloc: Global, pairs: &[Value]) -> Result<Extras, Fault> {
     let mut extras = Extras::new(alloc);
     for pair in pairs {
@@ -77,22 +95,4 @@ fn inserted_extras(alloc: Global, pairs: &[Value]) -> Result<Extras, Fault> {
         extras.insert(alloc, name, pair.get(1).ok_or(MALFORMED)?)?;
     }
     Ok(extras)
-}
-
-/// Returns the value that shows extras: the object of their members.
-pub fn shown_extras(extras: &Extras) -> Answer {
-    Ok(Value::Object(extras.inner().clone()?))
-}
-
-/// Returns the value that shows a header: its JSON value, or for one with a key an object of the
-/// key's kind, `jwk`, and the JSON value.
-pub fn shown_header(alloc: Global, header: &Header) -> Answer {
-    let value = header.to_value(alloc)?;
-    match &header.jwk {
-        Some(key) => {
-            let kind = shown_kind(alloc, &key.algorithm)?;
-            pair(alloc, ("jwk", kind), ("value", value))
-        }
-        None => Ok(value),
-    }
 }

@@ -60,41 +60,12 @@ pub fn common_of(alloc: Global, value: &Value) -> Result<Box<CommonParameters>, 
     Ok(common)
 }
 
-fn set_use(alloc: Global, common: &mut CommonParameters, value: &Value) -> Result<(), Fault> {
-    if let Some(described) = value.get("use_other") {
-        let public_key_use = use_of(alloc, described)?;
-        common.public_key_use = Some(public_key_use);
-    }
-    Ok(())
-}
-
-fn set_operations(
-    alloc: Global,
-    common: &mut CommonParameters,
-    value: &Value,
-) -> Result<(), Fault> {
-    if let Some(described) = value.get("key_ops_other") {
-        let operations = operation_list_of(alloc, described)?;
-        common.key_operations = Some(operations);
-    }
-    Ok(())
-}
-
 /// Returns the key that a value describes.
 pub fn key_of(alloc: Global, value: &Value) -> Result<Jwk, Fault> {
     match value.get("other") {
         Some(members) => other_key(alloc, value, members),
         None => Ok(Jwk::from_value(alloc, value)?),
     }
-}
-
-fn other_key(alloc: Global, value: &Value, members: &Value) -> Result<Jwk, Fault> {
-    Row::new(alloc, value).takes(&DESCRIBED)?;
-    let fields = free_members_of(members)?;
-    Ok(Jwk {
-        common: CommonParameters::from_value(alloc, value)?,
-        algorithm: AlgorithmParameters::Other(OtherKeyParameters { fields }),
-    })
 }
 
 /// Returns the key that a value describes, behind a pointer.
@@ -111,17 +82,6 @@ pub fn jwk_set_of(alloc: Global, value: &Value) -> Result<JwkSet, Fault> {
         set.keys.push(key_of(alloc, item)?)?;
     }
     Ok(set)
-}
-
-// Returns the name of a kind.
-fn kind_name(algorithm: &AlgorithmParameters) -> &'static str {
-    match algorithm {
-        AlgorithmParameters::EllipticCurve(_) => "EllipticCurve",
-        AlgorithmParameters::RSA(_) => "RSA",
-        AlgorithmParameters::OctetKey(_) => "OctetKey",
-        AlgorithmParameters::OctetKeyPair(_) => "OctetKeyPair",
-        AlgorithmParameters::Other(_) => "Other",
-    }
 }
 
 /// Returns the name of the kind of these parameters.
@@ -150,4 +110,44 @@ pub fn shown_jwk_set(alloc: Global, set: &JwkSet) -> Answer {
         items.push(shown_jwk(alloc, key)?)?;
     }
     Ok(Value::Array(items))
+}
+
+fn set_use(alloc: Global, common: &mut CommonParameters, value: &Value) -> Result<(), Fault> {
+    if let Some(described) = value.get("use_other") {
+        let public_key_use = use_of(alloc, described)?;
+        common.public_key_use = Some(public_key_use);
+    }
+    Ok(())
+}
+
+fn set_operations(
+    alloc: Global,
+    common: &mut CommonParameters,
+    value: &Value,
+) -> Result<(), Fault> {
+    if let Some(described) = value.get("key_ops_other") {
+        let operations = operation_list_of(alloc, described)?;
+        common.key_operations = Some(operations);
+    }
+    Ok(())
+}
+
+fn other_key(alloc: Global, value: &Value, members: &Value) -> Result<Jwk, Fault> {
+    Row::new(alloc, value).takes(&DESCRIBED)?;
+    let fields = free_members_of(members)?;
+    Ok(Jwk {
+        common: CommonParameters::from_value(alloc, value)?,
+        algorithm: AlgorithmParameters::Other(OtherKeyParameters { fields }),
+    })
+}
+
+// Returns the name of a kind.
+fn kind_name(algorithm: &AlgorithmParameters) -> &'static str {
+    match algorithm {
+        AlgorithmParameters::EllipticCurve(_) => "EllipticCurve",
+        AlgorithmParameters::RSA(_) => "RSA",
+        AlgorithmParameters::OctetKey(_) => "OctetKey",
+        AlgorithmParameters::OctetKeyPair(_) => "OctetKeyPair",
+        AlgorithmParameters::Other(_) => "Other",
+    }
 }

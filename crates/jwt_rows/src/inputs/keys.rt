@@ -12,65 +12,6 @@ use std::alloc::Global;
 
 const MALFORMED: Fault = Fault::Member("key");
 
-// Returns the name of the constructor, and its argument.
-fn constructor(value: &Value) -> Result<(&str, &Value), Fault> {
-    let Some(members) = value.as_object() else {
-        return Err(MALFORMED);
-    };
-    for (name, given) in members {
-        if members.len() == 1 {
-            return Ok((name.as_str(), given));
-        }
-    }
-    Err(MALFORMED)
-}
-
-// Returns the string at a place of a list.
-fn text_at(list: &Value, place: usize) -> Result<&str, Fault> {
-    let text = list.get(place).and_then(Value::as_str);
-    text.ok_or(MALFORMED)
-}
-
-fn key_of_bytes(alloc: Global, name: &str, bytes: &[u8]) -> Result<DecodingKey, Fault> {
-    let key = match name {
-        "secret" => DecodingKey::from_secret(alloc, bytes),
-        "rsa_der" => DecodingKey::from_rsa_der(alloc, bytes),
-        "ec_der" => DecodingKey::from_ec_der(alloc, bytes),
-        "ed_der" => DecodingKey::from_ed_der(alloc, bytes),
-        "pem" => public_key_from_pem(alloc, bytes),
-        _ => return Err(MALFORMED),
-    };
-    Ok(key?)
-}
-
-fn read_jwk(alloc: Global, value: &Value) -> Result<Box<Jwk>, Fault> {
-    Ok(Box::new(alloc, Jwk::from_value(alloc, value)?)?)
-}
-
-fn key_of_jwk(alloc: Global, value: &Value) -> Result<DecodingKey, Fault> {
-    let jwk = read_jwk(alloc, value)?;
-    Ok(DecodingKey::from_jwk(alloc, &jwk)?)
-}
-
-fn key_of(alloc: Global, value: &Value) -> Result<DecodingKey, Fault> {
-    let (name, given) = constructor(value)?;
-    match name {
-        "jwk" => key_of_jwk(alloc, given),
-        "rsa_components" => {
-            let (n, e) = (text_at(given, 0)?, text_at(given, 1)?);
-            Ok(DecodingKey::from_rsa_components(alloc, n, e)?)
-        }
-        "ec_components" => {
-            let (x, y) = (text_at(given, 0)?, text_at(given, 1)?);
-            Ok(DecodingKey::from_ec_components(alloc, x, y)?)
-        }
-        _ => {
-            let bytes = bytes_of(alloc, given)?;
-            key_of_bytes(alloc, name, bytes.as_slice())
-        }
-    }
-}
-
 /// Returns the verification key at `key`.
 pub fn decoding_key(row: Row<'_>) -> Result<Box<DecodingKey>, Fault> {
     let key = key_of(row.alloc(), row.value("key")?)?;
@@ -106,4 +47,63 @@ pub fn thumbprint_hash(row: Row<'_>) -> Result<ThumbprintHash, Fault> {
         "SHA512" => Ok(ThumbprintHash::SHA512),
         _ => Err(Fault::Member("hash")),
     }
+}
+
+fn key_of(alloc: Global, value: &Value) -> Result<DecodingKey, Fault> {
+    let (name, given) = constructor(value)?;
+    match name {
+        "jwk" => key_of_jwk(alloc, given),
+        "rsa_components" => {
+            let (n, e) = (text_at(given, 0)?, text_at(given, 1)?);
+            Ok(DecodingKey::from_rsa_components(alloc, n, e)?)
+        }
+        "ec_components" => {
+            let (x, y) = (text_at(given, 0)?, text_at(given, 1)?);
+            Ok(DecodingKey::from_ec_components(alloc, x, y)?)
+        }
+        _ => {
+            let bytes = bytes_of(alloc, given)?;
+            key_of_bytes(alloc, name, bytes.as_slice())
+        }
+    }
+}
+
+// Returns the name of the constructor, and its argument.
+fn constructor(value: &Value) -> Result<(&str, &Value), Fault> {
+    let Some(members) = value.as_object() else {
+        return Err(MALFORMED);
+    };
+    for (name, given) in members {
+        if members.len() == 1 {
+            return Ok((name.as_str(), given));
+        }
+    }
+    Err(MALFORMED)
+}
+
+fn key_of_jwk(alloc: Global, value: &Value) -> Result<DecodingKey, Fault> {
+    let jwk = read_jwk(alloc, value)?;
+    Ok(DecodingKey::from_jwk(alloc, &jwk)?)
+}
+
+fn read_jwk(alloc: Global, value: &Value) -> Result<Box<Jwk>, Fault> {
+    Ok(Box::new(alloc, Jwk::from_value(alloc, value)?)?)
+}
+
+// Returns the string at a place of a list.
+fn text_at(list: &Value, place: usize) -> Result<&str, Fault> {
+    let text = list.get(place).and_then(Value::as_str);
+    text.ok_or(MALFORMED)
+}
+
+fn key_of_bytes(alloc: Global, name: &str, bytes: &[u8]) -> Result<DecodingKey, Fault> {
+    let key = match name {
+        "secret" => DecodingKey::from_secret(alloc, bytes),
+        "rsa_der" => DecodingKey::from_rsa_der(alloc, bytes),
+        "ec_der" => DecodingKey::from_ec_der(alloc, bytes),
+        "ed_der" => DecodingKey::from_ed_der(alloc, bytes),
+        "pem" => public_key_from_pem(alloc, bytes),
+        _ => return Err(MALFORMED),
+    };
+    Ok(key?)
 }

@@ -10,20 +10,6 @@ use std::alloc::Global;
 
 const MALFORMED: Fault = Fault::Member("name");
 
-// Returns the name of a kept value.
-fn kept_name(alloc: Global, value: &Value) -> Result<Text, Fault> {
-    let name = value.get("other").and_then(Value::as_str);
-    Ok(Text::from_str(alloc, name.ok_or(MALFORMED)?)?)
-}
-
-fn shown_name(alloc: Global, name: &str) -> Answer {
-    Ok(Value::try_from_str(alloc, name)?)
-}
-
-fn shown_kept(alloc: Global, name: &Text) -> Answer {
-    object(alloc, "other", Value::try_from_str(alloc, name.as_str())?)
-}
-
 /// Returns the use of public keys that a value describes.
 pub fn use_of(alloc: Global, value: &Value) -> Result<PublicKeyUse, Fault> {
     match value.as_str() {
@@ -174,4 +160,18 @@ pub fn family_name(family: AlgorithmFamily) -> &'static str {
         AlgorithmFamily::Ec => "Ec",
         AlgorithmFamily::Ed => "Ed",
     }
+}
+
+// Returns the name of a kept value.
+fn kept_name(alloc: Global, value: &Value) -> Result<Text, Fault> {
+    let name = value.get("other").and_then(Value::as_str);
+    Ok(Text::from_str(alloc, name.ok_or(MALFORMED)?)?)
+}
+
+fn shown_name(alloc: Global, name: &str) -> Answer {
+    Ok(Value::try_from_str(alloc, name)?)
+}
+
+fn shown_kept(alloc: Global, name: &Text) -> Answer {
+    object(alloc, "other", Value::try_from_str(alloc, name.as_str())?)
 }

@@ -31,27 +31,11 @@ pub fn answer(call: &str, row: Row<'_>, trial: &mut Trial) -> Result<Option<Valu
     Ok(Some(answer?))
 }
 
-fn key_answer(alloc: Global, key: &EncodingKey) -> Answer {
-    let mut members = Map::new(alloc);
-    add_text(alloc, &mut members, "family", family_name(key.family()))?;
-    add_bytes(alloc, &mut members, "bytes", key.as_bytes())?;
-    accepted(alloc, Value::Object(members))
-}
-
 /// Returns the result of a call that returns a signing key.
 pub fn of_key(alloc: Global, answer: errors::Result<EncodingKey>) -> Answer {
     match answer {
         Ok(key) => key_answer(alloc, &key),
         Err(refusal) => refused(alloc, &refusal),
-    }
-}
-
-fn made_of_bytes(alloc: Global, call: &str, bytes: &[u8]) -> errors::Result<EncodingKey> {
-    match call {
-        "EncodingKey::from_rsa_der" => EncodingKey::from_rsa_der(alloc, bytes),
-        "EncodingKey::from_ec_der" => EncodingKey::from_ec_der(alloc, bytes),
-        "EncodingKey::from_ed_der" => EncodingKey::from_ed_der(alloc, bytes),
-        _ => EncodingKey::from_secret(alloc, bytes),
     }
 }
 
@@ -63,11 +47,27 @@ fn of_bytes(call: &str, row: Row<'_>, trial: &mut Trial) -> Answer {
     of_key(row.alloc(), answer)
 }
 
-fn made_of_text(alloc: Global, call: &str, text: &str) -> errors::Result<EncodingKey> {
+fn made_of_bytes(alloc: Global, call: &str, bytes: &[u8]) -> errors::Result<EncodingKey> {
     match call {
-        "EncodingKey::from_base64_secret" => EncodingKey::from_base64_secret(alloc, text),
-        _ => EncodingKey::from_urlsafe_base64_secret(alloc, text),
+        "EncodingKey::from_rsa_der" => EncodingKey::from_rsa_der(alloc, bytes),
+        "EncodingKey::from_ec_der" => EncodingKey::from_ec_der(alloc, bytes),
+        "EncodingKey::from_ed_der" => EncodingKey::from_ed_der(alloc, bytes),
+        _ => EncodingKey::from_secret(alloc, bytes),
     }
+}
+
+fn bytes(row: Row<'_>, trial: &mut Trial) -> Answer {
+    let key = only_key(row)?;
+    trial.begin();
+    let bytes = key.as_bytes();
+    trial.end();
+    accepted(row.alloc(), hex_value(row.alloc(), bytes)?)
+}
+
+// Returns the key at `key`, of a row that has no other input.
+fn only_key(row: Row<'_>) -> Result<Box<EncodingKey>, Fault> {
+    row.takes(&["key"])?;
+    encoding_key(row)
 }
 
 fn of_text(call: &str, row: Row<'_>, trial: &mut Trial) -> Answer {
@@ -78,10 +78,11 @@ fn of_text(call: &str, row: Row<'_>, trial: &mut Trial) -> Answer {
     of_key(row.alloc(), answer)
 }
 
-// Returns the key at `key`, of a row that has no other input.
-fn only_key(row: Row<'_>) -> Result<Box<EncodingKey>, Fault> {
-    row.takes(&["key"])?;
-    encoding_key(row)
+fn made_of_text(alloc: Global, call: &str, text: &str) -> errors::Result<EncodingKey> {
+    match call {
+        "EncodingKey::from_base64_secret" => EncodingKey::from_base64_secret(alloc, text),
+        _ => EncodingKey::from_urlsafe_base64_secret(alloc, text),
+    }
 }
 
 fn family(row: Row<'_>, trial: &mut Trial) -> Answer {
@@ -90,14 +91,6 @@ fn family(row: Row<'_>, trial: &mut Trial) -> Answer {
     let family = key.family();
     trial.end();
     accepted(row.alloc(), family.to_value(row.alloc())?)
-}
-
-fn bytes(row: Row<'_>, trial: &mut Trial) -> Answer {
-    let key = only_key(row)?;
-    trial.begin();
-    let bytes = key.as_bytes();
-    trial.end();
-    accepted(row.alloc(), hex_value(row.alloc(), bytes)?)
 }
 
 fn copied(row: Row<'_>, trial: &mut Trial) -> Answer {
@@ -114,6 +107,13 @@ fn zeroed(row: Row<'_>, trial: &mut Trial) -> Answer {
     key.zeroize();
     trial.end();
     key_answer(row.alloc(), &key)
+}
+
+fn key_answer(alloc: Global, key: &EncodingKey) -> Answer {
+    let mut members = Map::new(alloc);
+    add_text(alloc, &mut members, "family", family_name(key.family()))?;
+    add_bytes(alloc, &mut members, "bytes", key.as_bytes())?;
+    accepted(alloc, Value::Object(members))
 }
 
 fn debug_text(row: Row<'_>) -> Answer {

@@ -33,18 +33,6 @@ struct Said {
     yes: bool,
 }
 
-// Returns the verdict at `verdict`.
-fn said_at(row: Row<'_>, names: &[&str]) -> Result<Said, Fault> {
-    row.takes(names)?;
-    let described = row.value("verdict")?;
-    let yes = described
-        .get("yes")
-        .and_then(Value::as_bool)
-        .ok_or(MALFORMED)?;
-    let signed = elsewhere_of(row.alloc(), described)?;
-    Ok(Said { signed, yes })
-}
-
 impl Said {
     fn provider(&self) -> VerdictProvider<'_> {
         let message = self.signed.message.as_slice();
@@ -62,12 +50,16 @@ fn own_key(row: Row<'_>, trial: &mut Trial) -> Answer {
     of_decoding_key(row.alloc(), answer)
 }
 
-// Returns the key at `key`, or the verdict's own if the row has none.
-fn key_for(row: Row<'_>, verdict: &VerdictProvider<'_>) -> Result<Box<DecodingKey>, Fault> {
-    match row.optional("key") {
-        Some(_) => decoding_key(row),
-        None => Ok(Box::new(row.alloc(), verdict.key(row.alloc())?)?),
-    }
+// Returns the verdict at `verdict`.
+fn said_at(row: Row<'_>, names: &[&str]) -> Result<Said, Fault> {
+    row.takes(names)?;
+    let described = row.value("verdict")?;
+    let yes = described
+        .get("yes")
+        .and_then(Value::as_bool)
+        .ok_or(MALFORMED)?;
+    let signed = elsewhere_of(row.alloc(), described)?;
+    Ok(Said { signed, yes })
 }
 
 fn verifier(row: Row<'_>, trial: &mut Trial) -> Answer {
@@ -81,13 +73,12 @@ fn verifier(row: Row<'_>, trial: &mut Trial) -> Answer {
     of_nothing(row.alloc(), made(answer))
 }
 
-fn verify_with<V: JwtVerifier>(row: Row<'_>, trial: &mut Trial, verifier: &V) -> Answer {
-    let message = row.bytes("message")?;
-    let signature = row.bytes("signature")?;
-    trial.begin();
-    let answer = verifier.verify(row.alloc(), message.as_slice(), signature.as_slice());
-    trial.end();
-    of_flag(row.alloc(), answer)
+// Returns the key at `key`, or the verdict's own if the row has none.
+fn key_for(row: Row<'_>, verdict: &VerdictProvider<'_>) -> Result<Box<DecodingKey>, Fault> {
+    match row.optional("key") {
+        Some(_) => decoding_key(row),
+        None => Ok(Box::new(row.alloc(), verdict.key(row.alloc())?)?),
+    }
 }
 
 fn verified(row: Row<'_>, trial: &mut Trial) -> Answer {
@@ -97,6 +88,15 @@ fn verified(row: Row<'_>, trial: &mut Trial) -> Answer {
     let key = key_for(row, &verdict)?;
     let verifier = verdict.verifier_factory(row.alloc(), &algorithm(row)?, &key)?;
     verify_with(row, trial, &verifier)
+}
+
+fn verify_with<V: JwtVerifier>(row: Row<'_>, trial: &mut Trial, verifier: &V) -> Answer {
+    let message = row.bytes("message")?;
+    let signature = row.bytes("signature")?;
+    trial.begin();
+    let answer = verifier.verify(row.alloc(), message.as_slice(), signature.as_slice());
+    trial.end();
+    of_flag(row.alloc(), answer)
 }
 
 fn signer(row: Row<'_>, trial: &mut Trial) -> Answer {

@@ -161,15 +161,6 @@ impl Named for OctetKeyPairType {
     }
 }
 
-// Returns the only value of a type, if it has this name.
-fn only<T: Drop>(value: &Value, name: &str, key_type: T) -> Result<T, Fault> {
-    if value.as_str() == Some(name) {
-        Ok(key_type)
-    } else {
-        Err(Fault::Member("value"))
-    }
-}
-
 /// Makes the call of this name of a type, if it is among those of this module.
 pub fn answer(
     name: &str,
@@ -184,6 +175,15 @@ pub fn answer(
         "OctetKeyType" => of_named::<OctetKeyType>(call, row, trial),
         "OctetKeyPairType" => of_named::<OctetKeyPairType>(call, row, trial),
         _ => Ok(None),
+    }
+}
+
+// Returns the only value of a type, if it has this name.
+fn only<T: Drop>(value: &Value, name: &str, key_type: T) -> Result<T, Fault> {
+    if value.as_str() == Some(name) {
+        Ok(key_type)
+    } else {
+        Err(Fault::Member("value"))
     }
 }
 

@@ -24,17 +24,6 @@ pub fn answer(call: &str, row: Row<'_>, trial: &mut Trial) -> Result<Option<Valu
     Ok(Some(answer?))
 }
 
-// Returns the family at a name.
-fn family_at(row: Row<'_>, name: &'static str) -> Result<AlgorithmFamily, Fault> {
-    match row.text(name)? {
-        "Hmac" => Ok(AlgorithmFamily::Hmac),
-        "Rsa" => Ok(AlgorithmFamily::Rsa),
-        "Ec" => Ok(AlgorithmFamily::Ec),
-        "Ed" => Ok(AlgorithmFamily::Ed),
-        _ => Err(Fault::Member(name)),
-    }
-}
-
 /// Returns the family at `family`, of a row that has no other input.
 pub fn only_family(row: Row<'_>) -> Result<AlgorithmFamily, Fault> {
     row.takes(&["family"])?;
@@ -48,10 +37,6 @@ pub fn names_of(alloc: Global, algorithms: &[Algorithm]) -> Answer {
         names.push(Value::try_from_str(alloc, algorithm.name())?)?;
     }
     Ok(Value::Array(names))
-}
-
-fn of_family(alloc: Global, answer: Outcome<AlgorithmFamily>) -> Answer {
-    of_text(alloc, answer.map(family_name))
 }
 
 fn members(row: Row<'_>, trial: &mut Trial) -> Answer {
@@ -68,6 +53,10 @@ fn read(row: Row<'_>, trial: &mut Trial) -> Answer {
     let answer = AlgorithmFamily::from_value(value);
     trial.end();
     of_family(row.alloc(), answer)
+}
+
+fn of_family(alloc: Global, answer: Outcome<AlgorithmFamily>) -> Answer {
+    of_text(alloc, answer.map(family_name))
 }
 
 fn written(row: Row<'_>, trial: &mut Trial) -> Answer {
@@ -91,4 +80,15 @@ fn are_equal(row: Row<'_>, trial: &mut Trial) -> Answer {
     let left = family_at(row, "left")?;
     let right = family_at(row, "right")?;
     compared(row, trial, &left, &right)
+}
+
+// Returns the family at a name.
+fn family_at(row: Row<'_>, name: &'static str) -> Result<AlgorithmFamily, Fault> {
+    match row.text(name)? {
+        "Hmac" => Ok(AlgorithmFamily::Hmac),
+        "Rsa" => Ok(AlgorithmFamily::Rsa),
+        "Ec" => Ok(AlgorithmFamily::Ec),
+        "Ed" => Ok(AlgorithmFamily::Ed),
+        _ => Err(Fault::Member(name)),
+    }
 }

@@ -28,58 +28,10 @@ pub fn answer(call: &str, row: Row<'_>, trial: &mut Trial) -> Result<Option<Valu
     Ok(Some(answer?))
 }
 
-fn that_signs(name: &str) -> Option<KeyAlgorithm> {
-    match name {
-        "HS256" => Some(KeyAlgorithm::HS256),
-        "HS384" => Some(KeyAlgorithm::HS384),
-        "HS512" => Some(KeyAlgorithm::HS512),
-        "RS256" => Some(KeyAlgorithm::RS256),
-        "RS384" => Some(KeyAlgorithm::RS384),
-        "RS512" => Some(KeyAlgorithm::RS512),
-        "PS256" => Some(KeyAlgorithm::PS256),
-        "PS384" => Some(KeyAlgorithm::PS384),
-        "PS512" => Some(KeyAlgorithm::PS512),
-        "ES256" => Some(KeyAlgorithm::ES256),
-        "ES384" => Some(KeyAlgorithm::ES384),
-        "EdDSA" => Some(KeyAlgorithm::EdDSA),
-        _ => None,
-    }
-}
-
-fn that_encrypts(name: &str) -> Option<KeyAlgorithm> {
-    match name {
-        "RSA1_5" => Some(KeyAlgorithm::RSA1_5),
-        "RSA-OAEP" => Some(KeyAlgorithm::RSA_OAEP),
-        "RSA-OAEP-256" => Some(KeyAlgorithm::RSA_OAEP_256),
-        "UNKNOWN_ALGORITHM" => Some(KeyAlgorithm::UNKNOWN_ALGORITHM),
-        _ => None,
-    }
-}
-
-// Returns the algorithm of keys at a name.
-fn key_algorithm(row: Row<'_>, name: &'static str) -> Result<KeyAlgorithm, Fault> {
-    let text = row.text(name)?;
-    match that_signs(text) {
-        Some(algorithm) => Ok(algorithm),
-        None => that_encrypts(text).ok_or(Fault::Member(name)),
-    }
-}
-
 /// Returns the algorithm of keys at `key_algorithm`, of a row that has no other input.
 pub fn only_key_algorithm(row: Row<'_>) -> Result<KeyAlgorithm, Fault> {
     row.takes(&["key_algorithm"])?;
     key_algorithm(row, "key_algorithm")
-}
-
-// Returns the algorithms of keys at `left` and `right`.
-fn two_key_algorithms(row: Row<'_>) -> Result<(KeyAlgorithm, KeyAlgorithm), Fault> {
-    row.takes(&["left", "right"])?;
-    let left = key_algorithm(row, "left")?;
-    Ok((left, key_algorithm(row, "right")?))
-}
-
-fn of_key_algorithm(alloc: Global, answer: Outcome<KeyAlgorithm>) -> Answer {
-    of_text(alloc, answer.map(KeyAlgorithm::name))
 }
 
 fn name(row: Row<'_>, trial: &mut Trial) -> Answer {
@@ -104,6 +56,10 @@ fn parsed(row: Row<'_>, trial: &mut Trial) -> Answer {
     let answer = text.parse::<KeyAlgorithm>();
     trial.end();
     of_key_algorithm(row.alloc(), answer)
+}
+
+fn of_key_algorithm(alloc: Global, answer: Outcome<KeyAlgorithm>) -> Answer {
+    of_text(alloc, answer.map(KeyAlgorithm::name))
 }
 
 fn read(row: Row<'_>, trial: &mut Trial) -> Answer {
@@ -141,6 +97,50 @@ fn copied(row: Row<'_>, trial: &mut Trial) -> Answer {
 fn are_equal(row: Row<'_>, trial: &mut Trial) -> Answer {
     let (left, right) = two_key_algorithms(row)?;
     compared(row, trial, &left, &right)
+}
+
+// Returns the algorithms of keys at `left` and `right`.
+fn two_key_algorithms(row: Row<'_>) -> Result<(KeyAlgorithm, KeyAlgorithm), Fault> {
+    row.takes(&["left", "right"])?;
+    let left = key_algorithm(row, "left")?;
+    Ok((left, key_algorithm(row, "right")?))
+}
+
+// Returns the algorithm of keys at a name.
+fn key_algorithm(row: Row<'_>, name: &'static str) -> Result<KeyAlgorithm, Fault> {
+    let text = row.text(name)?;
+    match that_signs(text) {
+        Some(algorithm) => Ok(algorithm),
+        None => that_encrypts(text).ok_or(Fault::Member(name)),
+    }
+}
+
+fn that_signs(name: &str) -> Option<KeyAlgorithm> {
+    match name {
+        "HS256" => Some(KeyAlgorithm::HS256),
+        "HS384" => Some(KeyAlgorithm::HS384),
+        "HS512" => Some(KeyAlgorithm::HS512),
+        "RS256" => Some(KeyAlgorithm::RS256),
+        "RS384" => Some(KeyAlgorithm::RS384),
+        "RS512" => Some(KeyAlgorithm::RS512),
+        "PS256" => Some(KeyAlgorithm::PS256),
+        "PS384" => Some(KeyAlgorithm::PS384),
+        "PS512" => Some(KeyAlgorithm::PS512),
+        "ES256" => Some(KeyAlgorithm::ES256),
+        "ES384" => Some(KeyAlgorithm::ES384),
+        "EdDSA" => Some(KeyAlgorithm::EdDSA),
+        _ => None,
+    }
+}
+
+fn that_encrypts(name: &str) -> Option<KeyAlgorithm> {
+    match name {
+        "RSA1_5" => Some(KeyAlgorithm::RSA1_5),
+        "RSA-OAEP" => Some(KeyAlgorithm::RSA_OAEP),
+        "RSA-OAEP-256" => Some(KeyAlgorithm::RSA_OAEP_256),
+        "UNKNOWN_ALGORITHM" => Some(KeyAlgorithm::UNKNOWN_ALGORITHM),
+        _ => None,
+    }
 }
 
 fn hash_alike(row: Row<'_>, trial: &mut Trial) -> Answer {

@@ -6,6 +6,35 @@ use jwt_rows::fault::Fault;
 use jwt_rows::row::Row;
 use std::alloc::Global;
 
+/// Returns the kind at a name.
+pub fn kind_at(row: Row<'_>, name: &'static str) -> Result<ErrorKind, Fault> {
+    let kind = named(row.alloc(), row.text(name)?)?;
+    kind.ok_or(Fault::Member(name))
+}
+
+fn named(alloc: Global, text: &str) -> Result<Option<ErrorKind>, Fault> {
+    let held = text.strip_suffix(')').and_then(|text| text.split_once('('));
+    if let Some((name, held)) = held {
+        return holding(alloc, name, held);
+    }
+    match of_parts_and_tokens(text) {
+        Some(kind) => Ok(Some(kind)),
+        None => Ok(of_keys_and_claims(text)),
+    }
+}
+
+fn holding(alloc: Global, name: &str, text: &str) -> Result<Option<ErrorKind>, Fault> {
+    let text = String::from_str(alloc, text)?;
+    match name {
+        "MissingRequiredClaim" => Ok(Some(ErrorKind::MissingRequiredClaim(text))),
+        "InvalidClaimFormat" => Ok(Some(ErrorKind::InvalidClaimFormat(text))),
+        "InvalidRsaKey" => Ok(Some(ErrorKind::InvalidRsaKey(text))),
+        "Signing" => Ok(Some(ErrorKind::Signing(text))),
+        "Provider" => Ok(Some(ErrorKind::Provider(text))),
+        _ => Ok(None),
+    }
+}
+
 fn of_parts_and_tokens(name: &str) -> Option<ErrorKind> {
     match name {
         "InvalidToken" => Some(ErrorKind::InvalidToken),
@@ -38,33 +67,4 @@ fn of_keys_and_claims(name: &str) -> Option<ErrorKind> {
         "ClockBeforeEpoch" => Some(ErrorKind::ClockBeforeEpoch),
         _ => None,
     }
-}
-
-fn holding(alloc: Global, name: &str, text: &str) -> Result<Option<ErrorKind>, Fault> {
-    let text = String::from_str(alloc, text)?;
-    match name {
-        "MissingRequiredClaim" => Ok(Some(ErrorKind::MissingRequiredClaim(text))),
-        "InvalidClaimFormat" => Ok(Some(ErrorKind::InvalidClaimFormat(text))),
-        "InvalidRsaKey" => Ok(Some(ErrorKind::InvalidRsaKey(text))),
-        "Signing" => Ok(Some(ErrorKind::Signing(text))),
-        "Provider" => Ok(Some(ErrorKind::Provider(text))),
-        _ => Ok(None),
-    }
-}
-
-fn named(alloc: Global, text: &str) -> Result<Option<ErrorKind>, Fault> {
-    let held = text.strip_suffix(')').and_then(|text| text.split_once('('));
-    if let Some((name, held)) = held {
-        return holding(alloc, name, held);
-    }
-    match of_parts_and_tokens(text) {
-        Some(kind) => Ok(Some(kind)),
-        None => Ok(of_keys_and_claims(text)),
-    }
-}
-
-/// Returns the kind at a name.
-pub fn kind_at(row: Row<'_>, name: &'static str) -> Result<ErrorKind, Fault> {
-    let kind = named(row.alloc(), row.text(name)?)?;
-    kind.ok_or(Fault::Member(name))
 }

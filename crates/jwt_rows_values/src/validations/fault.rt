@@ -8,13 +8,6 @@ use jwt_rows::trial::Trial;
 use serde_json::Value;
 use std::alloc::Global;
 
-fn shown(alloc: Global, fault: Option<OptionsFault<'_>>) -> Answer {
-    match fault {
-        Some(fault) => accepted(alloc, Value::String(format!(in alloc; "{fault:?}")?)),
-        None => accepted(alloc, Value::Null),
-    }
-}
-
 /// Returns the result of `options_fault`: the text of the fault by `Debug`, or null for none.
 pub fn answer(row: Row<'_>, trial: &mut Trial) -> Answer {
     let value = only_json(row)?;
@@ -22,4 +15,11 @@ pub fn answer(row: Row<'_>, trial: &mut Trial) -> Answer {
     let fault = options_fault(&value);
     trial.end();
     shown(row.alloc(), fault)
+}
+
+fn shown(alloc: Global, fault: Option<OptionsFault<'_>>) -> Answer {
+    match fault {
+        Some(fault) => accepted(alloc, Value::String(format!(in alloc; "{fault:?}")?)),
+        None => accepted(alloc, Value::Null),
+    }
 }

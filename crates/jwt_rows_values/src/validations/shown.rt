@@ -9,31 +9,14 @@ use serde_json::{Map, Value, put};
 use std::alloc::Global;
 use std::collections::HashSet;
 
-fn list(alloc: Global, set: &HashSet<String>) -> Answer {
-    let mut members = Vec::new(alloc);
-    for member in set.iter() {
-        members.push(member.as_str())?;
-    }
-    members.sort_unstable();
-    let mut values = Vec::new(alloc);
-    for member in &members {
-        values.push(Value::try_from_str(alloc, member)?)?;
-    }
-    Ok(Value::Array(values))
-}
-
-fn list_or_null(alloc: Global, set: &Option<HashSet<String>>) -> Answer {
-    match set {
-        Some(set) => list(alloc, set),
-        None => Ok(Value::Null),
-    }
-}
-
-fn text_or_null(alloc: Global, text: &Option<String>) -> Answer {
-    match text {
-        Some(text) => Ok(Value::try_from_str(alloc, text.as_str())?),
-        None => Ok(Value::Null),
-    }
+/// Returns the content of a validation.
+pub fn members_of(alloc: Global, options: &Validation) -> Answer {
+    let mut members = Map::new(alloc);
+    put_flags(alloc, options, &mut members)?;
+    put_times(alloc, options, &mut members)?;
+    put_parties(alloc, options, &mut members)?;
+    put_names(alloc, options, &mut members)?;
+    Ok(Value::Object(members))
 }
 
 fn put_flags(
@@ -79,6 +62,33 @@ fn put_parties(
     Ok(())
 }
 
+fn list_or_null(alloc: Global, set: &Option<HashSet<String>>) -> Answer {
+    match set {
+        Some(set) => list(alloc, set),
+        None => Ok(Value::Null),
+    }
+}
+
+fn list(alloc: Global, set: &HashSet<String>) -> Answer {
+    let mut members = Vec::new(alloc);
+    for member in set.iter() {
+        members.push(member.as_str())?;
+    }
+    members.sort_unstable();
+    let mut values = Vec::new(alloc);
+    for member in &members {
+        values.push(Value::try_from_str(alloc, member)?)?;
+    }
+    Ok(Value::Array(values))
+}
+
+fn text_or_null(alloc: Global, text: &Option<String>) -> Answer {
+    match text {
+        Some(text) => Ok(Value::try_from_str(alloc, text.as_str())?),
+        None => Ok(Value::Null),
+    }
+}
+
 fn put_names(
     alloc: Global,
     options: &Validation,
@@ -91,14 +101,4 @@ fn put_names(
     let understood = list(alloc, &options.understood_crit)?;
     put(members, alloc, "understood_crit", understood)?;
     Ok(())
-}
-
-/// Returns the content of a validation.
-pub fn members_of(alloc: Global, options: &Validation) -> Answer {
-    let mut members = Map::new(alloc);
-    put_flags(alloc, options, &mut members)?;
-    put_times(alloc, options, &mut members)?;
-    put_parties(alloc, options, &mut members)?;
-    put_names(alloc, options, &mut members)?;
-    Ok(Value::Object(members))
 }

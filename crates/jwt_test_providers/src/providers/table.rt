@@ -116,17 +116,6 @@ struct Rows {
     rows: Vec<Row>,
 }
 
-fn copied(alloc: Global, rows: &[Row]) -> Result<Vec<Row>>
-    ensures ok { IfOk result (λ v. v.items ≡ rows.now) }
-    ensures err { IfErr result IsMemory }
-{
-    let mut copies = Vec::new(alloc);
-    for row in rows {
-        copies.push(row.clone(alloc)?)?;
-    }
-    Ok(copies)
-}
-
 impl Rows {
     fn new(alloc: Global, algorithm: Algorithm, key: &[u8], rows: &[Row]) -> Result<Rows>
         ensures algorithm { IfOk result (λ r. r.algorithm ≡ algorithm) }
@@ -229,28 +218,6 @@ impl TableProvider {
     }
 }
 
-// Returns the error `InvalidRsaKey("no row")`, or `OutOfMemory`.
-fn no_rsa_row(alloc: Global) -> Error
-    ensures { Refuses (Some (kind.InvalidRsaKey (codes "no row"))) result }
-{
-    match String::from_str(alloc, "no row") {
-        Ok(reason) => new_error(ErrorKind::InvalidRsaKey(reason)),
-        Err(refused) => Error::from(refused),
-    }
-}
-
-fn rsa_components(alloc: Global, der: &[u8]) -> Result<(Vec<u8>, Vec<u8>)>
-    ensures ok { IfOk result (λ p. rsa_answer der.now ≡ Ok (p.0.items, p.1.items)) }
-    ensures err { IfErr result (RefusesWith (rsa_answer der.now)) }
-{
-    if der != b"rsa".as_slice() {
-        return Err(no_rsa_row(alloc));
-    }
-    let n = [0xC0, 0xFF, 0xEE].to_vec(alloc)?;
-    let e = [1, 0, 1].to_vec(alloc)?;
-    Ok((n, e))
-}
-
 impl CryptoProvider for TableProvider {
     type Signer = TableSigner;
 
@@ -351,4 +318,37 @@ impl CryptoProvider for TableProvider {
     }
 
     ghost same_family = { λ _ a k h. bytes_made a k h };
+}
+
+fn copied(alloc: Global, rows: &[Row]) -> Result<Vec<Row>>
+    ensures ok { IfOk result (λ v. v.items ≡ rows.now) }
+    ensures err { IfErr result IsMemory }
+{
+    let mut copies = Vec::new(alloc);
+    for row in rows {
+        copies.push(row.clone(alloc)?)?;
+    }
+    Ok(copies)
+}
+
+fn rsa_components(alloc: Global, der: &[u8]) -> Result<(Vec<u8>, Vec<u8>)>
+    ensures ok { IfOk result (λ p. rsa_answer der.now ≡ Ok (p.0.items, p.1.items)) }
+    ensures err { IfErr result (RefusesWith (rsa_answer der.now)) }
+{
+    if der != b"rsa".as_slice() {
+        return Err(no_rsa_row(alloc));
+    }
+    let n = [0xC0, 0xFF, 0xEE].to_vec(alloc)?;
+    let e = [1, 0, 1].to_vec(alloc)?;
+    Ok((n, e))
+}
+
+// Returns the error `InvalidRsaKey("no row")`, or `OutOfMemory`.
+fn no_rsa_row(alloc: Global) -> Error
+    ensures { Refuses (Some (kind.InvalidRsaKey (codes "no row"))) result }
+{
+    match String::from_str(alloc, "no row") {
+        Ok(reason) => new_error(ErrorKind::InvalidRsaKey(reason)),
+        Err(refused) => Error::from(refused),
+    }
 }
