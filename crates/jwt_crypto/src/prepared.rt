@@ -23,10 +23,10 @@ ghost use Rattle.jwt_crypto.specs.HmacPrepared.{prepared_key, prepared_keys, cle
 ghost use Rattle.jwt_crypto.specs.HmacPrepared.{IsPrepared, IsPreparedKey, algorithm_of, IsCodeBy};
 ghost use Rattle.jwt_crypto.specs.HmacPrepared.{IsKept, IsKeptSigner, IsKeptVerifier};
 
-use crate::hmac::{Blocks, Hash, HmacProvider, hash_for_key, hash_of_algorithm, unsupported};
+use crate::hmac::{Blocks, Hash, HmacProvider, hash_for_key, hash_of_algorithm};
 use crate::prepared_hashers::{PreparedHashers, PreparedKey};
 use jwt_base::algorithms::{Algorithm, AlgorithmFamily};
-use jwt_base::errors::Result;
+use jwt_base::errors::{Result, unsupported_algorithm};
 use jwt_keys::decoding_key::DecodingKey;
 use jwt_keys::encoding_key::EncodingKey;
 use jwt_keys::provider::{CryptoProvider, JwtSigner, JwtVerifier};
@@ -156,7 +156,7 @@ impl PreparedHmac {
         ensures unchanged { IfErr result (λ _. prepared_keys self.new ≡ prepared_keys self.old) }
     {
         let Some(hash) = hash_of_algorithm(algorithm) else {
-            return Err(unsupported());
+            return Err(unsupported_algorithm());
         };
         let key = PreparedKey::new(alloc, hash, secret)?;
         self.keys.push(key)?;
@@ -195,7 +195,7 @@ impl PreparedHmac {
         None
     }
 
-    fn keyed(&self, hash: Hash, secret: &[u8]) -> Keyed
+    fn key_for(&self, hash: Hash, secret: &[u8]) -> Keyed
         ensures algorithm { algorithm_of result ≡ algorithm_for hash }
         ensures code { (m s : List ℕ) → IsCodeBy result m s ↔ (s ≡ hmac hash secret.now m) }
         ensures kept { IsKept result ↔ IsPrepared self.now (algorithm_for hash) secret.now }
@@ -245,7 +245,7 @@ impl CryptoProvider for PreparedHmac {
     {
         let hash = hash_for_key(*algorithm, key.family())?;
         Ok(PreparedSigner {
-            keyed: self.keyed(hash, key.as_bytes()),
+            keyed: self.key_for(hash, key.as_bytes()),
         })
     }
 
@@ -271,7 +271,7 @@ impl CryptoProvider for PreparedHmac {
         let hash = hash_for_key(*algorithm, key.family())?;
         let secret = key.try_get_as_bytes()?;
         Ok(PreparedVerifier {
-            keyed: self.keyed(hash, secret),
+            keyed: self.key_for(hash, secret),
         })
     }
 

@@ -235,7 +235,7 @@ impl Header {
         ensures extras { IsExtras self.now.extras }
         ensures err { IfErr result (RefusesAs kind.Json (header_members self.now ≡ None)) }
     {
-        let mut members = self.extras.copied()?;
+        let mut members = self.extras.copy_members()?;
         let jwk = written_jwk(alloc, &self.jwk)?;
         put_written(alloc, &mut members, "jwk", jwk)?;
         self.put_named(alloc, &mut members)?;

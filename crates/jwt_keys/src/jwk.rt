@@ -297,7 +297,7 @@ fn read_parameters(alloc: Global, value: &Value) -> Result<AlgorithmParameters>
     let Some(members) = value.as_object() else {
         return Err(new_error(ErrorKind::Json));
     };
-    if let Some(named) = AlgorithmParameters::named(alloc, value)? {
+    if let Some(named) = AlgorithmParameters::from_known_type(alloc, value)? {
         return Ok(named);
     }
     let fields = FreeMembers::among(alloc, members)?;

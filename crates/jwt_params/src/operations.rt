@@ -58,7 +58,7 @@ impl KeyOperations {
         ensures err { IfErr result (RefusesAs kind.Json (operation_from (view value.now) ≡ None)) }
     {
         let name = value.as_str().ok_or(new_error(ErrorKind::Json))?;
-        KeyOperations::named(alloc, name)
+        KeyOperations::from_name(alloc, name)
     }
 
     /// Returns a copy. The only refusal is `OutOfMemory`.
@@ -95,7 +95,7 @@ impl KeyOperations {
         }
     }
 
-    fn named(alloc: Global, name: &str) -> Result<KeyOperations>
+    fn from_name(alloc: Global, name: &str) -> Result<KeyOperations>
         ensures ok { IfOk result (λ o. o ≡ operation_named name.now) }
         ensures err { IfErr result IsMemory }
     {

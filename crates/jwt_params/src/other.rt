@@ -69,7 +69,7 @@ impl OtherKeyParameters {
         if self.fields.has_float() {
             return Err(new_error(ErrorKind::Json));
         }
-        self.fields.copied()
+        self.fields.copy_members()
     }
 }
 

@@ -112,7 +112,7 @@ impl PreparedRsa {
         self.find(n, e).is_some()
     }
 
-    pub(crate) fn keyed<'a>(&'a self, alloc: Global, n: &[u8], e: &[u8]) -> Result<Keyed<'a>>
+    pub(crate) fn key_of<'a>(&'a self, alloc: Global, n: &[u8], e: &[u8]) -> Result<Keyed<'a>>
         ensures made { OnOk result (components_refusal n.now e.now ≡ None) }
         ensures err { IfErr result (Refuses (components_refusal n.now e.now)) }
         ensures accepts { IfOk result (λ k. (scheme : Scheme) (m s : List ℕ) →

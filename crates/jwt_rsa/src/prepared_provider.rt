@@ -14,10 +14,10 @@ ghost use Rattle.jwt_rsa.specs.law_proofs.RsaFamilies.{family_made};
 ghost use Rattle.jwt_rsa.specs.RsaPrepared.{IsPreparedKey, IsSignatureBy, IsKeptVerifier};
 
 use crate::prepared::{PreparedRsa, PreparedVerifier};
-use crate::provider::{RsaProvider, unsupported};
+use crate::provider::RsaProvider;
 use crate::scheme::scheme_of_algorithm;
 use jwt_base::algorithms::Algorithm;
-use jwt_base::errors::{ErrorKind, Result, new_error};
+use jwt_base::errors::{ErrorKind, Result, new_error, unsupported_algorithm};
 use jwt_crypto::NoSigner;
 use jwt_keys::decoding_key::{DecodingKey, DecodingKeyKind};
 use jwt_keys::encoding_key::EncodingKey;
@@ -73,12 +73,12 @@ impl<'a> CryptoProvider for &'a PreparedRsa {
         ensures kept { IfOk result (λ v. IsKeptVerifier v ↔ IsPreparedKey self.now.now key.now) }
     {
         let Some(scheme) = scheme_of_algorithm(*algorithm) else {
-            return Err(unsupported());
+            return Err(unsupported_algorithm());
         };
         let DecodingKeyKind::RsaModulusExponent { n, e } = key.kind() else {
             return Err(new_error(ErrorKind::InvalidKeyFormat));
         };
-        let keyed = self.keyed(alloc, n, e)?;
+        let keyed = self.key_of(alloc, n, e)?;
         Ok(PreparedVerifier { scheme, keyed })
     }
 
