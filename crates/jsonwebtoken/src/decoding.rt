@@ -134,6 +134,7 @@ pub fn decode_header(alloc: Global, token: &[u8]) -> Result<Header>
         Err(refusal) => return Err(refusal.error),
     };
     let mut failed = Test::HasThreeParts;
+    // bound to a name: the proof cannot refer to a call in tail position
     let header = read_header_noting(alloc, parts.header, &mut failed)?;
     Ok(header)
 }

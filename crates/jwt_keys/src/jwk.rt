@@ -252,6 +252,7 @@ impl Eq for Jwk {
 impl Jwk {
     ghost use Rattle.jwt_keys.specs.equality.JwkSame.{key_eq};
 
+    // apart from `eq`, whose contract has two clauses over what this one finds
     fn is_same(&self, other: &Jwk) -> bool
         ensures { result ≡ key_eq self.now other.now }
     {

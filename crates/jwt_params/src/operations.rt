@@ -266,6 +266,7 @@ impl PartialEq for KeyOperationList {
 impl KeyOperationList {
     ghost use Rattle.jwt_params.specs.equality.NamesSame.{operations_eq};
 
+    // apart from `eq`, whose contract has two clauses over what this one finds
     fn is_same(&self, other: &KeyOperationList) -> bool
         ensures { result ≡ operations_eq self.now other.now }
     {

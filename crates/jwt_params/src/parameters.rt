@@ -167,6 +167,7 @@ impl Eq for AlgorithmParameters {
 impl AlgorithmParameters {
     ghost use Rattle.jwt_params.specs.equality.ParametersSame.{parameters_eq};
 
+    // apart from `eq`, whose contract has two clauses over what this one finds
     fn is_same(&self, other: &AlgorithmParameters) -> bool
         ensures { result ≡ parameters_eq self.now other.now }
     {

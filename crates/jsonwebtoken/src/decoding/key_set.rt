@@ -52,6 +52,7 @@ pub(crate) fn read_claims_by_set<P: CryptoProvider, T: Claims>(
 {
     check_crit(header, validation)?;
     let key = key_in_set(alloc, set, header)?;
+    // bound to a name: the proof cannot refer to a call in tail position
     let claims = verify_by_key(alloc, provider, parts, header, &key, validation, time)?;
     Ok(claims)
 }
