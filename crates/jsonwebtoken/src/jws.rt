@@ -279,7 +279,8 @@ fn read_claims_by_key<P: CryptoProvider, T: Claims>(
     ensures { let call = decoding_parts P.CryptoProvider T.Claims
         provider.now (parts_in opening.parts.now) key.now validation.now time in
         Step call (CritIsUnderstood ∷ (jws_algorithm_tests ++ verifying_tests))
-        (with_opening (parts_in opening.parts.now) opening.header.now) (ShowsClaims T.reads) result }
+        (with_opening (parts_in opening.parts.now) opening.header.now)
+        (ShowsClaims T.reads) result }
 {
     check_crit(opening.header, validation)?;
     let verifier = verifier_for(alloc, provider, opening.header, key, validation)?;

@@ -47,7 +47,8 @@ pub(crate) fn read_claims_by_set<P: CryptoProvider, T: Claims>(
     ensures { let call = decoding_by_set P.CryptoProvider T.Claims
         provider.now [] set.now.keys.items validation.now time in
         Step call (CritIsUnderstood ∷ key_tests ++ (algorithm_tests ++ verifying_tests))
-        (with_opening (parts_in opening.parts.now) opening.header.now) (ShowsClaims T.reads) result }
+        (with_opening (parts_in opening.parts.now) opening.header.now)
+        (ShowsClaims T.reads) result }
 {
     check_crit(opening.header, validation)?;
     let key = key_in_set(alloc, set, opening.header)?;

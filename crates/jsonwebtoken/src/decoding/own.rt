@@ -133,9 +133,11 @@ fn read_claims_by_own<P: CryptoProvider, T: Claims>(
     ensures read { let call = decoding_by_set P.CryptoProvider T.Claims
         provider.now [] set.now.keys.items validation.new time in
         IsErrAnd result (λ refusal. IsMemory refusal.error)
-        ⊎ ((validation.new.algorithms.items ≡ listed (named_own set.now.keys.items opening.header.now))
+        ⊎ ((validation.new.algorithms.items
+        ≡ listed (named_own set.now.keys.items opening.header.now))
         × Step call (CritIsUnderstood ∷ key_tests ++ (algorithm_tests ++ verifying_tests))
-        (with_opening (parts_in opening.parts.now) opening.header.now) (ShowsClaims T.reads) result) }
+        (with_opening (parts_in opening.parts.now) opening.header.now)
+        (ShowsClaims T.reads) result) }
     ensures rest { options_of validation.new ≡ record (options_of validation.old)
         { algorithms = validation.new.algorithms.items } }
 {

@@ -256,7 +256,8 @@ pub(crate) fn read_claims_by_key<P: CryptoProvider, T: Claims>(
     ensures { let call = decoding P.CryptoProvider T.Claims
         provider.now [] key.now validation.now time in
         Step call (CritIsUnderstood ∷ (algorithm_tests ++ verifying_tests))
-        (with_opening (parts_in opening.parts.now) opening.header.now) (ShowsClaims T.reads) result }
+        (with_opening (parts_in opening.parts.now) opening.header.now)
+        (ShowsClaims T.reads) result }
 {
     check_crit(opening.header, validation)?;
     verify_by_key(alloc, provider, opening, key, validation, time)
