@@ -9,7 +9,7 @@ use Rattle.jwt_keys.proofs.jwk.read_parameters.Goals as goal
 pub returns-in-Some-2-clause-ok : goal.returns-in-Some-2-clause-ok
 returns-in-Some-2-clause-ok c =
     let is : as_object (view c.args.value.now) ≡ Some (members_view c.in-Some.members.now.entries) = search rules in
-    own_parameters_from-named _ _ _ is (sym c.in_ok-from_known_type.ensures.ok ∙ c.in-Some-2.is)
+    own_parameters_from-named _ _ _ is (sym c.in_ok-named.ensures.ok ∙ c.in-Some-2.is)
 
 pub returns-in_err-fields-clause-err : goal.returns-in_err-fields-clause-err
 returns-in_err-fields-clause-err c =
