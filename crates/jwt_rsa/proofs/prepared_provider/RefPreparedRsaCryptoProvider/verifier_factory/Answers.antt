@@ -9,4 +9,4 @@ returns-clause-kept c =
     let e = c.in-RsaModulusExponent.e.items in
     let content : ModulusExponent n e ≡ key_content c.args.key.now = rw c.in-RsaModulusExponent.is at c.kind.ensures in
     rw (prepared_as c.args.self.now.now c.args.key.now n e content, ← c.deref.ensures.value, ← c.deref-2.ensures.value)
-    c.in_ok-key_of.ensures.kept
+    c.in_ok-keyed.ensures.kept
