@@ -5,7 +5,7 @@ use Rattle.jsonwebtoken.specs.private_clauses.Claimed.{AreClaimed, value_tests}
 use Rattle.jsonwebtoken.specs.private_clauses.Steps.{no_contents, parts_in, whole}
 use Rattle.jsonwebtoken.specs.Tests.{header_call}
 use Rattle.jsonwebtoken.proofs.Exits.{exit}
-use Rattle.jsonwebtoken.proofs.accepted_moments.claimed.Goals as goal
+use Rattle.jsonwebtoken.proofs.accepted_moments.claim_moments.Goals as goal
 
 pub returns-in_err-parts : goal.returns-in_err-parts
 returns-in_err-parts c =
