@@ -13,7 +13,7 @@ ghost use Rattle.jwt_rsa.specs.RsaKeys.{refusal, RsaAccepts};
 ghost use Rattle.jwt_rsa.specs.law_proofs.RsaFamilies.{family_made};
 ghost use Rattle.jwt_rsa.specs.RsaPrepared.{IsPreparedKey, IsSignatureBy, IsKeptVerifier};
 
-use crate::prepared::{PreparedRsa, PreparedVerifier};
+use crate::prepared::{PreparedRsa, PreparedRsaVerifier};
 use crate::provider::RsaProvider;
 use crate::scheme::scheme_of_algorithm;
 use jwt_base::algorithms::Algorithm;
@@ -29,7 +29,7 @@ use std::alloc::Global;
 impl<'a> CryptoProvider for &'a PreparedRsa {
     type Signer = NoSigner;
 
-    type Verifier = PreparedVerifier<'a>;
+    type Verifier = PreparedRsaVerifier<'a>;
 
     ghost signer_refusal = { λ _ a k. Some kind.UnsupportedAlgorithm };
 
@@ -62,7 +62,7 @@ impl<'a> CryptoProvider for &'a PreparedRsa {
         alloc: Global,
         algorithm: &Algorithm,
         key: &DecodingKey,
-    ) -> Result<PreparedVerifier<'a>>
+    ) -> Result<PreparedRsaVerifier<'a>>
         ensures made { OnOk result (refusal (scheme_for algorithm.now) key.now ≡ None) }
         ensures err { IfErr result (Refuses (refusal (scheme_for algorithm.now) key.now)) }
         ensures by { IfOk result (λ v. algorithm_for v.scheme ≡ algorithm.now) }
@@ -79,7 +79,7 @@ impl<'a> CryptoProvider for &'a PreparedRsa {
             return Err(new_error(ErrorKind::InvalidKeyFormat));
         };
         let keyed = self.key_of(alloc, n, e)?;
-        Ok(PreparedVerifier { scheme, keyed })
+        Ok(PreparedRsaVerifier { scheme, keyed })
     }
 
     /// Refuses with `UnsupportedAlgorithm`.
