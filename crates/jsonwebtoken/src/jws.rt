@@ -26,13 +26,13 @@ ghost use Rattle.jsonwebtoken.specs.Tests.{Parts, Separate, message_of, text_of_
 ghost use Rattle.jsonwebtoken.specs.Tests.{CritIsUnderstood, jws_algorithm_tests, verifying_tests};
 ghost use Rattle.jsonwebtoken.specs.Tests.{jws_order, token_tests};
 
-use crate::decoding::TokenData;
 use crate::decoding::crit::check_crit;
 use crate::decoding::parts::{Opening, TokenParts};
 use crate::decoding::steps::{
     check_families, check_listed, check_some_listed, make_verifier, read_header,
     verify_and_read_claims,
 };
+use crate::decoding::{TokenData, beside};
 use crate::encoding::steps::{check_family, header_part, payload_part, sign_parts, with_part};
 use crate::refusal::{Refusal, Test, with_test, without_test};
 use jwt_base::errors::{ErrorKind, Result, new_error};
@@ -260,10 +260,7 @@ fn decode_parts<P: CryptoProvider, T: Claims>(
         header: &header,
     };
     let claims = read_claims_by_key(alloc, provider, &opening, key, validation, time);
-    match claims {
-        Ok(claims) => Ok(TokenData { header, claims }),
-        Err(refusal) => Err(refusal),
-    }
+    beside(header, claims)
 }
 
 /// Returns the claims of a token that passes, by the key, the tests that follow those of its
