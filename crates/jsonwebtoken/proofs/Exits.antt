@@ -132,6 +132,15 @@ module _ {T R : Type 0} (call : Call T) (order : List Test) (at : Contents → C
   last (Ok y) m g h = g y m
   last (Err f) m g h = or_memory (λ q. h f.test (kind_of f.error) q) m
 
+  -- the result of a function that was given that of the last test
+  pub last_of : {A : Type 0} {W : R → Type 0} (P : A → Type 0) (Q : Test → Kind → Type 0) (found : R → A)
+      (q : Result A Refusal) (r : Result R Refusal) → IfOk r (λ y. W y × (q ≡ Ok (found y))) → IfErr r (λ f. q ≡ Err f)
+      → Meets P Q q → ((y : R) → W y → P (found y) → (x : Contents) × Passes (token_tests call) order (at x) × Shows x y)
+      → ((f : Test) (k : Kind) → Q f k → (x : Contents) × Failed call order (at x) f k) → Step call order at Shows r
+  last_of P Q found q (Ok y) ok err m g h = let held : Meets P Q (Ok (found y)) = rw ok.1 at m in g y ok.0 held
+  last_of P Q found q (Err f) ok err m g h =
+      let held : Meets P Q (Err f) = rw err at m in or_memory (λ x. h f.test (kind_of f.error) x) held
+
   -- a last call, with this test
   pub last_test : {P : R → Type 0} {Q : Error → Type 0} (c : Test) (made : Result R Error) (r : Result R Refusal)
       → IsWithTest c made r
