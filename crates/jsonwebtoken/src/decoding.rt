@@ -140,33 +140,6 @@ pub fn decode_header(alloc: Global, token: &[u8]) -> Result<Header>
     Ok(header)
 }
 
-/// Verifies a token, and notes the test that fails.
-fn decode_noting<P: CryptoProvider, T: Claims>(
-    alloc: Global,
-    provider: &P,
-    token: &[u8],
-    key: &DecodingKey,
-    validation: &Validation,
-    time: u64,
-    failed: &mut Test,
-) -> Result<TokenData<T>>
-    ensures { let call = decoding P.CryptoProvider T.Claims
-        provider.now token.now key.now validation.now time in
-        Step call decode_order whole (Carries call) (tested failed.new result) }
-{
-    let parts = match token_parts(token) {
-        Ok(parts) => parts,
-        Err(refusal) => return Err(note(refusal, failed)),
-    };
-    let header = read_header_noting(alloc, parts.header, failed)?;
-    let opening = Opening {
-        parts: &parts,
-        header: &header,
-    };
-    let claims = read_claims_by_key(alloc, provider, &opening, key, validation, time);
-    beside_noting(header, claims, failed)
-}
-
 /// Returns the header with the claims that were read after it, or their refusal.
 // The drop of a header at a refusal is proved here alone, for all calls. Inlined, it moves nothing.
 #[inline(always)]
@@ -196,4 +169,31 @@ pub(crate) fn beside_noting<T: Drop>(
         Ok(claims) => Ok(TokenData { header, claims }),
         Err(refusal) => Err(note(refusal, failed)),
     }
+}
+
+/// Verifies a token, and notes the test that fails.
+fn decode_noting<P: CryptoProvider, T: Claims>(
+    alloc: Global,
+    provider: &P,
+    token: &[u8],
+    key: &DecodingKey,
+    validation: &Validation,
+    time: u64,
+    failed: &mut Test,
+) -> Result<TokenData<T>>
+    ensures { let call = decoding P.CryptoProvider T.Claims
+        provider.now token.now key.now validation.now time in
+        Step call decode_order whole (Carries call) (tested failed.new result) }
+{
+    let parts = match token_parts(token) {
+        Ok(parts) => parts,
+        Err(refusal) => return Err(note(refusal, failed)),
+    };
+    let header = read_header_noting(alloc, parts.header, failed)?;
+    let opening = Opening {
+        parts: &parts,
+        header: &header,
+    };
+    let claims = read_claims_by_key(alloc, provider, &opening, key, validation, time);
+    beside_noting(header, claims, failed)
 }
