@@ -91,7 +91,7 @@ fn measure_named<T: Runtime + AllocGlobal>(
     if name == "decode-jwk" {
         return measure_verifying(rt, text, count);
     }
-    let work = Work::named(name).ok_or(BenchFault::Words)?;
+    let work = Work::from_name(name).ok_or(BenchFault::Words)?;
     measure(rt, work, text, count)
 }
 

@@ -34,7 +34,7 @@ pub enum Work {
 
 impl Work {
     /// Returns the work of that name.
-    pub fn named(name: &str) -> Option<Work> {
+    pub fn from_name(name: &str) -> Option<Work> {
         match name {
             "decode" => Some(Work::Decode),
             "encode" => Some(Work::Encode),

@@ -244,7 +244,7 @@ fn prepare_set(
     ensures { IfErr result IsMemory }
 {
     for jwk in set.keys.iter().take(PREPARED) {
-        if let Some(key) = unless_refused(DecodingKey::from_jwk(alloc, jwk))? {
+        if let Some(key) = value_or_none(DecodingKey::from_jwk(alloc, jwk))? {
             prepare_key(alloc, prepared, &key, algorithms)?;
         }
     }
@@ -252,7 +252,7 @@ fn prepare_set(
 }
 
 /// Returns the value that a call made, or `None` if it was refused for another reason than memory.
-fn unless_refused<R>(made: Checked<R>) -> Checked<Option<R>>
+fn value_or_none<R>(made: Checked<R>) -> Checked<Option<R>>
     ensures { IfErr result IsMemory }
 {
     match made {
