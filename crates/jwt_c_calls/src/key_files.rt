@@ -15,6 +15,7 @@ pub fn pem_answer(alloc: Global, pem: &[u8]) -> Result<Vec<u8>, CallRefusal>
     ensures err { IfErr result (λ r. AnswersPem pem.now (answer_of r)) }
 {
     let jwk = jwk_from_pem(alloc, pem)?;
+    // Bound first, since the proof names it.
     let text = jwk.to_text(alloc)?;
     Ok(text)
 }

@@ -203,6 +203,7 @@ fn prepare_fit(
     ensures err { IfErr result (IsUnfit allows_blank algorithms.now keys.now) }
 {
     check_keys(alloc, keys, algorithms, allows_blank)?;
+    // Bound first: returned as it is, the result would cost the proof a case split.
     let prepared = prepare(alloc, keys, algorithms)?;
     Ok(prepared)
 }
