@@ -33,6 +33,7 @@ fn measure<T: Runtime + AllocGlobal>(
 ) -> Result<(), BenchFault> {
     let prepared = Prepared::new(rt.alloc(), work, text)?;
     let measured = measure_prepared(rt, &prepared, text, count);
+    // One call: at the end of the scope the proof goes through each field.
     drop(prepared);
     measured
 }
@@ -59,6 +60,7 @@ fn measure_verifying<T: Runtime + AllocGlobal>(
 ) -> Result<(), BenchFault> {
     let verifying = Verifying::new(rt.alloc(), text)?;
     let measured = measure_read(rt, &verifying, count);
+    // One call: at the end of the scope the proof goes through each field.
     drop(verifying);
     measured
 }
@@ -91,13 +93,14 @@ fn measure_named<T: Runtime + AllocGlobal>(
     if name == "decode-jwk" {
         return measure_verifying(rt, text, count);
     }
-    let work = Work::named(name).ok_or(BenchFault::Words)?;
+    let work = Work::from_name(name).ok_or(BenchFault::Words)?;
     measure(rt, work, text, count)
 }
 
 fn work_once(alloc: Global, work: Work, text: &str) -> Result<(), BenchFault> {
     let prepared = Prepared::new(alloc, work, text)?;
     let done = repeat(alloc, &prepared, text, 1);
+    // One call: at the end of the scope the proof goes through each field.
     drop(prepared);
     done
 }
@@ -105,6 +108,7 @@ fn work_once(alloc: Global, work: Work, text: &str) -> Result<(), BenchFault> {
 fn verify_once(alloc: Global, text: &str) -> Result<(), BenchFault> {
     let verifying = Verifying::new(alloc, text)?;
     let done = verifying.repeat(alloc, 1);
+    // One call: at the end of the scope the proof goes through each field.
     drop(verifying);
     done
 }

@@ -34,7 +34,7 @@ pub enum Work {
 
 impl Work {
     /// Returns the work of that name.
-    pub fn named(name: &str) -> Option<Work> {
+    pub fn from_name(name: &str) -> Option<Work> {
         match name {
             "decode" => Some(Work::Decode),
             "encode" => Some(Work::Encode),
@@ -118,6 +118,7 @@ impl Prepared {
             0,
         );
         let is_ok = black_box(&answer).is_ok();
+        // One call: at the end of the scope the proof goes through each field.
         drop(answer);
         is_ok
     }
@@ -131,6 +132,7 @@ impl Prepared {
             &self.issuing.key,
         );
         let is_ok = black_box(&answer).is_ok();
+        // One call: at the end of the scope the proof goes through each field.
         drop(answer);
         is_ok
     }
@@ -186,6 +188,7 @@ fn prepared_provider(alloc: Global) -> Result<Box<PreparedHmac>> {
 fn has_header(alloc: Global, token: &[u8]) -> bool {
     let answer = decode_header(alloc, token);
     let is_ok = black_box(&answer).is_ok();
+    // One call: at the end of the scope the proof goes through each field.
     drop(answer);
     is_ok
 }

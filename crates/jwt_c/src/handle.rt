@@ -73,7 +73,7 @@ impl Handle {
     pub(crate) fn of(value: Box<Shared>) -> Handle
         ensures { result.held ≡ Some value.value }
     {
-        Handle::some(Kept::of(sendable(value)))
+        Handle::some(Kept::of(sendable_value(value)))
     }
 
     pub(crate) fn into_box(self) -> Option<Box<Shared>>
@@ -104,7 +104,7 @@ impl Drop for Handle {
 }
 
 /// Returns the value, which may go to another thread.
-fn sendable<T: Send>(value: T) -> T
+fn sendable_value<T: Send>(value: T) -> T
     ensures { result ≡ value }
 {
     value

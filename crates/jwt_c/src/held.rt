@@ -7,6 +7,7 @@ ghost use Rattle.jwt_c.specs.Held.{verifier_in, IsHeldAs};
 use crate::handle::Handle;
 use crate::shared::Shared;
 use jwt_c_calls::status::put_bytes;
+use jwt_c_calls::status_table::{OK, OUT_OF_MEMORY, VERIFIER_IS_MADE};
 use jwt_c_verifier::verifiers::{Accepted, Denied};
 use jwt_verifier::Verifier;
 use std::alloc::Global;
@@ -20,11 +21,11 @@ pub(crate) fn put(alloc: Global, made: Option<Shared>, verifier: &mut Handle) ->
     if let Some(shared) = made {
         if let Ok(boxed) = Box::new(alloc, shared) {
             *verifier = Handle::of(boxed);
-            return 0;
+            return OK.0;
         }
     }
     *verifier = Handle::none(alloc);
-    22
+    OUT_OF_MEMORY.0
 }
 
 /// Leaves a verifier that was made, or its status, in a handle. One that holds a verifier already
@@ -34,7 +35,7 @@ pub(crate) fn leave_made(alloc: Global, made: Result<Verifier, u32>, verifier: &
 {
     if let Some(held) = verifier.take(alloc) {
         *verifier = Handle::of(held);
-        return 109;
+        return VERIFIER_IS_MADE.0;
     }
     match made {
         Ok(made) => hold(alloc, made, verifier),

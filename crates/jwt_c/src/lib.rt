@@ -45,7 +45,7 @@ use crate::handle::Handle;
 use crate::held::{leave_made, leave_until, put};
 use jsonwebtoken::signed_part;
 use jwt_c_calls::answers::{
-    header_answer, hmac_answer, key_answer, numbers_answer, said_answer, set_answer,
+    CallerVerdict, header_answer, hmac_answer, key_answer, numbers_answer, said_answer, set_answer,
 };
 use jwt_c_calls::by_signature::{ecdsa_answer, input_answer, signature_answer};
 use jwt_c_calls::first_failed::{hmac_failed_test, key_failed_test, leave_name, set_failed_test};
@@ -55,7 +55,8 @@ use jwt_c_calls::members::member_answer;
 use jwt_c_calls::moments::{hmac_moments, key_moments, leave_moments, set_moments};
 use jwt_c_calls::options::options_answer;
 use jwt_c_calls::secrets::{key_status, secret_status, set_status};
-use jwt_c_calls::status::{algorithm_number, leave, number_of, put_bytes, status_of, text_of};
+use jwt_c_calls::status::{algorithm_number, leave, number_of, put_bytes, status_of};
+use jwt_c_calls::status_table::{NO_MEMBER, NO_STATUS, NO_VERIFIER, OK, VERIFIER_IS_MADE, text_of};
 use jwt_c_verifier::test_numbers::numbered_test;
 use jwt_c_verifier::verifiers::{
     answer_until, limits, verifier_of_key, verifier_of_secret, verifier_of_set,
@@ -284,9 +285,13 @@ pub extern "C" fn jwt_decode_verdict(
         (record { message = message.now; signature = signature.now; says_yes = verdict }) time a
         × Leaves a result len.new room.old room.new }
 {
-    let answer = said_answer(
-        alloc, token, algorithm, message, signature, verdict, options, time,
-    );
+    let said = CallerVerdict {
+        algorithm,
+        message,
+        signature,
+        verdict,
+    };
+    let answer = said_answer(alloc, token, &said, options, time);
     leave(answer, room, len)
 }
 
@@ -476,7 +481,7 @@ pub extern "C" fn jwt_check_numbers(alloc: Global, claims: &[u8]) -> u32
     ensures { (a : Answer) × AnswersNumbers claims.now a × (result ≡ status_of a) }
 {
     match numbers_answer(alloc, claims) {
-        Ok(()) => 0,
+        Ok(()) => OK.0,
         Err(refusal) => status_of(&refusal),
     }
 }
@@ -591,15 +596,15 @@ pub extern "C" fn jwt_verifier_share(
 {
     if let Some(held) = other.take(alloc) {
         *other = Handle::of(held);
-        return 109;
+        return VERIFIER_IS_MADE.0;
     }
     match verifier.take(alloc) {
         Some(made) => {
-            let status = put(alloc, made.another().ok(), other);
+            let status = put(alloc, made.share().ok(), other);
             *verifier = Handle::of(made);
             status
         }
-        None => 108,
+        None => NO_VERIFIER.0,
     }
 }
 
@@ -643,7 +648,7 @@ pub extern "C" fn jwt_verifier_decode(
             *last = 0;
             *test = 0;
             *len = 0;
-            108
+            NO_VERIFIER.0
         }
     }
 }
@@ -681,7 +686,7 @@ pub extern "C" fn jwt_member(
         Ok(None) => {
             *type_number = 0;
             *len = 0;
-            112
+            NO_MEMBER.0
         }
         Err(refusal) => {
             *type_number = 0;
@@ -704,7 +709,7 @@ pub extern "C" fn jwt_status_text(status: u32, room: &mut [u8], len: &mut usize)
         Some(text) => put_bytes(text.as_bytes(), room, len),
         None => {
             *len = 0;
-            102
+            NO_STATUS.0
         }
     }
 }
@@ -717,7 +722,7 @@ pub extern "C" fn jwt_test_text(test: u32, room: &mut [u8], len: &mut usize) -> 
 {
     let Some(test) = numbered_test(test) else {
         *len = 0;
-        return 102;
+        return NO_STATUS.0;
     };
     put_bytes(test.name().as_bytes(), room, len)
 }

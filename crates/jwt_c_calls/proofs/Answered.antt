@@ -6,29 +6,43 @@ use Rattle.jwt_base.specs.KindOf.{RefusesAs, kind_of}
 use Rattle.jwt_base.specs.declared.errors.Error.{Error}
 use Rattle.jwt_validation.specs.declared.interval.Moments.{Moments}
 use Rattle.jwt_c_calls.specs.BySignature.{AnswersInput, LeavesInput}
-use Rattle.jwt_c_calls.specs.Calls.{Answer, Gives, Refuses, Misreads, Leaves, AnswersBy, answer_of, refusal_status}
+use Rattle.jwt_c_calls.specs.Calls.{Answer, Gives, Refuses, Misreads, Leaves, AnswersBy, answer_of, answer_in, refusal_status}
 use Rattle.jwt_c_calls.specs.Inputs.{IsReadAs}
 use Rattle.jwt_c_calls.specs.Moments.{AreLeft, LeavesMoments}
 use Rattle.jwt_c_calls.specs.Status.{IsGiven, IsKept}
 use Rattle.jwt_c_calls.specs.declared.inputs.Input.{Input}
-use Rattle.jwt_c_calls.specs.declared.inputs.Refusal.{Refusal}
-use Rattle.jwt_c_calls.specs.declared.inputs.Refusal.TheVariants as refused
+use Rattle.jwt_c_calls.specs.declared.inputs.CallRefusal.{CallRefusal}
+use Rattle.jwt_c_calls.specs.declared.inputs.CallRefusal.TheVariants as refused
 
-kept_by : (r : Refusal) (s n : ℕ) (old new : List ℕ) → IsKept (refusal_status r) s n old new → Leaves (answer_of r) s n old new
+kept_by : (r : CallRefusal) (s n : ℕ) (old new : List ℕ) → IsKept (refusal_status r) s n old new → Leaves (answer_of r) s n old new
 kept_by (refused.Input i) s n old new k = k
 kept_by (refused.Token e) s n old new k = k
 
 -- a result by its two sides
-pub answered : {V : Type 0} (items : V → List ℕ) (By : Answer → Type 0) (r : Result V Refusal) (s n : ℕ) (old new : List ℕ)
+pub answered : {V : Type 0} (items : V → List ℕ) (By : Answer → Type 0) (r : Result V CallRefusal) (s n : ℕ) (old new : List ℕ)
     → IfOk r (λ b. By (Gives (items b))) → IfErr r (λ e. By (answer_of e))
     → IfOk r (λ b. IsGiven (items b) s n old new) → IfErr r (λ e. IsKept (refusal_status e) s n old new)
     → (a : Answer) × By a × Leaves a s n old new
 answered items By (Ok b) s n old new p q given kept = (Gives (items b), p, given)
 answered items By (Err e) s n old new p q given kept = (answer_of e, q, kept_by e s n old new kept)
 
+-- the two sides of a result, as one
+pub one_side : {V : Type 0} (items : V → List ℕ) (By : Answer → Type 0) (r : Result V CallRefusal)
+    → IfOk r (λ b. By (Gives (items b))) → IfErr r (λ e. By (answer_of e)) → By (answer_in items r)
+one_side items By (Ok b) p q = p
+one_side items By (Err e) p q = q
+
+-- a result as it is left
+pub answered_in : {V : Type 0} (items : V → List ℕ) (By : Answer → Type 0) (r : Result V CallRefusal) (s n : ℕ) (old new : List ℕ)
+    → By (answer_in items r)
+    → IfOk r (λ b. IsGiven (items b) s n old new) → IfErr r (λ e. IsKept (refusal_status e) s n old new)
+    → (a : Answer) × By a × Leaves a s n old new
+answered_in items By (Ok b) s n old new p given kept = (Gives (items b), p, given)
+answered_in items By (Err e) s n old new p given kept = (answer_of e, p, kept_by e s n old new kept)
+
 -- a text that could not be read has this result, if the call misreads it
 pub misread : {T E : Type 0} (Reads : E → Type 0) (MisreadAs : Input → Type 0) (G : E → List ℕ → Type 0) (R : E → Kind → Type 0)
-    (input : Input) (None : Type 0) → (None → MisreadAs input) → (r : Result T Error) (x : Result T Refusal)
+    (input : Input) (None : Type 0) → (None → MisreadAs input) → (r : Result T Error) (x : Result T CallRefusal)
     → IsReadAs input r x → IfErr r (RefusesAs kind.Json None)
     → IfErr x (λ f. AnswersBy Reads MisreadAs G R (answer_of f))
 misread Reads M G R input N means (Ok v) (Ok w) p n = tt
@@ -45,14 +59,14 @@ read_ok P input (Ok w) v p q = rw p q
 read_ok P input (Err e) v p q = absurd p
 
 -- a refusal leaves no message
-pub no_message : (header claims : List ℕ) (r : Refusal) (n s len : ℕ) (old new : List ℕ)
+pub no_message : (header claims : List ℕ) (r : CallRefusal) (n s len : ℕ) (old new : List ℕ)
     → AnswersInput header claims (answer_of r) → n ≡ 0
     → IsKept (refusal_status r) s len old new → LeavesInput header claims n s len old new
 no_message header claims (refused.Input i) n s len old new a z k = (Misreads i, a, z, k)
 no_message header claims (refused.Token e) n s len old new a z k = (Refuses (kind_of e), a, z, k)
 
 -- moments by the two sides of a result
-pub left_moments : (Answers : Option Moments → Answer → Type 0) (r : Result (Option Moments) Refusal) (s first last : ℕ)
+pub left_moments : (Answers : Option Moments → Answer → Type 0) (r : Result (Option Moments) CallRefusal) (s first last : ℕ)
     → IfOk r (λ m. Answers m (Gives [])) → IfErr r (λ e. Answers None (answer_of e))
     → IfOk r (λ m. AreLeft m (Gives []) s first last) → IfErr r (λ e. AreLeft None (answer_of e) s first last)
     → LeavesMoments Answers s first last

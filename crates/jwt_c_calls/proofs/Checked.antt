@@ -4,11 +4,11 @@ use Rattle.jwt_c_calls.specs.Calls.{AnswersBy, MisreadsOne, answer_of, refusal_s
 use Rattle.jwt_c_calls.specs.Secrets.{ChecksText}
 use Rattle.jwt_c_calls.specs.Status.{number, input_status}
 use Rattle.jwt_c_calls.specs.declared.inputs.Input.{Input}
-use Rattle.jwt_c_calls.specs.declared.inputs.Refusal.{Refusal}
-use Rattle.jwt_c_calls.specs.declared.inputs.Refusal.TheVariants as refused
+use Rattle.jwt_c_calls.specs.declared.inputs.CallRefusal.{CallRefusal}
+use Rattle.jwt_c_calls.specs.declared.inputs.CallRefusal.TheVariants as refused
 
 -- the status of a text by the two sides of a result
-pub checked : {X : Type 0} (input : Input) (Reads : X → Type 0) (Says : X → ℕ → Type 0) (r : Result ℕ Refusal) (s : ℕ)
+pub checked : {X : Type 0} (input : Input) (Reads : X → Type 0) (Says : X → ℕ → Type 0) (r : Result ℕ CallRefusal) (s : ℕ)
     → IfOk r (λ n. (x : X) × Reads x × Says x n)
     → IfErr r (λ e. AnswersBy Reads (MisreadsOne input Reads) (λ _ _. ⊥) (λ _ _. ⊥) (answer_of e))
     → IfOk r (λ n. s ≡ n) → IfErr r (λ e. s ≡ refusal_status e)

@@ -12,7 +12,7 @@ use Rattle.jwt_base.specs.declared.errors.Error.{Error}
 use Rattle.jsonwebtoken.specs.Tests.{Contents}
 use Rattle.jwt_c_calls.specs.Calls.{Gives, AnswersBy, HandsOut, IsClaimsText, IsTextOf, answer_of}
 use Rattle.jwt_c_calls.specs.declared.inputs.Input.{Input}
-use Rattle.jwt_c_calls.specs.declared.inputs.Refusal.{Refusal}
+use Rattle.jwt_c_calls.specs.declared.inputs.CallRefusal.{CallRefusal}
 
 -- JSON that was read nests no deeper than the reader allows
 pub shallow : (t : Contents) → IsJson t.payload_bytes t.payload_value → depth t.payload_value ≤ max_depth
@@ -22,7 +22,7 @@ module _ {D V E : Type 0} (claims : D → Value) (items : V → List ℕ) (Reads
     → Contents → Type 0) (R : E → Kind → Type 0)
     (deep : (o : E) (t : Contents) → A o t → depth t.payload_value ≤ max_depth) (H : D → Contents → Type 0) (o : E)
     (reads : Reads o) where
-  pub handed_ok : (r : Result D Error) (x : Result V Refusal) → HandsOut claims items r x
+  pub handed_ok : (r : Result D Error) (x : Result V CallRefusal) → HandsOut claims items r x
       → IfOk r (λ d. (t : Contents) × A o t × (H d t × (view (claims d) ≡ t.payload_value)))
       → IfOk x (λ b. AnswersBy Reads M (λ o. IsClaimsText (A o)) R (Gives (items b)))
   handed_ok (Ok d) (Ok b) h a =
@@ -33,7 +33,7 @@ module _ {D V E : Type 0} (claims : D → Value) (items : V → List ℕ) (Reads
   handed_ok (Err e) (Ok b) h a = absurd h
   handed_ok (Err e) (Err r) h a = tt
 
-  pub handed_err : (r : Result D Error) (x : Result V Refusal) → HandsOut claims items r x
+  pub handed_err : (r : Result D Error) (x : Result V CallRefusal) → HandsOut claims items r x
       → IfErr r (λ e. IsMemory e ⊎ R o (kind_of e)) → IfErr x (λ e. AnswersBy Reads M (λ o. IsClaimsText (A o)) R (answer_of e))
   handed_err (Ok d) (Ok b) h a = tt
   handed_err (Ok d) (Err e) h a = rw h (inl refl)

@@ -33,10 +33,11 @@ use Rattle.jsonwebtoken.specs.Tests.{signed_order, header_call, message_of, veri
 use Rattle.jsonwebtoken.specs.Vouched.{IsVouched}
 use Rattle.jwt_c_calls.specs.Inputs.{ReadsClaimsText}
 use Rattle.jwt_c_calls.specs.Status.{number, input_status, algorithm_numbered, IsGiven, IsKept}
+use Rattle.jwt_c_calls.specs.declared.answers.CallerVerdict as given
 use Rattle.jwt_c_calls.specs.declared.inputs.Input.{Input}
 use Rattle.jwt_c_calls.specs.declared.inputs.Input.TheVariants as input
-use Rattle.jwt_c_calls.specs.declared.inputs.Refusal.{Refusal}
-use Rattle.jwt_c_calls.specs.declared.inputs.Refusal.TheVariants as refused
+use Rattle.jwt_c_calls.specs.declared.inputs.CallRefusal.{CallRefusal}
+use Rattle.jwt_c_calls.specs.declared.inputs.CallRefusal.TheVariants as refused
 
 -- ---- results
 
@@ -176,6 +177,10 @@ pub record Said : Type 0 where
   pub signature : List ℕ
   pub says_yes : Bool
 
+-- the same of the struct that it is given as
+abbrev pub said_value : given.CallerVerdict → Said
+said_value s = record { message = s.message.now; signature = s.signature.now; says_yes = s.verdict }
+
 abbrev pub verdict_by : Said → Algorithm → Verdict
 verdict_by s a = record { algorithm = a; message = s.message; signature = s.signature; says_yes = s.says_yes }
 
@@ -221,9 +226,14 @@ LeavesSigned token algorithm message_len status len before after =
 -- ---- for private clauses
 
 -- the result that a refusal stands for
-abbrev pub answer_of : Refusal → Answer
+abbrev pub answer_of : CallRefusal → Answer
 answer_of (refused.Input i) = Misreads i
 answer_of (refused.Token e) = Refuses (kind_of e)
+
+-- the result that a result of bytes is
+abbrev pub answer_in : {V : Type 0} → (V → List ℕ) → Result V CallRefusal → Answer
+answer_in items (Ok b) = Gives (items b)
+answer_in items (Err r) = answer_of r
 
 -- the status of an answer without bytes
 abbrev pub status_of : Answer → ℕ
@@ -231,13 +241,13 @@ status_of (Gives bytes) = 0
 status_of (Refuses k) = number k
 status_of (Misreads i) = input_status i
 
-abbrev pub refusal_status : Refusal → ℕ
+abbrev pub refusal_status : CallRefusal → ℕ
 refusal_status (refused.Input i) = input_status i
 refusal_status (refused.Token e) = number (kind_of e)
 
 -- the claims are passed on as their text, unless memory ran out, and a refusal unchanged
 abbrev pub HandsOut : {D V : Type 0} → (D → Value) → (V → List ℕ)
-    → Result D Error → Result V Refusal → Type 0
+    → Result D Error → Result V CallRefusal → Type 0
 HandsOut claims items (Ok d) (Ok b) =
     depth (view (claims d)) ≤ max_depth → IsTextOf (items b) (view (claims d))
 HandsOut claims items (Ok d) (Err r) = answer_of r ≡ Refuses kind.OutOfMemory

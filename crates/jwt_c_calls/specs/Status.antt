@@ -4,7 +4,7 @@ use Rattle.std.specs.Prelude.{slice_get, unwrap_or, codes, if◌then◌else◌}
 use Rattle.std.specs.Str.{bytes_eq}
 use Rattle.jwt_base.specs.Algorithm.{all_algorithms}
 use Rattle.jwt_base.specs.declared.algorithms.Algorithm.{Algorithm}
-use Rattle.jwt_base.specs.Kind.{Kind, InvalidToken, InvalidSignature, InvalidEcdsaKey, InvalidEddsaKey}
+use Rattle.jwt_base.specs.Kind.{Kind, text_of, InvalidToken, InvalidSignature, InvalidEcdsaKey, InvalidEddsaKey}
 use Rattle.jwt_base.specs.Kind.{RsaFailedSigning, InvalidAlgorithmName, UnsupportedAlgorithm, InvalidKeyFormat}
 use Rattle.jwt_base.specs.Kind.{ExpiredSignature, InvalidIssuer, InvalidAudience, InvalidSubject, ImmatureSignature}
 use Rattle.jwt_base.specs.Kind.{InvalidAlgorithm, MissingAlgorithm, MissingRequiredClaim, InvalidClaimFormat}
@@ -107,54 +107,51 @@ key_as_secret = 113
 abbrev pub mixed_families : ℕ
 mixed_families = 114
 
--- the texts of the statuses from 0 on, of all kinds without a claim
-abbrev pub first_texts : List (List ℕ)
-first_texts = codes "OK"
-    ∷ codes "InvalidToken" ∷ codes "InvalidSignature" ∷ codes "InvalidEcdsaKey"
-    ∷ codes "InvalidEddsaKey" ∷ codes "RsaFailedSigning" ∷ codes "InvalidAlgorithmName"
-    ∷ codes "UnsupportedAlgorithm" ∷ codes "InvalidKeyFormat" ∷ codes "ExpiredSignature"
-    ∷ codes "InvalidIssuer" ∷ codes "InvalidAudience" ∷ codes "InvalidSubject"
-    ∷ codes "ImmatureSignature" ∷ codes "InvalidAlgorithm" ∷ codes "MissingAlgorithm"
-    ∷ codes "RSA key invalid: " ∷ codes "Signing failed: " ∷ codes "Custom provider error: "
-    ∷ codes "Base64 error" ∷ codes "JSON error" ∷ codes "UTF-8 error"
-    ∷ codes "Out of memory" ∷ codes "Clock before 1970" ∷ codes "InvalidCrit" ∷ codes "NoKey" ∷ []
+-- the status of a kind, with the kind's text
+abbrev pub of_kind : Kind → ℕ × List ℕ
+of_kind k = (number k, text_of k)
 
--- the text of a status up to 99
-abbrev pub refusal_text : ℕ → Option (List ℕ)
-refusal_text n =
-    if n == 40 then Some (codes "Missing required claim: exp")
-    else (if n == 41 then Some (codes "Missing required claim: nbf")
-    else (if n == 42 then Some (codes "Missing required claim: aud")
-    else (if n == 43 then Some (codes "Missing required claim: iss")
-    else (if n == 44 then Some (codes "Missing required claim: sub")
-    else (if n == 59 then Some (codes "Missing required claim: ")
-    else (if n == 60 then Some (codes "Invalid format for claim: exp")
-    else (if n == 61 then Some (codes "Invalid format for claim: nbf")
-    else (if n == 62 then Some (codes "Invalid format for claim: aud")
-    else (if n == 63 then Some (codes "Invalid format for claim: iss")
-    else (if n == 64 then Some (codes "Invalid format for claim: sub")
-    else (if n == 79 then Some (codes "Invalid format for claim: ")
-    else slice_get first_texts n)))))))))))
+-- the statuses with their texts; a claim of another name has none in the text
+abbrev pub statuses : List (ℕ × List ℕ)
+statuses = (0, codes "OK")
+    ∷ of_kind InvalidToken ∷ of_kind InvalidSignature ∷ of_kind InvalidEcdsaKey ∷ of_kind InvalidEddsaKey
+    ∷ of_kind RsaFailedSigning ∷ of_kind InvalidAlgorithmName ∷ of_kind UnsupportedAlgorithm
+    ∷ of_kind InvalidKeyFormat ∷ of_kind ExpiredSignature ∷ of_kind InvalidIssuer ∷ of_kind InvalidAudience
+    ∷ of_kind InvalidSubject ∷ of_kind ImmatureSignature ∷ of_kind InvalidAlgorithm ∷ of_kind MissingAlgorithm
+    ∷ of_kind (InvalidRsaKey []) ∷ of_kind (Signing []) ∷ of_kind (Provider []) ∷ of_kind Base64
+    ∷ of_kind Json ∷ of_kind Utf8 ∷ of_kind OutOfMemory ∷ of_kind ClockBeforeEpoch ∷ of_kind InvalidCrit
+    ∷ of_kind NoKey
+    ∷ of_kind (MissingRequiredClaim (codes "exp")) ∷ of_kind (MissingRequiredClaim (codes "nbf"))
+    ∷ of_kind (MissingRequiredClaim (codes "aud")) ∷ of_kind (MissingRequiredClaim (codes "iss"))
+    ∷ of_kind (MissingRequiredClaim (codes "sub")) ∷ of_kind (MissingRequiredClaim [])
+    ∷ of_kind (InvalidClaimFormat (codes "exp")) ∷ of_kind (InvalidClaimFormat (codes "nbf"))
+    ∷ of_kind (InvalidClaimFormat (codes "aud")) ∷ of_kind (InvalidClaimFormat (codes "iss"))
+    ∷ of_kind (InvalidClaimFormat (codes "sub")) ∷ of_kind (InvalidClaimFormat [])
+    ∷ (no_room, codes "Buffer too small")
+    ∷ (input_status input.Options, codes "Options not understood")
+    ∷ (no_status, codes "Unknown status")
+    ∷ (input_status input.Set, codes "Key set not understood")
+    ∷ (input_status input.Header, codes "Header not understood")
+    ∷ (input_status input.Claims, codes "Claims not understood")
+    ∷ (input_status input.Key, codes "Key not understood")
+    ∷ (blank_key, codes "Anyone can sign")
+    ∷ (no_verifier, codes "No verifier")
+    ∷ (has_verifier, codes "Verifier already made")
+    ∷ (unfit_key, codes "Key serves no algorithm")
+    ∷ (token_too_long, codes "Token too long")
+    ∷ (no_member, codes "No such member")
+    ∷ (key_as_secret, codes "Secret is the text of a key")
+    ∷ (mixed_families, codes "Algorithms of several families")
+    ∷ []
+
+-- the text of a number in a table
+abbrev pub text_in : ℕ → List (ℕ × List ℕ) → Option (List ℕ)
+text_in n [] = None
+text_in n (s ∷ rest) = if s.0 == n then Some s.1 else text_in n rest
 
 -- the text of a status
 abbrev pub status_text : ℕ → Option (List ℕ)
-status_text n =
-    if n == no_room then Some (codes "Buffer too small")
-    else (if n == input_status input.Options then Some (codes "Options not understood")
-    else (if n == no_status then Some (codes "Unknown status")
-    else (if n == input_status input.Set then Some (codes "Key set not understood")
-    else (if n == input_status input.Header then Some (codes "Header not understood")
-    else (if n == input_status input.Claims then Some (codes "Claims not understood")
-    else (if n == input_status input.Key then Some (codes "Key not understood")
-    else (if n == blank_key then Some (codes "Anyone can sign")
-    else (if n == no_verifier then Some (codes "No verifier")
-    else (if n == has_verifier then Some (codes "Verifier already made")
-    else (if n == unfit_key then Some (codes "Key serves no algorithm")
-    else (if n == token_too_long then Some (codes "Token too long")
-    else (if n == no_member then Some (codes "No such member")
-    else (if n == key_as_secret then Some (codes "Secret is the text of a key")
-    else (if n == mixed_families then Some (codes "Algorithms of several families")
-    else refusal_text n))))))))))))))
+status_text n = text_in n statuses
 
 -- the part of the claim's name that a status tells
 abbrev pub claim_part : List ℕ → List ℕ

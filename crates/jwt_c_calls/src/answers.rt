@@ -18,10 +18,10 @@ ghost use Rattle.jsonwebtoken.specs.Tests.{Contents, header_order, header_call, 
 ghost use Rattle.jwt_c_calls.specs.Calls.{Gives, AnswersHmac, AnswersKey, AnswersSet};
 ghost use Rattle.jwt_c_calls.specs.Calls.{AnswersVerdict, AnswersSaid, AnswersHeader};
 ghost use Rattle.jwt_c_calls.specs.Calls.{AnswersNumbers, PassesByJwk, FailsByJwk, HandsOut};
-ghost use Rattle.jwt_c_calls.specs.Calls.{IsHeaderText, answer_of};
+ghost use Rattle.jwt_c_calls.specs.Calls.{IsHeaderText, answer_of, answer_in, said_value};
 ghost use Rattle.jwt_c_calls.specs.Status.{algorithm_numbered};
 
-use crate::inputs::{Input, Refusal, read_as, read_claims};
+use crate::inputs::{CallRefusal, Input, read_as, read_claims};
 use crate::status::numbered_algorithm;
 use jsonwebtoken::crypto::hmac::HmacProvider;
 use jsonwebtoken::crypto::verdict::VerdictProvider;
@@ -45,7 +45,7 @@ pub fn hmac_answer(
     secret: &[u8],
     options: &[u8],
     time: u64,
-) -> Result<Vec<u8>, Refusal>
+) -> Result<Vec<u8>, CallRefusal>
     ensures ok { IfOk result (λ b. AnswersHmac options.now token.now secret.now time
         (Gives b.items)) }
     ensures err { IfErr result (λ r. AnswersHmac options.now token.now secret.now time
@@ -65,13 +65,13 @@ pub fn key_answer(
     key: &[u8],
     options: &[u8],
     time: u64,
-) -> Result<Vec<u8>, Refusal>
+) -> Result<Vec<u8>, CallRefusal>
     ensures ok { IfOk result (λ b. AnswersKey options.now token.now key.now time (Gives b.items)) }
     ensures err { IfErr result (λ r. AnswersKey options.now token.now key.now time (answer_of r)) }
 {
     let validation = read_as(Input::Options, Validation::from_slice(alloc, options))?;
     let jwk = read_as(Input::Key, Jwk::from_slice(alloc, key))?;
-    let answer = by_jwk(alloc, token, &jwk, &validation, time);
+    let answer = decode_by_jwk(alloc, token, &jwk, &validation, time);
     hand_out(alloc, answer)
 }
 
@@ -83,7 +83,7 @@ pub fn set_answer(
     set: &[u8],
     options: &[u8],
     time: u64,
-) -> Result<Vec<u8>, Refusal>
+) -> Result<Vec<u8>, CallRefusal>
     ensures ok { IfOk result (λ b. AnswersSet options.now token.now set.now time (Gives b.items)) }
     ensures err { IfErr result (λ r. AnswersSet options.now token.now set.now time (answer_of r)) }
 {
@@ -93,37 +93,37 @@ pub fn set_answer(
     hand_out(alloc, answer)
 }
 
-/// Returns the claims of a token whose signature the caller has checked, by the algorithm of this
-/// number.
+/// The verdict of a caller on a signature of a message, by the algorithm of this number.
+#[derive(Drop)]
+pub struct CallerVerdict<'a> {
+    pub algorithm: u32,
+    pub message: &'a [u8],
+    pub signature: &'a [u8],
+    pub verdict: bool,
+}
+
+/// Returns the claims of a token whose signature the caller has checked.
 pub fn said_answer(
     alloc: Global,
     token: &[u8],
-    algorithm: u32,
-    message: &[u8],
-    signature: &[u8],
-    verdict: bool,
+    said: &CallerVerdict<'_>,
     options: &[u8],
     time: u64,
-) -> Result<Vec<u8>, Refusal>
-    ensures ok { IfOk result (λ b. AnswersSaid (algorithm_numbered algorithm) options.now token.now
-        (record { message = message.now; signature = signature.now; says_yes = verdict }) time
-        (Gives b.items)) }
-    ensures err { IfErr result (λ r. AnswersSaid
-        (algorithm_numbered algorithm) options.now token.now
-        (record { message = message.now; signature = signature.now; says_yes = verdict }) time
-        (answer_of r)) }
+) -> Result<Vec<u8>, CallRefusal>
+    ensures { AnswersSaid (algorithm_numbered said.now.algorithm) options.now token.now
+        (said_value said.now) time (answer_in (λ b. b.items) result) }
 {
-    match numbered_algorithm(algorithm) {
+    match numbered_algorithm(said.algorithm) {
         Some(by) => {
-            let said = VerdictProvider::new(by, message, signature, verdict);
-            verdict_answer(alloc, token, &said, options, time)
+            let verdict = VerdictProvider::new(by, said.message, said.signature, said.verdict);
+            verdict_answer(alloc, token, &verdict, options, time)
         }
-        None => Err(Refusal::Token(new_error(ErrorKind::InvalidAlgorithmName))),
+        None => Err(CallRefusal::Token(new_error(ErrorKind::InvalidAlgorithmName))),
     }
 }
 
 /// Returns the header of a token, which is not verified, as its text.
-pub fn header_answer(alloc: Global, token: &[u8]) -> Result<Vec<u8>, Refusal>
+pub fn header_answer(alloc: Global, token: &[u8]) -> Result<Vec<u8>, CallRefusal>
     ensures ok { IfOk result (λ b. AnswersHeader token.now (Gives b.items)) }
     ensures err { IfErr result (λ r. AnswersHeader token.now (answer_of r)) }
 {
@@ -133,33 +133,33 @@ pub fn header_answer(alloc: Global, token: &[u8]) -> Result<Vec<u8>, Refusal>
 
 /// Checks that every number of the claims, which are the JSON text of an object, is an integer from
 /// -2^63 to 2^64 - 1; else the refusal is `Json`.
-pub fn numbers_answer(alloc: Global, claims: &[u8]) -> Result<(), Refusal>
+pub fn numbers_answer(alloc: Global, claims: &[u8]) -> Result<(), CallRefusal>
     ensures ok { OnOk result (AnswersNumbers claims.now (Gives [])) }
     ensures err { IfErr result (λ r. AnswersNumbers claims.now (answer_of r)) }
 {
     let value = read_as(Input::Claims, read_claims(alloc, claims))?;
     if has_float(&value) {
-        return Err(Refusal::Token(new_error(ErrorKind::Json)));
+        return Err(CallRefusal::Token(new_error(ErrorKind::Json)));
     }
     Ok(())
 }
 
 // Returns the claims as their text, or the refusal.
-fn hand_out(alloc: Global, answer: Result<TokenData<Value>, Error>) -> Result<Vec<u8>, Refusal>
+fn hand_out(alloc: Global, answer: Result<TokenData<Value>, Error>) -> Result<Vec<u8>, CallRefusal>
     ensures { HandsOut (λ d. d.claims) (λ b. b.items) answer result }
 {
     match answer {
         Ok(data) => match data.claims.to_vec(alloc) {
             Ok(text) => Ok(text),
-            Err(refused) => Err(Refusal::from(refused)),
+            Err(refused) => Err(CallRefusal::from(refused)),
         },
-        Err(refused) => Err(Refusal::from(refused)),
+        Err(refused) => Err(CallRefusal::from(refused)),
     }
 }
 
 // Returns the claims of a token that is verified with the key that a JSON Web Key stands for, by
 // the algorithm that the header names, or the kind of the refusal.
-fn by_jwk(
+fn decode_by_jwk(
     alloc: Global,
     token: &[u8],
     jwk: &Jwk,
@@ -182,7 +182,7 @@ fn verdict_answer(
     verdict: &VerdictProvider<'_>,
     options: &[u8],
     time: u64,
-) -> Result<Vec<u8>, Refusal>
+) -> Result<Vec<u8>, CallRefusal>
     ensures ok { IfOk result (λ b. AnswersVerdict options.now token.now verdict.now time
         (Gives b.items)) }
     ensures err { IfErr result (λ r. AnswersVerdict options.now token.now verdict.now time

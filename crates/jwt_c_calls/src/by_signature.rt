@@ -8,7 +8,7 @@ ghost use Rattle.jwt_c_calls.specs.BySignature.{AnswersEcdsa};
 ghost use Rattle.jwt_c_calls.specs.Calls.{Gives, answer_of};
 ghost use Rattle.jwt_c_calls.specs.Status.{algorithm_numbered};
 
-use crate::inputs::{Input, Refusal, read_as, read_claims};
+use crate::inputs::{CallRefusal, Input, read_as, read_claims};
 use crate::status::numbered_algorithm;
 use jsonwebtoken::crypto::signature::SignatureProvider;
 use jsonwebtoken::errors::{ErrorKind, new_error};
@@ -19,7 +19,11 @@ use std::alloc::Global;
 use std::result::Result;
 
 /// Returns the message of a token that is to be signed elsewhere, and the header's algorithm.
-pub fn input_answer(alloc: Global, header: &[u8], claims: &[u8]) -> Result<SigningInput, Refusal>
+pub fn input_answer(
+    alloc: Global,
+    header: &[u8],
+    claims: &[u8],
+) -> Result<SigningInput, CallRefusal>
     ensures ok { IfOk result (λ s. AnswersInput header.now claims.now
         (Gives (string_bytes s.message))) }
     ensures algorithm { IfOk result (λ s. NamesAlgorithm header.now s.algorithm) }
@@ -39,7 +43,7 @@ pub fn signature_answer(
     algorithm: u32,
     message: &[u8],
     signature: &[u8],
-) -> Result<Vec<u8>, Refusal>
+) -> Result<Vec<u8>, CallRefusal>
     ensures ok { IfOk result (λ b. AnswersSignature (algorithm_numbered algorithm)
         message.now signature.now header.now claims.now (Gives b.items)) }
     ensures err { IfErr result (λ r. AnswersSignature (algorithm_numbered algorithm)
@@ -50,12 +54,12 @@ pub fn signature_answer(
             let given = SignatureProvider::new(by, message, signature);
             given_answer(alloc, header, claims, &given)
         }
-        None => Err(Refusal::Token(new_error(ErrorKind::InvalidAlgorithmName))),
+        None => Err(CallRefusal::Token(new_error(ErrorKind::InvalidAlgorithmName))),
     }
 }
 
 /// Returns the two numbers of a signature in DER, by the algorithm of ECDSA with this number.
-pub fn ecdsa_answer(alloc: Global, der: &[u8], algorithm: u32) -> Result<Vec<u8>, Refusal>
+pub fn ecdsa_answer(alloc: Global, der: &[u8], algorithm: u32) -> Result<Vec<u8>, CallRefusal>
     ensures ok { IfOk result (λ b. AnswersEcdsa (algorithm_numbered algorithm) der.now
         (Gives b.items)) }
     ensures err { IfErr result (λ r. AnswersEcdsa (algorithm_numbered algorithm) der.now
@@ -63,16 +67,17 @@ pub fn ecdsa_answer(alloc: Global, der: &[u8], algorithm: u32) -> Result<Vec<u8>
 {
     match numbered_algorithm(algorithm) {
         Some(by) => Ok(ecdsa_signature(alloc, der, by)?),
-        None => Err(Refusal::Token(new_error(ErrorKind::InvalidAlgorithmName))),
+        None => Err(CallRefusal::Token(new_error(ErrorKind::InvalidAlgorithmName))),
     }
 }
 
-fn input_of(alloc: Global, header: &Header, claims: &Value) -> Result<SigningInput, Refusal>
+fn input_of(alloc: Global, header: &Header, claims: &Value) -> Result<SigningInput, CallRefusal>
     ensures ok { IfOk result (λ s. AnswersInputOf header.now (view claims.now)
         (Gives (string_bytes s.message))) }
     ensures algorithm { IfOk result (λ s. header.now.alg ≡ s.algorithm) }
     ensures err { IfErr result (λ r. AnswersInputOf header.now (view claims.now) (answer_of r)) }
 {
+    // Bound first, since the proof names it.
     let input = signing_input(alloc, header, claims)?;
     Ok(input)
 }
@@ -82,21 +87,21 @@ fn given_answer(
     header: &[u8],
     claims: &[u8],
     given: &SignatureProvider<'_>,
-) -> Result<Vec<u8>, Refusal>
+) -> Result<Vec<u8>, CallRefusal>
     ensures ok { IfOk result (λ b. AnswersGiven given.now header.now claims.now (Gives b.items)) }
     ensures err { IfErr result (λ r. AnswersGiven given.now header.now claims.now (answer_of r)) }
 {
     let header = read_as(Input::Header, Header::from_slice(alloc, header))?;
     let claims = read_as(Input::Claims, read_claims(alloc, claims))?;
-    issued(alloc, &header, &claims, given)
+    issue(alloc, &header, &claims, given)
 }
 
-fn issued(
+fn issue(
     alloc: Global,
     header: &Header,
     claims: &Value,
     given: &SignatureProvider<'_>,
-) -> Result<Vec<u8>, Refusal>
+) -> Result<Vec<u8>, CallRefusal>
     ensures ok { IfOk result (λ b. AnswersGivenFor given.now header.now (view claims.now)
         (Gives b.items)) }
     ensures err { IfErr result (λ r. AnswersGivenFor given.now header.now (view claims.now)

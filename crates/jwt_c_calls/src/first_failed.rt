@@ -6,7 +6,7 @@ ghost use Rattle.jwt_c_calls.specs.FirstFailed.{AnswersFailedHmac, AnswersFailed
 ghost use Rattle.jwt_c_calls.specs.FirstFailed.{AnswersFailedSet, failed_name};
 ghost use Rattle.jwt_c_calls.specs.Status.{IsGiven, IsKept};
 
-use crate::inputs::Refusal;
+use crate::inputs::CallRefusal;
 use crate::keys::{options_and_key, options_and_secret, options_and_set};
 use crate::status::{put_bytes, status_of};
 use jsonwebtoken::crypto::hmac::HmacProvider;
@@ -23,7 +23,7 @@ pub fn hmac_failed_test(
     secret: &[u8],
     options: &[u8],
     time: u64,
-) -> Result<Option<Test>, Refusal>
+) -> Result<Option<Test>, CallRefusal>
     ensures ok { IfOk result (λ f. AnswersFailedHmac options.now token.now secret.now time
         (Gives (failed_name f))) }
     ensures err { IfErr result (λ r. AnswersFailedHmac options.now token.now secret.now time
@@ -50,7 +50,7 @@ pub fn key_failed_test(
     key: &[u8],
     options: &[u8],
     time: u64,
-) -> Result<Option<Test>, Refusal>
+) -> Result<Option<Test>, CallRefusal>
     ensures ok { IfOk result (λ f. AnswersFailedKey options.now token.now key.now time
         (Gives (failed_name f))) }
     ensures err { IfErr result (λ r. AnswersFailedKey options.now token.now key.now time
@@ -76,7 +76,7 @@ pub fn set_failed_test(
     set: &[u8],
     options: &[u8],
     time: u64,
-) -> Result<Option<Test>, Refusal>
+) -> Result<Option<Test>, CallRefusal>
     ensures ok { IfOk result (λ f. AnswersFailedSet options.now token.now set.now time
         (Gives (failed_name f))) }
     ensures err { IfErr result (λ r. AnswersFailedSet options.now token.now set.now time
@@ -96,7 +96,11 @@ pub fn set_failed_test(
 
 /// Writes the name of the test that fails, or no bytes if none does, or the reason for which there
 /// is no answer.
-pub fn leave_name(answer: Result<Option<Test>, Refusal>, room: &mut [u8], len: &mut usize) -> u32
+pub fn leave_name(
+    answer: Result<Option<Test>, CallRefusal>,
+    room: &mut [u8],
+    len: &mut usize,
+) -> u32
     ensures given { IfOk answer (λ f. IsGiven (failed_name f) result len.new room.old room.new) }
     ensures kept { IfErr answer (λ r. IsKept (refusal_status r) result len.new room.old room.new) }
 {

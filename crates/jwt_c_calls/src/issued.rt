@@ -6,7 +6,7 @@ ghost use Rattle.jwt_c_calls.specs.Calls.{Gives, answer_of};
 ghost use Rattle.jwt_c_calls.specs.Issued.{AnswersEncode, AnswersIssue, AnswersThumbprint};
 ghost use Rattle.jwt_c_calls.specs.Issued.{AnswersHashed, hash_numbered};
 
-use crate::inputs::{Input, Refusal, read_as, read_claims};
+use crate::inputs::{CallRefusal, Input, read_as, read_claims};
 use jsonwebtoken::crypto::hmac::HmacProvider;
 use jsonwebtoken::errors::{ErrorKind, new_error};
 use jsonwebtoken::{EncodingKey, Header, encode};
@@ -22,13 +22,13 @@ pub fn encode_answer(
     header: &[u8],
     claims: &[u8],
     secret: &[u8],
-) -> Result<Vec<u8>, Refusal>
+) -> Result<Vec<u8>, CallRefusal>
     ensures ok { IfOk result (λ b. AnswersEncode header.now claims.now secret.now (Gives b.items)) }
     ensures err { IfErr result (λ r. AnswersEncode header.now claims.now secret.now (answer_of r)) }
 {
     let header = read_as(Input::Header, Header::from_slice(alloc, header))?;
     let claims = read_as(Input::Claims, read_claims(alloc, claims))?;
-    issued(alloc, &header, &claims, secret)
+    issue(alloc, &header, &claims, secret)
 }
 
 /// Returns the hash of this many bits.
@@ -44,17 +44,22 @@ pub fn numbered_hash(bits: u32) -> Option<ThumbprintHash>
 }
 
 /// Returns the thumbprint of a key, by the hash of this many bits.
-pub fn thumbprint_answer(alloc: Global, key: &[u8], bits: u32) -> Result<Vec<u8>, Refusal>
+pub fn thumbprint_answer(alloc: Global, key: &[u8], bits: u32) -> Result<Vec<u8>, CallRefusal>
     ensures ok { IfOk result (λ b. AnswersThumbprint (hash_numbered bits) key.now (Gives b.items)) }
     ensures err { IfErr result (λ r. AnswersThumbprint (hash_numbered bits) key.now (answer_of r)) }
 {
     match numbered_hash(bits) {
-        Some(hash) => hashed(alloc, key, hash),
-        None => Err(Refusal::Token(new_error(ErrorKind::InvalidAlgorithmName))),
+        Some(hash) => thumbprint_of(alloc, key, hash),
+        None => Err(CallRefusal::Token(new_error(ErrorKind::InvalidAlgorithmName))),
     }
 }
 
-fn issued(alloc: Global, header: &Header, claims: &Value, secret: &[u8]) -> Result<Vec<u8>, Refusal>
+fn issue(
+    alloc: Global,
+    header: &Header,
+    claims: &Value,
+    secret: &[u8],
+) -> Result<Vec<u8>, CallRefusal>
     ensures ok { IfOk result (λ b. AnswersIssue secret.now header.now (view claims.now)
         (Gives b.items)) }
     ensures err { IfErr result (λ r. AnswersIssue secret.now header.now (view claims.now)
@@ -65,7 +70,7 @@ fn issued(alloc: Global, header: &Header, claims: &Value, secret: &[u8]) -> Resu
     Ok(token.into_bytes())
 }
 
-fn hashed(alloc: Global, key: &[u8], hash: ThumbprintHash) -> Result<Vec<u8>, Refusal>
+fn thumbprint_of(alloc: Global, key: &[u8], hash: ThumbprintHash) -> Result<Vec<u8>, CallRefusal>
     ensures ok { IfOk result (λ b. AnswersHashed hash key.now (Gives b.items)) }
     ensures err { IfErr result (λ r. AnswersHashed hash key.now (answer_of r)) }
 {

@@ -4,17 +4,18 @@ ghost use Rattle.std.specs.Prelude.{IfOk, IfErr};
 ghost use Rattle.jwt_c_calls.specs.Calls.{Gives, answer_of};
 ghost use Rattle.jwt_c_calls.specs.KeyFiles.{AnswersPem};
 
-use crate::inputs::Refusal;
+use crate::inputs::CallRefusal;
 use jwt_key_files::jwk::jwk_from_pem;
 use std::alloc::Global;
 use std::result::Result;
 
 /// Returns the JSON Web Key of a public key in PEM, as its text.
-pub fn pem_answer(alloc: Global, pem: &[u8]) -> Result<Vec<u8>, Refusal>
+pub fn pem_answer(alloc: Global, pem: &[u8]) -> Result<Vec<u8>, CallRefusal>
     ensures ok { IfOk result (λ b. AnswersPem pem.now (Gives b.items)) }
     ensures err { IfErr result (λ r. AnswersPem pem.now (answer_of r)) }
 {
     let jwk = jwk_from_pem(alloc, pem)?;
+    // Bound first, since the proof names it.
     let text = jwk.to_text(alloc)?;
     Ok(text)
 }

@@ -13,3 +13,4 @@ pub mod moments;
 pub mod options;
 pub mod secrets;
 pub mod status;
+pub mod status_table;

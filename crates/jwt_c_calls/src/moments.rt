@@ -5,7 +5,7 @@ ghost use Rattle.jwt_c_calls.specs.Calls.{Gives, answer_of};
 ghost use Rattle.jwt_c_calls.specs.Moments.{AnswersMomentsHmac, AnswersMomentsKey};
 ghost use Rattle.jwt_c_calls.specs.Moments.{AnswersMomentsSet, AreLeft};
 
-use crate::inputs::Refusal;
+use crate::inputs::CallRefusal;
 use crate::keys::{options_and_key, options_and_secret, options_and_set};
 use crate::status::status_of;
 use jsonwebtoken::crypto::hmac::HmacProvider;
@@ -22,7 +22,7 @@ pub fn hmac_moments(
     token: &[u8],
     secret: &[u8],
     options: &[u8],
-) -> Result<Option<Moments>, Refusal>
+) -> Result<Option<Moments>, CallRefusal>
     ensures ok { IfOk result (λ m. AnswersMomentsHmac options.now token.now secret.now m
         (Gives [])) }
     ensures err { IfErr result (λ r. AnswersMomentsHmac options.now token.now secret.now None
@@ -47,7 +47,7 @@ pub fn key_moments(
     token: &[u8],
     key: &[u8],
     options: &[u8],
-) -> Result<Option<Moments>, Refusal>
+) -> Result<Option<Moments>, CallRefusal>
     ensures ok { IfOk result (λ m. AnswersMomentsKey options.now token.now key.now m (Gives [])) }
     ensures err { IfErr result (λ r. AnswersMomentsKey options.now token.now key.now None
         (answer_of r)) }
@@ -70,7 +70,7 @@ pub fn set_moments(
     token: &[u8],
     set: &[u8],
     options: &[u8],
-) -> Result<Option<Moments>, Refusal>
+) -> Result<Option<Moments>, CallRefusal>
     ensures ok { IfOk result (λ m. AnswersMomentsSet options.now token.now set.now m (Gives [])) }
     ensures err { IfErr result (λ r. AnswersMomentsSet options.now token.now set.now None
         (answer_of r)) }
@@ -89,7 +89,7 @@ pub fn set_moments(
 /// Writes the first and the last time, or 1 and 0 if there is none, or 0 and 0 with the reason
 /// for which there is no answer.
 pub fn leave_moments(
-    answer: Result<Option<Moments>, Refusal>,
+    answer: Result<Option<Moments>, CallRefusal>,
     first: &mut u64,
     last: &mut u64,
 ) -> u32

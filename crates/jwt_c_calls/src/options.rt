@@ -8,7 +8,7 @@ ghost use Rattle.jwt_base.specs.Kind as kind;
 ghost use Rattle.jwt_c_calls.specs.Calls.{Gives, Refuses, answer_of};
 ghost use Rattle.jwt_c_calls.specs.Options.{AnswersFault, IsValueFault, fault_text, form_text};
 
-use crate::inputs::Refusal;
+use crate::inputs::CallRefusal;
 use jsonwebtoken::errors::ErrorKind;
 use jwt_base::serialization::json_value;
 use jwt_validation::{Form, OptionsFault, options_fault};
@@ -18,7 +18,7 @@ use std::result::Result;
 
 /// Returns what keeps a text from being options: which member, and why; or nothing, if it is the
 /// JSON text of options.
-pub fn options_answer(alloc: Global, text: &[u8]) -> Result<Vec<u8>, Refusal>
+pub fn options_answer(alloc: Global, text: &[u8]) -> Result<Vec<u8>, CallRefusal>
     ensures ok { IfOk result (λ b. AnswersFault text.now (Gives b.items)) }
     ensures err { IfErr result (λ r. AnswersFault text.now (answer_of r)) }
 {
@@ -26,27 +26,27 @@ pub fn options_answer(alloc: Global, text: &[u8]) -> Result<Vec<u8>, Refusal>
         Ok(value) => value,
         Err(refused) => {
             return if *refused.kind() == ErrorKind::OutOfMemory {
-                Err(Refusal::Token(refused))
+                Err(CallRefusal::Token(refused))
             } else {
-                said(alloc, "the options are not JSON")
+                text_bytes(alloc, "the options are not JSON")
             };
         }
     };
     value_fault(alloc, &value)
 }
 
-fn fault_text(alloc: Global, fault: OptionsFault<'_>) -> Result<Vec<u8>, Refusal>
+fn fault_text(alloc: Global, fault: OptionsFault<'_>) -> Result<Vec<u8>, CallRefusal>
     ensures ok { IfOk result (λ b. b.items ≡ fault_text fault.entry) }
     ensures err { IfErr result (λ r. answer_of r ≡ Refuses kind.OutOfMemory) }
 {
     match fault {
-        OptionsFault::NotAnObject => said(alloc, "the options are not a JSON object"),
-        OptionsFault::Unknown(name) => named(alloc, name, " is not an option"),
-        OptionsFault::Malformed(name, form) => named(alloc, name, form_text(form)),
+        OptionsFault::NotAnObject => text_bytes(alloc, "the options are not a JSON object"),
+        OptionsFault::Unknown(name) => name_and_text(alloc, name, " is not an option"),
+        OptionsFault::Malformed(name, form) => name_and_text(alloc, name, form_text(form)),
     }
 }
 
-fn said(alloc: Global, text: &str) -> Result<Vec<u8>, Refusal>
+fn text_bytes(alloc: Global, text: &str) -> Result<Vec<u8>, CallRefusal>
     ensures ok { IfOk result (λ b. b.items ≡ text.now) }
     ensures err { IfErr result (λ r. answer_of r ≡ Refuses kind.OutOfMemory) }
 {
@@ -54,7 +54,7 @@ fn said(alloc: Global, text: &str) -> Result<Vec<u8>, Refusal>
 }
 
 // Returns the name as JSON, and this text after it.
-fn named(alloc: Global, name: &str, text: &str) -> Result<Vec<u8>, Refusal>
+fn name_and_text(alloc: Global, name: &str, text: &str) -> Result<Vec<u8>, CallRefusal>
     ensures ok { IfOk result (λ b. b.items ≡ compact_text (string name.now) ++ text.now) }
     ensures err { IfErr result (λ r. answer_of r ≡ Refuses kind.OutOfMemory) }
 {
@@ -77,7 +77,7 @@ fn form_text(form: Form) -> &'static str
 }
 
 // Returns what keeps a value from being options, or nothing.
-fn value_fault(alloc: Global, value: &Value) -> Result<Vec<u8>, Refusal>
+fn value_fault(alloc: Global, value: &Value) -> Result<Vec<u8>, CallRefusal>
     ensures ok { IfOk result (λ b. IsValueFault (view value.now) b.items) }
     ensures err { IfErr result (λ r. answer_of r ≡ Refuses kind.OutOfMemory) }
 {

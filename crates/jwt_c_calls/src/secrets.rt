@@ -15,8 +15,9 @@ ghost use Rattle.jwt_c_calls.specs.Secrets.{ChecksSecret, ChecksKey, ChecksSet, 
 ghost use Rattle.jwt_c_calls.specs.Secrets.{SaysOfJwk, SaysOfSet};
 ghost use Rattle.jwt_c_calls.specs.declared.inputs.Input.TheVariants as input;
 
-use crate::inputs::{Input, Refusal, read_as};
+use crate::inputs::{CallRefusal, Input, read_as};
 use crate::status::{number_of, status_of};
+use crate::status_table::{BLANK_KEY, KEY_AS_SECRET, OK};
 use jsonwebtoken::errors::Error;
 use jwt_keys::jwk::Jwk;
 use jwt_keys::jwk_set::JwkSet;
@@ -59,15 +60,15 @@ fn secret_answer(alloc: Global, secret: &[u8]) -> Result<u32, Error>
     ensures err { IfErr result (λ e. (¬ IsBlank secret.now) × IsMemory e) }
 {
     if is_blank(secret) {
-        return Ok(107);
+        return Ok(BLANK_KEY.0);
     }
     if is_key_text(alloc, secret)? {
-        return Ok(113);
+        return Ok(KEY_AS_SECRET.0);
     }
-    Ok(0)
+    Ok(OK.0)
 }
 
-fn key_answer(alloc: Global, key: &[u8]) -> Result<u32, Refusal>
+fn key_answer(alloc: Global, key: &[u8]) -> Result<u32, CallRefusal>
     ensures ok { IfOk result (λ status. (jwk : Jwk) × ReadsText ReadsKey key.now jwk
         × SaysOfJwk jwk status) }
     ensures err { IfErr result (λ r. AnswersBy (ReadsText ReadsKey key.now)
@@ -82,15 +83,15 @@ fn jwk_answer(alloc: Global, jwk: &Jwk) -> Result<u32, Error>
     ensures err { IfErr result IsMemory }
 {
     if is_blank_jwk(alloc, jwk)? {
-        return Ok(107);
+        return Ok(BLANK_KEY.0);
     }
     if jwk_has_key_text(alloc, jwk)? {
-        return Ok(113);
+        return Ok(KEY_AS_SECRET.0);
     }
-    Ok(0)
+    Ok(OK.0)
 }
 
-fn answer_status(answer: Result<u32, Refusal>) -> u32
+fn answer_status(answer: Result<u32, CallRefusal>) -> u32
     ensures ok { IfOk answer (λ status. result ≡ status) }
     ensures err { IfErr answer (λ r. result ≡ refusal_status r) }
 {
@@ -100,7 +101,7 @@ fn answer_status(answer: Result<u32, Refusal>) -> u32
     }
 }
 
-fn set_answer(alloc: Global, set: &[u8]) -> Result<u32, Refusal>
+fn set_answer(alloc: Global, set: &[u8]) -> Result<u32, CallRefusal>
     ensures ok { IfOk result (λ status. (keys : List Jwk) × ReadsText ReadsSet set.now keys
         × SaysOfSet keys status) }
     ensures err { IfErr result (λ r. AnswersBy (ReadsText ReadsSet set.now)
@@ -115,10 +116,10 @@ fn keys_answer(alloc: Global, set: &JwkSet) -> Result<u32, Error>
     ensures err { IfErr result IsMemory }
 {
     if has_blank_key(alloc, set)? {
-        return Ok(107);
+        return Ok(BLANK_KEY.0);
     }
     if set_has_key_text(alloc, set)? {
-        return Ok(113);
+        return Ok(KEY_AS_SECRET.0);
     }
-    Ok(0)
+    Ok(OK.0)
 }

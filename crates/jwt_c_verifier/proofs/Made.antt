@@ -10,8 +10,8 @@ use Rattle.jwt_verifier.specs.declared.keys.Keys.{Keys}
 use Rattle.jwt_verifier.specs.declared.limits.Limits.{Limits}
 use Rattle.jwt_verifier.specs.declared.verifier.Verifier.{Verifier}
 use Rattle.jwt_c_calls.specs.Calls.{Answer, answer_of, refusal_status, status_of}
-use Rattle.jwt_c_calls.specs.declared.inputs.Refusal.{Refusal}
-use Rattle.jwt_c_calls.specs.declared.inputs.Refusal.TheVariants as refused
+use Rattle.jwt_c_calls.specs.declared.inputs.CallRefusal.{CallRefusal}
+use Rattle.jwt_c_calls.specs.declared.inputs.CallRefusal.TheVariants as refused
 use Rattle.jwt_c_verifier.specs.Verifiers.{IsMade, IsUnmade, unfit_status}
 
 module _ (Refused : Answer → Type 0) (AreOf : Options → Keys → Type 0) (limits : Limits) where
@@ -34,7 +34,7 @@ module _ (Refused : Answer → Type 0) (AreOf : Options → Keys → Type 0) (li
   of_values keys validation (Err status) of made unfit = inr (options_of validation, keys, of, unfit)
 
   -- with texts that are refused
-  pub of_refusal : (r : Refusal) (status : ℕ) → Refused (answer_of r) → status ≡ refusal_status r
+  pub of_refusal : (r : CallRefusal) (status : ℕ) → Refused (answer_of r) → status ≡ refusal_status r
       → IsUnmade Refused AreOf limits.allows_blank status
   of_refusal (refused.Input i) status a is = inl (answer_of (refused.Input i), a, is)
   of_refusal (refused.Token e) status a is = inl (answer_of (refused.Token e), a, is)

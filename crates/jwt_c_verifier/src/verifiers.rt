@@ -22,6 +22,9 @@ use jsonwebtoken::errors::{Error, ErrorKind};
 use jsonwebtoken::{Refusal, TokenData};
 use jwt_c_calls::keys::{options_and_key, options_and_secret, options_and_set};
 use jwt_c_calls::status::{number_of, status_of};
+use jwt_c_calls::status_table::{
+    BLANK_KEY, MIXED_FAMILIES, OUT_OF_MEMORY, TOKEN_TOO_LONG, UNFIT_KEY,
+};
 use jwt_validation::{Validation, claimed_moments};
 use jwt_verifier::{Keys, Limits, Rejection, TOKEN_LIMIT, Unfit, Verifier};
 use serde_json::Value;
@@ -131,7 +134,7 @@ pub fn answer_until(
     match verifier.decode_or_refusal::<Value>(alloc, token, time) {
         Ok(decoded) => hand_out(alloc, &decoded, &verifier.validation),
         Err(Rejection::TooLong) => Err(Denied {
-            status: 111,
+            status: TOKEN_TOO_LONG.0,
             test: 0,
         }),
         Err(Rejection::Failed(refusal)) => Err(reason_of(&refusal)),
@@ -162,10 +165,10 @@ fn status_of_unfit(unfit: Unfit) -> u32
     ensures { result ≡ unfit_status unfit }
 {
     match unfit {
-        Unfit::Blank => 107,
-        Unfit::Mixed => 114,
-        Unfit::Useless => 110,
-        Unfit::Memory => 22,
+        Unfit::Blank => BLANK_KEY.0,
+        Unfit::Mixed => MIXED_FAMILIES.0,
+        Unfit::Useless => UNFIT_KEY.0,
+        Unfit::Memory => OUT_OF_MEMORY.0,
     }
 }
 

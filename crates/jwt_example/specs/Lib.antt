@@ -1,4 +1,3 @@
-pub mod LongSecrets
 pub mod Numbers
 pub mod Published
 pub mod Reading

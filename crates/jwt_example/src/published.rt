@@ -41,12 +41,6 @@ pub fn name(jwk: &mut Jwk, id: Text)
     jwk.common.key_id = Some(id);
 }
 
-/// Returns the JSON text of the set (RFC 7517 section 5), to be served to those who verify.
-pub fn set_text(alloc: Global, set: &JwkSet) -> Result<String> {
-    let value = set.to_value(alloc)?;
-    Ok(value.to_string(alloc)?)
-}
-
 /// Refuses a secret with `InvalidKeyFormat`.
 fn refuse_secret(key: &DecodingKey) -> Result<()>
     ensures ok { OnOk result (key_family key.now ≢ family.Hmac) }

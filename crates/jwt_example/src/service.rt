@@ -1,27 +1,19 @@
-//! A service that issues the tokens of sessions, by keys that are changed from time to time.
+//! A service that issues the tokens of sessions, with keys that are changed from time to time.
 
-use crate::published::name;
-use crate::reading::session_of;
 use crate::session::Session;
-use jsonwebtoken::crypto::hmac::HmacProvider;
+use crate::signing::{SigningKey, add_key, has_id};
 use jsonwebtoken::errors::Result;
-use jsonwebtoken::jwk::{Jwk, JwkSet};
-use jsonwebtoken::{Algorithm, DecodingKey, EncodingKey, Header, Text, Validation, encode};
+use jsonwebtoken::prelude::*;
 use std::alloc::Global;
 
-/// A service that issues tokens with its newest key, and reads those of every key of its set.
+/// A service that issues tokens with its newest key. Those of every key of its set are read.
 #[derive(Debug, Drop)]
 pub struct Service {
     signing: Box<SigningKey>,
-    keys: JwkSet,
-    validation: Box<Validation>,
-}
-
-/// A key and its id.
-#[derive(Debug, Drop)]
-struct SigningKey {
-    id: Text,
-    key: EncodingKey,
+    /// The keys whose tokens are read.
+    pub keys: JwkSet,
+    /// The options that the tokens are checked against.
+    pub validation: Box<Validation>,
 }
 
 impl Service {
@@ -32,13 +24,8 @@ impl Service {
         Ok(Service {
             signing,
             keys,
-            validation: validation(alloc)?,
+            validation: session_validation(alloc)?,
         })
-    }
-
-    /// Returns the options that the tokens are checked against.
-    pub fn validation(&self) -> &Validation {
-        &self.validation
     }
 
     /// Signs with this secret from now on. The tokens of the keys before it are still read. Keys
@@ -56,48 +43,14 @@ impl Service {
 
     /// Returns the token of a session.
     pub fn issue(&self, alloc: Global, session: &Session) -> Result<String> {
-        let mut header = Box::new(alloc, Header::new(alloc, Algorithm::HS256)?)?;
-        header.kid = Some(self.signing.id.clone(alloc)?);
-        encode(alloc, &HmacProvider, &header, session, &self.signing.key)
-    }
-
-    /// Returns the session of a token, at the time `time`, in seconds since 1970-01-01 00:00:00
-    /// UTC.
-    pub fn read(&self, alloc: Global, token: &str, time: u64) -> Result<Session> {
-        session_of(alloc, token.as_bytes(), &self.keys, &self.validation, time)
+        let signing = &self.signing;
+        encode(alloc, &HmacProvider, &signing.header, session, &signing.key)
     }
 }
 
 /// Returns options for HS256 alone; the end of the session and the user are required.
-fn validation(alloc: Global) -> Result<Box<Validation>> {
+fn session_validation(alloc: Global) -> Result<Box<Validation>> {
     let mut validation = Box::new(alloc, Validation::new(alloc, Algorithm::HS256)?)?;
     validation.set_required_spec_claims(alloc, &["exp", "sub"])?;
     Ok(validation)
-}
-
-/// Adds the key that verifies with this secret to the set, and returns the one that signs with it.
-fn add_key(alloc: Global, set: &mut JwkSet, id: &str, secret: &[u8]) -> Result<Box<SigningKey>> {
-    let signing = SigningKey {
-        id: Text::from_str(alloc, id)?,
-        key: EncodingKey::from_secret(alloc, secret)?,
-    };
-    let signing = Box::new(alloc, signing)?;
-    set.keys.push(verifying_key(alloc, id, secret)?)?;
-    Ok(signing)
-}
-
-/// Returns the key that verifies with this secret, under this id.
-fn verifying_key(alloc: Global, id: &str, secret: &[u8]) -> Result<Jwk> {
-    let key = DecodingKey::from_secret(alloc, secret)?;
-    let id = Text::from_str(alloc, id)?;
-    let mut jwk = Jwk::from_decoding_key(alloc, &HmacProvider, &key, Some(Algorithm::HS256))?;
-    name(&mut jwk, id);
-    Ok(jwk)
-}
-
-fn has_id(jwk: &Jwk, id: &str) -> bool {
-    jwk.common
-        .key_id
-        .as_ref()
-        .is_some_and(|own| own.as_str() == id)
 }

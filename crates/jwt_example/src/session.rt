@@ -1,11 +1,8 @@
 //! The claims of a session: claims of a custom type.
 
-ghost use Rattle.std.specs.Prelude.{◌≡◌, Some, None, IfOk, IfErr};
-ghost use Rattle.serde_json.specs.View.{view};
-ghost use Rattle.jwt_base.specs.Kind as kind;
-ghost use Rattle.jwt_base.specs.KindOf.{RefusesAs};
-ghost use Rattle.jwt_example.specs.Numbers.{number_at};
+ghost use Rattle.std.specs.Prelude.{Some};
 
+use crate::numbers::number_at;
 use jsonwebtoken::errors::{ErrorKind, Result, new_error};
 use jsonwebtoken::json::Claims;
 use jsonwebtoken::json::members::{optional_text, optional_texts, put_optional_texts, put_text};
@@ -46,20 +43,9 @@ impl Claims for Session {
         Ok(Session {
             user,
             roles: optional_texts(alloc, value, "roles")?,
-            ends: seconds_at(value, "exp")?,
+            ends: number_at(value, "exp")?,
         })
     }
 
     ghost decided = { written_alike };
-}
-
-/// Returns the whole number at a member, not negative. If there is none, the refusal is `Json`.
-fn seconds_at(value: &Value, name: &str) -> Result<u64>
-    ensures ok { IfOk result (λ n. number_at name.now (view value.now) ≡ Some n) }
-    ensures err { IfErr result (RefusesAs kind.Json (number_at name.now (view value.now) ≡ None)) }
-{
-    match value.get(name) {
-        Some(number) => number.as_u64().ok_or(new_error(ErrorKind::Json)),
-        None => Err(new_error(ErrorKind::Json)),
-    }
 }

@@ -118,7 +118,7 @@ fn decode_by_secret<'a>(algorithm: &str, secret: &'a str, time: &str) -> Option<
     ensures { option_map asked result ≡ claims_asked ForClaims algorithm.now secret.now time.now }
 {
     let algorithm = algorithm_of(algorithm)?;
-    let time = moment(time)?;
+    let time = time_of(time)?;
     Some(Command::Decode {
         algorithm,
         secret,
@@ -130,7 +130,7 @@ fn decode_by_set<'a>(algorithm: &str, set: &'a str, time: &str) -> Option<Comman
     ensures { option_map asked result ≡ claims_asked ForClaimsBySet algorithm.now set.now time.now }
 {
     let algorithm = algorithm_of(algorithm)?;
-    let time = moment(time)?;
+    let time = time_of(time)?;
     Some(Command::DecodeWithSet {
         algorithm,
         set,
@@ -145,7 +145,7 @@ fn algorithm_of(name: &str) -> Option<Algorithm>
 }
 
 /// Returns the number that one or more decimal digits stand for.
-fn moment(word: &str) -> Option<u64>
+fn time_of(word: &str) -> Option<u64>
     ensures { result ≡ moment_of word.now }
 {
     if word.starts_with('+') {

@@ -181,6 +181,7 @@ fn jwk_serves(alloc: Global, jwk: &Jwk, algorithms: &[Algorithm]) -> Checked<boo
     }
     match DecodingKey::from_jwk(alloc, jwk) {
         Ok(key) => {
+            // Bound first: returned as it is, the result would cost the proof a case split.
             let serves = key_serves(alloc, &key, algorithms)?;
             Ok(serves)
         }

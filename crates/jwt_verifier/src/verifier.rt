@@ -203,6 +203,7 @@ fn prepare_fit(
     ensures err { IfErr result (IsUnfit allows_blank algorithms.now keys.now) }
 {
     check_keys(alloc, keys, algorithms, allows_blank)?;
+    // Bound first: returned as it is, the result would cost the proof a case split.
     let prepared = prepare(alloc, keys, algorithms)?;
     Ok(prepared)
 }
@@ -244,7 +245,7 @@ fn prepare_set(
     ensures { IfErr result IsMemory }
 {
     for jwk in set.keys.iter().take(PREPARED) {
-        if let Some(key) = unless_refused(DecodingKey::from_jwk(alloc, jwk))? {
+        if let Some(key) = value_or_none(DecodingKey::from_jwk(alloc, jwk))? {
             prepare_key(alloc, prepared, &key, algorithms)?;
         }
     }
@@ -252,7 +253,7 @@ fn prepare_set(
 }
 
 /// Returns the value that a call made, or `None` if it was refused for another reason than memory.
-fn unless_refused<R>(made: Checked<R>) -> Checked<Option<R>>
+fn value_or_none<R>(made: Checked<R>) -> Checked<Option<R>>
     ensures { IfErr result IsMemory }
 {
     match made {

@@ -42,7 +42,7 @@ returns-clause-ok c =
     (λ e. FailsByJwk token c.args.time e.0 e.1)
     (λ e t p. shallow t (met (key_call token p.0 c.args.time e.0) decode_order t p.2 PayloadIsJson refl))
     (λ d t. t.header ≡ d.header) (options_of c.in_ok-validation.validation, c.in_ok-jwk.jwk) (options, jwk)
-    c.by_jwk-answer.result c.hand_out.result c.hand_out.ensures c.by_jwk-answer.ensures.ok
+    c.decode_by_jwk-answer.result c.hand_out.result c.hand_out.ensures c.decode_by_jwk-answer.ensures.ok
 
 pub returns-clause-err : goal.returns-clause-err
 returns-clause-err c =
@@ -57,4 +57,4 @@ returns-clause-err c =
     (λ e. FailsByJwk token c.args.time e.0 e.1)
     (λ e t p. shallow t (met (key_call token p.0 c.args.time e.0) decode_order t p.2 PayloadIsJson refl))
     (λ d t. t.header ≡ d.header) (options_of c.in_ok-validation.validation, c.in_ok-jwk.jwk) (options, jwk)
-    c.by_jwk-answer.result c.hand_out.result c.hand_out.ensures c.by_jwk-answer.ensures.err
+    c.decode_by_jwk-answer.result c.hand_out.result c.hand_out.ensures c.decode_by_jwk-answer.ensures.err

@@ -1,7 +1,7 @@
 use Rattle.std.proofs.Common.{inl, inr}
 use Rattle.std.proofs.lemmas.Result.{IfOk-weaker, IfErr-weaker, err_from_is_err_and}
 use Rattle.jsonwebtoken.proofs.Exits.{or_memory}
-use Rattle.jwt_c_calls.proofs.answers.by_jwk.Goals as goal
+use Rattle.jwt_c_calls.proofs.answers.decode_by_jwk.Goals as goal
 
 pub returns-in_err-key-clause-err : goal.returns-in_err-key-clause-err
 returns-in_err-key-clause-err c =

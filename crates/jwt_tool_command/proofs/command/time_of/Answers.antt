@@ -1,7 +1,7 @@
 use Rattle.std.proofs.Common.{rules, ◌∙◌}
 use Rattle.std.proofs.lemmas.Str.Parse.{numerals_by_value, tells_all_ascii_digits, parse_plain}
 use Rattle.jwt_tool_command.proofs.Moments.{moment_read}
-use Rattle.jwt_tool_command.proofs.command.moment.Goals as goal
+use Rattle.jwt_tool_command.proofs.command.time_of.Goals as goal
 
 pub returns : goal.returns
 returns c = c.ok.ensures.value

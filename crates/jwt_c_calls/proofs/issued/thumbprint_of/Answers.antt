@@ -4,7 +4,7 @@ use Rattle.jwt_base.specs.JsonText.{ReadsText}
 use Rattle.jwt_keys.specs.Jwk.{ReadsKey}
 use Rattle.jwt_c_calls.specs.declared.inputs.Input.TheVariants as input
 use Rattle.jwt_c_calls.proofs.Answered.{read_ok}
-use Rattle.jwt_c_calls.proofs.issued.hashed.Goals as goal
+use Rattle.jwt_c_calls.proofs.issued.thumbprint_of.Goals as goal
 
 pub returns-in_err-text-clause-err : goal.returns-in_err-text-clause-err
 returns-in_err-text-clause-err c =
