@@ -16,66 +16,51 @@ use jsonwebtoken::{
 };
 use jwt_base::json::value_eq;
 use jwt_base::serialization::json_value;
-use jwt_rows::answer::{Answer, accepted};
-use jwt_rows::fault::Fault;
-use jwt_rows::row::Row;
-use jwt_rows::trial::Trial;
+use jwt_rows::{Answer, Row};
 use serde_json::Value;
 use std::alloc::Global;
 
-/// Makes the call of this name, if it is among those of this module.
-pub fn answer(call: &str, row: Row<'_>, _trial: &mut Trial) -> Result<Option<Value>, Fault> {
-    match call {
-        "sizes" => Ok(Some(sizes(row)?)),
-        _ => Ok(None),
-    }
-}
-
-fn sizes(row: Row<'_>) -> Answer {
-    row.takes(&["way", "of", "from_size", "to_size"])?;
+/// Makes the call `sizes`.
+pub fn answer(row: &Row<'_>) -> Answer {
+    let alloc = row.alloc();
     let (way, of) = (row.text("way")?, row.text("of")?);
-    for size in row.number("from_size")?..row.number("to_size")?.saturating_add(1) {
-        let Ok(count) = usize::try_from(size) else {
-            return Err(Fault::Member("to_size"));
-        };
-        if !matches!(is_well(row.alloc(), way, of, count)?, Ok(true)) {
-            return accepted(row.alloc(), Value::from(size));
+    let last = row.number("to_size")?;
+    for size in row.number("from_size")?..last.saturating_add(1) {
+        if !is_well(alloc, way, of, usize::try_from(size).ok()?)? {
+            return row.give(&size);
         }
     }
-    accepted(row.alloc(), Value::Null)
+    row.give(&())
 }
 
-// Returns whether the round trip succeeds at a size.
-fn is_well(alloc: Global, way: &str, of: &str, size: usize) -> Result<Outcome<bool>, Fault> {
-    match way {
-        "decode_with_set" => Ok(is_verified_by_the_last(alloc, size)),
-        "Jwk::thumbprint" => Ok(has_thumbprint(alloc, size)),
+// Returns whether the round trip succeeds at a size, or none if there is no such way or thing.
+fn is_well(alloc: Global, way: &str, of: &str, size: usize) -> Option<bool> {
+    let answer = match way {
+        "decode_with_set" => is_verified_by_the_last(alloc, size),
+        "Jwk::thumbprint" => has_thumbprint(alloc, size),
         _ => {
             let token = token_of(alloc, of, size)?;
-            comes_back_by(alloc, way, &token)
+            match way {
+                "encode, decode" => comes_back(alloc, &token),
+                "jws::encode, jws::decode" => comes_back_in_parts(alloc, &token),
+                "PreparedHmac::new, encode, decode" => comes_back_prepared(alloc, &token),
+                _ => return None,
+            }
         }
-    }
+    };
+    Some(matches!(answer, Ok(true)))
 }
 
-fn token_of(alloc: Global, of: &str, size: usize) -> Result<Box<Token>, Fault> {
+fn token_of(alloc: Global, of: &str, size: usize) -> Option<Box<Token>> {
     match of {
-        "a text and a secret" => Ok(with_text(alloc, size)?),
-        "a header" => Ok(with_header(alloc, size)?),
-        "lists in lists" => Ok(with_lists(alloc, size)?),
-        _ => Err(Fault::Member("of")),
+        "a text and a secret" => with_text(alloc, size).ok(),
+        "a header" => with_header(alloc, size).ok(),
+        "lists in lists" => with_lists(alloc, size).ok(),
+        _ => None,
     }
 }
 
-fn comes_back_by(alloc: Global, way: &str, token: &Token) -> Result<Outcome<bool>, Fault> {
-    match way {
-        "encode, decode" => Ok(comes_back(alloc, token)),
-        "jws::encode, jws::decode" => Ok(comes_back_in_parts(alloc, token)),
-        "PreparedHmac::new, encode, decode" => Ok(comes_back_prepared(alloc, token)),
-        _ => Err(Fault::Member("way")),
-    }
-}
-
-fn is_given_back(answer: Outcome<Box<TokenData<Value>>>, token: &Token) -> Outcome<bool> {
+fn is_same_token(answer: Outcome<Box<TokenData<Value>>>, token: &Token) -> Outcome<bool> {
     let data = answer?;
     Ok(value_eq(&data.claims, &token.claims) && data.header == token.header)
 }
@@ -88,15 +73,18 @@ fn is_forged(answer: Outcome<Box<TokenData<Value>>>) -> bool {
 }
 
 // Puts what was read behind a pointer.
-fn boxed(alloc: Global, answer: Outcome<TokenData<Value>>) -> Outcome<Box<TokenData<Value>>> {
+fn behind_pointer(
+    alloc: Global,
+    answer: Outcome<TokenData<Value>>,
+) -> Outcome<Box<TokenData<Value>>> {
     Ok(Box::new(alloc, answer?)?)
 }
 
-fn decoded(alloc: Global, text: &str, secret: &str) -> Outcome<Box<TokenData<Value>>> {
+fn read_back(alloc: Global, text: &str, secret: &str) -> Outcome<Box<TokenData<Value>>> {
     let key = DecodingKey::from_secret(alloc, secret.as_bytes())?;
     let validation = Validation::new(alloc, Algorithm::HS256)?;
     let answer = decode(alloc, &HmacProvider, text.as_bytes(), &key, &validation, 0);
-    boxed(alloc, answer)
+    behind_pointer(alloc, answer)
 }
 
 // Returns whether `decode_header` reads this header of the text.
@@ -113,8 +101,8 @@ fn comes_back(alloc: Global, token: &Token) -> Outcome<bool> {
     let text = text.as_str();
     Ok(
         has_header(alloc, text, &token.header)?
-            && is_given_back(decoded(alloc, text, token.secret.as_str()), token)?
-            && is_forged(decoded(alloc, text, "secret")),
+            && is_same_token(read_back(alloc, text, token.secret.as_str()), token)?
+            && is_forged(read_back(alloc, text, "secret")),
     )
 }
 
@@ -124,10 +112,10 @@ fn comes_back_prepared(alloc: Global, token: &Token) -> Outcome<bool> {
     let provider = Box::new(alloc, PreparedHmac::new(alloc, Algorithm::HS256, secret)?)?;
     let key = EncodingKey::from_secret(alloc, secret)?;
     let text = encode(alloc, &*provider, &token.header, &token.claims, &key)?;
-    is_given_back(decoded_by(alloc, &provider, text.as_str(), secret), token)
+    is_same_token(read_back_by(alloc, &provider, text.as_str(), secret), token)
 }
 
-fn decoded_by(
+fn read_back_by(
     alloc: Global,
     provider: &PreparedHmac,
     text: &str,
@@ -136,10 +124,10 @@ fn decoded_by(
     let key = DecodingKey::from_secret(alloc, secret)?;
     let validation = Validation::new(alloc, Algorithm::HS256)?;
     let answer = decode(alloc, provider, text.as_bytes(), &key, &validation, 0);
-    boxed(alloc, answer)
+    behind_pointer(alloc, answer)
 }
 
-fn decoded_parts(
+fn read_back_parts(
     alloc: Global,
     parts: &Jws<Value>,
     secret: &str,
@@ -147,7 +135,7 @@ fn decoded_parts(
     let key = DecodingKey::from_secret(alloc, secret.as_bytes())?;
     let validation = Validation::new(alloc, Algorithm::HS256)?;
     let answer = jws::decode(alloc, &HmacProvider, parts, &key, &validation, 0);
-    boxed(alloc, answer)
+    behind_pointer(alloc, answer)
 }
 
 /// Returns the same for a token in parts.
@@ -155,8 +143,8 @@ fn comes_back_in_parts(alloc: Global, token: &Token) -> Outcome<bool> {
     let key = EncodingKey::from_secret(alloc, token.secret.as_bytes())?;
     let claims = Some(&token.claims);
     let parts: Jws<Value> = jws::encode(alloc, &HmacProvider, &token.header, claims, &key)?;
-    let is_back = is_given_back(decoded_parts(alloc, &parts, token.secret.as_str()), token)?;
-    Ok(is_back && is_forged(decoded_parts(alloc, &parts, "secret")))
+    let is_back = is_same_token(read_back_parts(alloc, &parts, token.secret.as_str()), token)?;
+    Ok(is_back && is_forged(read_back_parts(alloc, &parts, "secret")))
 }
 
 /// Returns a set of this many keys, and a last one.
@@ -171,10 +159,10 @@ fn key_set(alloc: Global, count: usize) -> Outcome<Box<JwkSet>> {
     Ok(Box::new(alloc, JwkSet::from_value(alloc, &value)?)?)
 }
 
-fn decoded_by_set(alloc: Global, text: &str, set: &JwkSet) -> Outcome<Box<TokenData<Value>>> {
+fn read_back_by_set(alloc: Global, text: &str, set: &JwkSet) -> Outcome<Box<TokenData<Value>>> {
     let validation = Validation::new(alloc, Algorithm::HS256)?;
     let answer = decode_with_set(alloc, &HmacProvider, text.as_bytes(), set, &validation, 0);
-    boxed(alloc, answer)
+    behind_pointer(alloc, answer)
 }
 
 /// Returns whether a token is verified by the last key of a set.
@@ -183,7 +171,7 @@ fn is_verified_by_the_last(alloc: Global, count: usize) -> Outcome<bool> {
     let token = named_token(alloc)?;
     let key = EncodingKey::from_secret(alloc, token.secret.as_bytes())?;
     let text = encode(alloc, &HmacProvider, &token.header, &token.claims, &key)?;
-    is_given_back(decoded_by_set(alloc, text.as_str(), &set), &token)
+    is_same_token(read_back_by_set(alloc, text.as_str(), &set), &token)
 }
 
 /// Returns whether a key whose secret has this many characters has a thumbprint.
