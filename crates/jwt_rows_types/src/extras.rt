@@ -1,6 +1,6 @@
 //! The members of a header that the standards do not name.
 
-use crate::json::json;
+use crate::json::json_call;
 use jsonwebtoken::Extras;
 use jsonwebtoken::json::Claims;
 use jwt_rows::output::Found;
@@ -26,7 +26,7 @@ pub fn extras(method: &str, row: &Row<'_>) -> Answer {
             row.give(&extras.contains(name))
         }
         "get" | "insert" => by_type(method, row),
-        _ => json::<Extras>(method, row),
+        _ => json_call::<Extras>(method, row),
     }
 }
 

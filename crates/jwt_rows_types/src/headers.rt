@@ -1,6 +1,6 @@
 //! Headers (RFC 7515 section 4).
 
-use crate::json::{described, json};
+use crate::json::{json_call, json_input};
 use jsonwebtoken::{Algorithm, Header};
 use jwt_rows::{Answer, Row};
 
@@ -16,13 +16,13 @@ pub fn header(method: &str, row: &Row<'_>) -> Answer {
             row.end(header.x5c_der(row.begin()))
         }
         "to_text" => {
-            let header = described::<Header>(row)?;
+            let header = json_input::<Header>(row)?;
             row.end(header.to_text(row.begin()))
         }
         "from_slice" => {
             let bytes = row.bytes("bytes")?;
             row.end(Header::from_slice(row.begin(), bytes.as_slice()))
         }
-        _ => json::<Header>(method, row),
+        _ => json_call::<Header>(method, row),
     }
 }

@@ -37,7 +37,7 @@ pub trait Membered: Json {
 }
 
 /// Makes a call that all types with a JSON value have.
-pub fn json<T: Json + PartialEq + Hash + Debug>(method: &str, row: &Row<'_>) -> Answer {
+pub fn json_call<T: Json + PartialEq + Hash + Debug>(method: &str, row: &Row<'_>) -> Answer {
     match method {
         "from_value" => from_value::<T>(row),
         "to_value" => to_value::<T>(row),
@@ -45,7 +45,7 @@ pub fn json<T: Json + PartialEq + Hash + Debug>(method: &str, row: &Row<'_>) -> 
         "hash" => hash::<T>(row),
         "clone" => clone::<T>(row),
         "debug" => {
-            let value = described::<T>(row)?;
+            let value = json_input::<T>(row)?;
             let text = format!(in row.alloc(); "{:?}", *value).ok()?;
             row.give(&text)
         }
@@ -54,7 +54,10 @@ pub fn json<T: Json + PartialEq + Hash + Debug>(method: &str, row: &Row<'_>) -> 
 }
 
 /// Makes a call of a type whose values have names.
-pub fn named<T: Named + Default + PartialEq + Hash + Debug>(method: &str, row: &Row<'_>) -> Answer {
+pub fn named_call<T: Named + Default + PartialEq + Hash + Debug>(
+    method: &str,
+    row: &Row<'_>,
+) -> Answer {
     match method {
         "name" => {
             let value = row.input::<T>("value")?;
@@ -65,23 +68,26 @@ pub fn named<T: Named + Default + PartialEq + Hash + Debug>(method: &str, row: &
             row.begin();
             row.give(&T::default())
         }
-        _ => json::<T>(method, row),
+        _ => json_call::<T>(method, row),
     }
 }
 
 /// Makes a call of a type of parameters.
-pub fn membered<T: Membered + PartialEq + Hash + Debug>(method: &str, row: &Row<'_>) -> Answer {
+pub fn membered_call<T: Membered + PartialEq + Hash + Debug>(
+    method: &str,
+    row: &Row<'_>,
+) -> Answer {
     match method {
         "members" => {
             let parameters = row.input::<T>("value")?;
             row.end(parameters.list(row.begin()))
         }
-        _ => json::<T>(method, row),
+        _ => json_call::<T>(method, row),
     }
 }
 
 /// Returns the value that the row describes at `value`, or in the text that `value_json` describes.
-pub fn described<T: Input>(row: &Row<'_>) -> Option<Box<T>> {
+pub fn json_input<T: Input>(row: &Row<'_>) -> Option<Box<T>> {
     let value = row.json("value", "value_json")?;
     Box::new(row.alloc(), T::read(row.alloc(), &value)?).ok()
 }
@@ -94,12 +100,12 @@ fn from_value<T: Json>(row: &Row<'_>) -> Answer {
 
 fn to_value<T: Json>(row: &Row<'_>) -> Answer {
     row.choose_form();
-    let value = described::<T>(row)?;
+    let value = json_input::<T>(row)?;
     row.end(value.to_json(row.begin()))
 }
 
 fn clone<T: Json + PartialEq>(row: &Row<'_>) -> Answer {
-    let value = described::<T>(row)?;
+    let value = json_input::<T>(row)?;
     let alloc = row.begin();
     match value.copy(alloc) {
         Ok(copy) => row.give(&(copy == *value)),

@@ -1,6 +1,6 @@
 //! JSON Web Keys (RFC 7517), and sets of them.
 
-use crate::json::{described, json};
+use crate::json::{json_call, json_input};
 use jsonwebtoken::jwk::{Jwk, JwkSet};
 use jwt_rows::{Answer, Row};
 
@@ -13,14 +13,14 @@ pub fn jwk(method: &str, row: &Row<'_>) -> Answer {
             row.give(&key.is_supported())
         }
         "to_text" => {
-            let key = described::<Jwk>(row)?;
+            let key = json_input::<Jwk>(row)?;
             row.end(key.to_text(row.begin()))
         }
         "from_slice" => {
             let bytes = row.bytes("bytes")?;
             row.end(Jwk::from_slice(row.begin(), bytes.as_slice()))
         }
-        _ => json::<Jwk>(method, row),
+        _ => json_call::<Jwk>(method, row),
     }
 }
 
@@ -38,13 +38,13 @@ pub fn jwk_set(method: &str, row: &Row<'_>) -> Answer {
             row.give(&set.find(kid))
         }
         "to_text" => {
-            let set = described::<JwkSet>(row)?;
+            let set = json_input::<JwkSet>(row)?;
             row.end(set.to_text(row.begin()))
         }
         "from_slice" => {
             let bytes = row.bytes("bytes")?;
             row.end(JwkSet::from_slice(row.begin(), bytes.as_slice()))
         }
-        _ => json::<JwkSet>(method, row),
+        _ => json_call::<JwkSet>(method, row),
     }
 }

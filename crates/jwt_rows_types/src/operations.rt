@@ -1,6 +1,6 @@
 //! Lists of the operations that a key may be used for.
 
-use crate::json::json;
+use crate::json::json_call;
 use jsonwebtoken::jwk::{KeyOperationList, KeyOperations};
 use jwt_rows::output::List;
 use jwt_rows::{Answer, Row};
@@ -9,7 +9,7 @@ use jwt_rows::{Answer, Row};
 pub fn list(method: &str, row: &Row<'_>) -> Answer {
     match method {
         "from" | "from_slice" | "as_slice" | "into_vec" => of_operations(method, row),
-        _ => json::<KeyOperationList>(method, row),
+        _ => json_call::<KeyOperationList>(method, row),
     }
 }
 

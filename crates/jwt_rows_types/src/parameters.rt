@@ -1,7 +1,7 @@
 //! Parameters of keys: those that keys of every type may have, those of any type, and the members
 //! of a key of the type `Other`.
 
-use crate::json::{json, membered};
+use crate::json::{json_call, membered_call};
 use jsonwebtoken::jwk::{AlgorithmParameters, CommonParameters, FreeMembers};
 use jwt_rows::calls::{eq, hash};
 use jwt_rows::{Answer, Row};
@@ -19,23 +19,23 @@ pub fn common(method: &str, row: &Row<'_>) -> Answer {
             let common = row.input::<CommonParameters>("value")?;
             row.end(common.with_members(row.begin(), members))
         }
-        _ => json::<CommonParameters>(method, row),
+        _ => json_call::<CommonParameters>(method, row),
     }
 }
 
 /// Makes a call of `AlgorithmParameters`.
 pub fn of_algorithms(method: &str, row: &Row<'_>) -> Answer {
     match method {
-        "named" => {
+        "from_known_type" => {
             let value = row.value("value")?;
-            row.end(AlgorithmParameters::named(row.begin(), value))
+            row.end(AlgorithmParameters::from_known_type(row.begin(), value))
         }
         "has_common_name" => {
             let parameters = row.input::<AlgorithmParameters>("value")?;
             row.begin();
             row.give(&parameters.has_common_name())
         }
-        _ => membered::<AlgorithmParameters>(method, row),
+        _ => membered_call::<AlgorithmParameters>(method, row),
     }
 }
 

@@ -8,8 +8,9 @@ use jsonwebtoken::jwk::{
 use jsonwebtoken::{Enc, Zip};
 use jwt_rows::{Answer, Row};
 use jwt_rows_tokens::{by_provider, elsewhere, files, keys, places, prepared, sizes, tokens};
-use jwt_rows_types::json::{json, membered, named};
+use jwt_rows_types::json::{json_call, membered_call, named_call};
 use jwt_rows_types::{extras, headers, jwks, operations, parameters};
+use jwt_rows_values::json::{are_equal, claims, value};
 use jwt_rows_values::{algorithms, errors, parts, rules, secrets, texts, validations};
 use serde_json::Value;
 
@@ -20,8 +21,8 @@ pub fn answer(row: &Row<'_>) -> Answer {
     match call {
         "part_bytes" | "standard_bytes" | "url_bytes" => parts::decode(call, row),
         "part_text" | "json_value" => parts::of_bytes(call, row),
-        "value_eq" => jwt_rows_values::json::are_equal(row),
-        "has_float" | "value_text" => jwt_rows_values::json::value(call, row),
+        "value_eq" => are_equal(row),
+        "has_float" | "value_text" => value(call, row),
         "new_error" => errors::error("new", row),
         "is_blank" | "is_key_text" => secrets::of_secret(call, row),
         "is_blank_key" => secrets::of_key(row),
@@ -76,13 +77,13 @@ fn of_value(name: &str, method: &str, call: &str, row: &Row<'_>) -> Answer {
         "KeyAlgorithm" => algorithms::key_algorithm(method, row),
         "Text" => texts::text(method, row),
         "Texts" => texts::texts(method, row),
-        "String" => jwt_rows_values::json::claims::<String>(method, row),
-        "bool" => jwt_rows_values::json::claims::<bool>(method, row),
-        "u32" => jwt_rows_values::json::claims::<u32>(method, row),
-        "u64" => jwt_rows_values::json::claims::<u64>(method, row),
-        "i32" => jwt_rows_values::json::claims::<i32>(method, row),
-        "i64" => jwt_rows_values::json::claims::<i64>(method, row),
-        "Value" => jwt_rows_values::json::claims::<Value>(method, row),
+        "String" => claims::<String>(method, row),
+        "bool" => claims::<bool>(method, row),
+        "u32" => claims::<u32>(method, row),
+        "u64" => claims::<u64>(method, row),
+        "i32" => claims::<i32>(method, row),
+        "i64" => claims::<i64>(method, row),
+        "Value" => claims::<Value>(method, row),
         "Validation" => validations::validation(method, row),
         "EncodingKey" => keys::encoding_key(method, row),
         "DecodingKey" => keys::decoding_key(method, row),
@@ -99,26 +100,26 @@ fn of_value(name: &str, method: &str, call: &str, row: &Row<'_>) -> Answer {
 // Makes a call of a type that has a JSON value, or else one that is given a provider.
 fn of_json(name: &str, method: &str, call: &str, row: &Row<'_>) -> Answer {
     match name {
-        "EllipticCurve" => named::<EllipticCurve>(method, row),
-        "EllipticCurveKeyType" => named::<EllipticCurveKeyType>(method, row),
-        "RSAKeyType" => named::<RSAKeyType>(method, row),
-        "OctetKeyType" => named::<OctetKeyType>(method, row),
-        "OctetKeyPairType" => named::<OctetKeyPairType>(method, row),
-        "PublicKeyUse" => json::<PublicKeyUse>(method, row),
-        "KeyOperations" => json::<KeyOperations>(method, row),
+        "EllipticCurve" => named_call::<EllipticCurve>(method, row),
+        "EllipticCurveKeyType" => named_call::<EllipticCurveKeyType>(method, row),
+        "RSAKeyType" => named_call::<RSAKeyType>(method, row),
+        "OctetKeyType" => named_call::<OctetKeyType>(method, row),
+        "OctetKeyPairType" => named_call::<OctetKeyPairType>(method, row),
+        "PublicKeyUse" => json_call::<PublicKeyUse>(method, row),
+        "KeyOperations" => json_call::<KeyOperations>(method, row),
         "KeyOperationList" => operations::list(method, row),
         "CommonParameters" => parameters::common(method, row),
-        "EllipticCurveKeyParameters" => membered::<EllipticCurveKeyParameters>(method, row),
-        "RSAKeyParameters" => membered::<RSAKeyParameters>(method, row),
-        "OctetKeyParameters" => membered::<OctetKeyParameters>(method, row),
-        "OctetKeyPairParameters" => membered::<OctetKeyPairParameters>(method, row),
-        "OtherKeyParameters" => json::<OtherKeyParameters>(method, row),
+        "EllipticCurveKeyParameters" => membered_call::<EllipticCurveKeyParameters>(method, row),
+        "RSAKeyParameters" => membered_call::<RSAKeyParameters>(method, row),
+        "OctetKeyParameters" => membered_call::<OctetKeyParameters>(method, row),
+        "OctetKeyPairParameters" => membered_call::<OctetKeyPairParameters>(method, row),
+        "OtherKeyParameters" => json_call::<OtherKeyParameters>(method, row),
         "AlgorithmParameters" => parameters::of_algorithms(method, row),
         "FreeMembers" => parameters::free_members(method, row),
         "Jwk" => jwks::jwk(method, row),
         "JwkSet" => jwks::jwk_set(method, row),
-        "Enc" => json::<Enc>(method, row),
-        "Zip" => json::<Zip>(method, row),
+        "Enc" => json_call::<Enc>(method, row),
+        "Zip" => json_call::<Zip>(method, row),
         "Extras" => extras::extras(method, row),
         "Header" => headers::header(method, row),
         _ => by_provider::answer(call, row),

@@ -15,7 +15,7 @@ pub struct Token {
 }
 
 /// Returns this many times the same character.
-pub fn repeated(alloc: Global, letter: char, count: usize) -> Result<String> {
+pub fn repeat(alloc: Global, letter: char, count: usize) -> Result<String> {
     let mut text = String::new(alloc);
     for _ in 0..count {
         text.push(letter)?;
@@ -25,7 +25,7 @@ pub fn repeated(alloc: Global, letter: char, count: usize) -> Result<String> {
 
 /// Returns a token with a string of this size as a claim and as the secret.
 pub fn with_text(alloc: Global, size: usize) -> Result<Box<Token>> {
-    let text = repeated(alloc, 'a', size)?;
+    let text = repeat(alloc, 'a', size)?;
     let member = format!(in alloc; "\"{text}\"")?;
     let header = new_header(alloc)?;
     token_of(alloc, text.as_str(), &header, member.as_str())
@@ -33,7 +33,7 @@ pub fn with_text(alloc: Global, size: usize) -> Result<Box<Token>> {
 
 /// Returns a token with a string of this size as a key id, and in a custom member of the header.
 pub fn with_header(alloc: Global, size: usize) -> Result<Box<Token>> {
-    let text = repeated(alloc, 'a', size)?;
+    let text = repeat(alloc, 'a', size)?;
     let mut header = new_header(alloc)?;
     set_texts(alloc, &mut header, text.as_str())?;
     token_of(alloc, "another", &header, "true")
@@ -87,8 +87,8 @@ fn set_texts(alloc: Global, header: &mut Header, text: &str) -> Result<()> {
 
 // Returns this many lists, each but the last with the next in it.
 fn lists(alloc: Global, depth: usize) -> Result<String> {
-    let opened = repeated(alloc, '[', depth)?;
-    let closed = repeated(alloc, ']', depth)?;
+    let opened = repeat(alloc, '[', depth)?;
+    let closed = repeat(alloc, ']', depth)?;
     Ok(format!(in alloc; "{opened}{closed}")?)
 }
 
