@@ -51,6 +51,11 @@ pub fn free_members(method: &str, row: &Row<'_>) -> Answer {
             let members = row.read::<Map<String, Value>>("value")?;
             row.end(FreeMembers::among(row.begin(), &members))
         }
+        "into_map" => {
+            let members = row.read::<FreeMembers>("value")?;
+            row.begin();
+            row.give(&members.into_map())
+        }
         "eq" => eq::<FreeMembers>(row),
         "hash" => hash::<FreeMembers>(row),
         _ => of_free_members(method, row),
@@ -58,11 +63,10 @@ pub fn free_members(method: &str, row: &Row<'_>) -> Answer {
 }
 
 fn of_free_members(method: &str, row: &Row<'_>) -> Answer {
-    let members = row.read::<FreeMembers>("value")?;
+    let members = row.input::<FreeMembers>("value")?;
     let alloc = row.begin();
     match method {
         "inner" => row.give(members.inner()),
-        "into_map" => row.give(&members.into_map()),
         "clone" => row.end(members.clone(alloc)),
         "has_common_name" => row.give(&members.has_common_name()),
         _ => None,

@@ -37,6 +37,11 @@ pub fn error(method: &str, row: &Row<'_>) -> Answer {
             None => of_kind_alone(method, row),
         },
         "new" => of_kind_alone(method, row),
+        "into_kind" => {
+            let error = row.read::<Error>("kind")?;
+            row.begin();
+            row.give(&error.into_kind())
+        }
         _ => of_error(method, row),
     }
 }
@@ -51,11 +56,10 @@ fn of_kind_alone(method: &str, row: &Row<'_>) -> Answer {
 }
 
 fn of_error(method: &str, row: &Row<'_>) -> Answer {
-    let error = row.read::<Error>("kind")?;
+    let error = row.input::<Error>("kind")?;
     let alloc = row.begin();
     match method {
         "kind" => row.give(error.kind()),
-        "into_kind" => row.give(&error.into_kind()),
         "to_string" => row.end(error.to_string(alloc)),
         "clone" => row.end(error.clone(alloc)),
         _ => None,

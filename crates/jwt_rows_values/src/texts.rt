@@ -17,6 +17,11 @@ pub fn text(method: &str, row: &Row<'_>) -> Answer {
             row.begin();
             row.give(&Text::from(string))
         }
+        "into_string" => {
+            let text = row.read::<Text>("text")?;
+            row.begin();
+            row.give(&text.into_string())
+        }
         "eq" => eq::<Text>(row),
         "hash" => hash::<Text>(row),
         "debug" => debug::<Text>(row, "text"),
@@ -25,11 +30,10 @@ pub fn text(method: &str, row: &Row<'_>) -> Answer {
 }
 
 fn of_text(method: &str, row: &Row<'_>) -> Answer {
-    let text = row.read::<Text>("text")?;
+    let text = row.input::<Text>("text")?;
     let alloc = row.begin();
     match method {
         "as_str" => row.give(&text.as_str()),
-        "into_string" => row.give(&text.into_string()),
         "clone" => row.end(text.clone(alloc)),
         _ => None,
     }
@@ -47,6 +51,11 @@ pub fn texts(method: &str, row: &Row<'_>) -> Answer {
             row.begin();
             row.give(&Texts::from(texts))
         }
+        "into_vec" => {
+            let texts = row.read::<Texts>("texts")?;
+            row.begin();
+            row.give(&List(texts.into_vec().as_slice()))
+        }
         "eq" => eq::<Texts>(row),
         "hash" => hash::<Texts>(row),
         "debug" => debug::<Texts>(row, "texts"),
@@ -55,11 +64,10 @@ pub fn texts(method: &str, row: &Row<'_>) -> Answer {
 }
 
 fn of_texts(method: &str, row: &Row<'_>) -> Answer {
-    let texts = row.read::<Texts>("texts")?;
+    let texts = row.input::<Texts>("texts")?;
     let alloc = row.begin();
     match method {
         "as_slice" => row.give(&List(texts.as_slice())),
-        "into_vec" => row.give(&List(texts.into_vec().as_slice())),
         "clone" => row.end(texts.clone(alloc)),
         _ => None,
     }

@@ -16,17 +16,21 @@ const DESCRIBED: [&str; 9] = [
 impl Input for Jwk {
     fn read(alloc: Global, described: &Value) -> Option<Jwk> {
         match described.get("other") {
-            Some(members) if has_only(described, &DESCRIBED) => {
-                let other = OtherKeyParameters::read(alloc, members)?;
-                Some(Jwk {
-                    common: CommonParameters::from_value(alloc, described).ok()?,
-                    algorithm: AlgorithmParameters::Other(other),
-                })
-            }
-            Some(_) => None,
+            Some(members) => other_key(alloc, described, members),
             None => Jwk::from_value(alloc, described).ok(),
         }
     }
+}
+
+fn other_key(alloc: Global, described: &Value, members: &Value) -> Option<Jwk> {
+    if !has_only(described, &DESCRIBED) {
+        return None;
+    }
+    let other = OtherKeyParameters::read(alloc, members)?;
+    Some(Jwk {
+        common: CommonParameters::from_value(alloc, described).ok()?,
+        algorithm: AlgorithmParameters::Other(other),
+    })
 }
 
 impl Input for JwkSet {
