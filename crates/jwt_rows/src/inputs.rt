@@ -1,9 +1,11 @@
-//! The inputs that rows describe.
+//! What rows describe, of each type.
 
-pub mod bytes;
-pub mod headers;
+mod errors;
+mod headers;
 pub mod jwks;
-pub mod keys;
-pub mod names;
+mod keys;
+mod names;
+mod operations;
+mod parameters;
+mod plain;
 pub mod providers;
-pub mod validations;

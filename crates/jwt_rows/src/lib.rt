@@ -1,11 +1,18 @@
-//! Rows of test vectors: the inputs that a row describes, the results that it wants, and the trial
-//! of its call.
+//! Rows of test vectors: the inputs that a row describes, its call, and the result as a JSON value.
 //!
-//! `docs/VECTORS.md` has their form.
+//! `crates/jwt_vectors/README.md` has their form.
 #![tactic(auto)]
 
 pub mod answer;
-pub mod fault;
+pub mod bytes;
+pub mod calls;
+pub mod input;
 pub mod inputs;
+pub mod output;
 pub mod row;
 pub mod trial;
+
+pub use answer::Answer;
+pub use input::Input;
+pub use output::{Output, Refuse};
+pub use row::Row;

@@ -5,6 +5,7 @@
 //! that comes after it.
 
 use std::alloc::Global;
+use std::cell::Cell;
 
 const ORDER: usize = 1 << 47;
 
@@ -14,7 +15,8 @@ pub struct Trial {
     alloc: Global,
     /// The request for memory that is to be refused, counted from 1; 0 if none is.
     number: usize,
-    was_refused: bool,
+    has_begun: Cell<bool>,
+    was_refused: Cell<bool>,
 }
 
 impl Trial {
@@ -23,31 +25,37 @@ impl Trial {
         Trial {
             alloc,
             number,
-            was_refused: false,
+            has_begun: Cell::new(false),
+            was_refused: Cell::new(false),
         }
     }
 
     /// Orders the refusal. The call is made right after this.
     pub fn begin(&self) {
+        self.has_begun.set(true);
         if self.number > 0 {
             self.order(self.number);
         }
     }
 
     /// Notes whether the order was carried out. This is done right after the call, and ends the
-    /// order.
-    pub fn end(&mut self) {
+    /// order. It does nothing if the call has not begun: then none of its requests is refused.
+    pub fn end(&self) {
+        if !self.has_begun.get() {
+            return;
+        }
+        self.has_begun.set(false);
         for _ in 0..self.number {
             if self.is_next_refused() {
                 return;
             }
         }
-        self.was_refused = self.number > 0;
+        self.was_refused.set(self.number > 0);
     }
 
     /// Returns whether a request of the call was refused.
     pub fn was_refused(&self) -> bool {
-        self.was_refused
+        self.was_refused.get()
     }
 
     /// Returns whether the orders are carried out.

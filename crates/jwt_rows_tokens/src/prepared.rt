@@ -1,103 +1,127 @@
-//! Secrets that are prepared for HMAC.
+//! Secrets and RSA keys that are prepared. The row lists at `asked` of which ones the result says
+//! whether they are prepared.
 
-use crate::inputs::{algorithm, bytes_among};
+use crate::providers::verify_each;
+use jsonwebtoken::crypto::CryptoProvider;
 use jsonwebtoken::crypto::hmac::PreparedHmac;
-use jsonwebtoken::errors;
-use jwt_base::json::value_eq;
-use jwt_rows::answer::{Answer, accepted, changed, refused};
-use jwt_rows::fault::Fault;
-use jwt_rows::inputs::bytes::bytes_of;
-use jwt_rows::inputs::providers::{algorithm_of, prepared_provider};
-use jwt_rows::row::Row;
-use jwt_rows::trial::Trial;
+use jsonwebtoken::{Algorithm, DecodingKey};
+use jwt_rows::inputs::providers::{secret_of, two_of};
+use jwt_rows::{Answer, Row};
+use jwt_rsa::PreparedRsa;
 use serde_json::Value;
 use std::alloc::Global;
 
-/// Makes the call of this name, if it is among those of this module.
-pub fn answer(call: &str, row: Row<'_>, trial: &mut Trial) -> Result<Option<Value>, Fault> {
-    let answer = match call {
-        "PreparedHmac::new" => made(row, trial),
-        "PreparedHmac::add" => added(row, trial),
-        "PreparedHmac::is_prepared" => is_prepared(row, trial),
-        "PreparedHmac::zeroize" => zeroed(row, trial),
-        _ => return Ok(None),
-    };
-    Ok(Some(answer?))
-}
-
-/// Returns the result of `add`, with the secrets or keys that were prepared before it and after it.
-pub fn of_added(alloc: Global, answer: errors::Result<()>, before: &Value, after: Value) -> Answer {
-    match answer {
-        Ok(()) => accepted(alloc, after),
-        Err(_refusal) if !value_eq(before, &after) => changed(alloc),
-        Err(refusal) => refused(alloc, &refusal),
+/// Makes a call of `PreparedHmac`.
+pub fn hmac(method: &str, row: &Row<'_>) -> Answer {
+    if method == "zeroize" {
+        let asked = row.list("asked")?;
+        let mut provider = row.input::<PreparedHmac>("provider")?;
+        row.begin();
+        provider.zeroize();
+        return give_secrets(row, asked, &provider);
+    }
+    let algorithm = row.read::<Algorithm>("algorithm")?;
+    if method == "verifier_factory, zeroize, verify each" {
+        return verify_after_zeroize(row, algorithm);
+    }
+    let secret = row.bytes("secret")?;
+    if method == "new" {
+        let asked = row.list("asked")?;
+        return match PreparedHmac::new(row.begin(), algorithm, secret.as_slice()) {
+            Ok(provider) => give_secrets(row, asked, &provider),
+            Err(refusal) => row.refuse(&refusal),
+        };
+    }
+    let mut provider = row.input::<PreparedHmac>("provider")?;
+    match method {
+        "is_prepared" => {
+            row.begin();
+            row.give(&provider.is_prepared(algorithm, secret.as_slice()))
+        }
+        _ => add_secret(row, &mut provider, algorithm, secret.as_slice()),
     }
 }
 
-fn made(row: Row<'_>, trial: &mut Trial) -> Answer {
-    let secret = bytes_among(row, &["algorithm", "secret", "asked"], "secret")?;
-    let algorithm = algorithm(row)?;
-    trial.begin();
-    let answer = PreparedHmac::new(row.alloc(), algorithm, secret.as_slice());
-    trial.end();
-    match answer {
-        Ok(provider) => provider_answer(row, &provider),
-        Err(refusal) => refused(row.alloc(), &refusal),
+fn add_secret(
+    row: &Row<'_>,
+    provider: &mut PreparedHmac,
+    algorithm: Algorithm,
+    secret: &[u8],
+) -> Answer {
+    let asked = row.list("asked")?;
+    let before = secrets(row.alloc(), asked, provider)?;
+    let answer = provider.add(row.begin(), algorithm, secret);
+    row.stop();
+    let after = secrets(row.alloc(), asked, provider)?;
+    row.end_change(answer, &before, &after)
+}
+
+fn give_secrets(row: &Row<'_>, asked: &[Value], provider: &PreparedHmac) -> Answer {
+    row.stop();
+    let flags = secrets(row.alloc(), asked, provider)?;
+    row.give(&flags)
+}
+
+// Returns which of these secrets the provider has prepared.
+fn secrets(alloc: Global, asked: &[Value], provider: &PreparedHmac) -> Option<Vec<bool>> {
+    let mut flags = Vec::new(alloc);
+    for described in asked {
+        let (algorithm, secret) = secret_of(alloc, described)?;
+        let is_there = provider.is_prepared(algorithm, secret.as_slice());
+        flags.push(is_there).ok()?;
     }
+    Some(flags)
 }
 
-fn provider_answer(row: Row<'_>, provider: &PreparedHmac) -> Answer {
-    accepted(row.alloc(), those_prepared(row, provider)?)
-}
-
-// Returns which of the secrets at `asked` the provider has prepared.
-fn those_prepared(row: Row<'_>, provider: &PreparedHmac) -> Answer {
-    let mut flags = Vec::new(row.alloc());
-    for asked in row.list("asked")? {
-        let flag = has(row.alloc(), provider, asked)?;
-        flags.push(Value::Bool(flag))?;
-    }
-    Ok(Value::Array(flags))
-}
-
-// Returns whether the provider has prepared the listed secret for the listed algorithm.
-fn has(alloc: Global, provider: &PreparedHmac, asked: &Value) -> Result<bool, Fault> {
-    let malformed = Fault::Member("asked");
-    let (Some(algorithm), Some(secret)) = (asked.get(0_usize), asked.get(1_usize)) else {
-        return Err(malformed);
-    };
-    let algorithm = algorithm_of(algorithm)?;
-    let secret = bytes_of(alloc, secret)?;
-    Ok(provider.is_prepared(algorithm, secret.as_slice()))
-}
-
-fn added(row: Row<'_>, trial: &mut Trial) -> Answer {
-    let secret = bytes_among(row, &["provider", "algorithm", "secret", "asked"], "secret")?;
-    let algorithm = algorithm(row)?;
-    let mut provider = prepared_provider(row)?;
-    let before = those_prepared(row, &provider)?;
-    trial.begin();
-    let answer = provider.add(row.alloc(), algorithm, secret.as_slice());
-    trial.end();
-    let after = those_prepared(row, &provider)?;
-    of_added(row.alloc(), answer, &before, after)
-}
-
-fn is_prepared(row: Row<'_>, trial: &mut Trial) -> Answer {
-    let secret = bytes_among(row, &["provider", "algorithm", "secret"], "secret")?;
-    let algorithm = algorithm(row)?;
-    let provider = prepared_provider(row)?;
-    trial.begin();
-    let flag = provider.is_prepared(algorithm, secret.as_slice());
-    trial.end();
-    accepted(row.alloc(), Value::Bool(flag))
-}
-
-fn zeroed(row: Row<'_>, trial: &mut Trial) -> Answer {
-    row.takes(&["provider", "asked"])?;
-    let mut provider = prepared_provider(row)?;
-    trial.begin();
+// Makes a verifier, zeroizes its key and its provider, and asks it in turn.
+fn verify_after_zeroize(row: &Row<'_>, algorithm: Algorithm) -> Answer {
+    let mut provider = row.input::<PreparedHmac>("provider")?;
+    let mut key = row.input::<DecodingKey>("key")?;
+    let verifier = provider
+        .verifier_factory(row.alloc(), &algorithm, &key)
+        .ok()?;
+    key.zeroize();
     provider.zeroize();
-    trial.end();
-    provider_answer(row, &provider)
+    verify_each(row, &verifier)
+}
+
+/// Makes a call of `PreparedRsa`.
+pub fn rsa(method: &str, row: &Row<'_>) -> Answer {
+    if method == "new" {
+        let alloc = row.begin();
+        let provider = PreparedRsa::new(alloc);
+        row.stop();
+        let flags = keys(alloc, row.list("asked")?, &provider)?;
+        return row.give(&flags);
+    }
+    let n = row.bytes("n")?;
+    let e = row.bytes("e")?;
+    let mut provider = row.input::<PreparedRsa>("provider")?;
+    match method {
+        "is_prepared" => {
+            row.begin();
+            row.give(&provider.is_prepared(n.as_slice(), e.as_slice()))
+        }
+        _ => add_key(row, &mut provider, n.as_slice(), e.as_slice()),
+    }
+}
+
+fn add_key(row: &Row<'_>, provider: &mut PreparedRsa, n: &[u8], e: &[u8]) -> Answer {
+    let asked = row.list("asked")?;
+    let before = keys(row.alloc(), asked, provider)?;
+    let answer = provider.add(row.begin(), n, e);
+    row.stop();
+    let after = keys(row.alloc(), asked, provider)?;
+    row.end_change(answer, &before, &after)
+}
+
+// Returns which of these keys the provider has prepared.
+fn keys(alloc: Global, asked: &[Value], provider: &PreparedRsa) -> Option<Vec<bool>> {
+    let mut flags = Vec::new(alloc);
+    for described in asked {
+        let (n, e) = two_of(alloc, described)?;
+        let is_there = provider.is_prepared(n.as_slice(), e.as_slice());
+        flags.push(is_there).ok()?;
+    }
+    Some(flags)
 }

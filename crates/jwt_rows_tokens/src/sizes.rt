@@ -3,9 +3,9 @@
 //! null, or the first size at which the token does not come back, or at which a key of another
 //! secret accepts it.
 
-mod issued;
+mod token;
 
-use issued::{Token, named_token, with_header, with_lists, with_text};
+use jsonwebtoken::crypto::CryptoProvider;
 use jsonwebtoken::crypto::hmac::{HmacProvider, PreparedHmac};
 use jsonwebtoken::errors::{ErrorKind, Result as Outcome};
 use jsonwebtoken::jwk::{Jwk, JwkSet, ThumbprintHash};
@@ -15,151 +15,137 @@ use jsonwebtoken::{
     decode_with_set, encode,
 };
 use jwt_base::json::value_eq;
-use jwt_base::serialization::json_value;
-use jwt_rows::answer::{Answer, accepted};
-use jwt_rows::fault::Fault;
-use jwt_rows::row::Row;
-use jwt_rows::trial::Trial;
+use jwt_rows::{Answer, Row};
 use serde_json::Value;
 use std::alloc::Global;
+use token::{Token, named_token, with_header, with_lists, with_text};
 
-/// Makes the call of this name, if it is among those of this module.
-pub fn answer(call: &str, row: Row<'_>, _trial: &mut Trial) -> Result<Option<Value>, Fault> {
-    match call {
-        "sizes" => Ok(Some(sizes(row)?)),
-        _ => Ok(None),
-    }
-}
-
-fn sizes(row: Row<'_>) -> Answer {
-    row.takes(&["way", "of", "from_size", "to_size"])?;
+/// Makes the call `sizes`.
+pub fn answer(row: &Row<'_>) -> Answer {
+    let alloc = row.alloc();
     let (way, of) = (row.text("way")?, row.text("of")?);
-    for size in row.number("from_size")?..row.number("to_size")?.saturating_add(1) {
-        let Ok(count) = usize::try_from(size) else {
-            return Err(Fault::Member("to_size"));
-        };
-        if !matches!(is_well(row.alloc(), way, of, count)?, Ok(true)) {
-            return accepted(row.alloc(), Value::from(size));
+    let last = row.number("to_size")?;
+    for size in row.number("from_size")?..last.saturating_add(1) {
+        if !is_well(alloc, way, of, usize::try_from(size).ok()?)? {
+            return row.give(&size);
         }
     }
-    accepted(row.alloc(), Value::Null)
+    row.give(&())
 }
 
-// Returns whether the round trip succeeds at a size.
-fn is_well(alloc: Global, way: &str, of: &str, size: usize) -> Result<Outcome<bool>, Fault> {
-    match way {
-        "decode_with_set" => Ok(is_verified_by_the_last(alloc, size)),
-        "Jwk::thumbprint" => Ok(has_thumbprint(alloc, size)),
+// Returns whether the round trip succeeds at a size, or none if there is no such way or thing.
+fn is_well(alloc: Global, way: &str, of: &str, size: usize) -> Option<bool> {
+    let answer = match way {
+        "decode_with_set" => comes_back_by_set(alloc, size),
+        "Jwk::thumbprint" => has_thumbprint(alloc, size),
         _ => {
             let token = token_of(alloc, of, size)?;
-            comes_back_by(alloc, way, &token)
+            match way {
+                "encode, decode" => comes_back(alloc, &HmacProvider, &token),
+                "jws::encode, jws::decode" => comes_back_in_parts(alloc, &token),
+                "PreparedHmac::new, encode, decode" => comes_back_prepared(alloc, &token),
+                _ => return None,
+            }
         }
+    };
+    Some(matches!(answer, Ok(true)))
+}
+
+fn token_of(alloc: Global, of: &str, size: usize) -> Option<Box<Token>> {
+    let token = match of {
+        "a text and a secret" => with_text(alloc, size),
+        "a header" => with_header(alloc, size),
+        "lists in lists" => with_lists(alloc, size),
+        _ => return None,
+    };
+    token.ok()
+}
+
+// Returns whether the issued token reads as its header and claims, and is refused under another
+// key.
+fn comes_back<P: CryptoProvider>(alloc: Global, provider: &P, token: &Token) -> Outcome<bool> {
+    let secret = token.secret.as_bytes();
+    let key = EncodingKey::from_secret(alloc, secret)?;
+    let text = encode(alloc, provider, &token.header, &token.claims, &key)?;
+    let text = text.as_bytes();
+    Ok(
+        has_header(&decode_header(alloc, text), token)
+            && is_back(&read_back(alloc, provider, text, secret), token)
+            && is_forged(&read_back(alloc, provider, text, b"secret")),
+    )
+}
+
+fn read_back<P: CryptoProvider>(
+    alloc: Global,
+    provider: &P,
+    text: &[u8],
+    secret: &[u8],
+) -> Outcome<TokenData<Value>> {
+    let key = DecodingKey::from_secret(alloc, secret)?;
+    let options = Box::new(alloc, Validation::new(alloc, Algorithm::HS256)?)?;
+    decode(alloc, provider, text, &key, &options, 0)
+}
+
+fn has_header(answer: &Outcome<Header>, token: &Token) -> bool {
+    match answer {
+        Ok(header) => *header == token.header,
+        Err(_refusal) => false,
     }
 }
 
-fn token_of(alloc: Global, of: &str, size: usize) -> Result<Box<Token>, Fault> {
-    match of {
-        "a text and a secret" => Ok(with_text(alloc, size)?),
-        "a header" => Ok(with_header(alloc, size)?),
-        "lists in lists" => Ok(with_lists(alloc, size)?),
-        _ => Err(Fault::Member("of")),
+fn is_back(answer: &Outcome<TokenData<Value>>, token: &Token) -> bool {
+    match answer {
+        Ok(data) => value_eq(&data.claims, &token.claims) && data.header == token.header,
+        Err(_refusal) => false,
     }
 }
 
-fn comes_back_by(alloc: Global, way: &str, token: &Token) -> Result<Outcome<bool>, Fault> {
-    match way {
-        "encode, decode" => Ok(comes_back(alloc, token)),
-        "jws::encode, jws::decode" => Ok(comes_back_in_parts(alloc, token)),
-        "PreparedHmac::new, encode, decode" => Ok(comes_back_prepared(alloc, token)),
-        _ => Err(Fault::Member("way")),
-    }
-}
-
-fn is_given_back(answer: Outcome<Box<TokenData<Value>>>, token: &Token) -> Outcome<bool> {
-    let data = answer?;
-    Ok(value_eq(&data.claims, &token.claims) && data.header == token.header)
-}
-
-fn is_forged(answer: Outcome<Box<TokenData<Value>>>) -> bool {
+fn is_forged(answer: &Outcome<TokenData<Value>>) -> bool {
     match answer {
         Ok(_data) => false,
         Err(refusal) => *refusal.kind() == ErrorKind::InvalidSignature,
     }
 }
 
-// Puts what was read behind a pointer.
-fn boxed(alloc: Global, answer: Outcome<TokenData<Value>>) -> Outcome<Box<TokenData<Value>>> {
-    Ok(Box::new(alloc, answer?)?)
+// Returns the same by a provider that has the secret prepared.
+fn comes_back_prepared(alloc: Global, token: &Token) -> Outcome<bool> {
+    let provider = PreparedHmac::new(alloc, Algorithm::HS256, token.secret.as_bytes())?;
+    comes_back(alloc, &*Box::new(alloc, provider)?, token)
 }
 
-fn decoded(alloc: Global, text: &str, secret: &str) -> Outcome<Box<TokenData<Value>>> {
-    let key = DecodingKey::from_secret(alloc, secret.as_bytes())?;
-    let validation = Validation::new(alloc, Algorithm::HS256)?;
-    let answer = decode(alloc, &HmacProvider, text.as_bytes(), &key, &validation, 0);
-    boxed(alloc, answer)
-}
-
-// Returns whether `decode_header` reads this header of the text.
-fn has_header(alloc: Global, text: &str, header: &Header) -> Outcome<bool> {
-    let read = Box::new(alloc, decode_header(alloc, text.as_bytes())?)?;
-    Ok(*read == *header)
-}
-
-/// Returns whether the issued token reads as its header and claims, and is refused under another
-/// key.
-fn comes_back(alloc: Global, token: &Token) -> Outcome<bool> {
-    let key = EncodingKey::from_secret(alloc, token.secret.as_bytes())?;
-    let text = encode(alloc, &HmacProvider, &token.header, &token.claims, &key)?;
-    let text = text.as_str();
+// Returns the same for a token in parts.
+fn comes_back_in_parts(alloc: Global, token: &Token) -> Outcome<bool> {
+    let secret = token.secret.as_bytes();
+    let key = EncodingKey::from_secret(alloc, secret)?;
+    let claims = Some(&token.claims);
+    let parts: Jws<Value> = jws::encode(alloc, &HmacProvider, &token.header, claims, &key)?;
     Ok(
-        has_header(alloc, text, &token.header)?
-            && is_given_back(decoded(alloc, text, token.secret.as_str()), token)?
-            && is_forged(decoded(alloc, text, "secret")),
+        is_back(&read_parts(alloc, &parts, secret), token)
+            && is_forged(&read_parts(alloc, &parts, b"secret")),
     )
 }
 
-/// Returns the same by a provider that has its secret prepared.
-fn comes_back_prepared(alloc: Global, token: &Token) -> Outcome<bool> {
-    let secret = token.secret.as_bytes();
-    let provider = Box::new(alloc, PreparedHmac::new(alloc, Algorithm::HS256, secret)?)?;
-    let key = EncodingKey::from_secret(alloc, secret)?;
-    let text = encode(alloc, &*provider, &token.header, &token.claims, &key)?;
-    is_given_back(decoded_by(alloc, &provider, text.as_str(), secret), token)
-}
-
-fn decoded_by(
-    alloc: Global,
-    provider: &PreparedHmac,
-    text: &str,
-    secret: &[u8],
-) -> Outcome<Box<TokenData<Value>>> {
+fn read_parts(alloc: Global, parts: &Jws<Value>, secret: &[u8]) -> Outcome<TokenData<Value>> {
     let key = DecodingKey::from_secret(alloc, secret)?;
-    let validation = Validation::new(alloc, Algorithm::HS256)?;
-    let answer = decode(alloc, provider, text.as_bytes(), &key, &validation, 0);
-    boxed(alloc, answer)
+    let options = Box::new(alloc, Validation::new(alloc, Algorithm::HS256)?)?;
+    jws::decode(alloc, &HmacProvider, parts, &key, &options, 0)
 }
 
-fn decoded_parts(
-    alloc: Global,
-    parts: &Jws<Value>,
-    secret: &str,
-) -> Outcome<Box<TokenData<Value>>> {
-    let key = DecodingKey::from_secret(alloc, secret.as_bytes())?;
-    let validation = Validation::new(alloc, Algorithm::HS256)?;
-    let answer = jws::decode(alloc, &HmacProvider, parts, &key, &validation, 0);
-    boxed(alloc, answer)
-}
-
-/// Returns the same for a token in parts.
-fn comes_back_in_parts(alloc: Global, token: &Token) -> Outcome<bool> {
+// Returns whether a token is verified by the last key of a set, after this many others.
+fn comes_back_by_set(alloc: Global, count: usize) -> Outcome<bool> {
+    let token = named_token(alloc)?;
     let key = EncodingKey::from_secret(alloc, token.secret.as_bytes())?;
-    let claims = Some(&token.claims);
-    let parts: Jws<Value> = jws::encode(alloc, &HmacProvider, &token.header, claims, &key)?;
-    let is_back = is_given_back(decoded_parts(alloc, &parts, token.secret.as_str()), token)?;
-    Ok(is_back && is_forged(decoded_parts(alloc, &parts, "secret")))
+    let text = encode(alloc, &HmacProvider, &token.header, &token.claims, &key)?;
+    Ok(is_back(&read_by_set(alloc, text.as_bytes(), count), &token))
 }
 
-/// Returns a set of this many keys, and a last one.
+fn read_by_set(alloc: Global, text: &[u8], count: usize) -> Outcome<TokenData<Value>> {
+    let set = key_set(alloc, count)?;
+    let options = Box::new(alloc, Validation::new(alloc, Algorithm::HS256)?)?;
+    decode_with_set(alloc, &HmacProvider, text, &set, &options, 0)
+}
+
+// Returns a set of this many keys, and a last one.
 fn key_set(alloc: Global, count: usize) -> Outcome<Box<JwkSet>> {
     let mut text = String::from_str(alloc, "{\"keys\":[")?;
     for at in 0..count {
@@ -167,31 +153,14 @@ fn key_set(alloc: Global, count: usize) -> Outcome<Box<JwkSet>> {
         text.push_str(key.as_str())?;
     }
     text.push_str("{\"kty\":\"oct\",\"k\":\"YW5vdGhlcg\",\"kid\":\"last\"}]}")?;
-    let value = json_value(alloc, text.as_bytes())?;
-    Ok(Box::new(alloc, JwkSet::from_value(alloc, &value)?)?)
+    Ok(Box::new(alloc, JwkSet::from_slice(alloc, text.as_bytes())?)?)
 }
 
-fn decoded_by_set(alloc: Global, text: &str, set: &JwkSet) -> Outcome<Box<TokenData<Value>>> {
-    let validation = Validation::new(alloc, Algorithm::HS256)?;
-    let answer = decode_with_set(alloc, &HmacProvider, text.as_bytes(), set, &validation, 0);
-    boxed(alloc, answer)
-}
-
-/// Returns whether a token is verified by the last key of a set.
-fn is_verified_by_the_last(alloc: Global, count: usize) -> Outcome<bool> {
-    let set = key_set(alloc, count)?;
-    let token = named_token(alloc)?;
-    let key = EncodingKey::from_secret(alloc, token.secret.as_bytes())?;
-    let text = encode(alloc, &HmacProvider, &token.header, &token.claims, &key)?;
-    is_given_back(decoded_by_set(alloc, text.as_str(), &set), &token)
-}
-
-/// Returns whether a key whose secret has this many characters has a thumbprint.
+// Returns whether a key whose secret has this many characters has a thumbprint.
 fn has_thumbprint(alloc: Global, size: usize) -> Outcome<bool> {
-    let secret = issued::repeated(alloc, 'a', size)?;
+    let secret = token::repeat(alloc, 'a', size)?;
     let text = format!(in alloc; "{{\"kty\":\"oct\",\"k\":\"{secret}\"}}")?;
-    let value = json_value(alloc, text.as_bytes())?;
-    let key = Box::new(alloc, Jwk::from_value(alloc, &value)?)?;
+    let key = Box::new(alloc, Jwk::from_slice(alloc, text.as_bytes())?)?;
     let thumbprint = key.thumbprint(alloc, &HmacProvider, ThumbprintHash::SHA256)?;
     Ok(thumbprint.len() == 43)
 }

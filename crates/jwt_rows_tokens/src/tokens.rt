@@ -1,107 +1,172 @@
-//! Tokens that are verified.
+//! Tokens that are verified or read, and the moments at which they are accepted.
 
-use crate::inputs::{only_bytes, with_key};
-use crate::{issued_tokens, tokens_by_set};
 use jsonwebtoken::crypto::CryptoProvider;
-use jsonwebtoken::errors::Result as Outcome;
-use jsonwebtoken::json::Claims;
-use jsonwebtoken::{Header, TokenData, decode, decode_header};
-use jwt_rows::answer::{Answer, accepted, of_value, pair, refused};
-use jwt_rows::fault::Fault;
-use jwt_rows::inputs::headers::shown_header;
-use jwt_rows::row::Row;
-use jwt_rows::trial::Trial;
+use jsonwebtoken::dangerous::{insecure_decode, insecure_decode_claims};
+use jsonwebtoken::jwk::JwkSet;
+use jsonwebtoken::jws::{self, Jws};
+use jsonwebtoken::{
+    DecodingKey, TokenData, Validation, decode, decode_header, decode_or_refusal, decode_with_set,
+    decode_with_set_by_own_algorithm, decode_with_set_or_refusal, failed_test,
+    failed_test_with_set, first_and_last_moment, first_and_last_moment_with_set, signed_part,
+};
+use jwt_rows::calls::debug;
+use jwt_rows::inputs::jwks::key_set;
+use jwt_rows::{Answer, Row};
 use serde_json::Value;
-use std::alloc::Global;
 
-/// Makes the call of this name, if it verifies or issues tokens.
-pub fn answer<P: CryptoProvider>(
-    call: &str,
-    row: Row<'_>,
-    trial: &mut Trial,
-    provider: &P,
-) -> Result<Option<Value>, Fault> {
+/// A token, and the key and the options to verify it with.
+#[derive(Drop)]
+struct WithKey {
+    token: Vec<u8>,
+    key: Box<DecodingKey>,
+    options: Box<Validation>,
+}
+
+fn with_key(row: &Row<'_>) -> Option<WithKey> {
+    let token = row.bytes("token")?;
+    let key = row.input::<DecodingKey>("key")?;
+    let options = row.input::<Validation>("validation")?;
+    Some(WithKey {
+        token,
+        key,
+        options,
+    })
+}
+
+/// A token, and the key set and the options to verify it with.
+#[derive(Drop)]
+struct WithSet {
+    token: Vec<u8>,
+    set: Box<JwkSet>,
+    options: Box<Validation>,
+}
+
+fn with_set(row: &Row<'_>) -> Option<WithSet> {
+    let token = row.bytes("token")?;
+    let set = key_set(row)?;
+    let options = row.input::<Validation>("validation")?;
+    Some(WithSet {
+        token,
+        set,
+        options,
+    })
+}
+
+/// Makes a call that verifies a token with a key.
+pub fn check_by_key<P: CryptoProvider>(call: &str, row: &Row<'_>, provider: &P) -> Answer {
+    let given = with_key(row)?;
+    let time = row.number("now")?;
+    let (token, key, options) = (given.token.as_slice(), &*given.key, &*given.options);
+    let a = row.begin();
+    match call {
+        "decode" => row.end(decode::<P, Value>(a, provider, token, key, options, time)),
+        "decode::<u64>" => row.end(decode::<P, u64>(a, provider, token, key, options, time)),
+        "decode_or_refusal" => {
+            row.end(decode_or_refusal::<P, Value>(a, provider, token, key, options, time))
+        }
+        "decode_or_refusal::<u64>" => {
+            row.end(decode_or_refusal::<P, u64>(a, provider, token, key, options, time))
+        }
+        "failed_test" => row.end(failed_test::<P, Value>(a, provider, token, key, options, time)),
+        _ => row.end(failed_test::<P, u64>(a, provider, token, key, options, time)),
+    }
+}
+
+/// Makes a call that verifies a token with the key of a set.
+pub fn check_by_set<P: CryptoProvider>(call: &str, row: &Row<'_>, provider: &P) -> Answer {
+    let mut given = with_set(row)?;
+    let time = row.number("now")?;
+    let a = row.begin();
+    let (token, set, options) = (given.token.as_slice(), &mut *given.set, &mut *given.options);
+    match call {
+        "decode_with_set" => {
+            row.end(decode_with_set::<P, Value>(a, provider, token, set, options, time))
+        }
+        "decode_with_set_or_refusal" => {
+            row.end(decode_with_set_or_refusal::<P, Value>(a, provider, token, set, options, time))
+        }
+        "decode_with_set_by_own_algorithm" => row.end(decode_with_set_by_own_algorithm::<P, Value>(
+            a, provider, token, set, options, time,
+        )),
+        _ => row.end(failed_test_with_set::<P, Value>(a, provider, token, set, options, time)),
+    }
+}
+
+/// Makes a call that returns the moments at which a token is accepted with a key.
+pub fn moments_by_key<P: CryptoProvider>(call: &str, row: &Row<'_>, provider: &P) -> Answer {
+    let given = with_key(row)?;
+    let (token, key, options) = (given.token.as_slice(), &*given.key, &*given.options);
+    let alloc = row.begin();
     let answer = match call {
-        "decode" => decoded(row, trial, provider),
-        "decode::<u64>" => number(row, trial, provider),
-        "decode_header" => header(row, trial),
-        "decode_with_set" => tokens_by_set::decoded(row, trial, provider),
-        "encode" => issued_tokens::encoded(row, trial, provider),
-        _ => return Ok(None),
+        "first_and_last_moment" => {
+            first_and_last_moment::<P, Value>(alloc, provider, token, key, options)
+        }
+        _ => first_and_last_moment::<P, u64>(alloc, provider, token, key, options),
     };
-    Ok(Some(answer?))
+    row.end(answer)
 }
 
-/// Returns the header and the claims of a token.
-pub fn token_answer(alloc: Global, data: &TokenData<Value>) -> Answer {
-    let header = data.header.to_value(alloc)?;
-    let claims = data.claims.to_value(alloc)?;
-    accepted(alloc, pair(alloc, ("claims", claims), ("header", header))?)
+/// Calls `first_and_last_moment_with_set`.
+pub fn moments_by_set<P: CryptoProvider>(row: &Row<'_>, provider: &P) -> Answer {
+    let given = with_set(row)?;
+    let (token, set, options) = (given.token.as_slice(), &*given.set, &*given.options);
+    row.end(first_and_last_moment_with_set::<P, Value>(row.begin(), provider, token, set, options))
 }
 
-/// Returns the result of a call that returns the header and the claims of a token.
-pub fn of_token(alloc: Global, answer: Outcome<TokenData<Value>>) -> Answer {
-    match answer {
-        Ok(data) => token_answer(alloc, &*Box::new(alloc, data)?),
-        Err(refusal) => refused(alloc, &refusal),
+/// Calls `jws::decode`.
+pub fn check_parts<P: CryptoProvider>(row: &Row<'_>, provider: &P) -> Answer {
+    let token = row.input::<Jws<Value>>("parts")?;
+    let key = row.input::<DecodingKey>("key")?;
+    let options = row.input::<Validation>("validation")?;
+    let time = row.number("now")?;
+    row.end(jws::decode(row.begin(), provider, &token, &key, &options, time))
+}
+
+/// Makes a call of `Jws`, a token in parts (RFC 7515 section 7.2.2).
+pub fn parts(method: &str, row: &Row<'_>) -> Answer {
+    match method {
+        "from_value" => {
+            let value = row.value("value")?;
+            row.end(Jws::<Value>::from_value(row.begin(), value))
+        }
+        "to_value" => {
+            let token = row.input::<Jws<Value>>("parts")?;
+            row.end(token.to_value(row.begin()))
+        }
+        "clone" => {
+            let token = row.input::<Jws<Value>>("parts")?;
+            row.end(token.clone(row.begin()))
+        }
+        "debug" => debug::<Jws<Value>>(row, "parts"),
+        _ => None,
     }
 }
 
-fn decoded<P: CryptoProvider>(row: Row<'_>, trial: &mut Trial, provider: &P) -> Answer {
-    let inputs = with_key(row, &["token", "key", "validation", "now", "provider"])?;
-    let time = row.number("now")?;
-    let token = inputs.token.as_slice();
-    trial.begin();
-    let answer = decode(
-        row.alloc(),
-        provider,
-        token,
-        &inputs.key,
-        &inputs.options,
-        time,
-    );
-    trial.end();
-    of_token(row.alloc(), answer)
-}
-
-// Returns the claims alone, which are a number.
-fn claims_value(alloc: Global, answer: Outcome<TokenData<u64>>) -> Outcome<Value> {
-    let data = Box::new(alloc, answer?)?;
-    data.claims.to_value(alloc)
-}
-
-fn number<P: CryptoProvider>(row: Row<'_>, trial: &mut Trial, provider: &P) -> Answer {
-    let inputs = with_key(row, &["token", "key", "validation", "now", "provider"])?;
-    let time = row.number("now")?;
-    let token = inputs.token.as_slice();
-    trial.begin();
-    let answer = decode(
-        row.alloc(),
-        provider,
-        token,
-        &inputs.key,
-        &inputs.options,
-        time,
-    );
-    trial.end();
-    of_value(row.alloc(), claims_value(row.alloc(), answer))
-}
-
-fn header_answer(alloc: Global, header: &Header) -> Answer {
-    accepted(alloc, shown_header(alloc, header)?)
-}
-
-fn of_header(alloc: Global, answer: Outcome<Header>) -> Answer {
-    match answer {
-        Ok(header) => header_answer(alloc, &*Box::new(alloc, header)?),
-        Err(refusal) => refused(alloc, &refusal),
+/// Makes a call that reads a token and verifies nothing.
+pub fn read_token(call: &str, row: &Row<'_>) -> Answer {
+    let token = row.bytes("token")?;
+    let token = token.as_slice();
+    let alloc = row.begin();
+    match call {
+        "decode_header" => row.end(decode_header(alloc, token)),
+        "signed_part" => row.end(signed_part(alloc, token)),
+        "dangerous::insecure_decode" => row.end(insecure_decode::<Value>(alloc, token)),
+        "dangerous::insecure_decode_claims" => {
+            row.end(insecure_decode_claims::<Value>(alloc, token))
+        }
+        _ => row.end(insecure_decode_claims::<u64>(alloc, token)),
     }
 }
 
-fn header(row: Row<'_>, trial: &mut Trial) -> Answer {
-    let token = only_bytes(row, "token")?;
-    trial.begin();
-    let answer = decode_header(row.alloc(), token.as_slice());
-    trial.end();
-    of_header(row.alloc(), answer)
+/// Returns what `Debug` writes of a token's data.
+pub fn debug_text(row: &Row<'_>) -> Answer {
+    let token = row.bytes("token")?;
+    let alloc = row.alloc();
+    let data = insecure_decode::<Value>(alloc, token.as_slice()).ok()?;
+    give_text(row, &data)
+}
+
+fn give_text(row: &Row<'_>, data: &TokenData<Value>) -> Answer {
+    let text = format!(in row.alloc(); "{data:?}").ok()?;
+    row.give(&text)
 }

@@ -1,165 +1,116 @@
 //! Errors: the kinds, their strings and their equality.
 
-mod faults;
-mod kinds;
-
-use crate::inputs::compared;
-use jsonwebtoken::errors::{Error, ErrorKind, Result as Outcome, new_error};
-use jwt_rows::answer::{Answer, accepted, of_kind, of_string, of_text, refused};
-use jwt_rows::fault::Fault;
-use jwt_rows::row::Row;
-use jwt_rows::trial::Trial;
-use kinds::kind_at;
+use base64::engine::general_purpose::{STANDARD, URL_SAFE_NO_PAD};
+use base64::{DecodeAllocError, DecodeError};
+use jsonwebtoken::errors::{Error, ErrorKind, new_error};
+use jwt_rows::calls::{debug, eq};
+use jwt_rows::{Answer, Row};
 use serde_json::Value;
-use std::alloc::Global;
+use std::alloc::{AllocError, AllocFailed};
 
-/// Makes the call of this name, if it is among those of this module.
-pub fn answer(call: &str, row: Row<'_>, trial: &mut Trial) -> Result<Option<Value>, Fault> {
-    let answer = match call {
-        "ErrorKind::name" => name(row, trial),
-        "ErrorKind::to_string" => kind_to_string(row, trial),
-        "ErrorKind::debug" => kind_debug(row),
-        "ErrorKind::clone" => kind_copy(row, trial),
-        "ErrorKind::eq" => kinds_are_equal(row, trial),
-        _ => return of_errors(call, row, trial),
-    };
-    Ok(Some(answer?))
-}
-
-fn of_errors(call: &str, row: Row<'_>, trial: &mut Trial) -> Result<Option<Value>, Fault> {
-    let answer = match call {
-        "new_error" => made(row, trial),
-        "Error::from" => converted(row, trial),
-        "Error::kind" => lent_kind(row, trial),
-        "Error::into_kind" => owned_kind(row, trial),
-        "Error::to_string" => error_to_string(row, trial),
-        "Error::clone" => error_copy(row, trial),
-        "Error::eq" => errors_are_equal(row, trial),
-        _ => return Ok(None),
-    };
-    Ok(Some(answer?))
-}
-
-// Returns the kind at `kind`, of a row that has no other input.
-fn only_kind(row: Row<'_>) -> Result<Box<ErrorKind>, Fault> {
-    row.takes(&["kind"])?;
-    Ok(Box::new(row.alloc(), kind_at(row, "kind")?)?)
-}
-
-// Returns an error of the kind at a name.
-fn error_at(row: Row<'_>, name: &'static str) -> Result<Error, Fault> {
-    Ok(new_error(kind_at(row, name)?))
-}
-
-// Returns an error of the kind at `kind`, of a row that has no other input.
-fn only_error(row: Row<'_>) -> Result<Error, Fault> {
-    row.takes(&["kind"])?;
-    error_at(row, "kind")
-}
-
-// Returns errors of the kinds at `left` and `right`.
-fn two_errors(row: Row<'_>) -> Result<(Error, Error), Fault> {
-    row.takes(&["left", "right"])?;
-    let left = error_at(row, "left")?;
-    Ok((left, error_at(row, "right")?))
-}
-
-fn name(row: Row<'_>, trial: &mut Trial) -> Answer {
-    let kind = only_kind(row)?;
-    trial.begin();
-    let name = kind.name();
-    trial.end();
-    of_text(row.alloc(), Ok(name))
-}
-
-fn kind_to_string(row: Row<'_>, trial: &mut Trial) -> Answer {
-    let kind = only_kind(row)?;
-    trial.begin();
-    let text = kind.to_string(row.alloc());
-    trial.end();
-    of_string(row.alloc(), text.map_err(Error::from))
-}
-
-fn kind_debug(row: Row<'_>) -> Answer {
-    let kind = only_kind(row)?;
-    let text = format!(in row.alloc(); "{:?}", *kind)?;
-    accepted(row.alloc(), Value::String(text))
-}
-
-fn of_copy(alloc: Global, copy: Outcome<ErrorKind>) -> Answer {
-    match copy {
-        Ok(kind) => of_kind(alloc, &kind),
-        Err(refusal) => refused(alloc, &refusal),
+/// Makes a call of `ErrorKind`.
+pub fn kind(method: &str, row: &Row<'_>) -> Answer {
+    match method {
+        "eq" => eq::<ErrorKind>(row),
+        "debug" => debug::<ErrorKind>(row, "kind"),
+        _ => of_kind(method, row),
     }
 }
 
-fn kind_copy(row: Row<'_>, trial: &mut Trial) -> Answer {
-    let kind = only_kind(row)?;
-    trial.begin();
-    let copy = kind.clone(row.alloc());
-    trial.end();
-    of_copy(row.alloc(), copy)
-}
-
-fn kinds_are_equal(row: Row<'_>, trial: &mut Trial) -> Answer {
-    let (left, right) = two_errors(row)?;
-    compared(row, trial, left.kind(), right.kind())
-}
-
-fn made(row: Row<'_>, trial: &mut Trial) -> Answer {
-    row.takes(&["kind"])?;
-    let kind = kind_at(row, "kind")?;
-    trial.begin();
-    let error = new_error(kind);
-    trial.end();
-    of_kind(row.alloc(), error.kind())
-}
-
-fn converted(row: Row<'_>, trial: &mut Trial) -> Answer {
-    if row.optional("fault").is_some() {
-        return faults::answer(row, trial);
+fn of_kind(method: &str, row: &Row<'_>) -> Answer {
+    let kind = row.input::<ErrorKind>("kind")?;
+    let alloc = row.begin();
+    match method {
+        "name" => row.give(&kind.name()),
+        "to_string" => row.end(kind.to_string(alloc)),
+        "clone" => row.end(kind.clone(alloc)),
+        _ => None,
     }
-    row.takes(&["kind"])?;
-    let kind = kind_at(row, "kind")?;
-    trial.begin();
-    let error = Error::from(kind);
-    trial.end();
-    of_kind(row.alloc(), error.kind())
 }
 
-fn lent_kind(row: Row<'_>, trial: &mut Trial) -> Answer {
-    let error = only_error(row)?;
-    trial.begin();
-    let kind = error.kind();
-    trial.end();
-    of_kind(row.alloc(), kind)
+/// Makes a call of `Error`.
+pub fn error(method: &str, row: &Row<'_>) -> Answer {
+    match method {
+        "eq" => eq::<Error>(row),
+        "from" => match row.text("fault") {
+            Some(fault) => of_fault(fault, row),
+            None => of_kind_alone(method, row),
+        },
+        "new" => of_kind_alone(method, row),
+        "into_kind" => {
+            let error = row.read::<Error>("kind")?;
+            row.begin();
+            row.give(&error.into_kind())
+        }
+        _ => of_error(method, row),
+    }
 }
 
-fn owned_kind(row: Row<'_>, trial: &mut Trial) -> Answer {
-    let error = only_error(row)?;
-    trial.begin();
-    let kind = error.into_kind();
-    trial.end();
-    of_kind(row.alloc(), &kind)
+fn of_kind_alone(method: &str, row: &Row<'_>) -> Answer {
+    let kind = row.read::<ErrorKind>("kind")?;
+    row.begin();
+    match method {
+        "from" => row.give(&Error::from(kind)),
+        _ => row.give(&new_error(kind)),
+    }
 }
 
-fn error_to_string(row: Row<'_>, trial: &mut Trial) -> Answer {
-    let error = only_error(row)?;
-    trial.begin();
-    let text = error.to_string(row.alloc());
-    trial.end();
-    of_string(row.alloc(), text.map_err(Error::from))
+fn of_error(method: &str, row: &Row<'_>) -> Answer {
+    let error = row.input::<Error>("kind")?;
+    let alloc = row.begin();
+    match method {
+        "kind" => row.give(error.kind()),
+        "to_string" => row.end(error.to_string(alloc)),
+        "clone" => row.end(error.clone(alloc)),
+        _ => None,
+    }
 }
 
-fn error_copy(row: Row<'_>, trial: &mut Trial) -> Answer {
-    let error = only_error(row)?;
-    trial.begin();
-    let copy = error.clone(row.alloc());
-    trial.end();
-    of_copy(row.alloc(), copy.map(Error::into_kind))
+// Converts a fault of another library. The row names the fault's type, and gives the bytes that are
+// refused with it.
+fn of_fault(fault: &str, row: &Row<'_>) -> Answer {
+    match fault {
+        "AllocError" => convert::<(), AllocError>(row, Err(AllocError)),
+        "AllocFailed" => convert::<(), AllocFailed<u8>>(row, Err(AllocFailed { value: 0u8 })),
+        "DecodeAllocError::OutOfMemory" => {
+            convert::<(), DecodeAllocError>(row, Err(DecodeAllocError::OutOfMemory))
+        }
+        _ => of_bytes(fault, row),
+    }
 }
 
-fn errors_are_equal(row: Row<'_>, trial: &mut Trial) -> Answer {
-    let (left, right) = two_errors(row)?;
-    compared(row, trial, &left, &right)
+fn of_bytes(fault: &str, row: &Row<'_>) -> Answer {
+    let bytes = row.bytes("bytes")?;
+    match fault {
+        "serde_json::Error" => {
+            let answer = Value::from_slice(row.alloc(), bytes.as_slice());
+            convert(row, answer)
+        },
+        "Utf8Error" => convert(row, std::str::from_utf8(bytes.as_slice())),
+        "FromUtf8Error" => convert(row, String::from_utf8(bytes)),
+        _ => of_base64(fault, row, bytes.as_slice()),
+    }
+}
+
+fn of_base64(fault: &str, row: &Row<'_>, text: &[u8]) -> Answer {
+    let mut room = [0u8; 1];
+    match fault {
+        "DecodeAllocError" => convert(row, URL_SAFE_NO_PAD.decode(row.alloc(), text)),
+        "DecodeError" => match STANDARD.decode(row.alloc(), text) {
+            Err(DecodeAllocError::DecodeError(fault)) => convert::<(), DecodeError>(
+                row,
+                Err(fault),
+            ),
+            _ => None,
+        },
+        "DecodeSliceError" => convert(row, STANDARD.decode_slice(text, &mut room)),
+        _ => None,
+    }
+}
+
+fn convert<T: Drop, E: Into<Error> + Drop>(row: &Row<'_>, answer: Result<T, E>) -> Answer {
+    let fault = answer.err()?;
+    row.begin();
+    let error: Error = fault.into();
+    row.give(&error)
 }

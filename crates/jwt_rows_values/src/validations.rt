@@ -1,177 +1,85 @@
 //! Validations: their JSON values and their setters.
 
-mod fault;
-mod shown;
+use jsonwebtoken::options::options_fault;
+use jsonwebtoken::{Algorithm, AlgorithmFamily, Validation};
+use jwt_rows::calls::{debug, eq};
+use jwt_rows::{Answer, Row};
 
-use crate::algorithms::families::only_family;
-use crate::algorithms::only_given;
-use crate::inputs::{compared, only_bytes, only_json};
-use jsonwebtoken::Validation;
-use jsonwebtoken::errors::Result as Outcome;
-use jwt_rows::answer::{Answer, accepted, changed, refused};
-use jwt_rows::fault::Fault;
-use jwt_rows::inputs::validations::{read_validation, validation};
-use jwt_rows::row::Row;
-use jwt_rows::trial::Trial;
-use serde_json::Value;
-use shown::members_of;
-use std::alloc::Global;
-
-/// Makes the call of this name, if it is among those of this module.
-pub fn answer(call: &str, row: Row<'_>, trial: &mut Trial) -> Result<Option<Value>, Fault> {
-    let answer = match call {
-        "Validation::new" => of_algorithm(row, trial),
-        "Validation::new_strict" => of_algorithm_strictly(row, trial),
-        "Validation::new_for_family" => of_family(row, trial),
-        "Validation::from_value" => read(row, trial),
-        "Validation::from_slice" => read_text(row, trial),
-        "Validation::clone" => copied(row, trial),
-        "Validation::eq" => are_equal(row, trial),
-        "options_fault" => fault::answer(row, trial),
-        _ => return by_setting(call, row, trial),
-    };
-    Ok(Some(answer?))
-}
-
-fn by_setting(call: &str, row: Row<'_>, trial: &mut Trial) -> Result<Option<Value>, Fault> {
-    let answer = match call {
-        "Validation::set_subject" => set_subject(row, trial),
-        "Validation::require_configured" => require_configured(row, trial),
-        "Validation::set_audience"
-        | "Validation::set_issuer"
-        | "Validation::set_required_spec_claims"
-        | "Validation::set_understood_crit" => set_texts(call, row, trial),
-        _ => return Ok(None),
-    };
-    Ok(Some(answer?))
-}
-
-fn options_answer(alloc: Global, options: &Validation) -> Answer {
-    accepted(alloc, members_of(alloc, options)?)
-}
-
-fn of_validation(alloc: Global, answer: Outcome<Validation>) -> Answer {
-    match answer {
-        Ok(options) => options_answer(alloc, &*Box::new(alloc, options)?),
-        Err(refusal) => refused(alloc, &refusal),
-    }
-}
-
-// Returns the result of a setter: its receiver afterwards. A setter that is refused leaves its
-// receiver unchanged.
-fn of_setter(
-    alloc: Global,
-    answer: Outcome<()>,
-    before: &Validation,
-    after: &Validation,
-) -> Answer {
-    match answer {
-        Ok(()) => options_answer(alloc, after),
-        Err(refusal) => {
-            if before == after {
-                refused(alloc, &refusal)
-            } else {
-                changed(alloc)
-            }
+/// Makes a call of `Validation`.
+pub fn validation(method: &str, row: &Row<'_>) -> Answer {
+    match method {
+        "new" | "new_strict" => of_algorithm(method, row),
+        "new_for_family" => {
+            let family = row.read::<AlgorithmFamily>("family")?;
+            row.end(Validation::new_for_family(row.begin(), family))
         }
+        "from_value" => {
+            let value = row.json("value", "value_json")?;
+            row.end(Validation::from_value(row.begin(), &value))
+        }
+        "from_slice" => {
+            let bytes = row.bytes("bytes")?;
+            row.end(Validation::from_slice(row.begin(), bytes.as_slice()))
+        }
+        "clone" => {
+            let options = row.input::<Validation>("validation")?;
+            row.end(options.clone(row.begin()))
+        }
+        "eq" => eq::<Validation>(row),
+        "debug" => debug::<Validation>(row, "validation"),
+        "set_subject" | "require_configured" => set_one(method, row),
+        _ => set_texts(method, row),
     }
 }
 
-fn of_algorithm(row: Row<'_>, trial: &mut Trial) -> Answer {
-    let algorithm = only_given(row)?;
-    trial.begin();
-    let answer = Validation::new(row.alloc(), algorithm);
-    trial.end();
-    of_validation(row.alloc(), answer)
+fn of_algorithm(method: &str, row: &Row<'_>) -> Answer {
+    let algorithm = row.read::<Algorithm>("algorithm")?;
+    let alloc = row.begin();
+    let answer = match method {
+        "new" => Validation::new(alloc, algorithm),
+        _ => Validation::new_strict(alloc, algorithm),
+    };
+    row.end(answer)
 }
 
-fn of_algorithm_strictly(row: Row<'_>, trial: &mut Trial) -> Answer {
-    let algorithm = only_given(row)?;
-    trial.begin();
-    let answer = Validation::new_strict(row.alloc(), algorithm);
-    trial.end();
-    of_validation(row.alloc(), answer)
+// Sets the subject to the string at `text`, or requires what is configured.
+fn set_one(method: &str, row: &Row<'_>) -> Answer {
+    let before = row.input::<Validation>("validation")?;
+    let mut after = row.input::<Validation>("validation")?;
+    let answer = match method {
+        "set_subject" => {
+            let subject = row.text("text")?;
+            let alloc = row.begin();
+            after.set_subject(alloc, subject)
+        }
+        _ => {
+            let alloc = row.begin();
+            after.require_configured(alloc)
+        }
+    };
+    row.end_change(answer, &*before, &*after)
 }
 
-fn of_family(row: Row<'_>, trial: &mut Trial) -> Answer {
-    let family = only_family(row)?;
-    trial.begin();
-    let answer = Validation::new_for_family(row.alloc(), family);
-    trial.end();
-    of_validation(row.alloc(), answer)
-}
-
-fn read(row: Row<'_>, trial: &mut Trial) -> Answer {
-    let value = only_json(row)?;
-    trial.begin();
-    let answer = Validation::from_value(row.alloc(), &value);
-    trial.end();
-    of_validation(row.alloc(), answer)
-}
-
-fn read_text(row: Row<'_>, trial: &mut Trial) -> Answer {
-    let bytes = only_bytes(row, "bytes")?;
-    trial.begin();
-    let answer = Validation::from_slice(row.alloc(), bytes.as_slice());
-    trial.end();
-    of_validation(row.alloc(), answer)
-}
-
-fn copied(row: Row<'_>, trial: &mut Trial) -> Answer {
-    row.takes(&["validation"])?;
-    let options = validation(row)?;
-    trial.begin();
-    let answer = options.clone(row.alloc());
-    trial.end();
-    of_validation(row.alloc(), answer)
-}
-
-fn are_equal(row: Row<'_>, trial: &mut Trial) -> Answer {
-    row.takes(&["left", "right"])?;
-    let left = read_validation(row, "left")?;
-    let right = read_validation(row, "right")?;
-    compared(row, trial, &*left, &*right)
-}
-
-// Calls the setter of this name.
-fn set(alloc: Global, call: &str, options: &mut Validation, texts: &[&str]) -> Outcome<()> {
-    match call {
-        "Validation::set_audience" => options.set_audience(alloc, texts),
-        "Validation::set_issuer" => options.set_issuer(alloc, texts),
-        "Validation::set_understood_crit" => options.set_understood_crit(alloc, texts),
-        _ => options.set_required_spec_claims(alloc, texts),
-    }
-}
-
-// Calls the setter of this name with the strings that the row lists.
-fn set_texts(call: &str, row: Row<'_>, trial: &mut Trial) -> Answer {
-    row.takes(&["validation", "texts"])?;
+// Calls the setter of this name with the strings at `texts`.
+fn set_texts(method: &str, row: &Row<'_>) -> Answer {
     let texts = row.texts("texts")?;
-    let before = validation(row)?;
-    let mut after = validation(row)?;
-    trial.begin();
-    let answer = set(row.alloc(), call, &mut after, texts.as_slice());
-    trial.end();
-    of_setter(row.alloc(), answer, &before, &after)
+    let texts = texts.as_slice();
+    let before = row.input::<Validation>("validation")?;
+    let mut after = row.input::<Validation>("validation")?;
+    let alloc = row.begin();
+    let answer = match method {
+        "set_audience" => after.set_audience(alloc, texts),
+        "set_issuer" => after.set_issuer(alloc, texts),
+        "set_understood_crit" => after.set_understood_crit(alloc, texts),
+        "set_required_spec_claims" => after.set_required_spec_claims(alloc, texts),
+        _ => return None,
+    };
+    row.end_change(answer, &*before, &*after)
 }
 
-fn set_subject(row: Row<'_>, trial: &mut Trial) -> Answer {
-    row.takes(&["validation", "text"])?;
-    let subject = row.text("text")?;
-    let before = validation(row)?;
-    let mut after = validation(row)?;
-    trial.begin();
-    let answer = after.set_subject(row.alloc(), subject);
-    trial.end();
-    of_setter(row.alloc(), answer, &before, &after)
-}
-
-fn require_configured(row: Row<'_>, trial: &mut Trial) -> Answer {
-    row.takes(&["validation"])?;
-    let before = validation(row)?;
-    let mut after = validation(row)?;
-    trial.begin();
-    let answer = after.require_configured(row.alloc());
-    trial.end();
-    of_setter(row.alloc(), answer, &before, &after)
+/// Calls `options_fault`.
+pub fn fault(row: &Row<'_>) -> Answer {
+    let value = row.json("value", "value_json")?;
+    row.begin();
+    row.give(&options_fault(&value))
 }

@@ -1,6 +1,4 @@
-//! The base of the tests: providers of signatures that prove the provider laws, and tests of
-//! refusals.
+//! The base of the tests: providers of signatures that prove the provider laws.
 #![tactic(auto)]
 
 pub mod providers;
-pub mod refusals;

@@ -1,7 +1,7 @@
 //! Makes the calls of rows of test vectors, and compares each result with the one that the row
 //! wants.
 //!
-//! A row is one line of JSON (`docs/VECTORS.md`). Without arguments the program reads the files
+//! A row is one line of JSON (`crates/jwt_vectors/README.md`). Without arguments the program reads the files
 //! `*.jsonl` of the folder that it runs in. With the argument `refused`, each row is tried with
 //! each of its requests for memory refused in turn, by whoever runs the program (`tests/refuse.c`).
 //! The last line counts.
@@ -9,11 +9,10 @@
 
 mod calls;
 
-use jwt_rows::fault::Fault;
-use jwt_rows::row::Row;
+use jwt_rows::Row;
 use jwt_rows::trial::Trial;
-use serde_json::Value;
-use std::alloc::Global;
+use serde_json::{Map, Value};
+use std::alloc::{AllocError, Global};
 use std::process::ExitCode;
 use std::rt::Runtime;
 use std::{env, fs, io};
@@ -38,83 +37,74 @@ struct Count {
     differ: usize,
 }
 
-// Returns the compact text of the result of the row's call with the request of this number refused,
-// and whether one was.
-fn answer_text(alloc: Global, row: Row<'_>, number: usize) -> Result<(String, bool), Fault> {
-    let mut trial = Trial::new(alloc, number);
-    let answer = calls::answer(row, &mut trial)?;
-    Ok((answer.to_string(alloc)?, trial.was_refused()))
-}
-
-fn wanted_text(alloc: Global, row: Row<'_>) -> Result<String, Fault> {
-    let _name = row.text("id")?;
-    let _source = row.text("from")?;
-    Ok(row.value("want")?.to_string(alloc)?)
+// Returns the compact text of the wanted result, if the row has a name, a source and such a result.
+fn wanted_text(alloc: Global, members: &Map<String, Value>) -> Option<String> {
+    let _name = members.get("id")?.as_str()?;
+    let _source = members.get("from")?.as_str()?;
+    members.get("want")?.to_string(alloc).ok()
 }
 
 // Returns whether the call must make no request for memory.
-fn is_sparing(row: Row<'_>) -> bool {
-    row.optional("requests").and_then(Value::as_u64) == Some(0)
+fn is_sparing(members: &Map<String, Value>) -> bool {
+    members.get("requests").and_then(Value::as_u64) == Some(0)
 }
 
-// Returns the difference of this result from the wanted one, if there is one.
-fn difference(
-    alloc: Global,
-    number: usize,
-    wanted: &str,
-    given: &str,
-) -> Result<Option<String>, Fault> {
-    if given == wanted || number > 0 && given == "{\"err\":\"OutOfMemory\"}" {
+// Returns the difference of the result of the row's call from the wanted one, if there is one.
+fn difference(alloc: Global, row: &Row<'_>, wanted: &str) -> Result<Option<String>, AllocError> {
+    let Some(answer) = calls::answer(row) else {
+        let name = row.last_name();
+        return Ok(Some(format!(in alloc; "{name} is missing, malformed or refused")?));
+    };
+    if let Some(name) = row.unknown_name() {
+        return Ok(Some(format!(in alloc; "the call does not take {name}")?));
+    }
+    let given = answer.to_string(alloc)?;
+    let is_out_of_memory = given.as_str() == "{\"err\":\"OutOfMemory\"}";
+    if given.as_str() == wanted || row.was_refused() && is_out_of_memory {
         return Ok(None);
     }
-    Ok(Some(format!(in alloc; "wanted {wanted}, got {given} ({number})")?))
+    Ok(Some(format!(in alloc; "wanted {wanted}, got {given}")?))
 }
 
-// Tries a row with ample memory.
-fn try_amply(alloc: Global, row: Row<'_>) -> Result<Outcome, Fault> {
-    let wanted = wanted_text(alloc, row)?;
-    let (given, _) = answer_text(alloc, row, 0)?;
-    Ok(Outcome {
-        refused: 0,
-        difference: difference(alloc, 0, wanted.as_str(), given.as_str())?,
-    })
-}
-
-// Tries a row with the first request refused, then the second, until none is left.
-fn try_refused(alloc: Global, row: Row<'_>) -> Result<Outcome, Fault> {
-    let wanted = wanted_text(alloc, row)?;
+// Tries a row with ample memory, or with its first request for memory refused, then the second,
+// until none is left.
+fn try_row(
+    alloc: Global,
+    members: &Map<String, Value>,
+    refuses: bool,
+) -> Result<Outcome, AllocError> {
+    let Some(wanted) = wanted_text(alloc, members) else {
+        return failure(alloc, 0, "no id, from or want");
+    };
     let mut refused = 0;
-    for number in 1..MOST {
-        let (given, was_refused) = answer_text(alloc, row, number)?;
-        let number = if was_refused { number } else { 0 };
-        let difference = difference(alloc, number, wanted.as_str(), given.as_str())?;
-        if !was_refused || difference.is_some() {
+    for number in usize::from(refuses)..MOST {
+        let row = Row::new(alloc, members, number);
+        let difference = difference(alloc, &row, wanted.as_str())?;
+        if !row.was_refused() || difference.is_some() {
             return Ok(Outcome {
                 refused,
                 difference,
             });
         }
         refused = number;
-        if is_sparing(row) {
+        if is_sparing(members) {
             break;
         }
     }
-    let difference = String::from_str(alloc, "a request for memory too many")?;
+    failure(alloc, refused, "a request for memory too many")
+}
+
+fn failure(alloc: Global, refused: usize, reason: &str) -> Result<Outcome, AllocError> {
     Ok(Outcome {
         refused,
-        difference: Some(difference),
+        difference: Some(String::from_str(alloc, reason)?),
     })
 }
 
-fn try_line(alloc: Global, line: &str, refuses: bool) -> Result<Outcome, Fault> {
-    let Ok(value) = Value::from_str(alloc, line) else {
-        return Err(Fault::Member("row"));
-    };
-    let row = Row::new(alloc, &value);
-    if refuses {
-        try_refused(alloc, row)
-    } else {
-        try_amply(alloc, row)
+fn try_line(alloc: Global, line: &str, refuses: bool) -> Result<Outcome, AllocError> {
+    match Value::from_str(alloc, line) {
+        Ok(Value::Object(members)) => try_row(alloc, &members, refuses),
+        _ => failure(alloc, 0, "not a JSON object"),
     }
 }
 
@@ -138,8 +128,8 @@ fn try_rows<T: Runtime + AllocGlobal>(
                 }
                 outcome.difference.is_none()
             }
-            Err(fault) => {
-                println!(rt; "DIFFERS: {file}:{number}: {fault}")?;
+            Err(_) => {
+                println!(rt; "DIFFERS: {file}:{number}: out of memory")?;
                 false
             }
         };

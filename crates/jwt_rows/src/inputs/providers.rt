@@ -1,11 +1,11 @@
 //! Providers of signatures, as a row describes them at `provider`: `"StandardProvider"`,
 //! `"RsaProvider"`, `"YesProvider"`, `"NoProvider"`, `{"prepared": [[ALGORITHM, SECRET], ..]}` for
-//! a `PreparedHmac` of these secrets, `{"prepared_rsa": [[N, E], ..]}` for a `PreparedRsa` of these
+//! a `PreparedHmac` of these secrets, with zeros in their place if `zeroize` is true, `{"prepared_rsa": [[N, E], ..]}` for a `PreparedRsa` of these
 //! keys, or `{"table": [[ALGORITHM, KEY, MESSAGE, SIGNATURE], ..]}` for a `TableProvider` of these
 //! rows. A row that describes none means `HmacProvider`.
 
-use crate::fault::Fault;
-use crate::inputs::bytes::bytes_of;
+use crate::bytes::bytes_of;
+use crate::input::Input;
 use crate::row::Row;
 use jsonwebtoken::Algorithm;
 use jsonwebtoken::crypto::hmac::PreparedHmac;
@@ -13,8 +13,6 @@ use jwt_rsa::PreparedRsa;
 use jwt_test_providers::providers::{self, TableProvider};
 use serde_json::Value;
 use std::alloc::Global;
-
-const MALFORMED: Fault = Fault::Member("provider");
 
 /// A provider of signatures.
 #[derive(Drop)]
@@ -37,125 +35,83 @@ pub enum Provider {
     No,
 }
 
-/// Returns the algorithm of a name.
-pub fn algorithm_of(value: &Value) -> Result<Algorithm, Fault> {
-    match Algorithm::from_value(value) {
-        Ok(algorithm) => Ok(algorithm),
-        Err(_) => Err(Fault::Member("algorithm")),
-    }
-}
-
 /// Returns the provider at `provider`.
-pub fn provider_of(row: Row<'_>) -> Result<Provider, Fault> {
-    let Some(value) = row.optional("provider") else {
-        return Ok(Provider::Hmac);
+pub fn provider_of(row: &Row<'_>) -> Option<Provider> {
+    let Some(described) = row.value("provider") else {
+        return Some(Provider::Hmac);
     };
-    if let Some(secrets) = value.get("prepared") {
-        return Ok(Provider::Prepared(prepared(row.alloc(), secrets)?));
-    }
-    if let Some(keys) = value.get("prepared_rsa") {
-        return Ok(Provider::PreparedRsa(prepared_rsa(row.alloc(), keys)?));
-    }
-    if let Some(rows) = value.get("table") {
-        return Ok(Provider::Table(table(row.alloc(), rows)?));
-    }
-    match value.as_str() {
-        Some("StandardProvider") => Ok(Provider::Standard),
-        Some("RsaProvider") => Ok(Provider::Rsa),
-        Some("YesProvider") => Ok(Provider::Yes),
-        Some("NoProvider") => Ok(Provider::No),
-        _ => Err(MALFORMED),
+    match described.as_str() {
+        Some("StandardProvider") => Some(Provider::Standard),
+        Some("RsaProvider") => Some(Provider::Rsa),
+        Some("YesProvider") => Some(Provider::Yes),
+        Some("NoProvider") => Some(Provider::No),
+        Some(_) => None,
+        None => described_provider(row.alloc(), described),
     }
 }
 
-/// Returns the provider at `provider`, which is to be one of prepared secrets.
-pub fn prepared_provider(row: Row<'_>) -> Result<Box<PreparedHmac>, Fault> {
-    let value = row.value("provider")?;
-    let secrets = value.get("prepared").ok_or(MALFORMED)?;
-    prepared(row.alloc(), secrets)
-}
-
-/// Returns the provider at `provider`, which is to be one of prepared RSA keys.
-pub fn prepared_rsa_provider(row: Row<'_>) -> Result<PreparedRsa, Fault> {
-    let value = row.value("provider")?;
-    let keys = value.get("prepared_rsa").ok_or(MALFORMED)?;
-    prepared_rsa(row.alloc(), keys)
-}
-
-// Returns the provider that has these secrets prepared.
-fn prepared(alloc: Global, secrets: &Value) -> Result<Box<PreparedHmac>, Fault> {
-    let Some(secrets) = secrets.as_array() else {
-        return Err(MALFORMED);
-    };
-    let Some((first, others)) = secrets.split_first() else {
-        return Err(MALFORMED);
-    };
-    let mut prepared = first_prepared(alloc, first)?;
-    for secret in others {
-        add_secret(alloc, &mut prepared, secret)?;
+fn described_provider(alloc: Global, described: &Value) -> Option<Provider> {
+    if described.get("prepared").is_some() {
+        let prepared = PreparedHmac::read(alloc, described)?;
+        return Some(Provider::Prepared(Box::new(alloc, prepared).ok()?));
     }
-    Ok(prepared)
-}
-
-// Returns the provider that has this secret prepared.
-fn first_prepared(alloc: Global, secret: &Value) -> Result<Box<PreparedHmac>, Fault> {
-    let bytes = bytes_at(alloc, secret, 1)?;
-    let provider = PreparedHmac::new(alloc, algorithm_at(secret, 0)?, bytes.as_slice())?;
-    Ok(Box::new(alloc, provider)?)
-}
-
-// Returns the bytes at a place of a list.
-fn bytes_at(alloc: Global, list: &Value, place: usize) -> Result<Vec<u8>, Fault> {
-    bytes_of(alloc, list.get(place).ok_or(MALFORMED)?)
-}
-
-fn algorithm_at(list: &Value, place: usize) -> Result<Algorithm, Fault> {
-    algorithm_of(list.get(place).ok_or(MALFORMED)?)
-}
-
-fn add_secret(alloc: Global, prepared: &mut PreparedHmac, secret: &Value) -> Result<(), Fault> {
-    let bytes = bytes_at(alloc, secret, 1)?;
-    Ok(prepared.add(alloc, algorithm_at(secret, 0)?, bytes.as_slice())?)
-}
-
-// Returns the provider that has these RSA keys prepared.
-fn prepared_rsa(alloc: Global, keys: &Value) -> Result<PreparedRsa, Fault> {
-    let Some(keys) = keys.as_array() else {
-        return Err(MALFORMED);
-    };
-    let mut prepared = PreparedRsa::new(alloc);
-    for key in keys {
-        add_rsa(alloc, &mut prepared, key)?;
+    if described.get("prepared_rsa").is_some() {
+        return Some(Provider::PreparedRsa(PreparedRsa::read(alloc, described)?));
     }
-    Ok(prepared)
+    Some(Provider::Table(table(alloc, described.get("table")?)?))
 }
 
-fn add_rsa(alloc: Global, prepared: &mut PreparedRsa, key: &Value) -> Result<(), Fault> {
-    let n = bytes_at(alloc, key, 0)?;
-    let e = bytes_at(alloc, key, 1)?;
-    Ok(prepared.add(alloc, n.as_slice(), e.as_slice())?)
-}
-
-fn table(alloc: Global, rows: &Value) -> Result<TableProvider, Fault> {
-    let Some(rows) = rows.as_array() else {
-        return Err(MALFORMED);
-    };
-    let mut table = Vec::new(alloc);
-    for row in rows {
-        table.push(table_row(alloc, row)?)?;
+impl Input for PreparedHmac {
+    fn read(alloc: Global, described: &Value) -> Option<PreparedHmac> {
+        let (first, others) = described.get("prepared")?.as_array()?.split_first()?;
+        let (algorithm, secret) = secret_of(alloc, first)?;
+        let mut prepared = PreparedHmac::new(alloc, algorithm, secret.as_slice()).ok()?;
+        for other in others {
+            let (algorithm, secret) = secret_of(alloc, other)?;
+            prepared.add(alloc, algorithm, secret.as_slice()).ok()?;
+        }
+        if described.get("zeroize").and_then(Value::as_bool) == Some(true) {
+            prepared.zeroize();
+        }
+        Some(prepared)
     }
-    Ok(TableProvider::new(table))
 }
 
-fn table_row(alloc: Global, row: &Value) -> Result<providers::Row, Fault> {
-    let key = bytes_at(alloc, row, 1)?;
-    let message = bytes_at(alloc, row, 2)?;
-    let signature = bytes_at(alloc, row, 3)?;
-    Ok(providers::Row::new(
-        alloc,
-        algorithm_at(row, 0)?,
-        key.as_slice(),
-        message.as_slice(),
-        signature.as_slice(),
-    )?)
+impl Input for PreparedRsa {
+    fn read(alloc: Global, described: &Value) -> Option<PreparedRsa> {
+        let mut prepared = PreparedRsa::new(alloc);
+        for key in described.get("prepared_rsa")?.as_array()? {
+            let (n, e) = two_of(alloc, key)?;
+            prepared.add(alloc, n.as_slice(), e.as_slice()).ok()?;
+        }
+        Some(prepared)
+    }
+}
+
+/// Returns the algorithm and the secret that a list describes.
+pub fn secret_of(alloc: Global, list: &Value) -> Option<(Algorithm, Vec<u8>)> {
+    let algorithm = Algorithm::read(alloc, list.get(0)?)?;
+    Some((algorithm, bytes_of(alloc, list.get(1)?)?))
+}
+
+/// Returns the bytes, such as modulus and exponent, that a list describes.
+pub fn two_of(alloc: Global, list: &Value) -> Option<(Vec<u8>, Vec<u8>)> {
+    let n = bytes_of(alloc, list.get(0)?)?;
+    Some((n, bytes_of(alloc, list.get(1)?)?))
+}
+
+fn table(alloc: Global, described: &Value) -> Option<TableProvider> {
+    let mut rows = Vec::new(alloc);
+    for row in described.as_array()? {
+        rows.push(table_row(alloc, row)?).ok()?;
+    }
+    Some(TableProvider::new(rows))
+}
+
+fn table_row(alloc: Global, row: &Value) -> Option<providers::Row> {
+    let (algorithm, key) = secret_of(alloc, row)?;
+    let message = bytes_of(alloc, row.get(2)?)?;
+    let signature = bytes_of(alloc, row.get(3)?)?;
+    let (key, message) = (key.as_slice(), message.as_slice());
+    providers::Row::new(alloc, algorithm, key, message, signature.as_slice()).ok()
 }

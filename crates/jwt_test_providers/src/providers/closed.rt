@@ -10,7 +10,7 @@ use jwt_keys::provider::{JwtSigner, JwtVerifier};
 use std::alloc::Global;
 
 // Returns the error `Provider("closed")`, or `OutOfMemory`.
-pub(super) fn closed(alloc: Global) -> Error
+pub(super) fn closed_error(alloc: Global) -> Error
     ensures { Refuses (Some (kind.Provider (codes "closed"))) result }
 {
     match String::from_str(alloc, "closed") {
@@ -37,7 +37,7 @@ impl JwtSigner for NoSigner {
     }
 
     fn sign(&self, alloc: Global, _message: &[u8]) -> Result<Vec<u8>> {
-        Err(closed(alloc))
+        Err(closed_error(alloc))
     }
 }
 

@@ -5,7 +5,7 @@ ghost use Rattle.jwt_test_providers.specs.law_proofs.Families.{never_made};
 ghost use Rattle.jwt_base.specs.Kind as kind;
 ghost use Rattle.jwt_keys.specs.Provider.{reads_no_key};
 
-use super::closed::{NoSigner, NoVerifier, closed};
+use super::closed::{NoSigner, NoVerifier, closed_error};
 use jwt_base::algorithms::Algorithm;
 use jwt_base::errors::Result;
 use jwt_keys::decoding_key::DecodingKey;
@@ -45,7 +45,7 @@ impl CryptoProvider for NoProvider {
         _algorithm: &Algorithm,
         _key: &EncodingKey,
     ) -> Result<NoSigner> {
-        Err(closed(alloc))
+        Err(closed_error(alloc))
     }
 
     fn verifier_factory(
@@ -54,7 +54,7 @@ impl CryptoProvider for NoProvider {
         _algorithm: &Algorithm,
         _key: &DecodingKey,
     ) -> Result<NoVerifier> {
-        Err(closed(alloc))
+        Err(closed_error(alloc))
     }
 
     fn rsa_pub_components_from_private_key(
@@ -62,7 +62,7 @@ impl CryptoProvider for NoProvider {
         alloc: Global,
         _der: &[u8],
     ) -> Result<(Vec<u8>, Vec<u8>)> {
-        Err(closed(alloc))
+        Err(closed_error(alloc))
     }
 
     fn rsa_pub_components_from_public_key(
@@ -70,7 +70,7 @@ impl CryptoProvider for NoProvider {
         alloc: Global,
         _der: &[u8],
     ) -> Result<(Vec<u8>, Vec<u8>)> {
-        Err(closed(alloc))
+        Err(closed_error(alloc))
     }
 
     fn ec_pub_components_from_private_key(
@@ -79,7 +79,7 @@ impl CryptoProvider for NoProvider {
         _der: &[u8],
         _algorithm: Algorithm,
     ) -> Result<(EllipticCurve, Vec<u8>, Vec<u8>)> {
-        Err(closed(alloc))
+        Err(closed_error(alloc))
     }
 
     fn ed_pub_components_from_private_key(
@@ -88,7 +88,7 @@ impl CryptoProvider for NoProvider {
         _der: &[u8],
         _curve: &EllipticCurve,
     ) -> Result<Vec<u8>> {
-        Err(closed(alloc))
+        Err(closed_error(alloc))
     }
 
     fn compute_digest(
@@ -97,7 +97,7 @@ impl CryptoProvider for NoProvider {
         _bytes: &[u8],
         _hash: ThumbprintHash,
     ) -> Result<Vec<u8>> {
-        Err(closed(alloc))
+        Err(closed_error(alloc))
     }
 
     ghost same_family = { λ _ a k h. never_made h };

@@ -126,7 +126,7 @@ impl Rows {
         Ok(Rows {
             algorithm,
             key: key.to_vec(alloc)?,
-            rows: copied(alloc, rows)?,
+            rows: copy_rows(alloc, rows)?,
         })
     }
 
@@ -320,7 +320,7 @@ impl CryptoProvider for TableProvider {
     ghost same_family = { λ _ a k h. bytes_made a k h };
 }
 
-fn copied(alloc: Global, rows: &[Row]) -> Result<Vec<Row>>
+fn copy_rows(alloc: Global, rows: &[Row]) -> Result<Vec<Row>>
     ensures ok { IfOk result (λ v. v.items ≡ rows.now) }
     ensures err { IfErr result IsMemory }
 {

@@ -5,7 +5,7 @@ ghost use Rattle.jwt_base.specs.Kind as kind;
 ghost use Rattle.jwt_keys.specs.Provider.{reads_no_key};
 ghost use Rattle.jwt_test_providers.specs.law_proofs.Families.{verifier_refusal_of, family_made};
 
-use super::closed::{NoSigner, closed};
+use super::closed::{NoSigner, closed_error};
 use jwt_base::algorithms::Algorithm;
 use jwt_base::errors::{ErrorKind, Result, new_error};
 use jwt_keys::decoding_key::DecodingKey;
@@ -69,7 +69,7 @@ impl CryptoProvider for YesProvider {
         _algorithm: &Algorithm,
         _key: &EncodingKey,
     ) -> Result<NoSigner> {
-        Err(closed(alloc))
+        Err(closed_error(alloc))
     }
 
     fn verifier_factory(
@@ -92,7 +92,7 @@ impl CryptoProvider for YesProvider {
         alloc: Global,
         _der: &[u8],
     ) -> Result<(Vec<u8>, Vec<u8>)> {
-        Err(closed(alloc))
+        Err(closed_error(alloc))
     }
 
     fn rsa_pub_components_from_public_key(
@@ -100,7 +100,7 @@ impl CryptoProvider for YesProvider {
         alloc: Global,
         _der: &[u8],
     ) -> Result<(Vec<u8>, Vec<u8>)> {
-        Err(closed(alloc))
+        Err(closed_error(alloc))
     }
 
     fn ec_pub_components_from_private_key(
@@ -109,7 +109,7 @@ impl CryptoProvider for YesProvider {
         _der: &[u8],
         _algorithm: Algorithm,
     ) -> Result<(EllipticCurve, Vec<u8>, Vec<u8>)> {
-        Err(closed(alloc))
+        Err(closed_error(alloc))
     }
 
     fn ed_pub_components_from_private_key(
@@ -118,7 +118,7 @@ impl CryptoProvider for YesProvider {
         _der: &[u8],
         _curve: &EllipticCurve,
     ) -> Result<Vec<u8>> {
-        Err(closed(alloc))
+        Err(closed_error(alloc))
     }
 
     fn compute_digest(
@@ -127,7 +127,7 @@ impl CryptoProvider for YesProvider {
         _bytes: &[u8],
         _hash: ThumbprintHash,
     ) -> Result<Vec<u8>> {
-        Err(closed(alloc))
+        Err(closed_error(alloc))
     }
 
     ghost same_family = { λ _ a k h. family_made a k h };

@@ -1,0 +1,10 @@
+//! Values of the library, as rows describe them.
+
+use serde_json::Value;
+use std::alloc::Global;
+
+/// A type of which rows describe values.
+pub trait Input: Sized + Drop {
+    /// Returns the value that is described, if there is one and memory did not run out.
+    fn read(alloc: Global, described: &Value) -> Option<Self>;
+}

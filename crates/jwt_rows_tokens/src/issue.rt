@@ -1,0 +1,45 @@
+//! Tokens that are issued, and signatures as base64url strings.
+
+use jsonwebtoken::crypto::{CryptoProvider, sign, verify};
+use jsonwebtoken::{Algorithm, DecodingKey, EncodingKey, Header, encode, jws};
+use jwt_rows::{Answer, Row};
+use serde_json::Value;
+
+/// Makes a call that issues a token.
+pub fn encode_claims<P: CryptoProvider>(call: &str, row: &Row<'_>, provider: &P) -> Answer {
+    let header = row.input::<Header>("header")?;
+    let key = row.input::<EncodingKey>("key")?;
+    if call == "encode" {
+        let claims = row.json("claims", "claims_json")?;
+        let alloc = row.begin();
+        return row.end(encode(alloc, provider, &header, &claims, &key));
+    }
+    let claims = optional_claims(row)?;
+    row.end(jws::encode(row.begin(), provider, &header, claims.as_ref(), &key))
+}
+
+// Returns the claims, if the row has them.
+fn optional_claims(row: &Row<'_>) -> Option<Option<Value>> {
+    if row.value("claims").is_none() && row.value("claims_json").is_none() {
+        return Some(None);
+    }
+    Some(Some(row.json("claims", "claims_json")?))
+}
+
+/// Calls `sign`.
+pub fn sign_message<P: CryptoProvider>(row: &Row<'_>, provider: &P) -> Answer {
+    let message = row.bytes("message")?;
+    let algorithm = row.read::<Algorithm>("algorithm")?;
+    let key = row.input::<EncodingKey>("key")?;
+    row.end(sign(row.begin(), provider, message.as_slice(), &key, algorithm))
+}
+
+/// Calls `verify`.
+pub fn verify_message<P: CryptoProvider>(row: &Row<'_>, provider: &P) -> Answer {
+    let signature = row.text("signature")?;
+    let message = row.bytes("message")?;
+    let algorithm = row.read::<Algorithm>("algorithm")?;
+    let key = row.input::<DecodingKey>("key")?;
+    let message = message.as_slice();
+    row.end(verify(row.begin(), provider, signature, message, &key, algorithm))
+}

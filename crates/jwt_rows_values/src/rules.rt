@@ -1,0 +1,50 @@
+//! The claim rules (RFC 7519 section 4.1), and the time that a clock tells.
+
+use jsonwebtoken::{Clock, Validation, claimed_moments, get_current_timestamp, validate};
+use jwt_rows::{Answer, Row};
+
+/// A clock that stands still.
+#[derive(Clone, Copy)]
+struct FixedClock(i64);
+
+impl Clock for FixedClock {
+    ghost use Rattle.std.specs.Prelude.{◌≡◌};
+
+    ghost tells = { λ clock seconds. seconds ≡ clock.0 };
+
+    fn seconds(&self) -> i64 {
+        self.0
+    }
+}
+
+/// Calls `validate`.
+pub fn claims_are_valid(row: &Row<'_>) -> Answer {
+    let claims = row.json("claims", "claims_json")?;
+    let options = row.input::<Validation>("validation")?;
+    let time = row.number("now")?;
+    row.end(validate(row.begin(), &claims, &options, time))
+}
+
+/// Returns the name of the kind with which `validate` refuses.
+pub fn name_of_refusal(row: &Row<'_>) -> Answer {
+    let claims = row.json("claims", "claims_json")?;
+    let options = row.input::<Validation>("validation")?;
+    let time = row.number("now")?;
+    let refusal = validate(row.alloc(), &claims, &options, time).err()?;
+    row.give(&refusal.kind().name())
+}
+
+/// Calls `claimed_moments`.
+pub fn moments(row: &Row<'_>) -> Answer {
+    let claims = row.value("claims")?;
+    let options = row.input::<Validation>("validation")?;
+    row.begin();
+    row.give(&claimed_moments(claims, &options))
+}
+
+/// Calls `get_current_timestamp`.
+pub fn timestamp(row: &Row<'_>) -> Answer {
+    let clock = FixedClock(row.read::<i64>("seconds")?);
+    row.begin();
+    row.end(get_current_timestamp(&clock))
+}
