@@ -47,16 +47,6 @@ impl Input for Elsewhere {
     }
 }
 
-// Returns the signature that the row itself describes.
-fn of_row(row: &Row<'_>) -> Option<Elsewhere> {
-    Some(Elsewhere {
-        algorithm: row.read::<Algorithm>("algorithm")?,
-        message: row.bytes("message")?,
-        signature: row.bytes("signature")?,
-        is_valid: row.flag("verdict") == Some(true),
-    })
-}
-
 /// Calls `signing_input`.
 pub fn input(row: &Row<'_>) -> Answer {
     let header = row.input::<Header>("header")?;
@@ -103,32 +93,6 @@ pub fn signature(method: &str, row: &Row<'_>) -> Answer {
     by_signer(method, row, &provider, algorithm, &key)
 }
 
-// Returns the key at `key`, or the given signature's own if the row has none.
-fn signing_key(row: &Row<'_>, given: &SignatureProvider<'_>) -> Option<Box<EncodingKey>> {
-    if row.value("key").is_some() {
-        return row.input::<EncodingKey>("key");
-    }
-    Box::new(row.alloc(), given.key(row.alloc()).ok()?).ok()
-}
-
-fn by_signer<P: CryptoProvider>(
-    method: &str,
-    row: &Row<'_>,
-    provider: &P,
-    algorithm: Algorithm,
-    key: &EncodingKey,
-) -> Answer {
-    if method == "signer_factory, sign" {
-        let signer = provider.signer_factory(row.alloc(), &algorithm, key).ok()?;
-        return sign(row, &signer);
-    }
-    let alloc = row.begin();
-    match provider.signer_factory(alloc, &algorithm, key) {
-        Ok(_signer) => row.give(&()),
-        Err(refusal) => row.refuse(&refusal),
-    }
-}
-
 /// Makes a call of `VerdictProvider`.
 pub fn verdict(method: &str, row: &Row<'_>) -> Answer {
     let given = row.read::<Elsewhere>("verdict")?;
@@ -161,6 +125,42 @@ pub fn verdict(method: &str, row: &Row<'_>) -> Answer {
     let alloc = row.begin();
     match provider.verifier_factory(alloc, &algorithm, &key) {
         Ok(_verifier) => row.give(&()),
+        Err(refusal) => row.refuse(&refusal),
+    }
+}
+
+// Returns the signature that the row itself describes.
+fn of_row(row: &Row<'_>) -> Option<Elsewhere> {
+    Some(Elsewhere {
+        algorithm: row.read::<Algorithm>("algorithm")?,
+        message: row.bytes("message")?,
+        signature: row.bytes("signature")?,
+        is_valid: row.flag("verdict") == Some(true),
+    })
+}
+
+// Returns the key at `key`, or the given signature's own if the row has none.
+fn signing_key(row: &Row<'_>, given: &SignatureProvider<'_>) -> Option<Box<EncodingKey>> {
+    if row.value("key").is_some() {
+        return row.input::<EncodingKey>("key");
+    }
+    Box::new(row.alloc(), given.key(row.alloc()).ok()?).ok()
+}
+
+fn by_signer<P: CryptoProvider>(
+    method: &str,
+    row: &Row<'_>,
+    provider: &P,
+    algorithm: Algorithm,
+    key: &EncodingKey,
+) -> Answer {
+    if method == "signer_factory, sign" {
+        let signer = provider.signer_factory(row.alloc(), &algorithm, key).ok()?;
+        return sign(row, &signer);
+    }
+    let alloc = row.begin();
+    match provider.signer_factory(alloc, &algorithm, key) {
+        Ok(_signer) => row.give(&()),
         Err(refusal) => row.refuse(&refusal),
     }
 }

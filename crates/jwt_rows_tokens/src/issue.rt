@@ -18,14 +18,6 @@ pub fn encode_claims<P: CryptoProvider>(call: &str, row: &Row<'_>, provider: &P)
     row.end(jws::encode(row.begin(), provider, &header, claims.as_ref(), &key))
 }
 
-// Returns the claims, if the row has them.
-fn optional_claims(row: &Row<'_>) -> Option<Option<Value>> {
-    if row.value("claims").is_none() && row.value("claims_json").is_none() {
-        return Some(None);
-    }
-    Some(Some(row.json("claims", "claims_json")?))
-}
-
 /// Calls `sign`.
 pub fn sign_message<P: CryptoProvider>(row: &Row<'_>, provider: &P) -> Answer {
     let message = row.bytes("message")?;
@@ -42,4 +34,12 @@ pub fn verify_message<P: CryptoProvider>(row: &Row<'_>, provider: &P) -> Answer 
     let key = row.input::<DecodingKey>("key")?;
     let message = message.as_slice();
     row.end(verify(row.begin(), provider, signature, message, &key, algorithm))
+}
+
+// Returns the claims, if the row has them.
+fn optional_claims(row: &Row<'_>) -> Option<Option<Value>> {
+    if row.value("claims").is_none() && row.value("claims_json").is_none() {
+        return Some(None);
+    }
+    Some(Some(row.json("claims", "claims_json")?))
 }

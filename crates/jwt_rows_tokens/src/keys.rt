@@ -25,6 +25,44 @@ pub fn encoding_key(method: &str, row: &Row<'_>) -> Answer {
     }
 }
 
+/// Makes a call of `DecodingKey`.
+pub fn decoding_key(method: &str, row: &Row<'_>) -> Answer {
+    match method {
+        "from_secret" | "from_rsa_der" | "from_ec_der" | "from_ed_der" => {
+            decoding_key_of_bytes(method, row)
+        }
+        "from_base64_secret" | "from_urlsafe_base64_secret" => decoding_key_of_text(method, row),
+        "from_rsa_components"
+        | "from_ec_components"
+        | "from_ed_components"
+        | "from_rsa_raw_components" => decoding_key_of_components(method, row),
+        "from_jwk" => {
+            let jwk = jwk(row)?;
+            row.end(DecodingKey::from_jwk(row.begin(), &jwk))
+        }
+        "debug" => debug::<DecodingKey>(row, "key"),
+        _ => of_decoding_key(method, row),
+    }
+}
+
+/// Makes a call of `DecodingKeyKind`, the content of a key.
+pub fn kind(method: &str, row: &Row<'_>) -> Answer {
+    match method {
+        "clone" => {
+            let key = row.input::<DecodingKey>("key")?;
+            row.end(key.kind().clone(row.begin()))
+        }
+        "zeroize" => {
+            let mut kind = row.input::<DecodingKeyKind>("key")?;
+            row.begin();
+            kind.zeroize();
+            row.give(&*kind)
+        }
+        "debug" => debug::<DecodingKeyKind>(row, "key"),
+        _ => None,
+    }
+}
+
 fn encoding_key_of_bytes(method: &str, row: &Row<'_>) -> Answer {
     let bytes = row.bytes("bytes")?;
     let bytes = bytes.as_slice();
@@ -54,26 +92,6 @@ fn of_encoding_key(method: &str, row: &Row<'_>) -> Answer {
             row.end(key.clone(alloc))
         }
         _ => None,
-    }
-}
-
-/// Makes a call of `DecodingKey`.
-pub fn decoding_key(method: &str, row: &Row<'_>) -> Answer {
-    match method {
-        "from_secret" | "from_rsa_der" | "from_ec_der" | "from_ed_der" => {
-            decoding_key_of_bytes(method, row)
-        }
-        "from_base64_secret" | "from_urlsafe_base64_secret" => decoding_key_of_text(method, row),
-        "from_rsa_components"
-        | "from_ec_components"
-        | "from_ed_components"
-        | "from_rsa_raw_components" => decoding_key_of_components(method, row),
-        "from_jwk" => {
-            let jwk = jwk(row)?;
-            row.end(DecodingKey::from_jwk(row.begin(), &jwk))
-        }
-        "debug" => debug::<DecodingKey>(row, "key"),
-        _ => of_decoding_key(method, row),
     }
 }
 
@@ -138,24 +156,6 @@ fn of_decoding_key(method: &str, row: &Row<'_>) -> Answer {
             key.zeroize();
             row.end(key.clone(alloc))
         }
-        _ => None,
-    }
-}
-
-/// Makes a call of `DecodingKeyKind`, the content of a key.
-pub fn kind(method: &str, row: &Row<'_>) -> Answer {
-    match method {
-        "clone" => {
-            let key = row.input::<DecodingKey>("key")?;
-            row.end(key.kind().clone(row.begin()))
-        }
-        "zeroize" => {
-            let mut kind = row.input::<DecodingKeyKind>("key")?;
-            row.begin();
-            kind.zeroize();
-            row.give(&*kind)
-        }
-        "debug" => debug::<DecodingKeyKind>(row, "key"),
         _ => None,
     }
 }

@@ -42,18 +42,25 @@ pub fn hmac(method: &str, row: &Row<'_>) -> Answer {
     }
 }
 
-fn add_secret(
-    row: &Row<'_>,
-    provider: &mut PreparedHmac,
-    algorithm: Algorithm,
-    secret: &[u8],
-) -> Answer {
-    let asked = row.list("asked")?;
-    let before = secrets(row.alloc(), asked, provider)?;
-    let answer = provider.add(row.begin(), algorithm, secret);
-    row.stop();
-    let after = secrets(row.alloc(), asked, provider)?;
-    row.end_change(answer, &before, &after)
+/// Makes a call of `PreparedRsa`.
+pub fn rsa(method: &str, row: &Row<'_>) -> Answer {
+    if method == "new" {
+        let alloc = row.begin();
+        let provider = PreparedRsa::new(alloc);
+        row.stop();
+        let flags = keys(alloc, row.list("asked")?, &provider)?;
+        return row.give(&flags);
+    }
+    let n = row.bytes("n")?;
+    let e = row.bytes("e")?;
+    let mut provider = row.input::<PreparedRsa>("provider")?;
+    match method {
+        "is_prepared" => {
+            row.begin();
+            row.give(&provider.is_prepared(n.as_slice(), e.as_slice()))
+        }
+        _ => add_key(row, &mut provider, n.as_slice(), e.as_slice()),
+    }
 }
 
 fn give_secrets(row: &Row<'_>, asked: &[Value], provider: &PreparedHmac) -> Answer {
@@ -85,33 +92,17 @@ fn verify_after_zeroize(row: &Row<'_>, algorithm: Algorithm) -> Answer {
     verify_each(row, &verifier)
 }
 
-/// Makes a call of `PreparedRsa`.
-pub fn rsa(method: &str, row: &Row<'_>) -> Answer {
-    if method == "new" {
-        let alloc = row.begin();
-        let provider = PreparedRsa::new(alloc);
-        row.stop();
-        let flags = keys(alloc, row.list("asked")?, &provider)?;
-        return row.give(&flags);
-    }
-    let n = row.bytes("n")?;
-    let e = row.bytes("e")?;
-    let mut provider = row.input::<PreparedRsa>("provider")?;
-    match method {
-        "is_prepared" => {
-            row.begin();
-            row.give(&provider.is_prepared(n.as_slice(), e.as_slice()))
-        }
-        _ => add_key(row, &mut provider, n.as_slice(), e.as_slice()),
-    }
-}
-
-fn add_key(row: &Row<'_>, provider: &mut PreparedRsa, n: &[u8], e: &[u8]) -> Answer {
+fn add_secret(
+    row: &Row<'_>,
+    provider: &mut PreparedHmac,
+    algorithm: Algorithm,
+    secret: &[u8],
+) -> Answer {
     let asked = row.list("asked")?;
-    let before = keys(row.alloc(), asked, provider)?;
-    let answer = provider.add(row.begin(), n, e);
+    let before = secrets(row.alloc(), asked, provider)?;
+    let answer = provider.add(row.begin(), algorithm, secret);
     row.stop();
-    let after = keys(row.alloc(), asked, provider)?;
+    let after = secrets(row.alloc(), asked, provider)?;
     row.end_change(answer, &before, &after)
 }
 
@@ -124,4 +115,13 @@ fn keys(alloc: Global, asked: &[Value], provider: &PreparedRsa) -> Option<Vec<bo
         flags.push(is_there).ok()?;
     }
     Some(flags)
+}
+
+fn add_key(row: &Row<'_>, provider: &mut PreparedRsa, n: &[u8], e: &[u8]) -> Answer {
+    let asked = row.list("asked")?;
+    let before = keys(row.alloc(), asked, provider)?;
+    let answer = provider.add(row.begin(), n, e);
+    row.stop();
+    let after = keys(row.alloc(), asked, provider)?;
+    row.end_change(answer, &before, &after)
 }

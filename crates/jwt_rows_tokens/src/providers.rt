@@ -62,19 +62,6 @@ pub fn by_verifier<P: CryptoProvider>(call: &str, row: &Row<'_>, provider: &P) -
     }
 }
 
-fn verify<V: JwtVerifier>(row: &Row<'_>, verifier: &V) -> Answer {
-    let message = row.bytes("message")?;
-    let signature = row.bytes("signature")?;
-    let alloc = row.begin();
-    match verifier.verify(alloc, message.as_slice(), signature.as_slice()) {
-        Ok(is_yes) => {
-            let algorithm = verifier.algorithm();
-            row.give(&Verdict { algorithm, is_yes })
-        }
-        Err(refusal) => row.refuse(&refusal),
-    }
-}
-
 /// Returns what the verifier says of each message and signature at `asked`, in turn.
 pub fn verify_each<V: JwtVerifier>(row: &Row<'_>, verifier: &V) -> Answer {
     let alloc = row.alloc();
@@ -115,4 +102,17 @@ pub fn digest<P: CryptoProvider>(row: &Row<'_>, provider: &P) -> Answer {
     let bytes = row.bytes("bytes")?;
     let hash = row.read::<ThumbprintHash>("hash")?;
     row.end(provider.compute_digest(row.begin(), bytes.as_slice(), hash))
+}
+
+fn verify<V: JwtVerifier>(row: &Row<'_>, verifier: &V) -> Answer {
+    let message = row.bytes("message")?;
+    let signature = row.bytes("signature")?;
+    let alloc = row.begin();
+    match verifier.verify(alloc, message.as_slice(), signature.as_slice()) {
+        Ok(is_yes) => {
+            let algorithm = verifier.algorithm();
+            row.give(&Verdict { algorithm, is_yes })
+        }
+        Err(refusal) => row.refuse(&refusal),
+    }
 }

@@ -22,34 +22,12 @@ struct WithKey {
     options: Box<Validation>,
 }
 
-fn with_key(row: &Row<'_>) -> Option<WithKey> {
-    let token = row.bytes("token")?;
-    let key = row.input::<DecodingKey>("key")?;
-    let options = row.input::<Validation>("validation")?;
-    Some(WithKey {
-        token,
-        key,
-        options,
-    })
-}
-
 /// A token, and the key set and the options to verify it with.
 #[derive(Drop)]
 struct WithSet {
     token: Vec<u8>,
     set: Box<JwkSet>,
     options: Box<Validation>,
-}
-
-fn with_set(row: &Row<'_>) -> Option<WithSet> {
-    let token = row.bytes("token")?;
-    let set = key_set(row)?;
-    let options = row.input::<Validation>("validation")?;
-    Some(WithSet {
-        token,
-        set,
-        options,
-    })
 }
 
 /// Makes a call that verifies a token with a key.
@@ -164,6 +142,28 @@ pub fn debug_text(row: &Row<'_>) -> Answer {
     let alloc = row.alloc();
     let data = insecure_decode::<Value>(alloc, token.as_slice()).ok()?;
     give_text(row, &data)
+}
+
+fn with_key(row: &Row<'_>) -> Option<WithKey> {
+    let token = row.bytes("token")?;
+    let key = row.input::<DecodingKey>("key")?;
+    let options = row.input::<Validation>("validation")?;
+    Some(WithKey {
+        token,
+        key,
+        options,
+    })
+}
+
+fn with_set(row: &Row<'_>) -> Option<WithSet> {
+    let token = row.bytes("token")?;
+    let set = key_set(row)?;
+    let options = row.input::<Validation>("validation")?;
+    Some(WithSet {
+        token,
+        set,
+        options,
+    })
 }
 
 fn give_text(row: &Row<'_>, data: &TokenData<Value>) -> Answer {

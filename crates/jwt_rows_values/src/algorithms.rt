@@ -35,18 +35,6 @@ pub fn algorithm(method: &str, row: &Row<'_>) -> Answer {
     }
 }
 
-fn of_algorithm(method: &str, row: &Row<'_>) -> Answer {
-    let algorithm = row.read::<Algorithm>("algorithm")?;
-    let alloc = row.begin();
-    match method {
-        "name" => row.give(&algorithm.name()),
-        "family" => row.give(&algorithm.family()),
-        "to_value" => row.end(algorithm.to_value(alloc)),
-        "clone" => row.end(algorithm.clone()),
-        _ => None,
-    }
-}
-
 /// Makes a call of `AlgorithmFamily`.
 pub fn family(method: &str, row: &Row<'_>) -> Answer {
     match method {
@@ -57,17 +45,6 @@ pub fn family(method: &str, row: &Row<'_>) -> Answer {
         }
         "eq" => eq::<AlgorithmFamily>(row),
         _ => of_family(method, row),
-    }
-}
-
-fn of_family(method: &str, row: &Row<'_>) -> Answer {
-    let family = row.read::<AlgorithmFamily>("family")?;
-    let alloc = row.begin();
-    match method {
-        "algorithms" => row.give(&List(family.algorithms())),
-        "to_value" => row.end(family.to_value(alloc)),
-        "clone" => row.end(family.clone()),
-        _ => None,
     }
 }
 
@@ -92,6 +69,29 @@ pub fn key_algorithm(method: &str, row: &Row<'_>) -> Answer {
         "eq" => eq::<KeyAlgorithm>(row),
         "hash" => hash::<KeyAlgorithm>(row),
         _ => of_key_algorithm(method, row),
+    }
+}
+
+fn of_algorithm(method: &str, row: &Row<'_>) -> Answer {
+    let algorithm = row.read::<Algorithm>("algorithm")?;
+    let alloc = row.begin();
+    match method {
+        "name" => row.give(&algorithm.name()),
+        "family" => row.give(&algorithm.family()),
+        "to_value" => row.end(algorithm.to_value(alloc)),
+        "clone" => row.end(algorithm.clone()),
+        _ => None,
+    }
+}
+
+fn of_family(method: &str, row: &Row<'_>) -> Answer {
+    let family = row.read::<AlgorithmFamily>("family")?;
+    let alloc = row.begin();
+    match method {
+        "algorithms" => row.give(&List(family.algorithms())),
+        "to_value" => row.end(family.to_value(alloc)),
+        "clone" => row.end(family.clone()),
+        _ => None,
     }
 }
 

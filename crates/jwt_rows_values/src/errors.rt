@@ -17,17 +17,6 @@ pub fn kind(method: &str, row: &Row<'_>) -> Answer {
     }
 }
 
-fn of_kind(method: &str, row: &Row<'_>) -> Answer {
-    let kind = row.input::<ErrorKind>("kind")?;
-    let alloc = row.begin();
-    match method {
-        "name" => row.give(&kind.name()),
-        "to_string" => row.end(kind.to_string(alloc)),
-        "clone" => row.end(kind.clone(alloc)),
-        _ => None,
-    }
-}
-
 /// Makes a call of `Error`.
 pub fn error(method: &str, row: &Row<'_>) -> Answer {
     match method {
@@ -46,22 +35,13 @@ pub fn error(method: &str, row: &Row<'_>) -> Answer {
     }
 }
 
-fn of_kind_alone(method: &str, row: &Row<'_>) -> Answer {
-    let kind = row.read::<ErrorKind>("kind")?;
-    row.begin();
-    match method {
-        "from" => row.give(&Error::from(kind)),
-        _ => row.give(&new_error(kind)),
-    }
-}
-
-fn of_error(method: &str, row: &Row<'_>) -> Answer {
-    let error = row.input::<Error>("kind")?;
+fn of_kind(method: &str, row: &Row<'_>) -> Answer {
+    let kind = row.input::<ErrorKind>("kind")?;
     let alloc = row.begin();
     match method {
-        "kind" => row.give(error.kind()),
-        "to_string" => row.end(error.to_string(alloc)),
-        "clone" => row.end(error.clone(alloc)),
+        "name" => row.give(&kind.name()),
+        "to_string" => row.end(kind.to_string(alloc)),
+        "clone" => row.end(kind.clone(alloc)),
         _ => None,
     }
 }
@@ -77,6 +57,13 @@ fn of_fault(fault: &str, row: &Row<'_>) -> Answer {
         }
         _ => of_bytes(fault, row),
     }
+}
+
+fn convert<T: Drop, E: Into<Error> + Drop>(row: &Row<'_>, answer: Result<T, E>) -> Answer {
+    let fault = answer.err()?;
+    row.begin();
+    let error: Error = fault.into();
+    row.give(&error)
 }
 
 fn of_bytes(fault: &str, row: &Row<'_>) -> Answer {
@@ -108,9 +95,22 @@ fn of_base64(fault: &str, row: &Row<'_>, text: &[u8]) -> Answer {
     }
 }
 
-fn convert<T: Drop, E: Into<Error> + Drop>(row: &Row<'_>, answer: Result<T, E>) -> Answer {
-    let fault = answer.err()?;
+fn of_kind_alone(method: &str, row: &Row<'_>) -> Answer {
+    let kind = row.read::<ErrorKind>("kind")?;
     row.begin();
-    let error: Error = fault.into();
-    row.give(&error)
+    match method {
+        "from" => row.give(&Error::from(kind)),
+        _ => row.give(&new_error(kind)),
+    }
+}
+
+fn of_error(method: &str, row: &Row<'_>) -> Answer {
+    let error = row.input::<Error>("kind")?;
+    let alloc = row.begin();
+    match method {
+        "kind" => row.give(error.kind()),
+        "to_string" => row.end(error.to_string(alloc)),
+        "clone" => row.end(error.clone(alloc)),
+        _ => None,
+    }
 }

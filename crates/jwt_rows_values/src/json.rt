@@ -16,15 +16,6 @@ pub fn claims<T: Claims + Input + Output>(method: &str, row: &Row<'_>) -> Answer
     }
 }
 
-fn write<T: Claims>(method: &str, row: &Row<'_>, claims: &T) -> Answer {
-    let alloc = row.begin();
-    match method {
-        "to_value" => row.end(claims.to_value(alloc)),
-        "to_text" => row.end(claims.to_text(alloc)),
-        _ => None,
-    }
-}
-
 /// Makes a call about a JSON value.
 pub fn value(call: &str, row: &Row<'_>) -> Answer {
     let value = row.json("value", "value_json")?;
@@ -42,4 +33,13 @@ pub fn are_equal(row: &Row<'_>) -> Answer {
     let right = row.json("right", "right_json")?;
     row.begin();
     row.give(&value_eq(&left, &right))
+}
+
+fn write<T: Claims>(method: &str, row: &Row<'_>, claims: &T) -> Answer {
+    let alloc = row.begin();
+    match method {
+        "to_value" => row.end(claims.to_value(alloc)),
+        "to_text" => row.end(claims.to_text(alloc)),
+        _ => None,
+    }
 }

@@ -29,16 +29,6 @@ pub fn text(method: &str, row: &Row<'_>) -> Answer {
     }
 }
 
-fn of_text(method: &str, row: &Row<'_>) -> Answer {
-    let text = row.input::<Text>("text")?;
-    let alloc = row.begin();
-    match method {
-        "as_str" => row.give(&text.as_str()),
-        "clone" => row.end(text.clone(alloc)),
-        _ => None,
-    }
-}
-
 /// Makes a call of `Texts`.
 pub fn texts(method: &str, row: &Row<'_>) -> Answer {
     match method {
@@ -60,6 +50,16 @@ pub fn texts(method: &str, row: &Row<'_>) -> Answer {
         "hash" => hash::<Texts>(row),
         "debug" => debug::<Texts>(row, "texts"),
         _ => of_texts(method, row),
+    }
+}
+
+fn of_text(method: &str, row: &Row<'_>) -> Answer {
+    let text = row.input::<Text>("text")?;
+    let alloc = row.begin();
+    match method {
+        "as_str" => row.give(&text.as_str()),
+        "clone" => row.end(text.clone(alloc)),
+        _ => None,
     }
 }
 

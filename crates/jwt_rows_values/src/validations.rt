@@ -32,6 +32,13 @@ pub fn validation(method: &str, row: &Row<'_>) -> Answer {
     }
 }
 
+/// Calls `options_fault`.
+pub fn fault(row: &Row<'_>) -> Answer {
+    let value = row.json("value", "value_json")?;
+    row.begin();
+    row.give(&options_fault(&value))
+}
+
 fn of_algorithm(method: &str, row: &Row<'_>) -> Answer {
     let algorithm = row.read::<Algorithm>("algorithm")?;
     let alloc = row.begin();
@@ -75,11 +82,4 @@ fn set_texts(method: &str, row: &Row<'_>) -> Answer {
         _ => return None,
     };
     row.end_change(answer, &*before, &*after)
-}
-
-/// Calls `options_fault`.
-pub fn fault(row: &Row<'_>) -> Answer {
-    let value = row.json("value", "value_json")?;
-    row.begin();
-    row.give(&options_fault(&value))
 }

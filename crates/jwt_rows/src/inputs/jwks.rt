@@ -22,17 +22,6 @@ impl Input for Jwk {
     }
 }
 
-fn other_key(alloc: Global, described: &Value, members: &Value) -> Option<Jwk> {
-    if !has_only(described, &DESCRIBED) {
-        return None;
-    }
-    let other = OtherKeyParameters::read(alloc, members)?;
-    Some(Jwk {
-        common: CommonParameters::from_value(alloc, described).ok()?,
-        algorithm: AlgorithmParameters::Other(other),
-    })
-}
-
 impl Input for JwkSet {
     fn read(alloc: Global, described: &Value) -> Option<JwkSet> {
         let mut set = JwkSet::new(alloc);
@@ -54,4 +43,15 @@ pub fn jwk(row: &Row<'_>) -> Option<Box<Jwk>> {
 pub fn key_set(row: &Row<'_>) -> Option<Box<JwkSet>> {
     let value = row.value("set")?;
     Box::new(row.alloc(), JwkSet::from_value(row.alloc(), value).ok()?).ok()
+}
+
+fn other_key(alloc: Global, described: &Value, members: &Value) -> Option<Jwk> {
+    if !has_only(described, &DESCRIBED) {
+        return None;
+    }
+    let other = OtherKeyParameters::read(alloc, members)?;
+    Some(Jwk {
+        common: CommonParameters::from_value(alloc, described).ok()?,
+        algorithm: AlgorithmParameters::Other(other),
+    })
 }

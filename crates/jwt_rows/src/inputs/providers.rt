@@ -50,17 +50,6 @@ pub fn provider_of(row: &Row<'_>) -> Option<Provider> {
     }
 }
 
-fn described_provider(alloc: Global, described: &Value) -> Option<Provider> {
-    if described.get("prepared").is_some() {
-        let prepared = PreparedHmac::read(alloc, described)?;
-        return Some(Provider::Prepared(Box::new(alloc, prepared).ok()?));
-    }
-    if described.get("prepared_rsa").is_some() {
-        return Some(Provider::PreparedRsa(PreparedRsa::read(alloc, described)?));
-    }
-    Some(Provider::Table(table(alloc, described.get("table")?)?))
-}
-
 impl Input for PreparedHmac {
     fn read(alloc: Global, described: &Value) -> Option<PreparedHmac> {
         let (first, others) = described.get("prepared")?.as_array()?.split_first()?;
@@ -98,6 +87,17 @@ pub fn secret_of(alloc: Global, list: &Value) -> Option<(Algorithm, Vec<u8>)> {
 pub fn two_of(alloc: Global, list: &Value) -> Option<(Vec<u8>, Vec<u8>)> {
     let n = bytes_of(alloc, list.get(0)?)?;
     Some((n, bytes_of(alloc, list.get(1)?)?))
+}
+
+fn described_provider(alloc: Global, described: &Value) -> Option<Provider> {
+    if described.get("prepared").is_some() {
+        let prepared = PreparedHmac::read(alloc, described)?;
+        return Some(Provider::Prepared(Box::new(alloc, prepared).ok()?));
+    }
+    if described.get("prepared_rsa").is_some() {
+        return Some(Provider::PreparedRsa(PreparedRsa::read(alloc, described)?));
+    }
+    Some(Provider::Table(table(alloc, described.get("table")?)?))
 }
 
 fn table(alloc: Global, described: &Value) -> Option<TableProvider> {
