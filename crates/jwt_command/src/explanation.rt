@@ -51,7 +51,7 @@ pub fn page(alloc: Global, explanation: &Explanation<'_>) -> Result<String, Allo
     let mut page = String::new(alloc);
     push_tests(alloc, &mut page, explanation)?;
     page.push_str(explanation.times.as_str())?;
-    let moments = moments_line(alloc, explanation.moments, explanation.now)?;
+    let moments = moments_line(alloc, explanation.moments, explanation.time)?;
     page.push_str(moments.as_str())?;
     page.push_str(last_line(alloc, explanation)?.as_str())?;
     Ok(page)
