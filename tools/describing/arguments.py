@@ -99,5 +99,5 @@ class Source:
 def commands():
     """Returns the commands, in the order of help."""
     found = Source(read(source()))
-    called = re.findall(r"with_subcommand\(command, (\w+)\(", found.functions["command"])
+    called = re.findall(r"add_subcommand\(command, (\w+)\(", found.functions["command"])
     return [found.command(it) for it in called]

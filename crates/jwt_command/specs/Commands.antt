@@ -13,7 +13,7 @@ use Rattle.jsonwebtoken.specs.Order.{Passes, FailsFirst}
 use Rattle.jsonwebtoken.specs.Tests.{Contents, insecure_call, insecure_order, token_tests}
 use Rattle.jwt_secrets.specs.Blank.{IsBlank}
 use Rattle.jwt_command.specs.Answers.{IsVerdict, IsVerifyAnswer, IsSignAnswer}
-use Rattle.jwt_command.specs.Claimed.{header_asked, with_moments}
+use Rattle.jwt_command.specs.Claimed.{header_asked, members_with_times}
 use Rattle.jwt_command.specs.FileKeys.{AreLoaded, IsJwkLine}
 use Rattle.jwt_command.specs.LineEnd.{IsLessLineEnd, IsSecret}
 use Rattle.jwt_command.specs.Own.{IsOwn}
@@ -94,7 +94,7 @@ abbrev pub IsSigned : Signing → List ℕ → List ℕ → ℕ → ℕ → List
 IsSigned s key text time status output =
     (secret : List ℕ) × IsSecret s.is_trimmed key secret × (¬ IsBlank secret)
     × ((members : Members) × IsJson text (object members)
-    × IsSignAnswer (header_asked s) (object (with_moments s time members)) secret status output)
+    × IsSignAnswer (header_asked s) (object (members_with_times s time members)) secret status output)
 
 -- the answer of `sign`
 abbrev pub IsSigning : Signing → ℕ → List ℕ → Type 0
@@ -109,9 +109,9 @@ IsLineStatus v loaded options status =
     × ((output : List ℕ) × IsTokenAnswer v loaded options bytes time Json status output))
 
 -- the greatest of these, or 0
-abbrev pub greatest : List ℕ → ℕ
-greatest [] = 0
-greatest (n ∷ ns) = max n (greatest ns)
+abbrev pub greatest_status : List ℕ → ℕ
+greatest_status [] = 0
+greatest_status (n ∷ ns) = max n (greatest_status ns)
 
 -- P holds of each
 abbrev pub Each : (ℕ → Type 0) → List ℕ → Type 0
@@ -122,7 +122,7 @@ Each P (n ∷ ns) = P n × Each P ns
 abbrev pub IsLinesStatus : Verification → Loaded → Options → ℕ → Type 0
 IsLinesStatus v loaded options status =
     (statuses : List ℕ) × Each (IsLineStatus v loaded options) statuses
-    × (status ≡ greatest statuses)
+    × (status ≡ greatest_status statuses)
 
 -- the status of `verify` for many lines
 abbrev pub AreVerified : Verification → ℕ → Type 0

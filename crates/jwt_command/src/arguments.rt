@@ -50,34 +50,34 @@ pub fn command<'a>(alloc: Global) -> Result<Command<'a>, AllocError> {
         .about("Verify, explain, show and sign JSON Web Tokens")
         .subcommand_required(true)
         .arg_required_else_help(true);
-    let command = with_subcommand(command, verify(alloc))?;
-    let command = with_subcommand(command, explain(alloc))?;
-    let command = with_subcommand(command, show(alloc))?;
-    let command = with_subcommand(command, sign(alloc))?;
-    let command = with_subcommand(command, keys(alloc))?;
-    let command = with_subcommand(command, jwk(alloc))?;
-    with_subcommand(command, thumbprint(alloc))
+    let command = add_subcommand(command, verify_command(alloc))?;
+    let command = add_subcommand(command, explain_command(alloc))?;
+    let command = add_subcommand(command, show_command(alloc))?;
+    let command = add_subcommand(command, sign_command(alloc))?;
+    let command = add_subcommand(command, keys_command(alloc))?;
+    let command = add_subcommand(command, jwk_command(alloc))?;
+    add_subcommand(command, thumbprint_command(alloc))
 }
 
-fn explain<'a>(alloc: Global) -> Result<Command<'a>, AllocError> {
+fn explain_command<'a>(alloc: Global) -> Result<Command<'a>, AllocError> {
     let command = Command::new(alloc, "explain").about(
         "Explain each test of a token, and when it is accepted",
     );
-    checking(alloc, command)
+    add_checks(alloc, command)
 }
 
-fn checking<'a>(alloc: Global, command: Command<'a>) -> Result<Command<'a>, AllocError> {
-    let command = with_entries(alloc, command, &[TOKEN])?;
-    let command = with_keys(alloc, command)?;
-    let command = with_entries(alloc, command, &option_entries())?;
-    with_entries(
+fn add_checks<'a>(alloc: Global, command: Command<'a>) -> Result<Command<'a>, AllocError> {
+    let command = add_entries(alloc, command, &[TOKEN])?;
+    let command = add_keys(alloc, command)?;
+    let command = add_entries(alloc, command, &option_entries())?;
+    add_entries(
         alloc,
         command,
         &[flag("json", "Write the answer as one line of JSON")],
     )
 }
 
-fn with_entries<'a>(
+fn add_entries<'a>(
     alloc: Global,
     command: Command<'a>,
     entries: &[Entry],
@@ -114,25 +114,25 @@ fn argument<'a>(alloc: Global, entry: Entry) -> Arg<'a> {
     }
 }
 
-fn with_keys<'a>(alloc: Global, command: Command<'a>) -> Result<Command<'a>, AllocError> {
-    let command = with_entries(alloc, command, &key_entries())?;
+fn add_keys<'a>(alloc: Global, command: Command<'a>) -> Result<Command<'a>, AllocError> {
+    let command = add_entries(alloc, command, &key_entries())?;
     command.group(key_group(alloc)?)
 }
 
 fn key_entries() -> [Entry; 5] {
     [
-        once(
+        option(
             "secret-file",
             "FILE",
             "Verify with HMAC and the bytes of this file as the secret",
         ),
-        once("jwk", "FILE", "Verify with this JSON Web Key (RFC 7517)"),
-        once(
+        option("jwk", "FILE", "Verify with this JSON Web Key (RFC 7517)"),
+        option(
             "jwks",
             "FILE",
             "Verify with the key of this set that the token's 'kid' names",
         ),
-        once(
+        option(
             "pem",
             "FILE",
             "Verify with this public key in PEM (RFC 7468)",
@@ -144,7 +144,7 @@ fn key_entries() -> [Entry; 5] {
     ]
 }
 
-const fn once(name: &'static str, value: &'static str, help: &'static str) -> Entry {
+const fn option(name: &'static str, value: &'static str, help: &'static str) -> Entry {
     Entry {
         name,
         shape: Shape::Once,
@@ -173,29 +173,29 @@ fn key_group<'a>(alloc: Global) -> Result<ArgGroup<'a>, AllocError> {
 
 fn option_entries() -> [Entry; 14] {
     [
-        repeated(
+        repeated_option(
             "alg",
             "ALG",
             "Accept this algorithm (default: the 'alg' of the key)",
         ),
-        repeated(
+        repeated_option(
             "aud",
             "AUDIENCE",
             "Accept tokens whose 'aud' names this audience",
         ),
-        repeated("iss", "ISSUER", "Accept tokens of this issuer only"),
-        once("sub", "SUBJECT", "Accept tokens of this subject only"),
-        once(
+        repeated_option("iss", "ISSUER", "Accept tokens of this issuer only"),
+        option("sub", "SUBJECT", "Accept tokens of this subject only"),
+        option(
             "leeway",
             "SPAN",
             "Accept tokens this long after 'exp' and before 'nbf' (default: 60s)",
         ),
-        once(
+        option(
             "not-within",
             "SPAN",
             "Refuse tokens this long before they expire (default: 0s)",
         ),
-        repeated(
+        repeated_option(
             "require",
             "CLAIM",
             "Require this claim: 'exp', 'nbf', 'aud', 'iss' or 'sub'",
@@ -206,14 +206,14 @@ fn option_entries() -> [Entry; 14] {
             "strict",
             "Check 'nbf', without leeway, and refuse from 'exp' on",
         ),
-        repeated(
+        repeated_option(
             "crit",
             "NAME",
             "Understand this member in the header's 'crit'",
         ),
-        once("typ", "TYPE", "Accept tokens of this 'typ' only"),
+        option("typ", "TYPE", "Accept tokens of this 'typ' only"),
         NOW,
-        once(
+        option(
             "options",
             "FILE",
             "Begin with the options of this JSON file",
@@ -221,7 +221,7 @@ fn option_entries() -> [Entry; 14] {
     ]
 }
 
-const fn repeated(name: &'static str, value: &'static str, help: &'static str) -> Entry {
+const fn repeated_option(name: &'static str, value: &'static str, help: &'static str) -> Entry {
     Entry {
         name,
         shape: Shape::Repeated,
@@ -231,7 +231,7 @@ const fn repeated(name: &'static str, value: &'static str, help: &'static str) -
 }
 
 /// Adds a command to the others, if there was memory for it.
-fn with_subcommand<'a>(
+fn add_subcommand<'a>(
     command: Command<'a>,
     added: Result<Command<'a>, AllocError>,
 ) -> Result<Command<'a>, AllocError> {
@@ -244,10 +244,10 @@ fn with_subcommand<'a>(
     }
 }
 
-fn verify<'a>(alloc: Global) -> Result<Command<'a>, AllocError> {
+fn verify_command<'a>(alloc: Global) -> Result<Command<'a>, AllocError> {
     let command = Command::new(alloc, "verify").about("Verify a token and print its claims");
-    let command = checking(alloc, command)?;
-    with_entries(
+    let command = add_checks(alloc, command)?;
+    add_entries(
         alloc,
         command,
         &[
@@ -263,25 +263,25 @@ fn verify<'a>(alloc: Global) -> Result<Command<'a>, AllocError> {
     )
 }
 
-fn show<'a>(alloc: Global) -> Result<Command<'a>, AllocError> {
+fn show_command<'a>(alloc: Global) -> Result<Command<'a>, AllocError> {
     let command = Command::new(alloc, "show").about(
         "Print header and claims of a token, unverified",
     );
-    with_entries(
+    add_entries(
         alloc,
         command,
         &[TOKEN, NOW, flag("json", "Write one line of JSON")],
     )
 }
 
-fn sign<'a>(alloc: Global) -> Result<Command<'a>, AllocError> {
+fn sign_command<'a>(alloc: Global) -> Result<Command<'a>, AllocError> {
     let command = Command::new(alloc, "sign").about("Sign claims, and print the token");
-    with_entries(alloc, command, &sign_entries())
+    add_entries(alloc, command, &sign_entries())
 }
 
 fn sign_entries() -> [Entry; 10] {
     [
-        needed(
+        needed_option(
             "secret-file",
             "FILE",
             "Sign with HMAC and the bytes of this file as the secret",
@@ -290,34 +290,34 @@ fn sign_entries() -> [Entry; 10] {
             "trim",
             "Leave one newline at the end of the secret file out of the secret",
         ),
-        once(
+        option(
             "claims",
             "FILE",
             "Read the claims from this file (default: standard input)",
         ),
-        once(
+        option(
             "alg",
             "ALG",
             "Sign with HS256, HS384 or HS512 (default: HS256)",
         ),
-        once("kid", "NAME", "Write this 'kid' into the header"),
-        once(
+        option("kid", "NAME", "Write this 'kid' into the header"),
+        option(
             "typ",
             "TYPE",
             "Write this 'typ' into the header (default: JWT)",
         ),
-        once(
+        option(
             "exp-in",
             "SPAN",
             "Let the token expire after this span, such as 15m or 12h",
         ),
-        once("nbf-in", "SPAN", "Let the token be valid after this span"),
+        option("nbf-in", "SPAN", "Let the token be valid after this span"),
         flag("iat", "Write the time into 'iat'"),
         NOW,
     ]
 }
 
-const fn needed(name: &'static str, value: &'static str, help: &'static str) -> Entry {
+const fn needed_option(name: &'static str, value: &'static str, help: &'static str) -> Entry {
     Entry {
         name,
         shape: Shape::Needed,
@@ -326,9 +326,9 @@ const fn needed(name: &'static str, value: &'static str, help: &'static str) -> 
     }
 }
 
-fn keys<'a>(alloc: Global) -> Result<Command<'a>, AllocError> {
+fn keys_command<'a>(alloc: Global) -> Result<Command<'a>, AllocError> {
     let command = Command::new(alloc, "keys").about("Print a table of a key set");
-    with_entries(
+    add_entries(
         alloc,
         command,
         &[place(
@@ -348,9 +348,9 @@ const fn place(name: &'static str, value: &'static str, help: &'static str) -> E
     }
 }
 
-fn jwk<'a>(alloc: Global) -> Result<Command<'a>, AllocError> {
+fn jwk_command<'a>(alloc: Global) -> Result<Command<'a>, AllocError> {
     let command = Command::new(alloc, "jwk").about("Print a public key in PEM as a JSON Web Key");
-    with_entries(
+    add_entries(
         alloc,
         command,
         &[place(
@@ -361,11 +361,11 @@ fn jwk<'a>(alloc: Global) -> Result<Command<'a>, AllocError> {
     )
 }
 
-fn thumbprint<'a>(alloc: Global) -> Result<Command<'a>, AllocError> {
+fn thumbprint_command<'a>(alloc: Global) -> Result<Command<'a>, AllocError> {
     let command = Command::new(alloc, "thumbprint").about(
         "Print the thumbprint of a key (RFC 7638)",
     );
-    with_entries(
+    add_entries(
         alloc,
         command,
         &[
@@ -374,7 +374,7 @@ fn thumbprint<'a>(alloc: Global) -> Result<Command<'a>, AllocError> {
                 "FILE",
                 "A JSON Web Key, or a public key in PEM; '-' reads it from standard input",
             ),
-            once("hash", "HASH", "SHA256, SHA384 or SHA512 (default: SHA256)"),
+            option("hash", "HASH", "SHA256, SHA384 or SHA512 (default: SHA256)"),
         ],
     )
 }

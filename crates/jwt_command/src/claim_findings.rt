@@ -1,9 +1,9 @@
 //! Findings about claims: those that a token has and those that the options ask for.
 
-use crate::fault::Fault;
-use crate::findings::{Case, Finding, choice, part_value, quoted};
+use crate::fault::{Fault, is_memory};
+use crate::findings::{Finding, choice, part_value, quote};
 use crate::part_findings::type_name;
-use crate::times::{distance_text, is_likely_milliseconds, moment_text, span_text};
+use crate::times::{distance_text, is_likely_milliseconds, span_text, time_text};
 use jsonwebtoken::errors::{Error, ErrorKind};
 use jsonwebtoken::{Validation, validate};
 use serde_json::Value;
@@ -21,29 +21,44 @@ pub struct ClaimFailure {
     pub finding: Finding,
 }
 
+/// The claims of a token, and the options and the time by which their rules hold or fail.
+#[derive(Clone, Copy)]
+struct Rules<'r> {
+    claims: &'r Value,
+    validation: &'r Validation,
+    time: u64,
+}
+
 /// Returns the failures of all claim rules that fail, in the order in which they are tested, and of
 /// missing claims in that of [`CLAIMS`].
 pub fn claim_failures(
     alloc: Global,
-    case: Case<'_>,
     claims: &Value,
+    validation: &Validation,
+    time: u64,
 ) -> Result<Vec<ClaimFailure>, Fault<'static>> {
+    let rules = Rules {
+        claims,
+        validation,
+        time,
+    };
     let mut failures = Vec::new(alloc);
-    push_failures(alloc, case, claims, true, &mut failures)?;
-    push_failures(alloc, case, claims, false, &mut failures)?;
+    push_failures(alloc, rules, true, &mut failures)?;
+    push_failures(alloc, rules, false, &mut failures)?;
     Ok(failures)
 }
 
 /// Returns the findings of all claim rules that fail.
 pub fn claim_findings(
     alloc: Global,
-    case: Case<'_>,
     payload: &[u8],
+    validation: &Validation,
+    time: u64,
 ) -> Result<Vec<Finding>, Fault<'static>> {
     let Some(claims) = part_value(alloc, payload)? else {
         return Err(Fault::Memory);
     };
-    let failures = claim_failures(alloc, case, &claims);
+    let failures = claim_failures(alloc, &claims, validation, time);
     drop(claims);
     let mut findings = Vec::new(alloc);
     for failure in failures? {
@@ -56,18 +71,17 @@ pub fn claim_findings(
 /// the others.
 fn push_failures(
     alloc: Global,
-    case: Case<'_>,
-    claims: &Value,
+    rules: Rules<'_>,
     is_missing: bool,
     failures: &mut Vec<ClaimFailure>,
 ) -> Result<(), Fault<'static>> {
     for claim in &CLAIMS {
-        if let Some(error) = failure_about(alloc, case, claims, claim)?
+        if let Some(error) = failure_about(alloc, rules, claim)?
             && is_missing == matches!(error.kind(), ErrorKind::MissingRequiredClaim(_))
         {
             failures.push(ClaimFailure {
                 kind: error.kind().name(),
-                finding: rule_finding(alloc, case, claims, &error)?,
+                finding: rule_finding(alloc, rules, &error)?,
             })?;
         }
     }
@@ -77,11 +91,10 @@ fn push_failures(
 /// Returns the error of the rules about one claim, if one fails.
 fn failure_about(
     alloc: Global,
-    case: Case<'_>,
-    claims: &Value,
+    rules: Rules<'_>,
     claim: &str,
 ) -> Result<Option<Error>, Fault<'static>> {
-    let Ok(mut options) = case.validation.clone(alloc) else {
+    let Ok(mut options) = rules.validation.clone(alloc) else {
         return Err(Fault::Memory);
     };
     for other in &CLAIMS {
@@ -89,11 +102,11 @@ fn failure_about(
             leave_out(&mut options, other);
         }
     }
-    let held = validate(alloc, claims, &options, case.time);
+    let held = validate(alloc, rules.claims, &options, rules.time);
     drop(options);
     match held {
         Ok(()) => Ok(None),
-        Err(error) if matches!(error.kind(), ErrorKind::OutOfMemory) => Err(Fault::Memory),
+        Err(error) if is_memory(&error) => Err(Fault::Memory),
         Err(error) => Ok(Some(error)),
     }
 }
@@ -111,78 +124,75 @@ fn leave_out(options: &mut Validation, claim: &str) {
 }
 
 /// Returns the finding of a rule about claims, by the kind of its refusal.
-fn rule_finding(
-    alloc: Global,
-    case: Case<'_>,
-    claims: &Value,
-    error: &Error,
-) -> Result<Finding, AllocError> {
+fn rule_finding(alloc: Global, rules: Rules<'_>, error: &Error) -> Result<Finding, AllocError> {
     match error.kind() {
         ErrorKind::MissingRequiredClaim(name) | ErrorKind::InvalidClaimFormat(name) => {
-            missing(alloc, claims, case.validation, name.as_str())
+            missing_claim_finding(alloc, rules, name.as_str())
         }
-        ErrorKind::ExpiredSignature => expired(alloc, claims, case),
-        ErrorKind::ImmatureSignature => immature(alloc, claims, case),
+        ErrorKind::ExpiredSignature => end_finding(alloc, rules),
+        ErrorKind::ImmatureSignature => start_finding(alloc, rules),
         ErrorKind::InvalidIssuer => Ok(Finding {
-            found: found_texts(alloc, claims, "iss")?,
-            wanted: names_or(alloc, &case.validation.iss, "an issuer that --iss names")?,
+            found: found_texts(alloc, rules.claims, "iss")?,
+            wanted: names_or_text(alloc, &rules.validation.iss, "an issuer that --iss names")?,
         }),
         ErrorKind::InvalidAudience => Ok(Finding {
-            found: found_texts(alloc, claims, "aud")?,
-            wanted: names_or(
+            found: found_texts(alloc, rules.claims, "aud")?,
+            wanted: names_or_text(
                 alloc,
-                &case.validation.aud,
+                &rules.validation.aud,
                 "no aud, or an audience that --aud names",
             )?,
         }),
-        ErrorKind::InvalidSubject => other_subject(alloc, claims, case.validation),
-        _ => out_of_time(alloc, claims, case),
+        ErrorKind::InvalidSubject => subject_finding(alloc, rules),
+        _ => least_end_finding(alloc, rules),
     }
 }
 
-fn missing(
+fn missing_claim_finding(
     alloc: Global,
-    claims: &Value,
-    validation: &Validation,
+    rules: Rules<'_>,
     name: &str,
 ) -> Result<Finding, AllocError> {
-    let wanted = match configured(alloc, validation, name)? {
+    let wanted = match option_names(alloc, rules.validation, name)? {
         Some(names) => format!(in alloc; "{name} {names}")?,
         None => format!(in alloc; "{name}: {}", form_of(name))?,
     };
     Ok(Finding {
-        found: malformed(alloc, claims, name)?,
+        found: claim_contents(alloc, rules.claims, name)?,
         wanted,
     })
 }
 
 /// Returns the names that the options have for a claim, as a list in words, if there are any.
-fn configured(
+fn option_names(
     alloc: Global,
     validation: &Validation,
     name: &str,
 ) -> Result<Option<String>, AllocError> {
     match (name, &validation.sub) {
-        ("aud", _) => set_names(alloc, &validation.aud),
-        ("iss", _) => set_names(alloc, &validation.iss),
-        ("sub", Some(subject)) => Ok(Some(quoted(alloc, subject.as_str())?)),
+        ("aud", _) => names_of_set(alloc, &validation.aud),
+        ("iss", _) => names_of_set(alloc, &validation.iss),
+        ("sub", Some(subject)) => Ok(Some(quote(alloc, subject.as_str())?)),
         _ => Ok(None),
     }
 }
 
 /// Returns the names of a set as a list in words, if there is one.
-fn set_names(alloc: Global, names: &Option<HashSet<String>>) -> Result<Option<String>, AllocError> {
+fn names_of_set(
+    alloc: Global,
+    names: &Option<HashSet<String>>,
+) -> Result<Option<String>, AllocError> {
     match names {
-        Some(names) => Ok(Some(names_of(alloc, names)?)),
+        Some(names) => Ok(Some(name_list(alloc, names)?)),
         None => Ok(None),
     }
 }
 
 /// Returns the names of a set in the order of their bytes, as a list in words.
-fn names_of(alloc: Global, names: &HashSet<String>) -> Result<String, AllocError> {
+fn name_list(alloc: Global, names: &HashSet<String>) -> Result<String, AllocError> {
     let mut found = Vec::new(alloc);
     for name in names.iter() {
-        found.push(quoted(alloc, name.as_str())?)?;
+        found.push(quote(alloc, name.as_str())?)?;
     }
     found.sort_unstable();
     choice(alloc, &found)
@@ -198,7 +208,7 @@ fn form_of(name: &str) -> &'static str {
 }
 
 /// Returns the contents of a claim that is absent or malformed.
-fn malformed(alloc: Global, claims: &Value, name: &str) -> Result<String, AllocError> {
+fn claim_contents(alloc: Global, claims: &Value, name: &str) -> Result<String, AllocError> {
     let Some(value) = claims.get(name) else {
         return format!(in alloc; "no {name}");
     };
@@ -218,20 +228,15 @@ fn number_problem(number: &Value) -> &'static str {
     }
 }
 
-fn expired(alloc: Global, claims: &Value, case: Case<'_>) -> Result<Finding, AllocError> {
+fn end_finding(alloc: Global, rules: Rules<'_>) -> Result<Finding, AllocError> {
     Ok(Finding {
-        found: found_moment(alloc, claims, "exp", case.time)?,
-        wanted: wanted_end(alloc, case.validation)?,
+        found: found_time(alloc, rules.claims, "exp", rules.time)?,
+        wanted: wanted_end(alloc, rules.validation)?,
     })
 }
 
 /// Returns the name of a claim and its time.
-fn found_moment(
-    alloc: Global,
-    claims: &Value,
-    name: &str,
-    time: u64,
-) -> Result<String, AllocError> {
+fn found_time(alloc: Global, claims: &Value, name: &str, time: u64) -> Result<String, AllocError> {
     match claims.get(name).and_then(Value::as_u64) {
         Some(seconds) => found_seconds(alloc, name, seconds, time),
         None => found_value(alloc, claims, name),
@@ -243,12 +248,12 @@ fn found_seconds(alloc: Global, name: &str, seconds: u64, time: u64) -> Result<S
     if is_likely_milliseconds(seconds) {
         return format!(in alloc; "{name} {seconds}, which looks like milliseconds");
     }
-    let moment = moment_text(alloc, seconds)?;
+    let text = time_text(alloc, seconds)?;
     let distance = distance_text(alloc, seconds, time)?;
     if name == "exp" && seconds < time {
-        return format!(in alloc; "exp {moment}, expired {distance}");
+        return format!(in alloc; "exp {text}, expired {distance}");
     }
-    format!(in alloc; "{name} {moment}, {distance}")
+    format!(in alloc; "{name} {text}, {distance}")
 }
 
 /// Returns the name of a claim and its value, which is not a time.
@@ -277,8 +282,8 @@ fn wanted_end(alloc: Global, validation: &Validation) -> Result<String, AllocErr
     format!(in alloc; "exp at most {span} ago (--leeway, less --not-within)")
 }
 
-fn immature(alloc: Global, claims: &Value, case: Case<'_>) -> Result<Finding, AllocError> {
-    let leeway = case.validation.leeway;
+fn start_finding(alloc: Global, rules: Rules<'_>) -> Result<Finding, AllocError> {
+    let leeway = rules.validation.leeway;
     let wanted = if leeway == 0 {
         String::from_str(alloc, "nbf not after now")?
     } else {
@@ -288,7 +293,7 @@ fn immature(alloc: Global, claims: &Value, case: Case<'_>) -> Result<Finding, Al
         )?
     };
     Ok(Finding {
-        found: found_moment(alloc, claims, "nbf", case.time)?,
+        found: found_time(alloc, rules.claims, "nbf", rules.time)?,
         wanted,
     })
 }
@@ -304,12 +309,12 @@ fn found_texts(alloc: Global, claims: &Value, name: &str) -> Result<String, Allo
 /// Returns the texts of a value that is one, or an array of them.
 fn texts_of(alloc: Global, value: &Value) -> Result<String, AllocError> {
     match value {
-        Value::String(text) => quoted(alloc, text.as_str()),
+        Value::String(text) => quote(alloc, text.as_str()),
         Value::Array(values) => {
             let mut names = Vec::new(alloc);
             for value in values.iter() {
                 if let Value::String(text) = value {
-                    names.push(quoted(alloc, text.as_str())?)?;
+                    names.push(quote(alloc, text.as_str())?)?;
                 }
             }
             choice(alloc, &names)
@@ -318,36 +323,32 @@ fn texts_of(alloc: Global, value: &Value) -> Result<String, AllocError> {
     }
 }
 
-fn names_or(
+fn names_or_text(
     alloc: Global,
     names: &Option<HashSet<String>>,
     without: &'static str,
 ) -> Result<String, AllocError> {
     match names {
-        Some(names) if !names.is_empty() => names_of(alloc, names),
+        Some(names) if !names.is_empty() => name_list(alloc, names),
         _ => String::from_str(alloc, without),
     }
 }
 
-fn other_subject(
-    alloc: Global,
-    claims: &Value,
-    validation: &Validation,
-) -> Result<Finding, AllocError> {
+fn subject_finding(alloc: Global, rules: Rules<'_>) -> Result<Finding, AllocError> {
     Ok(Finding {
-        found: found_texts(alloc, claims, "sub")?,
-        wanted: match &validation.sub {
-            Some(subject) => quoted(alloc, subject.as_str())?,
+        found: found_texts(alloc, rules.claims, "sub")?,
+        wanted: match &rules.validation.sub {
+            Some(subject) => quote(alloc, subject.as_str())?,
             None => String::new(alloc),
         },
     })
 }
 
 /// Returns the finding of an `exp` that is below the time that must be left.
-fn out_of_time(alloc: Global, claims: &Value, case: Case<'_>) -> Result<Finding, AllocError> {
-    let left = case.validation.reject_tokens_expiring_in_less_than;
+fn least_end_finding(alloc: Global, rules: Rules<'_>) -> Result<Finding, AllocError> {
+    let left = rules.validation.reject_tokens_expiring_in_less_than;
     Ok(Finding {
-        found: found_moment(alloc, claims, "exp", case.time)?,
+        found: found_time(alloc, rules.claims, "exp", rules.time)?,
         wanted: format!(in alloc; "exp of at least {left} seconds since 1970 (--not-within)")?,
     })
 }

@@ -4,7 +4,7 @@
 use std::alloc::{AllocError, Global};
 
 /// Returns the text with its control characters from U+007F to U+009F written as escapes of JSON.
-pub fn without_late_controls(alloc: Global, text: String) -> Result<String, AllocError> {
+pub fn escape_late_controls(alloc: Global, text: String) -> Result<String, AllocError> {
     if !text.chars().any(is_late_control) {
         return Ok(text);
     }

@@ -4,7 +4,7 @@ use crate::claim_findings::ClaimFailure;
 use crate::fault::Fault;
 use crate::findings::Finding;
 use crate::orders::{TYPE_AGREES, sentence};
-use crate::times::{distance_text, moment_text};
+use crate::times::{distance_text, time_text};
 use jsonwebtoken::{Moments, Test};
 use serde_json::{Map, Value};
 use std::alloc::{AllocError, Global};
@@ -60,7 +60,7 @@ pub fn page(alloc: Global, explanation: &Explanation<'_>) -> Result<String, Allo
 /// Returns an explanation as one line of JSON.
 pub fn json_line(alloc: Global, explanation: &Explanation<'_>) -> Result<String, Fault<'static>> {
     let mut members = Map::new(alloc);
-    put(
+    put_member(
         alloc,
         &mut members,
         "ok",
@@ -86,9 +86,9 @@ fn push_tests(
     for (place, test) in explanation.order.iter().enumerate() {
         match &explanation.outcome {
             Outcome::Failed(failed, findings) if *failed == *test => {
-                push_failed(page, *test, findings)?;
+                push_failed_test(page, *test, findings)?;
                 let left = explanation.order.iter().skip(place).skip(1).count();
-                return push_left(alloc, page, left);
+                return push_tests_left(alloc, page, left);
             }
             _ => push_test(page, "passed", test.name(), sentence(*test))?,
         }
@@ -106,7 +106,7 @@ fn push_tests(
 }
 
 /// Adds the line of the test that fails, what it found and what it asks for.
-fn push_failed(page: &mut String, test: Test, findings: &[Finding]) -> Result<(), AllocError> {
+fn push_failed_test(page: &mut String, test: Test, findings: &[Finding]) -> Result<(), AllocError> {
     push_test(page, FAILED, test.name(), sentence(test))?;
     for finding in findings {
         push_finding(page, finding)?;
@@ -140,7 +140,7 @@ fn push_finding(page: &mut String, finding: &Finding) -> Result<(), AllocError> 
 }
 
 /// Adds the line about tests that are not made.
-fn push_left(alloc: Global, page: &mut String, count: usize) -> Result<(), AllocError> {
+fn push_tests_left(alloc: Global, page: &mut String, count: usize) -> Result<(), AllocError> {
     match count {
         0 => Ok(()),
         1 => page.push_str("-       1 test after this one is not made\n"),
@@ -156,8 +156,8 @@ fn moments_line(alloc: Global, moments: Option<Moments>, time: u64) -> Result<St
     let Some(moments) = moments else {
         return String::from_str(alloc, "accepted at no time\n");
     };
-    let last = moment_words(alloc, moments.last, time)?;
-    let first = moment_words(alloc, moments.first, time)?;
+    let last = time_words(alloc, moments.last, time)?;
+    let first = time_words(alloc, moments.first, time)?;
     match (moments.first, moments.last) {
         (0, u64::MAX) => String::from_str(alloc, "accepted at any time\n"),
         (0, _) => format!(in alloc; "accepted until {last}\n"),
@@ -167,9 +167,9 @@ fn moments_line(alloc: Global, moments: Option<Moments>, time: u64) -> Result<St
 }
 
 /// Returns a time, and how long it is away.
-fn moment_words(alloc: Global, moment: u64, time: u64) -> Result<String, AllocError> {
-    let text = moment_text(alloc, moment)?;
-    format!(in alloc; "{text} ({})", distance_text(alloc, moment, time)?)
+fn time_words(alloc: Global, seconds: u64, time: u64) -> Result<String, AllocError> {
+    let text = time_text(alloc, seconds)?;
+    format!(in alloc; "{text} ({})", distance_text(alloc, seconds, time)?)
 }
 
 /// Returns the last line: why the token is refused, or that it is only accepted without strict
@@ -210,7 +210,7 @@ fn refusal_line(
     format!(in alloc; "{start}: {kind}: found {found}; wanted {wanted}\n")
 }
 
-fn put(
+fn put_member(
     alloc: Global,
     members: &mut Map<String, Value>,
     name: &str,
@@ -227,7 +227,7 @@ fn put_text(
     text: &str,
 ) -> Result<(), AllocError> {
     let text = String::from_str(alloc, text)?;
-    put(alloc, members, name, Value::String(text))
+    put_member(alloc, members, name, Value::String(text))
 }
 
 /// Puts the test that fails among the members, what it found and what it asks for.
@@ -246,8 +246,8 @@ fn put_outcome(
         put_finding(alloc, members, finding)?;
     }
     if findings.len() > 1 {
-        let others = others(alloc, findings)?;
-        put(alloc, members, "others", Value::Array(others))?;
+        let others = other_findings(alloc, findings)?;
+        put_member(alloc, members, "others", Value::Array(others))?;
     }
     Ok(())
 }
@@ -262,7 +262,7 @@ fn put_finding(
 }
 
 /// Returns objects with the findings after the first.
-fn others(alloc: Global, findings: &[Finding]) -> Result<Vec<Value>, AllocError> {
+fn other_findings(alloc: Global, findings: &[Finding]) -> Result<Vec<Value>, AllocError> {
     let mut others = Vec::new(alloc);
     for finding in findings.iter().skip(1) {
         let mut members = Map::new(alloc);
@@ -294,6 +294,6 @@ fn put_moments(
         Some(moments) => (Value::from(moments.first), Value::from(moments.last)),
         None => (Value::Null, Value::Null),
     };
-    put(alloc, members, "first", first)?;
-    put(alloc, members, "last", last)
+    put_member(alloc, members, "first", first)?;
+    put_member(alloc, members, "last", last)
 }

@@ -1,9 +1,9 @@
 //! Findings: the contents of a token and those that a failed test asks for.
 
+use crate::case::Case;
 use crate::claim_findings::claim_findings;
 use crate::fault::{Fault, unless_refused};
-use crate::keys::Loaded;
-use crate::part_findings::{Parts, cut, is_of_base64url, part_finding, text_finding};
+use crate::part_findings::{Parts, is_of_base64url, part_finding, split_parts, text_finding};
 use crate::signature_findings::length_finding;
 use jsonwebtoken::jwk::JwkSet;
 use jsonwebtoken::{
@@ -13,16 +13,6 @@ use jwt_base::serialization::{json_value, part_bytes};
 use jwt_verifier::Keys;
 use serde_json::Value;
 use std::alloc::{AllocError, Global};
-
-/// A token, and all that it is checked with.
-#[derive(Clone, Copy)]
-pub struct Case<'c> {
-    pub token: &'c [u8],
-    pub loaded: &'c Loaded,
-    pub validation: &'c Validation,
-    /// The time, in seconds since 1970-01-01 00:00:00 UTC.
-    pub time: u64,
-}
 
 /// The contents that a test found, and those that it asks for.
 #[derive(Drop)]
@@ -48,7 +38,7 @@ const SHOWN_NAMES: usize = 8;
 const SHOWN_CHARACTERS: usize = 100;
 
 /// Returns a text of a token in quotes, with its control characters escaped, and cut if it is long.
-pub fn quoted(alloc: Global, text: &str) -> Result<String, AllocError> {
+pub fn quote(alloc: Global, text: &str) -> Result<String, AllocError> {
     let mut start = String::new(alloc);
     for character in text.chars().take(SHOWN_CHARACTERS) {
         start.push(character)?;
@@ -89,19 +79,25 @@ pub fn part_value(alloc: Global, part: &[u8]) -> Result<Option<Value>, Fault<'st
 pub fn findings_of(
     alloc: Global,
     case: Case<'_>,
+    validation: &Validation,
     refusal: &Refusal,
 ) -> Result<Vec<Finding>, Fault<'static>> {
-    if let (Test::ClaimRulesHold, Some(parts)) = (refusal.test, cut(case.token)) {
-        return claim_findings(alloc, case, parts.payload);
+    if let (Test::ClaimRulesHold, Some(parts)) = (refusal.test, split_parts(case.token)) {
+        return claim_findings(alloc, parts.payload, validation, case.time);
     }
     let mut findings = Vec::new(alloc);
-    findings.push(finding_of(alloc, case, refusal.test)?)?;
+    findings.push(finding_of(alloc, case, validation, refusal.test)?)?;
     Ok(findings)
 }
 
 /// Returns the finding of a test other than that of the claim rules.
-fn finding_of(alloc: Global, case: Case<'_>, test: Test) -> Result<Finding, Fault<'static>> {
-    let Some(parts) = cut(case.token) else {
+fn finding_of(
+    alloc: Global,
+    case: Case<'_>,
+    validation: &Validation,
+    test: Test,
+) -> Result<Finding, Fault<'static>> {
+    let Some(parts) = split_parts(case.token) else {
         return text_finding(alloc, case.token);
     };
     match test {
@@ -112,7 +108,7 @@ fn finding_of(alloc: Global, case: Case<'_>, test: Test) -> Result<Finding, Faul
         | Test::PayloadIsPart
         | Test::PayloadIsJson
         | Test::ClaimsRead
-        | Test::ClaimsAreAnObject => by_part(alloc, case, parts, test),
+        | Test::ClaimsAreAnObject => finding_by_part(alloc, case, parts, test),
         Test::KeyIsUsable => Finding::new(
             alloc,
             "a key whose members are malformed, or that verifies nothing here",
@@ -123,13 +119,13 @@ fn finding_of(alloc: Global, case: Case<'_>, test: Test) -> Result<Finding, Faul
             "no algorithm that is accepted",
             "--alg, or a key with an 'alg' of its own",
         ),
-        Test::SignatureIsAccepted => other_signature(alloc, case, parts),
-        _ => by_header(alloc, case, test),
+        Test::SignatureIsAccepted => signature_finding(alloc, case, parts),
+        _ => finding_by_header(alloc, case, validation, test),
     }
 }
 
 /// Returns the finding of a test of the whole text or of a part.
-fn by_part(
+fn finding_by_part(
     alloc: Global,
     case: Case<'_>,
     parts: Parts<'_>,
@@ -139,13 +135,13 @@ fn by_part(
         Test::HeaderIsPart | Test::HeaderIsJson | Test::HeaderReads => {
             part_finding(alloc, case.token, parts.header, test)
         }
-        Test::SignatureIsPart => no_signature_part(alloc, case, parts),
+        Test::SignatureIsPart => signature_part_finding(alloc, case, parts),
         _ => part_finding(alloc, case.token, parts.payload, test),
     }
 }
 
 /// Returns the finding of a signature part that is not base64url.
-fn no_signature_part(
+fn signature_part_finding(
     alloc: Global,
     case: Case<'_>,
     parts: Parts<'_>,
@@ -159,7 +155,7 @@ fn no_signature_part(
 }
 
 /// Returns the finding of a signature that is not accepted.
-fn other_signature(
+fn signature_finding(
     alloc: Global,
     case: Case<'_>,
     parts: Parts<'_>,
@@ -179,10 +175,15 @@ fn other_signature(
     )
 }
 
-fn by_header(alloc: Global, case: Case<'_>, test: Test) -> Result<Finding, Fault<'static>> {
+fn finding_by_header(
+    alloc: Global,
+    case: Case<'_>,
+    validation: &Validation,
+    test: Test,
+) -> Result<Finding, Fault<'static>> {
     match decode_header(alloc, case.token) {
         Ok(header) => {
-            let finding = header_finding(alloc, case, test, &header);
+            let finding = header_finding(alloc, case, validation, test, &header);
             drop(header);
             finding
         }
@@ -194,24 +195,25 @@ fn by_header(alloc: Global, case: Case<'_>, test: Test) -> Result<Finding, Fault
 fn header_finding(
     alloc: Global,
     case: Case<'_>,
+    validation: &Validation,
     test: Test,
     header: &Header,
 ) -> Result<Finding, Fault<'static>> {
     match test {
-        Test::CritIsUnderstood => not_understood(alloc, header),
-        Test::KeyIsFound => no_such_kid(alloc, &header.kid, &case.loaded.keys),
-        Test::KeyAlgorithmAgrees => other_algorithm(
+        Test::CritIsUnderstood => crit_finding(alloc, header),
+        Test::KeyIsFound => kid_finding(alloc, &header.kid, &case.loaded.keys),
+        Test::KeyAlgorithmAgrees => algorithm_finding(
             alloc,
             header,
-            named_algorithm(header, &case.loaded.keys),
+            key_algorithm_name(header, &case.loaded.keys),
         ),
-        Test::AlgorithmIsListed => not_listed(alloc, header, case.validation),
-        Test::FamiliesAgree => no_family(alloc, header, case.validation),
-        _ => no_verifier(alloc, header, &case.loaded.keys),
+        Test::AlgorithmIsListed => listing_finding(alloc, header, validation),
+        Test::FamiliesAgree => family_finding(alloc, header, validation),
+        _ => verifier_finding(alloc, header, &case.loaded.keys),
     }
 }
 
-fn not_understood(alloc: Global, header: &Header) -> Result<Finding, Fault<'static>> {
+fn crit_finding(alloc: Global, header: &Header) -> Result<Finding, Fault<'static>> {
     Ok(Finding {
         found: format!(in alloc; "a 'crit' that lists {}", crit_names(alloc, header)?)?,
         wanted: String::from_str(
@@ -225,15 +227,15 @@ fn crit_names(alloc: Global, header: &Header) -> Result<String, AllocError> {
     let mut names = Vec::new(alloc);
     if let Some(texts) = &header.crit {
         for text in texts.as_slice() {
-            names.push(quoted(alloc, text.as_str())?)?;
+            names.push(quote(alloc, text.as_str())?)?;
         }
     }
     choice(alloc, &names)
 }
 
-fn no_such_kid(alloc: Global, kid: &Option<Text>, keys: &Keys) -> Result<Finding, Fault<'static>> {
+fn kid_finding(alloc: Global, kid: &Option<Text>, keys: &Keys) -> Result<Finding, Fault<'static>> {
     let found = match kid {
-        Some(kid) => format!(in alloc; "the kid {}", quoted(alloc, kid.as_str())?)?,
+        Some(kid) => format!(in alloc; "the kid {}", quote(alloc, kid.as_str())?)?,
         None => String::from_str(alloc, "a header without a kid")?,
     };
     let names = match keys {
@@ -252,13 +254,13 @@ fn kid_names(alloc: Global, set: &JwkSet) -> Result<String, AllocError> {
     let mut names = Vec::new(alloc);
     for jwk in &set.keys {
         if let Some(kid) = &jwk.common.key_id {
-            names.push(quoted(alloc, kid.as_str())?)?;
+            names.push(quote(alloc, kid.as_str())?)?;
         }
     }
     choice(alloc, &names)
 }
 
-fn other_algorithm(
+fn algorithm_finding(
     alloc: Global,
     header: &Header,
     wanted: &str,
@@ -270,7 +272,7 @@ fn other_algorithm(
 }
 
 /// Returns the name of the algorithm that the key of a set is for.
-fn named_algorithm(header: &Header, keys: &Keys) -> &'static str {
+fn key_algorithm_name(header: &Header, keys: &Keys) -> &'static str {
     let (Some(kid), Keys::Set(set)) = (&header.kid, keys) else {
         return "none";
     };
@@ -284,13 +286,13 @@ fn named_algorithm(header: &Header, keys: &Keys) -> &'static str {
 }
 
 /// Returns the finding of an algorithm that is not listed, or that others of its list do not fit.
-fn not_listed(
+fn listing_finding(
     alloc: Global,
     header: &Header,
     validation: &Validation,
 ) -> Result<Finding, Fault<'static>> {
     let names = algorithm_names(alloc, &validation.algorithms)?;
-    other_algorithm(alloc, header, names.as_str())
+    algorithm_finding(alloc, header, names.as_str())
 }
 
 fn algorithm_names(alloc: Global, algorithms: &[Algorithm]) -> Result<String, AllocError> {
@@ -301,7 +303,7 @@ fn algorithm_names(alloc: Global, algorithms: &[Algorithm]) -> Result<String, Al
     choice(alloc, &names)
 }
 
-fn no_family(
+fn family_finding(
     alloc: Global,
     header: &Header,
     validation: &Validation,
@@ -313,7 +315,11 @@ fn no_family(
     })
 }
 
-fn no_verifier(alloc: Global, header: &Header, keys: &Keys) -> Result<Finding, Fault<'static>> {
+fn verifier_finding(
+    alloc: Global,
+    header: &Header,
+    keys: &Keys,
+) -> Result<Finding, Fault<'static>> {
     let found = match keys {
         Keys::One(key) => key_name(key.family()),
         Keys::Set(_) => "a key of the set that does not fit",

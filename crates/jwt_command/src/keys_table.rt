@@ -3,10 +3,9 @@
 ghost use Rattle.std.specs.Prelude.{◌≡◌, IfOk};
 
 use crate::answer::Answer;
-use crate::fault::Fault;
+use crate::fault::{Fault, fault_of, unless_refused};
 use crate::file_hints::set_problem;
 use jsonwebtoken::crypto::CryptoProvider;
-use jsonwebtoken::errors::{Error, ErrorKind};
 use jsonwebtoken::jwk::{
     AlgorithmParameters, EllipticCurve, Jwk, JwkSet, PublicKeyUse, ThumbprintHash,
 };
@@ -27,6 +26,9 @@ const HEADINGS: [&str; COLUMNS] = [
 ];
 
 const COLUMNS: usize = 7;
+
+/// The text for a member that is not base64url.
+const NO_BASE64URL: &str = "not base64url";
 
 /// A line of the table.
 #[derive(Drop)]
@@ -55,11 +57,10 @@ pub fn keys_answer<'a>(alloc: Global, path: &'a str, bytes: &[u8]) -> Result<Ans
 fn read_set<'a>(alloc: Global, path: &'a str, bytes: &[u8]) -> Result<JwkSet, Fault<'a>> {
     match JwkSet::from_slice(alloc, bytes) {
         Ok(set) => Ok(set),
-        Err(error) if matches!(error.kind(), ErrorKind::OutOfMemory) => Err(Fault::Memory),
-        Err(_) => Err(Fault::File {
-            path,
-            problem: set_problem(bytes),
-        }),
+        Err(error) => {
+            let problem = set_problem(bytes);
+            Err(fault_of(&error, Fault::File { path, problem }))
+        }
     }
 }
 
@@ -76,7 +77,7 @@ fn row_of(alloc: Global, earlier: &[Jwk], jwk: &Jwk) -> Result<Row, Fault<'stati
     cells.push(kid_text(alloc, jwk)?)?;
     cells.push(String::from_str(alloc, type_name(jwk))?)?;
     cells.push(String::from_str(alloc, algorithm_text(jwk))?)?;
-    cells.push(shown(alloc, use_name(jwk))?)?;
+    cells.push(printable_text(alloc, use_name(jwk))?)?;
     cells.push(size(alloc, jwk)?)?;
     cells.push(thumbprint(alloc, jwk)?)?;
     cells.push(String::from_str(alloc, usefulness_text(alloc, earlier, jwk)?)?)?;
@@ -85,13 +86,13 @@ fn row_of(alloc: Global, earlier: &[Jwk], jwk: &Jwk) -> Result<Row, Fault<'stati
 
 fn kid_text(alloc: Global, jwk: &Jwk) -> Result<String, AllocError> {
     match &jwk.common.key_id {
-        Some(kid) => shown(alloc, kid.as_str()),
+        Some(kid) => printable_text(alloc, kid.as_str()),
         None => String::from_str(alloc, "-"),
     }
 }
 
 /// Returns a text as it can be shown: with its control characters escaped.
-fn shown(alloc: Global, text: &str) -> Result<String, AllocError> {
+fn printable_text(alloc: Global, text: &str) -> Result<String, AllocError> {
     if text.chars().any(char::is_control) {
         return format!(in alloc; "{text:?}");
     }
@@ -137,13 +138,13 @@ fn size(alloc: Global, jwk: &Jwk) -> Result<String, Fault<'static>> {
 
 /// Returns the number of bits of a number in base64url.
 fn bits_text(alloc: Global, part: &str) -> Result<String, Fault<'static>> {
-    match part_bytes(alloc, part.as_bytes()) {
-        Ok(bytes) => {
+    match unless_refused(part_bytes(alloc, part.as_bytes()))? {
+        Some(bytes) => {
             let count = bit_count(&bytes);
             drop(bytes);
             Ok(format!(in alloc; "{count} bits")?)
         }
-        Err(error) => text_instead(alloc, &error, "not base64url"),
+        None => Ok(String::from_str(alloc, NO_BASE64URL)?),
     }
 }
 
@@ -158,39 +159,22 @@ fn bit_count(bytes: &[u8]) -> u64 {
     }
 }
 
-/// Returns the text instead of one that this error refuses, unless memory ran out.
-fn text_instead(
-    alloc: Global,
-    error: &Error,
-    text: &'static str,
-) -> Result<String, Fault<'static>> {
-    Ok(String::from_str(alloc, unless_memory(error, text)?)?)
-}
-
-/// Returns the text, unless memory ran out.
-fn unless_memory(error: &Error, text: &'static str) -> Result<&'static str, Fault<'static>> {
-    match error.kind() {
-        ErrorKind::OutOfMemory => Err(Fault::Memory),
-        _ => Ok(text),
-    }
-}
-
 /// Returns the number of bits of a secret in base64url.
 fn secret_text(alloc: Global, part: &str) -> Result<String, Fault<'static>> {
-    match part_bytes(alloc, part.as_bytes()) {
-        Ok(bytes) => {
+    match unless_refused(part_bytes(alloc, part.as_bytes()))? {
+        Some(bytes) => {
             let count = (bytes.len() as u64).saturating_mul(8);
             drop(bytes);
             Ok(format!(in alloc; "{count} bits")?)
         }
-        Err(error) => text_instead(alloc, &error, "not base64url"),
+        None => Ok(String::from_str(alloc, NO_BASE64URL)?),
     }
 }
 
 fn thumbprint(alloc: Global, jwk: &Jwk) -> Result<String, Fault<'static>> {
-    match jwk.thumbprint(alloc, &StandardProvider, ThumbprintHash::SHA256) {
-        Ok(thumbprint) => Ok(thumbprint),
-        Err(error) => text_instead(alloc, &error, "-"),
+    match unless_refused(jwk.thumbprint(alloc, &StandardProvider, ThumbprintHash::SHA256))? {
+        Some(thumbprint) => Ok(thumbprint),
+        None => Ok(String::from_str(alloc, "-")?),
     }
 }
 
@@ -224,18 +208,17 @@ fn verifier_text(alloc: Global, jwk: &Jwk) -> Result<&'static str, Fault<'static
     let Some(algorithm) = algorithm_for(jwk) else {
         return Ok("no: with no algorithm that is supported here");
     };
-    let key = match DecodingKey::from_jwk(alloc, jwk) {
-        Ok(key) => key,
-        Err(error) => return unless_memory(&error, "no: a member of the key is malformed"),
+    let Some(key) = unless_refused(DecodingKey::from_jwk(alloc, jwk))? else {
+        return Ok("no: a member of the key is malformed");
     };
     let made = StandardProvider.verifier_factory(alloc, &algorithm, &key);
     drop(key);
-    match made {
-        Ok(verifier) => {
+    match unless_refused(made)? {
+        Some(verifier) => {
             drop(verifier);
             Ok("yes")
         }
-        Err(error) => unless_memory(&error, "no: this is not a key of that algorithm"),
+        None => Ok("no: this is not a key of that algorithm"),
     }
 }
 

@@ -9,9 +9,10 @@ ghost use Rattle.jwt_validation.specs.OptionsOf.{options_of};
 ghost use Rattle.jwt_command.specs.Commands.{IsLineStatus, IsLinesStatus};
 
 use crate::answer::Answer;
-use crate::clock::moment;
+use crate::case::Case;
+use crate::clock::current_time;
 use crate::fault::Fault;
-use crate::files::without_line_end;
+use crate::files::strip_line_end;
 use crate::keys::Loaded;
 use crate::request::Verification;
 use crate::verify::{Form, verify_answer};
@@ -104,17 +105,22 @@ fn line_answer<R: Clock + AllocGlobal>(
         IsLineStatus request.entry.now loaded.now (options_of validation.old) a.status
         × (options_of validation.new ≡ options_of validation.old)) }
 {
-    let is_own = names_none(validation);
-    let time = moment(rt, request.time)?;
-    let token = without_line_end(line);
-    let typ = request.typ;
-    let answer = verify_answer(rt.alloc(), token, loaded, validation, time, typ, Form::Json)?;
+    let is_own = has_no_algorithm(validation);
+    let time = current_time(rt, request.time)?;
+    let token = strip_line_end(line);
+    let case = Case {
+        token,
+        loaded,
+        typ: request.typ,
+        time,
+    };
+    let answer = verify_answer(rt.alloc(), case, validation, Form::Json)?;
     forget_own(validation, is_own);
     Ok(answer)
 }
 
 /// Returns whether the options name no algorithm.
-fn names_none(validation: &Validation) -> bool
+fn has_no_algorithm(validation: &Validation) -> bool
     ensures none { result ≡ true → validation.now.algorithms.items ≡ [] }
     ensures some { result ≡ false → validation.now.algorithms.items ≢ [] }
 {

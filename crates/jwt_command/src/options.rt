@@ -12,12 +12,13 @@ ghost use Rattle.jwt_base.specs.KindOf.{IsMemory};
 ghost use Rattle.jwt_validation.specs.Options.{among, default_options};
 ghost use Rattle.jwt_validation.specs.OptionsOf.{options_of};
 ghost use Rattle.jwt_command.specs.Requested.{AreChosen, AreNamed, AreRequested, IsBase, IsNoBase};
-ghost use Rattle.jwt_command.specs.Requested.{changed, given, given_or, kept, made_strict};
-ghost use Rattle.jwt_command.specs.Requested.{required, strict_if};
+ghost use Rattle.jwt_command.specs.Requested.{changed_options, given_texts, kept_claims};
+ghost use Rattle.jwt_command.specs.Requested.{required_claims, strict_options, strict_options_if};
+ghost use Rattle.jwt_command.specs.Requested.{texts_or};
 
-use crate::fault::Fault;
+use crate::fault::{Fault, fault_of};
 use crate::request::{Checks, algorithm};
-use jsonwebtoken::errors::{Error, ErrorKind};
+use jsonwebtoken::errors::Error;
 use jsonwebtoken::{Algorithm, Validation};
 use std::alloc::Global;
 use std::collections::HashSet;
@@ -26,7 +27,7 @@ use std::collections::HashSet;
 const REQUIRABLE: [&str; 5] = ["exp", "nbf", "aud", "iss", "sub"];
 
 /// Returns the options that the arguments would ask for if they asked for strict ones too.
-pub fn as_strict(
+pub fn strict_validation(
     alloc: Global,
     validation: &Validation,
     checks: &Checks<'_, '_>,
@@ -42,7 +43,7 @@ pub fn as_strict(
 /// Returns the options of the arguments: those of the file, whose bytes are given, made strict if
 /// that is asked for, and then changed by each other argument that is given. The algorithms are
 /// those of the arguments if they name any, and else those of the file.
-pub fn validation<'a>(
+pub fn requested_validation<'a>(
     alloc: Global,
     checks: &Checks<'_, 'a>,
     bytes: Option<&[u8]>,
@@ -50,7 +51,7 @@ pub fn validation<'a>(
     ensures { IfOk result (λ v. AreRequested checks.now (option_map (λ b. b.now) bytes.entry)
         (options_of v)) }
 {
-    let mut validation = base(alloc, checks.options, bytes)?;
+    let mut validation = base_options(alloc, checks.options, bytes)?;
     make_strict_if(alloc, &mut validation, checks.is_strict)?;
     change(alloc, &mut validation, checks)?;
     set_algorithms(alloc, &mut validation, checks.algorithms)?;
@@ -64,7 +65,7 @@ fn make_strict_if(
     is_strict: bool,
 ) -> Result<(), Fault<'static>>
     ensures strict { OnOk result (options_of validation.new
-        ≡ strict_if is_strict (options_of validation.old)) }
+        ≡ strict_options_if is_strict (options_of validation.old)) }
     ensures algorithms { OnOk result (validation.new.algorithms.items
         ≡ validation.old.algorithms.items) }
 {
@@ -80,7 +81,7 @@ fn make_strict_if(
 /// Makes options strict: `nbf` is checked, without leeway, a token is refused from its `exp` on,
 /// and the claims that have a value are required.
 fn make_strict(alloc: Global, validation: &mut Validation) -> Result<(), Error>
-    ensures { OnOk result (options_of validation.new ≡ made_strict (options_of validation.old)) }
+    ensures { OnOk result (options_of validation.new ≡ strict_options (options_of validation.old)) }
 {
     validation.leeway = 0;
     let seconds = validation.reject_tokens_expiring_in_less_than;
@@ -106,7 +107,7 @@ fn set_times(validation: &mut Validation, checks: &Checks<'_, '_>)
 }
 
 /// Returns the options that a JSON file describes, or those that are the default without a file.
-fn base<'a>(
+fn base_options<'a>(
     alloc: Global,
     path: Option<&'a str>,
     bytes: Option<&[u8]>,
@@ -116,16 +117,20 @@ fn base<'a>(
         ⊎ IsNoBase (option_map (λ b. b.now) bytes.entry)) }
 {
     let Some(bytes) = bytes else {
-        return plain(alloc);
+        return default_validation(alloc);
     };
     match Validation::from_slice(alloc, bytes) {
         Ok(validation) => Ok(validation),
-        Err(error) => Err(not_options(path.unwrap_or(""), &error)),
+        Err(error) => {
+            let path = path.unwrap_or("");
+            let problem = "these are not the options of a validation in JSON";
+            Err(fault_of(&error, Fault::File { path, problem }))
+        }
     }
 }
 
 /// Returns the default options, with no algorithm.
-fn plain(alloc: Global) -> Result<Validation, Fault<'static>>
+fn default_validation(alloc: Global) -> Result<Validation, Fault<'static>>
     ensures ok { IfOk result (λ v. options_of v ≡ default_options []) }
     ensures err { IfErr result (λ e. e ≡ Fault.Memory) }
 {
@@ -138,19 +143,6 @@ fn plain(alloc: Global) -> Result<Validation, Fault<'static>>
     }
 }
 
-/// Returns the fault of a file that holds something else than options, unless memory ran out.
-fn not_options<'a>(path: &'a str, error: &Error) -> Fault<'a>
-    ensures { IsMemory error.now → result ≡ Fault.Memory }
-{
-    match error.kind() {
-        ErrorKind::OutOfMemory => Fault::Memory,
-        _ => Fault::File {
-            path,
-            problem: "these are not the options of a validation in JSON",
-        },
-    }
-}
-
 /// Changes the options as the arguments ask for, but for the algorithms.
 fn change(
     alloc: Global,
@@ -158,7 +150,7 @@ fn change(
     checks: &Checks<'_, '_>,
 ) -> Result<(), Fault<'static>>
     ensures { OnOk result (options_of validation.new
-        ≡ changed checks.now (options_of validation.old) validation.old.algorithms.items) }
+        ≡ changed_options checks.now (options_of validation.old) validation.old.algorithms.items) }
 {
     let Ok(()) = set_names(alloc, validation, checks) else {
         return Err(Fault::Memory);
@@ -175,8 +167,8 @@ fn set_names(
     checks: &Checks<'_, '_>,
 ) -> Result<(), Error>
     ensures { OnOk result (options_of validation.new ≡ record (options_of validation.old) {
-      aud = given_or checks.now.audiences (options_of validation.old).aud;
-      iss = given_or checks.now.issuers (options_of validation.old).iss;
+      aud = texts_or checks.now.audiences (options_of validation.old).aud;
+      iss = texts_or checks.now.issuers (options_of validation.old).iss;
       sub = option_or (option_map (λ s. s.now) checks.now.subject) (options_of validation.old).sub;
       understood = unwrap_or (option_map (λ names. among (λ s. s.now) names.now)
           checks.now.understood) (options_of validation.old).understood;
@@ -195,7 +187,7 @@ fn set_audiences(
     names: Option<&[&str]>,
 ) -> Result<(), Error>
     ensures { OnOk result (options_of validation.new ≡ record (options_of validation.old)
-        { aud = given_or names.entry (options_of validation.old).aud }) }
+        { aud = texts_or names.entry (options_of validation.old).aud }) }
 {
     match names {
         Some(names) => validation.set_audience(alloc, names),
@@ -209,7 +201,7 @@ fn set_issuers(
     names: Option<&[&str]>,
 ) -> Result<(), Error>
     ensures { OnOk result (options_of validation.new ≡ record (options_of validation.old)
-        { iss = given_or names.entry (options_of validation.old).iss }) }
+        { iss = texts_or names.entry (options_of validation.old).iss }) }
 {
     match names {
         Some(names) => validation.set_issuer(alloc, names),
@@ -250,7 +242,7 @@ fn set_required(
     checks: &Checks<'_, '_>,
 ) -> Result<(), Fault<'static>>
     ensures { OnOk result ((t : _) → contains_text claims.new t
-        ≡ required checks.now (contains_text claims.old) t) }
+        ≡ required_claims checks.now (contains_text claims.old) t) }
 {
     skip_exp(claims, checks.skips_exp);
     require_named(alloc, claims, checks.required)?;
@@ -262,7 +254,8 @@ fn set_required(
 
 /// Removes the name of the claim `exp`, if it is not checked.
 fn skip_exp(claims: &mut HashSet<String>, skips_exp: bool)
-    ensures { (t : _) → contains_text claims.new t ≡ kept skips_exp (contains_text claims.old) t }
+    ensures { (t : _) → contains_text claims.new t
+        ≡ kept_claims skips_exp (contains_text claims.old) t }
 {
     if skips_exp {
         claims.remove("exp");
@@ -276,7 +269,7 @@ fn require_named(
     names: Option<&[&str]>,
 ) -> Result<(), Fault<'static>>
     ensures { OnOk result ((t : _) → contains_text claims.new t
-        ≡ (given names.entry t || contains_text claims.old t)) }
+        ≡ (given_texts names.entry t || contains_text claims.old t)) }
 {
     match names {
         Some(names) => require_all(alloc, claims, names),

@@ -1,7 +1,7 @@
 //! Findings about the parts of a token: their contents and those that a failed test asks for.
 
 use crate::fault::{Fault, unless_refused};
-use crate::findings::{Finding, part_value, quoted};
+use crate::findings::{Finding, part_value, quote};
 use crate::wrappings::wrapping_of;
 use jsonwebtoken::{Test, decode_header};
 use jwt_base::serialization::part_bytes;
@@ -17,7 +17,7 @@ pub struct Parts<'t> {
 }
 
 /// Returns the parts between the last two dots and around them, if there are two.
-pub fn cut(token: &[u8]) -> Option<Parts<'_>> {
+pub fn split_parts(token: &[u8]) -> Option<Parts<'_>> {
     let mut parts = token.rsplitn(3, |byte| *byte == b'.');
     let signature = parts.next()?;
     let payload = parts.next()?;
@@ -85,14 +85,14 @@ pub fn part_finding(
         return Finding::new(alloc, found.found, found.wanted);
     }
     Ok(Finding {
-        found: found_of(alloc, part, test)?,
-        wanted: String::from_str(alloc, wanted_of(test))?,
+        found: found_text(alloc, part, test)?,
+        wanted: String::from_str(alloc, wanted_text(test))?,
     })
 }
 
 /// Returns the finding of a text whose header or claims can't be read.
 pub fn unread_finding(alloc: Global, token: &[u8]) -> Result<Finding, Fault<'static>> {
-    let Some(parts) = cut(token) else {
+    let Some(parts) = split_parts(token) else {
         return text_finding(alloc, token);
     };
     if let Some(test) = header_test(alloc, token, parts.header)? {
@@ -105,15 +105,15 @@ pub fn unread_finding(alloc: Global, token: &[u8]) -> Result<Finding, Fault<'sta
     part_finding(alloc, token, parts.payload, test)
 }
 
-fn found_of(alloc: Global, part: &[u8], test: Test) -> Result<String, Fault<'static>> {
+fn found_text(alloc: Global, part: &[u8], test: Test) -> Result<String, Fault<'static>> {
     if let Test::HeaderIsPart | Test::SignatureIsPart | Test::PayloadIsPart = test {
-        return Ok(not_base64url(alloc, part)?);
+        return Ok(base64url_problem(alloc, part)?);
     }
     match part_value(alloc, part)? {
         None if part.is_empty() => Ok(String::from_str(alloc, "no bytes")?),
         None => Ok(String::from_str(alloc, "bytes that are not JSON")?),
         Some(value) => {
-            let found = found_value(alloc, &value, test);
+            let found = found_in_value(alloc, &value, test);
             drop(value);
             Ok(found?)
         }
@@ -121,7 +121,7 @@ fn found_of(alloc: Global, part: &[u8], test: Test) -> Result<String, Fault<'sta
 }
 
 /// Returns why a part is not base64url.
-fn not_base64url(alloc: Global, part: &[u8]) -> Result<String, AllocError> {
+fn base64url_problem(alloc: Global, part: &[u8]) -> Result<String, AllocError> {
     if let Some(place) = part.iter().position(|byte| !is_of_base64url(*byte)) {
         let name = part.get(place).copied().map_or("", byte_name);
         return format!(in alloc; "{name}, at byte {} of the part", place as u64 + 1);
@@ -147,22 +147,22 @@ fn byte_name(byte: u8) -> &'static str {
     }
 }
 
-fn found_value(alloc: Global, value: &Value, test: Test) -> Result<String, AllocError> {
+fn found_in_value(alloc: Global, value: &Value, test: Test) -> Result<String, AllocError> {
     match test {
-        Test::HeaderReads => not_header(alloc, value),
+        Test::HeaderReads => header_problem(alloc, value),
         _ => String::from_str(alloc, type_name(value)),
     }
 }
 
 /// Returns why a value is not a header.
-fn not_header(alloc: Global, header: &Value) -> Result<String, AllocError> {
+fn header_problem(alloc: Global, header: &Value) -> Result<String, AllocError> {
     if header.as_object().is_none() {
         return String::from_str(alloc, type_name(header));
     }
     match header.get("alg") {
         None => String::from_str(alloc, "no 'alg'"),
         Some(Value::String(name)) if name.parse::<jsonwebtoken::Algorithm>().is_err() => {
-            format!(in alloc; "the algorithm {}", quoted(alloc, name.as_str())?)
+            format!(in alloc; "the algorithm {}", quote(alloc, name.as_str())?)
         }
         Some(Value::String(_)) => String::from_str(alloc, "a member of another type, or a float"),
         Some(other) => format!(in alloc; "{} as 'alg'", type_name(other)),
@@ -170,7 +170,7 @@ fn not_header(alloc: Global, header: &Value) -> Result<String, AllocError> {
 }
 
 /// Returns what a test of a part asks for.
-fn wanted_of(test: Test) -> &'static str {
+fn wanted_text(test: Test) -> &'static str {
     match test {
         Test::HeaderIsPart | Test::SignatureIsPart | Test::PayloadIsPart => {
             "base64url without padding (RFC 7515 section 2)"

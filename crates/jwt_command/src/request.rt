@@ -8,7 +8,7 @@ ghost use Rattle.jwt_command.specs.Arguments.{IsHash, IsKeyFile, IsNumberOf, IsR
 ghost use Rattle.jwt_command.specs.Arguments.{IsShowing, IsSigningOf};
 
 use crate::fault::Fault;
-use crate::moments::{moment, seconds};
+use crate::moments::{parse_span, parse_time};
 use clap::ArgMatches;
 use jsonwebtoken::Algorithm;
 use jsonwebtoken::jwk::ThumbprintHash;
@@ -248,7 +248,7 @@ fn span(
     let Some(text) = matches.get_str(id) else {
         return Ok(None);
     };
-    match seconds(text) {
+    match parse_span(text) {
         Some(seconds) => Ok(Some(seconds)),
         None => Err(Fault::Usage(mistake)),
     }
@@ -260,8 +260,8 @@ fn time(matches: &ArgMatches<'_>, id: &str) -> Result<Option<u64>, Fault<'static
     let Some(text) = matches.get_str(id) else {
         return Ok(None);
     };
-    match moment(text) {
-        Some(moment) => Ok(Some(moment)),
+    match parse_time(text) {
+        Some(time) => Ok(Some(time)),
         None => Err(Fault::Usage(
             "--now wants seconds since 1970 UTC, or a time such as 2026-01-31T12:00:00Z",
         )),

@@ -17,8 +17,8 @@ pub struct Salvage {
 
 /// Returns the header and the claims of a text, of which nothing is verified, as far as they are
 /// JSON in base64url. Text around a token is left out, such as quotes or the word Bearer.
-pub fn salvaged_from(alloc: Global, text: &[u8]) -> Result<Salvage, Fault<'static>> {
-    let token = url_decoded(alloc, likely_token(text))?;
+pub fn salvage_of(alloc: Global, text: &[u8]) -> Result<Salvage, Fault<'static>> {
+    let token = decode_url(alloc, likely_token(text))?;
     let is_encrypted = is_encrypted(&token);
     let mut parts = token.split(|byte| *byte == b'.');
     let header = value_of(alloc, parts.next())?;
@@ -32,7 +32,7 @@ pub fn salvaged_from(alloc: Global, text: &[u8]) -> Result<Salvage, Fault<'stati
 }
 
 /// Returns a text with each byte that is URL-encoded in its place.
-fn url_decoded(alloc: Global, text: &[u8]) -> Result<Vec<u8>, AllocError> {
+fn decode_url(alloc: Global, text: &[u8]) -> Result<Vec<u8>, AllocError> {
     let mut bytes = Vec::new(alloc);
     let mut left = 0;
     for (place, byte) in text.iter().enumerate() {
@@ -74,7 +74,7 @@ fn digit(byte: u8) -> Option<u8> {
 fn likely_token(text: &[u8]) -> &[u8] {
     let mut likely = None;
     for run in text.split(|byte| !is_of_token(*byte)) {
-        let run = without_name(run);
+        let run = strip_name(run);
         if has_dot(run) {
             if run.starts_with(b"eyJ") {
                 return run;
@@ -91,7 +91,7 @@ fn is_of_token(byte: u8) -> bool {
 }
 
 /// Returns the bytes after a name and '='.
-fn without_name(run: &[u8]) -> &[u8] {
+fn strip_name(run: &[u8]) -> &[u8] {
     let Some(place) = run.iter().position(|byte| matches!(*byte, b'=' | b'.')) else {
         return run;
     };

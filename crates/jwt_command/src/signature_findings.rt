@@ -1,8 +1,9 @@
 //! Findings about the signature of a token: its number of bytes and that of a signature by the
 //! key.
 
+use crate::case::Case;
 use crate::fault::{Fault, unless_refused};
-use crate::findings::{Case, Finding};
+use crate::findings::Finding;
 use crate::part_findings::Parts;
 use jsonwebtoken::{
     Algorithm, AlgorithmFamily, DecodingKey, DecodingKeyKind, Header, decode_header,
@@ -45,7 +46,7 @@ pub fn length_finding(
         )?));
     }
     Ok(Some(Finding {
-        found: length_found(alloc, lengths)?,
+        found: found_length(alloc, lengths)?,
         wanted: String::from_str(alloc, "the whole token, as it was issued for this key")?,
     }))
 }
@@ -63,7 +64,7 @@ fn lengths_of(
     drop(header);
     Ok(made?.map(|made| Lengths {
         algorithm,
-        found: bytes_of(parts.signature.len()),
+        found: byte_count(parts.signature.len()),
         made,
     }))
 }
@@ -121,7 +122,7 @@ fn length_by_set(
 }
 
 /// Returns the number of whole bytes that characters of base64url stand for.
-fn bytes_of(characters: usize) -> u64 {
+fn byte_count(characters: usize) -> u64 {
     let characters = characters as u64;
     characters / 4 * 3 + characters % 4 * 3 / 4
 }
@@ -139,7 +140,7 @@ fn is_der(alloc: Global, signature: &[u8], algorithm: Algorithm) -> Result<bool,
     }
 }
 
-fn length_found(alloc: Global, lengths: Lengths) -> Result<String, AllocError> {
+fn found_length(alloc: Global, lengths: Lengths) -> Result<String, AllocError> {
     let reason = length_reason(lengths);
     let unit = if lengths.found == 1 { "byte" } else { "bytes" };
     format!(in alloc;

@@ -3,8 +3,7 @@
 ghost use Rattle.std.specs.Prelude.{◌≡◌, IfOk};
 
 use crate::answer::Answer;
-use crate::fault::{Fault, unless_refused};
-use jsonwebtoken::errors::{Error, ErrorKind};
+use crate::fault::{Fault, fault_of, unless_refused};
 use jsonwebtoken::jwk::{Jwk, ThumbprintHash};
 use jwt_key_files::jwk::jwk_from_pem;
 use jwt_standard::StandardProvider;
@@ -34,14 +33,7 @@ fn key<'a>(alloc: Global, path: &'a str, bytes: &[u8]) -> Result<Jwk, Fault<'a>>
     }
     match jwk_from_pem(alloc, bytes) {
         Ok(jwk) => Ok(jwk),
-        Err(error) => Err(fault_of(path, &error, problem)),
-    }
-}
-
-fn fault_of<'a>(path: &'a str, error: &Error, problem: &'static str) -> Fault<'a> {
-    match error.kind() {
-        ErrorKind::OutOfMemory => Fault::Memory,
-        _ => Fault::File { path, problem },
+        Err(error) => Err(fault_of(&error, Fault::File { path, problem })),
     }
 }
 
@@ -63,7 +55,10 @@ fn key_answer<'a>(
                 message: String::new(alloc),
             })
         }
-        Err(error) => Err(fault_of(path, &error, "a key of this type has no thumbprint")),
+        Err(error) => {
+            let problem = "a key of this type has no thumbprint";
+            Err(fault_of(&error, Fault::File { path, problem }))
+        }
     }
 }
 

@@ -13,9 +13,9 @@ ghost use Rattle.jwt_command.specs.Accepted.{checking, order_of, HasType, IsAcce
 ghost use Rattle.jwt_command.specs.Commands.{IsSettled};
 ghost use Rattle.jwt_command.specs.Own.{IsOwn};
 
-use crate::fault::Fault;
-use crate::keys::Loaded;
-use jsonwebtoken::errors::{ErrorKind, Result as Checked};
+use crate::case::Case;
+use crate::fault::{Fault, is_memory};
+use jsonwebtoken::errors::Error;
 use jsonwebtoken::{
     Algorithm, DecodingKey, Header, Refusal, Test, TokenData, Validation, decode_or_refusal,
     decode_with_set_by_own_algorithm, decode_with_set_or_refusal,
@@ -36,124 +36,121 @@ pub enum Denial {
 /// Returns header and claims of a token that is accepted, at the time `time`, in seconds since
 /// 1970-01-01 00:00:00 UTC, or why it is not. If a type is asked for, the header has to have it. If
 /// no algorithm is listed, that of the token's key is, and stays listed.
-pub fn judged(
+pub fn judge(
     alloc: Global,
-    token: &[u8],
-    loaded: &Loaded,
+    case: Case<'_>,
     validation: &mut Validation,
-    time: u64,
-    typ: Option<&str>,
 ) -> Result<Result<TokenData<Value>, Denial>, Fault<'static>>
-    ensures settled { OnOk result (IsSettled loaded.now token.now (options_of validation.old)
-        (options_of validation.new)) }
+    ensures settled { OnOk result (IsSettled case.entry.loaded.now case.entry.token.now
+        (options_of validation.old) (options_of validation.new)) }
     ensures accepted { IfOk result (λ verdict. IfOk verdict (λ d. (t : Contents)
-        × IsAccepted token.now loaded.now.keys (options_of validation.new) time
-        (option_map (λ s. s.now) typ.entry) t
+        × IsAccepted case.entry.token.now case.entry.loaded.now.keys (options_of validation.new)
+        case.entry.time (option_map (λ s. s.now) case.entry.typ) t
         × (t.header ≡ d.header) × (view d.claims ≡ t.payload_value))) }
-    ensures denied { IfOk result (λ verdict. IfErr verdict (IsDenied token.now loaded.now.keys
-        (options_of validation.new) time (option_map (λ s. s.now) typ.entry))) }
+    ensures denied { IfOk result (λ verdict. IfErr verdict (IsDenied case.entry.token.now
+        case.entry.loaded.now.keys (options_of validation.new) case.entry.time
+        (option_map (λ s. s.now) case.entry.typ))) }
     ensures err { IfErr result (λ fault. fault ≡ Fault.Memory) }
 {
-    match decoded(alloc, token, loaded, validation, time) {
-        Ok(contents) => Ok(typed(contents, typ)),
+    match decode_token(alloc, case, validation) {
+        Ok(contents) => Ok(check_type(contents, case.typ)),
         Err(refusal) => {
-            let denial = refused(refusal)?;
+            let denial = denial_by(refusal)?;
             Ok(Err(denial))
         }
     }
 }
 
-/// Returns why [`judged`] does not accept a token, or `None` if it does.
+/// Returns why [`judge`] does not accept a token, or `None` if it does.
 pub fn denial_of(
     alloc: Global,
-    token: &[u8],
-    loaded: &Loaded,
+    case: Case<'_>,
     validation: &mut Validation,
-    time: u64,
-    typ: Option<&str>,
 ) -> Result<Option<Denial>, Fault<'static>>
-    ensures settled { OnOk result (IsSettled loaded.now token.now (options_of validation.old)
-        (options_of validation.new)) }
+    ensures settled { OnOk result (IsSettled case.entry.loaded.now case.entry.token.now
+        (options_of validation.old) (options_of validation.new)) }
     ensures accepted { IfOk result (λ denial. IfNone denial ((t : Contents)
-        × IsAccepted token.now loaded.now.keys (options_of validation.new) time
-        (option_map (λ s. s.now) typ.entry) t)) }
-    ensures denied { IfOk result (λ denial. IfSome denial (IsDenied token.now loaded.now.keys
-        (options_of validation.new) time (option_map (λ s. s.now) typ.entry))) }
+        × IsAccepted case.entry.token.now case.entry.loaded.now.keys (options_of validation.new)
+        case.entry.time (option_map (λ s. s.now) case.entry.typ) t)) }
+    ensures denied { IfOk result (λ denial. IfSome denial (IsDenied case.entry.token.now
+        case.entry.loaded.now.keys (options_of validation.new) case.entry.time
+        (option_map (λ s. s.now) case.entry.typ))) }
     ensures err { IfErr result (λ fault. fault ≡ Fault.Memory) }
 {
-    let verdict = judged(alloc, token, loaded, validation, time, typ)?;
+    let verdict = judge(alloc, case, validation)?;
     Ok(verdict.err())
 }
 
 /// Returns header and claims of a token that passes each test of `decode`, or of `decode_with_set`
 /// if the keys are a set. If no algorithm is listed, that of the token's key is, and stays listed.
 /// The header is read once.
-fn decoded(
+fn decode_token(
     alloc: Global,
-    token: &[u8],
-    loaded: &Loaded,
+    case: Case<'_>,
     validation: &mut Validation,
-    time: u64,
 ) -> Result<TokenData<Value>, Refusal>
-    ensures { let call = checking token.now loaded.now.keys (options_of validation.new) time in
+    ensures { let call = checking case.entry.token.now case.entry.loaded.now.keys
+        (options_of validation.new) case.entry.time in
         IsErrAnd result (λ refusal. IsMemory refusal.error)
-        ⊎ (IsSettled loaded.now token.now (options_of validation.old) (options_of validation.new)
-        × DecidesByTest (token_tests call) (order_of loaded.now.keys) (Carries call) result) }
+        ⊎ (IsSettled case.entry.loaded.now case.entry.token.now (options_of validation.old)
+        (options_of validation.new)
+        × DecidesByTest (token_tests call) (order_of case.entry.loaded.now.keys) (Carries call)
+        result) }
 {
     if validation.algorithms.is_empty() {
-        decoded_by_own(alloc, token, loaded, validation, time)
+        decode_by_own(alloc, case, validation)
     } else {
-        decoded_by_listed(alloc, token, loaded, validation, time)
+        decode_by_listed(alloc, case, validation)
     }
 }
 
 /// Returns header and claims of a token that passes each test, by the algorithm that its key is
 /// for, which stays listed. It is an algorithm of the key and never of the token.
-fn decoded_by_own(
+fn decode_by_own(
     alloc: Global,
-    token: &[u8],
-    loaded: &Loaded,
+    case: Case<'_>,
     validation: &mut Validation,
-    time: u64,
 ) -> Result<TokenData<Value>, Refusal>
     ensures decided { let options = options_of validation.new in
-        let call = checking token.now loaded.now.keys options time in
+        let call = checking case.entry.token.now case.entry.loaded.now.keys options
+        case.entry.time in
         IsErrAnd result (λ refusal. IsMemory refusal.error)
-        ⊎ (IsOwn loaded.now token.now validation.new.algorithms.items
-        × DecidesByTest (token_tests call) (order_of loaded.now.keys) (Carries call) result) }
+        ⊎ (IsOwn case.entry.loaded.now case.entry.token.now validation.new.algorithms.items
+        × DecidesByTest (token_tests call) (order_of case.entry.loaded.now.keys) (Carries call)
+        result) }
     ensures rest { options_of validation.new ≡ record (options_of validation.old)
         { algorithms = validation.new.algorithms.items } }
 {
-    let provider = &loaded.provider;
-    match &loaded.keys {
-        Keys::One(key) => decoded_by_own_key(alloc, token, loaded, key, validation, time),
+    let provider = &case.loaded.provider;
+    let token = case.token;
+    match &case.loaded.keys {
+        Keys::One(key) => decode_by_own_key(alloc, case, key, validation),
         Keys::Set(set) => {
-            decode_with_set_by_own_algorithm(alloc, &provider, token, set, validation, time)
+            decode_with_set_by_own_algorithm(alloc, &provider, token, set, validation, case.time)
         }
     }
 }
 
 /// Returns header and claims of a token that passes each test of `decode`, by the algorithm that
 /// the one key is for, which stays listed.
-fn decoded_by_own_key(
+fn decode_by_own_key(
     alloc: Global,
-    token: &[u8],
-    loaded: &Loaded,
+    case: Case<'_>,
     key: &DecodingKey,
     validation: &mut Validation,
-    time: u64,
 ) -> Result<TokenData<Value>, Refusal>
     ensures decided { let options = options_of validation.new in
-        let call = checking token.now (Keys.One key.now) options time in
+        let call = checking case.entry.token.now (Keys.One key.now) options
+        case.entry.time in
         IsErrAnd result (λ refusal. IsMemory refusal.error)
-        ⊎ ((validation.new.algorithms.items ≡ listed loaded.now.own)
+        ⊎ ((validation.new.algorithms.items ≡ listed case.entry.loaded.now.own)
         × DecidesByTest (token_tests call) decode_order (Carries call) result) }
     ensures rest { options_of validation.new ≡ record (options_of validation.old)
         { algorithms = validation.new.algorithms.items } }
 {
-    let provider = &loaded.provider;
-    match list(validation, loaded.own) {
-        Ok(()) => decode_or_refusal(alloc, &provider, token, key, validation, time),
+    let provider = &case.loaded.provider;
+    match list_own(validation, case.loaded.own) {
+        Ok(()) => decode_or_refusal(alloc, &provider, case.token, key, validation, case.time),
         Err(error) => Err(Refusal {
             test: Test::HeaderReads,
             error,
@@ -163,7 +160,7 @@ fn decoded_by_own_key(
 
 /// Lists the algorithm that a key is for as the only one that is accepted. If there is none, no
 /// algorithm is.
-fn list(validation: &mut Validation, own: Option<Algorithm>) -> Checked<()>
+fn list_own(validation: &mut Validation, own: Option<Algorithm>) -> Result<(), Error>
     ensures own { OnOk result (validation.new.algorithms.items ≡ listed own) }
     ensures rest { options_of validation.new ≡ record (options_of validation.old)
         { algorithms = validation.new.algorithms.items } }
@@ -177,27 +174,29 @@ fn list(validation: &mut Validation, own: Option<Algorithm>) -> Checked<()>
 }
 
 /// Returns header and claims of a token that passes each test, by the algorithms that are listed.
-fn decoded_by_listed(
+fn decode_by_listed(
     alloc: Global,
-    token: &[u8],
-    loaded: &Loaded,
+    case: Case<'_>,
     validation: &Validation,
-    time: u64,
 ) -> Result<TokenData<Value>, Refusal>
-    ensures { let call = checking token.now loaded.now.keys (options_of validation.now) time in
-        DecidesByTest (token_tests call) (order_of loaded.now.keys) (Carries call) result }
+    ensures { let call = checking case.entry.token.now case.entry.loaded.now.keys
+        (options_of validation.now) case.entry.time in
+        DecidesByTest (token_tests call) (order_of case.entry.loaded.now.keys) (Carries call)
+        result }
 {
-    let provider = &loaded.provider;
-    match &loaded.keys {
-        Keys::One(key) => decode_or_refusal(alloc, &provider, token, key, validation, time),
+    let provider = &case.loaded.provider;
+    match &case.loaded.keys {
+        Keys::One(key) => decode_or_refusal(
+            alloc, &provider, case.token, key, validation, case.time,
+        ),
         Keys::Set(set) => decode_with_set_or_refusal(
-            alloc, &provider, token, set, validation, time,
+            alloc, &provider, case.token, set, validation, case.time,
         ),
     }
 }
 
 /// Returns header and claims, unless the header has another type than the one that is asked for.
-fn typed(contents: TokenData<Value>, typ: Option<&str>) -> Result<TokenData<Value>, Denial>
+fn check_type(contents: TokenData<Value>, typ: Option<&str>) -> Result<TokenData<Value>, Denial>
     ensures accepted { IfOk result (λ d. (d ≡ contents)
         × HasType (option_map (λ s. s.now) typ.entry) contents.header) }
     ensures denied { IfErr result (λ denial. (denial ≡ Denial.OtherType)
@@ -225,12 +224,12 @@ fn has_type(header: &Header, typ: Option<&str>) -> bool
 }
 
 /// Returns the denial of a token that is refused, unless memory ran out.
-fn refused(refusal: Refusal) -> Result<Denial, Fault<'static>>
+fn denial_by(refusal: Refusal) -> Result<Denial, Fault<'static>>
     ensures ok { IfOk result (λ denial. (denial ≡ Denial.Refused refusal)
         × ¬ IsMemory refusal.error) }
     ensures err { IfErr result (λ fault. (fault ≡ Fault.Memory) × IsMemory refusal.error) }
 {
-    if matches!(refusal.error.kind(), ErrorKind::OutOfMemory) {
+    if is_memory(&refusal.error) {
         return Err(Fault::Memory);
     }
     Ok(Denial::Refused(refusal))

@@ -9,10 +9,10 @@ ghost use Rattle.jwt_command.specs.Commands.{IsSettled};
 
 use crate::advice::{denial_lines, denial_name, denied_claim};
 use crate::answer::{Answer, value_line};
+use crate::case::Case;
 use crate::fault::Fault;
-use crate::keys::Loaded;
 use crate::orders::TYPE_AGREES;
-use crate::verdict::{Denial, judged};
+use crate::verdict::{Denial, judge};
 use jsonwebtoken::{Header, TokenData, Validation};
 use serde_json::Value;
 use std::alloc::{AllocError, Global};
@@ -35,25 +35,24 @@ pub enum Form {
 /// refused. If the options name no algorithm, that of the token's key is listed there, and stays.
 pub fn verify_answer(
     alloc: Global,
-    token: &[u8],
-    loaded: &Loaded,
+    case: Case<'_>,
     validation: &mut Validation,
-    time: u64,
-    typ: Option<&str>,
     form: Form,
 ) -> Result<Answer, Fault<'static>>
     ensures { IfOk result (λ a.
-        IsSettled loaded.now token.now (options_of validation.old) (options_of validation.new)
-        × IsVerifyAnswer token.now loaded.now.keys (options_of validation.new) time
-        (option_map (λ s. s.now) typ.entry) form a.status (string_bytes a.output)) }
+        IsSettled case.entry.loaded.now case.entry.token.now (options_of validation.old)
+        (options_of validation.new)
+        × IsVerifyAnswer case.entry.token.now case.entry.loaded.now.keys
+        (options_of validation.new) case.entry.time (option_map (λ s. s.now) case.entry.typ) form
+        a.status (string_bytes a.output)) }
 {
-    match judged(alloc, token, loaded, validation, time, typ)? {
+    match judge(alloc, case, validation)? {
         Ok(contents) => {
             let answer = accepted_answer(alloc, &contents, form);
             drop(contents);
             answer
         }
-        Err(denial) => denied_answer(alloc, &denial, loaded.has_line_end, form),
+        Err(denial) => denied_answer(alloc, &denial, case.loaded.has_line_end, form),
     }
 }
 
@@ -151,7 +150,7 @@ fn push_denial(line: &mut String, denial: &Denial) -> Result<(), AllocError> {
     if let Some(claim) = denied_claim(denial) {
         push_member(line, "claim", claim)?;
     }
-    push_member(line, "test", failed_name(denial))?;
+    push_member(line, "test", failed_test_name(denial))?;
     line.push_str("}\n")
 }
 
@@ -165,7 +164,7 @@ fn push_member(line: &mut String, name: &str, text: &str) -> Result<(), AllocErr
 }
 
 /// Returns the name of the test that failed.
-fn failed_name(denial: &Denial) -> &'static str {
+fn failed_test_name(denial: &Denial) -> &'static str {
     match denial {
         Denial::Refused(refusal) => refusal.test.name(),
         Denial::OtherType => TYPE_AGREES,

@@ -153,17 +153,17 @@ pub fn wrapping_of(text: &[u8]) -> Option<Wrapping> {
     }
     match mark_before(text) {
         Some(found) => Some(found),
-        None => contents(text),
+        None => inner_wrapping(text),
     }
 }
 
 /// Returns whether a text has the five parts of an encrypted token.
 pub fn is_encrypted(text: &[u8]) -> bool {
-    parts(text) == 5
+    part_count(text) == 5
 }
 
 /// Returns the number of parts of a text, between dots.
-fn parts(text: &[u8]) -> usize {
+fn part_count(text: &[u8]) -> usize {
     text.split(|byte| *byte == b'.').count()
 }
 
@@ -196,7 +196,7 @@ fn mark_before(text: &[u8]) -> Option<Wrapping> {
     None
 }
 
-fn contents(text: &[u8]) -> Option<Wrapping> {
+fn inner_wrapping(text: &[u8]) -> Option<Wrapping> {
     if is_encoded(text) {
         return Some(ENCODED);
     }
@@ -206,7 +206,7 @@ fn contents(text: &[u8]) -> Option<Wrapping> {
     if is_shortened(text) {
         return Some(SHORTENED);
     }
-    if parts(text) == 5 {
+    if part_count(text) == 5 {
         return Some(ENCRYPTED);
     }
     None

@@ -5,7 +5,7 @@ use Rattle.jwt_command.proofs.lines.line_answer.Goals as goal
 
 pub returns : goal.returns
 returns g c =
-    let token = c.without_line_end-token in
+    let token = c.strip_line_end-token in
     let settled = options_of c.verify_answer.new.validation in
     let says = c.in_ok-answer.ensures in (
       (
@@ -17,6 +17,6 @@ returns g c =
         ),
       ),
       as_before c.args.loaded.now token.result.now (options_of c.args.validation.now) settled
-          (options_of c.forget_own.new.validation) c.names_none-is_own.result c.names_none-is_own.ensures.none
-          c.names_none-is_own.ensures.some says.0 c.forget_own.ensures.own c.forget_own.ensures.given,
+          (options_of c.forget_own.new.validation) c.has_no_algorithm-is_own.result c.has_no_algorithm-is_own.ensures.none
+          c.has_no_algorithm-is_own.ensures.some says.0 c.forget_own.ensures.own c.forget_own.ensures.given,
     )

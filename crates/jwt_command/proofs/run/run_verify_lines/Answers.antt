@@ -1,6 +1,6 @@
 use Rattle.jwt_validation.specs.OptionsOf.{options_of}
 use Rattle.jwt_command.proofs.Settled.{same_keys}
-use Rattle.jwt_command.proofs.run.verify_lines.Goals as goal
+use Rattle.jwt_command.proofs.run.run_verify_lines.Goals as goal
 
 pub returns : goal.returns
 returns g c = (

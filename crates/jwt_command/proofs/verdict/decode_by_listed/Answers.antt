@@ -1,4 +1,4 @@
-use Rattle.jwt_command.proofs.verdict.decoded_by_listed.Goals as goal
+use Rattle.jwt_command.proofs.verdict.decode_by_listed.Goals as goal
 
 pub returns-in-One : goal.returns-in-One
 returns-in-One c = rw c.in-One.is c.decode_or_refusal.ensures

@@ -1,5 +1,5 @@
 use Rattle.std.proofs.Common.{◌≡◌, Option, Some, None, is_some, option_map, refl, ◌∙◌}
-use Rattle.jwt_command.proofs.run.prepared.Goals as goal
+use Rattle.jwt_command.proofs.run.keys_and_options.Goals as goal
 
 is_some-option_map : {A B : Type 0} (f : A → B) (o : Option A) → is_some (option_map f o) ≡ is_some o
 is_some-option_map f None = refl

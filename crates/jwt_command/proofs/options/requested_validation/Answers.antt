@@ -1,6 +1,6 @@
 use Rattle.jwt_validation.specs.OptionsOf.{options_of}
 use Rattle.jwt_command.proofs.Required.{requested}
-use Rattle.jwt_command.proofs.options.validation.Goals as goal
+use Rattle.jwt_command.proofs.options.requested_validation.Goals as goal
 
 pub returns : goal.returns
 returns c =

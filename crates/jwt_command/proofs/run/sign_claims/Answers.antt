@@ -2,7 +2,7 @@ use Rattle.std.proofs.Common.{subst, string_bytes}
 use Rattle.std.proofs.lemmas.Result.{IfOk-weaker}
 use Rattle.jwt_command.specs.Answers.{IsSignAnswer}
 use Rattle.jwt_command.specs.Claimed.{header_asked}
-use Rattle.jwt_command.proofs.run.signed.Goals as goal
+use Rattle.jwt_command.proofs.run.sign_claims.Goals as goal
 
 pub returns : goal.returns
 returns c =

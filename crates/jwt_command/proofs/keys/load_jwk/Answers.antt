@@ -1,11 +1,11 @@
 use Rattle.std.proofs.Common.{◌∙◌, inl, inr}
 use Rattle.std.proofs.lemmas.Result.{IfOk-weaker}
 use Rattle.jwt_command.proofs.Unread.{unless_memory}
-use Rattle.jwt_command.proofs.keys.by_jwk.Goals as goal
+use Rattle.jwt_command.proofs.keys.load_jwk.Goals as goal
 
 pub returns-in-Ok-read-clause-ok : goal.returns-in-Ok-read-clause-ok
 returns-in-Ok-read-clause-ok c =
-    IfOk-weaker c.with_key.result _ _
+    IfOk-weaker c.accept_key.result _ _
     (λ l says. (
       c.in-Ok.jwk,
       c.in-Ok.ensures.ok,
@@ -17,9 +17,9 @@ returns-in-Ok-read-clause-ok c =
         says.2
             ∙ c.own_algorithm-own.ensures,
       ),
-    )) c.with_key.ensures.ok
+    )) c.accept_key.ensures.ok
 
 pub returns-in-Err-read-clause-err : goal.returns-in-Err-read-clause-err
 returns-in-Err-read-clause-err c =
-    unless_memory _ _ _ c.in-Err-read.ensures.err c.not_keys-in-Err-read.ensures
+    unless_memory _ _ _ c.in-Err-read.ensures.err c.fault_of-in-Err-read.ensures
     (λ none. inr (inl (c.in-Ok.jwk, c.in-Ok.ensures.ok, none)))
