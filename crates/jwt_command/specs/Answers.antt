@@ -13,7 +13,7 @@ use Rattle.jsonwebtoken.specs.Order.{Passes, FailsFirst}
 use Rattle.jsonwebtoken.specs.Tests.{Contents}
 use Rattle.jwt_command.specs.Accepted.{IsAccepted, IsDenied}
 use Rattle.jwt_verifier.specs.declared.keys.Keys.{Keys}
-use Rattle.jwt_command.specs.declared.verdict.Denial.{Denial}
+use Rattle.jwt_command.specs.declared.verify.verdict.Denial.{Denial}
 use Rattle.jwt_command.specs.declared.verify.Form.{Form}
 use Rattle.jwt_command.specs.declared.verify.Form.TheVariants.{Claims, HeaderAndClaims, Json}
 

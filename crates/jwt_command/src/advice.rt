@@ -1,6 +1,6 @@
 //! Refusals in sentences.
 
-use crate::verdict::Denial;
+use crate::verify::verdict::Denial;
 use jsonwebtoken::errors::{Error, ErrorKind};
 use std::alloc::{AllocError, Global};
 

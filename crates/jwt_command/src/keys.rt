@@ -20,9 +20,14 @@ ghost use Rattle.jsonwebtoken.specs.Own.{own_of};
 ghost use Rattle.jwt_command.specs.LineEnd.{IsSecret};
 ghost use Rattle.jwt_command.specs.FileKeys.{AreLoaded, HasKeysFault};
 
+pub(crate) mod hints;
+pub(crate) mod jwk;
+pub(crate) mod table;
+pub(crate) mod thumbprint;
+
 use crate::fault::{Fault, fault_of, unless_refused};
-use crate::file_hints::{key_problem, pem_problem, set_problem};
 use crate::files::strip_line_end;
+use crate::keys::hints::{key_problem, pem_problem, set_problem};
 use crate::request::KeyFile;
 use jsonwebtoken::errors::{Error, ErrorKind};
 use jsonwebtoken::jwk::{Jwk, JwkSet, own_algorithm};

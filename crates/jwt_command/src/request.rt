@@ -7,8 +7,11 @@ ghost use Rattle.jwt_command.specs.Arguments.{AreChecks, IsChecking, IsCommand, 
 ghost use Rattle.jwt_command.specs.Arguments.{IsHash, IsKeyFile, IsNumberOf, IsRequestOf};
 ghost use Rattle.jwt_command.specs.Arguments.{IsShowing, IsSigningOf};
 
+pub(crate) mod arguments;
+pub(crate) mod spans;
+
 use crate::fault::Fault;
-use crate::moments::{parse_span, parse_time};
+use crate::request::spans::{parse_span, parse_time};
 use clap::ArgMatches;
 use jsonwebtoken::Algorithm;
 use jsonwebtoken::jwk::ThumbprintHash;

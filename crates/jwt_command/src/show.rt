@@ -5,12 +5,15 @@ ghost use Rattle.jwt_base.specs.Kind as kind;
 ghost use Rattle.jwt_base.specs.KindOf.{kind_of};
 ghost use Rattle.jwt_command.specs.Commands.{IsReadable};
 
+pub(crate) mod escapes;
+pub(crate) mod salvage;
+
 use crate::answer::Answer;
-use crate::escapes::escape_late_controls;
+use crate::explain::findings::Finding;
+use crate::explain::part_findings::unread_finding;
 use crate::fault::{Fault, is_memory};
-use crate::findings::Finding;
-use crate::part_findings::unread_finding;
-use crate::salvage::{Salvage, salvage_of};
+use crate::show::escapes::escape_late_controls;
+use crate::show::salvage::{Salvage, salvage_of};
 use crate::times::claim_lines;
 use jsonwebtoken::TokenData;
 use jsonwebtoken::dangerous::insecure_decode;

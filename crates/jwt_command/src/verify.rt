@@ -7,12 +7,17 @@ ghost use Rattle.jwt_command.specs.Answers.{IsHeaderLine, IsAcceptedText, IsRefu
 ghost use Rattle.jwt_command.specs.Answers.{IsVerifyAnswer};
 ghost use Rattle.jwt_command.specs.Commands.{IsSettled};
 
+pub(crate) mod case;
+pub(crate) mod lines;
+pub(crate) mod options;
+pub(crate) mod verdict;
+
 use crate::advice::{denial_lines, denial_name, denied_claim};
 use crate::answer::{Answer, value_line};
-use crate::case::Case;
+use crate::explain::orders::TYPE_AGREES;
 use crate::fault::Fault;
-use crate::orders::TYPE_AGREES;
-use crate::verdict::{Denial, judge};
+use crate::verify::case::Case;
+use crate::verify::verdict::{Denial, judge};
 use jsonwebtoken::{Header, TokenData, Validation};
 use serde_json::Value;
 use std::alloc::{AllocError, Global};
