@@ -65,7 +65,7 @@ pub fn is_memory(error: &Error) -> bool
 
 /// Returns the fault that an error is, unless it says that memory ran out.
 pub fn fault_of<'a>(error: &Error, fault: Fault<'a>) -> Fault<'a>
-    ensures memory { IsMemory error.now → result ≡ Fault.Memory }
+    ensures { IsMemory error.now → result ≡ Fault.Memory }
 {
     if is_memory(error) {
         return Fault::Memory;
