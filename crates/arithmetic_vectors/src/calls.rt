@@ -65,7 +65,7 @@ fn multiply(row: Row<'_>) -> Result<Value, Fault> {
     let a = below(row, "a", &modulus)?;
     let b = below(row, "b", &modulus)?;
     let product = modulus.multiply(row.alloc(), &a, &b)?;
-    reduced(row, &product)
+    reduce(row, &product)
 }
 
 fn modulus(row: Row<'_>) -> Result<Modulus, Fault> {
@@ -95,7 +95,7 @@ fn below(row: Row<'_>, name: &'static str, modulus: &Modulus) -> Result<Natural,
 }
 
 // The number in as many octets as the row has for its modulus.
-fn reduced(row: Row<'_>, number: &Natural) -> Result<Value, Fault> {
+fn reduce(row: Row<'_>, number: &Natural) -> Result<Value, Fault> {
     let count = row.octets("modulus")?.len();
     let octets = number.to_octets(row.alloc(), count)?;
     hexadecimal(row.alloc(), octets.as_slice())
@@ -110,7 +110,7 @@ fn power(row: Row<'_>) -> Result<Value, Fault> {
         return Err(Fault::Member("exponent"));
     }
     let power = modulus.power(row.alloc(), &base, exponent)?;
-    reduced(row, &power)
+    reduce(row, &power)
 }
 
 // The limb at a name, of at most eight octets.

@@ -139,13 +139,13 @@ fn is_sum<F: Residue>(
     let (Some(one), Some(other), Some(wanted)) = (one, other, wanted) else {
         return false;
     };
-    let one = scaled(one, scale);
+    let one = scale(one, scale);
     is_point(add(b, one, other), wanted)
         && (place != other_place || is_point(double(b, one), wanted))
 }
 
 // Returns the same point by other coordinates.
-fn scaled<F: Residue>(point: ProjectivePoint<F>, scale: F) -> ProjectivePoint<F> {
+fn scale<F: Residue>(point: ProjectivePoint<F>, scale: F) -> ProjectivePoint<F> {
     ProjectivePoint {
         x: point.x.times(scale),
         y: point.y.times(scale),

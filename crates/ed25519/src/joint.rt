@@ -18,7 +18,7 @@ use crate::base_table::base_addend;
 use crate::field::FieldElement;
 use crate::moduli::Field;
 use edwards::factors::{
-    Addend, Factors, add_affine, add_to, double_factors, extended, neutral_factors, prepare,
+    Addend, Factors, add_affine, add_to, double_factors, extend, neutral_factors, prepare,
 };
 use edwards::points::{ExtendedPoint, neutral_point};
 use residues::residue::Residue;
@@ -60,7 +60,7 @@ pub fn joint_multiple(
         result = step(result, &others, u / 16, v / 16);
         result = step(result, &others, u % 16, v % 16);
     }
-    extended(result)
+    extend(result)
 }
 
 // The multiples of the point below the 16th.
@@ -73,7 +73,7 @@ fn multiples<F: Field>(point: ExtendedPoint<F>) -> [Addend<F>; 16]
     let mut last = neutral_point();
     let mut table = [prepare(twice_d, last); 16];
     for i in 1..16 {
-        last = extended(add_to(last, one));
+        last = extend(add_to(last, one));
         table[i] = prepare(twice_d, last);
     }
     table
@@ -108,7 +108,7 @@ fn add_of_base(point: Factors<FieldElement>, digit: u8) -> Factors<FieldElement>
     if digit == 0 {
         return point;
     }
-    add_affine(extended(point), base_addend(digit))
+    add_affine(extend(point), base_addend(digit))
 }
 
 // One of the other point's multiples more.
@@ -121,7 +121,7 @@ fn add_of_other<F: Field>(point: Factors<F>, others: &[Addend<F>; 16], digit: u8
     if digit == 0 {
         return point;
     }
-    add_to(extended(point), others[usize::from(digit)])
+    add_to(extend(point), others[usize::from(digit)])
 }
 
 // 16 times the point.

@@ -49,7 +49,7 @@ pub fn neutral_factors<F: Residue>() -> Factors<F>
 }
 
 /// Returns the point of these factors.
-pub fn extended<F: Residue>(factors: Factors<F>) -> ExtendedPoint<F>
+pub fn extend<F: Residue>(factors: Factors<F>) -> ExtendedPoint<F>
     ensures { numbers F.number result ≡ factor_numbers F.number F.modulus factors }
 {
     ExtendedPoint {

@@ -34,7 +34,7 @@ pub fn first_and_last_moment<P: CryptoProvider, T: Claims>(
         provider.now token.now key.now validation.now 0 in
         FindsMoments call decode_order result }
 {
-    let moments = match claimed(alloc, token, validation) {
+    let moments = match claim_moments(alloc, token, validation) {
         Ok(moments) => moments,
         Err(refusal) => {
             test_of(Some(refusal))?;
@@ -60,7 +60,7 @@ pub fn first_and_last_moment_with_set<P: CryptoProvider, T: Claims>(
         provider.now token.now set.now.keys.items validation.now 0 in
         FindsMoments call set_order result }
 {
-    let moments = match claimed(alloc, token, validation) {
+    let moments = match claim_moments(alloc, token, validation) {
         Ok(moments) => moments,
         Err(refusal) => {
             test_of(Some(refusal))?;
@@ -74,7 +74,7 @@ pub fn first_and_last_moment_with_set<P: CryptoProvider, T: Claims>(
 }
 
 /// Returns the times that the claims of a token allow, whatever else holds of it.
-fn claimed(alloc: Global, token: &[u8], validation: &Validation) -> Result<Moments, Refusal>
+fn claim_moments(alloc: Global, token: &[u8], validation: &Validation) -> Result<Moments, Refusal>
     ensures { Step (header_call token.now) value_tests whole (AreClaimed
         (options_of validation.now))
         result }

@@ -61,7 +61,8 @@ pub fn decode_by_verdict<T: Claims>(
     validation: &Validation,
     time: u64,
 ) -> Result<TokenData<T>>
-    ensures { DecidesVouched (decoding_by_verdict T.Claims verdict.now token.now validation.now time)
+    ensures { DecidesVouched
+        (decoding_by_verdict T.Claims verdict.now token.now validation.now time)
         verdict.now result }
 {
     let key = verdict.key(alloc)?;

@@ -25,6 +25,7 @@ pub(crate) mod steps;
 
 pub use crate::decoding::key_set::{decode_with_set, decode_with_set_or_refusal};
 pub use crate::decoding::own::decode_with_set_by_own_algorithm;
+use crate::decoding::parts::Opening;
 use crate::decoding::steps::{read_claims_by_key, read_header_noting, token_parts};
 use crate::refusal::{Refusal, Test, note, with_test};
 use jwt_base::errors::Result;
@@ -134,6 +135,7 @@ pub fn decode_header(alloc: Global, token: &[u8]) -> Result<Header>
         Err(refusal) => return Err(refusal.error),
     };
     let mut failed = Test::HasThreeParts;
+    // bound to a name: the proof cannot refer to a call in tail position
     let header = read_header_noting(alloc, parts.header, &mut failed)?;
     Ok(header)
 }
@@ -157,7 +159,11 @@ fn decode_noting<P: CryptoProvider, T: Claims>(
         Err(refusal) => return Err(note(refusal, failed)),
     };
     let header = read_header_noting(alloc, parts.header, failed)?;
-    let claims = read_claims_by_key(alloc, provider, &parts, &header, key, validation, time);
+    let opening = Opening {
+        parts: &parts,
+        header: &header,
+    };
+    let claims = read_claims_by_key(alloc, provider, opening, key, validation, time);
     match claims {
         Ok(claims) => Ok(TokenData { header, claims }),
         Err(refusal) => Err(note(refusal, failed)),

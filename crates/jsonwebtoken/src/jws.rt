@@ -28,7 +28,7 @@ ghost use Rattle.jsonwebtoken.specs.Tests.{jws_order, token_tests};
 
 use crate::decoding::TokenData;
 use crate::decoding::crit::check_crit;
-use crate::decoding::parts::TokenParts;
+use crate::decoding::parts::{Opening, TokenParts};
 use crate::decoding::steps::{
     check_families, check_listed, check_some_listed, make_verifier, read_header,
     verify_and_read_claims,
@@ -228,6 +228,7 @@ fn decode_by_steps<P: CryptoProvider, T: Claims>(
         payload: token.payload.as_bytes(),
         signature: token.signature.as_bytes(),
     };
+    // bound to a name: the proof cannot refer to a call in tail position
     let data = decode_parts(alloc, provider, &parts, key, validation, time)?;
     Ok(data)
 }
@@ -254,7 +255,11 @@ fn decode_parts<P: CryptoProvider, T: Claims>(
         Step call jws_order whole (Carries call) result }
 {
     let header = read_header(alloc, parts.header)?;
-    let claims = read_claims_by_key(alloc, provider, parts, &header, key, validation, time);
+    let opening = Opening {
+        parts: parts,
+        header: &header,
+    };
+    let claims = read_claims_by_key(alloc, provider, opening, key, validation, time);
     match claims {
         Ok(claims) => Ok(TokenData { header, claims }),
         Err(refusal) => Err(refusal),
@@ -266,20 +271,20 @@ fn decode_parts<P: CryptoProvider, T: Claims>(
 fn read_claims_by_key<P: CryptoProvider, T: Claims>(
     alloc: Global,
     provider: &P,
-    parts: &TokenParts<'_>,
-    header: &Header,
+    opening: Opening<'_>,
     key: &DecodingKey,
     validation: &Validation,
     time: u64,
 ) -> Result<T, Refusal>
     ensures { let call = decoding_parts P.CryptoProvider T.Claims
-        provider.now (parts_in parts.now) key.now validation.now time in
+        provider.now (parts_in opening.parts.now) key.now validation.now time in
         Step call (CritIsUnderstood ∷ (jws_algorithm_tests ++ verifying_tests))
-        (with_opening (parts_in parts.now) header.now) (ShowsClaims T.reads) result }
+        (with_opening (parts_in opening.parts.now) opening.header.now)
+        (ShowsClaims T.reads) result }
 {
-    check_crit(header, validation)?;
-    let verifier = verifier_for(alloc, provider, header, key, validation)?;
-    let claims = verify_and_read_claims(alloc, &verifier, parts, validation, time)?;
+    check_crit(opening.header, validation)?;
+    let verifier = verifier_for(alloc, provider, opening.header, key, validation)?;
+    let claims = verify_and_read_claims(alloc, &verifier, opening.parts, validation, time)?;
     Ok(claims)
 }
 

@@ -89,6 +89,13 @@ pub fn new_error(kind: ErrorKind) -> Error
     Error { kind }
 }
 
+/// Returns the error of an algorithm that is not served, `UnsupportedAlgorithm`.
+pub fn unsupported_algorithm() -> Error
+    ensures { kind_of result ≡ kind.UnsupportedAlgorithm }
+{
+    new_error(ErrorKind::UnsupportedAlgorithm)
+}
+
 impl Error {
     /// Returns the kind that the error holds.
     pub fn kind(&self) -> &ErrorKind
@@ -161,20 +168,23 @@ impl ErrorKind {
         ensures err { IfErr result IsMemory }
     {
         match self {
-            ErrorKind::MissingRequiredClaim(claim) => Ok(ErrorKind::MissingRequiredClaim(copied(
+            ErrorKind::MissingRequiredClaim(claim) => Ok(ErrorKind::MissingRequiredClaim(copy_text(
                 alloc,
                 claim.as_str(),
             )?)),
-            ErrorKind::InvalidClaimFormat(claim) => Ok(ErrorKind::InvalidClaimFormat(copied(
+            ErrorKind::InvalidClaimFormat(claim) => Ok(ErrorKind::InvalidClaimFormat(copy_text(
                 alloc,
                 claim.as_str(),
             )?)),
-            ErrorKind::InvalidRsaKey(message) => Ok(ErrorKind::InvalidRsaKey(copied(
+            ErrorKind::InvalidRsaKey(message) => Ok(ErrorKind::InvalidRsaKey(copy_text(
                 alloc,
                 message.as_str(),
             )?)),
-            ErrorKind::Signing(message) => Ok(ErrorKind::Signing(copied(alloc, message.as_str())?)),
-            ErrorKind::Provider(message) => Ok(ErrorKind::Provider(copied(
+            ErrorKind::Signing(message) => Ok(ErrorKind::Signing(copy_text(
+                alloc,
+                message.as_str(),
+            )?)),
+            ErrorKind::Provider(message) => Ok(ErrorKind::Provider(copy_text(
                 alloc,
                 message.as_str(),
             )?)),
@@ -442,7 +452,7 @@ impl fmt::Display for Error {
     }
 }
 
-fn copied(alloc: Global, text: &str) -> Result<String>
+fn copy_text(alloc: Global, text: &str) -> Result<String>
     ensures ok { IfOk result (λ t. string_bytes t ≡ text.now) }
     ensures err { IfErr result IsMemory }
 {

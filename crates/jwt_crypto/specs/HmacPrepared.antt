@@ -6,11 +6,11 @@ use Rattle.jwt_crypto.specs.Hmac.{mac_by}
 use Rattle.jwt_crypto.specs.HmacKeys.{algorithm_for}
 use Rattle.jwt_crypto.specs.HmacHashers.{hash_of, IsCodeByHeld}
 use Rattle.jwt_crypto.specs.declared.prepared_hashers.PreparedKey.{PreparedKey}
-use Rattle.jwt_crypto.specs.declared.prepared.Keyed.{Keyed}
-use Rattle.jwt_crypto.specs.declared.prepared.Keyed.TheVariants.{Fresh, Held}
+use Rattle.jwt_crypto.specs.declared.prepared.SecretInUse.{SecretInUse}
+use Rattle.jwt_crypto.specs.declared.prepared.SecretInUse.TheVariants.{Fresh, Kept}
 use Rattle.jwt_crypto.specs.declared.prepared.PreparedHmac.{PreparedHmac}
-use Rattle.jwt_crypto.specs.declared.prepared.PreparedSigner.{PreparedSigner}
-use Rattle.jwt_crypto.specs.declared.prepared.PreparedVerifier.{PreparedVerifier}
+use Rattle.jwt_crypto.specs.declared.prepared.PreparedHmacSigner.{PreparedHmacSigner}
+use Rattle.jwt_crypto.specs.declared.prepared.PreparedHmacVerifier.{PreparedHmacVerifier}
 
 -- an algorithm, and the secret that is prepared for it
 abbrev pub prepared_key : PreparedKey → Algorithm × List ℕ
@@ -34,22 +34,22 @@ abbrev pub cleared_key : Algorithm × List ℕ → Algorithm × List ℕ
 cleared_key k = (k.0, zeros k.1)
 
 -- the algorithm of a signer or a verifier
-abbrev pub algorithm_of : Keyed → Algorithm
+abbrev pub algorithm_of : SecretInUse → Algorithm
 algorithm_of (Fresh b) = algorithm_for b.hash
-algorithm_of (Held h) = algorithm_for (hash_of h.hashers)
+algorithm_of (Kept h) = algorithm_for (hash_of h.hashers)
 
 -- the signature is the code of the message (RFC 2104 section 2)
-abbrev pub IsCodeBy : Keyed → List ℕ → List ℕ → Type 0
+abbrev pub IsCodeBy : SecretInUse → List ℕ → List ℕ → Type 0
 IsCodeBy (Fresh b) message signature = signature ≡ mac_by b.hash b.inner b.outer message
-IsCodeBy (Held h) message signature = IsCodeByHeld h.hashers message signature
+IsCodeBy (Kept h) message signature = IsCodeByHeld h.hashers message signature
 
 -- by hashers that were kept, and not by the secret anew (RFC 2104 section 4)
-abbrev pub IsKept : Keyed → Type 0
+abbrev pub IsKept : SecretInUse → Type 0
 IsKept (Fresh b) = ⊥
-IsKept (Held h) = ⊤
+IsKept (Kept h) = ⊤
 
-abbrev pub IsKeptSigner : PreparedSigner → Type 0
+abbrev pub IsKeptSigner : PreparedHmacSigner → Type 0
 IsKeptSigner s = IsKept s.keyed
 
-abbrev pub IsKeptVerifier : PreparedVerifier → Type 0
+abbrev pub IsKeptVerifier : PreparedHmacVerifier → Type 0
 IsKeptVerifier v = IsKept v.keyed

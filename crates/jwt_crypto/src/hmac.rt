@@ -21,7 +21,7 @@ ghost use Rattle.jwt_crypto.specs.law_proofs.HmacFamilies.{family_made};
 
 use crate::comparison::is_same;
 use jwt_base::algorithms::{Algorithm, AlgorithmFamily};
-use jwt_base::errors::{Error, ErrorKind, Result, new_error};
+use jwt_base::errors::{ErrorKind, Result, new_error, unsupported_algorithm};
 use jwt_keys::decoding_key::DecodingKey;
 use jwt_keys::encoding_key::EncodingKey;
 use jwt_keys::provider::{CryptoProvider, JwtSigner, JwtVerifier};
@@ -160,18 +160,12 @@ pub(crate) fn hash_for_key(algorithm: Algorithm, family: AlgorithmFamily) -> Res
     ensures err { IfErr result (λ e. refusal (hash_for algorithm) family ≡ Some (kind_of e)) }
 {
     let Some(hash) = hash_of_algorithm(algorithm) else {
-        return Err(unsupported());
+        return Err(unsupported_algorithm());
     };
     if family != AlgorithmFamily::Hmac {
         return Err(new_error(ErrorKind::InvalidKeyFormat));
     }
     Ok(hash)
-}
-
-pub(crate) fn unsupported() -> Error
-    ensures { kind_of result ≡ kind.UnsupportedAlgorithm }
-{
-    new_error(ErrorKind::UnsupportedAlgorithm)
 }
 
 /// An HMAC signer. The secret is not kept.
@@ -313,7 +307,7 @@ impl CryptoProvider for HmacProvider {
         _alloc: Global,
         _der: &[u8],
     ) -> Result<(Vec<u8>, Vec<u8>)> {
-        Err(unsupported())
+        Err(unsupported_algorithm())
     }
 
     fn rsa_pub_components_from_public_key(
@@ -321,7 +315,7 @@ impl CryptoProvider for HmacProvider {
         _alloc: Global,
         _der: &[u8],
     ) -> Result<(Vec<u8>, Vec<u8>)> {
-        Err(unsupported())
+        Err(unsupported_algorithm())
     }
 
     fn ec_pub_components_from_private_key(
@@ -330,7 +324,7 @@ impl CryptoProvider for HmacProvider {
         _der: &[u8],
         _algorithm: Algorithm,
     ) -> Result<(EllipticCurve, Vec<u8>, Vec<u8>)> {
-        Err(unsupported())
+        Err(unsupported_algorithm())
     }
 
     fn ed_pub_components_from_private_key(
@@ -339,7 +333,7 @@ impl CryptoProvider for HmacProvider {
         _der: &[u8],
         _curve: &EllipticCurve,
     ) -> Result<Vec<u8>> {
-        Err(unsupported())
+        Err(unsupported_algorithm())
     }
 
     /// Returns the digest by SHA-2. The only refusal is `OutOfMemory`.

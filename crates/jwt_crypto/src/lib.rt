@@ -20,6 +20,6 @@ mod signature;
 mod verdict;
 
 pub use hmac::{Hash, HmacProvider, HmacSigner, HmacVerifier};
-pub use prepared::{PreparedHmac, PreparedSigner, PreparedVerifier};
+pub use prepared::{PreparedHmac, PreparedHmacSigner, PreparedHmacVerifier};
 pub use signature::{GivenSigner, NoVerifier, SignatureProvider};
 pub use verdict::{NoSigner, VerdictProvider, VerdictVerifier};

@@ -23,10 +23,10 @@ ghost use Rattle.jwt_crypto.specs.HmacPrepared.{prepared_key, prepared_keys, cle
 ghost use Rattle.jwt_crypto.specs.HmacPrepared.{IsPrepared, IsPreparedKey, algorithm_of, IsCodeBy};
 ghost use Rattle.jwt_crypto.specs.HmacPrepared.{IsKept, IsKeptSigner, IsKeptVerifier};
 
-use crate::hmac::{Blocks, Hash, HmacProvider, hash_for_key, hash_of_algorithm, unsupported};
+use crate::hmac::{Blocks, Hash, HmacProvider, hash_for_key, hash_of_algorithm};
 use crate::prepared_hashers::{PreparedHashers, PreparedKey};
 use jwt_base::algorithms::{Algorithm, AlgorithmFamily};
-use jwt_base::errors::Result;
+use jwt_base::errors::{Result, unsupported_algorithm};
 use jwt_keys::decoding_key::DecodingKey;
 use jwt_keys::encoding_key::EncodingKey;
 use jwt_keys::provider::{CryptoProvider, JwtSigner, JwtVerifier};
@@ -36,18 +36,18 @@ use std::alloc::Global;
 
 // The content of a signer or a verifier: a secret's blocks, or the hashers that were kept.
 #[derive(Drop)]
-enum Keyed {
+enum SecretInUse {
     Fresh(Blocks),
-    Held(PreparedHashers),
+    Kept(PreparedHashers),
 }
 
-impl Keyed {
+impl SecretInUse {
     fn algorithm(&self) -> Algorithm
         ensures { result ≡ algorithm_of self.now }
     {
         match self {
-            Keyed::Fresh(blocks) => blocks.algorithm(),
-            Keyed::Held(held) => held.hash().algorithm(),
+            SecretInUse::Fresh(blocks) => blocks.algorithm(),
+            SecretInUse::Kept(held) => held.hash().algorithm(),
         }
     }
 
@@ -56,8 +56,8 @@ impl Keyed {
         ensures err { IfErr result IsMemory }
     {
         match self {
-            Keyed::Fresh(blocks) => blocks.sign(alloc, message),
-            Keyed::Held(held) => held.sign(alloc, message),
+            SecretInUse::Fresh(blocks) => blocks.sign(alloc, message),
+            SecretInUse::Kept(held) => held.sign(alloc, message),
         }
     }
 
@@ -65,19 +65,19 @@ impl Keyed {
         ensures { IsTrue result ↔ IsCodeBy self.now message.now signature.now }
     {
         match self {
-            Keyed::Fresh(blocks) => blocks.verify(message, signature),
-            Keyed::Held(held) => held.verify(message, signature),
+            SecretInUse::Fresh(blocks) => blocks.verify(message, signature),
+            SecretInUse::Kept(held) => held.verify(message, signature),
         }
     }
 }
 
 /// An HMAC signer. The secret is not kept.
 #[derive(Drop)]
-pub struct PreparedSigner {
-    keyed: Keyed,
+pub struct PreparedHmacSigner {
+    keyed: SecretInUse,
 }
 
-impl JwtSigner for PreparedSigner {
+impl JwtSigner for PreparedHmacSigner {
     ghost signs_by = { λ s. algorithm_of s.keyed };
 
     ghost sign_refusal = { λ _ m. None };
@@ -96,11 +96,11 @@ impl JwtSigner for PreparedSigner {
 
 /// An HMAC verifier. The secret is not kept.
 #[derive(Drop)]
-pub struct PreparedVerifier {
-    keyed: Keyed,
+pub struct PreparedHmacVerifier {
+    keyed: SecretInUse,
 }
 
-impl JwtVerifier for PreparedVerifier {
+impl JwtVerifier for PreparedHmacVerifier {
     ghost verifies_by = { λ v. algorithm_of v.keyed };
 
     ghost accepts = { λ v m s. IsCodeBy v.keyed m s };
@@ -115,7 +115,7 @@ impl JwtVerifier for PreparedVerifier {
     fn verify(&self, _alloc: Global, message: &[u8], signature: &[u8]) -> Result<bool>
         ensures ok { IsOk result }
         ensures verdict { IfOk result (λ yes. IsTrue yes
-            ↔ ⟦<PreparedVerifier as JwtVerifier>⟧.accepts self.now message.now signature.now) }
+            ↔ ⟦<PreparedHmacVerifier as JwtVerifier>⟧.accepts self.now message.now signature.now) }
     {
         Ok(self.keyed.verify(message, signature))
     }
@@ -156,7 +156,7 @@ impl PreparedHmac {
         ensures unchanged { IfErr result (λ _. prepared_keys self.new ≡ prepared_keys self.old) }
     {
         let Some(hash) = hash_of_algorithm(algorithm) else {
-            return Err(unsupported());
+            return Err(unsupported_algorithm());
         };
         let key = PreparedKey::new(alloc, hash, secret)?;
         self.keys.push(key)?;
@@ -195,22 +195,22 @@ impl PreparedHmac {
         None
     }
 
-    fn keyed(&self, hash: Hash, secret: &[u8]) -> Keyed
+    fn key_for(&self, hash: Hash, secret: &[u8]) -> SecretInUse
         ensures algorithm { algorithm_of result ≡ algorithm_for hash }
         ensures code { (m s : List ℕ) → IsCodeBy result m s ↔ (s ≡ hmac hash secret.now m) }
         ensures kept { IsKept result ↔ IsPrepared self.now (algorithm_for hash) secret.now }
     {
         match self.find(hash, secret) {
-            Some(key) => Keyed::Held(key.held.clone()),
-            None => Keyed::Fresh(Blocks::new(hash, secret)),
+            Some(key) => SecretInUse::Kept(key.held.clone()),
+            None => SecretInUse::Fresh(Blocks::new(hash, secret)),
         }
     }
 }
 
 impl CryptoProvider for PreparedHmac {
-    type Signer = PreparedSigner;
+    type Signer = PreparedHmacSigner;
 
-    type Verifier = PreparedVerifier;
+    type Verifier = PreparedHmacVerifier;
 
     ghost signer_refusal = { λ _. hmac_signer_refusal };
 
@@ -233,19 +233,19 @@ impl CryptoProvider for PreparedHmac {
         _alloc: Global,
         algorithm: &Algorithm,
         key: &EncodingKey,
-    ) -> Result<PreparedSigner>
+    ) -> Result<PreparedHmacSigner>
         ensures made { OnOk result (hmac_signer_refusal algorithm.now key.now ≡ None) }
         ensures err { IfErr result (Refuses (hmac_signer_refusal algorithm.now key.now)) }
-        ensures by { IfOk result (λ s. ⟦<PreparedSigner as JwtSigner>⟧.signs_by s ≡ algorithm.now) }
+        ensures by { IfOk result (λ s. ⟦<PreparedHmacSigner as JwtSigner>⟧.signs_by s ≡ algorithm.now) }
         ensures signs { IfOk result (λ s. (m b : List ℕ) →
-            ⟦<PreparedSigner as JwtSigner>⟧.signs s m b ↔ HmacSigns algorithm.now key.now m b) }
+            ⟦<PreparedHmacSigner as JwtSigner>⟧.signs s m b ↔ HmacSigns algorithm.now key.now m b) }
         ensures sparing { IfErr result (λ e. kind_of e ≢ kind.OutOfMemory) }
         ensures kept { IfOk result (λ s. IsKeptSigner s
             ↔ IsPrepared self.now algorithm.now key.now.bytes) }
     {
         let hash = hash_for_key(*algorithm, key.family())?;
-        Ok(PreparedSigner {
-            keyed: self.keyed(hash, key.as_bytes()),
+        Ok(PreparedHmacSigner {
+            keyed: self.key_for(hash, key.as_bytes()),
         })
     }
 
@@ -256,13 +256,13 @@ impl CryptoProvider for PreparedHmac {
         _alloc: Global,
         algorithm: &Algorithm,
         key: &DecodingKey,
-    ) -> Result<PreparedVerifier>
+    ) -> Result<PreparedHmacVerifier>
         ensures made { OnOk result (hmac_verifier_refusal algorithm.now key.now ≡ None) }
         ensures err { IfErr result (Refuses (hmac_verifier_refusal algorithm.now key.now)) }
-        ensures by { IfOk result (λ v. ⟦<PreparedVerifier as JwtVerifier>⟧.verifies_by v
+        ensures by { IfOk result (λ v. ⟦<PreparedHmacVerifier as JwtVerifier>⟧.verifies_by v
             ≡ algorithm.now) }
         ensures accepts { IfOk result (λ v. (m s : List ℕ) →
-            ⟦<PreparedVerifier as JwtVerifier>⟧.accepts v m s
+            ⟦<PreparedHmacVerifier as JwtVerifier>⟧.accepts v m s
             ↔ HmacAccepts algorithm.now key.now m s) }
         ensures sparing { IfErr result (λ e. kind_of e ≢ kind.OutOfMemory) }
         ensures kept { IfOk result (λ v. IsKeptVerifier v
@@ -270,8 +270,8 @@ impl CryptoProvider for PreparedHmac {
     {
         let hash = hash_for_key(*algorithm, key.family())?;
         let secret = key.try_get_as_bytes()?;
-        Ok(PreparedVerifier {
-            keyed: self.keyed(hash, secret),
+        Ok(PreparedHmacVerifier {
+            keyed: self.key_for(hash, secret),
         })
     }
 

@@ -18,9 +18,8 @@ ghost use Rattle.jwt_crypto.specs.GivenSignature.{signature_length, signer_refus
 ghost use Rattle.jwt_crypto.specs.GivenSignature.{sign_refusal_by};
 ghost use Rattle.jwt_crypto.specs.law_proofs.SignatureMade.{never_made};
 
-use crate::hmac::unsupported;
 use jwt_base::algorithms::{Algorithm, AlgorithmFamily};
-use jwt_base::errors::{ErrorKind, Result, new_error};
+use jwt_base::errors::{ErrorKind, Result, new_error, unsupported_algorithm};
 use jwt_keys::decoding_key::DecodingKey;
 use jwt_keys::encoding_key::EncodingKey;
 use jwt_keys::provider::{CryptoProvider, JwtSigner, JwtVerifier};
@@ -231,7 +230,7 @@ impl<'a> CryptoProvider for SignatureProvider<'a> {
         _algorithm: &Algorithm,
         _key: &DecodingKey,
     ) -> Result<NoVerifier> {
-        Err(unsupported())
+        Err(unsupported_algorithm())
     }
 
     fn rsa_pub_components_from_private_key(
@@ -239,7 +238,7 @@ impl<'a> CryptoProvider for SignatureProvider<'a> {
         _alloc: Global,
         _der: &[u8],
     ) -> Result<(Vec<u8>, Vec<u8>)> {
-        Err(unsupported())
+        Err(unsupported_algorithm())
     }
 
     fn rsa_pub_components_from_public_key(
@@ -247,7 +246,7 @@ impl<'a> CryptoProvider for SignatureProvider<'a> {
         _alloc: Global,
         _der: &[u8],
     ) -> Result<(Vec<u8>, Vec<u8>)> {
-        Err(unsupported())
+        Err(unsupported_algorithm())
     }
 
     fn ec_pub_components_from_private_key(
@@ -256,7 +255,7 @@ impl<'a> CryptoProvider for SignatureProvider<'a> {
         _der: &[u8],
         _algorithm: Algorithm,
     ) -> Result<(EllipticCurve, Vec<u8>, Vec<u8>)> {
-        Err(unsupported())
+        Err(unsupported_algorithm())
     }
 
     fn ed_pub_components_from_private_key(
@@ -265,7 +264,7 @@ impl<'a> CryptoProvider for SignatureProvider<'a> {
         _der: &[u8],
         _curve: &EllipticCurve,
     ) -> Result<Vec<u8>> {
-        Err(unsupported())
+        Err(unsupported_algorithm())
     }
 
     fn compute_digest(
@@ -274,7 +273,7 @@ impl<'a> CryptoProvider for SignatureProvider<'a> {
         _bytes: &[u8],
         _hash: ThumbprintHash,
     ) -> Result<Vec<u8>> {
-        Err(unsupported())
+        Err(unsupported_algorithm())
     }
 
     ghost same_family = { λ p a k h. never_made h };

@@ -11,9 +11,8 @@ ghost use Rattle.jwt_keys.specs.Provider.{reads_no_key};
 ghost use Rattle.jwt_crypto.specs.Verdict.{Verdict, IsVerified, refusal_by};
 ghost use Rattle.jwt_crypto.specs.law_proofs.VerdictMade.{is_made};
 
-use crate::hmac::unsupported;
 use jwt_base::algorithms::{Algorithm, AlgorithmFamily};
-use jwt_base::errors::{ErrorKind, Result, new_error};
+use jwt_base::errors::{ErrorKind, Result, new_error, unsupported_algorithm};
 use jwt_keys::decoding_key::DecodingKey;
 use jwt_keys::encoding_key::EncodingKey;
 use jwt_keys::provider::{CryptoProvider, JwtSigner, JwtVerifier};
@@ -150,7 +149,7 @@ impl JwtSigner for NoSigner {
     }
 
     fn sign(&self, _alloc: Global, _message: &[u8]) -> Result<Vec<u8>> {
-        Err(unsupported())
+        Err(unsupported_algorithm())
     }
 }
 
@@ -180,7 +179,7 @@ impl<'a> CryptoProvider for VerdictProvider<'a> {
         _algorithm: &Algorithm,
         _key: &EncodingKey,
     ) -> Result<NoSigner> {
-        Err(unsupported())
+        Err(unsupported_algorithm())
     }
 
     /// Returns a verifier by the verdict's algorithm. Another algorithm is refused with
@@ -208,7 +207,7 @@ impl<'a> CryptoProvider for VerdictProvider<'a> {
         _alloc: Global,
         _der: &[u8],
     ) -> Result<(Vec<u8>, Vec<u8>)> {
-        Err(unsupported())
+        Err(unsupported_algorithm())
     }
 
     fn rsa_pub_components_from_public_key(
@@ -216,7 +215,7 @@ impl<'a> CryptoProvider for VerdictProvider<'a> {
         _alloc: Global,
         _der: &[u8],
     ) -> Result<(Vec<u8>, Vec<u8>)> {
-        Err(unsupported())
+        Err(unsupported_algorithm())
     }
 
     fn ec_pub_components_from_private_key(
@@ -225,7 +224,7 @@ impl<'a> CryptoProvider for VerdictProvider<'a> {
         _der: &[u8],
         _algorithm: Algorithm,
     ) -> Result<(EllipticCurve, Vec<u8>, Vec<u8>)> {
-        Err(unsupported())
+        Err(unsupported_algorithm())
     }
 
     fn ed_pub_components_from_private_key(
@@ -234,7 +233,7 @@ impl<'a> CryptoProvider for VerdictProvider<'a> {
         _der: &[u8],
         _curve: &EllipticCurve,
     ) -> Result<Vec<u8>> {
-        Err(unsupported())
+        Err(unsupported_algorithm())
     }
 
     fn compute_digest(
@@ -243,7 +242,7 @@ impl<'a> CryptoProvider for VerdictProvider<'a> {
         _bytes: &[u8],
         _hash: ThumbprintHash,
     ) -> Result<Vec<u8>> {
-        Err(unsupported())
+        Err(unsupported_algorithm())
     }
 
     ghost same_family = { λ p a k h. (is_made p a k h).family };

@@ -13,10 +13,10 @@ ghost use Rattle.jwt_curves.specs.EdDsaKeys.{refusal, EdDsaAccepts};
 ghost use Rattle.jwt_curves.specs.law_proofs.CurveFamilies.{eddsa_made};
 ghost use Rattle.ed25519.specs.Ed25519.{IsSignature};
 
-use crate::keys::{bytes_of_family, ed25519_key, unfit_key, unsupported};
+use crate::keys::{bytes_of_family, ed25519_key, unfit_key};
 use ed25519::verification::is_signature;
 use jwt_base::algorithms::{Algorithm, AlgorithmFamily};
-use jwt_base::errors::Result;
+use jwt_base::errors::{Result, unsupported_algorithm};
 use jwt_crypto::{HmacProvider, NoSigner};
 use jwt_keys::decoding_key::DecodingKey;
 use jwt_keys::encoding_key::EncodingKey;
@@ -80,7 +80,7 @@ impl CryptoProvider for EdDsaProvider {
         _algorithm: &Algorithm,
         _key: &EncodingKey,
     ) -> Result<NoSigner> {
-        Err(unsupported())
+        Err(unsupported_algorithm())
     }
 
     /// Returns a verifier by this key. An algorithm other than EdDSA is refused with
@@ -94,7 +94,7 @@ impl CryptoProvider for EdDsaProvider {
         key: &DecodingKey,
     ) -> Result<EdDsaVerifier> {
         if *algorithm != Algorithm::EdDSA {
-            return Err(unsupported());
+            return Err(unsupported_algorithm());
         }
         let bytes = bytes_of_family(key, AlgorithmFamily::Ed)?;
         let Some(public) = ed25519_key(bytes) else {
@@ -108,7 +108,7 @@ impl CryptoProvider for EdDsaProvider {
         _alloc: Global,
         _der: &[u8],
     ) -> Result<(Vec<u8>, Vec<u8>)> {
-        Err(unsupported())
+        Err(unsupported_algorithm())
     }
 
     fn rsa_pub_components_from_public_key(
@@ -116,7 +116,7 @@ impl CryptoProvider for EdDsaProvider {
         _alloc: Global,
         _der: &[u8],
     ) -> Result<(Vec<u8>, Vec<u8>)> {
-        Err(unsupported())
+        Err(unsupported_algorithm())
     }
 
     fn ec_pub_components_from_private_key(
@@ -125,7 +125,7 @@ impl CryptoProvider for EdDsaProvider {
         _der: &[u8],
         _algorithm: Algorithm,
     ) -> Result<(EllipticCurve, Vec<u8>, Vec<u8>)> {
-        Err(unsupported())
+        Err(unsupported_algorithm())
     }
 
     fn ed_pub_components_from_private_key(
@@ -134,7 +134,7 @@ impl CryptoProvider for EdDsaProvider {
         _der: &[u8],
         _curve: &EllipticCurve,
     ) -> Result<Vec<u8>> {
-        Err(unsupported())
+        Err(unsupported_algorithm())
     }
 
     /// Returns the digest by SHA-2. The only refusal is `OutOfMemory`.

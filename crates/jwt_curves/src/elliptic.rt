@@ -10,10 +10,10 @@ ghost use Rattle.jwt_curves.specs.EcdsaKeys.{is_key_on, IsSignatureOn, refusal, 
 ghost use Rattle.jwt_curves.specs.law_proofs.CurveFamilies.{ecdsa_made};
 
 use crate::curve::{Curve, curve_of_algorithm};
-use crate::keys::{bytes_of_family, p256_key, p384_key, unfit_key, unsupported};
+use crate::keys::{bytes_of_family, p256_key, p384_key, unfit_key};
 use ecdsa::curves::{is_es256, is_es384};
 use jwt_base::algorithms::{Algorithm, AlgorithmFamily};
-use jwt_base::errors::Result;
+use jwt_base::errors::{Result, unsupported_algorithm};
 use jwt_crypto::{HmacProvider, NoSigner};
 use jwt_keys::decoding_key::DecodingKey;
 use jwt_keys::encoding_key::EncodingKey;
@@ -117,7 +117,7 @@ impl CryptoProvider for EcdsaProvider {
         _algorithm: &Algorithm,
         _key: &EncodingKey,
     ) -> Result<NoSigner> {
-        Err(unsupported())
+        Err(unsupported_algorithm())
     }
 
     /// Returns a verifier by this algorithm and key. An algorithm other than ES256 and ES384 is
@@ -132,7 +132,7 @@ impl CryptoProvider for EcdsaProvider {
         key: &DecodingKey,
     ) -> Result<EcdsaVerifier> {
         let Some(curve) = curve_of_algorithm(*algorithm) else {
-            return Err(unsupported());
+            return Err(unsupported_algorithm());
         };
         let bytes = bytes_of_family(key, AlgorithmFamily::Ec)?;
         let Some(public) = PublicKey::new(curve, bytes) else {
@@ -146,7 +146,7 @@ impl CryptoProvider for EcdsaProvider {
         _alloc: Global,
         _der: &[u8],
     ) -> Result<(Vec<u8>, Vec<u8>)> {
-        Err(unsupported())
+        Err(unsupported_algorithm())
     }
 
     fn rsa_pub_components_from_public_key(
@@ -154,7 +154,7 @@ impl CryptoProvider for EcdsaProvider {
         _alloc: Global,
         _der: &[u8],
     ) -> Result<(Vec<u8>, Vec<u8>)> {
-        Err(unsupported())
+        Err(unsupported_algorithm())
     }
 
     fn ec_pub_components_from_private_key(
@@ -163,7 +163,7 @@ impl CryptoProvider for EcdsaProvider {
         _der: &[u8],
         _algorithm: Algorithm,
     ) -> Result<(EllipticCurve, Vec<u8>, Vec<u8>)> {
-        Err(unsupported())
+        Err(unsupported_algorithm())
     }
 
     fn ed_pub_components_from_private_key(
@@ -172,7 +172,7 @@ impl CryptoProvider for EcdsaProvider {
         _der: &[u8],
         _curve: &EllipticCurve,
     ) -> Result<Vec<u8>> {
-        Err(unsupported())
+        Err(unsupported_algorithm())
     }
 
     /// Returns the digest by SHA-2. The only refusal is `OutOfMemory`.

@@ -13,12 +13,6 @@ use jwt_base::algorithms::AlgorithmFamily;
 use jwt_base::errors::{Error, ErrorKind, Result, new_error};
 use jwt_keys::decoding_key::DecodingKey;
 
-pub(crate) fn unsupported() -> Error
-    ensures { kind_of result ≡ kind.UnsupportedAlgorithm }
-{
-    new_error(ErrorKind::UnsupportedAlgorithm)
-}
-
 pub(crate) fn unfit_key() -> Error
     ensures { kind_of result ≡ kind.InvalidKeyFormat }
 {

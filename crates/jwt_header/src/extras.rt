@@ -104,7 +104,7 @@ impl Extras {
         ensures reads_back { IfOk result (λ v. ReadsExtras (view v) self.now) }
         ensures err { IfErr result IsMemory }
     {
-        let members = self.copied()?;
+        let members = self.copy_members()?;
         Ok(Value::Object(members))
     }
 
@@ -133,11 +133,11 @@ impl Extras {
         ensures ok { IfOk result (λ e. e ≡ self.now) }
         ensures err { IfErr result IsMemory }
     {
-        let members = self.copied()?;
+        let members = self.copy_members()?;
         Ok(Extras { members })
     }
 
-    pub(crate) fn copied(&self) -> Result<Map<String, Value>>
+    pub(crate) fn copy_members(&self) -> Result<Map<String, Value>>
         ensures ok { IfOk result (λ m. members_view m.entries ≡ self.now) }
         ensures err { IfErr result IsMemory }
         ensures extras { IsExtras self.now }

@@ -118,6 +118,7 @@ impl Header {
         ensures err { IfErr result (RefusesAs kind.Json
             ((h : Header) → ¬ ReadsHeader (view value.now) h)) }
     {
+        // bound to a name: the proof cannot refer to a call in tail position
         let header = Header::read(alloc, value)?;
         Ok(header)
     }
@@ -235,7 +236,7 @@ impl Header {
         ensures extras { IsExtras self.now.extras }
         ensures err { IfErr result (RefusesAs kind.Json (header_members self.now ≡ None)) }
     {
-        let mut members = self.extras.copied()?;
+        let mut members = self.extras.copy_members()?;
         let jwk = written_jwk(alloc, &self.jwk)?;
         put_written(alloc, &mut members, "jwk", jwk)?;
         self.put_named(alloc, &mut members)?;
@@ -293,6 +294,7 @@ impl Eq for Header {
 impl Header {
     ghost use Rattle.jwt_header.specs.equality.HeaderSame.{header_eq};
 
+    // apart from `eq`, whose contract has two clauses over what this one finds
     fn is_same(&self, other: &Header) -> bool
         ensures { result ≡ header_eq self.now other.now }
     {

@@ -52,7 +52,7 @@ impl Enc {
         ensures err { IfErr result (RefusesAs kind.Json (enc_from (view value.now) ≡ None)) }
     {
         let name = value.as_str().ok_or(new_error(ErrorKind::Json))?;
-        Enc::named(alloc, name)
+        Enc::from_name(alloc, name)
     }
 
     /// Returns a copy. The only refusal is `OutOfMemory`.
@@ -85,7 +85,7 @@ impl Enc {
         }
     }
 
-    fn named(alloc: Global, name: &str) -> Result<Enc>
+    fn from_name(alloc: Global, name: &str) -> Result<Enc>
         ensures ok { IfOk result (λ e. e ≡ enc_named name.now) }
         ensures err { IfErr result IsMemory }
     {
@@ -172,7 +172,7 @@ impl Zip {
         ensures err { IfErr result (RefusesAs kind.Json (zip_from (view value.now) ≡ None)) }
     {
         let name = value.as_str().ok_or(new_error(ErrorKind::Json))?;
-        Zip::named(alloc, name)
+        Zip::from_name(alloc, name)
     }
 
     /// Returns a copy. The only refusal is `OutOfMemory`.
@@ -195,7 +195,7 @@ impl Zip {
         }
     }
 
-    fn named(alloc: Global, name: &str) -> Result<Zip>
+    fn from_name(alloc: Global, name: &str) -> Result<Zip>
         ensures ok { IfOk result (λ z. z ≡ zip_named name.now) }
         ensures err { IfErr result IsMemory }
     {

@@ -49,11 +49,11 @@ pub(crate) fn block_bytes(alloc: Global, label: &[u8], block: &[u8]) -> Result<O
         (λ b. IsBlock label.now block.now b.items)) }
     ensures err { IfErr result IsMemory }
 {
-    let Some((eol, body)) = opened(label, block) else {
+    let Some((eol, body)) = open(label, block) else {
         return Ok(None);
     };
     let characters = characters(alloc, body)?;
-    let Some(bytes) = decoded(alloc, characters.as_slice())? else {
+    let Some(bytes) = decode(alloc, characters.as_slice())? else {
         return Ok(None);
     };
     let lines = lines(alloc, eol, characters.as_slice())?;
@@ -96,12 +96,12 @@ fn starts_line(text: &[u8], place: usize) -> bool
 fn is_line_break(byte: u8) -> bool
     ensures { IsTrue result ↔ IsLineBreak byte }
 {
-    byte == 13 || byte == 10
+    byte == b'\r' || byte == b'\n'
 }
 
 // Returns the line end and the text after the first line, if this is the rest of the line that
 // begins a block with the label.
-fn opened<'a>(label: &[u8], block: &'a [u8]) -> Option<(&'a [u8], &'a [u8])>
+fn open<'a>(label: &[u8], block: &'a [u8]) -> Option<(&'a [u8], &'a [u8])>
     ensures { MatchOption result
         ((eol : List ℕ) (s : List ℕ) → IsLineEnd eol
         → block.now ≢ label.now ++ (codes "-----" ++ (eol ++ s)))
@@ -157,7 +157,7 @@ fn characters(alloc: Global, text: &[u8]) -> Result<Vec<u8>>
 }
 
 // Returns the bytes that the characters are the base64 text of.
-fn decoded(alloc: Global, characters: &[u8]) -> Result<Option<Vec<u8>>>
+fn decode(alloc: Global, characters: &[u8]) -> Result<Option<Vec<u8>>>
     ensures ok { IfOk result (λ o. MatchOption o ((b : List ℕ) → ¬ IsStandardText characters.now b)
         (λ b. IsStandardText characters.now b.items)) }
     ensures err { IfErr result IsMemory }

@@ -16,7 +16,7 @@ ghost use Rattle.jwt_key_files.specs.Certificates.{IsCertificatePemOf, IsCertifi
 use crate::block::{block_bytes, first_block};
 use crate::element::{read, read_all};
 use crate::pem::info_key;
-use crate::public_key::malformed;
+use crate::public_key::invalid_key;
 use jwt_base::errors::Result;
 use jwt_keys::decoding_key::DecodingKey;
 use std::alloc::Global;
@@ -35,8 +35,9 @@ pub fn unverified_key_from_certificate(alloc: Global, der: &[u8]) -> Result<Deco
     ensures err { IfErr result (λ e. IsMemory e ⊎ IsCertificateRefused der.now (kind_of e)) }
 {
     let Some(info) = read_certificate(der) else {
-        return Err(malformed());
+        return Err(invalid_key());
     };
+    // bound to a name: the proof cannot refer to a call in tail position
     let key = info_key(alloc, info)?;
     Ok(key)
 }
@@ -53,7 +54,7 @@ pub fn unverified_key_from_certificate_pem(alloc: Global, pem: &[u8]) -> Result<
     ensures err { IfErr result (λ e. IsMemory e ⊎ IsCertificatePemRefused pem.now (kind_of e)) }
 {
     let Some(der) = certificate_bytes(alloc, pem)? else {
-        return Err(malformed());
+        return Err(invalid_key());
     };
     let key = unverified_key_from_certificate(alloc, der.as_slice())?;
     Ok(key)

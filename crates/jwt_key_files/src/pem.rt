@@ -8,7 +8,7 @@ ghost use Rattle.jwt_key_files.specs.PemKeys.{IsBlockOf, IsPemOf, IsLabelled, Na
 ghost use Rattle.jwt_key_files.specs.PemKeys.{IsBlockRefused, IsPemRefused, IsInfoRefused};
 
 use crate::block::{after, block_bytes, first_block};
-use crate::public_key::{malformed, private_key, public_key_from_der, rsa_key};
+use crate::public_key::{invalid_key, private_key, public_key_from_der, rsa_key};
 use crate::structures::read_info;
 use jwt_base::errors::Result;
 use jwt_keys::decoding_key::DecodingKey;
@@ -20,8 +20,9 @@ pub(crate) fn info_key(alloc: Global, der: &[u8]) -> Result<DecodingKey>
     ensures err { IfErr result (λ e. IsMemory e ⊎ IsInfoRefused der.now (kind_of e)) }
 {
     let Some(_) = read_info(der) else {
-        return Err(malformed());
+        return Err(invalid_key());
     };
+    // bound to a name: the proof cannot refer to a call in tail position
     let key = public_key_from_der(alloc, der)?;
     Ok(key)
 }
@@ -44,7 +45,7 @@ pub fn public_key_from_pem(alloc: Global, pem: &[u8]) -> Result<DecodingKey>
     ensures err { IfErr result (λ e. IsMemory e ⊎ IsPemRefused pem.now (kind_of e)) }
 {
     let Some(block) = first_block(pem) else {
-        return Err(malformed());
+        return Err(invalid_key());
     };
     let key = key_of_block(alloc, block)?;
     Ok(key)
@@ -67,7 +68,7 @@ fn key_of_block(alloc: Global, block: &[u8]) -> Result<DecodingKey>
         let error = private_key(alloc)?;
         return Err(error);
     }
-    Err(malformed())
+    Err(invalid_key())
 }
 
 // Returns whether the block is labelled as a private key.

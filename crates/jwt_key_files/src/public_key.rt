@@ -20,7 +20,7 @@ use jwt_base::errors::{Error, ErrorKind, Result, new_error};
 use jwt_keys::decoding_key::DecodingKey;
 use std::alloc::Global;
 
-pub(crate) fn malformed() -> Error
+pub(crate) fn invalid_key() -> Error
     ensures { kind_of result ≡ kind.InvalidKeyFormat }
 {
     new_error(ErrorKind::InvalidKeyFormat)
@@ -42,8 +42,9 @@ pub(crate) fn rsa_key(alloc: Global, der: &[u8]) -> Result<DecodingKey>
         ((k : Key) → ¬ IsRsaKey der.now k)) }
 {
     let Some((modulus, exponent)) = read_rsa(der) else {
-        return Err(malformed());
+        return Err(invalid_key());
     };
+    // bound to a name: the proof cannot refer to a call in tail position
     let key = DecodingKey::from_rsa_raw_components(alloc, modulus, exponent)?;
     Ok(key)
 }
@@ -117,7 +118,7 @@ fn refusal(alloc: Global, der: &[u8]) -> Result<Error>
         let error = private_key(alloc)?;
         return Ok(error);
     }
-    Ok(malformed())
+    Ok(invalid_key())
 }
 
 // Returns the key of this algorithm that the octets are.
@@ -142,7 +143,7 @@ fn point_key(alloc: Global, size: usize, octets: &[u8]) -> Result<DecodingKey>
         ((k : Key) → ¬ IsPoint size octets.now k)) }
 {
     if octets.len() != 1 + size + size || octets[0] != 4 {
-        return Err(malformed());
+        return Err(invalid_key());
     }
     let key = DecodingKey::from_ec_der(alloc, octets)?;
     Ok(key)
@@ -155,7 +156,7 @@ fn edwards_key(alloc: Global, octets: &[u8]) -> Result<DecodingKey>
         ((k : Key) → ¬ IsEdwardsKey octets.now k)) }
 {
     if octets.len() != 32 {
-        return Err(malformed());
+        return Err(invalid_key());
     }
     let key = DecodingKey::from_ed_der(alloc, octets)?;
     Ok(key)

@@ -84,14 +84,14 @@ fn read_integer(bytes: &[u8]) -> Option<(&[u8], &[u8])>
     let Some((content, rest)) = read(2, bytes) else {
         return None;
     };
-    let Some(octets) = unsigned(content) else {
+    let Some(octets) = unsigned_octets(content) else {
         return None;
     };
     Some((octets, rest))
 }
 
 // Returns the octets of the positive number that an INTEGER with this content is.
-fn unsigned(content: &[u8]) -> Option<&[u8]>
+fn unsigned_octets(content: &[u8]) -> Option<&[u8]>
     ensures { MatchOption result ((n : List ℕ) → IsPositive n → content.now ≢ signed n)
         (λ n. IsPositive n.now × (content.now ≡ signed n.now)) }
 {

@@ -112,7 +112,7 @@ impl DecodingKey {
         ensures ok { IfOk result (λ k. k ≡ Plain family.Hmac secret.now) }
         ensures err { IfErr result IsMemory }
     {
-        DecodingKey::copied(alloc, AlgorithmFamily::Hmac, secret)
+        DecodingKey::copy_bytes(alloc, AlgorithmFamily::Hmac, secret)
     }
 
     /// Returns the HMAC key of the bytes that base64 text in the standard alphabet with padding
@@ -145,7 +145,7 @@ impl DecodingKey {
         ensures ok { IfOk result (λ k. k ≡ Plain family.Rsa der.now) }
         ensures err { IfErr result IsMemory }
     {
-        DecodingKey::copied(alloc, AlgorithmFamily::Rsa, der)
+        DecodingKey::copy_bytes(alloc, AlgorithmFamily::Rsa, der)
     }
 
     /// Returns the elliptic curve key of these bytes in DER, which are not parsed. The only refusal
@@ -154,7 +154,7 @@ impl DecodingKey {
         ensures ok { IfOk result (λ k. k ≡ Plain family.Ec der.now) }
         ensures err { IfErr result IsMemory }
     {
-        DecodingKey::copied(alloc, AlgorithmFamily::Ec, der)
+        DecodingKey::copy_bytes(alloc, AlgorithmFamily::Ec, der)
     }
 
     /// Returns the Edwards curve key of these bytes in DER, which are not parsed. The only refusal
@@ -163,7 +163,7 @@ impl DecodingKey {
         ensures ok { IfOk result (λ k. k ≡ Plain family.Ed der.now) }
         ensures err { IfErr result IsMemory }
     {
-        DecodingKey::copied(alloc, AlgorithmFamily::Ed, der)
+        DecodingKey::copy_bytes(alloc, AlgorithmFamily::Ed, der)
     }
 
     /// Returns the RSA key of a modulus and an exponent, each the base64url text of a big-endian
@@ -303,7 +303,7 @@ impl DecodingKey {
         }
     }
 
-    fn copied(alloc: Global, family: AlgorithmFamily, bytes: &[u8]) -> Result<DecodingKey>
+    fn copy_bytes(alloc: Global, family: AlgorithmFamily, bytes: &[u8]) -> Result<DecodingKey>
         ensures ok { IfOk result (λ k. k ≡ Plain family bytes.now) }
         ensures err { IfErr result IsMemory }
     {

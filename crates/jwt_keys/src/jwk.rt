@@ -252,6 +252,7 @@ impl Eq for Jwk {
 impl Jwk {
     ghost use Rattle.jwt_keys.specs.equality.JwkSame.{key_eq};
 
+    // apart from `eq`, whose contract has two clauses over what this one finds
     fn is_same(&self, other: &Jwk) -> bool
         ensures { result ≡ key_eq self.now other.now }
     {
@@ -297,7 +298,7 @@ fn read_parameters(alloc: Global, value: &Value) -> Result<AlgorithmParameters>
     let Some(members) = value.as_object() else {
         return Err(new_error(ErrorKind::Json));
     };
-    if let Some(named) = AlgorithmParameters::named(alloc, value)? {
+    if let Some(named) = AlgorithmParameters::from_known_type(alloc, value)? {
         return Ok(named);
     }
     let fields = FreeMembers::among(alloc, members)?;

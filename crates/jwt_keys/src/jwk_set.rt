@@ -156,6 +156,7 @@ impl Eq for JwkSet {
 impl JwkSet {
     ghost use Rattle.jwt_keys.specs.equality.JwkSame.{set_eq};
 
+    // apart from `eq`, whose contract has two clauses over what this one finds
     fn is_same(&self, other: &JwkSet) -> bool
         ensures { result ≡ set_eq self.now other.now }
     {

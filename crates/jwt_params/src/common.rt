@@ -89,6 +89,7 @@ impl CommonParameters {
             ≡ with_common self.now (members_view members.entries)) }
         ensures err { IfErr result IsMemory }
     {
+        // from the last to the first: the member that is put last is outermost in `with_common`
         let mut all = members;
         put_optional_text(alloc, &mut all, "x5t#S256", &self.x509_sha256_fingerprint)?;
         put_optional_text(alloc, &mut all, "x5t", &self.x509_sha1_fingerprint)?;
@@ -195,6 +196,7 @@ impl Eq for CommonParameters {
 impl CommonParameters {
     ghost use Rattle.jwt_params.specs.equality.CommonSame.{common_eq};
 
+    // apart from `eq`, whose contract has two clauses over what this one finds
     fn is_same(&self, other: &CommonParameters) -> bool
         ensures { result ≡ common_eq self.now other.now }
     {

@@ -125,6 +125,7 @@ impl EllipticCurveKeyParameters {
     ghost use Rattle.jwt_params.specs.equality.ParametersSame.{elliptic_eq};
 
     // The type has one value.
+    // apart from `eq`, whose contract has two clauses over what this one finds
     fn is_same(&self, other: &EllipticCurveKeyParameters) -> bool
         ensures { result ≡ elliptic_eq self.now other.now }
     {

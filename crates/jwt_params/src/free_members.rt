@@ -58,7 +58,7 @@ impl FreeMembers {
         ensures ok { IfOk result (λ f. f ≡ self.now) }
         ensures err { IfErr result IsMemory }
     {
-        let members = self.copied()?;
+        let members = self.copy_members()?;
         Ok(FreeMembers { members })
     }
 
@@ -89,7 +89,7 @@ impl FreeMembers {
         any_member_has_float(&self.members)
     }
 
-    pub(crate) fn copied(&self) -> Result<Map<String, Value>>
+    pub(crate) fn copy_members(&self) -> Result<Map<String, Value>>
         ensures ok { IfOk result (λ m. members_view m.entries ≡ self.now) }
         ensures err { IfErr result IsMemory }
     {

@@ -118,6 +118,7 @@ impl OctetKeyParameters {
     ghost use Rattle.jwt_params.specs.equality.ParametersSame.{octet_eq};
 
     // The type has one value.
+    // apart from `eq`, whose contract has two clauses over what this one finds
     fn is_same(&self, other: &OctetKeyParameters) -> bool
         ensures { result ≡ octet_eq self.now other.now }
     {

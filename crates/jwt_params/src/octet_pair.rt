@@ -117,6 +117,7 @@ impl OctetKeyPairParameters {
     ghost use Rattle.jwt_params.specs.equality.ParametersSame.{pair_eq};
 
     // The type has one value.
+    // apart from `eq`, whose contract has two clauses over what this one finds
     fn is_same(&self, other: &OctetKeyPairParameters) -> bool
         ensures { result ≡ pair_eq self.now other.now }
     {

@@ -58,7 +58,7 @@ impl KeyOperations {
         ensures err { IfErr result (RefusesAs kind.Json (operation_from (view value.now) ≡ None)) }
     {
         let name = value.as_str().ok_or(new_error(ErrorKind::Json))?;
-        KeyOperations::named(alloc, name)
+        KeyOperations::from_name(alloc, name)
     }
 
     /// Returns a copy. The only refusal is `OutOfMemory`.
@@ -95,7 +95,7 @@ impl KeyOperations {
         }
     }
 
-    fn named(alloc: Global, name: &str) -> Result<KeyOperations>
+    fn from_name(alloc: Global, name: &str) -> Result<KeyOperations>
         ensures ok { IfOk result (λ o. o ≡ operation_named name.now) }
         ensures err { IfErr result IsMemory }
     {
@@ -266,6 +266,7 @@ impl PartialEq for KeyOperationList {
 impl KeyOperationList {
     ghost use Rattle.jwt_params.specs.equality.NamesSame.{operations_eq};
 
+    // apart from `eq`, whose contract has two clauses over what this one finds
     fn is_same(&self, other: &KeyOperationList) -> bool
         ensures { result ≡ operations_eq self.now other.now }
     {

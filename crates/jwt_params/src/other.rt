@@ -69,7 +69,7 @@ impl OtherKeyParameters {
         if self.fields.has_float() {
             return Err(new_error(ErrorKind::Json));
         }
-        self.fields.copied()
+        self.fields.copy_members()
     }
 }
 
@@ -100,6 +100,7 @@ impl Eq for OtherKeyParameters {
 impl OtherKeyParameters {
     ghost use Rattle.jwt_params.specs.equality.ParametersSame.{other_eq};
 
+    // apart from `eq`, whose contract has two clauses over what this one finds
     fn is_same(&self, other: &OtherKeyParameters) -> bool
         ensures { result ≡ other_eq self.now other.now }
     {

@@ -51,7 +51,7 @@ impl AlgorithmParameters {
 
     /// Returns the first of the four known types whose parameters a JSON value has, or `None` if
     /// there is no such type. The only refusal is `OutOfMemory`.
-    pub fn named(alloc: Global, value: &Value) -> Result<Option<AlgorithmParameters>>
+    pub fn from_known_type(alloc: Global, value: &Value) -> Result<Option<AlgorithmParameters>>
         ensures ok { IfOk result (λ a. a ≡ named_from (view value.now)) }
         ensures err { IfErr result IsMemory }
     {
@@ -132,7 +132,7 @@ impl AlgorithmParameters {
         ensures ok { IfOk result (λ a. parameters_from (view value.now) ≡ Some a) }
         ensures err { IfErr result (RefusesAs kind.Json (parameters_from (view value.now) ≡ None)) }
     {
-        if let Some(named) = AlgorithmParameters::named(alloc, value)? {
+        if let Some(named) = AlgorithmParameters::from_known_type(alloc, value)? {
             return Ok(named);
         }
         let other = OtherKeyParameters::from_value(alloc, value)?;
@@ -167,6 +167,7 @@ impl Eq for AlgorithmParameters {
 impl AlgorithmParameters {
     ghost use Rattle.jwt_params.specs.equality.ParametersSame.{parameters_eq};
 
+    // apart from `eq`, whose contract has two clauses over what this one finds
     fn is_same(&self, other: &AlgorithmParameters) -> bool
         ensures { result ≡ parameters_eq self.now other.now }
     {

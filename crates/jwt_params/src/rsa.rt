@@ -115,6 +115,7 @@ impl RSAKeyParameters {
     ghost use Rattle.jwt_params.specs.equality.ParametersSame.{rsa_eq};
 
     // The type has one value.
+    // apart from `eq`, whose contract has two clauses over what this one finds
     fn is_same(&self, other: &RSAKeyParameters) -> bool
         ensures { result ≡ rsa_eq self.now other.now }
     {

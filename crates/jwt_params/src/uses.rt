@@ -43,7 +43,7 @@ impl PublicKeyUse {
         ensures err { IfErr result (RefusesAs kind.Json (use_from (view value.now) ≡ None)) }
     {
         let name = value.as_str().ok_or(new_error(ErrorKind::Json))?;
-        PublicKeyUse::named(alloc, name)
+        PublicKeyUse::from_name(alloc, name)
     }
 
     /// Returns a copy. The only refusal is `OutOfMemory`.
@@ -68,7 +68,7 @@ impl PublicKeyUse {
         }
     }
 
-    fn named(alloc: Global, name: &str) -> Result<PublicKeyUse>
+    fn from_name(alloc: Global, name: &str) -> Result<PublicKeyUse>
         ensures ok { IfOk result (λ u. u ≡ use_named name.now) }
         ensures err { IfErr result IsMemory }
     {

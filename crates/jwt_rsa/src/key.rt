@@ -10,7 +10,7 @@ ghost use Rattle.jwt_rsa.specs.Pss.{IsPssSignature};
 ghost use Rattle.jwt_rsa.specs.RsaSchemes.{IsSignature};
 ghost use Rattle.jwt_rsa.specs.RsaKeys.{bits_fit, exponent_fits, components_refusal};
 
-use crate::pkcs1::encoded;
+use crate::pkcs1::encode;
 use crate::pss::{front_bits, is_consistent, lowest_octets};
 use crate::scheme::Scheme;
 use jwt_base::errors::{ErrorKind, Result, new_error};
@@ -90,15 +90,15 @@ impl PublicKey {
             signature.now) }
         ensures memory { IfErr result IsMemory }
     {
-        let Some(octets) = self.opened(alloc, signature)? else {
+        let Some(octets) = self.open(alloc, signature)? else {
             return Ok(false);
         };
-        let wanted = encoded(alloc, hash, message, self.octet_count())?;
+        let wanted = encode(alloc, hash, message, self.octet_count())?;
         Ok(octets.as_slice() == wanted.as_slice())
     }
 
     // RSAVP1 of the signature's number, in as many octets as the modulus has, if it is in range.
-    fn opened(&self, alloc: Global, signature: &[u8]) -> Result<Option<Vec<u8>>>
+    fn open(&self, alloc: Global, signature: &[u8]) -> Result<Option<Vec<u8>>>
         ensures some { IfOk result (λ o. IfSome o (λ v.
             IsRepresentative self.now.modulus self.now.bits signature.now
             × (v.items ≡ i2osp (rsavp1 self.now.modulus self.now.exponent (os2ip signature.now))
@@ -140,13 +140,14 @@ impl PublicKey {
             signature.now) }
         ensures memory { IfErr result IsMemory }
     {
-        let Some(octets) = self.opened(alloc, signature)? else {
+        let Some(octets) = self.open(alloc, signature)? else {
             return Ok(false);
         };
         let em_bits = self.bits - 1;
         let Some(em) = lowest_octets(&octets, (em_bits + 7) / 8) else {
             return Ok(false);
         };
+        // bound to a name: the proof cannot refer to a call in tail position
         let yes = is_consistent(alloc, hash, front_bits(em_bits), message, em)?;
         Ok(yes)
     }

@@ -13,6 +13,6 @@ mod pss;
 mod scheme;
 mod verifier;
 
-pub use prepared::{PreparedRsa, PreparedVerifier};
+pub use prepared::{PreparedRsa, PreparedRsaVerifier};
 pub use provider::RsaProvider;
 pub use verifier::RsaVerifier;

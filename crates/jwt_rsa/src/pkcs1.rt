@@ -10,7 +10,7 @@ use jwt_crypto::Hash;
 use std::alloc::Global;
 
 // The encoded message, in this many octets.
-pub(crate) fn encoded(alloc: Global, hash: Hash, message: &[u8], count: usize) -> Result<Vec<u8>>
+pub(crate) fn encode(alloc: Global, hash: Hash, message: &[u8], count: usize) -> Result<Vec<u8>>
     ensures ok { IfOk result (λ v. v.items ≡ encoded hash message.now count) }
     ensures err { IfErr result IsMemory }
 {

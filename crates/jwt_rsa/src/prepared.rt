@@ -21,12 +21,12 @@ use std::alloc::Global;
 
 // The key of a verifier: one that was made for it, or one that was kept.
 #[derive(Drop)]
-pub(crate) enum Keyed<'a> {
+pub(crate) enum KeyInUse<'a> {
     Fresh(PublicKey),
     Kept(&'a PublicKey),
 }
 
-impl Keyed<'_> {
+impl KeyInUse<'_> {
     fn accepts(
         &self,
         alloc: Global,
@@ -39,20 +39,20 @@ impl Keyed<'_> {
         ensures memory { IfErr result IsMemory }
     {
         match self {
-            Keyed::Fresh(key) => key.accepts(alloc, scheme, message, signature),
-            Keyed::Kept(key) => key.accepts(alloc, scheme, message, signature),
+            KeyInUse::Fresh(key) => key.accepts(alloc, scheme, message, signature),
+            KeyInUse::Kept(key) => key.accepts(alloc, scheme, message, signature),
         }
     }
 }
 
 /// Verifies RSA signatures with one algorithm and key, as `RsaVerifier` does.
 #[derive(Drop)]
-pub struct PreparedVerifier<'a> {
+pub struct PreparedRsaVerifier<'a> {
     pub(crate) scheme: Scheme,
-    pub(crate) keyed: Keyed<'a>,
+    pub(crate) keyed: KeyInUse<'a>,
 }
 
-impl JwtVerifier for PreparedVerifier<'_> {
+impl JwtVerifier for PreparedRsaVerifier<'_> {
     ghost verifies_by = { λ v. algorithm_for v.scheme };
 
     ghost accepts = { λ v m s. IsSignatureBy v.keyed v.scheme m s };
@@ -112,7 +112,7 @@ impl PreparedRsa {
         self.find(n, e).is_some()
     }
 
-    pub(crate) fn keyed<'a>(&'a self, alloc: Global, n: &[u8], e: &[u8]) -> Result<Keyed<'a>>
+    pub(crate) fn key_of<'a>(&'a self, alloc: Global, n: &[u8], e: &[u8]) -> Result<KeyInUse<'a>>
         ensures made { OnOk result (components_refusal n.now e.now ≡ None) }
         ensures err { IfErr result (Refuses (components_refusal n.now e.now)) }
         ensures accepts { IfOk result (λ k. (scheme : Scheme) (m s : List ℕ) →
@@ -121,10 +121,10 @@ impl PreparedRsa {
         ensures kept { IfOk result (λ k. IsKept k ↔ IsPrepared self.now n.now e.now) }
     {
         if let Some(prepared) = self.find(n, e) {
-            return Ok(Keyed::Kept(&prepared.key));
+            return Ok(KeyInUse::Kept(&prepared.key));
         }
         let key = PublicKey::new(alloc, n, e)?;
-        Ok(Keyed::Fresh(key))
+        Ok(KeyInUse::Fresh(key))
     }
 
     fn find(&self, n: &[u8], e: &[u8]) -> Option<&PreparedKey>

@@ -13,11 +13,11 @@ ghost use Rattle.jwt_rsa.specs.RsaKeys.{refusal, RsaAccepts};
 ghost use Rattle.jwt_rsa.specs.law_proofs.RsaFamilies.{family_made};
 ghost use Rattle.jwt_rsa.specs.RsaPrepared.{IsPreparedKey, IsSignatureBy, IsKeptVerifier};
 
-use crate::prepared::{PreparedRsa, PreparedVerifier};
-use crate::provider::{RsaProvider, unsupported};
+use crate::prepared::{PreparedRsa, PreparedRsaVerifier};
+use crate::provider::RsaProvider;
 use crate::scheme::scheme_of_algorithm;
 use jwt_base::algorithms::Algorithm;
-use jwt_base::errors::{ErrorKind, Result, new_error};
+use jwt_base::errors::{ErrorKind, Result, new_error, unsupported_algorithm};
 use jwt_crypto::NoSigner;
 use jwt_keys::decoding_key::{DecodingKey, DecodingKeyKind};
 use jwt_keys::encoding_key::EncodingKey;
@@ -29,7 +29,7 @@ use std::alloc::Global;
 impl<'a> CryptoProvider for &'a PreparedRsa {
     type Signer = NoSigner;
 
-    type Verifier = PreparedVerifier<'a>;
+    type Verifier = PreparedRsaVerifier<'a>;
 
     ghost signer_refusal = { λ _ a k. Some kind.UnsupportedAlgorithm };
 
@@ -62,7 +62,7 @@ impl<'a> CryptoProvider for &'a PreparedRsa {
         alloc: Global,
         algorithm: &Algorithm,
         key: &DecodingKey,
-    ) -> Result<PreparedVerifier<'a>>
+    ) -> Result<PreparedRsaVerifier<'a>>
         ensures made { OnOk result (refusal (scheme_for algorithm.now) key.now ≡ None) }
         ensures err { IfErr result (Refuses (refusal (scheme_for algorithm.now) key.now)) }
         ensures by { IfOk result (λ v. algorithm_for v.scheme ≡ algorithm.now) }
@@ -73,13 +73,13 @@ impl<'a> CryptoProvider for &'a PreparedRsa {
         ensures kept { IfOk result (λ v. IsKeptVerifier v ↔ IsPreparedKey self.now.now key.now) }
     {
         let Some(scheme) = scheme_of_algorithm(*algorithm) else {
-            return Err(unsupported());
+            return Err(unsupported_algorithm());
         };
         let DecodingKeyKind::RsaModulusExponent { n, e } = key.kind() else {
             return Err(new_error(ErrorKind::InvalidKeyFormat));
         };
-        let keyed = self.keyed(alloc, n, e)?;
-        Ok(PreparedVerifier { scheme, keyed })
+        let keyed = self.key_of(alloc, n, e)?;
+        Ok(PreparedRsaVerifier { scheme, keyed })
     }
 
     /// Refuses with `UnsupportedAlgorithm`.

@@ -19,7 +19,7 @@ use crate::key::PublicKey;
 use crate::scheme::scheme_of_algorithm;
 use crate::verifier::RsaVerifier;
 use jwt_base::algorithms::Algorithm;
-use jwt_base::errors::{Error, ErrorKind, Result, new_error};
+use jwt_base::errors::{ErrorKind, Result, new_error, unsupported_algorithm};
 use jwt_crypto::{HmacProvider, NoSigner};
 use jwt_keys::decoding_key::{DecodingKey, DecodingKeyKind};
 use jwt_keys::encoding_key::EncodingKey;
@@ -27,12 +27,6 @@ use jwt_keys::provider::CryptoProvider;
 use jwt_params::curves::EllipticCurve;
 use jwt_params::thumbprints::ThumbprintHash;
 use std::alloc::Global;
-
-pub(crate) fn unsupported() -> Error
-    ensures { kind_of result ≡ kind.UnsupportedAlgorithm }
-{
-    new_error(ErrorKind::UnsupportedAlgorithm)
-}
 
 /// The provider of RSA: it verifies RS256, RS384 and RS512 with RSASSA-PKCS1-v1_5 (RFC 7518 section
 /// 3.3), and PS256, PS384 and PS512 with RSASSA-PSS (section 3.5), with keys of a modulus and an
@@ -67,7 +61,7 @@ impl CryptoProvider for RsaProvider {
         _algorithm: &Algorithm,
         _key: &EncodingKey,
     ) -> Result<NoSigner> {
-        Err(unsupported())
+        Err(unsupported_algorithm())
     }
 
     /// Returns a verifier by this algorithm and key. Another algorithm is refused with
@@ -82,7 +76,7 @@ impl CryptoProvider for RsaProvider {
         key: &DecodingKey,
     ) -> Result<RsaVerifier> {
         let Some(scheme) = scheme_of_algorithm(*algorithm) else {
-            return Err(unsupported());
+            return Err(unsupported_algorithm());
         };
         let DecodingKeyKind::RsaModulusExponent { n, e } = key.kind() else {
             return Err(new_error(ErrorKind::InvalidKeyFormat));
@@ -97,7 +91,7 @@ impl CryptoProvider for RsaProvider {
         _alloc: Global,
         _der: &[u8],
     ) -> Result<(Vec<u8>, Vec<u8>)> {
-        Err(unsupported())
+        Err(unsupported_algorithm())
     }
 
     /// Returns the modulus and the exponent of an RSAPublicKey in DER (RFC 8017 appendix A.1.1),
@@ -125,7 +119,7 @@ impl CryptoProvider for RsaProvider {
         _der: &[u8],
         _algorithm: Algorithm,
     ) -> Result<(EllipticCurve, Vec<u8>, Vec<u8>)> {
-        Err(unsupported())
+        Err(unsupported_algorithm())
     }
 
     /// Refuses with `UnsupportedAlgorithm`.
@@ -135,7 +129,7 @@ impl CryptoProvider for RsaProvider {
         _der: &[u8],
         _curve: &EllipticCurve,
     ) -> Result<Vec<u8>> {
-        Err(unsupported())
+        Err(unsupported_algorithm())
     }
 
     /// Returns the digest by SHA-2. The only refusal is `OutOfMemory`.

@@ -109,7 +109,7 @@ fn mgf1(alloc: Global, hash: Hash, seed: &[u8], len: usize) -> Result<Vec<u8>>
 }
 
 // Each octet of the one xor that of the other, as far as both go.
-fn xored(alloc: Global, a: &[u8], b: &[u8]) -> Result<Vec<u8>>
+fn xor(alloc: Global, a: &[u8], b: &[u8]) -> Result<Vec<u8>>
     ensures ok { IfOk result (λ v. v.items ≡ xored a.now b.now) }
     ensures err { IfErr result IsMemory }
 {
@@ -136,7 +136,7 @@ fn data_block(alloc: Global, hash: Hash, kept: u32, em: &[u8]) -> Result<Vec<u8>
 {
     let len = em.len() - hash_len(hash) - 1;
     let mask = mgf1(alloc, hash, em_digest(hash, em), len)?;
-    let block = xored(alloc, &em[..len], &mask)?;
+    let block = xor(alloc, &em[..len], &mask)?;
     Ok(with_low_bits(block, kept))
 }
 

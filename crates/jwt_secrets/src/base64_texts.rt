@@ -19,7 +19,7 @@ pub fn base64_bytes(alloc: Global, text: &[u8]) -> Result<Option<Vec<u8>>>
     ensures err { IfErr result IsMemory }
 {
     let characters = characters(alloc, text)?;
-    digit_bytes(alloc, unpadded(characters.as_slice()))
+    digit_bytes(alloc, trim_padding(characters.as_slice()))
 }
 
 fn is_white(byte: u8) -> bool
@@ -54,7 +54,7 @@ fn characters(alloc: Global, text: &[u8]) -> Result<Vec<u8>>
 }
 
 // Returns the characters without each `=` at their end.
-fn unpadded(characters: &[u8]) -> &[u8]
+fn trim_padding(characters: &[u8]) -> &[u8]
     ensures { result.now ≡ unpadded characters.now }
 {
     let mut count = characters.len();
@@ -73,8 +73,8 @@ fn digit_bytes(alloc: Global, digits: &[u8]) -> Result<Option<Vec<u8>>>
     let Some(count) = lacking(digits.len()) else {
         return Ok(None);
     };
-    let groups = filled(alloc, digits, count)?;
-    let Some(mut bytes) = decoded(alloc, groups.as_slice())? else {
+    let groups = fill(alloc, digits, count)?;
+    let Some(mut bytes) = decode(alloc, groups.as_slice())? else {
         return Ok(None);
     };
     bytes.truncate(bytes.len().saturating_sub(count));
@@ -95,7 +95,7 @@ fn lacking(count: usize) -> Option<usize>
 }
 
 // Returns the digits and, after them, so many of the value 0.
-fn filled(alloc: Global, digits: &[u8], lacking: usize) -> Result<Vec<u8>>
+fn fill(alloc: Global, digits: &[u8], lacking: usize) -> Result<Vec<u8>>
     ensures ok { IfOk result (λ v. v.items ≡ digits.now ++ replicate lacking 0x41) }
     ensures err { IfErr result IsMemory }
 {
@@ -107,7 +107,7 @@ fn filled(alloc: Global, digits: &[u8], lacking: usize) -> Result<Vec<u8>>
 }
 
 // Returns the bytes that the groups stand for.
-fn decoded(alloc: Global, groups: &[u8]) -> Result<Option<Vec<u8>>>
+fn decode(alloc: Global, groups: &[u8]) -> Result<Option<Vec<u8>>>
     ensures ok { IfOk result (λ o. MatchOption o ((b : List ℕ) → ¬ IsPart groups.now b)
         (λ b. IsPart groups.now b.items)) }
     ensures err { IfErr result IsMemory }

@@ -20,7 +20,7 @@ ghost use Rattle.jsonwebtoken.specs.Tests.{token_tests};
 
 use crate::decoding::TokenData;
 use crate::decoding::crit::check_crit;
-use crate::decoding::parts::TokenParts;
+use crate::decoding::parts::Opening;
 use crate::decoding::steps::{read_header_noting, token_parts, verify_by_key};
 use crate::refusal::{Refusal, Test, note, with_test};
 use jwt_base::algorithms::{Algorithm, KeyAlgorithm};
@@ -39,8 +39,7 @@ use std::alloc::Global;
 pub(crate) fn read_claims_by_set<P: CryptoProvider, T: Claims>(
     alloc: Global,
     provider: &P,
-    parts: &TokenParts<'_>,
-    header: &Header,
+    opening: Opening<'_>,
     set: &JwkSet,
     validation: &Validation,
     time: u64,
@@ -48,11 +47,13 @@ pub(crate) fn read_claims_by_set<P: CryptoProvider, T: Claims>(
     ensures { let call = decoding_by_set P.CryptoProvider T.Claims
         provider.now [] set.now.keys.items validation.now time in
         Step call (CritIsUnderstood ∷ key_tests ++ (algorithm_tests ++ verifying_tests))
-        (with_opening (parts_in parts.now) header.now) (ShowsClaims T.reads) result }
+        (with_opening (parts_in opening.parts.now) opening.header.now)
+        (ShowsClaims T.reads) result }
 {
-    check_crit(header, validation)?;
-    let key = key_in_set(alloc, set, header)?;
-    let claims = verify_by_key(alloc, provider, parts, header, &key, validation, time)?;
+    check_crit(opening.header, validation)?;
+    let key = key_in_set(alloc, set, opening.header)?;
+    // bound to a name: the proof cannot refer to a call in tail position
+    let claims = verify_by_key(alloc, provider, opening, &key, validation, time)?;
     Ok(claims)
 }
 
@@ -71,16 +72,8 @@ pub fn decode_with_set_or_refusal<P: CryptoProvider, T: Claims>(
         DecidesByTest (token_tests call) set_order (Carries call) result }
 {
     let mut failed = Test::HasThreeParts;
-    let decoded = decode_with_set_noting(
-        alloc,
-        provider,
-        token,
-        set,
-        validation,
-        time,
-        &mut failed,
-    );
-    with_test(failed, decoded)
+    let data = decode_with_set_noting(alloc, provider, token, set, validation, time, &mut failed);
+    with_test(failed, data)
 }
 
 /// Verifies a token in its compact form with the key of the set that its header names, at the
@@ -199,7 +192,11 @@ fn decode_with_set_noting<P: CryptoProvider, T: Claims>(
         Err(refusal) => return Err(note(refusal, failed)),
     };
     let header = read_header_noting(alloc, parts.header, failed)?;
-    let claims = read_claims_by_set(alloc, provider, &parts, &header, set, validation, time);
+    let opening = Opening {
+        parts: &parts,
+        header: &header,
+    };
+    let claims = read_claims_by_set(alloc, provider, opening, set, validation, time);
     match claims {
         Ok(claims) => Ok(TokenData { header, claims }),
         Err(refusal) => Err(note(refusal, failed)),

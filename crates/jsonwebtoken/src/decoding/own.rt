@@ -15,7 +15,7 @@ ghost use Rattle.jsonwebtoken.specs.Tests.{verifying_tests, set_order, token_tes
 
 use crate::decoding::TokenData;
 use crate::decoding::key_set::read_claims_by_set;
-use crate::decoding::parts::TokenParts;
+use crate::decoding::parts::Opening;
 use crate::decoding::steps::{read_header_noting, token_parts};
 use crate::refusal::{Refusal, Test, note, with_test};
 use jwt_base::algorithms::Algorithm;
@@ -109,7 +109,11 @@ fn decode_by_own_noting<P: CryptoProvider, T: Claims>(
         Err(refusal) => return Err(note(refusal, failed)),
     };
     let header = read_header_noting(alloc, parts.header, failed)?;
-    let claims = read_claims_by_own(alloc, provider, &parts, &header, set, validation, time);
+    let opening = Opening {
+        parts: &parts,
+        header: &header,
+    };
+    let claims = read_claims_by_own(alloc, provider, opening, set, validation, time);
     match claims {
         Ok(claims) => Ok(TokenData { header, claims }),
         Err(refusal) => Err(note(refusal, failed)),
@@ -121,8 +125,7 @@ fn decode_by_own_noting<P: CryptoProvider, T: Claims>(
 fn read_claims_by_own<P: CryptoProvider, T: Claims>(
     alloc: Global,
     provider: &P,
-    parts: &TokenParts<'_>,
-    header: &Header,
+    opening: Opening<'_>,
     set: &JwkSet,
     validation: &mut Validation,
     time: u64,
@@ -130,14 +133,16 @@ fn read_claims_by_own<P: CryptoProvider, T: Claims>(
     ensures read { let call = decoding_by_set P.CryptoProvider T.Claims
         provider.now [] set.now.keys.items validation.new time in
         IsErrAnd result (λ refusal. IsMemory refusal.error)
-        ⊎ ((validation.new.algorithms.items ≡ listed (named_own set.now.keys.items header.now))
+        ⊎ ((validation.new.algorithms.items
+        ≡ listed (named_own set.now.keys.items opening.header.now))
         × Step call (CritIsUnderstood ∷ key_tests ++ (algorithm_tests ++ verifying_tests))
-        (with_opening (parts_in parts.now) header.now) (ShowsClaims T.reads) result) }
+        (with_opening (parts_in opening.parts.now) opening.header.now)
+        (ShowsClaims T.reads) result) }
     ensures rest { options_of validation.new ≡ record (options_of validation.old)
         { algorithms = validation.new.algorithms.items } }
 {
-    match list(validation, named_algorithm(set, header)) {
-        Ok(()) => read_claims_by_set(alloc, provider, parts, header, set, validation, time),
+    match list(validation, named_algorithm(set, opening.header)) {
+        Ok(()) => read_claims_by_set(alloc, provider, opening, set, validation, time),
         Err(error) => Err(Refusal {
             test: Test::HeaderReads,
             error,

@@ -7,6 +7,8 @@
 ghost use Rattle.std.specs.Prelude.{◌≡◌, ◌++◌, ◌∷◌};
 ghost use Rattle.jsonwebtoken.specs.Tests.{dot};
 
+use jwt_header::Header;
+
 /// The three parts of a token, and the message that is signed.
 #[derive(Drop)]
 pub(crate) struct TokenParts<'a> {
@@ -15,4 +17,11 @@ pub(crate) struct TokenParts<'a> {
     pub(crate) payload: &'a [u8],
     pub(crate) signature: &'a [u8],
     ghost joined: { message.now ≡ header.now ++ dot ∷ payload.now },
+}
+
+/// The parts of a token whose header is read, and that header.
+#[derive(Clone, Copy)]
+pub(crate) struct Opening<'a> {
+    pub(crate) parts: &'a TokenParts<'a>,
+    pub(crate) header: &'a Header,
 }

@@ -43,7 +43,7 @@ ghost use Rattle.jsonwebtoken.specs.Tests.{signature_tests, payload_tests, claim
 ghost use Rattle.jsonwebtoken.specs.Tests.{verifying_tests};
 
 use crate::decoding::crit::check_crit;
-use crate::decoding::parts::TokenParts;
+use crate::decoding::parts::{Opening, TokenParts};
 use crate::known_headers::known_algorithm;
 use crate::refusal::{Refusal, Test, with_test};
 use jwt_base::algorithms::Algorithm;
@@ -227,20 +227,19 @@ pub(crate) fn read_payload<T: Claims>(alloc: Global, part: &[u8]) -> Result<T, R
 pub(crate) fn verify_by_key<P: CryptoProvider, T: Claims>(
     alloc: Global,
     provider: &P,
-    parts: &TokenParts<'_>,
-    header: &Header,
+    opening: Opening<'_>,
     key: &DecodingKey,
     validation: &Validation,
     time: u64,
 ) -> Result<T, Refusal>
     ensures { let call = decoding P.CryptoProvider T.Claims
         provider.now [] key.now validation.now time in
-        Step call (algorithm_tests ++ verifying_tests) (with_opening
-        (parts_in parts.now) header.now)
+        Step call (algorithm_tests ++ verifying_tests)
+        (with_opening (parts_in opening.parts.now) opening.header.now)
         (ShowsClaims T.reads) result }
 {
-    let verifier = verifier_for(alloc, provider, header, key, validation)?;
-    let claims = verify_and_read_claims(alloc, &verifier, parts, validation, time)?;
+    let verifier = verifier_for(alloc, provider, opening.header, key, validation)?;
+    let claims = verify_and_read_claims(alloc, &verifier, opening.parts, validation, time)?;
     Ok(claims)
 }
 
@@ -249,8 +248,7 @@ pub(crate) fn verify_by_key<P: CryptoProvider, T: Claims>(
 pub(crate) fn read_claims_by_key<P: CryptoProvider, T: Claims>(
     alloc: Global,
     provider: &P,
-    parts: &TokenParts<'_>,
-    header: &Header,
+    opening: Opening<'_>,
     key: &DecodingKey,
     validation: &Validation,
     time: u64,
@@ -258,10 +256,11 @@ pub(crate) fn read_claims_by_key<P: CryptoProvider, T: Claims>(
     ensures { let call = decoding P.CryptoProvider T.Claims
         provider.now [] key.now validation.now time in
         Step call (CritIsUnderstood ∷ (algorithm_tests ++ verifying_tests))
-        (with_opening (parts_in parts.now) header.now) (ShowsClaims T.reads) result }
+        (with_opening (parts_in opening.parts.now) opening.header.now)
+        (ShowsClaims T.reads) result }
 {
-    check_crit(header, validation)?;
-    verify_by_key(alloc, provider, parts, header, key, validation, time)
+    check_crit(opening.header, validation)?;
+    verify_by_key(alloc, provider, opening, key, validation, time)
 }
 
 /// Returns the parts of the token, found from its end.

@@ -45,5 +45,5 @@ returns c = λ h.
     let P : Point = numbers (λ x. whole x % p) c.args.point in
     let none : c.loop-i.i ≡ 0 = let z = c.loop-i-test.false in omega arith in
     let all = rw none at (c.loop-i.invariant.joint h) in
-    let e = c.extended.ensures in
+    let e = c.extend.ensures in
     subst (IsJoint P (little_endian c.args.first.now) (little_endian c.args.second.now)) (sym e) all

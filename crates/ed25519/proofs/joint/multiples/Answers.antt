@@ -31,16 +31,16 @@ loop-i-preserved g c =
     let P = numbers n c.args.point in
     let i = c.loop-i.i in
     let one = rw (f, c.twice_curve_d-twice_d.ensures) at c.prepare-one.ensures in
-    let sum = rw f at (c.extended-last.ensures ∙ c.add_to.ensures) in
+    let sum = rw f at (c.extend-last.ensures ∙ c.add_to.ensures) in
     let from_one : 1 ≤ i = c.loop-i.auto.i in
     let last = λ (h : IsPoint p d P).
-    IsMultiple-step P (numbers n c.loop-i.last) (numbers n c.extended-last.result) (i - 1) i
+    IsMultiple-step P (numbers n c.loop-i.last) (numbers n c.extend-last.result) (i - 1) i
     (addend_numbers n c.prepare-one.result) (omega arith) h (c.loop-i.invariant.last h) one sum in
     record {
       sized = simp length-set c.loop-i.invariant.sized;
       last = λ h. IsMultiple-at (let e : i ≡ i + 1 - 1 = omega arith in e) (last h);
       prepared = λ h. ArePrepared-more n P i (i + 1) c.loop-i.table c.prepare.result refl (c.loop-i.invariant.prepared h)
           (omega (arith, c.loop-i.invariant.sized, c.loop-i-test.true))
-          (IsPrepared-by P (numbers n c.extended-last.result) i (addend_numbers n c.prepare.result) (last h)
+          (IsPrepared-by P (numbers n c.extend-last.result) i (addend_numbers n c.prepare.result) (last h)
           (rw (f, c.twice_curve_d-twice_d.ensures) at c.prepare.ensures));
     }

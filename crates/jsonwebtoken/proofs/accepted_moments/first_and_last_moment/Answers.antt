@@ -24,7 +24,7 @@ returns-in-None g c =
     c.args.validation.now 0 in
     let has : HasMoments call decode_order = moments call decode_order refl refl refl (λ t m. (λ p. p, λ p. p)) in
     let x = c.in-Ok.ensures in
-    let whole = rw c.in-Ok.is at c.claimed.type_inv in
+    let whole = rw c.in-Ok.is at c.claim_moments.type_inv in
     let fits : c.in-Ok.moments.first ≤ end_of_time = omega (arith, whole.1.1.1.1.1.0.1.1.0.1) in
     let held = rw c.in-None.is at c.in_ok-failed_test.ensures in
     all_claimed c.args.token.now (Given c.args.key.now) (options_of c.args.validation.now)
@@ -37,7 +37,7 @@ returns-in-Some g c =
     c.args.validation.now 0 in
     let has : HasMoments call decode_order = moments call decode_order refl refl refl (λ t m. (λ p. p, λ p. p)) in
     let x = c.in-Ok.ensures in
-    let whole = rw c.in-Ok.is at c.claimed.type_inv in
+    let whole = rw c.in-Ok.is at c.claim_moments.type_inv in
     let fits : c.in-Ok.moments.first ≤ end_of_time = omega (arith, whole.1.1.1.1.1.0.1.1.0.1) in
     let failed = rw c.in-Some.is at c.in_ok-failed_test.ensures in
     none_claimed c.args.token.now (Given c.args.key.now) (options_of c.args.validation.now)

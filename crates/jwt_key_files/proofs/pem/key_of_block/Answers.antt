@@ -33,6 +33,6 @@ returns-in_err-key-2-clause-err c =
 
 pub returns-clause-err : goal.returns-clause-err
 returns-clause-err c =
-    inr (refused_other _ _ c.malformed.ensures (rw c.in_default.is at c.in_ok-der.ensures.ok)
+    inr (refused_other _ _ c.invalid_key.ensures (rw c.in_default.is at c.in_ok-der.ensures.ok)
     (rw c.in_default-2.is at c.in_ok-der-2.ensures.ok)
     (λ p. cc (c.names_private.ensures.1 p, c.if-names_private.false)))

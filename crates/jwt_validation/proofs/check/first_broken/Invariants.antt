@@ -6,4 +6,4 @@ use Rattle.jwt_validation.specs.declared.rules.Rule.{Rule}
 use Rattle.jwt_validation.proofs.check.first_broken.Given as goal
 
 abbrev pub invariant-loop-rule : goal.invariant-loop-rule
-invariant-loop-rule l = (q : Rule) → place q ≤ l.rule-index → Holds (options_of l.options) (claims_seen l.claims) l.now q
+invariant-loop-rule l = (q : Rule) → place q ≤ l.rule-index → Holds (options_of l.options) (claims_seen l.claims) l.time q

@@ -10,6 +10,6 @@ returns g c =
     let call = decoding_by_set g.P.CryptoProvider g.T.Claims c.args.provider.now c.args.token.now
     c.args.set.now.keys.items c.args.validation.now c.args.time in
     decides call set_order refl (Carries call) c.with_test.result
-    (rw (noted _ c.decode_with_set_noting-decoded.result _ c.with_test.ensures) at
-    c.decode_with_set_noting-decoded.ensures) (same_answer call set_order refl refl (λ r. r.header)
+    (rw (noted _ c.decode_with_set_noting-data.result _ c.with_test.ensures) at
+    c.decode_with_set_noting-data.ensures) (same_answer call set_order refl refl (λ r. r.header)
     (λ r v. g.T.Claims.reads v r.claims))

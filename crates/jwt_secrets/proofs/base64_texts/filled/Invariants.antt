@@ -1,5 +1,0 @@
-use Rattle.std.proofs.Common.{◌≡◌, ◌++◌, replicate}
-use Rattle.jwt_secrets.proofs.base64_texts.filled.Given as goal
-
-abbrev pub invariant-loop : goal.invariant-loop
-invariant-loop l = l.groups.items ≡ l.digits ++ replicate l.counter 0x41
