@@ -67,6 +67,7 @@ fn explain_acceptance(
     let strict = refusal_if_strict(alloc, case, validation, checks)?;
     let explanation = explanation_of(alloc, case, validation, Outcome::Accepted, None, strict)?;
     let output = explanation_text(alloc, &explanation, is_json);
+    // dropped at one place: each exit by `?` would have to be proved to drop every field
     drop(explanation);
     Ok(Answer {
         status: 0,
@@ -95,6 +96,7 @@ fn refusal_if_strict(
         Ok(None) => Ok(Vec::new(alloc)),
         Err(fault) => Err(fault),
     };
+    // dropped at one place: each exit by `?` would have to be proved to drop every field
     drop(strict);
     Ok(failures?.into_iter().next())
 }
@@ -194,6 +196,7 @@ fn claim_times(
         Some(claims) => {
             let lines = claim_lines(alloc, &claims, case.time);
             let moments = moments_of(alloc, &claims, validation);
+            // dropped at one place: each exit by `?` would have to be proved to drop every field
             drop(claims);
             Ok((lines?, moments?))
         }

@@ -231,6 +231,7 @@ fn load_jwk<'a>(alloc: Global, path: &'a str, bytes: &[u8]) -> Result<Loaded, Fa
     };
     let own = own_algorithm(&jwk);
     let read = DecodingKey::from_jwk(alloc, &jwk);
+    // dropped at one place: each exit by `?` would have to be proved to drop every field
     drop(jwk);
     match read {
         Ok(key) => accept_key(alloc, path, key, own),

@@ -56,6 +56,7 @@ fn run_verify_lines<'a, R: Files + Input + Print + Clock + AllocGlobal>(
 {
     let (mut loaded, mut validation) = keys_and_options(rt, request)?;
     let status = lines_status(rt, request, &mut loaded, &mut validation);
+    // dropped at one place: each exit by `?` would have to be proved to drop every field
     drop(loaded);
     drop(validation);
     Ok(Answer {
@@ -78,6 +79,7 @@ fn keys_and_options<'a, R: Files + AllocGlobal>(
     match keys_for(rt, request, &validation) {
         Ok(loaded) => Ok((loaded, validation)),
         Err(fault) => {
+            // dropped by a call: the end of the block would have to be proved to drop every field
             drop(validation);
             Err(fault)
         }
@@ -149,6 +151,7 @@ fn run_verify<'a, R: Files + Input + Clock + AllocGlobal>(
 {
     let (loaded, mut validation) = keys_and_options(rt, request)?;
     let answer = verify_token(rt, request, &loaded, &mut validation);
+    // dropped at one place: each exit by `?` would have to be proved to drop every field
     drop(loaded);
     drop(validation);
     answer
@@ -210,6 +213,7 @@ fn run_explain<'a, R: Files + Input + Clock + AllocGlobal>(
 {
     let (loaded, mut validation) = keys_and_options(rt, request)?;
     let answer = explain_token(rt, request, &loaded, &mut validation);
+    // dropped at one place: each exit by `?` would have to be proved to drop every field
     drop(loaded);
     drop(validation);
     answer

@@ -57,6 +57,7 @@ pub fn claims_answer(
     match header(alloc, request) {
         Ok(header) => {
             let answer = sign_answer(alloc, &header, claims, secret);
+            // dropped at one place: each exit by `?` would have to be proved to drop every field
             drop(header);
             answer
         }
@@ -85,6 +86,7 @@ fn put_times(
 {
     put_later(alloc, claims, "exp", time, request.exp_in)?;
     put_later(alloc, claims, "nbf", time, request.nbf_in)?;
+    // `?` and `Ok(())`: the proof cannot refer to a call in tail position
     put_iat(alloc, claims, time, request.has_iat)?;
     Ok(())
 }
@@ -190,6 +192,7 @@ fn refusal_answer(alloc: Global, error: Error) -> Result<Answer, Fault<'static>>
         return Err(Fault::Memory);
     }
     let message = error_line(alloc, &error);
+    // dropped at one place: each exit by `?` would have to be proved to drop every field
     drop(error);
     Ok(Answer {
         status: 1,

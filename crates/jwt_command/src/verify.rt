@@ -54,6 +54,7 @@ pub fn verify_answer(
     match judge(alloc, case, validation)? {
         Ok(contents) => {
             let answer = accepted_answer(alloc, &contents, form);
+            // dropped at one place: each exit by `?` would have to be proved to drop every field
             drop(contents);
             answer
         }

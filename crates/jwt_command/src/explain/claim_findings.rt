@@ -59,6 +59,7 @@ pub fn claim_findings(
         return Err(Fault::Memory);
     };
     let failures = claim_failures(alloc, &claims, validation, time);
+    // dropped at one place: each exit by `?` would have to be proved to drop every field
     drop(claims);
     let mut findings = Vec::new(alloc);
     for failure in failures? {
@@ -103,6 +104,7 @@ fn failure_about(
         }
     }
     let held = validate(alloc, rules.claims, &options, rules.time);
+    // dropped at one place: each exit by `?` would have to be proved to drop every field
     drop(options);
     match held {
         Ok(()) => Ok(None),

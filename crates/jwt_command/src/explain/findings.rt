@@ -186,6 +186,7 @@ fn finding_by_header(
     match decode_header(alloc, case.token) {
         Ok(header) => {
             let finding = header_finding(alloc, case, validation, test, &header);
+            // dropped at one place: each exit by `?` would have to be proved to drop every field
             drop(header);
             finding
         }

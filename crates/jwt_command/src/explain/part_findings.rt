@@ -114,6 +114,7 @@ fn found_text(alloc: Global, part: &[u8], test: Test) -> Result<String, Fault<'s
         None => Ok(String::from_str(alloc, "bytes that are not JSON")?),
         Some(value) => {
             let found = found_in_value(alloc, &value, test);
+            // dropped at one place: each exit by `?` would have to be proved to drop every field
             drop(value);
             Ok(found?)
         }

@@ -141,6 +141,7 @@ fn bits_text(alloc: Global, part: &str) -> Result<String, Fault<'static>> {
     match unless_refused(part_bytes(alloc, part.as_bytes()))? {
         Some(bytes) => {
             let count = bit_count(&bytes);
+            // dropped at one place: each exit by `?` would have to be proved to drop every field
             drop(bytes);
             Ok(format!(in alloc; "{count} bits")?)
         }
@@ -212,6 +213,7 @@ fn verifier_text(alloc: Global, jwk: &Jwk) -> Result<&'static str, Fault<'static
         return Ok("no: a member of the key is malformed");
     };
     let made = StandardProvider.verifier_factory(alloc, &algorithm, &key);
+    // dropped at one place: each exit by `?` would have to be proved to drop every field
     drop(key);
     match unless_refused(made)? {
         Some(verifier) => {

@@ -156,6 +156,7 @@ fn change(
         return Err(Fault::Memory);
     };
     set_times(validation, checks);
+    // `?` and `Ok(())`: the proof cannot refer to a call in tail position
     set_required(alloc, &mut validation.required_spec_claims, checks)?;
     Ok(())
 }
@@ -177,6 +178,7 @@ fn set_names(
     set_audiences(alloc, validation, checks.audiences)?;
     set_issuers(alloc, validation, checks.issuers)?;
     set_subject(alloc, validation, checks.subject)?;
+    // `?` and `Ok(())`: the proof cannot refer to a call in tail position
     set_understood(alloc, validation, checks.understood)?;
     Ok(())
 }
@@ -248,6 +250,7 @@ fn set_required(
     require_named(alloc, claims, checks.required)?;
     require_if(alloc, claims, checks.audiences.is_some(), "aud")?;
     require_if(alloc, claims, checks.issuers.is_some(), "iss")?;
+    // `?` and `Ok(())`: the proof cannot refer to a call in tail position
     require_if(alloc, claims, checks.subject.is_some(), "sub")?;
     Ok(())
 }
