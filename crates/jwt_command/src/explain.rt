@@ -20,7 +20,7 @@ use crate::explain::explanation::{Explanation, Outcome, json_line, page};
 use crate::explain::findings::{Finding, findings_of, part_value, quote};
 use crate::explain::orders::order;
 use crate::explain::part_findings::split_parts;
-use crate::fault::{Fault, unless_refused};
+use crate::fault::{Fault, value_unless_refused};
 use crate::request::Checks;
 use crate::times::claim_lines;
 use crate::verify::case::Case;
@@ -213,7 +213,7 @@ fn moments_of(
 ) -> Result<Option<Moments>, Fault<'static>> {
     let moments = claimed_moments(claims, validation);
     let held = validate(alloc, claims, validation, moments.first);
-    Ok(unless_refused(held)?.map(|()| moments))
+    Ok(value_unless_refused(held)?.map(|()| moments))
 }
 
 fn explanation_text(

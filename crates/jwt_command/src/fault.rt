@@ -74,7 +74,7 @@ pub fn fault_of<'a>(error: &Error, fault: Fault<'a>) -> Fault<'a>
 }
 
 /// Returns the value that a call made, or `None` if it was refused for another reason than memory.
-pub fn unless_refused<R>(made: Result<R, Error>) -> Result<Option<R>, Fault<'static>> {
+pub fn value_unless_refused<R>(made: Result<R, Error>) -> Result<Option<R>, Fault<'static>> {
     match made {
         Ok(value) => Ok(Some(value)),
         Err(error) if is_memory(&error) => Err(Fault::Memory),

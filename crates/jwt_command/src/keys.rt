@@ -25,7 +25,7 @@ pub(crate) mod jwk;
 pub(crate) mod table;
 pub(crate) mod thumbprint;
 
-use crate::fault::{Fault, fault_of, unless_refused};
+use crate::fault::{Fault, fault_of, value_unless_refused};
 use crate::files::strip_line_end;
 use crate::keys::hints::{key_problem, pem_problem, set_problem};
 use crate::request::KeyFile;
@@ -39,7 +39,7 @@ use std::alloc::Global;
 
 /// Keys, with what their file says of them.
 #[derive(Drop)]
-pub struct Loaded {
+pub struct LoadedKeys {
     pub keys: Keys,
     /// The algorithm that the one key is for.
     pub own: Option<Algorithm>,
@@ -58,7 +58,7 @@ const MOST_PREPARED: usize = 16;
 /// list is empty.
 pub fn prepare(
     alloc: Global,
-    loaded: &mut Loaded,
+    loaded: &mut LoadedKeys,
     algorithms: &[Algorithm],
 ) -> Result<(), Fault<'static>>
     ensures { (loaded.new.keys ≡ loaded.old.keys) × (loaded.new.own ≡ loaded.old.own) }
@@ -71,7 +71,7 @@ pub fn prepare(
 
 /// Returns whether the keys may name the algorithm of a token: one key by its own `alg`, and a set
 /// by that of the key which the token names.
-pub fn names_algorithm(loaded: &Loaded) -> bool {
+pub fn names_algorithm(loaded: &LoadedKeys) -> bool {
     match &loaded.keys {
         Keys::One(_) => loaded.own.is_some(),
         Keys::Set(_) => true,
@@ -112,7 +112,7 @@ pub fn not_pem<'a>(path: &'a str, error: &Error, bytes: &[u8]) -> Fault<'a>
 }
 
 /// Returns the keys that the bytes of a file hold.
-pub fn load<'a>(alloc: Global, file: KeyFile<'a>, bytes: &[u8]) -> Result<Loaded, Fault<'a>>
+pub fn load<'a>(alloc: Global, file: KeyFile<'a>, bytes: &[u8]) -> Result<LoadedKeys, Fault<'a>>
     ensures ok { IfOk result (λ l. AreLoaded file.entry bytes.now l.keys l.own) }
     ensures err { IfErr result (λ e. (e ≡ Fault.Memory) ⊎ HasKeysFault file.entry bytes.now) }
 {
@@ -162,7 +162,7 @@ fn prepare_set(
     algorithms: &[Algorithm],
 ) -> Result<(), Fault<'static>> {
     for jwk in set.keys.iter().take(MOST_PREPARED) {
-        if let Some(key) = unless_refused(DecodingKey::from_jwk(alloc, jwk))? {
+        if let Some(key) = value_unless_refused(DecodingKey::from_jwk(alloc, jwk))? {
             prepare_key(alloc, provider, &key, own_algorithm(jwk), algorithms)?;
         }
     }
@@ -194,7 +194,7 @@ fn load_secret<'a>(
     path: &'a str,
     bytes: &[u8],
     is_trimmed: bool,
-) -> Result<Loaded, Fault<'a>>
+) -> Result<LoadedKeys, Fault<'a>>
     ensures ok { IfOk result (λ l. (secret : List ℕ) × IsSecret is_trimmed bytes.now secret
         × (¬ IsBlank secret) × (l.keys ≡ Keys.One (Plain Hmac secret)) × (l.own ≡ None)) }
     ensures err { IfErr result (λ e. (e ≡ Fault.Memory)
@@ -202,7 +202,7 @@ fn load_secret<'a>(
 {
     let secret = given_secret(path, bytes, is_trimmed)?;
     match DecodingKey::from_secret(alloc, secret) {
-        Ok(key) => Ok(Loaded {
+        Ok(key) => Ok(LoadedKeys {
             keys: Keys::One(key),
             own: None,
             has_line_end: secret.ends_with(b"\n"),
@@ -212,7 +212,7 @@ fn load_secret<'a>(
     }
 }
 
-fn load_jwk<'a>(alloc: Global, path: &'a str, bytes: &[u8]) -> Result<Loaded, Fault<'a>>
+fn load_jwk<'a>(alloc: Global, path: &'a str, bytes: &[u8]) -> Result<LoadedKeys, Fault<'a>>
     ensures ok { IfOk result (λ l. (jwk : Jwk) × ReadsText ReadsKey bytes.now jwk
         × ((key : Key) × IsKeyOf jwk.algorithm key × (¬ IsBlankKey key)
         × (l.keys ≡ Keys.One key) × (l.own ≡ own_of jwk))) }
@@ -248,7 +248,7 @@ fn accept_key<'a>(
     path: &'a str,
     key: DecodingKey,
     own: Option<Algorithm>,
-) -> Result<Loaded, Fault<'a>>
+) -> Result<LoadedKeys, Fault<'a>>
     ensures ok { IfOk result (λ l. (¬ IsBlankKey key) × (l.keys ≡ Keys.One key) × (l.own ≡ own)) }
     ensures err { IsErr result → IsBlankKey key }
 {
@@ -258,7 +258,7 @@ fn accept_key<'a>(
             problem: "anyone can sign with this key",
         });
     }
-    Ok(Loaded {
+    Ok(LoadedKeys {
         keys: Keys::One(key),
         own,
         has_line_end: false,
@@ -266,7 +266,7 @@ fn accept_key<'a>(
     })
 }
 
-fn load_set<'a>(alloc: Global, path: &'a str, bytes: &[u8]) -> Result<Loaded, Fault<'a>>
+fn load_set<'a>(alloc: Global, path: &'a str, bytes: &[u8]) -> Result<LoadedKeys, Fault<'a>>
     ensures ok { IfOk result (λ l. (set : JwkSet) × ReadsText ReadsSet bytes.now set.keys.items
         × (¬ HasBlankKey set.keys.items) × (l.keys ≡ Keys.Set set) × (l.own ≡ None)) }
     ensures err { IfErr result (λ e. (e ≡ Fault.Memory)
@@ -283,13 +283,13 @@ fn load_set<'a>(alloc: Global, path: &'a str, bytes: &[u8]) -> Result<Loaded, Fa
 }
 
 /// Returns the keys that are this set, unless anyone can sign for one of them.
-fn accept_set<'a>(alloc: Global, path: &'a str, set: JwkSet) -> Result<Loaded, Fault<'a>>
+fn accept_set<'a>(alloc: Global, path: &'a str, set: JwkSet) -> Result<LoadedKeys, Fault<'a>>
     ensures ok { IfOk result (λ l. (¬ HasBlankKey set.keys.items) × (l.keys ≡ Keys.Set set)
         × (l.own ≡ None)) }
     ensures err { IfErr result (λ e. (e ≡ Fault.Memory) ⊎ HasBlankKey set.keys.items) }
 {
     match has_blank_key(alloc, &set) {
-        Ok(false) => Ok(Loaded {
+        Ok(false) => Ok(LoadedKeys {
             keys: Keys::Set(set),
             own: None,
             has_line_end: false,
@@ -303,14 +303,14 @@ fn accept_set<'a>(alloc: Global, path: &'a str, set: JwkSet) -> Result<Loaded, F
     }
 }
 
-fn load_pem<'a>(alloc: Global, path: &'a str, bytes: &[u8]) -> Result<Loaded, Fault<'a>>
+fn load_pem<'a>(alloc: Global, path: &'a str, bytes: &[u8]) -> Result<LoadedKeys, Fault<'a>>
     ensures ok { IfOk result (λ l. (key : Key) × IsPemOf bytes.now key
         × (l.keys ≡ Keys.One key) × (l.own ≡ None)) }
     ensures err { IfErr result (λ e. (e ≡ Fault.Memory)
         ⊎ ((k : Kind) × IsPemRefused bytes.now k)) }
 {
     match public_key_from_pem(alloc, bytes) {
-        Ok(key) => Ok(Loaded {
+        Ok(key) => Ok(LoadedKeys {
             keys: Keys::One(key),
             own: None,
             has_line_end: false,

@@ -2,7 +2,7 @@
 
 ghost use Rattle.std.specs.Prelude.{◌≡◌, ℕ, List, IfOk, is_some, string_bytes};
 ghost use Rattle.jwt_validation.specs.OptionsOf.{options_of};
-ghost use Rattle.jwt_command.specs.Commands.{ArePrepared, AreVerified, IsAnswer, IsExplanation};
+ghost use Rattle.jwt_command.specs.Commands.{AreAsked, AreVerified, IsAnswer, IsExplanation};
 ghost use Rattle.jwt_command.specs.Commands.{IsGiven, IsGivenToken, IsLinesStatus, IsShown};
 ghost use Rattle.jwt_command.specs.Commands.{IsSigned, IsSigning, IsTokenAnswer, IsTokenVerdict};
 ghost use Rattle.jwt_command.specs.Commands.{IsVerification, form_asked};
@@ -16,14 +16,14 @@ use crate::files::{file_bytes, input_bytes, strip_line_end};
 use crate::keys::jwk::jwk_answer;
 use crate::keys::table::keys_answer;
 use crate::keys::thumbprint::thumbprint_answer;
-use crate::keys::{Loaded, given_secret, load, names_algorithm, prepare};
+use crate::keys::{LoadedKeys, given_secret, load, names_algorithm, prepare};
 use crate::request::{Digesting, KeyFile, Listing, Request, Showing, Signing, Verification};
 use crate::show::show_answer;
 use crate::sign::{claims, claims_answer};
 use crate::verify::case::Case;
 use crate::verify::lines::answer_lines;
 use crate::verify::options::requested_validation;
-use crate::verify::{Form, verify_answer};
+use crate::verify::{OutputForm, verify_answer};
 use jsonwebtoken::Validation;
 use std::alloc::Global;
 use std::rt::{Clock, Files};
@@ -71,8 +71,8 @@ fn run_verify_lines<'a, R: Files + Input + Print + Clock + AllocGlobal>(
 fn keys_and_options<'a, R: Files + AllocGlobal>(
     rt: &R,
     request: &Verification<'_, 'a>,
-) -> Result<(Loaded, Validation), Fault<'a>>
-    ensures { IfOk result (λ p. ArePrepared request.entry.now p.0 (options_of p.1)) }
+) -> Result<(LoadedKeys, Validation), Fault<'a>>
+    ensures { IfOk result (λ p. AreAsked request.entry.now p.0 (options_of p.1)) }
 {
     let options = options_bytes(rt, request.checks.options)?;
     let validation = requested_validation(rt.alloc(), &request.checks, options.as_deref())?;
@@ -104,7 +104,7 @@ fn keys_for<'a, R: Files + AllocGlobal>(
     rt: &R,
     request: &Verification<'_, 'a>,
     validation: &Validation,
-) -> Result<Loaded, Fault<'a>>
+) -> Result<LoadedKeys, Fault<'a>>
     ensures { IfOk result (λ l. (key : List ℕ)
         × AreLoaded request.entry.now.key key l.keys l.own) }
 {
@@ -132,7 +132,7 @@ fn path_of<'a>(file: KeyFile<'a>) -> &'a str {
 fn lines_status<R: Input + Print + Clock + AllocGlobal>(
     rt: &R,
     request: &Verification<'_, '_>,
-    loaded: &mut Loaded,
+    loaded: &mut LoadedKeys,
     validation: &mut Validation,
 ) -> Result<u8, Fault<'static>>
     ensures { IfOk result (λ status. (loaded.new.keys ≡ loaded.old.keys)
@@ -161,7 +161,7 @@ fn run_verify<'a, R: Files + Input + Clock + AllocGlobal>(
 fn verify_token<R: Input + Clock + AllocGlobal>(
     rt: &R,
     request: &Verification<'_, '_>,
-    loaded: &Loaded,
+    loaded: &LoadedKeys,
     validation: &mut Validation,
 ) -> Result<Answer, Fault<'static>>
     ensures { IfOk result (λ a. (bytes : List ℕ) × IsGivenToken request.entry.now.token bytes
@@ -193,15 +193,15 @@ fn token_bytes<R: Input + AllocGlobal>(
     }
 }
 
-fn form(request: &Verification<'_, '_>) -> Form
+fn form(request: &Verification<'_, '_>) -> OutputForm
     ensures { result ≡ form_asked request.entry.now }
 {
     if request.is_json {
-        Form::Json
+        OutputForm::Json
     } else if request.has_header {
-        Form::HeaderAndClaims
+        OutputForm::HeaderAndClaims
     } else {
-        Form::Claims
+        OutputForm::Claims
     }
 }
 
@@ -223,7 +223,7 @@ fn run_explain<'a, R: Files + Input + Clock + AllocGlobal>(
 fn explain_token<R: Input + Clock + AllocGlobal>(
     rt: &R,
     request: &Verification<'_, '_>,
-    loaded: &Loaded,
+    loaded: &LoadedKeys,
     validation: &mut Validation,
 ) -> Result<Answer, Fault<'static>>
     ensures { IfOk result (λ a. (bytes : List ℕ) × IsGivenToken request.entry.now.token bytes

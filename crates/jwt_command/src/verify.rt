@@ -27,7 +27,7 @@ const LINE: usize = 24;
 
 /// How an answer is written.
 #[derive(Clone, Copy)]
-pub enum Form {
+pub enum OutputForm {
     /// The claims as JSON.
     Claims,
     /// The header as JSON, and the claims as JSON.
@@ -42,7 +42,7 @@ pub fn verify_answer(
     alloc: Global,
     case: Case<'_>,
     validation: &mut Validation,
-    form: Form,
+    form: OutputForm,
 ) -> Result<Answer, Fault<'static>>
     ensures { IfOk result (λ a.
         IsSettled case.entry.loaded.now case.entry.token.now (options_of validation.old)
@@ -66,7 +66,7 @@ pub fn verify_answer(
 fn accepted_answer(
     alloc: Global,
     contents: &TokenData<Value>,
-    form: Form,
+    form: OutputForm,
 ) -> Result<Answer, Fault<'static>>
     ensures { IfOk result (λ a. (a.status ≡ 0) × IsAcceptedText form contents.now.header
         (view contents.now.claims) (string_bytes a.output)) }
@@ -81,19 +81,19 @@ fn accepted_answer(
 fn accepted_text(
     alloc: Global,
     contents: &TokenData<Value>,
-    form: Form,
+    form: OutputForm,
 ) -> Result<String, Fault<'static>>
-    ensures { IfOk result (λ text. IsAcceptedText form contents.now.header (view contents.now.claims)
-        (string_bytes text)) }
+    ensures { IfOk result (λ text. IsAcceptedText form contents.now.header
+        (view contents.now.claims) (string_bytes text)) }
 {
     match form {
-        Form::Claims => Ok(value_line(alloc, &contents.claims)?),
-        Form::HeaderAndClaims => {
+        OutputForm::Claims => Ok(value_line(alloc, &contents.claims)?),
+        OutputForm::HeaderAndClaims => {
             let mut text = header_line(alloc, &contents.header)?;
             text.push_str(value_line(alloc, &contents.claims)?.as_str())?;
             Ok(text)
         }
-        Form::Json => Ok(accepted_line(alloc, &contents.claims)?),
+        OutputForm::Json => Ok(accepted_line(alloc, &contents.claims)?),
     }
 }
 
@@ -122,7 +122,7 @@ fn denied_answer(
     alloc: Global,
     denial: &Denial,
     has_line_end: bool,
-    form: Form,
+    form: OutputForm,
 ) -> Result<Answer, Fault<'static>>
     ensures { IfOk result (λ a. (a.status ≡ 1) × IsRefusedText form (string_bytes a.output)) }
 {
@@ -134,11 +134,11 @@ fn denied_answer(
     })
 }
 
-fn denied_text(alloc: Global, denial: &Denial, form: Form) -> Result<String, AllocError>
+fn denied_text(alloc: Global, denial: &Denial, form: OutputForm) -> Result<String, AllocError>
     ensures { IfOk result (λ text. IsRefusedText form (string_bytes text)) }
 {
     match form {
-        Form::Json => denied_line(alloc, denial),
+        OutputForm::Json => denied_line(alloc, denial),
         _ => Ok(String::new(alloc)),
     }
 }

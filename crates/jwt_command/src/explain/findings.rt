@@ -5,7 +5,7 @@ use crate::explain::part_findings::{
     Parts, is_of_base64url, part_finding, split_parts, text_finding,
 };
 use crate::explain::signature_findings::length_finding;
-use crate::fault::{Fault, unless_refused};
+use crate::fault::{Fault, value_unless_refused};
 use crate::verify::case::Case;
 use jsonwebtoken::jwk::JwkSet;
 use jsonwebtoken::{
@@ -70,8 +70,8 @@ pub fn choice(alloc: Global, names: &[String]) -> Result<String, AllocError> {
 
 /// Returns the value of a part, or `None` if it is not base64url or not JSON.
 pub fn part_value(alloc: Global, part: &[u8]) -> Result<Option<Value>, Fault<'static>> {
-    match unless_refused(part_bytes(alloc, part))? {
-        Some(bytes) => unless_refused(json_value(alloc, &bytes)),
+    match value_unless_refused(part_bytes(alloc, part))? {
+        Some(bytes) => value_unless_refused(json_value(alloc, &bytes)),
         None => Ok(None),
     }
 }

@@ -2,7 +2,7 @@
 
 use crate::explain::findings::{Finding, part_value, quote};
 use crate::explain::wrappings::wrapping_of;
-use crate::fault::{Fault, unless_refused};
+use crate::fault::{Fault, value_unless_refused};
 use jsonwebtoken::{Test, decode_header};
 use jwt_base::serialization::part_bytes;
 use serde_json::Value;
@@ -98,7 +98,7 @@ pub fn unread_finding(alloc: Global, token: &[u8]) -> Result<Finding, Fault<'sta
     if let Some(test) = header_test(alloc, token, parts.header)? {
         return part_finding(alloc, token, parts.header, test);
     }
-    let test = match unless_refused(part_bytes(alloc, parts.payload))? {
+    let test = match value_unless_refused(part_bytes(alloc, parts.payload))? {
         Some(_) => Test::PayloadIsJson,
         None => Test::PayloadIsPart,
     };
@@ -185,13 +185,13 @@ fn wanted_text(test: Test) -> &'static str {
 
 /// Returns the first test of a header that can't be read, or `None` if it can.
 fn header_test(alloc: Global, token: &[u8], header: &[u8]) -> Result<Option<Test>, Fault<'static>> {
-    if unless_refused(part_bytes(alloc, header))?.is_none() {
+    if value_unless_refused(part_bytes(alloc, header))?.is_none() {
         return Ok(Some(Test::HeaderIsPart));
     }
     if part_value(alloc, header)?.is_none() {
         return Ok(Some(Test::HeaderIsJson));
     }
-    if unless_refused(decode_header(alloc, token))?.is_none() {
+    if value_unless_refused(decode_header(alloc, token))?.is_none() {
         return Ok(Some(Test::HeaderReads));
     }
     Ok(None)

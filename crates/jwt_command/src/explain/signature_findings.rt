@@ -3,7 +3,7 @@
 
 use crate::explain::findings::Finding;
 use crate::explain::part_findings::Parts;
-use crate::fault::{Fault, unless_refused};
+use crate::fault::{Fault, value_unless_refused};
 use crate::verify::case::Case;
 use jsonwebtoken::{
     Algorithm, AlgorithmFamily, DecodingKey, DecodingKeyKind, Header, decode_header,
@@ -56,7 +56,7 @@ fn lengths_of(
     case: Case<'_>,
     parts: Parts<'_>,
 ) -> Result<Option<Lengths>, Fault<'static>> {
-    let Some(header) = unless_refused(decode_header(alloc, case.token))? else {
+    let Some(header) = value_unless_refused(decode_header(alloc, case.token))? else {
         return Ok(None);
     };
     let algorithm = header.alg;
@@ -112,7 +112,7 @@ fn length_by_set(
     let Some(jwk) = set.find(kid.as_str()) else {
         return Ok(None);
     };
-    match unless_refused(DecodingKey::from_jwk(alloc, jwk))? {
+    match value_unless_refused(DecodingKey::from_jwk(alloc, jwk))? {
         Some(key) => {
             let length = length_by(header.alg, &key);
             drop(key);
@@ -134,7 +134,7 @@ fn is_der(alloc: Global, signature: &[u8], algorithm: Algorithm) -> Result<bool,
     if !matches!(algorithm, Algorithm::ES256 | Algorithm::ES384) {
         return Ok(false);
     }
-    match unless_refused(part_bytes(alloc, signature))? {
+    match value_unless_refused(part_bytes(alloc, signature))? {
         Some(bytes) => Ok(matches!(bytes.as_slice(), [0x30, length, 0x02, ..]
             if *length as usize + 2 == bytes.len())),
         None => Ok(false),

@@ -3,7 +3,7 @@
 ghost use Rattle.std.specs.Prelude.{◌≡◌, IfOk};
 
 use crate::answer::Answer;
-use crate::fault::{Fault, fault_of, unless_refused};
+use crate::fault::{Fault, fault_of, value_unless_refused};
 use crate::keys::hints::set_problem;
 use jsonwebtoken::crypto::CryptoProvider;
 use jsonwebtoken::jwk::{
@@ -138,7 +138,7 @@ fn size(alloc: Global, jwk: &Jwk) -> Result<String, Fault<'static>> {
 
 /// Returns the number of bits of a number in base64url.
 fn bits_text(alloc: Global, part: &str) -> Result<String, Fault<'static>> {
-    match unless_refused(part_bytes(alloc, part.as_bytes()))? {
+    match value_unless_refused(part_bytes(alloc, part.as_bytes()))? {
         Some(bytes) => {
             let count = bit_count(&bytes);
             // dropped at one place: each exit by `?` would have to be proved to drop every field
@@ -162,7 +162,7 @@ fn bit_count(bytes: &[u8]) -> u64 {
 
 /// Returns the number of bits of a secret in base64url.
 fn secret_text(alloc: Global, part: &str) -> Result<String, Fault<'static>> {
-    match unless_refused(part_bytes(alloc, part.as_bytes()))? {
+    match value_unless_refused(part_bytes(alloc, part.as_bytes()))? {
         Some(bytes) => {
             let count = (bytes.len() as u64).saturating_mul(8);
             drop(bytes);
@@ -173,7 +173,7 @@ fn secret_text(alloc: Global, part: &str) -> Result<String, Fault<'static>> {
 }
 
 fn thumbprint(alloc: Global, jwk: &Jwk) -> Result<String, Fault<'static>> {
-    match unless_refused(jwk.thumbprint(alloc, &StandardProvider, ThumbprintHash::SHA256))? {
+    match value_unless_refused(jwk.thumbprint(alloc, &StandardProvider, ThumbprintHash::SHA256))? {
         Some(thumbprint) => Ok(thumbprint),
         None => Ok(String::from_str(alloc, "-")?),
     }
@@ -209,13 +209,13 @@ fn verifier_text(alloc: Global, jwk: &Jwk) -> Result<&'static str, Fault<'static
     let Some(algorithm) = algorithm_for(jwk) else {
         return Ok("no: with no algorithm that is supported here");
     };
-    let Some(key) = unless_refused(DecodingKey::from_jwk(alloc, jwk))? else {
+    let Some(key) = value_unless_refused(DecodingKey::from_jwk(alloc, jwk))? else {
         return Ok("no: a member of the key is malformed");
     };
     let made = StandardProvider.verifier_factory(alloc, &algorithm, &key);
     // dropped at one place: each exit by `?` would have to be proved to drop every field
     drop(key);
-    match unless_refused(made)? {
+    match value_unless_refused(made)? {
         Some(verifier) => {
             drop(verifier);
             Ok("yes")

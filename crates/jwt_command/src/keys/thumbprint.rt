@@ -3,7 +3,7 @@
 ghost use Rattle.std.specs.Prelude.{◌≡◌, IfOk};
 
 use crate::answer::Answer;
-use crate::fault::{Fault, fault_of, unless_refused};
+use crate::fault::{Fault, fault_of, value_unless_refused};
 use jsonwebtoken::jwk::{Jwk, ThumbprintHash};
 use jwt_key_files::jwk::jwk_from_pem;
 use jwt_standard::StandardProvider;
@@ -29,7 +29,7 @@ pub fn thumbprint_answer<'a>(
 /// before.
 fn key<'a>(alloc: Global, path: &'a str, bytes: &[u8]) -> Result<Jwk, Fault<'a>> {
     let problem = "this is neither a JSON Web Key nor a public key in PEM";
-    if let Some(jwk) = unless_refused(Jwk::from_slice(alloc, bytes))? {
+    if let Some(jwk) = value_unless_refused(Jwk::from_slice(alloc, bytes))? {
         return Ok(jwk);
     }
     match jwk_from_pem(alloc, bytes) {

@@ -12,10 +12,10 @@ use crate::answer::Answer;
 use crate::clock::current_time;
 use crate::fault::Fault;
 use crate::files::strip_line_end;
-use crate::keys::Loaded;
+use crate::keys::LoadedKeys;
 use crate::request::Verification;
 use crate::verify::case::Case;
-use crate::verify::{Form, verify_answer};
+use crate::verify::{OutputForm, verify_answer};
 use jsonwebtoken::Validation;
 use memchr::memchr;
 use std::alloc::Global;
@@ -29,7 +29,7 @@ use std::rt::Clock;
 pub fn answer_lines<R: Input + Print + Clock + AllocGlobal>(
     rt: &R,
     request: &Verification<'_, '_>,
-    loaded: &Loaded,
+    loaded: &LoadedKeys,
     validation: &mut Validation,
 ) -> Result<u8, Fault<'static>>
     ensures { IfOk result (IsLinesStatus request.entry.now loaded.now (options_of validation.old)) }
@@ -97,7 +97,7 @@ fn read_part<R: BufRead>(reader: &mut R, line: &mut Vec<u8>) -> Result<bool, Fau
 fn line_answer<R: Clock + AllocGlobal>(
     rt: &R,
     request: &Verification<'_, '_>,
-    loaded: &Loaded,
+    loaded: &LoadedKeys,
     validation: &mut Validation,
     line: &[u8],
 ) -> Result<Answer, Fault<'static>>
@@ -114,7 +114,7 @@ fn line_answer<R: Clock + AllocGlobal>(
         typ: request.typ,
         time,
     };
-    let answer = verify_answer(rt.alloc(), case, validation, Form::Json)?;
+    let answer = verify_answer(rt.alloc(), case, validation, OutputForm::Json)?;
     forget_own(validation, is_own);
     Ok(answer)
 }
