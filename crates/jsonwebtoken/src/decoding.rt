@@ -163,7 +163,7 @@ fn decode_noting<P: CryptoProvider, T: Claims>(
         parts: &parts,
         header: &header,
     };
-    let claims = read_claims_by_key(alloc, provider, opening, key, validation, time);
+    let claims = read_claims_by_key(alloc, provider, &opening, key, validation, time);
     match claims {
         Ok(claims) => Ok(TokenData { header, claims }),
         Err(refusal) => Err(note(refusal, failed)),

@@ -259,7 +259,7 @@ fn decode_parts<P: CryptoProvider, T: Claims>(
         parts: parts,
         header: &header,
     };
-    let claims = read_claims_by_key(alloc, provider, opening, key, validation, time);
+    let claims = read_claims_by_key(alloc, provider, &opening, key, validation, time);
     match claims {
         Ok(claims) => Ok(TokenData { header, claims }),
         Err(refusal) => Err(refusal),
@@ -271,15 +271,15 @@ fn decode_parts<P: CryptoProvider, T: Claims>(
 fn read_claims_by_key<P: CryptoProvider, T: Claims>(
     alloc: Global,
     provider: &P,
-    opening: Opening<'_>,
+    opening: &Opening<'_>,
     key: &DecodingKey,
     validation: &Validation,
     time: u64,
 ) -> Result<T, Refusal>
     ensures { let call = decoding_parts P.CryptoProvider T.Claims
-        provider.now (parts_in opening.parts.now) key.now validation.now time in
+        provider.now (parts_in opening.now.parts.now) key.now validation.now time in
         Step call (CritIsUnderstood ∷ (jws_algorithm_tests ++ verifying_tests))
-        (with_opening (parts_in opening.parts.now) opening.header.now)
+        (with_opening (parts_in opening.now.parts.now) opening.now.header.now)
         (ShowsClaims T.reads) result }
 {
     check_crit(opening.header, validation)?;

@@ -39,7 +39,7 @@ use std::alloc::Global;
 pub(crate) fn read_claims_by_set<P: CryptoProvider, T: Claims>(
     alloc: Global,
     provider: &P,
-    opening: Opening<'_>,
+    opening: &Opening<'_>,
     set: &JwkSet,
     validation: &Validation,
     time: u64,
@@ -47,7 +47,7 @@ pub(crate) fn read_claims_by_set<P: CryptoProvider, T: Claims>(
     ensures { let call = decoding_by_set P.CryptoProvider T.Claims
         provider.now [] set.now.keys.items validation.now time in
         Step call (CritIsUnderstood ∷ key_tests ++ (algorithm_tests ++ verifying_tests))
-        (with_opening (parts_in opening.parts.now) opening.header.now)
+        (with_opening (parts_in opening.now.parts.now) opening.now.header.now)
         (ShowsClaims T.reads) result }
 {
     check_crit(opening.header, validation)?;
@@ -196,7 +196,7 @@ fn decode_with_set_noting<P: CryptoProvider, T: Claims>(
         parts: &parts,
         header: &header,
     };
-    let claims = read_claims_by_set(alloc, provider, opening, set, validation, time);
+    let claims = read_claims_by_set(alloc, provider, &opening, set, validation, time);
     match claims {
         Ok(claims) => Ok(TokenData { header, claims }),
         Err(refusal) => Err(note(refusal, failed)),

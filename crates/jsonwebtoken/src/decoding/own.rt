@@ -113,7 +113,7 @@ fn decode_by_own_noting<P: CryptoProvider, T: Claims>(
         parts: &parts,
         header: &header,
     };
-    let claims = read_claims_by_own(alloc, provider, opening, set, validation, time);
+    let claims = read_claims_by_own(alloc, provider, &opening, set, validation, time);
     match claims {
         Ok(claims) => Ok(TokenData { header, claims }),
         Err(refusal) => Err(note(refusal, failed)),
@@ -125,7 +125,7 @@ fn decode_by_own_noting<P: CryptoProvider, T: Claims>(
 fn read_claims_by_own<P: CryptoProvider, T: Claims>(
     alloc: Global,
     provider: &P,
-    opening: Opening<'_>,
+    opening: &Opening<'_>,
     set: &JwkSet,
     validation: &mut Validation,
     time: u64,
@@ -134,9 +134,9 @@ fn read_claims_by_own<P: CryptoProvider, T: Claims>(
         provider.now [] set.now.keys.items validation.new time in
         IsErrAnd result (λ refusal. IsMemory refusal.error)
         ⊎ ((validation.new.algorithms.items
-        ≡ listed (named_own set.now.keys.items opening.header.now))
+        ≡ listed (named_own set.now.keys.items opening.now.header.now))
         × Step call (CritIsUnderstood ∷ key_tests ++ (algorithm_tests ++ verifying_tests))
-        (with_opening (parts_in opening.parts.now) opening.header.now)
+        (with_opening (parts_in opening.now.parts.now) opening.now.header.now)
         (ShowsClaims T.reads) result) }
     ensures rest { options_of validation.new ≡ record (options_of validation.old)
         { algorithms = validation.new.algorithms.items } }

@@ -227,7 +227,7 @@ pub(crate) fn read_payload<T: Claims>(alloc: Global, part: &[u8]) -> Result<T, R
 pub(crate) fn verify_by_key<P: CryptoProvider, T: Claims>(
     alloc: Global,
     provider: &P,
-    opening: Opening<'_>,
+    opening: &Opening<'_>,
     key: &DecodingKey,
     validation: &Validation,
     time: u64,
@@ -235,7 +235,7 @@ pub(crate) fn verify_by_key<P: CryptoProvider, T: Claims>(
     ensures { let call = decoding P.CryptoProvider T.Claims
         provider.now [] key.now validation.now time in
         Step call (algorithm_tests ++ verifying_tests)
-        (with_opening (parts_in opening.parts.now) opening.header.now)
+        (with_opening (parts_in opening.now.parts.now) opening.now.header.now)
         (ShowsClaims T.reads) result }
 {
     let verifier = verifier_for(alloc, provider, opening.header, key, validation)?;
@@ -248,7 +248,7 @@ pub(crate) fn verify_by_key<P: CryptoProvider, T: Claims>(
 pub(crate) fn read_claims_by_key<P: CryptoProvider, T: Claims>(
     alloc: Global,
     provider: &P,
-    opening: Opening<'_>,
+    opening: &Opening<'_>,
     key: &DecodingKey,
     validation: &Validation,
     time: u64,
@@ -256,7 +256,7 @@ pub(crate) fn read_claims_by_key<P: CryptoProvider, T: Claims>(
     ensures { let call = decoding P.CryptoProvider T.Claims
         provider.now [] key.now validation.now time in
         Step call (CritIsUnderstood ∷ (algorithm_tests ++ verifying_tests))
-        (with_opening (parts_in opening.parts.now) opening.header.now)
+        (with_opening (parts_in opening.now.parts.now) opening.now.header.now)
         (ShowsClaims T.reads) result }
 {
     check_crit(opening.header, validation)?;

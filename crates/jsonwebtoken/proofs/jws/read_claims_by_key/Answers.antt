@@ -8,18 +8,18 @@ use Rattle.jsonwebtoken.proofs.jws.read_claims_by_key.Goals as goal
 
 pub returns-in_err-check_crit : goal.returns-in_err-check_crit
 returns-in_err-check_crit g c =
-    let call = decoding_parts g.P.CryptoProvider g.T.Claims c.args.provider.now (parts_in c.args.opening.parts.now)
+    let call = decoding_parts g.P.CryptoProvider g.T.Claims c.args.provider.now (parts_in c.args.opening.now.parts.now)
     c.args.key.now c.args.validation.now c.args.time in
     exit call (CritIsUnderstood ∷ (jws_algorithm_tests ++ verifying_tests))
-    (with_opening (parts_in c.args.opening.parts.now) c.args.opening.header.now) (ShowsClaims g.T.Claims.reads) _ _
+    (with_opening (parts_in c.args.opening.now.parts.now) c.args.opening.now.header.now) (ShowsClaims g.T.Claims.reads) _ _
     c.from_residual.ensures.1
     (λ f. (no_contents, inl f)) c.in_err-check_crit.ensures
 
 pub returns-in_err-verifier : goal.returns-in_err-verifier
 returns-in_err-verifier g c =
-    let call = decoding_parts g.P.CryptoProvider g.T.Claims c.args.provider.now (parts_in c.args.opening.parts.now)
+    let call = decoding_parts g.P.CryptoProvider g.T.Claims c.args.provider.now (parts_in c.args.opening.now.parts.now)
     c.args.key.now c.args.validation.now c.args.time in
-    let at = with_opening (parts_in c.args.opening.parts.now) c.args.opening.header.now in
+    let at = with_opening (parts_in c.args.opening.now.parts.now) c.args.opening.now.header.now in
     exit call (CritIsUnderstood ∷ (jws_algorithm_tests ++ verifying_tests)) at (ShowsClaims g.T.Claims.reads) _ _
     c.from_residual-in_err-verifier.ensures.1
     (λ f. (
@@ -33,9 +33,9 @@ returns-in_err-verifier g c =
 
 pub returns-in_err-claims : goal.returns-in_err-claims
 returns-in_err-claims g c =
-    let call = decoding_parts g.P.CryptoProvider g.T.Claims c.args.provider.now (parts_in c.args.opening.parts.now)
+    let call = decoding_parts g.P.CryptoProvider g.T.Claims c.args.provider.now (parts_in c.args.opening.now.parts.now)
     c.args.key.now c.args.validation.now c.args.time in
-    let at = with_opening (parts_in c.args.opening.parts.now) c.args.opening.header.now in
+    let at = with_opening (parts_in c.args.opening.now.parts.now) c.args.opening.now.header.now in
     exit call (CritIsUnderstood ∷ (jws_algorithm_tests ++ verifying_tests)) at (ShowsClaims g.T.Claims.reads) _ _
     c.from_residual-in_err-claims.ensures.1
     (λ f. (
@@ -51,10 +51,10 @@ returns-in_err-claims g c =
 
 pub returns : goal.returns
 returns g c =
-    let call = decoding_parts g.P.CryptoProvider g.T.Claims c.args.provider.now (parts_in c.args.opening.parts.now)
+    let call = decoding_parts g.P.CryptoProvider g.T.Claims c.args.provider.now (parts_in c.args.opening.now.parts.now)
     c.args.key.now c.args.validation.now c.args.time in
     let f = c.in_ok-claims.ensures in
-    let s = with_opening (parts_in c.args.opening.parts.now) c.args.opening.header.now f.0 in (
+    let s = with_opening (parts_in c.args.opening.now.parts.now) c.args.opening.now.header.now f.0 in (
       f.0,
       (
         c.in_ok-check_crit.ensures,

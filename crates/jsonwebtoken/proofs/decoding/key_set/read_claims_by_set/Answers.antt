@@ -12,7 +12,7 @@ returns-in_err-check_crit g c =
     let call = decoding_by_set g.P.CryptoProvider g.T.Claims c.args.provider.now [] c.args.set.now.keys.items
     c.args.validation.now c.args.time in
     exit call (CritIsUnderstood ∷ key_tests ++ (algorithm_tests ++ verifying_tests))
-    (with_opening (parts_in c.args.opening.parts.now) c.args.opening.header.now) (ShowsClaims g.T.Claims.reads) _ _
+    (with_opening (parts_in c.args.opening.now.parts.now) c.args.opening.now.header.now) (ShowsClaims g.T.Claims.reads) _ _
     c.from_residual.ensures.1
     (λ f. (no_contents, inl f)) c.in_err-check_crit.ensures
 
@@ -20,7 +20,7 @@ pub returns-in_err-key : goal.returns-in_err-key
 returns-in_err-key g c =
     let call = decoding_by_set g.P.CryptoProvider g.T.Claims c.args.provider.now [] c.args.set.now.keys.items
     c.args.validation.now c.args.time in
-    let at = with_opening (parts_in c.args.opening.parts.now) c.args.opening.header.now in
+    let at = with_opening (parts_in c.args.opening.now.parts.now) c.args.opening.now.header.now in
     exit call (CritIsUnderstood ∷ key_tests ++ (algorithm_tests ++ verifying_tests)) at (ShowsClaims g.T.Claims.reads) _
     _ c.from_residual-in_err-key.ensures.1
     (λ f. (
@@ -36,7 +36,7 @@ pub returns-in_err-claims : goal.returns-in_err-claims
 returns-in_err-claims g c =
     let call = decoding_by_set g.P.CryptoProvider g.T.Claims c.args.provider.now [] c.args.set.now.keys.items
     c.args.validation.now c.args.time in
-    let at = with_opening (parts_in c.args.opening.parts.now) c.args.opening.header.now in
+    let at = with_opening (parts_in c.args.opening.now.parts.now) c.args.opening.now.header.now in
     let n = record c.in_ok-key.ensures.0 { jwk_key = c.in_ok-key.key } in
     exit call (CritIsUnderstood ∷ key_tests ++ (algorithm_tests ++ verifying_tests)) at (ShowsClaims g.T.Claims.reads) _
     _ c.from_residual-in_err-claims.ensures.1
@@ -58,6 +58,6 @@ returns g c =
     let n = record c.in_ok-key.ensures.0 { jwk_key = c.in_ok-key.key } in
     let f = c.in_ok-claims.ensures in
     let x = record f.0 { jwk = n.jwk; jwk_key = n.jwk_key } in
-    let s = with_opening (parts_in c.args.opening.parts.now) c.args.opening.header.now x in
+    let s = with_opening (parts_in c.args.opening.now.parts.now) c.args.opening.now.header.now x in
     let found : Passes (token_tests call) key_tests s = rw c.in_ok-key.ensures.2 at c.in_ok-key.ensures.1 in
     (x, (c.in_ok-check_crit.ensures, join call key_tests (algorithm_tests ++ verifying_tests) s found f.1), f.2)

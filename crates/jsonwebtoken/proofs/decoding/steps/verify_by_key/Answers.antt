@@ -9,14 +9,14 @@ use Rattle.jsonwebtoken.proofs.decoding.steps.verify_by_key.Goals as goal
 pub returns-in_err-verifier : goal.returns-in_err-verifier
 returns-in_err-verifier g c =
     let call = decoding g.P.CryptoProvider g.T.Claims c.args.provider.now [] c.args.key.now c.args.validation.now c.args.time in
-    let at = with_opening (parts_in c.args.opening.parts.now) c.args.opening.header.now in
+    let at = with_opening (parts_in c.args.opening.now.parts.now) c.args.opening.now.header.now in
     exit call (algorithm_tests ++ verifying_tests) at (ShowsClaims g.T.Claims.reads) _ _ c.from_residual.ensures.1
     (λ f. (no_contents, early call algorithm_tests verifying_tests (at no_contents) _ _ f.1)) c.in_err-verifier.ensures.tests
 
 pub returns-in_err-claims : goal.returns-in_err-claims
 returns-in_err-claims g c =
     let call = decoding g.P.CryptoProvider g.T.Claims c.args.provider.now [] c.args.key.now c.args.validation.now c.args.time in
-    let at = with_opening (parts_in c.args.opening.parts.now) c.args.opening.header.now in
+    let at = with_opening (parts_in c.args.opening.now.parts.now) c.args.opening.now.header.now in
     exit call (algorithm_tests ++ verifying_tests) at (ShowsClaims g.T.Claims.reads) _ _ c.from_residual-in_err-claims.ensures.1
     (λ f. (
       f.0,
@@ -29,7 +29,7 @@ pub returns : goal.returns
 returns g c =
     let call = decoding g.P.CryptoProvider g.T.Claims c.args.provider.now [] c.args.key.now c.args.validation.now c.args.time in
     let f = c.in_ok-claims.ensures in
-    let s = with_opening (parts_in c.args.opening.parts.now) c.args.opening.header.now f.0 in (
+    let s = with_opening (parts_in c.args.opening.now.parts.now) c.args.opening.now.header.now f.0 in (
       f.0,
       join call algorithm_tests verifying_tests s c.in_ok-verifier.ensures.tests.1
           (verified_passes call _ s c.in_ok-verifier.ensures.accepts f.1),
