@@ -17,10 +17,11 @@ use Rattle.jsonwebtoken.specs.Order.{Tests, Passes, Decides, FailsFirst, FindsFa
 use Rattle.jsonwebtoken.specs.Refused.{DecidesByTest, IsRefusal}
 use Rattle.jsonwebtoken.specs.Tests.{Call, Parts, HasParts, key_of, Test, ClaimsAreAnObject, ClaimRulesHold, Contents}
 use Rattle.jsonwebtoken.specs.Tests.{header_tests, header_order, verifying_tests, token_tests}
+use Rattle.jsonwebtoken.specs.declared.decoding.TokenData.{TokenData}
 use Rattle.jsonwebtoken.specs.declared.refusal.Refusal.{Refusal}
 use Rattle.jsonwebtoken.specs.private_clauses.FailedAt.{StopsAt}
 use Rattle.jsonwebtoken.specs.private_clauses.Refused.{IsWithTest, IsWithoutTest, IsFailedTest, tested}
-use Rattle.jsonwebtoken.specs.private_clauses.Steps.{Meets, Finds, FailsAt, Step, Failed, bare, holding, no_contents}
+use Rattle.jsonwebtoken.specs.private_clauses.Steps.{Meets, Finds, FailsAt, IsBeside, Step, Failed, bare, holding, no_contents}
 use Rattle.jsonwebtoken.specs.private_clauses.Steps.{rule_tests, with_header_part, with_value, whole, verifying_by}
 use Rattle.jsonwebtoken.proofs.Engine.{join}
 
@@ -131,6 +132,15 @@ module _ {T R : Type 0} (call : Call T) (order : List Test) (at : Contents → C
   last (Ok y) m g h = g y m
   last (Err f) m g h = or_memory (λ q. h f.test (kind_of f.error) q) m
 
+  -- the result of a function that was given that of the last test
+  pub last_of : {A : Type 0} {W : R → Type 0} (P : A → Type 0) (Q : Test → Kind → Type 0) (found : R → A)
+      (q : Result A Refusal) (r : Result R Refusal) → IfOk r (λ y. W y × (q ≡ Ok (found y))) → IfErr r (λ f. q ≡ Err f)
+      → Meets P Q q → ((y : R) → W y → P (found y) → (x : Contents) × Passes (token_tests call) order (at x) × Shows x y)
+      → ((f : Test) (k : Kind) → Q f k → (x : Contents) × Failed call order (at x) f k) → Step call order at Shows r
+  last_of P Q found q (Ok y) ok err m g h = let held : Meets P Q (Ok (found y)) = rw ok.1 at m in g y ok.0 held
+  last_of P Q found q (Err f) ok err m g h =
+      let held : Meets P Q (Err f) = rw err at m in or_memory (λ x. h f.test (kind_of f.error) x) held
+
   -- a last call, with this test
   pub last_test : {P : R → Type 0} {Q : Error → Type 0} (c : Test) (made : Result R Error) (r : Result R Refusal)
       → IsWithTest c made r
@@ -217,6 +227,22 @@ module _ {T : Type 0} (call : Call T) (parts : Parts) (h : Header)
       → IsMemory r.error ⊎ ((x : Contents) × Failed call (drop (length header_order) order) (opened x) r.test (kind_of r.error))
       → Step call (header_order ++ drop (length header_order) order) whole (Carries call) (Err r)
   no_claims order r refused = or_memory (λ s. after_opened order s.0 r.test (kind_of r.error) s.1) refused
+
+  -- one of the two
+  pub beside : (order : List Test) (q : Result T Refusal) (r : Result (TokenData T) Refusal) → IsBeside h q r
+      → Meets (λ y. (x : Contents) × Passes (token_tests call) (drop (length header_order) order) (opened x)
+      × call.reads x.payload_value y)
+      (λ f k. (x : Contents) × Failed call (drop (length header_order) order) (opened x) f k) q
+      → Step call (header_order ++ drop (length header_order) order) whole (Carries call) r
+  beside order (Ok y) r is f = rw is (beside_claims order y f)
+  beside order (Err e) r is f = rw is (no_claims order e f)
+
+-- memory ran out for the claims, and so for the result with the header
+pub memory_beside : {T : Type 0} (h : Header) (q : Result T Refusal) (t : Test) (r : Result (TokenData T) Error)
+    → IsBeside h q (tested t r) → IsErrAnd q (λ f. IsMemory f.error) → IsErrAnd r IsMemory
+memory_beside h (Ok y) t r is m = absurd m
+memory_beside h (Err f) t (Ok d) is m = absurd (cc)
+memory_beside h (Err f) t (Err e) is m = let same : f.error ≡ e = cc in rw (← same) m
 
 -- the claim rules never both hold and have a fault
 pub not_held : (v : Options) (d : Data) (time : ℕ) (k : Kind) → IsRuleFault v d time k → RulesHold v d time → ⊥

@@ -1,5 +1,5 @@
 -- A token whose header is not read, and a refusal for memory with a test beside it.
-use Rattle.std.proofs.Common.{◌≡◌, ℕ, List, [], ◌∷◌, Result, Ok, Err, refl}
+use Rattle.std.proofs.Common.{ℕ, List, [], ◌∷◌, Result, Ok, Err, refl}
 use Rattle.std.specs.Prelude.{IsErrAnd}
 use Rattle.jwt_base.specs.Kind.{Kind}
 use Rattle.jwt_base.specs.KindOf.{IsMemory}

@@ -4,7 +4,7 @@
 // (`IsVouched`); times and looser options are not said again, since they are said of `decode`.
 // `by_signature` has `IsSignedElsewhere` likewise.
 
-ghost use Rattle.std.specs.Prelude.{◌≡◌};
+ghost use Rattle.std.specs.Prelude.{◌≡◌, Ok, Err, IfOk, IfErr};
 ghost use Rattle.jsonwebtoken.specs.Calls.{HasSigned};
 ghost use Rattle.jsonwebtoken.specs.Order.{Decides};
 ghost use Rattle.jsonwebtoken.specs.private_clauses.Steps.{Step, whole};
@@ -75,10 +75,24 @@ fn signed_part_by_steps(alloc: Global, token: &[u8]) -> Result<SignedPart<'_>, R
 {
     let parts = token_parts(token)?;
     let header = read_header(alloc, parts.header)?;
-    match read_part(alloc, Test::SignatureIsPart, parts.signature) {
+    let signature = read_part(alloc, Test::SignatureIsPart, parts.signature);
+    with_signature(header, parts.message, signature)
+}
+
+/// Returns the parts, or the refusal of the signature's.
+fn with_signature(
+    header: Header,
+    message: &[u8],
+    signature: Result<Vec<u8>, Refusal>,
+) -> Result<SignedPart<'_>, Refusal>
+    ensures ok { IfOk result (λ p. ((header ≡ p.header) × (message.now ≡ p.message.now))
+        × (signature ≡ Ok p.signature)) }
+    ensures err { IfErr result (λ f. signature ≡ Err f) }
+{
+    match signature {
         Ok(signature) => Ok(SignedPart {
             header,
-            message: parts.message,
+            message,
             signature,
         }),
         Err(refusal) => Err(refusal),

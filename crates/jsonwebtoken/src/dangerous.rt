@@ -8,8 +8,8 @@ ghost use Rattle.jsonwebtoken.specs.private_clauses.Steps.{Step, whole};
 ghost use Rattle.jsonwebtoken.specs.Tests.{insecure_order, insecure_claims_order, insecure_call};
 ghost use Rattle.jsonwebtoken.specs.Tests.{token_tests};
 
-use crate::decoding::TokenData;
 use crate::decoding::steps::{read_header, read_payload, token_parts};
+use crate::decoding::{TokenData, beside};
 use crate::refusal::{Refusal, without_test};
 use jwt_base::errors::Result;
 use jwt_base::json::Claims;
@@ -44,10 +44,8 @@ fn insecure_decode_by_steps<T: Claims>(alloc: Global, token: &[u8]) -> Result<To
 {
     let parts = token_parts(token)?;
     let header = read_header(alloc, parts.header)?;
-    match read_payload(alloc, parts.payload) {
-        Ok(claims) => Ok(TokenData { header, claims }),
-        Err(refusal) => Err(refusal),
-    }
+    let claims = read_payload(alloc, parts.payload);
+    beside(header, claims)
 }
 
 fn insecure_decode_claims_by_steps<T: Claims>(alloc: Global, token: &[u8]) -> Result<T, Refusal>

@@ -12,7 +12,7 @@ ghost use Rattle.jsonwebtoken.specs.Laws.{HasLaws};
 ghost use Rattle.jsonwebtoken.specs.Order.{Decides};
 ghost use Rattle.jsonwebtoken.specs.Refused.{DecidesByTest};
 ghost use Rattle.jsonwebtoken.specs.private_clauses.Refused.{tested};
-ghost use Rattle.jsonwebtoken.specs.private_clauses.Steps.{Step, whole};
+ghost use Rattle.jsonwebtoken.specs.private_clauses.Steps.{IsBeside, Step, whole};
 ghost use Rattle.jsonwebtoken.specs.Tests.{Compact, header_order, decode_order, header_call};
 ghost use Rattle.jsonwebtoken.specs.Tests.{token_tests};
 
@@ -140,6 +140,37 @@ pub fn decode_header(alloc: Global, token: &[u8]) -> Result<Header>
     Ok(header)
 }
 
+/// Returns the header with the claims that were read after it, or their refusal.
+// The drop of a header at a refusal is proved here alone, for all calls. Inlined, it moves nothing.
+#[inline(always)]
+pub(crate) fn beside<T: Drop>(
+    header: Header,
+    claims: Result<T, Refusal>,
+) -> Result<TokenData<T>, Refusal>
+    ensures { IsBeside header claims result }
+{
+    match claims {
+        Ok(claims) => Ok(TokenData { header, claims }),
+        Err(refusal) => Err(refusal),
+    }
+}
+
+/// Returns the header with the claims that were read after it, or the error of their refusal, and
+/// notes its test.
+#[inline(always)]
+pub(crate) fn beside_noting<T: Drop>(
+    header: Header,
+    claims: Result<T, Refusal>,
+    failed: &mut Test,
+) -> Result<TokenData<T>>
+    ensures { IsBeside header claims (tested failed.new result) }
+{
+    match claims {
+        Ok(claims) => Ok(TokenData { header, claims }),
+        Err(refusal) => Err(note(refusal, failed)),
+    }
+}
+
 /// Verifies a token, and notes the test that fails.
 fn decode_noting<P: CryptoProvider, T: Claims>(
     alloc: Global,
@@ -164,8 +195,5 @@ fn decode_noting<P: CryptoProvider, T: Claims>(
         header: &header,
     };
     let claims = read_claims_by_key(alloc, provider, &opening, key, validation, time);
-    match claims {
-        Ok(claims) => Ok(TokenData { header, claims }),
-        Err(refusal) => Err(note(refusal, failed)),
-    }
+    beside_noting(header, claims, failed)
 }

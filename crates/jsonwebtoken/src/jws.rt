@@ -3,11 +3,12 @@
 // One function more, `decode_parts`, borrows the text that `decode_by_steps` joins of the parts.
 
 ghost use Rattle.std.specs.Prelude.{◌≡◌, ◌↔◌, ◌++◌, ◌∷◌, ℕ, List, Some, None, IfOk, IfErr};
-ghost use Rattle.std.specs.Prelude.{string_bytes};
+ghost use Rattle.std.specs.Prelude.{string_bytes, OnOk};
 ghost use Rattle.serde_json.specs.View.{view};
 ghost use Rattle.jwt_base.specs.Algorithm.{family_of};
+ghost use Rattle.jwt_base.specs.Base64Url.{IsPart};
 ghost use Rattle.jwt_base.specs.Kind as kind;
-ghost use Rattle.jwt_base.specs.KindOf.{IsMemory, RefusesAs};
+ghost use Rattle.jwt_base.specs.KindOf.{IsMemory, RefusesAs, Refuses};
 ghost use Rattle.jwt_base.specs.Members.{text_at};
 ghost use Rattle.jwt_keys.specs.Key.{key_family};
 ghost use Rattle.jwt_validation.specs.OptionsOf.{options_of};
@@ -22,17 +23,17 @@ ghost use Rattle.jsonwebtoken.specs.Laws.{HasLaws, AgreeOn};
 ghost use Rattle.jsonwebtoken.specs.private_clauses.Steps.{Step, ShowsNothing, ShowsClaims};
 ghost use Rattle.jsonwebtoken.specs.private_clauses.Steps.{parts_in, allowing, with_header};
 ghost use Rattle.jsonwebtoken.specs.private_clauses.Steps.{with_opening, whole};
-ghost use Rattle.jsonwebtoken.specs.Tests.{Parts, Separate, message_of, text_of_parts};
+ghost use Rattle.jsonwebtoken.specs.Tests.{dot, Parts, Separate, message_of, text_of_parts};
 ghost use Rattle.jsonwebtoken.specs.Tests.{CritIsUnderstood, jws_algorithm_tests, verifying_tests};
 ghost use Rattle.jsonwebtoken.specs.Tests.{jws_order, token_tests};
 
-use crate::decoding::TokenData;
 use crate::decoding::crit::check_crit;
 use crate::decoding::parts::{Opening, TokenParts};
 use crate::decoding::steps::{
     check_families, check_listed, check_some_listed, make_verifier, read_header,
     verify_and_read_claims,
 };
+use crate::decoding::{TokenData, beside};
 use crate::encoding::steps::{check_family, header_part, payload_part, sign_parts, with_part};
 use crate::refusal::{Refusal, Test, with_test, without_test};
 use jwt_base::errors::{ErrorKind, Result, new_error};
@@ -41,7 +42,7 @@ use jwt_base::json::members::put_text;
 use jwt_header::Header;
 use jwt_keys::decoding_key::DecodingKey;
 use jwt_keys::encoding_key::EncodingKey;
-use jwt_keys::provider::CryptoProvider;
+use jwt_keys::provider::{CryptoProvider, JwtSigner};
 use jwt_validation::Validation;
 use serde_json::{Map, Value};
 use std::alloc::Global;
@@ -199,14 +200,32 @@ fn encode_by_steps<P: CryptoProvider, T: Claims>(
     let protected = header_part(alloc, header)?;
     let payload = payload_part(alloc, claims)?;
     let signer = provider.signer_factory(alloc, &algorithm, key)?;
-    let front = String::from_str(alloc, protected.as_str())?;
-    let signed = sign_parts(alloc, &signer, front, payload.as_str())?;
+    let signature = sign_texts(alloc, &signer, protected.as_str(), payload.as_str())?;
     Ok(Jws {
         protected,
         payload,
-        signature: signed.signature,
+        signature,
         _pd: PhantomData,
     })
+}
+
+/// Returns the part of the signature of the header part, a dot and the payload part.
+fn sign_texts<S: JwtSigner>(
+    alloc: Global,
+    signer: &S,
+    header: &str,
+    payload: &str,
+) -> Result<String>
+    ensures signed { IfOk result (λ t. (b : List ℕ) × (IsPart (string_bytes t) b
+        × S.signs signer.now (header.now ++ dot ∷ payload.now) b)) }
+    ensures ok { OnOk result (S.sign_refusal signer.now (header.now ++ dot ∷ payload.now)
+        ≡ None) }
+    ensures err { IfErr result (Refuses (S.sign_refusal signer.now
+        (header.now ++ dot ∷ payload.now))) }
+{
+    let front = String::from_str(alloc, header)?;
+    let signed = sign_parts(alloc, signer, front, payload)?;
+    Ok(signed.signature)
 }
 
 fn decode_by_steps<P: CryptoProvider, T: Claims>(
@@ -260,10 +279,7 @@ fn decode_parts<P: CryptoProvider, T: Claims>(
         header: &header,
     };
     let claims = read_claims_by_key(alloc, provider, &opening, key, validation, time);
-    match claims {
-        Ok(claims) => Ok(TokenData { header, claims }),
-        Err(refusal) => Err(refusal),
-    }
+    beside(header, claims)
 }
 
 /// Returns the claims of a token that passes, by the key, the tests that follow those of its

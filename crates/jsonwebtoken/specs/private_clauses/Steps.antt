@@ -22,6 +22,7 @@ use Rattle.jsonwebtoken.specs.Tests.{Parts, HasParts, Given, InSet, set_of, name
 use Rattle.jsonwebtoken.specs.Tests.{HeaderIsPart, HeaderIsJson, HeaderReads, KeyIsFound, KeyIsUsable, SignatureIsPart}
 use Rattle.jsonwebtoken.specs.Tests.{PayloadIsPart, PayloadIsJson, ClaimsRead, ClaimsAreAnObject, ClaimRulesHold}
 use Rattle.jsonwebtoken.specs.Tests.{Contents, Condition, token_tests, header_call, insecure_call}
+use Rattle.jsonwebtoken.specs.declared.decoding.TokenData.{TokenData}
 use Rattle.jsonwebtoken.specs.declared.decoding.parts.TokenParts.{TokenParts}
 use Rattle.jsonwebtoken.specs.declared.refusal.Refusal.{Refusal}
 
@@ -78,6 +79,11 @@ ShowsKey t key = t.jwk_key ≡ key
 
 abbrev pub ShowsClaims : {T : Type 0} → (Data → T → Type 0) → Contents → T → Type 0
 ShowsClaims reads t claims = reads t.payload_value claims
+
+-- the header with the claims that were read after it, or their refusal
+abbrev pub IsBeside : {T : Type 0} → Header → Result T Refusal → Result (TokenData T) Refusal → Type 0
+IsBeside h (Ok c) r = r ≡ Ok (record { header = h; claims = c })
+IsBeside h (Err f) r = r ≡ Err f
 
 -- ---- the contents that a step knows of
 

@@ -1,9 +1,9 @@
-use Rattle.std.proofs.Common.{[], ◌∷◌, inl, refl, sym}
+use Rattle.std.proofs.Common.{[], ◌∷◌, inl, refl, sym, ◌∙◌}
 use Rattle.jsonwebtoken.specs.Calls.{HasSigned}
 use Rattle.jsonwebtoken.specs.private_clauses.Steps.{no_contents, parts_in, whole}
 use Rattle.jsonwebtoken.specs.Tests.{HasThreeParts, SignatureIsPart, header_order, header_tests, signed_order, header_call}
 use Rattle.jsonwebtoken.proofs.EachTest.{join}
-use Rattle.jsonwebtoken.proofs.Exits.{exit, or_memory, stop}
+use Rattle.jsonwebtoken.proofs.Exits.{exit, last_of, stop}
 use Rattle.jsonwebtoken.proofs.by_verdict.signed_part_by_steps.Goals as goal
 
 pub returns-in_err-parts : goal.returns-in_err-parts
@@ -19,21 +19,17 @@ returns-in_err-header c =
     (λ f. stop call signed_order (HasThreeParts ∷ []) header_tests (record f.0 { parts = parts_in c.in_ok-parts.parts })
     _ _ (c.in_ok-parts.ensures, tt) f.1) c.in_err-header.ensures
 
-pub returns-in-Ok : goal.returns-in-Ok
-returns-in-Ok c =
+pub returns : goal.returns
+returns c =
     let call = header_call c.args.token.now in
     let h = c.in_ok-header.ensures in
-    let part = rw c.in-Ok.is at c.read_part.ensures in
-    let t = record h.0 { parts = parts_in c.in_ok-parts.parts; signature_bytes = c.in-Ok.signature.items } in (
-      t,
-      join call header_order (SignatureIsPart ∷ []) t (c.in_ok-parts.ensures, h.1) (part, tt),
-      (h.2, sym c.in_ok-parts.parts.joined, refl),
-    )
-
-pub returns-in-Err : goal.returns-in-Err
-returns-in-Err c =
-    let call = header_call c.args.token.now in
-    let h = c.in_ok-header.ensures in
-    let no = rw c.in-Err.is at c.read_part.ensures in
-    or_memory (λ f. stop call signed_order header_order (SignatureIsPart ∷ [])
-    (record h.0 { parts = parts_in c.in_ok-parts.parts }) _ _ (c.in_ok-parts.ensures, h.1) (inl f)) no
+    let found = record h.0 { parts = parts_in c.in_ok-parts.parts } in
+    last_of call signed_order whole (HasSigned call) _ _ (λ p. p.signature) c.read_part-signature.result c.with_signature.result
+    c.with_signature.ensures.ok c.with_signature.ensures.err c.read_part-signature.ensures
+    (λ p w b. (
+      record found { signature_bytes = p.signature.items },
+      join call header_order (SignatureIsPart ∷ []) (record found { signature_bytes = p.signature.items })
+          (c.in_ok-parts.ensures, h.1) (b, tt),
+      (h.2 ∙ w.0, sym c.in_ok-parts.parts.joined ∙ w.1, refl),
+    ))
+    (λ t k f. stop call signed_order header_order (SignatureIsPart ∷ []) found _ _ (c.in_ok-parts.ensures, h.1) (inl f))

@@ -2,7 +2,7 @@ use Rattle.std.proofs.Common.{[], ◌∷◌, refl}
 use Rattle.jsonwebtoken.specs.Calls.{decoding_parts, Carries}
 use Rattle.jsonwebtoken.specs.private_clauses.Steps.{parts_in, whole}
 use Rattle.jsonwebtoken.specs.Tests.{HasThreeParts, header_tests, jws_order}
-use Rattle.jsonwebtoken.proofs.Exits.{exit, stop, beside_claims, no_claims}
+use Rattle.jsonwebtoken.proofs.Exits.{exit, stop, beside}
 use Rattle.jsonwebtoken.proofs.jws.decode_parts.Goals as goal
 
 pub returns-in_err-header : goal.returns-in_err-header
@@ -13,16 +13,9 @@ returns-in_err-header g c =
     (λ f. stop call jws_order (HasThreeParts ∷ []) header_tests (record f.0 { parts = parts_in c.args.parts.now }) _ _
     (refl, tt) f.1) c.in_err-header.ensures
 
-pub returns-in-Ok : goal.returns-in-Ok
-returns-in-Ok g c =
+pub returns : goal.returns
+returns g c =
     let call = decoding_parts g.P.CryptoProvider g.T.Claims c.args.provider.now (parts_in c.args.parts.now)
     c.args.key.now c.args.validation.now c.args.time in
-    beside_claims call (parts_in c.args.parts.now) c.in_ok-header.header c.in_ok-header.ensures refl jws_order
-    c.in-Ok.claims (rw c.in-Ok.is at c.read_claims_by_key-claims.ensures)
-
-pub returns-in-Err : goal.returns-in-Err
-returns-in-Err g c =
-    let call = decoding_parts g.P.CryptoProvider g.T.Claims c.args.provider.now (parts_in c.args.parts.now)
-    c.args.key.now c.args.validation.now c.args.time in
-    no_claims call (parts_in c.args.parts.now) c.in_ok-header.header c.in_ok-header.ensures refl jws_order
-    c.in-Err.refusal (rw c.in-Err.is at c.read_claims_by_key-claims.ensures)
+    beside call (parts_in c.args.parts.now) c.in_ok-header.header c.in_ok-header.ensures refl jws_order
+    c.read_claims_by_key-claims.result c.beside.result c.beside.ensures c.read_claims_by_key-claims.ensures

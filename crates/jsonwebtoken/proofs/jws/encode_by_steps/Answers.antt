@@ -1,4 +1,4 @@
-use Rattle.std.proofs.Common.{◌≡◌, ◌∷◌, ◌++◌, None, inl, inr, refl, ◌∙◌}
+use Rattle.std.proofs.Common.{◌≡◌, ◌∷◌, ◌++◌, None, inl, inr, refl}
 use Rattle.std.proofs.lemmas.Result.{err_from_is_err_and}
 use Rattle.std.specs.String.{string_bytes}
 use Rattle.serde_json.specs.Data.{null}
@@ -42,18 +42,16 @@ returns-in_err-signer g c =
     (t, inr (c.in_ok-check_family.ensures, inr (h.1.0, inr (v.1.0, inl ((λ x. not_both _ _ f x), f))))))
     c.in_err-signer.ensures.err)
 
-pub returns-in_err-signed : goal.returns-in_err-signed
-returns-in_err-signed g c =
-    let p = err_from_is_err_and c.from_residual-in_err-signed.result c.from_residual-in_err-signed.ensures.1 in
+pub returns-in_err-signature : goal.returns-in_err-signature
+returns-in_err-signature g c =
+    let p = err_from_is_err_and c.from_residual-in_err-signature.result c.from_residual-in_err-signature.ensures.1 in
     let h = c.in_ok-protected.ensures.ok in
     let v = c.in_ok-payload.ensures.ok in
     let t : Written = record { header_value = h.0; claims_value = v.0 } in
-    let front : string_bytes c.in_ok-front.front ≡ string_bytes c.in_ok-protected.protected = c.in_ok-front.ensures.ok
-    ∙ c.as_str.ensures.value in
-    let message : string_bytes c.in_ok-front.front ++ dot ∷ c.as_str-2.result.now ≡ message_to_sign t =
-    rw (front, c.as_str-2.ensures.value, h.1.1.part.1, is_payload_part v.0 _ v.1.1) refl in
+    let message : c.as_str.result.now ++ dot ∷ c.as_str-2.result.now ≡ message_to_sign t =
+    rw (c.as_str.ensures.value, c.as_str-2.ensures.value, h.1.1.part.1, is_payload_part v.0 _ v.1.1) refl in
     let same = c.in_ok-signer.ensures.sign_refusal (message_to_sign t) in
-    let no = rw (message, same) at c.in_err-signed.ensures.err in
+    let no = rw (message, same) at c.in_err-signature.ensures.err in
     rw (p.1, p.2) (or_memory (λ f. (
       t,
       inr (
@@ -68,20 +66,18 @@ returns g c =
     c.args.key.now in
     let h = c.in_ok-protected.ensures.ok in
     let v = c.in_ok-payload.ensures.ok in
-    let s = c.in_ok-signed.ensures.signed in
+    let s = c.in_ok-signature.ensures.signed in
     let t : Written = record { header_value = h.0; claims_value = v.0 } in
     let payload = is_payload_part v.0 _ v.1.1 in
     let parts : Parts = record {
       header = string_bytes c.in_ok-protected.protected;
       payload = string_bytes c.in_ok-payload.payload;
-      signature = string_bytes c.in_ok-signed.signed.signature;
+      signature = string_bytes c.in_ok-signature.signature;
     } in
-    let front : string_bytes c.in_ok-front.front ≡ string_bytes c.in_ok-protected.protected = c.in_ok-front.ensures.ok
-    ∙ c.as_str.ensures.value in
     let message : message_of parts ≡ message_to_sign t = rw (h.1.1.part.1, payload) refl in
     let same = c.in_ok-signer.ensures.sign_refusal (message_to_sign t) in
-    let unrefused = rw (front, c.as_str-2.ensures.value, message, same) at c.in_ok-signed.ensures.ok in
-    let signed = (c.in_ok-signer.ensures.signs (message_of parts) s.0).0 (rw (front, c.as_str-2.ensures.value) at s.1.1) in
+    let unrefused = rw (c.as_str.ensures.value, c.as_str-2.ensures.value, message, same) at c.in_ok-signature.ensures.ok in
+    let signed = (c.in_ok-signer.ensures.signs (message_of parts) s.0).0 (rw (c.as_str.ensures.value, c.as_str-2.ensures.value) at s.1.1) in
     let issued : AreIssued issue t parts = record {
       header = h.1.1.part.1;
       payload = payload;
