@@ -1,4 +1,4 @@
-"""The commands of the program jwt and their arguments, as its sources have them: read from the calls of src/arguments.rt."""
+"""The commands of the program jwt and their arguments, as its sources have them: read from the calls of src/request/arguments.rt."""
 import os
 import re
 from typing import NamedTuple
@@ -50,7 +50,7 @@ def read(path):
 
 def source():
     """Returns the path of the file, below the top of the repository, or None."""
-    return next((it for it in (f"crates/{name}/src/arguments.rt" for name in CRATES) if os.path.isfile(f"{TOP}/{it}")), None)
+    return next((it for it in (f"crates/{name}/src/request/arguments.rt" for name in CRATES) if os.path.isfile(f"{TOP}/{it}")), None)
 
 
 def algorithms():
@@ -99,5 +99,5 @@ class Source:
 def commands():
     """Returns the commands, in the order of help."""
     found = Source(read(source()))
-    called = re.findall(r"with_subcommand\(command, (\w+)\(", found.functions["command"])
+    called = re.findall(r"add_subcommand\(command, (\w+)\(", found.functions["command"])
     return [found.command(it) for it in called]

@@ -1,4 +1,4 @@
--- `parse` reads a string without a sign as the moment that it stands for.
+-- `parse` reads a string without a sign as the number that it stands for.
 use Rattle.std.proofs.Common.{◌≡◌, refl, ap, ℕ, ◌<◌, ◌^◌, length, Bool, true, false, ◌&&◌, List, Some, None, if◌then◌else◌}
 use Rattle.std.specs.Prelude.{ltb}
 use Rattle.std.specs.Result.{OkIff, result_ok}
@@ -7,7 +7,7 @@ use Rattle.std.specs.declared.result.Result.TheVariants.{Ok, Err}
 use Rattle.std.specs.Str.{all_ascii_digits}
 use Rattle.std.specs.Str.Parse.{digits_value}
 use Rattle.std.proofs.lemmas.Bool.{ltb-true, lt-ltb, false≢true}
-use Rattle.jwt_command.specs.Arguments.{decimal}
+use Rattle.jwt_command.specs.Arguments.{decimal_value}
 
 read_as : {E : Type 0} (a b c : Bool) (v : ℕ) (r : Result ℕ E) → OkIff r ((a ≡ true) × (b ≡ true) × (c ≡ true)) v
     → result_ok r ≡ (if a && (b && c) then Some v else None)
@@ -29,5 +29,5 @@ tested bs (Err e) h = λ p. h (p.0, ltb-true _ _ p.1, ltb-true _ _ p.2)
 
 pub number_read : {E : Type 0} (bs : List ℕ) (r : Result ℕ E)
     → OkIff r ((all_ascii_digits bs ≡ true) × (0 < length bs) × (digits_value 10 bs < 2 ^ 64)) (digits_value 10 bs)
-    → result_ok r ≡ decimal bs
+    → result_ok r ≡ decimal_value bs
 number_read bs r h = read_as _ _ _ _ r (tested bs r h)

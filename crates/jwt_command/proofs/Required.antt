@@ -6,7 +6,7 @@ use Rattle.std.proofs.lemmas.List.Folds.{list_any_more}
 use Rattle.std.specs.Option.{option_or}
 use Rattle.std.specs.Str.{bytes_eq}
 use Rattle.jwt_validation.specs.Options.{Options, Texts, among}
-use Rattle.jwt_command.specs.Requested.{AreChosen, AreRequested, IsBase, changed, given_or, required, strict_if}
+use Rattle.jwt_command.specs.Requested.{AreChosen, AreRequested, IsBase, changed_options, texts_or, required_claims, strict_options_if}
 use Rattle.jwt_command.specs.declared.request.Checks.{Checks}
 
 or_behind : (b a c : Bool) → (b || (a || c)) ≡ ((a || b) || c)
@@ -30,18 +30,18 @@ left_out true b = refl
 left_out false b = refl
 
 -- strict options name the same algorithms
-pub strict_algorithms : (is_strict : Bool) (o : Options) → (strict_if is_strict o).algorithms ≡ o.algorithms
+pub strict_algorithms : (is_strict : Bool) (o : Options) → (strict_options_if is_strict o).algorithms ≡ o.algorithms
 strict_algorithms true o = refl
 strict_algorithms false o = refl
 
 -- options that are not made strict
-pub not_strict : (is_strict : Bool) (o : Options) → is_strict ≡ false → o ≡ strict_if is_strict o
+pub not_strict : (is_strict : Bool) (o : Options) → is_strict ≡ false → o ≡ strict_options_if is_strict o
 not_strict true o off = absurd (false≢true (sym off))
 not_strict false o off = refl
 
 -- a file, made strict, then changed, then with the algorithms that the arguments name
 pub requested : (c : Checks) (bytes : Option (List ℕ)) (file strict done final : Options) → IsBase bytes file
-    → strict ≡ strict_if c.is_strict file → done ≡ changed c strict strict.algorithms
+    → strict ≡ strict_options_if c.is_strict file → done ≡ changed_options c strict strict.algorithms
     → AreChosen c.algorithms done.algorithms final.algorithms → final ≡ record done { algorithms = final.algorithms }
     → AreRequested c bytes final
 requested c bytes file strict done final base is_strict is_done chosen is_final = (
@@ -52,15 +52,15 @@ requested c bytes file strict done final base is_strict is_done chosen is_final 
     subst (λ a. AreChosen c.algorithms a final.algorithms)
         (ap (λ o. o.algorithms) is_done ∙ (ap (λ o. o.algorithms) is_strict ∙ strict_algorithms c.is_strict file)) chosen,
     is_final ∙ (ap {A = Options} {B = Options} (λ o. record o { algorithms = final.algorithms }) is_done
-        ∙ ap {A = Options} {B = Options} (λ o. changed c o final.algorithms) is_strict),
+        ∙ ap {A = Options} {B = Options} (λ o. changed_options c o final.algorithms) is_strict),
   ),
 )
 
 -- names, then times, then required claims
 pub changes : (c : Checks) (file named timed : Options) (claims : Texts)
     → named ≡ record file {
-      aud = given_or c.audiences file.aud;
-      iss = given_or c.issuers file.iss;
+      aud = texts_or c.audiences file.aud;
+      iss = texts_or c.issuers file.iss;
       sub = option_or (option_map (λ s. s.now) c.subject) file.sub;
       understood = unwrap_or (option_map (λ names. among (λ s. s.now) names.now) c.understood) file.understood;
     }
@@ -70,11 +70,11 @@ pub changes : (c : Checks) (file named timed : Options) (claims : Texts)
       checks_exp = not c.skips_exp && named.checks_exp;
       checks_nbf = c.checks_nbf || named.checks_nbf;
     }
-    → ((t : List ℕ) → claims t ≡ required c timed.required t)
-    → record timed { required = claims } ≡ changed c file file.algorithms
+    → ((t : List ℕ) → claims t ≡ required_claims c timed.required t)
+    → record timed { required = claims } ≡ changed_options c file file.algorithms
 changes c file named timed claims is_named is_timed is_required =
     (λ i. record timed { required = λ t. is_required t i })
-    ∙ ap {A = Options} {B = Options} (λ o. record o { required = required c o.required })
+    ∙ ap {A = Options} {B = Options} (λ o. record o { required = required_claims c o.required })
     (is_timed ∙ ap {A = Options} {B = Options} (λ o. record o {
       leeway = unwrap_or c.leeway o.leeway;
       reject = unwrap_or c.not_within o.reject;

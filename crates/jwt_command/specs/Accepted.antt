@@ -14,8 +14,8 @@ use Rattle.jsonwebtoken.specs.Tests.{token_tests, verifying_call}
 use Rattle.serde_json.specs.declared.value.Value.{Value}
 use Rattle.jwt_verifier.specs.declared.keys.Keys.{Keys}
 use Rattle.jwt_verifier.specs.declared.keys.Keys.TheVariants.{One, Set}
-use Rattle.jwt_command.specs.declared.verdict.Denial.{Denial}
-use Rattle.jwt_command.specs.declared.verdict.Denial.TheVariants.{Refused, OtherType}
+use Rattle.jwt_command.specs.declared.verify.verdict.Denial.{Denial}
+use Rattle.jwt_command.specs.declared.verify.verdict.Denial.TheVariants.{Refused, OtherType}
 
 -- the key that is given, or those of a set
 abbrev pub keys_of : Keys → KeySource

@@ -13,9 +13,9 @@ use Rattle.jsonwebtoken.specs.Order.{Passes, FailsFirst}
 use Rattle.jsonwebtoken.specs.Tests.{Contents}
 use Rattle.jwt_command.specs.Accepted.{IsAccepted, IsDenied}
 use Rattle.jwt_verifier.specs.declared.keys.Keys.{Keys}
-use Rattle.jwt_command.specs.declared.verdict.Denial.{Denial}
-use Rattle.jwt_command.specs.declared.verify.Form.{Form}
-use Rattle.jwt_command.specs.declared.verify.Form.TheVariants.{Claims, HeaderAndClaims, Json}
+use Rattle.jwt_command.specs.declared.verify.verdict.Denial.{Denial}
+use Rattle.jwt_command.specs.declared.verify.OutputForm.{OutputForm}
+use Rattle.jwt_command.specs.declared.verify.OutputForm.TheVariants.{Claims, HeaderAndClaims, Json}
 
 -- a value's JSON text and a newline; for a value with a float, this says nothing
 abbrev pub IsLineOf : Data → List ℕ → Type 0
@@ -27,7 +27,7 @@ IsHeaderLine header text = (value : Data) × (header_value header ≡ Some value
     × (text ≡ compact_text value ++ 10 ∷ [])
 
 -- the output for an accepted token; of one line of JSON, this says nothing
-abbrev pub IsAcceptedText : Form → Header → Data → List ℕ → Type 0
+abbrev pub IsAcceptedText : OutputForm → Header → Data → List ℕ → Type 0
 IsAcceptedText Claims header claims output = IsLineOf claims output
 IsAcceptedText HeaderAndClaims header claims output =
     (first second : List ℕ) × IsHeaderLine header first × IsLineOf claims second
@@ -35,7 +35,7 @@ IsAcceptedText HeaderAndClaims header claims output =
 IsAcceptedText Json header claims output = Unit {0}
 
 -- of a refused token nothing is written, unless it is one line of JSON
-abbrev pub IsRefusedText : Form → List ℕ → Type 0
+abbrev pub IsRefusedText : OutputForm → List ℕ → Type 0
 IsRefusedText Claims output = output ≡ []
 IsRefusedText HeaderAndClaims output = output ≡ []
 IsRefusedText Json output = Unit {0}
@@ -47,7 +47,7 @@ IsVerdict token keys options time typ status =
     ⊎ ((denial : Denial) × IsDenied token keys options time typ denial × (status ≡ 1))
 
 -- Status 0 and the claims of a token that is accepted, or status 1 and nothing of one that is denied.
-abbrev pub IsVerifyAnswer : List ℕ → Keys → Options → ℕ → Option (List ℕ) → Form → ℕ → List ℕ → Type 0
+abbrev pub IsVerifyAnswer : List ℕ → Keys → Options → ℕ → Option (List ℕ) → OutputForm → ℕ → List ℕ → Type 0
 IsVerifyAnswer token keys options time typ form status output =
     ((t : Contents) × IsAccepted token keys options time typ t × (status ≡ 0)
     × IsAcceptedText form t.header t.payload_value output)

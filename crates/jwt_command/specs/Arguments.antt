@@ -41,8 +41,8 @@ pub record IsFlag (f : Found) (id : List ℕ) (b : Bool) : Type 0 where
   pub absent : one_text f id ≡ None → b ≡ false
 
 -- the number that one or more decimal digits stand for, if it has at most 64 bits
-abbrev pub decimal : List ℕ → Option ℕ
-decimal word =
+abbrev pub decimal_value : List ℕ → Option ℕ
+decimal_value word =
     if all_ascii_digits word && (ltb 0 (length word)
     && ltb (digits_value 10 word) (2 ^ 64)) then Some (digits_value 10 word)
     else None
@@ -51,7 +51,7 @@ decimal word =
 abbrev pub IsNumberOf : Option (List ℕ) → Option ℕ → Type 0
 IsNumberOf None number = number ≡ None
 IsNumberOf (Some word) None = ⊥
-IsNumberOf (Some word) (Some n) = (k : ℕ) → decimal word ≡ Some k → n ≡ k
+IsNumberOf (Some word) (Some n) = (k : ℕ) → decimal_value word ≡ Some k → n ≡ k
 
 -- the file of keys: that of the first of these options that is given
 abbrev pub IsKeyFile : Found → KeyFile → Type 0

@@ -16,11 +16,11 @@ header_asked s = record (new_header s.algorithm) {
 
 -- a time as a claim has it (RFC 7519 section 2)
 abbrev pub numeric_date : ℕ → Data
-numeric_date moment = number (unsigned moment)
+numeric_date time = number (unsigned time)
 
 -- the members, with the times that the arguments ask for (RFC 7519 sections 4.1.4 to 4.1.6)
-abbrev pub with_moments : Signing → ℕ → Members → Members
-with_moments s time members =
+abbrev pub members_with_times : Signing → ℕ → Members → Members
+members_with_times s time members =
     put_some (codes "iat") (if s.has_iat then Some (numeric_date time) else None) (
     put_some (codes "nbf") (option_map (λ seconds. numeric_date (time + seconds)) s.nbf_in) (
     put_some (codes "exp") (option_map (λ seconds. numeric_date (time + seconds)) s.exp_in) members))

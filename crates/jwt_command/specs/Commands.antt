@@ -13,19 +13,19 @@ use Rattle.jsonwebtoken.specs.Order.{Passes, FailsFirst}
 use Rattle.jsonwebtoken.specs.Tests.{Contents, insecure_call, insecure_order, token_tests}
 use Rattle.jwt_secrets.specs.Blank.{IsBlank}
 use Rattle.jwt_command.specs.Answers.{IsVerdict, IsVerifyAnswer, IsSignAnswer}
-use Rattle.jwt_command.specs.Claimed.{header_asked, with_moments}
+use Rattle.jwt_command.specs.Claimed.{header_asked, members_with_times}
 use Rattle.jwt_command.specs.FileKeys.{AreLoaded, IsJwkLine}
 use Rattle.jwt_command.specs.LineEnd.{IsLessLineEnd, IsSecret}
 use Rattle.jwt_command.specs.Own.{IsOwn}
 use Rattle.jwt_command.specs.Requested.{AreRequested}
-use Rattle.jwt_command.specs.declared.keys.Loaded.{Loaded}
+use Rattle.jwt_command.specs.declared.keys.LoadedKeys.{LoadedKeys}
 use Rattle.jwt_command.specs.declared.request.Request.{Request}
 use Rattle.jwt_command.specs.declared.request.Request.TheVariants.{Verify, Explain, Show, Sign, Keys, Jwk, Thumbprint}
 use Rattle.jwt_command.specs.declared.request.Showing.{Showing}
 use Rattle.jwt_command.specs.declared.request.Signing.{Signing}
 use Rattle.jwt_command.specs.declared.request.Verification.{Verification}
-use Rattle.jwt_command.specs.declared.verify.Form.{Form}
-use Rattle.jwt_command.specs.declared.verify.Form.TheVariants.{Claims, HeaderAndClaims, Json}
+use Rattle.jwt_command.specs.declared.verify.OutputForm.{OutputForm}
+use Rattle.jwt_command.specs.declared.verify.OutputForm.TheVariants.{Claims, HeaderAndClaims, Json}
 
 -- a value that an argument has is the one that is taken
 abbrev pub IsGiven : {A : Type 0} → Option A → A → Type 0
@@ -38,14 +38,14 @@ IsGivenToken None bytes = ⊤
 IsGivenToken (Some token) bytes = token.now ≢ codes "-" → bytes ≡ token.now
 
 -- the options for a token: if they name no algorithm, that of its key is the only one (RFC 8725 section 3.1)
-abbrev pub IsSettled : Loaded → List ℕ → Options → Options → Type 0
+abbrev pub IsSettled : LoadedKeys → List ℕ → Options → Options → Type 0
 IsSettled loaded token options settled =
     ((options.algorithms ≢ []) × (settled ≡ options))
     ⊎ ((options.algorithms ≡ []) × ((own : List Algorithm) × IsOwn loaded token own
     × (settled ≡ record options { algorithms = own })))
 
 -- how an accepted token is written
-abbrev pub form_asked : Verification → Form
+abbrev pub form_asked : Verification → OutputForm
 form_asked v = if v.is_json then Json else if v.has_header then HeaderAndClaims else Claims
 
 -- the type that the header has to have, if one is asked for
@@ -53,22 +53,22 @@ abbrev pub type_asked : Verification → Option (List ℕ)
 type_asked v = option_map (λ t. t.now) v.typ
 
 -- status and output for the bytes of a token, less their line end, under these keys and options
-abbrev pub IsTokenAnswer : Verification → Loaded → Options → List ℕ → ℕ → Form → ℕ → List ℕ → Type 0
+abbrev pub IsTokenAnswer : Verification → LoadedKeys → Options → List ℕ → ℕ → OutputForm → ℕ → List ℕ → Type 0
 IsTokenAnswer v loaded options bytes time form status output =
     (token : List ℕ) × IsLessLineEnd bytes token
     × ((settled : Options) × IsSettled loaded token options settled
     × IsVerifyAnswer token loaded.keys settled time (type_asked v) form status output)
 
 -- the status of `explain`, which is that of `verify`
-abbrev pub IsTokenVerdict : Verification → Loaded → Options → List ℕ → ℕ → ℕ → Type 0
+abbrev pub IsTokenVerdict : Verification → LoadedKeys → Options → List ℕ → ℕ → ℕ → Type 0
 IsTokenVerdict v loaded options bytes time status =
     (token : List ℕ) × IsLessLineEnd bytes token
     × ((settled : Options) × IsSettled loaded token options settled
     × IsVerdict token loaded.keys settled time (type_asked v) status)
 
 -- the keys and the options are those of the arguments, with the files that they name
-abbrev pub ArePrepared : Verification → Loaded → Options → Type 0
-ArePrepared v loaded options =
+abbrev pub AreAsked : Verification → LoadedKeys → Options → Type 0
+AreAsked v loaded options =
     (key : List ℕ) × AreLoaded v.key key loaded.keys loaded.own
     × ((file : Option (List ℕ)) × (is_some file ≡ is_some v.checks.options)
     × AreRequested v.checks file options)
@@ -78,7 +78,7 @@ abbrev pub IsVerification : Verification → ℕ → List ℕ → Type 0
 IsVerification v status output =
     (bytes : List ℕ) × IsGivenToken v.token bytes
     × ((time : ℕ) × IsGiven v.time time
-    × ((loaded : Loaded) × ((options : Options) × ArePrepared v loaded options
+    × ((loaded : LoadedKeys) × ((options : Options) × AreAsked v loaded options
     × IsTokenAnswer v loaded options bytes time (form_asked v) status output)))
 
 -- the status of `explain`
@@ -86,7 +86,7 @@ abbrev pub IsExplanation : Verification → ℕ → Type 0
 IsExplanation v status =
     (bytes : List ℕ) × IsGivenToken v.token bytes
     × ((time : ℕ) × IsGiven v.time time
-    × ((loaded : Loaded) × ((options : Options) × ArePrepared v loaded options
+    × ((loaded : LoadedKeys) × ((options : Options) × AreAsked v loaded options
     × IsTokenVerdict v loaded options bytes time status)))
 
 -- status and output of `sign`, by the bytes of the secret's file and of the claims; not everybody can sign with the secret
@@ -94,7 +94,7 @@ abbrev pub IsSigned : Signing → List ℕ → List ℕ → ℕ → ℕ → List
 IsSigned s key text time status output =
     (secret : List ℕ) × IsSecret s.is_trimmed key secret × (¬ IsBlank secret)
     × ((members : Members) × IsJson text (object members)
-    × IsSignAnswer (header_asked s) (object (with_moments s time members)) secret status output)
+    × IsSignAnswer (header_asked s) (object (members_with_times s time members)) secret status output)
 
 -- the answer of `sign`
 abbrev pub IsSigning : Signing → ℕ → List ℕ → Type 0
@@ -103,15 +103,15 @@ IsSigning s status output =
     × ((time : ℕ) × IsGiven s.time time × IsSigned s key text time status output)
 
 -- the status of a line, which is a token
-abbrev pub IsLineStatus : Verification → Loaded → Options → ℕ → Type 0
+abbrev pub IsLineStatus : Verification → LoadedKeys → Options → ℕ → Type 0
 IsLineStatus v loaded options status =
     (bytes : List ℕ) × ((time : ℕ) × IsGiven v.time time
     × ((output : List ℕ) × IsTokenAnswer v loaded options bytes time Json status output))
 
 -- the greatest of these, or 0
-abbrev pub greatest : List ℕ → ℕ
-greatest [] = 0
-greatest (n ∷ ns) = max n (greatest ns)
+abbrev pub greatest_status : List ℕ → ℕ
+greatest_status [] = 0
+greatest_status (n ∷ ns) = max n (greatest_status ns)
 
 -- P holds of each
 abbrev pub Each : (ℕ → Type 0) → List ℕ → Type 0
@@ -119,15 +119,15 @@ Each P [] = ⊤
 Each P (n ∷ ns) = P n × Each P ns
 
 -- the greatest status of some lines; that these are all lines of the input, it can't say
-abbrev pub IsLinesStatus : Verification → Loaded → Options → ℕ → Type 0
+abbrev pub IsLinesStatus : Verification → LoadedKeys → Options → ℕ → Type 0
 IsLinesStatus v loaded options status =
     (statuses : List ℕ) × Each (IsLineStatus v loaded options) statuses
-    × (status ≡ greatest statuses)
+    × (status ≡ greatest_status statuses)
 
 -- the status of `verify` for many lines
 abbrev pub AreVerified : Verification → ℕ → Type 0
 AreVerified v status =
-    (loaded : Loaded) × ((options : Options) × ArePrepared v loaded options
+    (loaded : LoadedKeys) × ((options : Options) × AreAsked v loaded options
     × IsLinesStatus v loaded options status)
 
 -- header and claims can be read, or they can't (RFC 7515 section 5.2, RFC 7519 section 7.2)

@@ -12,51 +12,51 @@ use Rattle.jwt_validation.specs.OptionsRead.{ReadsOptions}
 use Rattle.jwt_command.specs.declared.request.Checks.{Checks}
 
 -- the strings that an argument is given; none without the argument
-abbrev pub given : Option (Bor (List (Bor (List ℕ)))) → Texts
-given None = no_texts
-given (Some names) = among (λ s. s.now) names.now
+abbrev pub given_texts : Option (Bor (List (Bor (List ℕ)))) → Texts
+given_texts None = no_texts
+given_texts (Some names) = among (λ s. s.now) names.now
 
 -- the set of the strings that an argument is given, or that of the file without the argument
-abbrev pub given_or : Option (Bor (List (Bor (List ℕ)))) → Option Texts → Option Texts
-given_or None file = file
-given_or (Some names) file = Some (among (λ s. s.now) names.now)
+abbrev pub texts_or : Option (Bor (List (Bor (List ℕ)))) → Option Texts → Option Texts
+texts_or None file = file
+texts_or (Some names) file = Some (among (λ s. s.now) names.now)
 
 -- the claims of a file that are required, less `exp` if it is not checked (RFC 7519 section 4.1.4)
-abbrev pub kept : Bool → Texts → Texts
-kept skips_exp file t = not (skips_exp && bytes_eq (codes "exp") t) && file t
+abbrev pub kept_claims : Bool → Texts → Texts
+kept_claims skips_exp file t = not (skips_exp && bytes_eq (codes "exp") t) && file t
 
 -- the claims that are required: these, those that the arguments name, and those that they give a value
-abbrev pub required : Checks → Texts → Texts
-required c file t =
+abbrev pub required_claims : Checks → Texts → Texts
+required_claims c file t =
     (is_some c.subject && bytes_eq (codes "sub") t)
     || ((is_some c.issuers && bytes_eq (codes "iss") t)
     || ((is_some c.audiences && bytes_eq (codes "aud") t)
-    || (given c.required t || kept c.skips_exp file t)))
+    || (given_texts c.required t || kept_claims c.skips_exp file t)))
 
 -- The options, made strict: nbf is checked, without leeway, a token is refused from its exp on, and the claims that have a
 -- value are required (RFC 7519 sections 4.1.4 and 4.1.5). A time that must be left stays.
-abbrev pub made_strict : Options → Options
-made_strict o = requiring_configured (record o {
+abbrev pub strict_options : Options → Options
+strict_options o = requiring_configured (record o {
   leeway = 0;
   reject = max 1 o.reject;
   checks_nbf = true;
 })
 
 -- the same, if strict options are asked for
-abbrev pub strict_if : Bool → Options → Options
-strict_if is_strict o = if is_strict then made_strict o else o
+abbrev pub strict_options_if : Bool → Options → Options
+strict_options_if is_strict o = if is_strict then strict_options o else o
 
 -- the options of a file, changed by each argument that is given, with these algorithms
-abbrev pub changed : Checks → Options → List Algorithm → Options
-changed c file algorithms = record {
-  required = required c file.required;
+abbrev pub changed_options : Checks → Options → List Algorithm → Options
+changed_options c file algorithms = record {
+  required = required_claims c file.required;
   leeway = unwrap_or c.leeway file.leeway;
   reject = unwrap_or c.not_within file.reject;
   checks_exp = not c.skips_exp && file.checks_exp;
   checks_nbf = c.checks_nbf || file.checks_nbf;
   checks_aud = file.checks_aud;
-  aud = given_or c.audiences file.aud;
-  iss = given_or c.issuers file.iss;
+  aud = texts_or c.audiences file.aud;
+  iss = texts_or c.issuers file.iss;
   sub = option_or (option_map (λ s. s.now) c.subject) file.sub;
   algorithms = algorithms;
   understood = unwrap_or (option_map (λ names. among (λ s. s.now) names.now) c.understood) file.understood;
@@ -87,4 +87,4 @@ abbrev pub AreRequested : Checks → Option (List ℕ) → Options → Type 0
 AreRequested c bytes options =
     (file : Options) × IsBase bytes file
     × ((algorithms : List Algorithm) × AreChosen c.algorithms file.algorithms algorithms
-    × (options ≡ changed c (strict_if c.is_strict file) algorithms))
+    × (options ≡ changed_options c (strict_options_if c.is_strict file) algorithms))

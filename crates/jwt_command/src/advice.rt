@@ -1,6 +1,6 @@
 //! Refusals in sentences.
 
-use crate::verdict::Denial;
+use crate::verify::verdict::Denial;
 use jsonwebtoken::errors::{Error, ErrorKind};
 use std::alloc::{AllocError, Global};
 
@@ -20,12 +20,9 @@ pub fn denied_claim(denial: &Denial) -> Option<&str> {
     }
 }
 
-/// Returns the line that says what an error means.
+/// Returns the line that says what an error means, which is not that memory ran out.
 pub fn error_line(alloc: Global, error: &Error) -> Result<String, AllocError> {
     let kind = error.kind();
-    if matches!(kind, ErrorKind::OutOfMemory) {
-        return String::from_str(alloc, "error: out of memory\n");
-    }
     let name = kind.name();
     let meaning = kind_meaning(kind);
     match named_claim(error) {
@@ -89,7 +86,6 @@ fn kind_meaning(kind: &ErrorKind) -> &'static str {
         ErrorKind::InvalidKeyFormat =>
             "the key is of another kind than the token's algorithm, or not a key",
         ErrorKind::UnsupportedAlgorithm => "this algorithm is not supported",
-        ErrorKind::OutOfMemory => "out of memory",
         ErrorKind::MissingRequiredClaim(_) => "a required claim is absent or malformed",
         ErrorKind::InvalidClaimFormat(_) => "a claim is of a wrong type",
         _ => "the token is refused",

@@ -9,11 +9,11 @@ use std::time::{SystemTime, UNIX_EPOCH};
 
 /// Returns the time that is given, or that of the system's clock, in seconds since 1970-01-01
 /// 00:00:00 UTC.
-pub fn moment<R: Clock>(rt: &R, given: Option<u64>) -> Result<u64, Fault<'static>>
+pub fn current_time<R: Clock>(rt: &R, given: Option<u64>) -> Result<u64, Fault<'static>>
     ensures { IfOk result (IsGiven given) }
 {
-    if let Some(moment) = given {
-        return Ok(moment);
+    if let Some(time) = given {
+        return Ok(time);
     }
     let Ok(time) = SystemTime::now(rt) else {
         return Err(Fault::Clock);

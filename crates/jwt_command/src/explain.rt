@@ -5,19 +5,27 @@ ghost use Rattle.jwt_validation.specs.OptionsOf.{options_of};
 ghost use Rattle.jwt_command.specs.Answers.{IsVerdict};
 ghost use Rattle.jwt_command.specs.Commands.{IsSettled};
 
+pub(crate) mod claim_findings;
+pub(crate) mod explanation;
+pub(crate) mod findings;
+pub(crate) mod orders;
+pub(crate) mod part_findings;
+pub(crate) mod signature_findings;
+pub(crate) mod wrappings;
+
 use crate::advice::denial_name;
 use crate::answer::Answer;
-use crate::claim_findings::{ClaimFailure, claim_failures};
-use crate::explanation::{Explanation, Outcome, json_line, page};
-use crate::fault::{Fault, unless_refused};
-use crate::findings::{Case, Finding, findings_of, part_value, quoted};
-use crate::keys::Loaded;
-use crate::options::as_strict;
-use crate::orders::order;
-use crate::part_findings::cut;
+use crate::explain::claim_findings::{ClaimFailure, claim_failures};
+use crate::explain::explanation::{Explanation, Outcome, json_line, page};
+use crate::explain::findings::{Finding, findings_of, part_value, quote};
+use crate::explain::orders::order;
+use crate::explain::part_findings::split_parts;
+use crate::fault::{Fault, value_unless_refused};
 use crate::request::Checks;
 use crate::times::claim_lines;
-use crate::verdict::{Denial, denial_of};
+use crate::verify::case::Case;
+use crate::verify::options::strict_validation;
+use crate::verify::verdict::{Denial, denial_of};
 use jsonwebtoken::{Header, Moments, Test, Validation, claimed_moments, decode_header, validate};
 use serde_json::Value;
 use std::alloc::{AllocError, Global};
@@ -29,43 +37,37 @@ use std::alloc::{AllocError, Global};
 /// is listed as there.
 pub fn explain_answer(
     alloc: Global,
-    token: &[u8],
-    loaded: &Loaded,
+    case: Case<'_>,
     validation: &mut Validation,
     checks: &Checks<'_, '_>,
-    time: u64,
-    typ: Option<&str>,
     is_json: bool,
 ) -> Result<Answer, Fault<'static>>
     ensures { IfOk result (λ a.
-        IsSettled loaded.now token.now (options_of validation.old) (options_of validation.new)
-        × IsVerdict token.now loaded.now.keys (options_of validation.new) time
-        (option_map (λ s. s.now) typ.entry) a.status) }
+        IsSettled case.entry.loaded.now case.entry.token.now (options_of validation.old)
+        (options_of validation.new)
+        × IsVerdict case.entry.token.now case.entry.loaded.now.keys (options_of validation.new)
+        case.entry.time (option_map (λ s. s.now) case.entry.typ) a.status) }
 {
-    let denial = denial_of(alloc, token, loaded, validation, time, typ)?;
-    let case = Case {
-        token,
-        loaded,
-        validation,
-        time,
-    };
+    let denial = denial_of(alloc, case, validation)?;
     match denial {
-        None => accepted(alloc, case, checks, is_json),
-        Some(denial) => denied(alloc, case, typ, &denial, is_json),
+        None => explain_acceptance(alloc, case, validation, checks, is_json),
+        Some(denial) => explain_denial(alloc, case, validation, &denial, is_json),
     }
 }
 
-fn accepted(
+fn explain_acceptance(
     alloc: Global,
     case: Case<'_>,
+    validation: &Validation,
     checks: &Checks<'_, '_>,
     is_json: bool,
 ) -> Result<Answer, Fault<'static>>
     ensures { IfOk result (λ a. a.status ≡ 0) }
 {
-    let strict = refusal_if_strict(alloc, case, checks)?;
-    let explanation = explanation(alloc, case, Outcome::Accepted, None, strict)?;
-    let output = written(alloc, &explanation, is_json);
+    let strict = refusal_if_strict(alloc, case, validation, checks)?;
+    let explanation = explanation_of(alloc, case, validation, Outcome::Accepted, None, strict)?;
+    let output = explanation_text(alloc, &explanation, is_json);
+    // dropped at one place: each exit by `?` would have to be proved to drop every field
     drop(explanation);
     Ok(Answer {
         status: 0,
@@ -78,25 +80,23 @@ fn accepted(
 fn refusal_if_strict(
     alloc: Global,
     case: Case<'_>,
+    validation: &Validation,
     checks: &Checks<'_, '_>,
 ) -> Result<Option<ClaimFailure>, Fault<'static>> {
     if checks.is_strict {
         return Ok(None);
     }
-    let strict = as_strict(alloc, case.validation, checks)?;
-    let case = Case {
-        validation: &strict,
-        ..case
-    };
+    let strict = strict_validation(alloc, validation, checks)?;
     let failures = match accepted_claims(alloc, case.token, &Outcome::Accepted) {
         Ok(Some(claims)) => {
-            let failures = claim_failures(alloc, case, &claims);
+            let failures = claim_failures(alloc, &claims, &strict, case.time);
             drop(claims);
             failures
         }
         Ok(None) => Ok(Vec::new(alloc)),
         Err(fault) => Err(fault),
     };
+    // dropped at one place: each exit by `?` would have to be proved to drop every field
     drop(strict);
     Ok(failures?.into_iter().next())
 }
@@ -108,7 +108,7 @@ fn accepted_claims(
     outcome: &Outcome,
 ) -> Result<Option<Value>, Fault<'static>> {
     if let Outcome::Accepted | Outcome::Failed(Test::ClaimRulesHold, _) = outcome
-        && let Some(parts) = cut(token)
+        && let Some(parts) = split_parts(token)
     {
         return part_value(alloc, parts.payload);
     }
@@ -116,26 +116,26 @@ fn accepted_claims(
 }
 
 /// Returns why a token is not accepted.
-fn outcome(
+fn outcome_of(
     alloc: Global,
     case: Case<'_>,
-    typ: Option<&str>,
+    validation: &Validation,
     denial: &Denial,
 ) -> Result<Outcome, Fault<'static>> {
     match denial {
-        Denial::OtherType => Ok(Outcome::OtherType(type_finding(alloc, case.token, typ)?)),
+        Denial::OtherType => Ok(Outcome::OtherType(type_finding(alloc, case)?)),
         Denial::Refused(refusal) => Ok(Outcome::Failed(
             refusal.test,
-            findings_of(alloc, case, refusal)?,
+            findings_of(alloc, case, validation, refusal)?,
         )),
     }
 }
 
 /// Returns the finding of a type that is not the one that is asked for.
-fn type_finding(alloc: Global, token: &[u8], typ: Option<&str>) -> Result<Finding, Fault<'static>> {
-    match decode_header(alloc, token) {
+fn type_finding(alloc: Global, case: Case<'_>) -> Result<Finding, Fault<'static>> {
+    match decode_header(alloc, case.token) {
         Ok(header) => {
-            let finding = other_type(alloc, &header, typ);
+            let finding = header_type_finding(alloc, &header, case.typ);
             drop(header);
             finding
         }
@@ -144,34 +144,35 @@ fn type_finding(alloc: Global, token: &[u8], typ: Option<&str>) -> Result<Findin
 }
 
 /// Returns the finding of a header whose type is not the one that is asked for.
-fn other_type(
+fn header_type_finding(
     alloc: Global,
     header: &Header,
     typ: Option<&str>,
 ) -> Result<Finding, Fault<'static>> {
     Ok(Finding {
-        found: type_found(alloc, header)?,
-        wanted: quoted(alloc, typ.unwrap_or(""))?,
+        found: found_type(alloc, header)?,
+        wanted: quote(alloc, typ.unwrap_or(""))?,
     })
 }
 
 /// Returns the type of a header, as a finding says it.
-fn type_found(alloc: Global, header: &Header) -> Result<String, AllocError> {
+fn found_type(alloc: Global, header: &Header) -> Result<String, AllocError> {
     match &header.typ {
-        Some(found) => format!(in alloc; "the type {}", quoted(alloc, found.as_str())?),
+        Some(found) => format!(in alloc; "the type {}", quote(alloc, found.as_str())?),
         None => String::from_str(alloc, "no type"),
     }
 }
 
 /// Returns the explanation of an outcome.
-fn explanation<'e>(
+fn explanation_of<'e>(
     alloc: Global,
     case: Case<'e>,
+    validation: &Validation,
     outcome: Outcome,
     kind: Option<&'e str>,
     strict: Option<ClaimFailure>,
 ) -> Result<Explanation<'e>, Fault<'static>> {
-    let (times, moments) = times(alloc, case, &outcome)?;
+    let (times, moments) = claim_times(alloc, case, validation, &outcome)?;
     Ok(Explanation {
         order: order(&case.loaded.keys),
         outcome,
@@ -185,15 +186,17 @@ fn explanation<'e>(
 
 /// Returns the lines about the claims of a token whose signature is accepted, and the times at
 /// which it is accepted.
-fn times(
+fn claim_times(
     alloc: Global,
     case: Case<'_>,
+    validation: &Validation,
     outcome: &Outcome,
 ) -> Result<(String, Option<Moments>), Fault<'static>> {
     match accepted_claims(alloc, case.token, outcome)? {
         Some(claims) => {
             let lines = claim_lines(alloc, &claims, case.time);
-            let moments = moments(alloc, &claims, case.validation);
+            let moments = moments_of(alloc, &claims, validation);
+            // dropped at one place: each exit by `?` would have to be proved to drop every field
             drop(claims);
             Ok((lines?, moments?))
         }
@@ -203,17 +206,17 @@ fn times(
 
 /// Returns the times at which the claims of a token are accepted, whose signature is. The claim
 /// rules hold at all times that the claims allow, or at none.
-fn moments(
+fn moments_of(
     alloc: Global,
     claims: &Value,
     validation: &Validation,
 ) -> Result<Option<Moments>, Fault<'static>> {
     let moments = claimed_moments(claims, validation);
     let held = validate(alloc, claims, validation, moments.first);
-    Ok(unless_refused(held)?.map(|()| moments))
+    Ok(value_unless_refused(held)?.map(|()| moments))
 }
 
-fn written(
+fn explanation_text(
     alloc: Global,
     explanation: &Explanation<'_>,
     is_json: bool,
@@ -225,18 +228,19 @@ fn written(
     }
 }
 
-fn denied(
+fn explain_denial(
     alloc: Global,
     case: Case<'_>,
-    typ: Option<&str>,
+    validation: &Validation,
     denial: &Denial,
     is_json: bool,
 ) -> Result<Answer, Fault<'static>>
     ensures { IfOk result (λ a. a.status ≡ 1) }
 {
-    let outcome = outcome(alloc, case, typ, denial)?;
-    let explanation = explanation(alloc, case, outcome, Some(denial_name(denial)), None)?;
-    let output = written(alloc, &explanation, is_json);
+    let outcome = outcome_of(alloc, case, validation, denial)?;
+    let kind = Some(denial_name(denial));
+    let explanation = explanation_of(alloc, case, validation, outcome, kind, None)?;
+    let output = explanation_text(alloc, &explanation, is_json);
     drop(explanation);
     Ok(Answer {
         status: 1,

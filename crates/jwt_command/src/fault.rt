@@ -1,13 +1,13 @@
 //! The faults that leave a command without an answer.
 
-ghost use Rattle.std.specs.Prelude.{◌≡◌, ◌⊎◌};
+ghost use Rattle.std.specs.Prelude.{◌≡◌, ◌⊎◌, ◌↔◌, IsTrue};
+ghost use Rattle.jwt_base.specs.KindOf.{IsMemory};
 
-use jsonwebtoken::errors::{ErrorKind, Result as Checked};
+use jsonwebtoken::errors::{Error, ErrorKind};
 use std::alloc::{AllocError, AllocFailed};
-use thiserror::Error;
 
 /// The reason for which there is no answer.
-#[derive(Debug, Drop, Error)]
+#[derive(Debug, Drop, thiserror::Error)]
 pub enum Fault<'a> {
     /// The arguments ask for nothing that can be done.
     #[error("{0}")]
@@ -56,11 +56,28 @@ impl<T: Drop> From<AllocFailed<T>> for Fault<'_> {
     }
 }
 
+/// Returns whether an error says that memory ran out.
+pub fn is_memory(error: &Error) -> bool
+    ensures { IsTrue result ↔ IsMemory error.now }
+{
+    matches!(error.kind(), ErrorKind::OutOfMemory)
+}
+
+/// Returns the fault that an error is, unless it says that memory ran out.
+pub fn fault_of<'a>(error: &Error, fault: Fault<'a>) -> Fault<'a>
+    ensures { IsMemory error.now → result ≡ Fault.Memory }
+{
+    if is_memory(error) {
+        return Fault::Memory;
+    }
+    fault
+}
+
 /// Returns the value that a call made, or `None` if it was refused for another reason than memory.
-pub fn unless_refused<R>(made: Checked<R>) -> Result<Option<R>, Fault<'static>> {
+pub fn value_unless_refused<R>(made: Result<R, Error>) -> Result<Option<R>, Fault<'static>> {
     match made {
         Ok(value) => Ok(Some(value)),
-        Err(error) if matches!(error.kind(), ErrorKind::OutOfMemory) => Err(Fault::Memory),
+        Err(error) if is_memory(&error) => Err(Fault::Memory),
         Err(_) => Ok(None),
     }
 }

@@ -15,7 +15,7 @@ pub fn file_bytes<'a, R: Files + AllocGlobal>(rt: &R, path: &'a str) -> Result<V
             problem: "the file is empty",
         }),
         Ok(bytes) => Ok(bytes),
-        Err(error) => Err(fault_of(path, &error)),
+        Err(error) => Err(file_fault(path, &error)),
     }
 }
 
@@ -30,7 +30,7 @@ pub fn input_bytes<R: Input + AllocGlobal>(rt: &R) -> Result<Vec<u8>, Fault<'sta
 }
 
 /// Returns the bytes, less one line end: CR LF, or LF.
-pub fn without_line_end(bytes: &[u8]) -> &[u8]
+pub fn strip_line_end(bytes: &[u8]) -> &[u8]
     ensures { IsLessLineEnd bytes.now result.now }
 {
     match bytes {
@@ -40,7 +40,7 @@ pub fn without_line_end(bytes: &[u8]) -> &[u8]
     }
 }
 
-fn fault_of<'a>(path: &'a str, error: &io::Error) -> Fault<'a> {
+fn file_fault<'a>(path: &'a str, error: &io::Error) -> Fault<'a> {
     match error.kind() {
         ErrorKind::OutOfMemory => Fault::Memory,
         kind => Fault::File {

@@ -20,9 +20,14 @@ ghost use Rattle.jsonwebtoken.specs.Own.{own_of};
 ghost use Rattle.jwt_command.specs.LineEnd.{IsSecret};
 ghost use Rattle.jwt_command.specs.FileKeys.{AreLoaded, HasKeysFault};
 
-use crate::fault::{Fault, unless_refused};
-use crate::file_hints::{key_problem, pem_problem, set_problem};
-use crate::files::without_line_end;
+pub(crate) mod hints;
+pub(crate) mod jwk;
+pub(crate) mod table;
+pub(crate) mod thumbprint;
+
+use crate::fault::{Fault, fault_of, value_unless_refused};
+use crate::files::strip_line_end;
+use crate::keys::hints::{key_problem, pem_problem, set_problem};
 use crate::request::KeyFile;
 use jsonwebtoken::errors::{Error, ErrorKind};
 use jsonwebtoken::jwk::{Jwk, JwkSet, own_algorithm};
@@ -34,7 +39,7 @@ use std::alloc::Global;
 
 /// Keys, with what their file says of them.
 #[derive(Drop)]
-pub struct Loaded {
+pub struct LoadedKeys {
     pub keys: Keys,
     /// The algorithm that the one key is for.
     pub own: Option<Algorithm>,
@@ -47,13 +52,13 @@ pub struct Loaded {
 /// The number of keys of a set, from its first, that are prepared to verify many tokens: the hashed
 /// blocks of a secret, or what a modulus needs. Each allocates, and to look for one takes longer,
 /// the more there are. The others verify too, unprepared.
-const PREPARED: usize = 16;
+const MOST_PREPARED: usize = 16;
 
 /// Prepares the keys for many tokens, by these algorithms, or by those that the keys are for if the
 /// list is empty.
 pub fn prepare(
     alloc: Global,
-    loaded: &mut Loaded,
+    loaded: &mut LoadedKeys,
     algorithms: &[Algorithm],
 ) -> Result<(), Fault<'static>>
     ensures { (loaded.new.keys ≡ loaded.old.keys) × (loaded.new.own ≡ loaded.old.own) }
@@ -66,7 +71,7 @@ pub fn prepare(
 
 /// Returns whether the keys may name the algorithm of a token: one key by its own `alg`, and a set
 /// by that of the key which the token names.
-pub fn names_algorithm(loaded: &Loaded) -> bool {
+pub fn names_algorithm(loaded: &LoadedKeys) -> bool {
     match &loaded.keys {
         Keys::One(_) => loaded.own.is_some(),
         Keys::Set(_) => true,
@@ -103,19 +108,19 @@ pub fn not_pem<'a>(path: &'a str, error: &Error, bytes: &[u8]) -> Fault<'a>
         ErrorKind::Provider(_) => "this is a private key; a public key is wanted",
         _ => pem_problem(bytes, "this is not a public key in PEM"),
     };
-    not_keys(path, error, problem)
+    fault_of(error, Fault::File { path, problem })
 }
 
 /// Returns the keys that the bytes of a file hold.
-pub fn load<'a>(alloc: Global, file: KeyFile<'a>, bytes: &[u8]) -> Result<Loaded, Fault<'a>>
+pub fn load<'a>(alloc: Global, file: KeyFile<'a>, bytes: &[u8]) -> Result<LoadedKeys, Fault<'a>>
     ensures ok { IfOk result (λ l. AreLoaded file.entry bytes.now l.keys l.own) }
     ensures err { IfErr result (λ e. (e ≡ Fault.Memory) ⊎ HasKeysFault file.entry bytes.now) }
 {
     match file {
-        KeyFile::Secret { path, is_trimmed } => by_secret(alloc, path, bytes, is_trimmed),
-        KeyFile::Jwk(path) => by_jwk(alloc, path, bytes),
-        KeyFile::Jwks(path) => by_set(alloc, path, bytes),
-        KeyFile::Pem(path) => by_pem(alloc, path, bytes),
+        KeyFile::Secret { path, is_trimmed } => load_secret(alloc, path, bytes, is_trimmed),
+        KeyFile::Jwk(path) => load_jwk(alloc, path, bytes),
+        KeyFile::Jwks(path) => load_set(alloc, path, bytes),
+        KeyFile::Pem(path) => load_pem(alloc, path, bytes),
     }
 }
 
@@ -156,8 +161,8 @@ fn prepare_set(
     set: &JwkSet,
     algorithms: &[Algorithm],
 ) -> Result<(), Fault<'static>> {
-    for jwk in set.keys.iter().take(PREPARED) {
-        if let Some(key) = unless_refused(DecodingKey::from_jwk(alloc, jwk))? {
+    for jwk in set.keys.iter().take(MOST_PREPARED) {
+        if let Some(key) = value_unless_refused(DecodingKey::from_jwk(alloc, jwk))? {
             prepare_key(alloc, provider, &key, own_algorithm(jwk), algorithms)?;
         }
     }
@@ -169,7 +174,7 @@ fn secret(bytes: &[u8], is_trimmed: bool) -> &[u8]
     ensures { IsSecret is_trimmed bytes.now result.now }
 {
     if is_trimmed {
-        without_line_end(bytes)
+        strip_line_end(bytes)
     } else {
         bytes
     }
@@ -184,22 +189,12 @@ fn secret_problem(secret: &[u8]) -> &'static str {
     }
 }
 
-/// Returns the fault of a file that holds something else than keys, unless memory ran out.
-fn not_keys<'a>(path: &'a str, error: &Error, problem: &'static str) -> Fault<'a>
-    ensures { IsMemory error.now → result ≡ Fault.Memory }
-{
-    match error.kind() {
-        ErrorKind::OutOfMemory => Fault::Memory,
-        _ => Fault::File { path, problem },
-    }
-}
-
-fn by_secret<'a>(
+fn load_secret<'a>(
     alloc: Global,
     path: &'a str,
     bytes: &[u8],
     is_trimmed: bool,
-) -> Result<Loaded, Fault<'a>>
+) -> Result<LoadedKeys, Fault<'a>>
     ensures ok { IfOk result (λ l. (secret : List ℕ) × IsSecret is_trimmed bytes.now secret
         × (¬ IsBlank secret) × (l.keys ≡ Keys.One (Plain Hmac secret)) × (l.own ≡ None)) }
     ensures err { IfErr result (λ e. (e ≡ Fault.Memory)
@@ -207,7 +202,7 @@ fn by_secret<'a>(
 {
     let secret = given_secret(path, bytes, is_trimmed)?;
     match DecodingKey::from_secret(alloc, secret) {
-        Ok(key) => Ok(Loaded {
+        Ok(key) => Ok(LoadedKeys {
             keys: Keys::One(key),
             own: None,
             has_line_end: secret.ends_with(b"\n"),
@@ -217,7 +212,7 @@ fn by_secret<'a>(
     }
 }
 
-fn by_jwk<'a>(alloc: Global, path: &'a str, bytes: &[u8]) -> Result<Loaded, Fault<'a>>
+fn load_jwk<'a>(alloc: Global, path: &'a str, bytes: &[u8]) -> Result<LoadedKeys, Fault<'a>>
     ensures ok { IfOk result (λ l. (jwk : Jwk) × ReadsText ReadsKey bytes.now jwk
         × ((key : Key) × IsKeyOf jwk.algorithm key × (¬ IsBlankKey key)
         × (l.keys ≡ Keys.One key) × (l.own ≡ own_of jwk))) }
@@ -229,32 +224,31 @@ fn by_jwk<'a>(alloc: Global, path: &'a str, bytes: &[u8]) -> Result<Loaded, Faul
 {
     let jwk = match Jwk::from_slice(alloc, bytes) {
         Ok(jwk) => jwk,
-        Err(error) => return Err(not_keys(
-            path,
-            &error,
-            key_problem(bytes, "this is not a JSON Web Key"),
-        )),
+        Err(error) => {
+            let problem = key_problem(bytes, "this is not a JSON Web Key");
+            return Err(fault_of(&error, Fault::File { path, problem }));
+        }
     };
     let own = own_algorithm(&jwk);
     let read = DecodingKey::from_jwk(alloc, &jwk);
+    // dropped at one place: each exit by `?` would have to be proved to drop every field
     drop(jwk);
     match read {
-        Ok(key) => with_key(alloc, path, key, own),
-        Err(error) => Err(not_keys(
-            path,
-            &error,
-            key_problem(bytes, "this key cannot verify signatures"),
-        )),
+        Ok(key) => accept_key(alloc, path, key, own),
+        Err(error) => {
+            let problem = key_problem(bytes, "this key cannot verify signatures");
+            Err(fault_of(&error, Fault::File { path, problem }))
+        }
     }
 }
 
 /// Returns the keys that are this one, which is for this algorithm, unless anyone can sign for it.
-fn with_key<'a>(
+fn accept_key<'a>(
     alloc: Global,
     path: &'a str,
     key: DecodingKey,
     own: Option<Algorithm>,
-) -> Result<Loaded, Fault<'a>>
+) -> Result<LoadedKeys, Fault<'a>>
     ensures ok { IfOk result (λ l. (¬ IsBlankKey key) × (l.keys ≡ Keys.One key) × (l.own ≡ own)) }
     ensures err { IsErr result → IsBlankKey key }
 {
@@ -264,7 +258,7 @@ fn with_key<'a>(
             problem: "anyone can sign with this key",
         });
     }
-    Ok(Loaded {
+    Ok(LoadedKeys {
         keys: Keys::One(key),
         own,
         has_line_end: false,
@@ -272,7 +266,7 @@ fn with_key<'a>(
     })
 }
 
-fn by_set<'a>(alloc: Global, path: &'a str, bytes: &[u8]) -> Result<Loaded, Fault<'a>>
+fn load_set<'a>(alloc: Global, path: &'a str, bytes: &[u8]) -> Result<LoadedKeys, Fault<'a>>
     ensures ok { IfOk result (λ l. (set : JwkSet) × ReadsText ReadsSet bytes.now set.keys.items
         × (¬ HasBlankKey set.keys.items) × (l.keys ≡ Keys.Set set) × (l.own ≡ None)) }
     ensures err { IfErr result (λ e. (e ≡ Fault.Memory)
@@ -280,19 +274,22 @@ fn by_set<'a>(alloc: Global, path: &'a str, bytes: &[u8]) -> Result<Loaded, Faul
         ⊎ ((keys : List Jwk) × ReadsText ReadsSet bytes.now keys × HasBlankKey keys))) }
 {
     match JwkSet::from_slice(alloc, bytes) {
-        Ok(set) => with_set(alloc, path, set),
-        Err(error) => Err(not_keys(path, &error, set_problem(bytes))),
+        Ok(set) => accept_set(alloc, path, set),
+        Err(error) => {
+            let problem = set_problem(bytes);
+            Err(fault_of(&error, Fault::File { path, problem }))
+        }
     }
 }
 
 /// Returns the keys that are this set, unless anyone can sign for one of them.
-fn with_set<'a>(alloc: Global, path: &'a str, set: JwkSet) -> Result<Loaded, Fault<'a>>
+fn accept_set<'a>(alloc: Global, path: &'a str, set: JwkSet) -> Result<LoadedKeys, Fault<'a>>
     ensures ok { IfOk result (λ l. (¬ HasBlankKey set.keys.items) × (l.keys ≡ Keys.Set set)
         × (l.own ≡ None)) }
     ensures err { IfErr result (λ e. (e ≡ Fault.Memory) ⊎ HasBlankKey set.keys.items) }
 {
     match has_blank_key(alloc, &set) {
-        Ok(false) => Ok(Loaded {
+        Ok(false) => Ok(LoadedKeys {
             keys: Keys::Set(set),
             own: None,
             has_line_end: false,
@@ -306,14 +303,14 @@ fn with_set<'a>(alloc: Global, path: &'a str, set: JwkSet) -> Result<Loaded, Fau
     }
 }
 
-fn by_pem<'a>(alloc: Global, path: &'a str, bytes: &[u8]) -> Result<Loaded, Fault<'a>>
+fn load_pem<'a>(alloc: Global, path: &'a str, bytes: &[u8]) -> Result<LoadedKeys, Fault<'a>>
     ensures ok { IfOk result (λ l. (key : Key) × IsPemOf bytes.now key
         × (l.keys ≡ Keys.One key) × (l.own ≡ None)) }
     ensures err { IfErr result (λ e. (e ≡ Fault.Memory)
         ⊎ ((k : Kind) × IsPemRefused bytes.now k)) }
 {
     match public_key_from_pem(alloc, bytes) {
-        Ok(key) => Ok(Loaded {
+        Ok(key) => Ok(LoadedKeys {
             keys: Keys::One(key),
             own: None,
             has_line_end: false,

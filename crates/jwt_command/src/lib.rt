@@ -8,40 +8,22 @@ ghost use Rattle.jwt_command.specs.declared.request.Request.{Request};
 
 mod advice;
 mod answer;
-mod arguments;
-mod claim_findings;
 mod clock;
-mod escapes;
 mod explain;
-mod explanation;
 mod fault;
-mod file_hints;
 mod files;
-mod findings;
-mod jwk;
 mod keys;
-mod keys_table;
-mod lines;
-mod moments;
-mod options;
-mod orders;
-mod part_findings;
 mod request;
 mod run;
-mod salvage;
 mod show;
 mod sign;
-mod signature_findings;
-mod thumbprint;
 mod times;
-mod verdict;
 mod verify;
-mod wrappings;
 
 use answer::write_output;
-use arguments::command;
 use clap::ArgMatches;
 use fault::Fault;
+use request::arguments::command;
 use request::{Request, request_asked};
 use run::answer;
 use std::alloc::{AllocError, Global};
@@ -60,8 +42,8 @@ pub fn run_command<T: Runtime + AllocGlobal, W: Write>(
         × IsStatus r (W.contents writer.old) (W.contents writer.new) result) }
 {
     match request_asked(matches) {
-        Ok(request) => answered(rt, &request, writer),
-        Err(fault) => failed(rt, &fault),
+        Ok(request) => write_answer(rt, &request, writer),
+        Err(fault) => report_fault(rt, &fault),
     }
 }
 
@@ -69,19 +51,19 @@ pub fn run_command<T: Runtime + AllocGlobal, W: Write>(
 pub fn start<T: Runtime + AllocGlobal>(rt: &T) -> u8 {
     let words = match words(rt) {
         Ok(words) => words,
-        Err(fault) => return failed(rt, &fault),
+        Err(fault) => return report_fault(rt, &fault),
     };
     let Ok(command) = command(rt.alloc()) else {
-        return failed(rt, &Fault::Memory);
+        return report_fault(rt, &Fault::Memory);
     };
     match command.try_get_matches_from(words.as_slice()) {
         Ok(matches) => run_command(rt, &matches, &mut io::writer(rt)),
-        Err(error) => mistaken(rt, &error),
+        Err(error) => report_mistake(rt, &error),
     }
 }
 
 /// Writes the answer to a request, and returns its status.
-fn answered<T: Runtime + AllocGlobal, W: Write>(
+fn write_answer<T: Runtime + AllocGlobal, W: Write>(
     rt: &T,
     request: &Request<'_, '_>,
     writer: &mut W,
@@ -90,17 +72,17 @@ fn answered<T: Runtime + AllocGlobal, W: Write>(
 {
     let answer = match answer(rt, request) {
         Ok(answer) => answer,
-        Err(fault) => return failed(rt, &fault),
+        Err(fault) => return report_fault(rt, &fault),
     };
     if let Err(fault) = write_output(writer, answer.output.as_str()) {
-        return failed(rt, &fault);
+        return report_fault(rt, &fault);
     }
     let _ = rt.eprint(answer.message.as_str());
     answer.status
 }
 
 /// Returns the exit status of a fault, which is said on standard error.
-fn failed<R: Eprint>(rt: &R, fault: &Fault<'_>) -> u8
+fn report_fault<R: Eprint>(rt: &R, fault: &Fault<'_>) -> u8
     ensures { IsFaultStatus result }
 {
     let _ = eprintln!(rt; "error: {fault}");
@@ -120,14 +102,14 @@ fn words<R: Env + AllocGlobal>(rt: &R) -> Result<Vec<String>, Fault<'static>> {
 
 /// Prints the help or the version that is asked for, or the mistake in the arguments; returns the
 /// status.
-fn mistaken<R: Print + Eprint + AllocGlobal>(rt: &R, error: &clap::Error) -> u8 {
+fn report_mistake<R: Print + Eprint + AllocGlobal>(rt: &R, error: &clap::Error) -> u8 {
     match sentence(rt.alloc(), error) {
-        Ok(Some(sentence)) => failed(rt, &Fault::Usage(sentence)),
+        Ok(Some(sentence)) => report_fault(rt, &Fault::Usage(sentence)),
         Ok(None) => {
             let is_printed = error.print(rt).is_ok();
             printed_status(error, is_printed)
         }
-        Err(_) => failed(rt, &Fault::Memory),
+        Err(_) => report_fault(rt, &Fault::Memory),
     }
 }
 

@@ -7,8 +7,11 @@ ghost use Rattle.jwt_command.specs.Arguments.{AreChecks, IsChecking, IsCommand, 
 ghost use Rattle.jwt_command.specs.Arguments.{IsHash, IsKeyFile, IsNumberOf, IsRequestOf};
 ghost use Rattle.jwt_command.specs.Arguments.{IsShowing, IsSigningOf};
 
+pub(crate) mod arguments;
+pub(crate) mod spans;
+
 use crate::fault::Fault;
-use crate::moments::{moment, seconds};
+use crate::request::spans::{parse_span, parse_time};
 use clap::ArgMatches;
 use jsonwebtoken::Algorithm;
 use jsonwebtoken::jwk::ThumbprintHash;
@@ -248,7 +251,7 @@ fn span(
     let Some(text) = matches.get_str(id) else {
         return Ok(None);
     };
-    match seconds(text) {
+    match parse_span(text) {
         Some(seconds) => Ok(Some(seconds)),
         None => Err(Fault::Usage(mistake)),
     }
@@ -260,8 +263,8 @@ fn time(matches: &ArgMatches<'_>, id: &str) -> Result<Option<u64>, Fault<'static
     let Some(text) = matches.get_str(id) else {
         return Ok(None);
     };
-    match moment(text) {
-        Some(moment) => Ok(Some(moment)),
+    match parse_time(text) {
+        Some(time) => Ok(Some(time)),
         None => Err(Fault::Usage(
             "--now wants seconds since 1970 UTC, or a time such as 2026-01-31T12:00:00Z",
         )),

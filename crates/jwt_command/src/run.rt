@@ -2,27 +2,28 @@
 
 ghost use Rattle.std.specs.Prelude.{◌≡◌, ℕ, List, IfOk, is_some, string_bytes};
 ghost use Rattle.jwt_validation.specs.OptionsOf.{options_of};
-ghost use Rattle.jwt_command.specs.Commands.{ArePrepared, AreVerified, IsAnswer, IsExplanation};
+ghost use Rattle.jwt_command.specs.Commands.{AreAsked, AreVerified, IsAnswer, IsExplanation};
 ghost use Rattle.jwt_command.specs.Commands.{IsGiven, IsGivenToken, IsLinesStatus, IsShown};
 ghost use Rattle.jwt_command.specs.Commands.{IsSigned, IsSigning, IsTokenAnswer, IsTokenVerdict};
 ghost use Rattle.jwt_command.specs.Commands.{IsVerification, form_asked};
 ghost use Rattle.jwt_command.specs.FileKeys.{AreLoaded, IsJwkLine};
 
 use crate::answer::Answer;
-use crate::clock::moment;
+use crate::clock::current_time;
 use crate::explain::explain_answer;
 use crate::fault::Fault;
-use crate::files::{file_bytes, input_bytes, without_line_end};
-use crate::jwk::jwk_answer;
-use crate::keys::{Loaded, given_secret, load, names_algorithm, prepare};
-use crate::keys_table::keys_answer;
-use crate::lines::answer_lines;
-use crate::options::validation;
+use crate::files::{file_bytes, input_bytes, strip_line_end};
+use crate::keys::jwk::jwk_answer;
+use crate::keys::table::keys_answer;
+use crate::keys::thumbprint::thumbprint_answer;
+use crate::keys::{LoadedKeys, given_secret, load, names_algorithm, prepare};
 use crate::request::{Digesting, KeyFile, Listing, Request, Showing, Signing, Verification};
 use crate::show::show_answer;
 use crate::sign::{claims, claims_answer};
-use crate::thumbprint::thumbprint_answer;
-use crate::verify::{Form, verify_answer};
+use crate::verify::case::Case;
+use crate::verify::lines::answer_lines;
+use crate::verify::options::requested_validation;
+use crate::verify::{OutputForm, verify_answer};
 use jsonwebtoken::Validation;
 use std::alloc::Global;
 use std::rt::{Clock, Files};
@@ -35,26 +36,27 @@ pub fn answer<'a, R: Files + Input + Print + Clock + AllocGlobal>(
     ensures { IfOk result (λ a. IsAnswer request.now a.status (string_bytes a.output)) }
 {
     match request {
-        Request::Verify(request) if request.is_lines => verify_lines(rt, request),
-        Request::Verify(request) => verify(rt, request),
-        Request::Explain(request) => explain(rt, request),
-        Request::Show(request) => show(rt, request),
-        Request::Sign(request) => sign(rt, request),
-        Request::Keys(request) => list(rt, request),
-        Request::Jwk(request) => convert(rt, request),
-        Request::Thumbprint(request) => digest(rt, request),
+        Request::Verify(request) if request.is_lines => run_verify_lines(rt, request),
+        Request::Verify(request) => run_verify(rt, request),
+        Request::Explain(request) => run_explain(rt, request),
+        Request::Show(request) => run_show(rt, request),
+        Request::Sign(request) => run_sign(rt, request),
+        Request::Keys(request) => run_keys(rt, request),
+        Request::Jwk(request) => run_jwk(rt, request),
+        Request::Thumbprint(request) => run_thumbprint(rt, request),
     }
 }
 
 /// Answers each line of standard input, and returns the status. The answers are written by then.
-fn verify_lines<'a, R: Files + Input + Print + Clock + AllocGlobal>(
+fn run_verify_lines<'a, R: Files + Input + Print + Clock + AllocGlobal>(
     rt: &R,
     request: &Verification<'_, 'a>,
 ) -> Result<Answer, Fault<'a>>
     ensures { IfOk result (λ a. AreVerified request.entry.now a.status) }
 {
-    let (mut loaded, mut validation) = prepared(rt, request)?;
+    let (mut loaded, mut validation) = keys_and_options(rt, request)?;
     let status = lines_status(rt, request, &mut loaded, &mut validation);
+    // dropped at one place: each exit by `?` would have to be proved to drop every field
     drop(loaded);
     drop(validation);
     Ok(Answer {
@@ -66,17 +68,18 @@ fn verify_lines<'a, R: Files + Input + Print + Clock + AllocGlobal>(
 
 /// Returns the keys and the options that tokens are checked with. If neither the arguments nor a
 /// file name an algorithm, the keys have to.
-fn prepared<'a, R: Files + AllocGlobal>(
+fn keys_and_options<'a, R: Files + AllocGlobal>(
     rt: &R,
     request: &Verification<'_, 'a>,
-) -> Result<(Loaded, Validation), Fault<'a>>
-    ensures { IfOk result (λ p. ArePrepared request.entry.now p.0 (options_of p.1)) }
+) -> Result<(LoadedKeys, Validation), Fault<'a>>
+    ensures { IfOk result (λ p. AreAsked request.entry.now p.0 (options_of p.1)) }
 {
     let options = options_bytes(rt, request.checks.options)?;
-    let validation = validation(rt.alloc(), &request.checks, options.as_deref())?;
+    let validation = requested_validation(rt.alloc(), &request.checks, options.as_deref())?;
     match keys_for(rt, request, &validation) {
         Ok(loaded) => Ok((loaded, validation)),
         Err(fault) => {
+            // dropped by a call: the end of the block would have to be proved to drop every field
             drop(validation);
             Err(fault)
         }
@@ -101,7 +104,7 @@ fn keys_for<'a, R: Files + AllocGlobal>(
     rt: &R,
     request: &Verification<'_, 'a>,
     validation: &Validation,
-) -> Result<Loaded, Fault<'a>>
+) -> Result<LoadedKeys, Fault<'a>>
     ensures { IfOk result (λ l. (key : List ℕ)
         × AreLoaded request.entry.now.key key l.keys l.own) }
 {
@@ -129,7 +132,7 @@ fn path_of<'a>(file: KeyFile<'a>) -> &'a str {
 fn lines_status<R: Input + Print + Clock + AllocGlobal>(
     rt: &R,
     request: &Verification<'_, '_>,
-    loaded: &mut Loaded,
+    loaded: &mut LoadedKeys,
     validation: &mut Validation,
 ) -> Result<u8, Fault<'static>>
     ensures { IfOk result (λ status. (loaded.new.keys ≡ loaded.old.keys)
@@ -140,24 +143,25 @@ fn lines_status<R: Input + Print + Clock + AllocGlobal>(
     answer_lines(rt, request, loaded, validation)
 }
 
-fn verify<'a, R: Files + Input + Clock + AllocGlobal>(
+fn run_verify<'a, R: Files + Input + Clock + AllocGlobal>(
     rt: &R,
     request: &Verification<'_, 'a>,
 ) -> Result<Answer, Fault<'a>>
     ensures { IfOk result (λ a. IsVerification request.entry.now a.status (string_bytes a.output)) }
 {
-    let (loaded, mut validation) = prepared(rt, request)?;
-    let answer = verified(rt, request, &loaded, &mut validation);
+    let (loaded, mut validation) = keys_and_options(rt, request)?;
+    let answer = verify_token(rt, request, &loaded, &mut validation);
+    // dropped at one place: each exit by `?` would have to be proved to drop every field
     drop(loaded);
     drop(validation);
     answer
 }
 
 /// Returns the answer of `verify` under these keys and options.
-fn verified<R: Input + Clock + AllocGlobal>(
+fn verify_token<R: Input + Clock + AllocGlobal>(
     rt: &R,
     request: &Verification<'_, '_>,
-    loaded: &Loaded,
+    loaded: &LoadedKeys,
     validation: &mut Validation,
 ) -> Result<Answer, Fault<'static>>
     ensures { IfOk result (λ a. (bytes : List ℕ) × IsGivenToken request.entry.now.token bytes
@@ -165,10 +169,15 @@ fn verified<R: Input + Clock + AllocGlobal>(
         × IsTokenAnswer request.entry.now loaded.now (options_of validation.old) bytes time
         (form_asked request.entry.now) a.status (string_bytes a.output))) }
 {
-    let time = moment(rt, request.time)?;
+    let time = current_time(rt, request.time)?;
     let bytes = token_bytes(rt, request.token)?;
-    let form = form(request);
-    token_answer(rt.alloc(), request, loaded, validation, &bytes, time, form)
+    let case = Case {
+        token: strip_line_end(&bytes),
+        loaded,
+        typ: request.typ,
+        time,
+    };
+    verify_answer(rt.alloc(), case, validation, form(request))
 }
 
 /// Returns the token that is given, or that of standard input.
@@ -184,53 +193,37 @@ fn token_bytes<R: Input + AllocGlobal>(
     }
 }
 
-fn form(request: &Verification<'_, '_>) -> Form
+fn form(request: &Verification<'_, '_>) -> OutputForm
     ensures { result ≡ form_asked request.entry.now }
 {
     if request.is_json {
-        Form::Json
+        OutputForm::Json
     } else if request.has_header {
-        Form::HeaderAndClaims
+        OutputForm::HeaderAndClaims
     } else {
-        Form::Claims
+        OutputForm::Claims
     }
 }
 
-/// Returns the answer of `verify` to the bytes of a token and a line end.
-fn token_answer(
-    alloc: Global,
-    request: &Verification<'_, '_>,
-    loaded: &Loaded,
-    validation: &mut Validation,
-    bytes: &[u8],
-    time: u64,
-    form: Form,
-) -> Result<Answer, Fault<'static>>
-    ensures { IfOk result (λ a. IsTokenAnswer request.entry.now loaded.now
-        (options_of validation.old) bytes.now time form a.status (string_bytes a.output)) }
-{
-    let token = without_line_end(bytes);
-    verify_answer(alloc, token, loaded, validation, time, request.typ, form)
-}
-
-fn explain<'a, R: Files + Input + Clock + AllocGlobal>(
+fn run_explain<'a, R: Files + Input + Clock + AllocGlobal>(
     rt: &R,
     request: &Verification<'_, 'a>,
 ) -> Result<Answer, Fault<'a>>
     ensures { IfOk result (λ a. IsExplanation request.entry.now a.status) }
 {
-    let (loaded, mut validation) = prepared(rt, request)?;
-    let answer = explained(rt, request, &loaded, &mut validation);
+    let (loaded, mut validation) = keys_and_options(rt, request)?;
+    let answer = explain_token(rt, request, &loaded, &mut validation);
+    // dropped at one place: each exit by `?` would have to be proved to drop every field
     drop(loaded);
     drop(validation);
     answer
 }
 
 /// Returns the answer of `explain` under these keys and options.
-fn explained<R: Input + Clock + AllocGlobal>(
+fn explain_token<R: Input + Clock + AllocGlobal>(
     rt: &R,
     request: &Verification<'_, '_>,
-    loaded: &Loaded,
+    loaded: &LoadedKeys,
     validation: &mut Validation,
 ) -> Result<Answer, Fault<'static>>
     ensures { IfOk result (λ a. (bytes : List ℕ) × IsGivenToken request.entry.now.token bytes
@@ -238,64 +231,51 @@ fn explained<R: Input + Clock + AllocGlobal>(
         × IsTokenVerdict request.entry.now loaded.now (options_of validation.old) bytes time
         a.status)) }
 {
-    let time = moment(rt, request.time)?;
+    let time = current_time(rt, request.time)?;
     let bytes = token_bytes(rt, request.token)?;
-    token_explanation(rt.alloc(), request, loaded, validation, &bytes, time)
-}
-
-/// Returns the answer of `explain` to the bytes of a token and a line end.
-fn token_explanation(
-    alloc: Global,
-    request: &Verification<'_, '_>,
-    loaded: &Loaded,
-    validation: &mut Validation,
-    bytes: &[u8],
-    time: u64,
-) -> Result<Answer, Fault<'static>>
-    ensures { IfOk result (λ a. IsTokenVerdict request.entry.now loaded.now
-        (options_of validation.old) bytes.now time a.status) }
-{
-    let token = without_line_end(bytes);
-    explain_answer(
-        alloc,
-        token,
+    let case = Case {
+        token: strip_line_end(&bytes),
         loaded,
+        typ: request.typ,
+        time,
+    };
+    explain_answer(
+        rt.alloc(),
+        case,
         validation,
         &request.checks,
-        time,
-        request.typ,
         request.is_json,
     )
 }
 
-fn show<'a, R: Input + Clock + AllocGlobal>(
+fn run_show<'a, R: Input + Clock + AllocGlobal>(
     rt: &R,
     request: &Showing<'a>,
 ) -> Result<Answer, Fault<'a>>
     ensures { IfOk result (λ a. IsShown request.entry.now a.status) }
 {
-    let time = moment(rt, request.time)?;
+    let time = current_time(rt, request.time)?;
     let input = token_bytes(rt, request.token)?;
-    show_answer(rt.alloc(), without_line_end(&input), time, request.is_json)
+    show_answer(rt.alloc(), strip_line_end(&input), time, request.is_json)
 }
 
-fn sign<'a, R: Files + Input + Clock + AllocGlobal>(
+fn run_sign<'a, R: Files + Input + Clock + AllocGlobal>(
     rt: &R,
     request: &Signing<'a>,
 ) -> Result<Answer, Fault<'a>>
     ensures { IfOk result (λ a. IsSigning request.entry.now a.status (string_bytes a.output)) }
 {
-    let time = moment(rt, request.time)?;
+    let time = current_time(rt, request.time)?;
     let key = file_bytes(rt, request.secret)?;
     let text = match request.claims {
         Some(path) => file_bytes(rt, path)?,
         None => input_bytes(rt)?,
     };
-    signed(rt.alloc(), request, &key, &text, time)
+    sign_claims(rt.alloc(), request, &key, &text, time)
 }
 
 /// Returns the answer of `sign` for the bytes of the secret's file and of the claims.
-fn signed<'a>(
+fn sign_claims<'a>(
     alloc: Global,
     request: &Signing<'a>,
     key: &[u8],
@@ -310,7 +290,7 @@ fn signed<'a>(
     claims_answer(alloc, request, &claims, secret)
 }
 
-fn list<'a, R: Files + Input + AllocGlobal>(
+fn run_keys<'a, R: Files + Input + AllocGlobal>(
     rt: &R,
     request: &Listing<'a>,
 ) -> Result<Answer, Fault<'a>>
@@ -332,7 +312,7 @@ fn key_bytes<'a, R: Files + Input + AllocGlobal>(
     }
 }
 
-fn convert<'a, R: Files + Input + AllocGlobal>(
+fn run_jwk<'a, R: Files + Input + AllocGlobal>(
     rt: &R,
     request: &Listing<'a>,
 ) -> Result<Answer, Fault<'a>>
@@ -343,7 +323,7 @@ fn convert<'a, R: Files + Input + AllocGlobal>(
     jwk_answer(rt.alloc(), request.file, &bytes)
 }
 
-fn digest<'a, R: Files + Input + AllocGlobal>(
+fn run_thumbprint<'a, R: Files + Input + AllocGlobal>(
     rt: &R,
     request: &Digesting<'a>,
 ) -> Result<Answer, Fault<'a>>

@@ -5,12 +5,15 @@ ghost use Rattle.jwt_base.specs.Kind as kind;
 ghost use Rattle.jwt_base.specs.KindOf.{kind_of};
 ghost use Rattle.jwt_command.specs.Commands.{IsReadable};
 
+pub(crate) mod escapes;
+pub(crate) mod salvage;
+
 use crate::answer::Answer;
-use crate::escapes::without_late_controls;
-use crate::fault::Fault;
-use crate::findings::Finding;
-use crate::part_findings::unread_finding;
-use crate::salvage::{Salvage, salvaged_from};
+use crate::explain::findings::Finding;
+use crate::explain::part_findings::unread_finding;
+use crate::fault::{Fault, is_memory};
+use crate::show::escapes::escape_late_controls;
+use crate::show::salvage::{Salvage, salvage_of};
 use crate::times::claim_lines;
 use jsonwebtoken::TokenData;
 use jsonwebtoken::dangerous::insecure_decode;
@@ -30,15 +33,16 @@ pub fn show_answer(
 {
     match insecure_decode(alloc, token) {
         Ok(data) => {
-            let answer = shown(alloc, &data, time, is_json);
+            let answer = contents_answer(alloc, &data, time, is_json);
+            // dropped at one place: each exit by `?` would have to be proved to drop every field
             drop(data);
             answer
         }
-        Err(error) => refused(alloc, token, time, is_json, error),
+        Err(error) => unread_answer(alloc, token, time, is_json, error),
     }
 }
 
-fn shown(
+fn contents_answer(
     alloc: Global,
     data: &TokenData<Value>,
     time: u64,
@@ -49,7 +53,8 @@ fn shown(
     let Ok(header) = data.header.to_value(alloc) else {
         return Err(Fault::Memory);
     };
-    let output = written(alloc, &header, &data.claims, time, is_json);
+    let output = contents_text(alloc, &header, &data.claims, time, is_json);
+    // dropped at one place: each exit by `?` would have to be proved to drop every field
     drop(header);
     Ok(Answer {
         status: 0,
@@ -59,7 +64,7 @@ fn shown(
 }
 
 /// Returns the header and the claims as they can be shown: with their control characters escaped.
-fn written(
+fn contents_text(
     alloc: Global,
     header: &Value,
     claims: &Value,
@@ -71,7 +76,7 @@ fn written(
     } else {
         page(alloc, header, claims, time)?
     };
-    without_late_controls(alloc, text)
+    escape_late_controls(alloc, text)
 }
 
 /// Returns the header and the claims as one line of JSON.
@@ -91,7 +96,7 @@ fn page(alloc: Global, header: &Value, claims: &Value, time: u64) -> Result<Stri
 
 /// Returns the answer to a text whose header or claims can't be read as those of a token: what can
 /// be read.
-fn refused(
+fn unread_answer(
     alloc: Global,
     token: &[u8],
     time: u64,
@@ -100,11 +105,12 @@ fn refused(
 ) -> Result<Answer, Fault<'static>>
     ensures { IfOk result (λ a. (kind_of error ≢ kind.OutOfMemory) × (a.status ≡ 1)) }
 {
-    if matches!(error.kind(), ErrorKind::OutOfMemory) {
+    if is_memory(&error) {
         drop(error);
         return Err(Fault::Memory);
     }
-    let salvaged = salvaged(alloc, token, time, is_json, error.kind());
+    let salvaged = salvage_texts(alloc, token, time, is_json, error.kind());
+    // dropped at one place: each exit by `?` would have to be proved to drop every field
     drop(error);
     let (output, message) = salvaged?;
     Ok(Answer {
@@ -115,14 +121,14 @@ fn refused(
 }
 
 /// Returns output and message about a text that is not a token as it stands.
-fn salvaged(
+fn salvage_texts(
     alloc: Global,
     token: &[u8],
     time: u64,
     is_json: bool,
     kind: &ErrorKind,
 ) -> Result<(String, String), Fault<'static>> {
-    let salvage = salvaged_from(alloc, token)?;
+    let salvage = salvage_of(alloc, token)?;
     let finding = unread_finding(alloc, token)?;
     let output = if is_json {
         salvage_line(alloc, &salvage, &finding)?
@@ -142,7 +148,7 @@ fn salvage_line(alloc: Global, salvage: &Salvage, finding: &Finding) -> Result<S
     let line = format!(in alloc;
         "{{\"verified\":false,\"header\":{header},\"claims\":{claims},\"found\":{found},\"wanted\":{wanted}}}\n"
     )?;
-    without_late_controls(alloc, line)
+    escape_late_controls(alloc, line)
 }
 
 /// Returns the JSON of a value, and `null` for none.
@@ -166,7 +172,7 @@ fn salvage_page(alloc: Global, salvage: &Salvage, time: u64) -> Result<String, A
     if let Some(claims) = &salvage.claims {
         page.push_str(claim_lines(alloc, claims, time)?.as_str())?;
     }
-    without_late_controls(alloc, page)
+    escape_late_controls(alloc, page)
 }
 
 /// Adds a value as JSON in lines, if there is one.

@@ -9,13 +9,13 @@ ghost use Rattle.jwt_base.specs.Kind as kind;
 ghost use Rattle.jwt_base.specs.KindOf.{kind_of};
 ghost use Rattle.jwt_base.specs.Members.{put_some};
 ghost use Rattle.jwt_command.specs.Answers.{IsSignAnswer};
-ghost use Rattle.jwt_command.specs.Claimed.{header_asked, numeric_date, with_moments};
+ghost use Rattle.jwt_command.specs.Claimed.{header_asked, numeric_date, members_with_times};
 
 use crate::advice::error_line;
 use crate::answer::Answer;
-use crate::fault::Fault;
+use crate::fault::{Fault, fault_of, is_memory};
 use crate::request::Signing;
-use jsonwebtoken::errors::{Error, ErrorKind, Result as Checked};
+use jsonwebtoken::errors::Error;
 use jsonwebtoken::{EncodingKey, Header, Text, encode};
 use jwt_base::serialization::json_value;
 use jwt_standard::StandardProvider;
@@ -31,16 +31,16 @@ pub fn claims(
     time: u64,
 ) -> Result<Value, Fault<'static>>
     ensures { IfOk result (λ v. (members : Members) × IsJson text.now (object members)
-        × (view v ≡ object (with_moments request.entry.now time members))) }
+        × (view v ≡ object (members_with_times request.entry.now time members))) }
 {
     match json_value(alloc, text) {
         Ok(Value::Object(members)) => {
             let mut members = members;
-            put_moments(alloc, &mut members, request, time)?;
+            put_times(alloc, &mut members, request, time)?;
             Ok(Value::Object(members))
         }
         Ok(_) => Err(Fault::Usage("the claims have to be a JSON object")),
-        Err(error) => Err(not_claims(&error)),
+        Err(error) => Err(fault_of(&error, Fault::Usage("the claims are not JSON"))),
     }
 }
 
@@ -57,6 +57,7 @@ pub fn claims_answer(
     match header(alloc, request) {
         Ok(header) => {
             let answer = sign_answer(alloc, &header, claims, secret);
+            // dropped at one place: each exit by `?` would have to be proved to drop every field
             drop(header);
             answer
         }
@@ -64,7 +65,7 @@ pub fn claims_answer(
     }
 }
 
-fn text(alloc: Global, given: Option<&str>) -> Checked<Option<Text>>
+fn text(alloc: Global, given: Option<&str>) -> Result<Option<Text>, Error>
     ensures { IfOk result (λ t. t ≡ option_map (λ s. s.now) given.entry) }
 {
     match given {
@@ -74,18 +75,19 @@ fn text(alloc: Global, given: Option<&str>) -> Checked<Option<Text>>
 }
 
 /// Puts the times that the arguments ask for among the claims.
-fn put_moments(
+fn put_times(
     alloc: Global,
     claims: &mut Map<String, Value>,
     request: &Signing<'_>,
     time: u64,
 ) -> Result<(), Fault<'static>>
     ensures { OnOk result (members_view claims.new.entries
-        ≡ with_moments request.entry.now time (members_view claims.old.entries)) }
+        ≡ members_with_times request.entry.now time (members_view claims.old.entries)) }
 {
     put_later(alloc, claims, "exp", time, request.exp_in)?;
     put_later(alloc, claims, "nbf", time, request.nbf_in)?;
-    put_now(alloc, claims, time, request.has_iat)?;
+    // `?` and `Ok(())`: the proof cannot refer to a call in tail position
+    put_iat(alloc, claims, time, request.has_iat)?;
     Ok(())
 }
 
@@ -102,24 +104,24 @@ fn put_later(
         (members_view claims.old.entries)) }
 {
     if let Some(seconds) = seconds {
-        let moment = later(time, seconds)?;
-        serde_json::put(claims, alloc, name, Value::from(moment))?;
+        let later = later_time(time, seconds)?;
+        serde_json::put(claims, alloc, name, Value::from(later))?;
     }
     Ok(())
 }
 
 /// Returns the time that is this many seconds later.
-fn later(time: u64, seconds: u64) -> Result<u64, Fault<'static>>
-    ensures { IfOk result (λ moment. moment ≡ time + seconds) }
+fn later_time(time: u64, seconds: u64) -> Result<u64, Fault<'static>>
+    ensures { IfOk result (λ later. later ≡ time + seconds) }
 {
     match time.checked_add(seconds) {
-        Some(moment) => Ok(moment),
+        Some(later) => Ok(later),
         None => Err(Fault::Usage("the span of --exp-in or --nbf-in is too long")),
     }
 }
 
 /// Puts the time of signing as the claim `iat`, if it is asked for.
-fn put_now(
+fn put_iat(
     alloc: Global,
     claims: &mut Map<String, Value>,
     time: u64,
@@ -134,16 +136,9 @@ fn put_now(
     Ok(())
 }
 
-fn not_claims(error: &Error) -> Fault<'static> {
-    match error.kind() {
-        ErrorKind::OutOfMemory => Fault::Memory,
-        _ => Fault::Usage("the claims are not JSON"),
-    }
-}
-
 /// Returns the header of a token that is signed as the arguments ask for, of the type `JWT` if they
 /// name no other.
-fn header(alloc: Global, request: &Signing<'_>) -> Checked<Header>
+fn header(alloc: Global, request: &Signing<'_>) -> Result<Header, Error>
     ensures { IfOk result (λ h. h ≡ header_asked request.entry.now) }
 {
     let kid = text(alloc, request.kid)?;
@@ -170,12 +165,12 @@ fn sign_answer(
         return Err(Fault::Memory);
     };
     match encode(alloc, &StandardProvider, header, claims, &key) {
-        Ok(token) => token_answer(alloc, token),
-        Err(error) => refused(alloc, error),
+        Ok(token) => signed_answer(alloc, token),
+        Err(error) => refusal_answer(alloc, error),
     }
 }
 
-fn token_answer(alloc: Global, token: String) -> Result<Answer, Fault<'static>>
+fn signed_answer(alloc: Global, token: String) -> Result<Answer, Fault<'static>>
     ensures { IfOk result (λ a. (a.status ≡ 0)
         × (string_bytes a.output ≡ string_bytes token ++ 10 ∷ [])) }
 {
@@ -188,15 +183,16 @@ fn token_answer(alloc: Global, token: String) -> Result<Answer, Fault<'static>>
     })
 }
 
-fn refused(alloc: Global, error: Error) -> Result<Answer, Fault<'static>>
+fn refusal_answer(alloc: Global, error: Error) -> Result<Answer, Fault<'static>>
     ensures { IfOk result (λ a. (kind_of error ≢ kind.OutOfMemory) × (a.status ≡ 1)
         × (string_bytes a.output ≡ [])) }
 {
-    if matches!(error.kind(), ErrorKind::OutOfMemory) {
+    if is_memory(&error) {
         drop(error);
         return Err(Fault::Memory);
     }
     let message = error_line(alloc, &error);
+    // dropped at one place: each exit by `?` would have to be proved to drop every field
     drop(error);
     Ok(Answer {
         status: 1,

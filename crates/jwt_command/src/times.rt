@@ -33,13 +33,13 @@ pub fn span_text(alloc: Global, seconds: u64) -> Result<String, AllocError> {
 }
 
 /// Returns a time by RFC 3339, or its number if it is after the year 9999.
-pub fn moment_text(alloc: Global, seconds: u64) -> Result<String, AllocError> {
-    let moment = match i64::try_from(seconds) {
+pub fn time_text(alloc: Global, seconds: u64) -> Result<String, AllocError> {
+    let time = match i64::try_from(seconds) {
         Ok(seconds) => Timestamp::from_second(seconds).ok(),
         Err(_) => None,
     };
-    match moment {
-        Some(moment) => format!(in alloc; "{moment}"),
+    match time {
+        Some(time) => format!(in alloc; "{time}"),
         None => format!(in alloc; "{seconds}, after the year 9999"),
     }
 }
@@ -80,12 +80,12 @@ fn claim_line(
 /// Returns the line of a claim that is this number of seconds.
 fn seconds_line(alloc: Global, name: &str, seconds: u64, time: u64) -> Result<String, AllocError> {
     if is_likely_milliseconds(seconds) {
-        let meant = moment_text(alloc, seconds / 1000)?;
+        let meant = time_text(alloc, seconds / 1000)?;
         return format!(in alloc;
             "{name}: {seconds} looks like milliseconds, {meant}; JWT times are in seconds\n"
         );
     }
-    let moment = moment_text(alloc, seconds)?;
+    let text = time_text(alloc, seconds)?;
     let distance = distance_text(alloc, seconds, time)?;
-    format!(in alloc; "{name}: {moment}, {distance}\n")
+    format!(in alloc; "{name}: {text}, {distance}\n")
 }

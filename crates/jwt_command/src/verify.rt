@@ -7,12 +7,17 @@ ghost use Rattle.jwt_command.specs.Answers.{IsHeaderLine, IsAcceptedText, IsRefu
 ghost use Rattle.jwt_command.specs.Answers.{IsVerifyAnswer};
 ghost use Rattle.jwt_command.specs.Commands.{IsSettled};
 
+pub(crate) mod case;
+pub(crate) mod lines;
+pub(crate) mod options;
+pub(crate) mod verdict;
+
 use crate::advice::{denial_lines, denial_name, denied_claim};
 use crate::answer::{Answer, value_line};
+use crate::explain::orders::TYPE_AGREES;
 use crate::fault::Fault;
-use crate::keys::Loaded;
-use crate::orders::TYPE_AGREES;
-use crate::verdict::{Denial, judged};
+use crate::verify::case::Case;
+use crate::verify::verdict::{Denial, judge};
 use jsonwebtoken::{Header, TokenData, Validation};
 use serde_json::Value;
 use std::alloc::{AllocError, Global};
@@ -22,7 +27,7 @@ const LINE: usize = 24;
 
 /// How an answer is written.
 #[derive(Clone, Copy)]
-pub enum Form {
+pub enum OutputForm {
     /// The claims as JSON.
     Claims,
     /// The header as JSON, and the claims as JSON.
@@ -35,25 +40,25 @@ pub enum Form {
 /// refused. If the options name no algorithm, that of the token's key is listed there, and stays.
 pub fn verify_answer(
     alloc: Global,
-    token: &[u8],
-    loaded: &Loaded,
+    case: Case<'_>,
     validation: &mut Validation,
-    time: u64,
-    typ: Option<&str>,
-    form: Form,
+    form: OutputForm,
 ) -> Result<Answer, Fault<'static>>
     ensures { IfOk result (λ a.
-        IsSettled loaded.now token.now (options_of validation.old) (options_of validation.new)
-        × IsVerifyAnswer token.now loaded.now.keys (options_of validation.new) time
-        (option_map (λ s. s.now) typ.entry) form a.status (string_bytes a.output)) }
+        IsSettled case.entry.loaded.now case.entry.token.now (options_of validation.old)
+        (options_of validation.new)
+        × IsVerifyAnswer case.entry.token.now case.entry.loaded.now.keys
+        (options_of validation.new) case.entry.time (option_map (λ s. s.now) case.entry.typ) form
+        a.status (string_bytes a.output)) }
 {
-    match judged(alloc, token, loaded, validation, time, typ)? {
+    match judge(alloc, case, validation)? {
         Ok(contents) => {
             let answer = accepted_answer(alloc, &contents, form);
+            // dropped at one place: each exit by `?` would have to be proved to drop every field
             drop(contents);
             answer
         }
-        Err(denial) => denied_answer(alloc, &denial, loaded.has_line_end, form),
+        Err(denial) => denied_answer(alloc, &denial, case.loaded.has_line_end, form),
     }
 }
 
@@ -61,7 +66,7 @@ pub fn verify_answer(
 fn accepted_answer(
     alloc: Global,
     contents: &TokenData<Value>,
-    form: Form,
+    form: OutputForm,
 ) -> Result<Answer, Fault<'static>>
     ensures { IfOk result (λ a. (a.status ≡ 0) × IsAcceptedText form contents.now.header
         (view contents.now.claims) (string_bytes a.output)) }
@@ -76,19 +81,19 @@ fn accepted_answer(
 fn accepted_text(
     alloc: Global,
     contents: &TokenData<Value>,
-    form: Form,
+    form: OutputForm,
 ) -> Result<String, Fault<'static>>
-    ensures { IfOk result (λ text. IsAcceptedText form contents.now.header (view contents.now.claims)
-        (string_bytes text)) }
+    ensures { IfOk result (λ text. IsAcceptedText form contents.now.header
+        (view contents.now.claims) (string_bytes text)) }
 {
     match form {
-        Form::Claims => Ok(value_line(alloc, &contents.claims)?),
-        Form::HeaderAndClaims => {
+        OutputForm::Claims => Ok(value_line(alloc, &contents.claims)?),
+        OutputForm::HeaderAndClaims => {
             let mut text = header_line(alloc, &contents.header)?;
             text.push_str(value_line(alloc, &contents.claims)?.as_str())?;
             Ok(text)
         }
-        Form::Json => Ok(accepted_line(alloc, &contents.claims)?),
+        OutputForm::Json => Ok(accepted_line(alloc, &contents.claims)?),
     }
 }
 
@@ -117,7 +122,7 @@ fn denied_answer(
     alloc: Global,
     denial: &Denial,
     has_line_end: bool,
-    form: Form,
+    form: OutputForm,
 ) -> Result<Answer, Fault<'static>>
     ensures { IfOk result (λ a. (a.status ≡ 1) × IsRefusedText form (string_bytes a.output)) }
 {
@@ -129,11 +134,11 @@ fn denied_answer(
     })
 }
 
-fn denied_text(alloc: Global, denial: &Denial, form: Form) -> Result<String, AllocError>
+fn denied_text(alloc: Global, denial: &Denial, form: OutputForm) -> Result<String, AllocError>
     ensures { IfOk result (λ text. IsRefusedText form (string_bytes text)) }
 {
     match form {
-        Form::Json => denied_line(alloc, denial),
+        OutputForm::Json => denied_line(alloc, denial),
         _ => Ok(String::new(alloc)),
     }
 }
@@ -151,7 +156,7 @@ fn push_denial(line: &mut String, denial: &Denial) -> Result<(), AllocError> {
     if let Some(claim) = denied_claim(denial) {
         push_member(line, "claim", claim)?;
     }
-    push_member(line, "test", failed_name(denial))?;
+    push_member(line, "test", failed_test_name(denial))?;
     line.push_str("}\n")
 }
 
@@ -165,7 +170,7 @@ fn push_member(line: &mut String, name: &str, text: &str) -> Result<(), AllocErr
 }
 
 /// Returns the name of the test that failed.
-fn failed_name(denial: &Denial) -> &'static str {
+fn failed_test_name(denial: &Denial) -> &'static str {
     match denial {
         Denial::Refused(refusal) => refusal.test.name(),
         Denial::OtherType => TYPE_AGREES,

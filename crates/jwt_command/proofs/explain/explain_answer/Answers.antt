@@ -6,4 +6,4 @@ pub returns-in-Some : goal.returns-in-Some
 returns-in-Some c =
     let says = c.in_ok-denial.ensures in
     let denied = rw c.in-Some.is at says.denied in
-    IfOk-weaker c.denied.result _ _ (λ a has. (says.settled, inr (c.in-Some.denial, denied, has))) c.denied.ensures
+    IfOk-weaker c.explain_denial.result _ _ (λ a has. (says.settled, inr (c.in-Some.denial, denied, has))) c.explain_denial.ensures

@@ -1,6 +1,0 @@
-use Rattle.std.proofs.lemmas.Result.{IfOk-weaker}
-use Rattle.jwt_command.proofs.keys.by_set.Goals as goal
-
-pub returns-in-Ok-clause-ok : goal.returns-in-Ok-clause-ok
-returns-in-Ok-clause-ok c = IfOk-weaker c.with_set.result _ _
-    (λ l says. (c.in-Ok.set, c.in-Ok.ensures.ok, says.0, says.1, says.2)) c.with_set.ensures.ok

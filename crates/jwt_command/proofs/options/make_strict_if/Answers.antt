@@ -1,7 +1,0 @@
-use Rattle.jwt_validation.specs.OptionsOf.{options_of}
-use Rattle.jwt_command.proofs.Required.{not_strict}
-use Rattle.jwt_command.proofs.options.make_strict_if.Goals as goal
-
-pub returns-then-not-is_strict-clause-strict : goal.returns-then-not-is_strict-clause-strict
-returns-then-not-is_strict-clause-strict c =
-    not_strict c.args.is_strict (options_of c.args.validation.now) c.if-not-is_strict.true

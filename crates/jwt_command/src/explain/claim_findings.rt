@@ -1,0 +1,356 @@
+//! Findings about claims: those that a token has and those that the options ask for.
+
+use crate::explain::findings::{Finding, choice, part_value, quote};
+use crate::explain::part_findings::type_name;
+use crate::fault::{Fault, is_memory};
+use crate::times::{distance_text, is_likely_milliseconds, span_text, time_text};
+use jsonwebtoken::errors::{Error, ErrorKind};
+use jsonwebtoken::{Validation, validate};
+use serde_json::Value;
+use std::alloc::{AllocError, Global};
+use std::collections::HashSet;
+
+/// The claims that rules are about, in the order of the rules.
+const CLAIMS: [&str; 5] = ["exp", "nbf", "sub", "iss", "aud"];
+
+/// A claim rule that fails.
+#[derive(Drop)]
+pub struct ClaimFailure {
+    /// The kind of the refusal.
+    pub kind: &'static str,
+    pub finding: Finding,
+}
+
+/// The claims of a token, and the options and the time by which their rules hold or fail.
+#[derive(Clone, Copy)]
+struct Rules<'r> {
+    claims: &'r Value,
+    validation: &'r Validation,
+    time: u64,
+}
+
+/// Returns the failures of all claim rules that fail, in the order in which they are tested, and of
+/// missing claims in that of [`CLAIMS`].
+pub fn claim_failures(
+    alloc: Global,
+    claims: &Value,
+    validation: &Validation,
+    time: u64,
+) -> Result<Vec<ClaimFailure>, Fault<'static>> {
+    let rules = Rules {
+        claims,
+        validation,
+        time,
+    };
+    let mut failures = Vec::new(alloc);
+    push_failures(alloc, rules, true, &mut failures)?;
+    push_failures(alloc, rules, false, &mut failures)?;
+    Ok(failures)
+}
+
+/// Returns the findings of all claim rules that fail.
+pub fn claim_findings(
+    alloc: Global,
+    payload: &[u8],
+    validation: &Validation,
+    time: u64,
+) -> Result<Vec<Finding>, Fault<'static>> {
+    let Some(claims) = part_value(alloc, payload)? else {
+        return Err(Fault::Memory);
+    };
+    let failures = claim_failures(alloc, &claims, validation, time);
+    // dropped at one place: each exit by `?` would have to be proved to drop every field
+    drop(claims);
+    let mut findings = Vec::new(alloc);
+    for failure in failures? {
+        findings.push(failure.finding)?;
+    }
+    Ok(findings)
+}
+
+/// Adds the failures of the rules, a claim after the other: those of claims that are missing, or
+/// the others.
+fn push_failures(
+    alloc: Global,
+    rules: Rules<'_>,
+    is_missing: bool,
+    failures: &mut Vec<ClaimFailure>,
+) -> Result<(), Fault<'static>> {
+    for claim in &CLAIMS {
+        if let Some(error) = failure_about(alloc, rules, claim)?
+            && is_missing == matches!(error.kind(), ErrorKind::MissingRequiredClaim(_))
+        {
+            failures.push(ClaimFailure {
+                kind: error.kind().name(),
+                finding: rule_finding(alloc, rules, &error)?,
+            })?;
+        }
+    }
+    Ok(())
+}
+
+/// Returns the error of the rules about one claim, if one fails.
+fn failure_about(
+    alloc: Global,
+    rules: Rules<'_>,
+    claim: &str,
+) -> Result<Option<Error>, Fault<'static>> {
+    let Ok(mut options) = rules.validation.clone(alloc) else {
+        return Err(Fault::Memory);
+    };
+    for other in &CLAIMS {
+        if *other != claim {
+            leave_out(&mut options, other);
+        }
+    }
+    let held = validate(alloc, rules.claims, &options, rules.time);
+    // dropped at one place: each exit by `?` would have to be proved to drop every field
+    drop(options);
+    match held {
+        Ok(()) => Ok(None),
+        Err(error) if is_memory(&error) => Err(Fault::Memory),
+        Err(error) => Ok(Some(error)),
+    }
+}
+
+/// Takes the rules about a claim out of the options.
+fn leave_out(options: &mut Validation, claim: &str) {
+    options.required_spec_claims.remove(claim);
+    match claim {
+        "exp" => options.validate_exp = false,
+        "nbf" => options.validate_nbf = false,
+        "sub" => options.sub = None,
+        "iss" => options.iss = None,
+        _ => options.validate_aud = false,
+    }
+}
+
+/// Returns the finding of a rule about claims, by the kind of its refusal.
+fn rule_finding(alloc: Global, rules: Rules<'_>, error: &Error) -> Result<Finding, AllocError> {
+    match error.kind() {
+        ErrorKind::MissingRequiredClaim(name) | ErrorKind::InvalidClaimFormat(name) => {
+            missing_claim_finding(alloc, rules, name.as_str())
+        }
+        ErrorKind::ExpiredSignature => end_finding(alloc, rules),
+        ErrorKind::ImmatureSignature => start_finding(alloc, rules),
+        ErrorKind::InvalidIssuer => Ok(Finding {
+            found: found_texts(alloc, rules.claims, "iss")?,
+            wanted: names_or_text(alloc, &rules.validation.iss, "an issuer that --iss names")?,
+        }),
+        ErrorKind::InvalidAudience => Ok(Finding {
+            found: found_texts(alloc, rules.claims, "aud")?,
+            wanted: names_or_text(
+                alloc,
+                &rules.validation.aud,
+                "no aud, or an audience that --aud names",
+            )?,
+        }),
+        ErrorKind::InvalidSubject => subject_finding(alloc, rules),
+        _ => least_end_finding(alloc, rules),
+    }
+}
+
+fn missing_claim_finding(
+    alloc: Global,
+    rules: Rules<'_>,
+    name: &str,
+) -> Result<Finding, AllocError> {
+    let wanted = match option_names(alloc, rules.validation, name)? {
+        Some(names) => format!(in alloc; "{name} {names}")?,
+        None => format!(in alloc; "{name}: {}", form_of(name))?,
+    };
+    Ok(Finding {
+        found: claim_contents(alloc, rules.claims, name)?,
+        wanted,
+    })
+}
+
+/// Returns the names that the options have for a claim, as a list in words, if there are any.
+fn option_names(
+    alloc: Global,
+    validation: &Validation,
+    name: &str,
+) -> Result<Option<String>, AllocError> {
+    match (name, &validation.sub) {
+        ("aud", _) => names_of_set(alloc, &validation.aud),
+        ("iss", _) => names_of_set(alloc, &validation.iss),
+        ("sub", Some(subject)) => Ok(Some(quote(alloc, subject.as_str())?)),
+        _ => Ok(None),
+    }
+}
+
+/// Returns the names of a set as a list in words, if there is one.
+fn names_of_set(
+    alloc: Global,
+    names: &Option<HashSet<String>>,
+) -> Result<Option<String>, AllocError> {
+    match names {
+        Some(names) => Ok(Some(name_list(alloc, names)?)),
+        None => Ok(None),
+    }
+}
+
+/// Returns the names of a set in the order of their bytes, as a list in words.
+fn name_list(alloc: Global, names: &HashSet<String>) -> Result<String, AllocError> {
+    let mut found = Vec::new(alloc);
+    for name in names.iter() {
+        found.push(quote(alloc, name.as_str())?)?;
+    }
+    found.sort_unstable();
+    choice(alloc, &found)
+}
+
+/// Returns the form of a claim.
+fn form_of(name: &str) -> &'static str {
+    match name {
+        "exp" | "nbf" => "a whole number of seconds since 1970-01-01 00:00:00 UTC, without quotes",
+        "sub" => "a string",
+        _ => "a string, or an array of strings",
+    }
+}
+
+/// Returns the contents of a claim that is absent or malformed.
+fn claim_contents(alloc: Global, claims: &Value, name: &str) -> Result<String, AllocError> {
+    let Some(value) = claims.get(name) else {
+        return format!(in alloc; "no {name}");
+    };
+    if matches!(name, "exp" | "nbf") && value.is_number() {
+        let problem = number_problem(value);
+        return format!(in alloc; "{name} {}, {problem}", value.to_string(alloc)?);
+    }
+    format!(in alloc; "{} as {name}", type_name(value))
+}
+
+/// Returns why a number is not a time.
+fn number_problem(number: &Value) -> &'static str {
+    if number.is_i64() {
+        "which is negative"
+    } else {
+        "which has a fraction or an exponent"
+    }
+}
+
+fn end_finding(alloc: Global, rules: Rules<'_>) -> Result<Finding, AllocError> {
+    Ok(Finding {
+        found: found_time(alloc, rules.claims, "exp", rules.time)?,
+        wanted: wanted_end(alloc, rules.validation)?,
+    })
+}
+
+/// Returns the name of a claim and its time.
+fn found_time(alloc: Global, claims: &Value, name: &str, time: u64) -> Result<String, AllocError> {
+    match claims.get(name).and_then(Value::as_u64) {
+        Some(seconds) => found_seconds(alloc, name, seconds, time),
+        None => found_value(alloc, claims, name),
+    }
+}
+
+/// Returns the name of a claim and the time of its number of seconds.
+fn found_seconds(alloc: Global, name: &str, seconds: u64, time: u64) -> Result<String, AllocError> {
+    if is_likely_milliseconds(seconds) {
+        return format!(in alloc; "{name} {seconds}, which looks like milliseconds");
+    }
+    let text = time_text(alloc, seconds)?;
+    let distance = distance_text(alloc, seconds, time)?;
+    if name == "exp" && seconds < time {
+        return format!(in alloc; "exp {text}, expired {distance}");
+    }
+    format!(in alloc; "{name} {text}, {distance}")
+}
+
+/// Returns the name of a claim and its value, which is not a time.
+fn found_value(alloc: Global, claims: &Value, name: &str) -> Result<String, AllocError> {
+    match claims.get(name) {
+        Some(value) => format!(in alloc; "{name} {}", value.to_string(alloc)?),
+        None => format!(in alloc; "no {name}"),
+    }
+}
+
+/// Returns from when on a token is not expired, by the leeway and the time that must be left.
+fn wanted_end(alloc: Global, validation: &Validation) -> Result<String, AllocError> {
+    let leeway = validation.leeway;
+    let left = validation.reject_tokens_expiring_in_less_than;
+    if left == 0 {
+        return format!(in alloc; "exp at most {} ago (--leeway)", span_text(alloc, leeway)?);
+    }
+    if left > leeway && left - leeway == 1 {
+        return String::from_str(alloc, "exp after now");
+    }
+    if left > leeway {
+        let span = span_text(alloc, left - leeway)?;
+        return format!(in alloc; "exp at least {span} from now (--not-within, less --leeway)");
+    }
+    let span = span_text(alloc, leeway - left)?;
+    format!(in alloc; "exp at most {span} ago (--leeway, less --not-within)")
+}
+
+fn start_finding(alloc: Global, rules: Rules<'_>) -> Result<Finding, AllocError> {
+    let leeway = rules.validation.leeway;
+    let wanted = if leeway == 0 {
+        String::from_str(alloc, "nbf not after now")?
+    } else {
+        format!(in alloc;
+            "nbf at most {} from now (--leeway)",
+            span_text(alloc, leeway)?
+        )?
+    };
+    Ok(Finding {
+        found: found_time(alloc, rules.claims, "nbf", rules.time)?,
+        wanted,
+    })
+}
+
+/// Returns the name of a claim and its texts.
+fn found_texts(alloc: Global, claims: &Value, name: &str) -> Result<String, AllocError> {
+    match claims.get(name) {
+        Some(value) => format!(in alloc; "{name} {}", texts_of(alloc, value)?),
+        None => format!(in alloc; "no {name}"),
+    }
+}
+
+/// Returns the texts of a value that is one, or an array of them.
+fn texts_of(alloc: Global, value: &Value) -> Result<String, AllocError> {
+    match value {
+        Value::String(text) => quote(alloc, text.as_str()),
+        Value::Array(values) => {
+            let mut names = Vec::new(alloc);
+            for value in values.iter() {
+                if let Value::String(text) = value {
+                    names.push(quote(alloc, text.as_str())?)?;
+                }
+            }
+            choice(alloc, &names)
+        }
+        _ => String::from_str(alloc, type_name(value)),
+    }
+}
+
+fn names_or_text(
+    alloc: Global,
+    names: &Option<HashSet<String>>,
+    without: &'static str,
+) -> Result<String, AllocError> {
+    match names {
+        Some(names) if !names.is_empty() => name_list(alloc, names),
+        _ => String::from_str(alloc, without),
+    }
+}
+
+fn subject_finding(alloc: Global, rules: Rules<'_>) -> Result<Finding, AllocError> {
+    Ok(Finding {
+        found: found_texts(alloc, rules.claims, "sub")?,
+        wanted: match &rules.validation.sub {
+            Some(subject) => quote(alloc, subject.as_str())?,
+            None => String::new(alloc),
+        },
+    })
+}
+
+/// Returns the finding of an `exp` that is below the time that must be left.
+fn least_end_finding(alloc: Global, rules: Rules<'_>) -> Result<Finding, AllocError> {
+    let left = rules.validation.reject_tokens_expiring_in_less_than;
+    Ok(Finding {
+        found: found_time(alloc, rules.claims, "exp", rules.time)?,
+        wanted: format!(in alloc; "exp of at least {left} seconds since 1970 (--not-within)")?,
+    })
+}

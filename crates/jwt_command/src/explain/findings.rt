@@ -1,0 +1,343 @@
+//! Findings: the contents of a token and those that a failed test asks for.
+
+use crate::explain::claim_findings::claim_findings;
+use crate::explain::part_findings::{
+    Parts, is_of_base64url, part_finding, split_parts, text_finding,
+};
+use crate::explain::signature_findings::length_finding;
+use crate::fault::{Fault, value_unless_refused};
+use crate::verify::case::Case;
+use jsonwebtoken::jwk::JwkSet;
+use jsonwebtoken::{
+    Algorithm, AlgorithmFamily, Header, Refusal, Test, Text, Validation, decode_header,
+};
+use jwt_base::serialization::{json_value, part_bytes};
+use jwt_verifier::Keys;
+use serde_json::Value;
+use std::alloc::{AllocError, Global};
+
+/// The contents that a test found, and those that it asks for.
+#[derive(Drop)]
+pub struct Finding {
+    pub found: String,
+    pub wanted: String,
+}
+
+impl Finding {
+    /// Returns the finding of these two sentences.
+    pub fn new(alloc: Global, found: &str, wanted: &str) -> Result<Finding, Fault<'static>> {
+        Ok(Finding {
+            found: String::from_str(alloc, found)?,
+            wanted: String::from_str(alloc, wanted)?,
+        })
+    }
+}
+
+/// The number of names that a list shows.
+const SHOWN_NAMES: usize = 8;
+
+/// The number of characters of a text that are shown.
+const SHOWN_CHARACTERS: usize = 100;
+
+/// Returns a text of a token in quotes, with its control characters escaped, and cut if it is long.
+pub fn quote(alloc: Global, text: &str) -> Result<String, AllocError> {
+    let mut start = String::new(alloc);
+    for character in text.chars().take(SHOWN_CHARACTERS) {
+        start.push(character)?;
+    }
+    if start.len() < text.len() {
+        return format!(in alloc; "{start:?}..");
+    }
+    format!(in alloc; "{start:?}")
+}
+
+/// Returns these names as a list in words: `a`, `a or b`, `a, b or c`.
+pub fn choice(alloc: Global, names: &[String]) -> Result<String, AllocError> {
+    let mut words = String::new(alloc);
+    let count = names.len();
+    for (place, name) in names.iter().take(SHOWN_NAMES).enumerate() {
+        if place > 0 {
+            words.push_str(if place + 1 == count { " or " } else { ", " })?;
+        }
+        words.push_str(name.as_str())?;
+    }
+    if count > SHOWN_NAMES {
+        words.push_str(" or another of ")?;
+        words.push_str(format!(in alloc; "{count}")?.as_str())?;
+    }
+    Ok(words)
+}
+
+/// Returns the value of a part, or `None` if it is not base64url or not JSON.
+pub fn part_value(alloc: Global, part: &[u8]) -> Result<Option<Value>, Fault<'static>> {
+    match value_unless_refused(part_bytes(alloc, part))? {
+        Some(bytes) => value_unless_refused(json_value(alloc, &bytes)),
+        None => Ok(None),
+    }
+}
+
+/// Returns the findings of the test that a refusal carries: one, or one for each claim rule that
+/// fails.
+pub fn findings_of(
+    alloc: Global,
+    case: Case<'_>,
+    validation: &Validation,
+    refusal: &Refusal,
+) -> Result<Vec<Finding>, Fault<'static>> {
+    if let (Test::ClaimRulesHold, Some(parts)) = (refusal.test, split_parts(case.token)) {
+        return claim_findings(alloc, parts.payload, validation, case.time);
+    }
+    let mut findings = Vec::new(alloc);
+    findings.push(finding_of(alloc, case, validation, refusal.test)?)?;
+    Ok(findings)
+}
+
+/// Returns the finding of a test other than that of the claim rules.
+fn finding_of(
+    alloc: Global,
+    case: Case<'_>,
+    validation: &Validation,
+    test: Test,
+) -> Result<Finding, Fault<'static>> {
+    let Some(parts) = split_parts(case.token) else {
+        return text_finding(alloc, case.token);
+    };
+    match test {
+        Test::HeaderIsPart
+        | Test::HeaderIsJson
+        | Test::HeaderReads
+        | Test::SignatureIsPart
+        | Test::PayloadIsPart
+        | Test::PayloadIsJson
+        | Test::ClaimsRead
+        | Test::ClaimsAreAnObject => finding_by_part(alloc, case, parts, test),
+        Test::KeyIsUsable => Finding::new(
+            alloc,
+            "a key whose members are malformed, or that verifies nothing here",
+            "the members of RFC 7518 section 6 or RFC 8037 section 2; 'jwt keys' says more",
+        ),
+        Test::AlgorithmsAreListed => Finding::new(
+            alloc,
+            "no algorithm that is accepted",
+            "--alg, or a key with an 'alg' of its own",
+        ),
+        Test::SignatureIsAccepted => signature_finding(alloc, case, parts),
+        _ => finding_by_header(alloc, case, validation, test),
+    }
+}
+
+/// Returns the finding of a test of the whole text or of a part.
+fn finding_by_part(
+    alloc: Global,
+    case: Case<'_>,
+    parts: Parts<'_>,
+    test: Test,
+) -> Result<Finding, Fault<'static>> {
+    match test {
+        Test::HeaderIsPart | Test::HeaderIsJson | Test::HeaderReads => {
+            part_finding(alloc, case.token, parts.header, test)
+        }
+        Test::SignatureIsPart => signature_part_finding(alloc, case, parts),
+        _ => part_finding(alloc, case.token, parts.payload, test),
+    }
+}
+
+/// Returns the finding of a signature part that is not base64url.
+fn signature_part_finding(
+    alloc: Global,
+    case: Case<'_>,
+    parts: Parts<'_>,
+) -> Result<Finding, Fault<'static>> {
+    if parts.signature.iter().all(|byte| is_of_base64url(*byte))
+        && let Some(finding) = length_finding(alloc, case, parts)?
+    {
+        return Ok(finding);
+    }
+    part_finding(alloc, case.token, parts.signature, Test::SignatureIsPart)
+}
+
+/// Returns the finding of a signature that is not accepted.
+fn signature_finding(
+    alloc: Global,
+    case: Case<'_>,
+    parts: Parts<'_>,
+) -> Result<Finding, Fault<'static>> {
+    if let Some(finding) = length_finding(alloc, case, parts)? {
+        return Ok(finding);
+    }
+    let wanted = if case.loaded.has_line_end {
+        "the secret that it was signed with: the file ends with a newline, which --trim leaves out"
+    } else {
+        "the key that the token was signed with, and the token as it was issued"
+    };
+    Finding::new(
+        alloc,
+        "a signature that does not match this header, payload and key",
+        wanted,
+    )
+}
+
+fn finding_by_header(
+    alloc: Global,
+    case: Case<'_>,
+    validation: &Validation,
+    test: Test,
+) -> Result<Finding, Fault<'static>> {
+    match decode_header(alloc, case.token) {
+        Ok(header) => {
+            let finding = header_finding(alloc, case, validation, test, &header);
+            // dropped at one place: each exit by `?` would have to be proved to drop every field
+            drop(header);
+            finding
+        }
+        Err(_) => Err(Fault::Memory),
+    }
+}
+
+/// Returns the finding of a test of the header's members.
+fn header_finding(
+    alloc: Global,
+    case: Case<'_>,
+    validation: &Validation,
+    test: Test,
+    header: &Header,
+) -> Result<Finding, Fault<'static>> {
+    match test {
+        Test::CritIsUnderstood => crit_finding(alloc, header),
+        Test::KeyIsFound => kid_finding(alloc, &header.kid, &case.loaded.keys),
+        Test::KeyAlgorithmAgrees => algorithm_finding(
+            alloc,
+            header,
+            key_algorithm_name(header, &case.loaded.keys),
+        ),
+        Test::AlgorithmIsListed => listing_finding(alloc, header, validation),
+        Test::FamiliesAgree => family_finding(alloc, header, validation),
+        _ => verifier_finding(alloc, header, &case.loaded.keys),
+    }
+}
+
+fn crit_finding(alloc: Global, header: &Header) -> Result<Finding, Fault<'static>> {
+    Ok(Finding {
+        found: format!(in alloc; "a 'crit' that lists {}", crit_names(alloc, header)?)?,
+        wanted: String::from_str(
+            alloc,
+            "names that the header has and --crit gives, each once, and no name of RFC 7515 itself",
+        )?,
+    })
+}
+
+fn crit_names(alloc: Global, header: &Header) -> Result<String, AllocError> {
+    let mut names = Vec::new(alloc);
+    if let Some(texts) = &header.crit {
+        for text in texts.as_slice() {
+            names.push(quote(alloc, text.as_str())?)?;
+        }
+    }
+    choice(alloc, &names)
+}
+
+fn kid_finding(alloc: Global, kid: &Option<Text>, keys: &Keys) -> Result<Finding, Fault<'static>> {
+    let found = match kid {
+        Some(kid) => format!(in alloc; "the kid {}", quote(alloc, kid.as_str())?)?,
+        None => String::from_str(alloc, "a header without a kid")?,
+    };
+    let names = match keys {
+        Keys::Set(set) => kid_names(alloc, set)?,
+        Keys::One(_) => String::new(alloc),
+    };
+    let wanted = if names.is_empty() {
+        String::from_str(alloc, "the kid of a key of the set, of which none has one")?
+    } else {
+        format!(in alloc; "the kid of a key of the set: {names}")?
+    };
+    Ok(Finding { found, wanted })
+}
+
+fn kid_names(alloc: Global, set: &JwkSet) -> Result<String, AllocError> {
+    let mut names = Vec::new(alloc);
+    for jwk in &set.keys {
+        if let Some(kid) = &jwk.common.key_id {
+            names.push(quote(alloc, kid.as_str())?)?;
+        }
+    }
+    choice(alloc, &names)
+}
+
+fn algorithm_finding(
+    alloc: Global,
+    header: &Header,
+    wanted: &str,
+) -> Result<Finding, Fault<'static>> {
+    Ok(Finding {
+        found: format!(in alloc; "the algorithm {}", header.alg.name())?,
+        wanted: String::from_str(alloc, wanted)?,
+    })
+}
+
+/// Returns the name of the algorithm that the key of a set is for.
+fn key_algorithm_name(header: &Header, keys: &Keys) -> &'static str {
+    let (Some(kid), Keys::Set(set)) = (&header.kid, keys) else {
+        return "none";
+    };
+    match set.find(kid.as_str()) {
+        Some(jwk) => match &jwk.common.key_algorithm {
+            Some(named) => named.name(),
+            None => "none",
+        },
+        None => "none",
+    }
+}
+
+/// Returns the finding of an algorithm that is not listed, or that others of its list do not fit.
+fn listing_finding(
+    alloc: Global,
+    header: &Header,
+    validation: &Validation,
+) -> Result<Finding, Fault<'static>> {
+    let names = algorithm_names(alloc, &validation.algorithms)?;
+    algorithm_finding(alloc, header, names.as_str())
+}
+
+fn algorithm_names(alloc: Global, algorithms: &[Algorithm]) -> Result<String, AllocError> {
+    let mut names = Vec::new(alloc);
+    for algorithm in algorithms {
+        names.push(String::from_str(alloc, algorithm.name())?)?;
+    }
+    choice(alloc, &names)
+}
+
+fn family_finding(
+    alloc: Global,
+    header: &Header,
+    validation: &Validation,
+) -> Result<Finding, Fault<'static>> {
+    let names = algorithm_names(alloc, &validation.algorithms)?;
+    Ok(Finding {
+        found: format!(in alloc; "{names} are accepted, of different families")?,
+        wanted: format!(in alloc; "algorithms of the family of {} alone", header.alg.name())?,
+    })
+}
+
+fn verifier_finding(
+    alloc: Global,
+    header: &Header,
+    keys: &Keys,
+) -> Result<Finding, Fault<'static>> {
+    let found = match keys {
+        Keys::One(key) => key_name(key.family()),
+        Keys::Set(_) => "a key of the set that does not fit",
+    };
+    Ok(Finding {
+        found: String::from_str(alloc, found)?,
+        wanted: format!(in alloc; "a key for {}, the token's algorithm", header.alg.name())?,
+    })
+}
+
+fn key_name(family: AlgorithmFamily) -> &'static str {
+    match family {
+        AlgorithmFamily::Hmac => "a secret, for HS256, HS384 and HS512",
+        AlgorithmFamily::Rsa => "an RSA key, for RS256 to RS512 and PS256 to PS512",
+        AlgorithmFamily::Ec => "a key of an elliptic curve, for ES256 (P-256) or ES384 (P-384)",
+        AlgorithmFamily::Ed => "an Ed25519 key, for EdDSA",
+    }
+}

@@ -1,0 +1,165 @@
+//! Findings about the signature of a token: its number of bytes and that of a signature by the
+//! key.
+
+use crate::explain::findings::Finding;
+use crate::explain::part_findings::Parts;
+use crate::fault::{Fault, value_unless_refused};
+use crate::verify::case::Case;
+use jsonwebtoken::{
+    Algorithm, AlgorithmFamily, DecodingKey, DecodingKeyKind, Header, decode_header,
+};
+use jwt_base::serialization::part_bytes;
+use jwt_verifier::Keys;
+use std::alloc::{AllocError, Global};
+
+/// The number of bytes of which the usual sizes of RSA keys are multiples.
+const RSA_STEP: u64 = 64;
+
+/// The number of bytes of the smallest RSA key in use.
+const RSA_LEAST: u64 = 128;
+
+/// The number of bytes of a signature, and that of one by the key.
+#[derive(Clone, Copy)]
+struct Lengths {
+    algorithm: Algorithm,
+    found: u64,
+    made: u64,
+}
+
+/// Returns the finding of a signature whose length is not that of one by the key, if it is not.
+pub fn length_finding(
+    alloc: Global,
+    case: Case<'_>,
+    parts: Parts<'_>,
+) -> Result<Option<Finding>, Fault<'static>> {
+    let Some(lengths) = lengths_of(alloc, case, parts)? else {
+        return Ok(None);
+    };
+    if lengths.found == lengths.made {
+        return Ok(None);
+    }
+    if is_der(alloc, parts.signature, lengths.algorithm)? {
+        return Ok(Some(Finding::new(
+            alloc,
+            "a signature in DER, as OpenSSL writes it",
+            "its two numbers one after the other, at full length (RFC 7518 section 3.4)",
+        )?));
+    }
+    Ok(Some(Finding {
+        found: found_length(alloc, lengths)?,
+        wanted: String::from_str(alloc, "the whole token, as it was issued for this key")?,
+    }))
+}
+
+fn lengths_of(
+    alloc: Global,
+    case: Case<'_>,
+    parts: Parts<'_>,
+) -> Result<Option<Lengths>, Fault<'static>> {
+    let Some(header) = value_unless_refused(decode_header(alloc, case.token))? else {
+        return Ok(None);
+    };
+    let algorithm = header.alg;
+    let made = length_for(alloc, &header, &case.loaded.keys);
+    // dropped at one place: each exit by `?` would have to be proved to drop every field
+    drop(header);
+    Ok(made?.map(|made| Lengths {
+        algorithm,
+        found: byte_count(parts.signature.len()),
+        made,
+    }))
+}
+
+fn length_for(alloc: Global, header: &Header, keys: &Keys) -> Result<Option<u64>, Fault<'static>> {
+    match keys {
+        Keys::One(key) => Ok(length_by(header.alg, key)),
+        Keys::Set(_) => length_by_set(alloc, header, keys),
+    }
+}
+
+/// Returns the number of bytes of a signature with this algorithm by a key (RFC 7518 section 3, RFC
+/// 8037 section 3.1).
+fn length_by(algorithm: Algorithm, key: &DecodingKey) -> Option<u64> {
+    match algorithm {
+        Algorithm::HS256 => Some(32),
+        Algorithm::HS384 => Some(48),
+        Algorithm::HS512 | Algorithm::ES256 | Algorithm::EdDSA => Some(64),
+        Algorithm::ES384 => Some(96),
+        _ => modulus_length(key),
+    }
+}
+
+/// Returns the number of bytes of a signature by an RSA key: that of its modulus (RFC 8017 section
+/// 8).
+fn modulus_length(key: &DecodingKey) -> Option<u64> {
+    match key.kind() {
+        DecodingKeyKind::RsaModulusExponent { n, e: _ } => {
+            Some(n.iter().skip_while(|byte| **byte == 0).count() as u64)
+        }
+        DecodingKeyKind::SecretOrDer(_) => None,
+    }
+}
+
+/// Does likewise for the key of a set that a header names.
+fn length_by_set(
+    alloc: Global,
+    header: &Header,
+    keys: &Keys,
+) -> Result<Option<u64>, Fault<'static>> {
+    let (Some(kid), Keys::Set(set)) = (&header.kid, keys) else {
+        return Ok(None);
+    };
+    let Some(jwk) = set.find(kid.as_str()) else {
+        return Ok(None);
+    };
+    match value_unless_refused(DecodingKey::from_jwk(alloc, jwk))? {
+        Some(key) => {
+            let length = length_by(header.alg, &key);
+            drop(key);
+            Ok(length)
+        }
+        None => Ok(None),
+    }
+}
+
+/// Returns the number of whole bytes that characters of base64url stand for.
+fn byte_count(characters: usize) -> u64 {
+    let characters = characters as u64;
+    characters / 4 * 3 + characters % 4 * 3 / 4
+}
+
+/// Returns whether a signature looks like one of an elliptic curve in DER: a sequence of two
+/// numbers.
+fn is_der(alloc: Global, signature: &[u8], algorithm: Algorithm) -> Result<bool, Fault<'static>> {
+    if !matches!(algorithm, Algorithm::ES256 | Algorithm::ES384) {
+        return Ok(false);
+    }
+    match value_unless_refused(part_bytes(alloc, signature))? {
+        Some(bytes) => Ok(matches!(bytes.as_slice(), [0x30, length, 0x02, ..]
+            if *length as usize + 2 == bytes.len())),
+        None => Ok(false),
+    }
+}
+
+fn found_length(alloc: Global, lengths: Lengths) -> Result<String, AllocError> {
+    let reason = length_reason(lengths);
+    let unit = if lengths.found == 1 { "byte" } else { "bytes" };
+    format!(in alloc;
+        "a signature of {} {unit}, and this key makes {}: {reason}",
+        lengths.found, lengths.made
+    )
+}
+
+/// Returns why a signature has another length than the key makes.
+fn length_reason(lengths: Lengths) -> &'static str {
+    let is_of_rsa = matches!(lengths.algorithm.family(), AlgorithmFamily::Rsa);
+    if lengths.found == 0 {
+        "the token is not signed, or cut"
+    } else if is_of_rsa && lengths.found >= RSA_LEAST && lengths.found % RSA_STEP == 0 {
+        "it is from a key of another size"
+    } else if lengths.found < lengths.made {
+        "the token is cut"
+    } else {
+        "text was added to the token"
+    }
+}

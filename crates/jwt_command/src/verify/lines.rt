@@ -1,0 +1,146 @@
+//! The form of `verify` that answers each line of standard input.
+
+// The first line at which memory runs out ends the command with status 3, so that a script that
+// reads the status alone does not mistake it for a refusal. A body that leaves a line out would be
+// proved; a row of `tests/jwt.jsonl` fails with it.
+
+ghost use Rattle.std.specs.Prelude.{◌≡◌, ◌≢◌, [], true, false, IfOk};
+ghost use Rattle.jwt_validation.specs.OptionsOf.{options_of};
+ghost use Rattle.jwt_command.specs.Commands.{IsLineStatus, IsLinesStatus};
+
+use crate::answer::Answer;
+use crate::clock::current_time;
+use crate::fault::Fault;
+use crate::files::strip_line_end;
+use crate::keys::LoadedKeys;
+use crate::request::Verification;
+use crate::verify::case::Case;
+use crate::verify::{OutputForm, verify_answer};
+use jsonwebtoken::Validation;
+use memchr::memchr;
+use std::alloc::Global;
+use std::io::{self, BufRead, BufReader, BufWriter, ErrorKind, Write};
+use std::rt::Clock;
+
+/// Answers each line of standard input, which is a token, by a line of JSON on standard output. The
+/// answers that are there are written before the program waits for more input. Returns the status:
+/// 0 if every token is accepted, and else the greatest of the tokens' statuses. That each line is
+/// judged, the contract can't say: no contract of the kit says what standard input holds.
+pub fn answer_lines<R: Input + Print + Clock + AllocGlobal>(
+    rt: &R,
+    request: &Verification<'_, '_>,
+    loaded: &LoadedKeys,
+    validation: &mut Validation,
+) -> Result<u8, Fault<'static>>
+    ensures { IfOk result (IsLinesStatus request.entry.now loaded.now (options_of validation.old)) }
+{
+    let Ok(mut reader) = BufReader::new(rt.alloc(), rt.reader()) else {
+        return Err(Fault::Memory);
+    };
+    let Ok(mut writer) = BufWriter::new(rt.alloc(), io::writer(rt)) else {
+        return Err(Fault::Memory);
+    };
+    let mut line = Vec::new(rt.alloc());
+    let mut status = 0;
+    for _ in 0..u64::MAX {
+        if reader.buffer().is_empty() {
+            flush(&mut writer)?;
+        }
+        if !read_line(&mut reader, &mut line)? {
+            break;
+        }
+        let answer = line_answer(rt, request, loaded, validation, &line)?;
+        write(&mut writer, answer.output.as_str())?;
+        status = u8::max(answer.status, status);
+    }
+    flush(&mut writer)?;
+    Ok(status)
+}
+
+fn flush<W: Write>(writer: &mut W) -> Result<(), Fault<'static>> {
+    match writer.flush() {
+        Ok(()) => Ok(()),
+        Err(_) => Err(Fault::Output),
+    }
+}
+
+/// Reads a line, instead of the one before. Returns whether there was one.
+fn read_line<R: BufRead>(reader: &mut R, line: &mut Vec<u8>) -> Result<bool, Fault<'static>> {
+    line.clear();
+    for _ in 0..u64::MAX {
+        if read_part(reader, line)? {
+            break;
+        }
+    }
+    Ok(!line.is_empty())
+}
+
+/// Reads on, to the end of the line if the reader has it in its buffer. Returns whether the line,
+/// or the input, has ended.
+fn read_part<R: BufRead>(reader: &mut R, line: &mut Vec<u8>) -> Result<bool, Fault<'static>> {
+    let buffer = match reader.fill_buf() {
+        Ok(buffer) => buffer,
+        Err(error) if error.kind() == ErrorKind::Interrupted => return Ok(false),
+        Err(error) if error.kind() == ErrorKind::OutOfMemory => return Err(Fault::Memory),
+        Err(_) => return Err(Fault::Input),
+    };
+    let (count, has_ended) = match memchr(b'\n', buffer) {
+        Some(place) => (place + 1, true),
+        None => (buffer.len(), buffer.is_empty()),
+    };
+    line.extend_from_slice(&buffer[..count])?;
+    reader.consume(count);
+    Ok(has_ended)
+}
+
+/// Returns the line of JSON for a token, which may have a line end. The options stay.
+fn line_answer<R: Clock + AllocGlobal>(
+    rt: &R,
+    request: &Verification<'_, '_>,
+    loaded: &LoadedKeys,
+    validation: &mut Validation,
+    line: &[u8],
+) -> Result<Answer, Fault<'static>>
+    ensures { IfOk result (λ a.
+        IsLineStatus request.entry.now loaded.now (options_of validation.old) a.status
+        × (options_of validation.new ≡ options_of validation.old)) }
+{
+    let is_own = has_no_algorithm(validation);
+    let time = current_time(rt, request.time)?;
+    let token = strip_line_end(line);
+    let case = Case {
+        token,
+        loaded,
+        typ: request.typ,
+        time,
+    };
+    let answer = verify_answer(rt.alloc(), case, validation, OutputForm::Json)?;
+    forget_own(validation, is_own);
+    Ok(answer)
+}
+
+/// Returns whether the options name no algorithm.
+fn has_no_algorithm(validation: &Validation) -> bool
+    ensures none { result ≡ true → validation.now.algorithms.items ≡ [] }
+    ensures some { result ≡ false → validation.now.algorithms.items ≢ [] }
+{
+    validation.algorithms.is_empty()
+}
+
+/// Takes the algorithm of a token's key from the list, if the options name none.
+fn forget_own(validation: &mut Validation, is_own: bool)
+    ensures own { is_own ≡ true → options_of validation.new ≡ record (options_of validation.old)
+        { algorithms = [] } }
+    ensures given { is_own ≡ false → options_of validation.new ≡ options_of validation.old }
+{
+    if is_own {
+        validation.algorithms.clear();
+    }
+}
+
+fn write<W: Write>(writer: &mut W, text: &str) -> Result<(), Fault<'static>> {
+    match writer.write_all(text.as_bytes()) {
+        Ok(()) => Ok(()),
+        Err(_) => Err(Fault::Output),
+    }
+}
