@@ -9,7 +9,7 @@ use jwt_key_files::jwk::jwk_from_pem;
 use jwt_key_files::pem::public_key_from_pem;
 use jwt_key_files::public_key::{public_key_from_der, rsa_components_from_der};
 use jwt_key_files::signature::ecdsa_signature;
-use jwt_rows::output::{Bytes, JwkValue};
+use jwt_rows::output::JwkValue;
 use jwt_rows::{Answer, Row};
 use std::alloc::Global;
 
@@ -44,10 +44,18 @@ pub fn of_pem(call: &str, row: &Row<'_>) -> Answer {
 pub fn components_of_der(row: &Row<'_>) -> Answer {
     let der = row.bytes("der")?;
     row.begin();
-    match rsa_components_from_der(der.as_slice()) {
-        Some((n, e)) => row.give(&(Bytes(n), Bytes(e))),
+    let found = rsa_components_from_der(der.as_slice());
+    row.stop();
+    match found {
+        Some((n, e)) => components(row, n, e),
         None => row.give(&()),
     }
+}
+
+fn components(row: &Row<'_>, n: &[u8], e: &[u8]) -> Answer {
+    let n = n.to_vec(row.alloc()).ok()?;
+    let e = e.to_vec(row.alloc()).ok()?;
+    row.give(&(n, e))
 }
 
 /// Calls `ecdsa_signature`.

@@ -11,7 +11,7 @@ use jsonwebtoken::errors::{ErrorKind, Result as Outcome};
 use jsonwebtoken::jwk::{Jwk, JwkSet, ThumbprintHash};
 use jsonwebtoken::jws::{self, Jws};
 use jsonwebtoken::{
-    Algorithm, DecodingKey, EncodingKey, Header, TokenData, Validation, decode, decode_header,
+    Algorithm, DecodingKey, EncodingKey, TokenData, Validation, decode, decode_header,
     decode_with_set, encode,
 };
 use jwt_base::json::value_eq;
@@ -68,11 +68,30 @@ fn comes_back<P: CryptoProvider>(alloc: Global, provider: &P, token: &Token) -> 
     let key = EncodingKey::from_secret(alloc, secret)?;
     let text = encode(alloc, provider, &token.header, &token.claims, &key)?;
     let text = text.as_bytes();
+    // each token that is read is dropped in the function that looks at it
     Ok(
-        has_header(&decode_header(alloc, text), token)
-            && is_back(&read_back(alloc, provider, text, secret), token)
-            && is_forged(&read_back(alloc, provider, text, b"secret")),
+        header_comes_back(alloc, text, token)
+            && is_read(alloc, provider, text, token)
+            && is_refused(alloc, provider, text),
     )
+}
+
+fn header_comes_back(alloc: Global, text: &[u8], token: &Token) -> bool {
+    match decode_header(alloc, text) {
+        Ok(header) => header == token.header,
+        Err(_refusal) => false,
+    }
+}
+
+fn is_read<P: CryptoProvider>(alloc: Global, provider: &P, text: &[u8], token: &Token) -> bool {
+    is_back(
+        &read_back(alloc, provider, text, token.secret.as_bytes()),
+        token,
+    )
+}
+
+fn is_refused<P: CryptoProvider>(alloc: Global, provider: &P, text: &[u8]) -> bool {
+    is_forged(&read_back(alloc, provider, text, b"secret"))
 }
 
 fn read_back<P: CryptoProvider>(
@@ -84,13 +103,6 @@ fn read_back<P: CryptoProvider>(
     let key = DecodingKey::from_secret(alloc, secret)?;
     let options = Box::new(alloc, Validation::new(alloc, Algorithm::HS256)?)?;
     decode(alloc, provider, text, &key, &options, 0)
-}
-
-fn has_header(answer: &Outcome<Header>, token: &Token) -> bool {
-    match answer {
-        Ok(header) => *header == token.header,
-        Err(_refusal) => false,
-    }
 }
 
 fn is_back(answer: &Outcome<TokenData<Value>>, token: &Token) -> bool {
@@ -119,10 +131,15 @@ fn comes_back_in_parts(alloc: Global, token: &Token) -> Outcome<bool> {
     let key = EncodingKey::from_secret(alloc, secret)?;
     let claims = Some(&token.claims);
     let parts: Jws<Value> = jws::encode(alloc, &HmacProvider, &token.header, claims, &key)?;
-    Ok(
-        is_back(&read_parts(alloc, &parts, secret), token)
-            && is_forged(&read_parts(alloc, &parts, b"secret")),
-    )
+    Ok(are_read(alloc, &parts, token) && are_refused(alloc, &parts))
+}
+
+fn are_read(alloc: Global, parts: &Jws<Value>, token: &Token) -> bool {
+    is_back(&read_parts(alloc, parts, token.secret.as_bytes()), token)
+}
+
+fn are_refused(alloc: Global, parts: &Jws<Value>) -> bool {
+    is_forged(&read_parts(alloc, parts, b"secret"))
 }
 
 fn read_parts(alloc: Global, parts: &Jws<Value>, secret: &[u8]) -> Outcome<TokenData<Value>> {
@@ -136,7 +153,11 @@ fn comes_back_by_set(alloc: Global, count: usize) -> Outcome<bool> {
     let token = named_token(alloc)?;
     let key = EncodingKey::from_secret(alloc, token.secret.as_bytes())?;
     let text = encode(alloc, &HmacProvider, &token.header, &token.claims, &key)?;
-    Ok(is_back(&read_by_set(alloc, text.as_bytes(), count), &token))
+    Ok(is_read_by_set(alloc, text.as_bytes(), count, &token))
+}
+
+fn is_read_by_set(alloc: Global, text: &[u8], count: usize, token: &Token) -> bool {
+    is_back(&read_by_set(alloc, text, count), token)
 }
 
 fn read_by_set(alloc: Global, text: &[u8], count: usize) -> Outcome<TokenData<Value>> {

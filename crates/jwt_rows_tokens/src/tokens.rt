@@ -140,8 +140,10 @@ pub fn read_token(call: &str, row: &Row<'_>) -> Answer {
 pub fn debug_text(row: &Row<'_>) -> Answer {
     let token = row.bytes("token")?;
     let alloc = row.alloc();
-    let data = insecure_decode::<Value>(alloc, token.as_slice()).ok()?;
-    give_text(row, &data)
+    match insecure_decode::<Value>(alloc, token.as_slice()) {
+        Ok(data) => give_text(row, &data),
+        Err(_refusal) => None,
+    }
 }
 
 fn with_key(row: &Row<'_>) -> Option<WithKey> {
