@@ -98,7 +98,9 @@ class Planted:
         for right, wrong in self.copies:
             copy_proofs(scratch, right, wrong)
         kept = {function.path for function in self.functions.values()} | kept_proofs
-        left_out = [own for own in self.all_functions if own.has_body and not own.cycle and own.path not in kept]
+        # a recursive function keeps its body: rattle names its proofs otherwise than those of the same function without it
+        recursive = {function.spelled for function in self.all_functions if os.path.isdir(recursive_proofs(self.crate, function.spelled))}
+        left_out = [own for own in self.all_functions if own.has_body and not own.cycle and own.spelled not in recursive and own.path not in kept]
         for function in left_out:
             leave_out(self.crate, scratch, function.spelled)
         for path in sources(self.crate):
@@ -153,6 +155,12 @@ def without_body(lines):
     if first is None or lines[-1] != f"{inner}}}" or re.search(r"\bconst fn\b", lines[head]):
         return lines
     return [*lines[: first + 1], f"{inner}    {NO_BODY}", *[""] * (len(lines) - first - 3), lines[-1]]
+
+
+def recursive_proofs(crate, path):
+    """Returns the folder of a function's proofs, if it calls itself."""
+    *modules, name = path.split("::")
+    return "/".join([crate.folder, "proofs", *modules, f"+{name}"])
 
 
 def leave_out(crate, scratch, path):
