@@ -155,22 +155,6 @@ pub(crate) fn beside<T: Drop>(
     }
 }
 
-/// Returns the header with the claims that were read after it, or the error of their refusal, and
-/// notes its test.
-#[inline(always)]
-pub(crate) fn beside_noting<T: Drop>(
-    header: Header,
-    claims: Result<T, Refusal>,
-    failed: &mut Test,
-) -> Result<TokenData<T>>
-    ensures { IsBeside header claims (tested failed.new result) }
-{
-    match claims {
-        Ok(claims) => Ok(TokenData { header, claims }),
-        Err(refusal) => Err(note(refusal, failed)),
-    }
-}
-
 /// Verifies a token, and notes the test that fails.
 fn decode_noting<P: CryptoProvider, T: Claims>(
     alloc: Global,
@@ -195,5 +179,8 @@ fn decode_noting<P: CryptoProvider, T: Claims>(
         header: &header,
     };
     let claims = read_claims_by_key(alloc, provider, &opening, key, validation, time);
-    beside_noting(header, claims, failed)
+    match claims {
+        Ok(claims) => Ok(TokenData { header, claims }),
+        Err(refusal) => Err(note(refusal, failed)),
+    }
 }

@@ -18,10 +18,10 @@ ghost use Rattle.jsonwebtoken.specs.Tests.{KeyIsFound, KeyAlgorithmAgrees, KeyIs
 ghost use Rattle.jsonwebtoken.specs.Tests.{algorithm_tests, verifying_tests, set_order};
 ghost use Rattle.jsonwebtoken.specs.Tests.{token_tests};
 
+use crate::decoding::TokenData;
 use crate::decoding::crit::check_crit;
 use crate::decoding::parts::Opening;
 use crate::decoding::steps::{read_header_noting, token_parts, verify_by_key};
-use crate::decoding::{TokenData, beside_noting};
 use crate::refusal::{Refusal, Test, note, with_test};
 use jwt_base::algorithms::{Algorithm, KeyAlgorithm};
 use jwt_base::errors::{ErrorKind, Result};
@@ -197,5 +197,8 @@ fn decode_with_set_noting<P: CryptoProvider, T: Claims>(
         header: &header,
     };
     let claims = read_claims_by_set(alloc, provider, &opening, set, validation, time);
-    beside_noting(header, claims, failed)
+    match claims {
+        Ok(claims) => Ok(TokenData { header, claims }),
+        Err(refusal) => Err(note(refusal, failed)),
+    }
 }

@@ -13,10 +13,10 @@ ghost use Rattle.jsonwebtoken.specs.private_clauses.Steps.{with_opening, whole};
 ghost use Rattle.jsonwebtoken.specs.Tests.{CritIsUnderstood, key_tests, algorithm_tests};
 ghost use Rattle.jsonwebtoken.specs.Tests.{verifying_tests, set_order, token_tests};
 
+use crate::decoding::TokenData;
 use crate::decoding::key_set::read_claims_by_set;
 use crate::decoding::parts::Opening;
 use crate::decoding::steps::{read_header_noting, token_parts};
-use crate::decoding::{TokenData, beside_noting};
 use crate::refusal::{Refusal, Test, note, with_test};
 use jwt_base::algorithms::Algorithm;
 use jwt_base::errors::Result;
@@ -114,7 +114,10 @@ fn decode_by_own_noting<P: CryptoProvider, T: Claims>(
         header: &header,
     };
     let claims = read_claims_by_own(alloc, provider, &opening, set, validation, time);
-    beside_noting(header, claims, failed)
+    match claims {
+        Ok(claims) => Ok(TokenData { header, claims }),
+        Err(refusal) => Err(note(refusal, failed)),
+    }
 }
 
 /// Returns the claims of a token that passes, by the key of the set that its header names and by

@@ -4,7 +4,7 @@ use Rattle.jsonwebtoken.specs.Calls.{decoding_by_set}
 use Rattle.jsonwebtoken.specs.Own.{named_own}
 use Rattle.jsonwebtoken.specs.private_clauses.Steps.{no_contents, parts_in}
 use Rattle.jsonwebtoken.specs.Tests.{HasThreeParts, header_call, header_tests, set_order}
-use Rattle.jsonwebtoken.proofs.Exits.{stop, beside, memory_beside, opened, opened_passes}
+use Rattle.jsonwebtoken.proofs.Exits.{stop, beside_claims, no_claims, opened, opened_passes}
 use Rattle.jsonwebtoken.proofs.OwnLemmas.{no_header}
 use Rattle.jsonwebtoken.proofs.decoding.own.decode_by_own_noting.Goals as goal
 
@@ -34,14 +34,14 @@ returns-in_err-header-clause-decided g c =
     ))
     c.in_err-header.ensures)
 
-pub returns-clause-decided : goal.returns-clause-decided
-returns-clause-decided g c =
+pub returns-in-Ok-claims-clause-decided : goal.returns-in-Ok-claims-clause-decided
+returns-in-Ok-claims-clause-decided g c =
     let call = decoding_by_set g.P.CryptoProvider g.T.Claims c.args.provider.now c.args.token.now
     c.args.set.now.keys.items c.read_claims_by_own-claims.new.validation c.args.time in
     let parts = parts_in c.in-Ok.parts in
     let h = c.in_ok-header.header in
     let token = header_call c.args.token.now in
-    ⊎_elim (λ m. inl (memory_beside h c.read_claims_by_own-claims.result c.beside_noting.new.failed c.beside_noting.result c.beside_noting.ensures m)) (λ f. inr (
+    ⊎_elim (λ m. absurd m) (λ f. inr (
       named_own c.args.set.now.keys.items h,
       inl (
         opened token parts h c.in_ok-header.ensures c.in-Ok.ensures no_contents,
@@ -49,7 +49,26 @@ returns-clause-decided g c =
         refl,
       ),
       f.0,
-      beside call parts h c.in_ok-header.ensures c.in-Ok.ensures set_order c.read_claims_by_own-claims.result _
-          c.beside_noting.ensures f.1,
+      beside_claims call parts h c.in_ok-header.ensures c.in-Ok.ensures set_order c.in-Ok-claims.claims f.1,
     ))
-    c.read_claims_by_own-claims.ensures.read
+    c.in-Ok-claims.ensures.read
+
+pub returns-in-Err-claims-clause-decided : goal.returns-in-Err-claims-clause-decided
+returns-in-Err-claims-clause-decided g c =
+    let call = decoding_by_set g.P.CryptoProvider g.T.Claims c.args.provider.now c.args.token.now
+    c.args.set.now.keys.items c.read_claims_by_own-claims.new.validation c.args.time in
+    let parts = parts_in c.in-Ok.parts in
+    let h = c.in_ok-header.header in
+    let token = header_call c.args.token.now in
+    rw (c.note-in-Err-claims.ensures.test, c.note-in-Err-claims.ensures.error)
+    (⊎_elim (λ m. inl m) (λ f. inr (
+      named_own c.args.set.now.keys.items h,
+      inl (
+        opened token parts h c.in_ok-header.ensures c.in-Ok.ensures no_contents,
+        opened_passes token parts h c.in_ok-header.ensures c.in-Ok.ensures no_contents,
+        refl,
+      ),
+      f.0,
+      no_claims call parts h c.in_ok-header.ensures c.in-Ok.ensures set_order c.in-Err-claims.refusal f.1,
+    ))
+    c.in-Err-claims.ensures.read)
