@@ -237,13 +237,6 @@ module _ {T : Type 0} (call : Call T) (parts : Parts) (h : Header)
   beside order (Ok y) r is f = rw is (beside_claims order y f)
   beside order (Err e) r is f = rw is (no_claims order e f)
 
--- memory ran out for the claims, and so for the result with the header
-pub memory_beside : {T : Type 0} (h : Header) (q : Result T Refusal) (t : Test) (r : Result (TokenData T) Error)
-    → IsBeside h q (tested t r) → IsErrAnd q (λ f. IsMemory f.error) → IsErrAnd r IsMemory
-memory_beside h (Ok y) t r is m = absurd m
-memory_beside h (Err f) t (Ok d) is m = absurd (cc)
-memory_beside h (Err f) t (Err e) is m = let same : f.error ≡ e = cc in rw (← same) m
-
 -- the claim rules never both hold and have a fault
 pub not_held : (v : Options) (d : Data) (time : ℕ) (k : Kind) → IsRuleFault v d time k → RulesHold v d time → ⊥
 not_held v d time k (missing n is) held = held.required n is

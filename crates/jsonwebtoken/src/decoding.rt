@@ -141,7 +141,8 @@ pub fn decode_header(alloc: Global, token: &[u8]) -> Result<Header>
 }
 
 /// Returns the header with the claims that were read after it, or their refusal.
-// The drop of a header at a refusal is proved here alone, for all calls. Inlined, it moves nothing.
+// Here the drop of a header at a refusal is proved once. The calls that verify a token in its compact
+// form put both together themselves: this would move the header once more, 200 ns a token.
 #[inline(always)]
 pub(crate) fn beside<T: Drop>(
     header: Header,
