@@ -1,6 +1,6 @@
 //! The faults that leave a command without an answer.
 
-ghost use Rattle.std.specs.Prelude.{◌≡◌, ◌⊎◌, ◌↔◌, IsTrue};
+ghost use Rattle.std.specs.Prelude.{◌≡◌, ◌⊎◌, ◌↔◌, ¬◌, IsTrue, Ok, Err, Some, None};
 ghost use Rattle.jwt_base.specs.KindOf.{IsMemory};
 
 use jsonwebtoken::errors::{Error, ErrorKind};
@@ -65,7 +65,8 @@ pub fn is_memory(error: &Error) -> bool
 
 /// Returns the fault that an error is, unless it says that memory ran out.
 pub fn fault_of<'a>(error: &Error, fault: Fault<'a>) -> Fault<'a>
-    ensures { IsMemory error.now → result ≡ Fault.Memory }
+    ensures memory { IsMemory error.now → result ≡ Fault.Memory }
+    ensures other { ¬ IsMemory error.now → result ≡ fault.entry }
 {
     if is_memory(error) {
         return Fault::Memory;
@@ -74,7 +75,11 @@ pub fn fault_of<'a>(error: &Error, fault: Fault<'a>) -> Fault<'a>
 }
 
 /// Returns the value that a call made, or `None` if it was refused for another reason than memory.
-pub fn value_unless_refused<R>(made: Result<R, Error>) -> Result<Option<R>, Fault<'static>> {
+pub fn value_unless_refused<R>(made: Result<R, Error>) -> Result<Option<R>, Fault<'static>>
+    ensures value { (value : R) → made ≡ Ok value → result ≡ Ok (Some value) }
+    ensures memory { (error : Error) → made ≡ Err error → IsMemory error → result ≡ Err Fault.Memory }
+    ensures none { (error : Error) → made ≡ Err error → ¬ IsMemory error → result ≡ Ok None }
+{
     match made {
         Ok(value) => Ok(Some(value)),
         Err(error) if is_memory(&error) => Err(Fault::Memory),

@@ -21,5 +21,5 @@ returns-in-Ok-read-clause-ok c =
 
 pub returns-in-Err-read-clause-err : goal.returns-in-Err-read-clause-err
 returns-in-Err-read-clause-err c =
-    unless_memory _ _ _ c.in-Err-read.ensures.err c.fault_of-in-Err-read.ensures
+    unless_memory _ _ _ c.in-Err-read.ensures.err c.fault_of-in-Err-read.ensures.memory
     (λ none. inr (inl (c.in-Ok.jwk, c.in-Ok.ensures.ok, none)))
