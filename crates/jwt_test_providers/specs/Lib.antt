@@ -1,3 +1,4 @@
+pub mod LongSecrets
 pub mod Table
 pub mod law_proofs
 pub use Rattle.jwt_base.specs.Kind
