@@ -275,7 +275,7 @@ fn decode_parts<P: CryptoProvider, T: Claims>(
 {
     let header = read_header(alloc, parts.header)?;
     let opening = Opening {
-        parts: parts,
+        parts,
         header: &header,
     };
     let claims = read_claims_by_key(alloc, provider, &opening, key, validation, time);

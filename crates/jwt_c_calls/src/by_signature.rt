@@ -77,7 +77,7 @@ fn input_of(alloc: Global, header: &Header, claims: &Value) -> Result<SigningInp
     ensures algorithm { IfOk result (λ s. header.now.alg ≡ s.algorithm) }
     ensures err { IfErr result (λ r. AnswersInputOf header.now (view claims.now) (answer_of r)) }
 {
-    // Bound first, since the proof names it.
+    // bound to a name: the proof cannot refer to a call in tail position
     let input = signing_input(alloc, header, claims)?;
     Ok(input)
 }

@@ -15,7 +15,7 @@ pub fn pem_answer(alloc: Global, pem: &[u8]) -> Result<Vec<u8>, CallRefusal>
     ensures err { IfErr result (λ r. AnswersPem pem.now (answer_of r)) }
 {
     let jwk = jwk_from_pem(alloc, pem)?;
-    // Bound first, since the proof names it.
+    // bound to a name: the proof cannot refer to a call in tail position
     let text = jwk.to_text(alloc)?;
     Ok(text)
 }

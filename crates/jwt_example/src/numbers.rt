@@ -9,7 +9,8 @@ ghost use Rattle.jwt_example.specs.Numbers.{number_at};
 use jsonwebtoken::errors::{ErrorKind, Result, new_error};
 use serde_json::Value;
 
-/// Returns the whole number at a member, not negative. If there is none, the refusal is `Json`.
+/// Returns the whole number at a member. A negative number, any other value and an absent member are
+/// refused with `Json`.
 pub fn number_at(value: &Value, name: &str) -> Result<u64>
     ensures ok { IfOk result (λ n. number_at name.now (view value.now) ≡ Some n) }
     ensures err { IfErr result (RefusesAs kind.Json (number_at name.now (view value.now) ≡ None)) }

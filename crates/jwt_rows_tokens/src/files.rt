@@ -52,12 +52,6 @@ pub fn components_of_der(row: &Row<'_>) -> Answer {
     }
 }
 
-fn components(row: &Row<'_>, n: &[u8], e: &[u8]) -> Answer {
-    let n = n.to_vec(row.alloc()).ok()?;
-    let e = e.to_vec(row.alloc()).ok()?;
-    row.give(&(n, e))
-}
-
 /// Calls `ecdsa_signature`.
 pub fn signature_of_der(row: &Row<'_>) -> Answer {
     let der = row.bytes("der")?;
@@ -71,4 +65,10 @@ pub fn are_same(row: &Row<'_>) -> Answer {
     let given = row.bytes("given")?;
     row.begin();
     row.give(&is_same(expected.as_slice(), given.as_slice()))
+}
+
+fn components(row: &Row<'_>, n: &[u8], e: &[u8]) -> Answer {
+    let n = n.to_vec(row.alloc()).ok()?;
+    let e = e.to_vec(row.alloc()).ok()?;
+    row.give(&(n, e))
 }

@@ -203,7 +203,7 @@ fn prepare_fit(
     ensures err { IfErr result (IsUnfit allows_blank algorithms.now keys.now) }
 {
     check_keys(alloc, keys, algorithms, allows_blank)?;
-    // Bound first: returned as it is, the result would cost the proof a case split.
+    // bound to a name: the proof cannot refer to a call in tail position
     let prepared = prepare(alloc, keys, algorithms)?;
     Ok(prepared)
 }

@@ -158,8 +158,7 @@ fn decode_by_own_key(
     }
 }
 
-/// Lists the algorithm that a key is for as the only one that is accepted. If there is none, no
-/// algorithm is.
+/// Accepts only the algorithm that a key is for, or no algorithm if it is for none.
 fn list_own(validation: &mut Validation, own: Option<Algorithm>) -> Result<(), Error>
     ensures own { OnOk result (validation.new.algorithms.items ≡ listed own) }
     ensures rest { options_of validation.new ≡ record (options_of validation.old)

@@ -1,8 +1,9 @@
 //! Providers of signatures, as a row describes them at `provider`: `"StandardProvider"`,
 //! `"RsaProvider"`, `"YesProvider"`, `"NoProvider"`, `{"prepared": [[ALGORITHM, SECRET], ..]}` for
-//! a `PreparedHmac` of these secrets, with zeros in their place if `zeroize` is true, `{"prepared_rsa": [[N, E], ..]}` for a `PreparedRsa` of these
-//! keys, or `{"table": [[ALGORITHM, KEY, MESSAGE, SIGNATURE], ..]}` for a `TableProvider` of these
-//! rows. A row that describes none means `HmacProvider`.
+//! a `PreparedHmac` of these secrets, with zeros in their place if `zeroize` is true,
+//! `{"prepared_rsa": [[N, E], ..]}` for a `PreparedRsa` of these keys, or
+//! `{"table": [[ALGORITHM, KEY, MESSAGE, SIGNATURE], ..]}` for a `TableProvider` of these rows. A
+//! row that describes none means `HmacProvider`.
 
 use crate::bytes::bytes_of;
 use crate::input::Input;
