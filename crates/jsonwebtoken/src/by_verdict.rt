@@ -95,6 +95,10 @@ fn with_signature(
             message,
             signature,
         }),
-        Err(refusal) => Err(refusal),
+        Err(refusal) => {
+            // dropped by a call: the end of the block would have to be proved to drop every field
+            drop(header);
+            Err(refusal)
+        }
     }
 }

@@ -152,7 +152,11 @@ pub(crate) fn beside<T: Drop>(
 {
     match claims {
         Ok(claims) => Ok(TokenData { header, claims }),
-        Err(refusal) => Err(refusal),
+        Err(refusal) => {
+            // dropped by a call: the end of the block would have to be proved to drop every field
+            drop(header);
+            Err(refusal)
+        }
     }
 }
 
@@ -182,6 +186,10 @@ fn decode_noting<P: CryptoProvider, T: Claims>(
     let claims = read_claims_by_key(alloc, provider, &opening, key, validation, time);
     match claims {
         Ok(claims) => Ok(TokenData { header, claims }),
-        Err(refusal) => Err(note(refusal, failed)),
+        Err(refusal) => {
+            // dropped by a call: the end of the block would have to be proved to drop every field
+            drop(header);
+            Err(note(refusal, failed))
+        }
     }
 }

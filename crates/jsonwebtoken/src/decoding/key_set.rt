@@ -199,6 +199,10 @@ fn decode_with_set_noting<P: CryptoProvider, T: Claims>(
     let claims = read_claims_by_set(alloc, provider, &opening, set, validation, time);
     match claims {
         Ok(claims) => Ok(TokenData { header, claims }),
-        Err(refusal) => Err(note(refusal, failed)),
+        Err(refusal) => {
+            // dropped by a call: the end of the block would have to be proved to drop every field
+            drop(header);
+            Err(note(refusal, failed))
+        }
     }
 }

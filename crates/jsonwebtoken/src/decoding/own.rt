@@ -116,7 +116,11 @@ fn decode_by_own_noting<P: CryptoProvider, T: Claims>(
     let claims = read_claims_by_own(alloc, provider, &opening, set, validation, time);
     match claims {
         Ok(claims) => Ok(TokenData { header, claims }),
-        Err(refusal) => Err(note(refusal, failed)),
+        Err(refusal) => {
+            // dropped by a call: the end of the block would have to be proved to drop every field
+            drop(header);
+            Err(note(refusal, failed))
+        }
     }
 }
 
