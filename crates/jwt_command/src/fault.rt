@@ -1,6 +1,6 @@
 //! The faults that leave a command without an answer.
 
-ghost use Rattle.std.specs.Prelude.{◌≡◌, ◌⊎◌, ◌↔◌, ¬◌, IsTrue, Ok, Err, Some, None};
+ghost use Rattle.std.specs.Prelude.{◌≡◌, ◌⊎◌, ◌↔◌, IsTrue, Ok, Err, Some, None};
 ghost use Rattle.jwt_base.specs.KindOf.{IsMemory};
 
 use jsonwebtoken::errors::{Error, ErrorKind};
