@@ -1,12 +1,12 @@
 -- The claims that are required, and the options that the arguments change.
 use Rattle.std.proofs.Common.{◌≡◌, ℕ, ◌+◌, ◌<◌, ◌∙◌, ◌&&◌, ◌||◌, not, Bool, true, false, cond, List, get_or, length}
-use Rattle.std.proofs.Common.{take, Bor, Option, refl, sym, ap, subst, option_map, unwrap_or}
+use Rattle.std.proofs.Common.{take, Bor, Option, refl, sym, ap, option_map, unwrap_or}
 use Rattle.std.proofs.lemmas.Bool.{false≢true}
 use Rattle.std.proofs.lemmas.List.Folds.{list_any_more}
 use Rattle.std.specs.Option.{option_or}
 use Rattle.std.specs.Str.{bytes_eq}
 use Rattle.jwt_validation.specs.Options.{Options, Texts, among}
-use Rattle.jwt_command.specs.Requested.{AreChosen, AreRequested, IsBase, changed_options, texts_or, required_claims, strict_options_if}
+use Rattle.jwt_command.specs.Requested.{AreRequested, IsBase, changed_options, texts_or, required_claims, strict_options_if}
 use Rattle.jwt_command.specs.declared.request.Checks.{Checks}
 
 or_behind : (b a c : Bool) → (b || (a || c)) ≡ ((a || b) || c)
@@ -29,32 +29,16 @@ pub left_out : (is_name b : Bool) → cond is_name false b ≡ (not (true && is_
 left_out true b = refl
 left_out false b = refl
 
--- strict options name the same algorithms
-pub strict_algorithms : (is_strict : Bool) (o : Options) → (strict_options_if is_strict o).algorithms ≡ o.algorithms
-strict_algorithms true o = refl
-strict_algorithms false o = refl
-
 -- options that are not made strict
 pub not_strict : (is_strict : Bool) (o : Options) → is_strict ≡ false → o ≡ strict_options_if is_strict o
 not_strict true o off = absurd (false≢true (sym off))
 not_strict false o off = refl
 
--- a file, made strict, then changed, then with the algorithms that the arguments name
-pub requested : (c : Checks) (bytes : Option (List ℕ)) (file strict done final : Options) → IsBase bytes file
-    → strict ≡ strict_options_if c.is_strict file → done ≡ changed_options c strict strict.algorithms
-    → AreChosen c.algorithms done.algorithms final.algorithms → final ≡ record done { algorithms = final.algorithms }
-    → AreRequested c bytes final
-requested c bytes file strict done final base is_strict is_done chosen is_final = (
-  file,
-  base,
-  (
-    final.algorithms,
-    subst (λ a. AreChosen c.algorithms a final.algorithms)
-        (ap (λ o. o.algorithms) is_done ∙ (ap (λ o. o.algorithms) is_strict ∙ strict_algorithms c.is_strict file)) chosen,
-    is_final ∙ (ap {A = Options} {B = Options} (λ o. record o { algorithms = final.algorithms }) is_done
-        ∙ ap {A = Options} {B = Options} (λ o. changed_options c o final.algorithms) is_strict),
-  ),
-)
+-- a file, made strict, then changed
+pub requested : (c : Checks) (bytes : Option (List ℕ)) (file strict final : Options) → IsBase bytes file
+    → strict ≡ strict_options_if c.is_strict file → final ≡ changed_options c strict → AreRequested c bytes final
+requested c bytes file strict final base is_strict is_final =
+    (file, base, is_final ∙ ap {A = Options} {B = Options} (changed_options c) is_strict)
 
 -- names, then times, then required claims
 pub changes : (c : Checks) (file named timed : Options) (claims : Texts)
@@ -63,6 +47,7 @@ pub changes : (c : Checks) (file named timed : Options) (claims : Texts)
       iss = texts_or c.issuers file.iss;
       sub = option_or (option_map (λ s. s.now) c.subject) file.sub;
       understood = unwrap_or (option_map (λ names. among (λ s. s.now) names.now) c.understood) file.understood;
+      algorithms = unwrap_or (option_map (λ a. a.items) c.algorithms) file.algorithms;
     }
     → timed ≡ record named {
       leeway = unwrap_or c.leeway named.leeway;
@@ -71,7 +56,7 @@ pub changes : (c : Checks) (file named timed : Options) (claims : Texts)
       checks_nbf = c.checks_nbf || named.checks_nbf;
     }
     → ((t : List ℕ) → claims t ≡ required_claims c timed.required t)
-    → record timed { required = claims } ≡ changed_options c file file.algorithms
+    → record timed { required = claims } ≡ changed_options c file
 changes c file named timed claims is_named is_timed is_required =
     (λ i. record timed { required = λ t. is_required t i })
     ∙ ap {A = Options} {B = Options} (λ o. record o { required = required_claims c o.required })

@@ -70,7 +70,8 @@ IsKeyFile f (file.Pem path) =
 pub record AreChecks (f : Found) (c : Checks) : Type 0 where
   pub options : text_of c.options ≡ first_value f (codes "options")
   pub is_strict : IsFlag f (codes "strict") c.is_strict
-  pub algorithms : texts_of c.algorithms ≡ values_of f (codes "alg")
+  pub algorithms : option_map (map algorithm_named) (values_of f (codes "alg"))
+      ≡ option_map (λ a. map Some a.items) c.algorithms
   pub audiences : texts_of c.audiences ≡ values_of f (codes "aud")
   pub issuers : texts_of c.issuers ≡ values_of f (codes "iss")
   pub subject : text_of c.subject ≡ first_value f (codes "sub")

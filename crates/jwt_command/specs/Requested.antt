@@ -1,12 +1,10 @@
 -- The options that the arguments of a command ask for.
-use Rattle.std.specs.Prelude.{◌≡◌, ◌&&◌, ◌||◌, not, ℕ, max, List, [], Bool, true, Option, Some, None, option_map, map}
+use Rattle.std.specs.Prelude.{◌≡◌, ◌&&◌, ◌||◌, not, ℕ, max, List, [], Bool, true, Option, Some, None, option_map}
 use Rattle.std.specs.Prelude.{is_some, unwrap_or, if◌then◌else◌, codes}
 use Rattle.std.specs.Borrow.{Bor}
 use Rattle.std.specs.Option.{option_or}
 use Rattle.std.specs.Str.{bytes_eq}
-use Rattle.jwt_base.specs.Algorithm.{algorithm_named}
 use Rattle.jwt_base.specs.JsonText.{ReadsText}
-use Rattle.jwt_base.specs.declared.algorithms.Algorithm.{Algorithm}
 use Rattle.jwt_validation.specs.Options.{Options, Texts, among, default_options, no_texts, requiring_configured}
 use Rattle.jwt_validation.specs.OptionsRead.{ReadsOptions}
 use Rattle.jwt_command.specs.declared.request.Checks.{Checks}
@@ -46,9 +44,9 @@ strict_options o = requiring_configured (record o {
 abbrev pub strict_options_if : Bool → Options → Options
 strict_options_if is_strict o = if is_strict then strict_options o else o
 
--- the options of a file, changed by each argument that is given, with these algorithms
-abbrev pub changed_options : Checks → Options → List Algorithm → Options
-changed_options c file algorithms = record {
+-- the options of a file, changed by each argument that is given
+abbrev pub changed_options : Checks → Options → Options
+changed_options c file = record {
   required = required_claims c file.required;
   leeway = unwrap_or c.leeway file.leeway;
   reject = unwrap_or c.not_within file.reject;
@@ -58,7 +56,7 @@ changed_options c file algorithms = record {
   aud = texts_or c.audiences file.aud;
   iss = texts_or c.issuers file.iss;
   sub = option_or (option_map (λ s. s.now) c.subject) file.sub;
-  algorithms = algorithms;
+  algorithms = unwrap_or (option_map (λ a. a.items) c.algorithms) file.algorithms;
   understood = unwrap_or (option_map (λ names. among (λ s. s.now) names.now) c.understood) file.understood;
 }
 
@@ -72,19 +70,8 @@ abbrev pub IsNoBase : Option (List ℕ) → Type 0
 IsNoBase None = ⊥
 IsNoBase (Some bytes) = (options : Options) → ¬ ReadsText ReadsOptions bytes options
 
--- the algorithms of these names (RFC 7518 section 3.1)
-abbrev pub AreNamed : List (Bor (List ℕ)) → List Algorithm → Type 0
-AreNamed names algorithms = map (λ s. algorithm_named s.now) names ≡ map Some algorithms
-
--- the algorithms that the arguments name, or those of the file if they name none
-abbrev pub AreChosen : Option (Bor (List (Bor (List ℕ)))) → List Algorithm → List Algorithm → Type 0
-AreChosen None file algorithms = algorithms ≡ file
-AreChosen (Some names) file algorithms = AreNamed names.now algorithms
-
 -- the options that the arguments ask for, if this is what their file of options holds; each other argument changes what
 -- strict options are
 abbrev pub AreRequested : Checks → Option (List ℕ) → Options → Type 0
 AreRequested c bytes options =
-    (file : Options) × IsBase bytes file
-    × ((algorithms : List Algorithm) × AreChosen c.algorithms file.algorithms algorithms
-    × (options ≡ changed_options c (strict_options_if c.is_strict file) algorithms))
+    (file : Options) × IsBase bytes file × (options ≡ changed_options c (strict_options_if c.is_strict file))

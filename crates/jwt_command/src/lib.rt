@@ -41,7 +41,7 @@ pub fn run_command<T: Runtime + AllocGlobal, W: Write>(
     ensures { IsFaultStatus result ⊎ ((r : Request) × IsRequestOf matches.now r
         × IsStatus r (W.contents writer.old) (W.contents writer.new) result) }
 {
-    match request_asked(matches) {
+    match request_asked(rt.alloc(), matches) {
         Ok(request) => write_answer(rt, &request, writer),
         Err(fault) => report_fault(rt, &fault),
     }

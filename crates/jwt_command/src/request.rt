@@ -1,11 +1,11 @@
 //! The request of the arguments.
 
-ghost use Rattle.std.specs.Prelude.{◌≡◌, Some, false, IfOk, codes};
+ghost use Rattle.std.specs.Prelude.{◌≡◌, Some, false, IfOk, codes, map, option_map};
 ghost use Rattle.clap.specs.Matches.{found_of, first_value};
 ghost use Rattle.jwt_base.specs.Algorithm.{algorithm_named};
 ghost use Rattle.jwt_command.specs.Arguments.{AreChecks, IsChecking, IsCommand, IsFile, IsFlag};
 ghost use Rattle.jwt_command.specs.Arguments.{IsHash, IsKeyFile, IsNumberOf, IsRequestOf};
-ghost use Rattle.jwt_command.specs.Arguments.{IsShowing, IsSigningOf};
+ghost use Rattle.jwt_command.specs.Arguments.{IsShowing, IsSigningOf, texts_of};
 
 pub(crate) mod arguments;
 pub(crate) mod spans;
@@ -15,6 +15,10 @@ use crate::request::spans::{parse_span, parse_time};
 use clap::ArgMatches;
 use jsonwebtoken::Algorithm;
 use jsonwebtoken::jwk::ThumbprintHash;
+use std::alloc::Global;
+
+/// The claims that can be required.
+const REQUIRABLE: [&str; 5] = ["exp", "nbf", "aud", "iss", "sub"];
 
 /// The file of the keys that a token is verified with.
 #[derive(Clone, Copy)]
@@ -30,11 +34,11 @@ pub enum KeyFile<'a> {
 }
 
 /// The arguments that say against which options a token is checked.
-#[derive(Clone, Copy)]
+#[derive(Drop)]
 pub struct Checks<'m, 'a> {
     pub options: Option<&'a str>,
     pub is_strict: bool,
-    pub algorithms: Option<&'m [&'a str]>,
+    pub algorithms: Option<Vec<Algorithm>>,
     pub audiences: Option<&'m [&'a str]>,
     pub issuers: Option<&'m [&'a str]>,
     pub subject: Option<&'a str>,
@@ -47,7 +51,7 @@ pub struct Checks<'m, 'a> {
 }
 
 /// The arguments of `verify` and `explain`, which has neither `--header` nor `--lines`.
-#[derive(Clone, Copy)]
+#[derive(Drop)]
 pub struct Verification<'m, 'a> {
     pub token: Option<&'a str>,
     pub key: KeyFile<'a>,
@@ -114,40 +118,30 @@ pub enum Request<'m, 'a> {
     Thumbprint(Digesting<'a>),
 }
 
-/// Returns the algorithm of a name.
-pub fn algorithm(name: &str) -> Result<Algorithm, Fault<'static>>
-    ensures { IfOk result (λ a. algorithm_named name.now ≡ Some a) }
-{
-    match name.parse::<Algorithm>() {
-        Ok(algorithm) => Ok(algorithm),
-        Err(_) => Err(Fault::Usage(
-            "--alg wants HS256, HS384, HS512, RS256, RS384, RS512, PS256, PS384, PS512, ES256, ES384 or EdDSA",
-        )),
-    }
-}
-
 /// Returns the request of the arguments.
 pub fn request_asked<'m, 'a: 'm>(
+    alloc: Global,
     matches: &'m ArgMatches<'a>,
 ) -> Result<Request<'m, 'a>, Fault<'static>>
     ensures { IfOk result (IsRequestOf matches.now) }
 {
     match matches.subcommand() {
-        Some((name, found)) => command_asked(name, found),
+        Some((name, found)) => command_asked(alloc, name, found),
         None => Err(Fault::Usage("a command is needed")),
     }
 }
 
 /// Returns the request of a command and its arguments.
 fn command_asked<'m, 'a: 'm>(
+    alloc: Global,
     name: &str,
     found: &'m ArgMatches<'a>,
 ) -> Result<Request<'m, 'a>, Fault<'static>>
     ensures { IfOk result (IsCommand name.now (found_of found.now)) }
 {
     match name {
-        "verify" => verification_asked(found).map(Request::Verify),
-        "explain" => checking_asked(found).map(Request::Explain),
+        "verify" => verification_asked(alloc, found).map(Request::Verify),
+        "explain" => checking_asked(alloc, found).map(Request::Explain),
         "show" => showing_asked(found).map(Request::Show),
         "sign" => signing_asked(found).map(Request::Sign),
         "keys" => Ok(Request::Keys(Listing { file: file(found) })),
@@ -158,13 +152,14 @@ fn command_asked<'m, 'a: 'm>(
 }
 
 fn verification_asked<'m, 'a: 'm>(
+    alloc: Global,
     matches: &'m ArgMatches<'a>,
 ) -> Result<Verification<'m, 'a>, Fault<'static>>
     ensures { IfOk result (λ v. IsChecking (found_of matches.now) v
         × IsFlag (found_of matches.now) (codes "header") v.has_header
         × IsFlag (found_of matches.now) (codes "lines") v.is_lines) }
 {
-    let mut request = checking_asked(matches)?;
+    let mut request = checking_asked(alloc, matches)?;
     request.has_header = matches.get_flag("header");
     request.is_lines = matches.get_flag("lines");
     Ok(request)
@@ -172,6 +167,7 @@ fn verification_asked<'m, 'a: 'm>(
 
 /// Returns the arguments that `verify` and `explain` share.
 fn checking_asked<'m, 'a: 'm>(
+    alloc: Global,
     matches: &'m ArgMatches<'a>,
 ) -> Result<Verification<'m, 'a>, Fault<'static>>
     ensures { IfOk result (λ v. IsChecking (found_of matches.now) v
@@ -180,9 +176,9 @@ fn checking_asked<'m, 'a: 'm>(
     Ok(Verification {
         token: matches.get_str("token"),
         key: key_file(matches)?,
-        checks: checks_asked(matches)?,
         typ: matches.get_str("typ"),
         time: time(matches, "now")?,
+        checks: checks_asked(alloc, matches)?,
         has_header: false,
         is_json: matches.get_flag("json"),
         is_lines: false,
@@ -214,13 +210,15 @@ fn file<'a>(matches: &ArgMatches<'a>) -> &'a str
     matches.get_str("file").unwrap_or("")
 }
 
-fn checks_asked<'m, 'a: 'm>(matches: &'m ArgMatches<'a>) -> Result<Checks<'m, 'a>, Fault<'static>>
+fn checks_asked<'m, 'a: 'm>(
+    alloc: Global,
+    matches: &'m ArgMatches<'a>,
+) -> Result<Checks<'m, 'a>, Fault<'static>>
     ensures { IfOk result (AreChecks (found_of matches.now)) }
 {
     Ok(Checks {
         options: matches.get_str("options"),
         is_strict: matches.get_flag("strict"),
-        algorithms: matches.get_strs("alg"),
         audiences: matches.get_strs("aud"),
         issuers: matches.get_strs("iss"),
         subject: matches.get_str("sub"),
@@ -234,10 +232,11 @@ fn checks_asked<'m, 'a: 'm>(matches: &'m ArgMatches<'a>) -> Result<Checks<'m, 'a
             "not-within",
             "--not-within wants seconds, or a span such as 5m",
         )?,
-        required: matches.get_strs("require"),
+        required: requirable(matches.get_strs("require"))?,
         checks_nbf: matches.get_flag("nbf"),
         skips_exp: matches.get_flag("no-exp"),
         understood: matches.get_strs("crit"),
+        algorithms: algorithms(alloc, matches.get_strs("alg"))?,
     })
 }
 
@@ -267,6 +266,57 @@ fn time(matches: &ArgMatches<'_>, id: &str) -> Result<Option<u64>, Fault<'static
         Some(time) => Ok(Some(time)),
         None => Err(Fault::Usage(
             "--now wants seconds since 1970 UTC, or a time such as 2026-01-31T12:00:00Z",
+        )),
+    }
+}
+
+/// Returns the names, if each is that of a claim that can be required.
+fn requirable<'m, 'a: 'm>(
+    names: Option<&'m [&'a str]>,
+) -> Result<Option<&'m [&'a str]>, Fault<'static>>
+    ensures { IfOk result (λ given. given ≡ names.entry) }
+{
+    let Some(given) = names else {
+        return Ok(None);
+    };
+    if given.iter().all(|name| REQUIRABLE.contains(name)) {
+        Ok(names)
+    } else {
+        Err(Fault::Usage("--require wants exp, nbf, aud, iss or sub"))
+    }
+}
+
+fn algorithms(
+    alloc: Global,
+    names: Option<&[&str]>,
+) -> Result<Option<Vec<Algorithm>>, Fault<'static>>
+    ensures { IfOk result (λ given. option_map (map algorithm_named) (texts_of names.entry)
+        ≡ option_map (λ a. map Some a.items) given) }
+{
+    match names {
+        Some(names) => Ok(Some(algorithms_named(alloc, names)?)),
+        None => Ok(None),
+    }
+}
+
+fn algorithms_named(alloc: Global, names: &[&str]) -> Result<Vec<Algorithm>, Fault<'static>>
+    ensures { IfOk result (λ a. map algorithm_named (map (λ s. s.now) names.now)
+        ≡ map Some a.items) }
+{
+    let mut algorithms = Vec::new(alloc);
+    for name in names {
+        algorithms.push(algorithm(name)?)?;
+    }
+    Ok(algorithms)
+}
+
+fn algorithm(name: &str) -> Result<Algorithm, Fault<'static>>
+    ensures { IfOk result (λ a. algorithm_named name.now ≡ Some a) }
+{
+    match name.parse::<Algorithm>() {
+        Ok(algorithm) => Ok(algorithm),
+        Err(_) => Err(Fault::Usage(
+            "--alg wants HS256, HS384, HS512, RS256, RS384, RS512, PS256, PS384, PS512, ES256, ES384 or EdDSA",
         )),
     }
 }

@@ -11,20 +11,17 @@ ghost use Rattle.std.specs.Str.{bytes_eq};
 ghost use Rattle.jwt_base.specs.KindOf.{IsMemory};
 ghost use Rattle.jwt_validation.specs.Options.{among, default_options};
 ghost use Rattle.jwt_validation.specs.OptionsOf.{options_of};
-ghost use Rattle.jwt_command.specs.Requested.{AreChosen, AreNamed, AreRequested, IsBase, IsNoBase};
+ghost use Rattle.jwt_command.specs.Requested.{AreRequested, IsBase, IsNoBase};
 ghost use Rattle.jwt_command.specs.Requested.{changed_options, given_texts, kept_claims};
 ghost use Rattle.jwt_command.specs.Requested.{required_claims, strict_options, strict_options_if};
 ghost use Rattle.jwt_command.specs.Requested.{texts_or};
 
 use crate::fault::{Fault, fault_of};
-use crate::request::{Checks, algorithm};
+use crate::request::Checks;
 use jsonwebtoken::errors::Error;
 use jsonwebtoken::{Algorithm, Validation};
 use std::alloc::Global;
 use std::collections::HashSet;
-
-/// The claims that can be required.
-const REQUIRABLE: [&str; 5] = ["exp", "nbf", "aud", "iss", "sub"];
 
 /// Returns the options that the arguments would ask for if they asked for strict ones too.
 pub fn strict_validation(
@@ -54,7 +51,6 @@ pub fn requested_validation<'a>(
     let mut validation = base_options(alloc, checks.options, bytes)?;
     make_strict_if(alloc, &mut validation, checks.is_strict)?;
     change(alloc, &mut validation, checks)?;
-    set_algorithms(alloc, &mut validation, checks.algorithms)?;
     Ok(validation)
 }
 
@@ -64,10 +60,8 @@ fn make_strict_if(
     validation: &mut Validation,
     is_strict: bool,
 ) -> Result<(), Fault<'static>>
-    ensures strict { OnOk result (options_of validation.new
+    ensures { OnOk result (options_of validation.new
         ≡ strict_options_if is_strict (options_of validation.old)) }
-    ensures algorithms { OnOk result (validation.new.algorithms.items
-        ≡ validation.old.algorithms.items) }
 {
     if !is_strict {
         return Ok(());
@@ -143,14 +137,14 @@ fn default_validation(alloc: Global) -> Result<Validation, Fault<'static>>
     }
 }
 
-/// Changes the options as the arguments ask for, but for the algorithms.
+/// Changes the options as the arguments ask for.
 fn change(
     alloc: Global,
     validation: &mut Validation,
     checks: &Checks<'_, '_>,
 ) -> Result<(), Fault<'static>>
     ensures { OnOk result (options_of validation.new
-        ≡ changed_options checks.now (options_of validation.old) validation.old.algorithms.items) }
+        ≡ changed_options checks.now (options_of validation.old)) }
 {
     let Ok(()) = set_names(alloc, validation, checks) else {
         return Err(Fault::Memory);
@@ -173,13 +167,16 @@ fn set_names(
       sub = option_or (option_map (λ s. s.now) checks.now.subject) (options_of validation.old).sub;
       understood = unwrap_or (option_map (λ names. among (λ s. s.now) names.now)
           checks.now.understood) (options_of validation.old).understood;
+      algorithms = unwrap_or (option_map (λ a. a.items) checks.now.algorithms)
+          validation.old.algorithms.items;
     }) }
 {
     set_audiences(alloc, validation, checks.audiences)?;
     set_issuers(alloc, validation, checks.issuers)?;
     set_subject(alloc, validation, checks.subject)?;
-    // `?` and `Ok(())`: the proof cannot refer to a call in tail position
     set_understood(alloc, validation, checks.understood)?;
+    // `?` and `Ok(())`: the proof cannot refer to a call in tail position
+    set_algorithms(alloc, validation, checks.algorithms.as_deref())?;
     Ok(())
 }
 
@@ -237,6 +234,22 @@ fn set_understood(
     }
 }
 
+fn set_algorithms(
+    alloc: Global,
+    validation: &mut Validation,
+    algorithms: Option<&[Algorithm]>,
+) -> Result<(), Error>
+    ensures { OnOk result (options_of validation.new ≡ record (options_of validation.old) {
+      algorithms = unwrap_or (option_map (λ a. a.now) algorithms.entry)
+          validation.old.algorithms.items;
+    }) }
+{
+    if let Some(algorithms) = algorithms {
+        validation.algorithms = algorithms.to_vec(alloc)?;
+    }
+    Ok(())
+}
+
 /// Changes the claims that are required as the arguments ask for.
 fn set_required(
     alloc: Global,
@@ -280,7 +293,7 @@ fn require_named(
     }
 }
 
-/// Adds the names of claims, each of which can be required.
+/// Adds the names of claims.
 fn require_all(
     alloc: Global,
     claims: &mut HashSet<String>,
@@ -290,9 +303,6 @@ fn require_all(
         ≡ (among (λ s. s.now) names.now t || contains_text claims.old t)) }
 {
     for name in names {
-        if !REQUIRABLE.contains(name) {
-            return Err(Fault::Usage("--require wants exp, nbf, aud, iss or sub"));
-        }
         require(alloc, claims, name)?;
     }
     Ok(())
@@ -321,32 +331,4 @@ fn require_if(
         require(alloc, claims, name)?;
     }
     Ok(())
-}
-
-/// Changes the algorithms, if the arguments name any.
-fn set_algorithms(
-    alloc: Global,
-    validation: &mut Validation,
-    names: Option<&[&str]>,
-) -> Result<(), Fault<'static>>
-    ensures chosen { OnOk result (AreChosen names.entry validation.old.algorithms.items
-        validation.new.algorithms.items) }
-    ensures rest { OnOk result (options_of validation.new ≡ record (options_of validation.old)
-        { algorithms = validation.new.algorithms.items }) }
-{
-    if let Some(names) = names {
-        validation.algorithms = algorithms(alloc, names)?;
-    }
-    Ok(())
-}
-
-/// Returns the algorithms of these names.
-fn algorithms(alloc: Global, names: &[&str]) -> Result<Vec<Algorithm>, Fault<'static>>
-    ensures { IfOk result (λ a. AreNamed names.now a.items) }
-{
-    let mut algorithms = Vec::new(alloc);
-    for name in names {
-        algorithms.push(algorithm(name)?)?;
-    }
-    Ok(algorithms)
 }

@@ -1,7 +1,7 @@
 use Rattle.std.proofs.Common.{◌≡◌, Some, map, take}
 use Rattle.jwt_base.specs.Algorithm.{algorithm_named}
-use Rattle.jwt_command.proofs.verify.options.algorithms.Given as goal
+use Rattle.jwt_command.proofs.request.algorithms_named.Given as goal
 
 -- the algorithms of the names so far
 abbrev pub invariant-loop-name : goal.invariant-loop-name
-invariant-loop-name l = map (λ s. algorithm_named s.now) (take l.name-index l.names) ≡ map Some l.algorithms.items
+invariant-loop-name l = map algorithm_named (map (λ s. s.now) (take l.name-index l.names)) ≡ map Some l.algorithms.items
