@@ -1,7 +1,7 @@
 //! The faults that end the program.
 
 use jsonwebtoken::errors::Error;
-use std::alloc::AllocError;
+use std::alloc::{AllocError, AllocFailed};
 use std::io;
 
 /// The reason for which the program stopped.
@@ -29,6 +29,12 @@ impl From<io::Error> for Fault {
 
 impl From<AllocError> for Fault {
     fn from(refused: AllocError) -> Fault {
+        Fault::Refused(Error::from(refused))
+    }
+}
+
+impl<T: Drop> From<AllocFailed<T>> for Fault {
+    fn from(refused: AllocFailed<T>) -> Fault {
         Fault::Refused(Error::from(refused))
     }
 }

@@ -8,15 +8,22 @@ mod verdict;
 
 use crate::fault::Fault;
 use secret::{TOKEN, verify_with_secret};
+use serde_json::Value;
 use std::rt::Runtime;
 
 /// Prints the result of each sample.
 pub fn show_samples<T: Runtime + AllocGlobal>(rt: &T) -> Result<(), Fault> {
     let claims = verify_with_secret(rt.alloc(), TOKEN.as_bytes(), 0)?;
-    println!(rt; "{claims}")?;
-    secret::show(rt, &claims)?;
-    signature::show(rt, &claims)?;
+    show_issued(rt, &claims)?;
+    drop(claims);
     key_set::show(rt)?;
     verdict::show(rt)?;
     reasons::show(rt)
+}
+
+/// Prints the claims, and the tokens that are issued for them.
+fn show_issued<T: Runtime + AllocGlobal>(rt: &T, claims: &Value) -> Result<(), Fault> {
+    println!(rt; "{claims}")?;
+    secret::show(rt, claims)?;
+    signature::show(rt, claims)
 }

@@ -38,7 +38,13 @@ pub fn show<T: Runtime + AllocGlobal>(rt: &T, claims: &Value) -> Result<(), Faul
     let alloc = rt.alloc();
     println!(rt; "{}", sign_with_secret(alloc, claims)?)?;
     let provider = PreparedHmac::new(alloc, Algorithm::HS256, b"secret")?; // once
-    let data = verify_with_prepared(alloc, &provider, NO_AUDIENCE.as_bytes(), 0)?;
+    show_prepared(rt, &provider)
+}
+
+fn show_prepared<T: Runtime + AllocGlobal>(rt: &T, provider: &PreparedHmac) -> Result<(), Fault> {
+    let alloc = rt.alloc();
+    let data = verify_with_prepared(alloc, provider, NO_AUDIENCE.as_bytes(), 0)?;
+    let data = Box::new(alloc, data)?;
     println!(rt; "{}", data.claims)?;
     Ok(())
 }

@@ -32,7 +32,7 @@ const DER: [u8; 71] = [
 /// Prints the token of the claims.
 pub fn show<T: Runtime + AllocGlobal>(rt: &T, claims: &Value) -> Result<(), Fault> {
     let alloc = rt.alloc();
-    let header = Header::new(alloc, Algorithm::ES256)?;
+    let header = Box::new(alloc, Header::new(alloc, Algorithm::ES256)?)?;
     let token = sign_elsewhere(alloc, &header, claims)?;
     println!(rt; "{token}")?;
     Ok(())

@@ -36,6 +36,7 @@ const SIGNATURE: [u8; 64] = [
 /// Prints the claims of the token.
 pub fn show<T: Runtime + AllocGlobal>(rt: &T) -> Result<(), Fault> {
     let data = verify_elsewhere(rt.alloc(), TOKEN.as_bytes(), 1300819380)?;
+    let data = Box::new(rt.alloc(), data)?;
     println!(rt; "{}", data.claims)?;
     Ok(())
 }
