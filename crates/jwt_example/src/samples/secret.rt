@@ -42,11 +42,9 @@ pub fn show<T: Runtime + AllocGlobal>(rt: &T, claims: &Value) -> Result<(), Faul
 }
 
 fn show_prepared<T: Runtime + AllocGlobal>(rt: &T, provider: &PreparedHmac) -> Result<(), Fault> {
-    let alloc = rt.alloc();
-    let data = verify_with_prepared(alloc, provider, NO_AUDIENCE.as_bytes(), 0)?;
-    let data = Box::new(alloc, data)?;
-    println!(rt; "{}", data.claims)?;
-    Ok(())
+    let data = verify_with_prepared(rt.alloc(), provider, NO_AUDIENCE.as_bytes(), 0)?;
+    let data = Box::new(rt.alloc(), data)?;
+    Ok(println!(rt; "{}", data.claims)?)
 }
 
 /// Returns the header and claims of a token, verified with a secret that is prepared.
