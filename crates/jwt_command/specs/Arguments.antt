@@ -1,6 +1,6 @@
 -- The request that the arguments of the command line stand for.
 use Rattle.std.specs.Prelude.{◌≡◌, ◌⊎◌, ◌&&◌, ◌^◌, ℕ, List, [], Bool, true, false, Option, Some, None, length, ltb, map}
-use Rattle.std.specs.Prelude.{option_map, if◌then◌else◌, codes}
+use Rattle.std.specs.Prelude.{All, IfSome, option_map, if◌then◌else◌, codes}
 use Rattle.std.specs.Borrow.{Bor}
 use Rattle.std.specs.Option.{option_or}
 use Rattle.std.specs.Str.{all_ascii_digits}
@@ -66,6 +66,11 @@ IsKeyFile f (file.Pem path) =
     (first_value f (codes "secret-file") ≡ None) × (first_value f (codes "jwk") ≡ None)
     × (first_value f (codes "jwks") ≡ None) × (first_value f (codes "pem") ≡ Some path.now)
 
+-- a claim that can be required (RFC 7519 section 4.1)
+abbrev pub IsRequirable : List ℕ → Type 0
+IsRequirable name = (name ≡ codes "exp") ⊎ (name ≡ codes "nbf") ⊎ (name ≡ codes "aud") ⊎ (name ≡ codes "iss")
+    ⊎ (name ≡ codes "sub")
+
 -- what a token is checked against
 pub record AreChecks (f : Found) (c : Checks) : Type 0 where
   pub options : text_of c.options ≡ first_value f (codes "options")
@@ -78,6 +83,7 @@ pub record AreChecks (f : Found) (c : Checks) : Type 0 where
   pub leeway : IsNumberOf (first_value f (codes "leeway")) c.leeway
   pub not_within : IsNumberOf (first_value f (codes "not-within")) c.not_within
   pub required : texts_of c.required ≡ values_of f (codes "require")
+  pub requirable : IfSome c.required (λ names. All (λ s. IsRequirable s.now) names.now)
   pub checks_nbf : IsFlag f (codes "nbf") c.checks_nbf
   pub skips_exp : IsFlag f (codes "no-exp") c.skips_exp
   pub understood : texts_of c.understood ≡ values_of f (codes "crit")

@@ -1,10 +1,10 @@
 //! The request of the arguments.
 
-ghost use Rattle.std.specs.Prelude.{◌≡◌, Some, false, IfOk, codes, map, option_map};
+ghost use Rattle.std.specs.Prelude.{◌≡◌, ◌↔◌, Some, false, All, IfOk, IfSome, IsTrue, codes, map, option_map};
 ghost use Rattle.clap.specs.Matches.{found_of, first_value};
 ghost use Rattle.jwt_base.specs.Algorithm.{algorithm_named};
 ghost use Rattle.jwt_command.specs.Arguments.{AreChecks, IsChecking, IsCommand, IsFile, IsFlag};
-ghost use Rattle.jwt_command.specs.Arguments.{IsHash, IsKeyFile, IsNumberOf, IsRequestOf};
+ghost use Rattle.jwt_command.specs.Arguments.{IsHash, IsKeyFile, IsNumberOf, IsRequestOf, IsRequirable};
 ghost use Rattle.jwt_command.specs.Arguments.{IsShowing, IsSigningOf, texts_of};
 
 pub(crate) mod arguments;
@@ -16,9 +16,6 @@ use clap::ArgMatches;
 use jsonwebtoken::Algorithm;
 use jsonwebtoken::jwk::ThumbprintHash;
 use std::alloc::Global;
-
-/// The claims that can be required.
-const REQUIRABLE: [&str; 5] = ["exp", "nbf", "aud", "iss", "sub"];
 
 /// The file of the keys that a token is verified with.
 #[derive(Clone, Copy)]
@@ -210,6 +207,20 @@ fn file<'a>(matches: &ArgMatches<'a>) -> &'a str
     matches.get_str("file").unwrap_or("")
 }
 
+fn time(matches: &ArgMatches<'_>, id: &str) -> Result<Option<u64>, Fault<'static>>
+    ensures { IfOk result (IsNumberOf (first_value (found_of matches.now) id.now)) }
+{
+    let Some(text) = matches.get_str(id) else {
+        return Ok(None);
+    };
+    match parse_time(text) {
+        Some(time) => Ok(Some(time)),
+        None => Err(Fault::Usage(
+            "--now wants seconds since 1970 UTC, or a time such as 2026-01-31T12:00:00Z",
+        )),
+    }
+}
+
 fn checks_asked<'m, 'a: 'm>(
     alloc: Global,
     matches: &'m ArgMatches<'a>,
@@ -232,7 +243,7 @@ fn checks_asked<'m, 'a: 'm>(
             "not-within",
             "--not-within wants seconds, or a span such as 5m",
         )?,
-        required: requirable(matches.get_strs("require"))?,
+        required: requirable_claims(matches.get_strs("require"))?,
         checks_nbf: matches.get_flag("nbf"),
         skips_exp: matches.get_flag("no-exp"),
         understood: matches.get_strs("crit"),
@@ -256,34 +267,27 @@ fn span(
     }
 }
 
-fn time(matches: &ArgMatches<'_>, id: &str) -> Result<Option<u64>, Fault<'static>>
-    ensures { IfOk result (IsNumberOf (first_value (found_of matches.now) id.now)) }
-{
-    let Some(text) = matches.get_str(id) else {
-        return Ok(None);
-    };
-    match parse_time(text) {
-        Some(time) => Ok(Some(time)),
-        None => Err(Fault::Usage(
-            "--now wants seconds since 1970 UTC, or a time such as 2026-01-31T12:00:00Z",
-        )),
-    }
-}
-
 /// Returns the names, if each is that of a claim that can be required.
-fn requirable<'m, 'a: 'm>(
+fn requirable_claims<'m, 'a: 'm>(
     names: Option<&'m [&'a str]>,
 ) -> Result<Option<&'m [&'a str]>, Fault<'static>>
-    ensures { IfOk result (λ given. given ≡ names.entry) }
+    ensures given { IfOk result (λ given. given ≡ names.entry) }
+    ensures requirable { IfOk result (λ given. IfSome given (λ names. All (λ s. IsRequirable s.now) names.now)) }
 {
     let Some(given) = names else {
         return Ok(None);
     };
-    if given.iter().all(|name| REQUIRABLE.contains(name)) {
-        Ok(names)
+    if given.iter().all(|name| is_requirable(name)) {
+        Ok(Some(given))
     } else {
         Err(Fault::Usage("--require wants exp, nbf, aud, iss or sub"))
     }
+}
+
+fn is_requirable(name: &str) -> bool
+    ensures { IsTrue result ↔ IsRequirable name.now }
+{
+    matches!(name, "exp" | "nbf" | "aud" | "iss" | "sub")
 }
 
 fn algorithms(
