@@ -8,22 +8,20 @@ mod verdict;
 
 use crate::fault::Fault;
 use secret::{TOKEN, verify_with_secret};
-use serde_json::Value;
 use std::rt::Runtime;
 
 /// Prints the result of each sample.
 pub fn show_samples<T: Runtime + AllocGlobal>(rt: &T) -> Result<(), Fault> {
-    let claims = verify_with_secret(rt.alloc(), TOKEN.as_bytes(), 0)?;
-    show_issued(rt, &claims)?;
-    drop(claims);
+    show_with_secret(rt)?;
     key_set::show(rt)?;
     verdict::show(rt)?;
     reasons::show(rt)
 }
 
-/// Prints the claims, and the tokens that are issued for them.
-fn show_issued<T: Runtime + AllocGlobal>(rt: &T, claims: &Value) -> Result<(), Fault> {
+/// Prints the claims of a token, and the tokens that are issued for them.
+fn show_with_secret<T: Runtime + AllocGlobal>(rt: &T) -> Result<(), Fault> {
+    let claims = verify_with_secret(rt.alloc(), TOKEN.as_bytes(), 0)?;
     println!(rt; "{claims}")?;
-    secret::show(rt, claims)?;
-    signature::show(rt, claims)
+    secret::show(rt, &claims)?;
+    signature::show(rt, &claims)
 }
