@@ -357,7 +357,7 @@ def ten_thousand_keys():
         begin = time.process_time()
         for _ in range(100):
             decoded(client, token("9999"))
-        # once takes a second
+        # to read it takes a second
         test("the set is read once", time.process_time() - begin < 10 and len(server.heads) == 1)
         server.answer = says(set_of(*map(str, range(20000))))
         raises(jwt.PyJWKClientError, client.get_jwk_set, refresh=True, said="more than 1048576 bytes")
