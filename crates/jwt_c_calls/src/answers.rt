@@ -6,7 +6,9 @@
 // Numbers that are not exact are refused by a call of its own, `jwt_check_numbers`, since
 // `Validation::from_value` has no option for it.
 
-ghost use Rattle.std.specs.Prelude.{◌≡◌, ◌⊎◌, [], Some, false, IfOk, IfErr, OnOk};
+ghost use Rattle.std.specs.Prelude.{◌≡◌, ◌⊎◌, ◌≤◌, [], Some, false, IfOk, IfErr, OnOk};
+ghost use Rattle.serde_json.specs.Data.{depth};
+ghost use Rattle.serde_json.specs.Read.{max_depth};
 ghost use Rattle.serde_json.specs.View.{view};
 ghost use Rattle.serde_json.specs.Written.{has_float};
 ghost use Rattle.jwt_base.specs.Kind as kind;
@@ -15,10 +17,10 @@ ghost use Rattle.jwt_header.specs.Header.{header_value};
 ghost use Rattle.jwt_validation.specs.OptionsOf.{options_of};
 ghost use Rattle.jsonwebtoken.specs.Order.{Passes, FailsFirst};
 ghost use Rattle.jsonwebtoken.specs.Tests.{Contents, header_order, header_call, token_tests};
-ghost use Rattle.jwt_c_calls.specs.Calls.{Gives, AnswersHmac, AnswersKey, AnswersSet};
+ghost use Rattle.jwt_c_calls.specs.Calls.{Gives, Refuses, AnswersHmac, AnswersKey, AnswersSet};
 ghost use Rattle.jwt_c_calls.specs.Calls.{AnswersVerdict, AnswersSaid, AnswersHeader};
 ghost use Rattle.jwt_c_calls.specs.Calls.{AnswersNumbers, PassesByJwk, FailsByJwk, HandsOut};
-ghost use Rattle.jwt_c_calls.specs.Calls.{IsHeaderText, answer_of, answer_in, said_value};
+ghost use Rattle.jwt_c_calls.specs.Calls.{IsHeaderText, IsTextOf, answer_of, answer_in, said_value};
 ghost use Rattle.jwt_c_calls.specs.Status.{algorithm_numbered};
 
 use crate::inputs::{CallRefusal, Input, read_as, read_claims};
@@ -54,6 +56,9 @@ pub fn hmac_answer(
     let validation = read_as(Input::Options, Validation::from_slice(alloc, options))?;
     let key = DecodingKey::from_secret(alloc, secret)?;
     let answer = decode(alloc, &HmacProvider, token, &key, &validation, time);
+    // dropped at one place: each exit would have to be proved to drop every field
+    drop(key);
+    drop(validation);
     hand_out(alloc, answer)
 }
 
@@ -72,6 +77,8 @@ pub fn key_answer(
     let validation = read_as(Input::Options, Validation::from_slice(alloc, options))?;
     let jwk = read_as(Input::Key, Jwk::from_slice(alloc, key))?;
     let answer = decode_by_jwk(alloc, token, &jwk, &validation, time);
+    drop(jwk);
+    drop(validation);
     hand_out(alloc, answer)
 }
 
@@ -90,6 +97,8 @@ pub fn set_answer(
     let validation = read_as(Input::Options, Validation::from_slice(alloc, options))?;
     let keys = read_as(Input::Set, JwkSet::from_slice(alloc, set))?;
     let answer = decode_with_set(alloc, &StandardProvider, token, &keys, &validation, time);
+    drop(keys);
+    drop(validation);
     hand_out(alloc, answer)
 }
 
@@ -149,12 +158,22 @@ fn hand_out(alloc: Global, answer: Result<TokenData<Value>, Error>) -> Result<Ve
     ensures { HandsOut (λ d. d.claims) (λ b. b.items) answer result }
 {
     match answer {
-        Ok(data) => match data.claims.to_vec(alloc) {
-            Ok(text) => Ok(text),
-            Err(refused) => Err(CallRefusal::from(refused)),
-        },
+        Ok(data) => {
+            let text = claims_text(alloc, &data.claims);
+            drop(data);
+            text
+        }
         Err(refused) => Err(CallRefusal::from(refused)),
     }
+}
+
+fn claims_text(alloc: Global, claims: &Value) -> Result<Vec<u8>, CallRefusal>
+    ensures text { IfOk result (λ b. depth (view claims.now) ≤ max_depth
+        → IsTextOf b.items (view claims.now)) }
+    ensures err { IfErr result (λ r. answer_of r ≡ Refuses kind.OutOfMemory) }
+{
+    let text = claims.to_vec(alloc)?;
+    Ok(text)
 }
 
 // Returns the claims of a token that is verified with the key that a JSON Web Key stands for, by
@@ -173,7 +192,9 @@ fn decode_by_jwk(
         ⊎ FailsByJwk token.now time (options_of validation.now) jwk.now (kind_of e)) }
 {
     let key = DecodingKey::from_jwk(alloc, jwk)?;
-    decode(alloc, &StandardProvider, token, &key, validation, time)
+    let answer = decode(alloc, &StandardProvider, token, &key, validation, time);
+    drop(key);
+    answer
 }
 
 fn verdict_answer(
@@ -190,6 +211,7 @@ fn verdict_answer(
 {
     let validation = read_as(Input::Options, Validation::from_slice(alloc, options))?;
     let answer = decode_by_verdict(alloc, token, verdict, &validation, time);
+    drop(validation);
     hand_out(alloc, answer)
 }
 
@@ -202,5 +224,7 @@ fn header_of(alloc: Global, token: &[u8]) -> Result<Value, Error>
         ⊎ FailsFirst (token_tests (header_call token.now)) header_order (kind_of e)) }
 {
     let header = decode_header(alloc, token)?;
-    header.to_value(alloc)
+    let value = header.to_value(alloc);
+    drop(header);
+    value
 }

@@ -31,7 +31,11 @@ pub fn input_answer(
 {
     let header = read_as(Input::Header, Header::from_slice(alloc, header))?;
     let claims = read_as(Input::Claims, read_claims(alloc, claims))?;
-    input_of(alloc, &header, &claims)
+    let input = input_of(alloc, &header, &claims);
+    // dropped at one place: each exit would have to be proved to drop every field
+    drop(claims);
+    drop(header);
+    input
 }
 
 /// Returns the token of a header and claims that were signed elsewhere, by the algorithm of this
@@ -93,7 +97,10 @@ fn given_answer(
 {
     let header = read_as(Input::Header, Header::from_slice(alloc, header))?;
     let claims = read_as(Input::Claims, read_claims(alloc, claims))?;
-    issue(alloc, &header, &claims, given)
+    let token = issue(alloc, &header, &claims, given);
+    drop(claims);
+    drop(header);
+    token
 }
 
 fn issue(

@@ -1,11 +1,12 @@
 //! The request of the arguments.
 
-ghost use Rattle.std.specs.Prelude.{◌≡◌, ◌↔◌, Some, false, All, IfOk, IfSome, IsTrue, codes, map, option_map};
+ghost use Rattle.std.specs.Prelude.{◌≡◌, ◌↔◌, Some, false, All, IfOk, IfSome, IsTrue, codes, map};
+ghost use Rattle.std.specs.Prelude.{option_map};
 ghost use Rattle.clap.specs.Matches.{found_of, first_value};
 ghost use Rattle.jwt_base.specs.Algorithm.{algorithm_named};
 ghost use Rattle.jwt_command.specs.Arguments.{AreChecks, IsChecking, IsCommand, IsFile, IsFlag};
-ghost use Rattle.jwt_command.specs.Arguments.{IsHash, IsKeyFile, IsNumberOf, IsRequestOf, IsRequirable};
-ghost use Rattle.jwt_command.specs.Arguments.{IsShowing, IsSigningOf, texts_of};
+ghost use Rattle.jwt_command.specs.Arguments.{IsHash, IsKeyFile, IsNumberOf, IsRequestOf};
+ghost use Rattle.jwt_command.specs.Arguments.{IsRequirable, IsShowing, IsSigningOf, texts_of};
 
 pub(crate) mod arguments;
 pub(crate) mod spans;
@@ -272,7 +273,8 @@ fn requirable_claims<'m, 'a: 'm>(
     names: Option<&'m [&'a str]>,
 ) -> Result<Option<&'m [&'a str]>, Fault<'static>>
     ensures given { IfOk result (λ given. given ≡ names.entry) }
-    ensures requirable { IfOk result (λ given. IfSome given (λ names. All (λ s. IsRequirable s.now) names.now)) }
+    ensures requirable { IfOk result (λ given. IfSome given
+        (λ names. All (λ s. IsRequirable s.now) names.now)) }
 {
     let Some(given) = names else {
         return Ok(None);

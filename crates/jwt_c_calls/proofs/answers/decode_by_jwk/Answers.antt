@@ -10,9 +10,9 @@ returns-in_err-key-clause-err c =
 
 pub returns-clause-ok : goal.returns-clause-ok
 returns-clause-ok c =
-    IfOk-weaker c.decode.result _ _ (λ d x. (x.0, (_, c.in_ok-key.ensures.ok, x.1), x.2)) c.decode.ensures.decided.accepted
+    IfOk-weaker c.decode-answer.result _ _ (λ d x. (x.0, (_, c.in_ok-key.ensures.ok, x.1), x.2)) c.decode-answer.ensures.decided.accepted
 
 pub returns-clause-err : goal.returns-clause-err
 returns-clause-err c =
-    IfErr-weaker c.decode.result _ _ (λ e x. or_memory (λ f. inr (_, c.in_ok-key.ensures.ok, f)) x)
-    c.decode.ensures.decided.refused
+    IfErr-weaker c.decode-answer.result _ _ (λ e x. or_memory (λ f. inr (_, c.in_ok-key.ensures.ok, f)) x)
+    c.decode-answer.ensures.decided.refused

@@ -35,8 +35,8 @@ returns-clause-ok c =
     c.in_ok-header.ensures c.from_slice.ensures.ok in
     let claims = read_ok (λ v. ReadsClaimsText c.args.claims.now (view v)) input.Claims c.read_claims.result _
     c.in_ok-claims.ensures c.read_claims.ensures.ok in
-    IfOk-weaker c.input_of.result _ _ (λ b x. read_first c.args.header.now c.args.claims.now _ _ header claims
-    (Gives (string_bytes b.message)) x) c.input_of.ensures.ok
+    IfOk-weaker c.input_of-input.result _ _ (λ b x. read_first c.args.header.now c.args.claims.now _ _ header claims
+    (Gives (string_bytes b.message)) x) c.input_of-input.ensures.ok
 
 pub returns-clause-err : goal.returns-clause-err
 returns-clause-err c =
@@ -44,11 +44,11 @@ returns-clause-err c =
     c.in_ok-header.ensures c.from_slice.ensures.ok in
     let claims = read_ok (λ v. ReadsClaimsText c.args.claims.now (view v)) input.Claims c.read_claims.result _
     c.in_ok-claims.ensures c.read_claims.ensures.ok in
-    IfErr-weaker c.input_of.result _ _ (λ r x. read_first c.args.header.now c.args.claims.now _ _ header claims
-    (answer_of r) x) c.input_of.ensures.err
+    IfErr-weaker c.input_of-input.result _ _ (λ r x. read_first c.args.header.now c.args.claims.now _ _ header claims
+    (answer_of r) x) c.input_of-input.ensures.err
 
 pub returns-clause-algorithm : goal.returns-clause-algorithm
 returns-clause-algorithm c =
     let header = read_ok (ReadsText ReadsHeader c.args.header.now) input.Header c.from_slice.result _
     c.in_ok-header.ensures c.from_slice.ensures.ok in
-    IfOk-weaker c.input_of.result _ _ (λ b e. (_, header, e)) c.input_of.ensures.algorithm
+    IfOk-weaker c.input_of-input.result _ _ (λ b e. (_, header, e)) c.input_of-input.ensures.algorithm

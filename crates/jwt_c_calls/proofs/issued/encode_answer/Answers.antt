@@ -34,8 +34,8 @@ returns-clause-ok c =
     c.in_ok-header.ensures c.from_slice.ensures.ok in
     let claims = read_ok (λ v. ReadsClaimsText c.args.claims.now (view v)) input.Claims c.read_claims.result _
     c.in_ok-claims.ensures c.read_claims.ensures.ok in
-    IfOk-weaker c.issue.result _ _ (λ b x. read_first c.args.header.now c.args.claims.now c.args.secret.now _ _ header
-    claims (Gives b.items) x) c.issue.ensures.ok
+    IfOk-weaker c.issue-token.result _ _ (λ b x. read_first c.args.header.now c.args.claims.now c.args.secret.now _ _ header
+    claims (Gives b.items) x) c.issue-token.ensures.ok
 
 pub returns-clause-err : goal.returns-clause-err
 returns-clause-err c =
@@ -43,5 +43,5 @@ returns-clause-err c =
     c.in_ok-header.ensures c.from_slice.ensures.ok in
     let claims = read_ok (λ v. ReadsClaimsText c.args.claims.now (view v)) input.Claims c.read_claims.result _
     c.in_ok-claims.ensures c.read_claims.ensures.ok in
-    IfErr-weaker c.issue.result _ _ (λ r x. read_first c.args.header.now c.args.claims.now c.args.secret.now _ _ header
-    claims (answer_of r) x) c.issue.ensures.err
+    IfErr-weaker c.issue-token.result _ _ (λ r x. read_first c.args.header.now c.args.claims.now c.args.secret.now _ _ header
+    claims (answer_of r) x) c.issue-token.ensures.err
