@@ -79,6 +79,8 @@ fn thumbprint_of(alloc: Global, key: &[u8], hash: ThumbprintHash) -> Result<Vec<
     ensures err { IfErr result (λ r. AnswersHashed hash key.now (answer_of r)) }
 {
     let key = read_as(Input::Key, Jwk::from_slice(alloc, key))?;
-    let text = key.thumbprint(alloc, &HmacProvider, hash)?;
+    let text = key.thumbprint(alloc, &HmacProvider, hash);
+    drop(key);
+    let text = text?;
     Ok(text.into_bytes())
 }

@@ -55,7 +55,10 @@ pub fn options_and_key(
 {
     let validation = read_as(Input::Options, Validation::from_slice(alloc, options))?;
     let jwk = read_as(Input::Key, Jwk::from_slice(alloc, key))?;
-    let key = DecodingKey::from_jwk(alloc, &jwk)?;
+    let made = DecodingKey::from_jwk(alloc, &jwk);
+    // dropped at one place: each exit would have to be proved to drop every field
+    drop(jwk);
+    let key = made?;
     Ok((validation, key))
 }
 

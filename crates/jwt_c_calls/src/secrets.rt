@@ -75,7 +75,11 @@ fn key_answer(alloc: Global, key: &[u8]) -> Result<u32, CallRefusal>
         (MisreadsOne input.Key (ReadsText ReadsKey key.now)) (λ _ _. ⊥) (λ _ _. ⊥) (answer_of r)) }
 {
     let jwk = read_as(Input::Key, Jwk::from_slice(alloc, key))?;
-    Ok(jwk_answer(alloc, &jwk)?)
+    let status = jwk_answer(alloc, &jwk);
+    // dropped at one place: each exit would have to be proved to drop every field
+    drop(jwk);
+    let status = status?;
+    Ok(status)
 }
 
 fn jwk_answer(alloc: Global, jwk: &Jwk) -> Result<u32, Error>

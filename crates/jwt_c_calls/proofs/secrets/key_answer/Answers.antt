@@ -16,4 +16,4 @@ pub returns-clause-ok : goal.returns-clause-ok
 returns-clause-ok c =
     let read = read_ok (ReadsText ReadsKey c.args.key.now) input.Key c.from_slice.result _ c.in_ok-jwk.ensures
     c.from_slice.ensures.ok in
-    (_, read, c.in_ok-jwk_answer.ensures.ok)
+    (_, read, c.in_ok-status.ensures.ok)
