@@ -35,7 +35,11 @@ pub fn hmac_moments(
         token,
         &key,
         &validation,
-    )?;
+    );
+    // dropped at one place: each exit would have to be proved to drop every field
+    drop(key);
+    drop(validation);
+    let found = found?;
     Ok(found)
 }
 
@@ -59,7 +63,10 @@ pub fn key_moments(
         token,
         &key,
         &validation,
-    )?;
+    );
+    drop(key);
+    drop(validation);
+    let found = found?;
     Ok(found)
 }
 
@@ -82,7 +89,10 @@ pub fn set_moments(
         token,
         &keys,
         &validation,
-    )?;
+    );
+    drop(keys);
+    drop(validation);
+    let found = found?;
     Ok(found)
 }
 
