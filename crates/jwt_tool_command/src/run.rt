@@ -243,7 +243,10 @@ fn header_value(alloc: Global, input: &[u8]) -> Result<Value>
         ⊎ FailsFirst (token_tests (header_call input.now)) header_order (kind_of e)) }
 {
     let header = decode_header(alloc, input)?;
-    header.to_value(alloc)
+    let value = header.to_value(alloc);
+    // dropped at one place: each exit would have to be proved to drop every field
+    drop(header);
+    value
 }
 
 fn claims_value(
@@ -289,7 +292,11 @@ fn issued_token(alloc: Global, algorithm: Algorithm, secret: &str, input: &[u8])
     let claims = json_value(alloc, input)?;
     let key = EncodingKey::from_secret(alloc, secret.as_bytes())?;
     let header = Header::new(alloc, algorithm)?;
-    encode(alloc, &HmacProvider, &header, &claims, &key)
+    let token = encode(alloc, &HmacProvider, &header, &claims, &key);
+    drop(header);
+    drop(key);
+    drop(claims);
+    token
 }
 
 /// Returns the thumbprint of the key that the input is the JSON text of.
@@ -298,5 +305,7 @@ fn key_thumbprint(alloc: Global, hash: ThumbprintHash, input: &[u8]) -> Result<S
     ensures err { IfErr result (λ e. IsMemory e ⊎ HasThumbprintFault input.now (kind_of e)) }
 {
     let key = Jwk::from_slice(alloc, input)?;
-    key.thumbprint(alloc, &HmacProvider, hash)
+    let text = key.thumbprint(alloc, &HmacProvider, hash);
+    drop(key);
+    text
 }

@@ -12,12 +12,12 @@ returns-in_err-key-clause-err c =
 
 pub returns-clause-err : goal.returns-clause-err
 returns-clause-err c =
-    IfErr-weaker c.thumbprint.result _ _ (λ e f. without_text (hash_bytes (hash_named c.args.hash)) c.args.input.now
-    c.in_ok-key.key e c.in_ok-key.ensures.ok f) c.thumbprint.ensures.err
+    IfErr-weaker c.thumbprint-text.result _ _ (λ e f. without_text (hash_bytes (hash_named c.args.hash)) c.args.input.now
+    c.in_ok-key.key e c.in_ok-key.ensures.ok f) c.thumbprint-text.ensures.err
 
 pub returns-clause-ok : goal.returns-clause-ok
 returns-clause-ok c =
-    IfOk-weaker c.thumbprint.result _ _
+    IfOk-weaker c.thumbprint-text.result _ _
     (λ x t. (
       c.in_ok-key.key,
       (
@@ -25,4 +25,4 @@ returns-clause-ok c =
         text_under (hash_bytes (hash_named c.args.hash))
             (thumb_text c.in_ok-key.key) _ t.0 t.1.0 t.1.1,
       ),
-    )) c.thumbprint.ensures.ok
+    )) c.thumbprint-text.ensures.ok
