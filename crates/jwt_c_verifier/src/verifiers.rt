@@ -132,7 +132,12 @@ pub fn answer_until(
     ensures err { IfErr result (λ d. IsRefusedWith verifier.now token.now time d.status d.test) }
 {
     match verifier.decode_or_refusal::<Value>(alloc, token, time) {
-        Ok(decoded) => hand_out(alloc, &decoded, &verifier.validation),
+        Ok(decoded) => {
+            let accepted = hand_out(alloc, &decoded, &verifier.validation);
+            // dropped at one place: each exit would have to be proved to drop every field
+            drop(decoded);
+            accepted
+        }
         Err(Rejection::TooLong) => Err(Denied {
             status: TOKEN_TOO_LONG.0,
             test: 0,

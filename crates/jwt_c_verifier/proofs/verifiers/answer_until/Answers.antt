@@ -10,11 +10,11 @@ returns-in-Ok-clause-ok c =
     let v = c.args.verifier.now in let decoded = c.in-Ok.decoded in
     handed_until v.keys v.validation c.args.token.now c.args.time fits decoded.header decoded.claims v.limits.max_len
     c.in-Ok.ensures.0 c.in-Ok.ensures.1.accepted
-    c.hand_out.result c.hand_out.ensures.text c.hand_out.ensures.last
+    c.hand_out-accepted.result c.hand_out-accepted.ensures.text c.hand_out-accepted.ensures.last
 
 pub returns-in-Ok-clause-err : goal.returns-in-Ok-clause-err
 returns-in-Ok-clause-err c = out_of_memory c.args.verifier.now c.args.token.now c.args.time c.in-Ok.ensures.0
-    c.hand_out.result c.hand_out.ensures.err
+    c.hand_out-accepted.result c.hand_out-accepted.ensures.err
 
 pub returns-in-Err-Failed-clause-err : goal.returns-in-Err-Failed-clause-err
 returns-in-Err-Failed-clause-err c =
