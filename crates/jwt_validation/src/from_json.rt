@@ -39,9 +39,19 @@ pub(crate) fn read_validation(alloc: Global, value: &Value) -> Result<Validation
         ((o : Options) → ¬ ReadsOptions (view value.now) o)) }
 {
     check_names(value)?;
-    let is_strict = optional_flag(value, "strict", false)?;
+    let is_strict = is_strict(value)?;
     let members = read_members(alloc, value, is_strict)?;
     settle(alloc, members, is_strict)
+}
+
+// Options are not strict by default.
+fn is_strict(value: &Value) -> Result<bool>
+    ensures ok { IfOk result (λ b. or_default false as_bool (get (codes "strict") (view value.now))
+        ≡ Some b) }
+    ensures err { IfErr result (RefusesAs kind.Json
+        (or_default false as_bool (get (codes "strict") (view value.now)) ≡ None)) }
+{
+    optional_flag(value, "strict", false)
 }
 
 pub(crate) fn option_names() -> [&'static str; 12]
