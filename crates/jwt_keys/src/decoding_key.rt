@@ -1,6 +1,6 @@
 //! Verification keys.
 
-ghost use Rattle.std.specs.Prelude.{◌≡◌, ℕ, List, IfOk, IfErr};
+ghost use Rattle.std.specs.Prelude.{◌≡◌, ◌∷◌, ◌++◌, ℕ, List, IfOk, IfErr};
 ghost use Rattle.jwt_base.specs.Kind as kind;
 ghost use Rattle.jwt_base.specs.KindOf.{kind_of, IsMemory, RefusesAs};
 ghost use Rattle.jwt_base.specs.Base64Url.{IsStandardText, IsUrlText};
@@ -203,10 +203,7 @@ impl DecodingKey {
     {
         let x = part_bytes(alloc, x.as_bytes())?;
         let y = part_bytes(alloc, y.as_bytes())?;
-        let mut point = Vec::new(alloc);
-        point.push(4)?;
-        point.extend_from_slice(x.as_slice())?;
-        point.extend_from_slice(y.as_slice())?;
+        let point = point_bytes(alloc, x.as_slice(), y.as_slice())?;
         Ok(DecodingKey::plain(AlgorithmFamily::Ec, point))
     }
 
@@ -338,4 +335,16 @@ impl fmt::Debug for DecodingKey {
             .field("kind", &self.kind)
             .finish()
     }
+}
+
+// Returns a point that is not compressed (SEC 1 section 2.3.3).
+fn point_bytes(alloc: Global, x: &[u8], y: &[u8]) -> Result<Vec<u8>>
+    ensures ok { IfOk result (λ p. p.items ≡ 4 ∷ x.now ++ y.now) }
+    ensures err { IfErr result IsMemory }
+{
+    let mut point = Vec::new(alloc);
+    point.push(4)?;
+    point.extend_from_slice(x)?;
+    point.extend_from_slice(y)?;
+    Ok(point)
 }
