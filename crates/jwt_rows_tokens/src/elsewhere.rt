@@ -75,58 +75,42 @@ pub fn decode(row: &Row<'_>) -> Answer {
 /// Makes a call of `SignatureProvider`.
 pub fn signature(method: &str, row: &Row<'_>) -> Answer {
     let given = row.read::<Elsewhere>("given")?;
-    let provider = given.signature();
-    if method == "key" {
-        let alloc = row.begin();
-        return row.end(provider.key(alloc));
-    }
-    let algorithm = row.read::<Algorithm>("algorithm")?;
-    if method == "verifier_factory" {
-        let key = row.input::<DecodingKey>("key")?;
-        let alloc = row.begin();
-        return match provider.verifier_factory(alloc, &algorithm, &key) {
-            Ok(_verifier) => row.give(&()),
-            Err(refusal) => row.refuse(&refusal),
-        };
-    }
-    let key = signing_key(row, &provider)?;
-    by_signer(method, row, &provider, algorithm, &key)
+    by_signature(method, row, &given.signature())
 }
 
 /// Makes a call of `VerdictProvider`.
 pub fn verdict(method: &str, row: &Row<'_>) -> Answer {
     let given = row.read::<Elsewhere>("verdict")?;
-    let provider = given.verdict();
+    by_verdict(method, row, &given.verdict())
+}
+
+fn by_signature(method: &str, row: &Row<'_>, provider: &SignatureProvider<'_>) -> Answer {
     if method == "key" {
-        let alloc = row.begin();
-        return row.end(provider.key(alloc));
+        return row.end(provider.key(row.begin()));
+    }
+    let algorithm = row.read::<Algorithm>("algorithm")?;
+    if method == "verifier_factory" {
+        let key = row.input::<DecodingKey>("key")?;
+        return make_verifier(row, provider, algorithm, &key);
+    }
+    let key = signing_key(row, provider)?;
+    by_signer(method, row, provider, algorithm, &key)
+}
+
+fn by_verdict(method: &str, row: &Row<'_>, provider: &VerdictProvider<'_>) -> Answer {
+    if method == "key" {
+        return row.end(provider.key(row.begin()));
     }
     if method.starts_with("rsa_pub") {
-        return of_der(method, row, &provider);
+        return of_der(method, row, provider);
     }
     let algorithm = row.read::<Algorithm>("algorithm")?;
     if method == "signer_factory" {
         let key = row.input::<EncodingKey>("key")?;
-        return by_signer(method, row, &provider, algorithm, &key);
+        return by_signer(method, row, provider, algorithm, &key);
     }
-    let key = verification_key(row, &provider)?;
-    if method == "verifier_factory, verify" {
-        let verifier = provider
-            .verifier_factory(row.alloc(), &algorithm, &key)
-            .ok()?;
-        return verify(row, &verifier);
-    }
-    if method == "verifier_factory, verify each" {
-        let verifier = provider
-            .verifier_factory(row.alloc(), &algorithm, &key)
-            .ok()?;
-        return verify_each(row, &verifier);
-    }
-    let alloc = row.begin();
-    match provider.verifier_factory(alloc, &algorithm, &key) {
-        Ok(_verifier) => row.give(&()),
-        Err(refusal) => row.refuse(&refusal),
-    }
+    let key = verification_key(row, provider)?;
+    by_verifier(method, row, provider, algorithm, &key)
 }
 
 // Returns the signature that the row itself describes.
@@ -161,6 +145,39 @@ fn by_signer<P: CryptoProvider>(
     let alloc = row.begin();
     match provider.signer_factory(alloc, &algorithm, key) {
         Ok(_signer) => row.give(&()),
+        Err(refusal) => row.refuse(&refusal),
+    }
+}
+
+fn by_verifier<P: CryptoProvider>(
+    method: &str,
+    row: &Row<'_>,
+    provider: &P,
+    algorithm: Algorithm,
+    key: &DecodingKey,
+) -> Answer {
+    let is_each = method == "verifier_factory, verify each";
+    if !is_each && method != "verifier_factory, verify" {
+        return make_verifier(row, provider, algorithm, key);
+    }
+    let verifier = provider
+        .verifier_factory(row.alloc(), &algorithm, key)
+        .ok()?;
+    if is_each {
+        return verify_each(row, &verifier);
+    }
+    verify(row, &verifier)
+}
+
+fn make_verifier<P: CryptoProvider>(
+    row: &Row<'_>,
+    provider: &P,
+    algorithm: Algorithm,
+    key: &DecodingKey,
+) -> Answer {
+    let alloc = row.begin();
+    match provider.verifier_factory(alloc, &algorithm, key) {
+        Ok(_verifier) => row.give(&()),
         Err(refusal) => row.refuse(&refusal),
     }
 }

@@ -14,42 +14,23 @@ use std::alloc::Global;
 /// Makes a call of `PreparedHmac`.
 pub fn hmac(method: &str, row: &Row<'_>) -> Answer {
     if method == "zeroize" {
-        let asked = row.list("asked")?;
-        let mut provider = row.input::<PreparedHmac>("provider")?;
-        row.begin();
-        provider.zeroize();
-        return give_secrets(row, asked, &provider);
+        return zeroize(row);
     }
     let algorithm = row.read::<Algorithm>("algorithm")?;
     if method == "verifier_factory, zeroize, verify each" {
         return verify_after_zeroize(row, algorithm);
     }
     let secret = row.bytes("secret")?;
-    if method == "new" {
-        let asked = row.list("asked")?;
-        return match PreparedHmac::new(row.begin(), algorithm, secret.as_slice()) {
-            Ok(provider) => give_secrets(row, asked, &provider),
-            Err(refusal) => row.refuse(&refusal),
-        };
-    }
-    let mut provider = row.input::<PreparedHmac>("provider")?;
     match method {
-        "is_prepared" => {
-            row.begin();
-            row.give(&provider.is_prepared(algorithm, secret.as_slice()))
-        }
-        _ => add_secret(row, &mut provider, algorithm, secret.as_slice()),
+        "new" => new_hmac(row, algorithm, secret.as_slice()),
+        _ => of_secret(method, row, algorithm, secret.as_slice()),
     }
 }
 
 /// Makes a call of `PreparedRsa`.
 pub fn rsa(method: &str, row: &Row<'_>) -> Answer {
     if method == "new" {
-        let alloc = row.begin();
-        let provider = PreparedRsa::new(alloc);
-        row.stop();
-        let flags = keys(alloc, row.list("asked")?, &provider)?;
-        return row.give(&flags);
+        return new_rsa(row);
     }
     let n = row.bytes("n")?;
     let e = row.bytes("e")?;
@@ -61,6 +42,41 @@ pub fn rsa(method: &str, row: &Row<'_>) -> Answer {
         }
         _ => add_key(row, &mut provider, n.as_slice(), e.as_slice()),
     }
+}
+
+fn zeroize(row: &Row<'_>) -> Answer {
+    let asked = row.list("asked")?;
+    let mut provider = row.input::<PreparedHmac>("provider")?;
+    row.begin();
+    provider.zeroize();
+    give_secrets(row, asked, &provider)
+}
+
+fn new_hmac(row: &Row<'_>, algorithm: Algorithm, secret: &[u8]) -> Answer {
+    let asked = row.list("asked")?;
+    match PreparedHmac::new(row.begin(), algorithm, secret) {
+        Ok(provider) => give_secrets(row, asked, &provider),
+        Err(refusal) => row.refuse(&refusal),
+    }
+}
+
+fn of_secret(method: &str, row: &Row<'_>, algorithm: Algorithm, secret: &[u8]) -> Answer {
+    let mut provider = row.input::<PreparedHmac>("provider")?;
+    match method {
+        "is_prepared" => {
+            row.begin();
+            row.give(&provider.is_prepared(algorithm, secret))
+        }
+        _ => add_secret(row, &mut provider, algorithm, secret),
+    }
+}
+
+fn new_rsa(row: &Row<'_>) -> Answer {
+    let alloc = row.begin();
+    let provider = PreparedRsa::new(alloc);
+    row.stop();
+    let flags = keys(alloc, row.list("asked")?, &provider)?;
+    row.give(&flags)
 }
 
 fn give_secrets(row: &Row<'_>, asked: &[Value], provider: &PreparedHmac) -> Answer {

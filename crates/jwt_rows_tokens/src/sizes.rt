@@ -68,7 +68,6 @@ fn comes_back<P: CryptoProvider>(alloc: Global, provider: &P, token: &Token) -> 
     let key = EncodingKey::from_secret(alloc, secret)?;
     let text = encode(alloc, provider, &token.header, &token.claims, &key)?;
     let text = text.as_bytes();
-    // each token that is read is dropped in the function that looks at it
     Ok(
         header_comes_back(alloc, text, token)
             && is_read(alloc, provider, text, token)
@@ -78,20 +77,25 @@ fn comes_back<P: CryptoProvider>(alloc: Global, provider: &P, token: &Token) -> 
 
 fn header_comes_back(alloc: Global, text: &[u8], token: &Token) -> bool {
     match decode_header(alloc, text) {
-        Ok(header) => header == token.header,
+        Ok(header) => {
+            let is_back = header == token.header;
+            // One call: at the end of the scope the proof goes through each field.
+            drop(header);
+            is_back
+        }
         Err(_refusal) => false,
     }
 }
 
 fn is_read<P: CryptoProvider>(alloc: Global, provider: &P, text: &[u8], token: &Token) -> bool {
     is_back(
-        &read_back(alloc, provider, text, token.secret.as_bytes()),
+        read_back(alloc, provider, text, token.secret.as_bytes()),
         token,
     )
 }
 
 fn is_refused<P: CryptoProvider>(alloc: Global, provider: &P, text: &[u8]) -> bool {
-    is_forged(&read_back(alloc, provider, text, b"secret"))
+    is_forged(read_back(alloc, provider, text, b"secret"))
 }
 
 fn read_back<P: CryptoProvider>(
@@ -105,16 +109,25 @@ fn read_back<P: CryptoProvider>(
     decode(alloc, provider, text, &key, &options, 0)
 }
 
-fn is_back(answer: &Outcome<TokenData<Value>>, token: &Token) -> bool {
+fn is_back(answer: Outcome<TokenData<Value>>, token: &Token) -> bool {
     match answer {
-        Ok(data) => value_eq(&data.claims, &token.claims) && data.header == token.header,
+        Ok(data) => {
+            let is_back = value_eq(&data.claims, &token.claims) && data.header == token.header;
+            // One call: at the end of the scope the proof goes through each field.
+            drop(data);
+            is_back
+        }
         Err(_refusal) => false,
     }
 }
 
-fn is_forged(answer: &Outcome<TokenData<Value>>) -> bool {
+fn is_forged(answer: Outcome<TokenData<Value>>) -> bool {
     match answer {
-        Ok(_data) => false,
+        Ok(data) => {
+            // One call: at the end of the scope the proof goes through each field.
+            drop(data);
+            false
+        }
         Err(refusal) => *refusal.kind() == ErrorKind::InvalidSignature,
     }
 }
@@ -135,11 +148,11 @@ fn comes_back_in_parts(alloc: Global, token: &Token) -> Outcome<bool> {
 }
 
 fn are_read(alloc: Global, parts: &Jws<Value>, token: &Token) -> bool {
-    is_back(&read_parts(alloc, parts, token.secret.as_bytes()), token)
+    is_back(read_parts(alloc, parts, token.secret.as_bytes()), token)
 }
 
 fn are_refused(alloc: Global, parts: &Jws<Value>) -> bool {
-    is_forged(&read_parts(alloc, parts, b"secret"))
+    is_forged(read_parts(alloc, parts, b"secret"))
 }
 
 fn read_parts(alloc: Global, parts: &Jws<Value>, secret: &[u8]) -> Outcome<TokenData<Value>> {
@@ -157,7 +170,7 @@ fn comes_back_by_set(alloc: Global, count: usize) -> Outcome<bool> {
 }
 
 fn is_read_by_set(alloc: Global, text: &[u8], count: usize, token: &Token) -> bool {
-    is_back(&read_by_set(alloc, text, count), token)
+    is_back(read_by_set(alloc, text, count), token)
 }
 
 fn read_by_set(alloc: Global, text: &[u8], count: usize) -> Outcome<TokenData<Value>> {

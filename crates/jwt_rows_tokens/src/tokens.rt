@@ -139,11 +139,9 @@ pub fn read_token(call: &str, row: &Row<'_>) -> Answer {
 /// Returns what `Debug` writes of a token's data.
 pub fn debug_text(row: &Row<'_>) -> Answer {
     let token = row.bytes("token")?;
-    let alloc = row.alloc();
-    match insecure_decode::<Value>(alloc, token.as_slice()) {
-        Ok(data) => give_text(row, &data),
-        Err(_refusal) => None,
-    }
+    let data = insecure_decode::<Value>(row.alloc(), token.as_slice()).ok()?;
+    let data = Box::new(row.alloc(), data).ok()?;
+    give_text(row, &data)
 }
 
 fn with_key(row: &Row<'_>) -> Option<WithKey> {

@@ -3,10 +3,9 @@
 //! of these fields. Extras are the JSON object that reads as them, or a list of pairs of a name and
 //! a value, which are inserted in order.
 
-use crate::input::Input;
+use crate::input::{Input, set_optional};
 use crate::row::has_only;
-use jsonwebtoken::jwk::Jwk;
-use jsonwebtoken::{Enc, Extras, Header, Zip};
+use jsonwebtoken::{Extras, Header};
 use serde_json::Value;
 use std::alloc::Global;
 
@@ -29,27 +28,25 @@ impl Input for Extras {
 impl Input for Header {
     fn read(alloc: Global, described: &Value) -> Option<Header> {
         match described.get("header") {
-            Some(members) if has_only(described, &DESCRIBED) => {
-                let mut header = Header::from_value(alloc, members).ok()?;
-                set_fields(alloc, &mut header, described)?;
-                Some(header)
-            }
+            Some(members) if has_only(described, &DESCRIBED) => with_fields(
+                alloc, members, described,
+            ),
             Some(_) => None,
             None => Header::from_value(alloc, described).ok(),
         }
     }
 }
 
+fn with_fields(alloc: Global, members: &Value, fields: &Value) -> Option<Header> {
+    let mut header = Box::new(alloc, Header::from_value(alloc, members).ok()?).ok()?;
+    set_fields(alloc, &mut header, fields)?;
+    Some(Box::into_inner(header))
+}
+
 fn set_fields(alloc: Global, header: &mut Header, fields: &Value) -> Option<()> {
-    if let Some(described) = fields.get("enc") {
-        header.enc = Some(Enc::read(alloc, described)?);
-    }
-    if let Some(described) = fields.get("zip") {
-        header.zip = Some(Zip::read(alloc, described)?);
-    }
-    if let Some(described) = fields.get("jwk") {
-        header.jwk = Some(<Jwk as Input>::read(alloc, described)?);
-    }
+    set_optional(alloc, &mut header.enc, fields.get("enc"))?;
+    set_optional(alloc, &mut header.zip, fields.get("zip"))?;
+    set_optional(alloc, &mut header.jwk, fields.get("jwk"))?;
     if let Some(described) = fields.get("extras") {
         header.extras = Extras::read(alloc, described)?;
     }

@@ -73,13 +73,8 @@ impl Input for PublicKeyUse {
 impl Input for Enc {
     fn read(alloc: Global, described: &Value) -> Option<Enc> {
         match described.as_str() {
-            Some("A128CBC-HS256") => Some(Enc::A128CBC_HS256),
-            Some("A192CBC-HS384") => Some(Enc::A192CBC_HS384),
-            Some("A256CBC-HS512") => Some(Enc::A256CBC_HS512),
-            Some("A128GCM") => Some(Enc::A128GCM),
-            Some("A192GCM") => Some(Enc::A192GCM),
-            Some("A256GCM") => Some(Enc::A256GCM),
-            _ => Some(Enc::Other(other_name(alloc, described)?)),
+            Some(name) => known_enc(name),
+            None => Some(Enc::Other(other_name(alloc, described)?)),
         }
     }
 }
@@ -96,4 +91,16 @@ impl Input for Zip {
 /// Returns the name at `other`.
 pub fn other_name(alloc: Global, described: &Value) -> Option<Text> {
     Text::read(alloc, described.get("other")?)
+}
+
+fn known_enc(name: &str) -> Option<Enc> {
+    match name {
+        "A128CBC-HS256" => Some(Enc::A128CBC_HS256),
+        "A192CBC-HS384" => Some(Enc::A192CBC_HS384),
+        "A256CBC-HS512" => Some(Enc::A256CBC_HS512),
+        "A128GCM" => Some(Enc::A128GCM),
+        "A192GCM" => Some(Enc::A192GCM),
+        "A256GCM" => Some(Enc::A256GCM),
+        _ => None,
+    }
 }

@@ -9,15 +9,8 @@ use std::alloc::Global;
 impl Input for KeyOperations {
     fn read(alloc: Global, described: &Value) -> Option<KeyOperations> {
         match described.as_str() {
-            Some("sign") => Some(KeyOperations::Sign),
-            Some("verify") => Some(KeyOperations::Verify),
-            Some("encrypt") => Some(KeyOperations::Encrypt),
-            Some("decrypt") => Some(KeyOperations::Decrypt),
-            Some("wrapKey") => Some(KeyOperations::WrapKey),
-            Some("unwrapKey") => Some(KeyOperations::UnwrapKey),
-            Some("deriveKey") => Some(KeyOperations::DeriveKey),
-            Some("deriveBits") => Some(KeyOperations::DeriveBits),
-            _ => Some(KeyOperations::Other(other_name(alloc, described)?)),
+            Some(name) => known_operation(name),
+            None => Some(KeyOperations::Other(other_name(alloc, described)?)),
         }
     }
 }
@@ -38,5 +31,19 @@ impl Input for KeyOperationList {
     fn read(alloc: Global, described: &Value) -> Option<KeyOperationList> {
         let operations = Vec::<KeyOperations>::read(alloc, described)?;
         Some(KeyOperationList::from(operations))
+    }
+}
+
+fn known_operation(name: &str) -> Option<KeyOperations> {
+    match name {
+        "sign" => Some(KeyOperations::Sign),
+        "verify" => Some(KeyOperations::Verify),
+        "encrypt" => Some(KeyOperations::Encrypt),
+        "decrypt" => Some(KeyOperations::Decrypt),
+        "wrapKey" => Some(KeyOperations::WrapKey),
+        "unwrapKey" => Some(KeyOperations::UnwrapKey),
+        "deriveKey" => Some(KeyOperations::DeriveKey),
+        "deriveBits" => Some(KeyOperations::DeriveBits),
+        _ => None,
     }
 }

@@ -1,12 +1,11 @@
 //! The parameters of keys: the JSON value that reads as them. `other` holds the members of a key of
 //! the type `Other`, and `use_other` and `key_ops_other` set these fields of common parameters.
 
-use crate::input::Input;
+use crate::input::{Input, set_optional};
 use jsonwebtoken::jwk::{
     AlgorithmParameters, CommonParameters, EllipticCurve, EllipticCurveKeyParameters,
-    EllipticCurveKeyType, FreeMembers, KeyOperationList, OctetKeyPairParameters, OctetKeyPairType,
-    OctetKeyParameters, OctetKeyType, OtherKeyParameters, PublicKeyUse, RSAKeyParameters,
-    RSAKeyType,
+    EllipticCurveKeyType, FreeMembers, OctetKeyPairParameters, OctetKeyPairType,
+    OctetKeyParameters, OctetKeyType, OtherKeyParameters, RSAKeyParameters, RSAKeyType,
 };
 use serde_json::{Map, Value};
 use std::alloc::Global;
@@ -99,13 +98,18 @@ impl Input for AlgorithmParameters {
 
 impl Input for CommonParameters {
     fn read(alloc: Global, described: &Value) -> Option<CommonParameters> {
-        let mut common = CommonParameters::from_value(alloc, described).ok()?;
-        if let Some(name) = described.get("use_other") {
-            common.public_key_use = Some(PublicKeyUse::read(alloc, name)?);
-        }
-        if let Some(names) = described.get("key_ops_other") {
-            common.key_operations = Some(KeyOperationList::read(alloc, names)?);
-        }
-        Some(common)
+        let common = CommonParameters::from_value(alloc, described).ok()?;
+        let mut common = Box::new(alloc, common).ok()?;
+        set_optional(
+            alloc,
+            &mut common.public_key_use,
+            described.get("use_other"),
+        )?;
+        set_optional(
+            alloc,
+            &mut common.key_operations,
+            described.get("key_ops_other"),
+        )?;
+        Some(Box::into_inner(common))
     }
 }
