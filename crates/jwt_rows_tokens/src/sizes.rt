@@ -79,7 +79,7 @@ fn header_comes_back(alloc: Global, text: &[u8], token: &Token) -> bool {
     match decode_header(alloc, text) {
         Ok(header) => {
             let is_back = header == token.header;
-            // One call: at the end of the scope the proof goes through each field.
+            // dropped by one call: each exit would have to be proved to drop every field
             drop(header);
             is_back
         }
@@ -113,7 +113,6 @@ fn is_back(answer: Outcome<TokenData<Value>>, token: &Token) -> bool {
     match answer {
         Ok(data) => {
             let is_back = value_eq(&data.claims, &token.claims) && data.header == token.header;
-            // One call: at the end of the scope the proof goes through each field.
             drop(data);
             is_back
         }
@@ -124,7 +123,6 @@ fn is_back(answer: Outcome<TokenData<Value>>, token: &Token) -> bool {
 fn is_forged(answer: Outcome<TokenData<Value>>) -> bool {
     match answer {
         Ok(data) => {
-            // One call: at the end of the scope the proof goes through each field.
             drop(data);
             false
         }
