@@ -360,6 +360,21 @@ impl FromStr for KeyAlgorithm {
     }
 }
 
+impl KeyAlgorithm {
+    ghost use Rattle.jwt_base.specs.Algorithm.{key_text_of};
+
+    // Returns the name of the variant, which is displayed.
+    fn variant(self) -> &'static str
+        ensures { result.now ≡ key_text_of self }
+    {
+        match self {
+            KeyAlgorithm::RSA_OAEP => "RSA_OAEP",
+            KeyAlgorithm::RSA_OAEP_256 => "RSA_OAEP_256",
+            _ => self.name(),
+        }
+    }
+}
+
 impl fmt::Display for KeyAlgorithm {
     ghost use Rattle.std.specs.Prelude.{Some};
     ghost use Rattle.jwt_base.specs.Algorithm.{key_text_of};
@@ -367,24 +382,7 @@ impl fmt::Display for KeyAlgorithm {
     ghost output = { λ k. Some (key_text_of k) };
 
     fn fmt<W: fmt::Write>(&self, f: &mut fmt::Formatter<W>) -> fmt::Result {
-        match self {
-            KeyAlgorithm::HS256 => write!(f, "HS256"),
-            KeyAlgorithm::HS384 => write!(f, "HS384"),
-            KeyAlgorithm::HS512 => write!(f, "HS512"),
-            KeyAlgorithm::RS256 => write!(f, "RS256"),
-            KeyAlgorithm::RS384 => write!(f, "RS384"),
-            KeyAlgorithm::RS512 => write!(f, "RS512"),
-            KeyAlgorithm::PS256 => write!(f, "PS256"),
-            KeyAlgorithm::PS384 => write!(f, "PS384"),
-            KeyAlgorithm::PS512 => write!(f, "PS512"),
-            KeyAlgorithm::ES256 => write!(f, "ES256"),
-            KeyAlgorithm::ES384 => write!(f, "ES384"),
-            KeyAlgorithm::EdDSA => write!(f, "EdDSA"),
-            KeyAlgorithm::RSA1_5 => write!(f, "RSA1_5"),
-            KeyAlgorithm::RSA_OAEP => write!(f, "RSA_OAEP"),
-            KeyAlgorithm::RSA_OAEP_256 => write!(f, "RSA_OAEP_256"),
-            KeyAlgorithm::UNKNOWN_ALGORITHM => write!(f, "UNKNOWN_ALGORITHM"),
-        }
+        write!(f, "{}", self.variant())
     }
 }
 

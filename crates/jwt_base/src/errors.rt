@@ -215,6 +215,8 @@ impl ErrorKind {
 }
 
 impl ErrorKind {
+    ghost use Rattle.std.specs.Prelude.{◌++◌};
+    ghost use Rattle.jwt_base.specs.Kind.{text_of};
     ghost use Rattle.jwt_base.specs.equality.KindEq.{number_of_held, text_of_held};
 
     // Returns the place in the list of kinds, by which equality tells kinds apart.
@@ -262,6 +264,25 @@ impl ErrorKind {
             ErrorKind::Signing(text) => text.as_str(),
             ErrorKind::Provider(text) => text.as_str(),
             _ => "",
+        }
+    }
+
+    // Returns what is displayed before the string that the kind holds.
+    fn message(&self) -> &'static str
+        ensures { result.now ++ text_of_held self.now ≡ text_of (kind_held self.now) }
+    {
+        match self {
+            ErrorKind::MissingRequiredClaim(_) => "Missing required claim: ",
+            ErrorKind::InvalidClaimFormat(_) => "Invalid format for claim: ",
+            ErrorKind::InvalidRsaKey(_) => "RSA key invalid: ",
+            ErrorKind::Signing(_) => "Signing failed: ",
+            ErrorKind::Provider(_) => "Custom provider error: ",
+            ErrorKind::Base64 => "Base64 error",
+            ErrorKind::Json => "JSON error",
+            ErrorKind::Utf8 => "UTF-8 error",
+            ErrorKind::OutOfMemory => "Out of memory",
+            ErrorKind::ClockBeforeEpoch => "Clock before 1970",
+            _ => self.name(),
         }
     }
 }
@@ -407,35 +428,8 @@ impl fmt::Display for ErrorKind {
     ghost output = { λ k. Some (text_of (kind_held k)) };
 
     fn fmt<W: fmt::Write>(&self, f: &mut fmt::Formatter<W>) -> fmt::Result {
-        match self {
-            ErrorKind::MissingRequiredClaim(claim) => write!(f, "Missing required claim: {claim}"),
-            ErrorKind::InvalidClaimFormat(claim) => write!(f, "Invalid format for claim: {claim}"),
-            ErrorKind::InvalidRsaKey(message) => write!(f, "RSA key invalid: {message}"),
-            ErrorKind::Signing(message) => write!(f, "Signing failed: {message}"),
-            ErrorKind::Provider(message) => write!(f, "Custom provider error: {message}"),
-            ErrorKind::InvalidToken => write!(f, "InvalidToken"),
-            ErrorKind::InvalidSignature => write!(f, "InvalidSignature"),
-            ErrorKind::InvalidEcdsaKey => write!(f, "InvalidEcdsaKey"),
-            ErrorKind::InvalidEddsaKey => write!(f, "InvalidEddsaKey"),
-            ErrorKind::RsaFailedSigning => write!(f, "RsaFailedSigning"),
-            ErrorKind::InvalidAlgorithmName => write!(f, "InvalidAlgorithmName"),
-            ErrorKind::UnsupportedAlgorithm => write!(f, "UnsupportedAlgorithm"),
-            ErrorKind::InvalidKeyFormat => write!(f, "InvalidKeyFormat"),
-            ErrorKind::ExpiredSignature => write!(f, "ExpiredSignature"),
-            ErrorKind::InvalidIssuer => write!(f, "InvalidIssuer"),
-            ErrorKind::InvalidAudience => write!(f, "InvalidAudience"),
-            ErrorKind::InvalidSubject => write!(f, "InvalidSubject"),
-            ErrorKind::ImmatureSignature => write!(f, "ImmatureSignature"),
-            ErrorKind::InvalidAlgorithm => write!(f, "InvalidAlgorithm"),
-            ErrorKind::MissingAlgorithm => write!(f, "MissingAlgorithm"),
-            ErrorKind::Base64 => write!(f, "Base64 error"),
-            ErrorKind::Json => write!(f, "JSON error"),
-            ErrorKind::Utf8 => write!(f, "UTF-8 error"),
-            ErrorKind::OutOfMemory => write!(f, "Out of memory"),
-            ErrorKind::ClockBeforeEpoch => write!(f, "Clock before 1970"),
-            ErrorKind::InvalidCrit => write!(f, "InvalidCrit"),
-            ErrorKind::NoKey => write!(f, "NoKey"),
-        }
+        let (message, text) = (self.message(), self.held_text());
+        write!(f, "{message}{text}")
     }
 }
 
