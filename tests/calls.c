@@ -1679,6 +1679,25 @@ static void numbers(void) {
         is(rows[i].claims, jwt_check_numbers(BYTES(rows[i].claims)), rows[i].status);
 }
 
+static void times_of_issue(void) {
+    static const struct {
+        const char *name;
+        uint64_t issued_at, leeway, now;
+        uint32_t status;
+    } rows[] = {
+        {"issued now", 1700000000, 0, 1700000000, JWT_OK},
+        {"issued in a second", 1700000001, 0, 1700000000, JWT_IMMATURE_SIGNATURE},
+        {"issued in as many seconds as the leeway has", 1700000010, 10, 1700000000, JWT_OK},
+        {"issued a second after the leeway", 1700000011, 10, 1700000000, JWT_IMMATURE_SIGNATURE},
+        {"issued in 1970", 0, 0, 0, JWT_OK},
+        {"issued at the last second", UINT64_MAX, 0, UINT64_MAX - 1, JWT_IMMATURE_SIGNATURE},
+        {"a sum of more than 64 bits", UINT64_MAX, UINT64_MAX, UINT64_MAX, JWT_OK},
+        {"a sum that would be 0 in 64 bits", 1, 1, UINT64_MAX, JWT_OK},
+    };
+    for (size_t i = 0; i < sizeof rows / sizeof *rows; i++)
+        is(rows[i].name, jwt_check_issued_at(rows[i].issued_at, rows[i].leeway, rows[i].now), rows[i].status);
+}
+
 static void version(void) {
     struct answer a = fresh();
     a.status = jwt_version(a.room, ROOM, &a.len);
@@ -1715,6 +1734,7 @@ int main(void) {
     checked_keys();
     checked_sets();
     numbers();
+    times_of_issue();
     version();
     nesting();
     failed_tests();

@@ -39,6 +39,7 @@ _PROTOTYPES: dict[str, list[Any]] = {
     "jwt_ecdsa_signature": [*_BYTES, ctypes.c_uint32, *_BUFFER],
     "jwt_thumbprint": [*_BYTES, ctypes.c_uint32, *_BUFFER],
     "jwt_key_from_pem": [*_BYTES, *_BUFFER],
+    "jwt_check_issued_at": [ctypes.c_uint64] * 3,
     "jwt_check_secret": _BYTES,
     "jwt_check_key": _BYTES,
     "jwt_status_text": [ctypes.c_uint32, *_BUFFER],

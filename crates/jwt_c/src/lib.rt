@@ -19,6 +19,7 @@ ghost use Rattle.jwt_base.specs.Kind.{Kind, text_of};
 ghost use Rattle.jwt_c_calls.specs.BySignature.{AnswersSignature, AnswersEcdsa, LeavesInput};
 ghost use Rattle.jwt_c_calls.specs.Calls.{Answer, Leaves, LeavesSigned, AnswersHmac, AnswersKey};
 ghost use Rattle.jwt_c_calls.specs.Calls.{AnswersSet, AnswersSaid, AnswersHeader, AnswersNumbers};
+ghost use Rattle.jwt_c_calls.specs.Calls.{AnswersIssuedAt};
 ghost use Rattle.jwt_c_calls.specs.Calls.{status_of};
 ghost use Rattle.jwt_c_calls.specs.FirstFailed.{AnswersFailedHmac, AnswersFailedKey};
 ghost use Rattle.jwt_c_calls.specs.FirstFailed.{AnswersFailedSet};
@@ -45,7 +46,8 @@ use crate::handle::Handle;
 use crate::held::{leave_made, leave_until, put};
 use jsonwebtoken::signed_part;
 use jwt_c_calls::answers::{
-    CallerVerdict, header_answer, hmac_answer, key_answer, numbers_answer, said_answer, set_answer,
+    CallerVerdict, header_answer, hmac_answer, issued_at_answer, key_answer, numbers_answer,
+    said_answer, set_answer,
 };
 use jwt_c_calls::by_signature::{ecdsa_answer, input_answer, signature_answer};
 use jwt_c_calls::first_failed::{hmac_failed_test, key_failed_test, leave_name, set_failed_test};
@@ -481,6 +483,18 @@ pub extern "C" fn jwt_check_numbers(alloc: Global, claims: &[u8]) -> u32
     ensures { (a : Answer) × AnswersNumbers claims.now a × (result ≡ status_of a) }
 {
     match numbers_answer(alloc, claims) {
+        Ok(()) => OK.0,
+        Err(refusal) => status_of(&refusal),
+    }
+}
+
+/// Checks that a token was issued by the time `time`, or at most `leeway` seconds after it: else it
+/// returns the status of `ImmatureSignature` (RFC 7519 section 4.1.6).
+#[unsafe(no_mangle)]
+pub extern "C" fn jwt_check_issued_at(issued_at: u64, leeway: u64, time: u64) -> u32
+    ensures { (a : Answer) × AnswersIssuedAt issued_at leeway time a × (result ≡ status_of a) }
+{
+    match issued_at_answer(issued_at, leeway, time) {
         Ok(()) => OK.0,
         Err(refusal) => status_of(&refusal),
     }

@@ -1,5 +1,5 @@
 -- The results of the calls for C.
-use Rattle.std.specs.Prelude.{◌≡◌, ◌⊎◌, ◌≤◌, ℕ, List, [], Bool, true, false, length, Option, Some, None, Result, Ok, Err}
+use Rattle.std.specs.Prelude.{◌≡◌, ◌⊎◌, ◌≤◌, ◌<◌, ◌+◌, ℕ, List, [], Bool, true, false, length, Option, Some, None, Result, Ok, Err}
 use Rattle.json.specs.Lex.{tokens}
 use Rattle.json.specs.Print.{print}
 use Rattle.serde_json.specs.Data.{Data, depth}
@@ -196,6 +196,12 @@ AnswersNumbers text = AnswersBy {E = Data}
     (ReadsClaimsText text) (MisreadsOne input.Claims (ReadsClaimsText text))
     (λ claims bytes. (has_float claims ≡ false) × (bytes ≡ []))
     (λ claims k. (has_float claims ≡ true) × (k ≡ kind.Json))
+
+-- issued by the time and the leeway, else `ImmatureSignature` (RFC 7519 section 4.1.6)
+abbrev pub AnswersIssuedAt : ℕ → ℕ → ℕ → Answer → Type 0
+AnswersIssuedAt issued_at leeway time (Gives bytes) = (issued_at ≤ time + leeway) × (bytes ≡ [])
+AnswersIssuedAt issued_at leeway time (Refuses k) = (time + leeway < issued_at) × (k ≡ kind.ImmatureSignature)
+AnswersIssuedAt issued_at leeway time (Misreads i) = ⊥
 
 -- ---- the header and the message that is signed
 

@@ -19,8 +19,8 @@ ghost use Rattle.jsonwebtoken.specs.Order.{Passes, FailsFirst};
 ghost use Rattle.jsonwebtoken.specs.Tests.{Contents, header_order, header_call, token_tests};
 ghost use Rattle.jwt_c_calls.specs.Calls.{Gives, Refuses, AnswersHmac, AnswersKey, AnswersSet};
 ghost use Rattle.jwt_c_calls.specs.Calls.{AnswersVerdict, AnswersSaid, AnswersHeader};
-ghost use Rattle.jwt_c_calls.specs.Calls.{AnswersNumbers, PassesByJwk, FailsByJwk, HandsOut};
-ghost use Rattle.jwt_c_calls.specs.Calls.{IsHeaderText, IsTextOf, answer_of, answer_in, said_value};
+ghost use Rattle.jwt_c_calls.specs.Calls.{AnswersNumbers, AnswersIssuedAt, PassesByJwk, FailsByJwk};
+ghost use Rattle.jwt_c_calls.specs.Calls.{HandsOut, IsHeaderText, IsTextOf, answer_of, answer_in, said_value};
 ghost use Rattle.jwt_c_calls.specs.Status.{algorithm_numbered};
 
 use crate::inputs::{CallRefusal, Input, read_as, read_claims};
@@ -149,6 +149,18 @@ pub fn numbers_answer(alloc: Global, claims: &[u8]) -> Result<(), CallRefusal>
     let value = read_as(Input::Claims, read_claims(alloc, claims))?;
     if has_float(&value) {
         return Err(CallRefusal::Token(new_error(ErrorKind::Json)));
+    }
+    Ok(())
+}
+
+/// Checks that a token was issued by the time `time`, or at most `leeway` seconds after it; else the
+/// refusal is `ImmatureSignature`.
+pub fn issued_at_answer(issued_at: u64, leeway: u64, time: u64) -> Result<(), CallRefusal>
+    ensures ok { OnOk result (AnswersIssuedAt issued_at leeway time (Gives [])) }
+    ensures err { IfErr result (λ r. AnswersIssuedAt issued_at leeway time (answer_of r)) }
+{
+    if u128::from(issued_at) > u128::from(time) + u128::from(leeway) {
+        return Err(CallRefusal::Token(new_error(ErrorKind::ImmatureSignature)));
     }
     Ok(())
 }

@@ -35,5 +35,7 @@ pub fn session_of(
         validation,
         time,
     )?;
-    Ok(data.claims)
+    let TokenData { header, claims } = data;
+    drop(header);
+    Ok(claims)
 }

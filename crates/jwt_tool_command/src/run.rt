@@ -264,7 +264,10 @@ fn claims_value(
     let key = DecodingKey::from_secret(alloc, secret.as_bytes())?;
     let validation = Validation::new(alloc, algorithm)?;
     let data: TokenData<Value> = decode(alloc, &HmacProvider, input, &key, &validation, time)?;
-    Ok(data.claims)
+    let TokenData { header, claims } = data;
+    // dropped by a call: the end of the function would have to be proved to drop every field
+    drop(header);
+    Ok(claims)
 }
 
 fn set_claims_value(
@@ -281,7 +284,9 @@ fn set_claims_value(
     let keys = JwkSet::from_slice(alloc, set.as_bytes())?;
     let rules = Validation::new(alloc, algorithm)?;
     let data: TokenData<Value> = decode_with_set(alloc, &HmacProvider, input, &keys, &rules, time)?;
-    Ok(data.claims)
+    let TokenData { header, claims } = data;
+    drop(header);
+    Ok(claims)
 }
 
 fn issued_token(alloc: Global, algorithm: Algorithm, secret: &str, input: &[u8]) -> Result<String>
