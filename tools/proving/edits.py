@@ -71,6 +71,9 @@ class Function:
         """Whether a function with the same head can stand beside it."""
         return not self.cycle and not (self.block and self.block.is_of_trait)
 
+    def is_destructor(self):
+        return self.name == "drop" and bool(self.block and self.block.is_of_trait)
+
     def unit(self):
         """Returns what stands for the functions of which one alone can be wrong: its cycle of calls, or itself."""
         return self.cycle or (self.file, self.first)

@@ -98,9 +98,11 @@ class Planted:
         for right, wrong in self.copies:
             copy_proofs(scratch, right, wrong)
         kept = {function.path for function in self.functions.values()} | kept_proofs
-        # a recursive function keeps its body: rattle names its proofs otherwise than those of the same function without it
+        # a recursive function keeps its body: rattle names its proofs otherwise than those of the same function without it; so does a
+        # destructor, whose proofs rattle looks for elsewhere
         recursive = {function.spelled for function in self.all_functions if os.path.isdir(recursive_proofs(self.crate, function.spelled))}
-        left_out = [own for own in self.all_functions if own.has_body and not own.cycle and own.spelled not in recursive and own.path not in kept]
+        stays = lambda own: own.cycle or own.spelled in recursive or own.path in kept or own.is_destructor()
+        left_out = [own for own in self.all_functions if own.has_body and not stays(own)]
         for function in left_out:
             leave_out(self.crate, scratch, function.spelled)
         for path in sources(self.crate):

@@ -3,6 +3,7 @@
 use crate::explain::findings::{Finding, part_value, quote};
 use crate::explain::wrappings::wrapping_of;
 use crate::fault::{Fault, value_unless_refused};
+use jsonwebtoken::errors::Error;
 use jsonwebtoken::{Test, decode_header};
 use jwt_base::serialization::part_bytes;
 use serde_json::Value;
@@ -185,14 +186,19 @@ fn wanted_text(test: Test) -> &'static str {
 
 /// Returns the first test of a header that can't be read, or `None` if it can.
 fn header_test(alloc: Global, token: &[u8], header: &[u8]) -> Result<Option<Test>, Fault<'static>> {
-    if value_unless_refused(part_bytes(alloc, header))?.is_none() {
+    if is_refused(part_bytes(alloc, header))? {
         return Ok(Some(Test::HeaderIsPart));
     }
     if part_value(alloc, header)?.is_none() {
         return Ok(Some(Test::HeaderIsJson));
     }
-    if value_unless_refused(decode_header(alloc, token))?.is_none() {
+    if is_refused(decode_header(alloc, token))? {
         return Ok(Some(Test::HeaderReads));
     }
     Ok(None)
+}
+
+fn is_refused<R: Drop>(made: Result<R, Error>) -> Result<bool, Fault<'static>> {
+    let value = value_unless_refused(made)?;
+    Ok(value.is_none())
 }

@@ -20,7 +20,10 @@ pub fn jwk_answer<'a>(alloc: Global, path: &'a str, bytes: &[u8]) -> Result<Answ
         Ok(jwk) => jwk,
         Err(error) => return Err(not_pem(path, &error, bytes)),
     };
-    let Ok(value) = jwk.to_value(alloc) else {
+    let value = jwk.to_value(alloc);
+    // dropped at one place: each exit would have to be proved to drop every field
+    drop(jwk);
+    let Ok(value) = value else {
         return Err(Fault::Memory);
     };
     let Ok(output) = value_line(alloc, &value) else {
