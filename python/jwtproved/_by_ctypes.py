@@ -1,9 +1,14 @@
-"""Handles of one verifier by ctypes. If the wheel was built with Python's headers, those of _fast.c take their place."""
+"""The calls of the library that a token needs, by ctypes. If the wheel was built with Python's headers, those of _fast.c take their place."""
 import ctypes
 import threading
 
 from ._library import Handle, check, library, slices
 from ._status import Status
+
+
+def is_issued(issued_at: int, leeway: int, now: int) -> bool:
+    """Returns whether a token of this time of issue may be used, with this leeway, at this time."""
+    return bool(library.jwt_check_issued_at(issued_at, leeway, now) == Status.OK)
 
 
 class _Owned(Handle):

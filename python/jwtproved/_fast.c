@@ -30,6 +30,7 @@ struct state {
     __typeof__(&jwt_verifier_share) share;
     __typeof__(&jwt_verifier_decode) decode;
     __typeof__(&jwt_verifier_free) free;
+    __typeof__(&jwt_check_issued_at) check_issued_at;
     PyObject *refusal;
 };
 
@@ -263,13 +264,36 @@ static PyObject *bind(PyObject *module, PyObject *arguments) {
     if (find(library, "jwt_verifier_secret", &state->make_of_secret) ||
         find(library, "jwt_verifier_key", &state->make_of_key) ||
         find(library, "jwt_verifier_set", &state->make_of_set) || find(library, "jwt_verifier_share", &state->share) ||
-        find(library, "jwt_verifier_free", &state->free) || find(library, "jwt_verifier_decode", &state->decode)) {
+        find(library, "jwt_verifier_free", &state->free) || find(library, "jwt_verifier_decode", &state->decode) ||
+        find(library, "jwt_check_issued_at", &state->check_issued_at)) {
         return NULL;
     }
     Py_INCREF(refusal);
     Py_XDECREF(state->refusal);
     state->refusal = refusal;
     Py_RETURN_NONE;
+}
+
+/* is_issued(issued_at, leeway, now): returns whether a token that was issued then may be used now. */
+static PyObject *is_issued(PyObject *module, PyObject *const *arguments, Py_ssize_t count) {
+    struct state *state = PyModule_GetState(module);
+    unsigned long long seconds[3];
+
+    if (count != 3) {
+        PyErr_SetString(PyExc_TypeError, "is_issued takes a time of issue, a leeway and a time");
+        return NULL;
+    }
+    if (state->check_issued_at == NULL) {
+        PyErr_SetString(PyExc_RuntimeError, "the library is not bound");
+        return NULL;
+    }
+    for (size_t i = 0; i < 3; i++) {
+        seconds[i] = PyLong_AsUnsignedLongLong(arguments[i]);
+        if (PyErr_Occurred()) {
+            return NULL;
+        }
+    }
+    return PyBool_FromLong(state->check_issued_at(seconds[0], seconds[1], seconds[2]) == JWT_OK);
 }
 
 static int module_exec(PyObject *module) {
@@ -296,6 +320,8 @@ static int module_clear(PyObject *module) {
 
 static PyMethodDef methods[] = {
     {"bind", bind, METH_VARARGS, PyDoc_STR("Takes the path of the library, and the exception for a refusal.")},
+    {"is_issued", (PyCFunction)(void (*)(void))is_issued, METH_FASTCALL,
+     PyDoc_STR("Returns whether a token of this time of issue may be used, with this leeway, at this time.")},
     {NULL, NULL, 0, NULL}};
 
 static PyModuleDef_Slot slots[] = {{Py_mod_exec, module_exec},

@@ -1,12 +1,12 @@
-"""Handles of one verifier of the library, compiled or by ctypes."""
+"""The calls of the library that a token needs, compiled or by ctypes."""
 from ._library import PATH, Refusal
 
 try:
-    from ._fast import Handles, bind
+    from ._fast import Handles, bind, is_issued
 
     bind(PATH, Refusal)
 except ImportError:
     # the wheel was built without Python's headers
-    from ._by_ctypes import Handles  # type: ignore[assignment]
+    from ._by_ctypes import Handles, is_issued  # type: ignore[assignment]
 
-__all__ = ["Handles"]
+__all__ = ["Handles", "is_issued"]

@@ -20,7 +20,7 @@ with tempfile.TemporaryDirectory() as folder:
     from counting import finish, gives, outcome, raises, test
 
     from jwtproved import _library
-    from jwtproved._handles import Handles
+    from jwtproved._handles import Handles, is_issued
 living = _library.library.living_handles
 
 
@@ -65,6 +65,15 @@ def threads(kind):
     test(f"threads by a {kind}: {wrong}", not wrong)
 
 
+def times_of_issue():
+    for seconds, answer in (((5, 0, 5), True), ((6, 0, 5), False), ((15, 10, 5), True), ((16, 10, 5), False), ((2**64 - 1, 2**64 - 1, 1), True)):
+        gives(answer, is_issued, *seconds)
+    for arguments in (("5", 0, 5), (5, None, 5), (5, 0, 5.5), (5, 0), (5, 0, 5, 5)):
+        got = outcome(is_issued, *arguments)
+        test(f"{got!r} of {arguments}", isinstance(got, (TypeError, ctypes.ArgumentError)))
+
+
+times_of_issue()
 for kind_of_key in ("secret", "key", "set"):
     answers(kind_of_key)
     threads(kind_of_key)
