@@ -1,5 +1,5 @@
 /*
- * Handles of one verifier, as _handles.py has them, without ctypes, which passes the arguments of a call in about as long as the library
+ * The calls that _handles.py names, without ctypes, which passes the arguments of a call in about as long as the library
  * needs for the token. Each is made, shared and freed with the interpreter's lock held; a call that verifies takes one out of the idle
  * ones, so that none is in two calls at once when the lock is released.
  */
