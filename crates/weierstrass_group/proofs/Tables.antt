@@ -36,7 +36,7 @@ below_at p number_of (r ∷ rs) h zero lt = let parts = and_parts (ltb (number_o
 below_at p number_of (r ∷ rs) h (suc k) lt =
     let parts = and_parts (ltb (number_of r) p) (are_below p number_of rs) h in below_at p number_of rs parts.1 k (omega arith)
 
-affine_alike : (p : ℕ) → IsField p → (Q : Point) (x y : ℕ) → is_affine p Q x y ≡ true → Alike p Q (spot_point x y)
+pub affine_alike : (p : ℕ) → IsField p → (Q : Point) (x y : ℕ) → is_affine p Q x y ≡ true → Alike p Q (spot_point x y)
 unfolding is_affine
 affine_alike p field Q x y h =
     let above = field.above in
