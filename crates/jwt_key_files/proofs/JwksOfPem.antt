@@ -11,6 +11,7 @@ use Rattle.jwt_keys.specs.Key.{Key, Plain, Components}
 use Rattle.jwt_keys.specs.Provider.{KeyAnswers, reads_no_key}
 use Rattle.jwt_keys.specs.JwkOfKey.{StandsFor, answered, jwk_of, parameters_of, rsa_of, uncompressed, elliptic_of}
 use Rattle.jwt_keys.specs.declared.jwk.Jwk.{Jwk}
+use Rattle.jwt_key_files.specs.Certificates.{IsCertificatePemOf}
 use Rattle.jwt_key_files.specs.PemKeys.{IsBlockOf, IsPemOf}
 use Rattle.jwt_key_files.specs.JwksOfPem.{IsRead, IsJwkOf, IsWritable}
 use Rattle.jwt_key_files.specs.declared.scheme.Scheme.TheVariants as scheme
@@ -23,6 +24,9 @@ read_block block der key h = elim h [
 
 pub read_pem : (text : List ℕ) (key : Key) → IsPemOf text key → IsRead key
 read_pem text key h = read_block h.block h.der key h.is_key
+
+pub read_certified : (text : List ℕ) (key : Key) → IsCertificatePemOf text key → IsRead key
+read_certified text key h = let i = h.1.1.1.1 in (i.algorithm, (i.octets, i.is_key))
 
 pub stands_for : (jwk : Jwk) (k l : Key) → l ≡ k → StandsFor jwk.algorithm k → StandsFor jwk.algorithm l
 stands_for jwk k l e h = subst (StandsFor jwk.algorithm) (sym e) h

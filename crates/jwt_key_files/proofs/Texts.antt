@@ -8,7 +8,7 @@ use Rattle.std.proofs.lemmas.Bool.Decides.{Decides-eqb}
 use Rattle.std.proofs.lemmas.Bool.{cases_lt}
 use Rattle.std.proofs.lemmas.Slice.Eq.{slice_eq-Decides}
 use Rattle.std.proofs.lemmas.List.{append_cancel_left, take-append-drop, drop_all}
-use Rattle.jwt_key_files.specs.Pem.{IsLineEnd, EndsLine, IsClosed, Begins}
+use Rattle.jwt_key_files.specs.Pem.{EndsLine, IsClosed, Begins}
 
 -- bytes that were compared with a prefix
 pub no_prefix : (p b : List ℕ) → pointwise eqb (take (length p) b) p ≡ false → (rest : List ℕ) → b ≡ p ++ rest → ⊥
@@ -26,19 +26,11 @@ a_prefix p b x equal e =
 
 -- what follows a label
 pub no_dashes : (label b r : List ℕ) → b ≡ label ++ r → ((s : List ℕ) → r ≡ codes "-----" ++ s → ⊥)
-    → (eol s : List ℕ) → b ≡ label ++ (codes "-----" ++ (eol ++ s)) → ⊥
-no_dashes label b r h none eol s e = none (eol ++ s) (append_cancel_left label r (codes "-----" ++ (eol ++ s)) (sym h ∙ e))
+    → (s : List ℕ) → b ≡ label ++ (codes "-----" ++ s) → ⊥
+no_dashes label b r h none s e = none s (append_cancel_left label r (codes "-----" ++ s) (sym h ∙ e))
 
-pub no_end : (label b r t : List ℕ) → b ≡ label ++ r → r ≡ codes "-----" ++ t
-    → ((eol s : List ℕ) → IsLineEnd eol → t ≡ eol ++ s → ⊥)
-    → (eol s : List ℕ) → IsLineEnd eol → b ≡ label ++ (codes "-----" ++ (eol ++ s)) → ⊥
-no_end label b r t h i none eol s q e =
-    none eol s q (append_cancel_left (codes "-----") t (eol ++ s) (sym i
-    ∙ append_cancel_left label r (codes "-----" ++ (eol ++ s)) (sym h ∙ e)))
-
-pub an_opening : (label b r t eol s : List ℕ) → b ≡ label ++ r → r ≡ codes "-----" ++ t → t ≡ eol ++ s
-    → b ≡ label ++ (codes "-----" ++ (eol ++ s))
-an_opening label b r t eol s h i k = h ∙ ap (λ (x : List ℕ). label ++ x) (i ∙ ap (λ (x : List ℕ). codes "-----" ++ x) k)
+pub an_opening : (label b r s : List ℕ) → b ≡ label ++ r → r ≡ codes "-----" ++ s → b ≡ label ++ (codes "-----" ++ s)
+an_opening label b r s h i = h ∙ ap (λ (x : List ℕ). label ++ x) i
 
 -- what follows the mark of an end
 pub no_label : (label b r : List ℕ) → b ≡ codes "-----END " ++ r → ((s : List ℕ) → r ≡ label ++ s → ⊥)

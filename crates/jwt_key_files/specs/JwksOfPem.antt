@@ -6,6 +6,7 @@ use Rattle.jwt_keys.specs.JwkOfKey.{jwk_of_key}
 use Rattle.jwt_keys.specs.Provider.{KeyAnswers}
 use Rattle.jwt_keys.specs.declared.jwk.Jwk.{Jwk}
 use Rattle.jwt_key_files.specs.PublicKeys.{IsKeyOf}
+use Rattle.jwt_key_files.specs.Certificates.{IsCertificatePemOf}
 use Rattle.jwt_key_files.specs.PemKeys.{IsPemOf}
 use Rattle.jwt_key_files.specs.declared.scheme.Scheme.{Scheme}
 
@@ -20,6 +21,10 @@ IsJwkOf key jwk = (provider : KeyAnswers) → jwk_of_key provider None key ≡ O
 -- the JSON Web Key of the key that the first block of the text holds
 abbrev pub IsJwkOfPem : (text : List ℕ) → Jwk → Type 0
 IsJwkOfPem text jwk = (key : Key) × (IsPemOf text key × IsJwkOf key jwk)
+
+-- the JSON Web Key of the key of the certificate that the first block of the text holds
+abbrev pub IsJwkOfCertificatePem : (text : List ℕ) → Jwk → Type 0
+IsJwkOfCertificatePem text jwk = (key : Key) × (IsCertificatePemOf text key × IsJwkOf key jwk)
 
 -- the key can be written
 abbrev pub IsWritable : Jwk → Type 0

@@ -1,3 +1,3 @@
 -- Definitions that the clauses of private functions alone name.
-pub mod Characters
+pub mod Bodies
 pub mod Numbers

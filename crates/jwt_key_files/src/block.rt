@@ -1,18 +1,17 @@
 //! Blocks of text that hold bytes (RFC 7468).
 
-// PEM is read in its strict form (RFC 7468 section 3), which OpenSSL and most programs write: lines
-// of 64 characters, no spaces at their ends, no headers, one way to end the lines of a block. So a
-// block's text is settled by its bytes but for the line ends, and that is how it is read: the lines
-// are made anew of the characters, and compared. The first block counts, so that no key is searched
-// for past one that was refused.
+// The text of a block is read in its lax form (RFC 7468 section 3), since keys stand in variables
+// of the environment and in other files without their lines: white space anywhere, and lines of any
+// width. All else is strict: the labels, the characters, no headers. The first block counts, so that
+// no key is searched for past one that was refused.
 
-ghost use Rattle.std.specs.Prelude.{◌≡◌, ◌≢◌, ℕ, ◌≤◌, List, [], ◌∷◌, ◌++◌, IfOk, IfErr};
-ghost use Rattle.std.specs.Prelude.{MatchOption, IsTrue, length, take, drop, codes, ◌↔◌};
+ghost use Rattle.std.specs.Prelude.{◌≡◌, ◌≢◌, ℕ, ◌≤◌, ◌<◌, List, ◌++◌, IfOk, IfErr, All};
+ghost use Rattle.std.specs.Prelude.{MatchOption, IsTrue, length, take, get_or, codes, ◌↔◌};
 ghost use Rattle.jwt_base.specs.KindOf.{IsMemory};
 ghost use Rattle.jwt_base.specs.Base64Url.{IsStandardText};
-ghost use Rattle.jwt_key_files.specs.Pem.{IsLineEnd, IsLineBreak, in_lines, StartsLine, EndsLine};
-ghost use Rattle.jwt_key_files.specs.Pem.{IsBlock, IsClosed, Begins, IsFirst};
-ghost use Rattle.jwt_key_files.specs.private_clauses.Characters.{characters_of};
+ghost use Rattle.jwt_key_files.specs.Pem.{IsLineBreak, is_white, characters_of, StartsLine};
+ghost use Rattle.jwt_key_files.specs.Pem.{EndsLine, IsMarked, IsBlock, IsClosed, Begins, IsFirst};
+ghost use Rattle.jwt_key_files.specs.private_clauses.Bodies.{IsBodyLength};
 
 use crate::element::next;
 use jwt_base::errors::{ErrorKind, Result};
@@ -49,15 +48,12 @@ pub(crate) fn block_bytes(alloc: Global, label: &[u8], block: &[u8]) -> Result<O
         (λ b. IsBlock label.now block.now b.items)) }
     ensures err { IfErr result IsMemory }
 {
-    let Some((eol, body)) = open(label, block) else {
+    let Some(text) = opened(label, block) else {
         return Ok(None);
     };
+    let (body, end) = text.split_at(body_length(text));
     let characters = characters(alloc, body)?;
     let Some(bytes) = decode(alloc, characters.as_slice())? else {
-        return Ok(None);
-    };
-    let lines = lines(alloc, eol, characters.as_slice())?;
-    let Some(end) = after(lines.as_slice(), body) else {
         return Ok(None);
     };
     if !is_closed(label, end) {
@@ -87,10 +83,18 @@ fn starts_line(text: &[u8], place: usize) -> bool
     requires { place ≤ length text.now }
     ensures { IsTrue result ↔ StartsLine text.now place }
 {
-    if place == 0 {
+    if place == 0 || is_line_break(text[place - 1]) {
         return true;
     }
-    is_line_break(text[place - 1])
+    place == 3 && is_marked(text)
+}
+
+// Returns whether the text begins with the mark of its byte order.
+fn is_marked(text: &[u8]) -> bool
+    requires { 3 ≤ length text.now }
+    ensures { IsTrue result ↔ IsMarked text.now }
+{
+    text[0] == 0xef && text[1] == 0xbb && text[2] == 0xbf
 }
 
 fn is_line_break(byte: u8) -> bool
@@ -99,14 +103,16 @@ fn is_line_break(byte: u8) -> bool
     byte == b'\r' || byte == b'\n'
 }
 
-// Returns the line end and the text after the first line, if this is the rest of the line that
-// begins a block with the label.
-fn open<'a>(label: &[u8], block: &'a [u8]) -> Option<(&'a [u8], &'a [u8])>
-    ensures { MatchOption result
-        ((eol : List ℕ) (s : List ℕ) → IsLineEnd eol
-        → block.now ≢ label.now ++ (codes "-----" ++ (eol ++ s)))
-        (λ p. IsLineEnd p.0.now × (block.now ≡ label.now ++ (codes "-----" ++ (p.0.now ++ p.1.now)))
-        × ((s : List ℕ) → p.0.now ≡ 13 ∷ [] → p.1.now ≢ 10 ∷ s)) }
+fn is_white(byte: u8) -> bool
+    ensures { result ≡ is_white byte }
+{
+    byte == b' ' || byte == b'\t' || byte == b'\n' || byte == 11 || byte == 12 || byte == b'\r'
+}
+
+// Returns the text after the label and `-----`.
+fn opened<'a>(label: &[u8], block: &'a [u8]) -> Option<&'a [u8]>
+    ensures { MatchOption result ((s : List ℕ) → block.now ≢ label.now ++ (codes "-----" ++ s))
+        (λ s. block.now ≡ label.now ++ (codes "-----" ++ s.now)) }
 {
     let Some(rest) = after(label, block) else {
         return None;
@@ -114,44 +120,31 @@ fn open<'a>(label: &[u8], block: &'a [u8]) -> Option<(&'a [u8], &'a [u8])>
     let Some(rest) = after(b"-----", rest) else {
         return None;
     };
-    let Some((eol, body)) = line_end(rest) else {
-        return None;
-    };
-    Some((eol, body))
+    Some(rest)
 }
 
-// Returns the line end that the text begins with, and the text after it.
-fn line_end(text: &[u8]) -> Option<(&[u8], &[u8])>
-    ensures { MatchOption result ((eol : List ℕ) (s : List ℕ) → IsLineEnd eol → text.now ≢ eol ++ s)
-        (λ p. IsLineEnd p.0.now × (text.now ≡ p.0.now ++ p.1.now)
-        × ((s : List ℕ) → p.0.now ≡ 13 ∷ [] → p.1.now ≢ 10 ∷ s)) }
+// Returns the number of bytes before the first `-`.
+fn body_length(text: &[u8]) -> usize
+    ensures { IsBodyLength text.now result }
 {
-    if let Some(rest) = after(b"\r\n", text) {
-        return Some((b"\r\n".as_slice(), rest));
+    for place in 0..text.len() {
+        if text[place] == b'-' {
+            return place;
+        }
     }
-    if let Some(rest) = after(b"\n", text) {
-        return Some((b"\n".as_slice(), rest));
-    }
-    if let Some(rest) = after(b"\r", text) {
-        return Some((b"\r".as_slice(), rest));
-    }
-    None
+    text.len()
 }
 
-// Returns the characters before the next `-`, without those that end lines.
-fn characters(alloc: Global, text: &[u8]) -> Result<Vec<u8>>
-    ensures ok { IfOk result (λ c. c.items ≡ characters_of text.now) }
+// Returns the characters without white space.
+fn characters(alloc: Global, body: &[u8]) -> Result<Vec<u8>>
+    ensures ok { IfOk result (λ c. c.items ≡ characters_of body.now) }
     ensures err { IfErr result IsMemory }
 {
     let mut characters = Vec::new(alloc);
-    for byte in text {
-        if *byte == b'-' {
-            return Ok(characters);
+    for byte in body {
+        if !is_white(*byte) {
+            characters.push(*byte)?;
         }
-        if is_line_break(*byte) {
-            continue;
-        }
-        characters.push(*byte)?;
     }
     Ok(characters)
 }
@@ -169,34 +162,6 @@ fn decode(alloc: Global, characters: &[u8]) -> Result<Option<Vec<u8>>>
             _ => Ok(None),
         },
     }
-}
-
-// Returns the characters in lines of 64.
-fn lines(alloc: Global, eol: &[u8], characters: &[u8]) -> Result<Vec<u8>>
-    ensures ok { IfOk result (λ text. text.items ≡ in_lines eol.now characters.now) }
-    ensures err { IfErr result IsMemory }
-{
-    let mut text = Vec::new(alloc);
-    let mut rest = characters;
-    while rest.len() > 0 {
-        let (line, more) = first_line(rest);
-        text.extend_from_slice(line)?;
-        text.extend_from_slice(eol)?;
-        rest = more;
-    }
-    Ok(text)
-}
-
-// Returns the first line of the characters, which has 64 of them or all, and the characters after
-// it.
-fn first_line(characters: &[u8]) -> (&[u8], &[u8])
-    ensures line { result.0.now ≡ take 64 characters.now }
-    ensures rest { result.1.now ≡ drop 64 characters.now }
-{
-    if characters.len() < 64 {
-        return (characters, b"".as_slice());
-    }
-    characters.split_at(64)
 }
 
 // Returns whether the line that the text begins with ends a block with this label.
@@ -227,12 +192,12 @@ fn closing<'a>(label: &[u8], text: &'a [u8]) -> Option<&'a [u8]>
     Some(rest)
 }
 
-// Returns whether the text or a line ends where the text begins.
+// Returns whether the text ends, or white space follows, where the text begins.
 fn ends_line(text: &[u8]) -> bool
     ensures { IsTrue result ↔ EndsLine text.now }
 {
     match next(text) {
-        Some((byte, _)) => is_line_break(byte),
+        Some((byte, _)) => is_white(byte),
         None => true,
     }
 }

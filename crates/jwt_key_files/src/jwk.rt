@@ -1,4 +1,4 @@
-//! JSON Web Keys of public keys in PEM.
+//! JSON Web Keys of public keys, and of certificates, in PEM.
 
 // The JSON Web Key of a key in PEM needs no provider, since the key has its numbers;
 // `HmacProvider`, which reads no keys, stands in.
@@ -9,7 +9,10 @@ ghost use Rattle.jwt_keys.specs.Key.{Key};
 ghost use Rattle.jwt_keys.specs.JwkOfKey.{StandsFor};
 ghost use Rattle.jwt_key_files.specs.PemKeys.{IsPemOf, IsPemRefused};
 ghost use Rattle.jwt_key_files.specs.JwksOfPem.{IsRead, IsJwkOf, IsJwkOfPem, IsWritable};
+ghost use Rattle.jwt_key_files.specs.JwksOfPem.{IsJwkOfCertificatePem};
+ghost use Rattle.jwt_key_files.specs.Certificates.{IsCertificatePemRefused};
 
+use crate::certificate::unverified_key_from_certificate_pem;
 use crate::pem::public_key_from_pem;
 use jwt_base::errors::Result;
 use jwt_crypto::HmacProvider;
@@ -30,6 +33,19 @@ pub fn jwk_from_pem(alloc: Global, pem: &[u8]) -> Result<Jwk>
 {
     let key = public_key_from_pem(alloc, pem)?;
     // bound to a name: the proof cannot refer to a call in tail position
+    let jwk = jwk_of(alloc, &key)?;
+    Ok(jwk)
+}
+
+/// Returns the JSON Web Key of the public key of the X.509 certificate that the first block of a PEM
+/// text holds, as `jwk_from_pem` does of a key. As by `unverified_key_from_certificate_pem`, NOTHING
+/// IS VERIFIED, and the refusals are those of that call.
+pub fn unverified_jwk_from_certificate_pem(alloc: Global, pem: &[u8]) -> Result<Jwk>
+    ensures ok { IfOk result (IsJwkOfCertificatePem pem.now) }
+    ensures writable { IfOk result IsWritable }
+    ensures err { IfErr result (λ e. IsMemory e ⊎ IsCertificatePemRefused pem.now (kind_of e)) }
+{
+    let key = unverified_key_from_certificate_pem(alloc, pem)?;
     let jwk = jwk_of(alloc, &key)?;
     Ok(jwk)
 }

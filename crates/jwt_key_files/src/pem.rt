@@ -27,18 +27,19 @@ pub(crate) fn info_key(alloc: Global, der: &[u8]) -> Result<DecodingKey>
     Ok(key)
 }
 
-/// Returns the public key that the first block of a PEM text holds (RFC 7468 section 3, in its
-/// strict form): text before it, a line `-----BEGIN PUBLIC KEY-----`, the base64 text of a
-/// SubjectPublicKeyInfo in lines of 64 characters of which the last may have fewer, a line
-/// `-----END PUBLIC KEY-----`, and any text. The label `RSA PUBLIC KEY` stands for an RSAPublicKey.
-/// Each line of the block ends by CR LF, each by LF, or each by CR; the last may end with the text.
-/// The key is that of `public_key_from_der`.
+/// Returns the public key that the first block of a PEM text holds (RFC 7468 section 3, the base64
+/// text in its lax form): text before it, a line that begins with `-----BEGIN PUBLIC KEY-----`, the
+/// base64 text of a SubjectPublicKeyInfo, `-----END PUBLIC KEY-----`, and the text's end or white
+/// space, and then any text. The label `RSA PUBLIC KEY` stands for an RSAPublicKey. White space may
+/// stand anywhere between the labels, so lines may have any width and any ends; and one byte order
+/// mark in UTF-8 before a block that the text begins with. The key is that of
+/// `public_key_from_der`.
 ///
 /// A private key, by its label, is refused with `Provider` and a string that says so, and is not
 /// decoded. A SubjectPublicKeyInfo of another algorithm is refused with `UnsupportedAlgorithm`, and
-/// any other text with `InvalidKeyFormat`: another label, labels that differ, a line of another
-/// length, a space at the end of a line, headers, base64 with a spare bit set, bytes that are not
-/// DER.
+/// any other text with `InvalidKeyFormat`: another label, labels that differ, headers, any other
+/// character, padding that lacks or stands elsewhere, base64 with a spare bit set, bytes that are
+/// not DER.
 pub fn public_key_from_pem(alloc: Global, pem: &[u8]) -> Result<DecodingKey>
     ensures ok { IfOk result (IsPemOf pem.now) }
     ensures only { IfOk result (λ key. (k : Key) → IsPemOf pem.now k → k ≡ key) }

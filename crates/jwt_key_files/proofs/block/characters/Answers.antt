@@ -1,24 +1,14 @@
-use Rattle.std.proofs.Common.{inl, inr}
-use Rattle.jwt_key_files.proofs.Blocks.{stops, skips, takes, ended}
+use Rattle.std.proofs.Common.{arith}
+use Rattle.std.proofs.lemmas.Grind.{common_steps}
+use Rattle.jwt_key_files.proofs.Blocks.{characters_none, more_white, more_kept}
 use Rattle.jwt_key_files.proofs.block.characters.Goals as goal
+use Rattle.jwt_key_files.proofs.block.characters.Goals.{then-not-is_white+in_ok-push, else-not-is_white}
 
-pub returns-then-byte-eq45-clause-ok : goal.returns-then-byte-eq45-clause-ok
-returns-then-byte-eq45-clause-ok c = stops _ _ _ c.loop-byte.byte-index c.loop-byte-test.true c.if-byte-eq45.true
-    c.loop-byte.invariant
-
-pub loop-byte-preserved-then-is_line_break : goal.loop-byte-preserved-then-is_line_break
-loop-byte-preserved-then-is_line_break c =
-    skips _ _ _ c.loop-byte.byte-index c.loop-byte-test.true (c.is_line_break.ensures.0 c.if-is_line_break.true)
-    c.loop-byte.invariant
+pub loop-byte-init : goal.loop-byte-init
+loop-byte-init c = let e = characters_none in cc
 
 pub loop-byte-preserved : goal.loop-byte-preserved
-loop-byte-preserved c =
-    takes _ _ _ _ c.loop-byte.byte-index c.loop-byte-test.true (
-      c.if-byte-eq45.false,
-      λ e. cc (c.is_line_break.ensures.1 (inl e), c.if-is_line_break.false),
-      λ e. cc (c.is_line_break.ensures.1 (inr e), c.if-is_line_break.false),
-    )
-    c.in_ok-push.ensures.items c.loop-byte.invariant
-
-pub returns-clause-ok : goal.returns-clause-ok
-returns-clause-ok c = ended _ _ _ c.loop-byte.byte-index c.loop-byte-test.false c.loop-byte.invariant
+loop-byte-preserved c = elim c.if-not-is_white.branch [
+  | then-not-is_white+in_ok-push w ↦ grind (arith, common_steps, more_kept)
+  | else-not-is_white w ↦ grind (arith, common_steps, more_white)
+]
