@@ -1,4 +1,6 @@
 pub mod ClaimRuleLemmas
+pub mod Listed
 pub mod NamePlaces
 pub mod OptionsFaultLemmas
+pub mod RulePlaces
 pub mod TextsAmong

@@ -1,18 +1,22 @@
 -- A value without a fault is read as options, and a value with one is not.
 use Rattle.std.proofs.Common.{◌≡◌, ℕ, Bool, true, false, ◌||◌, not, List, [], ◌∷◌, Option, Some, None, is_some}
-use Rattle.std.proofs.Common.{option_map, unwrap_or, codes, refl, sym, ap, ◌∙◌, if◌then◌else◌}
+use Rattle.std.proofs.Common.{option_map, unwrap_or, codes, refl, sym, ap, ◌∙◌, if◌then◌else◌, length, ◌≤◌, arith}
 use Rattle.std.proofs.lemmas.Bool.{false≢true, true≢false}
 use Rattle.std.proofs.lemmas.Option.{none-some, same_Some}
+use Rattle.serde_json.specs.View.{items_view}
+use Rattle.serde_json.specs.declared.value.Value.{Value}
 use Rattle.serde_json.specs.Data.{Data, Members, no_members, member}
 use Rattle.serde_json.specs.Find.{get, as_bool, as_str, as_object}
 use Rattle.jwt_base.specs.Members.{present, optional, read_option, is_named, texts}
 use Rattle.jwt_validation.specs.Options.{Options, defaults}
 use Rattle.jwt_validation.specs.OptionsRead.{option_names, has_other, HasOptionNames, as_whole, or_default, text_set}
-use Rattle.jwt_validation.specs.OptionsRead.{algorithms_in, settled, usual_options, ReadsTimes, ReadsMembers}
-use Rattle.jwt_validation.specs.OptionsRead.{ReadsOptions}
+use Rattle.jwt_validation.specs.OptionsRead.{algorithms_in, settled, usual_options, ReadsTimes}
+use Rattle.jwt_validation.specs.OptionsRead.{ReadsOptions, AreStrict, member_is, is_non_empty_list, is_claim_list, has_item}
 use Rattle.jwt_validation.specs.OptionsFault.{Shape, shapes, has_form, member_has_form, is_well, first_malformed, first_other}
+use Rattle.jwt_validation.specs.OptionsFault.{strict_shapes, asks_strict, first_slip}
 use Rattle.jwt_validation.specs.declared.fault.Form.{Form}
-use Rattle.jwt_validation.specs.declared.fault.Form.TheVariants.{Whole, Flag, OneText, TextList, AlgorithmList}
+use Rattle.jwt_validation.specs.declared.fault.Form.TheVariants.{Whole, Flag, OneText, TextList, AlgorithmList, NonEmptyList}
+use Rattle.jwt_validation.specs.declared.fault.Form.TheVariants.{ClaimList}
 
 -- a reader reads just the values of the form
 abbrev IsOfForm : {A : Type 0} → Form → (Data → Option A) → Type 0
@@ -87,6 +91,50 @@ well_none : (d : Data) (ss : List Shape) → AreWell d ss → first_malformed d 
 well_none d [] w = refl
 well_none d (s ∷ ss) w = rw (w.0) (well_none d ss w.1)
 
+-- items of values are some if the values are
+pub has_first : (vs : List Value) → 1 ≤ length vs → has_item (items_view vs) ≡ true
+has_first [] h = absurd (omega arith)
+has_first (v ∷ vs) h = refl
+
+filled_member : (p : Option Data) → member_is is_non_empty_list p ≡ member_has_form NonEmptyList p
+filled_member None = refl
+filled_member (Some d) = refl
+
+claims_member : (p : Option Data) → member_is is_claim_list p ≡ member_has_form ClaimList p
+claims_member None = refl
+claims_member (Some d) = refl
+
+-- strict options are those without an option of another form
+pub strict_well : (d : Data) → AreStrict d → first_malformed d strict_shapes ≡ None
+strict_well d s = well_none d strict_shapes (
+  sym (claims_member (present (get (codes "required_spec_claims") d))) ∙ s.required,
+  (
+    sym (filled_member (present (get (codes "aud") d))) ∙ s.aud,
+    (sym (filled_member (present (get (codes "iss") d))) ∙ s.iss, tt),
+  ),
+)
+
+pub well_strict : (d : Data) → first_malformed d strict_shapes ≡ None → AreStrict d
+well_strict d none =
+    let (w1, (w2, (w3, _))) = none_malformed d strict_shapes none in
+    record {
+      required = claims_member (present (get (codes "required_spec_claims") d)) ∙ w1;
+      aud = filled_member (present (get (codes "aud") d)) ∙ w2;
+      iss = filled_member (present (get (codes "iss") d)) ∙ w3;
+    }
+
+asked_strict : (d : Data) (b : Bool) → or_default false as_bool (get (codes "strict") d) ≡ Some b → asks_strict d ≡ b
+asked_strict d b e = ap (λ o. unwrap_or o false) e
+
+-- no slip, whether or not strict options are asked for
+no_slip : (d : Data) (b : Bool) → asks_strict d ≡ b → (b ≡ true → AreStrict d) → first_slip d ≡ None
+no_slip d true e s = rw (e) (strict_well d (s refl))
+no_slip d false e s = rw (e) refl
+
+without_slip : (d : Data) (b : Bool) → asks_strict d ≡ b → first_slip d ≡ None → b ≡ true → AreStrict d
+without_slip d true e none is = well_strict d (rw (e) at none)
+without_slip d false e none is = absurd (false≢true is)
+
 pub names-first_other : (ms : Members) → has_other option_names ms ≡ is_some (first_other ms)
 names-first_other no_members = refl
 names-first_other (member k d ms) = by_name (is_named option_names k) (names-first_other ms)
@@ -113,8 +161,9 @@ times_read d usual wl wr we wn wa =
     (l, r, e, n, a, record { at_leeway = at_l; at_reject = at_r; at_exp = at_e; at_nbf = at_n; at_aud = at_a })
 
 -- a value whose members are options, none of which is malformed, is read as options
-pub faultless_read : (d : Data) → HasOptionNames d → first_malformed d shapes ≡ None → (o : Options) × ReadsOptions d o
-faultless_read d names none =
+pub faultless_read : (d : Data) → HasOptionNames d → first_malformed d shapes ≡ None → first_slip d ≡ None
+    → (o : Options) × ReadsOptions d o
+faultless_read d names none slip =
     let (w1, (w2, (w3, (w4, (w5, (w6, (w7, (w8, (w9, (w10, (w11, (w12, _)))))))))))) = none_malformed d shapes none in
     let (strict, at_strict) = default_read false Flag as_bool (λ v. refl) (get (codes "strict") d) w12 in
     let usual = usual_options strict in
@@ -146,6 +195,7 @@ faultless_read d names none =
         names = names;
         is_strict = strict;
         at_strict = at_strict;
+        strict = without_slip d strict (asked_strict d strict at_strict) slip;
         members = members;
         reads = record {
           times = times;
@@ -220,3 +270,8 @@ other_unread d ms name e some o r =
 -- nor is one with a malformed option
 pub malformed_unread : (d : Data) (s : Shape) → first_malformed d shapes ≡ Some s → (o : Options) → ReadsOptions d o → ⊥
 malformed_unread d s some o r = none-some s (sym (read_faultless d o r) ∙ some)
+
+-- nor is one with a slip in strict options
+pub slip_unread : (d : Data) (s : Shape) → first_slip d ≡ Some s → (o : Options) → ReadsOptions d o → ⊥
+slip_unread d s some o r =
+    none-some s (sym (no_slip d r.is_strict (asked_strict d r.is_strict r.at_strict) r.strict) ∙ some)

@@ -1,10 +1,11 @@
 -- How the options of a validation are read from a JSON object.
-use Rattle.std.specs.Prelude.{◌≡◌, ℕ, List, [], ◌∷◌, ◌||◌, Bool, false, not, Option, Some, option_map, option_and_then}
+use Rattle.std.specs.Prelude.{◌≡◌, ℕ, List, [], ◌∷◌, ◌||◌, ◌&&◌, Bool, false, true, not, Option, Some, None, option_map}
+use Rattle.std.specs.Prelude.{option_and_then}
 use Rattle.std.specs.Prelude.{unwrap_or, codes, if◌then◌else◌}
 use Rattle.serde_json.specs.Data.{Data, Items, no_items, item, Members, no_members, member}
 use Rattle.serde_json.specs.Find.{get, as_bool, as_str, as_number, as_u64, as_array, as_object}
 use Rattle.jwt_base.specs.Algorithm.{algorithm_from}
-use Rattle.jwt_base.specs.Members.{optional, is_named, texts}
+use Rattle.jwt_base.specs.Members.{optional, present, is_named, texts}
 use Rattle.jwt_base.specs.declared.algorithms.Algorithm.{Algorithm}
 use Rattle.jwt_validation.specs.Options.{Options, Texts, among, defaults, strict_options, requiring_configured}
 
@@ -67,6 +68,40 @@ pub record ReadsMembers (d : Data) (usual : Options) (o : Options) : Type 0 wher
   pub algorithms : or_default defaults.algorithms algorithms_in (get (codes "algorithms") d) ≡ Some o.algorithms
   pub understood : or_default defaults.understood text_set (get (codes "understood_crit") d) ≡ Some o.understood
 
+-- a list that is not empty
+abbrev pub has_item : Items → Bool
+has_item no_items = false
+has_item (item d ds) = true
+
+abbrev pub is_non_empty_list : Data → Bool
+is_non_empty_list d = unwrap_or (option_map has_item (as_array d)) false
+
+-- a list of names of claims that can be required (RFC 7519 sections 4.1.1 to 4.1.5)
+abbrev pub claim_names : List (List ℕ)
+claim_names = codes "exp" ∷ codes "nbf" ∷ codes "aud" ∷ codes "iss" ∷ codes "sub" ∷ []
+
+abbrev pub is_claim_name : Data → Bool
+is_claim_name d = unwrap_or (option_map (is_named claim_names) (as_str d)) false
+
+abbrev pub are_claim_names : Items → Bool
+are_claim_names no_items = true
+are_claim_names (item d ds) = is_claim_name d && are_claim_names ds
+
+abbrev pub is_claim_list : Data → Bool
+is_claim_list d = unwrap_or (option_map are_claim_names (as_array d)) false
+
+-- an optional member has this property, if it is there and not null
+abbrev pub member_is : (Data → Bool) → Option Data → Bool
+member_is test None = true
+member_is test (Some d) = test d
+
+-- Strict options have no slip that leaves out a check, or refuses every token: audiences and issuers that are listed are at
+-- least one, and each required claim can be required.
+pub record AreStrict (d : Data) : Type 0 where
+  pub required : member_is is_claim_list (present (get (codes "required_spec_claims") d)) ≡ true
+  pub aud : member_is is_non_empty_list (present (get (codes "aud") d)) ≡ true
+  pub iss : member_is is_non_empty_list (present (get (codes "iss") d)) ≡ true
+
 -- strict options require the configured claims too
 abbrev pub settled : Bool → Options → Options
 settled is_strict o = if is_strict then requiring_configured o else o
@@ -76,6 +111,7 @@ pub record ReadsOptions (d : Data) (o : Options) : Type 0 where
   pub names : HasOptionNames d
   pub is_strict : Bool
   pub at_strict : or_default false as_bool (get (codes "strict") d) ≡ Some is_strict
+  pub strict : is_strict ≡ true → AreStrict d
   pub members : Options
   pub reads : ReadsMembers d (usual_options is_strict) members
   pub options : o ≡ settled is_strict members

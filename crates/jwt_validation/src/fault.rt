@@ -5,9 +5,13 @@ ghost use Rattle.serde_json.specs.View.{view, members_view};
 ghost use Rattle.jwt_base.specs.Members.{texts};
 ghost use Rattle.jwt_validation.specs.Options.{Options};
 ghost use Rattle.jwt_validation.specs.OptionsRead.{ReadsOptions, algorithms_in};
+ghost use Rattle.jwt_validation.specs.OptionsRead.{is_non_empty_list, is_claim_list, is_claim_name};
+ghost use Rattle.jwt_validation.specs.OptionsRead.{claim_names};
 ghost use Rattle.jwt_validation.specs.OptionsFault.{HasFault, shape, shapes, has_form, is_well};
-ghost use Rattle.jwt_validation.specs.OptionsFault.{first_malformed, first_other};
+ghost use Rattle.jwt_validation.specs.OptionsFault.{first_malformed, first_other, strict_shapes};
+ghost use Rattle.jwt_validation.specs.OptionsFault.{asks_strict, first_slip};
 
+use crate::claims::{NAMES, Name};
 use crate::from_json::option_names;
 use jwt_base::algorithms::Algorithm;
 use jwt_base::json::members::{is_one_of, present};
@@ -26,6 +30,10 @@ pub enum Form {
     TextList,
     /// A list of names of algorithms (RFC 7518 section 3.1, RFC 8037 section 3.1).
     AlgorithmList,
+    /// A list that is not empty, in strict options.
+    NonEmptyList,
+    /// A list of `exp`, `nbf`, `aud`, `iss` and `sub`, in strict options.
+    ClaimList,
 }
 
 /// What keeps a JSON value from being options.
@@ -43,7 +51,9 @@ pub enum OptionsFault<'v> {
 /// [`Validation::from_value`](crate::Validation::from_value) reads, or `None` if it reads them.
 ///
 /// A value that is not an object is at fault first, and then the first member, in the order of
-/// their names, that no option is named; and then the first option whose value has another form.
+/// their names, that no option is named; then the first option whose value has another form; and
+/// then, in strict options, an empty list of audiences or issuers, or a required claim that can't be
+/// required.
 pub fn options_fault(value: &Value) -> Option<OptionsFault<'_>>
     ensures none { IfNone result ((o : Options) × ReadsOptions (view value.now) o) }
     ensures some { IfSome result (λ f. HasFault (view value.now) f) }
@@ -55,7 +65,10 @@ pub fn options_fault(value: &Value) -> Option<OptionsFault<'_>>
     if let Some(name) = first_other(members) {
         return Some(OptionsFault::Unknown(name));
     }
-    match first_malformed(value) {
+    if let Some((name, form)) = first_malformed(value) {
+        return Some(OptionsFault::Malformed(name, form));
+    }
+    match first_slip(value) {
         Some((name, form)) => Some(OptionsFault::Malformed(name, form)),
         None => None,
     }
@@ -80,6 +93,22 @@ fn shapes() -> [(&'static str, Form); 12]
     ]
 }
 
+fn strict_shapes() -> [(&'static str, Form); 3]
+    ensures { map (λ s. shape s.0.now s.1) result ≡ strict_shapes }
+{
+    [
+        ("required_spec_claims", Form::ClaimList),
+        ("aud", Form::NonEmptyList),
+        ("iss", Form::NonEmptyList),
+    ]
+}
+
+fn claim_names() -> [&'static str; 5]
+    ensures { map (λ s. s.now) result ≡ claim_names }
+{
+    NAMES.map(Name::text)
+}
+
 fn has_form(value: &Value, form: Form) -> bool
     ensures { result ≡ has_form form (view value.now) }
 {
@@ -89,6 +118,8 @@ fn has_form(value: &Value, form: Form) -> bool
         Form::OneText => value.is_string(),
         Form::TextList => is_text_list(value),
         Form::AlgorithmList => is_algorithm_list(value),
+        Form::NonEmptyList => is_non_empty_list(value),
+        Form::ClaimList => is_claim_list(value),
     }
 }
 
@@ -120,10 +151,77 @@ fn is_algorithm_list(value: &Value) -> bool
     true
 }
 
+fn is_non_empty_list(value: &Value) -> bool
+    ensures { result ≡ is_non_empty_list (view value.now) }
+{
+    let Some(items) = value.as_array() else {
+        return false;
+    };
+    match items.as_slice() {
+        [] => false,
+        _ => true,
+    }
+}
+
+fn is_claim_list(value: &Value) -> bool
+    ensures { result ≡ is_claim_list (view value.now) }
+{
+    let Some(items) = value.as_array() else {
+        return false;
+    };
+    for item in items {
+        if !is_claim_name(item) {
+            return false;
+        }
+    }
+    true
+}
+
+fn is_claim_name(value: &Value) -> bool
+    ensures { result ≡ is_claim_name (view value.now) }
+{
+    match value.as_str() {
+        Some(name) => is_one_of(name, &claim_names()),
+        None => false,
+    }
+}
+
 fn first_malformed(value: &Value) -> Option<(&'static str, Form)>
     ensures { option_map (λ s. shape s.0.now s.1) result ≡ first_malformed (view value.now) shapes }
 {
     for (name, form) in shapes() {
+        if !is_well(value, name, form) {
+            return Some((name, form));
+        }
+    }
+    None
+}
+
+fn first_slip(value: &Value) -> Option<(&'static str, Form)>
+    ensures { option_map (λ s. shape s.0.now s.1) result ≡ first_slip (view value.now) }
+{
+    if asks_strict(value) {
+        first_unstrict(value)
+    } else {
+        None
+    }
+}
+
+fn asks_strict(value: &Value) -> bool
+    ensures { result ≡ asks_strict (view value.now) }
+{
+    match present(value, "strict") {
+        Some(member) => member.as_bool().unwrap_or(false),
+        None => false,
+    }
+}
+
+/// Returns the first option whose value has another form than strict options ask for.
+pub(crate) fn first_unstrict(value: &Value) -> Option<(&'static str, Form)>
+    ensures { option_map (λ s. shape s.0.now s.1) result
+        ≡ first_malformed (view value.now) strict_shapes }
+{
+    for (name, form) in strict_shapes() {
         if !is_well(value, name, form) {
             return Some((name, form));
         }

@@ -3,7 +3,7 @@
 // No algorithm is chosen and no member ignored: a misspelt `audience` would otherwise be an
 // audience that nobody checks.
 
-ghost use Rattle.std.specs.Prelude.{◌≡◌, ℕ, Bool, List, Some, None, [], false, map, IfOk, IfErr};
+ghost use Rattle.std.specs.Prelude.{◌≡◌, ℕ, Bool, List, Some, None, [], false, true, map, IfOk, IfErr};
 ghost use Rattle.std.specs.Prelude.{MatchResult, option_map, string_bytes, codes};
 ghost use Rattle.std.specs.HashSet.{contains_text};
 ghost use Rattle.std.specs.Str.{bytes_eq};
@@ -17,9 +17,10 @@ ghost use Rattle.jwt_validation.specs.OptionsOf.{options_of};
 ghost use Rattle.jwt_validation.specs.OptionsRead.{option_names, has_other, HasOptionNames};
 ghost use Rattle.jwt_validation.specs.OptionsRead.{as_whole, or_default, text_set, algorithms_in};
 ghost use Rattle.jwt_validation.specs.OptionsRead.{settled, usual_options, ReadsTimes};
-ghost use Rattle.jwt_validation.specs.OptionsRead.{ReadsMembers, ReadsOptions};
+ghost use Rattle.jwt_validation.specs.OptionsRead.{AreStrict, ReadsMembers, ReadsOptions};
 
 use crate::Validation;
+use crate::fault::first_unstrict;
 use crate::validation::{
     LEEWAY, REJECT, STRICT_LEEWAY, STRICT_REJECT, STRICT_VALIDATES_NBF, VALIDATES_AUD,
     VALIDATES_EXP, VALIDATES_NBF, insert_text,
@@ -40,6 +41,7 @@ pub(crate) fn read_validation(alloc: Global, value: &Value) -> Result<Validation
 {
     check_names(value)?;
     let is_strict = is_strict(value)?;
+    check_strict(value, is_strict)?;
     let members = read_members(alloc, value, is_strict)?;
     settle(alloc, members, is_strict)
 }
@@ -52,6 +54,18 @@ fn is_strict(value: &Value) -> Result<bool>
         (or_default false as_bool (get (codes "strict") (view value.now)) ≡ None)) }
 {
     optional_flag(value, "strict", false)
+}
+
+// Refuses strict options with an empty list of audiences or issuers, or with a required claim that
+// can't be required.
+fn check_strict(value: &Value, is_strict: bool) -> Result<()>
+    ensures { MatchResult result (λ _. is_strict ≡ true → AreStrict (view value.now))
+        (λ e. RefusesAs kind.Json ((is_strict ≡ true) × ¬ AreStrict (view value.now)) e) }
+{
+    if is_strict && first_unstrict(value).is_some() {
+        return Err(new_error(ErrorKind::Json));
+    }
+    Ok(())
 }
 
 pub(crate) fn option_names() -> [&'static str; 12]

@@ -205,6 +205,8 @@ impl Validation {
     /// `algorithms` is then an empty list: no algorithm is chosen by default, and `decode` refuses
     /// with `MissingAlgorithm`. An unknown member, a member of a wrong type, an algorithm of an
     /// unknown name and a value that is not an object are refused with `Json`; nothing is ignored.
+    /// If `strict` is `true`, an empty list of `aud` or `iss`, and a required claim other than
+    /// `exp`, `nbf`, `aud`, `iss` and `sub`, are refused with `Json` too.
     pub fn from_value(alloc: Global, value: &Value) -> Result<Validation>
         ensures ok { IfOk result (λ v. ReadsOptions (view value.now) (options_of v)) }
         ensures err { IfErr result (RefusesAs kind.Json
