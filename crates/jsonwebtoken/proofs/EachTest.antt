@@ -18,7 +18,8 @@ use Rattle.jsonwebtoken.specs.Tests.{AlgorithmIsListed, VerifierIsMade, Families
 use Rattle.jsonwebtoken.specs.Tests.{SignatureIsAccepted, PayloadIsPart, PayloadIsJson, ClaimsRead, ClaimsAreAnObject}
 use Rattle.jsonwebtoken.specs.Tests.{ClaimRulesHold, Contents, Condition, HasKind, InSet, set_order, KeySource, key_of}
 use Rattle.jsonwebtoken.specs.Tests.{message_of, token_tests}
-use Rattle.jsonwebtoken.specs.private_clauses.Steps.{Failed, FailsAt, Step, whole}
+use Rattle.jsonwebtoken.specs.Steps.{Failed, FailsAt, Step}
+use Rattle.jsonwebtoken.specs.private_clauses.Steps.{whole}
 use Rattle.jwt_header.specs.declared.header.Header.{Header}
 use Rattle.jsonwebtoken.proofs.Engine as engine
 use Rattle.jwt_header.proofs.HeaderLemmas.{one_header}

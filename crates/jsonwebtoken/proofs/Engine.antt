@@ -8,7 +8,7 @@ use Rattle.jwt_base.specs.Kind.{Kind}
 use Rattle.jwt_base.specs.KindOf.{kind_of, IsMemory}
 use Rattle.jwt_base.specs.declared.errors.Error.{Error}
 use Rattle.jsonwebtoken.specs.Order.{Tests, Passes, IsFirstFailed, FailsFirst, Decides}
-use Rattle.jsonwebtoken.specs.private_clauses.FailedAt.{StopsAt, FailedAt, FailedBy}
+use Rattle.jsonwebtoken.specs.FailedAt.{StopsAt, FailedAt, FailedBy}
 use Rattle.jsonwebtoken.specs.private_clauses.IssueSteps.{Meets}
 
 pub both_true : (x y : Bool) → (x && y) ≡ true → (x ≡ true) × (y ≡ true)

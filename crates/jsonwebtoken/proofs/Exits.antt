@@ -19,9 +19,10 @@ use Rattle.jsonwebtoken.specs.Tests.{Call, Parts, HasParts, key_of, Test, Claims
 use Rattle.jsonwebtoken.specs.Tests.{header_tests, header_order, verifying_tests, token_tests}
 use Rattle.jsonwebtoken.specs.declared.decoding.TokenData.{TokenData}
 use Rattle.jsonwebtoken.specs.declared.refusal.Refusal.{Refusal}
-use Rattle.jsonwebtoken.specs.private_clauses.FailedAt.{StopsAt}
+use Rattle.jsonwebtoken.specs.FailedAt.{StopsAt}
 use Rattle.jsonwebtoken.specs.private_clauses.Refused.{IsWithTest, IsWithoutTest, IsFailedTest, tested}
-use Rattle.jsonwebtoken.specs.private_clauses.Steps.{Meets, Finds, FailsAt, IsBeside, Step, Failed, bare, holding, no_contents}
+use Rattle.jsonwebtoken.specs.Steps.{Meets, Finds, FailsAt, Step, Failed}
+use Rattle.jsonwebtoken.specs.private_clauses.Steps.{IsBeside, bare, holding, no_contents}
 use Rattle.jsonwebtoken.specs.private_clauses.Steps.{rule_tests, with_header_part, with_value, whole, verifying_by}
 use Rattle.jsonwebtoken.proofs.Engine.{join}
 

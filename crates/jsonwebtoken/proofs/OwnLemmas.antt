@@ -9,7 +9,8 @@ use Rattle.jsonwebtoken.specs.Tests.{ArePartsOf, Contents, HasThreeParts, Parts,
 use Rattle.jsonwebtoken.specs.Tests.{header_tests, token_tests}
 use Rattle.jsonwebtoken.specs.declared.refusal.Refusal.{Refusal}
 use Rattle.jsonwebtoken.specs.private_clauses.Refused.{IsWithTest}
-use Rattle.jsonwebtoken.specs.private_clauses.Steps.{Failed, bare, with_header_part}
+use Rattle.jsonwebtoken.specs.Steps.{Failed}
+use Rattle.jsonwebtoken.specs.private_clauses.Steps.{bare, with_header_part}
 use Rattle.jsonwebtoken.proofs.EachTest.{failed_by}
 use Rattle.jsonwebtoken.proofs.Engine.{not_passed}
 use Rattle.jsonwebtoken.proofs.Exits.{stop}

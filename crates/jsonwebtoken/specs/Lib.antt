@@ -2,6 +2,9 @@ pub mod Accepted
 pub mod ByHmac
 pub mod Calls
 pub mod Crit
+pub mod FailedAt
+pub mod Finder
+pub mod Finding
 pub mod Issue
 pub mod IssueCalls
 pub mod IssueGiven
@@ -10,6 +13,7 @@ pub mod Laws
 pub mod Order
 pub mod Own
 pub mod Refused
+pub mod Steps
 pub mod TestName
 pub mod Tests
 pub mod Vouched

@@ -4,8 +4,9 @@ use Rattle.jwt_base.specs.Algorithm.{algorithm_of}
 use Rattle.jwt_base.specs.declared.algorithms.Algorithm.{Algorithm}
 use Rattle.jwt_header.specs.declared.header.Header.{Header}
 use Rattle.jwt_keys.specs.declared.jwk.Jwk.{Jwk}
+use Rattle.jwt_validation.specs.Options.{Options}
 use Rattle.jsonwebtoken.specs.Order.{Passes}
-use Rattle.jsonwebtoken.specs.Tests.{Contents, header_call, header_order, named_key, token_tests}
+use Rattle.jsonwebtoken.specs.Tests.{Call, Contents, header_call, header_order, named_key, token_tests}
 
 -- the algorithm that a key is for, by its `alg` (RFC 7517 section 4.4)
 abbrev pub own_of : Jwk → Option Algorithm
@@ -30,3 +31,11 @@ IsNamedBy keys token named =
 abbrev pub listed : Option Algorithm → List Algorithm
 listed None = []
 listed (Some a) = a ∷ []
+
+-- the options with these algorithms instead
+abbrev pub with_algorithms : Options → List Algorithm → Options
+with_algorithms o algorithms = record o { algorithms = algorithms }
+
+-- the call that accepts this algorithm alone, or none
+abbrev pub with_own : {T : Type 0} → Call T → Option Algorithm → Call T
+with_own call own = record call { options = with_algorithms call.options (listed own) }

@@ -1,6 +1,6 @@
 -- Definitions that the clauses of private functions alone name.
+pub mod Asking
 pub mod Claimed
-pub mod FailedAt
 pub mod IssueSteps
 pub mod KnownHeaders
 pub mod Refused

@@ -5,7 +5,8 @@ ghost use Rattle.jwt_validation.specs.OptionsOf.{options_of};
 ghost use Rattle.jsonwebtoken.specs.Accepted.{FindsMoments};
 ghost use Rattle.jsonwebtoken.specs.Calls.{decoding, decoding_by_set};
 ghost use Rattle.jsonwebtoken.specs.private_clauses.Claimed.{AreClaimed, value_tests};
-ghost use Rattle.jsonwebtoken.specs.private_clauses.Steps.{Step, whole};
+ghost use Rattle.jsonwebtoken.specs.Steps.{Step};
+ghost use Rattle.jsonwebtoken.specs.private_clauses.Steps.{whole};
 ghost use Rattle.jsonwebtoken.specs.Tests.{decode_order, set_order, header_call};
 
 use crate::decoding::steps::{read_json, read_part, token_parts};

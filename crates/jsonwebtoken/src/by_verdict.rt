@@ -7,7 +7,8 @@
 ghost use Rattle.std.specs.Prelude.{◌≡◌, Ok, Err, IfOk, IfErr};
 ghost use Rattle.jsonwebtoken.specs.Calls.{HasSigned};
 ghost use Rattle.jsonwebtoken.specs.Order.{Decides};
-ghost use Rattle.jsonwebtoken.specs.private_clauses.Steps.{Step, whole};
+ghost use Rattle.jsonwebtoken.specs.Steps.{Step};
+ghost use Rattle.jsonwebtoken.specs.private_clauses.Steps.{whole};
 ghost use Rattle.jsonwebtoken.specs.Tests.{signed_order, header_call, token_tests};
 ghost use Rattle.jsonwebtoken.specs.Vouched.{decoding_by_verdict, DecidesVouched};
 

@@ -4,7 +4,8 @@
 ghost use Rattle.std.specs.Prelude.{◌≡◌};
 ghost use Rattle.jsonwebtoken.specs.Calls.{Carries, HasClaims};
 ghost use Rattle.jsonwebtoken.specs.Order.{Decides};
-ghost use Rattle.jsonwebtoken.specs.private_clauses.Steps.{Step, whole};
+ghost use Rattle.jsonwebtoken.specs.Steps.{Step};
+ghost use Rattle.jsonwebtoken.specs.private_clauses.Steps.{whole};
 ghost use Rattle.jsonwebtoken.specs.Tests.{insecure_order, insecure_claims_order, insecure_call};
 ghost use Rattle.jsonwebtoken.specs.Tests.{token_tests};
 

@@ -1,9 +1,5 @@
 //! Reading tokens in their compact form (RFC 7515 section 7.1).
 
-// `decode` and `decode_with_set` note the test that fails besides their result (`decode_noting`),
-// and the calls that return it put both together. A result with the test in its error is of another
-// type, and turning one into the other moves the header, which is large, once more for each token.
-
 ghost use Rattle.std.specs.Prelude.{◌≡◌, ℕ, List, IfOk};
 ghost use Rattle.jwt_base.specs.Algorithm.{family_of};
 ghost use Rattle.jwt_keys.specs.Key.{key_family};
@@ -11,23 +7,27 @@ ghost use Rattle.jsonwebtoken.specs.Calls.{decoding, Carries, HasHeader};
 ghost use Rattle.jsonwebtoken.specs.Laws.{HasLaws};
 ghost use Rattle.jsonwebtoken.specs.Order.{Decides};
 ghost use Rattle.jsonwebtoken.specs.Refused.{DecidesByTest};
-ghost use Rattle.jsonwebtoken.specs.private_clauses.Refused.{tested};
-ghost use Rattle.jsonwebtoken.specs.private_clauses.Steps.{IsBeside, Step, whole};
+ghost use Rattle.jsonwebtoken.specs.private_clauses.Steps.{IsBeside};
 ghost use Rattle.jsonwebtoken.specs.Tests.{Compact, header_order, decode_order, header_call};
 ghost use Rattle.jsonwebtoken.specs.Tests.{token_tests};
 
 // These are the modules of `decode`: no module may have the name of a function next to it.
 pub(crate) mod crit;
+pub(crate) mod engine;
+pub(crate) mod finder;
 pub(crate) mod key_set;
+pub(crate) mod one_key;
 pub(crate) mod own;
 pub(crate) mod parts;
 pub(crate) mod steps;
 
+pub use crate::decoding::engine::{decode_by, decode_by_or_refusal, decode_by_own_algorithm};
+pub use crate::decoding::finder::KeyFinder;
 pub use crate::decoding::key_set::{decode_with_set, decode_with_set_or_refusal};
+use crate::decoding::one_key::OneKey;
 pub use crate::decoding::own::decode_with_set_by_own_algorithm;
-use crate::decoding::parts::Opening;
-use crate::decoding::steps::{read_claims_by_key, read_header_noting, token_parts};
-use crate::refusal::{Refusal, Test, note, with_test};
+use crate::decoding::steps::{read_header_noting, token_parts};
+use crate::refusal::{Refusal, Test};
 use jwt_base::errors::Result;
 use jwt_base::json::Claims;
 use jwt_header::Header;
@@ -62,9 +62,8 @@ pub fn decode_or_refusal<P: CryptoProvider, T: Claims>(
         provider.now token.now key.now validation.now time in
         DecidesByTest (token_tests call) decode_order (Carries call) result }
 {
-    let mut failed = Test::HasThreeParts;
-    let decoded = decode_noting(alloc, provider, token, key, validation, time, &mut failed);
-    with_test(failed, decoded)
+    let keys = OneKey { provider, key };
+    decode_by_or_refusal(alloc, &keys, token, validation, time)
 }
 
 /// Verifies a token in its compact form with the key, at the time `time`, in whole seconds since
@@ -118,8 +117,8 @@ pub fn decode<P: CryptoProvider, T: Claims>(
         (decoding P.CryptoProvider T.Claims provider.now token.now key.now validation.now time)
         decode_order (List ℕ) Compact token.now }
 {
-    let mut failed = Test::HasThreeParts;
-    decode_noting(alloc, provider, token, key, validation, time, &mut failed)
+    let keys = OneKey { provider, key };
+    decode_by(alloc, &keys, token, validation, time)
 }
 
 /// Returns the header of a token in its compact form. Nothing is verified: neither the payload nor
@@ -156,40 +155,6 @@ pub(crate) fn beside<T: Drop>(
             // dropped by a call: the end of the block would have to be proved to drop every field
             drop(header);
             Err(refusal)
-        }
-    }
-}
-
-/// Verifies a token, and notes the test that fails.
-fn decode_noting<P: CryptoProvider, T: Claims>(
-    alloc: Global,
-    provider: &P,
-    token: &[u8],
-    key: &DecodingKey,
-    validation: &Validation,
-    time: u64,
-    failed: &mut Test,
-) -> Result<TokenData<T>>
-    ensures { let call = decoding P.CryptoProvider T.Claims
-        provider.now token.now key.now validation.now time in
-        Step call decode_order whole (Carries call) (tested failed.new result) }
-{
-    let parts = match token_parts(token) {
-        Ok(parts) => parts,
-        Err(refusal) => return Err(note(refusal, failed)),
-    };
-    let header = read_header_noting(alloc, parts.header, failed)?;
-    let opening = Opening {
-        parts: &parts,
-        header: &header,
-    };
-    let claims = read_claims_by_key(alloc, provider, &opening, key, validation, time);
-    match claims {
-        Ok(claims) => Ok(TokenData { header, claims }),
-        Err(refusal) => {
-            // dropped by a call: the end of the block would have to be proved to drop every field
-            drop(header);
-            Err(note(refusal, failed))
         }
     }
 }

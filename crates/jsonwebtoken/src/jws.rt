@@ -20,7 +20,8 @@ ghost use Rattle.jsonwebtoken.specs.IssueCalls.{encoding_parts};
 ghost use Rattle.jsonwebtoken.specs.private_clauses.IssueSteps.{IssueStep};
 ghost use Rattle.jsonwebtoken.specs.Jws.{parts_of, ReadsParts, parts_value};
 ghost use Rattle.jsonwebtoken.specs.Laws.{HasLaws, AgreeOn};
-ghost use Rattle.jsonwebtoken.specs.private_clauses.Steps.{Step, ShowsNothing, ShowsClaims};
+ghost use Rattle.jsonwebtoken.specs.Steps.{Step};
+ghost use Rattle.jsonwebtoken.specs.private_clauses.Steps.{ShowsNothing, ShowsClaims};
 ghost use Rattle.jsonwebtoken.specs.private_clauses.Steps.{parts_in, allowing, with_header};
 ghost use Rattle.jsonwebtoken.specs.private_clauses.Steps.{with_opening, whole};
 ghost use Rattle.jsonwebtoken.specs.Tests.{dot, Parts, Separate, message_of, text_of_parts};
@@ -28,10 +29,11 @@ ghost use Rattle.jsonwebtoken.specs.Tests.{CritIsUnderstood, jws_algorithm_tests
 ghost use Rattle.jsonwebtoken.specs.Tests.{jws_order, token_tests};
 
 use crate::decoding::crit::check_crit;
+use crate::decoding::engine::make_verifier;
+use crate::decoding::one_key::OneKey;
 use crate::decoding::parts::{Opening, TokenParts};
 use crate::decoding::steps::{
-    check_families, check_listed, check_some_listed, make_verifier, read_header,
-    verify_and_read_claims,
+    check_families, check_listed, check_some_listed, read_header, verify_and_read_claims,
 };
 use crate::decoding::{TokenData, beside};
 use crate::encoding::steps::{check_family, header_part, payload_part, sign_parts, with_part};
@@ -320,9 +322,11 @@ fn verifier_for<P: CryptoProvider>(
         P.Verifier.accepts v m s ↔ P.accepts provider.now header.now.alg key.now m s) }
 {
     let algorithm = header.alg;
-    let verifier = make_verifier(alloc, provider, algorithm, key)?;
-    check_some_listed(validation)?;
-    check_families(validation, algorithm)?;
-    check_listed(validation, algorithm)?;
+    let keys = OneKey { provider, key };
+    let verifier = make_verifier(alloc, &keys, &key, algorithm)?;
+    let algorithms = validation.algorithms.as_slice();
+    check_some_listed(algorithms)?;
+    check_families(algorithms, algorithm)?;
+    check_listed(algorithms, algorithm)?;
     Ok(verifier)
 }

@@ -8,7 +8,7 @@ use Rattle.jwt_base.specs.Kind.{Kind}
 use Rattle.jwt_base.specs.KindOf.{kind_of, IsMemory}
 use Rattle.jwt_base.specs.declared.errors.Error.{Error}
 use Rattle.jsonwebtoken.specs.Order.{Passes}
-use Rattle.jsonwebtoken.specs.private_clauses.FailedAt.{FailedAt}
+use Rattle.jsonwebtoken.specs.FailedAt.{FailedAt}
 use Rattle.jsonwebtoken.specs.Issue.{Issue, IssueTest, HeaderIsWritten, ClaimsAreWritten, Written, AreWritten}
 use Rattle.jsonwebtoken.specs.Issue.{IssueCondition, issue_tests}
 use Rattle.jwt_header.specs.Header.{header_value}

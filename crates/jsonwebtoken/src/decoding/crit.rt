@@ -9,7 +9,7 @@ ghost use Rattle.serde_json.specs.Find.{get_member};
 ghost use Rattle.jwt_base.specs.Kind as kind;
 ghost use Rattle.jsonwebtoken.specs.Crit.{IsUnderstoodName, IsUnderstoodList, IsUnderstood};
 ghost use Rattle.jwt_validation.specs.OptionsOf.{options_of};
-ghost use Rattle.jsonwebtoken.specs.private_clauses.Steps.{Asks};
+ghost use Rattle.jsonwebtoken.specs.Steps.{Asks};
 ghost use Rattle.jsonwebtoken.specs.Tests.{CritIsUnderstood};
 
 use crate::refusal::{Refusal, Test};

@@ -1,28 +1,25 @@
 //! Reading tokens by the key that their header names in a set (RFC 7515 section 4.1.4, RFC 7517
 //! section 5).
 
-ghost use Rattle.std.specs.Prelude.{◌≡◌, ◌++◌, ◌∷◌, ℕ, List, [], Some, None};
+ghost use Rattle.std.specs.Prelude.{◌≡◌, ℕ, List, Some, None};
 ghost use Rattle.jwt_base.specs.Kind as kind;
 ghost use Rattle.jwt_keys.specs.Key.{Key};
 ghost use Rattle.jwt_keys.specs.KeyOfJwk.{IsKeyOf, refusal_of};
 ghost use Rattle.jsonwebtoken.specs.Calls.{decoding_by_set, Carries};
+ghost use Rattle.jsonwebtoken.specs.Finder.{FindsKey};
 ghost use Rattle.jsonwebtoken.specs.Laws.{HasLaws, KeepsWithMore};
 ghost use Rattle.jsonwebtoken.specs.Order.{Decides};
 ghost use Rattle.jsonwebtoken.specs.Refused.{DecidesByTest};
-ghost use Rattle.jsonwebtoken.specs.private_clauses.Refused.{tested};
-ghost use Rattle.jsonwebtoken.specs.private_clauses.Steps.{Asks, Finds, Step, ShowsClaims};
-ghost use Rattle.jsonwebtoken.specs.private_clauses.Steps.{ShowsKey, looking_in, parts_in};
-ghost use Rattle.jsonwebtoken.specs.private_clauses.Steps.{with_header, with_opening, whole};
-ghost use Rattle.jsonwebtoken.specs.Tests.{Compact, named_key, AgreesWith, CritIsUnderstood};
-ghost use Rattle.jsonwebtoken.specs.Tests.{KeyIsFound, KeyAlgorithmAgrees, KeyIsUsable, key_tests};
-ghost use Rattle.jsonwebtoken.specs.Tests.{algorithm_tests, verifying_tests, set_order};
-ghost use Rattle.jsonwebtoken.specs.Tests.{token_tests};
+ghost use Rattle.jsonwebtoken.specs.Steps.{Asks, Finds};
+ghost use Rattle.jsonwebtoken.specs.Tests.{Compact, InSet, named_key, AgreesWith};
+ghost use Rattle.jsonwebtoken.specs.Tests.{KeyIsFound, KeyAlgorithmAgrees, KeyIsUsable};
+ghost use Rattle.jsonwebtoken.specs.Tests.{set_order, token_tests};
 
 use crate::decoding::TokenData;
-use crate::decoding::crit::check_crit;
-use crate::decoding::parts::Opening;
-use crate::decoding::steps::{read_header_noting, token_parts, verify_by_key};
-use crate::refusal::{Refusal, Test, note, with_test};
+use crate::decoding::engine::{decode_by, decode_by_or_refusal};
+use crate::decoding::finder::KeyFinder;
+use crate::decoding::own::named_algorithm;
+use crate::refusal::{Refusal, Test, with_test};
 use jwt_base::algorithms::{Algorithm, KeyAlgorithm};
 use jwt_base::errors::{ErrorKind, Result};
 use jwt_base::json::Claims;
@@ -33,29 +30,6 @@ use jwt_keys::jwk_set::JwkSet;
 use jwt_keys::provider::CryptoProvider;
 use jwt_validation::Validation;
 use std::alloc::Global;
-
-/// Returns the claims of a token that passes, by the key of the set that its header names, the
-/// tests that follow those of the header.
-pub(crate) fn read_claims_by_set<P: CryptoProvider, T: Claims>(
-    alloc: Global,
-    provider: &P,
-    opening: &Opening<'_>,
-    set: &JwkSet,
-    validation: &Validation,
-    time: u64,
-) -> Result<T, Refusal>
-    ensures { let call = decoding_by_set P.CryptoProvider T.Claims
-        provider.now [] set.now.keys.items validation.now time in
-        Step call (CritIsUnderstood ∷ key_tests ++ (algorithm_tests ++ verifying_tests))
-        (with_opening (parts_in opening.now.parts.now) opening.now.header.now)
-        (ShowsClaims T.reads) result }
-{
-    check_crit(opening.header, validation)?;
-    let key = key_in_set(alloc, set, opening.header)?;
-    // bound to a name: the proof cannot refer to a call in tail position
-    let claims = verify_by_key(alloc, provider, opening, &key, validation, time)?;
-    Ok(claims)
-}
 
 /// Verifies a token like [`decode_with_set`]; a refusal has the first test that fails, and its
 /// error. If memory ran out, the refusal's error is `OutOfMemory`.
@@ -71,9 +45,8 @@ pub fn decode_with_set_or_refusal<P: CryptoProvider, T: Claims>(
         provider.now token.now set.now.keys.items validation.now time in
         DecidesByTest (token_tests call) set_order (Carries call) result }
 {
-    let mut failed = Test::HasThreeParts;
-    let data = decode_with_set_noting(alloc, provider, token, set, validation, time, &mut failed);
-    with_test(failed, data)
+    let keys = KeysOfSet { provider, set };
+    decode_by_or_refusal(alloc, &keys, token, validation, time)
 }
 
 /// Verifies a token in its compact form with the key of the set that its header names, at the
@@ -123,14 +96,53 @@ pub fn decode_with_set<P: CryptoProvider, T: Claims>(
         validation.now time)
         set_order set.now.keys.items }
 {
-    let mut failed = Test::HasThreeParts;
-    decode_with_set_noting(alloc, provider, token, set, validation, time, &mut failed)
+    let keys = KeysOfSet { provider, set };
+    decode_by(alloc, &keys, token, validation, time)
+}
+
+/// A set of keys, of which the header of a token names one, and the provider that verifies with it.
+#[derive(Drop)]
+pub(crate) struct KeysOfSet<'k, P> {
+    pub(crate) provider: &'k P,
+    pub(crate) set: &'k JwkSet,
+}
+
+impl<'k, P: CryptoProvider> KeyFinder for KeysOfSet<'k, P> {
+    type Found = DecodingKey;
+
+    type Verifier = P::Verifier;
+
+    ghost source = { λ keys. InSet keys.set.now.keys.items };
+
+    ghost key = { λ _ found. found };
+
+    ghost refusal = { λ keys. P.verifier_refusal keys.provider.now };
+
+    ghost accepts = { λ keys. P.accepts keys.provider.now };
+
+    fn find(&self, alloc: Global, header: &Header) -> Result<DecodingKey, Refusal> {
+        key_in_set(alloc, self.set, header)
+    }
+
+    fn own_algorithm(&self, header: &Header) -> Option<Algorithm> {
+        named_algorithm(self.set, header)
+    }
+
+    fn verifier(
+        &self,
+        alloc: Global,
+        algorithm: Algorithm,
+        found: &DecodingKey,
+    ) -> Result<P::Verifier> {
+        self.provider.verifier_factory(alloc, &algorithm, found)
+    }
+
+    ghost same_family = { λ keys a k made. P.same_family keys.provider.now a k made };
 }
 
 /// Returns the key that the header names.
 fn key_in_set(alloc: Global, set: &JwkSet, header: &Header) -> Result<DecodingKey, Refusal>
-    ensures { Step (looking_in set.now.keys.items) key_tests (with_header header.now) ShowsKey
-        result }
+    ensures { FindsKey (InSet set.now.keys.items) (λ key. key) header.now result }
 {
     let jwk = find_key(set, header)?;
     check_key_algorithm(jwk, header.alg)?;
@@ -152,7 +164,7 @@ fn find_key<'k>(set: &'k JwkSet, header: &Header) -> Result<&'k Jwk, Refusal>
 }
 
 /// Refuses with `InvalidAlgorithm` a key that is for another algorithm (RFC 7517 section 4.4).
-fn check_key_algorithm(jwk: &Jwk, algorithm: Algorithm) -> Result<(), Refusal>
+pub fn check_key_algorithm(jwk: &Jwk, algorithm: Algorithm) -> Result<(), Refusal>
     ensures { Asks KeyAlgorithmAgrees (AgreesWith algorithm jwk.now)
         (λ k. k ≡ kind.InvalidAlgorithm) result }
 {
@@ -166,43 +178,9 @@ fn check_key_algorithm(jwk: &Jwk, algorithm: Algorithm) -> Result<(), Refusal>
 }
 
 /// Returns the key that a JSON Web Key stands for.
-fn key_of_jwk(alloc: Global, jwk: &Jwk) -> Result<DecodingKey, Refusal>
+pub fn key_of_jwk(alloc: Global, jwk: &Jwk) -> Result<DecodingKey, Refusal>
     ensures { Finds KeyIsUsable (IsKeyOf jwk.now.algorithm)
         ((k : Key) → ¬ IsKeyOf jwk.now.algorithm k) (λ k. k ≡ refusal_of jwk.now.algorithm) result }
 {
     with_test(Test::KeyIsUsable, DecodingKey::from_jwk(alloc, jwk))
-}
-
-/// Verifies a token, and notes the test that fails.
-fn decode_with_set_noting<P: CryptoProvider, T: Claims>(
-    alloc: Global,
-    provider: &P,
-    token: &[u8],
-    set: &JwkSet,
-    validation: &Validation,
-    time: u64,
-    failed: &mut Test,
-) -> Result<TokenData<T>>
-    ensures { let call = decoding_by_set P.CryptoProvider T.Claims
-        provider.now token.now set.now.keys.items validation.now time in
-        Step call set_order whole (Carries call) (tested failed.new result) }
-{
-    let parts = match token_parts(token) {
-        Ok(parts) => parts,
-        Err(refusal) => return Err(note(refusal, failed)),
-    };
-    let header = read_header_noting(alloc, parts.header, failed)?;
-    let opening = Opening {
-        parts: &parts,
-        header: &header,
-    };
-    let claims = read_claims_by_set(alloc, provider, &opening, set, validation, time);
-    match claims {
-        Ok(claims) => Ok(TokenData { header, claims }),
-        Err(refusal) => {
-            // dropped by a call: the end of the block would have to be proved to drop every field
-            drop(header);
-            Err(note(refusal, failed))
-        }
-    }
 }

@@ -6,12 +6,7 @@
 // refused is proved to be dropped at each such place. A call ends with `Ok(x)` after `let x = f()?`
 // if its proof says of `x` which tests it has passed: without a name the proof has to repeat the
 // callee's case split. The claim rules look at a payload's value first, and then it is given up to
-// the claims, but the claims' refusal is returned first. That `decode` gives each refusal its own
-// kind is shown here by wrong bodies: of the whole `decode` a right body in the form of the wrong
-// one is refused too, and so is one in which a step passes a refusal on with `?`. A `crit` that is
-// not understood, a missing or an unlisted algorithm, one of another family, a wrong signature, and
-// claims that are no object are made `InvalidToken`, and a key of a set for another algorithm
-// `NoKey`; each is refused for its meaning.
+// the claims, but the claims' refusal is returned first.
 
 ghost use Rattle.std.specs.Prelude.{◌≡◌, ◌⊎◌, ◌↔◌, ◌++◌, ◌∷◌, ℕ, List, Some, None, IfOk, IfErr};
 ghost use Rattle.std.specs.Prelude.{IfSome, IfNone, IsSome, Contains, [], All};
@@ -25,20 +20,20 @@ ghost use Rattle.jwt_base.specs.Kind as kind;
 ghost use Rattle.jwt_base.specs.KindOf.{IsMemory};
 ghost use Rattle.jwt_header.specs.Header.{new_header};
 ghost use Rattle.jwt_validation.specs.OptionsOf.{options_of};
-ghost use Rattle.jsonwebtoken.specs.Calls.{decoding};
 ghost use Rattle.jsonwebtoken.specs.private_clauses.Refused.{tested};
-ghost use Rattle.jsonwebtoken.specs.private_clauses.Steps.{Asks, Finds, Meets, Step, ShowsNothing};
+ghost use Rattle.jsonwebtoken.specs.Steps.{Asks, Finds, Step};
+ghost use Rattle.jsonwebtoken.specs.private_clauses.Steps.{ShowsNothing};
 ghost use Rattle.jsonwebtoken.specs.private_clauses.Steps.{ShowsHeader, ShowsClaims, bare};
 ghost use Rattle.jsonwebtoken.specs.private_clauses.Steps.{parts_in, with_header_part};
 ghost use Rattle.jsonwebtoken.specs.private_clauses.Steps.{with_payload_part, with_parts};
-ghost use Rattle.jsonwebtoken.specs.private_clauses.Steps.{with_header, with_opening, with_value};
-ghost use Rattle.jsonwebtoken.specs.private_clauses.Steps.{allowing, accepting, claiming, holding};
+ghost use Rattle.jsonwebtoken.specs.private_clauses.Steps.{with_value};
+ghost use Rattle.jsonwebtoken.specs.private_clauses.Steps.{accepting, claiming, holding};
 ghost use Rattle.jsonwebtoken.specs.private_clauses.Steps.{reading, rule_tests, verifying_by};
 ghost use Rattle.jsonwebtoken.specs.Tests.{dot, Parts, ArePartsOf, Test, HasThreeParts};
-ghost use Rattle.jsonwebtoken.specs.Tests.{CritIsUnderstood, AlgorithmsAreListed};
-ghost use Rattle.jsonwebtoken.specs.Tests.{AlgorithmIsListed, VerifierIsMade, FamiliesAgree};
+ghost use Rattle.jsonwebtoken.specs.Tests.{AlgorithmsAreListed};
+ghost use Rattle.jsonwebtoken.specs.Tests.{AlgorithmIsListed, FamiliesAgree};
 ghost use Rattle.jsonwebtoken.specs.Tests.{SignatureIsAccepted, ClaimsRead, ClaimsAreAnObject};
-ghost use Rattle.jsonwebtoken.specs.Tests.{ClaimRulesHold, header_tests, algorithm_tests};
+ghost use Rattle.jsonwebtoken.specs.Tests.{ClaimRulesHold, header_tests};
 ghost use Rattle.jsonwebtoken.specs.Tests.{signature_tests, payload_tests, claim_tests};
 ghost use Rattle.jsonwebtoken.specs.Tests.{verifying_tests};
 
@@ -52,30 +47,29 @@ use jwt_base::json::Claims;
 use jwt_base::serialization::{json_value, part_bytes};
 use jwt_base::text::Text;
 use jwt_header::{Extras, Header};
-use jwt_keys::decoding_key::DecodingKey;
-use jwt_keys::provider::{CryptoProvider, JwtVerifier};
+use jwt_keys::provider::JwtVerifier;
 use jwt_validation::{Validation, validate};
 use memchr::memrchr;
 use serde_json::Value;
 use std::alloc::Global;
 
 /// Refuses an empty list with `MissingAlgorithm`.
-pub(crate) fn check_some_listed(validation: &Validation) -> Result<(), Refusal>
-    ensures { Asks AlgorithmsAreListed (¬ (validation.now.algorithms.items ≡ []))
+pub(crate) fn check_some_listed(algorithms: &[Algorithm]) -> Result<(), Refusal>
+    ensures { Asks AlgorithmsAreListed (¬ (algorithms.now ≡ []))
         (λ k. k ≡ kind.MissingAlgorithm) result }
 {
-    if validation.algorithms.is_empty() {
+    if algorithms.is_empty() {
         return Err(Refusal::new(Test::AlgorithmsAreListed, ErrorKind::MissingAlgorithm));
     }
     Ok(())
 }
 
 /// Refuses an algorithm that is not listed with `InvalidAlgorithm`.
-pub(crate) fn check_listed(validation: &Validation, algorithm: Algorithm) -> Result<(), Refusal>
-    ensures { Asks AlgorithmIsListed (Contains validation.now.algorithms.items algorithm)
+pub(crate) fn check_listed(algorithms: &[Algorithm], algorithm: Algorithm) -> Result<(), Refusal>
+    ensures { Asks AlgorithmIsListed (Contains algorithms.now algorithm)
         (λ k. k ≡ kind.InvalidAlgorithm) result }
 {
-    if validation.algorithms.contains(&algorithm) {
+    if algorithms.contains(&algorithm) {
         Ok(())
     } else {
         Err(Refusal::new(Test::AlgorithmIsListed, ErrorKind::InvalidAlgorithm))
@@ -83,16 +77,12 @@ pub(crate) fn check_listed(validation: &Validation, algorithm: Algorithm) -> Res
 }
 
 /// Refuses with `InvalidAlgorithm` a list with an algorithm of another family.
-pub(crate) fn check_families(validation: &Validation, algorithm: Algorithm) -> Result<(), Refusal>
+pub(crate) fn check_families(algorithms: &[Algorithm], algorithm: Algorithm) -> Result<(), Refusal>
     ensures { Asks FamiliesAgree
-        (All (λ b. family_of b ≡ family_of algorithm) validation.now.algorithms.items)
+        (All (λ b. family_of b ≡ family_of algorithm) algorithms.now)
         (λ k. k ≡ kind.InvalidAlgorithm) result }
 {
-    if validation
-        .algorithms
-        .iter()
-        .all(|b| b.family() == algorithm.family())
-    {
+    if algorithms.iter().all(|b| b.family() == algorithm.family()) {
         Ok(())
     } else {
         Err(Refusal::new(Test::FamiliesAgree, ErrorKind::InvalidAlgorithm))
@@ -154,47 +144,6 @@ pub(crate) fn read_header(alloc: Global, part: &[u8]) -> Result<Header, Refusal>
     with_test(failed, header)
 }
 
-/// Returns the verifier that the provider makes for the algorithm and the key.
-pub(crate) fn make_verifier<P: CryptoProvider>(
-    alloc: Global,
-    provider: &P,
-    algorithm: Algorithm,
-    key: &DecodingKey,
-) -> Result<P::Verifier, Refusal>
-    ensures made { Finds VerifierIsMade
-        (λ _. P.verifier_refusal provider.now algorithm key.now ≡ None)
-        (P.verifier_refusal provider.now algorithm key.now ≡ None → ⊥)
-        (λ k. P.verifier_refusal provider.now algorithm key.now ≡ Some k) result }
-    ensures accepts { IfOk result (λ v. (m s : List ℕ) →
-        P.Verifier.accepts v m s ↔ P.accepts provider.now algorithm key.now m s) }
-{
-    let made = provider.verifier_factory(alloc, &algorithm, key);
-    with_test(Test::VerifierIsMade, made)
-}
-
-/// Returns the verifier by the key and the header's algorithm, which is among those that are
-/// allowed.
-pub(crate) fn verifier_for<P: CryptoProvider>(
-    alloc: Global,
-    provider: &P,
-    header: &Header,
-    key: &DecodingKey,
-    validation: &Validation,
-) -> Result<P::Verifier, Refusal>
-    ensures tests { Step
-        (allowing (options_of validation.now) key.now (P.verifier_refusal provider.now))
-        algorithm_tests (with_header header.now) ShowsNothing result }
-    ensures accepts { IfOk result (λ v. (m s : List ℕ) →
-        P.Verifier.accepts v m s ↔ P.accepts provider.now header.now.alg key.now m s) }
-{
-    let algorithm = header.alg;
-    check_some_listed(validation)?;
-    check_listed(validation, algorithm)?;
-    let verifier = make_verifier(alloc, provider, algorithm, key)?;
-    check_families(validation, algorithm)?;
-    Ok(verifier)
-}
-
 /// Returns the claims of a token whose signature the verifier accepts, and whose claims hold at the
 /// time.
 pub(crate) fn verify_and_read_claims<V: JwtVerifier, T: Claims>(
@@ -220,47 +169,6 @@ pub(crate) fn read_payload<T: Claims>(alloc: Global, part: &[u8]) -> Result<T, R
     let bytes = read_part(alloc, Test::PayloadIsPart, part)?;
     let value = read_json(alloc, Test::PayloadIsJson, bytes.as_slice())?;
     claims_of_value(alloc, value)
-}
-
-/// Returns the claims of a token that passes, by the key, the tests of the algorithm and those that
-/// follow them.
-pub(crate) fn verify_by_key<P: CryptoProvider, T: Claims>(
-    alloc: Global,
-    provider: &P,
-    opening: &Opening<'_>,
-    key: &DecodingKey,
-    validation: &Validation,
-    time: u64,
-) -> Result<T, Refusal>
-    ensures { let call = decoding P.CryptoProvider T.Claims
-        provider.now [] key.now validation.now time in
-        Step call (algorithm_tests ++ verifying_tests)
-        (with_opening (parts_in opening.now.parts.now) opening.now.header.now)
-        (ShowsClaims T.reads) result }
-{
-    let verifier = verifier_for(alloc, provider, opening.header, key, validation)?;
-    let claims = verify_and_read_claims(alloc, &verifier, opening.parts, validation, time)?;
-    Ok(claims)
-}
-
-/// Returns the claims of a token that passes, by the key, the tests that follow those of its
-/// header.
-pub(crate) fn read_claims_by_key<P: CryptoProvider, T: Claims>(
-    alloc: Global,
-    provider: &P,
-    opening: &Opening<'_>,
-    key: &DecodingKey,
-    validation: &Validation,
-    time: u64,
-) -> Result<T, Refusal>
-    ensures { let call = decoding P.CryptoProvider T.Claims
-        provider.now [] key.now validation.now time in
-        Step call (CritIsUnderstood ∷ (algorithm_tests ++ verifying_tests))
-        (with_opening (parts_in opening.now.parts.now) opening.now.header.now)
-        (ShowsClaims T.reads) result }
-{
-    check_crit(opening.header, validation)?;
-    verify_by_key(alloc, provider, opening, key, validation, time)
 }
 
 /// Returns the parts of the token, found from its end.

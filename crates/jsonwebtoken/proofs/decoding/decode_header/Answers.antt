@@ -7,7 +7,8 @@ use Rattle.jsonwebtoken.specs.Calls.{HasHeader}
 use Rattle.jsonwebtoken.specs.Order.{Decides}
 use Rattle.jsonwebtoken.specs.declared.refusal.Test.{Test}
 use Rattle.jsonwebtoken.specs.private_clauses.Refused.{tested}
-use Rattle.jsonwebtoken.specs.private_clauses.Steps.{Step, ShowsHeader, bare, no_contents, parts_in, whole, with_header_part}
+use Rattle.jsonwebtoken.specs.Steps.{Step}
+use Rattle.jsonwebtoken.specs.private_clauses.Steps.{ShowsHeader, bare, no_contents, parts_in, whole, with_header_part}
 use Rattle.jsonwebtoken.specs.Tests.{Parts, HasParts, HasThreeParts, header_order, header_tests, header_call, token_tests}
 use Rattle.jsonwebtoken.proofs.EachTest.{decides, same_header}
 use Rattle.jsonwebtoken.proofs.Exits.{stop, or_memory, unnoted}

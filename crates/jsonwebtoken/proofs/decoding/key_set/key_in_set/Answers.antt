@@ -1,24 +1,26 @@
-use Rattle.std.proofs.Common.{inl, inr, refl}
-use Rattle.jsonwebtoken.specs.private_clauses.Steps.{ShowsKey, no_contents, looking_in, with_header}
-use Rattle.jsonwebtoken.specs.Tests.{key_tests}
+use Rattle.std.proofs.Common.{◌≡◌, inl, inr, refl}
+use Rattle.jsonwebtoken.specs.Finder.{looking_by}
+use Rattle.jsonwebtoken.specs.private_clauses.Steps.{no_contents, with_header}
+use Rattle.jsonwebtoken.specs.Tests.{InSet, key_tests}
 use Rattle.jsonwebtoken.proofs.Exits.{exit, not_both}
 use Rattle.jsonwebtoken.proofs.decoding.key_set.key_in_set.Goals as goal
 
 pub returns-in_err-jwk : goal.returns-in_err-jwk
 returns-in_err-jwk c =
-    exit (looking_in c.args.set.now.keys.items) key_tests (with_header c.args.header.now) ShowsKey _ _ c.from_residual.ensures.1
+    exit (looking_by (InSet c.args.set.now.keys.items)) key_tests (with_header c.args.header.now) (λ t k. t.jwk_key ≡ k) _ _
+    c.from_residual.ensures.1
     (λ f. (no_contents, inl (λ j is. not_both _ j is f.0, f.1))) c.in_err-jwk.ensures
 
 pub returns-in_err-check_key_algorithm : goal.returns-in_err-check_key_algorithm
 returns-in_err-check_key_algorithm c =
-    exit (looking_in c.args.set.now.keys.items) key_tests (with_header c.args.header.now) ShowsKey _ _
+    exit (looking_by (InSet c.args.set.now.keys.items)) key_tests (with_header c.args.header.now) (λ t k. t.jwk_key ≡ k) _ _
     c.from_residual-in_err-check_key_algorithm.ensures.1
     (λ f. (record no_contents { jwk = c.in_ok-jwk.jwk.now }, inr (c.in_ok-jwk.ensures, inl f)))
     c.in_err-check_key_algorithm.ensures
 
 pub returns-in_err-key : goal.returns-in_err-key
 returns-in_err-key c =
-    exit (looking_in c.args.set.now.keys.items) key_tests (with_header c.args.header.now) ShowsKey _ _
+    exit (looking_by (InSet c.args.set.now.keys.items)) key_tests (with_header c.args.header.now) (λ t k. t.jwk_key ≡ k) _ _
     c.from_residual-in_err-key.ensures.1
     (λ f. (
       record no_contents { jwk = c.in_ok-jwk.jwk.now },

@@ -1,5 +1,6 @@
 use Rattle.jwt_validation.specs.OptionsOf.{options_of}
-use Rattle.jsonwebtoken.specs.private_clauses.Steps.{Failed, ShowsClaims, claiming, with_payload_part, verifying_by}
+use Rattle.jsonwebtoken.specs.Steps.{Failed}
+use Rattle.jsonwebtoken.specs.private_clauses.Steps.{ShowsClaims, claiming, with_payload_part, verifying_by}
 use Rattle.jsonwebtoken.specs.private_clauses.Steps.{with_parts, parts_in}
 use Rattle.jsonwebtoken.specs.Tests.{Contents, signature_tests, claim_tests, verifying_tests}
 use Rattle.jsonwebtoken.proofs.EachTest.{join}
