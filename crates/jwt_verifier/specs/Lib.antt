@@ -1,3 +1,7 @@
 pub mod Fitness
-pub mod Prepared
+pub mod KeyVerifiers
+pub mod PreparedOf
+pub mod Ring
+pub mod RingFound
+pub mod RingKeys
 pub mod Verifying

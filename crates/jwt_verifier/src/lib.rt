@@ -2,7 +2,8 @@
 //!
 //! [`Verifier`] prepares its [`Keys`], refuses those with which anyone can sign ([`Unfit`]), and
 //! verifies all twelve algorithms. [`Limits`] bounds the length of a token. [`PreparedKeys`] is the
-//! provider that it uses.
+//! provider that it keeps secrets and RSA keys with. [`KeyRing`] is a finder of keys, each of which
+//! is found by an index of `kid` and kept prepared, those of curves too.
 //!
 //! ```rust
 //! match Verifier::with_limits(alloc, keys, validation, limits) {
@@ -12,14 +13,23 @@
 //! ```
 #![tactic(auto)]
 
+mod budget;
+mod entry;
 mod fitness;
+mod key_ring;
+mod key_verifier;
 mod keys;
 mod limits;
 mod prepared;
+mod ring_finder;
 mod verifier;
 
+pub use entry::Prepared;
 pub use fitness::Unfit;
+pub use key_ring::KeyRing;
+pub use key_verifier::KeyVerifier;
 pub use keys::Keys;
-pub use limits::{Limits, TOKEN_LIMIT};
-pub use prepared::{KeyVerifier, PreparedKeys};
+pub use limits::{Limits, PREPARED_LIMIT, TOKEN_LIMIT};
+pub use prepared::PreparedKeys;
+pub use ring_finder::Found;
 pub use verifier::{Rejection, Verifier};

@@ -10,6 +10,10 @@ ghost use Rattle.jwt_verifier.specs.Fitness.{token_limit, usual_limits};
 /// The greatest length of a token in bytes, unless the maker of a verifier sets another: 1 MiB.
 pub const TOKEN_LIMIT: usize = 1_048_576;
 
+/// The greatest number of bytes of prepared keys that a [`KeyRing`](crate::KeyRing) for many tokens
+/// keeps: 64 MiB.
+pub const PREPARED_LIMIT: usize = 67_108_864;
+
 /// What a verifier allows its keys and its tokens.
 #[derive(Clone, Copy)]
 pub struct Limits {

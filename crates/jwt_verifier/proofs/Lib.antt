@@ -1,0 +1,3 @@
+pub mod CurveLemmas
+pub mod OrderLemmas
+pub mod RingLemmas

@@ -1,0 +1,215 @@
+//! Keys that are made once, each found by its `kid` and prepared.
+
+// The index is filled from the first key of the set to the last, and a `kid` that is there stays: so
+// the keys that are prepared are the first ones, and none that no token finds. A key of no use has
+// an entry too, without a key, and a token that names it is refused as by the set.
+
+ghost use Rattle.std.specs.Prelude.{◌≡◌, ◌<◌, ◌+◌, IfOk, IfErr, IfSome, OnOk, get_or, length};
+ghost use Rattle.jwt_base.specs.KindOf.{IsMemory};
+ghost use Rattle.jwt_keys.specs.declared.jwk.Jwk.{Jwk as JwkValue};
+ghost use Rattle.jwt_keys.specs.KeyOfJwk.{IsKeyOf};
+ghost use Rattle.jsonwebtoken.specs.Finder.{FindsKey};
+ghost use Rattle.jwt_verifier.specs.Ring.{IsEntryOf};
+ghost use Rattle.jwt_verifier.specs.RingFound.{IsFit, found_key};
+ghost use Rattle.jwt_verifier.specs.RingKeys.{IsGivenOf, IsIndexOf, IsIndexUpTo, IsNamedOf};
+ghost use Rattle.jwt_verifier.specs.Verifying.{source_of};
+
+use crate::budget::Budget;
+use crate::entry::{Entry, Prepared, value_or_none};
+use crate::keys::Keys;
+use crate::ring_finder::{Found, find_in};
+use jsonwebtoken::errors::Result as Checked;
+use jsonwebtoken::jwk::own_algorithm;
+use jsonwebtoken::{Algorithm, DecodingKey, Header, Refusal};
+use jwt_keys::jwk::Jwk;
+use std::alloc::Global;
+use std::collections::BTreeMap;
+use std::marker::Model;
+use std::result::Result;
+
+/// Keys that are made once, and serve many tokens: the key that is given, or those of a set, of
+/// which the first with each `kid` is found by it (RFC 7517 section 4.5). A contract sees the keys
+/// that it was made of.
+///
+/// A reference to it is a [`KeyFinder`](jsonwebtoken::KeyFinder): the calls over a finder return
+/// with it what `decode` or `decode_with_set` returns by `StandardProvider` with these keys. Finding
+/// a key takes time in proportion to the logarithm of their number.
+#[derive(Drop)]
+pub struct KeyRing {
+    keys: Keys,
+    given: Prepared,
+    named: BTreeMap<String, Entry>,
+}
+
+impl Model for KeyRing {
+    ghost use Rattle.jwt_verifier.specs.contracts.keys.Keys.{the_row};
+    ghost use Rattle.jwt_verifier.specs.declared.keys.Keys.{Keys};
+    ghost use Rattle.jwt_verifier.specs.RingKeys.{IsRingOf};
+
+    ghost Value = { Keys };
+
+    ghost coded = { the_row.coded };
+
+    ghost view = { λ ring. ring.keys };
+
+    ghost invariant = { λ ring. IsRingOf ring.keys ring.given ring.named };
+}
+
+impl KeyRing {
+    /// Returns the ring of these keys, which refuses none: keys that serve no token are refused when
+    /// one names them. The only refusal is `OutOfMemory`.
+    ///
+    /// It prepares the keys to verify with these algorithms, or with its own one if a key of a set
+    /// is for one (RFC 7517 section 4.4), from the first key to the last, as long as they take at
+    /// most `prepared` bytes together; the others verify too, with the same result. A secret takes
+    /// 1 KiB and its length for each of the algorithms, and an RSA key 1 KiB and four times the
+    /// length of its modulus. Nothing is prepared of other keys, which take no bytes.
+    pub fn new(
+        alloc: Global,
+        keys: Keys,
+        algorithms: &[Algorithm],
+        prepared: usize,
+    ) -> Checked<KeyRing>
+        ensures ok { IfOk result (λ ring. ring ≡ keys) }
+        ensures err { IfErr result IsMemory }
+    {
+        let mut budget = Budget { left: prepared };
+        let given = given_of(alloc, &keys, algorithms, &mut budget)?;
+        let named = named_of(alloc, &keys, algorithms, &mut budget)?;
+        Ok(KeyRing { keys, given, named })
+    }
+
+    /// Returns the keys that it was made of.
+    pub fn keys(&self) -> &Keys
+        ensures { result.now ≡ self.now }
+    {
+        &self.keys
+    }
+
+    /// Returns the key of the token with this header.
+    pub(crate) fn find_key<'r>(
+        &'r self,
+        alloc: Global,
+        header: &Header,
+    ) -> Result<Found<'r>, Refusal>
+        ensures found { FindsKey (source_of self.now) found_key header.now result }
+        ensures fit { IfOk result IsFit }
+    {
+        find_in(alloc, &self.keys, &self.given, &self.named, header)
+    }
+}
+
+/// Prepares the key that is given, if one is.
+fn given_of(
+    alloc: Global,
+    keys: &Keys,
+    algorithms: &[Algorithm],
+    budget: &mut Budget,
+) -> Checked<Prepared>
+    ensures ok { IfOk result (IsGivenOf keys.now) }
+    ensures err { IfErr result IsMemory }
+{
+    match keys {
+        Keys::One(key) => Prepared::new(alloc, key, algorithms, budget),
+        Keys::Set(_) => Ok(Prepared::Nothing),
+    }
+}
+
+/// Returns the index of the keys of a set, if one is given.
+fn named_of(
+    alloc: Global,
+    keys: &Keys,
+    algorithms: &[Algorithm],
+    budget: &mut Budget,
+) -> Checked<BTreeMap<String, Entry>>
+    ensures ok { IfOk result (IsNamedOf keys.now) }
+    ensures err { IfErr result IsMemory }
+{
+    match keys {
+        Keys::One(_) => Ok(BTreeMap::new(alloc)),
+        Keys::Set(set) => index(alloc, set.keys.as_slice(), algorithms, budget),
+    }
+}
+
+/// Returns the first key of each `kid`, by it.
+fn index(
+    alloc: Global,
+    keys: &[Jwk],
+    algorithms: &[Algorithm],
+    budget: &mut Budget,
+) -> Checked<BTreeMap<String, Entry>>
+    ensures ok { IfOk result (IsIndexOf keys.now) }
+    ensures err { IfErr result IsMemory }
+{
+    let mut named = BTreeMap::new(alloc);
+    let mut at = 0;
+    while at < keys.len() {
+        put(alloc, &mut named, keys, at, algorithms, budget)?;
+        at += 1;
+    }
+    Ok(named)
+}
+
+/// Puts the key at this place in, if it has a `kid` and none before it has the same.
+fn put(
+    alloc: Global,
+    named: &mut BTreeMap<String, Entry>,
+    keys: &[Jwk],
+    at: usize,
+    algorithms: &[Algorithm],
+    budget: &mut Budget,
+) -> Checked<()>
+    requires { at < length keys.now }
+    ensures ok { OnOk result
+        (IsIndexUpTo keys.now at named.old → IsIndexUpTo keys.now (at + 1) named.new) }
+    ensures err { IfErr result IsMemory }
+{
+    let Some(kid) = &keys[at].common.key_id else {
+        return Ok(());
+    };
+    if named.contains_key(kid.as_str()) {
+        return Ok(());
+    }
+    let entry = entry_of(alloc, keys, at, algorithms, budget)?;
+    let name = String::from_str(alloc, kid.as_str())?;
+    named.insert(name, entry)?;
+    Ok(())
+}
+
+/// Returns the entry of the key at this place.
+fn entry_of(
+    alloc: Global,
+    keys: &[Jwk],
+    at: usize,
+    algorithms: &[Algorithm],
+    budget: &mut Budget,
+) -> Checked<Entry>
+    requires { at < length keys.now }
+    ensures ok { IfOk result
+        (λ e. (j : JwkValue) → IsEntryOf keys.now (get_or keys.now at j) e) }
+    ensures err { IfErr result IsMemory }
+{
+    let key = key_if_usable(alloc, &keys[at])?;
+    let own = own_algorithm(&keys[at]);
+    let prepared = match &key {
+        Some(key) => Prepared::new(alloc, key, own_or_listed(&own, algorithms), budget)?,
+        None => Prepared::Nothing,
+    };
+    Ok(Entry { at, key, prepared })
+}
+
+/// Returns the algorithms that a key can verify with: its own one, or those that are listed.
+fn own_or_listed<'a>(own: &'a Option<Algorithm>, listed: &'a [Algorithm]) -> &'a [Algorithm] {
+    if own.is_some() {
+        own.as_slice()
+    } else {
+        listed
+    }
+}
+
+fn key_if_usable(alloc: Global, jwk: &Jwk) -> Checked<Option<DecodingKey>>
+    ensures ok { IfOk result (λ made. IfSome made (IsKeyOf jwk.now.algorithm)) }
+    ensures err { IfErr result IsMemory }
+{
+    value_or_none(DecodingKey::from_jwk(alloc, jwk))
+}
