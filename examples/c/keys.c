@@ -21,15 +21,27 @@ static const char zeros_set[] = "{\"keys\":[{\"kty\":\"oct\",\"kid\":\"a\",\"k\"
 typedef uint32_t decoder(const uint8_t *, size_t, const uint8_t *, size_t, const uint8_t *, size_t, uint64_t, uint8_t *,
                          size_t, size_t *);
 
+/* Writes options that list this algorithm and no other. A name that is not the program's own is written by jwt_quote: if it were
+   put between quotation marks as it is, it could end the string, and add options of its own. */
+static uint32_t list(const char *algorithm, char *options, size_t size, int *options_len) {
+    uint8_t quoted[64];
+    size_t len;
+    uint32_t status = jwt_quote((const uint8_t *)algorithm, strlen(algorithm), quoted, sizeof quoted, &len);
+    if (status == JWT_OK)
+        *options_len = snprintf(options, size, "{\"algorithms\":[%.*s]}", (int)len, (const char *)quoted);
+    return status;
+}
+
 /* Returns whether the claims, or the refusal's text, are these. The options list the algorithm that the key is for: the
    library compares neither the key's own alg nor its use with the token. */
 static bool says(decoder *decode, const char *token, const char *keys, const char *algorithm, const char *wanted) {
-    char options[64];
+    char options[128];
     uint8_t buffer[512];
     size_t len;
-    int options_len = snprintf(options, sizeof options, "{\"algorithms\":[\"%s\"]}", algorithm);
+    int options_len;
     /* not keys by which anyone can sign: once is enough, when the keys are read */
     uint32_t status = (decode == jwt_decode_set ? jwt_check_set : jwt_check_key)((const uint8_t *)keys, strlen(keys));
+    if (status == JWT_OK) status = list(algorithm, options, sizeof options, &options_len);
     if (status == JWT_OK)
         status = decode((const uint8_t *)token, strlen(token), (const uint8_t *)keys, strlen(keys),
                         (const uint8_t *)options, (size_t)options_len, 1300819380, buffer, sizeof buffer, &len);
@@ -49,6 +61,7 @@ int main(void) {
     right += says(jwt_decode_key, RS256_TOKEN, "", "RS256", "Key not understood");
     right += says(jwt_decode_key, hs256, zeros_key, "HS256", "Anyone can sign");
     right += says(jwt_decode_set, hs256, zeros_set, "HS256", "Anyone can sign");
-    printf("%d tokens by keys from C, %d failed\n", right, 9 - right);
-    return right != 9;
+    right += says(jwt_decode_key, RS256_TOKEN, RSA_KEY, "RS256\"],\"leeway\":9,\"aud\":[\"", "Options not understood");
+    printf("%d tokens by keys from C, %d failed\n", right, 10 - right);
+    return right != 10;
 }

@@ -27,9 +27,10 @@ ghost use Rattle.jwt_c_calls.specs.Issued.{AnswersEncode, AnswersThumbprint, has
 ghost use Rattle.jwt_c_calls.specs.KeyFiles.{AnswersPem};
 ghost use Rattle.jwt_c_calls.specs.Keys.{AnswersWithKey, AnswersWithOptions, AnswersWithSet};
 ghost use Rattle.jwt_c_calls.specs.Members.{LeavesMember};
+ghost use Rattle.jwt_c_calls.specs.Membership.{ChecksMember};
 ghost use Rattle.jwt_c_calls.specs.Moments.{LeavesMoments, AnswersMomentsHmac, AnswersMomentsKey};
 ghost use Rattle.jwt_c_calls.specs.Moments.{AnswersMomentsSet};
-ghost use Rattle.jwt_c_calls.specs.Options.{AnswersFault};
+ghost use Rattle.jwt_c_calls.specs.Options.{AnswersFault, AnswersQuoted};
 ghost use Rattle.jwt_c_calls.specs.Secrets.{ChecksSecret, ChecksKey, ChecksSet};
 ghost use Rattle.jwt_c_calls.specs.Status.{kind_part, number, no_status, status_text, version};
 ghost use Rattle.jwt_c_calls.specs.Status.{algorithm_numbered, IsGiven, IsKept};
@@ -54,8 +55,9 @@ use jwt_c_calls::first_failed::{hmac_failed_test, key_failed_test, leave_name, s
 use jwt_c_calls::issued::{encode_answer, thumbprint_answer};
 use jwt_c_calls::key_files::pem_answer;
 use jwt_c_calls::members::member_answer;
+use jwt_c_calls::membership::member_status;
 use jwt_c_calls::moments::{hmac_moments, key_moments, leave_moments, set_moments};
-use jwt_c_calls::options::options_answer;
+use jwt_c_calls::options::{options_answer, quoted_answer};
 use jwt_c_calls::secrets::{key_status, secret_status, set_status};
 use jwt_c_calls::status::{algorithm_number, leave, number_of, put_bytes, status_of};
 use jwt_c_calls::status_table::{NO_MEMBER, NO_STATUS, NO_VERIFIER, OK, VERIFIER_IS_MADE, text_of};
@@ -459,6 +461,17 @@ pub extern "C" fn jwt_key_from_pem(
     leave(answer, room, len)
 }
 
+/// Writes a text as a JSON string, with its quotation marks, for options: what else the text says
+/// can't become a member of them. The JSON is read back as the text. Bytes that are not UTF-8 are
+/// refused with `Utf8`. The only other refusal is `OutOfMemory`.
+#[unsafe(no_mangle)]
+pub extern "C" fn jwt_quote(alloc: Global, text: &[u8], room: &mut [u8], len: &mut usize) -> u32
+    ensures { (a : Answer) × AnswersQuoted text.now a × Leaves a result len.new room.old room.new }
+{
+    let answer = quoted_answer(alloc, text);
+    leave(answer, room, len)
+}
+
 /// Writes what keeps a text from being options, such as `"algorithms" is not a list of names of
 /// algorithms`: that it is not the JSON of an object, or which member is at fault, and why. Nothing
 /// is written if the text is the JSON of options. The only refusal is `OutOfMemory`.
@@ -708,6 +721,17 @@ pub extern "C" fn jwt_member(
             status_of(&refusal)
         }
     }
+}
+
+/// Checks that the member of this name of a JSON object has a text: returns 0 if it is an array of
+/// which an item is this string, or a string of which a word is the text. Words are parted by a
+/// space, as those of `scope` (RFC 6749 section 3.3). A text that is not the JSON of an object is
+/// refused with 105, and else the status is 112. Of several members of one name the last counts.
+#[unsafe(no_mangle)]
+pub extern "C" fn jwt_check_member(alloc: Global, json: &[u8], name: &[u8], text: &[u8]) -> u32
+    ensures { ChecksMember json.now name.now text.now result }
+{
+    member_status(alloc, json, name, text)
 }
 
 /// Writes the text of a status. For a number that is not a status, it returns 102.

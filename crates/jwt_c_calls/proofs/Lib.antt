@@ -3,3 +3,4 @@ pub mod Checked
 pub mod Depths
 pub mod Handed
 pub mod Statuses
+pub mod Words

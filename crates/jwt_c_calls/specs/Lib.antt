@@ -4,6 +4,7 @@ pub mod Calls
 pub mod KeyFiles
 pub mod Keys
 pub mod Members
+pub mod Membership
 pub mod FirstFailed
 pub mod Moments
 pub mod Options

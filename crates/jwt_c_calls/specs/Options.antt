@@ -1,5 +1,6 @@
--- The fault of a text that is not options, as it is reported to C.
+-- A text that is written into options, and the fault of a text that is not options, as it is reported to C.
 use Rattle.std.specs.Prelude.{◌≡◌, ◌⊎◌, ◌++◌, ℕ, List, [], codes}
+use Rattle.std.specs.Str.{IsUtf8}
 use Rattle.serde_json.specs.Data.{Data, string}
 use Rattle.serde_json.specs.Written.{compact_text}
 use Rattle.jwt_base.specs.JsonText.{IsJson}
@@ -8,10 +9,17 @@ use Rattle.jwt_validation.specs.Options.{Options}
 use Rattle.jwt_validation.specs.OptionsFault.{HasFault}
 use Rattle.jwt_validation.specs.OptionsRead.{ReadsOptions}
 use Rattle.jwt_validation.specs.declared.fault.Form.{Form}
-use Rattle.jwt_validation.specs.declared.fault.Form.TheVariants.{Whole, Flag, OneText, TextList, AlgorithmList}
+use Rattle.jwt_validation.specs.declared.fault.Form.TheVariants.{Whole, Flag, OneText, TextList, AlgorithmList, NonEmptyList}
+use Rattle.jwt_validation.specs.declared.fault.Form.TheVariants.{ClaimList}
 use Rattle.jwt_validation.specs.declared.fault.OptionsFault.{OptionsFault}
 use Rattle.jwt_validation.specs.declared.fault.OptionsFault.TheVariants as fault
-use Rattle.jwt_c_calls.specs.Calls.{Answer, Gives, Refuses, Misreads}
+use Rattle.jwt_c_calls.specs.Calls.{Answer, Gives, Refuses, Misreads, IsTextOf}
+
+-- the JSON text of the string (RFC 8259 section 7), which is read back as it; bytes that are not UTF-8 are refused
+abbrev pub AnswersQuoted : List ℕ → Answer → Type 0
+AnswersQuoted text (Gives quoted) = IsUtf8 text × IsTextOf quoted (string text)
+AnswersQuoted text (Refuses k) = (k ≡ kind.OutOfMemory) ⊎ ((k ≡ kind.Utf8) × ¬ IsUtf8 text)
+AnswersQuoted text (Misreads i) = ⊥
 
 abbrev pub form_text : Form → List ℕ
 form_text Whole = codes " is not a whole number from 0 to 2^64 - 1"
@@ -19,6 +27,8 @@ form_text Flag = codes " is not true or false"
 form_text OneText = codes " is not a string"
 form_text TextList = codes " is not a list of strings"
 form_text AlgorithmList = codes " is not a list of names of algorithms"
+form_text NonEmptyList = codes " is empty in strict options"
+form_text ClaimList = codes " has another claim than exp, nbf, aud, iss and sub in strict options"
 
 -- the member's name as JSON, and what is wrong with it
 abbrev pub fault_text : OptionsFault → List ℕ

@@ -9,6 +9,7 @@ pub mod issued;
 pub mod key_files;
 pub mod keys;
 pub mod members;
+pub mod membership;
 pub mod moments;
 pub mod options;
 pub mod secrets;

@@ -1,20 +1,36 @@
-//! The result of the call for C that names what keeps a text from being options.
+//! The results of the calls for C that write a text into options, and that name what keeps a text
+//! from being options.
 
 ghost use Rattle.std.specs.Prelude.{◌≡◌, ◌++◌, IfOk, IfErr};
 ghost use Rattle.serde_json.specs.Data.{string};
 ghost use Rattle.serde_json.specs.View.{view};
 ghost use Rattle.serde_json.specs.Written.{compact_text};
 ghost use Rattle.jwt_base.specs.Kind as kind;
-ghost use Rattle.jwt_c_calls.specs.Calls.{Gives, Refuses, answer_of};
-ghost use Rattle.jwt_c_calls.specs.Options.{AnswersFault, IsValueFault, fault_text, form_text};
+ghost use Rattle.jwt_c_calls.specs.Calls.{Gives, IsTextOf, Refuses, answer_of};
+ghost use Rattle.jwt_c_calls.specs.Options.{AnswersFault, AnswersQuoted, IsValueFault};
+ghost use Rattle.jwt_c_calls.specs.Options.{fault_text, form_text};
 
 use crate::inputs::CallRefusal;
-use jsonwebtoken::errors::ErrorKind;
+use jsonwebtoken::errors::{ErrorKind, new_error};
 use jwt_base::serialization::json_value;
 use jwt_validation::{Form, OptionsFault, options_fault};
 use serde_json::Value;
 use std::alloc::Global;
 use std::result::Result;
+use std::str;
+
+/// Returns a text as a JSON string. Bytes that are not UTF-8 are refused with `Utf8`.
+pub fn quoted_answer(alloc: Global, text: &[u8]) -> Result<Vec<u8>, CallRefusal>
+    ensures ok { IfOk result (λ b. AnswersQuoted text.now (Gives b.items)) }
+    ensures err { IfErr result (λ r. AnswersQuoted text.now (answer_of r)) }
+{
+    let Ok(text) = str::from_utf8(text) else {
+        return Err(CallRefusal::Token(new_error(ErrorKind::Utf8)));
+    };
+    // bound to a name: the proof cannot refer to a call in tail position
+    let quoted = quoted(alloc, text)?;
+    Ok(quoted)
+}
 
 /// Returns what keeps a text from being options: which member, and why; or nothing, if it is the
 /// JSON text of options.
@@ -58,10 +74,19 @@ fn name_and_text(alloc: Global, name: &str, text: &str) -> Result<Vec<u8>, CallR
     ensures ok { IfOk result (λ b. b.items ≡ compact_text (string name.now) ++ text.now) }
     ensures err { IfErr result (λ r. answer_of r ≡ Refuses kind.OutOfMemory) }
 {
-    let name = Value::String(String::from_str(alloc, name)?);
-    let mut said = name.to_vec(alloc)?;
+    let mut said = quoted(alloc, name)?;
     said.extend_from_slice(text.as_bytes())?;
     Ok(said)
+}
+
+fn quoted(alloc: Global, text: &str) -> Result<Vec<u8>, CallRefusal>
+    ensures ok { IfOk result (λ b. IsTextOf b.items (string text.now)) }
+    ensures text { IfOk result (λ b. b.items ≡ compact_text (string text.now)) }
+    ensures err { IfErr result (λ r. answer_of r ≡ Refuses kind.OutOfMemory) }
+{
+    let value = Value::String(String::from_str(alloc, text)?);
+    let quoted = value.to_vec(alloc)?;
+    Ok(quoted)
 }
 
 fn form_text(form: Form) -> &'static str
@@ -73,6 +98,8 @@ fn form_text(form: Form) -> &'static str
         Form::OneText => " is not a string",
         Form::TextList => " is not a list of strings",
         Form::AlgorithmList => " is not a list of names of algorithms",
+        Form::NonEmptyList => " is empty in strict options",
+        Form::ClaimList => " has another claim than exp, nbf, aud, iss and sub in strict options",
     }
 }
 

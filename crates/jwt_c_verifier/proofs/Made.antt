@@ -4,31 +4,30 @@ use Rattle.jwt_base.specs.declared.algorithms.Algorithm.{Algorithm}
 use Rattle.jwt_validation.specs.Options.{Options}
 use Rattle.jwt_validation.specs.OptionsOf.{options_of}
 use Rattle.jwt_validation.specs.declared.validation.Validation.{Validation}
-use Rattle.jwt_verifier.specs.Fitness.{AreFit, IsUnfit}
-use Rattle.jwt_verifier.specs.declared.fitness.Unfit.{Unfit}
+use Rattle.jwt_verifier.specs.Fitness.{AreFit}
 use Rattle.jwt_verifier.specs.declared.keys.Keys.{Keys}
 use Rattle.jwt_verifier.specs.declared.limits.Limits.{Limits}
 use Rattle.jwt_verifier.specs.declared.verifier.Verifier.{Verifier}
 use Rattle.jwt_c_calls.specs.Calls.{Answer, answer_of, refusal_status, status_of}
 use Rattle.jwt_c_calls.specs.declared.inputs.CallRefusal.{CallRefusal}
 use Rattle.jwt_c_calls.specs.declared.inputs.CallRefusal.TheVariants as refused
-use Rattle.jwt_c_verifier.specs.Verifiers.{IsMade, IsUnmade, unfit_status}
+use Rattle.jwt_c_verifier.specs.Verifiers.{AreRefused, HaveNoKeyText, IsMade, IsUnmade}
 
 module _ (Refused : Answer → Type 0) (AreOf : Options → Keys → Type 0) (limits : Limits) where
   -- with the keys and the options that the texts describe
   pub of_values : (keys : Keys) (validation : Validation) (r : Result Verifier ℕ) → AreOf (options_of validation) keys
       → IfOk r (λ v. (v.keys ≡ keys) × (v.validation ≡ validation) × (v.limits ≡ limits)
-      × AreFit limits.allows_blank validation.algorithms.items keys)
-      → IfErr r (λ status. (why : Unfit) × IsUnfit limits.allows_blank validation.algorithms.items keys why
-      × (status ≡ unfit_status why))
+      × HaveNoKeyText limits.allows_blank keys × AreFit limits.allows_blank validation.algorithms.items keys)
+      → IfErr r (AreRefused limits.allows_blank validation.algorithms.items keys)
       → IsMade Refused AreOf limits r
   of_values keys validation (Ok v) of made unfit =
       let of_keys : AreOf (options_of validation) v.keys = subst (λ (k : Keys). AreOf (options_of validation) k)
       (sym made.0) of in
       let fit_keys : AreFit limits.allows_blank validation.algorithms.items v.keys =
-      subst (λ (k : Keys). AreFit limits.allows_blank validation.algorithms.items k) (sym made.0) made.3 in (
+      subst (λ (k : Keys). AreFit limits.allows_blank validation.algorithms.items k) (sym made.0) made.4 in (
         subst (λ (w : Validation). AreOf (options_of w) v.keys) (sym made.1) of_keys,
         made.2,
+        subst (HaveNoKeyText limits.allows_blank) (sym made.0) made.3,
         subst (λ (w : Validation). AreFit limits.allows_blank w.algorithms.items v.keys) (sym made.1) fit_keys,
       )
   of_values keys validation (Err status) of made unfit = inr (options_of validation, keys, of, unfit)

@@ -1,16 +1,19 @@
 -- The results of the calls for C that make a verifier, and of those that verify with one.
-use Rattle.std.specs.Prelude.{◌≡◌, ◌⊎◌, ◌↔◌, ◌≤◌, ◌<◌, ◌==◌, ℕ, List, length, Bool, Result, Ok, Err, if◌then◌else◌}
+use Rattle.std.specs.Prelude.{◌≡◌, ◌⊎◌, ◌↔◌, ◌≤◌, ◌<◌, ◌==◌, ℕ, List, length, Bool, Result, Ok, Err, IsTrue}
+use Rattle.std.specs.Prelude.{if◌then◌else◌}
 use Rattle.serde_json.specs.declared.value.Value.{Value}
 use Rattle.jwt_base.specs.Claims.{IsValue}
 use Rattle.jwt_base.specs.JsonText.{ReadsText}
 use Rattle.jwt_base.specs.Kind.{Kind}
 use Rattle.jwt_base.specs.Kind as kind
+use Rattle.jwt_base.specs.declared.algorithms.Algorithm.{Algorithm}
 use Rattle.jwt_base.specs.declared.algorithms.AlgorithmFamily.TheVariants.{Hmac}
 use Rattle.jwt_keys.specs.Jwk.{ReadsKey}
 use Rattle.jwt_keys.specs.JwkSet.{ReadsSet}
 use Rattle.jwt_keys.specs.Key.{Plain}
 use Rattle.jwt_keys.specs.KeyOfJwk.{IsKeyOf}
 use Rattle.jwt_keys.specs.declared.jwk.Jwk.{Jwk}
+use Rattle.jwt_secrets.specs.KeyTexts.{HasKeyText, SetHasKeyText}
 use Rattle.jwt_standard.specs.StandardKeys.{verifier_refusal, StandardAccepts}
 use Rattle.jwt_validation.specs.Moments.{end_of_time}
 use Rattle.jwt_validation.specs.Options.{Options}
@@ -29,7 +32,8 @@ use Rattle.jwt_verifier.specs.declared.keys.Keys.TheVariants.{One, Set}
 use Rattle.jwt_verifier.specs.declared.limits.Limits.{Limits}
 use Rattle.jwt_verifier.specs.declared.verifier.Verifier.{Verifier}
 use Rattle.jwt_c_calls.specs.Calls.{Answer, Gives, Refuses, Misreads, AnswersBy, IsClaimsText, status_of}
-use Rattle.jwt_c_calls.specs.Status.{number, blank_key, mixed_families, unfit_key, token_too_long}
+use Rattle.jwt_c_calls.specs.Status.{number, blank_key, key_as_secret, mixed_families, unfit_key}
+use Rattle.jwt_c_calls.specs.Status.{token_too_long}
 use Rattle.jwt_c_verifier.specs.TestNumbers.{test_number}
 
 -- ---- making a verifier
@@ -67,6 +71,15 @@ AreOfKey options key o keys = ReadsText ReadsOptions options o × IsKeyText key 
 abbrev pub AreOfSecret : List ℕ → List ℕ → Options → Keys → Type 0
 AreOfSecret options secret o keys = ReadsText ReadsOptions options o × IsSecret secret keys
 
+-- the secret, or one of the set, is the text of a key of another kind (RFC 8725 section 3.1)
+abbrev pub HaveKeyText : Keys → Type 0
+HaveKeyText (One key) = HasKeyText key
+HaveKeyText (Set set) = SetHasKeyText set.keys.items
+
+-- none is, or that is allowed
+abbrev pub HaveNoKeyText : Bool → Keys → Type 0
+HaveNoKeyText allows_blank keys = IsTrue allows_blank ⊎ (¬ HaveKeyText keys)
+
 -- the status of keys of which no verifier is made
 abbrev pub unfit_status : Unfit → ℕ
 unfit_status Blank = blank_key
@@ -74,17 +87,25 @@ unfit_status Mixed = mixed_families
 unfit_status Useless = unfit_key
 unfit_status Memory = number kind.OutOfMemory
 
+-- Why no verifier is made of the keys: memory ran out; or a secret is the text of a key, which is not allowed; or
+-- else they are unfit.
+abbrev pub AreRefused : Bool → List Algorithm → Keys → ℕ → Type 0
+AreRefused allows_blank algorithms keys status = (status ≡ number kind.OutOfMemory)
+    ⊎ (((status ≡ key_as_secret) × (¬ IsTrue allows_blank) × HaveKeyText keys)
+    ⊎ (HaveNoKeyText allows_blank keys
+    × ((why : Unfit) × IsUnfit allows_blank algorithms keys why × (status ≡ unfit_status why))))
+
 -- the verifier has options and keys of these texts, and fit ones
 abbrev pub IsVerifierOf : (Options → Keys → Type 0) → Limits → Verifier → Type 0
 IsVerifierOf AreOf limits v = AreOf (options_of v.validation) v.keys × (v.limits ≡ limits)
-    × AreFit limits.allows_blank v.validation.algorithms.items v.keys
+    × HaveNoKeyText limits.allows_blank v.keys × AreFit limits.allows_blank v.validation.algorithms.items v.keys
 
 -- the status says why there is no verifier: the texts are refused; or the keys that they describe are
--- unfit for the options
+-- refused for the options
 abbrev pub IsUnmade : (Answer → Type 0) → (Options → Keys → Type 0) → Bool → ℕ → Type 0
 IsUnmade Refused AreOf allows_blank status = ((a : Answer) × Refused a × (status ≡ status_of a))
     ⊎ ((o : Options) × (keys : Keys) × AreOf o keys
-    × ((why : Unfit) × IsUnfit allows_blank o.algorithms keys why × (status ≡ unfit_status why)))
+    × AreRefused allows_blank o.algorithms keys status)
 
 -- the verifier, or the status of the reason for which there is none
 abbrev pub IsMade :

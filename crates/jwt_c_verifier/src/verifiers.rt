@@ -1,6 +1,6 @@
 //! Verifiers of texts, and their answers.
 
-ghost use Rattle.std.specs.Prelude.{◌≡◌, ◌⊎◌, ◌≤◌, length, IfOk, IfErr};
+ghost use Rattle.std.specs.Prelude.{◌≡◌, ◌⊎◌, ◌≤◌, ◌↔◌, length, IfOk, IfErr, OnOk, IsTrue};
 ghost use Rattle.serde_json.specs.Data.{depth};
 ghost use Rattle.serde_json.specs.Read.{max_depth};
 ghost use Rattle.serde_json.specs.View.{view};
@@ -8,23 +8,24 @@ ghost use Rattle.jwt_base.specs.KindOf.{kind_of, IsMemory};
 ghost use Rattle.jwt_validation.specs.Claim.{claims_of};
 ghost use Rattle.jwt_validation.specs.Moments.{last_moment};
 ghost use Rattle.jwt_validation.specs.OptionsOf.{options_of};
-ghost use Rattle.jwt_verifier.specs.Fitness.{AreFit, IsUnfit};
-ghost use Rattle.jwt_verifier.specs.declared.fitness.Unfit.{Unfit as UnfitValue};
+ghost use Rattle.jwt_verifier.specs.Fitness.{AreFit};
 ghost use Rattle.jwt_c_calls.specs.Calls.{Gives, IsTextOf};
-ghost use Rattle.jwt_c_calls.specs.Status.{number};
+ghost use Rattle.jwt_c_calls.specs.Status.{key_as_secret, number};
 ghost use Rattle.jwt_c_calls.specs.Keys.{AnswersWithKey, AnswersWithOptions, AnswersWithSet};
 ghost use Rattle.jwt_c_verifier.specs.TestNumbers.{test_number as number_of_test};
 ghost use Rattle.jwt_c_verifier.specs.Verifiers.{limits_of, unfit_status, AnswersUntil, AreOfKey};
 ghost use Rattle.jwt_c_verifier.specs.Verifiers.{AreOfSecret, AreOfSet, IsMade, IsRefusedWith};
+ghost use Rattle.jwt_c_verifier.specs.Verifiers.{AreRefused, HaveKeyText, HaveNoKeyText};
 
 use crate::test_numbers::test_number;
-use jsonwebtoken::errors::{Error, ErrorKind};
+use jsonwebtoken::errors::{Error, ErrorKind, Result as Checked};
 use jsonwebtoken::{Refusal, TokenData};
 use jwt_c_calls::keys::{options_and_key, options_and_secret, options_and_set};
 use jwt_c_calls::status::{number_of, status_of};
 use jwt_c_calls::status_table::{
-    BLANK_KEY, MIXED_FAMILIES, OUT_OF_MEMORY, TOKEN_TOO_LONG, UNFIT_KEY,
+    BLANK_KEY, KEY_AS_SECRET, MIXED_FAMILIES, OUT_OF_MEMORY, TOKEN_TOO_LONG, UNFIT_KEY,
 };
+use jwt_secrets::key_texts::{has_key_text, set_has_key_text};
 use jwt_validation::{Validation, claimed_moments};
 use jwt_verifier::{Keys, Limits, Rejection, TOKEN_LIMIT, Unfit, Verifier};
 use serde_json::Value;
@@ -155,14 +156,40 @@ fn verifier_of(
     limits: Limits,
 ) -> Result<Verifier, u32>
     ensures ok { IfOk result (λ v. (v.keys ≡ keys) × (v.validation ≡ validation)
-        × (v.limits ≡ limits) × AreFit limits.allows_blank validation.algorithms.items keys) }
-    ensures err { IfErr result (λ status. (why : UnfitValue)
-        × IsUnfit limits.allows_blank validation.algorithms.items keys why
-        × (status ≡ unfit_status why)) }
+        × (v.limits ≡ limits) × HaveNoKeyText limits.allows_blank keys
+        × AreFit limits.allows_blank validation.algorithms.items keys) }
+    ensures err { IfErr result (AreRefused limits.allows_blank validation.algorithms.items keys) }
 {
+    check_key_texts(alloc, &keys, limits.allows_blank)?;
     match Verifier::with_limits(alloc, keys, validation, limits) {
         Ok(verifier) => Ok(verifier),
         Err(unfit) => Err(status_of_unfit(unfit)),
+    }
+}
+
+// Refuses keys of which a secret is the text of a key of another kind, unless that is allowed.
+fn check_key_texts(alloc: Global, keys: &Keys, allows_blank: bool) -> Result<(), u32>
+    ensures ok { OnOk result (HaveNoKeyText allows_blank keys.now) }
+    ensures err { IfErr result (λ status. (status ≡ 22)
+        ⊎ ((status ≡ key_as_secret) × (¬ IsTrue allows_blank) × HaveKeyText keys.now)) }
+{
+    if allows_blank {
+        return Ok(());
+    }
+    match have_key_text(alloc, keys) {
+        Ok(true) => Err(KEY_AS_SECRET.0),
+        Ok(false) => Ok(()),
+        Err(_) => Err(OUT_OF_MEMORY.0),
+    }
+}
+
+fn have_key_text(alloc: Global, keys: &Keys) -> Checked<bool>
+    ensures ok { IfOk result (λ yes. IsTrue yes ↔ HaveKeyText keys.now) }
+    ensures err { IfErr result IsMemory }
+{
+    match keys {
+        Keys::One(key) => has_key_text(alloc, key),
+        Keys::Set(set) => set_has_key_text(alloc, set),
     }
 }
 
