@@ -24,6 +24,7 @@ _jwt() {
                 '(--secret-file --jwk --pem)--jwks[Verify with the key of this set that the token'\''s '\''kid'\'' names]:FILE:_files' \
                 '(--secret-file --jwk --jwks)--pem[Verify with this public key in PEM (RFC 7468)]:FILE:_files' \
                 '--trim[Leave one newline at the end of the secret file out of the secret]' \
+                '--allow-key-as-secret[Accept a secret that is the text of a key, for tests\: anyone can sign with a public key]' \
                 '*--alg[Accept this algorithm (default\: the '\''alg'\'' of the key)]:ALG:(HS256 HS384 HS512 RS256 RS384 RS512 PS256 PS384 PS512 ES256 ES384 EdDSA)' \
                 '*--aud[Accept tokens whose '\''aud'\'' names this audience]:AUDIENCE: ' \
                 '*--iss[Accept tokens of this issuer only]:ISSUER: ' \
@@ -51,6 +52,7 @@ _jwt() {
                 '(--secret-file --jwk --pem)--jwks[Verify with the key of this set that the token'\''s '\''kid'\'' names]:FILE:_files' \
                 '(--secret-file --jwk --jwks)--pem[Verify with this public key in PEM (RFC 7468)]:FILE:_files' \
                 '--trim[Leave one newline at the end of the secret file out of the secret]' \
+                '--allow-key-as-secret[Accept a secret that is the text of a key, for tests\: anyone can sign with a public key]' \
                 '*--alg[Accept this algorithm (default\: the '\''alg'\'' of the key)]:ALG:(HS256 HS384 HS512 RS256 RS384 RS512 PS256 PS384 PS512 ES256 ES384 EdDSA)' \
                 '*--aud[Accept tokens whose '\''aud'\'' names this audience]:AUDIENCE: ' \
                 '*--iss[Accept tokens of this issuer only]:ISSUER: ' \
@@ -66,6 +68,7 @@ _jwt() {
                 '--now[Take this time as now\: seconds since 1970 UTC, or RFC 3339]:TIME: ' \
                 '--options[Begin with the options of this JSON file]:FILE:_files' \
                 '--json[Write the answer as one line of JSON]' \
+                '--brief[Write the verdict, its cause and its cure alone]' \
                 '(- *)--help[Print help]'
             ;;
         *' show')
@@ -79,6 +82,7 @@ _jwt() {
             _arguments \
                 '--secret-file[Sign with HMAC and the bytes of this file as the secret]:FILE:_files' \
                 '--trim[Leave one newline at the end of the secret file out of the secret]' \
+                '--allow-key-as-secret[Accept a secret that is the text of a key, for tests\: anyone can sign with a public key]' \
                 '--claims[Read the claims from this file (default\: standard input)]:FILE:_files' \
                 '--alg[Sign with HS256, HS384 or HS512 (default\: HS256)]:ALG:(HS256 HS384 HS512)' \
                 '--kid[Write this '\''kid'\'' into the header]:NAME: ' \

@@ -15,7 +15,7 @@ use Rattle.jwt_command.specs.Accepted.{IsAccepted, IsDenied}
 use Rattle.jwt_verifier.specs.declared.keys.Keys.{Keys}
 use Rattle.jwt_command.specs.declared.verify.verdict.Denial.{Denial}
 use Rattle.jwt_command.specs.declared.verify.OutputForm.{OutputForm}
-use Rattle.jwt_command.specs.declared.verify.OutputForm.TheVariants.{Claims, HeaderAndClaims, Json}
+use Rattle.jwt_command.specs.declared.verify.OutputForm.TheVariants.{Claims, HeaderAndClaims, Json, Line}
 
 -- a value's JSON text and a newline; for a value with a float, this says nothing
 abbrev pub IsLineOf : Data → List ℕ → Type 0
@@ -33,12 +33,14 @@ IsAcceptedText HeaderAndClaims header claims output =
     (first second : List ℕ) × IsHeaderLine header first × IsLineOf claims second
     × (output ≡ first ++ second)
 IsAcceptedText Json header claims output = Unit {0}
+IsAcceptedText Line header claims output = Unit {0}
 
 -- of a refused token nothing is written, unless it is one line of JSON
 abbrev pub IsRefusedText : OutputForm → List ℕ → Type 0
 IsRefusedText Claims output = output ≡ []
 IsRefusedText HeaderAndClaims output = output ≡ []
 IsRefusedText Json output = Unit {0}
+IsRefusedText Line output = Unit {0}
 
 -- status 0 for a token that is accepted, and 1 for one that is denied
 abbrev pub IsVerdict : List ℕ → Keys → Options → ℕ → Option (List ℕ) → ℕ → Type 0

@@ -1,5 +1,5 @@
 -- The request that the arguments of the command line stand for.
-use Rattle.std.specs.Prelude.{◌≡◌, ◌⊎◌, ◌&&◌, ◌^◌, ℕ, List, [], Bool, true, false, Option, Some, None, length, ltb, map}
+use Rattle.std.specs.Prelude.{◌≡◌, ◌⊎◌, ◌&&◌, ◌^◌, ⊤, ℕ, List, [], Bool, true, false, Option, Some, None, length, ltb, map}
 use Rattle.std.specs.Prelude.{All, IfSome, option_map, if◌then◌else◌, codes}
 use Rattle.std.specs.Borrow.{Bor}
 use Rattle.std.specs.Option.{option_or}
@@ -18,6 +18,7 @@ use Rattle.jwt_command.specs.declared.request.KeyFile.{KeyFile}
 use Rattle.jwt_command.specs.declared.request.KeyFile.TheVariants as file
 use Rattle.jwt_command.specs.declared.request.Request.{Request}
 use Rattle.jwt_command.specs.declared.request.Request.TheVariants.{Verify, Explain, Show, Sign, Keys, Jwk, Thumbprint}
+use Rattle.jwt_command.specs.declared.request.SecretFile.{SecretFile}
 use Rattle.jwt_command.specs.declared.request.Showing.{Showing}
 use Rattle.jwt_command.specs.declared.request.Signing.{Signing}
 use Rattle.jwt_command.specs.declared.request.Verification.{Verification}
@@ -53,10 +54,16 @@ IsNumberOf None number = number ≡ None
 IsNumberOf (Some word) None = ⊥
 IsNumberOf (Some word) (Some n) = (k : ℕ) → decimal_value word ≡ Some k → n ≡ k
 
+-- the file of a secret: this path, with the flags that say how it is read
+pub record IsSecretFile (f : Found) (given : Bor (List ℕ)) (s : SecretFile) : Type 0 where
+  pub path : s.path ≡ given
+  pub is_trimmed : IsFlag f (codes "trim") s.is_trimmed
+  pub allows_key : IsFlag f (codes "allow-key-as-secret") s.allows_key
+
 -- the file of keys: that of the first of these options that is given
 abbrev pub IsKeyFile : Found → KeyFile → Type 0
-IsKeyFile f (file.Secret path is_trimmed) =
-    (first_value f (codes "secret-file") ≡ Some path.now) × IsFlag f (codes "trim") is_trimmed
+IsKeyFile f (file.Secret s) =
+    (path : Bor (List ℕ)) × (first_value f (codes "secret-file") ≡ Some path.now) × IsSecretFile f path s
 IsKeyFile f (file.Jwk path) =
     (first_value f (codes "secret-file") ≡ None) × (first_value f (codes "jwk") ≡ Some path.now)
 IsKeyFile f (file.Jwks path) =
@@ -100,8 +107,8 @@ pub record IsChecking (f : Found) (v : Verification) : Type 0 where
 -- the arguments of `sign`; the algorithm is HS256 if none is given
 pub record IsSigningOf (f : Found) (s : Signing) : Type 0 where
   pub claims : text_of s.claims ≡ first_value f (codes "claims")
-  pub secret : first_value f (codes "secret-file") ≡ Some s.secret.now
-  pub is_trimmed : IsFlag f (codes "trim") s.is_trimmed
+  pub secret : (path : Bor (List ℕ)) × (first_value f (codes "secret-file") ≡ Some path.now)
+      × IsSecretFile f path s.secret
   pub algorithm : option_map algorithm_named (option_or (first_value f (codes "alg")) (Some (codes "HS256")))
       ≡ Some (Some s.algorithm)
   pub kid : text_of s.kid ≡ first_value f (codes "kid")
@@ -127,12 +134,22 @@ IsHash name SHA512 = name ≡ Some (codes "SHA512")
 abbrev pub IsFile : Found → Bor (List ℕ) → Type 0
 IsFile f path = Some path.now ≡ option_or (first_value f (codes "file")) (Some [])
 
+-- no token is given, or `-`, which stands for standard input
+abbrev pub IsFromInput : Option (List ℕ) → Type 0
+IsFromInput None = ⊤
+IsFromInput (Some token) = token ≡ codes "-"
+
+-- whether each line of standard input is a token; no token is given then
+abbrev pub AreLinesAsked : Found → Bool → Type 0
+AreLinesAsked f is_lines =
+    IsFlag f (codes "lines") is_lines × (is_lines ≡ true → IsFromInput (first_value f (codes "token")))
+
 -- the command of this name, with these arguments
 abbrev pub IsCommand : List ℕ → Found → Request → Type 0
 IsCommand name f (Verify v) = (name ≡ codes "verify") × IsChecking f v
-    × IsFlag f (codes "header") v.has_header × IsFlag f (codes "lines") v.is_lines
+    × IsFlag f (codes "header") v.has_header × AreLinesAsked f v.is_lines
 IsCommand name f (Explain v) = (name ≡ codes "explain") × IsChecking f v
-    × (v.has_header ≡ false) × (v.is_lines ≡ false)
+    × (v.has_header ≡ false) × (v.is_lines ≡ false) × IsFlag f (codes "brief") v.is_brief
 IsCommand name f (Show s) = (name ≡ codes "show") × IsShowing f s
 IsCommand name f (Sign s) = (name ≡ codes "sign") × IsSigningOf f s
 IsCommand name f (Keys l) = (name ≡ codes "keys") × IsFile f l.file

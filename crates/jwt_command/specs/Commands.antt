@@ -11,10 +11,9 @@ use Rattle.jwt_base.specs.declared.algorithms.Algorithm.{Algorithm}
 use Rattle.jwt_validation.specs.Options.{Options}
 use Rattle.jsonwebtoken.specs.Order.{Passes, FailsFirst}
 use Rattle.jsonwebtoken.specs.Tests.{Contents, insecure_call, insecure_order, token_tests}
-use Rattle.jwt_secrets.specs.Blank.{IsBlank}
 use Rattle.jwt_command.specs.Answers.{IsVerdict, IsVerifyAnswer, IsSignAnswer}
 use Rattle.jwt_command.specs.Claimed.{header_asked, members_with_times}
-use Rattle.jwt_command.specs.FileKeys.{AreLoaded, IsJwkLine}
+use Rattle.jwt_command.specs.FileKeys.{AreLoaded, IsJwkLine, IsTaken}
 use Rattle.jwt_command.specs.LineEnd.{IsLessLineEnd, IsSecret}
 use Rattle.jwt_command.specs.Own.{IsOwn}
 use Rattle.jwt_command.specs.Requested.{AreRequested}
@@ -25,7 +24,7 @@ use Rattle.jwt_command.specs.declared.request.Showing.{Showing}
 use Rattle.jwt_command.specs.declared.request.Signing.{Signing}
 use Rattle.jwt_command.specs.declared.request.Verification.{Verification}
 use Rattle.jwt_command.specs.declared.verify.OutputForm.{OutputForm}
-use Rattle.jwt_command.specs.declared.verify.OutputForm.TheVariants.{Claims, HeaderAndClaims, Json}
+use Rattle.jwt_command.specs.declared.verify.OutputForm.TheVariants.{Claims, HeaderAndClaims, Json, Line}
 
 -- a value that an argument has is the one that is taken
 abbrev pub IsGiven : {A : Type 0} → Option A → A → Type 0
@@ -89,10 +88,10 @@ IsExplanation v status =
     × ((loaded : LoadedKeys) × ((options : Options) × AreAsked v loaded options
     × IsTokenVerdict v loaded options bytes time status)))
 
--- status and output of `sign`, by the bytes of the secret's file and of the claims; not everybody can sign with the secret
+-- status and output of `sign`, by the bytes of the secret's file and of the claims; the secret is one that is taken
 abbrev pub IsSigned : Signing → List ℕ → List ℕ → ℕ → ℕ → List ℕ → Type 0
 IsSigned s key text time status output =
-    (secret : List ℕ) × IsSecret s.is_trimmed key secret × (¬ IsBlank secret)
+    (secret : List ℕ) × IsSecret s.secret.is_trimmed key secret × IsTaken s.secret.allows_key secret
     × ((members : Members) × IsJson text (object members)
     × IsSignAnswer (header_asked s) (object (members_with_times s time members)) secret status output)
 
@@ -106,7 +105,7 @@ IsSigning s status output =
 abbrev pub IsLineStatus : Verification → LoadedKeys → Options → ℕ → Type 0
 IsLineStatus v loaded options status =
     (bytes : List ℕ) × ((time : ℕ) × IsGiven v.time time
-    × ((output : List ℕ) × IsTokenAnswer v loaded options bytes time Json status output))
+    × ((output : List ℕ) × IsTokenAnswer v loaded options bytes time Line status output))
 
 -- the greatest of these, or 0
 abbrev pub greatest_status : List ℕ → ℕ

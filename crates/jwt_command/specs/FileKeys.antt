@@ -1,5 +1,5 @@
 -- The keys that a token is verified with, by the bytes of their file.
-use Rattle.std.specs.Prelude.{◌≡◌, ◌⊎◌, ℕ, List, [], ◌∷◌, ◌++◌, Option, Some, None}
+use Rattle.std.specs.Prelude.{◌≡◌, ◌⊎◌, ℕ, List, [], ◌∷◌, ◌++◌, Bool, false, Option, Some, None}
 use Rattle.serde_json.specs.Data.{Data}
 use Rattle.serde_json.specs.Written.{compact_text}
 use Rattle.jwt_base.specs.JsonText.{ReadsText}
@@ -16,18 +16,27 @@ use Rattle.jwt_keys.specs.KeyOfJwk.{IsKeyOf}
 use Rattle.jwt_keys.specs.declared.jwk.Jwk.{Jwk}
 use Rattle.jwt_keys.specs.declared.jwk_set.JwkSet.{JwkSet}
 use Rattle.jwt_secrets.specs.Blank.{IsBlank, IsBlankKey, IsBlankJwk, HasBlankKey}
+use Rattle.jwt_secrets.specs.KeyTexts.{IsKeyText}
 use Rattle.jwt_command.specs.LineEnd.{IsSecret}
 use Rattle.jwt_verifier.specs.declared.keys.Keys.{Keys}
 use Rattle.jwt_verifier.specs.declared.keys.Keys.TheVariants.{One, Set}
 use Rattle.jwt_command.specs.declared.request.KeyFile.{KeyFile}
 use Rattle.jwt_command.specs.declared.request.KeyFile.TheVariants as file
 
+-- The secret is taken: not every byte of it is 0 (RFC 2104 section 2), and it is not the text of a key of another kind
+-- (RFC 8725 sections 2.1 and 3.1), unless that is allowed.
+abbrev pub IsTaken : (allows_key : Bool) → (secret : List ℕ) → Type 0
+IsTaken allows_key secret = (¬ IsBlank secret) × (allows_key ≡ false → ¬ IsKeyText secret)
+
+abbrev pub IsNotTaken : (allows_key : Bool) → (secret : List ℕ) → Type 0
+IsNotTaken allows_key secret = IsBlank secret ⊎ ((allows_key ≡ false) × IsKeyText secret)
+
 -- the bytes of the file hold these keys, and the one key is for this algorithm: a secret, a JSON Web Key
 -- (RFC 7517 section 4), a set of these (RFC 7517 section 5), or a public key in PEM (RFC 7468 section 13); there is no
--- secret among them by which anyone can sign (RFC 2104 section 2)
+-- secret among them by which anyone can sign (RFC 2104 section 2), and the one secret is no text of a key
 abbrev pub AreLoaded : KeyFile → List ℕ → Keys → Option Algorithm → Type 0
-AreLoaded (file.Secret path is_trimmed) bytes keys own =
-    (secret : List ℕ) × IsSecret is_trimmed bytes secret × (¬ IsBlank secret)
+AreLoaded (file.Secret s) bytes keys own =
+    (secret : List ℕ) × IsSecret s.is_trimmed bytes secret × IsTaken s.allows_key secret
     × (keys ≡ One (Plain Hmac secret)) × (own ≡ None)
 AreLoaded (file.Jwk path) bytes keys own =
     (jwk : Jwk) × ReadsText ReadsKey bytes jwk
@@ -50,8 +59,8 @@ IsJwkLine bytes line =
 -- JSON Web Key, or one that verifies nothing (RFC 7517 section 4); they are no set of these (RFC 7517 section 5); or no
 -- public key in PEM
 abbrev pub HasKeysFault : KeyFile → List ℕ → Type 0
-HasKeysFault (file.Secret path is_trimmed) bytes =
-    (secret : List ℕ) × IsSecret is_trimmed bytes secret × IsBlank secret
+HasKeysFault (file.Secret s) bytes =
+    (secret : List ℕ) × IsSecret s.is_trimmed bytes secret × IsNotTaken s.allows_key secret
 HasKeysFault (file.Jwk path) bytes =
     ((jwk : Jwk) → ¬ ReadsText ReadsKey bytes jwk)
     ⊎ (((jwk : Jwk) × ReadsText ReadsKey bytes jwk × ((key : Key) → ¬ IsKeyOf jwk.algorithm key))

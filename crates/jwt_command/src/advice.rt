@@ -35,6 +35,9 @@ pub fn error_line(alloc: Global, error: &Error) -> Result<String, AllocError> {
 const LINE_END: &str =
     "the secret file ends with a newline, which is part of the secret; --trim leaves it out\n";
 
+/// The line after each refusal of `verify`.
+const MORE: &str = "'jwt explain' with the same arguments says more\n";
+
 /// The line about a token of another type.
 const OTHER_TYPE: &str = "refused: InvalidType: the token's 'typ' is not that of --typ\n";
 
@@ -51,6 +54,7 @@ pub fn denial_lines(
     if has_line_end && matches!(refusal.error.kind(), ErrorKind::InvalidSignature) {
         lines.push_str(LINE_END)?;
     }
+    lines.push_str(MORE)?;
     Ok(lines)
 }
 

@@ -15,8 +15,10 @@ pub(crate) mod wrappings;
 
 use crate::advice::denial_name;
 use crate::answer::Answer;
-use crate::explain::claim_findings::{ClaimFailure, claim_failures};
-use crate::explain::explanation::{Explanation, Outcome, json_line, page};
+use crate::explain::claim_findings::{ClaimFailure, claim_failures, python_lines};
+use crate::explain::explanation::{
+    Explanation, ExplanationForm, Outcome, brief_page, json_line, page,
+};
 use crate::explain::findings::{Finding, findings_of, part_value, quote};
 use crate::explain::orders::order;
 use crate::explain::part_findings::split_parts;
@@ -40,7 +42,7 @@ pub fn explain_answer(
     case: Case<'_>,
     validation: &mut Validation,
     checks: &Checks<'_, '_>,
-    is_json: bool,
+    form: ExplanationForm,
 ) -> Result<Answer, Fault<'static>>
     ensures { IfOk result (λ a.
         IsSettled case.entry.loaded.now case.entry.token.now (options_of validation.old)
@@ -50,8 +52,8 @@ pub fn explain_answer(
 {
     let denial = denial_of(alloc, case, validation)?;
     match denial {
-        None => explain_acceptance(alloc, case, validation, checks, is_json),
-        Some(denial) => explain_denial(alloc, case, validation, &denial, is_json),
+        None => explain_acceptance(alloc, case, validation, checks, form),
+        Some(denial) => explain_denial(alloc, case, validation, &denial, form),
     }
 }
 
@@ -60,13 +62,13 @@ fn explain_acceptance(
     case: Case<'_>,
     validation: &Validation,
     checks: &Checks<'_, '_>,
-    is_json: bool,
+    form: ExplanationForm,
 ) -> Result<Answer, Fault<'static>>
     ensures { IfOk result (λ a. a.status ≡ 0) }
 {
     let strict = refusal_if_strict(alloc, case, validation, checks)?;
     let explanation = explanation_of(alloc, case, validation, Outcome::Accepted, None, strict)?;
-    let output = explanation_text(alloc, &explanation, is_json);
+    let output = explanation_text(alloc, &explanation, form);
     // dropped at one place: each exit by `?` would have to be proved to drop every field
     drop(explanation);
     Ok(Answer {
@@ -116,7 +118,7 @@ fn accepted_claims(
 }
 
 /// Returns why a token is not accepted.
-fn outcome_of(
+pub fn outcome_of(
     alloc: Global,
     case: Case<'_>,
     validation: &Validation,
@@ -194,7 +196,7 @@ fn claim_times(
 ) -> Result<(String, Option<Moments>), Fault<'static>> {
     match accepted_claims(alloc, case.token, outcome)? {
         Some(claims) => {
-            let lines = claim_lines(alloc, &claims, case.time);
+            let lines = lines_about(alloc, &claims, validation, case.time);
             let moments = moments_of(alloc, &claims, validation);
             // dropped at one place: each exit by `?` would have to be proved to drop every field
             drop(claims);
@@ -202,6 +204,18 @@ fn claim_times(
         }
         None => Ok((String::new(alloc), None)),
     }
+}
+
+/// Returns the lines about the claims that are times.
+fn lines_about(
+    alloc: Global,
+    claims: &Value,
+    validation: &Validation,
+    time: u64,
+) -> Result<String, AllocError> {
+    let mut lines = claim_lines(alloc, claims, time)?;
+    lines.push_str(python_lines(alloc, claims, validation, time)?.as_str())?;
+    Ok(lines)
 }
 
 /// Returns the times at which the claims of a token are accepted, whose signature is. The claim
@@ -219,12 +233,12 @@ fn moments_of(
 fn explanation_text(
     alloc: Global,
     explanation: &Explanation<'_>,
-    is_json: bool,
+    form: ExplanationForm,
 ) -> Result<String, Fault<'static>> {
-    if is_json {
-        json_line(alloc, explanation)
-    } else {
-        Ok(page(alloc, explanation)?)
+    match form {
+        ExplanationForm::Page => Ok(page(alloc, explanation)?),
+        ExplanationForm::Brief => Ok(brief_page(alloc, explanation)?),
+        ExplanationForm::Json => json_line(alloc, explanation),
     }
 }
 
@@ -233,14 +247,14 @@ fn explain_denial(
     case: Case<'_>,
     validation: &Validation,
     denial: &Denial,
-    is_json: bool,
+    form: ExplanationForm,
 ) -> Result<Answer, Fault<'static>>
     ensures { IfOk result (λ a. a.status ≡ 1) }
 {
     let outcome = outcome_of(alloc, case, validation, denial)?;
     let kind = Some(denial_name(denial));
     let explanation = explanation_of(alloc, case, validation, outcome, kind, None)?;
-    let output = explanation_text(alloc, &explanation, is_json);
+    let output = explanation_text(alloc, &explanation, form);
     drop(explanation);
     Ok(Answer {
         status: 1,

@@ -18,9 +18,9 @@ pub enum Fault<'a> {
         path: &'a str,
         problem: &'static str,
     },
-    /// Standard input could not be read.
-    #[error("standard input could not be read")]
-    Input,
+    /// Standard input could not be read, or is too long.
+    #[error("{0}")]
+    Input(&'static str),
     /// Standard output could not be written.
     #[error("standard output could not be written")]
     Output,

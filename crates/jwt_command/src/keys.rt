@@ -3,7 +3,8 @@
 // A secret's file is taken as it is, unless `--trim` says otherwise: a final newline may be part of
 // a secret. The message about a wrong signature names the newline.
 
-ghost use Rattle.std.specs.Prelude.{◌≡◌, ◌⊎◌, ℕ, List, None, IfOk, IfErr, IsErr};
+ghost use Rattle.std.specs.Prelude.{◌≡◌, ◌⊎◌, ◌↔◌, ℕ, List, None, IfOk, IfErr, IsErr};
+ghost use Rattle.std.specs.Prelude.{IsTrue};
 ghost use Rattle.jwt_base.specs.JsonText.{ReadsText};
 ghost use Rattle.jwt_base.specs.Kind.{Kind};
 ghost use Rattle.jwt_base.specs.KindOf.{IsMemory};
@@ -15,10 +16,11 @@ ghost use Rattle.jwt_keys.specs.Key.{Key, Plain};
 ghost use Rattle.jwt_keys.specs.KeyOfJwk.{IsKeyOf};
 ghost use Rattle.jwt_keys.specs.declared.jwk.Jwk.{Jwk};
 ghost use Rattle.jwt_keys.specs.declared.jwk_set.JwkSet.{JwkSet};
-ghost use Rattle.jwt_secrets.specs.Blank.{IsBlank, IsBlankKey, IsBlankJwk, HasBlankKey};
+ghost use Rattle.jwt_secrets.specs.Blank.{IsBlankKey, IsBlankJwk, HasBlankKey};
+ghost use Rattle.jwt_secrets.specs.KeyTexts.{IsKeyText};
 ghost use Rattle.jsonwebtoken.specs.Own.{own_of};
 ghost use Rattle.jwt_command.specs.LineEnd.{IsSecret};
-ghost use Rattle.jwt_command.specs.FileKeys.{AreLoaded, HasKeysFault};
+ghost use Rattle.jwt_command.specs.FileKeys.{AreLoaded, HasKeysFault, IsTaken, IsNotTaken};
 
 pub(crate) mod hints;
 pub(crate) mod jwk;
@@ -28,11 +30,12 @@ pub(crate) mod thumbprint;
 use crate::fault::{Fault, fault_of, value_unless_refused};
 use crate::files::strip_line_end;
 use crate::keys::hints::{key_problem, pem_problem, set_problem};
-use crate::request::KeyFile;
+use crate::request::{KeyFile, SecretFile};
 use jsonwebtoken::errors::{Error, ErrorKind};
 use jsonwebtoken::jwk::{Jwk, JwkSet, own_algorithm};
 use jsonwebtoken::{Algorithm, DecodingKey};
 use jwt_key_files::pem::public_key_from_pem;
+use jwt_secrets::key_texts::is_key_text;
 use jwt_secrets::{has_blank_key, is_blank, is_blank_key};
 use jwt_verifier::{Keys, PreparedKeys};
 use std::alloc::Global;
@@ -78,21 +81,33 @@ pub fn names_algorithm(loaded: &LoadedKeys) -> bool {
     }
 }
 
-/// Returns the secret that a file holds, unless anyone can sign with it (RFC 2104 section 2).
+/// Returns the secret that a file holds, unless anyone can sign with it (RFC 2104 section 2, RFC 8725
+/// sections 2.1 and 3.1).
 pub fn given_secret<'a, 'b>(
-    path: &'a str,
+    alloc: Global,
+    file: SecretFile<'a>,
     bytes: &'b [u8],
-    is_trimmed: bool,
 ) -> Result<&'b [u8], Fault<'a>>
-    ensures ok { IfOk result (λ s. IsSecret is_trimmed bytes.now s.now × (¬ IsBlank s.now)) }
-    ensures err { IsErr result → (secret : List ℕ) × IsSecret is_trimmed bytes.now secret
-        × IsBlank secret }
+    ensures ok { IfOk result (λ s. IsSecret file.entry.is_trimmed bytes.now s.now
+        × IsTaken file.entry.allows_key s.now) }
+    ensures err { IfErr result (λ e. (e ≡ Fault.Memory)
+        ⊎ ((secret : List ℕ) × IsSecret file.entry.is_trimmed bytes.now secret
+        × IsNotTaken file.entry.allows_key secret)) }
 {
-    let secret = secret(bytes, is_trimmed);
+    let secret = secret(bytes, file.is_trimmed);
     if is_blank(secret) {
         return Err(Fault::File {
-            path,
-            problem: secret_problem(secret),
+            path: file.path,
+            problem: blank_problem(secret),
+        });
+    }
+    if file.allows_key {
+        return Ok(secret);
+    }
+    if holds_key(alloc, secret)? {
+        return Err(Fault::File {
+            path: file.path,
+            problem: KEY_TEXT,
         });
     }
     Ok(secret)
@@ -117,7 +132,7 @@ pub fn load<'a>(alloc: Global, file: KeyFile<'a>, bytes: &[u8]) -> Result<Loaded
     ensures err { IfErr result (λ e. (e ≡ Fault.Memory) ⊎ HasKeysFault file.entry bytes.now) }
 {
     match file {
-        KeyFile::Secret { path, is_trimmed } => load_secret(alloc, path, bytes, is_trimmed),
+        KeyFile::Secret(file) => load_secret(alloc, file, bytes),
         KeyFile::Jwk(path) => load_jwk(alloc, path, bytes),
         KeyFile::Jwks(path) => load_set(alloc, path, bytes),
         KeyFile::Pem(path) => load_pem(alloc, path, bytes),
@@ -180,8 +195,23 @@ fn secret(bytes: &[u8], is_trimmed: bool) -> &[u8]
     }
 }
 
-/// Returns why anyone can sign with a secret.
-fn secret_problem(secret: &[u8]) -> &'static str {
+/// Returns whether a secret is the text of a key of another kind.
+fn holds_key(alloc: Global, secret: &[u8]) -> Result<bool, Fault<'static>>
+    ensures ok { IfOk result (λ is. IsTrue is ↔ IsKeyText secret.now) }
+    ensures err { IfErr result (λ e. e ≡ Fault.Memory) }
+{
+    match is_key_text(alloc, secret) {
+        Ok(is) => Ok(is),
+        Err(_) => Err(Fault::Memory),
+    }
+}
+
+/// The problem of a secret that is the text of a key of another kind.
+const KEY_TEXT: &str =
+    "this is the text of a key, and with that of a public key anyone can sign; --pem, --jwk and --jwks read keys";
+
+/// Returns the problem of a secret of zeros.
+fn blank_problem(secret: &[u8]) -> &'static str {
     if secret.is_empty() {
         "the secret is empty"
     } else {
@@ -191,16 +221,18 @@ fn secret_problem(secret: &[u8]) -> &'static str {
 
 fn load_secret<'a>(
     alloc: Global,
-    path: &'a str,
+    file: SecretFile<'a>,
     bytes: &[u8],
-    is_trimmed: bool,
 ) -> Result<LoadedKeys, Fault<'a>>
-    ensures ok { IfOk result (λ l. (secret : List ℕ) × IsSecret is_trimmed bytes.now secret
-        × (¬ IsBlank secret) × (l.keys ≡ Keys.One (Plain Hmac secret)) × (l.own ≡ None)) }
+    ensures ok { IfOk result (λ l. (secret : List ℕ)
+        × IsSecret file.entry.is_trimmed bytes.now secret
+        × IsTaken file.entry.allows_key secret
+        × (l.keys ≡ Keys.One (Plain Hmac secret)) × (l.own ≡ None)) }
     ensures err { IfErr result (λ e. (e ≡ Fault.Memory)
-        ⊎ ((secret : List ℕ) × IsSecret is_trimmed bytes.now secret × IsBlank secret)) }
+        ⊎ ((secret : List ℕ) × IsSecret file.entry.is_trimmed bytes.now secret
+        × IsNotTaken file.entry.allows_key secret)) }
 {
-    let secret = given_secret(path, bytes, is_trimmed)?;
+    let secret = given_secret(alloc, file, bytes)?;
     match DecodingKey::from_secret(alloc, secret) {
         Ok(key) => Ok(LoadedKeys {
             keys: Keys::One(key),

@@ -26,6 +26,7 @@ use fault::Fault;
 use request::arguments::command;
 use request::{Request, request_asked};
 use run::answer;
+use serde_json::Value;
 use std::alloc::{AllocError, Global};
 use std::io::{ErrorKind, Write};
 use std::rt::{Env, Runtime};
@@ -72,13 +73,41 @@ fn write_answer<T: Runtime + AllocGlobal, W: Write>(
 {
     let answer = match answer(rt, request) {
         Ok(answer) => answer,
-        Err(fault) => return report_fault(rt, &fault),
+        Err(fault) => {
+            write_fault(rt.alloc(), request, &fault, writer);
+            return report_fault(rt, &fault);
+        }
     };
     if let Err(fault) = write_output(writer, answer.output.as_str()) {
         return report_fault(rt, &fault);
     }
     let _ = rt.eprint(answer.message.as_str());
     answer.status
+}
+
+/// Writes a line of JSON about a fault, if the request asks for one line of JSON.
+fn write_fault<W: Write>(
+    alloc: Global,
+    request: &Request<'_, '_>,
+    fault: &Fault<'_>,
+    writer: &mut W,
+) {
+    let is_json = match request {
+        Request::Verify(request) => request.is_json && !request.is_lines,
+        Request::Explain(request) => request.is_json,
+        Request::Show(request) => request.is_json,
+        _ => false,
+    };
+    if let (true, Ok(line)) = (is_json, fault_line(alloc, fault)) {
+        let _ = write_output(writer, line.as_str());
+    }
+}
+
+/// Returns one line of JSON about a fault.
+fn fault_line(alloc: Global, fault: &Fault<'_>) -> Result<String, AllocError> {
+    let text = Value::String(format!(in alloc; "{fault}")?);
+    let text = text.to_string(alloc)?;
+    format!(in alloc; "{{\"ok\":false,\"error\":{text}}}\n")
 }
 
 /// Returns the exit status of a fault, which is said on standard error.

@@ -4,9 +4,11 @@ ghost use Rattle.std.specs.Prelude.{◌≡◌, ◌↔◌, Some, false, All, IfOk
 ghost use Rattle.std.specs.Prelude.{option_map};
 ghost use Rattle.clap.specs.Matches.{found_of, first_value};
 ghost use Rattle.jwt_base.specs.Algorithm.{algorithm_named};
-ghost use Rattle.jwt_command.specs.Arguments.{AreChecks, IsChecking, IsCommand, IsFile, IsFlag};
+ghost use Rattle.jwt_command.specs.Arguments.{AreChecks, AreLinesAsked, IsChecking, IsCommand, IsFile};
+ghost use Rattle.jwt_command.specs.Arguments.{IsFlag};
 ghost use Rattle.jwt_command.specs.Arguments.{IsHash, IsKeyFile, IsNumberOf, IsRequestOf};
-ghost use Rattle.jwt_command.specs.Arguments.{IsRequirable, IsShowing, IsSigningOf, texts_of};
+ghost use Rattle.jwt_command.specs.Arguments.{IsRequirable, IsSecretFile, IsShowing, IsSigningOf};
+ghost use Rattle.jwt_command.specs.Arguments.{texts_of};
 
 pub(crate) mod arguments;
 pub(crate) mod spans;
@@ -18,11 +20,21 @@ use jsonwebtoken::Algorithm;
 use jsonwebtoken::jwk::ThumbprintHash;
 use std::alloc::Global;
 
+/// The file of a secret.
+#[derive(Clone, Copy)]
+pub struct SecretFile<'a> {
+    pub path: &'a str,
+    /// Whether one newline at the end of the file is no part of the secret.
+    pub is_trimmed: bool,
+    /// Whether the secret may be the text of a key of another kind.
+    pub allows_key: bool,
+}
+
 /// The file of the keys that a token is verified with.
 #[derive(Clone, Copy)]
 pub enum KeyFile<'a> {
-    /// The bytes of a secret, less one newline at their end if it is trimmed.
-    Secret { path: &'a str, is_trimmed: bool },
+    /// A secret.
+    Secret(SecretFile<'a>),
     /// A JSON Web Key.
     Jwk(&'a str),
     /// A set of JSON Web Keys.
@@ -48,7 +60,8 @@ pub struct Checks<'m, 'a> {
     pub understood: Option<&'m [&'a str]>,
 }
 
-/// The arguments of `verify` and `explain`, which has neither `--header` nor `--lines`.
+/// The arguments of `verify`, which has no `--brief`, and `explain`, which has neither `--header` nor
+/// `--lines`.
 #[derive(Drop)]
 pub struct Verification<'m, 'a> {
     pub token: Option<&'a str>,
@@ -59,14 +72,14 @@ pub struct Verification<'m, 'a> {
     pub has_header: bool,
     pub is_json: bool,
     pub is_lines: bool,
+    pub is_brief: bool,
 }
 
 /// The arguments of `sign`. The times are in seconds from now.
 #[derive(Clone, Copy)]
 pub struct Signing<'a> {
     pub claims: Option<&'a str>,
-    pub secret: &'a str,
-    pub is_trimmed: bool,
+    pub secret: SecretFile<'a>,
     pub algorithm: Algorithm,
     pub kid: Option<&'a str>,
     pub typ: Option<&'a str>,
@@ -139,7 +152,7 @@ fn command_asked<'m, 'a: 'm>(
 {
     match name {
         "verify" => verification_asked(alloc, found).map(Request::Verify),
-        "explain" => checking_asked(alloc, found).map(Request::Explain),
+        "explain" => explanation_asked(alloc, found).map(Request::Explain),
         "show" => showing_asked(found).map(Request::Show),
         "sign" => signing_asked(found).map(Request::Sign),
         "keys" => Ok(Request::Keys(Listing { file: file(found) })),
@@ -155,12 +168,48 @@ fn verification_asked<'m, 'a: 'm>(
 ) -> Result<Verification<'m, 'a>, Fault<'static>>
     ensures { IfOk result (λ v. IsChecking (found_of matches.now) v
         × IsFlag (found_of matches.now) (codes "header") v.has_header
-        × IsFlag (found_of matches.now) (codes "lines") v.is_lines) }
+        × AreLinesAsked (found_of matches.now) v.is_lines) }
 {
+    let is_lines = lines_asked(matches)?;
     let mut request = checking_asked(alloc, matches)?;
     request.has_header = matches.get_flag("header");
-    request.is_lines = matches.get_flag("lines");
+    request.is_lines = is_lines;
     Ok(request)
+}
+
+fn explanation_asked<'m, 'a: 'm>(
+    alloc: Global,
+    matches: &'m ArgMatches<'a>,
+) -> Result<Verification<'m, 'a>, Fault<'static>>
+    ensures { IfOk result (λ v. IsChecking (found_of matches.now) v
+        × (v.has_header ≡ false) × (v.is_lines ≡ false)
+        × IsFlag (found_of matches.now) (codes "brief") v.is_brief) }
+{
+    let is_brief = matches.get_flag("brief");
+    if is_brief && matches.get_flag("json") {
+        return Err(Fault::Usage("--brief and --json ask for two forms of an answer"));
+    }
+    let mut request = checking_asked(alloc, matches)?;
+    request.is_brief = is_brief;
+    Ok(request)
+}
+
+/// Returns whether each line of standard input is a token. No token may stand beside `--lines`.
+fn lines_asked(matches: &ArgMatches<'_>) -> Result<bool, Fault<'static>>
+    ensures { IfOk result (λ is_lines. AreLinesAsked (found_of matches.now) is_lines) }
+{
+    let is_lines = matches.get_flag("lines");
+    match matches.get_str("token") {
+        None | Some("-") => Ok(is_lines),
+        Some(_) => {
+            if is_lines {
+                return Err(Fault::Usage(
+                    "--lines reads the tokens from standard input, and takes none on the command line",
+                ));
+            }
+            Ok(is_lines)
+        }
+    }
 }
 
 /// Returns the arguments that `verify` and `explain` share.
@@ -180,15 +229,15 @@ fn checking_asked<'m, 'a: 'm>(
         has_header: false,
         is_json: matches.get_flag("json"),
         is_lines: false,
+        is_brief: false,
     })
 }
 
 fn key_file<'a>(matches: &ArgMatches<'a>) -> Result<KeyFile<'a>, Fault<'static>>
     ensures { IfOk result (IsKeyFile (found_of matches.now)) }
 {
-    let is_trimmed = matches.get_flag("trim");
     if let Some(path) = matches.get_str("secret-file") {
-        return Ok(KeyFile::Secret { path, is_trimmed });
+        return Ok(KeyFile::Secret(secret_file(matches, path)));
     }
     if let Some(path) = matches.get_str("jwk") {
         return Ok(KeyFile::Jwk(path));
@@ -199,6 +248,17 @@ fn key_file<'a>(matches: &ArgMatches<'a>) -> Result<KeyFile<'a>, Fault<'static>>
     match matches.get_str("pem") {
         Some(path) => Ok(KeyFile::Pem(path)),
         None => Err(Fault::Usage("one of --secret-file, --jwk, --jwks and --pem is needed")),
+    }
+}
+
+/// Returns the file of a secret with the flags that say how it is read.
+fn secret_file<'a>(matches: &ArgMatches<'a>, path: &'a str) -> SecretFile<'a>
+    ensures { IsSecretFile (found_of matches.now) path.entry result }
+{
+    SecretFile {
+        path,
+        is_trimmed: matches.get_flag("trim"),
+        allows_key: matches.get_flag("allow-key-as-secret"),
     }
 }
 
@@ -340,13 +400,12 @@ fn showing_asked<'a>(matches: &ArgMatches<'a>) -> Result<Showing<'a>, Fault<'sta
 fn signing_asked<'a>(matches: &ArgMatches<'a>) -> Result<Signing<'a>, Fault<'static>>
     ensures { IfOk result (IsSigningOf (found_of matches.now)) }
 {
-    let Some(secret) = matches.get_str("secret-file") else {
+    let Some(path) = matches.get_str("secret-file") else {
         return Err(Fault::Usage("--secret-file is needed"));
     };
     Ok(Signing {
         claims: matches.get_str("claims"),
-        secret,
-        is_trimmed: matches.get_flag("trim"),
+        secret: secret_file(matches, path),
         algorithm: algorithm(matches.get_str("alg").unwrap_or("HS256"))?,
         kid: matches.get_str("kid"),
         typ: matches.get_str("typ"),

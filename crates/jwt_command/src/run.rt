@@ -11,8 +11,9 @@ ghost use Rattle.jwt_command.specs.FileKeys.{AreLoaded, IsJwkLine};
 use crate::answer::Answer;
 use crate::clock::current_time;
 use crate::explain::explain_answer;
+use crate::explain::explanation::ExplanationForm;
 use crate::fault::Fault;
-use crate::files::{file_bytes, input_bytes, strip_line_end};
+use crate::files::{file_bytes, input_bytes, is_file_name, strip_line_end, token_input};
 use crate::keys::jwk::jwk_answer;
 use crate::keys::table::keys_answer;
 use crate::keys::thumbprint::thumbprint_answer;
@@ -21,7 +22,7 @@ use crate::request::{Digesting, KeyFile, Listing, Request, Showing, Signing, Ver
 use crate::show::show_answer;
 use crate::sign::{claims, claims_answer};
 use crate::verify::case::Case;
-use crate::verify::lines::answer_lines;
+use crate::verify::lines::{Tally, answer_lines};
 use crate::verify::options::requested_validation;
 use crate::verify::{OutputForm, verify_answer};
 use jsonwebtoken::Validation;
@@ -29,7 +30,7 @@ use std::alloc::Global;
 use std::rt::{Clock, Files};
 
 /// Returns the answer to a request.
-pub fn answer<'a, R: Files + Input + Print + Clock + AllocGlobal>(
+pub fn answer<'a, R: Files + Input + Print + Eprint + Clock + AllocGlobal>(
     rt: &R,
     request: &Request<'_, 'a>,
 ) -> Result<Answer, Fault<'a>>
@@ -47,20 +48,24 @@ pub fn answer<'a, R: Files + Input + Print + Clock + AllocGlobal>(
     }
 }
 
-/// Answers each line of standard input, and returns the status. The answers are written by then.
-fn run_verify_lines<'a, R: Files + Input + Print + Clock + AllocGlobal>(
+/// Answers each line of standard input, and returns the status. The answers are written by then, and
+/// how many tokens were accepted and refused.
+fn run_verify_lines<'a, R: Files + Input + Print + Eprint + Clock + AllocGlobal>(
     rt: &R,
     request: &Verification<'_, 'a>,
 ) -> Result<Answer, Fault<'a>>
     ensures { IfOk result (λ a. AreVerified request.entry.now a.status) }
 {
     let (mut loaded, mut validation) = keys_and_options(rt, request)?;
-    let status = lines_status(rt, request, &mut loaded, &mut validation);
+    let tally = lines_tally(rt, request, &mut loaded, &mut validation);
     // dropped at one place: each exit by `?` would have to be proved to drop every field
     drop(loaded);
     drop(validation);
+    let tally = tally?;
+    // here, and not by the answer: that would take memory after the lines are written
+    let _ = eprintln!(rt; "{} accepted, {} refused", tally.accepted, tally.refused);
     Ok(Answer {
-        status: status?,
+        status: tally.status,
         output: String::new(rt.alloc()),
         message: String::new(rt.alloc()),
     })
@@ -120,24 +125,21 @@ fn keys_for<'a, R: Files + AllocGlobal>(
 /// Returns the path of a file of keys.
 fn path_of<'a>(file: KeyFile<'a>) -> &'a str {
     match file {
-        KeyFile::Secret {
-            path,
-            is_trimmed: _,
-        } => path,
+        KeyFile::Secret(file) => file.path,
         KeyFile::Jwk(path) | KeyFile::Jwks(path) | KeyFile::Pem(path) => path,
     }
 }
 
-/// Prepares the keys, answers each line of standard input, and returns the status.
-fn lines_status<R: Input + Print + Clock + AllocGlobal>(
+/// Prepares the keys, answers each line of standard input, and returns the status and the counts.
+fn lines_tally<R: Input + Print + Clock + AllocGlobal>(
     rt: &R,
     request: &Verification<'_, '_>,
     loaded: &mut LoadedKeys,
     validation: &mut Validation,
-) -> Result<u8, Fault<'static>>
-    ensures { IfOk result (λ status. (loaded.new.keys ≡ loaded.old.keys)
+) -> Result<Tally, Fault<'static>>
+    ensures { IfOk result (λ tally. (loaded.new.keys ≡ loaded.old.keys)
         × (loaded.new.own ≡ loaded.old.own)
-        × IsLinesStatus request.entry.now loaded.new (options_of validation.old) status) }
+        × IsLinesStatus request.entry.now loaded.new (options_of validation.old) tally.status) }
 {
     prepare(rt.alloc(), loaded, &validation.algorithms)?;
     answer_lines(rt, request, loaded, validation)
@@ -158,7 +160,7 @@ fn run_verify<'a, R: Files + Input + Clock + AllocGlobal>(
 }
 
 /// Returns the answer of `verify` under these keys and options.
-fn verify_token<R: Input + Clock + AllocGlobal>(
+fn verify_token<R: Files + Input + Clock + AllocGlobal>(
     rt: &R,
     request: &Verification<'_, '_>,
     loaded: &LoadedKeys,
@@ -181,15 +183,20 @@ fn verify_token<R: Input + Clock + AllocGlobal>(
 }
 
 /// Returns the token that is given, or that of standard input.
-fn token_bytes<R: Input + AllocGlobal>(
+fn token_bytes<R: Files + Input + AllocGlobal>(
     rt: &R,
     given: Option<&str>,
 ) -> Result<Vec<u8>, Fault<'static>>
     ensures { IfOk result (λ b. IsGivenToken given.entry b.items) }
 {
     match given {
-        None | Some("-") => input_bytes(rt),
-        Some(token) => Ok(token.as_bytes().to_vec(rt.alloc())?),
+        None | Some("-") => token_input(rt),
+        Some(token) => {
+            if is_file_name(rt, token) {
+                return Err(Fault::Usage("the token is the name of a file; '< FILE' reads it"));
+            }
+            Ok(token.as_bytes().to_vec(rt.alloc())?)
+        }
     }
 }
 
@@ -220,7 +227,7 @@ fn run_explain<'a, R: Files + Input + Clock + AllocGlobal>(
 }
 
 /// Returns the answer of `explain` under these keys and options.
-fn explain_token<R: Input + Clock + AllocGlobal>(
+fn explain_token<R: Files + Input + Clock + AllocGlobal>(
     rt: &R,
     request: &Verification<'_, '_>,
     loaded: &LoadedKeys,
@@ -244,11 +251,21 @@ fn explain_token<R: Input + Clock + AllocGlobal>(
         case,
         validation,
         &request.checks,
-        request.is_json,
+        explanation_form(request),
     )
 }
 
-fn run_show<'a, R: Input + Clock + AllocGlobal>(
+fn explanation_form(request: &Verification<'_, '_>) -> ExplanationForm {
+    if request.is_json {
+        ExplanationForm::Json
+    } else if request.is_brief {
+        ExplanationForm::Brief
+    } else {
+        ExplanationForm::Page
+    }
+}
+
+fn run_show<'a, R: Files + Input + Clock + AllocGlobal>(
     rt: &R,
     request: &Showing<'a>,
 ) -> Result<Answer, Fault<'a>>
@@ -266,7 +283,7 @@ fn run_sign<'a, R: Files + Input + Clock + AllocGlobal>(
     ensures { IfOk result (λ a. IsSigning request.entry.now a.status (string_bytes a.output)) }
 {
     let time = current_time(rt, request.time)?;
-    let key = file_bytes(rt, request.secret)?;
+    let key = file_bytes(rt, request.secret.path)?;
     let text = match request.claims {
         Some(path) => file_bytes(rt, path)?,
         None => input_bytes(rt)?,
@@ -286,7 +303,7 @@ fn sign_claims<'a>(
         (string_bytes a.output)) }
 {
     let claims = claims(alloc, text, request, time)?;
-    let secret = given_secret(request.secret, key, request.is_trimmed)?;
+    let secret = given_secret(alloc, request.secret, key)?;
     claims_answer(alloc, request, &claims, secret)
 }
 

@@ -12,7 +12,7 @@ use crate::answer::Answer;
 use crate::explain::findings::Finding;
 use crate::explain::part_findings::unread_finding;
 use crate::fault::{Fault, is_memory};
-use crate::show::escapes::escape_late_controls;
+use crate::show::escapes::escape_unseen;
 use crate::show::salvage::{Salvage, salvage_of};
 use crate::times::claim_lines;
 use jsonwebtoken::TokenData;
@@ -63,7 +63,8 @@ fn contents_answer(
     })
 }
 
-/// Returns the header and the claims as they can be shown: with their control characters escaped.
+/// Returns the header and the claims as they can be shown: with the characters that are not seen
+/// escaped.
 fn contents_text(
     alloc: Global,
     header: &Value,
@@ -76,7 +77,7 @@ fn contents_text(
     } else {
         page(alloc, header, claims, time)?
     };
-    escape_late_controls(alloc, text)
+    escape_unseen(alloc, text)
 }
 
 /// Returns the header and the claims as one line of JSON.
@@ -148,7 +149,7 @@ fn salvage_line(alloc: Global, salvage: &Salvage, finding: &Finding) -> Result<S
     let line = format!(in alloc;
         "{{\"verified\":false,\"header\":{header},\"claims\":{claims},\"found\":{found},\"wanted\":{wanted}}}\n"
     )?;
-    escape_late_controls(alloc, line)
+    escape_unseen(alloc, line)
 }
 
 /// Returns the JSON of a value, and `null` for none.
@@ -172,7 +173,7 @@ fn salvage_page(alloc: Global, salvage: &Salvage, time: u64) -> Result<String, A
     if let Some(claims) = &salvage.claims {
         page.push_str(claim_lines(alloc, claims, time)?.as_str())?;
     }
-    escape_late_controls(alloc, page)
+    escape_unseen(alloc, page)
 }
 
 /// Adds a value as JSON in lines, if there is one.

@@ -13,14 +13,15 @@ ghost use Rattle.jwt_command.specs.Claimed.{header_asked, numeric_date, members_
 
 use crate::advice::error_line;
 use crate::answer::Answer;
+use crate::explain::findings::quote;
 use crate::fault::{Fault, fault_of, is_memory};
 use crate::request::Signing;
-use jsonwebtoken::errors::Error;
+use jsonwebtoken::errors::{Error, ErrorKind};
 use jsonwebtoken::{EncodingKey, Header, Text, encode};
 use jwt_base::serialization::json_value;
 use jwt_standard::StandardProvider;
 use serde_json::{Map, Value};
-use std::alloc::Global;
+use std::alloc::{AllocError, Global};
 
 /// Returns the claims of a JSON text, which is that of an object, with the times that the
 /// arguments ask for.
@@ -166,7 +167,7 @@ fn sign_answer(
     };
     match encode(alloc, &StandardProvider, header, claims, &key) {
         Ok(token) => signed_answer(alloc, token),
-        Err(error) => refusal_answer(alloc, error),
+        Err(error) => refusal_answer(alloc, error, claims),
     }
 }
 
@@ -183,7 +184,7 @@ fn signed_answer(alloc: Global, token: String) -> Result<Answer, Fault<'static>>
     })
 }
 
-fn refusal_answer(alloc: Global, error: Error) -> Result<Answer, Fault<'static>>
+fn refusal_answer(alloc: Global, error: Error, claims: &Value) -> Result<Answer, Fault<'static>>
     ensures { IfOk result (λ a. (kind_of error ≢ kind.OutOfMemory) × (a.status ≡ 1)
         × (string_bytes a.output ≡ [])) }
 {
@@ -191,7 +192,7 @@ fn refusal_answer(alloc: Global, error: Error) -> Result<Answer, Fault<'static>>
         drop(error);
         return Err(Fault::Memory);
     }
-    let message = error_line(alloc, &error);
+    let message = refusal_line(alloc, &error, claims);
     // dropped at one place: each exit by `?` would have to be proved to drop every field
     drop(error);
     Ok(Answer {
@@ -199,4 +200,40 @@ fn refusal_answer(alloc: Global, error: Error) -> Result<Answer, Fault<'static>>
         output: String::new(alloc),
         message: message?,
     })
+}
+
+/// Returns the line that says why claims are not signed.
+fn refusal_line(alloc: Global, error: &Error, claims: &Value) -> Result<String, AllocError> {
+    match error.kind() {
+        ErrorKind::InvalidAlgorithm => String::from_str(
+            alloc,
+            "refused: InvalidAlgorithm: a secret signs with HS256, HS384 and HS512\n",
+        ),
+        ErrorKind::Json => float_line(alloc, claims),
+        _ => error_line(alloc, error),
+    }
+}
+
+/// Returns the line about claims with a number that is not whole, which `encode` refuses.
+fn float_line(alloc: Global, claims: &Value) -> Result<String, AllocError> {
+    match float_name(claims) {
+        Some(name) => format!(in alloc;
+            "refused: Json: the claim {} is a number that is not whole, which is not signed\n",
+            quote(alloc, name)?
+        ),
+        None => String::from_str(
+            alloc,
+            "refused: Json: a claim has a number that is not whole, which is not signed\n",
+        ),
+    }
+}
+
+/// Returns the name of the first claim that is a number that is not whole.
+fn float_name(claims: &Value) -> Option<&str> {
+    for (name, value) in claims.as_object()? {
+        if value.is_f64() {
+            return Some(name.as_str());
+        }
+    }
+    None
 }

@@ -14,7 +14,10 @@ pub(crate) mod verdict;
 
 use crate::advice::{denial_lines, denial_name, denied_claim};
 use crate::answer::{Answer, value_line};
+use crate::explain::explanation::first_finding;
+use crate::explain::findings::Finding;
 use crate::explain::orders::TYPE_AGREES;
+use crate::explain::outcome_of;
 use crate::fault::Fault;
 use crate::verify::case::Case;
 use crate::verify::verdict::{Denial, judge};
@@ -32,8 +35,10 @@ pub enum OutputForm {
     Claims,
     /// The header as JSON, and the claims as JSON.
     HeaderAndClaims,
-    /// One line of JSON, for a refusal too.
+    /// One line of JSON, for a refusal too, with what the failed test found and wanted.
     Json,
+    /// One line of JSON for one of many tokens, with the name of the failed test alone.
+    Line,
 }
 
 /// Returns the answer to a token: status 0 and its claims if it is accepted, and status 1 if it is
@@ -58,7 +63,7 @@ pub fn verify_answer(
             drop(contents);
             answer
         }
-        Err(denial) => denied_answer(alloc, &denial, case.loaded.has_line_end, form),
+        Err(denial) => denied_answer(alloc, case, validation, &denial, form),
     }
 }
 
@@ -93,7 +98,7 @@ fn accepted_text(
             text.push_str(value_line(alloc, &contents.claims)?.as_str())?;
             Ok(text)
         }
-        OutputForm::Json => Ok(accepted_line(alloc, &contents.claims)?),
+        OutputForm::Json | OutputForm::Line => Ok(accepted_line(alloc, &contents.claims)?),
     }
 }
 
@@ -117,36 +122,66 @@ fn accepted_line(alloc: Global, claims: &Value) -> Result<String, AllocError> {
     Ok(line)
 }
 
-/// Returns the answer to a token that is not accepted, by keys whose file may end with a line end.
+/// Returns the answer to a token that is not accepted.
 fn denied_answer(
     alloc: Global,
+    case: Case<'_>,
+    validation: &Validation,
     denial: &Denial,
-    has_line_end: bool,
     form: OutputForm,
 ) -> Result<Answer, Fault<'static>>
     ensures { IfOk result (λ a. (a.status ≡ 1) × IsRefusedText form (string_bytes a.output)) }
 {
-    let output = denied_text(alloc, denial, form)?;
+    let output = denied_text(alloc, case, validation, denial, form)?;
     Ok(Answer {
         status: 1,
         output,
-        message: denial_lines(alloc, denial, has_line_end)?,
+        message: denial_lines(alloc, denial, case.loaded.has_line_end)?,
     })
 }
 
-fn denied_text(alloc: Global, denial: &Denial, form: OutputForm) -> Result<String, AllocError>
+fn denied_text(
+    alloc: Global,
+    case: Case<'_>,
+    validation: &Validation,
+    denial: &Denial,
+    form: OutputForm,
+) -> Result<String, Fault<'static>>
     ensures { IfOk result (λ text. IsRefusedText form (string_bytes text)) }
 {
     match form {
-        OutputForm::Json => denied_line(alloc, denial),
+        OutputForm::Json => denied_line(alloc, case, validation, denial),
+        OutputForm::Line => Ok(outcome_line(alloc, denial, None)?),
         _ => Ok(String::new(alloc)),
     }
 }
 
 /// Returns one line of JSON about a denial.
-fn denied_line(alloc: Global, denial: &Denial) -> Result<String, AllocError> {
+fn denied_line(
+    alloc: Global,
+    case: Case<'_>,
+    validation: &Validation,
+    denial: &Denial,
+) -> Result<String, Fault<'static>> {
+    let outcome = outcome_of(alloc, case, validation, denial)?;
+    let line = outcome_line(alloc, denial, first_finding(&outcome));
+    // dropped at one place: each exit by `?` would have to be proved to drop every field
+    drop(outcome);
+    Ok(line?)
+}
+
+fn outcome_line(
+    alloc: Global,
+    denial: &Denial,
+    finding: Option<&Finding>,
+) -> Result<String, AllocError> {
     let mut line = String::from_str(alloc, "{\"ok\":false")?;
     push_denial(&mut line, denial)?;
+    if let Some(finding) = finding {
+        push_text(alloc, &mut line, "found", finding.found.as_str())?;
+        push_text(alloc, &mut line, "wanted", finding.wanted.as_str())?;
+    }
+    line.push_str("}\n")?;
     Ok(line)
 }
 
@@ -156,8 +191,16 @@ fn push_denial(line: &mut String, denial: &Denial) -> Result<(), AllocError> {
     if let Some(claim) = denied_claim(denial) {
         push_member(line, "claim", claim)?;
     }
-    push_member(line, "test", failed_test_name(denial))?;
-    line.push_str("}\n")
+    push_member(line, "test", failed_test_name(denial))
+}
+
+/// Adds a member whose text may need escapes.
+fn push_text(alloc: Global, line: &mut String, name: &str, text: &str) -> Result<(), AllocError> {
+    let value = Value::String(String::from_str(alloc, text)?);
+    line.push_str(",\"")?;
+    line.push_str(name)?;
+    line.push_str("\":")?;
+    line.push_str(value.to_string(alloc)?.as_str())
 }
 
 /// Adds a member, neither of whose texts needs an escape.

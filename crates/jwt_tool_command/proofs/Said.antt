@@ -7,7 +7,7 @@ use Rattle.jwt_base.specs.declared.errors.Error.{Error}
 use Rattle.jwt_tool_command.specs.Line.{Answers, RequestAnswer, IsRefusal, IsMemoryLine, IsUsage, without_final_newline}
 use Rattle.jwt_tool_command.specs.Words.{Request, request_of}
 
-usage_answers : (words : List (List ℕ)) (input : List ℕ) (status : ℕ) (line : List ℕ) → request_of words ≡ None
+pub usage_answers : (words : List (List ℕ)) (input : List ℕ) (status : ℕ) (line : List ℕ) → request_of words ≡ None
     → IsUsage status line → Answers words input status line
 usage_answers words input status line is said = rw is (inl said)
 
@@ -16,7 +16,7 @@ pub usage_said : (known : Option (List ℕ)) (words : List (List ℕ)) (status :
 usage_said None words status line other said = tt
 usage_said (Some all) words status line other said = usage_answers words (without_final_newline all) status line other said
 
-answers : (words : List (List ℕ)) (c : Request) (input : List ℕ) (status : ℕ) (line : List ℕ)
+pub answers : (words : List (List ℕ)) (c : Request) (input : List ℕ) (status : ℕ) (line : List ℕ)
     → request_of words ≡ Some c → RequestAnswer c input status line → Answers words input status line
 answers words c input status line is (inl said) = rw is (inl said)
 answers words c input status line is (inr refused) = inr refused

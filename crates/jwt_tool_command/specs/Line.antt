@@ -182,6 +182,14 @@ IsMemoryLine status line = (line ≡ codes "Out of memory") × (status ≡ 1)
 abbrev pub Answers : List (List ℕ) → List ℕ → ℕ → List ℕ → Type 0
 Answers words input status line = Line words input status line ⊎ IsMemoryLine status line
 
+-- the status of the answer to some arguments and some input
+abbrev pub HasAnswered : (status : ℕ) → Type 0
+HasAnswered status = (words : List (List ℕ)) × (input line : List ℕ) × Answers words input status line
+
+-- the exit status of the program: that of an answer, or 3 if there is none
+abbrev pub IsExitStatus : (status : ℕ) → Type 0
+IsExitStatus status = HasAnswered status ⊎ (status ≡ 3)
+
 -- for private clauses: the line for a request, or the one for out of memory
 abbrev pub RequestAnswer : Request → List ℕ → ℕ → List ℕ → Type 0
 RequestAnswer request input status line =

@@ -56,6 +56,10 @@ pub fn run<R: Read, W: Write>(
         (line : List ℕ) × Appends (W.contents writer.old) (W.contents writer.new) (line ++ 10 ∷ [])
         × Answers (map string_bytes words.now) (without_final_newline all) status line)) }
 
+    // Whether or not it is known what the reader has left, the answer is that to some input.
+    ensures of_some_input { IfOk result (λ status. (input line : List ℕ)
+        × Answers (map string_bytes words.now) input status line) }
+
     // If it fails otherwise than by the writer, nothing was written.
     ensures unwritten { IfErr result (λ e. e ≢ ToolFault.Write
         → W.contents writer.new ≡ W.contents writer.old) }
@@ -72,6 +76,8 @@ fn answer_to<R: Read>(alloc: Global, words: &[String], reader: &mut R) -> Result
     ensures said { IfOk result (λ a. IfSome (R.remaining reader.old) (λ all.
         Answers (map string_bytes words.now) (without_final_newline all) a.status
         (string_bytes a.line))) }
+    ensures of_some_input { IfOk result (λ a. (input : List ℕ)
+        × Answers (map string_bytes words.now) input a.status (string_bytes a.line)) }
 {
     let Some(command) = requested_command(words) else {
         return usage(alloc);

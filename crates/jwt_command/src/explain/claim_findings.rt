@@ -2,16 +2,16 @@
 
 use crate::explain::findings::{Finding, choice, part_value, quote};
 use crate::explain::part_findings::type_name;
-use crate::fault::{Fault, is_memory};
+use crate::fault::Fault;
 use crate::times::{distance_text, is_likely_milliseconds, span_text, time_text};
-use jsonwebtoken::errors::{Error, ErrorKind};
-use jsonwebtoken::{Validation, validate};
+use jsonwebtoken::Validation;
+use jsonwebtoken::options::{Rule, broken_rules};
 use serde_json::Value;
 use std::alloc::{AllocError, Global};
 use std::collections::HashSet;
 
-/// The claims that rules are about, in the order of the rules.
-const CLAIMS: [&str; 5] = ["exp", "nbf", "sub", "iss", "aud"];
+/// The claims that can be required, in the order in which they are looked for.
+const CLAIMS: [&str; 5] = ["exp", "nbf", "aud", "iss", "sub"];
 
 /// A claim rule that fails.
 #[derive(Drop)]
@@ -29,8 +29,8 @@ struct Rules<'r> {
     time: u64,
 }
 
-/// Returns the failures of all claim rules that fail, in the order in which they are tested, and of
-/// missing claims in that of [`CLAIMS`].
+/// Returns the failures of all claim rules that fail, in the order in which they are tested: those
+/// of the required claims that are missing, and then those of the other rules.
 pub fn claim_failures(
     alloc: Global,
     claims: &Value,
@@ -43,8 +43,8 @@ pub fn claim_failures(
         time,
     };
     let mut failures = Vec::new(alloc);
-    push_failures(alloc, rules, true, &mut failures)?;
-    push_failures(alloc, rules, false, &mut failures)?;
+    push_missing(alloc, rules, &mut failures)?;
+    push_broken(alloc, rules, &mut failures)?;
     Ok(failures)
 }
 
@@ -68,76 +68,110 @@ pub fn claim_findings(
     Ok(findings)
 }
 
-/// Adds the failures of the rules, a claim after the other: those of claims that are missing, or
-/// the others.
-fn push_failures(
+/// Adds the failures of required claims that are missing.
+fn push_missing(
     alloc: Global,
     rules: Rules<'_>,
-    is_missing: bool,
     failures: &mut Vec<ClaimFailure>,
-) -> Result<(), Fault<'static>> {
-    for claim in &CLAIMS {
-        if let Some(error) = failure_about(alloc, rules, claim)?
-            && is_missing == matches!(error.kind(), ErrorKind::MissingRequiredClaim(_))
-        {
+) -> Result<(), AllocError> {
+    for name in &CLAIMS {
+        if is_missing(rules, name) {
             failures.push(ClaimFailure {
-                kind: error.kind().name(),
-                finding: rule_finding(alloc, rules, &error)?,
+                kind: "MissingRequiredClaim",
+                finding: form_finding(alloc, rules, name)?,
             })?;
         }
     }
     Ok(())
 }
 
-/// Returns the error of the rules about one claim, if one fails.
-fn failure_about(
+/// Returns whether a claim is required, and absent or malformed.
+fn is_missing(rules: Rules<'_>, name: &str) -> bool {
+    rules.validation.required_spec_claims.contains(name) && !has_value(rules.claims, name)
+}
+
+/// Returns whether a claim that has rules is present, with a value of its type (RFC 7519 section
+/// 4.1).
+fn has_value(claims: &Value, name: &str) -> bool {
+    match (name, claims.get(name)) {
+        ("exp" | "nbf", Some(value)) => value.as_u64().is_some(),
+        ("aud" | "iss", Some(Value::Array(values))) => values.iter().all(Value::is_string),
+        (_, Some(value)) => value.is_string(),
+        (_, None) => false,
+    }
+}
+
+/// Adds the failures of the rules that are broken, but of those about a claim that is missing.
+fn push_broken(
     alloc: Global,
     rules: Rules<'_>,
-    claim: &str,
-) -> Result<Option<Error>, Fault<'static>> {
-    let Ok(mut options) = rules.validation.clone(alloc) else {
+    failures: &mut Vec<ClaimFailure>,
+) -> Result<(), Fault<'static>> {
+    // the only refusal is `OutOfMemory`
+    let Ok(broken) = broken_rules(alloc, rules.claims, rules.validation, rules.time) else {
         return Err(Fault::Memory);
     };
-    for other in &CLAIMS {
-        if *other != claim {
-            leave_out(&mut options, other);
+    for rule in broken {
+        if !is_missing(rules, claim_of(rule)) {
+            failures.push(broken_failure(alloc, rules, rule)?)?;
         }
     }
-    let held = validate(alloc, rules.claims, &options, rules.time);
-    // dropped at one place: each exit by `?` would have to be proved to drop every field
-    drop(options);
-    match held {
-        Ok(()) => Ok(None),
-        Err(error) if is_memory(&error) => Err(Fault::Memory),
-        Err(error) => Ok(Some(error)),
+    Ok(())
+}
+
+/// Returns the claim that a rule is about.
+fn claim_of(rule: Rule) -> &'static str {
+    match rule {
+        Rule::ExpFormat | Rule::ExpReject | Rule::ExpTime => "exp",
+        Rule::NbfFormat | Rule::NbfTime => "nbf",
+        Rule::Subject => "sub",
+        Rule::Issuer => "iss",
+        Rule::Audience => "aud",
     }
 }
 
-/// Takes the rules about a claim out of the options.
-fn leave_out(options: &mut Validation, claim: &str) {
-    options.required_spec_claims.remove(claim);
-    match claim {
-        "exp" => options.validate_exp = false,
-        "nbf" => options.validate_nbf = false,
-        "sub" => options.sub = None,
-        "iss" => options.iss = None,
-        _ => options.validate_aud = false,
+/// Returns the failure of a rule that is broken, whose claim is then present.
+fn broken_failure(alloc: Global, rules: Rules<'_>, rule: Rule) -> Result<ClaimFailure, AllocError> {
+    let name = claim_of(rule);
+    if !has_value(rules.claims, name) {
+        return Ok(ClaimFailure {
+            kind: "InvalidClaimFormat",
+            finding: form_finding(alloc, rules, name)?,
+        });
+    }
+    Ok(ClaimFailure {
+        kind: kind_name(rule),
+        finding: rule_finding(alloc, rules, rule)?,
+    })
+}
+
+/// Returns the name of the kind of a rule's refusal, if its claim is well-formed.
+fn kind_name(rule: Rule) -> &'static str {
+    match rule {
+        Rule::ExpFormat | Rule::NbfFormat => "InvalidClaimFormat",
+        Rule::ExpReject => "InvalidToken",
+        Rule::ExpTime => "ExpiredSignature",
+        Rule::NbfTime => "ImmatureSignature",
+        Rule::Subject => "InvalidSubject",
+        Rule::Issuer => "InvalidIssuer",
+        Rule::Audience => "InvalidAudience",
     }
 }
 
-/// Returns the finding of a rule about claims, by the kind of its refusal.
-fn rule_finding(alloc: Global, rules: Rules<'_>, error: &Error) -> Result<Finding, AllocError> {
-    match error.kind() {
-        ErrorKind::MissingRequiredClaim(name) | ErrorKind::InvalidClaimFormat(name) => {
-            missing_claim_finding(alloc, rules, name.as_str())
-        }
-        ErrorKind::ExpiredSignature => end_finding(alloc, rules),
-        ErrorKind::ImmatureSignature => start_finding(alloc, rules),
-        ErrorKind::InvalidIssuer => Ok(Finding {
+/// Returns the finding of a rule that is broken.
+fn rule_finding(alloc: Global, rules: Rules<'_>, rule: Rule) -> Result<Finding, AllocError> {
+    match rule {
+        Rule::ExpFormat => form_finding(alloc, rules, "exp"),
+        Rule::NbfFormat => form_finding(alloc, rules, "nbf"),
+        Rule::ExpReject => least_end_finding(alloc, rules),
+        Rule::ExpTime => end_finding(alloc, rules),
+        Rule::NbfTime => start_finding(alloc, rules),
+        Rule::Subject => subject_finding(alloc, rules),
+        Rule::Issuer => Ok(Finding {
             found: found_texts(alloc, rules.claims, "iss")?,
             wanted: names_or_text(alloc, &rules.validation.iss, "an issuer that --iss names")?,
         }),
-        ErrorKind::InvalidAudience => Ok(Finding {
+        Rule::Audience => Ok(Finding {
             found: found_texts(alloc, rules.claims, "aud")?,
             wanted: names_or_text(
                 alloc,
@@ -145,16 +179,11 @@ fn rule_finding(alloc: Global, rules: Rules<'_>, error: &Error) -> Result<Findin
                 "no aud, or an audience that --aud names",
             )?,
         }),
-        ErrorKind::InvalidSubject => subject_finding(alloc, rules),
-        _ => least_end_finding(alloc, rules),
     }
 }
 
-fn missing_claim_finding(
-    alloc: Global,
-    rules: Rules<'_>,
-    name: &str,
-) -> Result<Finding, AllocError> {
+/// Returns the finding of a claim that is absent or malformed.
+fn form_finding(alloc: Global, rules: Rules<'_>, name: &str) -> Result<Finding, AllocError> {
     let wanted = match option_names(alloc, rules.validation, name)? {
         Some(names) => format!(in alloc; "{name} {names}")?,
         None => format!(in alloc; "{name}: {}", form_of(name))?,
@@ -353,4 +382,30 @@ fn least_end_finding(alloc: Global, rules: Rules<'_>) -> Result<Finding, AllocEr
         found: found_time(alloc, rules.claims, "exp", rules.time)?,
         wanted: format!(in alloc; "exp of at least {left} seconds since 1970 (--not-within)")?,
     })
+}
+
+/// Returns the lines about two claims that the package for Python treats otherwise than this
+/// command: a required `exp` that is absent, and an `iat`.
+pub fn python_lines(
+    alloc: Global,
+    claims: &Value,
+    validation: &Validation,
+    time: u64,
+) -> Result<String, AllocError> {
+    let mut lines = String::new(alloc);
+    if claims.get("exp").is_none() && validation.required_spec_claims.contains("exp") {
+        lines.push_str(
+            "exp: the package for Python accepts a token without it, unless its 'require' lists it\n",
+        )?;
+    }
+    match claims.get("iat") {
+        Some(iat) if !iat.is_number() => lines.push_str(
+            "iat: the package for Python refuses one that is not a number; no option checks it here\n",
+        )?,
+        Some(iat) if iat.as_u64().unwrap_or(0) > time => lines.push_str(
+            "iat: the package for Python refuses the token until then; no option checks it here\n",
+        )?,
+        _ => {}
+    }
+    Ok(lines)
 }

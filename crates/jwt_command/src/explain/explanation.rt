@@ -39,6 +39,17 @@ pub struct Explanation<'e> {
     pub strict: Option<ClaimFailure>,
 }
 
+/// How an explanation is written.
+#[derive(Clone, Copy)]
+pub enum ExplanationForm {
+    /// A line for each test, and the verdict.
+    Page,
+    /// The verdict, its cause and its cure.
+    Brief,
+    /// One line of JSON.
+    Json,
+}
+
 /// The word before the name of a test that fails.
 const FAILED: &str = "FAILED";
 
@@ -53,6 +64,18 @@ pub fn page(alloc: Global, explanation: &Explanation<'_>) -> Result<String, Allo
     page.push_str(explanation.times.as_str())?;
     let moments = moments_line(alloc, explanation.moments, explanation.time)?;
     page.push_str(moments.as_str())?;
+    page.push_str(last_line(alloc, explanation)?.as_str())?;
+    Ok(page)
+}
+
+/// Returns the verdict on a token, and its cause and its cure if it is refused.
+pub fn brief_page(alloc: Global, explanation: &Explanation<'_>) -> Result<String, AllocError> {
+    if let (Some(kind), Some(finding)) = (explanation.kind, first_finding(&explanation.outcome)) {
+        let found = finding.found.as_str();
+        let wanted = finding.wanted.as_str();
+        return format!(in alloc; "refused: {kind}\nfound:   {found}\nwanted:  {wanted}\n");
+    }
+    let mut page = moments_line(alloc, explanation.moments, explanation.time)?;
     page.push_str(last_line(alloc, explanation)?.as_str())?;
     Ok(page)
 }
@@ -190,7 +213,7 @@ fn last_line(alloc: Global, explanation: &Explanation<'_>) -> Result<String, All
 }
 
 /// Returns the finding that a token is refused for.
-fn first_finding(outcome: &Outcome) -> Option<&Finding> {
+pub fn first_finding(outcome: &Outcome) -> Option<&Finding> {
     match outcome {
         Outcome::Accepted => None,
         Outcome::Failed(_, findings) => findings.first(),

@@ -2,7 +2,7 @@
 
 use crate::explain::claim_findings::claim_findings;
 use crate::explain::part_findings::{
-    Parts, is_of_base64url, part_finding, split_parts, text_finding,
+    Parts, altered_finding, is_of_base64url, part_finding, split_parts, text_finding,
 };
 use crate::explain::signature_findings::length_finding;
 use crate::fault::{Fault, value_unless_refused};
@@ -165,16 +165,49 @@ fn signature_finding(
     if let Some(finding) = length_finding(alloc, case, parts)? {
         return Ok(finding);
     }
-    let wanted = if case.loaded.has_line_end {
-        "the secret that it was signed with: the file ends with a newline, which --trim leaves out"
-    } else {
-        "the key that the token was signed with, and the token as it was issued"
-    };
+    if let Some(finding) = altered_finding(alloc, parts.payload)? {
+        return Ok(finding);
+    }
     Finding::new(
         alloc,
         "a signature that does not match this header, payload and key",
-        wanted,
+        wanted_key(alloc, case)?,
     )
+}
+
+/// Returns what a signature that does not match asks for, which the keys tell.
+fn wanted_key(alloc: Global, case: Case<'_>) -> Result<&'static str, Fault<'static>> {
+    if case.loaded.has_line_end {
+        return Ok(
+            "the secret that it was signed with: the file ends with a newline, which --trim leaves out",
+        );
+    }
+    if is_named_twice(alloc, case)? {
+        return Ok(
+            "the key that the token was signed with, as the first of its kid: the set has another key of this kid, which is never tried",
+        );
+    }
+    Ok("the key that the token was signed with, and the token as it was issued")
+}
+
+/// Returns whether several keys of a set have the `kid` of the token.
+fn is_named_twice(alloc: Global, case: Case<'_>) -> Result<bool, Fault<'static>> {
+    let Keys::Set(set) = &case.loaded.keys else {
+        return Ok(false);
+    };
+    match value_unless_refused(decode_header(alloc, case.token))? {
+        Some(header) => {
+            let count = set
+                .keys
+                .iter()
+                .filter(|jwk| jwk.common.key_id == header.kid)
+                .count();
+            // dropped at one place: each exit by `?` would have to be proved to drop every field
+            drop(header);
+            Ok(count > 1)
+        }
+        None => Ok(false),
+    }
 }
 
 fn finding_by_header(
@@ -208,7 +241,7 @@ fn header_finding(
         Test::KeyAlgorithmAgrees => algorithm_finding(
             alloc,
             header,
-            key_algorithm_name(header, &case.loaded.keys),
+            wanted_algorithm(key_algorithm_name(header, &case.loaded.keys)),
         ),
         Test::AlgorithmIsListed => listing_finding(alloc, header, validation),
         Test::FamiliesAgree => family_finding(alloc, header, validation),
@@ -285,6 +318,16 @@ fn key_algorithm_name(header: &Header, keys: &Keys) -> &'static str {
             None => "none",
         },
         None => "none",
+    }
+}
+
+/// Returns what the algorithm of a key asks for, by its name.
+fn wanted_algorithm(name: &'static str) -> &'static str {
+    match name {
+        "RSA1_5" | "RSA-OAEP" | "RSA-OAEP-256" => {
+            "another key: the key of this kid is for encryption, and verifies no token"
+        }
+        _ => name,
     }
 }
 

@@ -42,18 +42,45 @@ pub fn text_finding(alloc: Global, token: &[u8]) -> Result<Finding, Fault<'stati
             "a token: the file or the variable that it was taken from is empty",
         );
     }
-    if token.contains(&b'.') {
+    let has_dot = token.contains(&b'.');
+    if begins_with_header(alloc, token)? {
+        let found = if has_dot {
+            "a text with one dot: the token is cut"
+        } else {
+            "a header alone: the token is cut"
+        };
         return Finding::new(
             alloc,
-            "a text with one dot: the token is cut",
+            found,
             "the whole token: header, payload and signature with dots between them",
         );
     }
+    let found = if has_dot {
+        "a text with one dot, whose first part is no header: an opaque token, or not a token"
+    } else {
+        "a text without a dot: an opaque token, or not a token"
+    };
     Finding::new(
         alloc,
-        "a text without a dot: an opaque token, or not a token",
+        found,
         "header, payload and signature with dots between them; its issuer knows an opaque token (RFC 7662)",
     )
+}
+
+/// Returns whether the text before the first dot is a JSON object in base64url.
+fn begins_with_header(alloc: Global, token: &[u8]) -> Result<bool, Fault<'static>> {
+    let Some(front) = token.split(|byte| *byte == b'.').next() else {
+        return Ok(false);
+    };
+    match part_value(alloc, front)? {
+        Some(value) => {
+            let is_object = value.as_object().is_some();
+            // dropped at one place: each exit by `?` would have to be proved to drop every field
+            drop(value);
+            Ok(is_object)
+        }
+        None => Ok(false),
+    }
 }
 
 /// Returns whether a byte is a character of base64url.
@@ -104,6 +131,21 @@ pub fn unread_finding(alloc: Global, token: &[u8]) -> Result<Finding, Fault<'sta
         None => Test::PayloadIsPart,
     };
     part_finding(alloc, token, parts.payload, test)
+}
+
+/// Returns the finding of a payload that is no base64url, so that no signature was made over it.
+pub fn altered_finding(alloc: Global, payload: &[u8]) -> Result<Option<Finding>, Fault<'static>> {
+    if !is_refused(part_bytes(alloc, payload))? {
+        return Ok(None);
+    }
+    let problem = base64url_problem(alloc, payload)?;
+    Ok(Some(Finding {
+        found: format!(in alloc; "a signature that does not match, and in the payload {problem}")?,
+        wanted: String::from_str(
+            alloc,
+            "the token as it was issued: a mail, a terminal or an editor may have changed it",
+        )?,
+    }))
 }
 
 fn found_text(alloc: Global, part: &[u8], test: Test) -> Result<String, Fault<'static>> {

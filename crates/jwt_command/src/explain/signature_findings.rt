@@ -150,12 +150,21 @@ fn found_length(alloc: Global, lengths: Lengths) -> Result<String, AllocError> {
     )
 }
 
+/// Returns whether keys of the same family make signatures of this length.
+fn is_of_other_size(lengths: Lengths) -> bool {
+    match lengths.algorithm.family() {
+        AlgorithmFamily::Rsa => lengths.found >= RSA_LEAST && lengths.found % RSA_STEP == 0,
+        // P-256, P-384 and P-521 (RFC 7518 section 3.4)
+        AlgorithmFamily::Ec => matches!(lengths.found, 64 | 96 | 132),
+        _ => false,
+    }
+}
+
 /// Returns why a signature has another length than the key makes.
 fn length_reason(lengths: Lengths) -> &'static str {
-    let is_of_rsa = matches!(lengths.algorithm.family(), AlgorithmFamily::Rsa);
     if lengths.found == 0 {
         "the token is not signed, or cut"
-    } else if is_of_rsa && lengths.found >= RSA_LEAST && lengths.found % RSA_STEP == 0 {
+    } else if is_of_other_size(lengths) {
         "it is from a key of another size"
     } else if lengths.found < lengths.made {
         "the token is cut"

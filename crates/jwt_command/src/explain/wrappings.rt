@@ -157,9 +157,9 @@ pub fn wrapping_of(text: &[u8]) -> Option<Wrapping> {
     }
 }
 
-/// Returns whether a text has the five parts of an encrypted token.
+/// Returns whether a text has the five parts of an encrypted token, and was not shortened.
 pub fn is_encrypted(text: &[u8]) -> bool {
-    part_count(text) == 5
+    part_count(text) == 5 && !is_shortened(text)
 }
 
 /// Returns the number of parts of a text, between dots.
@@ -206,7 +206,7 @@ fn inner_wrapping(text: &[u8]) -> Option<Wrapping> {
     if is_shortened(text) {
         return Some(SHORTENED);
     }
-    if part_count(text) == 5 {
+    if is_encrypted(text) {
         return Some(ENCRYPTED);
     }
     None

@@ -22,8 +22,21 @@ pub fn key_problem(bytes: &[u8], plain: &'static str) -> &'static str {
 pub fn set_problem(bytes: &[u8]) -> &'static str {
     if is_key(bytes) {
         "this is one JSON Web Key, not a set; --jwk reads one, and {\"keys\": [KEY]} is a set of one"
+    } else if is_object(bytes) {
+        object_problem(bytes)
     } else {
         text_problem(bytes, "this is not a set of JSON Web Keys")
+    }
+}
+
+/// Returns the likely problem of a JSON object that is not a set of JSON Web Keys.
+fn object_problem(bytes: &[u8]) -> &'static str {
+    if has_member(bytes, b"\"jwks_uri\"") {
+        "this is the configuration of an issuer; its 'jwks_uri' is the address of the keys"
+    } else if is_certificate(bytes) {
+        "this is a JSON object of certificates; the issuer has its JSON Web Keys at another address"
+    } else {
+        "this is not a set of JSON Web Keys"
     }
 }
 
@@ -60,9 +73,13 @@ fn has_member(text: &[u8], quoted: &[u8]) -> bool {
     behind.copied().find(|byte| !byte.is_ascii_whitespace()) == Some(b':')
 }
 
-/// Returns the likely problem of a file in PEM or of SSH if JSON is wanted, or `plain`.
+/// Returns the likely problem of a file that is no JSON if JSON is wanted, or `plain`.
 fn text_problem(bytes: &[u8], plain: &'static str) -> &'static str {
-    if is_certificate(bytes) {
+    if bytes.trim_ascii().is_empty() {
+        "the file is empty"
+    } else if bytes.trim_ascii_start().starts_with(b"<") {
+        "this is HTML or XML, as a server writes about an error"
+    } else if is_certificate(bytes) {
         CERTIFICATE
     } else if memmem::find(bytes, b"-----BEGIN ").is_some() {
         "this is PEM, not JSON; --pem reads a public key in PEM, and 'jwt jwk' prints it as JSON"

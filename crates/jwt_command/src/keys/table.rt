@@ -5,6 +5,7 @@ ghost use Rattle.std.specs.Prelude.{◌≡◌, IfOk};
 use crate::answer::Answer;
 use crate::fault::{Fault, fault_of, value_unless_refused};
 use crate::keys::hints::set_problem;
+use crate::show::escapes::is_unseen;
 use jsonwebtoken::crypto::CryptoProvider;
 use jsonwebtoken::jwk::{
     AlgorithmParameters, EllipticCurve, Jwk, JwkSet, PublicKeyUse, ThumbprintHash,
@@ -91,9 +92,9 @@ fn kid_text(alloc: Global, jwk: &Jwk) -> Result<String, AllocError> {
     }
 }
 
-/// Returns a text as it can be shown: with its control characters escaped.
+/// Returns a text as it can be shown: in quotes, with escapes, if a character is not seen.
 fn printable_text(alloc: Global, text: &str) -> Result<String, AllocError> {
-    if text.chars().any(char::is_control) {
+    if text.chars().any(is_unseen) {
         return format!(in alloc; "{text:?}");
     }
     String::from_str(alloc, text)

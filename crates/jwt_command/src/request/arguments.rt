@@ -43,6 +43,20 @@ const TOKEN: Entry = Entry {
     help: "The token; '-', or none, reads it from standard input",
 };
 
+const TRIM: Entry = Entry {
+    name: "trim",
+    shape: Shape::Flag,
+    value: "",
+    help: "Leave one newline at the end of the secret file out of the secret",
+};
+
+const ALLOW_KEY: Entry = Entry {
+    name: "allow-key-as-secret",
+    shape: Shape::Flag,
+    value: "",
+    help: "Accept a secret that is the text of a key, for tests: anyone can sign with a public key",
+};
+
 /// Returns the command with all that it takes.
 pub fn command<'a>(alloc: Global) -> Result<Command<'a>, AllocError> {
     let command = Command::new(alloc, "jwt")
@@ -63,7 +77,12 @@ fn explain_command<'a>(alloc: Global) -> Result<Command<'a>, AllocError> {
     let command = Command::new(alloc, "explain").about(
         "Explain each test of a token, and when it is accepted",
     );
-    add_checks(alloc, command)
+    let command = add_checks(alloc, command)?;
+    add_entries(
+        alloc,
+        command,
+        &[flag("brief", "Write the verdict, its cause and its cure alone")],
+    )
 }
 
 fn add_checks<'a>(alloc: Global, command: Command<'a>) -> Result<Command<'a>, AllocError> {
@@ -119,7 +138,7 @@ fn add_keys<'a>(alloc: Global, command: Command<'a>) -> Result<Command<'a>, Allo
     command.group(key_group(alloc)?)
 }
 
-fn key_entries() -> [Entry; 5] {
+fn key_entries() -> [Entry; 6] {
     [
         option(
             "secret-file",
@@ -137,10 +156,8 @@ fn key_entries() -> [Entry; 5] {
             "FILE",
             "Verify with this public key in PEM (RFC 7468)",
         ),
-        flag(
-            "trim",
-            "Leave one newline at the end of the secret file out of the secret",
-        ),
+        TRIM,
+        ALLOW_KEY,
     ]
 }
 
@@ -279,17 +296,15 @@ fn sign_command<'a>(alloc: Global) -> Result<Command<'a>, AllocError> {
     add_entries(alloc, command, &sign_entries())
 }
 
-fn sign_entries() -> [Entry; 10] {
+fn sign_entries() -> [Entry; 11] {
     [
         needed_option(
             "secret-file",
             "FILE",
             "Sign with HMAC and the bytes of this file as the secret",
         ),
-        flag(
-            "trim",
-            "Leave one newline at the end of the secret file out of the secret",
-        ),
+        TRIM,
+        ALLOW_KEY,
         option(
             "claims",
             "FILE",

@@ -11,28 +11,45 @@ ghost use Rattle.jwt_command.specs.Commands.{IsLineStatus, IsLinesStatus};
 use crate::answer::Answer;
 use crate::clock::current_time;
 use crate::fault::Fault;
-use crate::files::strip_line_end;
+use crate::files::{input_fault, strip_line_end};
 use crate::keys::LoadedKeys;
 use crate::request::Verification;
 use crate::verify::case::Case;
 use crate::verify::{OutputForm, verify_answer};
 use jsonwebtoken::Validation;
+use jwt_verifier::TOKEN_LIMIT;
 use memchr::memchr;
 use std::alloc::Global;
 use std::io::{self, BufRead, BufReader, BufWriter, ErrorKind, Write};
 use std::rt::Clock;
 
+/// The fault of a line that is too long to be a token.
+const LONG_LINE: &str =
+    "a line of standard input is longer than 1 MiB, the greatest length of a token";
+
+/// The number of the tokens that were answered, and their status.
+#[derive(Clone, Copy)]
+pub struct Tally {
+    /// The status: 0 if every token is accepted, and else the greatest of the tokens' statuses.
+    pub status: u8,
+    /// The number of tokens that are accepted.
+    pub accepted: u64,
+    /// The number of tokens that are refused.
+    pub refused: u64,
+}
+
 /// Answers each line of standard input, which is a token, by a line of JSON on standard output. The
-/// answers that are there are written before the program waits for more input. Returns the status:
-/// 0 if every token is accepted, and else the greatest of the tokens' statuses. That each line is
-/// judged, the contract can't say: no contract of the kit says what standard input holds.
+/// answers that are there are written before the program waits for more input. Returns the status
+/// of the tokens and their number. That each line is judged, the contract can't say: no contract of
+/// the kit says what standard input holds.
 pub fn answer_lines<R: Input + Print + Clock + AllocGlobal>(
     rt: &R,
     request: &Verification<'_, '_>,
     loaded: &LoadedKeys,
     validation: &mut Validation,
-) -> Result<u8, Fault<'static>>
-    ensures { IfOk result (IsLinesStatus request.entry.now loaded.now (options_of validation.old)) }
+) -> Result<Tally, Fault<'static>>
+    ensures { IfOk result (λ tally.
+        IsLinesStatus request.entry.now loaded.now (options_of validation.old) tally.status) }
 {
     let Ok(mut reader) = BufReader::new(rt.alloc(), rt.reader()) else {
         return Err(Fault::Memory);
@@ -42,6 +59,8 @@ pub fn answer_lines<R: Input + Print + Clock + AllocGlobal>(
     };
     let mut line = Vec::new(rt.alloc());
     let mut status = 0;
+    let mut tokens = 0u64;
+    let mut refused = 0u64;
     for _ in 0..u64::MAX {
         if reader.buffer().is_empty() {
             flush(&mut writer)?;
@@ -52,9 +71,15 @@ pub fn answer_lines<R: Input + Print + Clock + AllocGlobal>(
         let answer = line_answer(rt, request, loaded, validation, &line)?;
         write(&mut writer, answer.output.as_str())?;
         status = u8::max(answer.status, status);
+        tokens = tokens.saturating_add(1);
+        refused = refused.saturating_add(u64::from(answer.status));
     }
     flush(&mut writer)?;
-    Ok(status)
+    Ok(Tally {
+        status,
+        accepted: tokens.saturating_sub(refused),
+        refused,
+    })
 }
 
 fn flush<W: Write>(writer: &mut W) -> Result<(), Fault<'static>> {
@@ -81,8 +106,7 @@ fn read_part<R: BufRead>(reader: &mut R, line: &mut Vec<u8>) -> Result<bool, Fau
     let buffer = match reader.fill_buf() {
         Ok(buffer) => buffer,
         Err(error) if error.kind() == ErrorKind::Interrupted => return Ok(false),
-        Err(error) if error.kind() == ErrorKind::OutOfMemory => return Err(Fault::Memory),
-        Err(_) => return Err(Fault::Input),
+        Err(error) => return Err(input_fault(&error)),
     };
     let (count, has_ended) = match memchr(b'\n', buffer) {
         Some(place) => (place + 1, true),
@@ -90,6 +114,9 @@ fn read_part<R: BufRead>(reader: &mut R, line: &mut Vec<u8>) -> Result<bool, Fau
     };
     line.extend_from_slice(&buffer[..count])?;
     reader.consume(count);
+    if line.len() > TOKEN_LIMIT {
+        return Err(Fault::Input(LONG_LINE));
+    }
     Ok(has_ended)
 }
 
@@ -114,7 +141,7 @@ fn line_answer<R: Clock + AllocGlobal>(
         typ: request.typ,
         time,
     };
-    let answer = verify_answer(rt.alloc(), case, validation, OutputForm::Json)?;
+    let answer = verify_answer(rt.alloc(), case, validation, OutputForm::Line)?;
     forget_own(validation, is_own);
     Ok(answer)
 }

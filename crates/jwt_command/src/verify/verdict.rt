@@ -1,14 +1,15 @@
 //! Whether a token is accepted.
 
 ghost use Rattle.std.specs.Prelude.{◌≡◌, ◌⊎◌, ◌↔◌, IsTrue, OnOk, IfOk, IfErr, IsErrAnd, IfSome};
-ghost use Rattle.std.specs.Prelude.{IfNone, option_map};
+ghost use Rattle.std.specs.Prelude.{IfNone, Option, option_map};
 ghost use Rattle.serde_json.specs.View.{view};
 ghost use Rattle.jwt_base.specs.KindOf.{IsMemory};
 ghost use Rattle.jwt_validation.specs.OptionsOf.{options_of};
 ghost use Rattle.jsonwebtoken.specs.Calls.{Carries};
-ghost use Rattle.jsonwebtoken.specs.Own.{listed};
+ghost use Rattle.jsonwebtoken.specs.Own.{IsNamedBy, listed};
 ghost use Rattle.jsonwebtoken.specs.Refused.{DecidesByTest};
-ghost use Rattle.jsonwebtoken.specs.Tests.{Contents, decode_order, token_tests};
+ghost use Rattle.jsonwebtoken.specs.Tests.{Contents, decode_order, set_order, token_tests};
+ghost use Rattle.jwt_base.specs.declared.algorithms.Algorithm.{Algorithm as AlgorithmValue};
 ghost use Rattle.jwt_command.specs.Accepted.{checking, order_of, HasType, IsAccepted, IsDenied};
 ghost use Rattle.jwt_command.specs.Commands.{IsSettled};
 ghost use Rattle.jwt_command.specs.Own.{IsOwn};
@@ -16,6 +17,7 @@ ghost use Rattle.jwt_command.specs.Own.{IsOwn};
 use crate::fault::{Fault, is_memory};
 use crate::verify::case::Case;
 use jsonwebtoken::errors::Error;
+use jsonwebtoken::jwk::JwkSet;
 use jsonwebtoken::{
     Algorithm, DecodingKey, Header, Refusal, Test, TokenData, Validation, decode_or_refusal,
     decode_with_set_by_own_algorithm, decode_with_set_or_refusal,
@@ -121,12 +123,41 @@ fn decode_by_own(
     ensures rest { options_of validation.new ≡ record (options_of validation.old)
         { algorithms = validation.new.algorithms.items } }
 {
-    let provider = &case.loaded.provider;
-    let token = case.token;
     match &case.loaded.keys {
         Keys::One(key) => decode_by_own_key(alloc, case, key, validation),
-        Keys::Set(set) => {
-            decode_with_set_by_own_algorithm(alloc, &provider, token, set, validation, case.time)
+        Keys::Set(set) => decode_by_own_of_set(alloc, case, set, validation),
+    }
+}
+
+/// Returns header and claims of a token that passes each test of `decode_with_set`, by the
+/// algorithm that its key is for, which stays listed.
+fn decode_by_own_of_set(
+    alloc: Global,
+    case: Case<'_>,
+    set: &JwkSet,
+    validation: &mut Validation,
+) -> Result<TokenData<Value>, Refusal>
+    ensures decided { let options = options_of validation.new in
+        let call = checking case.entry.token.now (Keys.Set set.now) options case.entry.time in
+        IsErrAnd result (λ refusal. IsMemory refusal.error)
+        ⊎ ((own : Option AlgorithmValue) × IsNamedBy set.now.keys.items case.entry.token.now own
+        × (validation.new.algorithms.items ≡ listed own)
+        × DecidesByTest (token_tests call) set_order (Carries call) result) }
+    ensures rest { options_of validation.new ≡ record (options_of validation.old)
+        { algorithms = validation.new.algorithms.items } }
+{
+    let provider = &case.loaded.provider;
+    let (own, decoded) = decode_with_set_by_own_algorithm(
+        alloc, &provider, case.token, set, validation, case.time,
+    );
+    match list_own(validation, own) {
+        Ok(()) => decoded,
+        Err(error) => {
+            drop(decoded);
+            Err(Refusal {
+                test: Test::HeaderReads,
+                error,
+            })
         }
     }
 }

@@ -7,4 +7,4 @@ returns-in-One-clause-decided c = rw c.in-One.is (⊎_elim (λ m. inl m)
 
 pub returns-in-Set-clause-decided : goal.returns-in-Set-clause-decided
 returns-in-Set-clause-decided c = rw c.in-Set.is (⊎_elim (λ m. inl m)
-    (λ d. inr ((d.0, d.1, d.2), d.3)) c.decode_with_set_by_own_algorithm.ensures.decided)
+    (λ d. inr ((d.0, d.1, d.2), d.3)) c.decode_by_own_of_set.ensures.decided)
