@@ -4,6 +4,7 @@ ghost use Rattle.std.specs.Prelude.{◌≡◌, ◌<◌, ◌≤◌, ◌%◌, IfOk
 
 use crate::points::{is_joint_multiple, is_multiple, right_sums};
 use crate::row::{Fault, Row};
+use crate::signatures::is_signature;
 use modular::{Modulus, Natural, limb_from_octets};
 use serde_json::Value;
 use std::alloc::{AllocError, Global};
@@ -28,6 +29,7 @@ pub fn answer(row: Row<'_>) -> Result<Value, Fault> {
         "right_sums" => right_sums(row),
         "is_multiple" => is_multiple(row),
         "is_joint_multiple" => is_joint_multiple(row),
+        "is_signature" => is_signature(row),
         _ => Err(Fault::Call),
     }
 }

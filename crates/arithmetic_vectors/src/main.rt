@@ -1,9 +1,9 @@
-//! Makes the calls of rows of test vectors about numbers (crate `modular`) and points (crates
-//! `weierstrass`, `weierstrass_group`, `ecdsa` and `ed25519`), and compares each result with the
-//! one that the row wants.
+//! Makes the calls of rows of test vectors about numbers (crate `modular`), points (crates
+//! `weierstrass`, `weierstrass_group`, `ecdsa` and `ed25519`) and signatures (the latter two), and
+//! compares each result with the one that the row wants.
 //!
 //! The program reads the files `*.jsonl` of the folder that it runs in, which the programs of
-//! `tools/rows` write. A row is one line of JSON with the members `id`, `call`, those of the call's
+//! `tools/rows` write, but for that of signatures. A row is one line of JSON with the members `id`, `call`, those of the call's
 //! inputs, `want`, and `from`, the source of the result that is wanted. A row that differs is
 //! printed, and the last line counts.
 
@@ -17,6 +17,7 @@ mod joint;
 mod joint_edwards;
 mod points;
 mod row;
+mod signatures;
 
 use row::{Fault, Row};
 use serde_json::Value;

@@ -18,6 +18,9 @@ pub enum Fault {
     /// A member is missing, malformed, or out of the call's range.
     #[error("the member {0} is missing, malformed, or out of range")]
     Member(&'static str),
+    /// A signature has one verdict by the key's bytes, and another by the prepared key.
+    #[error("the verdict by the prepared key is another")]
+    Verdicts,
     /// A member is not one of those that the call takes.
     #[error("a member that the call does not take")]
     Unknown,

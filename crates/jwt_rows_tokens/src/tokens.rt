@@ -52,10 +52,10 @@ pub fn check_by_key<P: CryptoProvider>(call: &str, row: &Row<'_>, provider: &P) 
 
 /// Makes a call that verifies a token with the key of a set.
 pub fn check_by_set<P: CryptoProvider>(call: &str, row: &Row<'_>, provider: &P) -> Answer {
-    let mut given = with_set(row)?;
+    let given = with_set(row)?;
     let time = row.number("now")?;
+    let (token, set, options) = (given.token.as_slice(), &*given.set, &*given.options);
     let a = row.begin();
-    let (token, set, options) = (given.token.as_slice(), &mut *given.set, &mut *given.options);
     match call {
         "decode_with_set" => {
             row.end(decode_with_set::<P, Value>(a, provider, token, set, options, time))
@@ -63,9 +63,12 @@ pub fn check_by_set<P: CryptoProvider>(call: &str, row: &Row<'_>, provider: &P) 
         "decode_with_set_or_refusal" => {
             row.end(decode_with_set_or_refusal::<P, Value>(a, provider, token, set, options, time))
         }
-        "decode_with_set_by_own_algorithm" => row.end(decode_with_set_by_own_algorithm::<P, Value>(
-            a, provider, token, set, options, time,
-        )),
+        "decode_with_set_by_own_algorithm" => {
+            let (_, decoded) = decode_with_set_by_own_algorithm::<P, Value>(
+                a, provider, token, set, options, time,
+            );
+            row.end(decoded)
+        }
         _ => row.end(failed_test_with_set::<P, Value>(a, provider, token, set, options, time)),
     }
 }

@@ -44,6 +44,7 @@ pub fn family(method: &str, row: &Row<'_>) -> Answer {
             row.end(AlgorithmFamily::from_value(value))
         }
         "eq" => eq::<AlgorithmFamily>(row),
+        "debug" => debug::<AlgorithmFamily>(row, "family"),
         _ => of_family(method, row),
     }
 }
@@ -68,6 +69,7 @@ pub fn key_algorithm(method: &str, row: &Row<'_>) -> Answer {
         }
         "eq" => eq::<KeyAlgorithm>(row),
         "hash" => hash::<KeyAlgorithm>(row),
+        "debug" => debug::<KeyAlgorithm>(row, "key_algorithm"),
         _ => of_key_algorithm(method, row),
     }
 }

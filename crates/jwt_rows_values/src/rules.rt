@@ -1,5 +1,7 @@
 //! The claim rules (RFC 7519 section 4.1), and the time that a clock tells.
 
+use jsonwebtoken::errors::ErrorKind;
+use jsonwebtoken::options::broken_rules;
 use jsonwebtoken::{Clock, Validation, claimed_moments, get_current_timestamp, validate};
 use jwt_rows::{Answer, Row};
 
@@ -25,13 +27,27 @@ pub fn claims_are_valid(row: &Row<'_>) -> Answer {
     row.end(validate(row.begin(), &claims, &options, time))
 }
 
-/// Returns the name of the kind with which `validate` refuses.
-pub fn name_of_refusal(row: &Row<'_>) -> Answer {
+/// Returns whether `validate` refuses with `MissingRequiredClaim` of one of the claims at `among`.
+pub fn names_missing(row: &Row<'_>) -> Answer {
     let claims = row.json("claims", "claims_json")?;
     let options = row.input::<Validation>("validation")?;
     let time = row.number("now")?;
+    let among = row.value("among")?.as_array()?;
     let refusal = validate(row.alloc(), &claims, &options, time).err()?;
-    row.give(&refusal.kind().name())
+    row.give(&match refusal.kind() {
+        ErrorKind::MissingRequiredClaim(name) => {
+            among.iter().any(|one| one.as_str() == Some(name.as_str()))
+        }
+        _ => false,
+    })
+}
+
+/// Calls `broken_rules`.
+pub fn broken(row: &Row<'_>) -> Answer {
+    let claims = row.json("claims", "claims_json")?;
+    let options = row.input::<Validation>("validation")?;
+    let time = row.number("now")?;
+    row.end(broken_rules(row.begin(), &claims, &options, time))
 }
 
 /// Calls `claimed_moments`.

@@ -1,9 +1,9 @@
-//! Errors: the name of the kind, and after it in parentheses the string that the kind holds.
+//! Errors: the name of the kind, and after it in parentheses the string that the kind holds. Rules.
 
 use crate::answer::{Answer, object, pair, string};
-use crate::output::{Output, Refuse};
+use crate::output::{List, Output, Refuse};
 use jsonwebtoken::errors::{Error, ErrorKind};
-use jsonwebtoken::options::OptionsFault;
+use jsonwebtoken::options::{OptionsFault, Rule};
 use jsonwebtoken::{Refusal, Test};
 use serde_json::Value;
 use std::alloc::{AllocError, Global};
@@ -36,6 +36,19 @@ impl Output for OptionsFault<'_> {
     fn show(&self, alloc: Global) -> Answer {
         let text = format!(in alloc; "{self:?}");
         Some(Value::String(text.ok()?))
+    }
+}
+
+impl Output for Rule {
+    fn show(&self, alloc: Global) -> Answer {
+        let text = format!(in alloc; "{self:?}");
+        Some(Value::String(text.ok()?))
+    }
+}
+
+impl Output for Vec<Rule> {
+    fn show(&self, alloc: Global) -> Answer {
+        List(self.as_slice()).show(alloc)
     }
 }
 
