@@ -52,7 +52,7 @@ results = [
     answer("EdDSA", EDWARDS.sign, EDWARDS) == CLAIMS,
     # DER instead of the two numbers, and claims that are not issued
     answer("ES256", in_der, CURVE).startswith("signature is not"),
-    answer("ES256", by_curve, CURVE, {"exp": 2532524891, "weight": 1.5}).startswith("payload has a number"),
+    answer("ES256", by_curve, CURVE, {"exp": 2532524891, "weight": 1.5}).startswith("payload['weight'] is 1.5"),
     "that of another payload" in exchanged(),
 ]
 print(f"{sum(results)} tokens signed by cryptography from Python, {results.count(False)} failed")

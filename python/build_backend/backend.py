@@ -60,6 +60,7 @@ def _fast():
 
 
 def _metadata(project):
+    extras = project["optional-dependencies"]
     lines = [
         "Metadata-Version: 2.1",
         f"Name: {project['name']}",
@@ -68,6 +69,8 @@ def _metadata(project):
         f"Requires-Python: {project['requires-python']}",
         f"License: {project['license']['text']}",
         *(f"Classifier: {it}" for it in project["classifiers"]),
+        *(f"Provides-Extra: {it}" for it in extras),
+        *(f'Requires-Dist: {it}; extra == "{name}"' for name, packages in extras.items() for it in packages),
         "Description-Content-Type: text/markdown",
     ]
     return "\n".join(lines).encode() + b"\n\n" + _read(f"{HERE}/{project['readme']}")

@@ -1,4 +1,6 @@
 """JSON Web Tokens (RFC 7519), verified by a library whose contracts are proved, under the names of PyJWT."""
+from typing import TYPE_CHECKING, Any
+
 from . import api_jwk, api_jwt, jwks_client
 from ._api import PyJWT, decode, decode_complete, encode, get_unverified_header
 from ._client import PyJWKClient
@@ -22,10 +24,12 @@ from .exceptions import (
     InvalidAudienceError,
     InvalidIssuedAtError,
     InvalidIssuerError,
+    InvalidJTIError,
     InvalidKeyError,
     InvalidSignatureError,
     InvalidSubjectError,
     InvalidTokenError,
+    MissingCryptographyError,
     MissingRequiredClaimError,
     PyJWKClientConnectionError,
     PyJWKClientError,
@@ -35,7 +39,26 @@ from .exceptions import (
     UnknownKeyError,
 )
 
+if TYPE_CHECKING:
+    from . import algorithms, api_jws, types, utils, warnings
+    from .api_jws import PyJWS, get_algorithm_by_name, register_algorithm, unregister_algorithm
+
 __version__ = "0.1.0"
+
+# what loads cryptography, or what most programs do not use, is loaded when it is asked for
+_MODULES = ("algorithms", "api_jws", "types", "utils", "warnings")
+_OF_API_JWS = ("PyJWS", "get_algorithm_by_name", "register_algorithm", "unregister_algorithm")
+
+
+def __getattr__(name: str) -> Any:
+    import importlib
+
+    if name in _MODULES:
+        return importlib.import_module(f"{__name__}.{name}")
+    if name in _OF_API_JWS:
+        return getattr(importlib.import_module(f"{__name__}.api_jws"), name)
+    raise AttributeError(f"module {__name__!r} has no attribute {name!r}")
+
 
 __all__ = [
     "ClockError",
@@ -46,10 +69,12 @@ __all__ = [
     "InvalidAudienceError",
     "InvalidIssuedAtError",
     "InvalidIssuerError",
+    "InvalidJTIError",
     "InvalidKeyError",
     "InvalidSignatureError",
     "InvalidSubjectError",
     "InvalidTokenError",
+    "MissingCryptographyError",
     "MissingRequiredClaimError",
     "PyJWK",
     "PyJWKClient",
@@ -58,6 +83,7 @@ __all__ = [
     "PyJWKError",
     "PyJWKSet",
     "PyJWKSetError",
+    "PyJWS",
     "PyJWT",
     "PyJWTError",
     "SignedPart",
@@ -70,8 +96,11 @@ __all__ = [
     "ecdsa_signature",
     "encode",
     "encode_by_signature",
+    "get_algorithm_by_name",
     "get_unverified_header",
+    "register_algorithm",
     "signed_part",
     "signing_input",
     "thumbprint",
+    "unregister_algorithm",
 ]

@@ -1,29 +1,34 @@
 """`encode`, `decode` and their like, by PyJWT's names."""
 import functools
 import json
+import warnings
 from collections.abc import Mapping
 from typing import Any
 
-from . import _refusals
+from . import _refusals, _signing
 from ._encoding import header_of, members_of, payload_of, unsignable, written
-from ._keys import Key, material_of, secret_of
+from ._keys import Key, PyJWK, SigningKey, material_of, secret_of
 from ._library import ALGORITHMS, Refusal, answer, library, slices
-from ._rules import DEFAULTS, Moment, Names, Rules, options_of, rules_of
+from ._parts import parts_of
+from ._rules import DEFAULTS, Moment, Names, Rules, options_of, plain, rules_of, warn_of
 from ._signatures import claims_by_verdict, signed_part
 from ._status import Status
-from ._verifier import Checker, Token, checker_of, complete, moment_of, token_of
-from .exceptions import DecodeError
+from ._verifier import Checker, Refuser, Token, checker_of, complete, moment_of, token_of
+from .exceptions import DecodeError, InvalidKeyError
+from .types import Listed, Options
 
 # Of these types, arguments that are equal are the same. One of a subclass may be equal to another.
 _PLAIN = {str, int, type(None)}
 # The most checkers that an object finds without reading the arguments again: PyJWT's interface has no object that is made once.
 _MOST = 64
+# the text of {"alg":"HS256"}
+_HEADER_OF_NONE = b"eyJhbGciOiJIUzI1NiJ9"
 
 
 def _plain_call(
-    key: Key,
-    algorithms: Names,
-    options: dict[str, Any] | None,
+    key: Any,
+    algorithms: Any,
+    options: Options | None,
     audience: Names,
     issuer: Names,
     subject: str | None,
@@ -37,10 +42,29 @@ def _plain_call(
     return (type(key), key, *asked) if _PLAIN.issuperset(map(type, asked)) else None
 
 
-def _checker(key: Key, rules: Rules) -> Checker:
+def _checker(key: Key, rules: Rules) -> Checker | Refuser:
     if not rules.algorithms:
         raise DecodeError('It is required that you pass in a value for the "algorithms" argument when calling decode().')
-    return checker_of(material_of(key), rules)
+    try:
+        return checker_of(material_of(key), rules)
+    except InvalidKeyError:
+        # a JSON Web Key of its own serves some algorithm, and is chosen by the kid of whoever sent the token
+        if isinstance(key, PyJWK):
+            return Refuser(key._material, rules)
+        raise
+
+
+def _check_unused(call: str, kwargs: dict[str, Any], verify: Any, detached_payload: Any, options: Any) -> None:
+    """Warns of what PyJWT warns of. Raises an exception for what would be a condition by another name."""
+    for name in kwargs:
+        if name in ("aud", "iss", "sub", "algorithm", "nonce", "now"):
+            raise TypeError(f"{call}() got an unexpected keyword argument {name!r}")
+    if detached_payload is not None:
+        raise NotImplementedError("detached_payload is for PyJWS.decode: the claims of a token are in it")
+    warn_of(call, kwargs, 4)
+    if verify is not None and verify != (options or {}).get("verify_signature", True):
+        text = "The `verify` argument to `decode` does nothing in PyJWT 2.0 and newer: `verify_signature` in `options` does"
+        warnings.warn(text, DeprecationWarning, stacklevel=3)
 
 
 @functools.cache
@@ -58,33 +82,38 @@ def _signs(algorithm: str) -> bool:
 class PyJWT:
     """Issues and verifies tokens under options of its own, which each call may change."""
 
-    def __init__(self, options: dict[str, Any] | None = None) -> None:
-        self._own = options_of(options)
-        self._kept: dict[tuple[Any, ...], Checker] = {}
+    def __init__(self, options: Options | None = None) -> None:
+        self._own = options_of(options, drops=True)
+        self._kept: dict[tuple[Any, ...], Checker | Refuser] = {}
         self.options = {**DEFAULTS, **self._own, "require": list(self._own.get("require", ()))}
 
     def decode(
         self,
         jwt: Token,
         key: Key = "",
-        algorithms: Names = None,
-        options: dict[str, Any] | None = None,
+        algorithms: Listed | None = None,
+        options: Options | None = None,
+        verify: bool | None = None,
+        detached_payload: bytes | None = None,
         audience: Names = None,
-        issuer: Names = None,
         subject: str | None = None,
+        issuer: Names = None,
         leeway: Moment = 0,
         *,
         understood_crit: Names = None,
+        **kwargs: Any,
     ) -> dict[str, Any]:
         """Returns the claims of a token, verified with a key at the time of the clock.
 
-        A refusal raises an exception below InvalidTokenError.
+        A refusal raises an exception below InvalidTokenError. `verify`, and arguments of other names, do nothing, with a warning.
         """
+        if kwargs or verify is not None or detached_payload is not None:
+            _check_unused("decode", kwargs, verify, detached_payload, options)
         token = token_of("jwt", jwt)
         call = _plain_call(key, algorithms, options, audience, issuer, subject, leeway, understood_crit)
         checker = None if call is None else self._kept.get(call)
         if checker is None:
-            given = options_of(options)
+            given = options_of(options, drops=True)
             rules = rules_of(algorithms, {**self._own, **given}, audience, issuer, subject, leeway, understood_crit)
             if given.get("verify_signature") is False:
                 return self._unverified(token, rules)
@@ -93,21 +122,43 @@ class PyJWT:
                 self._keep(call, checker)
         return checker.decode(token, moment_of(None))
 
-    def _keep(self, call: tuple[Any, ...], checker: Checker) -> None:
+    def _keep(self, call: tuple[Any, ...], checker: Checker | Refuser) -> None:
         if len(self._kept) >= _MOST:
             self._kept.clear()
         self._kept[call] = checker
 
-    def decode_complete(self, jwt: Token, key: Key = "", algorithms: Names = None, **arguments: Any) -> dict[str, Any]:
+    def decode_complete(
+        self,
+        jwt: Token,
+        key: Key = "",
+        algorithms: Listed | None = None,
+        options: Options | None = None,
+        verify: bool | None = None,
+        detached_payload: bytes | None = None,
+        audience: Names = None,
+        issuer: Names = None,
+        subject: str | None = None,
+        leeway: Moment = 0,
+        *,
+        understood_crit: Names = None,
+        **kwargs: Any,
+    ) -> dict[str, Any]:
         """Returns the claims that `decode` returns as `payload`, with the token's `header` and the bytes of its `signature`."""
         token = token_of("jwt", jwt)
-        return complete(token, self.decode(token, key, algorithms, **arguments))
+        asked: dict[str, Any] = {"subject": subject, "issuer": issuer, "leeway": leeway, "understood_crit": understood_crit, **kwargs}
+        return complete(token, self.decode(token, key, algorithms, options, verify, detached_payload, audience, **asked))
 
     @staticmethod
     def _unverified(token: bytes, rules: Rules) -> dict[str, Any]:
         """Returns the claims of a token whose signature is not verified, after the tests that are asked for by name."""
         now = moment_of(None)
-        part = signed_part(token)
+        try:
+            part = signed_part(token)
+        except DecodeError:
+            # of another algorithm: the claims are those of a token of one that the library knows, of which no signature is verified either
+            found = parts_of(token)
+            token = b"%s.%s.%s" % (_HEADER_OF_NONE, found.texts[1].rstrip(b"="), _HEADER_OF_NONE)
+            part = signed_part(token)
         unless_asked = {name: False for name in DEFAULTS if name.startswith("verify_")}
         asked = tuple({**unless_asked, **dict(rules.options)}.items())
         return claims_by_verdict(token, part, True, rules._replace(algorithms=(part.algorithm,), options=asked), now)
@@ -115,23 +166,28 @@ class PyJWT:
     def encode(
         self,
         payload: Mapping[str, Any],
-        key: Key,
-        algorithm: str | None = "HS256",
+        key: SigningKey,
+        algorithm: str | None = None,
         headers: Mapping[str, Any] | None = None,
         json_encoder: type[json.JSONEncoder] | None = None,
         sort_headers: bool = False,
     ) -> str:
-        """Returns the token of the claims, signed with a secret and HMAC. The members of header and claims are in the order of names."""
+        """Returns the token of the claims, signed with a secret, or with a private key by the package `cryptography`.
+
+        Without an algorithm it is that of a PyJWK, or else HS256. The members of header and claims are in the order of names.
+        """
         claims = payload_of(payload, json_encoder)
-        members = members_of(algorithm, headers)
+        members = members_of(algorithm or (key.algorithm_name if isinstance(key, PyJWK) else "HS256"), headers)
         named = members["alg"]
-        if named not in ALGORITHMS or not _signs(named):
-            raise NotImplementedError(f"algorithm is {named!r}, with which encode does not sign; encode_by_signature takes a signature")
-        texts = written("headers", members, json_encoder), claims, secret_of(key, named)
+        if not isinstance(named, str) or named not in ALGORITHMS:
+            raise NotImplementedError(f"algorithm is {named!r}, which is not one of {', '.join(ALGORITHMS)}")
+        header = written("headers", members, json_encoder)
+        if not _signs(named):
+            return _signing.signer_of(key, plain(named)).token(header, claims, members.get("crit", []))
         try:
-            return str(answer(library.jwt_encode_hmac, *slices(*texts)), "utf-8")
+            return str(answer(library.jwt_encode_hmac, *slices(header, claims, secret_of(key, named))), "utf-8")
         except Refusal as refusal:
-            raise unsignable(refusal) from None
+            raise unsignable(refusal, claims) from None
 
 
 def get_unverified_header(jwt: Token) -> dict[str, Any]:

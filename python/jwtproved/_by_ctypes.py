@@ -1,9 +1,15 @@
 """The calls of the library that a token needs, by ctypes. If the wheel was built with Python's headers, those of _fast.c take their place."""
 import ctypes
+import os
 import threading
+from typing import Any
 
 from ._library import Handle, check, library, slices
 from ._status import Status
+
+# a finalizer may verify while this thread has the lock, and a child has to find it free
+_sharing = threading.RLock()
+os.register_at_fork(before=_sharing.acquire, after_in_parent=_sharing.release, after_in_child=_sharing.release)
 
 
 def is_issued(issued_at: int, leeway: int, now: int) -> bool:
@@ -14,7 +20,7 @@ def is_issued(issued_at: int, leeway: int, now: int) -> bool:
 class _Owned(Handle):
     """A handle that is freed with the object."""
 
-    def __del__(self, free=library.jwt_verifier_free) -> None:
+    def __del__(self, free: Any = library.jwt_verifier_free) -> None:
         free(self)
 
 
@@ -25,8 +31,6 @@ class Handles:
         self._first = _Owned()
         check(getattr(library, f"jwt_verifier_{kind}")(*slices(key, options), longest, False, self._first))
         self._idle: list[_Owned] = []
-        # a finalizer may verify while this thread has the lock
-        self._lock = threading.RLock()
 
     def decode(self, token: bytes, now: int) -> str:
         """Returns the claims as JSON. Raises Refusal, or MemoryError."""
@@ -41,7 +45,7 @@ class Handles:
             return self._idle.pop()
         except IndexError:
             made = _Owned()
-            with self._lock:
+            with _sharing:
                 check(library.jwt_verifier_share(self._first, made))
             return made
 

@@ -1,9 +1,12 @@
 """PyJWKClient: a JSON Web Key Set that is fetched, and fetched again as its keys rotate."""
+import contextvars
 import json
 import math
+import os
 import re
 import threading
 import time
+import weakref
 from collections.abc import Mapping
 from typing import TYPE_CHECKING, Any
 from urllib.parse import urlsplit
@@ -20,6 +23,8 @@ if TYPE_CHECKING:
 _clock = time.monotonic
 # of a timeout, in seconds
 _LONGEST = 86400
+# of the keys of a set that is fetched, since each is read by itself
+_MOST_KEYS = 1000
 # a name and a value of a header (RFC 9110 sections 5.1 and 5.5)
 _NAME = re.compile(r"[!#$%&'*+\-.^_`|~0-9A-Za-z]+")
 _VALUE = re.compile(r"[\t\x20-\x7e\x80-\xff]*")
@@ -62,7 +67,7 @@ def _number(name: str, value: Any) -> float:
     return value
 
 
-def _checked_timeout(timeout: Any) -> float:
+def _checked_timeout(timeout: float) -> float:
     # for a float that is not a number both comparisons are false
     if not 0 < _number("timeout", timeout) <= _LONGEST:
         raise ValueError(f"timeout must be more than 0 seconds, and at most a day, not {timeout}")
@@ -82,6 +87,9 @@ def _set_of(data: Any) -> PyJWKSet:
     """Returns the set that a server's JSON is."""
     if not isinstance(data, dict):
         raise PyJWKClientError("The JWKS endpoint did not return a JSON object")
+    keys = data.get("keys")
+    if isinstance(keys, list) and len(keys) > _MOST_KEYS:
+        raise PyJWKClientError(f"The JWKS endpoint returned more than {_MOST_KEYS} keys")
     return PyJWKSet.from_dict(data)
 
 
@@ -107,6 +115,10 @@ class _Sets:
         """Returns the set if it is fresh."""
         return self.last if _clock() < self._until else None
 
+    def is_overdue(self) -> bool:
+        """Returns whether the set has not been fresh for as long as it was."""
+        return self._until == -math.inf or _clock() >= self._until + self._lifespan
+
 
 class _Keys:
     """The keys that were used last, each for some seconds."""
@@ -115,6 +127,9 @@ class _Keys:
         self._lifespan, self._largest = lifespan, largest
         self._lock = threading.Lock()
         self._found: dict[str, tuple[float, PyJWK]] = {}
+
+    def reset_lock(self) -> None:
+        self._lock = threading.Lock()
 
     def put(self, kid: str, key: PyJWK) -> None:
         with self._lock:
@@ -140,8 +155,9 @@ class _Keys:
 class PyJWKClient:
     """Fetches the JSON Web Key Set of a URI, for any number of threads. `decode` verifies tokens by its keys.
 
-    A set is kept for `lifespan` seconds, and for as long as no later one can be had. A `kid` that it does not have causes a further
-    fetch, at most every 10 seconds. An answer may have 1 MiB, and takes at most `timeout` seconds in all.
+    A set is kept for `lifespan` seconds, and serves until a later one is fetched, which a thread does at the next call. A `kid` that it
+    does not have causes a further fetch, at most every 10 seconds, for which the call waits. An answer may have 1 MiB and 1000 keys, and
+    comes within `timeout` seconds. If `cache_jwk_set` is False, each call fetches a set, but for such a `kid`.
     """
 
     # the least time from a fetch for an unknown kid to the next one, and from a fetch that failed to the next one, in seconds
@@ -176,10 +192,14 @@ class PyJWKClient:
         self._keys = _Keys(lifespan, max_cached_keys) if cache_keys and not cache_jwk_set else None
         self._lock = threading.Lock()
         self._under_way: "Future[PyJWKSet] | None" = None
+        self._has_failed = False
         # before these times no set is fetched for an unknown kid, or instead of one that is not fresh
         self._refetch_from = self._renew_from = -math.inf
         # whether a thread refreshes for an unknown kid
         self._of_thread = threading.local()
+        # those that were fetched last, if no set is kept
+        self._last_keys: list[PyJWK] = []
+        _clients.add(self)
 
     def fetch_data(self) -> Any:
         """Fetches the set, and returns it as the server's JSON. Raises PyJWKClientConnectionError, or PyJWKClientError."""
@@ -233,8 +253,11 @@ class PyJWKClient:
 
     def _found(self, kid: str) -> PyJWK:
         # by calls of the interface, in PyJWT's order: a subclass may choose among the keys
+        if self.jwk_set_cache is None and _clock() < self._refetch_from and self.match_kid(self._last_keys, kid) is None:
+            raise unknown(kid)
         try:
-            found = self.match_kid(self.get_signing_keys(), kid)
+            self._last_keys = self.get_signing_keys()
+            found = self.match_kid(self._last_keys, kid)
         except PyJWKClientError:
             if self.jwk_set_cache is None or self.jwk_set_cache.last is None:
                 raise
@@ -250,25 +273,51 @@ class PyJWKClient:
         """Returns the key of a later set, if there is one, or if it is time to fetch one."""
         self._of_thread.seeks = True
         try:
-            return self.match_kid(self.get_signing_keys(refresh=True), kid)
+            self._last_keys = self.get_signing_keys(refresh=True)
+            return self.match_kid(self._last_keys, kid)
         finally:
             self._of_thread.seeks = False
 
     def _renewed(self, kept: _Sets, last: PyJWKSet) -> PyJWKSet:
-        """Returns the set after one that is no longer fresh, or that one if another thread fetches, or if there is no other."""
+        """Returns the last set, while a thread fetches the next one. One that is overdue is used only once a fetch has failed."""
+        from concurrent.futures import Future, wait
+
+        mine: "Future[PyJWKSet] | None" = None
         with self._lock:
-            if self._under_way is not None or _clock() < self._renew_from:
+            if _clock() < self._renew_from:
                 return last
+            if self._under_way is None:
+                mine = self._under_way = Future()
+            under_way = self._under_way
+            waits = kept.is_overdue() and not self._has_failed
+        if mine is not None:
+            self._begin(mine)
+        if waits:
+            wait([under_way], self.timeout)
+        return kept.last or last
+
+    def _begin(self, mine: "Future[PyJWKSet]") -> None:
+        # a subclass may look for what belongs to the request
+        run = contextvars.copy_context().run
         try:
-            self._fetched()
-        except MemoryError:
-            raise
+            threading.Thread(target=run, args=(self._renew, mine), name="jwtproved", daemon=True).start()
+        except RuntimeError as error:
+            # no further thread can be started
+            self._end(mine, None)
+            mine.set_exception(error)
+            self._warn(error)
+
+    def _renew(self, mine: "Future[PyJWKSet]") -> None:
+        try:
+            self._fetched_by(mine)
         except Exception as error:
             # of any kind, if a subclass fetches
-            import logging
+            self._warn(error)
 
-            logging.getLogger("jwtproved").warning("the last set of keys of %s is used: %s", self.uri, error)
-        return kept.last or last
+    def _warn(self, error: Exception) -> None:
+        import logging
+
+        logging.getLogger("jwtproved").warning("the last set of keys of %s is used: %s", self.uri, error)
 
     def _fetched(self, seeks: bool = False) -> PyJWKSet:
         """Returns a set that is fetched. Threads that ask for it at the same time get the same. One that `seeks` an unknown kid gets the
@@ -306,7 +355,6 @@ class PyJWKClient:
         try:
             return under_way.result(self.timeout)
         except TimeoutError:
-            # the thread that fetches may be gone, as after a fork
             self._end(under_way, None)
             raise PyJWKClientConnectionError('Fail to fetch data from the url, err: "timed out"') from None
 
@@ -314,9 +362,27 @@ class PyJWKClient:
         with self._lock:
             if self._under_way is under_way:
                 self._under_way = None
-            if found is None or not found._signing:
+            self._has_failed = found is None or not found._signing
+            if self._has_failed:
                 self._renew_from = _clock() + self._pause
             if found is not None and self.jwk_set_cache is not None:
                 self.jwk_set_cache.put(found)
             if found is not None and found._signing and self._keys is not None:
                 self._keys.renew(found)
+
+    def _after_fork(self) -> None:
+        """Forgets the locks and the fetch of threads that a child does not have."""
+        self._lock, self._under_way = threading.Lock(), None
+        if self._keys is not None:
+            self._keys.reset_lock()
+
+
+_clients: "weakref.WeakSet[PyJWKClient]" = weakref.WeakSet()
+
+
+def _after_fork() -> None:
+    for it in list(_clients):
+        it._after_fork()
+
+
+os.register_at_fork(after_in_child=_after_fork)

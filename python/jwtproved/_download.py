@@ -47,7 +47,7 @@ def _shut(opened: socket.socket) -> None:
 def _kept(kind: Any, exchange: _Exchange) -> Any:
     """Returns a kind of connection whose sockets an exchange keeps."""
 
-    class Connection(kind):
+    class Connection(kind):  # type: ignore[misc]
         def connect(self) -> None:
             super().connect()
             exchange.keep(self.sock)
@@ -100,7 +100,9 @@ def _opened(request: urllib.request.Request, timeout: float, context: Any, excha
 
 
 def _whole(response: Any) -> bytes:
-    text = response.read(LARGEST + 1)
+    if isinstance(response, http.client.HTTPResponse) and response.status != 200:
+        raise http.client.HTTPException(f"the status is {response.status}, and not 200")
+    text: bytes = response.read(LARGEST + 1)
     if len(text) > LARGEST:
         raise http.client.HTTPException(f"the answer has more than {LARGEST} bytes")
     if isinstance(response, http.client.HTTPResponse) and response.length:

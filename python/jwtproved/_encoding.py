@@ -13,15 +13,28 @@ from .exceptions import InvalidTokenError
 Encoder = type[json.JSONEncoder] | None
 
 _UNSIGNABLE: dict[int, str] = {
-    Status.JSON: "payload has a number that is not an integer from -2^63 to 2^64 - 1",
     Status.BAD_HEADER: "headers has a member of a wrong type",
     Status.SIGNING: "signature is not one of this algorithm by its length, or part.message is that of another payload or other headers",
     Status.INVALID_ALGORITHM: "headers has another alg than the signature",
 }
 
 
-def unsignable(refusal: Refusal) -> ValueError:
+def _odd_number(value: Any, at: str) -> str | None:
+    """Returns where a value has a number that is not signed, and the number, or None."""
+    if isinstance(value, float) or isinstance(value, int) and not -(2**63) <= value < 2**64:
+        return f"{at} is {value}"
+    inside = value.items() if isinstance(value, dict) else enumerate(value) if isinstance(value, list) else ()
+    return next(filter(None, (_odd_number(it, f"{at}[{name!r}]") for name, it in inside)), None)
+
+
+def unsignable(refusal: Refusal, claims: bytes) -> ValueError:
     """Returns the exception for what can't be issued."""
+    if refusal.status == Status.JSON:
+        try:
+            found = _odd_number(json.loads(claims), "payload")
+        except RecursionError:
+            found = None
+        return ValueError(f"{found or 'a number of payload'}, which is not an integer from -2^63 to 2^64 - 1")
     return ValueError(_UNSIGNABLE.get(refusal.status) or text_of(refusal.status))
 
 

@@ -2,11 +2,11 @@
 from ._library import PATH, Refusal
 
 try:
-    from ._fast import Handles, bind, is_issued
+    from ._fast import Handles, bind, is_issued  # type: ignore[import]
 
     bind(PATH, Refusal)
 except ImportError:
     # the wheel was built without Python's headers
-    from ._by_ctypes import Handles, is_issued  # type: ignore[assignment]
+    from ._by_ctypes import Handles, is_issued
 
 __all__ = ["Handles", "is_issued"]

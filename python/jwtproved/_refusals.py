@@ -4,20 +4,24 @@ from typing import Any
 
 from . import exceptions
 from ._library import Refusal, answer, library, slices, test_of, text_of
+from ._parts import parts_of
 from ._status import Status
 
+UNLISTED_ALG = "The specified alg value is not allowed"
+UNFIT_KEY = "the key that the kid names is for other algorithms, or does not serve"
 # The statuses that have an exception and a text of their own. Any other is a DecodeError with the library's text.
 _EXCEPTIONS: dict[int, tuple[type[Exception], str]] = {
     Status.INVALID_TOKEN: (exceptions.DecodeError, "Not enough segments"),
     Status.INVALID_SIGNATURE: (exceptions.InvalidSignatureError, "Signature verification failed"),
-    Status.UNSUPPORTED_ALGORITHM: (exceptions.InvalidKeyError, "no token is verified with a key of this kind"),
-    Status.INVALID_KEY_FORMAT: (exceptions.InvalidKeyError, "the key is for algorithms of another family, or does not serve"),
+    # the header names the key of a set, so that these refuse a token as another alg does
+    Status.UNSUPPORTED_ALGORITHM: (exceptions.InvalidAlgorithmError, "no token is verified with the key that the kid names"),
+    Status.INVALID_KEY_FORMAT: (exceptions.InvalidAlgorithmError, UNFIT_KEY),
     Status.EXPIRED_SIGNATURE: (exceptions.ExpiredSignatureError, "Signature has expired"),
     Status.INVALID_ISSUER: (exceptions.InvalidIssuerError, "Invalid issuer"),
     Status.INVALID_AUDIENCE: (exceptions.InvalidAudienceError, "Invalid audience"),
     Status.INVALID_SUBJECT: (exceptions.InvalidSubjectError, "Invalid subject"),
     Status.IMMATURE_SIGNATURE: (exceptions.ImmatureSignatureError, "The token is not yet valid (nbf)"),
-    Status.INVALID_ALGORITHM: (exceptions.InvalidAlgorithmError, "The specified alg value is not allowed"),
+    Status.INVALID_ALGORITHM: (exceptions.InvalidAlgorithmError, UNLISTED_ALG),
     Status.BASE64: (exceptions.DecodeError, "a part of the token is not base64url"),
     Status.JSON: (exceptions.DecodeError, "Invalid header string: must be a json object with the alg of a signature that is known"),
     Status.INVALID_CRIT: (exceptions.DecodeError, "the header's crit names what is not understood"),
@@ -36,6 +40,8 @@ _OF_CLAIMS: dict[int, tuple[type[Exception], str]] = {
     Status.INVALID_TOKEN: (exceptions.ExpiredSignatureError, "Signature has expired"),
 }
 _TESTS_OF_CLAIMS = ("PayloadIsJson", "ClaimsAreAnObject", "ClaimRulesHold")
+# by the test of a part
+_PARTS = {"HeaderIsPart": "Invalid header padding", "PayloadIsPart": "Invalid payload padding", "SignatureIsPart": "Invalid crypto padding"}
 _MISSING: dict[int, str] = {
     Status.MISSING_EXP: "exp",
     Status.MISSING_NBF: "nbf",
@@ -53,7 +59,9 @@ def unknown(kid: Any) -> exceptions.UnknownKeyError:
     return exceptions.UnknownKeyError(f"Unable to find a signing key that matches: {shown}")
 
 
-def _exception_of(status: int, is_of_claims: bool, token: bytes) -> Exception:
+def _exception_of(status: int, is_of_claims: bool, token: bytes, failed_test: str | None = None) -> Exception:
+    if failed_test in _PARTS:
+        return exceptions.DecodeError(_PARTS[failed_test])
     if status in _MISSING:
         return exceptions.MissingRequiredClaimError(_MISSING[status])
     if status == Status.NO_KEY:
@@ -63,12 +71,22 @@ def _exception_of(status: int, is_of_claims: bool, token: bytes) -> Exception:
     return kind(text)
 
 
-def exception_of(refusal: Refusal, token: bytes, is_of_claims: bool = False) -> Exception:
-    """Returns the exception for the refusal of a token, or if `is_of_claims` of its payload. Its `failed_test` is that of the refusal."""
+def exception_of(refusal: Refusal, token: bytes, is_of_claims: bool = False, unlike: str | None = None) -> Exception:
+    """Returns the exception for the refusal of a token, or if `is_of_claims` of its payload. Its `failed_test` is that of the refusal, and
+    `unlike` the text for an audience that is none of those that are asked for."""
     failed_test = test_of(refusal.test) if refusal.test else None
-    error = _exception_of(refusal.status, is_of_claims or failed_test in _TESTS_OF_CLAIMS, token)
+    error = _exception_of(refusal.status, is_of_claims or failed_test in _TESTS_OF_CLAIMS, token, failed_test)
+    if unlike and refusal.status == Status.INVALID_AUDIENCE:
+        error = exceptions.InvalidAudienceError(unlike)
     if isinstance(error, exceptions.InvalidTokenError):
         error.failed_test = failed_test
+    return error
+
+
+def other_algorithm(text: str, failed_test: str) -> exceptions.InvalidAlgorithmError:
+    """Returns the refusal of a token by its algorithm."""
+    error = exceptions.InvalidAlgorithmError(text)
+    error.failed_test = failed_test
     return error
 
 
@@ -80,8 +98,9 @@ def exception_of_texts(refusal: Refusal) -> Exception:
 
 
 def header_of(token: bytes) -> dict[str, Any]:
-    """Returns the header of a token. Nothing is verified."""
+    """Returns the header of a token. Nothing is verified: the token may be of any algorithm."""
     try:
-        return json.loads(answer(library.jwt_decode_header, *slices(token)))
-    except Refusal as refusal:
-        raise exception_of(refusal, token) from None
+        found: dict[str, Any] = json.loads(answer(library.jwt_decode_header, *slices(token)))
+    except Refusal:
+        return parts_of(token).header
+    return found

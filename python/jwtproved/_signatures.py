@@ -8,9 +8,10 @@ from . import _refusals
 from ._encoding import header_of, payload_of, unsignable
 from ._keys import bytes_of, raw_of
 from ._library import ALGORITHMS, Refusal, answer, library, number_of, parts, slices
-from ._rules import Moment, Names, Rules, check_further, options_of, rules_of, wrong_type
+from ._rules import Moment, Names, Rules, further_tests, options_of, rules_of, wrong_type
 from ._status import Status
 from ._verifier import Token, moment_of, token_of
+from .types import Listed, Options
 
 
 class SignedPart(NamedTuple):
@@ -48,8 +49,10 @@ def claims_by_verdict(token: bytes, part: SignedPart, verdict: bool, rules: Rule
     except Refusal as refusal:
         # the header has been read, so that JSON which is refused is the payload's
         raise _refusals.exception_of(refusal, token, True) from None
-    claims = json.loads(said)
-    check_further(rules, claims, now)
+    claims: dict[str, Any] = json.loads(said)
+    for claim, check in further_tests(rules):
+        if not claim or claim in claims:
+            check(claims, now)
     return claims
 
 
@@ -57,8 +60,8 @@ def decode_by_verdict(
     token: Token,
     part: SignedPart,
     verdict: bool,
-    algorithms: Names,
-    options: dict[str, Any] | None = None,
+    algorithms: Listed,
+    options: Options | None = None,
     audience: Names = None,
     issuer: Names = None,
     subject: str | None = None,
@@ -91,7 +94,7 @@ def signing_input(payload: Mapping[str, Any], algorithm: str, headers: Mapping[s
     try:
         message = answer(library.jwt_signing_input, *slices(*texts), ctypes.byref(number))
     except Refusal as refusal:
-        raise unsignable(refusal) from None
+        raise unsignable(refusal, texts[1]) from None
     return SigningInput(ALGORITHMS[number.value - 1], message)
 
 
@@ -109,7 +112,7 @@ def encode_by_signature(payload: Mapping[str, Any], part: SigningInput, signatur
     try:
         return str(answer(library.jwt_encode_signature, *slices(*texts), number, *signed), "utf-8")
     except Refusal as refusal:
-        raise unsignable(refusal) from None
+        raise unsignable(refusal, texts[1]) from None
 
 
 def ecdsa_signature(der: bytes, algorithm: str) -> bytes:

@@ -2,28 +2,34 @@
 import functools
 import json
 import time
+from collections.abc import Callable, Iterable
 from typing import Any
 
 from . import _refusals
 from ._handles import Handles
-from ._keys import Key, Material, material_of, raw_of
+from ._keys import Key, Material, material_of
 from ._library import Refusal, parts
-from ._rules import Moment, Names, Rules, check_further, options_of, plain, rules_of, wrong_type
+from ._parts import parts_of
+from ._rules import Moment, Names, Rules, further_tests, options_of, plain, plain_number, rules_of, wrong_type
 from ._status import Status
-from .exceptions import ClockError, InvalidKeyError
+from .exceptions import ClockError, DecodeError, InvalidKeyError
+from .types import Listed, Options
 
 Token = str | bytes | bytearray | memoryview
 
 _clock = time.time
 # what the library writes is JSON without white space
-read_json = json.JSONDecoder().scan_once
+read_json: Callable[[str, int], tuple[Any, int]] = json.JSONDecoder().scan_once  # type: ignore[attr-defined]
 
 
 def token_of(name: str, value: Token) -> bytes:
     """Returns the bytes of a token. A lone surrogate becomes bytes that are in no token, since whoever sent it may have any text."""
     if isinstance(value, str):
         return plain(value).encode("utf-8", "surrogatepass")
-    return raw_of(name, value, "a string or bytes")
+    if isinstance(value, (bytes, bytearray, memoryview)):
+        return bytes(value)
+    # as of a cookie that is not there
+    raise DecodeError(f"Invalid token type. Token must be a {bytes}; {name} is {type(value).__name__}")
 
 
 def moment_of(now: float | None) -> int:
@@ -36,9 +42,31 @@ def moment_of(now: float | None) -> int:
         raise ClockError(f"the system clock must be from 0 to 18446744073709551615 seconds since 1970-01-01, not {told}")
     if isinstance(now, bool) or not isinstance(now, (int, float)):
         raise wrong_type("now", "an int or a float", now)
+    now = plain_number(now)
     if not 0 <= now < 2**64:
         raise ValueError(f"now must be from 0 to 18446744073709551615 seconds since 1970-01-01, not {now}")
     return int(now)
+
+
+# of the tests of a token, which are made in the order of their numbers (jwtproved.h)
+_SIGNATURE_IS_ACCEPTED = 14
+
+
+def signature_handles(material: Material, algorithm: str, crit: Iterable[str] = ()) -> Handles:
+    """Returns the library's verifier of signatures with a key, by one algorithm, of tokens of any length. Raises Refusal if it makes none."""
+    asked = {"algorithms": [algorithm], "understood_crit": list(crit), "required_spec_claims": [], "validate_exp": False, "validate_aud": False}
+    return Handles(material.kind, material.text, json.dumps(asked).encode(), 2**62)
+
+
+def is_signed(handles: Handles, token: bytes) -> bool:
+    """Returns whether the library accepts the signature of a token, whatever its payload is. Raises Refusal if a test before that fails."""
+    try:
+        handles.decode(token, 0)
+    except Refusal as refusal:
+        if refusal.test < _SIGNATURE_IS_ACCEPTED:
+            raise
+        return refusal.test > _SIGNATURE_IS_ACCEPTED
+    return True
 
 
 def _made(material: Material, rules: Rules, algorithms: tuple[str, ...], longest: int) -> Handles | None:
@@ -68,18 +96,19 @@ class Checker:
             self._by_name = by_name
         elif len(by_name) > 1:
             self._first = _made(material, rules, tuple(by_name), longest) or self._first
-        self._rules = rules
-        self._asks_further = bool(rules.option("require"))
+        self._further = further_tests(rules)
+        self._unlike = None if not rules.audience else "Audience doesn't match (strict)" if rules.option("strict_aud") else "Audience doesn't match"
 
     def decode(self, token: bytes, now: int) -> dict[str, Any]:
         handles = self._handles_for(token) if self._by_name else self._first
         try:
             said = handles.decode(token, now)
         except Refusal as refusal:
-            raise _refusals.exception_of(refusal, token) from None
-        claims = read_json(said, 0)[0]
-        if self._asks_further or "iat" in claims:
-            check_further(self._rules, claims, now)
+            raise _refusals.exception_of(refusal, token, unlike=self._unlike) from None
+        claims: dict[str, Any] = read_json(said, 0)[0]
+        for claim, check in self._further:
+            if not claim or claim in claims:
+                check(claims, now)
         return claims
 
     def _handles_for(self, token: bytes) -> Handles:
@@ -88,6 +117,25 @@ class Checker:
             return self._by_name.get(parts(token)[0], self._first)
         except Refusal:
             return self._first
+
+
+class Refuser:
+    """Refuses the tokens whose header names a key that is for none of the algorithms."""
+
+    def __init__(self, material: Material, rules: Rules) -> None:
+        self._only, self._listed = material.algorithm, rules.algorithms
+
+    def decode(self, token: bytes, now: int) -> dict[str, Any]:
+        try:
+            named = parts(token)[0]
+        except Refusal as refusal:
+            raise _refusals.exception_of(refusal, token) from None
+        # in the order of the tests of a set
+        if self._only not in (None, named):
+            raise _refusals.other_algorithm(_refusals.UNLISTED_ALG, "KeyAlgorithmAgrees")
+        if named not in self._listed:
+            raise _refusals.other_algorithm(_refusals.UNLISTED_ALG, "AlgorithmIsListed")
+        raise _refusals.other_algorithm(_refusals.UNFIT_KEY, "VerifierIsMade")
 
 
 # each keeps its key in memory, a secret too
@@ -109,8 +157,8 @@ class Verifier:
     def __init__(
         self,
         key: Key,
-        algorithms: Names,
-        options: dict[str, Any] | None = None,
+        algorithms: Listed,
+        options: Options | None = None,
         audience: Names = None,
         issuer: Names = None,
         subject: str | None = None,
@@ -153,4 +201,4 @@ def _longest(length: int | None) -> int:
 
 
 def complete(token: bytes, claims: dict[str, Any]) -> dict[str, Any]:
-    return {"header": _refusals.header_of(token), "payload": claims, "signature": parts(token)[2]}
+    return {"header": _refusals.header_of(token), "payload": claims, "signature": parts_of(token).signature}

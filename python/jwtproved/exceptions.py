@@ -44,18 +44,22 @@ class InvalidIssuerError(InvalidTokenError):
 
 
 class InvalidSubjectError(InvalidTokenError):
-    """The `sub` is another than is asked for, or is malformed."""
+    """The `sub` is another than is asked for, or no text."""
+
+
+class InvalidJTIError(InvalidTokenError):
+    """The `jti` is no text."""
 
 
 class MissingRequiredClaimError(InvalidTokenError):
-    """A claim that is required is missing, or malformed. `claim` is its name."""
+    """A claim that is required is missing, or malformed, which counts as missing. `claim` is its name."""
 
     def __init__(self, claim: str) -> None:
         super().__init__(claim)
         self.claim = claim
 
     def __str__(self) -> str:
-        return f'Token is missing the "{self.claim}" claim, or it is malformed'
+        return f'Token is missing the "{self.claim}" claim'
 
 
 class PyJWKClientError(PyJWTError):
@@ -76,6 +80,10 @@ class InvalidKeyError(PyJWTError):
 
 class PyJWKError(PyJWTError):
     """The JSON Web Key can't be read, or no token is verified with a key of its kind."""
+
+
+class MissingCryptographyError(PyJWKError):
+    """A name of PyJWT's: no key here needs the package `cryptography` to be read."""
 
 
 class PyJWKSetError(PyJWTError):

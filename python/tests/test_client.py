@@ -2,10 +2,12 @@
 import base64
 import concurrent.futures
 import contextlib
+import contextvars
 import json
 import logging
 import math
 import os
+import signal
 import socket
 import ssl
 import sys
@@ -16,7 +18,7 @@ import urllib.error
 import urllib.request
 
 import jwtproved as jwt
-from jwtproved import _download, _verifier
+from jwtproved import _client, _download, _verifier
 
 TOP = os.path.dirname(os.path.dirname(os.path.dirname(os.path.abspath(__file__))))
 sys.path.append(f"{TOP}/tests")
@@ -180,6 +182,10 @@ MISBEHAVING = {
     "serves a set and 404": says(ROTATED, status="404 Not Found"),
     "serves nothing": says(b""),
     "serves 204": says(b"", status="204 No Content"),
+    "serves a set and 206": says(ROTATED, status="206 Partial Content"),
+    "serves a set and 203": says(ROTATED, status="203 Non-Authoritative Information"),
+    "serves too many keys": says(set_of("b", *map(str, range(1000)))),
+    "serves too many keys that are none": says(b'{"keys":[' + b"{}," * 1000 + set_of("b")[9:]),
     "serves more than a MiB": says(ROTATED + b" " * 2**20),
     "serves without end": endless,
     "serves null": says(b"null"),
@@ -256,9 +262,10 @@ def refetches():
         raises(jwt.UnknownKeyError, client.get_signing_key, None, said="no kid")
         raises(jwt.UnknownKeyError, client.get_signing_key, "", said='""')
         raises(TypeError, client.get_signing_key, 5, said="kid")
-        for it in ("", "a.b", "a.b.c", token("a", alg="none"), token(5)):
+        for it in ("", "a.b", "a.b.c", token("a", alg="none")):
             raises(jwt.DecodeError, decoded, client, it)
-        raises(TypeError, client.get_signing_key_from_jwt, None)
+        raises(jwt.InvalidTokenError, decoded, client, token(5))
+        raises(jwt.DecodeError, client.get_signing_key_from_jwt, None)
         test("no further fetch", len(server.heads) == 3)
     test("the pause is 10 seconds", jwt.PyJWKClient._pause == 10)
 
@@ -307,11 +314,7 @@ def nobody_listens():
         silent.bind(("127.0.0.1", 0))
         client = jwt.PyJWKClient(f"http://127.0.0.1:{silent.getsockname()[1]}/keys")
         raises(jwt.PyJWKClientConnectionError, decoded, client, token("a"), said="Fail to fetch data from the url")
-    for _ in range(100):
-        if not any(it.name == "jwtproved" for it in threading.enumerate()):
-            break
-        time.sleep(0.02)
-    test("the threads have ended", not any(it.name == "jwtproved" for it in threading.enumerate()))
+    until("the threads have ended", fetching_threads, 0)
 
 
 def no_signing_keys():
@@ -326,6 +329,8 @@ def no_signing_keys():
         server.answer = says(encrypting)
         time.sleep(0.06)
         fetches = len(server.heads)
+        gives(CLAIMS, decoded, client, token("a"))
+        until("one further fetch", lambda: len(server.heads), fetches + 1)
         for _ in range(5):
             gives(CLAIMS, decoded, client, token("a"))
         test("one further fetch", len(server.heads) == fetches + 1)
@@ -349,19 +354,129 @@ def an_old_set():
         gives(CLAIMS, decoded, client, token("b"))
 
 
-def ten_thousand_keys():
-    many = set_of(*map(str, range(10000)))
-    test(f"a set of {len(many)} bytes, which is less than a MiB", len(many) < _download.LARGEST)
+def a_thousand_keys():
+    many = set_of(*map(str, range(1000)))
     with serving(says(many), timeout=20) as (server, client):
-        gives(CLAIMS, decoded, client, token("9999"))
+        gives(CLAIMS, decoded, client, token("999"))
         begin = time.process_time()
-        for _ in range(100):
-            decoded(client, token("9999"))
-        # to read it takes a second
+        for _ in range(1000):
+            decoded(client, token("999"))
+        # to read it takes a tenth of a second
         test("the set is read once", time.process_time() - begin < 10 and len(server.heads) == 1)
+        server.answer = says(set_of(*map(str, range(1001))))
+        raises(jwt.PyJWKClientError, client.get_jwk_set, refresh=True, said="more than 1000 keys")
         server.answer = says(set_of(*map(str, range(20000))))
         raises(jwt.PyJWKClientError, client.get_jwk_set, refresh=True, said="more than 1048576 bytes")
-        gives(CLAIMS, decoded, client, token("9999"))
+        gives(CLAIMS, decoded, client, token("999"))
+        raises(jwt.PyJWKClientError, client.jwk_set_cache.put, json.loads(set_of(*map(str, range(1001)))), said="more than 1000 keys")
+
+
+@contextlib.contextmanager
+def later():
+    """Gives a call that sets the client's clock forward, by seconds."""
+    shift, real = [0], _client._clock
+    _client._clock = lambda: real() + shift[0]
+
+    def by(seconds):
+        shift[0] += seconds
+
+    try:
+        yield by
+    finally:
+        _client._clock = real
+
+
+def until(name, call, wanted):
+    """Counts whether a call returns what is wanted, at the latest after some seconds."""
+    end = time.monotonic() + 20
+    while (got := outcome(call)) != wanted and time.monotonic() < end:
+        time.sleep(0.01)
+    test(f"{name}: {got!r}, not {wanted!r}", got == wanted)
+
+
+def fetching_threads():
+    return sum(it.name == "jwtproved" for it in threading.enumerate())
+
+
+def kids(client):
+    return [it.key_id for it in client.get_jwk_set()]
+
+
+def at_once(name, call, *arguments):
+    """Returns what a call returns before a fetch of 20 seconds has ended."""
+    begin = time.monotonic()
+    got = outcome(call, *arguments)
+    test(f"{name} does not wait", time.monotonic() - begin < 10)
+    return got
+
+
+def stale_sets():
+    """While a thread fetches the set after one that is no longer fresh, that one serves, for as long as it was fresh."""
+    with later() as pass_by, serving(says(GOOD), lifespan=100, timeout=20) as (server, client):
+        gives(CLAIMS, decoded, client, token("a"))
+        held = threading.Event()
+
+        def waits(server, to):
+            held.wait(20)
+            says(ROTATED)(server, to)
+
+        server.answer = waits
+        pass_by(120)
+        for _ in range(3):
+            test("the last set serves", at_once("a stale set", decoded, client, token("a")) == CLAIMS)
+        until("a fetch", lambda: len(server.heads), 2)
+        held.set()
+        until("the next set", lambda: kids(client), ["b"])
+        gives(2, lambda: len(server.heads))
+        # after 200 seconds the set is overdue: a key that it has may have been withdrawn long ago
+        server.answer = says(set_of("c"))
+        pass_by(220)
+        gives(["c"], kids, client)
+        server.answer = says(HTML, status="500 Oops")
+        pass_by(220)
+        gives(["c"], kids, client)
+        server.answer = hangs_after(b"")
+        pass_by(20)
+        test("the last set serves", at_once("a server that hangs", decoded, client, token("c")) == CLAIMS)
+    seen = contextvars.ContextVar("seen", default="nothing")
+
+    class Contextual(Fetching):
+        def fetch_data(self):
+            found = super().fetch_data()
+            return {"keys": [*found["keys"], key(seen.get())]}
+
+    with later() as pass_by:
+        client = Contextual(GOOD, lifespan=100)
+        gives(["a", "nothing"], kids, client)
+        pass_by(120)
+        seen.set("a request")
+        until("the context of the request", lambda: kids(client), ["a", "a request"])
+
+
+def forks():
+    """A child that a program forks while a thread fetches, and while a lock is taken, fetches by itself."""
+    for arguments in ({}, {"cache_jwk_set": False, "cache_keys": True}):
+        with later() as pass_by:
+            client, held, begun = Fetching(GOOD, ROTATED, lifespan=100, **arguments), threading.Event(), threading.Event()
+            gives(CLAIMS, decoded, client, token("a"))
+            fetch = client.fetch_data
+            client.fetch_data = lambda: (begun.set(), held.wait(20), fetch())[2]
+            pass_by(120)
+            waiting = threading.Thread(target=lambda: outcome(client.get_jwk_set))
+            waiting.start()
+            test("a fetch is under way", begun.wait(20))
+            with client._lock, client._keys._lock if client._keys else contextlib.nullcontext():
+                child = os.fork()
+                if child == 0:
+                    # ends a child that waits for a lock
+                    signal.alarm(20)
+                    client.fetch_data, before = fetch, failed
+                    until("the set in the child", lambda: kids(client), ["b"])
+                    gives(CLAIMS, decoded, client, token("b"))
+                    os._exit(failed > before)
+            test(f"a child with {arguments}", os.waitpid(child, 0)[1] == 0)
+            held.set()
+            waiting.join()
 
 
 def threads():
@@ -389,11 +504,18 @@ def caches():
         test("asked for", len(server.heads) == 2)
         time.sleep(0.11)
         client.get_jwk_set()
-        test("after its lifespan", len(server.heads) == 3)
+        until("a fetch after its lifespan", lambda: len(server.heads), 3)
     with serving(says(GOOD), cache_jwk_set=False) as (server, client):
         for _ in range(3):
             gives(CLAIMS, decoded, client, token("a"))
         test("not kept", len(server.heads) == 3 and client.jwk_set_cache is None)
+        client._pause = 100
+        for it in range(20):
+            raises(jwt.UnknownKeyError, decoded, client, token(f"x{it}", by="a"), said=f'"x{it}"')
+        # one as for any kid, and one that is further
+        test(f"{len(server.heads)} fetches, not 5, for unknown kids", len(server.heads) == 5)
+        gives(CLAIMS, decoded, client, token("a"))
+        gives(6, lambda: len(server.heads))
     arguments = {"cache_jwk_set": False, "cache_keys": True, "max_cached_keys": 2, "lifespan": 0.2}
     with serving(says(set_of("a", "b", "c")), **arguments) as (server, client):
         for kid, fetches in (("a", 1), ("a", 1), ("b", 2), ("a", 2), ("b", 2), ("c", 3), ("b", 3), ("a", 4), ("c", 5)):
@@ -439,8 +561,8 @@ def threads_end():
     """A fetch that takes too long is cut, though the server goes on."""
     with serving(dribbles(head(100000)), timeout=0.1) as (_, client):
         raises(jwt.PyJWKClientConnectionError, client.get_jwk_set, said="timed out")
-        time.sleep(0.5)
-        test("the thread has ended", not any(it.name == "jwtproved" for it in threading.enumerate()))
+        # the server goes on for 80 seconds
+        until("the thread has ended", fetching_threads, 0)
 
 
 def arguments():
@@ -567,13 +689,14 @@ def puts():
     gives(CLAIMS, decoded, client, token("b"))
     gives(3, lambda: client.fetches)
     time.sleep(0.31)
+    until("the next set", lambda: (kids(client), client._under_way), (["c"], None))
     raises(jwt.UnknownKeyError, decoded, client, token("b"))
     gives(CLAIMS, decoded, client, token("c"))
     gives(5, lambda: client.fetches)
     client = Putting(GOOD, lifespan=0.05)
     for fetches in (1, 2):
         gives(CLAIMS, decoded, client, token("a"))
-        gives(fetches, lambda: client.fetches)
+        until("fetches", lambda fetches=fetches, client=client: client.fetches, fetches)
         time.sleep(0.06)
     for served in (b"[]", b"{}", b'{"keys":[]}', b'{"keys":5}', b"null"):
         client = Putting(GOOD, served)
@@ -605,14 +728,16 @@ def fails_by_itself():
         gives(CLAIMS, decoded, client, token("a"))
         time.sleep(0.06)
         gives([CLAIMS] * 3, lambda client=client: [decoded(client, token("a")) for _ in range(3)])
-        gives(2, lambda client=client: client.fetches)
+        until("a further fetch", lambda client=client: (client.fetches, client._under_way), (2, None))
         raises(jwt.InvalidSignatureError, decoded, client, token("a", by="b"))
         raises(type(error), decoded, client, token("b"))
         raises(type(error), decoded, Fetching(error), token("a"))
     client = Fetching(GOOD, MemoryError(), lifespan=0.05)
     gives(CLAIMS, decoded, client, token("a"))
     time.sleep(0.06)
-    raises(MemoryError, decoded, client, token("a"))
+    gives(CLAIMS, decoded, client, token("a"))
+    until("the memory is enough again", lambda: (client.fetches, client._under_way), (2, None))
+    raises(MemoryError, client.get_jwk_set, refresh=True)
 
 
 def chooses():
@@ -688,14 +813,13 @@ def without_kids():
     gives([["a"]] * 3, lambda: [only(client) for _ in range(3)])
     gives(1, lambda: client.fetches)
     time.sleep(0.31)
+    until("the next set", lambda: only(client), ["b"])
     gives([["b"]] * 3, lambda: [only(client) for _ in range(3)])
-    gives(2, lambda: client.fetches)
     client = Fetching(one, GOOD, other, lifespan=0.05)
     gives(["a"], only, client)
     gives(CLAIMS, decoded, client, token("a"))
     time.sleep(0.31)
-    gives(["a"], only, client)
-    gives(3, lambda: client.fetches)
+    until("a further fetch", lambda: (only(client), client.fetches, client._under_way), (["a"], 3, None))
 
 
 class SlowLock:
@@ -724,11 +848,11 @@ def threads_at_once():
             test(f"{client.fetches} fetches, not 2", client.fetches == 2)
 
 
-for step in (rotation, refetches, misbehaving, nobody_listens, no_signing_keys, an_old_set, ten_thousand_keys, threads, caches, headers):
+for step in (rotation, refetches, misbehaving, nobody_listens, no_signing_keys, an_old_set, a_thousand_keys, threads, caches, headers):
     step()
 for step in (redirects_to_another_scheme, threads_end, arguments, all_algorithms, apps):
     step()
-for step in (puts, fails_by_itself, chooses, without_kids, threads_at_once):
+for step in (puts, fails_by_itself, chooses, without_kids, threads_at_once, stale_sets, forks):
     step()
 print(f"{passed} tests of PyJWKClient, {failed} failed")
 sys.exit(failed > 0)

@@ -117,6 +117,9 @@ def run(row, call):
         return
     got = outcome(call, row)
     kinds = KINDS[want["err"].partition("(")[0]]
+    if row["call"] == "decode_with_set" and want["err"] in ("InvalidKeyFormat", "UnsupportedAlgorithm"):
+        # the token named the key
+        kinds += (jwt.InvalidAlgorithmError,)
     if row["call"] == "decode_with_set" and want["err"] == "InvalidAlgorithm":
         # PyJWKSet leaves a key out that does not serve its own alg
         kinds += (jwt.InvalidKeyError,)

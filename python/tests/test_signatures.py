@@ -32,7 +32,7 @@ def tokens_of_standards():
         raises(jwt.ExpiredSignatureError, jwt.decode_by_verdict, token, part_of, True, [algorithm], now=EXP)
         gives(CLAIMS, jwt.decode_by_verdict, token, part_of, True, [algorithm], leeway=61, now=EXP + 60)
         raises(jwt.ExpiredSignatureError, jwt.decode_by_verdict, token, part_of, True, [algorithm], leeway=61, now=EXP + 61)
-        verifier = jwt.Verifier(key, algorithm)
+        verifier = jwt.Verifier(key, [algorithm])
         gives(CLAIMS, verifier.decode, token, EXP - 1)
         raises(jwt.InvalidSignatureError, verifier.decode, changed(token), EXP - 1)
         # the verdict is on another message, or by another algorithm
@@ -43,11 +43,11 @@ def tokens_of_standards():
         raises(jwt.InvalidAlgorithmError, jwt.decode_by_verdict, token, another, True, ["PS256"], now=0)
     # its payload is not JSON, which is tested once the signature is accepted
     part_of = jwt.signed_part(EDDSA)
-    raises(jwt.DecodeError, jwt.decode_by_verdict, EDDSA, part_of, True, "EdDSA", now=0, said="payload")
-    raises(jwt.InvalidSignatureError, jwt.decode_by_verdict, EDDSA, part_of, False, "EdDSA", now=0)
-    raises(jwt.DecodeError, jwt.Verifier(ED_KEY, "EdDSA").decode, EDDSA, said="payload")
-    raises(jwt.InvalidSignatureError, jwt.Verifier(ED_KEY, "EdDSA").decode, EDDSA.replace("hgyY", "hgyZ"))
-    raises(jwt.InvalidKeyError, jwt.Verifier, ED_KEY, "ES256")
+    raises(jwt.DecodeError, jwt.decode_by_verdict, EDDSA, part_of, True, ["EdDSA"], now=0, said="payload")
+    raises(jwt.InvalidSignatureError, jwt.decode_by_verdict, EDDSA, part_of, False, ["EdDSA"], now=0)
+    raises(jwt.DecodeError, jwt.Verifier(ED_KEY, ["EdDSA"]).decode, EDDSA, said="payload")
+    raises(jwt.InvalidSignatureError, jwt.Verifier(ED_KEY, ["EdDSA"]).decode, EDDSA.replace("hgyY", "hgyZ"))
+    raises(jwt.InvalidKeyError, jwt.Verifier, ED_KEY, ["ES256"])
 
 
 def verdicts():
@@ -64,8 +64,8 @@ def verdicts():
     for it in (32, "text", None):
         raises(TypeError, jwt.decode_by_verdict, token, part_of._replace(signature=it), True, said="signature", **HS)
     for it in (5, None, True, [], {}):
-        raises(TypeError, jwt.signed_part, it, said="token")
-        raises(TypeError, jwt.decode_by_verdict, it, part_of, True, said="token", **HS)
+        raises(jwt.DecodeError, jwt.signed_part, it, said="token")
+        raises(jwt.DecodeError, jwt.decode_by_verdict, it, part_of, True, said="token", **HS)
     for algorithms in ([], None):
         raises(ValueError, jwt.decode_by_verdict, token, part_of, True, algorithms, said="algorithms")
     for claims, options, kind in (
@@ -91,7 +91,7 @@ def messages():
             message = jwt.signing_input(claims, algorithm, headers)
             token = jwt.encode_by_signature(claims, message, hmac.digest(SECRET.encode(), message.message, digest), headers)
             gives(jwt.encode(claims, SECRET, algorithm, headers), lambda: token)
-            gives(claims, jwt.decode, token, SECRET, algorithm)
+            gives(claims, jwt.decode, token, SECRET, [algorithm])
             test(f"the algorithm {message.algorithm}", message.algorithm == algorithm)
 
 
@@ -163,7 +163,7 @@ def thumbprints():
 def headers():
     gives({"alg": "HS256", "kid": "b"}, jwt.get_unverified_header, signed({}, kid="b"))
     for it in (5, None, True, [], {}):
-        raises(TypeError, jwt.get_unverified_header, it, said="jwt")
+        raises(jwt.DecodeError, jwt.get_unverified_header, it, said="jwt")
     raises(jwt.DecodeError, jwt.get_unverified_header, "\ud800")
     gives({"alg": "HS256", "crit": ["x"], "x": 1}, jwt.get_unverified_header, changed(signed([1], crit=["x"], x=1)))
     test("a header is read as JSON", json.dumps(jwt.get_unverified_header(RS256)) == '{"alg": "RS256"}')

@@ -1,0 +1,109 @@
+"""Signs with private keys, by the package cryptography. The library writes the message, and verifies the token before it is returned."""
+import ctypes
+import functools
+import json
+from collections.abc import Callable
+from typing import Any
+
+from . import _cryptography
+from ._encoding import unsignable
+from ._handles import Handles
+from ._keys import Material, PyJWK, PyJWKSet, bytes_of, material_of, material_of_public
+from ._library import Refusal, answer, library, number_of, slices
+from ._rules import wrong_type
+from ._signatures import ecdsa_signature
+from ._verifier import is_signed, signature_handles
+from ._status import Status
+from .exceptions import InvalidKeyError
+
+# of a JSON Web Key that is public
+_PUBLIC = ("kty", "crv", "n", "e", "x", "y")
+
+
+def signs(private: Any, algorithm: str) -> Callable[[bytes], bytes]:
+    """Returns what signs a message with a private key that is of the algorithm's kind."""
+    from cryptography.hazmat.primitives import hashes
+    from cryptography.hazmat.primitives.asymmetric import ec, padding
+
+    if algorithm == "EdDSA":
+        return private.sign  # type: ignore[no-any-return]
+    digest = getattr(hashes, f"SHA{algorithm[2:]}")()
+    if algorithm.startswith("ES"):
+        return lambda message: ecdsa_signature(private.sign(message, ec.ECDSA(digest)), algorithm)
+    padded = padding.PSS(padding.MGF1(digest), digest.digest_size) if algorithm.startswith("PS") else padding.PKCS1v15()
+    return lambda message: private.sign(message, padded, digest)  # type: ignore[no-any-return]
+
+
+class Signer:
+    """A private key for one algorithm, and the library's verifier of its public half."""
+
+    def __init__(self, private: Any, public: Material, algorithm: str) -> None:
+        self._public, self._algorithm = public, algorithm
+        try:
+            self._verifier = signature_handles(public, algorithm)
+        except Refusal as refusal:
+            if refusal.status != Status.UNFIT_KEY:
+                raise
+            size = f" of {private.key_size} bits" if hasattr(private, "key_size") else ""
+            why = f"{algorithm} does not sign with this key, {type(private).__name__.strip('_')}{size}"
+            raise InvalidKeyError(f"{why}: a key of RSA has at least 2048 bits, and each other algorithm has a curve of its own") from None
+        self._signature = signs(private, algorithm)
+
+    def token(self, header: bytes, claims: bytes, crit: list[str]) -> str:
+        """Returns the token of a header and claims, whose crit may have these names."""
+        number = number_of(self._algorithm)
+        try:
+            message = answer(library.jwt_signing_input, *slices(header, claims), ctypes.byref(ctypes.c_uint32()))
+            signature = self._signature(message)
+            token = answer(library.jwt_encode_signature, *slices(header, claims), number, *slices(message, signature))
+        except Refusal as refusal:
+            raise unsignable(refusal, claims) from None
+        if not self._is_signed(token, crit):
+            raise InvalidKeyError("the public half of the key doesn't verify the signature that was made: the key is damaged, or the signer failed")
+        return str(token, "utf-8")
+
+    def _is_signed(self, token: bytes, crit: list[str]) -> bool:
+        try:
+            return is_signed(signature_handles(self._public, self._algorithm, crit) if crit else self._verifier, token)
+        except Refusal:
+            return False
+
+
+@functools.lru_cache(maxsize=64)
+def _of_pem(text: bytes, algorithm: str) -> Signer:
+    return _of_object(_cryptography.of_pem(text), algorithm)
+
+
+@functools.lru_cache(maxsize=64)
+def _of_object(private: Any, algorithm: str) -> Signer:
+    return Signer(private, material_of_public(private.public_key()), algorithm)
+
+
+@functools.lru_cache(maxsize=64)
+def _of_jwk(material: Material, algorithm: str) -> Signer:
+    if material.kind == "set":
+        raise InvalidKeyError("the key is a set, and a token is signed with one key")
+    found = json.loads(material.text)
+    if material.algorithm not in (None, algorithm):
+        raise InvalidKeyError(f"the key is for {material.algorithm} by its alg, and not for {algorithm}")
+    if "d" not in found:
+        raise InvalidKeyError(f"the key is not private, and {algorithm} signs with the private one")
+    public = json.dumps({name: found[name] for name in _PUBLIC if name in found})
+    return Signer(_cryptography.of_jwk(found), Material("key", public.encode()), algorithm)
+
+
+def signer_of(key: Any, algorithm: str) -> Signer:
+    """Returns what signs with a private key in PEM, one of `cryptography`, or one that is a JSON Web Key."""
+    _cryptography.need(f"signing with {algorithm}")
+    if isinstance(key, (str, bytes, bytearray, memoryview)):
+        text = bytes_of("key", key)
+        if b"-----BEGIN" not in text:
+            raise InvalidKeyError(f"the key is not a private key in PEM, and {algorithm} signs with one")
+        return _of_pem(text, algorithm)
+    if isinstance(key, (dict, PyJWK, PyJWKSet)):
+        return _of_jwk(material_of(key), algorithm)
+    if _cryptography.is_private(key):
+        return _of_object(key, algorithm)
+    if hasattr(key, "public_bytes"):
+        raise InvalidKeyError(f"the key is public, and {algorithm} signs with the private one")
+    raise wrong_type("key", "a private key in PEM, of cryptography, or as a JSON Web Key", key)

@@ -1,0 +1,244 @@
+"""The algorithms by the names of PyJWT: each signs, by hmac or by the package cryptography, and verifies by the library.
+
+`verify` takes the message of a token, which is its header and its payload with a dot between; of other messages the library verifies no
+signature yet.
+"""
+import hashlib
+import hmac
+import importlib.util
+import json
+from abc import ABC, abstractmethod
+from typing import Any, ClassVar, NoReturn
+
+from . import _cryptography
+from ._keys import Material, bytes_of, material_of, material_of_public, secret_of
+from ._library import Refusal
+from ._rules import wrong_type
+from ._signing import signs
+from ._status import Status
+from ._verifier import is_signed, signature_handles
+from .exceptions import InvalidKeyError
+from .utils import base64url_encode
+
+has_crypto = importlib.util.find_spec("cryptography") is not None
+if has_crypto:
+    from cryptography.hazmat.primitives import hashes
+
+# also those of PyJWT that are none of the twelve
+requires_cryptography = {
+    *("RS256", "RS384", "RS512", "PS256", "PS384", "PS512"),
+    *("ES256", "ES256K", "ES384", "ES512", "ES521", "EdDSA"),
+}
+
+
+def get_default_algorithms() -> dict[str, "Algorithm"]:
+    """Returns the algorithms by their names: `none`, which verifies nothing, and the twelve, or without `cryptography` those of HMAC."""
+    found: dict[str, Algorithm] = {"none": NoneAlgorithm()}
+    for bits in (256, 384, 512):
+        found[f"HS{bits}"] = HMACAlgorithm(getattr(HMACAlgorithm, f"SHA{bits}"))
+    if has_crypto:
+        for bits in (256, 384, 512):
+            found[f"RS{bits}"] = RSAAlgorithm(getattr(RSAAlgorithm, f"SHA{bits}"))
+            found[f"PS{bits}"] = RSAPSSAlgorithm(getattr(RSAPSSAlgorithm, f"SHA{bits}"))
+        found |= {"ES256": ECAlgorithm(ECAlgorithm.SHA256), "ES384": ECAlgorithm(ECAlgorithm.SHA384), "EdDSA": OKPAlgorithm()}
+    return found
+
+
+def _object(jwk: str | dict[str, Any], kind: str, error: str) -> dict[str, Any]:
+    try:
+        found = json.loads(jwk) if isinstance(jwk, str) else jwk
+    except ValueError:
+        found = None
+    if not isinstance(found, dict):
+        raise InvalidKeyError("Key is not valid JSON")
+    if found.get("kty") != kind:
+        raise InvalidKeyError(error)
+    return found
+
+
+def _written(jwk: dict[str, Any], as_dict: bool) -> Any:
+    return jwk if as_dict else json.dumps(jwk)
+
+
+class Algorithm(ABC):
+    """An algorithm that signs and verifies. `name` is that of the twelve, or None for one of another digest, which verifies nothing."""
+
+    name: str | None = None
+    hash_alg: Any = None
+
+    def compute_hash_digest(self, bytestr: bytes) -> bytes:
+        """Returns the digest of bytes by the algorithm's hash. Raises NotImplementedError if it has none of its own."""
+        if self.hash_alg is None:
+            raise NotImplementedError
+        made = self.hash_alg() if has_crypto and isinstance(self.hash_alg, type) and issubclass(self.hash_alg, hashes.HashAlgorithm) else None
+        return hashlib.new(made.name, bytestr).digest() if made is not None else bytes(self.hash_alg(bytestr).digest())
+
+    @abstractmethod
+    def prepare_key(self, key: Any) -> Any:
+        """Returns the key that `sign` and `verify` take. Raises InvalidKeyError, or TypeError."""
+
+    @abstractmethod
+    def sign(self, msg: bytes, key: Any) -> bytes:
+        """Returns the signature of a message."""
+
+    def verify(self, msg: bytes, key: Any, sig: bytes) -> bool:
+        """Returns whether the library accepts the signature of a token's message. Raises NotImplementedError for any other message."""
+        name = self._named("verifies")
+        try:
+            return is_signed(signature_handles(self._material(key), name), b"%s.%s" % (msg, base64url_encode(sig)))
+        except Refusal as refusal:
+            if refusal.status in (Status.UNFIT_KEY, Status.UNSUPPORTED_ALGORITHM, Status.BASE64, Status.BAD_KEY):
+                raise InvalidKeyError(f"{name} does not verify with this key") from None
+        raise NotImplementedError(f"{name} verifies the message of a token with this alg, and no other message yet")
+
+    def _named(self, does: str) -> str:
+        if self.name is None:
+            raise NotImplementedError(f"no algorithm of this digest {does}")
+        return self.name
+
+    def _material(self, key: Any) -> Material:
+        return material_of_public(key.public_key() if _cryptography.is_private(key) else key)
+
+    @staticmethod
+    @abstractmethod
+    def to_jwk(key_obj: Any, as_dict: bool = False) -> Any:
+        """Returns a key as a JSON Web Key, which is a text, or a dict."""
+
+    @staticmethod
+    @abstractmethod
+    def from_jwk(jwk: str | dict[str, Any]) -> Any:
+        """Returns the key of a JSON Web Key. Raises InvalidKeyError."""
+
+
+class NoneAlgorithm(Algorithm):
+    """The algorithm `none`: its signature is empty, and it verifies nothing."""
+
+    def prepare_key(self, key: Any) -> None:
+        if key not in (None, ""):
+            raise InvalidKeyError('When alg = "none", key value must be None.')
+
+    def sign(self, msg: bytes, key: Any) -> bytes:
+        return b""
+
+    def verify(self, msg: bytes, key: Any, sig: bytes) -> bool:
+        return False
+
+    @staticmethod
+    def to_jwk(key_obj: Any, as_dict: bool = False) -> NoReturn:
+        raise NotImplementedError
+
+    @staticmethod
+    def from_jwk(jwk: str | dict[str, Any]) -> NoReturn:
+        raise NotImplementedError
+
+
+class HMACAlgorithm(Algorithm):
+    """HMAC with SHA-2. A key is a secret, which others must not know."""
+
+    SHA256: ClassVar[Any] = hashlib.sha256
+    SHA384: ClassVar[Any] = hashlib.sha384
+    SHA512: ClassVar[Any] = hashlib.sha512
+
+    def __init__(self, hash_alg: Any) -> None:
+        self.hash_alg = hash_alg
+        self.name = {self.SHA256: "HS256", self.SHA384: "HS384", self.SHA512: "HS512"}.get(hash_alg)
+
+    def prepare_key(self, key: Any) -> bytes:
+        if not isinstance(key, (str, bytes, bytearray, memoryview)):
+            raise TypeError("Expected a string value")
+        return secret_of(bytes_of("key", key), self.name or "HMAC")
+
+    def sign(self, msg: bytes, key: bytes) -> bytes:
+        return hmac.new(key, msg, self.hash_alg).digest()
+
+    def _material(self, key: Any) -> Material:
+        return material_of(key)
+
+    @staticmethod
+    def to_jwk(key_obj: str | bytes, as_dict: bool = False) -> Any:
+        return _written({"kty": "oct", "k": base64url_encode(bytes_of("key_obj", key_obj)).decode()}, as_dict)
+
+    @staticmethod
+    def from_jwk(jwk: str | dict[str, Any]) -> bytes:
+        return _cryptography.octets(_object(jwk, "oct", "Not an HMAC key"), "k")
+
+
+class _OfCryptography(Algorithm):
+    """An algorithm whose keys are those of `cryptography`."""
+
+    # of a JSON Web Key, and in exceptions
+    _kind = _called = ""
+
+    def prepare_key(self, key: Any) -> Any:
+        """Returns a key of `cryptography` as it is, and reads one in PEM, which is public or private."""
+        _cryptography.need(self.name or "this algorithm")
+        if isinstance(key, (str, bytes, bytearray, memoryview)):
+            key = _cryptography.of_any_pem(bytes_of("key", key))
+        elif not _cryptography.is_private(key) and not hasattr(key, "public_bytes"):
+            raise wrong_type("key", "a key in PEM, or one of cryptography", key)
+        if _cryptography.jwk_of(key)["kty"] != self._kind:
+            raise InvalidKeyError(f"the key is of another kind than {self._kind}")
+        return key
+
+    def sign(self, msg: bytes, key: Any) -> bytes:
+        if not _cryptography.is_private(key):
+            raise InvalidKeyError("the key is public, and signing needs the private one")
+        return signs(key, self._named("signs"))(msg)
+
+    @staticmethod
+    def to_jwk(key_obj: Any, as_dict: bool = False) -> Any:
+        return _written(_cryptography.jwk_of(key_obj), as_dict)
+
+
+class RSAAlgorithm(_OfCryptography):
+    """RSASSA-PKCS1-v1_5 with SHA-2."""
+
+    _kind = "RSA"
+    if has_crypto:
+        SHA256, SHA384, SHA512 = hashes.SHA256, hashes.SHA384, hashes.SHA512
+    _prefix = "RS"
+
+    def __init__(self, hash_alg: Any) -> None:
+        self.hash_alg = hash_alg
+        self.name = {self.SHA256: "256", self.SHA384: "384", self.SHA512: "512"}.get(hash_alg)
+        if self.name is not None:
+            self.name = f"{self._prefix}{self.name}"
+
+    @staticmethod
+    def from_jwk(jwk: str | dict[str, Any]) -> Any:
+        return _cryptography.of_jwk(_object(jwk, "RSA", "Not an RSA key"))
+
+
+class RSAPSSAlgorithm(RSAAlgorithm):
+    """RSASSA-PSS with SHA-2 and a salt of the digest's length."""
+
+    _prefix = "PS"
+
+
+class ECAlgorithm(_OfCryptography):
+    """ECDSA with P-256 and SHA-256, or P-384 and SHA-384."""
+
+    _kind = "EC"
+    if has_crypto:
+        SHA256, SHA384, SHA512 = hashes.SHA256, hashes.SHA384, hashes.SHA512
+
+    def __init__(self, hash_alg: Any) -> None:
+        self.hash_alg = hash_alg
+        self.name = {self.SHA256: "ES256", self.SHA384: "ES384"}.get(hash_alg)
+
+    @staticmethod
+    def from_jwk(jwk: str | dict[str, Any]) -> Any:
+        return _cryptography.of_jwk(_object(jwk, "EC", "Not an Elliptic curve key"))
+
+
+class OKPAlgorithm(_OfCryptography):
+    """EdDSA with Ed25519."""
+
+    _kind, name = "OKP", "EdDSA"
+
+    def __init__(self, **kwargs: Any) -> None:
+        pass
+
+    @staticmethod
+    def from_jwk(jwk: str | dict[str, Any]) -> Any:
+        return _cryptography.of_jwk(_object(jwk, "OKP", "Not an Octet Key Pair"))

@@ -1,0 +1,184 @@
+"""Tokens over any bytes, by the names of PyJWT. The library verifies the signature, and looks at no claim."""
+import json
+from typing import Any
+
+from . import _refusals
+from ._api import get_unverified_header
+from ._encoding import members_of
+from ._keys import Key, PyJWK, SigningKey, material_of
+from ._library import ALGORITHMS, Refusal
+from ._parts import Parts, parts_of
+from ._rules import listed, warn_of
+from ._status import Status
+from ._verifier import Token, is_signed, signature_handles, token_of
+from .algorithms import Algorithm, get_default_algorithms
+from .exceptions import DecodeError, InvalidAlgorithmError, InvalidKeyError, InvalidSignatureError
+from .types import Listed, Options
+from .utils import base64url_encode
+
+
+class PyJWS:
+    """Issues and verifies tokens whose payload is any bytes (RFC 7515). Of `algorithms`, all are served if it is None."""
+
+    header_typ = "JWT"
+
+    def __init__(self, algorithms: Listed | None = None, options: Options | None = None) -> None:
+        names = listed(algorithms)
+        self._algorithms = {name: it for name, it in get_default_algorithms().items() if names is None or name in names}
+        self.options: dict[str, Any] = {"verify_signature": True, **dict(options or {})}
+
+    def get_algorithms(self) -> list[str]:
+        """Returns the names of the algorithms that this object signs and verifies with."""
+        return list(self._algorithms)
+
+    def get_algorithm_by_name(self, alg_name: str) -> Algorithm:
+        """Returns an algorithm. Raises NotImplementedError if this object has none of this name."""
+        try:
+            return self._algorithms[alg_name]
+        except KeyError:
+            raise NotImplementedError("Algorithm not supported") from None
+
+    def register_algorithm(self, alg_id: str, alg_obj: Algorithm) -> None:
+        """Raises an exception: the library alone verifies."""
+        if alg_id in self._algorithms:
+            raise ValueError("Algorithm already has a handler.")
+        if not isinstance(alg_obj, Algorithm):
+            raise TypeError("Object is not of type `Algorithm`")
+        raise NotImplementedError(f"{alg_id!r} can't be registered: the library verifies with its own algorithms alone")
+
+    def unregister_algorithm(self, alg_id: str) -> None:
+        """Takes an algorithm from this object. Raises KeyError if it has none of this name."""
+        if alg_id not in self._algorithms:
+            raise KeyError("The specified algorithm could not be removed because it is not registered.")
+        del self._algorithms[alg_id]
+
+    def encode(
+        self,
+        payload: bytes,
+        key: SigningKey,
+        algorithm: str | None = None,
+        headers: dict[str, Any] | None = None,
+        json_encoder: type[json.JSONEncoder] | None = None,
+        is_payload_detached: bool = False,
+        sort_headers: bool = True,
+    ) -> str:
+        """Returns the token of these bytes, which the library has verified, but for one of `none`. A payload that is detached is left out
+        of it, and is signed as it is (RFC 7797)."""
+        members = members_of(algorithm or (key.algorithm_name if isinstance(key, PyJWK) else "HS256"), headers)
+        is_detached = is_payload_detached or members.get("b64") is False
+        members.pop("b64", None)
+        if is_detached:
+            members["b64"] = False
+        made = self.get_algorithm_by_name(members["alg"])
+        header = base64url_encode(json.dumps(members, separators=(",", ":"), cls=json_encoder, sort_keys=sort_headers).encode())
+        message = b"%s.%s" % (header, payload if is_detached else base64url_encode(payload))
+        prepared = made.prepare_key(made.from_jwk(key._jwk_data) if isinstance(key, PyJWK) else key)
+        signature = made.sign(message, prepared)
+        if made.name is not None and not made.verify(message, prepared, signature):
+            raise InvalidKeyError("the public half of the key doesn't verify the signature that was made: the key is damaged, or the signer failed")
+        shown = b"" if is_detached else message[len(header) + 1 :]
+        return str(b"%s.%s.%s" % (header, shown, base64url_encode(signature)), "utf-8")
+
+    def decode_complete(
+        self,
+        jwt: Token,
+        key: Key = "",
+        algorithms: Listed | None = None,
+        options: Options | None = None,
+        detached_payload: bytes | None = None,
+        **kwargs: Any,
+    ) -> dict[str, Any]:
+        """Returns the bytes that `decode` returns as `payload`, with the token's `header` and the bytes of its `signature`."""
+        warn_of("decode_complete", kwargs)
+        verifies = {**self.options, **dict(options or {})}["verify_signature"]
+        names = listed(algorithms)
+        if verifies and not names and not isinstance(key, PyJWK):
+            raise DecodeError('It is required that you pass in a value for the "algorithms" argument when calling decode().')
+        parts = parts_of(token_of("jwt", jwt))
+        if parts.header.get("b64", True) is False:
+            if detached_payload is None:
+                why = "argument to decode a message having the b64 header set to false."
+                raise DecodeError(f'It is required that you pass in a value for the "detached_payload" {why}')
+            parts = parts._replace(texts=(parts.texts[0], detached_payload), payload=detached_payload)
+        if verifies:
+            self._verify(parts, key, names or (key.algorithm_name if isinstance(key, PyJWK) else "",))
+        return {"payload": parts.payload, "header": parts.header, "signature": parts.signature}
+
+    def decode(
+        self,
+        jwt: Token,
+        key: Key = "",
+        algorithms: Listed | None = None,
+        options: Options | None = None,
+        detached_payload: bytes | None = None,
+        **kwargs: Any,
+    ) -> Any:
+        """Returns the bytes of a token's payload, once the library has verified the signature with a key, by one of these algorithms.
+
+        A payload that is detached (RFC 7797) has to be given. A refusal raises an exception below InvalidTokenError.
+        """
+        warn_of("decode", kwargs)
+        return self.decode_complete(jwt, key, algorithms, options, detached_payload)["payload"]
+
+    def get_unverified_header(self, jwt: Token) -> dict[str, Any]:
+        """Returns the header of a token. Nothing is verified."""
+        return get_unverified_header(jwt)
+
+    def _verify(self, parts: Parts, key: Key, algorithms: tuple[str, ...]) -> None:
+        named = parts.header.get("alg")
+        if "alg" not in parts.header:
+            raise InvalidAlgorithmError("Algorithm not specified")
+        if not named or named not in algorithms:
+            raise InvalidAlgorithmError(_refusals.UNLISTED_ALG)
+        if named not in self._algorithms or named not in ALGORITHMS:
+            raise InvalidAlgorithmError("Algorithm not supported")
+        token = b"%s.%s.%s" % (*parts.texts, base64url_encode(parts.signature))
+        if not _is_signed(key, named, token):
+            raise InvalidSignatureError("Signature verification failed")
+
+
+def _is_signed(key: Key, algorithm: str, token: bytes) -> bool:
+    material = material_of(key)
+    try:
+        handles = signature_handles(material, algorithm)
+    except Refusal as refusal:
+        if refusal.status != Status.UNFIT_KEY:
+            raise _refusals.exception_of_texts(refusal) from None
+        if isinstance(key, PyJWK):
+            raise _refusals.other_algorithm(_refusals.UNFIT_KEY, "VerifierIsMade") from None
+        raise InvalidKeyError(f"the key is not for {algorithm}, or does not serve") from None
+    if token.count(b".") != 2:
+        raise NotImplementedError("a detached payload with a dot is not verified yet")
+    try:
+        return is_signed(handles, token)
+    except Refusal as refusal:
+        raise _refusals.exception_of(refusal, token) from None
+
+
+_global = PyJWS()
+encode = _global.encode
+decode = _global.decode
+decode_complete = _global.decode_complete
+get_algorithm_by_name = _global.get_algorithm_by_name
+
+
+def register_algorithm(alg_id: str, alg_obj: Algorithm) -> None:
+    """Raises NotImplementedError: the library alone verifies."""
+    _global.register_algorithm(alg_id, alg_obj)
+
+
+def unregister_algorithm(alg_id: str) -> None:
+    """Raises NotImplementedError: `decode` is given the algorithms that it accepts."""
+    raise NotImplementedError(f"{alg_id!r} stays: list the algorithms that are accepted as algorithms= of decode, or make a PyJWS")
+
+
+__all__ = [
+    "PyJWS",
+    "decode",
+    "decode_complete",
+    "encode",
+    "get_algorithm_by_name",
+    "get_unverified_header",
+    "register_algorithm",
+    "unregister_algorithm",
+]

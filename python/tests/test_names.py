@@ -1,0 +1,277 @@
+"""Tests the names of PyJWT's that the installed package has beside `encode` and `decode`, and what it answers as PyJWT does. The last line
+counts. Expected values are those of RFC 7515 to RFC 7518, and of PyJWT 2.10.1's documentation."""
+import base64
+import hashlib
+import hmac
+import inspect
+import json
+import subprocess
+import sys
+import warnings
+
+from counting import HS, NOW, SECRET, at, changed, finish, gives, outcome, part, raises, signed, test
+
+import jwtproved as jwt
+from jwtproved import algorithms, api_jws, utils
+
+try:
+    import jwt as peer
+except ImportError:
+    peer = None
+
+# of a token that no library signs
+NONE = ".".join(map(part, (b'{"alg":"none"}', b'{"a":1,"exp":1}', b"")))
+ES512 = ".".join(map(part, (b'{"alg":"ES512","kid":"k"}', b'{"a":1}', bytes(132))))
+
+
+def modules():
+    """Each module has the names of PyJWT's, and is loaded when it is asked for."""
+    names = {
+        "algorithms": "Algorithm ECAlgorithm HMACAlgorithm NoneAlgorithm OKPAlgorithm RSAAlgorithm RSAPSSAlgorithm get_default_algorithms"
+        " has_crypto requires_cryptography",
+        "api_jws": "PyJWS decode decode_complete encode get_algorithm_by_name get_unverified_header register_algorithm unregister_algorithm",
+        "types": "HashlibHash JWKDict",
+        "utils": "base64url_decode base64url_encode bytes_from_int bytes_to_number der_to_raw_signature force_bytes from_base64url_uint"
+        " is_pem_format is_ssh_key number_to_bytes raw_to_der_signature to_base64url_uint",
+        "warnings": "RemovedInPyjwt3Warning",
+    }
+    for module, its in names.items():
+        found = getattr(jwt, module)
+        missing = [it for it in its.split() if not hasattr(found, it)]
+        test(f"{module} lacks {missing}", not missing and found is sys.modules[f"jwtproved.{module}"])
+    missing = [it for it in jwt.__all__ if not hasattr(jwt, it)]
+    test(f"the package lacks {missing}", not missing)
+    raises(AttributeError, getattr, jwt, "nothing", said="nothing")
+    lean = "import sys, jwtproved; sys.exit('cryptography' in sys.modules or 'jwtproved.algorithms' in sys.modules)"
+    test("cryptography is not loaded by itself", subprocess.run([sys.executable, "-c", lean]).returncode == 0)
+
+
+def arguments_are_its():
+    """The calls have PyJWT's arguments, in its order."""
+    if peer is None:
+        return
+    for name in ("encode", "decode", "get_unverified_header"):
+        # the order of subject and issuer is that of 2.10, which 2.6 has not
+        theirs, ours = (list(inspect.signature(getattr(it, name)).parameters) for it in (peer, jwt))
+        missing = [it for it in theirs if it not in ours]
+        test(f"{name} lacks {missing}", not missing and ours[:4] == theirs[:4])
+    missing = [it for it in peer.__all__ if not hasattr(jwt, it)]
+    test(f"the package lacks {missing} of PyJWT {peer.__version__}", not missing)
+    for name in vars(peer.exceptions):
+        if inspect.isclass(getattr(peer.exceptions, name)):
+            its, own = ([it.__name__ for it in getattr(of.exceptions, name).__mro__] for of in (peer, jwt))
+            test(f"the bases of {name} are {own}, not {its}", its == own)
+
+
+def tokens_of_bytes():
+    """PyJWS signs and verifies any bytes."""
+    jws = jwt.PyJWS()
+    for payload in (b"", b"hello", b"\xff\0", b"{}", b"[1]", b"a.b", bytes(5000)):
+        token = jws.encode(payload, SECRET, "HS256", {"kid": "a"})
+        message = ".".join(map(part, (b'{"alg":"HS256","kid":"a","typ":"JWT"}', payload)))
+        mac = hmac.digest(SECRET.encode(), message.encode(), "sha256")
+        gives(f"{message}.{part(mac)}", lambda token=token: token)
+        gives(payload, jws.decode, token, SECRET, ["HS256"])
+        whole = {"payload": payload, "header": {"alg": "HS256", "kid": "a", "typ": "JWT"}, "signature": mac}
+        gives(whole, jws.decode_complete, token, SECRET, ["HS256"])
+        raises(jwt.InvalidSignatureError, jws.decode, changed(token), SECRET, ["HS256"])
+        raises(jwt.InvalidSignatureError, jws.decode, token, "another secret", ["HS256"])
+        raises(jwt.InvalidAlgorithmError, jws.decode, token, SECRET, ["HS512"])
+        raises(jwt.DecodeError, jws.decode, token, SECRET, said="algorithms")
+        gives(payload, jws.decode, changed(token), options={"verify_signature": False})
+    for it in (NONE, ES512):
+        raises(jwt.InvalidAlgorithmError, jws.decode, it, SECRET, ["HS256"], said="not allowed")
+        raises(jwt.InvalidAlgorithmError, jws.decode, it, SECRET, ["none", "ES512"], said="not supported")
+        gives(json.loads(base64.urlsafe_b64decode(it.split(".")[1] + "==")), lambda it=it: json.loads(jws.decode(it, options={"verify_signature": False})))
+    crit = signed({}, crit=["x"], x=1)
+    raises(jwt.DecodeError, jws.decode, crit, SECRET, ["HS256"], said="crit")
+    for it in (None, 5, "", "a.b", "a.b.c.d"):
+        raises(jwt.DecodeError, jws.decode, it, SECRET, ["HS256"])
+
+
+def detached():
+    """A payload that is not in the token has to be given (RFC 7797)."""
+    jws = jwt.PyJWS()
+    token = jws.encode(b"$02 hello", SECRET, "HS256", is_payload_detached=True)
+    head, payload, _ = token.split(".")
+    gives({"alg": "HS256", "b64": False, "typ": "JWT"}, jws.get_unverified_header, token)
+    test("the payload is not in it", payload == "")
+    gives(b"$02 hello", jws.decode, token, SECRET, ["HS256"], detached_payload=b"$02 hello")
+    raises(jwt.InvalidSignatureError, jws.decode, token, SECRET, ["HS256"], detached_payload=b"$03 hello")
+    raises(jwt.DecodeError, jws.decode, token, SECRET, ["HS256"], said="detached_payload")
+    raises(jwt.InvalidSignatureError, jwt.decode, token, SECRET, ["HS256"])
+    mac = part(hmac.digest(SECRET.encode(), f"{head}.".encode() + b"a.b", "sha256"))
+    raises(NotImplementedError, jws.decode, f"{head}..{mac}", SECRET, ["HS256"], detached_payload=b"a.b", said="dot")
+
+
+def algorithms_of_jws():
+    jws = jwt.PyJWS(algorithms=["HS256"])
+    gives(["HS256"], jws.get_algorithms)
+    raises(jwt.InvalidAlgorithmError, jws.decode, jwt.encode({}, SECRET, "HS384"), SECRET, ["HS384"], said="supported")
+    raises(NotImplementedError, jws.encode, b"", SECRET, "HS384")
+    jws.unregister_algorithm("HS256")
+    raises(NotImplementedError, jws.encode, b"", SECRET)
+    raises(KeyError, jws.unregister_algorithm, "HS256")
+    made = algorithms.HMACAlgorithm(hashlib.sha256)
+    raises(ValueError, jwt.register_algorithm, "HS256", made)
+    raises(TypeError, jwt.register_algorithm, "HS1", object())
+    raises(NotImplementedError, jwt.register_algorithm, "HS1", made, said="HS1")
+    raises(NotImplementedError, jwt.unregister_algorithm, "HS256", said="HS256")
+    raises(NotImplementedError, api_jws.get_algorithm_by_name, "HS1")
+    found = algorithms.get_default_algorithms()
+    test("HS256", type(found["HS256"]) is algorithms.HMACAlgorithm and type(found["none"]) is algorithms.NoneAlgorithm)
+    test("none verifies nothing", found["none"].verify(b"", None, b"") is False and found["none"].sign(b"a", None) == b"")
+    raises(jwt.InvalidKeyError, found["none"].prepare_key, "a")
+    gives(hashlib.sha256(b"abc").digest(), found["HS256"].compute_hash_digest, b"abc")
+    raises(NotImplementedError, found["none"].compute_hash_digest, b"abc")
+    # the message of a token
+    message = ".".join(map(part, (b"{}", b"x"))).encode()
+    mac = hmac.digest(SECRET.encode(), message, "sha256")
+    gives(mac, found["HS256"].sign, message, SECRET.encode())
+    raises(NotImplementedError, found["HS256"].verify, message, SECRET.encode(), mac)
+    message = ".".join(map(part, (b'{"alg":"HS256"}', b"x"))).encode()
+    mac = hmac.digest(SECRET.encode(), message, "sha256")
+    gives(True, found["HS256"].verify, message, SECRET.encode(), mac)
+    gives(False, found["HS256"].verify, message, SECRET.encode(), bytes(32))
+    for it in ("", "-----BEGIN PUBLIC KEY-----\nAA==\n-----END PUBLIC KEY-----\n", "ssh-rsa AAAA"):
+        raises(jwt.InvalidKeyError, found["HS256"].prepare_key, it)
+    raises(TypeError, found["HS256"].prepare_key, None)
+    gives({"kty": "oct", "k": part(b"abc")}, algorithms.HMACAlgorithm.to_jwk, "abc", as_dict=True)
+    gives(b"abc", algorithms.HMACAlgorithm.from_jwk, algorithms.HMACAlgorithm.to_jwk(b"abc"))
+    for it in ("[", "[]", 5, '{"kty":"RSA"}', {"kty": "oct"}, {"kty": "oct", "k": "a b"}):
+        raises(jwt.InvalidKeyError, algorithms.HMACAlgorithm.from_jwk, it)
+    test("PyJWK.Algorithm", jwt.PyJWK({"kty": "oct", "k": part(SECRET.encode())}).Algorithm.name == "HS256")
+
+
+def texts_and_numbers():
+    # RFC 7515 appendix C, RFC 7518 section 2
+    gives(b"A-z_4ME", utils.base64url_encode, bytes([3, 236, 255, 224, 193]))
+    for it in ("A-z_4ME", b"A-z_4ME", "A-z_4ME="):
+        gives(bytes([3, 236, 255, 224, 193]), utils.base64url_decode, it)
+    for it in ("A", "A b=", "+/==", "\n"):
+        got = outcome(utils.base64url_decode, it)
+        test(f"{it!r}: {got!r}", isinstance(got, ValueError))
+    gives(b"AQAB", utils.to_base64url_uint, 65537)
+    gives(b"AA", utils.to_base64url_uint, 0)
+    gives(65537, utils.from_base64url_uint, "AQAB")
+    raises(ValueError, utils.to_base64url_uint, -1)
+    gives(b"\0\0\1", utils.number_to_bytes, 1, 3)
+    gives(258, utils.bytes_to_number, b"\1\2")
+    raises(TypeError, utils.force_bytes, 5)
+
+
+class Curve:
+    name, key_size = "secp256r1", 256
+
+
+def signatures_in_der():
+    # two numbers, 1 and 128 (X.690 section 8.3)
+    der, raw = bytes.fromhex("300702010102020080"), (1).to_bytes(32, "big") + (128).to_bytes(32, "big")
+    gives(raw, utils.der_to_raw_signature, der, Curve)
+    gives(der, utils.raw_to_der_signature, raw, Curve)
+    raises(ValueError, utils.raw_to_der_signature, raw[1:], Curve)
+    raises(ValueError, utils.raw_to_der_signature, raw, type("Other", (), {"name": "secp256k1", "key_size": 256}))
+
+
+def unverified():
+    """Of a token of any algorithm the header and the claims are read, and nothing is decided."""
+    unchecked = {"verify_signature": False}
+    at(NOW)
+    gives({"alg": "none"}, jwt.get_unverified_header, NONE)
+    gives({"alg": "ES512", "kid": "k"}, jwt.get_unverified_header, ES512)
+    gives({"a": 1, "exp": 1}, jwt.decode, NONE, options=unchecked)
+    gives({"a": 1}, jwt.decode, ES512, options=unchecked)
+    gives({"payload": {"a": 1}, "header": {"alg": "ES512", "kid": "k"}, "signature": bytes(132)}, jwt.decode_complete, ES512, options=unchecked)
+    raises(jwt.ExpiredSignatureError, jwt.decode, NONE, options={**unchecked, "verify_exp": True})
+    raises(jwt.MissingRequiredClaimError, jwt.decode, ES512, options={**unchecked, "require": ["exp"]})
+    for it, said in (("a", "segments"), ("a.b", "segments"), (".b.c", "header"), ("!.b.c", "header padding"), (part(b"[]") + ".e30.", "object")):
+        raises(jwt.DecodeError, jwt.get_unverified_header, it, said=said)
+    raises(jwt.InvalidTokenError, jwt.get_unverified_header, signed({}, kid=5), said="Key ID")
+
+
+def warned(call, *arguments, **options):
+    """Returns the result of a call, and the kinds of the warnings that it gives."""
+    with warnings.catch_warnings(record=True) as seen:
+        warnings.simplefilter("always")
+        got = outcome(call, *arguments, **options)
+    return got, [(it.category.__name__, it.filename.rpartition("/")[2]) for it in seen]
+
+
+def what_does_nothing():
+    """An argument that does nothing is warned of, where it stands; one that would be a condition is an error."""
+    at(NOW)
+    # where the call is made
+    token, here = signed({}), "counting.py"
+    for call in (jwt.decode, lambda *_, **it: jwt.PyJWS().decode(*_, **it)):
+        got = warned(call, token, SECRET, ["HS256"], anything=5)
+        test(f"a keyword: {got}", [it[0] for it in got[1]] == ["RemovedInPyjwt3Warning"] and got[0] in ({}, b"{}"))
+    gives(({}, [("RemovedInPyjwt3Warning", here)]), warned, jwt.decode, token, SECRET, ["HS256"], anything=5)
+    gives(({}, [("DeprecationWarning", here)]), warned, jwt.decode, token, SECRET, ["HS256"], verify=False)
+    gives(({}, []), warned, jwt.decode, token, SECRET, ["HS256"], verify=True)
+    gives(({}, [("RemovedInPyjwt3Warning", here)]), warned, jwt.decode, token, SECRET, ["HS256"], {"verify_at_hash": False})
+    raises(jwt.InvalidSignatureError, jwt.decode, changed(token), SECRET, ["HS256"], verify=False)
+    for name in ("verify_at_hash", "enforce_minimum_key_length", "require_exp"):
+        raises(TypeError, jwt.decode, token, SECRET, ["HS256"], {name: True}, said=name)
+    for name in ("aud", "iss", "sub", "algorithm", "now", "nonce"):
+        raises(TypeError, jwt.decode, token, SECRET, ["HS256"], said=name, **{name: "a"})
+
+
+def texts():
+    """The exceptions have the texts of PyJWT's."""
+    at(NOW)
+    for claims, arguments, text in (
+        ({}, {"audience": "a"}, 'Token is missing the "aud" claim'),
+        ({"aud": "b"}, {"audience": "a"}, "Audience doesn't match"),
+        ({"aud": "b"}, {}, "Invalid audience"),
+        ({"iss": "b"}, {"issuer": "a"}, "Invalid issuer"),
+        ({"exp": 1}, {}, "Signature has expired"),
+        ({"nbf": NOW + 1}, {}, "The token is not yet valid (nbf)"),
+        ({"iat": NOW + 1}, {}, "The token is not yet valid (iat)"),
+        ({"sub": 5}, {}, "Subject must be a string"),
+        ({"jti": 5}, {}, "JWT ID must be a string"),
+        ([], {}, "Invalid payload string: must be a json object"),
+    ):
+        gives(text, lambda claims=claims, arguments=arguments: str(outcome(jwt.decode, signed(claims), SECRET, **HS, **arguments)))
+    for token, text in (
+        ("a.b", "Not enough segments"),
+        ("!.e30.AA", "Invalid header padding"),
+        (signed({}) + "!", "Invalid crypto padding"),
+        (changed(signed({})), "Signature verification failed"),
+        (signed({}, alg="HS384"), "The specified alg value is not allowed"),
+    ):
+        gives(text, lambda token=token: str(outcome(jwt.decode, token, SECRET, **HS)))
+
+
+AS_JWT = """
+import jwtproved.as_jwt
+import jwt, jwtproved, sys
+import jwt.algorithms, jwt.api_jws, jwt.exceptions, jwt.jwks_client, jwt.utils, jwt.warnings, jwt.types
+from jwt.api_jwt import PyJWT
+from jwt.api_jwk import PyJWK
+from jwt import PyJWS, ExpiredSignatureError, algorithms
+assert jwt.decode is jwtproved.decode and PyJWT is jwtproved.PyJWT and PyJWK is jwtproved.PyJWK and PyJWS is jwtproved.PyJWS
+assert jwt.exceptions is jwtproved.exceptions and algorithms is jwtproved.algorithms and jwt.__version__ == "2.10.1"
+assert jwtproved.utils.__spec__.name == "jwtproved.utils" and jwt.__name__ == "jwt"
+assert not [it for it in sys.modules if it.startswith("jwt.") and sys.modules[it].__name__ == it]
+try:
+    import jwt.nothing
+except ModuleNotFoundError as error:
+    assert "jwt.nothing" in str(error)
+import jwtproved.as_jwt
+"""
+
+
+def in_its_place():
+    """`import jwtproved.as_jwt` answers `import jwt` in the process, and refuses beside another package of this name."""
+    for program, status in ((AS_JWT, 0), ("import sys, types; sys.modules['jwt'] = types.ModuleType('jwt')\nimport jwtproved.as_jwt", 1)):
+        ran = subprocess.run([sys.executable, "-c", program], capture_output=True, text=True)
+        test(f"as jwt: {ran.stderr}", ran.returncode == status and (status == 0) == (ran.stderr == ""))
+        test(f"as jwt: {ran.stderr}", status == 0 or "ImportError: jwt was imported already" in ran.stderr)
+    test("it is not in place by itself", jwt.__name__ == "jwtproved")
+
+
+for step in (modules, arguments_are_its, tokens_of_bytes, detached, algorithms_of_jws, texts_and_numbers, signatures_in_der, unverified):
+    step()
+for step in (what_does_nothing, texts, in_its_place):
+    step()
+finish("names")
