@@ -1,3 +1,5 @@
+//go:build cgo && linux && amd64
+
 package jwt
 
 // #include <jwtproved.h>
@@ -6,23 +8,48 @@ import "C"
 import (
 	"encoding/json"
 	"errors"
+	"math"
+	"strconv"
 )
 
-// member returns the text of a member of a JSON object, and whether there is one of this name and type.
-func member(object []byte, name string, of C.uint32_t) ([]byte, bool) {
+// member returns the text of a member of a JSON object, and its type, or 0 if there is none of this name.
+func member(object []byte, name string) ([]byte, C.uint32_t, error) {
 	var found C.uint32_t
 	value, status := fill(len(object), func(buffer *C.uint8_t, size C.size_t, length *C.size_t) C.uint32_t {
 		objectAt, objectLen := slice(object)
 		nameAt, nameLen := slice([]byte(name))
 		return C.jwt_member(objectAt, objectLen, nameAt, nameLen, &found, buffer, size, length)
 	})
-	return value, status == C.JWT_OK && found == of
+	if status != C.JWT_OK && status != C.JWT_NO_MEMBER {
+		return nil, 0, refusal(status, 0)
+	}
+	return value, found, nil
 }
 
 // stringOf returns a member that is a string.
 func stringOf(object []byte, name string) (string, bool) {
-	value, is := member(object, name, C.JWT_STRING)
-	return string(value), is
+	value, found, err := member(object, name)
+	return string(value), err == nil && found == C.JWT_STRING
+}
+
+// checkIssued refuses claims whose iat is after a time and the leeway, or is no number. A part of a second counts as after it.
+func checkIssued(claims []byte, leeway, now uint64) error {
+	value, found, err := member(claims, "iat")
+	if err != nil || found == 0 {
+		return err
+	}
+	at, err := strconv.ParseFloat(string(value), 64)
+	if found != C.JWT_NUMBER || err != nil {
+		return &Error{Claim: "iat", kind: ErrMalformedClaim, text: "Invalid format for claim: iat"}
+	}
+	issued, err := strconv.ParseUint(string(value), 10, 64)
+	if err != nil {
+		issued = uint64(math.Ceil(math.Max(0, math.Min(at, 1<<63))))
+	}
+	if status := C.jwt_check_issued_at(C.uint64_t(issued), C.uint64_t(leeway), C.uint64_t(now)); status != C.JWT_OK {
+		return &Error{Status: uint32(status), Claim: "iat", kind: kindOf(status), text: statusText(status) + ": iat"}
+	}
+	return nil
 }
 
 // numberOf returns the number of the algorithm of this name, or 0 if there is none.

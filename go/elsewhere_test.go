@@ -186,7 +186,7 @@ func TestSigningInputArguments(t *testing.T) {
 		header    map[string]any
 		want      error
 	}{
-		{json.RawMessage(`{"exp":1.5}`), "ES256", nil, ErrMalformed},
+		{json.RawMessage(`{"exp":1.5}`), "ES256", nil, ErrOption},
 		{json.RawMessage(`[]`), "ES256", nil, ErrOption},
 		{json.RawMessage(`{`), "ES256", nil, ErrOption},
 		{map[string]any{"a": "\xff"}, "ES256", nil, ErrOption},
@@ -218,6 +218,22 @@ func TestChangedInputs(t *testing.T) {
 	input.Algorithm = "ES256"
 	if _, err := input.Token(make([]byte, 64)); !errors.Is(err, ErrAlgorithm) {
 		t.Error(err)
+	}
+	for _, algorithm := range []string{"RS256", "RS384", "RS512", "PS256", "PS384", "PS512"} {
+		rsa, err := NewSigningInput(map[string]any{"a": 1}, algorithm, nil)
+		if err != nil {
+			t.Fatal(err)
+		}
+		for _, size := range []int{0, 1, 64, 128, 255, 2049} {
+			if token, err := rsa.Token(make([]byte, size)); token != "" || !errors.Is(err, ErrOption) {
+				t.Errorf("%s, %d bytes: %v, %v", algorithm, size, token, err)
+			}
+		}
+		for _, size := range []int{256, 384, 512, 2048} {
+			if _, err := rsa.Token(make([]byte, size)); err != nil {
+				t.Errorf("%s, %d bytes: %v", algorithm, size, err)
+			}
+		}
 	}
 	input.Algorithm, input.Message = "ES384", []byte("e30.e30")
 	if _, err := input.Token(make([]byte, 96)); !errors.Is(err, ErrOption) {

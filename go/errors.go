@@ -1,3 +1,5 @@
+//go:build cgo && linux && amd64
+
 package jwt
 
 // #include <jwtproved.h>
@@ -22,7 +24,7 @@ var (
 	ErrUnknownKey = errors.New("jwt: the set has no such key")
 	// ErrExpired is an exp that is not after now, less the leeway.
 	ErrExpired = errors.New("jwt: the token has expired")
-	// ErrNotYetValid is an nbf that is after now and the leeway.
+	// ErrNotYetValid is an nbf that is after now and the leeway, or by WithIssuedAt an iat that is; then Error.Claim is iat.
 	ErrNotYetValid = errors.New("jwt: the token is not valid yet")
 	// ErrAudience is an aud without an accepted audience.
 	ErrAudience = errors.New("jwt: the audience is not accepted")
@@ -44,13 +46,14 @@ var (
 
 // Error is a refusal by the library. Whoever sent a refused token need not be told more than its kind: the rest is for a log.
 type Error struct {
-	// Status is its number in jwtproved.h.
+	// Status is its number in jwtproved.h. It is 0 if the library accepted the token, and a claim is not of the type that is asked for.
 	Status uint32
 	// Test is the name of the first test of the token that failed, such as SignatureIsAccepted, which docs/RULES.md explains, and
 	// TestNumber its number in jwtproved.h. They are empty and 0 if Parse did not refuse a token by one.
 	Test       string
 	TestNumber uint32
-	// Claim is the name of the claim that ErrMissingClaim or ErrMalformedClaim is about, such as exp. It is empty for other kinds.
+	// Claim is the name of the claim that ErrMissingClaim or ErrMalformedClaim is about, such as exp, or iat for ErrNotYetValid by
+	// WithIssuedAt. Otherwise it is empty. That of a claim in an object is its path, such as realm.roles.
 	Claim string
 	kind  error
 	text  string
@@ -62,6 +65,18 @@ func (e *Error) Error() string { return "jwt: " + e.text }
 // Unwrap returns the kind of the refusal, such as ErrExpired.
 func (e *Error) Unwrap() error { return e.kind }
 
+// joinedError is an error of a kind that wraps another one: errors.Is and errors.As see both.
+type joinedError struct {
+	kind, other error
+	text        string
+}
+
+func (e *joinedError) Error() string { return e.text }
+
+func (e *joinedError) Is(kind error) bool { return kind == e.kind }
+
+func (e *joinedError) Unwrap() error { return e.other }
+
 func optionError(why string, arguments ...any) error {
 	return fmt.Errorf("%w: %s", ErrOption, fmt.Sprintf(why, arguments...))
 }
@@ -71,7 +86,7 @@ func keyError(why string, arguments ...any) error {
 }
 
 // refusal returns the error of a status, with the test of the token that failed, or 0.
-func refusal(status, test C.uint32_t) error {
+func refusal(status, test C.uint32_t) *Error {
 	return &Error{
 		Status: uint32(status), Test: testText(test), TestNumber: uint32(test), Claim: claimOf(status), kind: kindOf(status), text: statusText(status),
 	}
@@ -89,6 +104,8 @@ func keyRefusal(status C.uint32_t) error {
 		why += ": a secret is a key of another kind, of SSH, in PEM, in DER, or a JSON Web Key or a set of them"
 	case C.JWT_UNFIT_KEY:
 		why += ": none verifies with any of them, and of a set only keys with a kid count"
+	case C.JWT_PROVIDER:
+		why = "it is a private key, and tokens are verified by the public one"
 	case C.JWT_MIXED_FAMILIES:
 		return &Error{Status: uint32(status), kind: ErrKey, text: "the key does not serve: the algorithms are not of one family"}
 	}

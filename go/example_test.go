@@ -2,9 +2,15 @@ package jwt_test
 
 import (
 	"context"
+	"crypto"
 	"crypto/ed25519"
+	"crypto/rand"
+	"crypto/rsa"
+	"crypto/sha256"
 	"errors"
 	"fmt"
+	"net/http"
+	"net/http/httptest"
 	"time"
 
 	"curbsorrel.example/jwt"
@@ -104,6 +110,52 @@ func ExampleNewKeySet() {
 	// true
 }
 
+func ExampleNewSigner() {
+	private, _ := rsa.GenerateKey(rand.Reader, 2048) // jwt.ParsePrivatePEM reads one
+	signer, err := jwt.NewSigner(private, "RS256", jwt.WithKeyID("2026-11"))
+	if err != nil {
+		panic(err)
+	}
+	text, err := signer.Sign(jwt.RegisteredClaims{Subject: "ada", ExpiresAt: jwt.NewNumericDate(time.Now().Add(time.Minute))})
+	if err != nil {
+		panic(err)
+	}
+	jwk, err := signer.JWK()
+	if err != nil {
+		panic(err)
+	}
+	set, err := jwt.ParseJWKSet([]byte(`{"keys":[` + string(jwk) + `]}`))
+	if err != nil {
+		panic(err)
+	}
+	_, err = jwt.Parse(text, set, []string{"RS256"}, jwt.WithSubject("ada"))
+	fmt.Println(err)
+	// Output: <nil>
+}
+
+func ExampleMiddleware() {
+	key, _ := jwt.NewSecretKey(secret)
+	verifier, _ := jwt.NewVerifier(key, []string{"HS256"})
+	protect, err := jwt.Middleware(verifier, jwt.WithClaims[jwt.RegisteredClaims]())
+	if err != nil {
+		panic(err)
+	}
+	guarded := protect(http.HandlerFunc(func(to http.ResponseWriter, request *http.Request) {
+		claims, _ := jwt.FromContext[jwt.RegisteredClaims](request.Context())
+		fmt.Fprint(to, "hello ", claims.Subject)
+	}))
+	text, _ := jwt.Sign(map[string]any{"sub": "ada", "exp": 2532524891}, secret, "HS256", nil)
+	for _, authorization := range []string{"Bearer " + text, "Bearer of bad news"} {
+		request, answer := httptest.NewRequest(http.MethodGet, "/", nil), httptest.NewRecorder()
+		request.Header.Set("Authorization", authorization)
+		guarded.ServeHTTP(answer, request)
+		fmt.Println(answer.Code, answer.Header().Get("WWW-Authenticate"), answer.Body)
+	}
+	// Output:
+	// 200  hello ada
+	// 401 Bearer realm="api", error="invalid_token" Unauthorized
+}
+
 func ExampleNewSigningInput() {
 	public, private, _ := ed25519.GenerateKey(nil)
 	input, err := jwt.NewSigningInput(map[string]any{"sub": "ada", "exp": 2532524891}, "EdDSA", nil)
@@ -122,6 +174,28 @@ func ExampleNewSigningInput() {
 	}
 	fmt.Println(string(token.RawClaims()))
 	// Output: {"exp":2532524891,"sub":"ada"}
+}
+
+func ExampleSigningInput_Token() {
+	private, _ := rsa.GenerateKey(rand.Reader, 2048)
+	input, err := jwt.NewSigningInput(map[string]any{"exp": 2532524891}, "PS256", nil)
+	if err != nil {
+		panic(err)
+	}
+	// RSA signs the digest, and the salt is as long as the digest
+	digest := sha256.Sum256(input.Message)
+	signature, err := rsa.SignPSS(rand.Reader, private, crypto.SHA256, digest[:], &rsa.PSSOptions{SaltLength: rsa.PSSSaltLengthEqualsHash})
+	if err != nil {
+		panic(err)
+	}
+	text, err := input.Token(signature)
+	if err != nil {
+		panic(err)
+	}
+	key, _ := jwt.NewPublicKey(&private.PublicKey)
+	_, err = jwt.Parse(text, key, []string{"PS256"})
+	fmt.Println(err)
+	// Output: <nil>
 }
 
 func ExampleParseByVerdict() {

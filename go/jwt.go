@@ -1,5 +1,7 @@
+//go:build cgo && linux && amd64
+
 // Package jwt verifies and issues JSON Web Tokens (RFC 7519) by a library whose contracts are proved, which pkg-config has to find
-// (docs/INSTALL.md).
+// (docs/INSTALL.md). It needs cgo, and Linux on x86-64.
 //
 //	key, err := jwt.ParseJWKSet(text)
 //	verifier, err := jwt.NewVerifier(key, []string{"RS256"}, jwt.WithAudience("web"), jwt.WithIssuer("https://login.example"))
@@ -7,36 +9,76 @@
 //	if errors.Is(err, jwt.ErrExpired) { .. }
 //	err = token.Claims(&claims)
 //
-// All twelve algorithms of RFC 7518 and RFC 8037 for HMAC, RSA, P-256, P-384 and Ed25519 are verified, and HS256, HS384 and HS512 are
-// signed. Tokens of all twelve are issued with signatures that are made elsewhere, such as by a KMS (NewSigningInput), and verified with
-// signatures that are checked elsewhere (ParseByVerdict). Everything here may be used by any number of goroutines at once.
+// All twelve algorithms of RFC 7518 and RFC 8037 for HMAC, RSA, P-256, P-384 and Ed25519 are verified. A Signer issues tokens with a private
+// key of the standard library or of a KMS, and Sign with a secret. Middleware guards handlers of net/http. Everything here may be used by
+// any number of goroutines at once.
 package jwt
 
 import (
 	"encoding/json"
 	"errors"
 	"fmt"
+	"io"
 	"strings"
 	"time"
 )
 
 // Token is a token that was verified.
 type Token struct {
+	// has is a pointer to a pointer, which no verb of fmt follows in a field that is not exported. There fmt does not call Format.
+	has **content
+}
+
+// content has no signature, by which the token could be used again.
+type content struct {
 	header string
 	claims []byte
 }
 
-// set keeps no signature, by which the token could be used again.
-func (t *Token) set(text string, claims []byte) {
-	t.header, _, _ = strings.Cut(text, ".")
-	t.claims = claims
+// held is a Token with its content, for which one request for memory suffices.
+type held struct {
+	Token
+	at   *content
+	made content
+}
+
+// set has the token be that of a text, with these claims.
+func (h *held) set(text string, claims []byte) *Token {
+	h.made.header, _, _ = strings.Cut(text, ".")
+	h.made.claims = claims
+	h.at = &h.made
+	h.has = &h.at
+	return &h.Token
+}
+
+// content returns what a token has, or an error if Parse did not return it.
+func (t *Token) content() (*content, error) {
+	if t == nil || t.has == nil {
+		return nil, optionError("Parse did not return this Token")
+	}
+	return *t.has, nil
+}
+
+// Format does not show the claims, whatever the verb.
+func (Token) Format(state fmt.State, _ rune) {
+	_, _ = io.WriteString(state, "jwt.Token([redacted])")
 }
 
 // Header returns the members of its header.
 // It reads them when it is called, since that takes nearly as long as to verify a token of 150 bytes with HS256.
-func (t *Token) Header() (map[string]any, error) { return UnverifiedHeader(t.header + "..") }
+func (t *Token) Header() (map[string]any, error) {
+	has, err := t.content()
+	if err != nil {
+		return nil, err
+	}
+	return UnverifiedHeader(has.header + "..")
+}
 
-// Claims reads the claims into a value, as json.Unmarshal does. A float, and an integer beyond 64 bits, is the nearest double.
+// Claims reads the claims into a value, as json.Unmarshal does, and then calls its method Validate, if it has one. A float, and an integer
+// beyond 64 bits, is the nearest double. If Claims returns an error, the value is the zero value of its type.
+//
+// The error is ErrMalformedClaim if a claim is of another type than its field, with Error.Claim, ErrInvalidClaims if Validate returned an
+// error, and ErrOption if the value is not one that claims are read into.
 //
 // json.Unmarshal matches names to the fields of a struct in any case, and with the other letters of Unicode's simple folding: without
 // a further check it would read "SUB" or "\u017fub" as sub, which the library did not check. So Claims returns ErrMalformed, and reads
@@ -44,14 +86,24 @@ func (t *Token) Header() (map[string]any, error) { return UnverifiedHeader(t.hea
 // folding. The names of each nested object are compared with one another too, unless into points to a map of any or to an any that is
 // nil: these keep every name as it is.
 func (t *Token) Claims(into any) error {
-	if err := checkNames(t.claims, mayFold(into)); err != nil {
-		return fmt.Errorf("%w: %v", ErrMalformed, err)
+	has, err := t.content()
+	if err != nil {
+		return err
 	}
-	return json.Unmarshal(t.claims, into)
+	if err = readClaims(has.claims, into); err != nil {
+		setZero(into)
+	}
+	return err
 }
 
 // RawClaims returns the claims as compact JSON.
-func (t *Token) RawClaims() json.RawMessage { return append(json.RawMessage(nil), t.claims...) }
+func (t *Token) RawClaims() json.RawMessage {
+	has, err := t.content()
+	if err != nil {
+		return nil
+	}
+	return append(json.RawMessage(nil), has.claims...)
+}
 
 // Parse verifies a token with a key that accepts these algorithms. To verify several tokens, make a Verifier.
 func Parse(token string, key Key, algorithms []string, opts ...Option) (*Token, error) {
@@ -119,14 +171,21 @@ func ParseByVerdict(token string, checked Signature, isGenuine bool, algorithms 
 	if errors.Is(err, ErrOption) {
 		return nil, unknownAlgorithm(algorithms)
 	}
+	if err == nil {
+		err = asked.checkIssued(claims, now)
+	}
 	if err != nil {
 		return nil, err
 	}
-	verified := &Token{}
-	verified.set(token, claims)
-	return verified, nil
+	return (&held{}).set(token, claims), nil
 }
 
+// unknownAlgorithm names the first algorithm that the library does not know.
 func unknownAlgorithm(algorithms []string) error {
-	return optionError("one of the algorithms %q is not known", algorithms)
+	for _, it := range algorithms {
+		if number, err := numberOf(it); err == nil && number == 0 {
+			return optionError("algorithms has %s, which is none of the twelve", quoted(it))
+		}
+	}
+	return optionError("algorithms has %q", algorithms)
 }

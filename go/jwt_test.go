@@ -85,6 +85,12 @@ func TestRefusals(t *testing.T) {
 		{"a crit that is understood", signed(`{"alg":"HS256","crit":["x"],"x":1}`, `{"exp":1700000001}`, secret), []Option{WithUnderstoodCrit("y", "x")}, nil},
 		{"a crit that is understood in part", signed(`{"alg":"HS256","crit":["x","z"],"x":1,"z":1}`, `{"exp":1700000001}`, secret), []Option{WithUnderstoodCrit("y", "x")}, ErrCrit},
 		{"crit", signed(`{"alg":"HS256","crit":["x"],"x":1}`, `{"exp":1700000001}`, secret), nil, ErrCrit},
+		// of a member that is repeated the last one counts (RFC 7515 section 4)
+		{"a repeated alg", signed(`{"alg":"none","alg":"HS256"}`, `{"exp":1700000001}`, secret), nil, nil},
+		{"a repeated alg, whose last is another", signed(`{"alg":"HS256","alg":"HS384"}`, `{"exp":1700000001}`, secret), nil, ErrAlgorithm},
+		{"a repeated crit", signed(`{"alg":"HS256","crit":["y"],"crit":["x"],"x":1}`, `{"exp":1700000001}`, secret), nil, ErrCrit},
+		{"a repeated exp, whose last is over", signed(header, `{"exp":1700000001,"exp":1}`, secret), nil, ErrExpired},
+		{"a repeated exp", signed(header, `{"exp":1,"exp":1700000001}`, secret), nil, nil},
 		{"no token", "a.b", nil, ErrMalformed},
 		{"nothing", "", nil, ErrMalformed},
 		{"no object", signed(header, `[]`, secret), nil, ErrMalformed},
@@ -286,7 +292,7 @@ func TestSign(t *testing.T) {
 		{map[string]any{}, secret, "none", ErrOption},
 		{"text", secret, "HS256", ErrOption},
 		{make(chan int), secret, "HS256", ErrOption},
-		{map[string]any{"a": 1.5}, secret, "HS256", ErrMalformed},
+		{map[string]any{"a": 1.5}, secret, "HS256", ErrOption},
 	} {
 		if _, err := Sign(it.claims, it.secret, it.algorithm, nil); !errors.Is(err, it.want) {
 			t.Errorf("%v: %v, not %v", it, err, it.want)

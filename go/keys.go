@@ -1,12 +1,14 @@
+//go:build cgo && linux && amd64
+
 package jwt
 
 import (
+	"bytes"
 	"crypto"
 	"crypto/ecdsa"
 	"crypto/rsa"
 	"crypto/x509"
 	"encoding/pem"
-	"errors"
 	"fmt"
 	"io"
 	"unicode/utf8"
@@ -56,14 +58,10 @@ func NewSecretKey(secret []byte) (Key, error) {
 	return newKey(secretKey, secret), nil
 }
 
-// textError is the refusal of a key's text that is not UTF-8: that of an argument, and of a key.
-type textError string
-
-func (e textError) Error() string {
-	return ErrKey.Error() + ": the text of the " + string(e) + " is not UTF-8"
+// textError returns the refusal of a key's text that is not UTF-8: that of an argument, and of a key.
+func textError(of string) error {
+	return &joinedError{ErrKey, ErrOption, ErrKey.Error() + ": the text of the " + of + " is not UTF-8"}
 }
-
-func (e textError) Is(kind error) bool { return kind == ErrKey || kind == ErrOption }
 
 // ParseJWK returns a JSON Web Key (RFC 7517 section 4) of any kind as a key. One that verifies no tokens is refused, and so is a secret
 // that NewSecretKey refuses.
@@ -91,20 +89,23 @@ var forAnyKey = []string{
 // tried returns a key that verifies tokens, unless others may have its secret.
 func tried(key Key) (Key, error) {
 	if err := checkKey(key.kind, key.bytes()); err != nil {
+		if bytes.Contains(key.bytes(), []byte("-----BEGIN ")) {
+			return Key{}, fmt.Errorf("%w; ParsePEM reads a key in PEM", err)
+		}
 		return Key{}, err
 	}
-	var refused *Error
+	var refusal error
 	for _, options := range forAnyKey {
-		made, err := newHandle(key, []byte(options))
+		made, err := newHandle(key, []byte(options), defaultLength)
 		if err == nil {
 			made.free()
 			return key, nil
 		}
-		if !errors.As(err, &refused) || refused.Status != unfitKey {
-			return Key{}, err
+		if refusal = err; !isStatus(err, unfitKey) {
+			break
 		}
 	}
-	return Key{}, refused
+	return Key{}, refusal
 }
 
 // ParsePEM returns a public key of RSA, P-256, P-384 or Ed25519 in PEM as a key, in the strict form of RFC 7468 section 3: that of the
@@ -119,14 +120,23 @@ func ParsePEM(text []byte) (Key, error) {
 
 // NewPublicKey returns a public key of RSA, P-256, P-384 or Ed25519 as a key.
 func NewPublicKey(public crypto.PublicKey) (Key, error) {
+	jwk, err := jwkOfPublic(public)
+	if err != nil {
+		return Key{}, err
+	}
+	return tried(newKey(singleKey, jwk))
+}
+
+// jwkOfPublic returns the JSON Web Key of a public key.
+func jwkOfPublic(public crypto.PublicKey) ([]byte, error) {
 	if !canMarshal(public) {
-		return Key{}, keyError("the %T is not complete, or not on its curve", public)
+		return nil, keyError("the %T is not complete, or not on its curve", public)
 	}
 	der, err := x509.MarshalPKIXPublicKey(public)
 	if err != nil {
-		return Key{}, keyError("%v", err)
+		return nil, keyError("%v", err)
 	}
-	return ParsePEM(pem.EncodeToMemory(&pem.Block{Type: "PUBLIC KEY", Bytes: der}))
+	return keyFromPEM(pem.EncodeToMemory(&pem.Block{Type: "PUBLIC KEY", Bytes: der}))
 }
 
 // canMarshal returns whether crypto/x509 does not panic for a key.

@@ -1,3 +1,5 @@
+//go:build cgo && linux && amd64
+
 package jwt
 
 import (
@@ -18,18 +20,35 @@ var ErrFetch = errors.New("jwt: the set of keys can't be fetched")
 // largestSet is how many bytes a set that is fetched may have.
 const largestSet = 1 << 20
 
+// mostWaiting is how many calls of Parse may wait for a fetch at the same time.
+const mostWaiting = 1000
+
 func fetchError(why string, arguments ...any) error {
 	return fmt.Errorf("%w: %s", ErrFetch, fmt.Sprintf(why, arguments...))
 }
 
-// Fetch returns the text of a JSON Web Key Set. It has to end soon after the context does.
+// failedFetch returns the error of a fetch that ended with another one, such as context.DeadlineExceeded.
+func failedFetch(cause error) error {
+	return &joinedError{ErrFetch, cause, ErrFetch.Error() + ": " + cause.Error()}
+}
+
+var errNotFetched = fetchError("none was fetched yet")
+
+// undecided returns the refusal of a token whose key may be in a set that can't be fetched.
+func undecided(refusal, fetch error) error {
+	return &joinedError{ErrFetch, refusal, refusal.Error() + "; " + fetch.Error()}
+}
+
+// Fetch returns the text of a JSON Web Key Set. It has to end soon after the context does. If it panics, the fetch has failed.
 type Fetch func(context.Context) ([]byte, error)
 
 // KeySet is a JSON Web Key Set that is fetched, and fetched again as its keys rotate: in the background, and for a token whose kid the
-// set does not have. If a fetch fails, or gives no usable set, the last one that was usable stays. Any number of goroutines may use it.
+// set does not have. If a fetch fails, or gives no usable set, the last one that was usable stays. Any number of goroutines may use it, and
+// at most 1000 calls of Parse wait for a fetch at the same time: the next one returns ErrFetch at once, joined to its refusal.
 type KeySet struct {
 	fetch                     Fetch
 	refresh, refetch, timeout time.Duration
+	isLazy                    bool
 	ctx                       context.Context
 	current                   atomic.Pointer[fetched]
 
@@ -37,13 +56,16 @@ type KeySet struct {
 	underWay *flight   // the fetch that is under way, or nil
 	from     time.Time // before this time no set is fetched for an unknown kid
 	failure  error     // of the last fetch
+	waiting  int       // how many calls of Parse wait for a fetch
 }
 
-// fetched is a set that is usable.
+// fetched is a set that is usable, or the empty one before the first (WithLazyStart), which has no time.
 type fetched struct {
 	key Key
 	at  time.Time
 }
+
+func (f *fetched) isEmpty() bool { return f.at.IsZero() }
 
 // flight is a fetch, whose end closes the channel.
 type flight struct {
@@ -79,6 +101,15 @@ func WithTimeout(longest time.Duration) KeySetOption {
 	}
 }
 
+// WithLazyStart has NewKeySet return at once, so that a service starts while the key server is down. Until a set is fetched, Parse returns
+// ErrFetch for every token. A token with a kid waits for the first fetch, and causes another as WithRefetch allows.
+func WithLazyStart() KeySetOption {
+	return func(set *KeySet) error {
+		set.isLazy = true
+		return nil
+	}
+}
+
 func checkPositive(option string, duration time.Duration) error {
 	if duration <= 0 {
 		return optionError("%s: %v is not more than 0", option, duration)
@@ -86,8 +117,8 @@ func checkPositive(option string, duration time.Duration) error {
 	return nil
 }
 
-// NewKeySet returns the set that fetch returns, once the first fetch gave a usable one. It is fetched again until the context ends, and
-// then stays as it is. An error is ErrFetch, ErrKey if the text is not a usable set, or ErrOption.
+// NewKeySet returns the set that fetch returns, once the first fetch gave a usable one, or at once with WithLazyStart. It is fetched again
+// until the context ends, and then stays as it is. An error is ErrFetch, ErrKey if the text is not a usable set, or ErrOption.
 func NewKeySet(ctx context.Context, fetch Fetch, opts ...KeySetOption) (*KeySet, error) {
 	if ctx == nil {
 		return nil, optionError("ctx is nil")
@@ -104,7 +135,11 @@ func NewKeySet(ctx context.Context, fetch Fetch, opts ...KeySetOption) (*KeySet,
 			return nil, err
 		}
 	}
-	if set.wait(set.start()); set.current.Load() == nil {
+	if set.isLazy {
+		set.current.Store(&fetched{key: newKey(keySet, []byte(`{"keys":[]}`))})
+		set.failure = errNotFetched
+		set.start()
+	} else if set.wait(set.start()); set.current.Load() == nil {
 		return nil, set.firstFailure()
 	}
 	go set.keep()
@@ -171,11 +206,19 @@ func (s *KeySet) Key() Key {
 	return Key{kind: keySet, bytes: func() []byte { return s.current.Load().key.bytes() }, set: func() *KeySet { return s }}
 }
 
-// Fetched returns when the set that is used was fetched.
-func (s *KeySet) Fetched() time.Time { return s.current.Load().at }
+// Fetched returns when the set that is used was fetched, or the zero time if there is none.
+func (s *KeySet) Fetched() time.Time {
+	if s == nil || s.current.Load() == nil {
+		return time.Time{}
+	}
+	return s.current.Load().at // that of the empty set is zero
+}
 
 // Err returns the error of the last fetch, or nil if it gave a usable set.
 func (s *KeySet) Err() error {
+	if s == nil || s.fetch == nil {
+		return optionError("NewKeySet did not make this KeySet")
+	}
 	s.mutex.Lock()
 	defer s.mutex.Unlock()
 	return s.failure
@@ -227,11 +270,23 @@ func (s *KeySet) startLocked() *flight {
 	return s.underWay
 }
 
-// run fetches the set, and takes it over if it is usable.
+// run fetches the set, and takes it over if it is usable. A panic ends here: no caller could recover it in this goroutine.
 func (s *KeySet) run(begun *flight) {
 	ctx, cancel := context.WithTimeout(s.ctx, s.timeout)
 	defer cancel()
-	found, err := s.usable(ctx)
+	var found *fetched
+	err := fetchError("the function did not return")
+	defer func() {
+		if why := recover(); why != nil {
+			err = fetchError("the function panicked: %v", why)
+		}
+		s.end(begun, found, err)
+	}()
+	found, err = s.usable(ctx)
+}
+
+// end notes the result of a fetch.
+func (s *KeySet) end(begun *flight, found *fetched, err error) {
 	s.mutex.Lock()
 	defer s.mutex.Unlock()
 	if err == nil {
@@ -246,10 +301,10 @@ func (s *KeySet) run(begun *flight) {
 func (s *KeySet) usable(ctx context.Context) (*fetched, error) {
 	text, err := s.fetch(ctx)
 	if err != nil {
-		return nil, fetchError("%v", err)
+		return nil, failedFetch(err)
 	}
 	if err := ctx.Err(); err != nil {
-		return nil, fetchError("%v", err)
+		return nil, failedFetch(err)
 	}
 	if len(text) > largestSet {
 		return nil, fetchError("it has more than %d bytes", largestSet)
@@ -261,32 +316,49 @@ func (s *KeySet) usable(ctx context.Context) (*fetched, error) {
 	return &fetched{key, time.Now()}, nil
 }
 
-// wait waits for the end of a fetch, but no longer than until the timeout after its begin.
-func (s *KeySet) wait(begun *flight) {
+// wait waits for the end of a fetch, but no longer than until the timeout after its begin. It returns whether the fetch has ended.
+func (s *KeySet) wait(begun *flight) bool {
 	timer := time.NewTimer(time.Until(begun.begun.Add(s.timeout)))
 	defer timer.Stop()
 	select {
 	case <-begun.ended:
+		return true
 	case <-timer.C:
+		return false
 	}
 }
 
-// after returns the set that follows one without the key of a token, if there is another, or if it is time to fetch one.
-func (s *KeySet) after(seen *fetched) *fetched {
-	s.mutex.Lock()
-	if last := s.current.Load(); last != seen {
-		s.mutex.Unlock()
-		return last
-	}
-	if s.underWay == nil && time.Now().Before(s.from) {
-		s.mutex.Unlock()
-		return seen
-	}
-	begun := s.startLocked()
-	s.mutex.Unlock()
-	s.wait(begun)
+// after returns the set that follows one without the key of a token, if there is another, or if it is time to fetch one. If none follows
+// because the last fetch failed, or because it can't be waited for, it returns the error of that.
+func (s *KeySet) after(seen *fetched) (*fetched, error) {
 	s.mutex.Lock()
 	defer s.mutex.Unlock()
+	if last := s.current.Load(); last != seen {
+		return last, nil
+	}
+	if s.underWay == nil && time.Now().Before(s.from) {
+		return seen, s.failure
+	}
+	if s.waiting >= mostWaiting {
+		return seen, fetchError("%d tokens wait for it already", mostWaiting)
+	}
+	hasEnded := s.waitLocked(s.startLocked())
 	s.from = time.Now().Add(s.refetch)
-	return s.current.Load()
+	if last := s.current.Load(); last != seen {
+		return last, nil
+	}
+	if !hasEnded {
+		return seen, fetchError("it took longer than %v", s.timeout)
+	}
+	return seen, s.failure
+}
+
+// waitLocked waits for a fetch without the lock, which it is called with.
+func (s *KeySet) waitLocked(begun *flight) bool {
+	s.waiting++
+	s.mutex.Unlock()
+	hasEnded := s.wait(begun)
+	s.mutex.Lock()
+	s.waiting--
+	return hasEnded
 }

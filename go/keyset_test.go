@@ -492,6 +492,217 @@ func TestStubborn(t *testing.T) {
 	}
 }
 
+// TestPanickingFetch has functions that end their goroutine: the fetch has failed, and the process goes on.
+func TestPanickingFetch(t *testing.T) {
+	for name, ends := range map[string]func(){
+		"an error": func() { panic(errors.New("oops")) }, "nil": func() { panic(nil) }, "the goroutine": runtime.Goexit,
+		"a nil map": func() { map[string]int(nil)["a"] = 1 },
+	} {
+		var calls atomic.Int32
+		set, err := NewKeySet(context.Background(), func(context.Context) ([]byte, error) {
+			if calls.Add(1) > 1 {
+				ends()
+			}
+			return []byte(setOf("a")), nil
+		})
+		if err != nil {
+			t.Fatal(name, err)
+		}
+		verifier, err := NewVerifier(set.Key(), eddsa, at(now))
+		if err != nil {
+			t.Fatal(name, err)
+		}
+		wants(t, verifier, tokenOf("b", "b"), ErrFetch)
+		wants(t, verifier, tokenOf("a", "a"), nil)
+		if !errors.Is(set.Err(), ErrFetch) {
+			t.Error(name, set.Err())
+		}
+		if first, err := NewKeySet(context.Background(), func(context.Context) ([]byte, error) { ends(); return nil, nil }); first != nil || !errors.Is(err, ErrFetch) {
+			t.Error(name, first, err)
+		}
+	}
+}
+
+// TestUndecided has tokens whose key may be in the set that the server does not give: that says nothing about them, so that both kinds are
+// seen. The set that is there refuses as before.
+func TestUndecided(t *testing.T) {
+	server := serve(t, says(setOf("a")))
+	set, verifier := following(t, server.uri, WithRefetch(time.Hour))
+	before := server.fetches.Load() // on a busy machine there may be several
+	decided := func(token string, want error) {
+		t.Helper()
+		if _, err := verifier.Parse(token); !errors.Is(err, want) || errors.Is(err, ErrFetch) {
+			t.Error(err)
+		}
+	}
+	decided(tokenOf("b", "b"), ErrUnknownKey)
+	set.from = time.Time{}
+	server.answer.Store(sends(head("503 Service Unavailable", 0, "")))
+	for i := 0; i < 3; i++ { // the first causes a fetch, and the others come in the pause after it
+		_, err := verifier.Parse(tokenOf("b", "b"))
+		var refused *Error
+		if !errors.Is(err, ErrFetch) || !errors.Is(err, ErrUnknownKey) || !errors.As(err, &refused) || refused.Test != "KeyIsFound" ||
+			!strings.Contains(err.Error(), "the status is 503") {
+			t.Error(err)
+		}
+	}
+	decided(tokenOf("a", "b"), ErrSignature)
+	decided("a.b.c", ErrMalformed)
+	set.from = time.Time{}
+	server.answer.Store(says(`{"keys":[{"kty":"oct","kid":"b","k":"c2VjcmV0"}]}`))
+	decided(tokenOf("b", "b"), ErrKey)
+	set.from = time.Time{}
+	server.answer.Store(says("<!doctype html>"))
+	if _, err := verifier.Parse(tokenOf("b", "b")); !errors.Is(err, ErrFetch) || !errors.Is(err, ErrKey) {
+		t.Error(err)
+	}
+	if fetches := server.fetches.Load() - before; fetches != 4 {
+		t.Error(fetches)
+	}
+}
+
+// TestWaiting has more tokens with unknown kids than may wait for a fetch: the others are answered at once, and so are known kids.
+func TestWaiting(t *testing.T) {
+	goOn := make(chan struct{})
+	var calls atomic.Int32
+	set, err := NewKeySet(context.Background(), func(context.Context) ([]byte, error) {
+		if calls.Add(1) > 1 {
+			<-goOn
+			return []byte(setOf("a", "b")), nil
+		}
+		return []byte(setOf("a")), nil
+	}, WithTimeout(time.Hour))
+	if err != nil {
+		t.Fatal(err)
+	}
+	verifier, err := NewVerifier(set.Key(), eddsa, at(now))
+	if err != nil {
+		t.Fatal(err)
+	}
+	answers := make(chan error)
+	for i := 0; i < mostWaiting+5; i++ {
+		go func() {
+			_, err := verifier.Parse(tokenOf("b", "b"))
+			answers <- err
+		}()
+	}
+	for i := 0; i < 5; i++ {
+		if err := <-answers; !errors.Is(err, ErrFetch) || !errors.Is(err, ErrUnknownKey) || !strings.Contains(err.Error(), "1000") {
+			t.Error(err)
+		}
+	}
+	wants(t, verifier, tokenOf("a", "a"), nil)
+	close(goOn)
+	for i := 0; i < mostWaiting; i++ {
+		if err := <-answers; err != nil {
+			t.Error(err)
+		}
+	}
+	if calls.Load() != 2 || set.waiting != 0 {
+		t.Error(calls.Load(), set.waiting)
+	}
+}
+
+// TestLazyStart has a key server that is down at first: nothing waits for it at the start, and nothing is decided until there is a set.
+func TestLazyStart(t *testing.T) {
+	server := serve(t, sends(""))
+	until, cancel := context.WithCancel(context.Background())
+	defer cancel()
+	set, err := FetchKeySet(until, server.uri, nil, WithLazyStart(), WithRefetch(soon))
+	if err != nil {
+		t.Fatal(err)
+	}
+	for _, algorithms := range [][]string{{"ES256K"}, nil} {
+		if _, err := NewVerifier(set.Key(), algorithms); !errors.Is(err, ErrOption) {
+			t.Error(algorithms, err)
+		}
+	}
+	if _, err := NewVerifier(set.Key(), []string{"RS256", "EdDSA"}); !errors.Is(err, ErrKey) || errors.Is(err, ErrFetch) {
+		t.Error(err)
+	}
+	verifier, err := NewVerifier(set.Key(), eddsa, at(now))
+	if err != nil {
+		t.Fatal(err)
+	}
+	message := part([]byte(`{"alg":"EdDSA"}`)) + "." + part([]byte(`{"exp":1700000001}`))
+	for _, it := range []string{tokenOf("a", "a"), message + "." + part(ed25519.Sign(signer("a"), []byte(message))), "a.b.c", ""} {
+		wants(t, verifier, it, ErrFetch)
+	}
+	if !errors.Is(set.Err(), ErrFetch) || !set.Fetched().IsZero() {
+		t.Error(set.Err(), set.Fetched())
+	}
+	server.answer.Store(says(setOf("a")))
+	for i := 0; i < 300 && err == nil; i++ {
+		if _, refused := verifier.Parse(tokenOf("a", "a")); refused == nil {
+			break
+		}
+		time.Sleep(soon / 10)
+	}
+	wants(t, verifier, tokenOf("a", "a"), nil)
+	wants(t, verifier, "a.b.c", ErrMalformed)
+	if set.Err() != nil || set.Fetched().IsZero() {
+		t.Error(set.Err(), set.Fetched())
+	}
+}
+
+// TestLazyStartInBackground has no token that asks for a set: it is fetched all the same, also after fetches that fail. Tokens that come while
+// the first fetch is under way wait for it.
+func TestLazyStartInBackground(t *testing.T) {
+	var calls atomic.Int32
+	until, cancel := context.WithCancel(context.Background())
+	defer cancel()
+	set, err := NewKeySet(until, func(context.Context) ([]byte, error) {
+		if calls.Add(1) < 3 {
+			return nil, errors.New("not yet")
+		}
+		return []byte(setOf("a")), nil
+	}, WithLazyStart(), WithRefetch(time.Millisecond))
+	if err != nil {
+		t.Fatal(err)
+	}
+	for i := 0; i < 1000 && set.Err() != nil; i++ {
+		time.Sleep(5 * time.Millisecond)
+	}
+	if set.Err() != nil || calls.Load() != 3 {
+		t.Error(set.Err(), calls.Load())
+	}
+	ended, end := context.WithCancel(until)
+	end()
+	if never, err := FetchKeySet(ended, "http://127.0.0.1:1/", nil, WithLazyStart()); err != nil {
+		t.Error(err)
+	} else if verifier, err := NewVerifier(never.Key(), eddsa); err != nil {
+		t.Error(err)
+	} else {
+		wants(t, verifier, tokenOf("a", "a"), ErrFetch)
+		if !errors.Is(never.Err(), ErrFetch) || !errors.Is(never.Err(), context.Canceled) {
+			t.Error(never.Err())
+		}
+	}
+	goOn := make(chan struct{})
+	slow, err := NewKeySet(until, func(context.Context) ([]byte, error) { <-goOn; return []byte(setOf("a")), nil }, WithLazyStart(), WithTimeout(time.Hour))
+	if err != nil {
+		t.Fatal(err)
+	}
+	verifier, err := NewVerifier(slow.Key(), eddsa, at(now))
+	if err != nil || !errors.Is(slow.Err(), ErrFetch) {
+		t.Fatal(err, slow.Err())
+	}
+	answer := make(chan error)
+	go func() {
+		_, err := verifier.Parse(tokenOf("a", "a"))
+		answer <- err
+	}()
+	for isWaiting := false; !isWaiting; time.Sleep(time.Millisecond) {
+		slow.mutex.Lock()
+		isWaiting = slow.waiting == 1
+		slow.mutex.Unlock()
+	}
+	close(goOn)
+	if err := <-answer; err != nil {
+		t.Error(err)
+	}
+}
+
 func TestManyKeys(t *testing.T) {
 	keys := []string{strings.TrimSuffix(setOf("9999"), "]}")}
 	for i := 0; i < 9999; i++ {
@@ -595,10 +806,9 @@ func TestKeySetArguments(t *testing.T) {
 			t.Errorf("%s: %v, %v", it.name, set, err)
 		}
 	}
-	var none *KeySet
-	for _, it := range []Key{none.Key(), (&KeySet{}).Key()} {
-		if _, err := NewVerifier(it, eddsa); !errors.Is(err, ErrKey) {
-			t.Error(err)
+	for _, it := range []*KeySet{nil, {}} {
+		if _, err := NewVerifier(it.Key(), eddsa); !errors.Is(err, ErrKey) || !errors.Is(it.Err(), ErrOption) || !it.Fetched().IsZero() {
+			t.Error(err, it.Err(), it.Fetched())
 		}
 	}
 	before := runtime.NumGoroutine()

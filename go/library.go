@@ -1,3 +1,5 @@
+//go:build cgo && linux && amd64
+
 package jwt
 
 /*
@@ -88,19 +90,27 @@ type handle struct {
 	test     C.uint32_t
 }
 
+// tokenLength is the greatest length of a token that a handle verifies.
+type tokenLength = C.size_t
+
+const (
+	defaultLength tokenLength = 0 // that of the library, JWT_TOKEN_LIMIT
+	anyLength                 = ^tokenLength(0)
+)
+
 // newHandle returns a handle of a key and options, or the refusal.
-func newHandle(key Key, options []byte) (*handle, error) {
+func newHandle(key Key, options []byte, longest tokenLength) (*handle, error) {
 	made := &handle{}
 	keyAt, keyLen := slice(key.bytes())
 	optionsAt, optionsLen := slice(options)
 	var status C.uint32_t
 	switch key.kind {
 	case secretKey:
-		status = C.jwt_verifier_secret(keyAt, keyLen, optionsAt, optionsLen, 0, false, &made.verifier)
+		status = C.jwt_verifier_secret(keyAt, keyLen, optionsAt, optionsLen, longest, false, &made.verifier)
 	case singleKey:
-		status = C.jwt_verifier_key(keyAt, keyLen, optionsAt, optionsLen, 0, false, &made.verifier)
+		status = C.jwt_verifier_key(keyAt, keyLen, optionsAt, optionsLen, longest, false, &made.verifier)
 	default:
-		status = C.jwt_verifier_set(keyAt, keyLen, optionsAt, optionsLen, 0, false, &made.verifier)
+		status = C.jwt_verifier_set(keyAt, keyLen, optionsAt, optionsLen, longest, false, &made.verifier)
 	}
 	switch status {
 	case C.JWT_OK:
@@ -127,20 +137,20 @@ func (it *handle) free() { C.jwt_verifier_free(&it.verifier) }
 
 // smallToken has room for the claims of a short token: one request for memory takes less time than two.
 type smallToken struct {
-	Token
-	room [216]byte
+	held
+	room [200]byte
 }
 
 // decode returns a token that is verified, or the refusal with the test that failed.
 func (it *handle) decode(token string, now uint64) (*Token, error) {
-	var made *Token
+	var made *held
 	var claims []byte
 	// a token that is too long has no claims
 	if size := len(token)*3/4 + 64; size <= len(smallToken{}.room) || len(token) > C.JWT_TOKEN_LIMIT {
 		small := &smallToken{}
-		made, claims = &small.Token, small.room[:]
+		made, claims = &small.held, small.room[:]
 	} else {
-		made, claims = &Token{}, make([]byte, size)
+		made, claims = &held{}, make([]byte, size)
 	}
 	verifier := (*C.uint8_t)(unsafe.Pointer(&it.verifier))
 	for {
@@ -148,14 +158,24 @@ func (it *handle) decode(token string, now uint64) (*Token, error) {
 		status := C.decode(verifier, token, C.uint64_t(now), at, size, &it.length, &it.last, &it.test)
 		switch status {
 		case C.JWT_OK:
-			made.set(token, claims[:it.length])
-			return made, nil
+			return made.set(token, claims[:it.length]), nil
 		case C.JWT_NO_ROOM:
 			claims = make([]byte, it.length)
 		default:
-			return nil, refusal(status, it.test)
+			return nil, tokenRefusal(status, it.test, token)
 		}
 	}
+}
+
+// verifySignature returns the refusal of a token whose signature is not accepted. There is no room for the claims, and the tests after that
+// of the signature are of them.
+func (it *handle) verifySignature(token string) error {
+	verifier := (*C.uint8_t)(unsafe.Pointer(&it.verifier))
+	status := C.decode(verifier, token, 0, nil, 0, &it.length, &it.last, &it.test)
+	if status == C.JWT_OK || status == C.JWT_NO_ROOM || it.test > C.JWT_TEST_SIGNATURE_IS_ACCEPTED {
+		return nil
+	}
+	return refusal(status, it.test)
 }
 
 // checkKey returns an error if the library does not read a key, or if others may have its secret or that of a key of the set. The library

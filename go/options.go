@@ -1,3 +1,5 @@
+//go:build cgo && linux && amd64
+
 package jwt
 
 import (
@@ -22,6 +24,7 @@ type options struct {
 	Subject     *string  `json:"sub,omitempty"`
 	Crit        []string `json:"understood_crit,omitempty"`
 	noExpiry    bool
+	issuedAt    bool
 	now         func() time.Time // nil for that of the system
 }
 
@@ -153,6 +156,15 @@ func WithLeeway(leeway time.Duration) Option {
 	}
 }
 
+// WithIssuedAt refuses a token before its iat, with ErrNotYetValid, whose Error.Claim is iat. A token may have no iat; one that is not a
+// number is ErrMalformedClaim.
+func WithIssuedAt() Option {
+	return func(asked *options) error {
+		asked.issuedAt = true
+		return nil
+	}
+}
+
 // WithUnderstoodCrit accepts a token whose crit (RFC 7515 section 4.1.11) names some of these members of the header, of which there has
 // to be one. The caller has to do what they ask for: Token.Header has them. Without it, a token with a crit is refused.
 func WithUnderstoodCrit(names ...string) Option {
@@ -188,6 +200,14 @@ func moment(now func() time.Time) (uint64, error) {
 	return uint64(since), nil
 }
 
+// checkIssued refuses claims that were issued later, if WithIssuedAt asks for that.
+func (o *options) checkIssued(claims []byte, now uint64) error {
+	if !o.issuedAt {
+		return nil
+	}
+	return checkIssued(claims, o.Leeway, now)
+}
+
 // contradiction returns an error if two options ask for opposite things.
 func (o *options) contradiction() error {
 	switch {
@@ -220,6 +240,9 @@ func conditions(algorithms []string, opts []Option) (*options, []byte, error) {
 	}
 	if !asked.noExpiry {
 		asked.Required = append(asked.Required, "exp")
+	}
+	if asked.issuedAt && asked.now == nil {
+		asked.now = time.Now // for all tests of a token the same time
 	}
 	text, err := json.Marshal(asked)
 	if err != nil {

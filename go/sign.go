@@ -1,8 +1,11 @@
+//go:build cgo && linux && amd64
+
 package jwt
 
 import (
 	"bytes"
 	"encoding/json"
+	"strings"
 	"unicode/utf8"
 )
 
@@ -18,7 +21,10 @@ func Sign(claims any, secret []byte, algorithm string, header map[string]any) (s
 		return "", err
 	}
 	token, err := encode(headerText, claimsText, secret)
-	return string(token), err
+	if err != nil {
+		return "", unwritten(err, headerText, claimsText)
+	}
+	return string(token), nil
 }
 
 // SigningInput is what has to be signed for a token, with a key that is kept elsewhere, such as in a KMS or an HSM.
@@ -37,22 +43,34 @@ func NewSigningInput(claims any, algorithm string, header map[string]any) (*Sign
 	if err != nil {
 		return nil, err
 	}
-	message, _, err := signingInput(headerText, claimsText)
+	return newSigningInput(algorithm, headerText, claimsText)
+}
+
+func newSigningInput(algorithm string, header, claims []byte) (*SigningInput, error) {
+	message, _, err := signingInput(header, claims)
 	if err != nil {
-		return nil, err
+		return nil, unwritten(err, header, claims)
 	}
-	return &SigningInput{algorithm, message, headerText, claimsText}, nil
+	return &SigningInput{algorithm, message, header, claims}, nil
 }
 
 // Token returns the token with this signature of the message. With ES256 and ES384 that is two numbers one after the other, which
-// ECDSASignature makes of a signature in DER. Its length is compared with that of the algorithm, and a wrong one is ErrOption; whether
-// the signature is right is left to those who verify the token.
+// ECDSASignature makes of a signature in DER. Its length is compared with that of the algorithm, and a wrong one is ErrOption: with RSA it
+// is that of a modulus of 2048 to 16384 bits, 256 to 2048 bytes. Whether the signature is right is left to those who verify the token.
 func (in *SigningInput) Token(signature []byte) (string, error) {
 	if in == nil || in.header == nil {
 		return "", optionError("NewSigningInput did not make this SigningInput")
 	}
+	if isRSA(in.Algorithm) && (len(signature) < 256 || len(signature) > 2048) {
+		return "", optionError("a signature with %s has 256 to 2048 bytes, and not %d", in.Algorithm, len(signature))
+	}
 	token, err := encodeSignature(in.header, in.claims, Signature{in.Algorithm, in.Message, signature})
 	return string(token), err
+}
+
+// isRSA returns whether the signatures with an algorithm are as long as the modulus of a key, which the library does not know.
+func isRSA(algorithm string) bool {
+	return strings.HasPrefix(algorithm, "RS") || strings.HasPrefix(algorithm, "PS")
 }
 
 // ECDSASignature returns a signature with ES256 or ES384 in the form of a token, from one in DER, which crypto/ecdsa and a KMS make. Other
@@ -62,20 +80,25 @@ func ECDSASignature(der []byte, algorithm string) ([]byte, error) {
 }
 
 // parts returns the texts of header and claims.
-func parts(claims any, algorithm string, header map[string]any) (headerText, claimsText []byte, err error) {
+func parts(claims any, algorithm string, header map[string]any) (headerOf, claimsOf []byte, err error) {
+	if headerOf, err = headerText(algorithm, header); err != nil {
+		return nil, nil, err
+	}
+	claimsOf, err = marshal("claims", claims)
+	return headerOf, claimsOf, err
+}
+
+// headerText returns the text of a header with these members.
+func headerText(algorithm string, header map[string]any) ([]byte, error) {
 	members := map[string]any{"typ": "JWT"}
 	for name, it := range header {
 		members[name] = it
 	}
 	if it, is := header["alg"]; is && it != algorithm {
-		return nil, nil, optionError("header has the alg %v, and algorithm is %q", it, algorithm)
+		return nil, optionError("header has the alg %v, and algorithm is %q", it, algorithm)
 	}
 	members["alg"] = algorithm
-	if headerText, err = marshal("header", members); err != nil {
-		return nil, nil, err
-	}
-	claimsText, err = marshal("claims", claims)
-	return headerText, claimsText, err
+	return marshal("header", members)
 }
 
 // marshal returns the JSON of an argument, whose texts have to be UTF-8.

@@ -1,3 +1,5 @@
+//go:build cgo && linux && amd64
+
 package jwt
 
 import (
@@ -6,15 +8,14 @@ import (
 	"io"
 	"sync"
 	"sync/atomic"
-	"time"
 )
 
 // Verifier verifies tokens with one key and the same conditions.
 type Verifier struct{ made *verifying }
 
 type verifying struct {
+	asked   *options
 	options []byte
-	now     func() time.Time
 	key     Key
 	set     *KeySet    // that of the key, or nil
 	mutex   sync.Mutex // one goroutine makes handles for all others
@@ -70,7 +71,7 @@ func NewVerifier(key Key, algorithms []string, opts ...Option) (*Verifier, error
 	if key.bytes == nil {
 		return nil, keyError("there is none")
 	}
-	made := &verifying{options: text, now: asked.now, key: key}
+	made := &verifying{asked: asked, options: text, key: key}
 	if key.set != nil {
 		made.set = key.set()
 	}
@@ -79,13 +80,14 @@ func NewVerifier(key Key, algorithms []string, opts ...Option) (*Verifier, error
 		return nil, unknownAlgorithm(algorithms)
 	case errors.Is(it.err, ErrOutOfMemory):
 		return nil, it.err
-	case it.err != nil:
+	case it.err != nil && !errors.Is(it.err, ErrFetch):
 		return nil, fmt.Errorf("%w: %q", it.err, algorithms)
 	}
 	return &Verifier{made}, nil
 }
 
-// Parse verifies a token. The error is nil, or of one of the kinds of this package. A token of more than 1 MiB is ErrMalformed.
+// Parse verifies a token. The error is nil, or of one of the kinds of this package. A token of more than 1 MiB is ErrMalformed. If the set
+// of a KeySet does not have the token's key, and could not be fetched, the error is of two kinds, ErrFetch and that of the refusal.
 func (v *Verifier) Parse(token string) (*Token, error) {
 	if v == nil || v.made == nil {
 		return nil, optionError("NewVerifier did not make this Verifier")
@@ -100,7 +102,11 @@ func (v *verifying) verify(token string) (*Token, error) {
 	if err == nil || v.set == nil || !mayHaveLaterKey(token, err) {
 		return claims, err
 	}
-	if later := v.set.after(by.set); later == by.set {
+	later, failure := v.set.after(by.set)
+	if failure != nil {
+		return nil, undecided(err, failure)
+	}
+	if later == by.set {
 		return nil, err
 	}
 	return v.verifyBy(v.latest(), token)
@@ -110,18 +116,24 @@ func (v *verifying) verifyBy(by *handlesOf, token string) (*Token, error) {
 	if by.err != nil {
 		return nil, by.err
 	}
-	now, err := moment(v.now)
+	now, err := moment(v.asked.now)
 	if err != nil {
 		return nil, err
 	}
-	return by.handles.decode(token, now)
+	verified, err := by.handles.decode(token, now)
+	if err != nil {
+		return nil, err
+	}
+	if err := v.asked.checkIssued((*verified.has).claims, now); err != nil {
+		return nil, err
+	}
+	return verified, nil
 }
 
 // mayHaveLaterKey returns whether a token names a key that the set does not have. A set without a key for the algorithms has no key of
 // the token either.
 func mayHaveLaterKey(token string, err error) bool {
-	var refused *Error
-	if !errors.As(err, &refused) || refused.Status != noKey && refused.Status != unfitKey {
+	if !isStatus(err, noKey) && !isStatus(err, unfitKey) {
 		return false
 	}
 	header, err := decodeHeader(token)
@@ -147,14 +159,24 @@ func (v *verifying) latest() *handlesOf {
 	if last := v.current.Load(); last != nil && last.set == it.set {
 		return last
 	}
-	if it.handles, it.err = newHandles(key, v.options); !errors.Is(it.err, ErrOutOfMemory) {
+	it.handles, it.err = newHandles(key, v.options, defaultLength)
+	if it.set != nil && it.set.isEmpty() && isStatus(it.err, unfitKey) {
+		it.err = &joinedError{ErrFetch, it.err, errNotFetched.Error()}
+	}
+	if !errors.Is(it.err, ErrOutOfMemory) {
 		v.current.Store(it)
 	}
 	return it
 }
 
-func newHandles(key Key, options []byte) (*handles, error) {
-	first, err := newHandle(key, options)
+// isStatus returns whether an error is the refusal of this number.
+func isStatus(err error, status uint32) bool {
+	var refused *Error
+	return errors.As(err, &refused) && refused.Status == status
+}
+
+func newHandles(key Key, options []byte, longest tokenLength) (*handles, error) {
+	first, err := newHandle(key, options, longest)
 	if err != nil {
 		return nil, err
 	}

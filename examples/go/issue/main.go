@@ -1,11 +1,11 @@
-// Issues a token with a secret, and one that a key signs which the library never sees. The last line counts.
+// Issues a token with a secret, and one with a private key, which the library never sees. The last line counts.
 package main
 
 import (
+	"crypto"
 	"crypto/ecdsa"
 	"crypto/elliptic"
 	"crypto/rand"
-	"crypto/sha256"
 	"fmt"
 	"os"
 	"time"
@@ -19,22 +19,13 @@ type claims struct {
 	Expires int64  `json:"exp"`
 }
 
-// signedElsewhere signs as a KMS does, whose signatures are in DER.
-func signedElsewhere(key *ecdsa.PrivateKey, issued claims) (string, error) {
-	input, err := jwt.NewSigningInput(issued, "ES256", map[string]any{"kid": "a"})
+// byKey signs with a private key, such as one that a KMS keeps.
+func byKey(key crypto.Signer, issued claims) (string, error) {
+	signer, err := jwt.NewSigner(key, "ES256", jwt.WithKeyID("a"))
 	if err != nil {
 		return "", err
 	}
-	digest := sha256.Sum256(input.Message)
-	der, err := ecdsa.SignASN1(rand.Reader, key, digest[:])
-	if err != nil {
-		return "", err
-	}
-	signature, err := jwt.ECDSASignature(der, "ES256")
-	if err != nil {
-		return "", err
-	}
-	return input.Token(signature)
+	return signer.Sign(issued)
 }
 
 func main() {
@@ -44,11 +35,11 @@ func main() {
 	private, noKey := ecdsa.GenerateKey(elliptic.P256(), rand.Reader)
 	issued := claims{"b@b.com", time.Now().Add(time.Minute).Unix()}
 	bySecret, noToken := jwt.Sign(issued, secret, "HS256", nil)
-	byKey, noSignature := signedElsewhere(private, issued)
+	byPrivate, noSignature := byKey(private, issued)
 	verifyingSecret, _ := jwt.NewSecretKey(secret)
 	public, _ := jwt.NewPublicKey(&private.PublicKey)
 	one, refusedOne := jwt.Parse(bySecret, verifyingSecret, []string{"HS256"})
-	other, refusedOther := jwt.Parse(byKey, public, []string{"ES256"}, jwt.WithSubject("b@b.com"))
+	other, refusedOther := jwt.Parse(byPrivate, public, []string{"ES256"}, jwt.WithSubject("b@b.com"))
 	for _, err := range []error{noSecret, noKey, noToken, noSignature, refusedOne, refusedOther} {
 		if err != nil {
 			fmt.Println(err)

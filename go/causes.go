@@ -1,0 +1,156 @@
+//go:build cgo && linux && amd64
+
+package jwt
+
+// #include <jwtproved.h>
+import "C"
+
+import (
+	"encoding/base64"
+	"encoding/json"
+	"fmt"
+	"sort"
+	"strconv"
+	"strings"
+)
+
+// The functions here add to the text of an error what is at fault, for whoever reads a log. The library has decided before, and is asked
+// which member it does not read.
+
+// headerNames are the members of a header that have a type (RFC 7515 section 4.1, RFC 7516 section 4.1, RFC 8555 section 6), after alg.
+var headerNames = []string{"typ", "cty", "jku", "jwk", "kid", "x5u", "x5c", "x5t", "x5t#S256", "crit", "enc", "zip", "url", "nonce"}
+
+// longestText is how many bytes of a text that anyone can have written stand in an error, and longestHeader how long a header is looked at.
+const (
+	longestText   = 100
+	longestHeader = 8192
+)
+
+// quoted returns a text that anyone can have written, in ASCII and not too long.
+func quoted(text string) string {
+	if len(text) > longestText {
+		return strconv.QuoteToASCII(text[:longestText]) + ".."
+	}
+	return strconv.QuoteToASCII(text)
+}
+
+// tokenRefusal returns the refusal of a token, with what is at fault in it.
+func tokenRefusal(status, test C.uint32_t, token string) error {
+	refused := refusal(status, test)
+	if cause := causeOf(status, test, token); cause != "" {
+		refused.text += ": " + cause
+	}
+	return refused
+}
+
+func causeOf(status, test C.uint32_t, token string) string {
+	switch {
+	case status == C.JWT_NO_KEY:
+		return missingKey(token)
+	case status != C.JWT_JSON:
+		return ""
+	}
+	switch test {
+	case C.JWT_TEST_HEADER_IS_JSON:
+		return "the header is not JSON"
+	case C.JWT_TEST_HEADER_READS:
+		return faultOfPart(token)
+	case C.JWT_TEST_PAYLOAD_IS_JSON:
+		return "the payload is not JSON"
+	case C.JWT_TEST_CLAIMS_ARE_AN_OBJECT:
+		return "the claims are not an object"
+	}
+	return ""
+}
+
+// missingKey returns which key a set does not have.
+func missingKey(token string) string {
+	header, err := decodeHeader(token)
+	if err != nil {
+		return ""
+	}
+	kid, isThere := stringOf(header, "kid")
+	if !isThere {
+		return "the header has no kid"
+	}
+	return "the set has no key " + quoted(kid)
+}
+
+// faultOfPart returns what is at fault in the header of a token.
+func faultOfPart(token string) string {
+	part, _, _ := strings.Cut(token, ".")
+	header, err := base64.RawURLEncoding.DecodeString(part)
+	if err != nil || len(part) > longestHeader {
+		return "a member of the header"
+	}
+	return faultOfHeader(header)
+}
+
+// faultOfHeader returns what is at fault in a header that the library does not read.
+func faultOfHeader(header []byte) string {
+	var members map[string]json.RawMessage
+	if json.Unmarshal(header, &members) != nil || members == nil {
+		return "the header is not an object"
+	}
+	var alg *string
+	if json.Unmarshal(members["alg"], &alg) != nil || alg == nil {
+		return "the header has no alg that is a text"
+	}
+	if number, err := numberOf(*alg); err == nil && number == 0 {
+		return fmt.Sprintf("the header's alg %s is none of the twelve", quoted(*alg))
+	}
+	for _, name := range headerNames {
+		if value, isThere := members[name]; isThere && !isHeader([]byte(`{"alg":"HS256","`+name+`":`+string(value)+`}`)) {
+			return "the header's " + name + " is of another type"
+		}
+	}
+	if name, isThere := unfitNumber(header); isThere {
+		return "the header's " + quoted(name) + " has a number that is not an integer of 64 bits"
+	}
+	return "a member of the header"
+}
+
+// isHeader returns whether the library reads a header.
+func isHeader(text []byte) bool {
+	_, _, err := signingInput(text, []byte("{}"))
+	return !isStatus(err, uint32(C.JWT_BAD_HEADER))
+}
+
+// unwritten returns the error of a header and claims of which the library makes no token.
+func unwritten(err error, header, claims []byte) error {
+	switch {
+	case isStatus(err, uint32(C.JWT_BAD_HEADER)):
+		return optionError("%s", faultOfHeader(header))
+	case isStatus(err, uint32(C.JWT_BAD_CLAIMS)):
+		return optionError("the claims are not an object, or nest too deep")
+	case !isStatus(err, uint32(C.JWT_JSON)):
+		return err
+	}
+	if name, isThere := unfitNumber(claims); isThere {
+		return optionError("the claim %s has a number that is not an integer of 64 bits", quoted(name))
+	}
+	if name, isThere := unfitNumber(header); isThere {
+		return optionError("the header's %s has a number that is not an integer of 64 bits", quoted(name))
+	}
+	return optionError("the claims or the header can't be written")
+}
+
+// unfitNumber returns the name of the first member that has a number which the library does not write.
+func unfitNumber(object []byte) (string, bool) {
+	var members map[string]json.RawMessage
+	if json.Unmarshal(object, &members) != nil {
+		return "", false
+	}
+	names := make([]string, 0, len(members))
+	for name := range members {
+		names = append(names, name)
+	}
+	sort.Strings(names)
+	for _, name := range names {
+		at, length := slice([]byte(`{"a":` + string(members[name]) + `}`))
+		if C.jwt_check_numbers(at, length) == C.JWT_JSON {
+			return name, true
+		}
+	}
+	return "", false
+}
