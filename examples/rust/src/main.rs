@@ -1,8 +1,9 @@
 //! Verifies tokens with a secret, a key and a key set, logs why others are refused, and issues one. The last line counts.
 
-use jsonwebtoken_proved::{
-    Algorithm, DecodingKey, EncodingKey, Error, Header, Refusal, Validation, Verified, Verifier, encode_json,
-};
+use jsonwebtoken::errors::Error;
+use jsonwebtoken::jwk::Jwk;
+use jsonwebtoken::{Algorithm, DecodingKey, EncodingKey, Header, Refusal, Validation, Verified, Verifier, encode};
+use serde_json::{Value, from_str};
 
 /// The shortest secret for HS256 (RFC 7518 section 3.2). A real secret comes from a file, and is random.
 const SECRET: &[u8] = b"0123456789abcdef0123456789abcdef";
@@ -27,18 +28,19 @@ fn shown(answer: Result<Verified<String>, Refusal>) -> String {
 /// Returns rows of a result and the wanted one.
 fn answers() -> Result<Vec<(String, &'static str)>, Error> {
     let hs256 = Validation::new(Algorithm::HS256);
-    let by_secret = Verifier::new(&DecodingKey::from_secret(SECRET)?, &hs256)?;
-    let by_set = Verifier::new(&DecodingKey::from_jwk_set(SET)?, &hs256)?;
-    let by_key = Verifier::new(&DecodingKey::from_jwk(EC_KEY)?, &Validation::strict(Algorithm::ES256))?;
+    let by_secret = Verifier::new(&DecodingKey::from_secret(SECRET), &hs256)?;
+    let by_set = Verifier::from_jwk_set(SET, &hs256)?;
+    let curve = DecodingKey::from_jwk(&from_str::<Jwk>(EC_KEY)?)?;
+    let by_key = Verifier::new(&curve, &Validation::strict(Algorithm::ES256))?;
     let mut of_a_service = Validation::new(Algorithm::HS256);
     of_a_service.set_audience(&["my-service"]);
-    let of_a_service = Verifier::new(&DecodingKey::from_secret(SECRET)?, &of_a_service)?;
+    let of_a_service = Verifier::new(&DecodingKey::from_secret(SECRET), &of_a_service)?;
     let header = Header { kid: Some("b".to_string()), typ: None, ..Header::new(Algorithm::HS256) };
     Ok(vec![
         (shown(by_secret.decode_json(TOKEN, EXP)), CLAIMS),
         (shown(by_secret.decode_json(TOKEN, EXP + 61)), "the token has expired: ClaimRulesHold"),
         (shown(by_set.decode_json(TOKEN, EXP)), CLAIMS),
-        (shown(of_a_service.decode_json(TOKEN, EXP)), "the required claim aud is missing or malformed: ClaimRulesHold"),
+        (shown(of_a_service.decode_json(TOKEN, EXP)), "a required claim is missing or malformed: aud: ClaimRulesHold"),
         (
             shown(by_key.decode_json(ES256, 1300819379)),
             r#"{"exp":1300819380,"http://example.com/is_root":true,"iss":"joe"}"#,
@@ -47,7 +49,7 @@ fn answers() -> Result<Vec<(String, &'static str)>, Error> {
             shown(by_key.decode_json(&ES256.replace("DtEh", "DtEi"), 1300819379)),
             "the signature is wrong: SignatureIsAccepted",
         ),
-        (encode_json(&header, CLAIMS, &EncodingKey::from_secret(SECRET)?)?, TOKEN),
+        (encode(&header, &from_str::<Value>(CLAIMS)?, &EncodingKey::from_secret(SECRET))?, TOKEN),
     ])
 }
 

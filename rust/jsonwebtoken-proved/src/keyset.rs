@@ -1,7 +1,11 @@
 //! A set of keys that is fetched, and fetched again as its keys rotate.
 
-use crate::calls;
-use crate::{Cause, DecodingKey, Error, Refusal, Validation, Verified, Verifier};
+use crate::errors::{Cause, Error, ErrorKind, Result};
+use crate::library::calls::{self, Kind};
+use crate::library::handle::Handle;
+use crate::validation::{self, argument};
+use crate::{Algorithm, Refusal, Validation, Verified, Verifier, decode_header, status};
+use serde::de::DeserializeOwned;
 use std::error::Error as StdError;
 use std::fmt;
 use std::io::Read;
@@ -10,12 +14,15 @@ use std::sync::{Arc, Condvar, Mutex, MutexGuard, PoisonError};
 use std::thread;
 use std::time::{Duration, Instant};
 
+/// What verifying a token gives.
+type Answer<T> = std::result::Result<Verified<T>, Refusal>;
+
 /// How many bytes a set may have.
 const LARGEST: u64 = 1 << 20;
 /// How many verifiers of a set are kept.
 const MOST: usize = 16;
 
-/// When a [`KeySet`] is fetched. No time may be 0.
+/// When a [`KeySet`] is fetched, and how many calls wait for it. No time may be 0.
 #[derive(Clone, Copy, Debug, PartialEq, Eq)]
 pub struct Rotation {
     /// The time from one fetch in the background to the next one: 5 minutes at first. After a fetch that failed it is at most
@@ -25,6 +32,9 @@ pub struct Rotation {
     pub refetch: Duration,
     /// How long a call waits for a fetch: 10 seconds at first.
     pub timeout: Duration,
+    /// How many calls, and closures of [`KeySet::when_fetched`], wait for a fetch at the same time: 16 at first. Each one beyond is answered
+    /// at once, with [`ErrorKind::Fetching`].
+    pub waiters: usize,
 }
 
 impl Default for Rotation {
@@ -33,15 +43,16 @@ impl Default for Rotation {
             refresh: Duration::from_secs(300),
             refetch: Duration::from_secs(10),
             timeout: Duration::from_secs(10),
+            waiters: 16,
         }
     }
 }
 
 impl Rotation {
-    fn check(&self) -> Result<(), Error> {
+    fn check(&self) -> Result<()> {
         let times = [("refresh", self.refresh), ("refetch", self.refetch), ("timeout", self.timeout)];
         match times.into_iter().find(|it| it.1 == Duration::ZERO) {
-            Some((name, _)) => Err(Error::Argument(format!("{name} is 0"))),
+            Some((name, _)) => Err(argument(format!("{name} is 0"))),
             None => Ok(()),
         }
     }
@@ -72,25 +83,37 @@ struct State {
     /// When the fetch that is under way was asked for.
     begun: Option<Instant>,
     is_asked: bool,
+    /// Whether the fetch that is under way is awaited for an unknown `kid`.
+    is_for_kid: bool,
     /// When the last fetch for an unknown `kid` was over.
     refetched: Option<Instant>,
+    /// How many calls wait for the fetch.
+    waiting: usize,
+    /// What is called at its end.
+    told: Vec<Box<dyn FnOnce() + Send>>,
     is_closed: bool,
+}
+
+impl State {
+    fn has_room(&self, waiters: usize) -> bool {
+        self.waiting + self.told.len() < waiters
+    }
 }
 
 /// A set that is usable.
 struct Fetched {
-    key: Arc<DecodingKey>,
+    text: Arc<str>,
     /// The verifiers by the last conditions that were asked for.
     verifiers: Mutex<Vec<(Validation, Arc<Verifier>)>>,
 }
 
 impl Fetched {
-    fn verifier(&self, validation: &Validation) -> Result<Arc<Verifier>, Error> {
+    fn verifier(&self, validation: &Validation) -> Result<Arc<Verifier>> {
         let mut verifiers = self.verifiers.lock().unwrap_or_else(PoisonError::into_inner);
         if let Some((_, known)) = verifiers.iter().find(|it| it.0 == *validation) {
             return Ok(Arc::clone(known));
         }
-        let made = Arc::new(Verifier::new(&self.key, validation)?);
+        let made = Arc::new(Verifier::from_jwk_set(&self.text, validation)?);
         if verifiers.len() == MOST {
             verifiers.remove(0);
         }
@@ -98,7 +121,7 @@ impl Fetched {
         Ok(made)
     }
 
-    fn decode_json(&self, token: &str, validation: &Validation, now: u64) -> Result<Verified<String>, Refusal> {
+    fn decode_json(&self, token: &[u8], validation: &Validation, now: u64) -> Answer<String> {
         self.verifier(validation)?.decode_json(token, now)
     }
 }
@@ -108,12 +131,12 @@ impl KeySet {
     ///
     /// # Errors
     ///
-    /// If the closure fails, or takes longer than the timeout, or the text has more than 1 MiB, this is [`Error::Fetch`]; if the text is no
-    /// set with a key by which tokens are verified, [`Error::Key`]; a time of 0 is [`Error::Argument`].
+    /// If the closure fails, or takes longer than the timeout, or the text has more than 1 MiB, this is [`ErrorKind::Fetch`]; if the text
+    /// is no set with a key by which tokens are verified, [`ErrorKind::UnusableKey`]; a time of 0 is [`ErrorKind::InvalidArgument`].
     pub fn new<R: Read, E: Into<Box<dyn StdError + Send + Sync>>>(
-        fetch: impl FnMut() -> Result<R, E> + Send + 'static,
+        fetch: impl FnMut() -> std::result::Result<R, E> + Send + 'static,
         rotation: Rotation,
-    ) -> Result<KeySet, Error> {
+    ) -> Result<KeySet> {
         rotation.check()?;
         let asked = State { is_asked: true, begun: Some(Instant::now()), ..State::default() };
         let shared = Arc::new(Shared { rotation, state: Mutex::new(asked), changed: Condvar::new() });
@@ -134,25 +157,82 @@ impl KeySet {
     /// Verifies a token like [`Verifier::decode_json`], by the key of the set that it names. Of the set and a `Validation` a verifier is
     /// made once, as long as the set stays and at most 16 different ones are in use.
     ///
-    /// If the set has no key of the token's `kid`, or none that serves an algorithm, a later set decides.
+    /// If the set has no key of the token's `kid`, or none that serves an algorithm, a later set decides: the call waits for it in its own
+    /// thread, for the timeout at most. In an async service call [`KeySet::try_decode_json`], or call this in a thread for blocking calls.
     ///
     /// # Errors
     ///
-    /// The errors are those of [`Verifier::new`] and of [`Verifier::decode_json`]. A `kid` that no set has is [`Error::UnknownKey`].
-    pub fn decode_json(&self, token: &str, validation: &Validation, now: u64) -> Result<Verified<String>, Refusal> {
+    /// The errors are those of [`Verifier::from_jwk_set`] and of [`Verifier::decode_json`]. A `kid` that no set has is
+    /// [`ErrorKind::NoKey`]; if the last fetch failed, so that the key can't be looked for, it is [`ErrorKind::Fetch`], and if a
+    /// fetch is still under way after the timeout, or as many calls as are allowed wait for it already, [`ErrorKind::Fetching`].
+    pub fn decode_json(&self, token: impl AsRef<[u8]>, validation: &Validation, now: u64) -> Answer<String> {
+        self.decoded(token.as_ref(), validation, now, self.shared.rotation.waiters)
+    }
+
+    /// Verifies a token like [`KeySet::decode_json`], but never waits: a token whose key the set lacks is answered at once, and the fetch
+    /// that may bring the key goes on, so that a later call has it.
+    ///
+    /// # Errors
+    ///
+    /// The errors are those of [`KeySet::decode_json`]; while the set is fetched, a `kid` that it lacks is [`ErrorKind::Fetching`].
+    pub fn try_decode_json(&self, token: impl AsRef<[u8]>, validation: &Validation, now: u64) -> Answer<String> {
+        self.decoded(token.as_ref(), validation, now, 0)
+    }
+
+    /// Verifies a token at the time of the system's clock, like [`KeySet::decode_json`], and returns its claims.
+    ///
+    /// # Errors
+    ///
+    /// The errors are those of [`KeySet::decode_json`]. Claims that are accepted, and are not those of the type, are
+    /// [`ErrorKind::Json`]; a clock before 1970-01-01 00:00:00 UTC is [`ErrorKind::ClockBeforeEpoch`].
+    pub fn decode<T: DeserializeOwned>(&self, token: impl AsRef<[u8]>, validation: &Validation) -> Answer<T> {
+        self.decode_json(token, validation, validation::now()?)?.typed()
+    }
+
+    /// Verifies a token like [`KeySet::decode`], but never waits, like [`KeySet::try_decode_json`].
+    ///
+    /// # Errors
+    ///
+    /// The errors are those of [`KeySet::decode`] and [`KeySet::try_decode_json`].
+    pub fn try_decode<T: DeserializeOwned>(&self, token: impl AsRef<[u8]>, validation: &Validation) -> Answer<T> {
+        self.try_decode_json(token, validation, validation::now()?)?.typed()
+    }
+
+    /// Calls a closure at the end of the fetch that is under way, in the thread of the set; or now, if none is under way. Then
+    /// [`KeySet::try_decode`] knows what was fetched. The closure has to return soon, as one that wakes a task does. If the set is dropped
+    /// before, it may be dropped without a call.
+    ///
+    /// # Errors
+    ///
+    /// If as many as are allowed wait already, this is [`ErrorKind::Fetching`], and the closure is not called.
+    pub fn when_fetched(&self, then: impl FnOnce() + Send + 'static) -> Result<()> {
+        let mut state = self.shared.lock();
+        if state.begun.is_none() {
+            drop(state);
+            then();
+        } else if state.has_room(self.shared.rotation.waiters) {
+            state.told.push(Box::new(then));
+        } else {
+            return Err(ErrorKind::Fetching.into());
+        }
+        Ok(())
+    }
+
+    fn decoded(&self, token: &[u8], validation: &Validation, now: u64, waiters: usize) -> Answer<String> {
         let seen = self.fetched();
         match seen.decode_json(token, validation, now) {
-            Err(refusal) if lacks_key(&refusal) && names_key(token) => {
-                let later = self.after(&seen);
-                if Arc::ptr_eq(&later, &seen) { Err(refusal) } else { later.decode_json(token, validation, now) }
-            }
+            Err(refusal) if lacks_key(&refusal) && names_key(token) => match self.after(&seen, waiters)? {
+                Some(later) => later.decode_json(token, validation, now),
+                None => Err(refusal),
+            },
             answer => answer,
         }
     }
 
-    /// Returns the set as it is now.
-    pub fn current(&self) -> Arc<DecodingKey> {
-        Arc::clone(&self.fetched().key)
+    /// Returns the text of the set as it is now, with the secrets that it may have.
+    #[must_use]
+    pub fn current(&self) -> Arc<str> {
+        Arc::clone(&self.fetched().text)
     }
 
     fn fetched(&self) -> Arc<Fetched> {
@@ -161,18 +241,31 @@ impl KeySet {
     }
 
     /// Returns why the last fetch gave no usable set, or `None` if it did.
+    #[must_use]
     pub fn last_error(&self) -> Option<Error> {
         self.shared.lock().failure.clone()
     }
 
-    /// Returns the set that follows one without the key of a token, if there is another, or if it is time to fetch one.
-    fn after(&self, seen: &Arc<Fetched>) -> Arc<Fetched> {
+    /// Returns the set that follows one without the key of a token, if there is another. If it is time to fetch one, at most so many
+    /// calls wait for it. That the key can't be looked for is an error.
+    fn after(&self, seen: &Arc<Fetched>, waiters: usize) -> Result<Option<Arc<Fetched>>> {
+        let other = |state: &State| state.current.clone().filter(|it| !Arc::ptr_eq(it, seen));
         let mut state = self.shared.lock();
-        if state.current.as_ref().map_or(false, |it| Arc::ptr_eq(it, seen)) && self.shared.ask(&mut state) {
-            state = self.shared.wait(state);
-            state.refetched = Some(Instant::now());
+        if other(&state).is_none() && self.shared.ask(&mut state) {
+            let ended = state.ended;
+            if state.has_room(waiters) {
+                state.waiting += 1;
+                state = self.shared.wait(state);
+                state.waiting -= 1;
+            }
+            if state.ended == ended {
+                return Err(ErrorKind::Fetching.into());
+            }
         }
-        state.current.clone().unwrap_or_else(|| Arc::clone(seen))
+        match (other(&state), &state.failure) {
+            (None, Some(why)) => Err(outage(why)),
+            (found, _) => Ok(found),
+        }
     }
 }
 
@@ -204,6 +297,7 @@ impl Shared {
             state.is_asked = true;
             self.changed.notify_all();
         }
+        state.is_for_kid = true;
         true
     }
 
@@ -227,26 +321,38 @@ impl Shared {
         !state.is_closed
     }
 
-    fn end(&self, found: Result<Fetched, Error>) {
+    fn end(&self, found: Result<Fetched>) {
         let mut state = self.lock();
         match found {
             Ok(fetched) => {
                 // the verifiers of the same set stay
-                if state.current.as_ref().map_or(true, |it| it.key != fetched.key) {
+                if state.current.as_ref().map_or(true, |it| it.text != fetched.text) {
                     state.current = Some(Arc::new(fetched));
                 }
                 state.failure = None;
             }
             Err(error) => state.failure = Some(error),
         }
+        if std::mem::take(&mut state.is_for_kid) {
+            state.refetched = Some(Instant::now());
+        }
         state.begun = None;
         state.ended += 1;
+        let told = std::mem::take(&mut state.told);
         self.changed.notify_all();
+        drop(state);
+        for then in told {
+            // a panic of one is no reason to fetch no more
+            drop(catch_unwind(AssertUnwindSafe(then)));
+        }
     }
 }
 
 /// Fetches the set when it is time to, until it is dropped.
-fn keep<R: Read, E: Into<Box<dyn StdError + Send + Sync>>>(shared: &Shared, mut fetch: impl FnMut() -> Result<R, E>) {
+fn keep<R: Read, E: Into<Box<dyn StdError + Send + Sync>>>(
+    shared: &Shared,
+    mut fetch: impl FnMut() -> std::result::Result<R, E>,
+) {
     while shared.wait_for_work() {
         let found = catch_unwind(AssertUnwindSafe(|| text_of(&mut fetch)));
         let text = found.unwrap_or_else(|_| Err(failed("the closure panicked")));
@@ -255,8 +361,8 @@ fn keep<R: Read, E: Into<Box<dyn StdError + Send + Sync>>>(shared: &Shared, mut 
 }
 
 fn text_of<R: Read, E: Into<Box<dyn StdError + Send + Sync>>>(
-    fetch: &mut impl FnMut() -> Result<R, E>,
-) -> Result<String, Error> {
+    fetch: &mut impl FnMut() -> std::result::Result<R, E>,
+) -> Result<String> {
     let mut text = Vec::new();
     let reader = fetch().map_err(failed)?;
     reader.take(LARGEST + 1).read_to_end(&mut text).map_err(failed)?;
@@ -267,23 +373,51 @@ fn text_of<R: Read, E: Into<Box<dyn StdError + Send + Sync>>>(
 }
 
 fn failed(why: impl Into<Box<dyn StdError + Send + Sync>>) -> Error {
-    Error::Fetch(Cause::new(why))
+    ErrorKind::Fetch(Cause::new(why)).into()
 }
 
+/// Returns the error of a token whose key can't be looked for.
+fn outage(why: &Error) -> Error {
+    match why.kind() {
+        ErrorKind::Fetch(_) => why.clone(),
+        _ => failed(why.clone()),
+    }
+}
+
+/// Algorithms for each kind of key. Those of a verifier are of one family.
+const FOR_ANY_KEY: [&[Algorithm]; 4] =
+    [&[Algorithm::RS256], &[Algorithm::ES256, Algorithm::ES384], &[Algorithm::EdDSA], &[Algorithm::HS256]];
+
 /// Returns a set, if one of its keys with a `kid` verifies tokens.
-fn usable(text: &str) -> Result<Fetched, Error> {
-    let key = Arc::new(DecodingKey::from_jwk_set(text)?);
-    Ok(Fetched { key, verifiers: Mutex::default() })
+fn usable(text: &str) -> Result<Fetched> {
+    let serves = calls::check(Kind::Set, text.as_bytes()).and_then(|()| serves(text.as_bytes()));
+    serves.map_err(Error::from_key_status)?;
+    Ok(Fetched { text: Arc::from(text), verifiers: Mutex::default() })
+}
+
+/// Returns the status of a set of which the library makes no verifier.
+fn serves(set: &[u8]) -> std::result::Result<(), u32> {
+    for algorithms in FOR_ANY_KEY {
+        let options = serde_json::json!({ "algorithms": algorithms }).to_string();
+        let made = Handle::new(Kind::Set, set, &options, 0).map(|_| ());
+        if made != Err(status::UNFIT_KEY) {
+            return made;
+        }
+    }
+    Err(status::UNFIT_KEY)
 }
 
 /// Returns whether a token is refused since the set has no key for it.
 fn lacks_key(refusal: &Refusal) -> bool {
-    // without a test, it is the verifier that could not be made
-    refusal.error == Error::UnknownKey || (matches!(refusal.error, Error::Key(_)) && refusal.test == 0)
+    match refusal.error.kind() {
+        ErrorKind::NoKey => true,
+        // without a test, it is the verifier that could not be made
+        ErrorKind::UnusableKey(_) => refusal.test == 0,
+        _ => false,
+    }
 }
 
 /// Returns whether a token's header has a `kid`.
-fn names_key(token: &str) -> bool {
-    let kid = calls::decode_header(token).and_then(|it| calls::member(&it, "kid"));
-    kid.map_or(false, |it| it.0 == calls::STRING)
+fn names_key(token: &[u8]) -> bool {
+    decode_header(token).map_or(false, |it| it.kid.is_some())
 }

@@ -77,7 +77,7 @@ mod tests {
             Some((name.to_string(), number.trim_end_matches(',').parse().unwrap()))
         };
         let declared: Vec<(String, u32)> = declared.lines().filter_map(of_line).collect();
-        let ours: Vec<_> = super::ALL.iter().map(|(name, number)| (name.to_string(), *number)).collect();
+        let ours: Vec<_> = super::ALL.iter().map(|(name, number)| ((*name).to_string(), *number)).collect();
         assert_eq!(ours, declared);
     }
 }

@@ -1,84 +1,25 @@
-use crate::{Error, json};
+//! The conditions on a token.
+
+use crate::errors::{Error, ErrorKind, Result};
+use crate::{Algorithm, AlgorithmFamily};
+use serde::Serialize;
 use std::collections::HashSet;
-use std::fmt;
-use std::str::FromStr;
+use std::time::{SystemTime, UNIX_EPOCH};
 
-/// The algorithms (RFC 7518 section 3.1, RFC 8037 section 3.1).
-#[derive(Clone, Copy, Debug, PartialEq, Eq, Hash)]
-pub enum Algorithm {
-    // the numbers are those of jwtproved.h
-    /// HMAC with SHA-256.
-    HS256 = 1,
-    /// HMAC with SHA-384.
-    HS384,
-    /// HMAC with SHA-512.
-    HS512,
-    /// RSASSA-PKCS1-v1_5 with SHA-256.
-    RS256,
-    /// RSASSA-PKCS1-v1_5 with SHA-384.
-    RS384,
-    /// RSASSA-PKCS1-v1_5 with SHA-512.
-    RS512,
-    /// RSASSA-PSS with SHA-256.
-    PS256,
-    /// RSASSA-PSS with SHA-384.
-    PS384,
-    /// RSASSA-PSS with SHA-512.
-    PS512,
-    /// ECDSA over P-256 with SHA-256.
-    ES256,
-    /// ECDSA over P-384 with SHA-384.
-    ES384,
-    /// EdDSA over Ed25519.
-    EdDSA,
+/// Returns the time of the system's clock, in seconds since 1970-01-01 00:00:00 UTC, or 0 if it is before that time. The calls that
+/// verify then return [`ErrorKind::ClockBeforeEpoch`].
+#[must_use]
+pub fn get_current_timestamp() -> u64 {
+    now().unwrap_or(0)
 }
 
-impl Algorithm {
-    /// All algorithms.
-    pub const ALL: [Algorithm; 12] = [
-        Algorithm::HS256,
-        Algorithm::HS384,
-        Algorithm::HS512,
-        Algorithm::RS256,
-        Algorithm::RS384,
-        Algorithm::RS512,
-        Algorithm::PS256,
-        Algorithm::PS384,
-        Algorithm::PS512,
-        Algorithm::ES256,
-        Algorithm::ES384,
-        Algorithm::EdDSA,
-    ];
-
-    pub(crate) fn number(self) -> u32 {
-        self as u32
-    }
-
-    pub(crate) fn from_number(number: u32) -> Option<Algorithm> {
-        Algorithm::ALL.into_iter().find(|it| it.number() == number)
-    }
+pub(crate) fn now() -> Result<u64> {
+    seconds_of(SystemTime::now())
 }
 
-impl fmt::Display for Algorithm {
-    fn fmt(&self, f: &mut fmt::Formatter<'_>) -> fmt::Result {
-        // the names of the variants are those of the algorithms
-        fmt::Debug::fmt(self, f)
-    }
-}
-
-/// Reads the name of an algorithm. Another name is [`Error::Argument`].
-impl FromStr for Algorithm {
-    type Err = Error;
-
-    fn from_str(name: &str) -> Result<Algorithm, Error> {
-        let found = Algorithm::ALL.into_iter().find(|it| it.to_string() == name);
-        found.ok_or_else(|| Error::Argument(format!("{name:?} is not an algorithm")))
-    }
-}
-
-/// Returns the names of algorithms, as JSON.
-pub(crate) fn names(algorithms: &[Algorithm]) -> String {
-    json::list(algorithms.iter().map(ToString::to_string))
+fn seconds_of(time: SystemTime) -> Result<u64> {
+    let since = time.duration_since(UNIX_EPOCH);
+    since.map(|it| it.as_secs()).map_err(|_| ErrorKind::ClockBeforeEpoch.into())
 }
 
 /// The claims that can be required (RFC 7519 section 4.1): the library has no rule for another one.
@@ -88,20 +29,46 @@ fn texts<T: ToString>(items: &[T]) -> HashSet<String> {
     items.iter().map(ToString::to_string).collect()
 }
 
-/// Returns texts as JSON, in their order.
-fn sorted(texts: &HashSet<String>) -> String {
-    let mut found: Vec<&String> = texts.iter().collect();
-    found.sort();
-    json::list(found)
+/// The options of `jwtproved.h`. That they are strict makes the library require each of aud, iss and sub that is there.
+#[derive(Serialize)]
+#[allow(clippy::struct_excessive_bools)] // they are members of JSON
+struct Options<'a> {
+    strict: bool,
+    algorithms: &'a [Algorithm],
+    required_spec_claims: &'a HashSet<String>,
+    leeway: u64,
+    reject_tokens_expiring_in_less_than: u64,
+    validate_exp: bool,
+    validate_nbf: bool,
+    validate_aud: bool,
+    aud: Option<&'a HashSet<String>>,
+    iss: Option<&'a HashSet<String>>,
+    sub: Option<&'a str>,
+    understood_crit: &'a [String],
+}
+
+/// Returns the options by which each token with an accepted signature is accepted.
+pub(crate) fn of_signature_alone(algorithm: Algorithm, crit: &[String]) -> String {
+    let names = serde_json::json!({
+        "algorithms": [algorithm], "required_spec_claims": [], "validate_exp": false, "validate_nbf": false,
+        "validate_aud": false, "understood_crit": crit,
+    });
+    names.to_string()
 }
 
 /// The conditions on a token.
+///
+/// ```
+/// use jsonwebtoken_proved::{Algorithm, Validation};
+///
+/// let mut validation = Validation::strict(Algorithm::RS256);
+/// validation.set_audience(&["web"]); // a token without aud is refused
+/// validation.set_issuer(&["https://login.example"]); // a token without iss is refused
+/// ```
 #[derive(Clone, Debug, PartialEq, Eq)]
 pub struct Validation {
-    /// The algorithms that are accepted, all of the key's family.
-    pub algorithms: Vec<Algorithm>,
     /// The claims that have to be there, among `exp`, `nbf`, `aud`, `iss` and `sub`: `exp` alone at first. Another name is
-    /// [`Error::Argument`]. A claim that [`aud`](Validation::aud), [`iss`](Validation::iss) or [`sub`](Validation::sub) asks for has to
+    /// [`ErrorKind::InvalidArgument`]. A claim that [`aud`](Validation::aud), [`iss`](Validation::iss) or [`sub`](Validation::sub) asks for has to
     /// be there too.
     pub required_spec_claims: HashSet<String>,
     /// By how many seconds clocks may differ: 60 at first, and 0 by [`Validation::strict`].
@@ -120,6 +87,8 @@ pub struct Validation {
     pub iss: Option<HashSet<String>>,
     /// The subject that the token has to name.
     pub sub: Option<String>,
+    /// The algorithms that are accepted, all of the key's family.
+    pub algorithms: Vec<Algorithm>,
     /// The names that the header's `crit` may have (RFC 7515 section 4.1.11): none at first.
     pub understood_crit: Vec<String>,
 }
@@ -127,9 +96,10 @@ pub struct Validation {
 impl Validation {
     /// Accepts this algorithm, with the defaults of the crate `jsonwebtoken`. Unlike in that crate, a claim that is asked for is
     /// required.
-    pub fn new(algorithm: Algorithm) -> Validation {
+    #[must_use]
+    pub fn new(alg: Algorithm) -> Validation {
         Validation {
-            algorithms: vec![algorithm],
+            algorithms: vec![alg],
             required_spec_claims: texts(&["exp"]),
             leeway: 60,
             reject_tokens_expiring_in_less_than: 0,
@@ -143,83 +113,102 @@ impl Validation {
         }
     }
 
+    /// Accepts all algorithms of this family, with the defaults of [`Validation::new`].
+    #[must_use]
+    pub fn new_for_family(family: AlgorithmFamily) -> Validation {
+        Validation { algorithms: family.algorithms().to_vec(), ..Validation::default() }
+    }
+
     /// Accepts this algorithm, with the library's strict defaults: without leeway, a token is refused from the time of its `exp` on (RFC
     /// 7519 section 4.1.4), and `nbf` is checked.
-    pub fn strict(algorithm: Algorithm) -> Validation {
-        Validation {
-            leeway: 0,
-            reject_tokens_expiring_in_less_than: 1,
-            validate_nbf: true,
-            ..Validation::new(algorithm)
-        }
+    #[must_use]
+    pub fn strict(alg: Algorithm) -> Validation {
+        Validation { leeway: 0, reject_tokens_expiring_in_less_than: 1, validate_nbf: true, ..Validation::new(alg) }
     }
 
     /// Accepts tokens for one of these audiences, and requires `aud`: a token that names none is
-    /// [`Error::MissingClaim`](crate::Error::MissingClaim).
-    pub fn set_audience<T: ToString>(&mut self, audiences: &[T]) {
-        self.aud = Some(texts(audiences));
+    /// [`ErrorKind::MissingRequiredClaim`].
+    pub fn set_audience<T: ToString>(&mut self, items: &[T]) {
+        self.aud = Some(texts(items));
     }
 
     /// Accepts tokens of one of these issuers, and requires `iss`: a token that names none is
-    /// [`Error::MissingClaim`](crate::Error::MissingClaim).
-    pub fn set_issuer<T: ToString>(&mut self, issuers: &[T]) {
-        self.iss = Some(texts(issuers));
+    /// [`ErrorKind::MissingRequiredClaim`].
+    pub fn set_issuer<T: ToString>(&mut self, items: &[T]) {
+        self.iss = Some(texts(items));
     }
 
     /// Requires these claims, among `exp`, `nbf`, `aud`, `iss` and `sub`, and no other, besides those that [`aud`](Validation::aud),
     /// [`iss`](Validation::iss) and [`sub`](Validation::sub) ask for.
-    pub fn set_required_spec_claims<T: ToString>(&mut self, claims: &[T]) {
-        self.required_spec_claims = texts(claims);
+    pub fn set_required_spec_claims<T: ToString>(&mut self, items: &[T]) {
+        self.required_spec_claims = texts(items);
     }
 
-    /// Returns the options of `jwtproved.h`, as JSON. All members with defaults are there; that it is strict makes the library require
-    /// each of aud, iss and sub that is there too.
-    pub(crate) fn options(&self) -> Result<String, Error> {
+    /// Returns the options of `jwtproved.h`, as JSON.
+    pub(crate) fn options(&self) -> Result<String> {
         self.check()?;
-        let audiences = self.aud.as_ref().filter(|_| self.validate_aud);
-        let mut members = vec![
-            "\"strict\":true".to_string(),
-            format!("\"algorithms\":{}", names(&self.algorithms)),
-            format!("\"required_spec_claims\":{}", sorted(&self.required_spec_claims)),
-            format!("\"leeway\":{}", self.leeway),
-            format!("\"reject_tokens_expiring_in_less_than\":{}", self.reject_tokens_expiring_in_less_than),
-            format!("\"validate_exp\":{}", self.validate_exp),
-            format!("\"validate_nbf\":{}", self.validate_nbf),
-            format!("\"validate_aud\":{}", self.validate_aud),
-            format!("\"understood_crit\":{}", json::list(&self.understood_crit)),
-        ];
-        members.extend(audiences.map(|it| format!("\"aud\":{}", sorted(it))));
-        members.extend(self.iss.as_ref().map(|it| format!("\"iss\":{}", sorted(it))));
-        members.extend(self.sub.as_ref().map(|it| format!("\"sub\":{}", json::string(it))));
-        Ok(format!("{{{}}}", members.join(",")))
+        let options = Options {
+            strict: true,
+            algorithms: &self.algorithms,
+            required_spec_claims: &self.required_spec_claims,
+            leeway: self.leeway,
+            reject_tokens_expiring_in_less_than: self.reject_tokens_expiring_in_less_than,
+            validate_exp: self.validate_exp,
+            validate_nbf: self.validate_nbf,
+            validate_aud: self.validate_aud,
+            aud: self.aud.as_ref().filter(|_| self.validate_aud),
+            iss: self.iss.as_ref(),
+            sub: self.sub.as_deref(),
+            understood_crit: &self.understood_crit,
+        };
+        Ok(serde_json::to_string(&options)?)
     }
 
-    /// Refuses empty lists, and claims without a rule, which could only be a slip.
-    fn check(&self) -> Result<(), Error> {
-        let lists = [
-            ("algorithms", self.algorithms.is_empty()),
-            ("aud", self.aud.as_ref().map_or(false, HashSet::is_empty)),
-            ("iss", self.iss.as_ref().map_or(false, HashSet::is_empty)),
+    /// Refuses empty lists, empty names, and claims without a rule, which could only be a slip.
+    fn check(&self) -> Result<()> {
+        if self.algorithms.is_empty() {
+            return Err(ErrorKind::MissingAlgorithm.into());
+        }
+        let names =
+            |it: &Option<HashSet<String>>, is_slip: fn(&HashSet<String>) -> bool| it.as_ref().map_or(false, is_slip);
+        let slips = [
+            ("aud is empty", names(&self.aud, HashSet::is_empty)),
+            ("aud has an empty name", names(&self.aud, |it| it.contains(""))),
+            ("iss is empty", names(&self.iss, HashSet::is_empty)),
+            ("iss has an empty name", names(&self.iss, |it| it.contains(""))),
+            ("sub is empty", self.sub.as_deref() == Some("")),
         ];
-        if let Some((name, _)) = lists.into_iter().find(|it| it.1) {
-            return Err(Error::Argument(format!("{name} is empty")));
+        if let Some((slip, _)) = slips.into_iter().find(|it| it.1) {
+            return Err(argument(slip));
         }
         match self.required_spec_claims.iter().find(|it| !SPEC_CLAIMS.contains(&it.as_str())) {
-            Some(name) => Err(Error::Argument(format!(
-                "required_spec_claims has {name:?}, not one of {}",
-                SPEC_CLAIMS.join(", ")
-            ))),
+            Some(name) => {
+                Err(argument(format!("required_spec_claims has {name:?}, not one of {}", SPEC_CLAIMS.join(", "))))
+            }
             None => Ok(()),
         }
     }
 }
 
+/// The conditions for HS256.
+impl Default for Validation {
+    fn default() -> Self {
+        Validation::new(Algorithm::default())
+    }
+}
+
+/// Returns the error of an argument.
+pub(crate) fn argument(why: impl Into<String>) -> Error {
+    ErrorKind::InvalidArgument(why.into()).into()
+}
+
 #[cfg(test)]
 mod tests {
-    use super::{Algorithm, Validation};
-    use crate::Error;
-    use crate::calls::{Kind, encode};
-    use crate::handle::Handle;
+    use super::{Algorithm, ErrorKind, Validation, get_current_timestamp, seconds_of};
+    use crate::errors::Error;
+    use crate::library::calls::{Kind, encode};
+    use crate::library::handle::Handle;
+    use std::time::{Duration, UNIX_EPOCH};
 
     /// RFC 7519 sections 4.1.4 and 4.1.5, and that claims that are asked for are required.
     #[test]
@@ -230,32 +219,37 @@ mod tests {
         validation.set_issuer(&["i"]);
         let ours = validation.options().unwrap();
         let of_the_library = r#"{"algorithms":["HS256"],"strict":true,"aud":["web"],"iss":["i"]}"#;
+        let missing = |name: &str| ErrorKind::MissingRequiredClaim(name.to_string());
         let rows = [
             (r#"{"aud":"web","exp":2000,"iss":"i"}"#, 1999, None),
-            (r#"{"aud":"web","exp":2000,"iss":"i"}"#, 2000, Some(Error::Expired)),
+            (r#"{"aud":"web","exp":2000,"iss":"i"}"#, 2000, Some(ErrorKind::ExpiredSignature)),
             (r#"{"aud":"web","exp":2000,"iss":"i","nbf":1000}"#, 1000, None),
-            (r#"{"aud":"web","exp":2000,"iss":"i","nbf":1000}"#, 999, Some(Error::NotYetValid)),
-            (r#"{"aud":"web","iss":"i"}"#, 0, Some(Error::MissingClaim("exp"))),
-            (r#"{"exp":2000,"iss":"i"}"#, 0, Some(Error::MissingClaim("aud"))),
-            (r#"{"aud":"web","exp":2000}"#, 0, Some(Error::MissingClaim("iss"))),
-            (r#"{"aud":"app","exp":2000,"iss":"i"}"#, 0, Some(Error::Audience)),
+            (r#"{"aud":"web","exp":2000,"iss":"i","nbf":1000}"#, 999, Some(ErrorKind::ImmatureSignature)),
+            (r#"{"aud":"web","iss":"i"}"#, 0, Some(missing("exp"))),
+            (r#"{"exp":2000,"iss":"i"}"#, 0, Some(missing("aud"))),
+            (r#"{"aud":"web","exp":2000}"#, 0, Some(missing("iss"))),
+            (r#"{"aud":"app","exp":2000,"iss":"i"}"#, 0, Some(ErrorKind::InvalidAudience)),
         ];
         for (claims, now, wanted) in rows {
             let token = encode(r#"{"alg":"HS256"}"#, claims, SECRET).unwrap();
             for options in [ours.as_str(), of_the_library] {
-                let answer = Handle::new(Kind::Secret, SECRET, options, 0).unwrap().decode(&token, now);
-                assert_eq!(answer.err().map(|it| Error::from_status(it.status)), wanted, "{claims} {now} {options}");
+                let answer = Handle::new(Kind::Secret, SECRET, options, 0).unwrap().decode(token.as_bytes(), now);
+                assert_eq!(
+                    answer.err().map(|it| Error::from_status(it.status).into_kind()),
+                    wanted,
+                    "{claims} {now} {options}"
+                );
             }
         }
     }
 
     #[test]
-    fn the_numbers_are_those_of_the_header_file() {
-        let header = crate::tests::file_of_repository("include/jwtproved.h");
-        let (_, declared) = header.split_once("enum jwt_algorithm {").unwrap();
-        let (declared, _) = declared.split_once("};").unwrap();
-        let declared: Vec<&str> = declared.split(',').map(str::trim).collect();
-        let ours = Algorithm::ALL.map(|it| format!("JWT_{} = {}", it.to_string().to_uppercase(), it.number()));
-        assert_eq!(ours.to_vec(), declared);
+    fn a_clock_before_1970_is_an_error() {
+        for early in [Duration::from_nanos(1), Duration::from_secs(1), Duration::from_secs(86400 * 365)] {
+            assert_eq!(seconds_of(UNIX_EPOCH - early), Err(ErrorKind::ClockBeforeEpoch.into()));
+        }
+        assert_eq!(seconds_of(UNIX_EPOCH), Ok(0));
+        assert_eq!(seconds_of(UNIX_EPOCH + Duration::from_millis(1999)), Ok(1));
+        assert!(get_current_timestamp() > 1_700_000_000);
     }
 }

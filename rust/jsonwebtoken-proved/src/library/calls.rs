@@ -1,9 +1,8 @@
 //! The calls for C as safe functions, which return the status of a call that has no result.
 
-use crate::{declared, status};
-
-/// The type of a JSON string, `JWT_STRING`.
-pub const STRING: u32 = 4;
+use super::declared;
+use crate::status;
+use std::ptr;
 
 /// A call that checks a key.
 type Check = unsafe extern "C" fn(*const u8, usize) -> u32;
@@ -14,6 +13,14 @@ pub enum Kind {
     Secret,
     Jwk,
     Set,
+}
+
+/// Overwrites the bytes of a secret that is not used any more.
+pub fn overwrite(secret: &mut [u8]) {
+    for byte in secret {
+        // SAFETY: the reference is valid for writes. That it is volatile keeps the compiler from leaving it out.
+        unsafe { ptr::write_volatile(byte, 0) }
+    }
 }
 
 /// Returns the error of a status other than `OK`.
@@ -80,7 +87,7 @@ pub fn member(json: &str, name: &str) -> Result<(u32, String), u32> {
     Ok((kind, value))
 }
 
-pub fn decode_header(token: &str) -> Result<String, u32> {
+pub fn decode_header(token: &[u8]) -> Result<String, u32> {
     // SAFETY: the slice has the length that is given, and the buffer does not overlap it
     text(token.len() + 64, |buffer, size, len| unsafe {
         declared::jwt_decode_header(token.as_ptr(), token.len(), buffer, size, len)
@@ -88,7 +95,7 @@ pub fn decode_header(token: &str) -> Result<String, u32> {
 }
 
 /// Returns the number of a token's algorithm, the length of its message, and its signature.
-pub fn signed_part(token: &str) -> Result<(u32, usize, Vec<u8>), u32> {
+pub fn signed_part(token: &[u8]) -> Result<(u32, usize, Vec<u8>), u32> {
     let (mut algorithm, mut message) = (0, 0);
     // SAFETY: the slice has the length that is given, and the buffer does not overlap it
     let signature = written(token.len(), |buffer, size, len| unsafe {
@@ -105,7 +112,7 @@ pub struct Signed<'a> {
     pub signature: &'a [u8],
 }
 
-pub fn decode_verdict(token: &str, signed: Signed<'_>, verdict: bool, options: &str, now: u64) -> Result<String, u32> {
+pub fn decode_verdict(token: &[u8], signed: Signed<'_>, verdict: bool, options: &str, now: u64) -> Result<String, u32> {
     let Signed { algorithm, message, signature } = signed;
     // SAFETY: each slice has the length that is given, and the buffer overlaps none
     text(token.len() + 64, |buffer, size, len| unsafe {

@@ -1,7 +1,7 @@
 //! A verifier of the library, `struct jwt_verifier`.
 
-use crate::calls::{Kind, checked, text};
-use crate::declared;
+use super::calls::{Kind, checked, text};
+use super::declared;
 use std::ptr;
 
 /// A call that makes a verifier.
@@ -33,7 +33,7 @@ impl Handle {
 
     /// Returns the verifier of a key and options, for tokens of at most so many bytes; 0 stands for the library's limit.
     pub fn new(kind: Kind, key: &[u8], options: &str, max_token_len: usize) -> Result<Handle, u32> {
-        let make: Make = match kind {
+        let call: Make = match kind {
             Kind::Secret => declared::jwt_verifier_secret,
             Kind::Jwk => declared::jwt_verifier_key,
             Kind::Set => declared::jwt_verifier_set,
@@ -41,15 +41,30 @@ impl Handle {
         let mut made = Handle::none();
         // SAFETY: each slice has the length that is given, and the verifier is none
         let status = unsafe {
-            make(key.as_ptr(), key.len(), options.as_ptr(), options.len(), max_token_len, false, &mut made.0)
+            call(key.as_ptr(), key.len(), options.as_ptr(), options.len(), max_token_len, false, &mut made.0)
         };
         checked(status)?;
         Ok(made)
     }
 
+    /// Makes the call for C alone, which is to be measured, and returns its status.
     #[cfg(test)]
-    pub fn as_mut(&mut self) -> *mut declared::Verifier {
-        &mut self.0
+    pub fn status_of(&mut self, token: &[u8], now: u64, buffer: &mut [u8]) -> u32 {
+        let (mut len, mut last, mut test) = (0, 0, 0);
+        // SAFETY: no other call has this verifier, each slice has the length that is given, and the buffer does not overlap the token
+        unsafe {
+            declared::jwt_verifier_decode(
+                &mut self.0,
+                token.as_ptr(),
+                token.len(),
+                now,
+                buffer.as_mut_ptr(),
+                buffer.len(),
+                &mut len,
+                &mut last,
+                &mut test,
+            )
+        }
     }
 
     /// Returns another verifier with the same keys and options.
@@ -61,7 +76,7 @@ impl Handle {
     }
 
     /// Verifies a token at the time `now`.
-    pub fn decode(&mut self, token: &str, now: u64) -> Result<Accepted, Denied> {
+    pub fn decode(&mut self, token: &[u8], now: u64) -> Result<Accepted, Denied> {
         let (mut last, mut test) = (0, 0);
         // SAFETY: no other call has this verifier, the slice has the length that is given, and the buffer does not overlap it
         let claims = text(token.len() + 64, |buffer, size, len| unsafe {

@@ -1,0 +1,372 @@
+//! Keys that verify, and the calls that read tokens.
+
+use crate::base64::{self, STANDARD, URL_SAFE};
+use crate::errors::{Error, ErrorKind, Result};
+use crate::jwk::{AlgorithmParameters, Jwk};
+use crate::library::calls::{self, Kind};
+use crate::{AlgorithmFamily, Header, Validation, Verifier, pem, validation};
+use serde::de::DeserializeOwned;
+use std::fmt;
+
+/// A token that was read.
+#[derive(Debug)]
+pub struct TokenData<T> {
+    /// The header.
+    pub header: Header,
+    /// The claims.
+    pub claims: T,
+}
+
+impl<T: Clone> Clone for TokenData<T> {
+    fn clone(&self) -> Self {
+        TokenData { header: self.header.clone(), claims: self.claims.clone() }
+    }
+}
+
+/// The bytes of a key that verifies. They are overwritten when it is dropped.
+#[derive(Clone)]
+pub enum DecodingKeyKind {
+    /// A secret, or the DER of a public RSA key, the uncompressed point of a curve, or the 32 bytes of Ed25519.
+    SecretOrDer(Vec<u8>),
+    /// The numbers of an RSA key, as big-endian bytes.
+    RsaModulusExponent {
+        /// The modulus.
+        n: Vec<u8>,
+        /// The exponent.
+        e: Vec<u8>,
+    },
+}
+
+impl Drop for DecodingKeyKind {
+    fn drop(&mut self) {
+        if let DecodingKeyKind::SecretOrDer(bytes) = self {
+            calls::overwrite(bytes);
+        }
+    }
+}
+
+impl fmt::Debug for DecodingKeyKind {
+    fn fmt(&self, f: &mut fmt::Formatter<'_>) -> fmt::Result {
+        f.write_str(match self {
+            DecodingKeyKind::SecretOrDer(_) => "SecretOrDer([redacted])",
+            DecodingKeyKind::RsaModulusExponent { .. } => "RsaModulusExponent([redacted])",
+        })
+    }
+}
+
+/// A key that tokens are verified by.
+///
+/// A key that the library does not take, such as an empty secret, is made all the same, and refused when it is used. A secret that others
+/// may know is one of zeros alone, an empty one, and the text of a key of another kind: a text that contains an SSH key or PEM, the JSON
+/// of a JSON Web Key or a set, a key or a certificate in DER, or base64 of any of these. RFC 7518 section 3.2 requires secrets of at
+/// least 32, 48 and 64 bytes for HS256, HS384 and HS512.
+#[derive(Clone, Debug)]
+pub struct DecodingKey {
+    family: AlgorithmFamily,
+    kind: DecodingKeyKind,
+    read: std::result::Result<Readable, ErrorKind>,
+}
+
+/// What the library reads of a key.
+#[derive(Clone, Debug)]
+enum Readable {
+    Secret,
+    /// A JSON Web Key of a public key.
+    Jwk(String),
+}
+
+impl DecodingKey {
+    fn of_bytes(family: AlgorithmFamily, bytes: &[u8], read: std::result::Result<Readable, ErrorKind>) -> DecodingKey {
+        DecodingKey { family, kind: DecodingKeyKind::SecretOrDer(bytes.to_vec()), read }
+    }
+
+    /// Returns the family of algorithms that the key is for.
+    #[must_use]
+    pub fn family(&self) -> AlgorithmFamily {
+        self.family
+    }
+
+    /// Returns the bytes of the key.
+    #[must_use]
+    pub fn kind(&self) -> &DecodingKeyKind {
+        &self.kind
+    }
+
+    /// Returns a secret as a key, for HS256, HS384 and HS512.
+    #[must_use]
+    pub fn from_secret(secret: &[u8]) -> Self {
+        let read = calls::check(Kind::Secret, secret).map(|()| Readable::Secret);
+        DecodingKey::of_bytes(AlgorithmFamily::Hmac, secret, read.map_err(key_kind))
+    }
+
+    /// Returns a secret as a key, from base64 with padding.
+    ///
+    /// # Errors
+    ///
+    /// Another text is [`ErrorKind::Base64`].
+    pub fn from_base64_secret(secret: &str) -> Result<Self> {
+        Ok(DecodingKey::from_secret(&base64::decode(secret.as_bytes(), STANDARD)?))
+    }
+
+    /// Returns a public RSA key as a key, from PEM of a SubjectPublicKeyInfo or an RSAPublicKey.
+    ///
+    /// # Errors
+    ///
+    /// Another text, such as a certificate, is [`ErrorKind::InvalidKeyFormat`] or [`ErrorKind::UnusableKey`], which says why.
+    pub fn from_rsa_pem(key: &[u8]) -> Result<Self> {
+        from_pem(AlgorithmFamily::Rsa, key)
+    }
+
+    /// Returns a public RSA key as a key, from its modulus and exponent in base64url.
+    ///
+    /// # Errors
+    ///
+    /// Another text is [`ErrorKind::Base64`].
+    pub fn from_rsa_components(modulus: &str, exponent: &str) -> Result<Self> {
+        let [n, e] = [modulus, exponent].map(|it| base64::decode(it.as_bytes(), URL_SAFE));
+        Ok(DecodingKey::from_rsa_raw_components(&n?, &e?))
+    }
+
+    /// Returns a public RSA key as a key, from its modulus and exponent as big-endian bytes.
+    #[must_use]
+    pub fn from_rsa_raw_components(modulus: &[u8], exponent: &[u8]) -> Self {
+        let [n, e] = [modulus, exponent].map(|it| base64::encode(it, URL_SAFE));
+        let jwk = format!(r#"{{"kty":"RSA","n":"{n}","e":"{e}"}}"#);
+        let kind = DecodingKeyKind::RsaModulusExponent { n: modulus.to_vec(), e: exponent.to_vec() };
+        DecodingKey { family: AlgorithmFamily::Rsa, kind, read: Ok(Readable::Jwk(jwk)) }
+    }
+
+    /// Returns a public key on P-256 or P-384 as a key, from PEM of a SubjectPublicKeyInfo.
+    ///
+    /// # Errors
+    ///
+    /// Another text is [`ErrorKind::InvalidKeyFormat`] or [`ErrorKind::UnusableKey`], which says why.
+    pub fn from_ec_pem(key: &[u8]) -> Result<Self> {
+        from_pem(AlgorithmFamily::Ec, key)
+    }
+
+    /// Returns a public key on P-256 or P-384 as a key, from its coordinates in base64url.
+    ///
+    /// # Errors
+    ///
+    /// Another text is [`ErrorKind::Base64`].
+    pub fn from_ec_components(x: &str, y: &str) -> Result<Self> {
+        let [x, y] = [x, y].map(|it| base64::decode(it.as_bytes(), URL_SAFE));
+        Ok(DecodingKey::from_ec_der(&[&[4][..], &x?, &y?].concat()))
+    }
+
+    /// Returns a public Ed25519 key as a key, from PEM of a SubjectPublicKeyInfo.
+    ///
+    /// # Errors
+    ///
+    /// Another text is [`ErrorKind::InvalidKeyFormat`] or [`ErrorKind::UnusableKey`], which says why.
+    pub fn from_ed_pem(key: &[u8]) -> Result<Self> {
+        from_pem(AlgorithmFamily::Ed, key)
+    }
+
+    /// Returns a public RSA key as a key, from DER of an RSAPublicKey or a SubjectPublicKeyInfo.
+    #[must_use]
+    pub fn from_rsa_der(der: &[u8]) -> Self {
+        let read = jwk_of_der("RSA PUBLIC KEY", der).or_else(|_| jwk_of_der("PUBLIC KEY", der));
+        DecodingKey::of_bytes(AlgorithmFamily::Rsa, der, of_family(AlgorithmFamily::Rsa, read))
+    }
+
+    /// Returns a public key on P-256 or P-384 as a key, from its uncompressed point: the byte 4 and both coordinates. DER of a
+    /// SubjectPublicKeyInfo is taken too.
+    #[must_use]
+    pub fn from_ec_der(der: &[u8]) -> Self {
+        let of_point = |curve: &str| {
+            let [x, y] = [&der[1..=(der.len() / 2)], &der[der.len() / 2 + 1..]].map(|it| base64::encode(it, URL_SAFE));
+            Ok(Readable::Jwk(format!(r#"{{"kty":"EC","crv":"{curve}","x":"{x}","y":"{y}"}}"#)))
+        };
+        let read = match (der.first(), der.len()) {
+            (Some(4), 65) => of_point("P-256"),
+            (Some(4), 97) => of_point("P-384"),
+            (Some(0x30), _) => of_family(AlgorithmFamily::Ec, jwk_of_der("PUBLIC KEY", der)),
+            _ => Err(ErrorKind::InvalidEcdsaKey),
+        };
+        DecodingKey::of_bytes(AlgorithmFamily::Ec, der, read)
+    }
+
+    /// Returns a public Ed25519 key as a key, from its 32 bytes. DER of a SubjectPublicKeyInfo is taken too.
+    #[must_use]
+    pub fn from_ed_der(der: &[u8]) -> Self {
+        let read = match der.len() {
+            32 => {
+                let x = base64::encode(der, URL_SAFE);
+                Ok(Readable::Jwk(format!(r#"{{"kty":"OKP","crv":"Ed25519","x":"{x}"}}"#)))
+            }
+            _ => of_family(AlgorithmFamily::Ed, jwk_of_der("PUBLIC KEY", der)),
+        };
+        DecodingKey::of_bytes(AlgorithmFamily::Ed, der, read)
+    }
+
+    /// Returns a public Ed25519 key as a key, from its bytes in base64url.
+    ///
+    /// # Errors
+    ///
+    /// Another text is [`ErrorKind::Base64`].
+    pub fn from_ed_components(x: &str) -> Result<Self> {
+        Ok(DecodingKey::from_ed_der(&base64::decode(x.as_bytes(), URL_SAFE)?))
+    }
+
+    /// Returns a JSON Web Key as a key. Its `alg`, `use` and `crv` are not looked at: those of the [`Validation`] count.
+    ///
+    /// # Errors
+    ///
+    /// A number or a secret that is not base64url is [`ErrorKind::Base64`], and a key of another kind
+    /// [`ErrorKind::UnsupportedAlgorithm`].
+    pub fn from_jwk(jwk: &Jwk) -> Result<Self> {
+        match &jwk.algorithm {
+            AlgorithmParameters::RSA(it) => DecodingKey::from_rsa_components(&it.n, &it.e),
+            AlgorithmParameters::EllipticCurve(it) => DecodingKey::from_ec_components(&it.x, &it.y),
+            AlgorithmParameters::OctetKeyPair(it) => DecodingKey::from_ed_components(&it.x),
+            AlgorithmParameters::OctetKey(it) => {
+                Ok(DecodingKey::from_secret(&base64::decode(it.value.as_bytes(), URL_SAFE)?))
+            }
+            AlgorithmParameters::Other(_) => Err(ErrorKind::UnsupportedAlgorithm.into()),
+        }
+    }
+
+    /// Returns the bytes of the key.
+    ///
+    /// # Errors
+    ///
+    /// A key that was made of a modulus and an exponent is [`ErrorKind::InvalidKeyFormat`].
+    pub fn try_get_as_bytes(&self) -> Result<&[u8]> {
+        match &self.kind {
+            DecodingKeyKind::SecretOrDer(bytes) => Ok(bytes),
+            DecodingKeyKind::RsaModulusExponent { .. } => Err(ErrorKind::InvalidKeyFormat.into()),
+        }
+    }
+
+    /// Returns the key as the library takes it.
+    pub(crate) fn material(&self) -> Result<(Kind, &[u8])> {
+        match &self.read {
+            Ok(Readable::Secret) => Ok((Kind::Secret, self.try_get_as_bytes()?)),
+            Ok(Readable::Jwk(text)) => Ok((Kind::Jwk, text.as_bytes())),
+            Err(kind) => Err(kind.clone().into()),
+        }
+    }
+}
+
+impl TryFrom<&Jwk> for DecodingKey {
+    type Error = Error;
+
+    fn try_from(jwk: &Jwk) -> Result<Self> {
+        DecodingKey::from_jwk(jwk)
+    }
+}
+
+fn key_kind(status: u32) -> ErrorKind {
+    Error::from_key_status(status).into_kind()
+}
+
+/// Returns the JSON Web Key of a public key in DER.
+fn jwk_of_der(label: &str, der: &[u8]) -> std::result::Result<String, ErrorKind> {
+    calls::key_from_pem(pem::write(label, der).as_bytes()).map_err(key_kind)
+}
+
+/// Returns a JSON Web Key, if it is of this family.
+fn of_family(
+    family: AlgorithmFamily,
+    jwk: std::result::Result<String, ErrorKind>,
+) -> std::result::Result<Readable, ErrorKind> {
+    let jwk = jwk?;
+    let (_, kty) = calls::member(&jwk, "kty").map_err(key_kind)?;
+    let wanted = match family {
+        AlgorithmFamily::Hmac => "oct",
+        AlgorithmFamily::Rsa => "RSA",
+        AlgorithmFamily::Ec => "EC",
+        AlgorithmFamily::Ed => "OKP",
+    };
+    if kty == wanted { Ok(Readable::Jwk(jwk)) } else { Err(ErrorKind::InvalidKeyFormat) }
+}
+
+/// Returns the key of a text in PEM, if it is of this family.
+fn from_pem(family: AlgorithmFamily, text: &[u8]) -> Result<DecodingKey> {
+    let block = pem::first(text).ok_or(ErrorKind::InvalidKeyFormat)?;
+    if block.label == "CERTIFICATE" {
+        let why = "it is a certificate, whose key nobody has verified; `openssl x509 -pubkey` has the key";
+        return Err(ErrorKind::UnusableKey(why.to_string()).into());
+    }
+    let read = of_family(family, jwk_of_der(&block.label, &block.der))?;
+    Ok(DecodingKey::of_bytes(family, &block.der, Ok(read)))
+}
+
+/// Verifies a token at the time of the system's clock, and returns its header and its claims.
+///
+/// A [`Verifier`] is made for this call; make one yourself for many tokens.
+///
+/// ```
+/// use jsonwebtoken_proved::{decode, encode, DecodingKey, EncodingKey, Header, Validation};
+/// use serde::{Deserialize, Serialize};
+///
+/// #[derive(Debug, Serialize, Deserialize, PartialEq, Clone)]
+/// struct Claims {
+///     sub: String,
+///     exp: u64,
+/// }
+///
+/// let (secret, claims) = (b"0123456789abcdef0123456789abcdef", Claims { sub: "b@b.com".to_string(), exp: 4102444800 });
+/// let token = encode(&Header::default(), &claims, &EncodingKey::from_secret(secret))?;
+/// let data = decode::<Claims>(&token, &DecodingKey::from_secret(secret), &Validation::default())?;
+/// assert_eq!(data.claims, claims);
+/// # Ok::<(), jsonwebtoken_proved::errors::Error>(())
+/// ```
+///
+/// # Errors
+///
+/// A token that is refused has a kind that says why ([`Error::is_refusal`]). An algorithm of another family than the key's is
+/// [`ErrorKind::InvalidAlgorithm`]. The other errors are those of [`Verifier::new`] and [`Verifier::decode`].
+pub fn decode<T: DeserializeOwned>(
+    token: impl AsRef<[u8]>,
+    key: &DecodingKey,
+    validation: &Validation,
+) -> Result<TokenData<T>> {
+    if validation.algorithms.iter().any(|it| it.family() != key.family) {
+        return Err(ErrorKind::InvalidAlgorithm.into());
+    }
+    let token = token.as_ref();
+    let claims = Verifier::new(key, validation)?.decode(token)?.claims;
+    Ok(TokenData { header: decode_header(token)?, claims })
+}
+
+/// Returns the header of a token. Nothing is verified.
+///
+/// # Errors
+///
+/// A text that is not a token is [`ErrorKind::InvalidToken`] or [`ErrorKind::Base64`], and a header that can't be read
+/// [`ErrorKind::Json`].
+pub fn decode_header(token: impl AsRef<[u8]>) -> Result<Header> {
+    let header = calls::decode_header(token.as_ref()).map_err(Error::from_status)?;
+    Ok(serde_json::from_str(&header)?)
+}
+
+/// Returns the header and the claims of a token of which nothing is verified, neither the signature nor a claim: anyone can have written
+/// them.
+///
+/// # Errors
+///
+/// A text that is not a token of one of the twelve algorithms is [`ErrorKind::InvalidToken`], [`ErrorKind::Base64`] or
+/// [`ErrorKind::Json`], and so are claims that are not those of the type. A `crit` that names a member which is not there is
+/// [`ErrorKind::InvalidCrit`].
+pub fn insecure_decode<T: DeserializeOwned>(token: impl AsRef<[u8]>) -> Result<TokenData<T>> {
+    let token = token.as_ref();
+    let header = decode_header(token)?;
+    let options = validation::of_signature_alone(header.alg, header.crit.as_deref().unwrap_or_default());
+    let (_, message_len, signature) = calls::signed_part(token).map_err(Error::from_status)?;
+    let signed =
+        calls::Signed { algorithm: header.alg.number(), message: &token[..message_len], signature: &signature };
+    let claims = calls::decode_verdict(token, signed, true, &options, 0).map_err(Error::from_status)?;
+    Ok(TokenData { header, claims: serde_json::from_str(&claims)? })
+}
+
+/// Returns the claims of a token of which nothing is verified, like [`insecure_decode`].
+///
+/// # Errors
+///
+/// The errors are those of [`insecure_decode`].
+pub fn insecure_decode_claims<T: DeserializeOwned>(token: impl AsRef<[u8]>) -> Result<T> {
+    Ok(insecure_decode(token)?.claims)
+}
