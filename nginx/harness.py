@@ -20,6 +20,8 @@ SECRET = b"0123456789abcdef0123456789abcdef"
 NGINX = shutil.which("nginx") or "/usr/sbin/nginx"
 NOW = int(time.time())
 PASS = {"exp": NOW + 3600}
+# of each worker
+CONNECTIONS = 512
 
 CONF = """
 load_module {module};
@@ -27,7 +29,7 @@ worker_processes {workers};
 daemon off;
 pid {work}/nginx.pid;
 error_log {work}/error.log info;
-events {{ worker_connections 512; }}
+events {{ worker_connections {connections}; }}
 http {{
     log_format jwt '$status $jwt_status $jwt_claim_sub "$jwt_failed_test" "$jwt_refused_kid"';
     access_log {work}/access.log jwt;
@@ -101,7 +103,7 @@ class Server:
 
     def __init__(self, module, work, server, workers=2, http_conf="", before=(), env=None):
         self.work, self.port, self.module = work, free_port(), module
-        self.names = {"module": os.path.abspath(module), "work": work, "workers": workers, "port": self.port}
+        self.names = {"module": os.path.abspath(module), "work": work, "workers": workers, "port": self.port, "connections": CONNECTIONS}
         os.makedirs(f"{work}/root", exist_ok=True)
         for name in ("index.html", *re.findall(r"location (?:= )?/(\w[\w.]*)", server + http_conf)):
             self.write(f"root/{name}", "served\n")
@@ -129,7 +131,7 @@ class Server:
 
     def start(self):
         self.process = subprocess.Popen([*self.before, *self.words()], env=self.env)
-        for _ in range(600):
+        for _ in range(3600):
             with contextlib.suppress(OSError), socket.create_connection(("127.0.0.1", self.port), 1):
                 return
             if self.process.poll() is not None:

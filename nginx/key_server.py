@@ -67,6 +67,32 @@ def stop_midway(keys):
     return answer
 
 
+def memcached(keys):
+    """Answers as a memcached does, of which the key is `keys`."""
+    body = json.dumps({"keys": keys}).encode()
+    return lambda connection: connection.sendall(b"VALUE keys 0 %d\r\n%b\r\nEND\r\n" % (len(body), body))
+
+
+def frame(kind, flags, stream, payload=b""):
+    """Returns a frame of HTTP/2 (RFC 9113 section 4.1)."""
+    return len(payload).to_bytes(3, "big") + bytes([kind, flags]) + stream.to_bytes(4, "big") + payload
+
+
+def http2(keys):
+    """Answers by HTTP/2 with the status 200, which is number 8 of the static table, and frames of data of 16 KiB."""
+    body = json.dumps({"keys": keys}).encode()
+    data = [body[at : at + 16384] for at in range(0, len(body), 16384)]
+    frames = [frame(4, 0, 0), frame(1, 4, 1, b"\x88"), *(frame(0, 0, 1, it) for it in data), frame(0, 1, 1)]
+
+    def answer(connection):
+        connection.sendall(b"".join(frames))
+        # what is not read would reset the connection
+        while connection.recv(65536):
+            pass
+
+    return answer
+
+
 class KeyServer:
     """Its answer to each request is `answer`, a call that takes the connection; `asked` has the texts of the requests."""
 
@@ -85,7 +111,8 @@ class KeyServer:
     def handle(self, connection):
         with connection, contextlib.suppress(OSError):
             text = b""
-            while b"\r\n\r\n" not in text:
+            # what memcached is asked is one line
+            while (b"\r\n" if text.startswith(b"get ") else b"\r\n\r\n") not in text:
                 more = connection.recv(65536)
                 if not more:
                     return

@@ -12,6 +12,10 @@
 #define NGX_HTTP_JWT_SET   1048576
 /* room for the text of a status or of a test */
 #define NGX_HTTP_JWT_TEXT  64
+/* what JWT_UNFIT_KEY says of an operator's keys */
+#define NGX_HTTP_JWT_UNFIT                                                   \
+    ": each key is of another family than auth_jwt_alg, is too weak or "     \
+    "malformed, or is of a set and has no kid; jwt keys FILE says which"
 /* the longest token with its claims that is remembered */
 #define NGX_HTTP_JWT_SLOT  4000
 
@@ -23,30 +27,34 @@ typedef struct ngx_http_jwt_fetch_s  ngx_http_jwt_fetch_t;
 typedef struct ngx_http_jwt_rules_s  ngx_http_jwt_rules_t;
 
 
-/* the text of a key file: a set, or one key in JSON */
+/* a key file, or the location of a set */
 typedef struct {
     ngx_str_t              name;
-    ngx_str_t              text;
-    ngx_uint_t             is_set;
+    ngx_str_t              text;        /* of a file: a set, or one key */
+    ngx_str_t              issuer;      /* a list in JSON, or empty */
+    unsigned               is_set:1;
+    unsigned               is_fetched:1;
 } ngx_http_jwt_key_t;
 
 
 /* a value that may not be empty or 0, and the answer if it is */
 typedef struct {
     ngx_http_complex_value_t  value;
+    ngx_str_t                 text;     /* as it is written */
     ngx_int_t                 answer;
 } ngx_http_jwt_require_t;
 
 
-typedef struct {
+typedef struct ngx_http_jwt_loc_conf_s  ngx_http_jwt_loc_conf_t;
+
+struct ngx_http_jwt_loc_conf_s {
     u_char                *file;        /* where the directives stand */
     ngx_uint_t             line;
     ngx_flag_t             enabled;
     ngx_str_t              realm;       /* with escapes */
     ngx_int_t              token;       /* index of a variable, or -1 */
     ngx_array_t           *keys;        /* of ngx_http_jwt_key_t */
-    ngx_str_t              uri;         /* of a set, or empty */
-    void                  *server;      /* of the uri */
+    void                  *server;      /* of the locations of sets */
     time_t                 period;      /* between fetches */
     ngx_str_t              algorithms;  /* lists in JSON */
     ngx_str_t              audiences;
@@ -55,7 +63,22 @@ typedef struct {
     ngx_int_t              slot_count;
     ngx_array_t           *required;    /* of ngx_http_jwt_require_t */
     ngx_http_jwt_rules_t  *rules;
-} ngx_http_jwt_loc_conf_t;
+
+    /* to find rules that no location applies */
+    ngx_http_jwt_loc_conf_t  *parent;
+    ngx_http_jwt_loc_conf_t  *next;     /* of those with such a directive */
+    ngx_str_t              directive;   /* the last of the block, or empty */
+    unsigned               is_location:1;  /* or a block in one */
+    unsigned               is_part:1;   /* if or limit_except */
+    unsigned               is_off:1;    /* by auth_jwt off of the block */
+    unsigned               is_applied:1;
+};
+
+
+typedef struct {
+    ngx_http_jwt_rules_t     *rules;    /* the last that was made */
+    ngx_http_jwt_loc_conf_t  *blocks;   /* the last with rules of its own */
+} ngx_http_jwt_main_conf_t;
 
 
 /* a token that is accepted at each time from the first to the last */
@@ -70,6 +93,24 @@ typedef struct {
 } ngx_http_jwt_slot_t;
 
 
+/* keys that are verified with, as a worker has them */
+typedef struct {
+    ngx_http_jwt_rules_t     *rules;
+    ngx_http_jwt_key_t       *key;
+    ngx_str_t                 options;
+    struct jwt_verifier       verifier; /* none until a set is fetched */
+    ngx_uint_t                lacks_key;  /* of the token verified last */
+
+    /* only of keys that are fetched */
+    ngx_http_jwt_fetch_t     *fetch;    /* under way, or NULL */
+    time_t                    tried;    /* when the last fetch ended */
+    time_t                    cut;      /* when the last one was cut off */
+    time_t                    fetched;  /* when one gave a set */
+    ngx_uint_t                has_set;
+    ngx_uint_t                is_failing;  /* the last gave none */
+} ngx_http_jwt_source_t;
+
+
 /*
  * shared by the locations whose keys, options and slot_count are the same: a
  * directive that changes a verdict changes the text of keys or options
@@ -78,17 +119,14 @@ struct ngx_http_jwt_rules_s {
     ngx_http_jwt_rules_t     *next;
     ngx_http_jwt_loc_conf_t  *conf;     /* of the first location */
     ngx_str_t                 options;
-    struct jwt_verifier      *verifiers;  /* of a fetched set: the last */
-    ngx_uint_t                count;    /* of verifiers */
+    ngx_http_jwt_source_t    *sources;
+    ngx_uint_t                count;    /* of sources */
+    ngx_uint_t                is_bound; /* each source has its issuer */
+    ngx_uint_t                is_fetched;  /* a source is */
     ngx_http_jwt_slot_t      *slots;
     uint64_t                  uses;     /* of slots */
-
-    /* only if there is an uri */
-    ngx_http_jwt_fetch_t     *fetch;    /* under way, or NULL */
+    uint32_t                  sets;     /* how many were fetched */
     ngx_queue_t               waiting;  /* contexts */
-    time_t                    tried;    /* when the last fetch ended */
-    time_t                    fetched;  /* when it gave a set */
-    uint32_t                  sets;     /* how many it gave */
 };
 
 
@@ -99,9 +137,11 @@ typedef struct {
     ngx_str_t              claims;      /* of an accepted token, in JSON */
     uint32_t               status;
     uint32_t               test;        /* that failed, or 0 */
+    ngx_str_t              unmet;       /* what is required, or empty */
     ngx_queue_t            queue;       /* of those that wait for a set */
+    ngx_uint_t             waited;      /* for so many sets */
     unsigned               is_waiting:1;
-    unsigned               has_waited:1;
+    unsigned               cannot_wait:1;
 } ngx_http_jwt_ctx_t;
 
 
@@ -118,19 +158,21 @@ uint32_t ngx_http_jwt_verify(ngx_http_jwt_rules_t *rules,
 extern ngx_command_t  ngx_http_jwt_commands[];
 void *ngx_http_jwt_create_loc_conf(ngx_conf_t *cf);
 char *ngx_http_jwt_merge_loc_conf(ngx_conf_t *cf, void *parent, void *child);
+ngx_int_t ngx_http_jwt_check_blocks(ngx_conf_t *cf);
 
 /* ngx_http_jwt_fetch.c */
 void ngx_http_jwt_init_fetches(void);
 ngx_uint_t ngx_http_jwt_is_fetch(ngx_http_request_t *r);
-ngx_uint_t ngx_http_jwt_await(ngx_http_jwt_rules_t *rules,
+ngx_int_t ngx_http_jwt_await(ngx_http_jwt_rules_t *rules,
     ngx_http_jwt_ctx_t *ctx);
+void ngx_http_jwt_stop_waiting(ngx_http_jwt_ctx_t *ctx);
 
 /* ngx_http_jwt_rules.c */
 char *ngx_http_jwt_report(ngx_conf_t *cf, const char *directive,
     ngx_str_t *value, uint32_t status);
 char *ngx_http_jwt_read_key(ngx_conf_t *cf, ngx_http_jwt_key_t *key);
 char *ngx_http_jwt_set_rules(ngx_conf_t *cf, ngx_http_jwt_loc_conf_t *conf);
-uint32_t ngx_http_jwt_take_set(ngx_http_jwt_rules_t *rules,
+uint32_t ngx_http_jwt_take_set(ngx_http_jwt_source_t *source,
     ngx_array_t *set);
 
 /* ngx_http_jwt_text.c */
@@ -138,7 +180,9 @@ uint32_t ngx_http_jwt_write(ngx_http_jwt_call_pt call, ngx_pool_t *pool,
     ngx_str_t *in, ngx_str_t *out);
 ngx_int_t ngx_http_jwt_quote(ngx_pool_t *pool, ngx_str_t *text, ngx_uint_t n,
     ngx_str_t *json);
+ngx_uint_t ngx_http_jwt_is_same_text(ngx_str_t *a, ngx_str_t *b);
 ngx_uint_t ngx_http_jwt_is_plain(ngx_str_t *text);
+ngx_uint_t ngx_http_jwt_has_variable(ngx_str_t *text);
 
 /* ngx_http_jwt_variables.c */
 ngx_http_jwt_ctx_t *ngx_http_jwt_add_ctx(ngx_http_request_t *r);

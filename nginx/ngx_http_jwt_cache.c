@@ -104,19 +104,37 @@ ngx_http_jwt_decode_by(struct jwt_verifier *verifier, ngx_http_jwt_ctx_t *ctx,
 }
 
 
-/* The sets are one: the first that has a key of the kid decides. */
+/*
+ * Sources without an issuer are one set: the first that has a key of the kid
+ * decides.  Each of the others decides by itself about its issuer's tokens,
+ * and of their refusals that counts which came after most tests.
+ */
 static uint32_t
 ngx_http_jwt_decode(ngx_http_jwt_rules_t *rules, ngx_http_jwt_ctx_t *ctx,
     uint64_t now, uint64_t *last)
 {
-    uint32_t    status;
-    ngx_uint_t  i = 0;
+    uint32_t                status, refusal = JWT_NO_VERIFIER, test = 0;
+    ngx_uint_t              i;
+    ngx_http_jwt_source_t  *it;
 
-    do {
-        status = ngx_http_jwt_decode_by(&rules->verifiers[i], ctx, now, last);
-    } while (ctx->test == JWT_TEST_KEY_IS_FOUND && ++i < rules->count);
+    for (i = 0; i < rules->count; i++) {
+        it = &rules->sources[i];
+        status = ngx_http_jwt_decode_by(&it->verifier, ctx, now, last);
+        it->lacks_key = status == JWT_NO_VERIFIER
+                        || ctx->test == JWT_TEST_KEY_IS_FOUND;
 
-    return status;
+        if (!it->lacks_key && (!rules->is_bound || ctx->test == 0)) {
+            return status;
+        }
+
+        if (ctx->test > test) {
+            test = ctx->test;
+            refusal = status;
+        }
+    }
+
+    ctx->test = test;
+    return refusal;
 }
 
 

@@ -13,6 +13,16 @@
 static void
 ngx_http_jwt_keep_place(ngx_conf_t *cf, ngx_http_jwt_loc_conf_t *jlcf)
 {
+    ngx_str_t                 *value = cf->args->elts;
+    ngx_http_jwt_main_conf_t  *jmcf;
+
+    if (jlcf->directive.len == 0) {
+        jmcf = ngx_http_conf_get_module_main_conf(cf, ngx_http_jwt_module);
+        jlcf->next = jmcf->blocks;
+        jmcf->blocks = jlcf;
+    }
+
+    jlcf->directive = value[0];
     jlcf->file = cf->conf_file->file.name.data;
     jlcf->line = cf->conf_file->line;
 }
@@ -40,6 +50,141 @@ ngx_http_jwt_create_loc_conf(ngx_conf_t *cf)
 }
 
 
+static void
+ngx_http_jwt_keep_block(ngx_conf_t *cf, ngx_http_jwt_loc_conf_t *conf,
+    ngx_http_jwt_loc_conf_t *parent)
+{
+    ngx_http_core_loc_conf_t  *clcf;
+
+    clcf = ngx_http_conf_get_module_loc_conf(cf, ngx_http_core_module);
+    conf->parent = parent;
+    conf->is_part = clcf->noname;
+    conf->is_location = clcf->name.len > 0;
+}
+
+
+/* Notes that a block asks for a token, and so applies what stands above it. */
+static void
+ngx_http_jwt_apply(ngx_http_jwt_loc_conf_t *conf)
+{
+    ngx_uint_t  is_here = 1;
+
+    for ( ; conf != NULL; conf = conf->parent) {
+        /* a location around it serves other requests */
+        if (is_here || !conf->is_location) {
+            conf->is_applied = 1;
+        }
+
+        is_here = is_here && conf->is_part;
+    }
+}
+
+
+/* Refuses rules that no block applies. */
+ngx_int_t
+ngx_http_jwt_check_blocks(ngx_conf_t *cf)
+{
+    ngx_http_jwt_loc_conf_t   *it;
+    ngx_http_jwt_main_conf_t  *jmcf;
+
+    jmcf = ngx_http_conf_get_module_main_conf(cf, ngx_http_jwt_module);
+
+    for (it = jmcf->blocks; it != NULL; it = it->next) {
+        if (!it->is_applied && !it->is_off) {
+            ngx_log_error(NGX_LOG_EMERG, cf->log, 0,
+                          "%V protects nothing without auth_jwt in %s:%ui",
+                          &it->directive, it->file, it->line);
+            return NGX_ERROR;
+        }
+    }
+
+    return NGX_OK;
+}
+
+
+static ngx_uint_t ngx_http_jwt_is_served(ngx_queue_t *locations,
+    ngx_str_t *uri);
+
+
+/* Returns whether a location, or one in it, serves a path, but as "/" does. */
+static ngx_uint_t
+ngx_http_jwt_serves(ngx_http_core_loc_conf_t *clcf, ngx_str_t *uri)
+{
+    if (clcf->named || clcf->noname) {
+        return 0;
+    }
+
+#if (NGX_PCRE)
+    if (clcf->regex != NULL) {
+        return ngx_regex_exec(clcf->regex->regex, uri, NULL, 0) >= 0;
+    }
+#endif
+
+    if (uri->len < clcf->name.len
+        || ngx_memcmp(uri->data, clcf->name.data, clcf->name.len) != 0)
+    {
+        return 0;
+    }
+
+    if (clcf->exact_match) {
+        return uri->len == clcf->name.len;
+    }
+
+    return clcf->name.len > 1 || ngx_http_jwt_is_served(clcf->locations, uri);
+}
+
+
+static ngx_uint_t
+ngx_http_jwt_is_served(ngx_queue_t *locations, ngx_str_t *uri)
+{
+    ngx_queue_t                *q;
+    ngx_http_location_queue_t  *it;
+
+    if (locations == NULL) {
+        return 0;
+    }
+
+    for (q = ngx_queue_head(locations);
+         q != ngx_queue_sentinel(locations);
+         q = ngx_queue_next(q))
+    {
+        it = (ngx_http_location_queue_t *) q;
+
+        if (ngx_http_jwt_serves(it->exact ? it->exact : it->inclusive, uri)) {
+            return 1;
+        }
+    }
+
+    return 0;
+}
+
+
+/* Refuses a path for which the server has no location. */
+static char *
+ngx_http_jwt_check_locations(ngx_conf_t *cf, ngx_http_jwt_loc_conf_t *conf)
+{
+    ngx_uint_t                 i;
+    ngx_http_jwt_key_t        *key = conf->keys->elts;
+    ngx_http_core_loc_conf_t  *clcf;
+    ngx_http_core_srv_conf_t  *cscf = conf->server;
+
+    clcf = cscf->ctx->loc_conf[ngx_http_core_module.ctx_index];
+
+    for (i = 0; i < conf->keys->nelts; i++) {
+        if (key[i].is_fetched
+            && !ngx_http_jwt_is_served(clcf->locations, &key[i].name))
+        {
+            ngx_conf_log_error(NGX_LOG_EMERG, cf, 0, "auth_jwt_key_request "
+                               "\"%V\" has no location but that of \"/\"",
+                               &key[i].name);
+            return NGX_CONF_ERROR;
+        }
+    }
+
+    return NGX_CONF_OK;
+}
+
+
 static char *
 ngx_http_jwt_enable(ngx_conf_t *cf, ngx_http_jwt_loc_conf_t *conf)
 {
@@ -53,6 +198,7 @@ ngx_http_jwt_enable(ngx_conf_t *cf, ngx_http_jwt_loc_conf_t *conf)
     }
 
     conf->server = ngx_http_conf_get_module_srv_conf(cf, ngx_http_core_module);
+    ngx_http_jwt_apply(conf);
 
     /* what is reported from here on is of the directives */
     if (conf->file != NULL) {
@@ -60,7 +206,7 @@ ngx_http_jwt_enable(ngx_conf_t *cf, ngx_http_jwt_loc_conf_t *conf)
         cf->conf_file->line = conf->line;
     }
 
-    if (conf->keys->nelts == 0 && conf->uri.len == 0) {
+    if (conf->keys->nelts == 0) {
         lacking = "auth_jwt_key_file or auth_jwt_key_request";
 
     } else if (conf->algorithms.len == 0) {
@@ -72,7 +218,8 @@ ngx_http_jwt_enable(ngx_conf_t *cf, ngx_http_jwt_loc_conf_t *conf)
         return NGX_CONF_ERROR;
     }
 
-    return ngx_http_jwt_set_rules(cf, conf);
+    return ngx_http_jwt_check_locations(cf, conf) == NGX_CONF_OK
+           ? ngx_http_jwt_set_rules(cf, conf) : NGX_CONF_ERROR;
 }
 
 
@@ -85,6 +232,8 @@ ngx_http_jwt_merge_loc_conf(ngx_conf_t *cf, void *parent, void *child)
     ngx_http_jwt_loc_conf_t  *prev = parent;
     ngx_http_jwt_loc_conf_t  *conf = child;
 
+    ngx_http_jwt_keep_block(cf, conf, prev);
+
     if (conf->enabled == NGX_CONF_UNSET) {
         conf->token = prev->token;
     }
@@ -94,13 +243,7 @@ ngx_http_jwt_merge_loc_conf(ngx_conf_t *cf, void *parent, void *child)
         conf->line = prev->line;
     }
 
-    /* files and an uri of one block are one set of keys */
-    if (conf->keys == NGX_CONF_UNSET_PTR && conf->uri.data == NULL) {
-        conf->keys = prev->keys;
-        conf->uri = prev->uri;
-    }
-
-    ngx_conf_init_ptr_value(conf->keys, NULL);
+    ngx_conf_merge_ptr_value(conf->keys, prev->keys, NULL);
     ngx_conf_merge_value(conf->enabled, prev->enabled, 0);
     ngx_conf_merge_str_value(conf->realm, prev->realm, "");
     ngx_conf_merge_sec_value(conf->period, prev->period, 3600);
@@ -124,8 +267,32 @@ ngx_http_jwt_merge_loc_conf(ngx_conf_t *cf, void *parent, void *child)
 
 
 static char *
+ngx_http_jwt_read_realm(ngx_conf_t *cf, ngx_str_t *text, ngx_str_t *realm)
+{
+    if (ngx_http_jwt_has_variable(text)) {
+        return "has a realm with a variable";
+    }
+
+    if (!ngx_http_jwt_is_plain(text)) {
+        return "has a realm that is not UTF-8 without control characters";
+    }
+
+    /* without control characters the escapes are those of a quoted-string */
+    if (ngx_http_jwt_quote(cf->pool, text, 1, realm) != NGX_OK) {
+        return NGX_CONF_ERROR;
+    }
+
+    realm->data++;
+    realm->len -= 2;
+
+    return NGX_CONF_OK;
+}
+
+
+static char *
 ngx_http_jwt(ngx_conf_t *cf, ngx_command_t *cmd, void *conf)
 {
+    char                     *rv;
     ngx_str_t                *value = cf->args->elts, name;
     ngx_http_jwt_loc_conf_t  *jlcf = conf;
 
@@ -135,21 +302,12 @@ ngx_http_jwt(ngx_conf_t *cf, ngx_command_t *cmd, void *conf)
 
     ngx_http_jwt_keep_place(cf, jlcf);
     jlcf->enabled = cf->args->nelts > 2 || ngx_strcmp(value[1].data, "off");
+    jlcf->is_off = !jlcf->enabled;
 
-    if (!ngx_http_jwt_is_plain(&value[1])) {
-        return "has a realm that is not UTF-8 without control characters";
-    }
+    rv = ngx_http_jwt_read_realm(cf, &value[1], &jlcf->realm);
 
-    /* without control characters the escapes are those of a quoted-string */
-    if (ngx_http_jwt_quote(cf->pool, &value[1], 1, &jlcf->realm) != NGX_OK) {
-        return NGX_CONF_ERROR;
-    }
-
-    jlcf->realm.data++;
-    jlcf->realm.len -= 2;
-
-    if (cf->args->nelts == 2) {
-        return NGX_CONF_OK;
+    if (rv != NGX_CONF_OK || cf->args->nelts == 2) {
+        return rv;
     }
 
     name.data = value[2].data + sizeof("token=$") - 1;
@@ -161,40 +319,6 @@ ngx_http_jwt(ngx_conf_t *cf, ngx_command_t *cmd, void *conf)
 
     jlcf->token = ngx_http_get_variable_index(cf, &name);
     return jlcf->token != NGX_ERROR ? NGX_CONF_OK : NGX_CONF_ERROR;
-}
-
-
-static char *
-ngx_http_jwt_key_file(ngx_conf_t *cf, ngx_command_t *cmd, void *conf)
-{
-    ngx_str_t                *value = cf->args->elts;
-    ngx_http_jwt_key_t       *key;
-    ngx_http_jwt_loc_conf_t  *jlcf = conf;
-
-    if (jlcf->keys == NGX_CONF_UNSET_PTR) {
-        jlcf->keys = ngx_array_create(cf->pool, 1, sizeof(ngx_http_jwt_key_t));
-    }
-
-    key = jlcf->keys != NULL ? ngx_array_push(jlcf->keys) : NULL;
-    if (key == NULL) {
-        return NGX_CONF_ERROR;
-    }
-
-    ngx_http_jwt_keep_place(cf, jlcf);
-    key->name = value[1];
-
-    return ngx_http_jwt_read_key(cf, key);
-}
-
-
-static char *
-ngx_http_jwt_check_uri(ngx_conf_t *cf, void *post, void *data)
-{
-    ngx_str_t  *uri = data;
-
-    return uri->len > 0 && uri->data[0] == '/'
-           && strpbrk((char *) uri->data, "?#$") == NULL ? NGX_CONF_OK
-           : "takes the path of a location, without variables and arguments";
 }
 
 
@@ -222,10 +346,29 @@ ngx_http_jwt_check_list(ngx_conf_t *cf, ngx_command_t *cmd, ngx_str_t *value,
 }
 
 
+/* Reads a name of a directive as a list in JSON. */
+static char *
+ngx_http_jwt_name(ngx_conf_t *cf, ngx_command_t *cmd, ngx_str_t *name,
+    ngx_str_t *list)
+{
+    if (name->len == 0) {
+        return "has an empty name";
+    }
+
+    if (ngx_http_jwt_has_variable(name)) {
+        return "takes no variables";
+    }
+
+    return ngx_http_jwt_quote(cf->pool, name, 1, list) == NGX_OK
+           ? ngx_http_jwt_check_list(cf, cmd, name, list) : NGX_CONF_ERROR;
+}
+
+
 /* Reads the names of a directive as a list in JSON. */
 static char *
 ngx_http_jwt_list(ngx_conf_t *cf, ngx_command_t *cmd, void *conf)
 {
+    char        *rv;
     ngx_str_t   *value = cf->args->elts;
     ngx_str_t   *list = (ngx_str_t *) ((char *) conf + cmd->offset);
     ngx_uint_t   i;
@@ -237,16 +380,10 @@ ngx_http_jwt_list(ngx_conf_t *cf, ngx_command_t *cmd, void *conf)
     ngx_http_jwt_keep_place(cf, conf);
 
     for (i = 1; i < cf->args->nelts; i++) {
-        if (value[i].len == 0) {
-            return "has an empty name";
-        }
-
         /* one by one, so that the report has the name */
-        if (ngx_http_jwt_quote(cf->pool, &value[i], 1, list) != NGX_OK
-            || ngx_http_jwt_check_list(cf, cmd, &value[i], list)
-               != NGX_CONF_OK)
-        {
-            return NGX_CONF_ERROR;
+        rv = ngx_http_jwt_name(cf, cmd, &value[i], list);
+        if (rv != NGX_CONF_OK) {
+            return rv;
         }
     }
 
@@ -256,15 +393,110 @@ ngx_http_jwt_list(ngx_conf_t *cf, ngx_command_t *cmd, void *conf)
 }
 
 
+/* Returns why a path is not that of a set. */
+static char *
+ngx_http_jwt_check_path(ngx_http_jwt_loc_conf_t *jlcf, ngx_http_jwt_key_t *key)
+{
+    ngx_uint_t           i;
+    ngx_http_jwt_key_t  *it = jlcf->keys->elts;
+
+    if (key->name.len == 0 || key->name.data[0] != '/'
+        || strpbrk((char *) key->name.data, "?#$") != NULL)
+    {
+        return "takes the path of a location, without variables and arguments";
+    }
+
+    for (i = 0; i < jlcf->keys->nelts - 1; i++) {
+        if (it[i].is_fetched
+            && ngx_http_jwt_is_same_text(&it[i].name, &key->name)
+            && ngx_http_jwt_is_same_text(&it[i].issuer, &key->issuer))
+        {
+            return "is duplicate";
+        }
+    }
+
+    return NGX_CONF_OK;
+}
+
+
+/* Reads a file, or the path of a set, and the issuer whose keys it has. */
+static char *
+ngx_http_jwt_key(ngx_conf_t *cf, ngx_command_t *cmd, void *conf)
+{
+    char                     *rv;
+    ngx_str_t                *value = cf->args->elts, issuer;
+    ngx_http_jwt_key_t       *key;
+    ngx_http_jwt_loc_conf_t  *jlcf = conf;
+
+    if (jlcf->keys == NGX_CONF_UNSET_PTR) {
+        jlcf->keys = ngx_array_create(cf->pool, 1, sizeof(ngx_http_jwt_key_t));
+    }
+
+    key = jlcf->keys != NULL ? ngx_array_push(jlcf->keys) : NULL;
+    if (key == NULL) {
+        return NGX_CONF_ERROR;
+    }
+
+    ngx_http_jwt_keep_place(cf, jlcf);
+    ngx_memzero(key, sizeof(ngx_http_jwt_key_t));
+    key->name = value[1];
+    key->is_fetched = ngx_strcmp(cmd->name.data, "auth_jwt_key_request") == 0;
+
+    if (cf->args->nelts > 2) {
+        issuer.data = value[2].data + 4;
+        issuer.len = value[2].len - 4;
+
+        if (ngx_strncmp(value[2].data, "iss=", 4) != 0) {
+            return "takes iss=NAME as its second argument";
+        }
+
+        rv = ngx_http_jwt_name(cf, cmd, &issuer, &key->issuer);
+        if (rv != NGX_CONF_OK) {
+            return rv;
+        }
+    }
+
+    return key->is_fetched ? ngx_http_jwt_check_path(jlcf, key)
+                           : ngx_http_jwt_read_key(cf, key);
+}
+
+
+static char *
+ngx_http_jwt_add_required(ngx_conf_t *cf, ngx_array_t *required,
+    ngx_str_t *value, ngx_int_t answer)
+{
+    ngx_http_jwt_require_t            *it;
+    ngx_http_compile_complex_value_t   ccv;
+
+    it = ngx_array_push(required);
+    if (it == NULL) {
+        return NGX_CONF_ERROR;
+    }
+
+    if (value->data[0] != '$') {
+        return "takes values that begin with a variable";
+    }
+
+    it->text = *value;
+    it->answer = answer;
+    ngx_memzero(&ccv, sizeof(ngx_http_compile_complex_value_t));
+    ccv.cf = cf;
+    ccv.value = value;
+    ccv.complex_value = &it->value;
+
+    return ngx_http_compile_complex_value(&ccv) == NGX_OK ? NGX_CONF_OK
+           : NGX_CONF_ERROR;
+}
+
+
 static char *
 ngx_http_jwt_require(ngx_conf_t *cf, ngx_command_t *cmd, void *conf)
 {
-    ngx_str_t                         *value = cf->args->elts;
-    ngx_int_t                          answer = NGX_HTTP_UNAUTHORIZED;
-    ngx_uint_t                         i, n = cf->args->nelts;
-    ngx_http_jwt_require_t            *it;
-    ngx_http_jwt_loc_conf_t           *jlcf = conf;
-    ngx_http_compile_complex_value_t   ccv;
+    char                     *rv = NGX_CONF_OK;
+    ngx_str_t                *value = cf->args->elts;
+    ngx_int_t                 answer = NGX_HTTP_FORBIDDEN;
+    ngx_uint_t                i, n = cf->args->nelts;
+    ngx_http_jwt_loc_conf_t  *jlcf = conf;
 
     if (ngx_strncmp(value[n - 1].data, "error=", 6) == 0) {
         n--;
@@ -277,38 +509,23 @@ ngx_http_jwt_require(ngx_conf_t *cf, ngx_command_t *cmd, void *conf)
         return "takes $variables, and error=401 or error=403 at the end";
     }
 
+    ngx_http_jwt_keep_place(cf, jlcf);
+
     if (jlcf->required == NGX_CONF_UNSET_PTR) {
         jlcf->required = ngx_array_create(cf->pool, n - 1,
                                           sizeof(ngx_http_jwt_require_t));
     }
 
-    for (i = 1; i < n; i++) {
-        it = jlcf->required != NULL ? ngx_array_push(jlcf->required) : NULL;
-        if (it == NULL) {
-            return NGX_CONF_ERROR;
-        }
-
-        if (value[i].data[0] != '$') {
-            return "takes values that begin with a variable";
-        }
-
-        ngx_memzero(&ccv, sizeof(ngx_http_compile_complex_value_t));
-        ccv.cf = cf;
-        ccv.value = &value[i];
-        ccv.complex_value = &it->value;
-
-        if (ngx_http_compile_complex_value(&ccv) != NGX_OK) {
-            return NGX_CONF_ERROR;
-        }
-
-        it->answer = answer;
+    if (jlcf->required == NULL) {
+        return NGX_CONF_ERROR;
     }
 
-    return NGX_CONF_OK;
+    for (i = 1; i < n && rv == NGX_CONF_OK; i++) {
+        rv = ngx_http_jwt_add_required(cf, jlcf->required, &value[i], answer);
+    }
+
+    return rv;
 }
-
-
-static ngx_conf_post_t  ngx_http_jwt_uri_post = { ngx_http_jwt_check_uri };
 
 
 static ngx_conf_num_bounds_t  ngx_http_jwt_slot_bounds = {
@@ -326,10 +543,10 @@ static ngx_conf_num_bounds_t  ngx_http_jwt_slot_bounds = {
 ngx_command_t  ngx_http_jwt_commands[] = {
     ngx_http_jwt_command("auth_jwt", NGX_CONF_TAKE12, ngx_http_jwt, enabled,
                          NULL),
-    ngx_http_jwt_command("auth_jwt_key_file", NGX_CONF_TAKE1,
-                         ngx_http_jwt_key_file, keys, NULL),
-    ngx_http_jwt_command("auth_jwt_key_request", NGX_CONF_TAKE1,
-                         ngx_conf_set_str_slot, uri, &ngx_http_jwt_uri_post),
+    ngx_http_jwt_command("auth_jwt_key_file", NGX_CONF_TAKE12,
+                         ngx_http_jwt_key, keys, "iss"),
+    ngx_http_jwt_command("auth_jwt_key_request", NGX_CONF_TAKE12,
+                         ngx_http_jwt_key, keys, "iss"),
     ngx_http_jwt_command("auth_jwt_key_cache", NGX_CONF_TAKE1,
                          ngx_conf_set_sec_slot, period, NULL),
     ngx_http_jwt_command("auth_jwt_alg", NGX_CONF_1MORE, ngx_http_jwt_list,
@@ -345,7 +562,9 @@ ngx_command_t  ngx_http_jwt_commands[] = {
                          &ngx_http_jwt_slot_bounds),
     ngx_http_jwt_command("auth_jwt_require", NGX_CONF_1MORE,
                          ngx_http_jwt_require, required, NULL),
-    { ngx_string("auth_jwt_claim"), NGX_HTTP_MAIN_CONF|NGX_CONF_TAKE2,
+    { ngx_string("auth_jwt_claim"), NGX_HTTP_MAIN_CONF|NGX_CONF_2MORE,
       ngx_http_jwt_claim, NGX_HTTP_MAIN_CONF_OFFSET, 0, NULL },
+    { ngx_string("auth_jwt_contains"), NGX_HTTP_MAIN_CONF|NGX_CONF_2MORE,
+      ngx_http_jwt_claim, NGX_HTTP_MAIN_CONF_OFFSET, 0, "text" },
     ngx_null_command
 };

@@ -13,6 +13,8 @@
 #define NGX_HTTP_JWT_FIRST_PAUSE  1
 /* seconds after which a fetch is given up */
 #define NGX_HTTP_JWT_LIMIT        60
+/* of the connections of a worker one in so many may wait for keys */
+#define NGX_HTTP_JWT_PART         4
 
 
 /* Returns whether a time is long ago, also if the clock was set back. */
@@ -22,38 +24,46 @@
 
 /* in the pool of the request that began it */
 struct ngx_http_jwt_fetch_s {
-    ngx_http_jwt_rules_t  *rules;
-    ngx_array_t            set;         /* bytes */
-    time_t                 begun;
-    ngx_uint_t             is_whole;
-    ngx_uint_t             is_bad;      /* too long, or not read */
+    ngx_http_jwt_source_t  *source;
+    ngx_array_t             set;        /* bytes */
+    time_t                  begun;
+    ngx_uint_t              is_whole;
+    ngx_uint_t              is_bad;     /* too long, or not read */
 };
 
 
 static ngx_http_output_body_filter_pt  ngx_http_next_body_filter;
+/* requests of this worker that wait */
+static ngx_uint_t                      ngx_http_jwt_waiting;
+
+
+void
+ngx_http_jwt_stop_waiting(ngx_http_jwt_ctx_t *ctx)
+{
+    if (ctx->is_waiting) {
+        ngx_queue_remove(&ctx->queue);
+        ctx->is_waiting = 0;
+        ngx_http_jwt_waiting--;
+    }
+}
 
 
 /* Lets those that wait go on, and another fetch begin. */
 static void
-ngx_http_jwt_end_fetch(ngx_http_jwt_rules_t *rules, ngx_uint_t is_done)
+ngx_http_jwt_end_fetch(ngx_http_jwt_source_t *source, ngx_uint_t is_done)
 {
-    ngx_queue_t         *q;
-    ngx_connection_t    *c;
-    ngx_http_jwt_ctx_t  *ctx;
+    ngx_connection_t      *c;
+    ngx_http_jwt_ctx_t    *ctx;
+    ngx_http_jwt_rules_t  *rules = source->rules;
 
-    rules->fetch = NULL;
-
-    if (is_done) {
-        rules->tried = ngx_time();
-    }
+    source->fetch = NULL;
+    *(is_done ? &source->tried : &source->cut) = ngx_time();
 
     while (!ngx_queue_empty(&rules->waiting)) {
-        q = ngx_queue_head(&rules->waiting);
-        ngx_queue_remove(q);
-
-        ctx = ngx_queue_data(q, ngx_http_jwt_ctx_t, queue);
-        ctx->is_waiting = 0;
-        ctx->has_waited = is_done;
+        ctx = ngx_queue_data(ngx_queue_head(&rules->waiting),
+                             ngx_http_jwt_ctx_t, queue);
+        ngx_http_jwt_stop_waiting(ctx);
+        ctx->waited += is_done;
         c = ctx->request->connection;
 
         /* the request that ends with its fetch is not woken */
@@ -71,31 +81,56 @@ ngx_http_jwt_cut_fetch(void *data)
 {
     ngx_http_jwt_fetch_t  *fetch = data;
 
-    if (fetch->rules->fetch == fetch) {
-        ngx_http_jwt_end_fetch(fetch->rules, 0);
+    if (fetch->source->fetch == fetch) {
+        ngx_http_jwt_end_fetch(fetch->source, 0);
     }
+}
+
+
+/* Says why a fetch gave no set. */
+static void
+ngx_http_jwt_report_fetch(ngx_http_jwt_fetch_t *fetch, ngx_uint_t answer,
+    uint32_t status)
+{
+    u_char                     text[NGX_HTTP_JWT_TEXT];
+    ngx_str_t                  said = { 0, text };
+    ngx_http_jwt_source_t     *source = fetch->source;
+    ngx_http_core_srv_conf_t  *cscf = source->rules->conf->server;
+
+    if (answer != NGX_HTTP_OK) {
+        ngx_str_set(&said, "another status than 200");
+
+    } else if (fetch->is_bad) {
+        ngx_str_set(&said, "more than 1 MiB, or not read");
+
+    } else if (!fetch->is_whole) {
+        ngx_str_set(&said, "cut");
+
+    } else {
+        (void) jwt_status_text(status, text, sizeof(text), &said.len);
+    }
+
+    /* the log of a connection has the request's line, and so a token */
+    ngx_log_error(NGX_LOG_ERR, ngx_cycle->log, 0,
+                  "auth_jwt: no keys from \"%V\" of server \"%V\": status "
+                  "%ui, %ui bytes: %V%s", &source->key->name,
+                  &cscf->server_name, answer, fetch->set.nelts, &said,
+                  status == JWT_UNFIT_KEY ? NGX_HTTP_JWT_UNFIT : "");
 }
 
 
 static void
 ngx_http_jwt_take(ngx_http_jwt_fetch_t *fetch, ngx_uint_t answer)
 {
-    u_char      text[NGX_HTTP_JWT_TEXT];
-    uint32_t    status = JWT_BAD_SET;
-    ngx_str_t   said = { 0, text };
+    uint32_t  status = JWT_BAD_SET;
 
     if (answer == NGX_HTTP_OK && fetch->is_whole && !fetch->is_bad) {
-        status = ngx_http_jwt_take_set(fetch->rules, &fetch->set);
+        status = ngx_http_jwt_take_set(fetch->source, &fetch->set);
     }
 
     if (status != JWT_OK) {
-        (void) jwt_status_text(status, text, sizeof(text), &said.len);
-        /* the log of a connection has the request's line, and so a token */
-        ngx_log_error(NGX_LOG_ERR, ngx_cycle->log, 0,
-                      "auth_jwt: no keys from \"%V\": status %ui, %ui bytes%s:"
-                      " %V", &fetch->rules->conf->uri, answer,
-                      fetch->set.nelts, fetch->is_bad ? ", too long"
-                      : fetch->is_whole ? "" : ", cut", &said);
+        fetch->source->is_failing = 1;
+        ngx_http_jwt_report_fetch(fetch, answer, status);
     }
 }
 
@@ -110,9 +145,9 @@ ngx_http_jwt_fetched(ngx_http_request_t *r, void *data, ngx_int_t rc)
         return rc;
     }
 
-    if (fetch->rules->fetch == fetch) {
+    if (fetch->source->fetch == fetch) {
         ngx_http_jwt_take(fetch, r->headers_out.status);
-        ngx_http_jwt_end_fetch(fetch->rules, 1);
+        ngx_http_jwt_end_fetch(fetch->source, 1);
     }
 
     /* NGX_ERROR would end the request that began the fetch */
@@ -182,7 +217,11 @@ ngx_http_jwt_body_filter(ngx_http_request_t *r, ngx_chain_t *in)
             if (u != NULL && u->peer.connection != NULL) {
                 /* the rest is not read */
                 u->peer.connection->read->error = 1;
-                u->pipe->downstream_error = 1;
+
+                /* memcached_pass and grpc_pass have no pipe */
+                if (u->pipe != NULL) {
+                    u->pipe->downstream_error = 1;
+                }
             }
         }
 
@@ -214,6 +253,7 @@ ngx_http_jwt_make_neutral(ngx_http_request_t *sr)
 
     cmcf = ngx_http_get_module_main_conf(sr, ngx_http_core_module);
 
+    ngx_str_null(&sr->request_line);
     sr->unparsed_uri = sr->uri;
     sr->request_body = ngx_pcalloc(sr->pool, sizeof(ngx_http_request_body_t));
     sr->variables = ngx_pcalloc(sr->pool,
@@ -233,7 +273,7 @@ ngx_http_jwt_make_neutral(ngx_http_request_t *sr)
 
 /* Without memory for it there is no fetch. */
 static void
-ngx_http_jwt_begin_fetch(ngx_http_request_t *r, ngx_http_jwt_rules_t *rules)
+ngx_http_jwt_begin_fetch(ngx_http_request_t *r, ngx_http_jwt_source_t *source)
 {
     ngx_http_request_t          *sr;
     ngx_pool_cleanup_t          *cln;
@@ -248,13 +288,13 @@ ngx_http_jwt_begin_fetch(ngx_http_request_t *r, ngx_http_jwt_rules_t *rules)
 
     fetch = cln->data;
     ngx_memzero(fetch, sizeof(ngx_http_jwt_fetch_t));
-    fetch->rules = rules;
+    fetch->source = source;
     fetch->begun = ngx_time();
     ps->handler = ngx_http_jwt_fetched;
     ps->data = fetch;
 
     if (ngx_array_init(&fetch->set, r->pool, 4096, 1) != NGX_OK
-        || ngx_http_subrequest(r, &rules->conf->uri, NULL, &sr, ps,
+        || ngx_http_subrequest(r, &source->key->name, NULL, &sr, ps,
                                NGX_HTTP_SUBREQUEST_BACKGROUND)
            != NGX_OK
         || ngx_http_jwt_make_neutral(sr) != NGX_OK)
@@ -263,45 +303,126 @@ ngx_http_jwt_begin_fetch(ngx_http_request_t *r, ngx_http_jwt_rules_t *rules)
     }
 
     cln->handler = ngx_http_jwt_cut_fetch;
-    rules->fetch = fetch;
+    source->fetch = fetch;
 }
 
 
 /*
- * Begins a fetch if one is due: there is no set, or it is old, or it lacks the
- * key of a token.  Returns whether the request has to wait for it, or else the
- * verdict stands.
+ * Returns whether a fetch could give the key of a token: no source has it, or
+ * the key of that kid is another issuer's, by which the signature is not.
  */
-ngx_uint_t
-ngx_http_jwt_await(ngx_http_jwt_rules_t *rules, ngx_http_jwt_ctx_t *ctx)
+static ngx_uint_t
+ngx_http_jwt_lacks_key(ngx_http_jwt_rules_t *rules, ngx_http_jwt_ctx_t *ctx)
 {
-    ngx_uint_t  is_first, lacks_key;
+    size_t      len;
+    uint32_t    type, last;
+    ngx_str_t   header;
 
-    is_first = ctx->status == JWT_NO_VERIFIER;
-    lacks_key = is_first || ctx->test == JWT_TEST_KEY_IS_FOUND;
-
-    if (rules->fetch != NULL
-        && ngx_http_jwt_is_past(rules->fetch->begun, NGX_HTTP_JWT_LIMIT))
-    {
-        ngx_http_jwt_end_fetch(rules, 1);
+    if (ctx->test == 0) {
+        return ctx->status == JWT_NO_VERIFIER;
     }
 
-    if (rules->fetch == NULL
+    last = rules->is_bound ? JWT_TEST_SIGNATURE_IS_ACCEPTED
+                           : JWT_TEST_KEY_IS_FOUND;
+
+    /* no set has a key for a token without a kid */
+    return ctx->test >= JWT_TEST_KEY_IS_FOUND && ctx->test <= last
+           && (ngx_http_jwt_write(jwt_decode_header, ctx->request->pool,
+                                  &ctx->token, &header)
+               != JWT_OK
+               || jwt_member(header.data, header.len, (u_char *) "kid", 3,
+                             &type, NULL, 0, &len)
+                  != JWT_NO_MEMBER);
+}
+
+
+/* Begins a fetch if there is no set, or if it is old, or lacks a key. */
+static void
+ngx_http_jwt_renew(ngx_http_jwt_source_t *source, ngx_http_request_t *r,
+    ngx_uint_t lacks_key)
+{
+    time_t  pause = NGX_HTTP_JWT_PAUSE, period = source->rules->conf->period;
+
+    if (source->fetch != NULL
+        && ngx_http_jwt_is_past(source->fetch->begun, NGX_HTTP_JWT_LIMIT))
+    {
+        source->is_failing = 1;
+        ngx_http_jwt_end_fetch(source, 1);
+    }
+
+    if (lacks_key && !source->has_set) {
+        pause = NGX_HTTP_JWT_FIRST_PAUSE;
+    }
+
+    /*
+     * A request that waits is not cut off by its client.  One that goes on
+     * with an old set is, and then another client could do the same.
+     */
+    if (source->fetch == NULL && ngx_http_jwt_is_past(source->tried, pause)
         && (lacks_key
-            || ngx_http_jwt_is_past(rules->fetched, rules->conf->period))
-        && ngx_http_jwt_is_past(rules->tried,
-                                is_first ? NGX_HTTP_JWT_FIRST_PAUSE
-                                         : NGX_HTTP_JWT_PAUSE))
+            || (ngx_http_jwt_is_past(source->fetched, period)
+                && ngx_http_jwt_is_past(source->cut,
+                                        NGX_HTTP_JWT_FIRST_PAUSE))))
     {
-        ngx_http_jwt_begin_fetch(ctx->request, rules);
+        ngx_http_jwt_begin_fetch(r, source);
     }
+}
 
-    if (!lacks_key || ctx->has_waited || rules->fetch == NULL) {
-        return 0;
+
+/* Lets a request wait, if not too many do. */
+static ngx_int_t
+ngx_http_jwt_wait(ngx_http_jwt_rules_t *rules, ngx_http_jwt_ctx_t *ctx)
+{
+    if (ngx_http_jwt_waiting >= ngx_cycle->connection_n / NGX_HTTP_JWT_PART) {
+        ngx_log_error(NGX_LOG_ERR, ngx_cycle->log, 0,
+                      "auth_jwt: %ui requests wait for keys, and no more can",
+                      ngx_http_jwt_waiting);
+        return NGX_HTTP_SERVICE_UNAVAILABLE;
     }
 
     ctx->is_waiting = 1;
+    ngx_http_jwt_waiting++;
     ngx_queue_insert_tail(&rules->waiting, &ctx->queue);
 
-    return 1;
+    return NGX_AGAIN;
+}
+
+
+/*
+ * Returns NGX_OK if the verdict stands, NGX_AGAIN if the request waits for a
+ * fetch, and 503 if there is no verdict.
+ */
+ngx_int_t
+ngx_http_jwt_await(ngx_http_jwt_rules_t *rules, ngx_http_jwt_ctx_t *ctx)
+{
+    ngx_int_t               rc = NGX_OK;
+    ngx_uint_t              i, lacks_key, is_awaited = 0;
+    ngx_http_jwt_source_t  *it;
+
+    lacks_key = ngx_http_jwt_lacks_key(rules, ctx);
+
+    for (i = 0; i < rules->count; i++) {
+        it = &rules->sources[i];
+
+        if (!it->key->is_fetched) {
+            continue;
+        }
+
+        ngx_http_jwt_renew(it, ctx->request, lacks_key && it->lacks_key);
+
+        if (lacks_key && it->lacks_key) {
+            is_awaited |= it->fetch != NULL;
+
+            if (!it->has_set || it->is_failing) {
+                rc = NGX_HTTP_SERVICE_UNAVAILABLE;
+            }
+        }
+    }
+
+    /* each fetch is waited for once */
+    if (is_awaited && !ctx->cannot_wait && ctx->waited < rules->count) {
+        return ngx_http_jwt_wait(rules, ctx);
+    }
+
+    return rc;
 }

@@ -78,7 +78,8 @@ ngx_http_jwt_refuse(ngx_http_request_t *r, ngx_str_t *realm, ngx_int_t answer,
 
 /* Tests the values of auth_jwt_require. */
 static ngx_int_t
-ngx_http_jwt_test(ngx_http_request_t *r, ngx_http_jwt_loc_conf_t *jlcf)
+ngx_http_jwt_test(ngx_http_request_t *r, ngx_http_jwt_loc_conf_t *jlcf,
+    ngx_http_jwt_ctx_t *ctx)
 {
     ngx_str_t                value;
     ngx_uint_t               i;
@@ -96,8 +97,12 @@ ngx_http_jwt_test(ngx_http_request_t *r, ngx_http_jwt_loc_conf_t *jlcf)
         }
 
         if (value.len == 0 || (value.len == 1 && value.data[0] == '0')) {
+            ctx->unmet = it[i].text;
+
             return ngx_http_jwt_refuse(r, &jlcf->realm, it[i].answer,
-                                       ", error=\"insufficient_scope\"");
+                                       it[i].answer == NGX_HTTP_FORBIDDEN
+                                       ? ", error=\"insufficient_scope\""
+                                       : ", error=\"invalid_token\"");
         }
     }
 
@@ -105,9 +110,34 @@ ngx_http_jwt_test(ngx_http_request_t *r, ngx_http_jwt_loc_conf_t *jlcf)
 }
 
 
+/* Answers by the verdict on a token. */
+static ngx_int_t
+ngx_http_jwt_answer(ngx_http_request_t *r, ngx_http_jwt_loc_conf_t *jlcf,
+    ngx_http_jwt_ctx_t *ctx)
+{
+    switch (ctx->status) {
+
+    case JWT_OK:
+        return ngx_http_jwt_test(r, jlcf, ctx);
+
+    case JWT_OUT_OF_MEMORY:
+    case JWT_CLOCK_BEFORE_EPOCH:
+        /* the log of a connection has the request's line, and so a token */
+        ngx_log_error(NGX_LOG_ERR, ngx_cycle->log, 0,
+                      "auth_jwt: no token is verified, status %uD",
+                      ctx->status);
+        return NGX_HTTP_INTERNAL_SERVER_ERROR;
+    }
+
+    return ngx_http_jwt_refuse(r, &jlcf->realm, NGX_HTTP_UNAUTHORIZED,
+                               ", error=\"invalid_token\"");
+}
+
+
 static ngx_int_t
 ngx_http_jwt_handler(ngx_http_request_t *r)
 {
+    ngx_int_t                 rc = NGX_OK;
     ngx_http_jwt_ctx_t       *ctx;
     ngx_http_jwt_loc_conf_t  *jlcf;
 
@@ -132,27 +162,11 @@ ngx_http_jwt_handler(ngx_http_request_t *r)
 
     ctx->status = ngx_http_jwt_verify(jlcf->rules, ctx);
 
-    if (jlcf->uri.len > 0 && ngx_http_jwt_await(jlcf->rules, ctx)) {
-        return NGX_AGAIN;
+    if (jlcf->rules->is_fetched) {
+        rc = ngx_http_jwt_await(jlcf->rules, ctx);
     }
 
-    switch (ctx->status) {
-
-    case JWT_OK:
-        return ngx_http_jwt_test(r, jlcf);
-
-    case JWT_OUT_OF_MEMORY:
-    case JWT_CLOCK_BEFORE_EPOCH:
-    case JWT_NO_VERIFIER:
-        /* the log of a connection has the request's line, and so a token */
-        ngx_log_error(NGX_LOG_ERR, ngx_cycle->log, 0,
-                      "auth_jwt: no token is verified, status %uD",
-                      ctx->status);
-        return NGX_HTTP_INTERNAL_SERVER_ERROR;
-    }
-
-    return ngx_http_jwt_refuse(r, &jlcf->realm, NGX_HTTP_UNAUTHORIZED,
-                               ", error=\"invalid_token\"");
+    return rc == NGX_OK ? ngx_http_jwt_answer(r, jlcf, ctx) : rc;
 }
 
 
@@ -203,7 +217,7 @@ ngx_http_jwt_header_filter(ngx_http_request_t *r)
             return NGX_ERROR;
         }
 
-        ctx->has_waited = 1;
+        ctx->cannot_wait = 1;
         rc = ngx_http_jwt_handler(r);
     }
 
@@ -216,6 +230,10 @@ ngx_http_jwt_init(ngx_conf_t *cf)
 {
     ngx_http_handler_pt        *preaccess, *access;
     ngx_http_core_main_conf_t  *cmcf;
+
+    if (ngx_http_jwt_check_blocks(cf) != NGX_OK) {
+        return NGX_ERROR;
+    }
 
     cmcf = ngx_http_conf_get_module_main_conf(cf, ngx_http_core_module);
 
@@ -237,11 +255,10 @@ ngx_http_jwt_init(ngx_conf_t *cf)
 }
 
 
-/* The first of the rules that were made of this configuration. */
 static void *
 ngx_http_jwt_create_main_conf(ngx_conf_t *cf)
 {
-    return ngx_pcalloc(cf->pool, sizeof(ngx_http_jwt_rules_t *));
+    return ngx_pcalloc(cf->pool, sizeof(ngx_http_jwt_main_conf_t));
 }
 
 

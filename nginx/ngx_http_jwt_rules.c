@@ -15,14 +15,20 @@ ngx_http_jwt_report(ngx_conf_t *cf, const char *directive, ngx_str_t *value,
     ngx_str_t    said = { 0, text };
     const char  *hint = "";
 
+    (void) jwt_status_text(status, text, sizeof(text), &said.len);
+
     if (status == JWT_BAD_OPTIONS) {
         hint = ": no algorithm of this name, or a name that is not UTF-8";
 
+    } else if (status == JWT_UNFIT_KEY) {
+        hint = NGX_HTTP_JWT_UNFIT;
+
     } else if (status < JWT_NO_ROOM) {
-        hint = ": no JSON Web Key Set, JSON Web Key or public key in PEM";
+        /* why one of the three is not read says little of the others */
+        ngx_str_set(&said, "no JSON Web Key Set, JSON Web Key or public key "
+                           "in PEM");
     }
 
-    (void) jwt_status_text(status, text, sizeof(text), &said.len);
     ngx_conf_log_error(NGX_LOG_EMERG, cf, 0, "%s \"%V\": %V%s", directive,
                        value, &said, hint);
     return NGX_CONF_ERROR;
@@ -99,11 +105,11 @@ ngx_http_jwt_read_key(ngx_conf_t *cf, ngx_http_jwt_key_t *key)
 
 static ngx_int_t
 ngx_http_jwt_write_options(ngx_pool_t *pool, ngx_http_jwt_loc_conf_t *conf,
-    ngx_str_t *options)
+    ngx_str_t *issuers, ngx_str_t *options)
 {
     options->len = sizeof(NGX_HTTP_JWT_OPTIONS) + NGX_TIME_T_LEN
                    + conf->algorithms.len + conf->audiences.len
-                   + conf->issuers.len;
+                   + issuers->len;
     options->data = ngx_pnalloc(pool, options->len);
     if (options->data == NULL) {
         return NGX_ERROR;
@@ -111,18 +117,10 @@ ngx_http_jwt_write_options(ngx_pool_t *pool, ngx_http_jwt_loc_conf_t *conf,
 
     options->len = ngx_snprintf(options->data, options->len,
                                 NGX_HTTP_JWT_OPTIONS, conf->leeway,
-                                &conf->algorithms, &conf->audiences,
-                                &conf->issuers)
+                                &conf->algorithms, &conf->audiences, issuers)
                    - options->data;
 
     return NGX_OK;
-}
-
-
-static ngx_uint_t
-ngx_http_jwt_is_same_text(ngx_str_t *a, ngx_str_t *b)
-{
-    return a->len == b->len && ngx_memcmp(a->data, b->data, a->len) == 0;
 }
 
 
@@ -133,16 +131,19 @@ ngx_http_jwt_is_same_keys(ngx_http_jwt_loc_conf_t *a,
     ngx_uint_t           i;
     ngx_http_jwt_key_t  *it = a->keys->elts, *other = b->keys->elts;
 
-    if (a->keys->nelts != b->keys->nelts
-        || !ngx_http_jwt_is_same_text(&a->uri, &b->uri)
-        || (a->uri.len > 0
-            && (a->server != b->server || a->period != b->period)))
-    {
+    if (a->keys->nelts != b->keys->nelts) {
         return 0;
     }
 
     for (i = 0; i < a->keys->nelts; i++) {
-        if (!ngx_http_jwt_is_same_text(&it[i].text, &other[i].text)) {
+        if (it[i].is_fetched != other[i].is_fetched
+            || !ngx_http_jwt_is_same_text(&it[i].issuer, &other[i].issuer)
+            || !ngx_http_jwt_is_same_text(&it[i].text, &other[i].text)
+            || (it[i].is_fetched
+                && (a->server != b->server || a->period != b->period
+                    || !ngx_http_jwt_is_same_text(&it[i].name,
+                                                  &other[i].name))))
+        {
             return 0;
         }
     }
@@ -158,7 +159,7 @@ ngx_http_jwt_free_rules(void *data)
     ngx_http_jwt_rules_t  *rules = data;
 
     for (i = 0; i < rules->count; i++) {
-        jwt_verifier_free(&rules->verifiers[i]);
+        jwt_verifier_free(&rules->sources[i].verifier);
     }
 }
 
@@ -180,19 +181,59 @@ ngx_http_jwt_add_rules(ngx_pool_t *pool, ngx_http_jwt_loc_conf_t *conf,
     ngx_memzero(rules, sizeof(ngx_http_jwt_rules_t));
     rules->conf = conf;
     rules->options = *options;
-    rules->count = conf->keys->nelts + (conf->uri.len > 0);
     ngx_queue_init(&rules->waiting);
 
     rules->slots = ngx_pcalloc(pool, conf->slot_count
                                      * sizeof(ngx_http_jwt_slot_t));
-    rules->verifiers = ngx_pcalloc(pool, rules->count
-                                         * sizeof(struct jwt_verifier));
-    if (rules->slots == NULL || rules->verifiers == NULL) {
+    rules->sources = ngx_pcalloc(pool, conf->keys->nelts
+                                       * sizeof(ngx_http_jwt_source_t));
+    if (rules->slots == NULL || rules->sources == NULL) {
         return NULL;
     }
 
     cln->handler = ngx_http_jwt_free_rules;
     return rules;
+}
+
+
+/* Adds a source, whose verifier is none, or refuses it beside the others. */
+static char *
+ngx_http_jwt_add_source(ngx_conf_t *cf, ngx_http_jwt_rules_t *rules,
+    ngx_http_jwt_key_t *key)
+{
+    const char               *fault = NULL;
+    ngx_http_jwt_source_t    *source = &rules->sources[rules->count++];
+    ngx_http_jwt_loc_conf_t  *conf = rules->conf;
+
+    source->rules = rules;
+    source->key = key;
+    rules->is_bound = key->issuer.len > 0;
+    rules->is_fetched |= key->is_fetched;
+
+    if (rules->is_bound && conf->issuers.len > sizeof("null") - 1) {
+        fault = "has iss= besides auth_jwt_iss";
+
+    } else if (rules->is_bound != (rules->sources[0].key->issuer.len > 0)) {
+        fault = "needs iss= if other keys have it, and else has none";
+
+    } else if (!rules->is_bound && conf->keys->nelts > 1 && !key->is_fetched
+               && !key->is_set)
+    {
+        fault = "is a single key, which has to be the only source of keys "
+                "if it has no iss=";
+    }
+
+    if (fault != NULL) {
+        ngx_conf_log_error(NGX_LOG_EMERG, cf, 0, "%s \"%V\" %s",
+                           key->is_fetched ? "auth_jwt_key_request"
+                           : "auth_jwt_key_file", &key->name, fault);
+        return NGX_CONF_ERROR;
+    }
+
+    return ngx_http_jwt_write_options(cf->pool, conf,
+                                      rules->is_bound ? &key->issuer
+                                      : &conf->issuers, &source->options)
+           == NGX_OK ? NGX_CONF_OK : NGX_CONF_ERROR;
 }
 
 
@@ -204,22 +245,24 @@ ngx_http_jwt_add_rules(ngx_pool_t *pool, ngx_http_jwt_loc_conf_t *conf,
 static char *
 ngx_http_jwt_make_verifiers(ngx_conf_t *cf, ngx_http_jwt_rules_t *rules)
 {
-    uint32_t             status;
-    ngx_str_t           *options = &rules->options;
-    ngx_uint_t           i;
-    ngx_http_jwt_key_t  *key = rules->conf->keys->elts;
+    uint32_t                status;
+    ngx_uint_t              i;
+    ngx_http_jwt_key_t     *key = rules->conf->keys->elts;
+    ngx_http_jwt_source_t  *source = rules->sources;
 
     for (i = 0; i < rules->conf->keys->nelts; i++) {
-        if (!key[i].is_set && rules->count > 1) {
-            ngx_conf_log_error(NGX_LOG_EMERG, cf, 0, "auth_jwt_key_file "
-                               "\"%V\": a single key has to be the only "
-                               "source of keys", &key[i].name);
+        if (ngx_http_jwt_add_source(cf, rules, &key[i]) != NGX_CONF_OK) {
             return NGX_CONF_ERROR;
         }
 
+        if (key[i].is_fetched) {
+            continue;
+        }
+
         status = (key[i].is_set ? jwt_verifier_set : jwt_verifier_key)
-                     (key[i].text.data, key[i].text.len, options->data,
-                      options->len, 0, 0, &rules->verifiers[i]);
+                     (key[i].text.data, key[i].text.len,
+                      source[i].options.data, source[i].options.len, 0, 0,
+                      &source[i].verifier);
 
         if (status != JWT_OK) {
             return ngx_http_jwt_report(cf, "auth_jwt_key_file", &key[i].name,
@@ -235,16 +278,19 @@ ngx_http_jwt_make_verifiers(ngx_conf_t *cf, ngx_http_jwt_rules_t *rules)
 char *
 ngx_http_jwt_set_rules(ngx_conf_t *cf, ngx_http_jwt_loc_conf_t *conf)
 {
-    ngx_str_t               options;
-    ngx_http_jwt_rules_t   *it, **made;
+    ngx_str_t                  options;
+    ngx_http_jwt_rules_t      *it;
+    ngx_http_jwt_main_conf_t  *jmcf;
 
-    made = ngx_http_conf_get_module_main_conf(cf, ngx_http_jwt_module);
+    jmcf = ngx_http_conf_get_module_main_conf(cf, ngx_http_jwt_module);
 
-    if (ngx_http_jwt_write_options(cf->pool, conf, &options) != NGX_OK) {
+    if (ngx_http_jwt_write_options(cf->pool, conf, &conf->issuers, &options)
+        != NGX_OK)
+    {
         return NGX_CONF_ERROR;
     }
 
-    for (it = *made; it != NULL; it = it->next) {
+    for (it = jmcf->rules; it != NULL; it = it->next) {
         if (it->conf->slot_count == conf->slot_count
             && ngx_http_jwt_is_same_text(&it->options, &options)
             && ngx_http_jwt_is_same_keys(it->conf, conf))
@@ -259,8 +305,8 @@ ngx_http_jwt_set_rules(ngx_conf_t *cf, ngx_http_jwt_loc_conf_t *conf)
         return NGX_CONF_ERROR;
     }
 
-    it->next = *made;
-    *made = it;
+    it->next = jmcf->rules;
+    jmcf->rules = it;
     conf->rules = it;
 
     return ngx_http_jwt_make_verifiers(cf, it);
@@ -269,24 +315,25 @@ ngx_http_jwt_set_rules(ngx_conf_t *cf, ngx_http_jwt_loc_conf_t *conf)
 
 /* Replaces the set with a fetched one, if that is usable. */
 uint32_t
-ngx_http_jwt_take_set(ngx_http_jwt_rules_t *rules, ngx_array_t *set)
+ngx_http_jwt_take_set(ngx_http_jwt_source_t *source, ngx_array_t *set)
 {
     uint32_t              status;
-    struct jwt_verifier   next = JWT_VERIFIER_NONE, *kept;
+    struct jwt_verifier   next = JWT_VERIFIER_NONE;
 
     status = jwt_check_set(set->elts, set->nelts);
 
     if (status == JWT_OK) {
-        status = jwt_verifier_set(set->elts, set->nelts, rules->options.data,
-                                  rules->options.len, 0, 0, &next);
+        status = jwt_verifier_set(set->elts, set->nelts, source->options.data,
+                                  source->options.len, 0, 0, &next);
     }
 
     if (status == JWT_OK) {
-        kept = &rules->verifiers[rules->count - 1];
-        jwt_verifier_free(kept);
-        *kept = next;
-        rules->sets++;
-        rules->fetched = ngx_time();
+        jwt_verifier_free(&source->verifier);
+        source->verifier = next;
+        source->has_set = 1;
+        source->is_failing = 0;
+        source->fetched = ngx_time();
+        source->rules->sets++;
     }
 
     return status;

@@ -56,6 +56,13 @@ ngx_http_jwt_quote(ngx_pool_t *pool, ngx_str_t *text, ngx_uint_t n,
 }
 
 
+ngx_uint_t
+ngx_http_jwt_is_same_text(ngx_str_t *a, ngx_str_t *b)
+{
+    return a->len == b->len && ngx_memcmp(a->data, b->data, a->len) == 0;
+}
+
+
 /* Returns whether a text is UTF-8 without control characters. */
 ngx_uint_t
 ngx_http_jwt_is_plain(ngx_str_t *text)
@@ -74,4 +81,11 @@ ngx_http_jwt_is_plain(ngx_str_t *text)
     }
 
     return 1;
+}
+
+
+ngx_uint_t
+ngx_http_jwt_has_variable(ngx_str_t *text)
+{
+    return ngx_strlchr(text->data, text->data + text->len, '$') != NULL;
 }

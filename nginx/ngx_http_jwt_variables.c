@@ -5,15 +5,21 @@
     "abcdefghijklmnopqrstuvwxyzABCDEFGHIJKLMNOPQRSTUVWXYZ0123456789_"
 
 
+/* where a claim is found, and the text that it has to have */
+typedef struct {
+    ngx_str_t   *names;     /* of members, from the claims inwards */
+    ngx_uint_t   count;     /* of names, at least 1 */
+    ngx_str_t    text;      /* empty for the variable of the claim itself */
+} ngx_http_jwt_path_t;
+
+
 /* Marks a context among the cleanups of a pool. */
 static void
 ngx_http_jwt_cleanup(void *data)
 {
     ngx_http_jwt_ctx_t  *ctx = data;
 
-    if (ctx->is_waiting) {
-        ngx_queue_remove(&ctx->queue);
-    }
+    ngx_http_jwt_stop_waiting(ctx);
 }
 
 
@@ -202,10 +208,7 @@ ngx_http_jwt_set_value(ngx_http_variable_value_t *v, u_char *data, size_t len)
 }
 
 
-/*
- * jwt_claim_NAME, jwt_header_NAME and jwt_refused_kid: data is such a text,
- * also that of a variable of auth_jwt_claim.
- */
+/* jwt_claim_NAME, jwt_header_NAME and jwt_refused_kid: data is such a text. */
 static ngx_int_t
 ngx_http_jwt_member_variable(ngx_http_request_t *r,
     ngx_http_variable_value_t *v, uintptr_t data)
@@ -246,6 +249,88 @@ ngx_http_jwt_member_variable(ngx_http_request_t *r,
 }
 
 
+/* Replaces an object by its member of a name, if that is an object too. */
+static ngx_int_t
+ngx_http_jwt_enter(ngx_pool_t *pool, ngx_str_t *name, ngx_str_t *object)
+{
+    size_t     len;
+    u_char    *buffer;
+    uint32_t   type, status;
+
+    buffer = ngx_pnalloc(pool, object->len);
+    if (buffer == NULL) {
+        return NGX_ERROR;
+    }
+
+    status = jwt_member(object->data, object->len, name->data, name->len,
+                        &type, buffer, object->len, &len);
+
+    if (status == JWT_NO_MEMBER || (status == JWT_OK && type != JWT_OBJECT)) {
+        return NGX_DECLINED;
+    }
+
+    object->data = buffer;
+    object->len = len;
+
+    return status == JWT_OK ? NGX_OK : NGX_ERROR;
+}
+
+
+/* Reads what a path leads to: the claim, or 1 if it has the text. */
+static ngx_int_t
+ngx_http_jwt_read_path(ngx_pool_t *pool, ngx_str_t *claims,
+    ngx_http_jwt_path_t *path, ngx_str_t *value)
+{
+    uint32_t    status;
+    ngx_int_t   rc;
+    ngx_str_t   object = *claims, *name;
+
+    for (name = path->names; name < path->names + path->count - 1; name++) {
+        rc = ngx_http_jwt_enter(pool, name, &object);
+        if (rc != NGX_OK) {
+            return rc;
+        }
+    }
+
+    if (path->text.len == 0) {
+        return ngx_http_jwt_read_member(pool, &object, name, 0, value);
+    }
+
+    ngx_str_set(value, "1");
+    status = jwt_check_member(object.data, object.len, name->data, name->len,
+                              path->text.data, path->text.len);
+
+    return status == JWT_OK ? NGX_OK
+           : status == JWT_NO_MEMBER ? NGX_DECLINED : NGX_ERROR;
+}
+
+
+/* A variable of auth_jwt_claim or of auth_jwt_contains: data is its path. */
+static ngx_int_t
+ngx_http_jwt_path_variable(ngx_http_request_t *r,
+    ngx_http_variable_value_t *v, uintptr_t data)
+{
+    ngx_int_t            rc;
+    ngx_str_t            value;
+    ngx_http_jwt_ctx_t  *ctx;
+
+    v->not_found = 1;
+    ctx = ngx_http_jwt_find_ctx(r);
+
+    if (ctx == NULL || ctx->token.len == 0 || ctx->status != JWT_OK) {
+        return NGX_OK;
+    }
+
+    rc = ngx_http_jwt_read_path(r->pool, &ctx->claims,
+                                (ngx_http_jwt_path_t *) data, &value);
+    if (rc != NGX_OK) {
+        return rc == NGX_DECLINED ? NGX_OK : NGX_ERROR;
+    }
+
+    return ngx_http_jwt_set_value(v, value.data, value.len);
+}
+
+
 /* jwt_status and jwt_failed_test: data is the name. */
 static ngx_int_t
 ngx_http_jwt_text_variable(ngx_http_request_t *r,
@@ -258,6 +343,10 @@ ngx_http_jwt_text_variable(ngx_http_request_t *r,
 
     v->not_found = 1;
     ctx = ngx_http_jwt_find_ctx(r);
+
+    if (ctx != NULL && is_test && ctx->unmet.len > 0) {
+        return ngx_http_jwt_set_value(v, ctx->unmet.data, ctx->unmet.len);
+    }
 
     if (ctx == NULL || (is_test && ctx->test == 0)) {
         return NGX_OK;
@@ -321,31 +410,110 @@ ngx_http_jwt_add_variables(ngx_conf_t *cf)
 }
 
 
-/* Binds a variable to the claim of a name, in which capitals count. */
-char *
-ngx_http_jwt_claim(ngx_conf_t *cf, ngx_command_t *cmd, void *conf)
+/* Returns whether the variables of a prefix have such a name already. */
+static ngx_uint_t
+ngx_http_jwt_is_taken(ngx_conf_t *cf, ngx_str_t *name)
 {
-    ngx_str_t            *value = cf->args->elts, *name;
-    ngx_http_variable_t  *var;
+    ngx_uint_t                  i;
+    ngx_http_variable_t        *prefix;
+    ngx_http_core_main_conf_t  *cmcf;
 
-    value[1].data++;
-    value[1].len--;
+    cmcf = ngx_http_conf_get_module_main_conf(cf, ngx_http_core_module);
+    prefix = cmcf->prefix_variables.elts;
 
-    if (value[1].data[-1] != '$' || value[1].len == 0
-        || strspn((char *) value[1].data, NGX_HTTP_JWT_LETTERS)
-           != value[1].len)
+    for (i = 0; i < cmcf->prefix_variables.nelts; i++) {
+        if (name->len >= prefix[i].name.len
+            && ngx_strncasecmp(name->data, prefix[i].name.data,
+                               prefix[i].name.len)
+               == 0)
+        {
+            return 1;
+        }
+    }
+
+    return ngx_strncasecmp(name->data, (u_char *) "jwt_", 4) == 0;
+}
+
+
+/* Returns why a variable, without its $, is not one of these directives. */
+static char *
+ngx_http_jwt_check_variable(ngx_conf_t *cf, ngx_str_t *name)
+{
+    if (name->data[-1] != '$' || name->len == 0
+        || strspn((char *) name->data, NGX_HTTP_JWT_LETTERS) != name->len)
     {
         return "takes $variable, of letters, digits and _, first";
     }
 
-    if (value[2].len == 0 || !ngx_http_jwt_is_plain(&value[2])) {
-        return "takes the name of a claim second: UTF-8 without control "
-               "characters, and not empty";
+    if (ngx_http_jwt_is_taken(cf, name)) {
+        return "takes no variable whose name begins like those of nginx or "
+               "of this module, such as $arg_, $http_ and $jwt_";
     }
 
+    return NGX_CONF_OK;
+}
+
+
+/* Reads the names of a path, and the text after them if there is to be one. */
+static char *
+ngx_http_jwt_path(ngx_conf_t *cf, ngx_uint_t has_text,
+    ngx_http_jwt_path_t *path)
+{
+    ngx_str_t   *value = cf->args->elts;
+    ngx_uint_t   i, n = cf->args->nelts;
+
+    if (n < 3 + has_text) {
+        return "takes $variable, names and at last a text";
+    }
+
+    for (i = 2; i < n; i++) {
+        if (value[i].len == 0 || !ngx_http_jwt_is_plain(&value[i])) {
+            return "takes names and texts that are UTF-8 without control "
+                   "characters, and not empty";
+        }
+    }
+
+    path->count = n - 2 - has_text;
+    path->names = ngx_palloc(cf->pool, path->count * sizeof(ngx_str_t));
+    if (path->names == NULL) {
+        return NGX_CONF_ERROR;
+    }
+
+    /* nginx uses the array again */
+    ngx_memcpy(path->names, &value[2], path->count * sizeof(ngx_str_t));
+
+    if (has_text) {
+        path->text = value[n - 1];
+
+        if (ngx_http_jwt_has_variable(&path->text)) {
+            return "takes no variable as its text";
+        }
+    }
+
+    return NGX_CONF_OK;
+}
+
+
+/* Binds a variable to the claim at a path, or to whether it has a text. */
+char *
+ngx_http_jwt_claim(ngx_conf_t *cf, ngx_command_t *cmd, void *conf)
+{
+    char                 *rv;
+    ngx_str_t            *value = cf->args->elts;
+    ngx_http_variable_t  *var;
+    ngx_http_jwt_path_t  *path;
+
+    value[1].data++;
+    value[1].len--;
+
+    rv = ngx_http_jwt_check_variable(cf, &value[1]);
+    if (rv != NGX_CONF_OK) {
+        return rv;
+    }
+
+    path = ngx_pcalloc(cf->pool, sizeof(ngx_http_jwt_path_t));
     var = ngx_http_add_variable(cf, &value[1], NGX_HTTP_VAR_NOCACHEABLE);
-    name = ngx_palloc(cf->pool, sizeof(ngx_str_t) + 10 + value[2].len);
-    if (var == NULL || name == NULL) {
+    if (var == NULL || path == NULL) {
         return NGX_CONF_ERROR;
     }
 
@@ -353,11 +521,8 @@ ngx_http_jwt_claim(ngx_conf_t *cf, ngx_command_t *cmd, void *conf)
         return "has a variable that another directive sets";
     }
 
-    name->len = 10 + value[2].len;
-    name->data = (u_char *) (name + 1);
-    ngx_snprintf(name->data, name->len, "jwt_claim_%V", &value[2]);
-    var->get_handler = ngx_http_jwt_member_variable;
-    var->data = (uintptr_t) name;
+    var->get_handler = ngx_http_jwt_path_variable;
+    var->data = (uintptr_t) path;
 
-    return NGX_CONF_OK;
+    return ngx_http_jwt_path(cf, cmd->post != NULL, path);
 }

@@ -3,13 +3,15 @@ import contextlib
 import http.client
 import json
 import random
+import re
+import select
 import socket
 import tempfile
 import threading
 import time
 
-from harness import NOW, Server, Watched, eventually, free_port, oct_key, resident, signed, started, test, under_valgrind
-from key_server import KeyServer, close, cut, endless, hang, head, late, short, stop_midway, whole
+from harness import CONNECTIONS, NOW, Server, Watched, eventually, free_port, made, oct_key, resident, signed, started, test, under_valgrind
+from key_server import KeyServer, close, cut, endless, frame, hang, head, http2, late, memcached, short, stop_midway, whole
 
 SECRETS = {kid: f"the secret of the key {kid}, of 32 bytes or more".encode() for kid in "abcdefgh"}
 # seconds between fetches, after which a set is old, and after which a fetch is given up
@@ -19,11 +21,11 @@ FETCHED = """
     auth_jwt_alg HS256;
     add_header X-Status "$jwt_status" always;
     add_header X-Sub "$jwt_claim_sub" always;
-    proxy_read_timeout 1s;
+    proxy_read_timeout 2s;
     location / {{ set $seen $from; auth_jwt fetched; auth_jwt_key_request /keys; }}
     location = /keys {{
         internal; proxy_pass http://127.0.0.1:{keys}/jwks?of=$http_x_from$arg_from;
-        proxy_set_header X-Host $host; proxy_set_header X-Map $from; proxy_set_header X-Uri $request_uri;
+        proxy_set_header X-Host $host; proxy_set_header X-Map $from; proxy_set_header X-Uri $request_uri; proxy_set_header X-Line $request;
     }}
     # other rules over the same keys have a fetch of their own, and the same rules do not
     location /audience {{ auth_jwt fetched; auth_jwt_key_request /keys; auth_jwt_aud app; }}
@@ -34,6 +36,13 @@ FETCHED = """
     # files and an uri
     location /files {{ auth_jwt files; auth_jwt_key_file {work}/a.json; auth_jwt_key_file {work}/b.json; }}
     location /both {{ auth_jwt both; auth_jwt_key_file {work}/g.json; auth_jwt_key_request /keys; }}
+    # each source has an issuer
+    location /bound {{
+        auth_jwt bound; auth_jwt_key_request /keys iss=a.example; auth_jwt_key_request /others iss=b.example;
+        auth_jwt_key_file {work}/g.json iss=g.example;
+    }}
+    location = /others {{ internal; proxy_pass http://127.0.0.1:{others}/jwks; }}
+    location /bound_files {{ auth_jwt bound; auth_jwt_key_file {work}/a.json iss=a.example; auth_jwt_key_file {work}/single.json iss=b.example; }}
     # where the keys come from
     location /of_file {{ auth_jwt file; auth_jwt_key_request /file; }}
     location = /file {{ internal; alias {work}/set.json; }}
@@ -41,11 +50,16 @@ FETCHED = """
     location = /store {{ internal; proxy_cache stored; proxy_cache_valid 1m; proxy_pass http://127.0.0.1:{keys}/jwks; }}
     location /of_second {{ auth_jwt second; auth_jwt_key_request /first; }}
     location = /first {{ internal; proxy_pass http://127.0.0.1:1/; error_page 502 = /file; }}
+    location /of_memcached {{ auth_jwt memcached; auth_jwt_key_request /memcached; }}
+    location = /memcached {{ internal; set $memcached_key keys; memcached_pass 127.0.0.1:{keys}; memcached_read_timeout 1s; }}
+    location /of_grpc {{ auth_jwt grpc; auth_jwt_key_request /grpc; }}
+    location = /grpc {{ internal; grpc_pass 127.0.0.1:{keys}; grpc_read_timeout 1s; }}
     location /of_text {{ auth_jwt text; auth_jwt_key_request /text; }}
     location = /text {{ internal; return 200 '{{"keys":[{text}]}}'; }}
     location /of_none {{ auth_jwt none; auth_jwt_key_request /none; }}
     location = /none {{ internal; return 204; }}
-    location /of_nothing {{ auth_jwt nothing; auth_jwt_key_request /nosuch; }}
+    location /held {{ auth_jwt held; auth_jwt_key_request /slow_keys; }}
+    location = /slow_keys {{ internal; proxy_pass http://127.0.0.1:{keys}/jwks; proxy_read_timeout 60s; }}
     # where a token is asked for
     location /gated {{ auth_request /gate; }}
     location = /gate {{ internal; auth_jwt gate; auth_jwt_key_request /keys; empty_gif; }}
@@ -87,24 +101,26 @@ def keys(kids):
 def servers(module):
     """Runs a server of keys, one that answers late, and an nginx that takes keys from it, which is not started."""
     with tempfile.TemporaryDirectory(prefix="nginx-jwt-") as work:
-        served, backend = KeyServer(whole(keys("a"))), KeyServer(late(3, whole("served\n")))
+        served, others, backend = KeyServer(whole(keys("a"))), KeyServer(whole(keys("b"))), KeyServer(late(3, whole("served\n")))
         text, http2_port = json.dumps(oct_key("a", SECRETS["a"])).replace("{", "{{").replace("}", "}}"), free_port()
         confs = [FETCHED, HTTP]
-        for name, value in (("keys", served.port), ("backend", backend.port), ("text", text), ("http2", http2_port)):
+        for name, value in (("keys", served.port), ("others", others.port), ("backend", backend.port), ("text", text), ("http2", http2_port)):
             confs = [it.replace(f"{{{name}}}", str(value)) for it in confs]
         server = Watched(module, work, *confs)
         for name in ("part", "page", "parts", "index.html"):
             server.write(f"root/{name}", "served\n")
+        server.others, server.backend = others, backend
         for kid in "abg":
             server.write(f"{kid}.json", {"keys": keys(kid)})
         server.write("set.json", {"keys": keys("a")})
+        server.write("single.json", keys("b")[0])
         server.keys, server.http2, server.now = served, http2_port, NOW
         server.at(NOW)
         try:
             yield server
         finally:
-            served.stop()
-            backend.stop()
+            for it in (served, others, backend):
+                it.stop()
 
 
 def later(server, seconds):
@@ -200,13 +216,23 @@ def faults(server):
         server.keys.answer = answer
         later(server, PAUSE)
         began = time.monotonic()
-        asks(server, name, {"c": 401, "a": 200, "a!": 401}, 1)
+        asks(server, name, {"c": 503, "a": 200, "a!": 401}, 1)
         test(f"{name}: it took {time.monotonic() - began}", time.monotonic() - began < 4)
-        asks(server, f"{name}, again", {"c": 401, "a": 200, "b": 401}, 0)
-    test("the faults are reported", server.read("error.log").count('auth_jwt: no keys from "/keys"') >= 20)
+        asks(server, f"{name}, again", {"c": 503, "a": 200, "b!": 503}, 0)
+    later(server, PAUSE)
+    _, headers = server.get("/", token("c"))
+    test(f"no verdict: {headers['X-Status']} {headers['WWW-Authenticate']}", headers["X-Status"] == "NoKey" and headers["WWW-Authenticate"] is None)
+    before = len(server.keys.asked)
+    later(server, PAUSE)
+    nameless = made.signed({"alg": "HS256"}, {"exp": NOW + 10**6}, SECRETS["c"], "sha256").decode()
+    test("a token without a kid is refused, and causes no fetch", server.get("/", nameless)[0] == 401 and len(server.keys.asked) == before)
+    said = server.read("error.log")
+    test("the faults are reported", said.count('auth_jwt: no keys from "/keys" of server "') >= 20)
+    for cause in (r"status 500, \d+ bytes: another status than 200", ": more than 1 MiB", ": cut", ": Key set not understood", ": Key serves no algorithm: each key is of", ": Anyone can sign"):
+        test(f"a fault is reported: {cause}", re.search(f"no keys from .*{cause}", said))
     server.keys.answer = whole(keys("c"))
     later(server, PAUSE)
-    asks(server, "a good set after them", {"c": 200, "a": 401}, 1)
+    asks(server, "a good set after them", {"c": 200, "a": 401, "b!": 401}, 1)
     many = [oct_key(f"{n}", f"the secret of key {n}".encode()) for n in range(9999)] + keys("e")
     server.keys.answer = whole(many)
     later(server, PAUSE)
@@ -330,6 +356,51 @@ def cuts(server):
     test("after clients that went away", server.get("/", token("b"))[0] == 401 and server.get("/", token("a"))[0] == 200)
 
 
+def cut_often(server):
+    """Requests that are cut off with the fetch that they began have an old set fetched once in a second."""
+    server.keys.answer = whole(keys("a"))
+    later(server, OLD)
+    eventually(lambda: server.get("/backend/warm", token("a"))[0] == 200)
+    server.keys.answer = hang
+    later(server, OLD)
+    before = len(server.keys.asked)
+    for wanted in (1, 1, 1, 1, 2, 2):
+        if wanted > len(server.keys.asked) - before > 0:
+            later(server, 1)
+        passed_on = len(server.backend.asked)
+        with socket.create_connection(("127.0.0.1", server.port)) as client:
+            client.sendall(f"GET /backend/slow HTTP/1.1\r\nHost: x\r\nAuthorization: Bearer {token('a')}\r\n\r\n".encode())
+            eventually(lambda: len(server.backend.asked) > passed_on and len(server.keys.asked) >= before + wanted)
+        # nginx sees that the client went away
+        time.sleep(0.1)
+        test(f"{len(server.keys.asked) - before} fetches, wanted {wanted}", len(server.keys.asked) - before == wanted)
+    server.keys.answer = whole(keys("a"))
+    later(server, PAUSE)
+    test("the next one is whole", eventually(lambda: server.get("/", token("b"))[0] == 401) and server.get("/", token("a"))[0] == 200)
+
+
+def crowded(server):
+    """A quarter of a worker's connections may wait for keys, and requests that come after them are answered with 503 at once."""
+    done = threading.Event()
+    server.keys.answer = lambda connection: done.wait(60) and whole(keys("a"))(connection)
+    asked = f"GET /held HTTP/1.1\r\nHost: x\r\nConnection: close\r\nAuthorization: Bearer {token('a')}\r\n\r\n".encode()
+    with contextlib.ExitStack() as opened:
+        clients = [opened.enter_context(socket.create_connection(("127.0.0.1", server.port), 60)) for _ in range(CONNECTIONS // 4 + 12)]
+        for client in clients:
+            client.sendall(asked)
+
+        def answered():
+            return select.select(clients, [], [], 0)[0]
+
+        test(f"{len(answered())} are answered", eventually(lambda: len(answered()) >= 12))
+        got = {client.recv(65536)[9:12] for client in answered()}
+        test(f"other tokens are verified meanwhile, {got}", got == {b"503"} and server.get("/", token("a"))[0] == 200)
+        done.set()
+        got = [client.recv(65536)[9:12] for client in clients]
+    test(f"those that waited: {set(got)}", got.count(b"200") == CONNECTIONS // 4)
+    test("it is reported", f"{CONNECTIONS // 4} requests wait for keys" in server.read("error.log"))
+
+
 def given_up(server):
     """A fetch that takes longer than a minute is given up when the next request comes."""
     done = threading.Event()
@@ -352,7 +423,7 @@ def given_up(server):
     later(server, LIMIT - 1)
     test("which is waited for", server.get("/", token("a"))[0] == 200 and not got)
     later(server, 1)
-    test("but not longer than a minute", server.get("/", token("a"))[0] == 200 and eventually(lambda: got == [401]))
+    test("but not longer than a minute", server.get("/", token("a"))[0] == 200 and eventually(lambda: got == [503]))
     server.keys.answer = whole(keys("b"))
     later(server, PAUSE)
     asks(server, "another fetch", {"b": 200, "a": 401}, 1)
@@ -362,15 +433,14 @@ def given_up(server):
 
 
 def never(server):
-    """Without any set the answer is 500, and each second a request tries again."""
-    for path in ("/of_none", "/of_nothing"):
-        status, headers = server.get(path, token("a"))
-        test(f"{path}: {status} {headers['X-Status']}", status == 500)
-        test(f"{path} without a token", server.get(path)[0] == 401)
+    """Without any set the answer is 503, and each second a request tries again."""
+    status, headers = server.get("/of_none", token("a"))
+    test(f"no set: {status} {headers['X-Status']}", status == 503 and headers["X-Status"] == "No verifier")
+    test("no set, and no token", server.get("/of_none")[0] == 401)
     server.write("set.json", "{")
-    test("a broken set", server.get("/of_file", token("a"))[0] == 500)
+    test("a broken set", server.get("/of_file", token("a"))[0] == 503)
     server.write("set.json", {"keys": keys("a")})
-    test("too early", server.get("/of_file", token("a"))[0] == 500)
+    test("too early", server.get("/of_file", token("a"))[0] == 503)
     later(server, 1)
     test("a second later", server.get("/of_file", token("a"))[0] == 200)
 
@@ -390,6 +460,74 @@ def sources(server):
     server.keys.answer = whole(keys("b"))
     later(server, PAUSE)
     asks(server, "a stored answer, which nginx sends from a file", {"b": 401, "a": 200}, 0, "/of_store")
+
+
+def bound(server):
+    """Keys that are of an issuer verify its tokens alone, whatever their kid is."""
+
+    def tells(name, wanted, fetches, path, kid, issuer, secret=None, **claims):
+        before = len(server.keys.asked), len(server.others.asked)
+        status, headers = server.get(path, token(kid, SECRETS[secret or kid], iss=issuer, **claims))
+        got = status, headers["X-Status"]
+
+        def asked():
+            return len(server.keys.asked) - before[0], len(server.others.asked) - before[1]
+
+        eventually(lambda: sum(asked()) >= sum(fetches))
+        test(f"{name}: {got}, fetches {asked()}, wanted {wanted} {fetches}", got == wanted and asked() == fetches)
+
+    accepted, other_signature, other_issuer, no_key = (200, "OK"), (401, "InvalidSignature"), (401, "InvalidIssuer"), (401, "NoKey")
+    for name, wanted, *given in (
+        ("a set", accepted, "a", "a.example"),
+        ("a single key", accepted, "b", "b.example"),
+        ("a single key by a kid of the set", accepted, "a", "b.example", "b"),
+        ("the key of one in the name of the other", other_issuer, "a", "b.example"),
+        ("the single key in the name of the other", other_issuer, "b", "a.example"),
+        ("the single key in the name of the other, by its kid", other_issuer, "a", "a.example", "b"),
+        ("another name", other_issuer, "a", "c.example"),
+        ("no key", other_signature, "c", "a.example"),
+    ):
+        tells(f"files, {name}", wanted, (0, 0), "/bound_files", *given)
+    tells("files, an expired token of the second", (401, "ExpiredSignature"), (0, 0), "/bound_files", "b", "b.example", exp=NOW - 5)
+    # the first of them answers later
+    server.keys.answer, server.others.answer = late(0.3, whole(keys("a"))), whole(keys("b"))
+    tells("the first token", accepted, (1, 1), "/bound", "b", "b.example")
+    test("the other set comes too", eventually(lambda: server.get("/bound", token("a", iss="a.example"))[0] == 200))
+    tells("the other in its name", other_issuer, (0, 0), "/bound", "a", "b.example")
+    tells("a file next to them", accepted, (0, 0), "/bound", "g", "g.example")
+    tells("a kid of none, too early", no_key, (0, 0), "/bound", "c", "a.example")
+    # a new key has a kid that the other issuer has too
+    server.keys.answer, server.others.answer = whole(keys("a")), whole([oct_key("a", SECRETS["c"]), *keys("b")])
+    tells("a new key by a kid of the other, too early", other_signature, (0, 0), "/bound", "a", "b.example", "c")
+    later(server, PAUSE)
+    tells("a new key by a kid of the other", accepted, (0, 1), "/bound", "a", "b.example", "c")
+    tells("that key in the name of the other", other_issuer, (0, 0), "/bound", "a", "a.example", "c")
+    tells("the other's key of that kid", accepted, (0, 0), "/bound", "a", "a.example")
+    tells("neither's key of that kid", other_signature, (0, 0), "/bound", "a", "a.example", "h")
+    # one of them is down
+    server.others.answer = close
+    later(server, PAUSE)
+    tells("a kid of none, and a fetch that fails", (503, "NoKey"), (1, 1), "/bound", "c", "a.example")
+    tells("a token of the other", accepted, (0, 0), "/bound", "a", "a.example")
+    tells("an expired one of the other", (401, "ExpiredSignature"), (0, 0), "/bound", "a", "a.example", exp=NOW - 5)
+    server.others.answer = whole(keys("b"))
+    later(server, PAUSE)
+    tells("a kid of none, and a fetch that succeeds", no_key, (1, 1), "/bound", "c", "a.example")
+    tells("a key that was removed", other_signature, (0, 0), "/bound", "a", "b.example", "c")
+
+
+def protocols(server):
+    """A set that is too long ends no worker, by whichever protocol it comes, and the last good set decides."""
+    many = keys("b") + [oct_key(f"{n}", b"x" * 80) for n in range(10000)]
+    for path, answer in (("/of_memcached", memcached), ("/of_grpc", http2)):
+        server.keys.answer = answer(many)
+        asks(server, f"{path}, a set of more than 1 MiB", {"a": 503}, 1, path)
+        server.keys.answer = answer(keys("a"))
+        later(server, 1)
+        asks(server, f"{path}, a set", {"a": 200, "a!": 401}, 1, path)
+        server.keys.answer = answer(many)
+        later(server, PAUSE)
+        asks(server, f"{path}, a set of more than 1 MiB after it", {"b": 503, "a": 200, "a!": 401}, 1, path)
 
 
 def places(server):
@@ -415,9 +553,6 @@ def places(server):
 def streams(port, headers, count):
     """Sends this many requests at once over one connection of HTTP/2 (RFC 9113), and returns how many have the status 200."""
 
-    def frame(kind, flags, stream, payload=b""):
-        return len(payload).to_bytes(3, "big") + bytes([kind, flags]) + stream.to_bytes(4, "big") + payload
-
     # literals without an index, of at most 126 bytes in the length's first byte (RFC 7541 sections 5.1 and 6.2.2)
     def text(value):
         size = len(value)
@@ -439,7 +574,7 @@ def streams(port, headers, count):
     return well
 
 
-def http2(server):
+def multiplexed(server):
     """The streams of one connection wait for one fetch, and the same URI of another server has other keys."""
     server.keys.answer = whole(keys("a"))
     later(server, PAUSE)
@@ -455,7 +590,7 @@ def http2(server):
     test("HTTP/2 and an unknown key", streams(server.http2, headers, 3) == 0)
 
 
-ALL = (rotation, faults, waiting, neutral, cuts, given_up, never, sources, places, http2)
+ALL = (rotation, faults, waiting, neutral, cuts, cut_often, crowded, given_up, never, sources, bound, protocols, places, multiplexed)
 
 
 def run(module):
@@ -527,7 +662,7 @@ class Rotation:
             with self.lock:
                 self.counts[kind, answer.status] = self.counts.get((kind, answer.status), 0) + 1
                 self.slowest[kind] = max(self.slowest.get(kind, 0), took)
-                if kind == "good" and answer.status == 401:
+                if kind == "good" and answer.status != 200:
                     self.last_refusal = max(self.last_refusal, time.monotonic() - since)
         connection.close()
 
@@ -545,7 +680,7 @@ class Rotation:
 
 
 def run_rotation(module, seconds, period=20, clients=6):
-    """nginx follows a server that rotates its keys, under load: no answer is 5xx, and no forged token is accepted."""
+    """nginx follows a server that rotates its keys, under load: no answer is 5xx, but 503 to a kid that could not be fetched, and no forged token is accepted."""
     with tempfile.TemporaryDirectory(prefix="nginx-jwt-") as work:
         served = KeyServer()
         server = Server(module, work, ROTATED.replace("{keys}", str(served.port)))
@@ -572,7 +707,7 @@ def run_rotation(module, seconds, period=20, clients=6):
     print(f"slowest: { {kind: round(it, 2) for kind, it in rotation.slowest.items()} }")
     print(f"memory of the workers, before and after: {memory} KiB")
     print(f"a token of the newest key was refused up to {rotation.last_refusal:.1f} s after it was published")
-    test("no 5xx", not any(status >= 500 for _, status in counts))
+    test("no 5xx", not any(status >= 500 for kind, status in counts if status != 503 or kind == "garbage"))
     test("no forged token", all(kind in ("good", "before") for kind, status in counts if status == 200))
     test("tokens are accepted", counts.get(("good", 200), 0) > 0.5 * sum(it for (kind, _), it in counts.items() if kind == "good"))
     test("a new key is taken", rotation.last_refusal < 15)
@@ -582,5 +717,5 @@ def run_valgrind(module):
     """The same under valgrind, which is slower, so that what depends on time is left out."""
     with servers(module) as server:
         with under_valgrind(server):
-            for part in (rotation, neutral, cuts, given_up, never, sources, places, http2):
+            for part in (rotation, neutral, cuts, cut_often, given_up, never, sources, bound, protocols, places, multiplexed):
                 part(server)
