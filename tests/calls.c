@@ -254,6 +254,10 @@ static void faults_of_options(void) {
         {"{\"iss\":[\"i\",null]}", "\"iss\" is not a list of strings"},
         {"{\"understood_crit\":{}}", "\"understood_crit\" is not a list of strings"},
         {"{\"required_spec_claims\":[[]]}", "\"required_spec_claims\" is not a list of strings"},
+        {"{\"strict\":true,\"aud\":[]}", "\"aud\" is empty in strict options"},
+        {"{\"strict\":true,\"iss\":[]}", "\"iss\" is empty in strict options"},
+        {"{\"strict\":true,\"required_spec_claims\":[\"jti\"]}",
+         "\"required_spec_claims\" has another claim than exp, nbf, aud, iss and sub in strict options"},
         {"{\"sub\":[\"s\"]}", "\"sub\" is not a string"},
         {"{\"leeway\":-1}", "\"leeway\" is not a whole number from 0 to 2^64 - 1"},
         {"{\"leeway\":1.5}", "\"leeway\" is not a whole number from 0 to 2^64 - 1"},
@@ -274,6 +278,76 @@ static void faults_of_options(void) {
     a.status = jwt_options_fault(BYTES("{\"algs\":1}"), a.room, 22, &a.len);
     is("a buffer too small for a fault", status_of(&a), JWT_NO_ROOM);
     is("the fault's length", a.len, 23);
+}
+
+/* ---- texts in options */
+
+static struct answer quoted_in(const void *bytes, size_t size, size_t room) {
+    struct answer a = fresh();
+    a.status = jwt_quote(bytes, size, a.room, room, &a.len);
+    return a;
+}
+
+/* the status with an audience that is written into the options by `form` */
+static long for_audience(const char *form, const char *audience, size_t len) {
+    char options[300];
+    snprintf(options, sizeof options, form, (int)len, audience);
+    return hmac(TOKEN, "secret", options, LAST + 1);
+}
+
+static void quoted(void) {
+    static const struct {
+        const char *text, *json;
+    } rows[] = {
+        {"", "\"\""},
+        {"web", "\"web\""},
+        {"\"", "\"\\\"\""},
+        {"\\", "\"\\\\\""},
+        {"a\"],\"leeway\":9,\"iss\":[\"b", "\"a\\\"],\\\"leeway\\\":9,\\\"iss\\\":[\\\"b\""},
+        {"\b\f\n\r\t", "\"\\b\\f\\n\\r\\t\""},
+        {"\x01\x1f\x7f/", "\"\\u0001\\u001f\x7f/\""},
+        {"\xc3\xa9\xe2\x80\xa8\xf0\x9f\x98\x80", "\"\xc3\xa9\xe2\x80\xa8\xf0\x9f\x98\x80\""},
+        {"\\u0041", "\"\\\\u0041\""},
+    };
+    for (size_t i = 0; i < sizeof rows / sizeof *rows; i++) {
+        size_t len = strlen(rows[i].json);
+        struct answer a = quoted_in(rows[i].text, strlen(rows[i].text), ROOM);
+        is(rows[i].json, gives(&a, rows[i].json), 1);
+        a = quoted_in(rows[i].text, strlen(rows[i].text), len);
+        is("a buffer that a string just fits", gives(&a, rows[i].json), 1);
+        a = quoted_in(rows[i].text, strlen(rows[i].text), len - 1);
+        is("a buffer too small for a string", status_of(&a) == JWT_NO_ROOM && a.len == len, 1);
+    }
+    struct answer a = quoted_in(NULL, 0, ROOM);
+    is("a text by a null pointer", gives(&a, "\"\""), 1);
+    static const char *const others[] = {"\xff", "a\x80", "\xc0\x80", "\xe2\x82", "\xed\xa0\x80", "\xf4\x90\x80\x80"};
+    for (size_t i = 0; i < sizeof others / sizeof *others; i++) {
+        a = quoted_in(others[i], strlen(others[i]), ROOM);
+        is("bytes that are not UTF-8", status_of(&a), JWT_UTF8);
+    }
+}
+
+/* each byte that is a text is read back, in the place of an option or a claim */
+static void quoted_texts_are_read_back(void) {
+    for (int byte = 0; byte < 256; byte++) {
+        uint8_t text[3] = {'a', (uint8_t)byte, 'b'}, room[16];
+        char json[64];
+        size_t len;
+        uint32_t type;
+        struct answer a = quoted_in(text, 3, ROOM);
+        is("the status of a byte", status_of(&a), byte < 128 ? JWT_OK : JWT_UTF8);
+        if (a.status != JWT_OK) continue;
+        int size = snprintf(json, sizeof json, "{\"m\":%.*s}", (int)a.len, (const char *)a.room);
+        uint32_t status = jwt_member((const uint8_t *)json, (size_t)size, BYTES("m"), &type, room, sizeof room, &len);
+        is("a byte that is read back", status == JWT_OK && type == JWT_STRING && len == 3 && memcmp(room, text, 3) == 0,
+           1);
+    }
+    static const char audience[] = "a\"],\"leeway\":999999999,\"iss\":[\"b";
+    struct answer a = quoted_in(audience, strlen(audience), ROOM);
+    is("an audience with options of its own",
+       for_audience("{\"algorithms\":[\"HS256\"],\"aud\":[\"%.*s\"]}", audience, strlen(audience)), JWT_OK);
+    is("the same as jwt_quote writes it",
+       for_audience("{\"algorithms\":[\"HS256\"],\"aud\":[%.*s]}", (const char *)a.room, a.len), JWT_EXPIRED_SIGNATURE);
 }
 
 static void kinds_of_tokens(void) {
@@ -847,6 +921,10 @@ static void keys_in_pem(void) {
         /* the first block counts */
         {"Subject: a key\n\n" P256_PEM "and so on", P256_JWK},
         {P256_PEM PKCS1_PEM, P256_JWK},
+        /* lines of any width, white space, and a byte order mark (RFC 7468 section 2) */
+        {PEM("PUBLIC KEY", P256_FIRST P256_LAST), P256_JWK},
+        {PEM("PUBLIC KEY", P256_FIRST " \r\n\t" P256_LAST), P256_JWK},
+        {"\xef\xbb\xbf" P256_PEM, P256_JWK},
         {PKCS1_PEM P256_PEM, RSA_JWK},
     };
     for (size_t i = 0; i < sizeof rows / sizeof *rows; i++) {
@@ -891,7 +969,7 @@ static void keys_in_pem_refused(void) {
          JWT_INVALID_KEY_FORMAT},
         {"a spare bit that is set", PEM("PUBLIC KEY", "MCowBQYDK2VwAyEAP/KbjxwdH3v1YC6s5VVabMvwdZqwm779emMwejCAgZt=\n"),
          JWT_INVALID_KEY_FORMAT},
-        {"one line", PEM("PUBLIC KEY", P256_FIRST P256_LAST), JWT_INVALID_KEY_FORMAT},
+        {"a character that base64 does not have", PEM("PUBLIC KEY", P256_FIRST "-\n" P256_LAST), JWT_INVALID_KEY_FORMAT},
         {"another label", PEM("PUBLIC KEYS", P256_FIRST "\n" P256_LAST), JWT_INVALID_KEY_FORMAT},
         {"no end", "-----BEGIN PUBLIC KEY-----\n" P256_FIRST "\n" P256_LAST, JWT_INVALID_KEY_FORMAT},
         {"a mark at a line before", "-----BEGIN \n" P256_PEM, JWT_INVALID_KEY_FORMAT},
@@ -1372,6 +1450,11 @@ static bool moments_by_a_set_given(struct answer *a) {
     return moments_given(a, jwt_moments_set, NAMED, SET, OPTIONS);
 }
 
+static bool string_given(struct answer *a) {
+    a->status = jwt_quote(BYTES("a\"b\nc"), a->room, ROOM, &a->len);
+    return gives(a, "\"a\\\"b\\nc\"");
+}
+
 /* base64 of a key in PEM, which is decoded before it is found */
 static bool checked_secret_given(struct answer *a) {
     a->status = jwt_check_secret(BYTES("LS0tLS1CRUdJTiA="));
@@ -1389,6 +1472,12 @@ static bool checked_set_given(struct answer *a) {
     a->status = jwt_check_set(BYTES(SET));
     a->len = 0;
     return a->status == JWT_BLANK_KEY;
+}
+
+static bool checked_member_given(struct answer *a) {
+    a->status = jwt_check_member(BYTES("{\"roles\":[\"user\",\"admin\"]}"), BYTES("roles"), BYTES("admin"));
+    a->len = 0;
+    return a->status == JWT_OK;
 }
 
 /* how often the call was out of memory, until no request was left to refuse; -1 for another status */
@@ -1422,6 +1511,7 @@ static void refused_memory(void) {
     is("two numbers out of memory", refused_in_turn(numbers_given) > 0, 1);
     is("a thumbprint out of memory", refused_in_turn(thumbprint_given) > 0, 1);
     is("a fault of options out of memory", refused_in_turn(fault_given) > 0, 1);
+    is("a string out of memory", refused_in_turn(string_given) > 0, 1);
     is("a key in PEM out of memory", refused_in_turn(key_given) > 0, 1);
     is("a private key out of memory", refused_in_turn(refusal_of_a_private_key_given) > 0, 1);
     is("a name out of memory", refused_in_turn(name_given) > 0, 1);
@@ -1433,6 +1523,7 @@ static void refused_memory(void) {
     is("a check of a secret out of memory", refused_in_turn(checked_secret_given) > 0, 1);
     is("a check of a key out of memory", refused_in_turn(checked_key_given) > 0, 1);
     is("a check of a set out of memory", refused_in_turn(checked_set_given) > 0, 1);
+    is("a check of a member out of memory", refused_in_turn(checked_member_given) > 0, 1);
     is("memory after all that was refused", mallinfo2().uordblks <= before + 4096, 1);
 }
 
@@ -1698,6 +1789,71 @@ static void times_of_issue(void) {
         is(rows[i].name, jwt_check_issued_at(rows[i].issued_at, rows[i].leeway, rows[i].now), rows[i].status);
 }
 
+static void checked_members(void) {
+    static const char object[] = "{\"roles\":[\"user\",\"admin\",7,[\"deep\"],{\"named\":1},\"a "
+                                 "b\",\"\",\"\\u00e9\\n\"],\"scope\":\"read write  all\","
+                                 "\"n\":7,\"o\":{\"admin\":\"admin\"},\"no\":null,\"ok\":true,\"e\":\"\",\"l\":[],\"\":"
+                                 "\"empty\",\"twice\":\"a\","
+                                 "\"twice\":\"b\",\"t\":\"x\\ty\\nz \\u0000\"}";
+    static const struct {
+        const char *json, *name, *text;
+        uint32_t status;
+    } rows[] = {
+        {object, "roles", "user", JWT_OK},
+        {object, "roles", "admin", JWT_OK},
+        {object, "roles", "a b", JWT_OK},
+        {object, "roles", "", JWT_OK},
+        {object, "roles", "\xc3\xa9\n", JWT_OK},
+        {object, "roles", "a", JWT_NO_MEMBER},
+        {object, "roles", "Admin", JWT_NO_MEMBER},
+        {object, "roles", "admi", JWT_NO_MEMBER},
+        {object, "roles", "admins", JWT_NO_MEMBER},
+        {object, "roles", " admin", JWT_NO_MEMBER},
+        {object, "roles", "\"admin\"", JWT_NO_MEMBER},
+        {object, "roles", "7", JWT_NO_MEMBER},
+        {object, "roles", "deep", JWT_NO_MEMBER},
+        {object, "roles", "named", JWT_NO_MEMBER},
+        {object, "roles", "\xc3\xa9", JWT_NO_MEMBER},
+        {object, "roles", "\xff", JWT_NO_MEMBER},
+        {object, "scope", "read", JWT_OK},
+        {object, "scope", "write", JWT_OK},
+        {object, "scope", "all", JWT_OK},
+        {object, "scope", "", JWT_NO_MEMBER},
+        {object, "scope", " ", JWT_NO_MEMBER},
+        {object, "scope", "rea", JWT_NO_MEMBER},
+        {object, "scope", "rite", JWT_NO_MEMBER},
+        {object, "scope", "READ", JWT_NO_MEMBER},
+        {object, "scope", "read write", JWT_NO_MEMBER},
+        {object, "n", "7", JWT_NO_MEMBER},
+        {object, "o", "admin", JWT_NO_MEMBER},
+        {object, "no", "null", JWT_NO_MEMBER},
+        {object, "ok", "true", JWT_NO_MEMBER},
+        {object, "e", "", JWT_NO_MEMBER},
+        {object, "l", "", JWT_NO_MEMBER},
+        {object, "", "empty", JWT_OK},
+        {object, "twice", "b", JWT_OK},
+        {object, "twice", "a", JWT_NO_MEMBER},
+        {object, "t", "x\ty\nz", JWT_OK},
+        {object, "t", "x", JWT_NO_MEMBER},
+        {object, "Roles", "admin", JWT_NO_MEMBER},
+        {object, "role", "admin", JWT_NO_MEMBER},
+        {object, "\xff", "admin", JWT_NO_MEMBER},
+        {"{}", "", "", JWT_NO_MEMBER},
+        {"{\"\\u0061\":[\"\\u0062\"]}", "a", "b", JWT_OK},
+        {"[\"a\"]", "a", "a", JWT_BAD_CLAIMS},
+        {"\"a\"", "a", "a", JWT_BAD_CLAIMS},
+        {"{\"a\":[\"a\"}", "a", "a", JWT_BAD_CLAIMS},
+        {"", "a", "a", JWT_BAD_CLAIMS},
+    };
+    for (size_t i = 0; i < sizeof rows / sizeof *rows; i++)
+        is(rows[i].text, jwt_check_member(BYTES(rows[i].json), BYTES(rows[i].name), BYTES(rows[i].text)),
+           rows[i].status);
+    is("a byte 0 of a text", jwt_check_member(BYTES(object), BYTES("t"), (const uint8_t *)"", 1), JWT_OK);
+    is("a byte 0 behind a text", jwt_check_member(BYTES(object), BYTES("roles"), (const uint8_t *)"user", 5),
+       JWT_NO_MEMBER);
+    is("no bytes by null pointers", jwt_check_member(BYTES("{\"\":[\"\"]}"), NULL, 0, NULL, 0), JWT_OK);
+}
+
 static void version(void) {
     struct answer a = fresh();
     a.status = jwt_version(a.room, ROOM, &a.len);
@@ -1707,11 +1863,20 @@ static void version(void) {
     is("the version in a buffer that is too small", status_of(&a) == JWT_NO_ROOM && a.len == strlen(JWT_VERSION), 1);
 }
 
+static void version_number(void) {
+    int first, second, third;
+    is("a version of three parts", sscanf(JWT_VERSION, "%d.%d.%d", &first, &second, &third), 3);
+    is("the version's number", JWT_VERSION_NUMBER, first * 65536 + second * 256 + third);
+}
+
 int main(void) {
+    version_number();
     accepted();
     rooms();
     options();
     faults_of_options();
+    quoted();
+    quoted_texts_are_read_back();
     kinds_of_tokens();
     kinds_of_claims();
     kinds_with_a_claim();
@@ -1735,6 +1900,7 @@ int main(void) {
     checked_sets();
     numbers();
     times_of_issue();
+    checked_members();
     version();
     nesting();
     failed_tests();

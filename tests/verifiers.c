@@ -14,6 +14,9 @@
 #define OKP(x) "{\"kty\":\"OKP\",\"crv\":\"Ed25519\",\"x\":\"" x "\"}"
 /* a token cannot name it in a set */
 #define OCT_UNNAMED "{\"kty\":\"oct\",\"k\":\"c2VjcmV0\"}"
+#define PEM                                                                                                            \
+    "-----BEGIN PUBLIC KEY-----\nMCowBQYDK2VwAyEAP/KbjxwdH3v1YC6s5VVabMvwdZqwm779emMwejCAgZs=\n"                       \
+    "-----END PUBLIC KEY-----\n"
 #define SET_OF(keys) "{\"keys\":[" keys "]}"
 #define HS256 "{\"algorithms\":[\"HS256\"]}"
 #define RS256 "{\"algorithms\":[\"RS256\",\"PS256\"]}"
@@ -131,6 +134,18 @@ static void made(void) {
         {OF_KEY, OCT(""), RS256, JWT_BLANK_KEY},
         {OF_SECRET, "", HS256, JWT_BLANK_KEY},
         {OF_SECRET, "", MIXED, JWT_BLANK_KEY},
+        /* secrets that are the text of a key of another kind, before blank ones */
+        {OF_SECRET, PEM, HS256, JWT_KEY_AS_SECRET},
+        {OF_SECRET, PEM, MIXED, JWT_KEY_AS_SECRET},
+        {OF_SECRET, ED_KEY, HS256, JWT_KEY_AS_SECRET},
+        {OF_SECRET, ALL_KEYS, HS256, JWT_KEY_AS_SECRET},
+        {OF_SECRET, "ssh-ed25519 AAAA", HS256, JWT_KEY_AS_SECRET},
+        {OF_SECRET, "LS0tLS1CRUdJTiA=", HS256, JWT_KEY_AS_SECRET},
+        {OF_SECRET, PEM, "[", JWT_BAD_OPTIONS},
+        {OF_KEY, OCT("c3NoLXJzYQ"), HS256, JWT_KEY_AS_SECRET},
+        {OF_KEY, OCT("LS0tLS1CRUdJTiA"), RS256, JWT_KEY_AS_SECRET},
+        {OF_SET, SET_OF(RSA_KEY "," OCT("c3NoLXJzYQ")), RS256, JWT_KEY_AS_SECRET},
+        {OF_SET, SET_OF(OCT("AAAA") "," OCT("c3NoLXJzYQ")), HS256, JWT_KEY_AS_SECRET},
         /* algorithms of several families, of which a token can have one alone, before keys that do not serve */
         {OF_SET, ALL_KEYS, MIXED, JWT_MIXED_FAMILIES},
         {OF_SET, ALL_KEYS, "{\"algorithms\":[\"ES384\",\"HS256\"]}", JWT_MIXED_FAMILIES},
@@ -170,13 +185,13 @@ static void made(void) {
         is("a verifier exactly if it is made", v.at != NULL, rows[i].status == JWT_OK);
         jwt_verifier_free(&v);
         is("freed", v.at == NULL, 1);
-        bool is_blank = rows[i].status == JWT_BLANK_KEY;
+        bool is_blank = rows[i].status == JWT_BLANK_KEY || rows[i].status == JWT_KEY_AS_SECRET;
         bool serves = strcmp(rows[i].options, HS256) == 0, is_mixed = strcmp(rows[i].options, MIXED) == 0;
         uint32_t others = is_mixed                                ? JWT_MIXED_FAMILIES
                           : serves || strstr(rows[i].keys, "RSA") ? JWT_OK
                                                                   : JWT_UNFIT_KEY;
-        is("blank keys that are allowed", make(rows[i].source, rows[i].keys, rows[i].options, 0, true, &v),
-           is_blank ? others : rows[i].status);
+        is("keys with which anyone can sign that are allowed",
+           make(rows[i].source, rows[i].keys, rows[i].options, 0, true, &v), is_blank ? others : rows[i].status);
         jwt_verifier_free(&v);
     }
 }
@@ -545,7 +560,25 @@ static void members(void) {
     is("what it needs", len == 7 && type == JWT_STRING, 1);
 }
 
+/* Verifies a token so many times, by a verifier or by the call that reads the set each time. Returns whether one of them is refused. */
+static int verify(bool is_prepared, const char *set, const char *options, const char *token, int count) {
+    struct jwt_verifier verifier = JWT_VERIFIER_NONE;
+    uint8_t room[ROOM];
+    size_t len;
+    uint64_t last;
+    uint32_t test, status = JWT_OK;
+    if (is_prepared)
+        status = jwt_verifier_set(BYTES(set), BYTES(options), 0, false, &verifier);
+    for (; status == JWT_OK && count > 0; count--)
+        status = is_prepared ? jwt_verifier_decode(&verifier, BYTES(token), 1700000000, room, ROOM, &len, &last, &test)
+                             : jwt_decode_set(BYTES(token), BYTES(set), BYTES(options), 1700000000, room, ROOM, &len);
+    jwt_verifier_free(&verifier);
+    return status != JWT_OK;
+}
+
 int main(int argc, char **argv) {
+    if (argc == 6) /* prepared|anew SET OPTIONS TOKEN COUNT, for tests/verified_once */
+        return verify(strcmp(argv[1], "prepared") == 0, argv[2], argv[3], argv[4], atoi(argv[5]));
     bool is_few = argc > 1 && strcmp(argv[1], "few") == 0;
     size_t step = is_few ? 400 : 23;
     if (is_few) rounds = 10;

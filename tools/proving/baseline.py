@@ -9,7 +9,6 @@ The program of rt ci can't be changed to ask for an older glibc: before 2.34 not
 """
 import base64
 import concurrent.futures
-import functools
 import os
 import re
 import shutil
@@ -32,15 +31,9 @@ def cpu_words():
     return ["--cpu", CPU] if "--cpu" in kit.help_of_check() else []
 
 
-@functools.cache
-def sums_of_compilers():
-    return [built.sum_of_file(path) for path in (kit.program("rattle"), f"{kit.folder()}/toolchain/bin/clang")]
-
-
 def key(crate):
     """Returns the sum of all that is compiled, and of what compiles it."""
-    libraries = [built.sum_of_file(f"{kit.folder()}/rlibs/{name}.rlib/format") for name in kit.libraries(crate)]
-    return key_of(kit.version(), sums_of_compilers(), libraries, built.sum_of_sources(crate), cpu_words())
+    return key_of(built.sum_of_means(crate), built.sum_of_file(f"{kit.folder()}/toolchain/bin/clang"), built.sum_of_sources(crate), cpu_words())
 
 
 def proved_earlier(crate, to, sum_of_all):
@@ -118,8 +111,5 @@ def build_program(crate, is_anew):
 def build(crates, is_anew):
     """Builds those of these proved crates that are the library for C or a program of a release. Returns whether all are built."""
     some = [(build_library, it) for it in crates if it.is_static] + [(build_program, it) for it in crates if it.name in PROGRAMS]
-    if some and not checks.lacking_in_kit():
-        # once, before several threads ask
-        sums_of_compilers()
     with concurrent.futures.ThreadPoolExecutor(kit.checks_at_once()) as pool:
         return all(list(pool.map(lambda it: it[0](it[1], is_anew), some)))

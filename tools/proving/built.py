@@ -18,6 +18,15 @@ def sum_of_sources(crate):
     return hashlib.sha256(repr(parts).encode()).hexdigest()
 
 
+def sum_of_means(crate):
+    """Returns a sum of what makes something of the crate's sources: the kit's prover and libraries, each of which says its own sum, and
+    the programs of this folder."""
+    own = os.path.dirname(os.path.realpath(__file__))
+    programs = [(name, sum_of_file(f"{own}/{name}")) for name in sorted(os.listdir(own)) if os.path.isfile(f"{own}/{name}")]
+    libraries = [sum_of_file(f"{kit.folder()}/rlibs/{name}.rlib/format") for name in kit.libraries(crate)]
+    return key_of(kit.version(), sum_of_file(kit.program("rattle")), libraries, programs)
+
+
 def sum_of(crate, files):
     """Returns a sum of the crate's sources and of what was built from them."""
     return hashlib.sha256(repr((sum_of_sources(crate), [sum_of_file(path) for path in files])).encode()).hexdigest()

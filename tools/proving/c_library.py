@@ -74,10 +74,11 @@ def make(prove):
         tell("proving and building the library for C: half an hour on four cores, or minutes if rt kept the proofs")
         if not prove():
             return False
-    sources = built.sum_of_sources(crate)
     if not link(library, compiler):
         return False
-    if built.sum_of_sources(crate) == sources:
-        static, shared, others = names()
-        built.note(crate, static, shared, *others)
+    if not built.is_built(crate, library):
+        tell("the sources were edited while the library for C was built: it is not of them; build it again")
+        return False
+    static, shared, others = names()
+    built.note(crate, static, shared, *others)
     return True

@@ -2,8 +2,7 @@
 
 A file wrong-bodies/PATH.edits of a crate has the edits of its module src/PATH.rt. Each begins with a line '# TITLE', and has
 pairs of lines 'old: TEXT' and 'new: TEXT'. A line 'twin: TEXT' after a 'new:' line is a right body in the same place, in the
-wrong one's form. A line 'file: src/other.rt' stands before pairs that change another file. The edits after a line '## More' are
-tried before a release alone.
+wrong one's form. A line 'file: src/other.rt' stands before pairs that change another file.
 """
 import os
 import re
@@ -16,8 +15,6 @@ ITEM = re.compile(
 )
 # A struct or an enum, in whose module rattle names its methods.
 TYPE = re.compile(r"(?m)^(?:pub(?:\(\w+\))? )?(?:struct|enum|union) (\w+)")
-# The line below which a file has the edits that are tried before a release alone.
-MORE = "## More"
 
 
 def text_of(file):
@@ -151,24 +148,21 @@ def slug(title):
 
 
 class Written:
-    """An edit as it is written: its module, its title, its lines, and whether it stands after the line '## More'."""
+    """An edit as it is written: its module, its title, and its lines."""
 
-    def __init__(self, module, title, is_more):
-        self.module, self.title, self.is_more, self.lines = module, title, is_more, []
+    def __init__(self, module, title):
+        self.module, self.title, self.lines = module, title, []
         self.name = f"{module}/{slug(title)}"
         self.said = "" if slug(title) else "it has no title"
 
 
 def written_in(module, text):
     """Returns the edits of a text, in its order. One whose title stands above another one says so."""
-    found, own, is_more, names = [], None, False, set()
+    found, own, names = [], None, set()
     for line in text.split("\n"):
-        if line.rstrip() == MORE:
-            own, is_more = None, True
-            continue
         begins = re.match(r"#(?: |$)", line)
         if begins or own is None and line.strip():
-            own = Written(module, line[1:].strip() if begins else "", is_more)
+            own = Written(module, line[1:].strip() if begins else "")
             found.append(own)
             own.said = own.said or "its title stands above another edit of the file too" * (own.name in names)
             names.add(own.name)
@@ -188,7 +182,7 @@ class Edit:
     """A wrong body: its texts, the function that it lies in, and what was found of it."""
 
     def __init__(self, crate, written):
-        self.crate, self.name, self.title, self.is_more = crate, written.name, written.title, written.is_more
+        self.crate, self.name, self.title = crate, written.name, written.title
         self.text = "\n".join([f"# {written.title}", *written.lines])
         self.pairs, self.function = [], None
         self.is_refused, self.misfit, self.has_twin = False, "", False
@@ -258,8 +252,8 @@ class Edit:
         return "\n".join(lines) + "\n"
 
 
-def edits_of(crate, with_more):
-    """Returns the edits of a crate's folder wrong-bodies, and those after a line '## More' if that is asked for."""
-    edits = [Edit(crate, written) for written in written_below(crate.folder) if with_more or not written.is_more]
+def edits_of(crate):
+    """Returns the edits of a crate's folder wrong-bodies."""
+    edits = [Edit(crate, written) for written in written_below(crate.folder)]
     at_home(crate, [edit.function for edit in edits if edit.function])
     return edits

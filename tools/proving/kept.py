@@ -3,8 +3,10 @@
 Each has a key, the sum of all that it rests on. They lie below $XDG_CACHE_HOME, or else ~/.cache, in a folder that this user alone may
 write: what another could have put there is not taken.
 
-Refusals of wrong bodies rest on prover, sources of the crate and of those below, edit, and the programs that try it. They are kept only
-if these are the same when the check ends. No failure is kept, and no run of a program or of a test; rt keeps proofs, if the kit's can.
+Three things are kept: which wrong bodies were refused (wrong_bodies.py); the compiled code of the library for C and of the programs of a
+release, with the prover's last line (baseline.py); and that line for each crate (built.py). The first two rest on the sources of the crate
+and of those below, the kit's prover and libraries, the programs of this folder, and the edit or the compiler. A refusal is kept only if these
+are the same when the check ends. No failure is kept, and no run of a program or of a test; rt keeps proofs, if the kit's can.
 """
 import contextlib
 import hashlib

@@ -111,7 +111,7 @@ def test(names, is_anew):
     and wrong bodies are refused, and how many are not."""
     with tempfile.TemporaryDirectory(prefix="prove-") as scratch:
         copies, is_plain = copy_crates([crates()[name] for name in names], f"{scratch}/copy"), checks.is_plain()
-        edits = wrong_bodies.found_edits([copies[name] for name in names], with_more=False)
+        edits = wrong_bodies.found_edits([copies[name] for name in names])
         total = sum(map(len, edits.values()))
         if is_plain:
             wrong_bodies.write_must_fail(edits)

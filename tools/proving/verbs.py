@@ -65,7 +65,6 @@ def parser(description):
     added = verb("test", test, "proves crates, all if none is named, as build does, and has the prover refuse their wrong bodies")
     added.add_argument("crates", metavar="CRATE", nargs="*", type=crate_name)
     added = verb("wrong-bodies", wrong_bodies.try_crates, "has the prover refuse wrong bodies, over the libraries that rt lib builds")
-    added.add_argument("--more", action="store_true", help="try those too that are kept for a release")
     added.add_argument("--twins", action="store_true", help="prove the right bodies beside them, and try no wrong body")
     added.add_argument("crates", metavar="CRATE", nargs="*", type=crate_name)
     added = verb("costs", costs.show_costs, "shows which functions of a crate take longest to prove, over the libraries that rt lib builds", False)

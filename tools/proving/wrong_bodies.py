@@ -29,8 +29,6 @@ from proving.planted import Planted, Report
 MISFIT = "its answer no longer fits, while it fits the twin"
 NO_TWIN = "only an answer no longer fits, as it might under a right body"
 REFUSED = "refused, as it must be"
-# The modules that decide what is refused.
-PROGRAMS = ("wrong_bodies", "planted", "edits", "checks", "crates")
 
 
 def try_edits(crate, edits):
@@ -62,9 +60,7 @@ class Earlier:
 
     def sum_now(self):
         """Returns the sum of all that a try of an edit reads, but for the edit."""
-        own = os.path.dirname(os.path.realpath(__file__))
-        programs = [built.sum_of_file(f"{own}/{name}.py") for name in PROGRAMS]
-        return key_of(kit.version(), built.sum_of_file(kit.program("rattle")), built.sum_of_sources(self.crate), programs)
+        return key_of(built.sum_of_means(self.crate), built.sum_of_sources(self.crate))
 
     def place(self, edit):
         """Returns where the edit's refusals are kept, and the key of the one that stands for it as it is."""
@@ -153,9 +149,9 @@ def try_plainly(edits):
     return len(re.findall(rf"(?m)^rt: must-fail \S+: {REFUSED}", ran.stdout))
 
 
-def found_edits(named, with_more):
+def found_edits(named):
     """Returns the edits of these crates, by their crates; those without edits are left out."""
-    return {crate: found for crate in named if (found := edits_of(crate, with_more))}
+    return {crate: found for crate in named if (found := edits_of(crate))}
 
 
 def refuse(edits, is_anew):
@@ -180,11 +176,11 @@ def build_below(named):
     return all(kit.rt("lib", cwd=crate.folder, stdin=subprocess.DEVNULL).returncode == 0 for crate in below)
 
 
-def try_in_copy(names, with_more):
+def try_in_copy(names):
     """Has rt must-fail try the edits of these crates, on a copy. Returns how many are refused."""
     with tempfile.TemporaryDirectory(prefix="wrong-bodies-") as scratch:
         copies = copy_crates([crates()[name] for name in names], f"{scratch}/copy")
-        return try_plainly(found_edits([copies[name] for name in names], with_more))
+        return try_plainly(found_edits([copies[name] for name in names]))
 
 
 def try_in_place(edits, given):
@@ -192,14 +188,14 @@ def try_in_place(edits, given):
     if not build_below(list(edits)):
         return 0
     if not checks.are_built(edits):
-        return try_in_copy([crate.name for crate in edits], given.more)
+        return try_in_copy([crate.name for crate in edits])
     return refuse_over(edits, given.anew)
 
 
 def try_crates(given):
     """Tries the edits of the crates that the arguments name, or their twins. Returns whether all went as it must."""
     every = crates()
-    edits = found_edits([every[name] for name in given.crates or every], given.more)
+    edits = found_edits([every[name] for name in given.crates or every])
     if not edits:
         print("no wrong bodies")
         return True
@@ -209,6 +205,6 @@ def try_crates(given):
         print(f"twins: {lost} not proved")
         return not lost
     total = sum(map(len, edits.values()))
-    refused = try_in_copy([crate.name for crate in edits], given.more) if checks.is_plain() else try_in_place(edits, given)
+    refused = try_in_copy([crate.name for crate in edits]) if checks.is_plain() else try_in_place(edits, given)
     print(f"wrong bodies: {refused} refused, {total - refused} not")
     return refused == total
