@@ -12,3 +12,4 @@ pub mod BySignature
 pub mod Issued
 pub use Rattle.jwt_base.specs.Kind
 pub mod Secrets
+pub mod Signatures

@@ -13,5 +13,6 @@ pub mod membership;
 pub mod moments;
 pub mod options;
 pub mod secrets;
+pub mod signatures;
 pub mod status;
 pub mod status_table;
