@@ -12,4 +12,5 @@ pub mod BySignature
 pub mod Issued
 pub use Rattle.jwt_base.specs.Kind
 pub mod Secrets
+pub mod Serving
 pub mod Signatures

@@ -13,6 +13,7 @@ pub mod membership;
 pub mod moments;
 pub mod options;
 pub mod secrets;
+pub mod serving;
 pub mod signatures;
 pub mod status;
 pub mod status_table;
