@@ -1,5 +1,5 @@
 -- The results of the calls for C that issue tokens and thumbprints.
-use Rattle.std.specs.Prelude.{◌≡◌, ◌==◌, ℕ, List, Option, Some, None, Result, Ok, Err, if◌then◌else◌}
+use Rattle.std.specs.Prelude.{◌≡◌, ◌≢◌, ◌⊎◌, ◌==◌, ℕ, List, Option, Some, None, Result, Ok, Err, if◌then◌else◌}
 use Rattle.serde_json.specs.Data.{Data}
 use Rattle.jwt_base.specs.Base64Url.{IsPart}
 use Rattle.jwt_base.specs.JsonText.{ReadsText}
@@ -11,6 +11,8 @@ use Rattle.jwt_header.specs.declared.header.Header.{Header}
 use Rattle.jwt_crypto.specs.Hmac.{hash_bytes}
 use Rattle.jwt_crypto.specs.HmacKeys.{hash_named}
 use Rattle.jwt_keys.specs.Jwk.{ReadsKey}
+use Rattle.jwt_keys.specs.Key.{Key, Plain, key_family}
+use Rattle.jwt_keys.specs.KeyOfJwk.{IsKeyOf}
 use Rattle.jwt_keys.specs.Thumbprint.{digested, thumb_text}
 use Rattle.jwt_keys.specs.declared.jwk.Jwk.{Jwk}
 use Rattle.jwt_params.specs.declared.thumbprints.ThumbprintHash.{ThumbprintHash}
@@ -20,6 +22,8 @@ use Rattle.jsonwebtoken.specs.Order.{Passes, FailsFirst}
 use Rattle.jsonwebtoken.specs.Issue.{Issue, IsIssued, Written, encode_order, issue_tests}
 use Rattle.jwt_c_calls.specs.Calls.{Answer, AnswersBy, Refuses, MisreadsOne, MisreadsTwo}
 use Rattle.jwt_c_calls.specs.Inputs.{ReadsClaimsText}
+use Rattle.jwt_c_calls.specs.Keys.{StandsForNoKey}
+use Rattle.jwt_c_calls.specs.declared.inputs.Input.{Input}
 use Rattle.jwt_c_calls.specs.declared.inputs.Input.TheVariants as input
 
 -- ---- tokens
@@ -44,6 +48,39 @@ AnswersEncode header claims secret = AnswersBy {E = Header × Data}
     (λ e. ReadsText ReadsHeader header e.0 × ReadsClaimsText claims e.1)
     (MisreadsTwo input.Header (ReadsText ReadsHeader header) input.Claims (ReadsClaimsText claims))
     (λ e. IsTokenOf secret e.0 e.1) (λ e. IsNotIssued secret e.0 e.1)
+
+-- the key is a secret (RFC 7518 section 6.4), and the token is issued with it
+abbrev pub IsTokenBy : Key → Header → Data → List ℕ → Type 0
+IsTokenBy key header value token =
+    (secret : List ℕ) × (key ≡ Plain Hmac secret) × IsTokenOf secret header value token
+
+-- a key of another family is refused; with a secret the token is not issued
+abbrev pub IsNotIssuedBy : Key → Header → Data → Kind → Type 0
+IsNotIssuedBy key header value k = ((k ≡ kind.InvalidKeyFormat) × (key_family key ≢ Hmac))
+    ⊎ ((secret : List ℕ) × (key ≡ Plain Hmac secret) × IsNotIssued secret header value k)
+
+-- the same with the key that a JSON Web Key stands for (RFC 7518 section 6); one that stands for no key is refused
+abbrev pub IsTokenByJwk : Jwk → Header → Data → List ℕ → Type 0
+IsTokenByJwk jwk header value token =
+    (key : Key) × IsKeyOf jwk.algorithm key × IsTokenBy key header value token
+
+abbrev pub IsNotIssuedByJwk : Jwk → Header → Data → Kind → Type 0
+IsNotIssuedByJwk jwk header value k = StandsForNoKey jwk k
+    ⊎ ((key : Key) × IsKeyOf jwk.algorithm key × IsNotIssuedBy key header value k)
+
+-- one of the three texts is misread, and those before it are read
+abbrev pub MisreadsOneOf : (header claims key : List ℕ) → Input → Type 0
+MisreadsOneOf header claims key i =
+    MisreadsTwo input.Header (ReadsText ReadsHeader header) input.Claims (ReadsClaimsText claims) i
+    ⊎ (((e : Header × Data) × (ReadsText ReadsHeader header e.0 × ReadsClaimsText claims e.1))
+    × MisreadsOne input.Key (ReadsText ReadsKey key) i)
+
+-- the texts are read in this order
+abbrev pub AnswersEncodeKey : (header claims key : List ℕ) → Answer → Type 0
+AnswersEncodeKey header claims key = AnswersBy {E = (Header × Data) × Jwk}
+    (λ e. (ReadsText ReadsHeader header e.0.0 × ReadsClaimsText claims e.0.1) × ReadsText ReadsKey key e.1)
+    (MisreadsOneOf header claims key)
+    (λ e. IsTokenByJwk e.1 e.0.0 e.0.1) (λ e. IsNotIssuedByJwk e.1 e.0.0 e.0.1)
 
 -- ---- thumbprints
 
@@ -70,8 +107,8 @@ abbrev pub AnswersThumbprint : Option ThumbprintHash → List ℕ → Answer →
 AnswersThumbprint None text a = a ≡ Refuses kind.InvalidAlgorithmName
 AnswersThumbprint (Some hash) text a = AnswersHashed hash text a
 
--- for private clauses: the token, or the kind with which it is not issued, unless memory ran out
-abbrev pub AnswersIssue : List ℕ → Header → Data → Answer → Type 0
-AnswersIssue secret header value = AnswersBy {E = Header × Data}
-    (λ e. e ≡ (header, value)) (λ i. ⊥)
-    (λ e. IsTokenOf secret e.0 e.1) (λ e. IsNotIssued secret e.0 e.1)
+-- for a private clause: the result for a header and claims that were read
+abbrev pub AnswersEncodeText : (key : List ℕ) → Header → Data → Answer → Type 0
+AnswersEncodeText key header value = AnswersBy
+    (ReadsText ReadsKey key) (MisreadsOne input.Key (ReadsText ReadsKey key))
+    (λ jwk. IsTokenByJwk jwk header value) (λ jwk. IsNotIssuedByJwk jwk header value)

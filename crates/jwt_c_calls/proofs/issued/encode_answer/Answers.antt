@@ -1,24 +1,12 @@
-use Rattle.std.proofs.Common.{ℕ, List, Err, inl, inr, refl}
-use Rattle.std.proofs.lemmas.Result.{IfOk-weaker, IfErr-weaker, err_from_is_err_and}
-use Rattle.serde_json.specs.Data.{Data}
+use Rattle.std.proofs.Common.{Err, ⊎_elim, inl, inr, refl}
+use Rattle.std.proofs.lemmas.Result.{err_from_is_err_and}
 use Rattle.serde_json.specs.View.{view}
-use Rattle.jwt_header.specs.declared.header.Header.{Header}
 use Rattle.jwt_base.specs.JsonText.{ReadsText}
 use Rattle.jwt_header.specs.Header.{ReadsHeader}
-use Rattle.jwt_c_calls.specs.Calls.{Answer, Gives, Refuses, Misreads, answer_of}
 use Rattle.jwt_c_calls.specs.Inputs.{ReadsClaimsText}
-use Rattle.jwt_c_calls.specs.Issued.{AnswersEncode, AnswersIssue}
 use Rattle.jwt_c_calls.specs.declared.inputs.Input.TheVariants as input
 use Rattle.jwt_c_calls.proofs.Answered.{misread, read_ok}
 use Rattle.jwt_c_calls.proofs.issued.encode_answer.Goals as goal
-
--- the result for a header and claims is the result for the texts that are read as them
-read_first : (header claims secret : List ℕ) (h : Header) (d : Data) → ReadsText ReadsHeader header h → ReadsClaimsText claims d
-    → (a : Answer) → AnswersIssue secret h d a → AnswersEncode header claims secret a
-read_first header claims secret h d r s (Gives b) x = (x.0, rw x.1 (r, s), x.2)
-read_first header claims secret h d r s (Refuses k) (inl m) = inl m
-read_first header claims secret h d r s (Refuses k) (inr f) = inr (f.0, rw f.1 (r, s), f.2)
-read_first header claims secret h d r s (Misreads i) x = absurd x
 
 pub returns-in_err-claims-clause-err : goal.returns-in_err-claims-clause-err
 returns-in_err-claims-clause-err c =
@@ -28,20 +16,20 @@ returns-in_err-claims-clause-err c =
     rw (p.1, p.2) (misread _ _ _ _ input.Claims _ (λ none. inr ((_, read), (refl, none))) c.read_claims.result
     (Err _) c.in_err-claims.ensures c.read_claims.ensures.err)
 
+pub returns-in_err-token-clause-err : goal.returns-in_err-token-clause-err
+returns-in_err-token-clause-err c =
+    let header = read_ok (ReadsText ReadsHeader c.args.header.now) input.Header c.from_slice.result _
+    c.in_ok-header.ensures c.from_slice.ensures.ok in
+    let claims = read_ok (λ v. ReadsClaimsText c.args.claims.now (view v)) input.Claims c.read_claims.result _
+    c.in_ok-claims.ensures c.read_claims.ensures.ok in
+    let p = err_from_is_err_and c.from_residual-in_err-token.result c.from_residual-in_err-token.ensures.1 in
+    rw (p.1, p.2) (⊎_elim (λ m. inl m)
+    (λ f. inr ((c.in_ok-header.header, view c.in_ok-claims.claims), (header, claims), f)) c.in_err-token.ensures.err)
+
 pub returns-clause-ok : goal.returns-clause-ok
 returns-clause-ok c =
     let header = read_ok (ReadsText ReadsHeader c.args.header.now) input.Header c.from_slice.result _
     c.in_ok-header.ensures c.from_slice.ensures.ok in
     let claims = read_ok (λ v. ReadsClaimsText c.args.claims.now (view v)) input.Claims c.read_claims.result _
     c.in_ok-claims.ensures c.read_claims.ensures.ok in
-    IfOk-weaker c.issue-token.result _ _ (λ b x. read_first c.args.header.now c.args.claims.now c.args.secret.now _ _ header
-    claims (Gives b.items) x) c.issue-token.ensures.ok
-
-pub returns-clause-err : goal.returns-clause-err
-returns-clause-err c =
-    let header = read_ok (ReadsText ReadsHeader c.args.header.now) input.Header c.from_slice.result _
-    c.in_ok-header.ensures c.from_slice.ensures.ok in
-    let claims = read_ok (λ v. ReadsClaimsText c.args.claims.now (view v)) input.Claims c.read_claims.result _
-    c.in_ok-claims.ensures c.read_claims.ensures.ok in
-    IfErr-weaker c.issue-token.result _ _ (λ r x. read_first c.args.header.now c.args.claims.now c.args.secret.now _ _ header
-    claims (answer_of r) x) c.issue-token.ensures.err
+    ((c.in_ok-header.header, view c.in_ok-claims.claims), (header, claims), c.in_ok-token.ensures.ok)
