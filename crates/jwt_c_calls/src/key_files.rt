@@ -1,11 +1,11 @@
-//! The result of the call for C that reads a key in PEM.
+//! The results of the calls for C that read a key in PEM, and that of a certificate.
 
 ghost use Rattle.std.specs.Prelude.{IfOk, IfErr};
 ghost use Rattle.jwt_c_calls.specs.Calls.{Gives, answer_of};
-ghost use Rattle.jwt_c_calls.specs.KeyFiles.{AnswersPem};
+ghost use Rattle.jwt_c_calls.specs.KeyFiles.{AnswersCertificate, AnswersPem};
 
 use crate::inputs::CallRefusal;
-use jwt_key_files::jwk::jwk_from_pem;
+use jwt_key_files::jwk::{jwk_from_pem, unverified_jwk_from_certificate_pem};
 use std::alloc::Global;
 use std::result::Result;
 
@@ -19,4 +19,17 @@ pub fn pem_answer(alloc: Global, pem: &[u8]) -> Result<Vec<u8>, CallRefusal>
     // dropped at one place: each exit would have to be proved to drop every field
     drop(jwk);
     Ok(text?)
+}
+
+/// Returns the JSON Web Key of the public key of an X.509 certificate in PEM, as its text. NOTHING
+/// of the certificate IS VERIFIED.
+pub fn certificate_answer(alloc: Global, pem: &[u8]) -> Result<Vec<u8>, CallRefusal>
+    ensures ok { IfOk result (λ b. AnswersCertificate pem.now (Gives b.items)) }
+    ensures err { IfErr result (λ r. AnswersCertificate pem.now (answer_of r)) }
+{
+    let jwk = unverified_jwk_from_certificate_pem(alloc, pem)?;
+    let text = jwk.to_text(alloc);
+    drop(jwk);
+    let text = text?;
+    Ok(text)
 }
