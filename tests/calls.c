@@ -2,6 +2,7 @@
    Python's hmac; those of keys.h are from rows; the others are made here and accepted by a verdict. */
 #include "jwtproved.h"
 #include "keys.h"
+#include "signatures.h"
 #include <malloc.h>
 #include <pthread.h>
 #include <stdio.h>
@@ -502,6 +503,7 @@ static void headers(void) {
 
 /* ---- key sets, tokens that are issued, thumbprints */
 
+#define OCT(k) "{\"kty\":\"oct\",\"k\":\"" k "\"}"
 #define NAMED                                                                                                          \
     "eyJhbGciOiJIUzI1NiIsImtpZCI6ImIifQ.eyJjb21wYW55IjoiQUNNRSIsImV4cCI6MjUzMjUyNDg5MSwic3ViIjoiYkBiLmNvbSJ9."         \
     "No2e1VgF_2zfuwOSKo3xoFLYB4-jt8vGCbgaWo9pcgc"
@@ -980,6 +982,302 @@ static void keys_in_pem_refused(void) {
         struct answer a = key_in(rows[i].pem, ROOM);
         is(rows[i].name, status_of(&a), rows[i].status);
     }
+}
+
+/* ---- one signature of a message (RFC 7515 section 5.2, step 8) */
+
+/* the message that is signed of a token, its signature, and the number of the header's algorithm */
+struct signed_part {
+    const char *token;
+    uint32_t algorithm;
+    size_t message_len, len;
+    uint8_t bytes[1024];
+};
+
+static struct signed_part part_of(const char *token) {
+    struct signed_part s = {.token = token};
+    is("a signed part", jwt_signed_part(BYTES(token), &s.algorithm, &s.message_len, s.bytes, sizeof s.bytes, &s.len),
+       JWT_OK);
+    return s;
+}
+
+static uint32_t verified(const struct signed_part *s, const char *key, uint32_t algorithm) {
+    return jwt_verify_signature_key((const uint8_t *)s->token, s->message_len, s->bytes, s->len, BYTES(key), algorithm);
+}
+
+static uint32_t verified_by_secret(const struct signed_part *s, const char *secret, uint32_t algorithm) {
+    return jwt_verify_signature_hmac((const uint8_t *)s->token, s->message_len, s->bytes, s->len, BYTES(secret),
+                                     algorithm);
+}
+
+#define BIT(algorithm) (1u << (algorithm))
+#define HMAC_BITS (BIT(JWT_HS256) | BIT(JWT_HS384) | BIT(JWT_HS512))
+#define RSA_BITS (BIT(JWT_RS256) | BIT(JWT_RS384) | BIT(JWT_RS512) | BIT(JWT_PS256) | BIT(JWT_PS384) | BIT(JWT_PS512))
+/* the secret of HMAC_KEY */
+#define HMAC_SECRET "a secret of thirty-two characters"
+
+static const struct {
+    const char *name, *token, *key;
+    uint32_t algorithm, bits;
+} signatures[] = {
+    {"RFC 7515 A.1", A1_TOKEN, A1_KEY, JWT_HS256, HMAC_BITS},
+    {"RFC 7515 A.2", A2_TOKEN, A2_KEY, JWT_RS256, RSA_BITS},
+    {"RFC 7515 A.3", A3_TOKEN, A3_KEY, JWT_ES256, BIT(JWT_ES256)},
+    {"RFC 8037 A.4", A4_TOKEN, A4_KEY, JWT_EDDSA, BIT(JWT_EDDSA)},
+    {"HS256", BY_HS256, HMAC_KEY, JWT_HS256, HMAC_BITS},
+    {"HS384", BY_HS384, HMAC_KEY, JWT_HS384, HMAC_BITS},
+    {"HS512", BY_HS512, HMAC_KEY, JWT_HS512, HMAC_BITS},
+    {"RS256", BY_RS256, RSA_KEY, JWT_RS256, RSA_BITS},
+    {"RS384", BY_RS384, RSA_KEY, JWT_RS384, RSA_BITS},
+    {"RS512", BY_RS512, RSA_KEY, JWT_RS512, RSA_BITS},
+    {"PS256", BY_PS256, RSA_KEY, JWT_PS256, RSA_BITS},
+    {"PS384", BY_PS384, RSA_KEY, JWT_PS384, RSA_BITS},
+    {"PS512", BY_PS512, RSA_KEY, JWT_PS512, RSA_BITS},
+    {"ES256", BY_ES256, P256_KEY, JWT_ES256, BIT(JWT_ES256)},
+    {"ES384", BY_ES384, P384_KEY, JWT_ES384, BIT(JWT_ES384)},
+    {"EdDSA", BY_EDDSA, ED_KEY, JWT_EDDSA, BIT(JWT_EDDSA)},
+};
+#define SIGNATURES (sizeof signatures / sizeof *signatures)
+
+static void verified_signatures(void) {
+    for (size_t i = 0; i < SIGNATURES; i++) {
+        const char *key = signatures[i].key;
+        struct signed_part s = part_of(signatures[i].token), other = s;
+        uint32_t own = signatures[i].algorithm, bits = 99;
+        is(signatures[i].name, verified(&s, key, own), JWT_OK);
+        is("the algorithms of a key", jwt_key_algorithms(BYTES(key), &bits), JWT_OK);
+        is("their bits", bits, signatures[i].bits);
+        /* just the algorithms that the key serves have a verifier */
+        for (uint32_t number = 1; number <= 12; number++)
+            if (number != own)
+                is("by another algorithm", verified(&s, key, number),
+                   bits & BIT(number) ? JWT_INVALID_SIGNATURE : JWT_INVALID_KEY_FORMAT);
+        for (size_t place = 0; place < s.len; place += 13) {
+            other.bytes[place] ^= 1;
+            is("a bit of a signature flipped", verified(&other, key, own), JWT_INVALID_SIGNATURE);
+            other.bytes[place] ^= 1;
+        }
+        other.len--;
+        is("a byte of a signature missing", verified(&other, key, own), JWT_INVALID_SIGNATURE);
+        other.len += 2;
+        is("a byte behind a signature", verified(&other, key, own), JWT_INVALID_SIGNATURE);
+        other = s, other.message_len--;
+        is("a byte of a message missing", verified(&other, key, own), JWT_INVALID_SIGNATURE);
+        is("neither message nor signature", jwt_verify_signature_key(NULL, 0, NULL, 0, BYTES(key), own),
+           JWT_INVALID_SIGNATURE);
+        static const uint32_t others[] = {0, 13, 32, UINT32_MAX};
+        for (size_t k = 0; k < 4; k++) {
+            is("a number of no algorithm", verified(&s, key, others[k]), JWT_INVALID_ALGORITHM_NAME);
+            is("that before the key", verified(&s, "", others[k]), JWT_INVALID_ALGORITHM_NAME);
+            is("that with a secret", verified_by_secret(&s, "secret", others[k]), JWT_INVALID_ALGORITHM_NAME);
+        }
+    }
+}
+
+static void verified_by_secrets(void) {
+    for (size_t i = 0; i < SIGNATURES; i++) {
+        struct signed_part s = part_of(signatures[i].token);
+        uint32_t own = signatures[i].algorithm;
+        bool is_own = strcmp(signatures[i].key, HMAC_KEY) == 0;
+        is(signatures[i].name, verified_by_secret(&s, HMAC_SECRET, own),
+           is_own             ? JWT_OK
+           : own <= JWT_HS512 ? JWT_INVALID_SIGNATURE
+                              : JWT_INVALID_KEY_FORMAT);
+        /* a public key's text is no secret of its own */
+        is("the text of a key for a secret", verified_by_secret(&s, signatures[i].key, own),
+           own <= JWT_HS512 ? JWT_INVALID_SIGNATURE : JWT_INVALID_KEY_FORMAT);
+    }
+    struct signed_part s = part_of(TOKEN), empty = part_of(EMPTY_HS256);
+    static const uint8_t zeros[65];
+    is("the secret of a token", verified_by_secret(&s, "secret", JWT_HS256), JWT_OK);
+    is("another secret", verified_by_secret(&s, "Secret", JWT_HS256), JWT_INVALID_SIGNATURE);
+    is("another algorithm", verified_by_secret(&s, "secret", JWT_HS384), JWT_INVALID_SIGNATURE);
+    is("an empty secret by a null pointer",
+       jwt_verify_signature_hmac((const uint8_t *)empty.token, empty.message_len, empty.bytes, empty.len, NULL, 0,
+                                 JWT_HS256),
+       JWT_OK);
+    for (size_t size = 64; size <= 65; size++)
+        is("zeros for an empty secret",
+           jwt_verify_signature_hmac((const uint8_t *)empty.token, empty.message_len, empty.bytes, empty.len, zeros,
+                                     size, JWT_HS256),
+           size == 64 ? JWT_OK : JWT_INVALID_SIGNATURE);
+    /* by Python's hmac */
+    static const uint8_t code[] = {0xb6, 0x13, 0x67, 0x9a, 0x08, 0x14, 0xd9, 0xec, 0x77, 0x2f, 0x95,
+                                   0xd7, 0x78, 0xc3, 0x5f, 0xc5, 0xff, 0x16, 0x97, 0xc4, 0x93, 0x71,
+                                   0x56, 0x53, 0xc6, 0xc7, 0x12, 0x14, 0x42, 0x92, 0xc5, 0xad};
+    is("no message", jwt_verify_signature_hmac(NULL, 0, code, sizeof code, NULL, 0, JWT_HS256), JWT_OK);
+}
+
+/* keys of which no verifier is made, by the calls that verify a signature and that tell the algorithms */
+static void keys_without_algorithms(void) {
+    static const struct {
+        const char *key;
+        uint32_t algorithm, status, of_algorithms;
+    } rows[] = {
+        {"", JWT_HS256, JWT_BAD_KEY, JWT_BAD_KEY},
+        {"[]", JWT_HS256, JWT_BAD_KEY, JWT_BAD_KEY},
+        {HMAC_KEY " x", JWT_HS256, JWT_BAD_KEY, JWT_BAD_KEY},
+        {"{\"kty\":\"oct\",\"k\":\"c2VjcmV0\",\"use\":1}", JWT_HS256, JWT_BAD_KEY, JWT_BAD_KEY},
+        {"{}", JWT_HS256, JWT_UNSUPPORTED_ALGORITHM, JWT_UNSUPPORTED_ALGORITHM},
+        {"{\"keys\":[]}", JWT_HS256, JWT_UNSUPPORTED_ALGORITHM, JWT_UNSUPPORTED_ALGORITHM},
+        {"{\"kty\":\"RSA\",\"n\":\"AQAB\"}", JWT_RS256, JWT_UNSUPPORTED_ALGORITHM, JWT_UNSUPPORTED_ALGORITHM},
+        {"{\"kty\":\"oct\",\"k\":\"c2VjcmV0=\"}", JWT_HS256, JWT_BASE64, JWT_BASE64},
+        {"{\"kty\":\"EC\",\"crv\":\"P-256\",\"x\":\"AAAA\",\"y\":\"*\"}", JWT_ES256, JWT_BASE64, JWT_BASE64},
+        /* keys that serve no algorithm: a short modulus, and points that are not on the curve */
+        {"{\"kty\":\"RSA\",\"n\":\"AQAB\",\"e\":\"AQAB\"}", JWT_RS256, JWT_INVALID_KEY_FORMAT, JWT_OK},
+        {"{\"kty\":\"EC\",\"crv\":\"P-256\",\"x\":\"r8PeoJDruknfmuGCQLn_UjS1Xk078kVZAfT0K3Res0Q\","
+         "\"y\":\"cNoCzyOJM488bjKBVHt5l_ZLeJVc0MznCQTwJlkzXa0\"}",
+         JWT_ES256, JWT_INVALID_KEY_FORMAT, JWT_OK},
+        {"{\"kty\":\"OKP\",\"crv\":\"Ed25519\",\"x\":\"AAAA\"}", JWT_EDDSA, JWT_INVALID_KEY_FORMAT, JWT_OK},
+        {"{\"kty\":\"EC\",\"crv\":\"P-521\",\"x\":\"AAAA\",\"y\":\"AAAA\"}", JWT_ES256, JWT_INVALID_KEY_FORMAT, JWT_OK},
+    };
+    struct signed_part s = part_of(TOKEN);
+    for (size_t i = 0; i < sizeof rows / sizeof *rows; i++) {
+        uint32_t bits = 99;
+        is(rows[i].key, verified(&s, rows[i].key, rows[i].algorithm), rows[i].status);
+        is(rows[i].key, jwt_key_algorithms(BYTES(rows[i].key), &bits), rows[i].of_algorithms);
+        is("the bits of no algorithm", bits, 0);
+    }
+    uint32_t bits = 99;
+    is("a key by a null pointer", jwt_verify_signature_key(NULL, 0, NULL, 0, NULL, 0, JWT_HS256), JWT_BAD_KEY);
+    is("its algorithms", jwt_key_algorithms(NULL, 0, &bits), JWT_BAD_KEY);
+    is("their bits", bits, 0);
+    /* the key's own alg, use and key_ops are ignored, and the curve is that of the point */
+    static const char own[] = "{\"kty\":\"oct\",\"k\":\"c2VjcmV0\",\"kid\":\"x\",\"alg\":\"RS256\","
+                              "\"use\":\"enc\",\"key_ops\":[\"wrapKey\"]}";
+    is("a secret that is said to be for RS256", verified(&s, own, JWT_HS256), JWT_OK);
+    is("its algorithms", jwt_key_algorithms(BYTES(own), &bits), JWT_OK);
+    is("their bits", bits, HMAC_BITS);
+}
+
+static struct answer issued_by_key(const char *header, const char *claims, const char *key, size_t room) {
+    struct answer a = fresh();
+    a.status = jwt_encode_key(BYTES(header), BYTES(claims), BYTES(key), a.room, room, &a.len);
+    return a;
+}
+
+static void issued_by_keys(void) {
+    static const char header[] = "{\"alg\":\"HS256\",\"kid\":\"b\"}", secret[] = OCT("c2VjcmV0");
+    struct answer a = issued_by_key(header, CLAIMS, secret, ROOM), by_secret;
+    is("a token by a key", gives(&a, NAMED), 1);
+    a = issued_by_key(header, CLAIMS, secret, strlen(NAMED) - 1);
+    is("a buffer too small for a token by a key", status_of(&a), JWT_NO_ROOM);
+    is("the token's length", a.len, strlen(NAMED));
+    /* as with the secret itself, by each algorithm; an empty secret is one too, and the key's own members are ignored */
+    static const char *const algorithms[] = {"HS256", "HS384", "HS512"};
+    for (size_t i = 0; i < 3; i++) {
+        char own[40];
+        snprintf(own, sizeof own, "{\"alg\":\"%s\"}", algorithms[i]);
+        a = issued_by_key(own, CLAIMS, HMAC_KEY, ROOM);
+        by_secret = issued_in(own, CLAIMS, HMAC_SECRET, ROOM);
+        is(algorithms[i], status_of(&a) == JWT_OK && memcmp(&a, &by_secret, sizeof a) == 0, 1);
+        a = issued_by_key(own, "{}", "{\"kty\":\"oct\",\"k\":\"\",\"alg\":\"ES256\",\"use\":\"enc\"}", ROOM);
+        by_secret = issued_in(own, "{}", "", ROOM);
+        is(algorithms[i], status_of(&a) == JWT_OK && memcmp(&a, &by_secret, sizeof a) == 0, 1);
+    }
+    static const struct {
+        const char *header, *claims, *key;
+        uint32_t status;
+    } refused[] = {
+        /* the header is read before the claims, and they before the key */
+        {"{}", "[]", "", JWT_BAD_HEADER},
+        {header, "[]", "", JWT_BAD_CLAIMS},
+        {header, CLAIMS, "", JWT_BAD_KEY},
+        {header, CLAIMS, "secret", JWT_BAD_KEY},
+        {header, CLAIMS, OCT("c2VjcmV0") " x", JWT_BAD_KEY},
+        {header, CLAIMS, "{}", JWT_UNSUPPORTED_ALGORITHM},
+        {header, CLAIMS, "{\"keys\":[" OCT("c2VjcmV0") "]}", JWT_UNSUPPORTED_ALGORITHM},
+        {header, CLAIMS, OCT("c2VjcmV0="), JWT_BASE64},
+        {header, CLAIMS, RSA_KEY, JWT_INVALID_KEY_FORMAT},
+        {header, CLAIMS, "{\"kty\":\"RSA\",\"n\":\"AQAB\",\"e\":\"AQAB\",\"d\":\"AQAB\"}", JWT_INVALID_KEY_FORMAT},
+        {header, CLAIMS, P256_KEY, JWT_INVALID_KEY_FORMAT},
+        {header, CLAIMS, P384_KEY, JWT_INVALID_KEY_FORMAT},
+        {header, CLAIMS, ED_KEY, JWT_INVALID_KEY_FORMAT},
+        {"{\"alg\":\"RS256\"}", CLAIMS, RSA_KEY, JWT_INVALID_KEY_FORMAT},
+        /* the key before the tests of the token */
+        {"{\"alg\":\"ES256\"}", CLAIMS, "{}", JWT_UNSUPPORTED_ALGORITHM},
+        {"{\"alg\":\"ES256\"}", CLAIMS, OCT("c2VjcmV0"), JWT_INVALID_ALGORITHM},
+        {header, "{\"a\":1.5}", RSA_KEY, JWT_INVALID_KEY_FORMAT},
+        {header, "{\"a\":1.5}", OCT("c2VjcmV0"), JWT_JSON},
+    };
+    for (size_t i = 0; i < sizeof refused / sizeof *refused; i++) {
+        a = issued_by_key(refused[i].header, refused[i].claims, refused[i].key, ROOM);
+        is(refused[i].key, status_of(&a), refused[i].status);
+    }
+    is("a key by a null pointer", jwt_encode_key(BYTES(header), BYTES(CLAIMS), NULL, 0, a.room, ROOM, &a.len),
+       JWT_BAD_KEY);
+}
+
+/* ---- keys of certificates: OpenSSL's, of the rows of crates/jwt_vectors/data/key_files.jsonl, with the keys of keys_in_pem */
+
+#define P256_CERTIFICATE                                                                                               \
+    PEM("CERTIFICATE", "MIIBdzCCAR2gAwIBAgIUeIdXSQ/bYdhgFoV3q+GhujhWS9IwCgYIKoZIzj0EAwIw\n"                            \
+                       "ETEPMA0GA1UEAwwGaXNzdWVyMB4XDTI2MTEyNTIzMjQzOVoXDTI2MTEyNjIzMjQz\n"                            \
+                       "OVowETEPMA0GA1UEAwwGaXNzdWVyMFkwEwYHKoZIzj0CAQYIKoZIzj0DAQcDQgAE\n"                            \
+                       "l6jeUAD2iUrN58N0dSRS4OYkUCQmc/5Zo0q3fXrPt7UeiCDE/djoJsSvUPNgg1ZQ\n"                            \
+                       "yqS7lxXGA/Qy5APCH77qTKNTMFEwHQYDVR0OBBYEFP1Dmvg2hl+XaymhQ96Pf2eP\n"                            \
+                       "g+AGMB8GA1UdIwQYMBaAFP1Dmvg2hl+XaymhQ96Pf2ePg+AGMA8GA1UdEwEB/wQF\n"                            \
+                       "MAMBAf8wCgYIKoZIzj0EAwIDSAAwRQIhAJxpcBT9GRQPhgarkHY91MuuR3tg1NcG\n"                            \
+                       "weyfWCpQd4H+AiAj97nmc+xQMZ189iyM4XxSRZiIn6fdz4Acs/pZPMUEFg==\n")
+
+static struct answer key_of_certificate(const char *pem, size_t room) {
+    struct answer a = fresh();
+    a.status = jwt_key_from_certificate(BYTES(pem), a.room, room, &a.len);
+    return a;
+}
+
+static void keys_of_certificates(void) {
+    static const struct {
+        const char *pem, *jwk;
+    } rows[] = {
+        {PEM("CERTIFICATE", "MIIB/DCCAWWgAwIBAgIUWwOSqTYD9wBLGcBrzbDhLw7xOS4wDQYJKoZIhvcNAQEL\n"
+                            "BQAwETEPMA0GA1UEAwwGaXNzdWVyMB4XDTI2MTEyNTIzMjQzNVoXDTI2MTEyNjIz\n"
+                            "MjQzNVowETEPMA0GA1UEAwwGaXNzdWVyMIGdMA0GCSqGSIb3DQEBAQUAA4GLADCB\n"
+                            "hwKBgQDv00FfQlWzViz+Mos88cnesDyb3IblilAYQOHAVePOA5gwMI6+FAFdKquI\n"
+                            "zfGHRtAi1ystHS6wPHO68U8Ys1ViayCLm9Dq2jC0WjBhcUx8yhQ2DONlLPkFkdd/\n"
+                            "QgwSAgFgLJqscXMOGTrpbRaHDKU99L0RMPQsJvvmNjGySuwNAwIBA6NTMFEwHQYD\n"
+                            "VR0OBBYEFEOW+k7a3OZunzqInwvjxEdC6/z9MB8GA1UdIwQYMBaAFEOW+k7a3OZu\n"
+                            "nzqInwvjxEdC6/z9MA8GA1UdEwEB/wQFMAMBAf8wDQYJKoZIhvcNAQELBQADgYEA\n"
+                            "PUGPE4QYxfCWQS0QraAnoDoErySyH02lLSRy6wq2ecNDqkzzBde4On5J0EsjFXZV\n"
+                            "MOkdUwgqnW18AhXU1NYxRlz6GcarYAQo9r9TptONcGYGiDgKC/9hACKA39mN1NJ5\n"
+                            "NWf+Hl2WRwna3ZIzzukxdGfyTkKPG9Aq1UaHfhZuuD4=\n"),
+         RSA_JWK},
+        {P256_CERTIFICATE, P256_JWK},
+        {PEM("CERTIFICATE", "MIIBNjCB6aADAgECAhQzn/y/tcffNWHxcU4hMjnM+RD8EjAFBgMrZXAwETEPMA0G\n"
+                            "A1UEAwwGaXNzdWVyMB4XDTI2MTEyNTIzMjQ0MFoXDTI2MTEyNjIzMjQ0MFowETEP\n"
+                            "MA0GA1UEAwwGaXNzdWVyMCowBQYDK2VwAyEAP/KbjxwdH3v1YC6s5VVabMvwdZqw\n"
+                            "m779emMwejCAgZujUzBRMB0GA1UdDgQWBBSgn32ZqjNNN+QzY1PkVjqTlBlu6zAf\n"
+                            "BgNVHSMEGDAWgBSgn32ZqjNNN+QzY1PkVjqTlBlu6zAPBgNVHRMBAf8EBTADAQH/\n"
+                            "MAUGAytlcANBAMy1FdeYWFUH9hre5RMthSmzcoDPT1MRT9xrVN56M5+Lski1iIUG\n"
+                            "FSRkWlqsTZJFsRqXjXC5Y8a5+Eifxt5XOQ4=\n"),
+         "{\"crv\":\"Ed25519\",\"kty\":\"OKP\",\"x\":\"P_KbjxwdH3v1YC6s5VVabMvwdZqwm779emMwejCAgZs\"}"},
+        /* the first block counts */
+        {"subject=CN = issuer\n" P256_CERTIFICATE P256_PEM, P256_JWK},
+    };
+    for (size_t i = 0; i < sizeof rows / sizeof *rows; i++) {
+        struct answer a = key_of_certificate(rows[i].pem, ROOM);
+        is(rows[i].jwk, gives(&a, rows[i].jwk), 1);
+    }
+    static const struct {
+        const char *name, *pem;
+    } refused[] = {
+        {"a public key", P256_PEM},
+        {"a public key before a certificate", P256_PEM P256_CERTIFICATE},
+        {"a private key", PEM("PRIVATE KEY", "MAA=\n")},
+        {"another label", PEM("X509 CERTIFICATE", "MAA=\n")},
+        {"a certificate that is none", PEM("CERTIFICATE", "MAA=\n")},
+        {"a JSON Web Key", P256_JWK},
+        {"no text", ""},
+    };
+    for (size_t i = 0; i < sizeof refused / sizeof *refused; i++) {
+        struct answer a = key_of_certificate(refused[i].pem, ROOM);
+        is(refused[i].name, status_of(&a), JWT_INVALID_KEY_FORMAT);
+    }
+    struct answer a = key_of_certificate(P256_CERTIFICATE, strlen(P256_JWK) - 1);
+    is("a buffer too small for the key of a certificate", status_of(&a), JWT_NO_ROOM);
+    is("the key's length", a.len, strlen(P256_JWK));
+    a = key_in(P256_CERTIFICATE, ROOM);
+    is("a certificate for a key", status_of(&a), JWT_INVALID_KEY_FORMAT);
 }
 
 /* the names of docs/RULES.md, by their numbers */
@@ -1474,6 +1772,34 @@ static bool checked_set_given(struct answer *a) {
     return a->status == JWT_BLANK_KEY;
 }
 
+static bool signature_verified(struct answer *a) {
+    struct signed_part s = {.token = BY_RS256};
+    long allowed = refused_one;
+    refused_one = 0;
+    jwt_signed_part(BYTES(s.token), &s.algorithm, &s.message_len, s.bytes, sizeof s.bytes, &s.len);
+    requests = 0, refused_one = allowed;
+    a->status = verified(&s, RSA_KEY, JWT_RS256);
+    a->len = 0;
+    return a->status == JWT_OK;
+}
+
+static bool algorithms_given(struct answer *a) {
+    uint32_t bits = 99;
+    a->status = jwt_key_algorithms(BYTES(RSA_KEY), &bits);
+    a->len = a->status == JWT_OK ? 0 : bits;
+    return status_of(a) == JWT_OK && bits == RSA_BITS;
+}
+
+static bool token_by_key_given(struct answer *a) {
+    *a = issued_by_key("{\"alg\":\"HS256\",\"kid\":\"b\"}", CLAIMS, OCT("c2VjcmV0"), ROOM);
+    return gives(a, NAMED);
+}
+
+static bool key_of_certificate_given(struct answer *a) {
+    *a = key_of_certificate(P256_CERTIFICATE, ROOM);
+    return gives(a, P256_JWK);
+}
+
 static bool checked_member_given(struct answer *a) {
     a->status = jwt_check_member(BYTES("{\"roles\":[\"user\",\"admin\"]}"), BYTES("roles"), BYTES("admin"));
     a->len = 0;
@@ -1524,6 +1850,10 @@ static void refused_memory(void) {
     is("a check of a key out of memory", refused_in_turn(checked_key_given) > 0, 1);
     is("a check of a set out of memory", refused_in_turn(checked_set_given) > 0, 1);
     is("a check of a member out of memory", refused_in_turn(checked_member_given) > 0, 1);
+    is("a verified signature out of memory", refused_in_turn(signature_verified) > 0, 1);
+    is("the algorithms of a key out of memory", refused_in_turn(algorithms_given) > 0, 1);
+    is("a token by a key out of memory", refused_in_turn(token_by_key_given) > 0, 1);
+    is("the key of a certificate out of memory", refused_in_turn(key_of_certificate_given) > 0, 1);
     is("memory after all that was refused", mallinfo2().uordblks <= before + 4096, 1);
 }
 
@@ -1648,8 +1978,6 @@ static void threads(void) {
 }
 
 /* ---- secrets by which anyone can sign (RFC 2104 section 2) */
-
-#define OCT(k) "{\"kty\":\"oct\",\"k\":\"" k "\"}"
 
 static void checked_secrets(void) {
     static uint8_t zeros[300];
@@ -1893,6 +2221,11 @@ int main(void) {
     thumbprints();
     keys_in_pem();
     keys_in_pem_refused();
+    verified_signatures();
+    verified_by_secrets();
+    keys_without_algorithms();
+    issued_by_keys();
+    keys_of_certificates();
     test_texts();
     status_texts();
     checked_secrets();

@@ -23,8 +23,9 @@ ghost use Rattle.jwt_c_calls.specs.Calls.{AnswersIssuedAt};
 ghost use Rattle.jwt_c_calls.specs.Calls.{status_of};
 ghost use Rattle.jwt_c_calls.specs.FirstFailed.{AnswersFailedHmac, AnswersFailedKey};
 ghost use Rattle.jwt_c_calls.specs.FirstFailed.{AnswersFailedSet};
-ghost use Rattle.jwt_c_calls.specs.Issued.{AnswersEncode, AnswersThumbprint, hash_numbered};
-ghost use Rattle.jwt_c_calls.specs.KeyFiles.{AnswersPem};
+ghost use Rattle.jwt_c_calls.specs.Issued.{AnswersEncode, AnswersEncodeKey, AnswersThumbprint};
+ghost use Rattle.jwt_c_calls.specs.Issued.{hash_numbered};
+ghost use Rattle.jwt_c_calls.specs.KeyFiles.{AnswersCertificate, AnswersPem};
 ghost use Rattle.jwt_c_calls.specs.Keys.{AnswersWithKey, AnswersWithOptions, AnswersWithSet};
 ghost use Rattle.jwt_c_calls.specs.Members.{LeavesMember};
 ghost use Rattle.jwt_c_calls.specs.Membership.{ChecksMember};
@@ -32,6 +33,8 @@ ghost use Rattle.jwt_c_calls.specs.Moments.{LeavesMoments, AnswersMomentsHmac, A
 ghost use Rattle.jwt_c_calls.specs.Moments.{AnswersMomentsSet};
 ghost use Rattle.jwt_c_calls.specs.Options.{AnswersFault, AnswersQuoted};
 ghost use Rattle.jwt_c_calls.specs.Secrets.{ChecksSecret, ChecksKey, ChecksSet};
+ghost use Rattle.jwt_c_calls.specs.Serving.{AnswersAlgorithms};
+ghost use Rattle.jwt_c_calls.specs.Signatures.{AnswersVerifyHmac, AnswersVerifyKey};
 ghost use Rattle.jwt_c_calls.specs.Status.{kind_part, number, no_status, status_text, version};
 ghost use Rattle.jwt_c_calls.specs.Status.{algorithm_numbered, IsGiven, IsKept};
 ghost use Rattle.jwt_c_verifier.specs.TestNumbers.{LeavesTestName};
@@ -52,13 +55,15 @@ use jwt_c_calls::answers::{
 };
 use jwt_c_calls::by_signature::{ecdsa_answer, input_answer, signature_answer};
 use jwt_c_calls::first_failed::{hmac_failed_test, key_failed_test, leave_name, set_failed_test};
-use jwt_c_calls::issued::{encode_answer, thumbprint_answer};
-use jwt_c_calls::key_files::pem_answer;
+use jwt_c_calls::issued::{encode_answer, encode_key_answer, thumbprint_answer};
+use jwt_c_calls::key_files::{certificate_answer, pem_answer};
 use jwt_c_calls::members::member_answer;
 use jwt_c_calls::membership::member_status;
 use jwt_c_calls::moments::{hmac_moments, key_moments, leave_moments, set_moments};
 use jwt_c_calls::options::{options_answer, quoted_answer};
 use jwt_c_calls::secrets::{key_status, secret_status, set_status};
+use jwt_c_calls::serving::algorithms_answer;
+use jwt_c_calls::signatures::{hmac_signature_answer, key_signature_answer};
 use jwt_c_calls::status::{algorithm_number, leave, number_of, put_bytes, status_of};
 use jwt_c_calls::status_table::{NO_MEMBER, NO_STATUS, NO_VERIFIER, OK, VERIFIER_IS_MADE, text_of};
 use jwt_c_verifier::test_numbers::numbered_test;
@@ -329,6 +334,49 @@ pub extern "C" fn jwt_signed_part(
     }
 }
 
+/// Verifies a signature of a message, both as bytes, with a secret, by the algorithm of this
+/// number, as the verifier of `StandardProvider` does: returns 0, or the status of
+/// `InvalidSignature`. A number of no algorithm is refused with `InvalidAlgorithmName`, and one of
+/// another family with `InvalidKeyFormat`.
+#[unsafe(no_mangle)]
+pub extern "C" fn jwt_verify_signature_hmac(
+    alloc: Global,
+    message: &[u8],
+    signature: &[u8],
+    secret: &[u8],
+    algorithm: u32,
+) -> u32
+    ensures { (a : Answer) × AnswersVerifyHmac (algorithm_numbered algorithm)
+        message.now signature.now secret.now a × (result ≡ status_of a) }
+{
+    match hmac_signature_answer(alloc, message, signature, secret, algorithm) {
+        Ok(()) => OK.0,
+        Err(refusal) => status_of(&refusal),
+    }
+}
+
+/// Verifies a signature of a message like `jwt_verify_signature_hmac`, with a key, which is the
+/// JSON text of one JSON Web Key (RFC 7517 section 4) of any kind. The number is tested before the
+/// key is read. Any other text is refused with 106, a key of which
+/// [`DecodingKey::from_jwk`](jsonwebtoken::DecodingKey::from_jwk) makes none with its kind, and a
+/// key that is of another family or does not serve with `InvalidKeyFormat`.
+#[unsafe(no_mangle)]
+pub extern "C" fn jwt_verify_signature_key(
+    alloc: Global,
+    message: &[u8],
+    signature: &[u8],
+    key: &[u8],
+    algorithm: u32,
+) -> u32
+    ensures { (a : Answer) × AnswersVerifyKey (algorithm_numbered algorithm)
+        message.now signature.now key.now a × (result ≡ status_of a) }
+{
+    match key_signature_answer(alloc, message, signature, key, algorithm) {
+        Ok(()) => OK.0,
+        Err(refusal) => status_of(&refusal),
+    }
+}
+
 /// Writes the header of a token as JSON. Nothing is verified.
 #[unsafe(no_mangle)]
 pub extern "C" fn jwt_decode_header(
@@ -358,6 +406,27 @@ pub extern "C" fn jwt_encode_hmac(
         × Leaves a result len.new room.old room.new }
 {
     let answer = encode_answer(alloc, header, claims, secret);
+    leave(answer, room, len)
+}
+
+/// Signs a header and claims like `jwt_encode_hmac`, with the secret of a JSON Web Key of the type
+/// `oct` (RFC 7518 section 6.4). The key is a JSON text, which is read after the claims; any other
+/// text is refused with 106, a key of which
+/// [`DecodingKey::from_jwk`](jsonwebtoken::DecodingKey::from_jwk) makes none with its kind, and a
+/// key of another family with `InvalidKeyFormat`.
+#[unsafe(no_mangle)]
+pub extern "C" fn jwt_encode_key(
+    alloc: Global,
+    header: &[u8],
+    claims: &[u8],
+    key: &[u8],
+    room: &mut [u8],
+    len: &mut usize,
+) -> u32
+    ensures { (a : Answer) × AnswersEncodeKey header.now claims.now key.now a
+        × Leaves a result len.new room.old room.new }
+{
+    let answer = encode_key_answer(alloc, header, claims, key);
     leave(answer, room, len)
 }
 
@@ -459,6 +528,48 @@ pub extern "C" fn jwt_key_from_pem(
 {
     let answer = pem_answer(alloc, pem);
     leave(answer, room, len)
+}
+
+/// Writes the JSON Web Key of the public key of the X.509 certificate that the first block of a PEM
+/// text holds, like `jwt_key_from_pem`. NOTHING of the certificate IS VERIFIED. The refusals are
+/// those of
+/// [`unverified_key_from_certificate_pem`](jwt_key_files::certificate::unverified_key_from_certificate_pem):
+/// `UnsupportedAlgorithm` for a key of another algorithm, and `InvalidKeyFormat` for any other
+/// text.
+#[unsafe(no_mangle)]
+pub extern "C" fn jwt_key_from_certificate(
+    alloc: Global,
+    pem: &[u8],
+    room: &mut [u8],
+    len: &mut usize,
+) -> u32
+    ensures { (a : Answer) × AnswersCertificate pem.now a
+        × Leaves a result len.new room.old room.new }
+{
+    let answer = certificate_answer(alloc, pem);
+    leave(answer, room, len)
+}
+
+/// Sets `bits` to the algorithms that the key which a JSON Web Key stands for serves: the bit of an
+/// algorithm's number is set if a verifier of `StandardProvider` is made by it with the key, and no
+/// other is. The key is a JSON text; its own `alg`, `use` and `key_ops` are ignored. Any other text
+/// is refused with 106, and a key of which
+/// [`DecodingKey::from_jwk`](jsonwebtoken::DecodingKey::from_jwk) makes none with its kind: then
+/// `bits` is 0.
+#[unsafe(no_mangle)]
+pub extern "C" fn jwt_key_algorithms(alloc: Global, key: &[u8], bits: &mut u32) -> u32
+    ensures { (a : Answer) × AnswersAlgorithms key.now bits.new a × (result ≡ status_of a) }
+{
+    match algorithms_answer(alloc, key) {
+        Ok(found) => {
+            *bits = found;
+            OK.0
+        }
+        Err(refusal) => {
+            *bits = 0;
+            status_of(&refusal)
+        }
+    }
 }
 
 /// Writes a text as a JSON string, with its quotation marks, for options: what else the text says
