@@ -69,11 +69,11 @@ impl Handle {
         }
     }
 
-    /// Returns the handle of a holder, which may go to another thread.
+    /// Returns the handle of a holder. It may go to another thread, since what it holds may.
     pub(crate) fn of(value: Box<Shared>) -> Handle
         ensures { result.held ≡ Some value.value }
     {
-        Handle::some(Kept::of(sendable_value(value)))
+        Handle::some(Kept::of(value))
     }
 
     pub(crate) fn into_box(self) -> Option<Box<Shared>>
@@ -101,11 +101,4 @@ impl Drop for Handle {
             drop(value);
         }
     }
-}
-
-/// Returns the value, which may go to another thread.
-fn sendable_value<T: Send>(value: T) -> T
-    ensures { result ≡ value }
-{
-    value
 }

@@ -657,8 +657,9 @@ pub extern "C" fn jwt_check_set(alloc: Global, set: &[u8]) -> u32
 }
 
 /// Makes the verifier with the options and the key set that two texts describe (RFC 7517 section
-/// 5), for tokens of up to `max_len` bytes, or of up to 1 MiB if that is 0. With another status
-/// than 0 the handle holds none:
+/// 5), for tokens of up to `max_len` bytes, or of up to 1 MiB if that is 0. It keeps prepared keys of
+/// up to `max_prepared` bytes, or of up to 64 MiB if that is 0; the others verify too. With another
+/// status than 0 the handle holds none:
 ///
 /// - 101 or 103 if a text is refused, as by `jwt_decode_set`;
 /// - 107 if anyone can sign with a key of the set (RFC 2104 section 2), unless `allows_blank`;
@@ -672,13 +673,15 @@ pub extern "C" fn jwt_verifier_set(
     options: &[u8],
     max_len: usize,
     allows_blank: bool,
+    max_prepared: usize,
     verifier: &mut Handle,
 ) -> u32
     ensures { LeavesMade (AnswersWithSet options.now set.now (λ _ _ _. ⊥))
-        (AreOfSet options.now set.now) (limits_of max_len allows_blank)
+        (AreOfSet options.now set.now) (limits_of max_len allows_blank max_prepared)
         verifier.old.held verifier.new.held result }
 {
-    let made = verifier_of_set(alloc, options, set, limits(max_len, allows_blank));
+    let allowed = limits(max_len, allows_blank, max_prepared);
+    let made = verifier_of_set(alloc, options, set, allowed);
     leave_made(alloc, made, verifier)
 }
 
@@ -692,13 +695,15 @@ pub extern "C" fn jwt_verifier_key(
     options: &[u8],
     max_len: usize,
     allows_blank: bool,
+    max_prepared: usize,
     verifier: &mut Handle,
 ) -> u32
     ensures { LeavesMade (AnswersWithKey options.now key.now (λ _ _ _. ⊥))
-        (AreOfKey options.now key.now) (limits_of max_len allows_blank)
+        (AreOfKey options.now key.now) (limits_of max_len allows_blank max_prepared)
         verifier.old.held verifier.new.held result }
 {
-    let made = verifier_of_key(alloc, options, key, limits(max_len, allows_blank));
+    let allowed = limits(max_len, allows_blank, max_prepared);
+    let made = verifier_of_key(alloc, options, key, allowed);
     leave_made(alloc, made, verifier)
 }
 
@@ -711,13 +716,15 @@ pub extern "C" fn jwt_verifier_secret(
     options: &[u8],
     max_len: usize,
     allows_blank: bool,
+    max_prepared: usize,
     verifier: &mut Handle,
 ) -> u32
     ensures { LeavesMade (AnswersWithOptions options.now (λ _ _. ⊥))
-        (AreOfSecret options.now secret.now) (limits_of max_len allows_blank)
+        (AreOfSecret options.now secret.now) (limits_of max_len allows_blank max_prepared)
         verifier.old.held verifier.new.held result }
 {
-    let made = verifier_of_secret(alloc, options, secret, limits(max_len, allows_blank));
+    let allowed = limits(max_len, allows_blank, max_prepared);
+    let made = verifier_of_secret(alloc, options, secret, allowed);
     leave_made(alloc, made, verifier)
 }
 

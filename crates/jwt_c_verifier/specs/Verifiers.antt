@@ -23,7 +23,7 @@ use Rattle.jwt_validation.specs.declared.validation.Validation.{Validation}
 use Rattle.jsonwebtoken.specs.Order.{Passes, FailsFirst, IsFirstFailed}
 use Rattle.jsonwebtoken.specs.Tests.{Call, Compact, Contents, token_tests, verifying_call}
 use Rattle.jsonwebtoken.specs.declared.refusal.Test.{Test}
-use Rattle.jwt_verifier.specs.Fitness.{token_limit, AreFit, IsUnfit}
+use Rattle.jwt_verifier.specs.Fitness.{token_limit, prepared_limit, AreFit, IsUnfit}
 use Rattle.jwt_verifier.specs.Verifying.{source_of, order_of}
 use Rattle.jwt_verifier.specs.declared.fitness.Unfit.{Unfit}
 use Rattle.jwt_verifier.specs.declared.fitness.Unfit.TheVariants.{Blank, Mixed, Useless, Memory}
@@ -38,11 +38,17 @@ use Rattle.jwt_c_verifier.specs.TestNumbers.{test_number}
 
 -- ---- making a verifier
 
--- the limits that the arguments of a call stand for: a length of 0 is that of 1 MiB
-abbrev pub limits_of : ℕ → Bool → Limits
-limits_of max_len allows_blank = record {
-  max_len = if max_len == 0 then token_limit else max_len;
+-- the number that is given, or the usual one if 0 is
+abbrev pub unless_zero : ℕ → ℕ → ℕ
+unless_zero given usual = if given == 0 then usual else given
+
+-- the limits that the arguments of a call stand for: a length of 0 is that of 1 MiB, and 0 bytes of prepared keys are
+-- 64 MiB
+abbrev pub limits_of : ℕ → Bool → ℕ → Limits
+limits_of max_len allows_blank max_prepared = record {
+  max_len = unless_zero max_len token_limit;
   allows_blank = allows_blank;
+  max_prepared = unless_zero max_prepared prepared_limit;
 }
 
 -- the text of a set describes these keys (RFC 7517 section 5)

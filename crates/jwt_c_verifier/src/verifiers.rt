@@ -13,7 +13,8 @@ ghost use Rattle.jwt_c_calls.specs.Calls.{Gives, IsTextOf};
 ghost use Rattle.jwt_c_calls.specs.Status.{key_as_secret, number};
 ghost use Rattle.jwt_c_calls.specs.Keys.{AnswersWithKey, AnswersWithOptions, AnswersWithSet};
 ghost use Rattle.jwt_c_verifier.specs.TestNumbers.{test_number as number_of_test};
-ghost use Rattle.jwt_c_verifier.specs.Verifiers.{limits_of, unfit_status, AnswersUntil, AreOfKey};
+ghost use Rattle.jwt_c_verifier.specs.Verifiers.{limits_of, unless_zero, unfit_status};
+ghost use Rattle.jwt_c_verifier.specs.Verifiers.{AnswersUntil, AreOfKey};
 ghost use Rattle.jwt_c_verifier.specs.Verifiers.{AreOfSecret, AreOfSet, IsMade, IsRefusedWith};
 ghost use Rattle.jwt_c_verifier.specs.Verifiers.{AreRefused, HaveKeyText, HaveNoKeyText};
 
@@ -27,26 +28,27 @@ use jwt_c_calls::status_table::{
 };
 use jwt_secrets::key_texts::{has_key_text, set_has_key_text};
 use jwt_validation::{Validation, claimed_moments};
-use jwt_verifier::{Keys, Limits, Rejection, TOKEN_LIMIT, Unfit, Verifier};
+use jwt_verifier::{Keys, Limits, PREPARED_LIMIT, Rejection, TOKEN_LIMIT, Unfit, Verifier};
 use serde_json::Value;
 use std::alloc::Global;
 use std::result::Result;
 
-/// Returns the limits that the arguments of a call stand for: a length of 0 is that of 1 MiB.
-pub fn limits(max_len: usize, allows_blank: bool) -> Limits
-    ensures { result ≡ limits_of max_len allows_blank }
+/// Returns the limits that the arguments of a call stand for: a length of 0 is that of 1 MiB, and 0
+/// bytes of prepared keys are 64 MiB.
+pub fn limits(max_len: usize, allows_blank: bool, max_prepared: usize) -> Limits
+    ensures { result ≡ limits_of max_len allows_blank max_prepared }
 {
-    if max_len == 0 {
-        Limits {
-            max_len: TOKEN_LIMIT,
-            allows_blank,
-        }
-    } else {
-        Limits {
-            max_len,
-            allows_blank,
-        }
+    Limits {
+        max_len: given_or(max_len, TOKEN_LIMIT),
+        allows_blank,
+        max_prepared: given_or(max_prepared, PREPARED_LIMIT),
     }
+}
+
+fn given_or(given: usize, usual: usize) -> usize
+    ensures { result ≡ unless_zero given usual }
+{
+    if given == 0 { usual } else { given }
 }
 
 /// Returns the verifier with the options and the key set that two texts describe, or the status of

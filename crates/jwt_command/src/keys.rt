@@ -37,7 +37,7 @@ use jsonwebtoken::{Algorithm, DecodingKey};
 use jwt_key_files::pem::public_key_from_pem;
 use jwt_secrets::key_texts::is_key_text;
 use jwt_secrets::{has_blank_key, is_blank, is_blank_key};
-use jwt_verifier::{Keys, PreparedKeys};
+use jwt_verifier::{Keys, PREPARED_LIMIT, PreparedKeys};
 use std::alloc::Global;
 
 /// Keys, with what their file says of them.
@@ -51,11 +51,6 @@ pub struct LoadedKeys {
     /// The provider that verifies with the keys.
     pub provider: PreparedKeys,
 }
-
-/// The number of keys of a set, from its first, that are prepared to verify many tokens: the hashed
-/// blocks of a secret, or what a modulus needs. Each allocates, and to look for one takes longer,
-/// the more there are. The others verify too, unprepared.
-const MOST_PREPARED: usize = 16;
 
 /// Prepares the keys for many tokens, by these algorithms, or by those that the keys are for if the
 /// list is empty.
@@ -147,36 +142,26 @@ fn prepare_key(
     own: Option<Algorithm>,
     algorithms: &[Algorithm],
 ) -> Result<(), Fault<'static>> {
-    if let (Some(algorithm), true) = (own, algorithms.is_empty()) {
-        prepare_for(alloc, provider, key, algorithm)?;
-    }
-    for algorithm in algorithms {
-        prepare_for(alloc, provider, key, *algorithm)?;
-    }
-    Ok(())
-}
-
-fn prepare_for(
-    alloc: Global,
-    provider: &mut PreparedKeys,
-    key: &DecodingKey,
-    algorithm: Algorithm,
-) -> Result<(), Fault<'static>> {
-    match provider.add(alloc, algorithm, key) {
+    let accepted = if algorithms.is_empty() {
+        own.as_slice()
+    } else {
+        algorithms
+    };
+    match provider.add(alloc, key, accepted) {
         Ok(()) => Ok(()),
         // the only refusal
         Err(_) => Err(Fault::Memory),
     }
 }
 
-/// Prepares the first keys of a set. A key that is malformed is left out.
+/// Prepares the keys of a set, the first ones first. A key that is malformed is left out.
 fn prepare_set(
     alloc: Global,
     provider: &mut PreparedKeys,
     set: &JwkSet,
     algorithms: &[Algorithm],
 ) -> Result<(), Fault<'static>> {
-    for jwk in set.keys.iter().take(MOST_PREPARED) {
+    for jwk in &set.keys {
         if let Some(key) = value_unless_refused(DecodingKey::from_jwk(alloc, jwk))? {
             prepare_key(alloc, provider, &key, own_algorithm(jwk), algorithms)?;
         }
@@ -238,7 +223,7 @@ fn load_secret<'a>(
             keys: Keys::One(key),
             own: None,
             has_line_end: secret.ends_with(b"\n"),
-            provider: PreparedKeys::new(alloc),
+            provider: PreparedKeys::new(alloc, PREPARED_LIMIT),
         }),
         Err(_) => Err(Fault::Memory),
     }
@@ -294,7 +279,7 @@ fn accept_key<'a>(
         keys: Keys::One(key),
         own,
         has_line_end: false,
-        provider: PreparedKeys::new(alloc),
+        provider: PreparedKeys::new(alloc, PREPARED_LIMIT),
     })
 }
 
@@ -325,7 +310,7 @@ fn accept_set<'a>(alloc: Global, path: &'a str, set: JwkSet) -> Result<LoadedKey
             keys: Keys::Set(set),
             own: None,
             has_line_end: false,
-            provider: PreparedKeys::new(alloc),
+            provider: PreparedKeys::new(alloc, PREPARED_LIMIT),
         }),
         Ok(true) => Err(Fault::File {
             path,
@@ -346,7 +331,7 @@ fn load_pem<'a>(alloc: Global, path: &'a str, bytes: &[u8]) -> Result<LoadedKeys
             keys: Keys::One(key),
             own: None,
             has_line_end: false,
-            provider: PreparedKeys::new(alloc),
+            provider: PreparedKeys::new(alloc, PREPARED_LIMIT),
         }),
         Err(error) => Err(not_pem(path, &error, bytes)),
     }

@@ -19,9 +19,13 @@ use Rattle.jwt_verifier.specs.declared.limits.Limits.{Limits}
 abbrev pub token_limit : ℕ
 token_limit = 1048576
 
+-- 64 MiB
+abbrev pub prepared_limit : ℕ
+prepared_limit = 67108864
+
 -- the limits of a verifier whose maker sets none
 abbrev pub usual_limits : Limits
-usual_limits = record { max_len = token_limit; allows_blank = false }
+usual_limits = record { max_len = token_limit; allows_blank = false; max_prepared = prepared_limit }
 
 -- anyone can sign with the key, or with one of the set (RFC 2104 section 2)
 abbrev pub HasBlank : Keys → Type 0

@@ -60,8 +60,8 @@ pub struct Entry {
 }
 
 impl Prepared {
-    /// Prepares a key to verify with these algorithms, if there is room for it. Of a key that can't
-    /// be prepared, nothing is.
+    /// Prepares a key to verify with these algorithms, if one is of its family and there is room for
+    /// it. Of a key that can't be prepared, nothing is.
     pub(crate) fn new(
         alloc: Global,
         key: &DecodingKey,
@@ -71,6 +71,9 @@ impl Prepared {
         ensures ok { IfOk result (IsPreparedOf key.now) }
         ensures err { IfErr result IsMemory }
     {
+        if !are_of_family(algorithms, key.family()) {
+            return Ok(Prepared::Nothing);
+        }
         match key.kind() {
             DecodingKeyKind::SecretOrDer(bytes) if key.family() == AlgorithmFamily::Hmac => {
                 prepare_secret(alloc, bytes.as_slice(), algorithms, budget)
@@ -79,7 +82,7 @@ impl Prepared {
                 prepare_rsa(alloc, n.as_slice(), e.as_slice(), budget)
             }
             DecodingKeyKind::SecretOrDer(point) => {
-                prepare_curve(alloc, key, point.len(), algorithms, budget)
+                prepare_curve(alloc, key, point.len(), budget)
             }
         }
     }
@@ -93,6 +96,8 @@ impl Prepared {
     ) -> Checked<KeyVerifier<'p>>
         ensures made { OnOk result (verifier_refusal algorithm key.now ≡ None) }
         ensures err { IfErr result (Refuses (verifier_refusal algorithm key.now)) }
+        ensures by { IfOk result (λ v.
+            ⟦<KeyVerifier<'p> as JwtVerifier>⟧.verifies_by v ≡ algorithm) }
         ensures accepts { IfOk result (λ v. (m s : List ℕ) →
             ⟦<KeyVerifier<'p> as JwtVerifier>⟧.accepts v m s
             ↔ StandardAccepts algorithm key.now m s) }
@@ -110,6 +115,13 @@ impl Prepared {
     }
 }
 
+/// Returns whether one of the algorithms is of this family.
+fn are_of_family(algorithms: &[Algorithm], family: AlgorithmFamily) -> bool {
+    algorithms
+        .iter()
+        .any(|algorithm| algorithm.family() == family)
+}
+
 /// Returns the verifier by a prepared key on a curve, or one that is not prepared, by another
 /// algorithm or key.
 fn curve_verifier<'p>(
@@ -120,6 +132,8 @@ fn curve_verifier<'p>(
 ) -> Checked<KeyVerifier<'p>>
     ensures made { OnOk result (verifier_refusal algorithm key.now ≡ None) }
     ensures err { IfErr result (Refuses (verifier_refusal algorithm key.now)) }
+    ensures by { IfOk result (λ v.
+        ⟦<KeyVerifier<'p> as JwtVerifier>⟧.verifies_by v ≡ algorithm) }
     ensures accepts { IfOk result (λ v. (m s : List ℕ) →
         ⟦<KeyVerifier<'p> as JwtVerifier>⟧.accepts v m s
         ↔ StandardAccepts algorithm key.now m s) }
@@ -184,24 +198,17 @@ fn prepare_rsa(alloc: Global, n: &[u8], e: &[u8], budget: &mut Budget) -> Checke
     Ok(Prepared::Rsa(rsa))
 }
 
-/// Prepares a key on a curve with a point of this length, if an algorithm is of its family and there
-/// is room for it.
+/// Prepares a key on a curve with a point of this length, if there is room for it.
 fn prepare_curve(
     alloc: Global,
     key: &DecodingKey,
     length: usize,
-    algorithms: &[Algorithm],
     budget: &mut Budget,
 ) -> Checked<Prepared>
     ensures ok { IfOk result (IsPreparedOf key.now) }
     ensures err { IfErr result IsMemory }
 {
-    let family = key.family();
-    if !algorithms
-        .iter()
-        .any(|algorithm| algorithm.family() == family)
-        || !budget.take(curve_size(family, length))
-    {
+    if !budget.take(curve_size(key.family(), length)) {
         return Ok(Prepared::Nothing);
     }
     match PreparedCurve::new(alloc, key)? {

@@ -22,6 +22,7 @@ mod keys;
 mod limits;
 mod prepared;
 mod ring_finder;
+mod threads;
 mod verifier;
 
 pub use entry::Prepared;
@@ -32,4 +33,5 @@ pub use keys::Keys;
 pub use limits::{Limits, PREPARED_LIMIT, TOKEN_LIMIT};
 pub use prepared::PreparedKeys;
 pub use ring_finder::Found;
+pub use threads::sendable;
 pub use verifier::{Rejection, Verifier};

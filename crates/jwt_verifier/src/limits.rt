@@ -10,8 +10,7 @@ ghost use Rattle.jwt_verifier.specs.Fitness.{token_limit, usual_limits};
 /// The greatest length of a token in bytes, unless the maker of a verifier sets another: 1 MiB.
 pub const TOKEN_LIMIT: usize = 1_048_576;
 
-/// The greatest number of bytes of prepared keys that a [`KeyRing`](crate::KeyRing) for many tokens
-/// keeps: 64 MiB.
+/// The greatest number of bytes of prepared keys, unless the maker of a verifier sets another: 64 MiB.
 pub const PREPARED_LIMIT: usize = 67_108_864;
 
 /// What a verifier allows its keys and its tokens.
@@ -23,17 +22,23 @@ pub struct Limits {
     /// Whether keys with which anyone can sign are allowed: secrets whose bytes are all 0, as in
     /// the empty one (RFC 2104 section 2).
     pub allows_blank: bool,
+    /// The greatest number of bytes of prepared keys. Keys beyond it verify too, with the same
+    /// result, and take longer. With 0 nothing is prepared, which is for a verifier of one token: to
+    /// prepare a key takes as long as one or two verifications.
+    pub max_prepared: usize,
 }
 
 impl Limits {
     /// Returns the limits of [`Verifier::new`](crate::Verifier::new): tokens of up to
-    /// [`TOKEN_LIMIT`] bytes, and no key with which anyone can sign.
+    /// [`TOKEN_LIMIT`] bytes, no key with which anyone can sign, and up to [`PREPARED_LIMIT`] bytes
+    /// of prepared keys.
     pub fn new() -> Limits
         ensures { result ≡ usual_limits }
     {
         Limits {
             max_len: TOKEN_LIMIT,
             allows_blank: false,
+            max_prepared: PREPARED_LIMIT,
         }
     }
 }

@@ -12,11 +12,12 @@ ghost use Rattle.jsonwebtoken.specs.Tests.{Compact, token_tests};
 ghost use Rattle.jwt_verifier.specs.Fitness.{usual_limits, AreFit, IsUnfit};
 ghost use Rattle.jwt_verifier.specs.Verifying.{call_with, order_of, IsBounded};
 
+use crate::entry::value_or_none;
 use crate::fitness::{Unfit, check_keys};
 use crate::keys::Keys;
 use crate::limits::Limits;
 use crate::prepared::PreparedKeys;
-use jsonwebtoken::errors::{Error, ErrorKind, Result as Checked, new_error};
+use jsonwebtoken::errors::{Error, Result as Checked};
 use jsonwebtoken::json::Claims;
 use jsonwebtoken::{
     Algorithm, DecodingKey, Refusal, TokenData, Validation, decode, decode_or_refusal,
@@ -25,9 +26,6 @@ use jsonwebtoken::{
 use jwt_keys::jwk_set::JwkSet;
 use std::alloc::Global;
 use std::result::Result;
-
-/// The greatest number of keys of a set that are prepared, each of which allocates.
-const PREPARED: usize = 4096;
 
 /// The reason for which a verifier does not accept a token.
 #[derive(Debug, Drop)]
@@ -79,12 +77,7 @@ impl Verifier {
             × AreFit limits.allows_blank validation.algorithms.items keys) }
         ensures err { IfErr result (IsUnfit limits.allows_blank validation.algorithms.items keys) }
     {
-        let prepared = prepare_fit(
-            alloc,
-            &keys,
-            validation.algorithms.as_slice(),
-            limits.allows_blank,
-        )?;
+        let prepared = prepare_fit(alloc, &keys, validation.algorithms.as_slice(), limits)?;
         Ok(Verifier {
             keys,
             validation,
@@ -197,45 +190,35 @@ fn prepare_fit(
     alloc: Global,
     keys: &Keys,
     algorithms: &[Algorithm],
-    allows_blank: bool,
+    limits: Limits,
 ) -> Result<PreparedKeys, Unfit>
-    ensures ok { OnOk result (AreFit allows_blank algorithms.now keys.now) }
-    ensures err { IfErr result (IsUnfit allows_blank algorithms.now keys.now) }
+    ensures ok { OnOk result (AreFit limits.allows_blank algorithms.now keys.now) }
+    ensures err { IfErr result (IsUnfit limits.allows_blank algorithms.now keys.now) }
 {
-    check_keys(alloc, keys, algorithms, allows_blank)?;
+    check_keys(alloc, keys, algorithms, limits.allows_blank)?;
     // bound to a name: the proof cannot refer to a call in tail position
-    let prepared = prepare(alloc, keys, algorithms)?;
+    let prepared = prepare(alloc, keys, algorithms, limits.max_prepared)?;
     Ok(prepared)
 }
 
-/// Prepares the keys for many tokens, with these algorithms.
-fn prepare(alloc: Global, keys: &Keys, algorithms: &[Algorithm]) -> Checked<PreparedKeys>
+/// Prepares the keys for many tokens, with these algorithms, up to this number of bytes.
+fn prepare(
+    alloc: Global,
+    keys: &Keys,
+    algorithms: &[Algorithm],
+    bytes: usize,
+) -> Checked<PreparedKeys>
     ensures { IfErr result IsMemory }
 {
-    let mut prepared = PreparedKeys::new(alloc);
+    let mut prepared = PreparedKeys::new(alloc, bytes);
     match keys {
-        Keys::One(key) => prepare_key(alloc, &mut prepared, key, algorithms)?,
+        Keys::One(key) => prepared.add(alloc, key, algorithms)?,
         Keys::Set(set) => prepare_set(alloc, &mut prepared, set, algorithms)?,
     }
     Ok(prepared)
 }
 
-/// Prepares a key to verify with these algorithms.
-fn prepare_key(
-    alloc: Global,
-    prepared: &mut PreparedKeys,
-    key: &DecodingKey,
-    algorithms: &[Algorithm],
-) -> Checked<()>
-    ensures { IfErr result IsMemory }
-{
-    for algorithm in algorithms {
-        prepared.add(alloc, *algorithm, key)?;
-    }
-    Ok(())
-}
-
-/// Prepares the first keys of a set. A key that is malformed is left out.
+/// Prepares the keys of a set, the first ones first. A key that is malformed is left out.
 fn prepare_set(
     alloc: Global,
     prepared: &mut PreparedKeys,
@@ -244,23 +227,10 @@ fn prepare_set(
 ) -> Checked<()>
     ensures { IfErr result IsMemory }
 {
-    for jwk in set.keys.iter().take(PREPARED) {
+    for jwk in &set.keys {
         if let Some(key) = value_or_none(DecodingKey::from_jwk(alloc, jwk))? {
-            prepare_key(alloc, prepared, &key, algorithms)?;
+            prepared.add(alloc, &key, algorithms)?;
         }
     }
     Ok(())
-}
-
-/// Returns the value that a call made, or `None` if it was refused for another reason than memory.
-fn value_or_none<R>(made: Checked<R>) -> Checked<Option<R>>
-    ensures { IfErr result IsMemory }
-{
-    match made {
-        Ok(value) => Ok(Some(value)),
-        Err(error) if matches!(error.kind(), ErrorKind::OutOfMemory) => {
-            Err(new_error(ErrorKind::OutOfMemory))
-        }
-        Err(_) => Ok(None),
-    }
 }
