@@ -107,7 +107,7 @@ func (t *Token) RawClaims() json.RawMessage {
 
 // Parse verifies a token with a key that accepts these algorithms. To verify several tokens, make a Verifier.
 func Parse(token string, key Key, algorithms []string, opts ...Option) (*Token, error) {
-	verifier, err := NewVerifier(key, algorithms, opts...)
+	verifier, err := newVerifier(key, algorithms, opts, forOneToken)
 	if err != nil {
 		return nil, err
 	}

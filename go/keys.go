@@ -96,7 +96,7 @@ func tried(key Key) (Key, error) {
 	}
 	var refusal error
 	for _, options := range forAnyKey {
-		made, err := newHandle(key, []byte(options), defaultLength)
+		made, err := newHandle(key, []byte(options), defaultLength, forOneToken)
 		if err == nil {
 			made.free()
 			return key, nil

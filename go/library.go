@@ -98,19 +98,28 @@ const (
 	anyLength                 = ^tokenLength(0)
 )
 
+// preparedSize is the greatest number of bytes that the prepared keys of a handle take. To prepare a key takes as long as one or two
+// verifications.
+type preparedSize = C.size_t
+
+const (
+	forManyTokens preparedSize = 0 // that of the library, JWT_PREPARED_LIMIT
+	forOneToken   preparedSize = C.JWT_PREPARE_NOTHING
+)
+
 // newHandle returns a handle of a key and options, or the refusal.
-func newHandle(key Key, options []byte, longest tokenLength) (*handle, error) {
+func newHandle(key Key, options []byte, longest tokenLength, prepared preparedSize) (*handle, error) {
 	made := &handle{}
 	keyAt, keyLen := slice(key.bytes())
 	optionsAt, optionsLen := slice(options)
 	var status C.uint32_t
 	switch key.kind {
 	case secretKey:
-		status = C.jwt_verifier_secret(keyAt, keyLen, optionsAt, optionsLen, longest, false, &made.verifier)
+		status = C.jwt_verifier_secret(keyAt, keyLen, optionsAt, optionsLen, longest, false, prepared, &made.verifier)
 	case singleKey:
-		status = C.jwt_verifier_key(keyAt, keyLen, optionsAt, optionsLen, longest, false, &made.verifier)
+		status = C.jwt_verifier_key(keyAt, keyLen, optionsAt, optionsLen, longest, false, prepared, &made.verifier)
 	default:
-		status = C.jwt_verifier_set(keyAt, keyLen, optionsAt, optionsLen, longest, false, &made.verifier)
+		status = C.jwt_verifier_set(keyAt, keyLen, optionsAt, optionsLen, longest, false, prepared, &made.verifier)
 	}
 	switch status {
 	case C.JWT_OK:

@@ -162,7 +162,7 @@ func signatureVerifier(public Key, algorithm string, header []byte) (*handles, e
 	if err != nil {
 		return nil, optionError("%v", err)
 	}
-	made, err := newHandles(public, options, anyLength)
+	made, err := newHandles(public, options, anyLength, forManyTokens)
 	if err != nil && !errors.Is(err, ErrOutOfMemory) {
 		return nil, fmt.Errorf("%w: %q", err, algorithm)
 	}

@@ -14,12 +14,13 @@ import (
 type Verifier struct{ made *verifying }
 
 type verifying struct {
-	asked   *options
-	options []byte
-	key     Key
-	set     *KeySet    // that of the key, or nil
-	mutex   sync.Mutex // one goroutine makes handles for all others
-	current atomic.Pointer[handlesOf]
+	asked    *options
+	options  []byte
+	key      Key
+	prepared preparedSize
+	set      *KeySet    // that of the key, or nil
+	mutex    sync.Mutex // one goroutine makes handles for all others
+	current  atomic.Pointer[handlesOf]
 }
 
 // handlesOf has the handles for a set that was fetched, or the reason for which there are none. For other keys there is no set.
@@ -64,6 +65,10 @@ func (Verifier) Format(state fmt.State, _ rune) {
 // NewVerifier returns a verifier with a key, for these algorithms, which have to be of one family: that of the key. If neither the key
 // nor any key of a set verifies with one of them, the error is ErrKey.
 func NewVerifier(key Key, algorithms []string, opts ...Option) (*Verifier, error) {
+	return newVerifier(key, algorithms, opts, forManyTokens)
+}
+
+func newVerifier(key Key, algorithms []string, opts []Option, prepared preparedSize) (*Verifier, error) {
 	asked, text, err := conditions(algorithms, opts)
 	if err != nil {
 		return nil, err
@@ -71,7 +76,7 @@ func NewVerifier(key Key, algorithms []string, opts ...Option) (*Verifier, error
 	if key.bytes == nil {
 		return nil, keyError("there is none")
 	}
-	made := &verifying{asked: asked, options: text, key: key}
+	made := &verifying{asked: asked, options: text, key: key, prepared: prepared}
 	if key.set != nil {
 		made.set = key.set()
 	}
@@ -159,7 +164,7 @@ func (v *verifying) latest() *handlesOf {
 	if last := v.current.Load(); last != nil && last.set == it.set {
 		return last
 	}
-	it.handles, it.err = newHandles(key, v.options, defaultLength)
+	it.handles, it.err = newHandles(key, v.options, defaultLength, v.prepared)
 	if it.set != nil && it.set.isEmpty() && isStatus(it.err, unfitKey) {
 		it.err = &joinedError{ErrFetch, it.err, errNotFetched.Error()}
 	}
@@ -175,8 +180,8 @@ func isStatus(err error, status uint32) bool {
 	return errors.As(err, &refused) && refused.Status == status
 }
 
-func newHandles(key Key, options []byte, longest tokenLength) (*handles, error) {
-	first, err := newHandle(key, options, longest)
+func newHandles(key Key, options []byte, longest tokenLength, prepared preparedSize) (*handles, error) {
+	first, err := newHandle(key, options, longest, prepared)
 	if err != nil {
 		return nil, err
 	}

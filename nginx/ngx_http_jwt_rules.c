@@ -261,7 +261,7 @@ ngx_http_jwt_make_verifiers(ngx_conf_t *cf, ngx_http_jwt_rules_t *rules)
 
         status = (key[i].is_set ? jwt_verifier_set : jwt_verifier_key)
                      (key[i].text.data, key[i].text.len,
-                      source[i].options.data, source[i].options.len, 0, 0,
+                      source[i].options.data, source[i].options.len, 0, 0, 0,
                       &source[i].verifier);
 
         if (status != JWT_OK) {
@@ -324,7 +324,7 @@ ngx_http_jwt_take_set(ngx_http_jwt_source_t *source, ngx_array_t *set)
 
     if (status == JWT_OK) {
         status = jwt_verifier_set(set->elts, set->nelts, source->options.data,
-                                  source->options.len, 0, 0, &next);
+                                  source->options.len, 0, 0, 0, &next);
     }
 
     if (status == JWT_OK) {

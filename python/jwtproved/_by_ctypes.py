@@ -27,9 +27,9 @@ class _Owned(Handle):
 class Handles:
     """Handles of one verifier. No handle is in two calls at once: each call takes an idle one, or shares another."""
 
-    def __init__(self, kind: str, key: bytes, options: bytes, longest: int = 0) -> None:
+    def __init__(self, kind: str, key: bytes, options: bytes, longest: int = 0, prepared: int = 0) -> None:
         self._first = _Owned()
-        check(getattr(library, f"jwt_verifier_{kind}")(*slices(key, options), longest, False, self._first))
+        check(getattr(library, f"jwt_verifier_{kind}")(*slices(key, options), longest, False, prepared, self._first))
         self._idle: list[_Owned] = []
 
     def decode(self, token: bytes, now: int) -> str:

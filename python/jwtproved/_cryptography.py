@@ -109,7 +109,9 @@ def of_any_pem(text: bytes) -> Any:
     if b"PRIVATE KEY-----" in text:
         return of_pem(text)
     try:
-        return (load_ssh_public_key if text.startswith((b"ssh-", b"ecdsa-sha2-")) else load_pem_public_key)(text)
+        if text.startswith((b"ssh-", b"ecdsa-sha2-")):
+            return load_ssh_public_key(text)
+        return load_pem_public_key(text)
     except (ValueError, UnsupportedAlgorithm):
         raise InvalidKeyError("Could not parse the provided public key.") from None
 

@@ -64,11 +64,11 @@ static __typeof__(&jwt_verifier_secret) make_of(const struct state *state, const
     return strcmp(kind, "key") == 0 ? state->make_of_key : state->make_of_set;
 }
 
-/* Handles(kind, key, options, longest=0): raises Refusal if the library makes no verifier. */
+/* Handles(kind, key, options, longest=0, prepared=0): raises Refusal if the library makes no verifier. */
 static PyObject *handles_new(PyTypeObject *type, PyObject *arguments, PyObject *names) {
     struct state *state = PyType_GetModuleState(type);
     const char *kind, *key, *options;
-    Py_ssize_t key_len, options_len, longest = 0;
+    Py_ssize_t key_len, options_len, longest = 0, prepared = 0;
     Handles *self;
     uint32_t status;
 
@@ -80,7 +80,8 @@ static PyObject *handles_new(PyTypeObject *type, PyObject *arguments, PyObject *
         PyErr_SetString(PyExc_TypeError, "Handles takes no keyword arguments");
         return NULL;
     }
-    if (!PyArg_ParseTuple(arguments, "sy#y#|n", &kind, &key, &key_len, &options, &options_len, &longest)) {
+    if (!PyArg_ParseTuple(arguments, "sy#y#|nn", &kind, &key, &key_len, &options, &options_len, &longest,
+                          &prepared)) {
         return NULL;
     }
     self = (Handles *)PyType_GenericAlloc(type, 0);
@@ -90,7 +91,7 @@ static PyObject *handles_new(PyTypeObject *type, PyObject *arguments, PyObject *
     self->state = state;
     self->is_of_secret = strcmp(kind, "secret") == 0;
     status = make_of(state, kind)((const uint8_t *)key, (size_t)key_len, (const uint8_t *)options, (size_t)options_len,
-                                  (size_t)longest, false, &self->first);
+                                  (size_t)longest, false, (size_t)prepared, &self->first);
     if (status != JWT_OK) {
         refuse(state, status, 0);
         Py_DECREF(self);

@@ -8,6 +8,9 @@ from ._status import Status
 
 ALGORITHMS = ("HS256", "HS384", "HS512", "RS256", "RS384", "RS512", "PS256", "PS384", "PS512", "ES256", "ES384", "EdDSA")
 
+# the bytes that the prepared keys of a verifier may take: those of the library, or so few that it prepares none, for one token
+PREPARED, PREPARE_NOTHING = 0, 1
+
 _FILE = "libjwtproved.so"
 PATH = os.environ.get("JWTPROVED_LIBRARY") or os.path.join(os.path.dirname(os.path.abspath(__file__)), _FILE)
 
@@ -22,7 +25,7 @@ _BYTES = [ctypes.c_char_p, ctypes.c_size_t]
 _BUFFER = [ctypes.c_char_p, ctypes.c_size_t, ctypes.POINTER(ctypes.c_size_t)]
 _NUMBER = ctypes.POINTER(ctypes.c_uint32)
 _HANDLE = ctypes.POINTER(Handle)
-_MAKE = [*_BYTES, *_BYTES, ctypes.c_size_t, ctypes.c_bool, _HANDLE]
+_MAKE = [*_BYTES, *_BYTES, ctypes.c_size_t, ctypes.c_bool, ctypes.c_size_t, _HANDLE]
 _PROTOTYPES: dict[str, list[Any]] = {
     "jwt_verifier_secret": _MAKE,
     "jwt_verifier_key": _MAKE,

@@ -9,7 +9,7 @@ from . import _cryptography
 from ._encoding import unsignable
 from ._handles import Handles
 from ._keys import Material, PyJWK, PyJWKSet, bytes_of, material_of, material_of_public
-from ._library import Refusal, answer, library, number_of, slices
+from ._library import PREPARED, Refusal, answer, library, number_of, slices
 from ._rules import wrong_type
 from ._signatures import ecdsa_signature
 from ._verifier import is_signed, signature_handles
@@ -40,7 +40,7 @@ class Signer:
     def __init__(self, private: Any, public: Material, algorithm: str) -> None:
         self._public, self._algorithm = public, algorithm
         try:
-            self._verifier = signature_handles(public, algorithm)
+            self._verifier = signature_handles(public, algorithm, prepared=PREPARED)
         except Refusal as refusal:
             if refusal.status != Status.UNFIT_KEY:
                 raise

@@ -8,7 +8,7 @@ from typing import Any
 from . import _refusals
 from ._handles import Handles
 from ._keys import Key, Material, material_of
-from ._library import Refusal, parts
+from ._library import PREPARE_NOTHING, PREPARED, Refusal, parts
 from ._parts import parts_of
 from ._rules import Moment, Names, Rules, further_tests, options_of, plain, plain_number, rules_of, wrong_type
 from ._status import Status
@@ -52,10 +52,10 @@ def moment_of(now: float | None) -> int:
 _SIGNATURE_IS_ACCEPTED = 14
 
 
-def signature_handles(material: Material, algorithm: str, crit: Iterable[str] = ()) -> Handles:
+def signature_handles(material: Material, algorithm: str, crit: Iterable[str] = (), prepared: int = PREPARE_NOTHING) -> Handles:
     """Returns the library's verifier of signatures with a key, by one algorithm, of tokens of any length. Raises Refusal if it makes none."""
     asked = {"algorithms": [algorithm], "understood_crit": list(crit), "required_spec_claims": [], "validate_exp": False, "validate_aud": False}
-    return Handles(material.kind, material.text, json.dumps(asked).encode(), 2**62)
+    return Handles(material.kind, material.text, json.dumps(asked).encode(), 2**62, prepared)
 
 
 def is_signed(handles: Handles, token: bytes) -> bool:
@@ -69,37 +69,48 @@ def is_signed(handles: Handles, token: bytes) -> bool:
     return True
 
 
-def _made(material: Material, rules: Rules, algorithms: tuple[str, ...], longest: int) -> Handles | None:
+def _made(material: Material, rules: Rules, algorithms: tuple[str, ...], longest: int, prepared: int) -> Handles | None:
     """Returns the library's verifier for these algorithms, or None if the key is for none of them."""
     try:
-        return Handles(material.kind, material.text, rules.text(algorithms), longest)
+        return Handles(material.kind, material.text, rules.text(algorithms), longest, prepared)
     except Refusal as refusal:
         if refusal.status == Status.UNFIT_KEY:
             return None
         raise _refusals.exception_of_texts(refusal) from None
 
 
-class Checker:
-    """Verifies tokens with a key under rules: a Verifier without the checks of its arguments."""
+def _all_made(material: Material, rules: Rules, longest: int, prepared: int) -> tuple[Handles, dict[str, Handles]]:
+    """Returns the library's verifier for all algorithms, or, of a set that serves several, one for each of them by its name besides."""
+    listed = tuple(it for it in rules.algorithms if material.algorithm in (None, it))
+    is_last = material.kind == "set" or len(listed) == 1
+    made = {it: _made(material, rules, (it,), longest, prepared if is_last else PREPARE_NOTHING) for it in listed}
+    by_name = {name: handles for name, handles in made.items() if handles is not None}
+    if not by_name:
+        which = "each key of the set has no kid, or" if material.kind == "set" else "the key"
+        raise InvalidKeyError(f"{which} is for none of the algorithms {', '.join(rules.algorithms)}, or does not serve")
+    first = next(iter(by_name.values()))
+    # the library wants one family, which all algorithms of one key are of; of a set, the header names the algorithm
+    if material.kind == "set":
+        return first, by_name if len(by_name) > 1 else {}
+    return first if is_last else _made(material, rules, tuple(by_name), longest, prepared) or first, {}
 
-    def __init__(self, material: Material, rules: Rules, longest: int = 0) -> None:
-        listed = tuple(it for it in rules.algorithms if material.algorithm in (None, it))
-        made = {it: _made(material, rules, (it,), longest) for it in listed}
-        by_name = {name: handles for name, handles in made.items() if handles is not None}
-        if not by_name:
-            which = "each key of the set has no kid, or" if material.kind == "set" else "the key"
-            raise InvalidKeyError(f"{which} is for none of the algorithms {', '.join(rules.algorithms)}, or does not serve")
-        self._first = next(iter(by_name.values()))
-        # the library wants one family, which all algorithms of one key are of; of a set, the header names the algorithm
-        self._by_name: dict[str, Handles] = {}
-        if len(by_name) > 1 and material.kind == "set":
-            self._by_name = by_name
-        elif len(by_name) > 1:
-            self._first = _made(material, rules, tuple(by_name), longest) or self._first
+
+class Checker:
+    """Verifies tokens with a key under rules: a Verifier without the checks of its arguments. With `waits` the key is prepared when the
+    second token comes, since that takes as long as one or two verifications."""
+
+    def __init__(self, material: Material, rules: Rules, longest: int = 0, waits: bool = False) -> None:
+        self._source = material, rules, longest
+        self._tokens_unprepared = 2 if waits else 0
+        self._first, self._by_name = _all_made(*self._source, PREPARE_NOTHING if waits else PREPARED)
         self._further = further_tests(rules)
         self._unlike = None if not rules.audience else "Audience doesn't match (strict)" if rules.option("strict_aud") else "Audience doesn't match"
 
     def decode(self, token: bytes, now: int) -> dict[str, Any]:
+        if self._tokens_unprepared:
+            self._tokens_unprepared -= 1
+            if not self._tokens_unprepared:
+                self._first, self._by_name = _all_made(*self._source, PREPARED)
         handles = self._handles_for(token) if self._by_name else self._first
         try:
             said = handles.decode(token, now)
@@ -142,7 +153,7 @@ class Refuser:
 @functools.lru_cache(maxsize=64)
 def checker_of(material: Material, rules: Rules) -> Checker:
     """Returns a checker, which is made once for the keys and rules that were used last."""
-    return Checker(material, rules)
+    return Checker(material, rules, waits=material.kind != "secret")
 
 
 class Verifier:

@@ -49,19 +49,22 @@ static uint32_t make(struct jwt_verifier *verifier) {
 }
 
 uint32_t jwt_verifier_secret(const uint8_t *secret, size_t secret_len, const uint8_t *options, size_t options_len,
-                             size_t max_token_len, bool allows_blank, struct jwt_verifier *verifier) {
-    (void)secret, (void)options, (void)options_len, (void)max_token_len, (void)allows_blank;
+                             size_t max_token_len, bool allows_blank, size_t max_prepared,
+                             struct jwt_verifier *verifier) {
+    (void)secret, (void)options, (void)options_len, (void)max_token_len, (void)allows_blank, (void)max_prepared;
     return secret_len == 3 ? JWT_UNFIT_KEY : make(verifier);
 }
 
 uint32_t jwt_verifier_key(const uint8_t *key, size_t key_len, const uint8_t *options, size_t options_len,
-                          size_t max_token_len, bool allows_blank, struct jwt_verifier *verifier) {
-    return jwt_verifier_secret(key, key_len, options, options_len, max_token_len, allows_blank, verifier);
+                          size_t max_token_len, bool allows_blank, size_t max_prepared,
+                          struct jwt_verifier *verifier) {
+    return jwt_verifier_secret(key, key_len, options, options_len, max_token_len, allows_blank, max_prepared, verifier);
 }
 
 uint32_t jwt_verifier_set(const uint8_t *set, size_t set_len, const uint8_t *options, size_t options_len,
-                          size_t max_token_len, bool allows_blank, struct jwt_verifier *verifier) {
-    return jwt_verifier_secret(set, set_len, options, options_len, max_token_len, allows_blank, verifier);
+                          size_t max_token_len, bool allows_blank, size_t max_prepared,
+                          struct jwt_verifier *verifier) {
+    return jwt_verifier_secret(set, set_len, options, options_len, max_token_len, allows_blank, max_prepared, verifier);
 }
 
 uint32_t jwt_verifier_share(struct jwt_verifier *verifier, struct jwt_verifier *other) {

@@ -328,7 +328,7 @@ pub fn decode<T: DeserializeOwned>(
         return Err(ErrorKind::InvalidAlgorithm.into());
     }
     let token = token.as_ref();
-    let claims = Verifier::new(key, validation)?.decode(token)?.claims;
+    let claims = Verifier::for_one_token(key, validation)?.decode(token)?.claims;
     Ok(TokenData { header: decode_header(token)?, claims })
 }
 

@@ -2,7 +2,7 @@
 
 use crate::errors::{Cause, Error, ErrorKind, Result};
 use crate::library::calls::{self, Kind};
-use crate::library::handle::Handle;
+use crate::library::handle::{Handle, Use};
 use crate::validation::{self, argument};
 use crate::{Algorithm, Refusal, Validation, Verified, Verifier, decode_header, status};
 use serde::de::DeserializeOwned;
@@ -399,7 +399,7 @@ fn usable(text: &str) -> Result<Fetched> {
 fn serves(set: &[u8]) -> std::result::Result<(), u32> {
     for algorithms in FOR_ANY_KEY {
         let options = serde_json::json!({ "algorithms": algorithms }).to_string();
-        let made = Handle::new(Kind::Set, set, &options, 0).map(|_| ());
+        let made = Handle::new(Kind::Set, set, &options, 0, Use::Once).map(|_| ());
         if made != Err(status::UNFIT_KEY) {
             return made;
         }

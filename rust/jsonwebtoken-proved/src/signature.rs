@@ -3,7 +3,7 @@
 use crate::base64::{self, URL_SAFE};
 use crate::errors::{Error, ErrorKind, Result};
 use crate::library::calls::{self, Signed};
-use crate::library::handle::Handle;
+use crate::library::handle::{Handle, Use};
 use crate::{Algorithm, DecodingKey, Header, TokenData, Validation, validation};
 use serde::Serialize;
 use serde::de::DeserializeOwned;
@@ -71,7 +71,7 @@ pub(crate) fn is_accepted(key: &DecodingKey, algorithm: Algorithm, message: &[u8
     let header = crate::decode_header(&token).map_err(|_| not_of_a_token())?;
     let options = validation::of_signature_alone(algorithm, header.crit.as_deref().unwrap_or_default());
     let (kind, text) = key.material()?;
-    let mut handle = Handle::new(kind, text, &options, message.len() + 2000).map_err(Error::from_key_status)?;
+    let mut handle = Handle::new(kind, text, &options, message.len() + 2000, Use::Once).map_err(Error::from_key_status)?;
     match handle.decode(&token, 0) {
         Ok(_) => Ok(true),
         Err(denied) => match Error::from_status(denied.status).into_kind() {

@@ -207,7 +207,7 @@ mod tests {
     use super::{Algorithm, ErrorKind, Validation, get_current_timestamp, seconds_of};
     use crate::errors::Error;
     use crate::library::calls::{Kind, encode};
-    use crate::library::handle::Handle;
+    use crate::library::handle::{Handle, Use};
     use std::time::{Duration, UNIX_EPOCH};
 
     /// RFC 7519 sections 4.1.4 and 4.1.5, and that claims that are asked for are required.
@@ -233,7 +233,7 @@ mod tests {
         for (claims, now, wanted) in rows {
             let token = encode(r#"{"alg":"HS256"}"#, claims, SECRET).unwrap();
             for options in [ours.as_str(), of_the_library] {
-                let answer = Handle::new(Kind::Secret, SECRET, options, 0).unwrap().decode(token.as_bytes(), now);
+                let answer = Handle::new(Kind::Secret, SECRET, options, 0, Use::Once).unwrap().decode(token.as_bytes(), now);
                 assert_eq!(
                     answer.err().map(|it| Error::from_status(it.status).into_kind()),
                     wanted,

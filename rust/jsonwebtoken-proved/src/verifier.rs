@@ -2,7 +2,7 @@
 
 use crate::errors::{Error, Result};
 use crate::library::calls::{self, Kind};
-use crate::library::handle::{Denied, Handle};
+use crate::library::handle::{Denied, Handle, Use};
 use crate::validation::{self, argument};
 use crate::{DecodingKey, Validation};
 use serde::de::DeserializeOwned;
@@ -120,7 +120,7 @@ impl Verifier {
     /// [`ErrorKind::MissingAlgorithm`]: crate::errors::ErrorKind::MissingAlgorithm
     pub fn new(key: &DecodingKey, validation: &Validation) -> Result<Verifier> {
         let (kind, text) = key.material()?;
-        Verifier::made(kind, text, validation, 0)
+        Verifier::made(kind, text, validation, 0, Use::Often)
     }
 
     /// Returns the verifier of a JSON Web Key Set (RFC 7517 section 5), of which a token names a key by its `kid`, and conditions. A key
@@ -132,7 +132,7 @@ impl Verifier {
     /// [`ErrorKind::UnusableKey`](crate::errors::ErrorKind::UnusableKey).
     pub fn from_jwk_set(set: &str, validation: &Validation) -> Result<Verifier> {
         calls::check(Kind::Set, set.as_bytes()).map_err(Error::from_key_status)?;
-        Verifier::made(Kind::Set, set.as_bytes(), validation, 0)
+        Verifier::made(Kind::Set, set.as_bytes(), validation, 0, Use::Often)
     }
 
     /// Returns the verifier of a key and conditions like [`Verifier::new`], for tokens of at most `longest` bytes. Reading a token
@@ -147,11 +147,17 @@ impl Verifier {
             return Err(argument("longest is 0"));
         }
         let (kind, text) = key.material()?;
-        Verifier::made(kind, text, validation, longest)
+        Verifier::made(kind, text, validation, longest, Use::Often)
     }
 
-    fn made(kind: Kind, key: &[u8], validation: &Validation, longest: usize) -> Result<Verifier> {
-        let made = Handle::new(kind, key, &validation.options()?, longest);
+    /// Returns the verifier of a key and conditions like [`Verifier::new`], for one token.
+    pub(crate) fn for_one_token(key: &DecodingKey, validation: &Validation) -> Result<Verifier> {
+        let (kind, text) = key.material()?;
+        Verifier::made(kind, text, validation, 0, Use::Once)
+    }
+
+    fn made(kind: Kind, key: &[u8], validation: &Validation, longest: usize, planned: Use) -> Result<Verifier> {
+        let made = Handle::new(kind, key, &validation.options()?, longest, planned);
         let first = made.map_err(Error::from_key_status)?;
         Ok(Verifier { handles: Mutex::new(Handles { first, idle: Vec::new() }) })
     }

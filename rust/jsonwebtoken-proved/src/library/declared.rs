@@ -16,6 +16,7 @@ extern "C" {
         options_len: usize,
         max_token_len: usize,
         allows_blank: bool,
+        max_prepared: usize,
         verifier: *mut Verifier,
     ) -> u32;
     pub fn jwt_verifier_key(
@@ -25,6 +26,7 @@ extern "C" {
         options_len: usize,
         max_token_len: usize,
         allows_blank: bool,
+        max_prepared: usize,
         verifier: *mut Verifier,
     ) -> u32;
     pub fn jwt_verifier_set(
@@ -34,6 +36,7 @@ extern "C" {
         options_len: usize,
         max_token_len: usize,
         allows_blank: bool,
+        max_prepared: usize,
         verifier: *mut Verifier,
     ) -> u32;
     pub fn jwt_verifier_share(verifier: *mut Verifier, other: *mut Verifier) -> u32;

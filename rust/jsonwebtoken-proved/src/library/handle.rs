@@ -5,7 +5,26 @@ use super::declared;
 use std::ptr;
 
 /// A call that makes a verifier.
-type Make = unsafe extern "C" fn(*const u8, usize, *const u8, usize, usize, bool, *mut declared::Verifier) -> u32;
+type Make = unsafe extern "C" fn(*const u8, usize, *const u8, usize, usize, bool, usize, *mut declared::Verifier) -> u32;
+
+/// The tokens that a verifier is made for: whether it keeps its keys prepared, which takes as long as one or two verifications.
+#[derive(Clone, Copy)]
+pub enum Use {
+    /// For one token: nothing is prepared (`JWT_PREPARE_NOTHING`).
+    Once,
+    /// For many tokens: keys are prepared up to the library's limit.
+    Often,
+}
+
+impl Use {
+    /// Returns the greatest number of bytes of prepared keys, as the library takes it; 0 stands for its limit.
+    fn max_prepared(self) -> usize {
+        match self {
+            Use::Once => 1,
+            Use::Often => 0,
+        }
+    }
+}
 
 /// A verifier of the library. Calls take it by `&mut`, so that no two have it at once.
 pub struct Handle(declared::Verifier);
@@ -32,7 +51,7 @@ impl Handle {
     }
 
     /// Returns the verifier of a key and options, for tokens of at most so many bytes; 0 stands for the library's limit.
-    pub fn new(kind: Kind, key: &[u8], options: &str, max_token_len: usize) -> Result<Handle, u32> {
+    pub fn new(kind: Kind, key: &[u8], options: &str, max_token_len: usize, planned: Use) -> Result<Handle, u32> {
         let call: Make = match kind {
             Kind::Secret => declared::jwt_verifier_secret,
             Kind::Jwk => declared::jwt_verifier_key,
@@ -41,7 +60,16 @@ impl Handle {
         let mut made = Handle::none();
         // SAFETY: each slice has the length that is given, and the verifier is none
         let status = unsafe {
-            call(key.as_ptr(), key.len(), options.as_ptr(), options.len(), max_token_len, false, &mut made.0)
+            call(
+                key.as_ptr(),
+                key.len(),
+                options.as_ptr(),
+                options.len(),
+                max_token_len,
+                false,
+                planned.max_prepared(),
+                &mut made.0,
+            )
         };
         checked(status)?;
         Ok(made)
