@@ -66,7 +66,7 @@ int main(int count, char **words) {
     read_text(&set, words[2], "set");
     read_text(&options, words[2], "options");
     if (is_verifier &&
-        jwt_verifier_set(set.bytes, set.len, options.bytes, options.len, 0, false, &verifier) != JWT_OK) {
+        jwt_verifier_set(set.bytes, set.len, options.bytes, options.len, 0, false, 0, &verifier) != JWT_OK) {
         fprintf(stderr, "speed: no verifier is made of %s.set and %s.options\n", words[2], words[2]);
         return 1;
     }
