@@ -108,8 +108,9 @@ class Checker:
 
     def decode(self, token: bytes, now: int) -> dict[str, Any]:
         if self._tokens_unprepared:
-            self._tokens_unprepared -= 1
-            if not self._tokens_unprepared:
+            # two threads may both come to 0
+            left = self._tokens_unprepared = max(self._tokens_unprepared - 1, 0)
+            if not left:
                 self._first, self._by_name = _all_made(*self._source, PREPARED)
         handles = self._handles_for(token) if self._by_name else self._first
         try:
