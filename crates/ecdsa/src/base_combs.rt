@@ -27,7 +27,7 @@ pub trait BaseCombs: BaseMultiples {
 }
 
 // The forms of x and y of each multiple of P-256's base point, each in two parts, of which the low
-// one is the first. There is none by 0.
+// one is the first. Row 0 is not used.
 static COMB_256: [[u128; 4]; 256] = [
     [
         0x00000000000000000000000000000000,
@@ -1568,7 +1568,7 @@ static COMB_256: [[u128; 4]; 256] = [
 ];
 
 // The forms of x and y of each multiple of P-384's base point, each in three parts, of which the
-// low one is the first. There is none by 0.
+// low one is the first. Row 0 is not used.
 static COMB_384: [[u128; 6]; 256] = [
     [
         0x00000000000000000000000000000000,

@@ -1,4 +1,4 @@
--- What a finder of keys finds: the key of a token by its source, one key or a set, and the tests that a call makes
+-- The key of a token by the source of keys that a finder stands for, one key or a set, and the tests that a call makes
 -- by that source.
 use Rattle.std.specs.Prelude.{◌≡◌, ◌∷◌, ◌++◌, ℕ, List, [], Option, None, Result}
 use Rattle.jwt_base.specs.declared.algorithms.Algorithm.{Algorithm}

@@ -1,4 +1,4 @@
--- What a step of a call says by its result: the tests that it makes hold, or which of them fails.
+-- The result of a step of a call: the tests that it makes hold, or which of them fails.
 use Rattle.std.specs.Prelude.{◌≡◌, ◌⊎◌, ℕ, List, Some, Result, Ok, Err}
 use Rattle.serde_json.specs.Data.{Data}
 use Rattle.jwt_base.specs.Base64Url.{IsPart}

@@ -1,4 +1,4 @@
--- Whether a member of a JSON object has a text, as it is told to C.
+-- The statuses for C that say whether a member of a JSON object has a text.
 use Rattle.std.specs.Prelude.{◌≡◌, ◌⊎◌, ◌||◌, ℕ, List, Bool, true, false, length, nat_eq, nat_lt}
 use Rattle.std.specs.List.{filter, list_any, slice_split}
 use Rattle.std.specs.Option.{option_map_or}

@@ -62,7 +62,7 @@ fn run_verify_lines<'a, R: Files + Input + Print + Eprint + Clock + AllocGlobal>
     drop(loaded);
     drop(validation);
     let tally = tally?;
-    // here, and not by the answer: that would take memory after the lines are written
+    // not in the answer, whose text would be allocated after the lines are written
     let _ = eprintln!(rt; "{} accepted, {} refused", tally.accepted, tally.refused);
     Ok(Answer {
         status: tally.status,

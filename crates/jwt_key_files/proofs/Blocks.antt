@@ -23,7 +23,7 @@ use Rattle.jwt_key_files.proofs.Prefixes.{heads, tails}
 abbrev pub IsPlain : ℕ → Type 0
 IsPlain c = c ≡ 45 → ⊥
 
--- base64 characters are none
+-- the same as a test, which each character of base64 meets
 is_plain : ℕ → Bool
 is_plain c = not (c == 45)
 

@@ -62,8 +62,8 @@ impl KeyRing {
     /// It prepares the keys to verify with these algorithms, or with its own one if a key of a set
     /// is for one (RFC 7517 section 4.4), from the first key to the last, as long as they take at
     /// most `prepared` bytes together; the others verify too, with the same result. A secret takes
-    /// 1 KiB and its length for each of the algorithms, and an RSA key 1 KiB and four times the
-    /// length of its modulus. Nothing is prepared of other keys, which take no bytes.
+    /// 1 KiB and its length for each of the algorithms, an RSA key 1 KiB and four times the length
+    /// of its modulus, and a key on P-256, P-384 or of Ed25519 16, 24 or 32 KiB.
     pub fn new(
         alloc: Global,
         keys: Keys,

@@ -1,9 +1,9 @@
 //! A verifier, which is made once from keys and options, and then decides many tokens.
 //!
 //! [`Verifier`] prepares its [`Keys`], refuses those with which anyone can sign ([`Unfit`]), and
-//! verifies all twelve algorithms. [`Limits`] bounds the length of a token. [`PreparedKeys`] is the
-//! provider that it keeps secrets and RSA keys with. [`KeyRing`] is a finder of keys, each of which
-//! is found by an index of `kid` and kept prepared, those of curves too.
+//! verifies all twelve algorithms. [`Limits`] bounds the length of a token and what is kept
+//! prepared. [`PreparedKeys`] is the provider that it keeps prepared keys with. [`KeyRing`] is a
+//! finder of keys, each of which is found by an index of `kid` and kept prepared.
 //!
 //! ```rust
 //! match Verifier::with_limits(alloc, keys, validation, limits) {
