@@ -70,17 +70,20 @@ void *__wrap_aligned_alloc(size_t align, size_t size) {
 
 static bool is_few;
 
+/* the greatest number of bytes of prepared keys */
+static size_t max_prepared = 0;
+
 enum source { OF_SET, OF_KEY, OF_SECRET };
 
 static uint32_t make(enum source source, const char *keys, const char *options, size_t max_len, bool allows_blank,
                      struct jwt_verifier *verifier) {
     switch (source) {
     case OF_SET:
-        return jwt_verifier_set(BYTES(keys), BYTES(options), max_len, allows_blank, 0, verifier);
+        return jwt_verifier_set(BYTES(keys), BYTES(options), max_len, allows_blank, max_prepared, verifier);
     case OF_KEY:
-        return jwt_verifier_key(BYTES(keys), BYTES(options), max_len, allows_blank, 0, verifier);
+        return jwt_verifier_key(BYTES(keys), BYTES(options), max_len, allows_blank, max_prepared, verifier);
     default:
-        return jwt_verifier_secret(BYTES(keys), BYTES(options), max_len, allows_blank, 0, verifier);
+        return jwt_verifier_secret(BYTES(keys), BYTES(options), max_len, allows_blank, max_prepared, verifier);
     }
 }
 
@@ -572,24 +575,26 @@ static void members(void) {
 }
 
 /* Verifies a token so many times, by a verifier or by the call that reads the set each time. Returns whether one of them is refused. */
-static int verify(bool is_prepared, const char *set, const char *options, const char *token, int count) {
+static int verify(const char *way, const char *set, const char *options, const char *token, int count) {
+    bool is_anew = strcmp(way, "anew") == 0;
     struct jwt_verifier verifier = JWT_VERIFIER_NONE;
     uint8_t room[ROOM];
     size_t len;
     uint64_t last;
     uint32_t test, status = JWT_OK;
-    if (is_prepared)
-        status = jwt_verifier_set(BYTES(set), BYTES(options), 0, false, 0, &verifier);
+    if (!is_anew)
+        status = jwt_verifier_set(BYTES(set), BYTES(options), 0, false,
+                                  strcmp(way, "unprepared") == 0 ? JWT_PREPARE_NOTHING : 0, &verifier);
     for (; status == JWT_OK && count > 0; count--)
-        status = is_prepared ? jwt_verifier_decode(&verifier, BYTES(token), 1700000000, room, ROOM, &len, &last, &test)
-                             : jwt_decode_set(BYTES(token), BYTES(set), BYTES(options), 1700000000, room, ROOM, &len);
+        status = is_anew ? jwt_decode_set(BYTES(token), BYTES(set), BYTES(options), 1700000000, room, ROOM, &len)
+                         : jwt_verifier_decode(&verifier, BYTES(token), 1700000000, room, ROOM, &len, &last, &test);
     jwt_verifier_free(&verifier);
     return status != JWT_OK;
 }
 
 int main(int argc, char **argv) {
-    if (argc == 6) /* prepared|anew SET OPTIONS TOKEN COUNT, for tests/verified_once */
-        return verify(strcmp(argv[1], "prepared") == 0, argv[2], argv[3], argv[4], atoi(argv[5]));
+    if (argc == 6) /* prepared|unprepared|anew SET OPTIONS TOKEN COUNT, for tests/verified_once */
+        return verify(argv[1], argv[2], argv[3], argv[4], atoi(argv[5]));
     is_few = argc > 1 && strcmp(argv[1], "few") == 0;
     size_t step = is_few ? 400 : 23;
     if (is_few) rounds = 10;
@@ -599,6 +604,12 @@ int main(int argc, char **argv) {
     if (!is_few) {
         compare_all(OF_SET, sets, COUNT(sets), step);
         compare_all(OF_KEY, keys, COUNT(keys), step);
+        /* none is kept prepared, and as many as take no more than one of P-256 */
+        for (size_t i = 0; i < 2; i++) {
+            max_prepared = i ? 16384 : JWT_PREPARE_NOTHING;
+            compare_all(OF_SET, sets, COUNT(sets), 10 * step);
+        }
+        max_prepared = 0;
         large_sets();
         is("answers that were compared", compared > 5000, 1);
     }
