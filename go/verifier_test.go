@@ -82,7 +82,7 @@ func TestFailedTests(t *testing.T) {
 	seen := map[string]int{}
 	rowsOf(t, vectors+"failed_tests.jsonl", func(line []byte) {
 		var it failing
-		if json.Unmarshal(line, &it) != nil || it.Call != "failed_test_with_set" && it.Call != "failed_test" || it.Provider != nil || leftOut[it.ID] ||
+		if json.Unmarshal(line, &it) != nil || it.Call != "failed_test, set" && it.Call != "failed_test" || it.Provider != nil || leftOut[it.ID] ||
 			it.Call == "failed_test" && it.Key.Secret == "" {
 			return
 		}

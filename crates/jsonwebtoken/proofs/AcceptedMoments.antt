@@ -9,12 +9,19 @@ use Rattle.jwt_validation.specs.Options.{Options}
 use Rattle.jwt_validation.specs.declared.interval.Moments.{Moments}
 use Rattle.serde_json.specs.Data.{Data}
 use Rattle.jsonwebtoken.specs.Accepted.{IsAcceptedAt, AreAcceptedMoments}
+use Rattle.jsonwebtoken.specs.Finder.{order_by}
 use Rattle.jsonwebtoken.specs.Laws.{HasMoments, IsWithin}
 use Rattle.jsonwebtoken.specs.Order.{Passes, IsFirstFailed}
+use Rattle.jsonwebtoken.specs.Tests.{Given, InSet}
 use Rattle.jsonwebtoken.specs.Tests.{Call, Compact, KeySource, Test, Contents, header_call, verifying_call, token_tests}
 use Rattle.jsonwebtoken.specs.private_clauses.Claimed.{value_tests, AreClaimed}
 use Rattle.jsonwebtoken.proofs.EachTest.{among, are_in, same_claims}
 use Rattle.jsonwebtoken.proofs.Engine.{not_passed}
+
+-- each order reads the payload
+pub reads_value_by : (keys : KeySource) → are_in value_tests (order_by keys) ≡ true
+reads_value_by (Given k) = refl
+reads_value_by (InSet ks) = refl
 
 module _ {T : Type 0} (text : List ℕ) (keys : KeySource) (o : Options) (refusal : Algorithm → Key → Option Kind)
     (accepts : Algorithm → Key → List ℕ → List ℕ → Type 0) (reads : Data → T → Type 0) (order : List Test) where

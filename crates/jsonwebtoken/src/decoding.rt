@@ -23,8 +23,8 @@ pub(crate) mod steps;
 
 pub use crate::decoding::engine::{decode_by, decode_by_or_refusal, decode_by_own_algorithm};
 pub use crate::decoding::finder::KeyFinder;
-pub use crate::decoding::key_set::{decode_with_set, decode_with_set_or_refusal};
-use crate::decoding::one_key::OneKey;
+pub use crate::decoding::key_set::{KeysOfSet, decode_with_set, decode_with_set_or_refusal};
+pub use crate::decoding::one_key::OneKey;
 pub use crate::decoding::own::decode_with_set_by_own_algorithm;
 use crate::decoding::steps::{read_header_noting, token_parts};
 use crate::refusal::{Refusal, Test};

@@ -1,17 +1,16 @@
 //! The first test of a token that fails.
 
-ghost use Rattle.jsonwebtoken.specs.Calls.{decoding, decoding_by_set};
+ghost use Rattle.jwt_validation.specs.OptionsOf.{options_of};
+ghost use Rattle.jsonwebtoken.specs.Finder.{order_by};
+ghost use Rattle.jsonwebtoken.specs.Finding.{finding};
 ghost use Rattle.jsonwebtoken.specs.Order.{FindsFailed};
 ghost use Rattle.jsonwebtoken.specs.private_clauses.Refused.{IsFailedTest};
-ghost use Rattle.jsonwebtoken.specs.Tests.{decode_order, set_order, token_tests};
+ghost use Rattle.jsonwebtoken.specs.Tests.{token_tests};
 
-use crate::decoding::{decode_or_refusal, decode_with_set_or_refusal};
+use crate::decoding::{KeyFinder, decode_by_or_refusal};
 use crate::refusal::{Refusal, Test};
 use jwt_base::errors::{ErrorKind, Result};
 use jwt_base::json::Claims;
-use jwt_keys::decoding_key::DecodingKey;
-use jwt_keys::jwk_set::JwkSet;
-use jwt_keys::provider::CryptoProvider;
 use jwt_validation::Validation;
 use std::alloc::Global;
 
@@ -28,44 +27,25 @@ pub(crate) fn test_of(refusal: Option<Refusal>) -> Result<Option<Test>>
     }
 }
 
-/// Returns the first test of [`decode`](crate::decode) that fails for these arguments, or `None` if
-/// none does, and then `decode` accepts the token. The order of the tests is that of `decode`, and
-/// `time` is in whole seconds since 1970-01-01 00:00:00 UTC. The only refusal is `OutOfMemory`.
+/// Returns the first test of [`decode_by`](crate::decode_by) that fails for these arguments, or
+/// `None` if none does, and then it accepts the token. The order of the tests is that of `decode_by`,
+/// and `time` is in whole seconds since 1970-01-01 00:00:00 UTC. The only refusal is `OutOfMemory`.
 ///
-/// Whoever issued a refused token need not be told which test failed: the answer is for those who
-/// run the verifier.
-pub fn failed_test<P: CryptoProvider, T: Claims>(
+/// With [`OneKey`](crate::OneKey) these are the tests of [`decode`](crate::decode), and with
+/// [`KeysOfSet`](crate::KeysOfSet) those of [`decode_with_set`](crate::decode_with_set). Whoever
+/// issued a refused token need not be told which test failed: the answer is for those who run the
+/// verifier.
+pub fn failed_test<K: KeyFinder, T: Claims>(
     alloc: Global,
-    provider: &P,
+    keys: &K,
     token: &[u8],
-    key: &DecodingKey,
     validation: &Validation,
     time: u64,
 ) -> Result<Option<Test>>
-    ensures { let call = decoding P.CryptoProvider T.Claims
-        provider.now token.now key.now validation.now time in
-        FindsFailed (token_tests call) decode_order result }
+    ensures { let call = finding K.KeyFinder T.Claims
+        keys.now token.now (options_of validation.now) time in
+        FindsFailed (token_tests call) (order_by (K.source keys.now)) result }
 {
-    let found = decode_or_refusal::<P, T>(alloc, provider, token, key, validation, time);
-    test_of(found.err())
-}
-
-/// Returns the first test of [`decode_with_set`](crate::decode_with_set) that fails for these
-/// arguments, or `None` if none does, and then `decode_with_set` accepts the token. The order of
-/// the tests is that of `decode_with_set`, and `time` is in whole seconds since 1970-01-01 00:00:00
-/// UTC. The only refusal is `OutOfMemory`.
-pub fn failed_test_with_set<P: CryptoProvider, T: Claims>(
-    alloc: Global,
-    provider: &P,
-    token: &[u8],
-    set: &JwkSet,
-    validation: &Validation,
-    time: u64,
-) -> Result<Option<Test>>
-    ensures { let call = decoding_by_set P.CryptoProvider T.Claims
-        provider.now token.now set.now.keys.items validation.now time in
-        FindsFailed (token_tests call) set_order result }
-{
-    let found = decode_with_set_or_refusal::<P, T>(alloc, provider, token, set, validation, time);
+    let found = decode_by_or_refusal::<K, T>(alloc, keys, token, validation, time);
     test_of(found.err())
 }

@@ -21,16 +21,12 @@ ghost use Rattle.jwt_c_calls.specs.Calls.{Answer, Leaves, LeavesSigned, AnswersH
 ghost use Rattle.jwt_c_calls.specs.Calls.{AnswersSet, AnswersSaid, AnswersHeader, AnswersNumbers};
 ghost use Rattle.jwt_c_calls.specs.Calls.{AnswersIssuedAt};
 ghost use Rattle.jwt_c_calls.specs.Calls.{status_of};
-ghost use Rattle.jwt_c_calls.specs.FirstFailed.{AnswersFailedHmac, AnswersFailedKey};
-ghost use Rattle.jwt_c_calls.specs.FirstFailed.{AnswersFailedSet};
 ghost use Rattle.jwt_c_calls.specs.Issued.{AnswersEncode, AnswersEncodeKey, AnswersThumbprint};
 ghost use Rattle.jwt_c_calls.specs.Issued.{hash_numbered};
 ghost use Rattle.jwt_c_calls.specs.KeyFiles.{AnswersCertificate, AnswersPem};
 ghost use Rattle.jwt_c_calls.specs.Keys.{AnswersWithKey, AnswersWithOptions, AnswersWithSet};
 ghost use Rattle.jwt_c_calls.specs.Members.{LeavesMember};
 ghost use Rattle.jwt_c_calls.specs.Membership.{ChecksMember};
-ghost use Rattle.jwt_c_calls.specs.Moments.{LeavesMoments, AnswersMomentsHmac, AnswersMomentsKey};
-ghost use Rattle.jwt_c_calls.specs.Moments.{AnswersMomentsSet};
 ghost use Rattle.jwt_c_calls.specs.Options.{AnswersFault, AnswersQuoted};
 ghost use Rattle.jwt_c_calls.specs.Secrets.{ChecksSecret, ChecksKey, ChecksSet};
 ghost use Rattle.jwt_c_calls.specs.Serving.{AnswersAlgorithms};
@@ -39,7 +35,7 @@ ghost use Rattle.jwt_c_calls.specs.Status.{kind_part, number, no_status, status_
 ghost use Rattle.jwt_c_calls.specs.Status.{algorithm_numbered, IsGiven, IsKept};
 ghost use Rattle.jwt_c_verifier.specs.TestNumbers.{LeavesTestName};
 ghost use Rattle.jwt_c_verifier.specs.Verifiers.{limits_of, AreOfKey, AreOfSecret, AreOfSet};
-ghost use Rattle.jwt_c.specs.Held.{LeavesMade, LeavesShared, LeavesUntil, Takes};
+ghost use Rattle.jwt_c.specs.Held.{LeavesMade, LeavesMoments, LeavesShared, LeavesUntil, Takes};
 
 mod handle;
 mod held;
@@ -54,12 +50,10 @@ use jwt_c_calls::answers::{
     said_answer, set_answer,
 };
 use jwt_c_calls::by_signature::{ecdsa_answer, input_answer, signature_answer};
-use jwt_c_calls::first_failed::{hmac_failed_test, key_failed_test, leave_name, set_failed_test};
 use jwt_c_calls::issued::{encode_answer, encode_key_answer, thumbprint_answer};
 use jwt_c_calls::key_files::{certificate_answer, pem_answer};
 use jwt_c_calls::members::member_answer;
 use jwt_c_calls::membership::member_status;
-use jwt_c_calls::moments::{hmac_moments, key_moments, leave_moments, set_moments};
 use jwt_c_calls::options::{options_answer, quoted_answer};
 use jwt_c_calls::secrets::{key_status, secret_status, set_status};
 use jwt_c_calls::serving::algorithms_answer;
@@ -68,7 +62,8 @@ use jwt_c_calls::status::{algorithm_number, leave, number_of, put_bytes, status_
 use jwt_c_calls::status_table::{NO_MEMBER, NO_STATUS, NO_VERIFIER, OK, VERIFIER_IS_MADE, text_of};
 use jwt_c_verifier::test_numbers::numbered_test;
 use jwt_c_verifier::verifiers::{
-    answer_until, limits, verifier_of_key, verifier_of_secret, verifier_of_set,
+    answer_until, leave_moments, limits, moments_by, verifier_of_key, verifier_of_secret,
+    verifier_of_set,
 };
 use std::alloc::Global;
 
@@ -145,133 +140,6 @@ pub extern "C" fn jwt_decode_set(
 {
     let answer = set_answer(alloc, token, set, options, time);
     leave(answer, room, len)
-}
-
-/// Writes the name of the first test of a token that fails, such as `SignatureIsAccepted`, and
-/// nothing if none fails: then `jwt_decode_hmac` accepts the token with the same arguments. The
-/// tests and their order are those of [`decode`](jsonwebtoken::decode), with HMAC and a secret, at
-/// the time `time`, in whole seconds since 1970-01-01 00:00:00 UTC. The options are read first, and
-/// any other text is refused with 101. The only other refusal is `OutOfMemory`.
-///
-/// Whoever issued a refused token need not be told which test failed: the answer is for those who
-/// run the verifier.
-#[unsafe(no_mangle)]
-pub extern "C" fn jwt_failed_test_hmac(
-    alloc: Global,
-    token: &[u8],
-    secret: &[u8],
-    options: &[u8],
-    time: u64,
-    room: &mut [u8],
-    len: &mut usize,
-) -> u32
-    ensures { (a : Answer) × AnswersFailedHmac options.now token.now secret.now time a
-        × Leaves a result len.new room.old room.new }
-{
-    let answer = hmac_failed_test(alloc, token, secret, options, time);
-    leave_name(answer, room, len)
-}
-
-/// Writes the name of the first test of a token that fails with a key, like `jwt_failed_test_hmac`:
-/// if none fails, `jwt_decode_key` accepts the token. The options and the key are read first, in
-/// the order of `jwt_decode_key` and with its statuses, 101 and 106. A key of which
-/// [`DecodingKey::from_jwk`](jsonwebtoken::DecodingKey::from_jwk) makes none is refused with its
-/// kind.
-#[unsafe(no_mangle)]
-pub extern "C" fn jwt_failed_test_key(
-    alloc: Global,
-    token: &[u8],
-    key: &[u8],
-    options: &[u8],
-    time: u64,
-    room: &mut [u8],
-    len: &mut usize,
-) -> u32
-    ensures { (a : Answer) × AnswersFailedKey options.now token.now key.now time a
-        × Leaves a result len.new room.old room.new }
-{
-    let answer = key_failed_test(alloc, token, key, options, time);
-    leave_name(answer, room, len)
-}
-
-/// Writes the name of the first test of a token that fails with a key set, like
-/// `jwt_failed_test_hmac`: if none fails, `jwt_decode_set` accepts the token. The tests are those
-/// of [`decode_with_set`](jsonwebtoken::decode_with_set). The options and the set are read first,
-/// in the order of `jwt_decode_set` and with its statuses, 101 and 103.
-#[unsafe(no_mangle)]
-pub extern "C" fn jwt_failed_test_set(
-    alloc: Global,
-    token: &[u8],
-    set: &[u8],
-    options: &[u8],
-    time: u64,
-    room: &mut [u8],
-    len: &mut usize,
-) -> u32
-    ensures { (a : Answer) × AnswersFailedSet options.now token.now set.now time a
-        × Leaves a result len.new room.old room.new }
-{
-    let answer = set_failed_test(alloc, token, set, options, time);
-    leave_name(answer, room, len)
-}
-
-/// Sets `first` and `last` to the first and the last time at which `jwt_decode_hmac` accepts a
-/// token, in whole seconds since 1970-01-01 00:00:00 UTC: it is accepted at all times from the
-/// first to the last, and at no other (RFC 7519 sections 4.1.4 and 4.1.5). If it is accepted at no
-/// time, `first` is 1 and `last` is 0; with any other status than 0 both are 0. The options are
-/// read first, and any other text is refused with 101. The only other refusal is `OutOfMemory`.
-#[unsafe(no_mangle)]
-pub extern "C" fn jwt_moments_hmac(
-    alloc: Global,
-    token: &[u8],
-    secret: &[u8],
-    options: &[u8],
-    first: &mut u64,
-    last: &mut u64,
-) -> u32
-    ensures { LeavesMoments (AnswersMomentsHmac options.now token.now secret.now)
-        result first.new last.new }
-{
-    let answer = hmac_moments(alloc, token, secret, options);
-    leave_moments(answer, first, last)
-}
-
-/// Sets `first` and `last` to the first and the last time at which `jwt_decode_key` accepts a
-/// token, like `jwt_moments_hmac`. The options and the key are read first, and refused as by
-/// `jwt_failed_test_key`.
-#[unsafe(no_mangle)]
-pub extern "C" fn jwt_moments_key(
-    alloc: Global,
-    token: &[u8],
-    key: &[u8],
-    options: &[u8],
-    first: &mut u64,
-    last: &mut u64,
-) -> u32
-    ensures { LeavesMoments (AnswersMomentsKey options.now token.now key.now)
-        result first.new last.new }
-{
-    let answer = key_moments(alloc, token, key, options);
-    leave_moments(answer, first, last)
-}
-
-/// Sets `first` and `last` to the first and the last time at which `jwt_decode_set` accepts a
-/// token, like `jwt_moments_hmac`. The options and the set are read first, and refused as by
-/// `jwt_failed_test_set`.
-#[unsafe(no_mangle)]
-pub extern "C" fn jwt_moments_set(
-    alloc: Global,
-    token: &[u8],
-    set: &[u8],
-    options: &[u8],
-    first: &mut u64,
-    last: &mut u64,
-) -> u32
-    ensures { LeavesMoments (AnswersMomentsSet options.now token.now set.now)
-        result first.new last.new }
-{
-    let answer = set_moments(alloc, token, set, options);
-    leave_moments(answer, first, last)
 }
 
 /// Verifies a token whose signature the caller has checked: `verdict` is the yes or no to this
@@ -795,6 +663,32 @@ pub extern "C" fn jwt_verifier_decode(
             *len = 0;
             NO_VERIFIER.0
         }
+    }
+}
+
+/// Sets `first` and `last` to the first and the last time at which `jwt_verifier_decode` accepts a
+/// token, in whole seconds since 1970-01-01 00:00:00 UTC: it is accepted at all times from the first
+/// to the last, and at no other (RFC 7519 sections 4.1.4 and 4.1.5). If it is accepted at no time,
+/// `first` is 1 and `last` is 0. With another status than 0 both are 0: 108 for a handle that holds
+/// no verifier, 111 for a token that is longer than the verifier allows, and 22 if memory ran out.
+#[unsafe(no_mangle)]
+pub extern "C" fn jwt_verifier_moments(
+    alloc: Global,
+    verifier: &mut Handle,
+    token: &[u8],
+    first: &mut u64,
+    last: &mut u64,
+) -> u32
+    ensures held { verifier.new.held ≡ verifier.old.held }
+    ensures times { LeavesMoments verifier.old.held token.now result first.new last.new }
+{
+    match verifier.take(alloc) {
+        Some(made) => {
+            let found = moments_by(alloc, &made.verifier, token);
+            *verifier = Handle::of(made);
+            leave_moments(found, first, last)
+        }
+        None => leave_moments(Err(NO_VERIFIER.0), first, last),
     }
 }
 

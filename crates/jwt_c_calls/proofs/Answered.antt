@@ -1,14 +1,12 @@
 -- A result, and its form in status, length and buffer.
-use Rattle.std.proofs.Common.{◌≡◌, ℕ, List, [], Option, None, Result, Ok, Err, IfOk, IfErr, inl, inr}
+use Rattle.std.proofs.Common.{◌≡◌, ℕ, List, Result, Ok, Err, IfOk, IfErr, inl, inr}
 use Rattle.jwt_base.specs.Kind.{Kind}
 use Rattle.jwt_base.specs.Kind as kind
 use Rattle.jwt_base.specs.KindOf.{RefusesAs, kind_of}
 use Rattle.jwt_base.specs.declared.errors.Error.{Error}
-use Rattle.jwt_validation.specs.declared.interval.Moments.{Moments}
 use Rattle.jwt_c_calls.specs.BySignature.{AnswersInput, LeavesInput}
 use Rattle.jwt_c_calls.specs.Calls.{Answer, Gives, Refuses, Misreads, Leaves, AnswersBy, answer_of, answer_in, refusal_status}
 use Rattle.jwt_c_calls.specs.Inputs.{IsReadAs}
-use Rattle.jwt_c_calls.specs.Moments.{AreLeft, LeavesMoments}
 use Rattle.jwt_c_calls.specs.Status.{IsGiven, IsKept}
 use Rattle.jwt_c_calls.specs.declared.inputs.Input.{Input}
 use Rattle.jwt_c_calls.specs.declared.inputs.CallRefusal.{CallRefusal}
@@ -64,11 +62,3 @@ pub no_message : (header claims : List ℕ) (r : CallRefusal) (n s len : ℕ) (o
     → IsKept (refusal_status r) s len old new → LeavesInput header claims n s len old new
 no_message header claims (refused.Input i) n s len old new a z k = (Misreads i, a, z, k)
 no_message header claims (refused.Token e) n s len old new a z k = (Refuses (kind_of e), a, z, k)
-
--- moments by the two sides of a result
-pub left_moments : (Answers : Option Moments → Answer → Type 0) (r : Result (Option Moments) CallRefusal) (s first last : ℕ)
-    → IfOk r (λ m. Answers m (Gives [])) → IfErr r (λ e. Answers None (answer_of e))
-    → IfOk r (λ m. AreLeft m (Gives []) s first last) → IfErr r (λ e. AreLeft None (answer_of e) s first last)
-    → LeavesMoments Answers s first last
-left_moments Answers (Ok m) s first last p q found none = (m, Gives [], p, found)
-left_moments Answers (Err e) s first last p q found none = (None, answer_of e, q, none)

@@ -5,8 +5,6 @@ pub mod KeyFiles
 pub mod Keys
 pub mod Members
 pub mod Membership
-pub mod FirstFailed
-pub mod Moments
 pub mod Options
 pub mod BySignature
 pub mod Issued

@@ -3,14 +3,12 @@
 
 pub mod answers;
 pub mod by_signature;
-pub mod first_failed;
 pub mod inputs;
 pub mod issued;
 pub mod key_files;
 pub mod keys;
 pub mod members;
 pub mod membership;
-pub mod moments;
 pub mod options;
 pub mod secrets;
 pub mod serving;

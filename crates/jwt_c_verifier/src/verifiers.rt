@@ -14,17 +14,17 @@ ghost use Rattle.jwt_c_calls.specs.Status.{key_as_secret, number};
 ghost use Rattle.jwt_c_calls.specs.Keys.{AnswersWithKey, AnswersWithOptions, AnswersWithSet};
 ghost use Rattle.jwt_c_verifier.specs.TestNumbers.{test_number as number_of_test};
 ghost use Rattle.jwt_c_verifier.specs.Verifiers.{limits_of, unless_zero, unfit_status};
-ghost use Rattle.jwt_c_verifier.specs.Verifiers.{AnswersUntil, AreOfKey};
+ghost use Rattle.jwt_c_verifier.specs.Verifiers.{AnswersUntil, AreLeft, AreOfKey, TellsMoments};
 ghost use Rattle.jwt_c_verifier.specs.Verifiers.{AreOfSecret, AreOfSet, IsMade, IsRefusedWith};
 ghost use Rattle.jwt_c_verifier.specs.Verifiers.{AreRefused, HaveKeyText, HaveNoKeyText};
 
 use crate::test_numbers::test_number;
 use jsonwebtoken::errors::{Error, ErrorKind, Result as Checked};
-use jsonwebtoken::{Refusal, TokenData};
+use jsonwebtoken::{Moments, Refusal, TokenData};
 use jwt_c_calls::keys::{options_and_key, options_and_secret, options_and_set};
 use jwt_c_calls::status::{number_of, status_of};
 use jwt_c_calls::status_table::{
-    BLANK_KEY, KEY_AS_SECRET, MIXED_FAMILIES, OUT_OF_MEMORY, TOKEN_TOO_LONG, UNFIT_KEY,
+    BLANK_KEY, KEY_AS_SECRET, MIXED_FAMILIES, OK, OUT_OF_MEMORY, TOKEN_TOO_LONG, UNFIT_KEY,
 };
 use jwt_secrets::key_texts::{has_key_text, set_has_key_text};
 use jwt_validation::{Validation, claimed_moments};
@@ -147,6 +147,41 @@ pub fn answer_until(
         }),
         Err(Rejection::Failed(refusal)) => Err(reason_of(&refusal)),
     }
+}
+
+/// Returns the times at which a verifier accepts a token, or `None` if there is none; or the status
+/// of a token that is too long, or that memory ran out.
+pub fn moments_by(
+    alloc: Global,
+    verifier: &Verifier,
+    token: &[u8],
+) -> Result<Option<Moments>, u32>
+    ensures { TellsMoments verifier.now token.now result }
+{
+    match verifier.first_and_last_moment::<Value>(alloc, token) {
+        Ok(moments) => Ok(moments),
+        Err(Rejection::TooLong) => Err(TOKEN_TOO_LONG.0),
+        Err(Rejection::Failed(_)) => Err(OUT_OF_MEMORY.0),
+    }
+}
+
+/// Leaves the first and the last time, or 1 and 0 if there is none, or 0 and 0 with the status of the
+/// reason for which there is no answer.
+pub fn leave_moments(
+    found: Result<Option<Moments>, u32>,
+    first: &mut u64,
+    last: &mut u64,
+) -> u32
+    ensures { AreLeft found result first.new last.new }
+{
+    let (status, times) = match found {
+        Ok(Some(moments)) => (OK.0, (moments.first, moments.last)),
+        Ok(None) => (OK.0, (1, 0)),
+        Err(status) => (status, (0, 0)),
+    };
+    *first = times.0;
+    *last = times.1;
+    status
 }
 
 // Returns the verifier with these keys and options, or the status of the reason for which there is

@@ -1,6 +1,7 @@
+pub mod Judged
+pub mod LineStatuses
 pub mod Numbers
 pub mod Required
-pub mod Settled
 pub mod Shown
 pub mod Signed
 pub mod Unread

@@ -1,5 +1,5 @@
 -- Which tokens are accepted, by the tests of `decode` and `decode_with_set`.
-use Rattle.std.specs.Prelude.{◌≡◌, ⊤, ℕ, List, Option, Some, None, map, option_map}
+use Rattle.std.specs.Prelude.{◌≡◌, ⊤, ℕ, List, Option, Some, None, Result, Ok, Err, map, option_map}
 use Rattle.std.specs.Char.{to_ascii_lowercase}
 use Rattle.jwt_base.specs.Claims.{IsValue}
 use Rattle.jwt_base.specs.KindOf.{IsMemory}
@@ -7,30 +7,22 @@ use Rattle.jwt_header.specs.declared.header.Header.{Header}
 use Rattle.jwt_validation.specs.Options.{Options}
 use Rattle.jwt_standard.specs.StandardKeys.{verifier_refusal, StandardAccepts}
 use Rattle.jsonwebtoken.specs.Order.{Passes}
-use Rattle.jsonwebtoken.specs.Refused.{IsRefusal}
-use Rattle.jsonwebtoken.specs.declared.refusal.Test.{Test}
-use Rattle.jsonwebtoken.specs.Tests.{Call, Contents, Compact, KeySource, Given, InSet, decode_order, set_order}
-use Rattle.jsonwebtoken.specs.Tests.{token_tests, verifying_call}
+use Rattle.jsonwebtoken.specs.Calls.{Carries}
+use Rattle.jsonwebtoken.specs.Refused.{DecidesByTest, IsRefusal}
+use Rattle.jsonwebtoken.specs.declared.decoding.TokenData.{TokenData}
+use Rattle.jsonwebtoken.specs.declared.refusal.Refusal.{Refusal}
+use Rattle.jsonwebtoken.specs.Tests.{Call, Contents, Compact, token_tests, verifying_call}
+use Rattle.serde_json.specs.View.{view}
 use Rattle.serde_json.specs.declared.value.Value.{Value}
+use Rattle.jwt_verifier.specs.Verifying.{order_of, source_of}
 use Rattle.jwt_verifier.specs.declared.keys.Keys.{Keys}
-use Rattle.jwt_verifier.specs.declared.keys.Keys.TheVariants.{One, Set}
 use Rattle.jwt_command.specs.declared.verify.verdict.Denial.{Denial}
 use Rattle.jwt_command.specs.declared.verify.verdict.Denial.TheVariants.{Refused, OtherType}
-
--- the key that is given, or those of a set
-abbrev pub keys_of : Keys → KeySource
-keys_of (One key) = Given key
-keys_of (Set set) = InSet set.keys.items
-
--- the order of `decode`, or that of `decode_with_set`
-abbrev pub order_of : Keys → List Test
-order_of (One key) = decode_order
-order_of (Set set) = set_order
 
 -- a token, checked with these keys and options at a time, by the provider of all algorithms
 abbrev pub checking : List ℕ → Keys → Options → ℕ → Call Value
 checking token keys options time =
-    verifying_call (Compact token) (keys_of keys) options time verifier_refusal StandardAccepts IsValue
+    verifying_call (Compact token) (source_of keys) options time verifier_refusal StandardAccepts IsValue
 
 -- the token passes every test (RFC 7515 section 5.2, RFC 7519 section 7.2)
 abbrev pub PassesAll : List ℕ → Keys → Options → ℕ → Contents → Type 0
@@ -54,3 +46,20 @@ IsDenied token keys options time typ (Refused refusal) =
     (¬ IsMemory refusal.error) × IsRefusal (token_tests (checking token keys options time)) (order_of keys) refusal
 IsDenied token keys options time typ OtherType =
     (t : Contents) × PassesAll token keys options time t × ¬ HasType typ t.header
+
+-- the result of the tests: header and claims, or the first failed test
+abbrev pub IsDecoded : List ℕ → Keys → Options → ℕ → Result (TokenData Value) Refusal → Type 0
+IsDecoded token keys options time r =
+    DecidesByTest (token_tests (checking token keys options time)) (order_of keys)
+    (Carries (checking token keys options time)) r
+
+-- the verdict: header and claims of a token that is accepted, or why it is not
+abbrev pub IsJudged : List ℕ → Keys → Options → ℕ → Option (List ℕ) → Result (TokenData Value) Denial → Type 0
+IsJudged token keys options time typ (Ok d) = (t : Contents) × IsAccepted token keys options time typ t
+    × (t.header ≡ d.header) × (view d.claims ≡ t.payload_value)
+IsJudged token keys options time typ (Err denial) = IsDenied token keys options time typ denial
+
+-- why the token is not accepted, or nothing if it is
+abbrev pub IsDenialIfAny : List ℕ → Keys → Options → ℕ → Option (List ℕ) → Option Denial → Type 0
+IsDenialIfAny token keys options time typ None = (t : Contents) × IsAccepted token keys options time typ t
+IsDenialIfAny token keys options time typ (Some denial) = IsDenied token keys options time typ denial

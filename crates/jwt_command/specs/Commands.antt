@@ -9,14 +9,18 @@ use Rattle.jwt_base.specs.JsonText.{IsJson}
 use Rattle.jwt_base.specs.Kind.{Kind}
 use Rattle.jwt_base.specs.declared.algorithms.Algorithm.{Algorithm}
 use Rattle.jwt_validation.specs.Options.{Options}
+use Rattle.jsonwebtoken.specs.Finder.{IsOwnOf}
 use Rattle.jsonwebtoken.specs.Order.{Passes, FailsFirst}
+use Rattle.jsonwebtoken.specs.Own.{listed, with_algorithms}
 use Rattle.jsonwebtoken.specs.Tests.{Contents, insecure_call, insecure_order, token_tests}
 use Rattle.jwt_command.specs.Answers.{IsVerdict, IsVerifyAnswer, IsSignAnswer}
 use Rattle.jwt_command.specs.Claimed.{header_asked, members_with_times}
 use Rattle.jwt_command.specs.FileKeys.{AreLoaded, IsJwkLine, IsTaken}
 use Rattle.jwt_command.specs.LineEnd.{IsLessLineEnd, IsSecret}
-use Rattle.jwt_command.specs.Own.{IsOwn}
+use Rattle.jwt_command.specs.Own.{with_key_algorithm}
 use Rattle.jwt_command.specs.Requested.{AreRequested}
+use Rattle.jwt_verifier.specs.Verifying.{source_of}
+use Rattle.jwt_verifier.specs.declared.keys.Keys.{Keys as KeyValues}
 use Rattle.jwt_command.specs.declared.keys.LoadedKeys.{LoadedKeys}
 use Rattle.jwt_command.specs.declared.request.Request.{Request}
 use Rattle.jwt_command.specs.declared.request.Request.TheVariants.{Verify, Explain, Show, Sign, Keys, Jwk, Thumbprint}
@@ -36,12 +40,13 @@ abbrev pub IsGivenToken : Option (Bor (List ℕ)) → List ℕ → Type 0
 IsGivenToken None bytes = ⊤
 IsGivenToken (Some token) bytes = token.now ≢ codes "-" → bytes ≡ token.now
 
--- the options for a token: if they name no algorithm, that of its key is the only one (RFC 8725 section 3.1)
-abbrev pub IsSettled : LoadedKeys → List ℕ → Options → Options → Type 0
-IsSettled loaded token options settled =
+-- the options for a token: if they name no algorithm, that of its key is the only one, or none is if the key is not one of
+-- a set that has one (RFC 8725 section 3.1)
+abbrev pub IsSettled : KeyValues → List ℕ → Options → Options → Type 0
+IsSettled keys token options settled =
     ((options.algorithms ≢ []) × (settled ≡ options))
-    ⊎ ((options.algorithms ≡ []) × ((own : List Algorithm) × IsOwn loaded token own
-    × (settled ≡ record options { algorithms = own })))
+    ⊎ ((options.algorithms ≡ []) × ((own : Option Algorithm) × IsOwnOf (source_of keys) token own
+    × (settled ≡ with_algorithms options (listed own))))
 
 -- how an accepted token is written
 abbrev pub form_asked : Verification → OutputForm
@@ -55,22 +60,24 @@ type_asked v = option_map (λ t. t.now) v.typ
 abbrev pub IsTokenAnswer : Verification → LoadedKeys → Options → List ℕ → ℕ → OutputForm → ℕ → List ℕ → Type 0
 IsTokenAnswer v loaded options bytes time form status output =
     (token : List ℕ) × IsLessLineEnd bytes token
-    × ((settled : Options) × IsSettled loaded token options settled
+    × ((settled : Options) × IsSettled loaded.keys token options settled
     × IsVerifyAnswer token loaded.keys settled time (type_asked v) form status output)
 
 -- the status of `explain`, which is that of `verify`
 abbrev pub IsTokenVerdict : Verification → LoadedKeys → Options → List ℕ → ℕ → ℕ → Type 0
 IsTokenVerdict v loaded options bytes time status =
     (token : List ℕ) × IsLessLineEnd bytes token
-    × ((settled : Options) × IsSettled loaded token options settled
+    × ((settled : Options) × IsSettled loaded.keys token options settled
     × IsVerdict token loaded.keys settled time (type_asked v) status)
 
--- the keys and the options are those of the arguments, with the files that they name
+-- the keys and the options are those of the arguments, with the files that they name; if these name no algorithm, that of
+-- the one key is listed
 abbrev pub AreAsked : Verification → LoadedKeys → Options → Type 0
 AreAsked v loaded options =
     (key : List ℕ) × AreLoaded v.key key loaded.keys loaded.own
     × ((file : Option (List ℕ)) × (is_some file ≡ is_some v.checks.options)
-    × AreRequested v.checks file options)
+    × ((requested : Options) × AreRequested v.checks file requested
+    × (options ≡ with_key_algorithm loaded.own requested)))
 
 -- the answer of `verify` to a token
 abbrev pub IsVerification : Verification → ℕ → List ℕ → Type 0

@@ -1,17 +1,14 @@
--- The algorithm that keys are for, by their own `alg`, which takes the place of one that is given.
-use Rattle.std.specs.Prelude.{◌≡◌, ℕ, List, Option}
+-- The algorithm that the one key is for, by its own `alg`, which takes the place of one that is given.
+use Rattle.std.specs.Prelude.{List, [], ◌∷◌, Option}
 use Rattle.jwt_base.specs.declared.algorithms.Algorithm.{Algorithm}
-use Rattle.jsonwebtoken.specs.Own.{IsNamedBy, listed}
-use Rattle.jwt_verifier.specs.declared.keys.Keys.{Keys}
-use Rattle.jwt_verifier.specs.declared.keys.Keys.TheVariants.{One, Set}
-use Rattle.jwt_command.specs.declared.keys.LoadedKeys.{LoadedKeys}
+use Rattle.jwt_validation.specs.Options.{Options}
+use Rattle.jsonwebtoken.specs.Own.{listed, with_algorithms}
 
--- the algorithm that the one key is for, or the key of the set that the token names (RFC 8725 section 3.1)
-abbrev pub IsOwnOf : Keys → LoadedKeys → List ℕ → Option Algorithm → Type 0
-IsOwnOf (One key) loaded token named = named ≡ loaded.own
-IsOwnOf (Set set) loaded token named = IsNamedBy set.keys.items token named
+-- these algorithms, or that of the key if there are none
+abbrev pub or_own : List Algorithm → Option Algorithm → List Algorithm
+or_own [] own = listed own
+or_own (a ∷ as) own = a ∷ as
 
--- the algorithms are that of the keys
-abbrev pub IsOwn : LoadedKeys → List ℕ → List Algorithm → Type 0
-IsOwn loaded token algorithms =
-    (named : Option Algorithm) × IsOwnOf loaded.keys loaded token named × (algorithms ≡ listed named)
+-- the options with the algorithm that the key is for, if they name none (RFC 8725 section 3.1)
+abbrev pub with_key_algorithm : Option Algorithm → Options → Options
+with_key_algorithm own options = with_algorithms options (or_own options.algorithms own)

@@ -1,6 +1,7 @@
 //! The command `explain`.
 
 ghost use Rattle.std.specs.Prelude.{◌≡◌, IfOk, option_map};
+ghost use Rattle.jwt_validation.specs.Options.{Options};
 ghost use Rattle.jwt_validation.specs.OptionsOf.{options_of};
 ghost use Rattle.jwt_command.specs.Answers.{IsVerdict};
 ghost use Rattle.jwt_command.specs.Commands.{IsSettled};
@@ -35,20 +36,19 @@ use std::alloc::{AllocError, Global};
 /// Returns the answer that explains a token: each test with its result, the first that fails with
 /// what it found and what it asks for, the times at which the token is accepted, and whether it
 /// is accepted without strict options only, which `checks` name as they were asked for. The status
-/// is that of [`verify_answer`](crate::verify::verify_answer), and the algorithm of the token's key
-/// is listed as there.
+/// is that of [`verify_answer`](crate::verify::verify_answer).
 pub fn explain_answer(
     alloc: Global,
     case: Case<'_>,
-    validation: &mut Validation,
+    validation: &Validation,
     checks: &Checks<'_, '_>,
     form: ExplanationForm,
 ) -> Result<Answer, Fault<'static>>
-    ensures { IfOk result (λ a.
-        IsSettled case.entry.loaded.now case.entry.token.now (options_of validation.old)
-        (options_of validation.new)
-        × IsVerdict case.entry.token.now case.entry.loaded.now.keys (options_of validation.new)
-        case.entry.time (option_map (λ s. s.now) case.entry.typ) a.status) }
+    ensures { let keys = case.entry.loaded.now.keys in let token = case.entry.token.now in
+        IfOk result (λ a. (settled : Options)
+        × IsSettled keys token (options_of validation.now) settled
+        × IsVerdict token keys settled case.entry.time (option_map (λ s. s.now) case.entry.typ)
+        a.status) }
 {
     let denial = denial_of(alloc, case, validation)?;
     match denial {
@@ -176,7 +176,7 @@ fn explanation_of<'e>(
 ) -> Result<Explanation<'e>, Fault<'static>> {
     let (times, moments) = claim_times(alloc, case, validation, &outcome)?;
     Ok(Explanation {
-        order: order(&case.loaded.keys),
+        order: order(case.loaded.keys.keys()),
         outcome,
         kind,
         moments,

@@ -3,7 +3,7 @@
 // A secret's file is taken as it is, unless `--trim` says otherwise: a final newline may be part of
 // a secret. The message about a wrong signature names the newline.
 
-ghost use Rattle.std.specs.Prelude.{◌≡◌, ◌⊎◌, ◌↔◌, ℕ, List, None, IfOk, IfErr, IsErr};
+ghost use Rattle.std.specs.Prelude.{◌≡◌, ◌⊎◌, ◌↔◌, ℕ, List, None, IfOk, IfErr};
 ghost use Rattle.std.specs.Prelude.{IsTrue};
 ghost use Rattle.jwt_base.specs.JsonText.{ReadsText};
 ghost use Rattle.jwt_base.specs.Kind.{Kind};
@@ -27,7 +27,7 @@ pub(crate) mod jwk;
 pub(crate) mod table;
 pub(crate) mod thumbprint;
 
-use crate::fault::{Fault, fault_of, value_unless_refused};
+use crate::fault::{Fault, fault_of};
 use crate::files::strip_line_end;
 use crate::keys::hints::{key_problem, pem_problem, set_problem};
 use crate::request::{KeyFile, SecretFile};
@@ -37,40 +37,32 @@ use jsonwebtoken::{Algorithm, DecodingKey};
 use jwt_key_files::pem::public_key_from_pem;
 use jwt_secrets::key_texts::is_key_text;
 use jwt_secrets::{has_blank_key, is_blank, is_blank_key};
-use jwt_verifier::{Keys, PREPARED_LIMIT, PreparedKeys};
+use jwt_verifier::{KeyRing, Keys};
 use std::alloc::Global;
 
 /// Keys, with what their file says of them.
 #[derive(Drop)]
 pub struct LoadedKeys {
-    pub keys: Keys,
+    pub keys: KeyRing,
     /// The algorithm that the one key is for.
     pub own: Option<Algorithm>,
     /// Whether the secret ends with a newline.
     pub has_line_end: bool,
-    /// The provider that verifies with the keys.
-    pub provider: PreparedKeys,
 }
 
-/// Prepares the keys for many tokens, by these algorithms, or by those that the keys are for if the
-/// list is empty.
-pub fn prepare(
-    alloc: Global,
-    loaded: &mut LoadedKeys,
-    algorithms: &[Algorithm],
-) -> Result<(), Fault<'static>>
-    ensures { (loaded.new.keys ≡ loaded.old.keys) × (loaded.new.own ≡ loaded.old.own) }
-{
-    match &loaded.keys {
-        Keys::One(key) => { prepare_key(alloc, &mut loaded.provider, key, loaded.own, algorithms) }
-        Keys::Set(set) => prepare_set(alloc, &mut loaded.provider, set, algorithms),
-    }
+/// What keys are prepared for.
+#[derive(Clone, Copy)]
+pub struct Preparation<'a> {
+    /// The algorithms that are accepted; if there are none, those that the keys are for.
+    pub algorithms: &'a [Algorithm],
+    /// The greatest number of bytes of prepared keys.
+    pub bytes: usize,
 }
 
 /// Returns whether the keys may name the algorithm of a token: one key by its own `alg`, and a set
 /// by that of the key which the token names.
 pub fn names_algorithm(loaded: &LoadedKeys) -> bool {
-    match &loaded.keys {
+    match loaded.keys.keys() {
         Keys::One(_) => loaded.own.is_some(),
         Keys::Set(_) => true,
     }
@@ -121,52 +113,22 @@ pub fn not_pem<'a>(path: &'a str, error: &Error, bytes: &[u8]) -> Fault<'a>
     fault_of(error, Fault::File { path, problem })
 }
 
-/// Returns the keys that the bytes of a file hold.
-pub fn load<'a>(alloc: Global, file: KeyFile<'a>, bytes: &[u8]) -> Result<LoadedKeys, Fault<'a>>
+/// Returns the keys that the bytes of a file hold, prepared.
+pub fn load<'a>(
+    alloc: Global,
+    file: KeyFile<'a>,
+    bytes: &[u8],
+    preparation: Preparation<'_>,
+) -> Result<LoadedKeys, Fault<'a>>
     ensures ok { IfOk result (λ l. AreLoaded file.entry bytes.now l.keys l.own) }
     ensures err { IfErr result (λ e. (e ≡ Fault.Memory) ⊎ HasKeysFault file.entry bytes.now) }
 {
     match file {
-        KeyFile::Secret(file) => load_secret(alloc, file, bytes),
-        KeyFile::Jwk(path) => load_jwk(alloc, path, bytes),
-        KeyFile::Jwks(path) => load_set(alloc, path, bytes),
-        KeyFile::Pem(path) => load_pem(alloc, path, bytes),
+        KeyFile::Secret(file) => load_secret(alloc, file, bytes, preparation),
+        KeyFile::Jwk(path) => load_jwk(alloc, path, bytes, preparation),
+        KeyFile::Jwks(path) => load_set(alloc, path, bytes, preparation),
+        KeyFile::Pem(path) => load_pem(alloc, path, bytes, preparation),
     }
-}
-
-/// Prepares a key for the algorithms that are accepted, or for its own if none is named.
-fn prepare_key(
-    alloc: Global,
-    provider: &mut PreparedKeys,
-    key: &DecodingKey,
-    own: Option<Algorithm>,
-    algorithms: &[Algorithm],
-) -> Result<(), Fault<'static>> {
-    let accepted = if algorithms.is_empty() {
-        own.as_slice()
-    } else {
-        algorithms
-    };
-    match provider.add(alloc, key, accepted) {
-        Ok(()) => Ok(()),
-        // the only refusal
-        Err(_) => Err(Fault::Memory),
-    }
-}
-
-/// Prepares the keys of a set, the first ones first. A key that is malformed is left out.
-fn prepare_set(
-    alloc: Global,
-    provider: &mut PreparedKeys,
-    set: &JwkSet,
-    algorithms: &[Algorithm],
-) -> Result<(), Fault<'static>> {
-    for jwk in &set.keys {
-        if let Some(key) = value_unless_refused(DecodingKey::from_jwk(alloc, jwk))? {
-            prepare_key(alloc, provider, &key, own_algorithm(jwk), algorithms)?;
-        }
-    }
-    Ok(())
 }
 
 /// Returns the secret that a file holds.
@@ -208,6 +170,7 @@ fn load_secret<'a>(
     alloc: Global,
     file: SecretFile<'a>,
     bytes: &[u8],
+    preparation: Preparation<'_>,
 ) -> Result<LoadedKeys, Fault<'a>>
     ensures ok { IfOk result (λ l. (secret : List ℕ)
         × IsSecret file.entry.is_trimmed bytes.now secret
@@ -219,17 +182,20 @@ fn load_secret<'a>(
 {
     let secret = given_secret(alloc, file, bytes)?;
     match DecodingKey::from_secret(alloc, secret) {
-        Ok(key) => Ok(LoadedKeys {
-            keys: Keys::One(key),
-            own: None,
-            has_line_end: secret.ends_with(b"\n"),
-            provider: PreparedKeys::new(alloc, PREPARED_LIMIT),
-        }),
+        Ok(key) => {
+            let has_line_end = secret.ends_with(b"\n");
+            loaded_keys(alloc, Keys::One(key), None, has_line_end, preparation)
+        }
         Err(_) => Err(Fault::Memory),
     }
 }
 
-fn load_jwk<'a>(alloc: Global, path: &'a str, bytes: &[u8]) -> Result<LoadedKeys, Fault<'a>>
+fn load_jwk<'a>(
+    alloc: Global,
+    path: &'a str,
+    bytes: &[u8],
+    preparation: Preparation<'_>,
+) -> Result<LoadedKeys, Fault<'a>>
     ensures ok { IfOk result (λ l. (jwk : Jwk) × ReadsText ReadsKey bytes.now jwk
         × ((key : Key) × IsKeyOf jwk.algorithm key × (¬ IsBlankKey key)
         × (l.keys ≡ Keys.One key) × (l.own ≡ own_of jwk))) }
@@ -251,7 +217,7 @@ fn load_jwk<'a>(alloc: Global, path: &'a str, bytes: &[u8]) -> Result<LoadedKeys
     // dropped at one place: each exit by `?` would have to be proved to drop every field
     drop(jwk);
     match read {
-        Ok(key) => accept_key(alloc, path, key, own),
+        Ok(key) => accept_key(alloc, path, key, own, preparation),
         Err(error) => {
             let problem = key_problem(bytes, "this key cannot verify signatures");
             Err(fault_of(&error, Fault::File { path, problem }))
@@ -265,9 +231,10 @@ fn accept_key<'a>(
     path: &'a str,
     key: DecodingKey,
     own: Option<Algorithm>,
+    preparation: Preparation<'_>,
 ) -> Result<LoadedKeys, Fault<'a>>
     ensures ok { IfOk result (λ l. (¬ IsBlankKey key) × (l.keys ≡ Keys.One key) × (l.own ≡ own)) }
-    ensures err { IsErr result → IsBlankKey key }
+    ensures err { IfErr result (λ e. (e ≡ Fault.Memory) ⊎ IsBlankKey key) }
 {
     if is_blank_key(&key) {
         return Err(Fault::File {
@@ -275,15 +242,15 @@ fn accept_key<'a>(
             problem: "anyone can sign with this key",
         });
     }
-    Ok(LoadedKeys {
-        keys: Keys::One(key),
-        own,
-        has_line_end: false,
-        provider: PreparedKeys::new(alloc, PREPARED_LIMIT),
-    })
+    loaded_keys(alloc, Keys::One(key), own, false, preparation)
 }
 
-fn load_set<'a>(alloc: Global, path: &'a str, bytes: &[u8]) -> Result<LoadedKeys, Fault<'a>>
+fn load_set<'a>(
+    alloc: Global,
+    path: &'a str,
+    bytes: &[u8],
+    preparation: Preparation<'_>,
+) -> Result<LoadedKeys, Fault<'a>>
     ensures ok { IfOk result (λ l. (set : JwkSet) × ReadsText ReadsSet bytes.now set.keys.items
         × (¬ HasBlankKey set.keys.items) × (l.keys ≡ Keys.Set set) × (l.own ≡ None)) }
     ensures err { IfErr result (λ e. (e ≡ Fault.Memory)
@@ -291,7 +258,7 @@ fn load_set<'a>(alloc: Global, path: &'a str, bytes: &[u8]) -> Result<LoadedKeys
         ⊎ ((keys : List Jwk) × ReadsText ReadsSet bytes.now keys × HasBlankKey keys))) }
 {
     match JwkSet::from_slice(alloc, bytes) {
-        Ok(set) => accept_set(alloc, path, set),
+        Ok(set) => accept_set(alloc, path, set, preparation),
         Err(error) => {
             let problem = set_problem(bytes);
             Err(fault_of(&error, Fault::File { path, problem }))
@@ -300,18 +267,18 @@ fn load_set<'a>(alloc: Global, path: &'a str, bytes: &[u8]) -> Result<LoadedKeys
 }
 
 /// Returns the keys that are this set, unless anyone can sign for one of them.
-fn accept_set<'a>(alloc: Global, path: &'a str, set: JwkSet) -> Result<LoadedKeys, Fault<'a>>
+fn accept_set<'a>(
+    alloc: Global,
+    path: &'a str,
+    set: JwkSet,
+    preparation: Preparation<'_>,
+) -> Result<LoadedKeys, Fault<'a>>
     ensures ok { IfOk result (λ l. (¬ HasBlankKey set.keys.items) × (l.keys ≡ Keys.Set set)
         × (l.own ≡ None)) }
     ensures err { IfErr result (λ e. (e ≡ Fault.Memory) ⊎ HasBlankKey set.keys.items) }
 {
     match has_blank_key(alloc, &set) {
-        Ok(false) => Ok(LoadedKeys {
-            keys: Keys::Set(set),
-            own: None,
-            has_line_end: false,
-            provider: PreparedKeys::new(alloc, PREPARED_LIMIT),
-        }),
+        Ok(false) => loaded_keys(alloc, Keys::Set(set), None, false, preparation),
         Ok(true) => Err(Fault::File {
             path,
             problem: "anyone can sign with a key of this set",
@@ -320,19 +287,45 @@ fn accept_set<'a>(alloc: Global, path: &'a str, set: JwkSet) -> Result<LoadedKey
     }
 }
 
-fn load_pem<'a>(alloc: Global, path: &'a str, bytes: &[u8]) -> Result<LoadedKeys, Fault<'a>>
+fn load_pem<'a>(
+    alloc: Global,
+    path: &'a str,
+    bytes: &[u8],
+    preparation: Preparation<'_>,
+) -> Result<LoadedKeys, Fault<'a>>
     ensures ok { IfOk result (λ l. (key : Key) × IsPemOf bytes.now key
         × (l.keys ≡ Keys.One key) × (l.own ≡ None)) }
     ensures err { IfErr result (λ e. (e ≡ Fault.Memory)
         ⊎ ((k : Kind) × IsPemRefused bytes.now k)) }
 {
     match public_key_from_pem(alloc, bytes) {
-        Ok(key) => Ok(LoadedKeys {
-            keys: Keys::One(key),
-            own: None,
-            has_line_end: false,
-            provider: PreparedKeys::new(alloc, PREPARED_LIMIT),
-        }),
+        Ok(key) => loaded_keys(alloc, Keys::One(key), None, false, preparation),
         Err(error) => Err(not_pem(path, &error, bytes)),
+    }
+}
+
+/// Returns these keys, prepared.
+fn loaded_keys(
+    alloc: Global,
+    keys: Keys,
+    own: Option<Algorithm>,
+    has_line_end: bool,
+    preparation: Preparation<'_>,
+) -> Result<LoadedKeys, Fault<'static>>
+    ensures ok { IfOk result (λ l. (l.keys ≡ keys) × (l.own ≡ own)) }
+    ensures err { IfErr result (λ e. e ≡ Fault.Memory) }
+{
+    let algorithms = if preparation.algorithms.is_empty() {
+        own.as_slice()
+    } else {
+        preparation.algorithms
+    };
+    match KeyRing::new(alloc, keys, algorithms, preparation.bytes) {
+        Ok(keys) => Ok(LoadedKeys {
+            keys,
+            own,
+            has_line_end,
+        }),
+        Err(_) => Err(Fault::Memory),
     }
 }

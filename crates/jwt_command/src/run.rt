@@ -1,12 +1,13 @@
 //! From a request to its answer.
 
-ghost use Rattle.std.specs.Prelude.{◌≡◌, ℕ, List, IfOk, is_some, string_bytes};
+ghost use Rattle.std.specs.Prelude.{◌≡◌, ℕ, List, IfOk, OnOk, is_some, string_bytes};
 ghost use Rattle.jwt_validation.specs.OptionsOf.{options_of};
 ghost use Rattle.jwt_command.specs.Commands.{AreAsked, AreVerified, IsAnswer, IsExplanation};
-ghost use Rattle.jwt_command.specs.Commands.{IsGiven, IsGivenToken, IsLinesStatus, IsShown};
+ghost use Rattle.jwt_command.specs.Commands.{IsGiven, IsGivenToken, IsShown};
 ghost use Rattle.jwt_command.specs.Commands.{IsSigned, IsSigning, IsTokenAnswer, IsTokenVerdict};
 ghost use Rattle.jwt_command.specs.Commands.{IsVerification, form_asked};
 ghost use Rattle.jwt_command.specs.FileKeys.{AreLoaded, IsJwkLine};
+ghost use Rattle.jwt_command.specs.Own.{with_key_algorithm};
 
 use crate::answer::Answer;
 use crate::clock::current_time;
@@ -17,15 +18,16 @@ use crate::files::{file_bytes, input_bytes, is_file_name, strip_line_end, token_
 use crate::keys::jwk::jwk_answer;
 use crate::keys::table::keys_answer;
 use crate::keys::thumbprint::thumbprint_answer;
-use crate::keys::{LoadedKeys, given_secret, load, names_algorithm, prepare};
+use crate::keys::{LoadedKeys, Preparation, given_secret, load, names_algorithm};
 use crate::request::{Digesting, KeyFile, Listing, Request, Showing, Signing, Verification};
 use crate::show::show_answer;
 use crate::sign::{claims, claims_answer};
 use crate::verify::case::Case;
-use crate::verify::lines::{Tally, answer_lines};
+use crate::verify::lines::answer_lines;
 use crate::verify::options::requested_validation;
 use crate::verify::{OutputForm, verify_answer};
 use jsonwebtoken::Validation;
+use jwt_verifier::PREPARED_LIMIT;
 use std::alloc::Global;
 use std::rt::{Clock, Files};
 
@@ -56,8 +58,8 @@ fn run_verify_lines<'a, R: Files + Input + Print + Eprint + Clock + AllocGlobal>
 ) -> Result<Answer, Fault<'a>>
     ensures { IfOk result (λ a. AreVerified request.entry.now a.status) }
 {
-    let (mut loaded, mut validation) = keys_and_options(rt, request)?;
-    let tally = lines_tally(rt, request, &mut loaded, &mut validation);
+    let (loaded, validation) = keys_and_options(rt, request)?;
+    let tally = answer_lines(rt, request, &loaded, &validation);
     // dropped at one place: each exit by `?` would have to be proved to drop every field
     drop(loaded);
     drop(validation);
@@ -80,8 +82,8 @@ fn keys_and_options<'a, R: Files + AllocGlobal>(
     ensures { IfOk result (λ p. AreAsked request.entry.now p.0 (options_of p.1)) }
 {
     let options = options_bytes(rt, request.checks.options)?;
-    let validation = requested_validation(rt.alloc(), &request.checks, options.as_deref())?;
-    match keys_for(rt, request, &validation) {
+    let mut validation = requested_validation(rt.alloc(), &request.checks, options.as_deref())?;
+    match keys_for(rt, request, &mut validation) {
         Ok(loaded) => Ok((loaded, validation)),
         Err(fault) => {
             // dropped by a call: the end of the block would have to be proved to drop every field
@@ -104,22 +106,47 @@ fn options_bytes<'a, R: Files + AllocGlobal>(
     }
 }
 
-/// Returns the keys that the arguments name. If the options name no algorithm, the keys have to.
+/// Returns the keys that the arguments name, prepared if they serve many tokens. If the options name
+/// no algorithm, the keys have to, and that of one key is listed in the options.
 fn keys_for<'a, R: Files + AllocGlobal>(
     rt: &R,
     request: &Verification<'_, 'a>,
-    validation: &Validation,
+    validation: &mut Validation,
 ) -> Result<LoadedKeys, Fault<'a>>
-    ensures { IfOk result (λ l. (key : List ℕ)
-        × AreLoaded request.entry.now.key key l.keys l.own) }
+    ensures { IfOk result (λ l. ((key : List ℕ)
+        × AreLoaded request.entry.now.key key l.keys l.own)
+        × (options_of validation.new ≡ with_key_algorithm l.own (options_of validation.old))) }
 {
     let key = file_bytes(rt, path_of(request.key))?;
-    let loaded = load(rt.alloc(), request.key, &key)?;
-    if validation.algorithms.is_empty() && !names_algorithm(&loaded) {
-        drop(loaded);
+    let preparation = Preparation {
+        algorithms: validation.algorithms.as_slice(),
+        bytes: if request.is_lines { PREPARED_LIMIT } else { 0 },
+    };
+    let loaded = load(rt.alloc(), request.key, &key, preparation)?;
+    match list_own(validation, &loaded) {
+        Ok(()) => Ok(loaded),
+        Err(fault) => {
+            drop(loaded);
+            Err(fault)
+        }
+    }
+}
+
+/// Lists the algorithm that the one key is for, if the options name none.
+fn list_own(validation: &mut Validation, loaded: &LoadedKeys) -> Result<(), Fault<'static>>
+    ensures { OnOk result (options_of validation.new
+        ≡ with_key_algorithm loaded.now.own (options_of validation.old)) }
+{
+    if !validation.algorithms.is_empty() {
+        return Ok(());
+    }
+    if !names_algorithm(loaded) {
         return Err(Fault::Usage("--alg is needed: the key has no 'alg' of its own"));
     }
-    Ok(loaded)
+    if let Some(own) = loaded.own {
+        validation.algorithms.push(own)?;
+    }
+    Ok(())
 }
 
 /// Returns the path of a file of keys.
@@ -130,29 +157,14 @@ fn path_of<'a>(file: KeyFile<'a>) -> &'a str {
     }
 }
 
-/// Prepares the keys, answers each line of standard input, and returns the status and the counts.
-fn lines_tally<R: Input + Print + Clock + AllocGlobal>(
-    rt: &R,
-    request: &Verification<'_, '_>,
-    loaded: &mut LoadedKeys,
-    validation: &mut Validation,
-) -> Result<Tally, Fault<'static>>
-    ensures { IfOk result (λ tally. (loaded.new.keys ≡ loaded.old.keys)
-        × (loaded.new.own ≡ loaded.old.own)
-        × IsLinesStatus request.entry.now loaded.new (options_of validation.old) tally.status) }
-{
-    prepare(rt.alloc(), loaded, &validation.algorithms)?;
-    answer_lines(rt, request, loaded, validation)
-}
-
 fn run_verify<'a, R: Files + Input + Clock + AllocGlobal>(
     rt: &R,
     request: &Verification<'_, 'a>,
 ) -> Result<Answer, Fault<'a>>
     ensures { IfOk result (λ a. IsVerification request.entry.now a.status (string_bytes a.output)) }
 {
-    let (loaded, mut validation) = keys_and_options(rt, request)?;
-    let answer = verify_token(rt, request, &loaded, &mut validation);
+    let (loaded, validation) = keys_and_options(rt, request)?;
+    let answer = verify_token(rt, request, &loaded, &validation);
     // dropped at one place: each exit by `?` would have to be proved to drop every field
     drop(loaded);
     drop(validation);
@@ -164,11 +176,11 @@ fn verify_token<R: Files + Input + Clock + AllocGlobal>(
     rt: &R,
     request: &Verification<'_, '_>,
     loaded: &LoadedKeys,
-    validation: &mut Validation,
+    validation: &Validation,
 ) -> Result<Answer, Fault<'static>>
     ensures { IfOk result (λ a. (bytes : List ℕ) × IsGivenToken request.entry.now.token bytes
         × ((time : ℕ) × IsGiven request.entry.now.time time
-        × IsTokenAnswer request.entry.now loaded.now (options_of validation.old) bytes time
+        × IsTokenAnswer request.entry.now loaded.now (options_of validation.now) bytes time
         (form_asked request.entry.now) a.status (string_bytes a.output))) }
 {
     let time = current_time(rt, request.time)?;
@@ -218,8 +230,8 @@ fn run_explain<'a, R: Files + Input + Clock + AllocGlobal>(
 ) -> Result<Answer, Fault<'a>>
     ensures { IfOk result (λ a. IsExplanation request.entry.now a.status) }
 {
-    let (loaded, mut validation) = keys_and_options(rt, request)?;
-    let answer = explain_token(rt, request, &loaded, &mut validation);
+    let (loaded, validation) = keys_and_options(rt, request)?;
+    let answer = explain_token(rt, request, &loaded, &validation);
     // dropped at one place: each exit by `?` would have to be proved to drop every field
     drop(loaded);
     drop(validation);
@@ -231,11 +243,11 @@ fn explain_token<R: Files + Input + Clock + AllocGlobal>(
     rt: &R,
     request: &Verification<'_, '_>,
     loaded: &LoadedKeys,
-    validation: &mut Validation,
+    validation: &Validation,
 ) -> Result<Answer, Fault<'static>>
     ensures { IfOk result (λ a. (bytes : List ℕ) × IsGivenToken request.entry.now.token bytes
         × ((time : ℕ) × IsGiven request.entry.now.time time
-        × IsTokenVerdict request.entry.now loaded.now (options_of validation.old) bytes time
+        × IsTokenVerdict request.entry.now loaded.now (options_of validation.now) bytes time
         a.status)) }
 {
     let time = current_time(rt, request.time)?;

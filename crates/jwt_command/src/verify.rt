@@ -2,6 +2,7 @@
 
 ghost use Rattle.std.specs.Prelude.{◌≡◌, IfOk, option_map, string_bytes};
 ghost use Rattle.serde_json.specs.View.{view};
+ghost use Rattle.jwt_validation.specs.Options.{Options};
 ghost use Rattle.jwt_validation.specs.OptionsOf.{options_of};
 ghost use Rattle.jwt_command.specs.Answers.{IsHeaderLine, IsAcceptedText, IsRefusedText};
 ghost use Rattle.jwt_command.specs.Answers.{IsVerifyAnswer};
@@ -42,19 +43,18 @@ pub enum OutputForm {
 }
 
 /// Returns the answer to a token: status 0 and its claims if it is accepted, and status 1 if it is
-/// refused. If the options name no algorithm, that of the token's key is listed there, and stays.
+/// refused. If the options name no algorithm, that of the token's key is accepted.
 pub fn verify_answer(
     alloc: Global,
     case: Case<'_>,
-    validation: &mut Validation,
+    validation: &Validation,
     form: OutputForm,
 ) -> Result<Answer, Fault<'static>>
-    ensures { IfOk result (λ a.
-        IsSettled case.entry.loaded.now case.entry.token.now (options_of validation.old)
-        (options_of validation.new)
-        × IsVerifyAnswer case.entry.token.now case.entry.loaded.now.keys
-        (options_of validation.new) case.entry.time (option_map (λ s. s.now) case.entry.typ) form
-        a.status (string_bytes a.output)) }
+    ensures { let keys = case.entry.loaded.now.keys in let token = case.entry.token.now in
+        IfOk result (λ a. (settled : Options)
+        × IsSettled keys token (options_of validation.now) settled
+        × IsVerifyAnswer token keys settled case.entry.time
+        (option_map (λ s. s.now) case.entry.typ) form a.status (string_bytes a.output)) }
 {
     match judge(alloc, case, validation)? {
         Ok(contents) => {

@@ -34,11 +34,11 @@ fn answer_by<P: CryptoProvider>(call: &str, row: &Row<'_>, provider: &P) -> Answ
         "decode_with_set"
         | "decode_with_set_or_refusal"
         | "decode_with_set_by_own_algorithm"
-        | "failed_test_with_set" => tokens::check_by_set(call, row, provider),
+        | "failed_test, set" => tokens::check_by_set(call, row, provider),
         "first_and_last_moment" | "first_and_last_moment::<u64>" => {
             tokens::moments_by_key(call, row, provider)
         }
-        "first_and_last_moment_with_set" => tokens::moments_by_set(row, provider),
+        "first_and_last_moment, set" => tokens::moments_by_set(row, provider),
         "jws::decode" => tokens::check_parts(row, provider),
         "encode" | "jws::encode" => issue::encode_claims(call, row, provider),
         "sign" => issue::sign_message(row, provider),

@@ -5,9 +5,9 @@ use jsonwebtoken::dangerous::{insecure_decode, insecure_decode_claims};
 use jsonwebtoken::jwk::JwkSet;
 use jsonwebtoken::jws::{self, Jws};
 use jsonwebtoken::{
-    DecodingKey, TokenData, Validation, decode, decode_header, decode_or_refusal, decode_with_set,
-    decode_with_set_by_own_algorithm, decode_with_set_or_refusal, failed_test,
-    failed_test_with_set, first_and_last_moment, first_and_last_moment_with_set, signed_part,
+    DecodingKey, KeysOfSet, OneKey, TokenData, Validation, decode, decode_header, decode_or_refusal,
+    decode_with_set, decode_with_set_by_own_algorithm, decode_with_set_or_refusal, failed_test,
+    first_and_last_moment, signed_part,
 };
 use jwt_rows::calls::debug;
 use jwt_rows::inputs::jwks::key_set;
@@ -45,8 +45,14 @@ pub fn check_by_key<P: CryptoProvider>(call: &str, row: &Row<'_>, provider: &P) 
         "decode_or_refusal::<u64>" => {
             row.end(decode_or_refusal::<P, u64>(a, provider, token, key, options, time))
         }
-        "failed_test" => row.end(failed_test::<P, Value>(a, provider, token, key, options, time)),
-        _ => row.end(failed_test::<P, u64>(a, provider, token, key, options, time)),
+        "failed_test" => {
+            let keys = OneKey { provider, key };
+            row.end(failed_test::<_, Value>(a, &keys, token, options, time))
+        }
+        _ => {
+            let keys = OneKey { provider, key };
+            row.end(failed_test::<_, u64>(a, &keys, token, options, time))
+        }
     }
 }
 
@@ -69,7 +75,10 @@ pub fn check_by_set<P: CryptoProvider>(call: &str, row: &Row<'_>, provider: &P) 
             );
             row.end(decoded)
         }
-        _ => row.end(failed_test_with_set::<P, Value>(a, provider, token, set, options, time)),
+        _ => {
+            let keys = KeysOfSet { provider, set };
+            row.end(failed_test::<_, Value>(a, &keys, token, options, time))
+        }
     }
 }
 
@@ -77,21 +86,21 @@ pub fn check_by_set<P: CryptoProvider>(call: &str, row: &Row<'_>, provider: &P) 
 pub fn moments_by_key<P: CryptoProvider>(call: &str, row: &Row<'_>, provider: &P) -> Answer {
     let given = with_key(row)?;
     let (token, key, options) = (given.token.as_slice(), &*given.key, &*given.options);
+    let keys = OneKey { provider, key };
     let alloc = row.begin();
     let answer = match call {
-        "first_and_last_moment" => {
-            first_and_last_moment::<P, Value>(alloc, provider, token, key, options)
-        }
-        _ => first_and_last_moment::<P, u64>(alloc, provider, token, key, options),
+        "first_and_last_moment" => first_and_last_moment::<_, Value>(alloc, &keys, token, options),
+        _ => first_and_last_moment::<_, u64>(alloc, &keys, token, options),
     };
     row.end(answer)
 }
 
-/// Calls `first_and_last_moment_with_set`.
+/// Calls `first_and_last_moment` with the keys of a set.
 pub fn moments_by_set<P: CryptoProvider>(row: &Row<'_>, provider: &P) -> Answer {
     let given = with_set(row)?;
     let (token, set, options) = (given.token.as_slice(), &*given.set, &*given.options);
-    row.end(first_and_last_moment_with_set::<P, Value>(row.begin(), provider, token, set, options))
+    let keys = KeysOfSet { provider, set };
+    row.end(first_and_last_moment::<_, Value>(row.begin(), &keys, token, options))
 }
 
 /// Calls `jws::decode`.

@@ -2,8 +2,8 @@
 
 // `Rejection` is an error of its own, since a token that is too long fails no test of `decode`.
 
-ghost use Rattle.std.specs.Prelude.{◌≡◌, ◌↔◌, ◌<◌, ◌≤◌, ℕ, List, length, IfOk, IfErr, IsTrue, OnOk};
-ghost use Rattle.jwt_base.specs.KindOf.{IsMemory};
+ghost use Rattle.std.specs.Prelude.{◌≡◌, ◌↔◌, ◌<◌, ◌≤◌, ℕ, List, length, IfOk, IfErr, IsTrue};
+ghost use Rattle.jsonwebtoken.specs.Accepted.{FindsMoments};
 ghost use Rattle.jsonwebtoken.specs.Calls.{Carries};
 ghost use Rattle.jsonwebtoken.specs.Laws.{HasLaws};
 ghost use Rattle.jsonwebtoken.specs.Order.{Decides};
@@ -12,18 +12,16 @@ ghost use Rattle.jsonwebtoken.specs.Tests.{Compact, token_tests};
 ghost use Rattle.jwt_verifier.specs.Fitness.{usual_limits, AreFit, IsUnfit};
 ghost use Rattle.jwt_verifier.specs.Verifying.{call_with, order_of, IsBounded};
 
-use crate::entry::value_or_none;
 use crate::fitness::{Unfit, check_keys};
+use crate::key_ring::KeyRing;
 use crate::keys::Keys;
 use crate::limits::Limits;
-use crate::prepared::PreparedKeys;
 use jsonwebtoken::errors::{Error, Result as Checked};
 use jsonwebtoken::json::Claims;
 use jsonwebtoken::{
-    Algorithm, DecodingKey, Refusal, TokenData, Validation, decode, decode_or_refusal,
-    decode_with_set, decode_with_set_or_refusal,
+    Algorithm, Moments, Refusal, TokenData, Validation, decode_by, decode_by_or_refusal,
+    first_and_last_moment,
 };
-use jwt_keys::jwk_set::JwkSet;
 use std::alloc::Global;
 use std::result::Result;
 
@@ -39,10 +37,9 @@ pub enum Rejection<E> {
 /// Keys and options, which are prepared once and decide many tokens, with all twelve algorithms.
 #[derive(Drop)]
 pub struct Verifier {
-    pub keys: Keys,
+    pub keys: KeyRing,
     pub validation: Validation,
     pub limits: Limits,
-    prepared: PreparedKeys,
 }
 
 impl Verifier {
@@ -77,12 +74,11 @@ impl Verifier {
             × AreFit limits.allows_blank validation.algorithms.items keys) }
         ensures err { IfErr result (IsUnfit limits.allows_blank validation.algorithms.items keys) }
     {
-        let prepared = prepare_fit(alloc, &keys, validation.algorithms.as_slice(), limits)?;
+        let keys = ring_of_fit(alloc, keys, validation.algorithms.as_slice(), limits)?;
         Ok(Verifier {
             keys,
             validation,
             limits,
-            prepared,
         })
     }
 
@@ -137,6 +133,29 @@ impl Verifier {
         }
     }
 
+    /// Returns the first and the last time at which [`Verifier::decode`] accepts a token, in whole
+    /// seconds since 1970-01-01 00:00:00 UTC, or `None` if it accepts the token at no time. It is
+    /// accepted at all times from the first to the last, and at no other (RFC 7519 sections 4.1.4
+    /// and 4.1.5). A token that is longer than the limit is refused with `TooLong`, and otherwise the
+    /// only refusal is `OutOfMemory`.
+    pub fn first_and_last_moment<T: Claims>(
+        &self,
+        alloc: Global,
+        token: &[u8],
+    ) -> Result<Option<Moments>, Rejection<Error>>
+        ensures { IsBounded (FindsMoments (call_with T.Claims self.now.keys self.now.validation
+            token.now 0) (order_of self.now.keys))
+            self.now.limits.max_len (length token.now) result }
+    {
+        if self.is_too_long(token) {
+            return Err(Rejection::TooLong);
+        }
+        match self.moments_of_whole::<T>(alloc, token) {
+            Ok(moments) => Ok(moments),
+            Err(refused) => Err(Rejection::Failed(refused)),
+        }
+    }
+
     fn is_too_long(&self, token: &[u8]) -> bool
         ensures { IsTrue result ↔ (self.now.limits.max_len < length token.now) }
     {
@@ -156,11 +175,8 @@ impl Verifier {
         ensures laws { HasLaws (call_with T.Claims self.now.keys self.now.validation token.now time)
             (order_of self.now.keys) (List ℕ) Compact token.now }
     {
-        let provider = &self.prepared;
-        match &self.keys {
-            Keys::One(key) => decode(alloc, &provider, token, key, &self.validation, time),
-            Keys::Set(set) => decode_with_set(alloc, &provider, token, set, &self.validation, time),
-        }
+        let keys = &self.keys;
+        decode_by(alloc, &keys, token, &self.validation, time)
     }
 
     /// Verifies a token of any length.
@@ -173,64 +189,37 @@ impl Verifier {
         ensures { let call = call_with T.Claims self.now.keys self.now.validation token.now time in
             DecidesByTest (token_tests call) (order_of self.now.keys) (Carries call) result }
     {
-        let provider = &self.prepared;
-        match &self.keys {
-            Keys::One(key) => {
-                decode_or_refusal(alloc, &provider, token, key, &self.validation, time)
-            }
-            Keys::Set(set) => {
-                decode_with_set_or_refusal(alloc, &provider, token, set, &self.validation, time)
-            }
-        }
+        let keys = &self.keys;
+        decode_by_or_refusal(alloc, &keys, token, &self.validation, time)
+    }
+
+    /// Returns the times at which a token of any length is accepted.
+    fn moments_of_whole<T: Claims>(
+        &self,
+        alloc: Global,
+        token: &[u8],
+    ) -> Checked<Option<Moments>>
+        ensures { FindsMoments (call_with T.Claims self.now.keys self.now.validation token.now 0)
+            (order_of self.now.keys) result }
+    {
+        let keys = &self.keys;
+        first_and_last_moment::<&KeyRing, T>(alloc, &keys, token, &self.validation)
     }
 }
 
-/// Prepares the keys, unless no verifier can be made of them.
-fn prepare_fit(
+/// Returns the ring of the keys, unless no verifier can be made of them.
+fn ring_of_fit(
     alloc: Global,
-    keys: &Keys,
+    keys: Keys,
     algorithms: &[Algorithm],
     limits: Limits,
-) -> Result<PreparedKeys, Unfit>
-    ensures ok { OnOk result (AreFit limits.allows_blank algorithms.now keys.now) }
-    ensures err { IfErr result (IsUnfit limits.allows_blank algorithms.now keys.now) }
+) -> Result<KeyRing, Unfit>
+    ensures ok { IfOk result (λ ring. (ring ≡ keys)
+        × AreFit limits.allows_blank algorithms.now keys) }
+    ensures err { IfErr result (IsUnfit limits.allows_blank algorithms.now keys) }
 {
-    check_keys(alloc, keys, algorithms, limits.allows_blank)?;
+    check_keys(alloc, &keys, algorithms, limits.allows_blank)?;
     // bound to a name: the proof cannot refer to a call in tail position
-    let prepared = prepare(alloc, keys, algorithms, limits.max_prepared)?;
-    Ok(prepared)
-}
-
-/// Prepares the keys for many tokens, with these algorithms, up to this number of bytes.
-fn prepare(
-    alloc: Global,
-    keys: &Keys,
-    algorithms: &[Algorithm],
-    bytes: usize,
-) -> Checked<PreparedKeys>
-    ensures { IfErr result IsMemory }
-{
-    let mut prepared = PreparedKeys::new(alloc, bytes);
-    match keys {
-        Keys::One(key) => prepared.add(alloc, key, algorithms)?,
-        Keys::Set(set) => prepare_set(alloc, &mut prepared, set, algorithms)?,
-    }
-    Ok(prepared)
-}
-
-/// Prepares the keys of a set, the first ones first. A key that is malformed is left out.
-fn prepare_set(
-    alloc: Global,
-    prepared: &mut PreparedKeys,
-    set: &JwkSet,
-    algorithms: &[Algorithm],
-) -> Checked<()>
-    ensures { IfErr result IsMemory }
-{
-    for jwk in &set.keys {
-        if let Some(key) = value_or_none(DecodingKey::from_jwk(alloc, jwk))? {
-            prepared.add(alloc, &key, algorithms)?;
-        }
-    }
-    Ok(())
+    let ring = KeyRing::new(alloc, keys, algorithms, limits.max_prepared)?;
+    Ok(ring)
 }

@@ -100,11 +100,12 @@ pub fn decode_with_set<P: CryptoProvider, T: Claims>(
     decode_by(alloc, &keys, token, validation, time)
 }
 
-/// A set of keys, of which the header of a token names one, and the provider that verifies with it.
+/// A set of keys, of which the header of a token names one, and the provider that verifies with it:
+/// [`decode_by`](crate::decode_by) over it is [`decode_with_set`](crate::decode_with_set).
 #[derive(Drop)]
-pub(crate) struct KeysOfSet<'k, P> {
-    pub(crate) provider: &'k P,
-    pub(crate) set: &'k JwkSet,
+pub struct KeysOfSet<'k, P> {
+    pub provider: &'k P,
+    pub set: &'k JwkSet,
 }
 
 impl<'k, P: CryptoProvider> KeyFinder for KeysOfSet<'k, P> {

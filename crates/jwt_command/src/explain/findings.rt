@@ -192,7 +192,7 @@ fn wanted_key(alloc: Global, case: Case<'_>) -> Result<&'static str, Fault<'stat
 
 /// Returns whether several keys of a set have the `kid` of the token.
 fn is_named_twice(alloc: Global, case: Case<'_>) -> Result<bool, Fault<'static>> {
-    let Keys::Set(set) = &case.loaded.keys else {
+    let Keys::Set(set) = case.loaded.keys.keys() else {
         return Ok(false);
     };
     match value_unless_refused(decode_header(alloc, case.token))? {
@@ -237,15 +237,15 @@ fn header_finding(
 ) -> Result<Finding, Fault<'static>> {
     match test {
         Test::CritIsUnderstood => crit_finding(alloc, header),
-        Test::KeyIsFound => kid_finding(alloc, &header.kid, &case.loaded.keys),
+        Test::KeyIsFound => kid_finding(alloc, &header.kid, case.loaded.keys.keys()),
         Test::KeyAlgorithmAgrees => algorithm_finding(
             alloc,
             header,
-            wanted_algorithm(key_algorithm_name(header, &case.loaded.keys)),
+            wanted_algorithm(key_algorithm_name(header, case.loaded.keys.keys())),
         ),
         Test::AlgorithmIsListed => listing_finding(alloc, header, validation),
         Test::FamiliesAgree => family_finding(alloc, header, validation),
-        _ => verifier_finding(alloc, header, &case.loaded.keys),
+        _ => verifier_finding(alloc, header, case.loaded.keys.keys()),
     }
 }
 

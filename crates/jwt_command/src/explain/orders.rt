@@ -1,7 +1,7 @@
 //! The tests of a token, in their order and in sentences.
 
 ghost use Rattle.std.specs.Prelude.{◌≡◌};
-ghost use Rattle.jwt_command.specs.Accepted.{order_of};
+ghost use Rattle.jwt_verifier.specs.Verifying.{order_of};
 
 use jsonwebtoken::Test;
 use jwt_verifier::Keys;

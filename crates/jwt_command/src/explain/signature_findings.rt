@@ -60,7 +60,7 @@ fn lengths_of(
         return Ok(None);
     };
     let algorithm = header.alg;
-    let made = length_for(alloc, &header, &case.loaded.keys);
+    let made = length_for(alloc, &header, case.loaded.keys.keys());
     // dropped at one place: each exit by `?` would have to be proved to drop every field
     drop(header);
     Ok(made?.map(|made| Lengths {

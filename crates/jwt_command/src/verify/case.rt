@@ -2,8 +2,7 @@
 
 use crate::keys::LoadedKeys;
 
-/// A token, and what it is checked with but the options: these are lent to be changed, since the
-/// algorithm of the token's key is listed there if they name none.
+/// A token, and what it is checked with besides the options.
 #[derive(Clone, Copy)]
 pub struct Case<'c> {
     pub token: &'c [u8],

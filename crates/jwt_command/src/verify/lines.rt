@@ -4,7 +4,7 @@
 // reads the status alone does not mistake it for a refusal. A body that leaves a line out would be
 // proved; a row of `tests/jwt.jsonl` fails with it.
 
-ghost use Rattle.std.specs.Prelude.{◌≡◌, ◌≢◌, [], true, false, IfOk};
+ghost use Rattle.std.specs.Prelude.{IfOk};
 ghost use Rattle.jwt_validation.specs.OptionsOf.{options_of};
 ghost use Rattle.jwt_command.specs.Commands.{IsLineStatus, IsLinesStatus};
 
@@ -46,10 +46,10 @@ pub fn answer_lines<R: Input + Print + Clock + AllocGlobal>(
     rt: &R,
     request: &Verification<'_, '_>,
     loaded: &LoadedKeys,
-    validation: &mut Validation,
+    validation: &Validation,
 ) -> Result<Tally, Fault<'static>>
     ensures { IfOk result (λ tally.
-        IsLinesStatus request.entry.now loaded.now (options_of validation.old) tally.status) }
+        IsLinesStatus request.entry.now loaded.now (options_of validation.now) tally.status) }
 {
     let Ok(mut reader) = BufReader::new(rt.alloc(), rt.reader()) else {
         return Err(Fault::Memory);
@@ -120,19 +120,17 @@ fn read_part<R: BufRead>(reader: &mut R, line: &mut Vec<u8>) -> Result<bool, Fau
     Ok(has_ended)
 }
 
-/// Returns the line of JSON for a token, which may have a line end. The options stay.
+/// Returns the line of JSON for a token, which may have a line end.
 fn line_answer<R: Clock + AllocGlobal>(
     rt: &R,
     request: &Verification<'_, '_>,
     loaded: &LoadedKeys,
-    validation: &mut Validation,
+    validation: &Validation,
     line: &[u8],
 ) -> Result<Answer, Fault<'static>>
     ensures { IfOk result (λ a.
-        IsLineStatus request.entry.now loaded.now (options_of validation.old) a.status
-        × (options_of validation.new ≡ options_of validation.old)) }
+        IsLineStatus request.entry.now loaded.now (options_of validation.now) a.status) }
 {
-    let is_own = has_no_algorithm(validation);
     let time = current_time(rt, request.time)?;
     let token = strip_line_end(line);
     let case = Case {
@@ -141,28 +139,9 @@ fn line_answer<R: Clock + AllocGlobal>(
         typ: request.typ,
         time,
     };
+    // bound to a name: the proof cannot refer to a call in tail position
     let answer = verify_answer(rt.alloc(), case, validation, OutputForm::Line)?;
-    forget_own(validation, is_own);
     Ok(answer)
-}
-
-/// Returns whether the options name no algorithm.
-fn has_no_algorithm(validation: &Validation) -> bool
-    ensures none { result ≡ true → validation.now.algorithms.items ≡ [] }
-    ensures some { result ≡ false → validation.now.algorithms.items ≢ [] }
-{
-    validation.algorithms.is_empty()
-}
-
-/// Takes the algorithm of a token's key from the list, if the options name none.
-fn forget_own(validation: &mut Validation, is_own: bool)
-    ensures own { is_own ≡ true → options_of validation.new ≡ record (options_of validation.old)
-        { algorithms = [] } }
-    ensures given { is_own ≡ false → options_of validation.new ≡ options_of validation.old }
-{
-    if is_own {
-        validation.algorithms.clear();
-    }
 }
 
 fn write<W: Write>(writer: &mut W, text: &str) -> Result<(), Fault<'static>> {

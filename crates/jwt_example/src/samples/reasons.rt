@@ -4,7 +4,7 @@ use crate::fault::Fault;
 use crate::samples::secret::{NO_AUDIENCE, TOKEN};
 use jsonwebtoken::errors::Result;
 use jsonwebtoken::prelude::*;
-use jsonwebtoken::{decode_or_refusal, first_and_last_moment};
+use jsonwebtoken::{OneKey, decode_or_refusal, first_and_last_moment};
 use serde_json::Value;
 use std::alloc::Global;
 use std::rt::Runtime;
@@ -40,16 +40,14 @@ fn show_tokens<T: Runtime + AllocGlobal>(
     validation: &Validation,
 ) -> Result<(), Fault> {
     let alloc = rt.alloc();
+    let keys = OneKey {
+        provider: &HmacProvider,
+        key,
+    };
     for token in [TOKEN, NO_AUDIENCE, "a.b"] {
         let token = token.as_bytes();
         let text = refusal_text(alloc, token, key, validation, 2532524952)?;
-        let moments = first_and_last_moment::<HmacProvider, Value>(
-            alloc,
-            &HmacProvider,
-            token,
-            key,
-            validation,
-        )?;
+        let moments = first_and_last_moment::<_, Value>(alloc, &keys, token, validation)?;
         println!(rt; "{text:?} {moments:?}")?;
     }
     Ok(())

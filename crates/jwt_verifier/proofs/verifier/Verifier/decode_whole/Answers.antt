@@ -1,15 +1,22 @@
--- The call by a key is that of `decode`, and the call by a set that of `decode_with_set`: a provider
--- that keeps keys refuses and accepts as `StandardProvider` does.
+-- The order of the tests by the source of the ring's keys is that of `decode` or of `decode_with_set`.
+use Rattle.std.proofs.Common.{List, ℕ, subst}
+use Rattle.jsonwebtoken.specs.Calls.{Carries}
+use Rattle.jsonwebtoken.specs.Laws.{HasLaws}
+use Rattle.jsonwebtoken.specs.Order.{Decides}
+use Rattle.jsonwebtoken.specs.Tests.{Compact, token_tests}
+use Rattle.jsonwebtoken.specs.declared.refusal.Test.{Test}
+use Rattle.jwt_verifier.specs.Verifying.{call_with}
+use Rattle.jwt_verifier.proofs.OrderLemmas.{same_order}
 use Rattle.jwt_verifier.proofs.verifier.Verifier.decode_whole.Goals as goal
 
-pub returns-in-One : goal.returns-in-One
-returns-in-One g c = record {
-  decided = rw c.in-One.is c.decode.ensures.decided;
-  laws = rw c.in-One.is c.decode.ensures.laws;
-}
+pub returns-clause-decided : goal.returns-clause-decided
+returns-clause-decided g c =
+    let call = call_with g.T.Claims c.args.self.now.keys c.args.self.now.validation c.args.token.now c.args.time in
+    subst (λ (order : List Test). Decides (token_tests call) order (Carries call) c.decode_by.result)
+    (same_order c.args.self.now.keys) c.decode_by.ensures.decided
 
-pub returns-in-Set : goal.returns-in-Set
-returns-in-Set g c = record {
-  decided = rw c.in-Set.is c.decode_with_set.ensures.decided;
-  laws = rw c.in-Set.is c.decode_with_set.ensures.laws;
-}
+pub returns-clause-laws : goal.returns-clause-laws
+returns-clause-laws g c =
+    let call = call_with g.T.Claims c.args.self.now.keys c.args.self.now.validation c.args.token.now c.args.time in
+    subst (λ (order : List Test). HasLaws call order (List ℕ) Compact c.args.token.now)
+    (same_order c.args.self.now.keys) c.decode_by.ensures.laws

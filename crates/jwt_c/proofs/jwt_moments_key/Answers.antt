@@ -1,8 +1,0 @@
-use Rattle.jwt_c_calls.proofs.Answered.{left_moments}
-use Rattle.jwt_c_calls.specs.Moments.{AnswersMomentsKey}
-use Rattle.jwt_c.proofs.jwt_moments_key.Goals as goal
-
-pub returns : goal.returns
-returns c = left_moments (AnswersMomentsKey c.args.options.now c.args.token.now c.args.key.now)
-    c.key_moments-answer.result c.leave_moments.result c.leave_moments.new.first c.leave_moments.new.last
-    c.key_moments-answer.ensures.ok c.key_moments-answer.ensures.err c.leave_moments.ensures.found c.leave_moments.ensures.none

@@ -1,8 +1,0 @@
-use Rattle.jwt_c_calls.proofs.Answered.{left_moments}
-use Rattle.jwt_c_calls.specs.Moments.{AnswersMomentsSet}
-use Rattle.jwt_c.proofs.jwt_moments_set.Goals as goal
-
-pub returns : goal.returns
-returns c = left_moments (AnswersMomentsSet c.args.options.now c.args.token.now c.args.set.now)
-    c.set_moments-answer.result c.leave_moments.result c.leave_moments.new.first c.leave_moments.new.last
-    c.set_moments-answer.ensures.ok c.set_moments-answer.ensures.err c.leave_moments.ensures.found c.leave_moments.ensures.none

@@ -1,7 +1,0 @@
-use Rattle.std.proofs.Common.{refl}
-use Rattle.jwt_c_calls.proofs.first_failed.hmac_failed_test.Goals as goal
-
-pub returns-clause-ok : goal.returns-clause-ok
-returns-clause-ok c =
-    let given = c.in_ok-validation.ensures.ok in
-    (_, given.0, (_, rw given.1 at c.in_ok-failed.ensures, refl))

@@ -1,0 +1,62 @@
+-- From the result of the tests to the verdict.
+use Rattle.std.proofs.Common.{◌≡◌, ◌⊎◌, ◌∙◌, ℕ, List, Option, Result, Ok, Err, IfOk, IfErr, IsErrAnd, absurd, ap, inl, inr, subst, sym, ⊎_elim}
+use Rattle.serde_json.specs.View.{view}
+use Rattle.serde_json.specs.declared.value.Value.{Value}
+use Rattle.jwt_base.specs.KindOf.{IsMemory}
+use Rattle.jwt_header.specs.declared.header.Header.{Header}
+use Rattle.jwt_validation.specs.Options.{Options}
+use Rattle.jsonwebtoken.specs.declared.decoding.TokenData.{TokenData}
+use Rattle.jsonwebtoken.specs.declared.refusal.Refusal.{Refusal}
+use Rattle.jwt_verifier.specs.declared.keys.Keys.{Keys}
+use Rattle.jwt_command.specs.Accepted.{HasType, IsDecoded, IsDenied, IsJudged}
+use Rattle.jwt_command.specs.Commands.{IsSettled}
+use Rattle.jwt_command.specs.declared.verify.verdict.Denial.{Denial}
+use Rattle.jwt_command.specs.declared.verify.verdict.Denial.TheVariants.{Refused, OtherType}
+
+module _ (token : List ℕ) (keys : Keys) (options : Options) (time : ℕ) (typ : Option (List ℕ)) where
+  -- the result of the tests by options that are settled, unless memory ran out
+  Tested : Result (TokenData Value) Refusal → Type 0
+  Tested r = IsErrAnd r (λ refusal. IsMemory refusal.error)
+      ⊎ ((settled : Options) × IsSettled keys token options settled × IsDecoded token keys settled time r)
+
+  Judged : Result (TokenData Value) Denial → Type 0
+  Judged verdict = (settled : Options) × IsSettled keys token options settled
+      × IsJudged token keys settled time typ verdict
+
+  -- a token that passes, by the test of its type
+  pub typed : (contents : TokenData Value) (verdict : Result (TokenData Value) Denial) → Tested (Ok contents)
+      → IfOk verdict (λ d. (d ≡ contents) × HasType typ contents.header)
+      → IfErr verdict (λ denial. (denial ≡ OtherType) × ¬ HasType typ contents.header)
+      → Judged verdict
+  typed contents verdict (inl memory) accepted denied = absurd memory
+  typed contents (Ok d) (inr (settled, is, decided)) accepted denied =
+      let passed = decided.accepted in
+      let header = passed.2.0 in (
+        settled,
+        is,
+        (
+          passed.0,
+          (passed.1, subst (HasType typ) (sym header) accepted.1),
+          header ∙ ap {A = TokenData Value} {B = Header} (λ d. d.header) (sym accepted.0),
+          subst (λ (d : TokenData Value). view d.claims ≡ passed.0.payload_value) (sym accepted.0) passed.2.1,
+        ),
+      )
+  typed contents (Err denial) (inr (settled, is, decided)) accepted denied =
+      let passed = decided.accepted in
+      let header = passed.2.0 in (
+        settled,
+        is,
+        subst (IsDenied token keys settled time typ) (sym denied.0)
+            (passed.0, passed.1, subst (λ (h : Header). ¬ HasType typ h) (sym header) denied.1),
+      )
+
+  -- a token that is refused
+  pub refused : (refusal : Refusal) (denial : Denial) → Tested (Err refusal)
+      → denial ≡ Refused refusal → (¬ IsMemory refusal.error) → Judged (Err denial)
+  refused refusal denial (inl memory) is other = absurd (other memory)
+  refused refusal denial (inr (settled, settles, decided)) is other = (
+    settled,
+    settles,
+    subst (IsDenied token keys settled time typ) (sym is)
+        (other, ⊎_elim (λ memory. absurd (other memory)) (λ first. first) decided.refused),
+  )
