@@ -151,11 +151,7 @@ pub fn answer_until(
 
 /// Returns the times at which a verifier accepts a token, or `None` if there is none; or the status
 /// of a token that is too long, or that memory ran out.
-pub fn moments_by(
-    alloc: Global,
-    verifier: &Verifier,
-    token: &[u8],
-) -> Result<Option<Moments>, u32>
+pub fn moments_by(alloc: Global, verifier: &Verifier, token: &[u8]) -> Result<Option<Moments>, u32>
     ensures { TellsMoments verifier.now token.now result }
 {
     match verifier.first_and_last_moment::<Value>(alloc, token) {
@@ -167,11 +163,7 @@ pub fn moments_by(
 
 /// Leaves the first and the last time, or 1 and 0 if there is none, or 0 and 0 with the status of the
 /// reason for which there is no answer.
-pub fn leave_moments(
-    found: Result<Option<Moments>, u32>,
-    first: &mut u64,
-    last: &mut u64,
-) -> u32
+pub fn leave_moments(found: Result<Option<Moments>, u32>, first: &mut u64, last: &mut u64) -> u32
     ensures { AreLeft found result first.new last.new }
 {
     let (status, times) = match found {

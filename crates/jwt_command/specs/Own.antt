@@ -7,7 +7,7 @@ use Rattle.jsonwebtoken.specs.Own.{listed, with_algorithms}
 -- these algorithms, or that of the key if there are none
 abbrev pub or_own : List Algorithm → Option Algorithm → List Algorithm
 or_own [] own = listed own
-or_own (a ∷ as) own = a ∷ as
+or_own (a ∷ rest) own = a ∷ rest
 
 -- the options with the algorithm that the key is for, if they name none (RFC 8725 section 3.1)
 abbrev pub with_key_algorithm : Option Algorithm → Options → Options

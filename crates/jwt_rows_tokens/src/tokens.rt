@@ -5,9 +5,9 @@ use jsonwebtoken::dangerous::{insecure_decode, insecure_decode_claims};
 use jsonwebtoken::jwk::JwkSet;
 use jsonwebtoken::jws::{self, Jws};
 use jsonwebtoken::{
-    DecodingKey, KeysOfSet, OneKey, TokenData, Validation, decode, decode_header, decode_or_refusal,
-    decode_with_set, decode_with_set_by_own_algorithm, decode_with_set_or_refusal, failed_test,
-    first_and_last_moment, signed_part,
+    DecodingKey, KeysOfSet, OneKey, TokenData, Validation, decode, decode_header,
+    decode_or_refusal, decode_with_set, decode_with_set_by_own_algorithm,
+    decode_with_set_or_refusal, failed_test, first_and_last_moment, signed_part,
 };
 use jwt_rows::calls::debug;
 use jwt_rows::inputs::jwks::key_set;

@@ -194,11 +194,7 @@ impl Verifier {
     }
 
     /// Returns the times at which a token of any length is accepted.
-    fn moments_of_whole<T: Claims>(
-        &self,
-        alloc: Global,
-        token: &[u8],
-    ) -> Checked<Option<Moments>>
+    fn moments_of_whole<T: Claims>(&self, alloc: Global, token: &[u8]) -> Checked<Option<Moments>>
         ensures { FindsMoments (call_with T.Claims self.now.keys self.now.validation token.now 0)
             (order_of self.now.keys) result }
     {
