@@ -9,7 +9,7 @@ use Rattle.std.specs.Cmp.Lexicographic.{slice_cmp}
 use Rattle.std.specs.Map.{lookup}
 use Rattle.std.specs.Option.{is_some, ok_or, option_copied, option_map_or, option_or}
 use Rattle.std.specs.Ordering.{nat_cmp}
-use Rattle.std.specs.Prelude.{⊤, MatchBool, option_and_then}
+use Rattle.std.specs.Prelude.{⊤, MatchBool, MatchOption, option_and_then}
 use Rattle.std.specs.Str.{bytes_eq}
 use Rattle.std.specs.declared.string.String.{String}
 use Rattle.jwt_base.specs.Kind as kind
@@ -137,20 +137,23 @@ module _ {Y : Type 0} (keys : List Jwk) (h : Header) (kid : List ℕ) (m : BTree
   named_is : named_key keys h ≡ find (has_id kid) keys
   named_is = ap (λ (id : Option (List ℕ)). option_and_then (λ k. find (has_id k) keys) id) some
 
-  pub finds_entry : (q : Option (Bor Entry)) (none : Refusal) → option_copied q ≡ get_by_text m kid → none.test ≡ KeyIsFound
-      → kind_of none.error ≡ kind.NoKey
-      → Finds KeyIsFound (λ e. (j : Jwk) × (named_key keys h ≡ Some j) × IsEntryOf keys j e.now)
-      (named_key keys h ≡ None) (λ k. k ≡ kind.NoKey) (ok_or q none)
-  finds_entry (Some e) none is test nokey =
+  pub has_named : (q : Option (Bor Entry)) → option_copied q ≡ get_by_text m kid
+      → MatchOption q (named_key keys h ≡ None) (λ e. (j : Jwk) × (named_key keys h ≡ Some j) × IsEntryOf keys j e.now)
+  has_named (Some e) is =
       let f = has_entry keys (find (has_id kid) keys) e.now
       (subst (λ (o : Option Entry). IsFoundEntry keys (find (has_id kid) keys) o) (sym is) (index kid)) in
       (f.0, named_is ∙ f.1, f.2)
-  finds_entry None none is test nokey =
-      inr (
-        named_is ∙ has_none keys (find (has_id kid) keys)
-            (subst (λ (o : Option Entry). IsFoundEntry keys (find (has_id kid) keys) o) (sym is) (index kid)),
-        (sym test, nokey),
-      )
+  has_named None is = named_is ∙ has_none keys (find (has_id kid) keys)
+      (subst (λ (o : Option Entry). IsFoundEntry keys (find (has_id kid) keys) o) (sym is) (index kid))
+
+-- the entry that the header names, or the refusal
+pub finds_entry : (keys : List Jwk) (h : Header) (q : Option (Bor Entry)) (none : Refusal)
+    → MatchOption q (named_key keys h ≡ None) (λ e. (j : Jwk) × (named_key keys h ≡ Some j) × IsEntryOf keys j e.now)
+    → none.test ≡ KeyIsFound → kind_of none.error ≡ kind.NoKey
+    → Finds KeyIsFound (λ e. (j : Jwk) × (named_key keys h ≡ Some j) × IsEntryOf keys j e.now)
+    (named_key keys h ≡ None) (λ k. k ≡ kind.NoKey) (ok_or q none)
+finds_entry keys h (Some e) none has test nokey = has
+finds_entry keys h None none has test nokey = inr (has, (sym test, nokey))
 
 -- the key that is found is that of the entry
 pub of_entry : (keys : List Jwk) (h : Header) (e : Entry) (jwk : Jwk)

@@ -8,7 +8,7 @@ ghost use Rattle.std.specs.Prelude.{◌≡◌, ◌<◌, ◌+◌, IfOk, IfErr, If
 ghost use Rattle.jwt_base.specs.KindOf.{IsMemory};
 ghost use Rattle.jwt_keys.specs.declared.jwk.Jwk.{Jwk as JwkValue};
 ghost use Rattle.jwt_keys.specs.KeyOfJwk.{IsKeyOf};
-ghost use Rattle.jsonwebtoken.specs.Finder.{FindsKey};
+ghost use Rattle.jsonwebtoken.specs.Finder.{FindsKey, own_by};
 ghost use Rattle.jwt_verifier.specs.Ring.{IsEntryOf};
 ghost use Rattle.jwt_verifier.specs.RingFound.{IsFit, found_key};
 ghost use Rattle.jwt_verifier.specs.RingKeys.{IsGivenOf, IsIndexOf, IsIndexUpTo, IsNamedOf};
@@ -17,7 +17,7 @@ ghost use Rattle.jwt_verifier.specs.Verifying.{source_of};
 use crate::budget::Budget;
 use crate::entry::{Entry, Prepared, value_or_none};
 use crate::keys::Keys;
-use crate::ring_finder::{Found, find_in};
+use crate::ring_finder::{Found, find_in, own_in};
 use jsonwebtoken::errors::Result as Checked;
 use jsonwebtoken::jwk::own_algorithm;
 use jsonwebtoken::{Algorithm, DecodingKey, Header, Refusal};
@@ -96,6 +96,13 @@ impl KeyRing {
         ensures fit { IfOk result IsFit }
     {
         find_in(alloc, &self.keys, &self.given, &self.named, header)
+    }
+
+    /// Returns the algorithm that the key of the token with this header is for, if it is one of a set.
+    pub(crate) fn find_own(&self, header: &Header) -> Option<Algorithm>
+        ensures { result ≡ own_by (source_of self.now) header.now }
+    {
+        own_in(&self.keys, &self.named, header)
     }
 }
 

@@ -1,17 +1,18 @@
 //! Finding the key of a token in a ring.
 
-ghost use Rattle.std.specs.Prelude.{◌≡◌, ◌↔◌, ℕ, List, Some, None, IfOk, IfErr, OnOk};
+ghost use Rattle.std.specs.Prelude.{◌≡◌, ◌↔◌, ℕ, List, Some, None, IfOk, IfErr, OnOk, MatchOption};
 ghost use Rattle.jwt_base.specs.Kind as kind;
 ghost use Rattle.jwt_base.specs.KindOf.{Refuses, kind_of};
 ghost use Rattle.jwt_keys.specs.declared.jwk.Jwk.{Jwk as JwkValue};
 ghost use Rattle.jwt_standard.specs.StandardKeys.{verifier_refusal, StandardAccepts};
 ghost use Rattle.jwt_standard.specs.law_proofs.StandardFamilies.{family_made};
-ghost use Rattle.jsonwebtoken.specs.Finder.{FindsKey};
+ghost use Rattle.jsonwebtoken.specs.Finder.{FindsKey, own_by};
+ghost use Rattle.jsonwebtoken.specs.Own.{named_own};
 ghost use Rattle.jsonwebtoken.specs.Steps.{Finds};
 ghost use Rattle.jsonwebtoken.specs.Tests.{InSet, named_key};
 ghost use Rattle.jwt_verifier.specs.Ring.{IsEntryOf};
 ghost use Rattle.jwt_verifier.specs.RingFound.{IsFit, found_key};
-ghost use Rattle.jwt_verifier.specs.RingKeys.{IsIndexOf, IsRingOf};
+ghost use Rattle.jwt_verifier.specs.RingKeys.{IsIndexOf, IsNamedOf, IsRingOf};
 ghost use Rattle.jwt_verifier.specs.Verifying.{source_of};
 
 use crate::entry::{Entry, Prepared};
@@ -20,7 +21,7 @@ use crate::key_verifier::KeyVerifier;
 use crate::keys::Keys;
 use jsonwebtoken::crypto::{CryptoProvider, JwtVerifier};
 use jsonwebtoken::errors::{ErrorKind, Result as Checked, new_error};
-use jsonwebtoken::jwk::{check_key_algorithm, key_of_jwk, named_algorithm};
+use jsonwebtoken::jwk::{check_key_algorithm, key_of_jwk, own_algorithm};
 use jsonwebtoken::{Algorithm, DecodingKey, Header, KeyFinder, Refusal, Test};
 use jwt_keys::jwk::Jwk;
 use jwt_keys::jwk_set::JwkSet;
@@ -57,10 +58,7 @@ impl<'r> KeyFinder for &'r KeyRing {
     }
 
     fn own_algorithm(&self, header: &Header) -> Option<Algorithm> {
-        match self.keys() {
-            Keys::One(_) => None,
-            Keys::Set(set) => named_algorithm(set, header),
-        }
+        self.find_own(header)
     }
 
     fn verifier(
@@ -119,7 +117,32 @@ fn find_in_set<'r>(
     }
 }
 
-/// Returns the entry that the header names.
+/// Returns the algorithm that the key of the token with this header is for, if it is one of a set.
+pub(crate) fn own_in(
+    keys: &Keys,
+    named: &BTreeMap<String, Entry>,
+    header: &Header,
+) -> Option<Algorithm>
+    requires { IsNamedOf keys.now named.now }
+    ensures { result ≡ own_by (source_of keys.now) header.now }
+{
+    match keys {
+        Keys::One(_) => None,
+        Keys::Set(set) => own_in_set(named, set.keys.as_slice(), header),
+    }
+}
+
+fn own_in_set(named: &BTreeMap<String, Entry>, keys: &[Jwk], header: &Header) -> Option<Algorithm>
+    requires { IsIndexOf keys.now named.now }
+    ensures { result ≡ named_own keys.now header.now }
+{
+    match entry_named(named, keys, header) {
+        Some(entry) => own_algorithm(&keys[entry.at]),
+        None => None,
+    }
+}
+
+/// Returns the entry that the header names, or the refusal if it names none.
 fn entry_by<'r>(
     named: &'r BTreeMap<String, Entry>,
     keys: &[Jwk],
@@ -130,10 +153,24 @@ fn entry_by<'r>(
         × IsEntryOf keys.now j e.now)
         (named_key keys.now header.now ≡ None) (λ k. k ≡ kind.NoKey) result }
 {
+    entry_named(named, keys, header).ok_or(no_key())
+}
+
+/// Returns the entry that the header names.
+fn entry_named<'r>(
+    named: &'r BTreeMap<String, Entry>,
+    keys: &[Jwk],
+    header: &Header,
+) -> Option<&'r Entry>
+    requires { IsIndexOf keys.now named.now }
+    ensures { MatchOption result (named_key keys.now header.now ≡ None)
+        (λ e. (j : JwkValue) × (named_key keys.now header.now ≡ Some j)
+        × IsEntryOf keys.now j e.now) }
+{
     let Some(kid) = &header.kid else {
-        return Err(no_key());
+        return None;
     };
-    named.get(kid.as_str()).ok_or(no_key())
+    named.get(kid.as_str())
 }
 
 fn no_key() -> Refusal
