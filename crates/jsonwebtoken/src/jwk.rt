@@ -1,6 +1,6 @@
 //! JSON Web Keys and sets of them (RFC 7517).
 
-pub use crate::decoding::key_set::{check_key_algorithm, key_of_jwk};
+pub use crate::decoding::key_set::{check_key_algorithm, key_for, key_of_jwk};
 pub use crate::decoding::own::{named_algorithm, own_algorithm};
 pub use jwt_base::algorithms::KeyAlgorithm;
 pub use jwt_keys::jwk::Jwk;

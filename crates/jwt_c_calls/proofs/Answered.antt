@@ -5,7 +5,8 @@ use Rattle.jwt_base.specs.Kind as kind
 use Rattle.jwt_base.specs.KindOf.{RefusesAs, kind_of}
 use Rattle.jwt_base.specs.declared.errors.Error.{Error}
 use Rattle.jwt_c_calls.specs.BySignature.{AnswersInput, LeavesInput}
-use Rattle.jwt_c_calls.specs.Calls.{Answer, Gives, Refuses, Misreads, Leaves, AnswersBy, answer_of, answer_in, refusal_status}
+use Rattle.jwt_c_calls.specs.Calls.{Answer, Gives, Refuses, Misreads, Leaves, AnswersBy, AnswersKey, answer_of, answer_in, refusal_status}
+use Rattle.jwt_c_calls.specs.Keys.{AnswersWithKey}
 use Rattle.jwt_c_calls.specs.Inputs.{IsReadAs}
 use Rattle.jwt_c_calls.specs.Status.{IsGiven, IsKept}
 use Rattle.jwt_c_calls.specs.declared.inputs.Input.{Input}
@@ -55,6 +56,22 @@ pub read_ok : {T : Type 0} (P : T → Type 0) (input : Input) (r : Result T Erro
     → IfOk r P → P v
 read_ok P input (Ok w) v p q = rw p q
 read_ok P input (Err e) v p q = absurd p
+
+-- the refusal of options, or of a set beside them, is one of the call
+pub no_options : {E : Type 0} (Reads : E → Type 0) (M : Input → Type 0) (G : E → List ℕ → Type 0) (R : E → Kind → Type 0)
+    (a : Answer) → AnswersBy Reads M (λ _ _. ⊥) (λ _ _. ⊥) a → AnswersBy Reads M G R a
+no_options Reads M G R (Gives b) x = absurd x.2
+no_options Reads M G R (Refuses k) (inl memory) = inl memory
+no_options Reads M G R (Refuses k) (inr x) = absurd x.2
+no_options Reads M G R (Misreads i) x = x
+
+-- likewise of options and a key
+pub no_key : (options token key : List ℕ) (time : ℕ) (a : Answer) → AnswersWithKey options key (λ _ _ _. ⊥) a
+    → AnswersKey options token key time a
+no_key options token key time (Gives b) x = absurd x.2.2
+no_key options token key time (Refuses k) (inl memory) = inl memory
+no_key options token key time (Refuses k) (inr x) = inr (x.0, x.1, inl x.2)
+no_key options token key time (Misreads i) x = x
 
 -- a refusal leaves no message
 pub no_message : (header claims : List ℕ) (r : CallRefusal) (n s len : ℕ) (old new : List ℕ)

@@ -14,26 +14,22 @@ ghost use Rattle.serde_json.specs.Written.{has_float};
 ghost use Rattle.jwt_base.specs.Kind as kind;
 ghost use Rattle.jwt_base.specs.KindOf.{kind_of, IsMemory};
 ghost use Rattle.jwt_header.specs.Header.{header_value};
-ghost use Rattle.jwt_validation.specs.OptionsOf.{options_of};
 ghost use Rattle.jsonwebtoken.specs.Order.{Passes, FailsFirst};
 ghost use Rattle.jsonwebtoken.specs.Tests.{Contents, header_order, header_call, token_tests};
 ghost use Rattle.jwt_c_calls.specs.Calls.{Gives, Refuses, AnswersHmac, AnswersKey, AnswersSet};
 ghost use Rattle.jwt_c_calls.specs.Calls.{AnswersVerdict, AnswersSaid, AnswersHeader};
-ghost use Rattle.jwt_c_calls.specs.Calls.{AnswersNumbers, AnswersIssuedAt, PassesByJwk, FailsByJwk};
+ghost use Rattle.jwt_c_calls.specs.Calls.{AnswersNumbers, AnswersIssuedAt};
 ghost use Rattle.jwt_c_calls.specs.Calls.{HandsOut, IsHeaderText, IsTextOf, answer_of, answer_in, said_value};
 ghost use Rattle.jwt_c_calls.specs.Status.{algorithm_numbered};
 
 use crate::inputs::{CallRefusal, Input, read_as, read_claims};
+use crate::keys::{options_and_key, options_and_secret, options_and_set};
 use crate::status::numbered_algorithm;
 use jsonwebtoken::crypto::hmac::HmacProvider;
 use jsonwebtoken::crypto::verdict::VerdictProvider;
 use jsonwebtoken::errors::{Error, ErrorKind, new_error};
-use jsonwebtoken::{
-    DecodingKey, TokenData, decode, decode_by_verdict, decode_header, decode_with_set,
-};
+use jsonwebtoken::{TokenData, decode, decode_by_verdict, decode_header, decode_with_set};
 use jwt_base::json::has_float;
-use jwt_keys::jwk::Jwk;
-use jwt_keys::jwk_set::JwkSet;
 use jwt_standard::StandardProvider;
 use jwt_validation::Validation;
 use serde_json::Value;
@@ -53,8 +49,7 @@ pub fn hmac_answer(
     ensures err { IfErr result (λ r. AnswersHmac options.now token.now secret.now time
         (answer_of r)) }
 {
-    let validation = read_as(Input::Options, Validation::from_slice(alloc, options))?;
-    let key = DecodingKey::from_secret(alloc, secret)?;
+    let (validation, key) = options_and_secret(alloc, options, secret)?;
     let answer = decode(alloc, &HmacProvider, token, &key, &validation, time);
     // dropped at one place: each exit would have to be proved to drop every field
     drop(key);
@@ -74,10 +69,9 @@ pub fn key_answer(
     ensures ok { IfOk result (λ b. AnswersKey options.now token.now key.now time (Gives b.items)) }
     ensures err { IfErr result (λ r. AnswersKey options.now token.now key.now time (answer_of r)) }
 {
-    let validation = read_as(Input::Options, Validation::from_slice(alloc, options))?;
-    let jwk = read_as(Input::Key, Jwk::from_slice(alloc, key))?;
-    let answer = decode_by_jwk(alloc, token, &jwk, &validation, time);
-    drop(jwk);
+    let (validation, key) = options_and_key(alloc, options, key)?;
+    let answer = decode(alloc, &StandardProvider, token, &key, &validation, time);
+    drop(key);
     drop(validation);
     hand_out(alloc, answer)
 }
@@ -94,8 +88,7 @@ pub fn set_answer(
     ensures ok { IfOk result (λ b. AnswersSet options.now token.now set.now time (Gives b.items)) }
     ensures err { IfErr result (λ r. AnswersSet options.now token.now set.now time (answer_of r)) }
 {
-    let validation = read_as(Input::Options, Validation::from_slice(alloc, options))?;
-    let keys = read_as(Input::Set, JwkSet::from_slice(alloc, set))?;
+    let (validation, keys) = options_and_set(alloc, options, set)?;
     let answer = decode_with_set(alloc, &StandardProvider, token, &keys, &validation, time);
     drop(keys);
     drop(validation);
@@ -186,27 +179,6 @@ fn claims_text(alloc: Global, claims: &Value) -> Result<Vec<u8>, CallRefusal>
 {
     let text = claims.to_vec(alloc)?;
     Ok(text)
-}
-
-// Returns the claims of a token that is verified with the key that a JSON Web Key stands for, by
-// the algorithm that the header names, or the kind of the refusal.
-fn decode_by_jwk(
-    alloc: Global,
-    token: &[u8],
-    jwk: &Jwk,
-    validation: &Validation,
-    time: u64,
-) -> Result<TokenData<Value>, Error>
-    ensures ok { IfOk result (λ d. (t : Contents)
-        × PassesByJwk token.now time (options_of validation.now) jwk.now t
-        × ((t.header ≡ d.header) × (view d.claims ≡ t.payload_value))) }
-    ensures err { IfErr result (λ e. IsMemory e
-        ⊎ FailsByJwk token.now time (options_of validation.now) jwk.now (kind_of e)) }
-{
-    let key = DecodingKey::from_jwk(alloc, jwk)?;
-    let answer = decode(alloc, &StandardProvider, token, &key, validation, time);
-    drop(key);
-    answer
 }
 
 fn verdict_answer(

@@ -1,6 +1,7 @@
 pub mod Judged
 pub mod LineStatuses
 pub mod Numbers
+pub mod OwnLemmas
 pub mod Required
 pub mod Shown
 pub mod Signed

@@ -24,7 +24,7 @@ use crate::show::show_answer;
 use crate::sign::{claims, claims_answer};
 use crate::verify::case::Case;
 use crate::verify::lines::answer_lines;
-use crate::verify::options::requested_validation;
+use crate::verify::options::{lists_none, requested_validation};
 use crate::verify::{OutputForm, verify_answer};
 use jsonwebtoken::Validation;
 use jwt_verifier::PREPARED_LIMIT;
@@ -137,7 +137,7 @@ fn list_own(validation: &mut Validation, loaded: &LoadedKeys) -> Result<(), Faul
     ensures { OnOk result (options_of validation.new
         ≡ with_key_algorithm loaded.now.own (options_of validation.old)) }
 {
-    if !validation.algorithms.is_empty() {
+    if !lists_none(validation) {
         return Ok(());
     }
     if !names_algorithm(loaded) {

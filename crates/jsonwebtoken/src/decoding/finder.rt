@@ -31,8 +31,7 @@ pub(crate) enum Algorithms<'a> {
 /// [`decode_with_set`](crate::decode_with_set) take them: with an index, prepared, or in a
 /// database. `source` says which key or which set the keys stand for, and the prover holds the rest
 /// to it. Over a table of keys, `source` is the set of its rows, `find` looks up the row with the
-/// header's `kid`, asks [`check_key_algorithm`](crate::jwk::check_key_algorithm), and returns what
-/// [`key_of_jwk`](crate::jwk::key_of_jwk) makes of the row, `own_algorithm` is
+/// header's `kid` and returns what [`key_for`](crate::jwk::key_for) makes of it, `own_algorithm` is
 /// [`own_algorithm`](crate::jwk::own_algorithm) of it, and `verifier` asks a provider. `KeyRing` of
 /// the crate `jwt_verifier` is such a finder.
 pub trait KeyFinder {

@@ -1,10 +1,11 @@
 //! Reading tokens by the key that their header names in a set (RFC 7515 section 4.1.4, RFC 7517
 //! section 5).
 
-ghost use Rattle.std.specs.Prelude.{◌≡◌, ℕ, List, Some, None};
+ghost use Rattle.std.specs.Prelude.{◌≡◌, ℕ, List, option_map};
 ghost use Rattle.jwt_base.specs.Kind as kind;
 ghost use Rattle.jwt_keys.specs.Key.{Key};
 ghost use Rattle.jwt_keys.specs.KeyOfJwk.{IsKeyOf, refusal_of};
+ghost use Rattle.jwt_keys.specs.declared.jwk.Jwk.{Jwk as JwkValue};
 ghost use Rattle.jsonwebtoken.specs.Calls.{decoding_by_set, Carries};
 ghost use Rattle.jsonwebtoken.specs.Finder.{FindsKey};
 ghost use Rattle.jsonwebtoken.specs.Laws.{HasLaws, KeepsWithMore};
@@ -12,7 +13,7 @@ ghost use Rattle.jsonwebtoken.specs.Order.{Decides};
 ghost use Rattle.jsonwebtoken.specs.Refused.{DecidesByTest};
 ghost use Rattle.jsonwebtoken.specs.Steps.{Asks, Finds};
 ghost use Rattle.jsonwebtoken.specs.Tests.{Compact, InSet, named_key, AgreesWith};
-ghost use Rattle.jsonwebtoken.specs.Tests.{KeyIsFound, KeyAlgorithmAgrees, KeyIsUsable};
+ghost use Rattle.jsonwebtoken.specs.Tests.{KeyAlgorithmAgrees, KeyIsUsable};
 ghost use Rattle.jsonwebtoken.specs.Tests.{set_order, token_tests};
 
 use crate::decoding::TokenData;
@@ -145,23 +146,36 @@ impl<'k, P: CryptoProvider> KeyFinder for KeysOfSet<'k, P> {
 fn key_in_set(alloc: Global, set: &JwkSet, header: &Header) -> Result<DecodingKey, Refusal>
     ensures { FindsKey (InSet set.now.keys.items) (λ key. key) header.now result }
 {
-    let jwk = find_key(set, header)?;
+    key_for(alloc, named_jwk(set, header), header)
+}
+
+/// Returns the first key of the set with the header's `kid`, or `None` if the header has none, or no
+/// key has it.
+pub(crate) fn named_jwk<'k>(set: &'k JwkSet, header: &Header) -> Option<&'k Jwk>
+    ensures { named_key set.now.keys.items header.now ≡ option_map (λ k. k.now) result }
+{
+    let Some(kid) = &header.kid else {
+        return None;
+    };
+    set.find(kid.as_str())
+}
+
+/// Returns the key of the token with this header, given the JSON Web Key that it names in a set, if it
+/// names one: for a [`KeyFinder`] whose keys are kept elsewhere. A refusal has the first test of the
+/// key that fails: `KeyIsFound` with `NoKey`, `KeyAlgorithmAgrees` with `InvalidAlgorithm`, or
+/// `KeyIsUsable` with the kind of [`DecodingKey::from_jwk`]. If memory ran out, its error is
+/// `OutOfMemory`.
+pub fn key_for(alloc: Global, named: Option<&Jwk>, header: &Header) -> Result<DecodingKey, Refusal>
+    ensures { (keys : List JwkValue)
+        → named_key keys header.now ≡ option_map (λ k. k.now) named.entry
+        → FindsKey (InSet keys) (λ key. key) header.now result }
+{
+    let Some(jwk) = named else {
+        return Err(Refusal::new(Test::KeyIsFound, ErrorKind::NoKey));
+    };
     check_key_algorithm(jwk, header.alg)?;
     let key = key_of_jwk(alloc, jwk)?;
     Ok(key)
-}
-
-/// Returns the first key of the set with the header's `kid`. If the header has none, or no key has
-/// it, the refusal is `NoKey`.
-fn find_key<'k>(set: &'k JwkSet, header: &Header) -> Result<&'k Jwk, Refusal>
-    ensures { Finds KeyIsFound (λ k. named_key set.now.keys.items header.now ≡ Some k.now)
-        (named_key set.now.keys.items header.now ≡ None) (λ k. k ≡ kind.NoKey) result }
-{
-    let Some(kid) = &header.kid else {
-        return Err(Refusal::new(Test::KeyIsFound, ErrorKind::NoKey));
-    };
-    set.find(kid.as_str())
-        .ok_or(Refusal::new(Test::KeyIsFound, ErrorKind::NoKey))
 }
 
 /// Refuses with `InvalidAlgorithm` a key that is for another algorithm (RFC 7517 section 4.4).

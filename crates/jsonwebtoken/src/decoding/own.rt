@@ -9,7 +9,7 @@ ghost use Rattle.jsonwebtoken.specs.Tests.{set_order, token_tests};
 
 use crate::decoding::TokenData;
 use crate::decoding::engine::decode_by_own_algorithm;
-use crate::decoding::key_set::KeysOfSet;
+use crate::decoding::key_set::{KeysOfSet, named_jwk};
 use crate::refusal::Refusal;
 use jwt_base::algorithms::Algorithm;
 use jwt_base::errors::Result;
@@ -35,10 +35,7 @@ pub fn own_algorithm(jwk: &Jwk) -> Option<Algorithm>
 pub fn named_algorithm(set: &JwkSet, header: &Header) -> Option<Algorithm>
     ensures { result ≡ named_own set.now.keys.items header.now }
 {
-    let Some(kid) = &header.kid else {
-        return None;
-    };
-    match set.find(kid.as_str()) {
+    match named_jwk(set, header) {
         Some(jwk) => own_algorithm(jwk),
         None => None,
     }

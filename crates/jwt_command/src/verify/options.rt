@@ -3,8 +3,8 @@
 // `--require`, `--aud`, `--iss` and `--sub` add to what a file of options requires, while `--alg`,
 // `--leeway` and the others replace it: who names an audience wants a token to have one.
 
-ghost use Rattle.std.specs.Prelude.{◌≡◌, ◌⊎◌, ◌&&◌, ◌||◌, [], IfOk, IfErr, OnOk, option_map};
-ghost use Rattle.std.specs.Prelude.{unwrap_or, not};
+ghost use Rattle.std.specs.Prelude.{◌≡◌, ◌≢◌, ◌⊎◌, ◌&&◌, ◌||◌, [], IfOk, IfErr, OnOk, option_map};
+ghost use Rattle.std.specs.Prelude.{unwrap_or, not, true, false};
 ghost use Rattle.std.specs.Option.{option_or};
 ghost use Rattle.std.specs.HashSet.{contains_text};
 ghost use Rattle.std.specs.Str.{bytes_eq};
@@ -52,6 +52,14 @@ pub fn requested_validation<'a>(
     make_strict_if(alloc, &mut validation, checks.is_strict)?;
     change(alloc, &mut validation, checks)?;
     Ok(validation)
+}
+
+/// Returns whether the options name no algorithm.
+pub fn lists_none(validation: &Validation) -> bool
+    ensures none { result ≡ true → validation.now.algorithms.items ≡ [] }
+    ensures some { result ≡ false → validation.now.algorithms.items ≢ [] }
+{
+    validation.algorithms.is_empty()
 }
 
 /// Makes options strict, if that is asked for.

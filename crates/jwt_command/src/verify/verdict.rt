@@ -9,6 +9,7 @@ ghost use Rattle.jwt_command.specs.Commands.{IsSettled};
 
 use crate::fault::{Fault, is_memory};
 use crate::verify::case::Case;
+use crate::verify::options::lists_none;
 use jsonwebtoken::{
     Header, Refusal, TokenData, Validation, decode_by_or_refusal, decode_by_own_algorithm,
 };
@@ -79,11 +80,10 @@ fn decode_token(
         × IsDecoded token keys settled case.entry.time result) }
 {
     let keys = &case.loaded.keys;
-    if !validation.algorithms.is_empty() {
-        return decode_by_or_refusal(alloc, &keys, case.token, validation, case.time);
+    if lists_none(validation) {
+        return decode_by_own_algorithm(alloc, &keys, case.token, validation, case.time).1;
     }
-    let (_, decoded) = decode_by_own_algorithm(alloc, &keys, case.token, validation, case.time);
-    decoded
+    decode_by_or_refusal(alloc, &keys, case.token, validation, case.time)
 }
 
 /// Returns header and claims, unless the header has another type than the one that is asked for.

@@ -1,4 +1,4 @@
-use Rattle.std.proofs.Common.{◌≡◌, Err, refl}
+use Rattle.std.proofs.Common.{◌≡◌, refl}
 use Rattle.std.proofs.lemmas.Result.{err_from_is_err_and}
 use Rattle.jwt_validation.specs.OptionsOf.{options_of}
 use Rattle.jsonwebtoken.specs.Order.{Passes, FailsFirst}
@@ -8,7 +8,7 @@ use Rattle.jsonwebtoken.proofs.EachTest.{met}
 use Rattle.jwt_base.specs.JsonText.{ReadsText}
 use Rattle.jwt_validation.specs.OptionsRead.{ReadsOptions}
 use Rattle.jwt_c_calls.specs.Calls.{hmac_call, MisreadsOne}
-use Rattle.jwt_c_calls.proofs.Answered.{misread, read_ok}
+use Rattle.jwt_c_calls.proofs.Answered.{no_options}
 use Rattle.jwt_c_calls.proofs.Handed.{shallow, handed_ok, handed_err}
 use Rattle.jwt_c_calls.specs.declared.inputs.Input.TheVariants as input
 use Rattle.jwt_c_calls.proofs.answers.hmac_answer.Goals as goal
@@ -16,31 +16,26 @@ use Rattle.jwt_c_calls.proofs.answers.hmac_answer.Goals as goal
 pub returns-in_err-validation-clause-err : goal.returns-in_err-validation-clause-err
 returns-in_err-validation-clause-err c =
     let p = err_from_is_err_and c.from_residual.result c.from_residual.ensures.1 in
-    rw (p.1, p.2) (misread _ _ _ _ input.Options _ (λ none. (refl, none)) c.from_slice.result
-    (Err _) c.in_err-validation.ensures c.from_slice.ensures.err)
+    rw (p.1, p.2) (no_options _ _ _ _ _ c.in_err-validation.ensures.err)
 
 pub returns-clause-ok : goal.returns-clause-ok
 returns-clause-ok c =
     let call = hmac_call c.args.token.now c.args.secret.now c.args.time in
-    let said = rw c.in_ok-key.ensures.ok at c.decode-answer.ensures.decided.accepted in
+    let given = c.in_ok-validation.ensures.ok in
+    let said = rw given.1 at c.decode-answer.ensures.decided.accepted in
     handed_ok (λ d. d.claims) (λ b. b.items) (ReadsText ReadsOptions c.args.options.now)
     (MisreadsOne input.Options (ReadsText ReadsOptions c.args.options.now))
     (λ o. Passes (token_tests (call o)) decode_order) (λ o. FailsFirst (token_tests (call o)) decode_order)
     (λ o t p. shallow t (met (call o) decode_order t p PayloadIsJson refl)) (λ d t. t.header ≡ d.header)
-    (options_of c.in_ok-validation.validation)
-    (read_ok (λ v. ReadsText ReadsOptions c.args.options.now (options_of v)) input.Options c.from_slice.result _
-    c.in_ok-validation.ensures c.from_slice.ensures.ok)
-    c.decode-answer.result c.hand_out.result c.hand_out.ensures said
+    (options_of c.in_ok-validation.validation) given.0 c.decode-answer.result c.hand_out.result c.hand_out.ensures said
 
 pub returns-clause-err : goal.returns-clause-err
 returns-clause-err c =
     let call = hmac_call c.args.token.now c.args.secret.now c.args.time in
-    let said = rw c.in_ok-key.ensures.ok at c.decode-answer.ensures.decided.refused in
+    let given = c.in_ok-validation.ensures.ok in
+    let said = rw given.1 at c.decode-answer.ensures.decided.refused in
     handed_err (λ d. d.claims) (λ b. b.items) (ReadsText ReadsOptions c.args.options.now)
     (MisreadsOne input.Options (ReadsText ReadsOptions c.args.options.now))
     (λ o. Passes (token_tests (call o)) decode_order) (λ o. FailsFirst (token_tests (call o)) decode_order)
     (λ o t p. shallow t (met (call o) decode_order t p PayloadIsJson refl)) (λ d t. t.header ≡ d.header)
-    (options_of c.in_ok-validation.validation)
-    (read_ok (λ v. ReadsText ReadsOptions c.args.options.now (options_of v)) input.Options c.from_slice.result _
-    c.in_ok-validation.ensures c.from_slice.ensures.ok)
-    c.decode-answer.result c.hand_out.result c.hand_out.ensures said
+    (options_of c.in_ok-validation.validation) given.0 c.decode-answer.result c.hand_out.result c.hand_out.ensures said

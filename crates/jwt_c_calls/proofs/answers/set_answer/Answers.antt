@@ -1,4 +1,4 @@
-use Rattle.std.proofs.Common.{◌≡◌, Err, List, refl, inl, inr}
+use Rattle.std.proofs.Common.{◌≡◌, List, refl}
 use Rattle.serde_json.specs.declared.value.Value.{Value}
 use Rattle.jwt_keys.specs.declared.jwk.Jwk.{Jwk}
 use Rattle.jwt_validation.specs.Options.{Options}
@@ -13,50 +13,35 @@ use Rattle.jwt_keys.specs.JwkSet.{ReadsSet}
 use Rattle.jwt_validation.specs.OptionsRead.{ReadsOptions}
 use Rattle.jwt_c_calls.specs.Calls.{set_call, MisreadsTwo}
 use Rattle.jwt_c_calls.specs.declared.inputs.Input.TheVariants as input
-use Rattle.jwt_c_calls.proofs.Answered.{misread, read_ok}
+use Rattle.jwt_c_calls.proofs.Answered.{no_options}
 use Rattle.jwt_c_calls.proofs.Handed.{shallow, handed_ok, handed_err}
 use Rattle.jwt_c_calls.proofs.answers.set_answer.Goals as goal
 
 pub returns-in_err-validation-clause-err : goal.returns-in_err-validation-clause-err
 returns-in_err-validation-clause-err c =
     let p = err_from_is_err_and c.from_residual.result c.from_residual.ensures.1 in
-    rw (p.1, p.2) (misread _ _ _ _ input.Options _ (λ none. inl (refl, none)) c.from_slice.result
-    (Err _) c.in_err-validation.ensures c.from_slice.ensures.err)
-
-pub returns-in_err-keys-clause-err : goal.returns-in_err-keys-clause-err
-returns-in_err-keys-clause-err c =
-    let options = read_ok (λ v. ReadsText ReadsOptions c.args.options.now (options_of v)) input.Options
-    c.from_slice.result _ c.in_ok-validation.ensures c.from_slice.ensures.ok in
-    let p = err_from_is_err_and c.from_residual-in_err-keys.result c.from_residual-in_err-keys.ensures.1 in
-    rw (p.1, p.2) (misread _ _ _ _ input.Set _ (λ none. inr ((_, options), (refl, none))) c.from_slice-2.result
-    (Err _) c.in_err-keys.ensures c.from_slice-2.ensures.err)
+    rw (p.1, p.2) (no_options _ _ _ _ _ c.in_err-validation.ensures.err)
 
 pub returns-clause-ok : goal.returns-clause-ok
 returns-clause-ok c =
     let call : Options × List Jwk → Call Value = λ e. set_call c.args.token.now e.1 c.args.time e.0 in
-    let options = read_ok (λ v. ReadsText ReadsOptions c.args.options.now (options_of v)) input.Options
-    c.from_slice.result _ c.in_ok-validation.ensures c.from_slice.ensures.ok in
-    let keys = read_ok (λ s. ReadsText ReadsSet c.args.set.now s.keys.items) input.Set c.from_slice-2.result _
-    c.in_ok-keys.ensures c.from_slice-2.ensures.ok in
+    let given = c.in_ok-validation.ensures.ok in
     handed_ok (λ d. d.claims) (λ b. b.items) (λ (e : Options × List Jwk). ReadsText ReadsOptions c.args.options.now e.0
     × ReadsText ReadsSet c.args.set.now e.1) (MisreadsTwo input.Options (ReadsText ReadsOptions c.args.options.now)
     input.Set (ReadsText ReadsSet c.args.set.now)) (λ e. Passes (token_tests (call e)) set_order)
     (λ e. FailsFirst (token_tests (call e)) set_order)
     (λ e t p. shallow t (met (call e) set_order t p PayloadIsJson refl)) (λ d t. t.header ≡ d.header)
-    (options_of c.in_ok-validation.validation, c.in_ok-keys.keys.keys.items) (options, keys)
+    (options_of c.in_ok-validation.validation, c.in_ok-validation.keys.keys.items) (given.0, given.1)
     c.decode_with_set-answer.result c.hand_out.result c.hand_out.ensures c.decode_with_set-answer.ensures.decided.accepted
 
 pub returns-clause-err : goal.returns-clause-err
 returns-clause-err c =
     let call : Options × List Jwk → Call Value = λ e. set_call c.args.token.now e.1 c.args.time e.0 in
-    let options = read_ok (λ v. ReadsText ReadsOptions c.args.options.now (options_of v)) input.Options
-    c.from_slice.result _ c.in_ok-validation.ensures c.from_slice.ensures.ok in
-    let keys = read_ok (λ s. ReadsText ReadsSet c.args.set.now s.keys.items) input.Set c.from_slice-2.result _
-    c.in_ok-keys.ensures c.from_slice-2.ensures.ok in
+    let given = c.in_ok-validation.ensures.ok in
     handed_err (λ d. d.claims) (λ b. b.items) (λ (e : Options × List Jwk). ReadsText ReadsOptions c.args.options.now e.0
     × ReadsText ReadsSet c.args.set.now e.1) (MisreadsTwo input.Options (ReadsText ReadsOptions c.args.options.now)
     input.Set (ReadsText ReadsSet c.args.set.now)) (λ e. Passes (token_tests (call e)) set_order)
     (λ e. FailsFirst (token_tests (call e)) set_order)
     (λ e t p. shallow t (met (call e) set_order t p PayloadIsJson refl)) (λ d t. t.header ≡ d.header)
-    (options_of c.in_ok-validation.validation, c.in_ok-keys.keys.keys.items) (options, keys)
+    (options_of c.in_ok-validation.validation, c.in_ok-validation.keys.keys.items) (given.0, given.1)
     c.decode_with_set-answer.result c.hand_out.result c.hand_out.ensures c.decode_with_set-answer.ensures.decided.refused
