@@ -1,5 +1,7 @@
 -- From the result of the tests to the verdict.
-use Rattle.std.proofs.Common.{◌≡◌, ◌⊎◌, ◌∙◌, ℕ, List, Option, Result, Ok, Err, IfOk, IfErr, IsErrAnd, absurd, ap, inl, inr, subst, sym, ⊎_elim}
+use Rattle.std.proofs.Common.{◌≡◌, ◌⊎◌, ◌∙◌, ℕ, List, Option, Result, Ok, Err, IfOk, IfErr, absurd, ap, inl, inr, subst, sym, ⊎_elim}
+use Rattle.std.specs.Prelude.{IsErrAnd}
+use Rattle.std.specs.Result.{result_err}
 use Rattle.serde_json.specs.View.{view}
 use Rattle.serde_json.specs.declared.value.Value.{Value}
 use Rattle.jwt_base.specs.KindOf.{IsMemory}
@@ -8,7 +10,7 @@ use Rattle.jwt_validation.specs.Options.{Options}
 use Rattle.jsonwebtoken.specs.declared.decoding.TokenData.{TokenData}
 use Rattle.jsonwebtoken.specs.declared.refusal.Refusal.{Refusal}
 use Rattle.jwt_verifier.specs.declared.keys.Keys.{Keys}
-use Rattle.jwt_command.specs.Accepted.{HasType, IsDecoded, IsDenied, IsJudged}
+use Rattle.jwt_command.specs.Accepted.{HasType, IsDecoded, IsDenialIfAny, IsDenied, IsJudged}
 use Rattle.jwt_command.specs.Commands.{IsSettled}
 use Rattle.jwt_command.specs.declared.verify.verdict.Denial.{Denial}
 use Rattle.jwt_command.specs.declared.verify.verdict.Denial.TheVariants.{Refused, OtherType}
@@ -60,3 +62,10 @@ module _ (token : List ℕ) (keys : Keys) (options : Options) (time : ℕ) (typ 
     subst (IsDenied token keys settled time typ) (sym is)
         (other, ⊎_elim (λ memory. absurd (other memory)) (λ first. first) decided.refused),
   )
+
+  -- why it is denied, if it is
+  pub denial_if_any : (settled : Options) (verdict : Result (TokenData Value) Denial)
+      → IsJudged token keys settled time typ verdict
+      → IsDenialIfAny token keys settled time typ (result_err verdict)
+  denial_if_any settled (Ok d) judged = (judged.0, judged.1)
+  denial_if_any settled (Err denial) judged = judged

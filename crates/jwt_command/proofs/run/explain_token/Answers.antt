@@ -1,6 +1,5 @@
 use Rattle.std.proofs.Common.{subst}
 use Rattle.std.proofs.lemmas.Result.{IfOk-weaker}
-use Rattle.jwt_validation.specs.OptionsOf.{options_of}
 use Rattle.jwt_command.specs.LineEnd.{IsLessLineEnd}
 use Rattle.jwt_command.proofs.run.explain_token.Goals as goal
 
@@ -17,7 +16,7 @@ returns g c =
         (
           token,
           subst (λ b. IsLessLineEnd b token) c.deref.ensures.value c.strip_line_end.ensures,
-          (options_of c.explain_answer.new.validation, says.0, says.1),
+          says,
         ),
       ),
     ))

@@ -1,9 +1,15 @@
-use Rattle.std.proofs.Common.{◌≡◌, ◌∙◌, inl, inr, refl}
+use Rattle.std.proofs.Common.{◌≡◌, inl, inr, refl, sym}
 use Rattle.jsonwebtoken.specs.Finder.{looking_by}
 use Rattle.jsonwebtoken.specs.private_clauses.Steps.{no_contents, with_header}
 use Rattle.jsonwebtoken.specs.Tests.{InSet, key_tests}
 use Rattle.jsonwebtoken.proofs.Exits.{exit, not_both}
 use Rattle.jsonwebtoken.proofs.decoding.key_set.key_for.Goals as goal
+
+pub returns-in_default : goal.returns-in_default
+returns-in_default c keys named = inr (
+  no_contents,
+  inl (λ j is. not_both _ j is (rw c.in_default.is at named), (sym c.new.ensures.test, c.new.ensures.kind)),
+)
 
 pub returns-in_err-check_key_algorithm : goal.returns-in_err-check_key_algorithm
 returns-in_err-check_key_algorithm c keys named =
