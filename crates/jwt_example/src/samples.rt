@@ -1,5 +1,6 @@
 //! The samples of the README and of docs/USING.md.
 
+mod finder;
 mod key_set;
 mod reasons;
 mod secret;

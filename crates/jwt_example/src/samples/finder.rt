@@ -8,8 +8,11 @@ ghost use Rattle.jsonwebtoken.specs.Tests.{InSet, named_key};
 use jsonwebtoken::crypto::CryptoProvider;
 use jsonwebtoken::errors::Result as Checked;
 use jsonwebtoken::jwk::{Jwk, JwkSet, key_for, own_algorithm};
-use jsonwebtoken::{Algorithm, DecodingKey, Header, KeyFinder, Refusal};
+use jsonwebtoken::{
+    Algorithm, DecodingKey, Header, KeyFinder, Refusal, TokenData, Validation, decode_by,
+};
 use jwt_standard::{StandardProvider, StandardVerifier};
+use serde_json::Value;
 use std::alloc::Global;
 use std::result::Result;
 
@@ -29,6 +32,15 @@ impl Table {
         };
         self.rows.find(kid.as_str())
     }
+}
+
+/// Returns the claims of a token, verified with the row that it names.
+pub fn verify_with_table(alloc: Global, token: &[u8], table: &Table, time: u64) -> Checked<Value> {
+    let mut validation = Validation::new_strict(alloc, Algorithm::RS256)?;
+    validation.set_audience(alloc, &["my-service"])?;
+    let TokenData { header, claims } = decode_by(alloc, table, token, &validation, time)?;
+    drop(header);
+    Ok(claims)
 }
 
 impl KeyFinder for Table {

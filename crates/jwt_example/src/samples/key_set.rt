@@ -1,6 +1,7 @@
 //! Tokens that are verified with the key of a set.
 
 use crate::fault::Fault;
+use crate::samples::finder::{Table, verify_with_table};
 use jsonwebtoken::errors::Result;
 use jsonwebtoken::prelude::*;
 use jwt_standard::StandardProvider;
@@ -32,6 +33,9 @@ const SET: &str =
 /// Prints the claims that the token has.
 pub fn show<T: Runtime + AllocGlobal>(rt: &T) -> Result<(), Fault> {
     let claims = verify_with_set(rt.alloc(), TOKEN.as_bytes(), SET.as_bytes(), 0)?;
+    println!(rt; "{claims}")?;
+    let rows = JwkSet::from_slice(rt.alloc(), SET.as_bytes())?;
+    let claims = verify_with_table(rt.alloc(), TOKEN.as_bytes(), &Table { rows }, 0)?;
     println!(rt; "{claims}")?;
     Ok(())
 }
