@@ -1,0 +1,124 @@
+"""The shared library: its calls for C (jwtproved.h), by ctypes."""
+import ctypes
+import functools
+import os
+from typing import Any
+
+from ._status import Status
+
+ALGORITHMS = ("HS256", "HS384", "HS512", "RS256", "RS384", "RS512", "PS256", "PS384", "PS512", "ES256", "ES384", "EdDSA")
+
+# the bytes that the prepared keys of a verifier may take: those of the library, or so few that it prepares none, for one token
+PREPARED, PREPARE_NOTHING = 0, 1
+
+_FILE = "libjwtproved.so"
+PATH = os.environ.get("JWTPROVED_LIBRARY") or os.path.join(os.path.dirname(os.path.abspath(__file__)), _FILE)
+
+
+class Handle(ctypes.Structure):
+    """A struct jwt_verifier."""
+
+    _fields_ = [("at", ctypes.c_void_p)]
+
+
+_BYTES = [ctypes.c_char_p, ctypes.c_size_t]
+_BUFFER = [ctypes.c_char_p, ctypes.c_size_t, ctypes.POINTER(ctypes.c_size_t)]
+_NUMBER = ctypes.POINTER(ctypes.c_uint32)
+_HANDLE = ctypes.POINTER(Handle)
+_MAKE = [*_BYTES, *_BYTES, ctypes.c_size_t, ctypes.c_bool, ctypes.c_size_t, _HANDLE]
+_PROTOTYPES: dict[str, list[Any]] = {
+    "jwt_verifier_secret": _MAKE,
+    "jwt_verifier_key": _MAKE,
+    "jwt_verifier_set": _MAKE,
+    "jwt_verifier_share": [_HANDLE, _HANDLE],
+    "jwt_verifier_decode": [_HANDLE, *_BYTES, ctypes.c_uint64, *_BUFFER, ctypes.POINTER(ctypes.c_uint64), _NUMBER],
+    "jwt_verifier_free": [_HANDLE],
+    "jwt_decode_verdict": [*_BYTES, ctypes.c_uint32, *_BYTES, *_BYTES, ctypes.c_bool, *_BYTES, ctypes.c_uint64, *_BUFFER],
+    "jwt_signed_part": [*_BYTES, _NUMBER, ctypes.POINTER(ctypes.c_size_t), *_BUFFER],
+    "jwt_decode_header": [*_BYTES, *_BUFFER],
+    "jwt_encode_hmac": [*_BYTES, *_BYTES, *_BYTES, *_BUFFER],
+    "jwt_signing_input": [*_BYTES, *_BYTES, _NUMBER, *_BUFFER],
+    "jwt_encode_signature": [*_BYTES, *_BYTES, ctypes.c_uint32, *_BYTES, *_BYTES, *_BUFFER],
+    "jwt_ecdsa_signature": [*_BYTES, ctypes.c_uint32, *_BUFFER],
+    "jwt_thumbprint": [*_BYTES, ctypes.c_uint32, *_BUFFER],
+    "jwt_key_from_pem": [*_BYTES, *_BUFFER],
+    "jwt_check_issued_at": [ctypes.c_uint64] * 3,
+    "jwt_check_secret": _BYTES,
+    "jwt_check_key": _BYTES,
+    "jwt_status_text": [ctypes.c_uint32, *_BUFFER],
+    "jwt_test_text": [ctypes.c_uint32, *_BUFFER],
+}
+
+
+def _load() -> ctypes.CDLL:
+    """Loads the library that JWTPROVED_LIBRARY names, or else the one in this package."""
+    try:
+        found = ctypes.CDLL(PATH)
+        for name, types in _PROTOTYPES.items():
+            call = getattr(found, name)
+            call.argtypes, call.restype = types, ctypes.c_uint32
+        found.jwt_verifier_free.restype = None
+    except (OSError, AttributeError) as error:
+        raise ImportError(
+            f"the shared library of jwtproved is missing: {error}. `pip install ./packages/python` in a checkout of its repository builds it"
+            " into the package; JWTPROVED_LIBRARY names another path"
+        ) from error
+    return found
+
+
+library = _load()
+
+
+class Refusal(Exception):
+    """A status other than JWT_OK, and the number of the test of a token that failed, or 0."""
+
+    def __init__(self, status: int, test: int = 0) -> None:
+        super().__init__(status, test)
+        self.status, self.test = status, test
+
+
+def check(status: int, test: int = 0) -> None:
+    """Raises Refusal, or MemoryError, for a status other than JWT_OK."""
+    if status == Status.OUT_OF_MEMORY:
+        raise MemoryError("the library of jwtproved is out of memory")
+    if status:
+        raise Refusal(status, test)
+
+
+def answer(call: Any, *arguments: Any) -> bytes:
+    """Returns what a call writes. Raises Refusal, or MemoryError."""
+    length = ctypes.c_size_t(1024)
+    status: int = Status.NO_ROOM
+    while status == Status.NO_ROOM:
+        buffer = ctypes.create_string_buffer(length.value)
+        status = call(*arguments, buffer, len(buffer), ctypes.byref(length))
+    check(status)
+    return buffer.raw[: length.value]
+
+
+def text_of(status: int) -> str:
+    """Returns the library's text of a status, such as 'InvalidSignature'."""
+    return str(answer(library.jwt_status_text, status), "utf-8")
+
+
+@functools.cache
+def test_of(number: int) -> str:
+    """Returns the name of a test of a token, such as 'SignatureIsAccepted'."""
+    return str(answer(library.jwt_test_text, number), "utf-8")
+
+
+def slices(*texts: bytes) -> list[Any]:
+    """Returns pointer and length of each text, one after the other."""
+    return [argument for it in texts for argument in (it, len(it))]
+
+
+def number_of(algorithm: str) -> int:
+    """Returns the number of an algorithm in jwtproved.h."""
+    return ALGORITHMS.index(algorithm) + 1
+
+
+def parts(token: bytes) -> tuple[str, bytes, bytes]:
+    """Returns the algorithm that the header names, the message, and the bytes of the signature. Nothing is verified."""
+    number, length = ctypes.c_uint32(), ctypes.c_size_t()
+    signature = answer(library.jwt_signed_part, *slices(token), ctypes.byref(number), ctypes.byref(length))
+    return ALGORITHMS[number.value - 1], token[: length.value], signature

@@ -1,0 +1,207 @@
+//! The declarations of `jwtproved.h`.
+
+use std::ffi::c_void;
+
+/// `struct jwt_verifier`.
+#[repr(C)]
+pub struct Verifier {
+    pub at: *mut c_void,
+}
+
+extern "C" {
+    pub fn jwt_verifier_secret(
+        secret: *const u8,
+        secret_len: usize,
+        options: *const u8,
+        options_len: usize,
+        max_token_len: usize,
+        allows_blank: bool,
+        max_prepared: usize,
+        verifier: *mut Verifier,
+    ) -> u32;
+    pub fn jwt_verifier_key(
+        key: *const u8,
+        key_len: usize,
+        options: *const u8,
+        options_len: usize,
+        max_token_len: usize,
+        allows_blank: bool,
+        max_prepared: usize,
+        verifier: *mut Verifier,
+    ) -> u32;
+    pub fn jwt_verifier_set(
+        set: *const u8,
+        set_len: usize,
+        options: *const u8,
+        options_len: usize,
+        max_token_len: usize,
+        allows_blank: bool,
+        max_prepared: usize,
+        verifier: *mut Verifier,
+    ) -> u32;
+    pub fn jwt_verifier_share(verifier: *mut Verifier, other: *mut Verifier) -> u32;
+    pub fn jwt_verifier_decode(
+        verifier: *mut Verifier,
+        token: *const u8,
+        token_len: usize,
+        now: u64,
+        buffer: *mut u8,
+        buffer_len: usize,
+        len: *mut usize,
+        last: *mut u64,
+        test: *mut u32,
+    ) -> u32;
+    pub fn jwt_verifier_free(verifier: *mut Verifier);
+    pub fn jwt_member(
+        json: *const u8,
+        json_len: usize,
+        name: *const u8,
+        name_len: usize,
+        kind: *mut u32,
+        buffer: *mut u8,
+        buffer_len: usize,
+        len: *mut usize,
+    ) -> u32;
+    pub fn jwt_signed_part(
+        token: *const u8,
+        token_len: usize,
+        algorithm: *mut u32,
+        message_len: *mut usize,
+        buffer: *mut u8,
+        buffer_len: usize,
+        len: *mut usize,
+    ) -> u32;
+    pub fn jwt_decode_verdict(
+        token: *const u8,
+        token_len: usize,
+        algorithm: u32,
+        message: *const u8,
+        message_len: usize,
+        signature: *const u8,
+        signature_len: usize,
+        verdict: bool,
+        options: *const u8,
+        options_len: usize,
+        now: u64,
+        buffer: *mut u8,
+        buffer_len: usize,
+        len: *mut usize,
+    ) -> u32;
+    pub fn jwt_decode_header(
+        token: *const u8,
+        token_len: usize,
+        buffer: *mut u8,
+        buffer_len: usize,
+        len: *mut usize,
+    ) -> u32;
+    pub fn jwt_encode_hmac(
+        header: *const u8,
+        header_len: usize,
+        claims: *const u8,
+        claims_len: usize,
+        secret: *const u8,
+        secret_len: usize,
+        buffer: *mut u8,
+        buffer_len: usize,
+        len: *mut usize,
+    ) -> u32;
+    pub fn jwt_signing_input(
+        header: *const u8,
+        header_len: usize,
+        claims: *const u8,
+        claims_len: usize,
+        algorithm: *mut u32,
+        buffer: *mut u8,
+        buffer_len: usize,
+        len: *mut usize,
+    ) -> u32;
+    pub fn jwt_encode_signature(
+        header: *const u8,
+        header_len: usize,
+        claims: *const u8,
+        claims_len: usize,
+        algorithm: u32,
+        message: *const u8,
+        message_len: usize,
+        signature: *const u8,
+        signature_len: usize,
+        buffer: *mut u8,
+        buffer_len: usize,
+        len: *mut usize,
+    ) -> u32;
+    pub fn jwt_ecdsa_signature(
+        der: *const u8,
+        der_len: usize,
+        algorithm: u32,
+        buffer: *mut u8,
+        buffer_len: usize,
+        len: *mut usize,
+    ) -> u32;
+    pub fn jwt_thumbprint(
+        key: *const u8,
+        key_len: usize,
+        bits: u32,
+        buffer: *mut u8,
+        buffer_len: usize,
+        len: *mut usize,
+    ) -> u32;
+    pub fn jwt_key_from_pem(pem: *const u8, pem_len: usize, buffer: *mut u8, buffer_len: usize, len: *mut usize)
+    -> u32;
+    pub fn jwt_check_secret(secret: *const u8, secret_len: usize) -> u32;
+    pub fn jwt_check_key(key: *const u8, key_len: usize) -> u32;
+    pub fn jwt_check_set(set: *const u8, set_len: usize) -> u32;
+    pub fn jwt_status_text(status: u32, buffer: *mut u8, buffer_len: usize, len: *mut usize) -> u32;
+    pub fn jwt_test_text(test: u32, buffer: *mut u8, buffer_len: usize, len: *mut usize) -> u32;
+}
+
+#[cfg(test)]
+mod tests {
+    use std::collections::BTreeMap;
+
+    /// Returns the types of the parameters of each call after such a head, and what follows them.
+    fn calls<'a>(text: &'a str, head: &str, type_of: fn(&str) -> String) -> BTreeMap<&'a str, Vec<String>> {
+        let call = |it: &'a str| {
+            let (name, rest) = it.split_once('(')?;
+            let (parameters, rest) = rest.split_once(')')?;
+            let types = parameters.split(',').map(str::trim).filter(|it| !it.is_empty()).map(type_of);
+            Some((name, types.chain([rest.split_once(';')?.0.trim().to_string()]).collect()))
+        };
+        text.split(head).skip(1).filter_map(call).collect()
+    }
+
+    fn of_rust(parameter: &str) -> String {
+        parameter.rsplit(": ").next().unwrap_or_default().to_string()
+    }
+
+    /// Returns the type of a parameter of C, as Rust writes it.
+    fn of_c(parameter: &str) -> String {
+        let name = parameter.rsplit(|it| it == ' ' || it == '*').next().unwrap_or_default();
+        let kind = match parameter[..parameter.len() - name.len()].trim() {
+            "const uint8_t *" => "*const u8",
+            "uint8_t *" => "*mut u8",
+            "size_t *" => "*mut usize",
+            "uint32_t *" => "*mut u32",
+            "uint64_t *" => "*mut u64",
+            "struct jwt_verifier *" => "*mut Verifier",
+            "size_t" => "usize",
+            "uint32_t" => "u32",
+            "uint64_t" => "u64",
+            other => other,
+        };
+        kind.to_string()
+    }
+
+    /// A call that is declared in another way than in the header file has no defined result.
+    #[test]
+    fn the_calls_are_those_of_the_header_file() {
+        let header = crate::tests::file_of_repository("packages/c/include/jwtproved.h");
+        let mut its = calls(&header, "\nuint32_t ", of_c);
+        its.values_mut().filter_map(|it| it.last_mut()).for_each(|it| *it = "-> u32".to_string());
+        its.extend(calls(&header, "\nvoid ", of_c));
+        let ours = calls(include_str!("declared.rs"), "\n    pub fn ", of_rust);
+        assert_eq!(ours.len(), include_str!("declared.rs").matches("    pub fn jwt_").count() - 1);
+        for (name, types) in ours {
+            assert_eq!(its.get(name), Some(&types), "{name}");
+        }
+    }
+}

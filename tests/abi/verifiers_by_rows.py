@@ -1,0 +1,107 @@
+"""Runs the rows of crates/jwt_vectors/data that verify a token with a JSON Web Key or a set of keys, through a verifier of the library for
+C and through the call without one: both leave the same status and bytes, and for the provider of all algorithms these are the row's. If
+no verifier is made, the call without one refuses the token.
+The last line counts."""
+import argparse
+import ctypes
+import glob
+import json
+import os
+import sys
+
+TOP = os.path.dirname(os.path.dirname(os.path.dirname(os.path.abspath(__file__))))
+BYTES = [ctypes.c_char_p, ctypes.c_size_t]
+BUFFER = [ctypes.c_char_p, ctypes.c_size_t, ctypes.POINTER(ctypes.c_size_t)]
+LIMITS = [ctypes.c_size_t, ctypes.c_bool, ctypes.c_size_t]
+OK, UNFIT_KEY, MIXED_FAMILIES = 0, 110, 114
+# The names of kinds that are not their texts.
+NAMES = {"Base64 error": "Base64", "JSON error": "Json", "UTF-8 error": "Utf8"}
+
+
+class Handle(ctypes.Structure):
+    _fields_ = [("at", ctypes.c_void_p)]
+
+
+def declare(library):
+    handle = ctypes.POINTER(Handle)
+    for kind in ("key", "set"):
+        getattr(library, f"jwt_decode_{kind}").argtypes = [*BYTES, *BYTES, *BYTES, ctypes.c_uint64, *BUFFER]
+        getattr(library, f"jwt_verifier_{kind}").argtypes = [*BYTES, *BYTES, *LIMITS, handle]
+    library.jwt_verifier_decode.argtypes = [handle, *BYTES, ctypes.c_uint64, *BUFFER, ctypes.POINTER(ctypes.c_uint64), ctypes.POINTER(ctypes.c_uint32)]
+    library.jwt_verifier_free.argtypes = [handle]
+    library.jwt_status_text.argtypes = [ctypes.c_uint32, *BUFFER]
+    return library
+
+
+def given(text):
+    return text, len(text)
+
+
+def left(call, *words):
+    """Returns the status and the bytes that a call leaves in a buffer."""
+    buffer, length = ctypes.create_string_buffer(1 << 16), ctypes.c_size_t()
+    status = call(buffer, len(buffer), ctypes.byref(length), *words)
+    return status, buffer.raw[: length.value]
+
+
+def shown(library, status, text):
+    """Returns a result as rows show it."""
+    if status == 0:
+        return {"ok": json.loads(text)}
+    said = left(lambda *buffer: library.jwt_status_text(status, *buffer))[1].decode()
+    return {"err": NAMES.get(said, said)}
+
+
+def results(library, row, kind, key):
+    """Returns the results without a verifier and through one, or None if no verifier is made, since it could accept no token."""
+    options = json.dumps(row["validation"]).encode()
+    token, now = row["token"].encode(), row["now"]
+    stateless = getattr(library, f"jwt_decode_{kind}")
+    plain = left(lambda *buffer: stateless(*given(token), *given(key), *given(options), now, *buffer))
+    handle = Handle()
+    status = getattr(library, f"jwt_verifier_{kind}")(*given(key), *given(options), 1 << 30, True, 0, ctypes.byref(handle))
+    if status in (UNFIT_KEY, MIXED_FAMILIES):
+        return plain, None
+    last, test = ctypes.c_uint64(), ctypes.c_uint32()
+    by_handle = left(lambda *buffer: library.jwt_verifier_decode(ctypes.byref(handle), *given(token), now, *buffer, ctypes.byref(last), ctypes.byref(test)))
+    library.jwt_verifier_free(ctypes.byref(handle))
+    # a text that is refused is refused when the verifier is made
+    return plain, by_handle if status == 0 else (status, b"")
+
+
+def key_of(row):
+    """Returns the kind of a row's keys and their text, or None for a row of another call or key."""
+    if not (isinstance(row.get("token"), str) and isinstance(row.get("validation"), dict) and "now" in row):
+        return None
+    if row["call"] == "decode_with_set":
+        return "set", json.dumps(row["set"]).encode()
+    if row["call"] == "decode" and "jwk" in row["key"]:
+        return "key", json.dumps(row["key"]["jwk"]).encode()
+    return None
+
+
+def main():
+    argparse.ArgumentParser(description=__doc__).parse_args()
+    library = declare(ctypes.CDLL(os.environ.get("JWT_LIBRARY", os.path.join(TOP, "out", "libjwtproved.so"))))
+    passed = failed = unfit = 0
+    for path in sorted(glob.glob(os.path.join(TOP, "crates", "jwt_vectors", "data", "*.jsonl"))):
+        with open(path, encoding="utf-8") as rows:
+            for row in map(json.loads, rows):
+                key = key_of(row)
+                if key is None:
+                    continue
+                plain, by_handle = results(library, row, *key)
+                unfit += by_handle is None
+                is_well = plain[0] != OK if by_handle is None else by_handle == plain
+                if row.get("provider") == "StandardProvider":
+                    want = {"ok": row["want"]["ok"]["claims"]} if "ok" in row["want"] else row["want"]
+                    is_well = is_well and shown(library, *plain) == want
+                passed, failed = passed + is_well, failed + (not is_well)
+                if not is_well:
+                    print(f"FAILED: {row['id']}: {by_handle}, not {plain}")
+    print(f"{passed} rows with a key or a set ({unfit} of them with keys or options of which no verifier is made), {failed} failed")
+    return failed > 0 or unfit == passed
+
+
+if __name__ == "__main__":
+    sys.exit(main())

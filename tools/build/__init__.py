@@ -1,0 +1,1 @@
+"""What tools/prove consists of."""

@@ -1,0 +1,211 @@
+"""Checks a crate in which wrong bodies are planted: many in one check.
+
+A wrong body is a function of its own beside the right one, with the same head, clauses and proof files. A function of a
+trait, or of a cycle of calls, can have no such copy: it is changed in place, one at a time. The proofs of callers rest on a
+function's contract alone, so every other function loses its body, which would have to be read, and its proof.
+"""
+import os
+import re
+import shutil
+import tempfile
+
+from build import checks
+from build.edits import FUNCTION, at_home, functions_of, plain, sources, text_of
+
+PARTS = ("src", "specs", "proofs")
+# The lines that rattle prints: a function's verdict, a goal that it did not prove, and an answer that is not a proof.
+VERDICT = re.compile(r"fn (\S+): (.*)")
+GOAL = re.compile(r"note: (?:\./)?(src/\S+?):(\d+):\d+: (it is not proved that .*|`search` found no proof .*)")
+ANSWER = re.compile(r"(?:\./)?proofs/(\S+)/\w+\.antt:\d+:\d+: error: (.*)")
+NO_PROOF = re.compile(r"`(?:search|grind|omega|simp|cc)\b[^`]*`: no proof|found no proof|no proof of")
+NO_FUNCTION = re.compile(r"proofs/(\S+)/Proof\.antt: error: `\w+` has no function")
+PROVED = ("no holes", "depends on a hole in")
+# The line that rattle prints of a body that does not compile.
+ERROR = re.compile(r"(?:\./)?(src/\S+?):(\d+):\d+: error")
+# A proof that is left out. With names for the statement's variables, the goal of some generic functions takes minutes.
+HOLE = """use Rattle.{crate}.proofs.{module}.Statement.{{statement}}
+
+pub {name}_spec : {{M : Type 1}} → statement M
+{name}_spec = ?
+"""
+# A body that is left out: it is of every type.
+NO_BODY = "loop {}"
+
+
+def applied(edits, twins=False):
+    """Returns the texts of the files that these edits change, or None if one of them meets another."""
+    texts = {}
+    for edit in edits:
+        for path, old, new, twin in edit.pairs:
+            text = texts.get(path) or text_of(f"{edit.crate.folder}/{path}")
+            if text.count(old) != 1:
+                return None
+            texts[path] = text.replace(old, twin if twins else new)
+    return texts
+
+
+def copy_of(edit, name, twins):
+    """Returns the lines of the edited function, under another name."""
+    own = edit.function
+    lines = applied([edit], twins)[own.file].split("\n")[own.first - 1 : own.last]
+    head = next(number for number, line in enumerate(lines) if FUNCTION.match(line))
+    lines[head] = re.sub(rf"\bfn {own.name}\b", f"fn {name}", lines[head], count=1)
+    # what follows the function ends the comment that hides the right body
+    is_open = sum(line.count("/*") - line.count("*/") for line in lines) > 0
+    return [*lines, "*/"] if is_open else lines
+
+
+class Planted:
+    """A copy of a crate with edits planted: those that are tried in it, and those that are left for another one."""
+
+    def __init__(self, crate, edits, twins=False):
+        self.crate, self.twins, self.texts, self.functions, self.copies = crate, twins, {}, {}, []
+        copied = [edit for edit in edits if edit.function.can_be_copied()]
+        in_place, self.left = [], []
+        for edit in edits:
+            if edit not in copied:
+                is_free = all(other.function.unit() != edit.function.unit() for other in in_place)
+                (in_place if is_free and applied([*in_place, edit], twins) is not None else self.left).append(edit)
+        self.tried = [*copied, *in_place]
+        self.plant(copied, in_place)
+
+    def plant(self, copied, in_place):
+        self.texts = applied(in_place, self.twins)
+        spelled = {edit: edit.function.spelled for edit in in_place}
+        inserted = {}
+        for number, edit in enumerate(copied, 1):
+            own, name = edit.function, f"{edit.function.name}_wrong_{number}"
+            spelled[edit] = own.spelled[: -len(own.name)] + name
+            self.copies.append((own.spelled, spelled[edit]))
+            inserted.setdefault(own.file, []).append((own.last, ["", *copy_of(edit, name, self.twins)]))
+        for path, some in inserted.items():
+            lines = (self.texts.get(path) or text_of(f"{self.crate.folder}/{path}")).split("\n")
+            for last, added in sorted(some, key=lambda own: -own[0]):
+                lines[last:last] = added
+            self.texts[path] = "\n".join(lines)
+        found = []
+        for path in sources(self.crate):
+            found += functions_of(path, self.texts.get(path) or text_of(f"{self.crate.folder}/{path}"))
+        self.all_functions = at_home(self.crate, found)
+        found = {(function.file, function.spelled): function for function in self.all_functions}
+        self.functions = {edit: found[edit.function.file, spelled[edit]] for edit in self.tried}
+
+    def write(self, scratch, kept_proofs):
+        """Writes the crate's copy, with the copied functions, and without bodies and proofs of the others but for these."""
+        for part in PARTS:
+            if os.path.isdir(f"{self.crate.folder}/{part}"):
+                shutil.copytree(f"{self.crate.folder}/{part}", f"{scratch}/{part}")
+        for right, wrong in self.copies:
+            copy_proofs(scratch, right, wrong)
+        kept = {function.path for function in self.functions.values()} | kept_proofs
+        # a recursive function keeps its body: rattle names its proofs otherwise than those of the same function without it; so does a
+        # destructor, whose proofs rattle looks for elsewhere
+        recursive = {function.spelled for function in self.all_functions if os.path.isdir(recursive_proofs(self.crate, function.spelled))}
+        stays = lambda own: own.cycle or own.spelled in recursive or own.path in kept or own.is_destructor()
+        left_out = [own for own in self.all_functions if own.has_body and not stays(own)]
+        for function in left_out:
+            leave_out(self.crate, scratch, function.spelled)
+        for path in sources(self.crate):
+            lines = (self.texts.get(path) or text_of(f"{self.crate.folder}/{path}")).split("\n")
+            for function in sorted((own for own in left_out if own.file == path), key=lambda own: -own.first):
+                lines[function.first - 1 : function.last] = without_body(lines[function.first - 1 : function.last])
+            with open(f"{scratch}/{path}", "w", encoding="utf-8") as opened:
+                opened.write("\n".join(lines))
+
+    def check_once(self, work, kept_proofs, only):
+        """Checks the copy, and these of its functions alone if there are any, over what the folder `work` holds of earlier checks. Returns
+        a status, and what was printed."""
+        with tempfile.TemporaryDirectory(prefix="edits-") as scratch:
+            self.write(scratch, kept_proofs)
+            flags = ["--jobs", "1", "--allow-holes", *(word for name in only for word in ("--only", name))]
+            return checks.check(self.crate, scratch, [*flags, *(["--incremental", work] if work else [])])
+
+    def check(self, work=None):
+        """Checks the planted functions of the copy, and those that they call. Returns what was printed."""
+        only, kept_proofs = [function.spelled for function in self.functions.values()], set()
+        status, said = self.check_once(work, kept_proofs, only)
+        # rattle may spell the path of a function of a trait in another way
+        unknown = {plain(found.split("/")) for found in NO_FUNCTION.findall(said)}
+        if unknown:
+            kept_proofs = unknown
+            status, said = self.check_once(work, kept_proofs, only)
+        return self.check_once(work, kept_proofs, [])[1] if status == 2 else said
+
+
+def copy_proofs(scratch, right, wrong):
+    """Gives a copied function the proof files of the right one."""
+    source, copy = (f"{scratch}/proofs/{path.replace('::', '/')}" for path in (right, wrong))
+    if not os.path.isdir(source):
+        return
+    os.makedirs(copy)
+    old, new = (path.replace("::", ".") for path in (right, wrong))
+    for name in os.listdir(source):
+        if os.path.isfile(f"{source}/{name}"):
+            text = re.sub(rf"(\.(?:proofs|contracts)\.){re.escape(old)}\b", rf"\g<1>{new}", text_of(f"{source}/{name}"))
+            text = re.sub(rf"\b{old.split('.')[-1]}_spec\b", f"{new.split('.')[-1]}_spec", text)
+            with open(f"{copy}/{name}", "w", encoding="utf-8") as opened:
+                opened.write(text)
+
+
+def without_body(lines):
+    """Returns as many lines of the function with another body, if they are in rt fmt's layout: a body stands between lines as far
+    in as the head."""
+    head = next(number for number, line in enumerate(lines) if FUNCTION.match(line))
+    inner = re.match(" *", lines[head])[0]
+    opens = (number for number, line in enumerate(lines) if number >= head and re.fullmatch(rf"{inner}\S.*{{|{inner}{{", line))
+    first = next(opens, None)
+    if first is None or lines[-1] != f"{inner}}}" or re.search(r"\bconst fn\b", lines[head]):
+        return lines
+    return [*lines[: first + 1], f"{inner}    {NO_BODY}", *[""] * (len(lines) - first - 3), lines[-1]]
+
+
+def recursive_proofs(crate, path):
+    """Returns the folder of a function's proofs, if it calls itself."""
+    *modules, name = path.split("::")
+    return "/".join([crate.folder, "proofs", *modules, f"+{name}"])
+
+
+def leave_out(crate, scratch, path):
+    """Puts a hole in the place of a function's proof."""
+    folder = f"{scratch}/proofs/{path.replace('::', '/')}"
+    os.makedirs(folder, exist_ok=True)
+    for name in os.listdir(folder):
+        if os.path.isfile(f"{folder}/{name}"):
+            os.remove(f"{folder}/{name}")
+    with open(f"{folder}/Proof.antt", "w", encoding="utf-8") as opened:
+        opened.write(HOLE.format(crate=crate.name, module=path.replace("::", "."), name=path.split("::")[-1]))
+
+
+class Report:
+    """The lines that a check of planted edits printed: verdicts by function, goals that it left open, and answers that are not proofs."""
+
+    def __init__(self, planted, work=None):
+        self.lines, self.functions, self.verdicts = planted.check(work).split("\n"), planted.functions, {}
+        for found in filter(None, map(VERDICT.match, self.lines)):
+            self.verdicts[plain(found[1].split("::")[1:])] = found[2]
+        for function in self.functions.values():
+            function.find(self.verdicts)
+        self.goals = [found for found in map(GOAL.match, self.lines) if found]
+        self.answers = [(plain(found[1].split("/")), found[2]) for found in map(ANSWER.match, self.lines) if found]
+
+    def uncompiled(self):
+        """Returns the edits whose bodies do not compile, for which no other was checked either."""
+        lines = [] if self.verdicts else [(found[1], int(found[2])) for found in map(ERROR.match, self.lines) if found]
+        has_error = lambda own: any(file == own.file and own.first <= line <= own.last for file, line in lines)
+        return [edit for edit, own in self.functions.items() if has_error(own)]
+
+    def proves(self, edit):
+        return self.verdicts.get(self.functions[edit].path, "").startswith(PROVED)
+
+    def judge(self, edit):
+        """Notes of the edit whether a goal of its own function is open, and why."""
+        own = self.functions[edit]
+        goals = [found[3] for found in self.goals if found[1] == own.file and own.first <= int(found[2]) <= own.last]
+        answers = [why for path, why in self.answers if path == own.path]
+        goals += filter(NO_PROOF.search, answers)
+        edit.misfit = "" if goals or not answers else answers[0]
+        edit.is_refused = bool(goals) and not self.proves(edit)
+        if own.path not in self.verdicts:
+            edit.said = next((line for line in self.lines if "error" in line), f"no verdict on {own.spelled}")
+        else:
+            edit.said = (goals or answers or [f"its function is {self.verdicts[own.path]}"])[0]

@@ -1,0 +1,210 @@
+"""Has the prover refuse wrong bodies, all of a crate in one check.
+
+A file crates/NAME/wrong-bodies/MODULE.edits puts wrong bodies in the place of right ones (edits.py). The edits of a crate are planted in
+one copy of it (planted.py). An edit that this check does not show refused, as when a body does not compile, is tried again alone.
+
+An edit counts as refused only if a goal of its own function is left open: one that rattle made and did not prove, or one whose tactic in
+the function's file of answers found no proof. That a callee is not proved says nothing of it, nor does an answer that no longer fits,
+since it may not fit a right body either. If that is all, the edit has to have a twin, a right body in the same place.
+
+Which edits were refused is kept on this machine, by the sum of all that their check read. Nothing else is kept.
+
+If the kit lacks something that these checks need (checks.py), `rt must-fail` tries each edit by itself, and refuses it if the crate
+is not proved with it.
+"""
+import concurrent.futures
+import os
+import re
+import subprocess
+import tempfile
+import time
+
+from build import built, checks, kit
+from build.copies import copy_crates
+from build.crates import crates
+from build.edits import edits_of
+from build.kept import Store, key_of
+from build.planted import Planted, Report
+
+MISFIT = "its answer no longer fits, while it fits the twin"
+NO_TWIN = "only an answer no longer fits, as it might under a right body"
+REFUSED = "refused, as it must be"
+
+
+def try_edits(crate, edits):
+    """Tries edits in as few checks as they fit in, and then alone what was not refused."""
+    left = edits
+    while left:
+        planted = Planted(crate, left)
+        found = Report(planted)
+        for edit in planted.tried:
+            found.judge(edit)
+        broken = found.uncompiled()
+        left = [edit for edit in left if edit not in broken] if broken else planted.left
+    alone = [edit for edit in edits if not edit.is_refused and not edit.misfit]
+    with tempfile.TemporaryDirectory(prefix="wrong-bodies-") as work:
+        for edit in alone:
+            Report(Planted(crate, [edit]), work).judge(edit)
+    for edit in edits:
+        if not edit.is_refused and edit.misfit:
+            edit.is_refused = edit.has_twin
+            edit.said = f"{MISFIT if edit.has_twin else NO_TWIN}: {edit.misfit}"
+
+
+class Earlier:
+    """The edits of a crate that an earlier run on this machine saw refused."""
+
+    def __init__(self, crate, is_anew):
+        self.crate, self.is_anew = crate, is_anew
+        self.sum = self.sum_now()
+
+    def sum_now(self):
+        """Returns the sum of all that a try of an edit reads, but for the edit."""
+        return key_of(built.sum_of_means(self.crate), built.sum_of_sources(self.crate))
+
+    def place(self, edit):
+        """Returns where the edit's refusals are kept, and the key of the one that stands for it as it is."""
+        return Store(f"wrong-bodies/{self.crate.name}/{edit.name}"), key_of(self.sum, edit.text)
+
+    def take(self, edits):
+        """Marks the edits that were refused earlier, and returns the others."""
+        left = []
+        for edit in edits:
+            store, key = self.place(edit)
+            found = None if self.is_anew else store.find(key)
+            if found is None:
+                left.append(edit)
+            else:
+                edit.is_refused, edit.said = True, found
+        return left
+
+    def keep(self, edits):
+        """Keeps the edits that were refused, unless a file that their tries read was changed meanwhile."""
+        if self.sum_now() != self.sum:
+            return
+        for edit in edits:
+            if edit.is_refused:
+                store, key = self.place(edit)
+                store.keep(key, edit.said)
+
+
+def try_all(crate, edits, is_anew):
+    """Tries a crate's edits and says how each went. Returns how many were tried in this run."""
+    start = time.monotonic()
+    earlier = Earlier(crate, is_anew)
+    left = earlier.take([edit for edit in edits if not edit.is_bad])
+    try_edits(crate, left)
+    earlier.keep(left)
+    for edit in edits:
+        word = "BAD EDIT" if edit.is_bad else REFUSED if edit.is_refused else "NOT REFUSED"
+        print(f"wrong body {crate.name}/{edit.name}: {word}: {edit.said[:200]}")
+    refused = sum(edit.is_refused for edit in edits)
+    print(f"{crate.name}: {refused} of {len(edits)} wrong bodies refused, {len(left)} of them tried in this run, in {time.monotonic() - start:.0f} s", flush=True)
+    return len(left)
+
+
+def try_twins(crate, edits):
+    """Has the prover prove the twins of edits, and says how each went. Returns how many are not proved."""
+    left = [edit for edit in edits if edit.has_twin and not edit.is_bad]
+    lost = 0
+    while left:
+        planted = Planted(crate, left, twins=True)
+        found = Report(planted)
+        for edit in planted.tried:
+            found.judge(edit)
+            is_proved = found.proves(edit)
+            print(f"twin of {crate.name}/{edit.name}: {'proved, as it must be' if is_proved else f'NOT PROVED: {edit.said[:200]}'}", flush=True)
+            lost += not is_proved
+        left = planted.left
+    return lost
+
+
+def side_by_side(call, edits):
+    """Calls with each crate and its edits, as many side by side as there are processors and memory for. Returns what each call gave."""
+    lanes = int(kit.one_job_each({})["RT_JOBS"])
+    largest_first = sorted(edits, key=lambda crate: -len(edits[crate]) * crate.lines())
+    with concurrent.futures.ThreadPoolExecutor(lanes) as pool:
+        return list(pool.map(lambda crate: call(crate, edits[crate]), largest_first))
+
+
+def write_must_fail(edits):
+    """Writes the edits of crates as those that rt tries itself. Edits that can't be applied are left out."""
+    for crate, some in edits.items():
+        os.makedirs(f"{crate.folder}/must-fail", exist_ok=True)
+        for edit in some:
+            if not edit.is_bad:
+                with open(f"{crate.folder}/must-fail/{edit.name.replace('/', '-')}.edit", "w", encoding="utf-8") as file:
+                    file.write(edit.must_fail_text())
+
+
+def try_plainly(edits):
+    """Has rt must-fail try the edits of these crates of a copy. Returns how many are refused."""
+    write_must_fail(edits)
+    root = next(iter(edits)).root
+    how = {"cwd": root, "stdin": subprocess.DEVNULL, "stdout": subprocess.PIPE, "stderr": subprocess.STDOUT, "text": True, "errors": "replace"}
+    ran = kit.rt("must-fail", *[crate.name for crate in edits], **how)
+    print(ran.stdout, end="", flush=True)
+    if ran.returncode == 0:
+        return sum(not edit.is_bad for some in edits.values() for edit in some)
+    return len(re.findall(rf"(?m)^rt: must-fail \S+: {REFUSED}", ran.stdout))
+
+
+def found_edits(named):
+    """Returns the edits of these crates, by their crates; those without edits are left out."""
+    return {crate: found for crate in named if (found := edits_of(crate))}
+
+
+def refuse(edits, is_anew):
+    """Tries the edits of these crates over the libraries as they are built. Returns how many are refused, and how many were tried now."""
+    tried = sum(side_by_side(lambda crate, some: try_all(crate, some, is_anew), edits))
+    return sum(edit.is_refused for some in edits.values() for edit in some), tried
+
+
+def refuse_over(edits, is_anew):
+    """Tries the edits of crates that rt ci proved. Returns how many are refused."""
+    if not checks.are_built(edits):
+        kit.tell("rt ci left no libraries where a check looks for them: each wrong body is tried by rt must-fail, which takes longer")
+        return try_plainly(edits)
+    refused, tried = refuse(edits, is_anew)
+    print(f"{tried} of {sum(map(len, edits.values()))} wrong bodies were tried in this run, and the others in an earlier one")
+    return refused
+
+
+def build_below(named):
+    """Builds the libraries below these crates by rt lib, if they have changed. Returns whether all are built."""
+    below = list(dict.fromkeys(library for crate in named for library in crate.below))
+    return all(kit.rt("lib", cwd=crate.folder, stdin=subprocess.DEVNULL).returncode == 0 for crate in below)
+
+
+def try_in_copy(names):
+    """Has rt must-fail try the edits of these crates, on a copy. Returns how many are refused."""
+    with tempfile.TemporaryDirectory(prefix="wrong-bodies-") as scratch:
+        copies = copy_crates([crates()[name] for name in names], f"{scratch}/copy")
+        return try_plainly(found_edits([copies[name] for name in names]))
+
+
+def try_in_place(edits, given):
+    """Tries the edits over the libraries that rt lib builds. Returns how many are refused."""
+    if not build_below(list(edits)):
+        return 0
+    if not checks.are_built(edits):
+        return try_in_copy([crate.name for crate in edits])
+    return refuse_over(edits, given.anew)
+
+
+def try_crates(given):
+    """Tries the edits of the crates that the arguments name, or their twins. Returns whether all went as it must."""
+    every = crates()
+    edits = found_edits([every[name] for name in given.crates or every])
+    if not edits:
+        print("no wrong bodies")
+        return True
+    kit.tell_logic()
+    if given.twins:
+        lost = sum(side_by_side(try_twins, edits)) if build_below(list(edits)) else len(edits)
+        print(f"twins: {lost} not proved")
+        return not lost
+    total = sum(map(len, edits.values()))
+    refused = try_in_copy([crate.name for crate in edits]) if checks.is_plain() else try_in_place(edits, given)
+    print(f"wrong bodies: {refused} refused, {total - refused} not")
+    return refused == total

@@ -1,0 +1,1 @@
+"""What tools/docs/command_pages consists of."""

@@ -1,0 +1,1 @@
+"""What tools/release/release consists of."""
