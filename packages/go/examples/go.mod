@@ -4,4 +4,4 @@ go 1.19
 
 require curbsorrel.example/jwt v0.1.0
 
-replace curbsorrel.example/jwt => ..
+replace curbsorrel.example/jwt => ../
