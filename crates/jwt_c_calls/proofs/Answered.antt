@@ -5,8 +5,8 @@ use Rattle.jwt_base.specs.Kind as kind
 use Rattle.jwt_base.specs.KindOf.{RefusesAs, kind_of}
 use Rattle.jwt_base.specs.declared.errors.Error.{Error}
 use Rattle.jwt_c_calls.specs.BySignature.{AnswersInput, LeavesInput}
-use Rattle.jwt_c_calls.specs.Calls.{Answer, Gives, Refuses, Misreads, Leaves, AnswersBy, AnswersKey, answer_of, answer_in, refusal_status}
-use Rattle.jwt_c_calls.specs.Keys.{AnswersWithKey}
+use Rattle.jwt_c_calls.specs.Calls.{Answer, Gives, Refuses, Misreads, Leaves, AnswersBy, AnswersHmac, AnswersKey, AnswersSet, answer_of, answer_in, refusal_status}
+use Rattle.jwt_c_calls.specs.Keys.{AnswersWithKey, AnswersWithOptions, AnswersWithSet}
 use Rattle.jwt_c_calls.specs.Inputs.{IsReadAs}
 use Rattle.jwt_c_calls.specs.Status.{IsGiven, IsKept}
 use Rattle.jwt_c_calls.specs.declared.inputs.Input.{Input}
@@ -57,13 +57,21 @@ pub read_ok : {T : Type 0} (P : T → Type 0) (input : Input) (r : Result T Erro
 read_ok P input (Ok w) v p q = rw p q
 read_ok P input (Err e) v p q = absurd p
 
--- the refusal of options, or of a set beside them, is one of the call
-pub no_options : {E : Type 0} (Reads : E → Type 0) (M : Input → Type 0) (G : E → List ℕ → Type 0) (R : E → Kind → Type 0)
-    (a : Answer) → AnswersBy Reads M (λ _ _. ⊥) (λ _ _. ⊥) a → AnswersBy Reads M G R a
-no_options Reads M G R (Gives b) x = absurd x.2
-no_options Reads M G R (Refuses k) (inl memory) = inl memory
-no_options Reads M G R (Refuses k) (inr x) = absurd x.2
-no_options Reads M G R (Misreads i) x = x
+-- the refusal of options is one of the call
+pub no_options : (options token secret : List ℕ) (time : ℕ) (a : Answer) → AnswersWithOptions options (λ _ _. ⊥) a
+    → AnswersHmac options token secret time a
+no_options options token secret time (Gives b) x = absurd x.2
+no_options options token secret time (Refuses k) (inl memory) = inl memory
+no_options options token secret time (Refuses k) (inr x) = absurd x.2
+no_options options token secret time (Misreads i) x = x
+
+-- likewise of options and a set
+pub no_set : (options token set : List ℕ) (time : ℕ) (a : Answer) → AnswersWithSet options set (λ _ _ _. ⊥) a
+    → AnswersSet options token set time a
+no_set options token set time (Gives b) x = absurd x.2
+no_set options token set time (Refuses k) (inl memory) = inl memory
+no_set options token set time (Refuses k) (inr x) = absurd x.2
+no_set options token set time (Misreads i) x = x
 
 -- likewise of options and a key
 pub no_key : (options token key : List ℕ) (time : ℕ) (a : Answer) → AnswersWithKey options key (λ _ _ _. ⊥) a

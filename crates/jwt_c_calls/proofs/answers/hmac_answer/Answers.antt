@@ -16,7 +16,8 @@ use Rattle.jwt_c_calls.proofs.answers.hmac_answer.Goals as goal
 pub returns-in_err-validation-clause-err : goal.returns-in_err-validation-clause-err
 returns-in_err-validation-clause-err c =
     let p = err_from_is_err_and c.from_residual.result c.from_residual.ensures.1 in
-    rw (p.1, p.2) (no_options _ _ _ _ _ c.in_err-validation.ensures.err)
+    rw (p.1, p.2) (no_options c.args.options.now c.args.token.now c.args.secret.now c.args.time _
+    c.in_err-validation.ensures.err)
 
 pub returns-clause-ok : goal.returns-clause-ok
 returns-clause-ok c =

@@ -13,14 +13,14 @@ use Rattle.jwt_keys.specs.JwkSet.{ReadsSet}
 use Rattle.jwt_validation.specs.OptionsRead.{ReadsOptions}
 use Rattle.jwt_c_calls.specs.Calls.{set_call, MisreadsTwo}
 use Rattle.jwt_c_calls.specs.declared.inputs.Input.TheVariants as input
-use Rattle.jwt_c_calls.proofs.Answered.{no_options}
+use Rattle.jwt_c_calls.proofs.Answered.{no_set}
 use Rattle.jwt_c_calls.proofs.Handed.{shallow, handed_ok, handed_err}
 use Rattle.jwt_c_calls.proofs.answers.set_answer.Goals as goal
 
 pub returns-in_err-validation-clause-err : goal.returns-in_err-validation-clause-err
 returns-in_err-validation-clause-err c =
     let p = err_from_is_err_and c.from_residual.result c.from_residual.ensures.1 in
-    rw (p.1, p.2) (no_options _ _ _ _ _ c.in_err-validation.ensures.err)
+    rw (p.1, p.2) (no_set c.args.options.now c.args.token.now c.args.set.now c.args.time _ c.in_err-validation.ensures.err)
 
 pub returns-clause-ok : goal.returns-clause-ok
 returns-clause-ok c =
