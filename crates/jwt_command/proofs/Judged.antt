@@ -1,5 +1,5 @@
 -- From the result of the tests to the verdict.
-use Rattle.std.proofs.Common.{◌≡◌, ◌⊎◌, ◌∙◌, ℕ, List, Option, Result, Ok, Err, IfOk, IfErr, absurd, ap, inl, inr, subst, sym, ⊎_elim}
+use Rattle.std.proofs.Common.{◌≡◌, ◌⊎◌, ◌∙◌, ℕ, List, Option, Result, Ok, Err, IfOk, IfErr, ap, inl, inr, subst, sym, ⊎_elim}
 use Rattle.std.specs.Prelude.{IsErrAnd}
 use Rattle.std.specs.Result.{result_err}
 use Rattle.serde_json.specs.View.{view}

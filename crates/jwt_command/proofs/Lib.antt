@@ -1,7 +1,6 @@
 pub mod Judged
 pub mod LineStatuses
 pub mod Numbers
-pub mod OwnLemmas
 pub mod Required
 pub mod Shown
 pub mod Signed

@@ -8,7 +8,7 @@ returns-in-Ok-clause-ok c = typed c.args.case.token.now c.args.case.loaded.now.k
     c.args.case.time (option_map (λ s. s.now) c.args.case.typ) c.in-Ok.contents c.check_type.result c.in-Ok.ensures
     c.check_type.ensures.accepted c.check_type.ensures.denied
 
-pub returns-in-Err-clause-ok : goal.returns-in-Err-clause-ok
-returns-in-Err-clause-ok c = refused c.args.case.token.now c.args.case.loaded.now.keys (options_of c.args.validation.now)
+pub returns-in_ok-denial-in-Err-clause-ok : goal.returns-in_ok-denial-in-Err-clause-ok
+returns-in_ok-denial-in-Err-clause-ok c = refused c.args.case.token.now c.args.case.loaded.now.keys (options_of c.args.validation.now)
     c.args.case.time (option_map (λ s. s.now) c.args.case.typ) c.in-Err.refusal c.in_ok-denial.denial c.in-Err.ensures
     c.in_ok-denial.ensures.ok.0 c.in_ok-denial.ensures.ok.1
