@@ -12,10 +12,6 @@
 #define NGX_HTTP_JWT_SET   1048576
 /* room for the text of a status or of a test */
 #define NGX_HTTP_JWT_TEXT  64
-/* what JWT_UNFIT_KEY says of an operator's keys */
-#define NGX_HTTP_JWT_UNFIT                                                   \
-    ": each key is of another family than auth_jwt_alg, is too weak or "     \
-    "malformed, or is of a set and has no kid; jwt keys FILE says which"
 /* the longest token with its claims that is remembered */
 #define NGX_HTTP_JWT_SLOT  4000
 
@@ -169,9 +165,10 @@ void ngx_http_jwt_stop_waiting(ngx_http_jwt_ctx_t *ctx);
 
 /* ngx_http_jwt_rules.c */
 char *ngx_http_jwt_report(ngx_conf_t *cf, const char *directive,
-    ngx_str_t *value, uint32_t status);
+    ngx_str_t *value, uint32_t status, ngx_http_jwt_key_t *key);
 char *ngx_http_jwt_read_key(ngx_conf_t *cf, ngx_http_jwt_key_t *key);
 char *ngx_http_jwt_set_rules(ngx_conf_t *cf, ngx_http_jwt_loc_conf_t *conf);
+const char *ngx_http_jwt_unfit(void *text, size_t len, ngx_uint_t is_set);
 uint32_t ngx_http_jwt_take_set(ngx_http_jwt_source_t *source,
     ngx_array_t *set);
 

@@ -6,10 +6,82 @@
     "\"iss\":%V}"
 
 
-/* Says why the library refuses a value of a directive. */
+/* keys of a longer text are not tried for what they are for */
+#define NGX_HTTP_JWT_TRIED  65536
+
+
+/* options that keys of one kind serve, and what is said of such keys */
+typedef struct {
+    ngx_str_t    options;
+    const char  *said;
+} ngx_http_jwt_kind_t;
+
+
+#define ngx_http_jwt_kind(algorithm, names)                                  \
+    { ngx_string("{\"algorithms\":[\"" algorithm "\"]}"),                      \
+      ": it is for " names ", and not for auth_jwt_alg" }
+
+
+static ngx_http_jwt_kind_t  ngx_http_jwt_kinds[] = {
+    ngx_http_jwt_kind("HS256", "HS256, HS384 and HS512"),
+    ngx_http_jwt_kind("RS256", "RS256 to RS512 and PS256 to PS512"),
+    ngx_http_jwt_kind("ES256", "ES256"),
+    ngx_http_jwt_kind("ES384", "ES384"),
+    ngx_http_jwt_kind("EdDSA", "EdDSA")
+};
+
+
+/* Returns why no key of a text verifies with one of the algorithms. */
+const char *
+ngx_http_jwt_unfit(void *text, size_t len, ngx_uint_t is_set)
+{
+    ngx_uint_t            i;
+    ngx_http_jwt_kind_t  *it = ngx_http_jwt_kinds;
+    struct jwt_verifier   verifier = JWT_VERIFIER_NONE;
+
+    for (i = 0; i < 5 && len <= NGX_HTTP_JWT_TRIED; i++) {
+        if ((is_set ? jwt_verifier_set : jwt_verifier_key)
+                (text, len, it[i].options.data, it[i].options.len, 0, 0,
+                 JWT_PREPARE_NOTHING, &verifier)
+            == JWT_OK)
+        {
+            jwt_verifier_free(&verifier);
+            return it[i].said;
+        }
+    }
+
+    if (!is_set) {
+        return ": it is malformed, or too weak, such as RSA of less than 2048 "
+               "bits";
+    }
+
+    return ngx_strnstr(text, "\"kid\"", len) == NULL
+           ? ": none of its keys has a kid, by which a token names its key"
+           : ": each key is malformed, too weak, such as RSA of less than "
+             "2048 bits, or has no kid; jwt keys FILE says which";
+}
+
+
+/* Returns what a text is that has no key which verifies. */
+static const char *
+ngx_http_jwt_other(ngx_str_t *text)
+{
+    if (ngx_strnstr(text->data, "PRIVATE KEY-----", text->len) != NULL) {
+        return ": a private key, and a public one is wanted";
+    }
+
+    if (ngx_strnstr(text->data, "BEGIN CERTIFICATE-----", text->len) != NULL) {
+        return ": a certificate, whose key openssl x509 -pubkey -noout prints";
+    }
+
+    return "";
+}
+
+
+/* Says why the library refuses a value of a directive, or its keys. */
 char *
 ngx_http_jwt_report(ngx_conf_t *cf, const char *directive, ngx_str_t *value,
-    uint32_t status)
+    uint32_t status, ngx_http_jwt_key_t *key)
 {
     u_char       text[NGX_HTTP_JWT_TEXT];
     ngx_str_t    said = { 0, text };
@@ -20,13 +92,14 @@ ngx_http_jwt_report(ngx_conf_t *cf, const char *directive, ngx_str_t *value,
     if (status == JWT_BAD_OPTIONS) {
         hint = ": no algorithm of this name, or a name that is not UTF-8";
 
-    } else if (status == JWT_UNFIT_KEY) {
-        hint = NGX_HTTP_JWT_UNFIT;
+    } else if (status == JWT_UNFIT_KEY && key != NULL) {
+        hint = ngx_http_jwt_unfit(key->text.data, key->text.len, key->is_set);
 
     } else if (status < JWT_NO_ROOM) {
         /* why one of the three is not read says little of the others */
         ngx_str_set(&said, "no JSON Web Key Set, JSON Web Key or public key "
                            "in PEM");
+        hint = key != NULL ? ngx_http_jwt_other(&key->text) : "";
     }
 
     ngx_conf_log_error(NGX_LOG_EMERG, cf, 0, "%s \"%V\": %V%s", directive,
@@ -98,8 +171,13 @@ ngx_http_jwt_read_key(ngx_conf_t *cf, ngx_http_jwt_key_t *key)
                                     &key->text);
     }
 
-    return status == JWT_OK ? NGX_CONF_OK
-           : ngx_http_jwt_report(cf, "auth_jwt_key_file", &key->name, status);
+    if (status != JWT_OK) {
+        key->text = text;
+        return ngx_http_jwt_report(cf, "auth_jwt_key_file", &key->name, status,
+                                   key);
+    }
+
+    return NGX_CONF_OK;
 }
 
 
@@ -266,7 +344,7 @@ ngx_http_jwt_make_verifiers(ngx_conf_t *cf, ngx_http_jwt_rules_t *rules)
 
         if (status != JWT_OK) {
             return ngx_http_jwt_report(cf, "auth_jwt_key_file", &key[i].name,
-                                       status);
+                                       status, &key[i]);
         }
     }
 

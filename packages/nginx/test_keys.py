@@ -228,7 +228,7 @@ def faults(server):
     test("a token without a kid is refused, and causes no fetch", server.get("/", nameless)[0] == 401 and len(server.keys.asked) == before)
     said = server.read("error.log")
     test("the faults are reported", said.count('auth_jwt: no keys from "/keys" of server "') >= 20)
-    for cause in (r"status 500, \d+ bytes: another status than 200", ": more than 1 MiB", ": cut", ": Key set not understood", ": Key serves no algorithm: each key is of", ": Anyone can sign"):
+    for cause in (r"status 500, \d+ bytes: another status than 200", ": more than 1 MiB", ": cut", ": Key set not understood", ": Key serves no algorithm: each key is malformed, too weak", ": Key serves no algorithm: none of its keys has a kid", ": Anyone can sign"):
         test(f"a fault is reported: {cause}", re.search(f"no keys from .*{cause}", said))
     server.keys.answer = whole(keys("c"))
     later(server, PAUSE)
@@ -514,6 +514,15 @@ def bound(server):
     later(server, PAUSE)
     tells("a kid of none, and a fetch that succeeds", no_key, (1, 1), "/bound", "c", "a.example")
     tells("a key that was removed", other_signature, (0, 0), "/bound", "a", "b.example", "c")
+    # the address of one gives the set of the other, whose keys then sign in the name of both, and in no third one
+    server.others.answer = whole(keys("a"))
+    later(server, PAUSE)
+    tells("a kid of none, and a set of the other's", no_key, (1, 1), "/bound", "c", "b.example")
+    tells("a key of the other's set, in the name of this one", accepted, (0, 0), "/bound", "a", "b.example")
+    tells("a key of the other's set, in its name", accepted, (0, 0), "/bound", "a", "a.example")
+    tells("a key of the set before it", no_key, (0, 0), "/bound", "b", "b.example")
+    for issuer in ("g.example", "c.example", "", "a.example b.example", ["a.example"]):
+        tells(f"a key of the other's set, in the name {issuer}", (200, "OK") if issuer == ["a.example"] else other_issuer, (0, 0), "/bound", "a", issuer)
 
 
 def protocols(server):

@@ -75,6 +75,9 @@ def first(it):
     good = token(aud="api", **ISSUERS)
     got = [it.status("/api/x", given) for given in (good, token(aud="other", **ISSUERS), token(SECOND, aud="api", **ISSUERS), None)]
     test(f"README, the first sample: {got}", got == [200, 401, 401, 401])
+    # nginx itself refuses a line of more than 8 KiB
+    got = [it.status("/api/x", "x" * size) for size in (8000, 8192)]
+    test(f"README, a long line: {got}", got == [401, 400])
     for names, name in (({"aud": it, **ISSUERS}, it) for it in unlike("api")):
         test(f"README, the audience {name!r}", it.status("/api/x", token(**names)) == 401)
     for name in unlike(ISSUERS["iss"]):
@@ -240,7 +243,7 @@ def gate(it):
     got = [it.server.get("/files/x", given) for given in (token(), token(SECOND), None)]
     test(f"README, a gate: {[status for status, _ in got]}", [status for status, _ in got] == [200, 401, 401] and got[0][1]["X-User"] == "ada")
     verdicts = [headers["X-Verdict"] for _, headers in got]
-    test(f"README, a gate: {verdicts}", verdicts == ["OK ", "InvalidSignature SignatureIsAccepted", "NoToken "])
+    test(f"README, a gate: {verdicts}", verdicts == ["OK  ", "InvalidSignature SignatureIsAccepted a", "NoToken  "])
 
 
 # by the words before the sample
