@@ -244,16 +244,19 @@ fn claim_contents(alloc: Global, claims: &Value, name: &str) -> Result<String, A
         return format!(in alloc; "no {name}");
     };
     if matches!(name, "exp" | "nbf") && value.is_number() {
-        let problem = number_problem(value);
-        return format!(in alloc; "{name} {}, {problem}", value.to_string(alloc)?);
+        let text = value.to_string(alloc)?;
+        let problem = number_problem(value, text.as_bytes());
+        return format!(in alloc; "{name} {text}, {problem}");
     }
     format!(in alloc; "{} as {name}", type_name(value))
 }
 
 /// Returns why a number is not a time.
-fn number_problem(number: &Value) -> &'static str {
+fn number_problem(number: &Value, text: &[u8]) -> &'static str {
     if number.is_i64() {
         "which is negative"
+    } else if text.contains(&b'+') {
+        "which has an exponent or is beyond 64 bits"
     } else {
         "which has a fraction or an exponent"
     }

@@ -250,8 +250,14 @@ fn header_finding(
 }
 
 fn crit_finding(alloc: Global, header: &Header) -> Result<Finding, Fault<'static>> {
+    let names = crit_names(alloc, header)?;
+    let listed = if names.is_empty() {
+        "nothing"
+    } else {
+        names.as_str()
+    };
     Ok(Finding {
-        found: format!(in alloc; "a 'crit' that lists {}", crit_names(alloc, header)?)?,
+        found: format!(in alloc; "a 'crit' that lists {listed}")?,
         wanted: String::from_str(
             alloc,
             "names that the header has and --crit gives, each once, and no name of RFC 7515 itself",

@@ -107,15 +107,65 @@ pub fn part_finding(
     part: &[u8],
     test: Test,
 ) -> Result<Finding, Fault<'static>> {
-    if let Test::HeaderIsPart | Test::SignatureIsPart | Test::PayloadIsPart = test
+    if let Test::HeaderIsPart
+    | Test::HeaderIsJson
+    | Test::SignatureIsPart
+    | Test::PayloadIsPart = test
         && let Some(found) = wrapping_of(token)
     {
         return Finding::new(alloc, found.found, found.wanted);
     }
-    Ok(Finding {
-        found: found_text(alloc, part, test)?,
-        wanted: String::from_str(alloc, wanted_text(test))?,
-    })
+    match test {
+        Test::HeaderIsPart | Test::HeaderIsJson if is_no_header(part) => no_header(alloc),
+        Test::HeaderIsPart | Test::SignatureIsPart | Test::PayloadIsPart => Ok(Finding {
+            found: base64url_problem(alloc, part)?,
+            wanted: String::from_str(alloc, base64url_cure(part))?,
+        }),
+        Test::HeaderReads => header_finding(alloc, part),
+        Test::ClaimsAreAnObject => Ok(Finding {
+            found: type_text(alloc, part)?,
+            wanted: String::from_str(alloc, "an object (RFC 7519 section 7.2)")?,
+        }),
+        _ => Finding::new(
+            alloc,
+            json_problem(part),
+            "JSON in UTF-8 (RFC 8259), nested at most 127 deep, of numbers that a double can hold",
+        ),
+    }
+}
+
+/// Returns whether a part can't be a header in base64url: it begins with no '{' and has no white
+/// space there.
+fn is_no_header(part: &[u8]) -> bool {
+    part.iter().all(|byte| is_of_base64url(*byte))
+        && !part.is_empty()
+        && !part.starts_with(b"e")
+        && !part.starts_with(b"I")
+        && !part.starts_with(b"C")
+        && !part.starts_with(b"D")
+}
+
+fn no_header(alloc: Global) -> Result<Finding, Fault<'static>> {
+    Finding::new(
+        alloc,
+        "a first part that is no header, which begins with 'eyJ'",
+        "a token: perhaps this is one of another kind, such as PASETO, or no token at all",
+    )
+}
+
+/// Returns why the bytes of a part are not JSON.
+fn json_problem(part: &[u8]) -> &'static str {
+    if part.is_empty() {
+        "no bytes"
+    } else if part.starts_with(b"ZXlK") {
+        "a token within the token (RFC 7519 section 5.2), which is not read here"
+    } else if part.starts_with(b"77u_") {
+        "a byte order mark before the JSON"
+    } else if part.starts_with(b"eyd") {
+        "single quotes, as Python writes them and JSON does not have them"
+    } else {
+        "bytes that are not JSON"
+    }
 }
 
 /// Returns the finding of a text whose header or claims can't be read.
@@ -133,34 +183,60 @@ pub fn unread_finding(alloc: Global, token: &[u8]) -> Result<Finding, Fault<'sta
     part_finding(alloc, token, parts.payload, test)
 }
 
-/// Returns the finding of a payload that is no base64url, so that no signature was made over it.
+/// Returns the finding of a payload that no claims were written as, so that it was changed after
+/// the signature was made over it.
 pub fn altered_finding(alloc: Global, payload: &[u8]) -> Result<Option<Finding>, Fault<'static>> {
-    if !is_refused(part_bytes(alloc, payload))? {
-        return Ok(None);
+    if payload.is_empty() {
+        return Ok(Some(Finding::new(
+            alloc,
+            "a signature that does not match, and an empty payload: perhaps it is detached",
+            "the token with its payload (RFC 7515 appendix F)",
+        )?));
     }
-    let problem = base64url_problem(alloc, payload)?;
+    let problem = if is_refused(part_bytes(alloc, payload))? {
+        base64url_problem(alloc, payload)?
+    } else if part_value(alloc, payload)?.is_none() {
+        String::from_str(alloc, json_problem(payload))?
+    } else {
+        return Ok(None);
+    };
     Ok(Some(Finding {
         found: format!(in alloc; "a signature that does not match, and in the payload {problem}")?,
         wanted: String::from_str(
             alloc,
-            "the token as it was issued: a mail, a terminal or an editor may have changed it",
+            "the token as it was issued: perhaps a mail, a terminal or an editor changed it",
         )?,
     }))
 }
 
-fn found_text(alloc: Global, part: &[u8], test: Test) -> Result<String, Fault<'static>> {
-    if let Test::HeaderIsPart | Test::SignatureIsPart | Test::PayloadIsPart = test {
-        return Ok(base64url_problem(alloc, part)?);
-    }
-    match part_value(alloc, part)? {
-        None if part.is_empty() => Ok(String::from_str(alloc, "no bytes")?),
-        None => Ok(String::from_str(alloc, "bytes that are not JSON")?),
+/// Returns the name of the type of a part's value.
+fn type_text(alloc: Global, part: &[u8]) -> Result<String, Fault<'static>> {
+    let name = match part_value(alloc, part)? {
         Some(value) => {
-            let found = found_in_value(alloc, &value, test);
+            let name = type_name(&value);
             // dropped at one place: each exit by `?` would have to be proved to drop every field
             drop(value);
-            Ok(found?)
+            name
         }
+        None => json_problem(part),
+    };
+    Ok(String::from_str(alloc, name)?)
+}
+
+/// Returns the finding of a part whose value is not a header.
+fn header_finding(alloc: Global, part: &[u8]) -> Result<Finding, Fault<'static>> {
+    match part_value(alloc, part)? {
+        Some(value) => {
+            let found = header_problem(alloc, &value);
+            let wanted = header_cure(&value);
+            // dropped at one place: each exit by `?` would have to be proved to drop every field
+            drop(value);
+            Ok(Finding {
+                found: found?,
+                wanted: String::from_str(alloc, wanted)?,
+            })
+        }
+        None => no_header(alloc),
     }
 }
 
@@ -184,6 +260,11 @@ fn byte_name(byte: u8) -> &'static str {
         b'=' => "'=', which is padding",
         b'+' | b'/' => "'+' or '/', of the other alphabet of base64",
         b' ' => "a space",
+        b'\t' => "a tab",
+        b'*' => "'*', as a program writes in place of what it hides",
+        b'~' => "'~', as between the parts of a token with disclosures (SD-JWT)",
+        b'&' => "'&', as between the arguments of an address",
+        b',' | b';' => "',' or ';', as between values",
         b'\r' | b'\n' => "a line end",
         b'"' => "a quotation mark",
         b'.' => "a dot",
@@ -191,11 +272,31 @@ fn byte_name(byte: u8) -> &'static str {
     }
 }
 
-fn found_in_value(alloc: Global, value: &Value, test: Test) -> Result<String, AllocError> {
-    match test {
-        Test::HeaderReads => header_problem(alloc, value),
-        _ => String::from_str(alloc, type_name(value)),
+/// Returns what a part asks for that is not base64url, by its first character that is not.
+fn base64url_cure(part: &[u8]) -> &'static str {
+    match part.iter().find(|byte| !is_of_base64url(**byte)) {
+        None => "the whole token, as it was issued: perhaps text was cut or added",
+        Some(b'=') => "base64url without padding (RFC 7515 section 2)",
+        Some(b'+' | b'/') => "base64url, with '-' for '+' and '_' for '/' (RFC 4648 section 5)",
+        Some(b' ' | b'\t' | b'\r' | b'\n') => "the token alone, in one line and without spaces",
+        Some(b'*') => "the whole token",
+        Some(b'~') => "the signed token alone: the text before the first '~'",
+        Some(b'&' | b',' | b';') => "the token alone: the text before that character",
+        Some(_) => "the token alone, of letters, digits, '-', '_' and its two dots",
     }
+}
+
+/// Members of a header that are strings (RFC 7515 section 4.1).
+const TEXTS: [&str; 11] = [
+    "typ", "cty", "kid", "jku", "x5u", "x5t", "x5t#S256", "enc", "zip", "url", "nonce",
+];
+
+/// Members of a header that are lists of strings (RFC 7515 section 4.1).
+const LISTS: [&str; 2] = ["crit", "x5c"];
+
+/// Returns whether a header has one of the twelve algorithms.
+fn has_algorithm(header: &Value) -> bool {
+    matches!(header.get("alg"), Some(Value::String(name)) if name.parse::<jsonwebtoken::Algorithm>().is_ok())
 }
 
 /// Returns why a value is not a header.
@@ -203,26 +304,48 @@ fn header_problem(alloc: Global, header: &Value) -> Result<String, AllocError> {
     if header.as_object().is_none() {
         return String::from_str(alloc, type_name(header));
     }
+    if has_algorithm(header) {
+        return member_problem(alloc, header);
+    }
     match header.get("alg") {
         None => String::from_str(alloc, "no 'alg'"),
-        Some(Value::String(name)) if name.parse::<jsonwebtoken::Algorithm>().is_err() => {
+        Some(Value::String(name)) => {
             format!(in alloc; "the algorithm {}", quote(alloc, name.as_str())?)
         }
-        Some(Value::String(_)) => String::from_str(alloc, "a member of another type, or a float"),
         Some(other) => format!(in alloc; "{} as 'alg'", type_name(other)),
     }
 }
 
-/// Returns what a test of a part asks for.
-fn wanted_text(test: Test) -> &'static str {
-    match test {
-        Test::HeaderIsPart | Test::SignatureIsPart | Test::PayloadIsPart => {
-            "base64url without padding (RFC 7515 section 2)"
+/// Returns the member of a header that has another type than it has to.
+fn member_problem(alloc: Global, header: &Value) -> Result<String, AllocError> {
+    for name in &TEXTS {
+        if let Some(value) = header.get(*name)
+            && !value.is_string()
+            && !value.is_null()
+        {
+            return format!(in alloc; "{} as '{name}'", type_name(value));
         }
-        Test::HeaderReads =>
-            "an object whose 'alg' is one of the twelve algorithms (RFC 7515 section 4.1)",
-        Test::ClaimsAreAnObject => "an object (RFC 7519 section 7.2)",
-        _ => "JSON in UTF-8 (RFC 8259)",
+    }
+    for name in &LISTS {
+        if let Some(value) = header.get(*name)
+            && value.as_array().is_none()
+            && !value.is_null()
+        {
+            return format!(in alloc; "{} as '{name}'", type_name(value));
+        }
+    }
+    String::from_str(
+        alloc,
+        "a number with a fraction, or a 'crit', 'x5c' or 'jwk' of another form",
+    )
+}
+
+/// Returns what a value asks for that is not a header.
+fn header_cure(header: &Value) -> &'static str {
+    if has_algorithm(header) {
+        "members of the types of RFC 7515 section 4.1, and no number with a fraction"
+    } else {
+        "an object whose 'alg' is one of the twelve algorithms (RFC 7515 section 4.1)"
     }
 }
 

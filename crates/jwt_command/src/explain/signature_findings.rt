@@ -45,6 +45,13 @@ pub fn length_finding(
             "its two numbers one after the other, at full length (RFC 7518 section 3.4)",
         )?));
     }
+    if is_hexadecimal(parts.signature, lengths.made) {
+        return Ok(Some(Finding::new(
+            alloc,
+            "a signature in hexadecimal",
+            "its bytes in base64url (RFC 7515 section 2)",
+        )?));
+    }
     Ok(Some(Finding {
         found: found_length(alloc, lengths)?,
         wanted: String::from_str(alloc, "the whole token, as it was issued for this key")?,
@@ -126,6 +133,13 @@ fn length_by_set(
 fn byte_count(characters: usize) -> u64 {
     let characters = characters as u64;
     characters / 4 * 3 + characters % 4 * 3 / 4
+}
+
+/// Returns whether a signature is two hexadecimal digits for each of this number of bytes.
+fn is_hexadecimal(signature: &[u8], count: u64) -> bool {
+    signature.len() as u64 / 2 == count
+        && signature.len() % 2 == 0
+        && signature.iter().all(|byte| byte.is_ascii_hexdigit())
 }
 
 /// Returns whether a signature looks like one of an elliptic curve in DER: a sequence of two

@@ -44,7 +44,7 @@ struct Mark {
     wrapping: Wrapping,
 }
 
-const MARKS: [Mark; 10] = [
+const MARKS: [Mark; 17] = [
     Mark {
         bytes: b"\xef\xbb\xbf",
         wrapping: Wrapping {
@@ -59,6 +59,14 @@ const MARKS: [Mark; 10] = [
     Mark {
         bytes: b"\xfe\xff",
         wrapping: UTF_16,
+    },
+    Mark {
+        bytes: b"{{",
+        wrapping: PLACEHOLDER,
+    },
+    Mark {
+        bytes: b"$",
+        wrapping: PLACEHOLDER,
     },
     Mark {
         bytes: b"{",
@@ -85,8 +93,8 @@ const MARKS: [Mark; 10] = [
     Mark {
         bytes: b"<",
         wrapping: Wrapping {
-            found: "'<', as in a page of HTML or in XML",
-            wanted: "a token: the server may have answered with a page about an error",
+            found: "'<', as in a page of HTML, in XML or in a placeholder",
+            wanted: "a token: perhaps the server answered with a page about an error",
         },
     },
     Mark {
@@ -98,12 +106,50 @@ const MARKS: [Mark; 10] = [
     },
     Mark {
         bytes: b"\xe2\x80",
+        wrapping: TYPOGRAPHIC,
+    },
+    Mark {
+        bytes: b"\xc2\xa0",
+        wrapping: TYPOGRAPHIC,
+    },
+    Mark {
+        bytes: b"Basic ",
         wrapping: Wrapping {
-            found: "a typographic character before the token",
-            wanted: "the token alone, copied from where it was issued",
+            found: "the word Basic, before a name and a password (RFC 7617)",
+            wanted: "a token, which the word Bearer precedes (RFC 6750 section 2.1)",
         },
     },
+    Mark {
+        bytes: b"ZXlK",
+        wrapping: Wrapping {
+            found: "'ZXlK', which is 'eyJ' in base64: the token was encoded once more",
+            wanted: "the token alone, as 'base64 -d' prints it",
+        },
+    },
+    Mark {
+        bytes: b"eyj",
+        wrapping: OTHER_CASE,
+    },
+    Mark {
+        bytes: b"EYJ",
+        wrapping: OTHER_CASE,
+    },
 ];
+
+const PLACEHOLDER: Wrapping = Wrapping {
+    found: "a placeholder, as in a template or a script",
+    wanted: "a token: what writes it into the placeholder did not",
+};
+
+const TYPOGRAPHIC: Wrapping = Wrapping {
+    found: "a typographic character before the token",
+    wanted: "the token alone, copied from where it was issued",
+};
+
+const OTHER_CASE: Wrapping = Wrapping {
+    found: "'eyj' or 'EYJ', where a token has 'eyJ': its letters were made small or capital",
+    wanted: "the token as it was issued: the case of its letters counts",
+};
 
 const UTF_16: Wrapping = Wrapping {
     found: "a text in UTF-16",
@@ -128,6 +174,26 @@ const NAMED: Wrapping = Wrapping {
 const ENCRYPTED: Wrapping = Wrapping {
     found: "five parts: an encrypted token (JWE, RFC 7516)",
     wanted: "a signed token, of three parts (RFC 7515); encrypted ones are not read here",
+};
+
+const PRECEDED: Wrapping = Wrapping {
+    found: "text before the token",
+    wanted: "the token alone: 'eyJ' and what follows it",
+};
+
+const SEVERAL: Wrapping = Wrapping {
+    found: "five parts with a space or a line end: two tokens",
+    wanted: "one token; 'jwt verify --lines' reads one in each line",
+};
+
+const MORE_DOTS: Wrapping = Wrapping {
+    found: "more than the two dots of a token",
+    wanted: "header, payload and signature with dots between them, and no other dot",
+};
+
+const HIDDEN: Wrapping = Wrapping {
+    found: "'***', as a program writes in place of what it hides",
+    wanted: "the whole token",
 };
 
 const SHORTENED: Wrapping = Wrapping {
@@ -157,9 +223,14 @@ pub fn wrapping_of(text: &[u8]) -> Option<Wrapping> {
     }
 }
 
-/// Returns whether a text has the five parts of an encrypted token, and was not shortened.
+/// Returns whether a text has the five parts of an encrypted token, is not two tokens, and was not
+/// shortened.
 pub fn is_encrypted(text: &[u8]) -> bool {
-    part_count(text) == 5 && !is_shortened(text)
+    part_count(text) == 5 && !is_shortened(text) && !has_space(text)
+}
+
+fn has_space(text: &[u8]) -> bool {
+    text.iter().any(|byte| byte.is_ascii_whitespace())
 }
 
 /// Returns the number of parts of a text, between dots.
@@ -206,10 +277,33 @@ fn inner_wrapping(text: &[u8]) -> Option<Wrapping> {
     if is_shortened(text) {
         return Some(SHORTENED);
     }
+    if memmem::find(text, b"***").is_some() {
+        return Some(HIDDEN);
+    }
     if is_encrypted(text) {
         return Some(ENCRYPTED);
     }
-    None
+    if is_preceded(text) {
+        return Some(PRECEDED);
+    }
+    match part_count(text) {
+        0..=3 => None,
+        5 => Some(SEVERAL),
+        _ => Some(MORE_DOTS),
+    }
+}
+
+/// Returns whether a header begins within a text, after a character that no token has.
+fn is_preceded(text: &[u8]) -> bool {
+    !text.starts_with(b"eyJ")
+        && text.windows(4).any(
+            |window| matches!(window, [before, b'e', b'y', b'J'] if !is_of_token(*before)),
+        )
+}
+
+/// Returns whether a byte may stand in a token.
+fn is_of_token(byte: u8) -> bool {
+    byte.is_ascii_alphanumeric() || matches!(byte, b'-' | b'_' | b'.')
 }
 
 /// Returns whether a percent sign and two hexadecimal digits stand in a text (RFC 3986 section
