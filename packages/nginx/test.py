@@ -1343,19 +1343,25 @@ LOAD = """
             auth_jwt r; auth_jwt_key_file {work}/keys.json; auth_jwt_alg HS256; auth_jwt_cache 0; proxy_pass http://up/without;
         }}
 """
+# algorithms by which each request is verified anew, with one token of crates/jwt_vectors/data/standard.jsonl
+ANEW = ("RS256", "ES256", "EdDSA")
+for name in ANEW:
+    RULES_OF_NAME = f"auth_jwt r; auth_jwt_key_file {{work}}/standard.json; auth_jwt_alg {name}; auth_jwt_cache 0;"
+    LOAD += f"location = /{name} {{{{ {RULES_OF_NAME} }}}} location = /proxy_{name} {{{{ {RULES_OF_NAME} proxy_pass http://up/without; }}}}\n"
 UPSTREAM = """
     access_log off;
     upstream up {{ server 127.0.0.1:{port}; keepalive 32; }}
     proxy_http_version 1.1;
     proxy_set_header Connection "";
 """
-# what is measured: of which location, and with how many tokens in turn
+# what is measured: of which location, and with how many tokens in turn, or with that of which algorithm
 MEASURED = [
     ("without the module", "without", 1),
     ("by default, one token", "with", 1),
     ("by default, 500 tokens in turn", "with", 500),
     ("by default, 20000 tokens in turn", "with", 20000),
-    ("auth_jwt_cache 0", "anew", 1),
+    ("auth_jwt_cache 0, HS256", "anew", 1),
+    *((f"auth_jwt_cache 0, {name}", name, name) for name in ANEW),
 ]
 
 
@@ -1372,8 +1378,8 @@ def compare(server, kind, prefix, turns):
     for turn in range(turns):
         # each turn in another order
         for at in (*range(turn % len(MEASURED), len(MEASURED)), *range(turn % len(MEASURED))):
-            _, path, count = MEASURED[at]
-            found[at].append(wrk(server, f"/{prefix}{path}", f"tokens{count}", 2)[1:])
+            _, path, of = MEASURED[at]
+            found[at].append(wrk(server, f"/{prefix}{path}", f"tokens{of}", 2)[1:])
     print(f"{kind}, {turns} turns; requests a second, of those without, microseconds of a processor, without to with:")
     for (name, _, _), rows in zip(MEASURED, found):
         rate, cost = (statistics.median(it) for it in zip(*rows))
@@ -1386,14 +1392,13 @@ def run_load(module, seconds):
     """Measures throughput in turns, and memory over a million requests."""
     with tempfile.TemporaryDirectory(prefix="nginx-jwt-") as work:
         server = Server(module, work, LOAD, http_conf=UPSTREAM)
-        write_keys(server)
+        by_algorithm = dict(write_keys(server))
         server.write("keys.json", {"keys": [oct_key("a")]})
         server.write("wrk.lua", SCRIPT)
-        for name in ("with", "anew", "without"):
-            server.write(f"root/{name}", "x" * 1024)
         tokens = [token_of_400(n) for n in range(MEASURED[3][2])]
-        for _, _, count in MEASURED:
-            server.write(f"tokens{count}", "\n".join(tokens[:count]) + "\n")
+        for _, path, of in MEASURED:
+            server.write(f"root/{path}", "x" * 1024)
+            server.write(f"tokens{of}", "\n".join([by_algorithm[of]] if of in by_algorithm else tokens[:of]) + "\n")
         print(f"tokens of {min(map(len, tokens))} to {max(map(len, tokens))} bytes, {os.cpu_count()} processors, load {os.getloadavg()}")
         server.start()
         try:
