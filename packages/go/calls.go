@@ -15,7 +15,7 @@ import (
 // member returns the text of a member of a JSON object, and its type, or 0 if there is none of this name.
 func member(object []byte, name string) ([]byte, C.uint32_t, error) {
 	var found C.uint32_t
-	value, status := fill(len(object), func(buffer *C.uint8_t, size C.size_t, length *C.size_t) C.uint32_t {
+	value, status := fill(len(object), func(buffer *C.char, size C.size_t, length *C.size_t) C.enum_jwt_status {
 		objectAt, objectLen := slice(object)
 		nameAt, nameLen := slice([]byte(name))
 		return C.jwt_member(objectAt, objectLen, nameAt, nameLen, &found, buffer, size, length)
@@ -67,7 +67,7 @@ func numberOf(algorithm string) (C.uint32_t, error) {
 
 func decodeHeader(token string) ([]byte, error) {
 	text := []byte(token)
-	return answer(len(text)+64, func(buffer *C.uint8_t, size C.size_t, length *C.size_t) C.uint32_t {
+	return answer(len(text)+64, func(buffer *C.char, size C.size_t, length *C.size_t) C.enum_jwt_status {
 		at, textLen := slice(text)
 		return C.jwt_decode_header(at, textLen, buffer, size, length)
 	})
@@ -78,9 +78,9 @@ func signedPart(token string) ([]byte, int, error) {
 	text := []byte(token)
 	var number C.uint32_t
 	var message C.size_t
-	signature, err := answer(len(text), func(buffer *C.uint8_t, size C.size_t, length *C.size_t) C.uint32_t {
+	signature, err := answer(len(text), func(buffer *C.char, size C.size_t, length *C.size_t) C.enum_jwt_status {
 		at, textLen := slice(text)
-		return C.jwt_signed_part(at, textLen, &number, &message, buffer, size, length)
+		return C.jwt_signed_part(at, textLen, &number, &message, octetsAt(buffer), size, length)
 	})
 	return signature, int(message), err
 }
@@ -92,10 +92,10 @@ func decodeVerdict(token string, checked Signature, isGenuine bool, options []by
 		return nil, err
 	}
 	text := []byte(token)
-	return answer(len(text)+64, func(buffer *C.uint8_t, size C.size_t, length *C.size_t) C.uint32_t {
+	return answer(len(text)+64, func(buffer *C.char, size C.size_t, length *C.size_t) C.enum_jwt_status {
 		at, textLen := slice(text)
-		messageAt, messageLen := slice(checked.Message)
-		signatureAt, signatureLen := slice(checked.Bytes)
+		messageAt, messageLen := octets(checked.Message)
+		signatureAt, signatureLen := octets(checked.Bytes)
 		optionsAt, optionsLen := slice(options)
 		return C.jwt_decode_verdict(at, textLen, number, messageAt, messageLen, signatureAt, signatureLen, C.bool(isGenuine),
 			optionsAt, optionsLen, C.uint64_t(now), buffer, size, length)
@@ -103,10 +103,10 @@ func decodeVerdict(token string, checked Signature, isGenuine bool, options []by
 }
 
 func encode(header, claims, secret []byte) ([]byte, error) {
-	return answer(2*(len(header)+len(claims))+128, func(buffer *C.uint8_t, size C.size_t, length *C.size_t) C.uint32_t {
+	return answer(2*(len(header)+len(claims))+128, func(buffer *C.char, size C.size_t, length *C.size_t) C.enum_jwt_status {
 		headerAt, headerLen := slice(header)
 		claimsAt, claimsLen := slice(claims)
-		secretAt, secretLen := slice(secret)
+		secretAt, secretLen := octets(secret)
 		return C.jwt_encode_hmac(headerAt, headerLen, claimsAt, claimsLen, secretAt, secretLen, buffer, size, length)
 	})
 }
@@ -114,10 +114,10 @@ func encode(header, claims, secret []byte) ([]byte, error) {
 // signingInput returns the message of a token that has to be signed, and the number of its algorithm.
 func signingInput(header, claims []byte) ([]byte, C.uint32_t, error) {
 	var number C.uint32_t
-	message, err := answer(2*(len(header)+len(claims)), func(buffer *C.uint8_t, size C.size_t, length *C.size_t) C.uint32_t {
+	message, err := answer(2*(len(header)+len(claims)), func(buffer *C.char, size C.size_t, length *C.size_t) C.enum_jwt_status {
 		headerAt, headerLen := slice(header)
 		claimsAt, claimsLen := slice(claims)
-		return C.jwt_signing_input(headerAt, headerLen, claimsAt, claimsLen, &number, buffer, size, length)
+		return C.jwt_signing_input(headerAt, headerLen, claimsAt, claimsLen, &number, octetsAt(buffer), size, length)
 	})
 	return message, number, err
 }
@@ -127,11 +127,11 @@ func encodeSignature(header, claims []byte, made Signature) ([]byte, error) {
 	if err != nil {
 		return nil, err
 	}
-	return answer(len(made.Message)+2*len(made.Bytes)+2, func(buffer *C.uint8_t, size C.size_t, length *C.size_t) C.uint32_t {
+	return answer(len(made.Message)+2*len(made.Bytes)+2, func(buffer *C.char, size C.size_t, length *C.size_t) C.enum_jwt_status {
 		headerAt, headerLen := slice(header)
 		claimsAt, claimsLen := slice(claims)
-		messageAt, messageLen := slice(made.Message)
-		signatureAt, signatureLen := slice(made.Bytes)
+		messageAt, messageLen := octets(made.Message)
+		signatureAt, signatureLen := octets(made.Bytes)
 		return C.jwt_encode_signature(headerAt, headerLen, claimsAt, claimsLen, number, messageAt, messageLen, signatureAt,
 			signatureLen, buffer, size, length)
 	})
@@ -142,14 +142,14 @@ func ecdsaSignature(der []byte, algorithm string) ([]byte, error) {
 	if err != nil {
 		return nil, err
 	}
-	return answer(len(der)+96, func(buffer *C.uint8_t, size C.size_t, length *C.size_t) C.uint32_t {
-		at, derLen := slice(der)
-		return C.jwt_ecdsa_signature(at, derLen, number, buffer, size, length)
+	return answer(len(der)+96, func(buffer *C.char, size C.size_t, length *C.size_t) C.enum_jwt_status {
+		at, derLen := octets(der)
+		return C.jwt_ecdsa_signature(at, derLen, number, octetsAt(buffer), size, length)
 	})
 }
 
 func thumbprint(key []byte, bits uint32) ([]byte, error) {
-	text, status := fill(96, func(buffer *C.uint8_t, size C.size_t, length *C.size_t) C.uint32_t {
+	text, status := fill(96, func(buffer *C.char, size C.size_t, length *C.size_t) C.enum_jwt_status {
 		at, keyLen := slice(key)
 		return C.jwt_thumbprint(at, keyLen, C.uint32_t(bits), buffer, size, length)
 	})

@@ -35,7 +35,7 @@ func quoted(text string) string {
 }
 
 // tokenRefusal returns the refusal of a token, with what is at fault in it.
-func tokenRefusal(status, test C.uint32_t, token string) error {
+func tokenRefusal(status C.enum_jwt_status, test C.uint32_t, token string) error {
 	refused := refusal(status, test)
 	if cause := causeOf(status, test, token); cause != "" {
 		refused.text += ": " + cause
@@ -43,7 +43,7 @@ func tokenRefusal(status, test C.uint32_t, token string) error {
 	return refused
 }
 
-func causeOf(status, test C.uint32_t, token string) string {
+func causeOf(status C.enum_jwt_status, test C.uint32_t, token string) string {
 	switch {
 	case status == C.JWT_NO_KEY:
 		return missingKey(token)

@@ -86,14 +86,14 @@ func keyError(why string, arguments ...any) error {
 }
 
 // refusal returns the error of a status, with the test of the token that failed, or 0.
-func refusal(status, test C.uint32_t) *Error {
+func refusal(status C.enum_jwt_status, test C.uint32_t) *Error {
 	return &Error{
 		Status: uint32(status), Test: testText(test), TestNumber: uint32(test), Claim: claimOf(status), kind: kindOf(status), text: statusText(status),
 	}
 }
 
 // keyRefusal returns the error of the status with which a key is refused.
-func keyRefusal(status C.uint32_t) error {
+func keyRefusal(status C.enum_jwt_status) error {
 	why := statusText(status)
 	switch status {
 	case C.JWT_OUT_OF_MEMORY:
@@ -113,7 +113,7 @@ func keyRefusal(status C.uint32_t) error {
 }
 
 // claimOf returns the name of the claim that a status is about, or "".
-func claimOf(status C.uint32_t) string {
+func claimOf(status C.enum_jwt_status) string {
 	switch status {
 	case C.JWT_MISSING_EXP, C.JWT_MALFORMED_EXP:
 		return "exp"
@@ -129,7 +129,7 @@ func claimOf(status C.uint32_t) string {
 	return ""
 }
 
-func kindOf(status C.uint32_t) error {
+func kindOf(status C.enum_jwt_status) error {
 	switch status {
 	case C.JWT_INVALID_SIGNATURE:
 		return ErrSignature

@@ -9,8 +9,8 @@ package jwt
 
 // The token is not copied. The verifier is of a type without pointers, so that Go does not look for its own in what it points to. A
 // time of UINT64_MAX is that of the clock, which C reads in less time than Go.
-static uint32_t decode(uint8_t *verifier, _GoString_ token, uint64_t now, uint8_t *buffer, size_t size, size_t *len, uint64_t *last,
-                       uint32_t *test) {
+static enum jwt_status decode(uint8_t *verifier, _GoString_ token, uint64_t now, char *buffer, size_t size, size_t *len, uint64_t *last,
+                              uint32_t *test) {
 	if (now == UINT64_MAX) {
 		time_t clock = time(NULL);
 		if (clock < 0) {
@@ -19,8 +19,8 @@ static uint32_t decode(uint8_t *verifier, _GoString_ token, uint64_t now, uint8_
 		}
 		now = (uint64_t)clock;
 	}
-	return jwt_verifier_decode((struct jwt_verifier *)verifier, (const uint8_t *)_GoStringPtr(token), _GoStringLen(token), now, buffer,
-	                           size, len, last, test);
+	return jwt_verifier_decode((struct jwt_verifier *)verifier, _GoStringPtr(token), _GoStringLen(token), now, buffer, size, len, last,
+	                           test);
 }
 */
 import "C"
@@ -31,18 +31,27 @@ import (
 )
 
 // slice returns pointer and length of a text.
-func slice(text []byte) (*C.uint8_t, C.size_t) {
+func slice(text []byte) (*C.char, C.size_t) {
 	if len(text) == 0 {
 		return nil, 0
 	}
-	return (*C.uint8_t)(unsafe.Pointer(&text[0])), C.size_t(len(text))
+	return (*C.char)(unsafe.Pointer(&text[0])), C.size_t(len(text))
 }
 
+// octets returns pointer and length of what is no text: a secret, a signature or a message.
+func octets(of []byte) (*C.uint8_t, C.size_t) {
+	at, length := slice(of)
+	return octetsAt(at), length
+}
+
+// octetsAt returns a buffer for what is no text.
+func octetsAt(buffer *C.char) *C.uint8_t { return (*C.uint8_t)(unsafe.Pointer(buffer)) }
+
 // call writes its result to a buffer, and its length or the length that is needed.
-type call func(buffer *C.uint8_t, size C.size_t, length *C.size_t) C.uint32_t
+type call func(buffer *C.char, size C.size_t, length *C.size_t) C.enum_jwt_status
 
 // fill returns the bytes that a call writes, to a buffer of at first this size.
-func fill(size int, made call) ([]byte, C.uint32_t) {
+func fill(size int, made call) ([]byte, C.enum_jwt_status) {
 	var length C.size_t
 	for {
 		buffer := make([]byte, size)
@@ -64,9 +73,9 @@ func answer(size int, made call) ([]byte, error) {
 	return nil, refusal(status, 0)
 }
 
-func statusText(status C.uint32_t) string {
-	text, _ := fill(64, func(buffer *C.uint8_t, size C.size_t, length *C.size_t) C.uint32_t {
-		return C.jwt_status_text(status, buffer, size, length)
+func statusText(status C.enum_jwt_status) string {
+	text, _ := fill(64, func(buffer *C.char, size C.size_t, length *C.size_t) C.enum_jwt_status {
+		return C.jwt_status_text(C.uint32_t(status), buffer, size, length)
 	})
 	return string(text)
 }
@@ -76,7 +85,7 @@ func testText(test C.uint32_t) string {
 	if test == 0 {
 		return ""
 	}
-	text, _ := fill(32, func(buffer *C.uint8_t, size C.size_t, length *C.size_t) C.uint32_t {
+	text, _ := fill(32, func(buffer *C.char, size C.size_t, length *C.size_t) C.enum_jwt_status {
 		return C.jwt_test_text(test, buffer, size, length)
 	})
 	return string(text)
@@ -112,10 +121,10 @@ func newHandle(key Key, options []byte, longest tokenLength, prepared preparedSi
 	made := &handle{}
 	keyAt, keyLen := slice(key.bytes())
 	optionsAt, optionsLen := slice(options)
-	var status C.uint32_t
+	var status C.enum_jwt_status
 	switch key.kind {
 	case secretKey:
-		status = C.jwt_verifier_secret(keyAt, keyLen, optionsAt, optionsLen, longest, false, prepared, &made.verifier)
+		status = C.jwt_verifier_secret(octetsAt(keyAt), keyLen, optionsAt, optionsLen, longest, false, prepared, &made.verifier)
 	case singleKey:
 		status = C.jwt_verifier_key(keyAt, keyLen, optionsAt, optionsLen, longest, false, prepared, &made.verifier)
 	default:
@@ -191,10 +200,10 @@ func (it *handle) verifySignature(token string) error {
 // decides: a reader of our own could find another key in the same JSON, if names of members differ in case or are repeated.
 func checkKey(kind keyKind, text []byte) error {
 	at, length := slice(text)
-	var status C.uint32_t
+	var status C.enum_jwt_status
 	switch kind {
 	case secretKey:
-		status = C.jwt_check_secret(at, length)
+		status = C.jwt_check_secret(octetsAt(at), length)
 	case singleKey:
 		status = C.jwt_check_key(at, length)
 	default:
@@ -208,7 +217,7 @@ func checkKey(kind keyKind, text []byte) error {
 
 // keyFromPEM returns the JSON Web Key of a public key.
 func keyFromPEM(text []byte) ([]byte, error) {
-	jwk, status := fill(len(text)+128, func(buffer *C.uint8_t, size C.size_t, length *C.size_t) C.uint32_t {
+	jwk, status := fill(len(text)+128, func(buffer *C.char, size C.size_t, length *C.size_t) C.enum_jwt_status {
 		at, textLen := slice(text)
 		return C.jwt_key_from_pem(at, textLen, buffer, size, length)
 	})

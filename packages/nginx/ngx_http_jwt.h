@@ -142,8 +142,8 @@ typedef struct {
 
 
 /* a call of the library that makes a text of a text */
-typedef uint32_t (*ngx_http_jwt_call_pt)(const uint8_t *in, size_t in_len,
-    uint8_t *buffer, size_t buffer_len, size_t *len);
+typedef enum jwt_status (*ngx_http_jwt_call_pt)(const char *in, size_t in_len,
+    char *buffer, size_t buffer_len, size_t *len);
 
 
 /* ngx_http_jwt_cache.c */

@@ -95,8 +95,9 @@ ngx_http_jwt_decode_by(struct jwt_verifier *verifier, ngx_http_jwt_ctx_t *ctx,
             return JWT_OUT_OF_MEMORY;
         }
 
-        status = jwt_verifier_decode(verifier, ctx->token.data, ctx->token.len,
-                                     now, ctx->claims.data, size,
+        status = jwt_verifier_decode(verifier, (char *) ctx->token.data,
+                                     ctx->token.len, now,
+                                     (char *) ctx->claims.data, size,
                                      &ctx->claims.len, last, &ctx->test);
     } while (status == JWT_NO_ROOM);
 

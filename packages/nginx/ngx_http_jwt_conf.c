@@ -338,7 +338,7 @@ ngx_http_jwt_check_list(ngx_conf_t *cf, ngx_command_t *cmd, ngx_str_t *value,
     }
 
     last = ngx_snprintf(text, size, "{\"%s\":%V}", cmd->post, list);
-    status = jwt_verifier_secret(NULL, 0, text, last - text, 0, 1,
+    status = jwt_verifier_secret(NULL, 0, (char *) text, last - text, 0, 1,
                                  JWT_PREPARE_NOTHING, &verifier);
     jwt_verifier_free(&verifier);
 

@@ -107,7 +107,7 @@ ngx_http_jwt_report_fetch(ngx_http_jwt_fetch_t *fetch, ngx_uint_t answer,
         ngx_str_set(&said, "cut");
 
     } else {
-        (void) jwt_status_text(status, text, sizeof(text), &said.len);
+        (void) jwt_status_text(status, (char *) text, sizeof(text), &said.len);
     }
 
     /* the log of a connection has the request's line, and so a token */
@@ -332,8 +332,8 @@ ngx_http_jwt_lacks_key(ngx_http_jwt_rules_t *rules, ngx_http_jwt_ctx_t *ctx)
            && (ngx_http_jwt_write(jwt_decode_header, ctx->request->pool,
                                   &ctx->token, &header)
                != JWT_OK
-               || jwt_member(header.data, header.len, (u_char *) "kid", 3,
-                             &type, NULL, 0, &len)
+               || jwt_member((char *) header.data, header.len, "kid", 3, &type,
+                             NULL, 0, &len)
                   != JWT_NO_MEMBER);
 }
 

@@ -87,7 +87,7 @@ ngx_http_jwt_report(ngx_conf_t *cf, const char *directive, ngx_str_t *value,
     ngx_str_t    said = { 0, text };
     const char  *hint = "";
 
-    (void) jwt_status_text(status, text, sizeof(text), &said.len);
+    (void) jwt_status_text(status, (char *) text, sizeof(text), &said.len);
 
     if (status == JWT_BAD_OPTIONS) {
         hint = ": no algorithm of this name, or a name that is not UTF-8";
@@ -159,11 +159,11 @@ ngx_http_jwt_read_key(ngx_conf_t *cf, ngx_http_jwt_key_t *key)
     }
 
     key->text = text;
-    status = jwt_check_set(text.data, text.len);
+    status = jwt_check_set((char *) text.data, text.len);
     key->is_set = status != JWT_BAD_SET;
 
     if (!key->is_set) {
-        status = jwt_check_key(text.data, text.len);
+        status = jwt_check_key((char *) text.data, text.len);
     }
 
     if (status == JWT_BAD_KEY) {
@@ -338,9 +338,9 @@ ngx_http_jwt_make_verifiers(ngx_conf_t *cf, ngx_http_jwt_rules_t *rules)
         }
 
         status = (key[i].is_set ? jwt_verifier_set : jwt_verifier_key)
-                     (key[i].text.data, key[i].text.len,
-                      source[i].options.data, source[i].options.len, 0, 0, 0,
-                      &source[i].verifier);
+                     ((char *) key[i].text.data, key[i].text.len,
+                      (char *) source[i].options.data, source[i].options.len,
+                      0, 0, 0, &source[i].verifier);
 
         if (status != JWT_OK) {
             return ngx_http_jwt_report(cf, "auth_jwt_key_file", &key[i].name,
@@ -401,7 +401,8 @@ ngx_http_jwt_take_set(ngx_http_jwt_source_t *source, ngx_array_t *set)
     status = jwt_check_set(set->elts, set->nelts);
 
     if (status == JWT_OK) {
-        status = jwt_verifier_set(set->elts, set->nelts, source->options.data,
+        status = jwt_verifier_set(set->elts, set->nelts,
+                                  (char *) source->options.data,
                                   source->options.len, 0, 0, 0, &next);
     }
 

@@ -8,7 +8,7 @@ ngx_http_jwt_write(ngx_http_jwt_call_pt call, ngx_pool_t *pool, ngx_str_t *in,
 {
     uint32_t  status;
 
-    status = call(in->data, in->len, NULL, 0, &out->len);
+    status = call((char *) in->data, in->len, NULL, 0, &out->len);
     if (status != JWT_NO_ROOM) {
         return status;
     }
@@ -18,7 +18,8 @@ ngx_http_jwt_write(ngx_http_jwt_call_pt call, ngx_pool_t *pool, ngx_str_t *in,
         return JWT_OUT_OF_MEMORY;
     }
 
-    return call(in->data, in->len, out->data, out->len, &out->len);
+    return call((char *) in->data, in->len, (char *) out->data, out->len,
+                &out->len);
 }
 
 

@@ -175,8 +175,9 @@ ngx_http_jwt_read_member(ngx_pool_t *pool, ngx_str_t *object, ngx_str_t *name,
     }
 
     value->data = ngx_cpymem(buffer, "{\"\":", 4);
-    status = jwt_member(object->data, object->len, name->data, name->len,
-                        &type, value->data, object->len, &value->len);
+    status = jwt_member((char *) object->data, object->len,
+                        (char *) name->data, name->len, &type,
+                        (char *) value->data, object->len, &value->len);
 
     if (status == JWT_OK && type == JWT_STRING) {
         return ngx_http_jwt_escape(pool, value, is_kid);
@@ -184,7 +185,7 @@ ngx_http_jwt_read_member(ngx_pool_t *pool, ngx_str_t *object, ngx_str_t *name,
 
     if (status == JWT_OK) {
         value->data[value->len] = '}';
-        status = jwt_check_numbers(buffer, value->len + 5);
+        status = jwt_check_numbers((char *) buffer, value->len + 5);
     }
 
     if (status == JWT_NO_MEMBER || status == JWT_JSON) {
@@ -262,8 +263,9 @@ ngx_http_jwt_enter(ngx_pool_t *pool, ngx_str_t *name, ngx_str_t *object)
         return NGX_ERROR;
     }
 
-    status = jwt_member(object->data, object->len, name->data, name->len,
-                        &type, buffer, object->len, &len);
+    status = jwt_member((char *) object->data, object->len,
+                        (char *) name->data, name->len, &type,
+                        (char *) buffer, object->len, &len);
 
     if (status == JWT_NO_MEMBER || (status == JWT_OK && type != JWT_OBJECT)) {
         return NGX_DECLINED;
@@ -297,8 +299,9 @@ ngx_http_jwt_read_path(ngx_pool_t *pool, ngx_str_t *claims,
     }
 
     ngx_str_set(value, "1");
-    status = jwt_check_member(object.data, object.len, name->data, name->len,
-                              path->text.data, path->text.len);
+    status = jwt_check_member((char *) object.data, object.len,
+                              (char *) name->data, name->len,
+                              (char *) path->text.data, path->text.len);
 
     return status == JWT_OK ? NGX_OK
            : status == JWT_NO_MEMBER ? NGX_DECLINED : NGX_ERROR;
@@ -359,9 +362,9 @@ ngx_http_jwt_text_variable(ngx_http_request_t *r,
     text = ngx_pnalloc(r->pool, NGX_HTTP_JWT_TEXT);
 
     if (text == NULL
-        || (is_test ? jwt_test_text(ctx->test, text, NGX_HTTP_JWT_TEXT, &len)
-            : jwt_status_text(ctx->status, text, NGX_HTTP_JWT_TEXT, &len))
-           != JWT_OK)
+        || (is_test ? jwt_test_text : jwt_status_text)(
+               is_test ? ctx->test : ctx->status, (char *) text,
+               NGX_HTTP_JWT_TEXT, &len) != JWT_OK)
     {
         return NGX_ERROR;
     }

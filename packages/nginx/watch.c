@@ -11,9 +11,9 @@
 #include <sys/time.h>
 #include <unistd.h>
 
-typedef uint32_t decode(struct jwt_verifier *, const uint8_t *, size_t,
-    uint64_t, uint8_t *, size_t, size_t *, uint64_t *, uint32_t *);
-typedef uint32_t check(const uint8_t *, size_t);
+typedef enum jwt_status decode(struct jwt_verifier *, const char *, size_t,
+    uint64_t, char *, size_t, size_t *, uint64_t *, uint32_t *);
+typedef enum jwt_status check(const char *, size_t);
 
 
 static ssize_t
@@ -68,9 +68,9 @@ behind(const char *name)
 }
 
 
-uint32_t
-jwt_verifier_decode(struct jwt_verifier *verifier, const uint8_t *token,
-    size_t token_len, uint64_t now, uint8_t *buffer, size_t buffer_len,
+enum jwt_status
+jwt_verifier_decode(struct jwt_verifier *verifier, const char *token,
+    size_t token_len, uint64_t now, char *buffer, size_t buffer_len,
     size_t *len, uint64_t *last, uint32_t *test)
 {
     decode  *found;
@@ -81,8 +81,8 @@ jwt_verifier_decode(struct jwt_verifier *verifier, const uint8_t *token,
 }
 
 
-uint32_t
-jwt_check_set(const uint8_t *set, size_t set_len)
+enum jwt_status
+jwt_check_set(const char *set, size_t set_len)
 {
     check  *found;
 
@@ -91,8 +91,8 @@ jwt_check_set(const uint8_t *set, size_t set_len)
 }
 
 
-uint32_t
-jwt_check_key(const uint8_t *key, size_t key_len)
+enum jwt_status
+jwt_check_key(const char *key, size_t key_len)
 {
     check  *found;
 

@@ -17,6 +17,7 @@
 /* the last moment at which the claims are accepted */
 #define LAST 2532524951u
 
+#define TEXT(text) (text), strlen(text)
 #define BYTES(text) (const uint8_t *)(text), strlen(text)
 #define ROOM 4096
 
@@ -60,7 +61,7 @@ void *__wrap_aligned_alloc(size_t align, size_t size) {
 struct answer {
     uint32_t status;
     size_t len;
-    uint8_t room[ROOM + 16];
+    char room[ROOM + 16];
 };
 
 static struct answer fresh(void) {
@@ -88,7 +89,7 @@ static long gives(const struct answer *a, const char *text) {
 
 static struct answer hmac_in(const char *token, const char *secret, const char *options, uint64_t now, size_t room) {
     struct answer a = fresh();
-    a.status = jwt_decode_hmac(BYTES(token), BYTES(secret), BYTES(options), now, a.room, room, &a.len);
+    a.status = jwt_decode_hmac(TEXT(token), BYTES(secret), TEXT(options), now, a.room, room, &a.len);
     return a;
 }
 
@@ -107,7 +108,7 @@ static long hmac(const char *token, const char *secret, const char *options, uin
 static long by_zeros(const char *token, size_t count, const char *options) {
     static const uint8_t zeros[129];
     struct answer a = fresh();
-    a.status = jwt_decode_hmac(BYTES(token), zeros, count, BYTES(options), 61, a.room, ROOM, &a.len);
+    a.status = jwt_decode_hmac(TEXT(token), zeros, count, TEXT(options), 61, a.room, ROOM, &a.len);
     return status_of(&a);
 }
 
@@ -143,8 +144,8 @@ static struct answer verdict_on(const char *token, uint32_t algorithm, bool verd
     struct answer a = fresh();
     const char *dot = strrchr(token, '.');
     size_t message = dot ? (size_t)(dot - token) : 0;
-    a.status = jwt_decode_verdict(BYTES(token), algorithm, (const uint8_t *)token, message, BYTES("s"), verdict,
-                                  BYTES(options), now, a.room, ROOM, &a.len);
+    a.status = jwt_decode_verdict(TEXT(token), algorithm, (const uint8_t *)token, message, BYTES("s"), verdict,
+                                  TEXT(options), now, a.room, ROOM, &a.len);
     return a;
 }
 
@@ -170,7 +171,7 @@ static void accepted(void) {
     is("65 zeros", by_zeros(EMPTY_HS256, 65, OPTIONS), JWT_INVALID_SIGNATURE);
     is("128 zeros for an empty secret", by_zeros(EMPTY_HS512, 128, "{\"algorithms\":[\"HS512\"]}"), JWT_OK);
     is("129 zeros", by_zeros(EMPTY_HS512, 129, "{\"algorithms\":[\"HS512\"]}"), JWT_INVALID_SIGNATURE);
-    is("a secret by a null pointer", jwt_decode_hmac(BYTES(TOKEN), NULL, 0, BYTES(OPTIONS), LAST, a.room, ROOM, &a.len),
+    is("a secret by a null pointer", jwt_decode_hmac(TEXT(TOKEN), NULL, 0, TEXT(OPTIONS), LAST, a.room, ROOM, &a.len),
        JWT_INVALID_SIGNATURE);
 }
 
@@ -183,7 +184,7 @@ static void rooms(void) {
         is("bytes behind the result", is_kept(&a, room < needed ? 0 : needed), 1);
     }
     size_t len = 7;
-    is("no buffer", jwt_decode_hmac(BYTES(TOKEN), BYTES("secret"), BYTES(OPTIONS), LAST, NULL, 0, &len), JWT_NO_ROOM);
+    is("no buffer", jwt_decode_hmac(TEXT(TOKEN), BYTES("secret"), TEXT(OPTIONS), LAST, NULL, 0, &len), JWT_NO_ROOM);
     is("the length without a buffer", len, needed);
 }
 
@@ -219,13 +220,13 @@ static void options(void) {
             LAST - 70),
        JWT_OK);
     struct answer a = fresh();
-    a.status = jwt_decode_hmac(BYTES(TOKEN), BYTES("secret"), NULL, 0, LAST, a.room, ROOM, &a.len);
+    a.status = jwt_decode_hmac(TEXT(TOKEN), BYTES("secret"), NULL, 0, LAST, a.room, ROOM, &a.len);
     is("options by a null pointer", status_of(&a), JWT_BAD_OPTIONS);
 }
 
 static struct answer fault_of(const char *options) {
     struct answer a = fresh();
-    a.status = jwt_options_fault(BYTES(options), a.room, ROOM, &a.len);
+    a.status = jwt_options_fault(TEXT(options), a.room, ROOM, &a.len);
     return a;
 }
 
@@ -276,7 +277,7 @@ static void faults_of_options(void) {
         is(rows[i].options, hmac(TOKEN, "secret", rows[i].options, LAST) == JWT_BAD_OPTIONS, *rows[i].said != 0);
     }
     struct answer a = fresh();
-    a.status = jwt_options_fault(BYTES("{\"algs\":1}"), a.room, 22, &a.len);
+    a.status = jwt_options_fault(TEXT("{\"algs\":1}"), a.room, 22, &a.len);
     is("a buffer too small for a fault", status_of(&a), JWT_NO_ROOM);
     is("the fault's length", a.len, 23);
 }
@@ -331,15 +332,14 @@ static void quoted(void) {
 /* each byte that is a text is read back, in the place of an option or a claim */
 static void quoted_texts_are_read_back(void) {
     for (int byte = 0; byte < 256; byte++) {
-        uint8_t text[3] = {'a', (uint8_t)byte, 'b'}, room[16];
-        char json[64];
+        char text[3] = {'a', (char)byte, 'b'}, room[16], json[64];
         size_t len;
         uint32_t type;
         struct answer a = quoted_in(text, 3, ROOM);
         is("the status of a byte", status_of(&a), byte < 128 ? JWT_OK : JWT_UTF8);
         if (a.status != JWT_OK) continue;
-        int size = snprintf(json, sizeof json, "{\"m\":%.*s}", (int)a.len, (const char *)a.room);
-        uint32_t status = jwt_member((const uint8_t *)json, (size_t)size, BYTES("m"), &type, room, sizeof room, &len);
+        int size = snprintf(json, sizeof json, "{\"m\":%.*s}", (int)a.len, a.room);
+        uint32_t status = jwt_member(json, (size_t)size, TEXT("m"), &type, room, sizeof room, &len);
         is("a byte that is read back", status == JWT_OK && type == JWT_STRING && len == 3 && memcmp(room, text, 3) == 0,
            1);
     }
@@ -347,8 +347,8 @@ static void quoted_texts_are_read_back(void) {
     struct answer a = quoted_in(audience, strlen(audience), ROOM);
     is("an audience with options of its own",
        for_audience("{\"algorithms\":[\"HS256\"],\"aud\":[\"%.*s\"]}", audience, strlen(audience)), JWT_OK);
-    is("the same as jwt_quote writes it",
-       for_audience("{\"algorithms\":[\"HS256\"],\"aud\":[%.*s]}", (const char *)a.room, a.len), JWT_EXPIRED_SIGNATURE);
+    is("the same as jwt_quote writes it", for_audience("{\"algorithms\":[\"HS256\"],\"aud\":[%.*s]}", a.room, a.len),
+       JWT_EXPIRED_SIGNATURE);
 }
 
 static void kinds_of_tokens(void) {
@@ -362,7 +362,7 @@ static void kinds_of_tokens(void) {
     is("by a curve", hmac(token_of(ES256, "{}"), "secret", "{\"algorithms\":[\"ES256\"]}", LAST),
        JWT_UNSUPPORTED_ALGORITHM);
     struct answer a = fresh();
-    a.status = jwt_decode_hmac(NULL, 0, BYTES("secret"), BYTES(OPTIONS), LAST, a.room, ROOM, &a.len);
+    a.status = jwt_decode_hmac(NULL, 0, BYTES("secret"), TEXT(OPTIONS), LAST, a.room, ROOM, &a.len);
     is("a token by a null pointer", status_of(&a), JWT_INVALID_TOKEN);
 }
 
@@ -419,20 +419,20 @@ static void verdicts(void) {
     is("the greatest number", status_of(&a), JWT_INVALID_ALGORITHM_NAME);
     size_t message = strlen(token) - 3;
     a = fresh();
-    a.status = jwt_decode_verdict(BYTES(token), JWT_ES256, (const uint8_t *)token, message - 1, BYTES("s"), true,
-                                  BYTES(ES256_LISTED "}"), 1000, a.room, ROOM, &a.len);
+    a.status = jwt_decode_verdict(TEXT(token), JWT_ES256, (const uint8_t *)token, message - 1, BYTES("s"), true,
+                                  TEXT(ES256_LISTED "}"), 1000, a.room, ROOM, &a.len);
     is("a yes to another message", status_of(&a), JWT_INVALID_SIGNATURE);
     a = fresh();
-    a.status = jwt_decode_verdict(BYTES(token), JWT_ES256, (const uint8_t *)token, message, BYTES("t"), true,
-                                  BYTES(ES256_LISTED "}"), 1000, a.room, ROOM, &a.len);
+    a.status = jwt_decode_verdict(TEXT(token), JWT_ES256, (const uint8_t *)token, message, BYTES("t"), true,
+                                  TEXT(ES256_LISTED "}"), 1000, a.room, ROOM, &a.len);
     is("a yes to another signature", status_of(&a), JWT_INVALID_SIGNATURE);
     a = fresh();
-    a.status = jwt_decode_verdict(BYTES(token), JWT_ES256, NULL, 0, NULL, 0, true, BYTES(ES256_LISTED "}"), 1000,
-                                  a.room, ROOM, &a.len);
+    a.status = jwt_decode_verdict(TEXT(token), JWT_ES256, NULL, 0, NULL, 0, true, TEXT(ES256_LISTED "}"), 1000, a.room,
+                                  ROOM, &a.len);
     is("a yes to nothing", status_of(&a), JWT_INVALID_SIGNATURE);
     a = fresh();
-    a.status = jwt_decode_verdict(BYTES("eyJhbGciOiJFUzI1NiJ9.e30.AAAA"), JWT_ES256, (const uint8_t *)token, message,
-                                  BYTES("s"), true, BYTES(ES256_LISTED "}"), 1000, a.room, ROOM, &a.len);
+    a.status = jwt_decode_verdict(TEXT("eyJhbGciOiJFUzI1NiJ9.e30.AAAA"), JWT_ES256, (const uint8_t *)token, message,
+                                  BYTES("s"), true, TEXT(ES256_LISTED "}"), 1000, a.room, ROOM, &a.len);
     is("a yes to another token", status_of(&a), JWT_INVALID_SIGNATURE);
 }
 
@@ -453,13 +453,13 @@ static void signed_parts(void) {
         snprintf(header, sizeof header, "{\"alg\":\"%s\"}", algorithms[i].name);
         const char *token = token_of(header, "no JSON");
         a = fresh();
-        a.status = jwt_signed_part(BYTES(token), &algorithm, &message, a.room, ROOM, &a.len);
+        a.status = jwt_signed_part(TEXT(token), &algorithm, &message, (uint8_t *)a.room, ROOM, &a.len);
         is("a signature's bytes", gives(&a, "s"), 1);
         is("the header's algorithm", algorithm, algorithms[i].number);
         is("the message's length", message, strlen(token) - 3);
     }
     a = fresh();
-    a.status = jwt_signed_part(BYTES(TOKEN), &algorithm, &message, a.room, 31, &a.len);
+    a.status = jwt_signed_part(TEXT(TOKEN), &algorithm, &message, (uint8_t *)a.room, 31, &a.len);
     is("a buffer too small for a signature", status_of(&a), JWT_NO_ROOM);
     is("the signature's length", a.len, 32);
     is("the algorithm all the same", algorithm, JWT_HS256);
@@ -473,7 +473,7 @@ static void signed_parts(void) {
                    {"eyJhbGciOiJIUzI1NiJ9..Y", JWT_BASE64}};
     for (size_t i = 0; i < 4; i++) {
         a = fresh();
-        a.status = jwt_signed_part(BYTES(refused[i].token), &algorithm, &message, a.room, ROOM, &a.len);
+        a.status = jwt_signed_part(TEXT(refused[i].token), &algorithm, &message, (uint8_t *)a.room, ROOM, &a.len);
         is("no signed part", status_of(&a), refused[i].status);
         is("the algorithm of none", algorithm, 0);
         is("the message's length of none", message, 0);
@@ -482,20 +482,20 @@ static void signed_parts(void) {
 
 static void headers(void) {
     struct answer a = fresh();
-    a.status = jwt_decode_header(BYTES(TOKEN), a.room, ROOM, &a.len);
+    a.status = jwt_decode_header(TEXT(TOKEN), a.room, ROOM, &a.len);
     is("a header", gives(&a, "{\"alg\":\"HS256\",\"typ\":\"JWT\"}"), 1);
     a = fresh();
-    a.status = jwt_decode_header(BYTES(token_of("{\"x\":[1, \"\\u00e9\"],\"kid\":\"k\",\"alg\":\"EdDSA\"}", "?")),
+    a.status = jwt_decode_header(TEXT(token_of("{\"x\":[1, \"\\u00e9\"],\"kid\":\"k\",\"alg\":\"EdDSA\"}", "?")),
                                  a.room, ROOM, &a.len);
     is("a header of more members", gives(&a, "{\"alg\":\"EdDSA\",\"kid\":\"k\",\"x\":[1,\"\xc3\xa9\"]}"), 1);
     for (size_t room = 0; room <= 30; room++) {
         a = fresh();
-        a.status = jwt_decode_header(BYTES(TOKEN), a.room, room, &a.len);
+        a.status = jwt_decode_header(TEXT(TOKEN), a.room, room, &a.len);
         is("a header's buffer", status_of(&a), room < 27 ? JWT_NO_ROOM : JWT_OK);
         is("a header's length", a.len, 27);
     }
     a = fresh();
-    a.status = jwt_decode_header(BYTES("e30.e30."), a.room, ROOM, &a.len);
+    a.status = jwt_decode_header(TEXT("e30.e30."), a.room, ROOM, &a.len);
     is("no header to give", status_of(&a), JWT_JSON);
     a.status = jwt_decode_header(NULL, 0, a.room, ROOM, &a.len);
     is("the header of nothing", status_of(&a), JWT_INVALID_TOKEN);
@@ -512,7 +512,7 @@ static void headers(void) {
 
 static struct answer by_set(const char *token, const char *set, const char *options, uint64_t now, size_t room) {
     struct answer a = fresh();
-    a.status = jwt_decode_set(BYTES(token), BYTES(set), BYTES(options), now, a.room, room, &a.len);
+    a.status = jwt_decode_set(TEXT(token), TEXT(set), TEXT(options), now, a.room, room, &a.len);
     return a;
 }
 
@@ -559,7 +559,7 @@ static void sets(void) {
 
 static struct answer by_key(const char *token, const char *key, const char *options, uint64_t now, size_t room) {
     struct answer a = fresh();
-    a.status = jwt_decode_key(BYTES(token), BYTES(key), BYTES(options), now, a.room, room, &a.len);
+    a.status = jwt_decode_key(TEXT(token), TEXT(key), TEXT(options), now, a.room, room, &a.len);
     return a;
 }
 
@@ -659,11 +659,11 @@ static void keys_refused(void) {
     for (size_t i = 0; i < sizeof rows / sizeof *rows; i++)
         is(rows[i].key, key(rows[i].token, rows[i].key, rows[i].options, LAST), rows[i].status);
     struct answer a = fresh();
-    a.status = jwt_decode_key(BYTES(BY_HS256), NULL, 0, BYTES(OPTIONS), LAST, a.room, ROOM, &a.len);
+    a.status = jwt_decode_key(TEXT(BY_HS256), NULL, 0, TEXT(OPTIONS), LAST, a.room, ROOM, &a.len);
     is("a key by a null pointer", status_of(&a), JWT_BAD_KEY);
-    a.status = jwt_decode_key(BYTES(BY_HS256), BYTES(HMAC_KEY), NULL, 0, LAST, a.room, ROOM, &a.len);
+    a.status = jwt_decode_key(TEXT(BY_HS256), TEXT(HMAC_KEY), NULL, 0, LAST, a.room, ROOM, &a.len);
     is("options by a null pointer, with a key", status_of(&a), JWT_BAD_OPTIONS);
-    a.status = jwt_decode_key(NULL, 0, BYTES(HMAC_KEY), BYTES(OPTIONS), LAST, a.room, ROOM, &a.len);
+    a.status = jwt_decode_key(NULL, 0, TEXT(HMAC_KEY), TEXT(OPTIONS), LAST, a.room, ROOM, &a.len);
     is("a token by a null pointer, with a key", status_of(&a), JWT_INVALID_TOKEN);
     /* a key of another family under the token's id */
     a = by_set(BY_RS256, "{\"keys\":[{\"kty\":\"oct\",\"kid\":\"rsa\",\"k\":\"c2VjcmV0\"}]}",
@@ -673,7 +673,7 @@ static void keys_refused(void) {
 
 static struct answer issued_in(const char *header, const char *claims, const char *secret, size_t room) {
     struct answer a = fresh();
-    a.status = jwt_encode_hmac(BYTES(header), BYTES(claims), BYTES(secret), a.room, room, &a.len);
+    a.status = jwt_encode_hmac(TEXT(header), TEXT(claims), BYTES(secret), a.room, room, &a.len);
     return a;
 }
 
@@ -734,7 +734,7 @@ static void issued(void) {
 static struct answer by_signature(const char *header, const char *claims, uint32_t algorithm, const char *message,
                                   const char *signature) {
     struct answer a = fresh();
-    a.status = jwt_encode_signature(BYTES(header), BYTES(claims), algorithm, BYTES(message), BYTES(signature), a.room,
+    a.status = jwt_encode_signature(TEXT(header), TEXT(claims), algorithm, BYTES(message), BYTES(signature), a.room,
                                     ROOM, &a.len);
     return a;
 }
@@ -742,11 +742,13 @@ static struct answer by_signature(const char *header, const char *claims, uint32
 static void signing_inputs(void) {
     uint32_t algorithm = 99;
     struct answer a = fresh();
-    a.status = jwt_signing_input(BYTES(BY_CURVE_HEADER), BYTES(BY_CURVE_CLAIMS), &algorithm, a.room, ROOM, &a.len);
+    a.status =
+        jwt_signing_input(TEXT(BY_CURVE_HEADER), TEXT(BY_CURVE_CLAIMS), &algorithm, (uint8_t *)a.room, ROOM, &a.len);
     is("a message to be signed", gives(&a, BY_CURVE_MESSAGE), 1);
     is("its algorithm", algorithm, JWT_ES256);
     a = fresh(), algorithm = 99;
-    a.status = jwt_signing_input(BYTES(BY_CURVE_HEADER), BYTES(BY_CURVE_CLAIMS), &algorithm, a.room, 10, &a.len);
+    a.status =
+        jwt_signing_input(TEXT(BY_CURVE_HEADER), TEXT(BY_CURVE_CLAIMS), &algorithm, (uint8_t *)a.room, 10, &a.len);
     is("a buffer too small for a message", status_of(&a), JWT_NO_ROOM);
     is("the message's length", a.len, strlen(BY_CURVE_MESSAGE));
     is("the algorithm all the same", algorithm, JWT_ES256);
@@ -758,8 +760,8 @@ static void signing_inputs(void) {
                    {BY_CURVE_HEADER, "{\"a\":1.5}", JWT_JSON}};
     for (size_t i = 0; i < 3; i++) {
         a = fresh(), algorithm = 99;
-        a.status =
-            jwt_signing_input(BYTES(refused[i].header), BYTES(refused[i].claims), &algorithm, a.room, ROOM, &a.len);
+        a.status = jwt_signing_input(TEXT(refused[i].header), TEXT(refused[i].claims), &algorithm, (uint8_t *)a.room,
+                                     ROOM, &a.len);
         is("no message to be signed", status_of(&a), refused[i].status);
         is("the algorithm of no message", algorithm, 0);
     }
@@ -802,7 +804,7 @@ static void issued_by_signature(void) {
 
 static struct answer numbers_of(const uint8_t *der, size_t len, uint32_t algorithm, size_t room) {
     struct answer a = fresh();
-    a.status = jwt_ecdsa_signature(der, len, algorithm, a.room, room, &a.len);
+    a.status = jwt_ecdsa_signature(der, len, algorithm, (uint8_t *)a.room, room, &a.len);
     return a;
 }
 
@@ -812,7 +814,8 @@ static void pairs(void) {
     struct answer a = numbers_of(der, sizeof der, JWT_ES256, ROOM);
     is("two numbers", status_of(&a), JWT_OK);
     is("their length", a.len, 64);
-    is("the first and the second", a.room[31] == 1 && a.room[63] == 255 && a.room[0] == 0 && a.room[62] == 0, 1);
+    is("the first and the second", a.room[31] == 1 && (uint8_t)a.room[63] == 255 && a.room[0] == 0 && a.room[62] == 0,
+       1);
     a = numbers_of(der, sizeof der, JWT_ES384, ROOM);
     is("their length by ES384", a.len, 96);
     a = numbers_of(der, sizeof der, JWT_ES256, 63);
@@ -833,7 +836,7 @@ static void pairs(void) {
 
 static struct answer thumbprint(const char *key, uint32_t bits) {
     struct answer a = fresh();
-    a.status = jwt_thumbprint(BYTES(key), bits, a.room, ROOM, &a.len);
+    a.status = jwt_thumbprint(TEXT(key), bits, a.room, ROOM, &a.len);
     return a;
 }
 
@@ -902,7 +905,7 @@ static void thumbprints(void) {
 
 static struct answer key_in(const char *pem, size_t room) {
     struct answer a = fresh();
-    a.status = jwt_key_from_pem(BYTES(pem), a.room, room, &a.len);
+    a.status = jwt_key_from_pem(TEXT(pem), a.room, room, &a.len);
     return a;
 }
 
@@ -971,7 +974,8 @@ static void keys_in_pem_refused(void) {
          JWT_INVALID_KEY_FORMAT},
         {"a spare bit that is set", PEM("PUBLIC KEY", "MCowBQYDK2VwAyEAP/KbjxwdH3v1YC6s5VVabMvwdZqwm779emMwejCAgZt=\n"),
          JWT_INVALID_KEY_FORMAT},
-        {"a character that base64 does not have", PEM("PUBLIC KEY", P256_FIRST "-\n" P256_LAST), JWT_INVALID_KEY_FORMAT},
+        {"a character that base64 does not have", PEM("PUBLIC KEY", P256_FIRST "-\n" P256_LAST),
+         JWT_INVALID_KEY_FORMAT},
         {"another label", PEM("PUBLIC KEYS", P256_FIRST "\n" P256_LAST), JWT_INVALID_KEY_FORMAT},
         {"no end", "-----BEGIN PUBLIC KEY-----\n" P256_FIRST "\n" P256_LAST, JWT_INVALID_KEY_FORMAT},
         {"a mark at a line before", "-----BEGIN \n" P256_PEM, JWT_INVALID_KEY_FORMAT},
@@ -996,13 +1000,13 @@ struct signed_part {
 
 static struct signed_part part_of(const char *token) {
     struct signed_part s = {.token = token};
-    is("a signed part", jwt_signed_part(BYTES(token), &s.algorithm, &s.message_len, s.bytes, sizeof s.bytes, &s.len),
+    is("a signed part", jwt_signed_part(TEXT(token), &s.algorithm, &s.message_len, s.bytes, sizeof s.bytes, &s.len),
        JWT_OK);
     return s;
 }
 
 static uint32_t verified(const struct signed_part *s, const char *key, uint32_t algorithm) {
-    return jwt_verify_signature_key((const uint8_t *)s->token, s->message_len, s->bytes, s->len, BYTES(key), algorithm);
+    return jwt_verify_signature_key((const uint8_t *)s->token, s->message_len, s->bytes, s->len, TEXT(key), algorithm);
 }
 
 static uint32_t verified_by_secret(const struct signed_part *s, const char *secret, uint32_t algorithm) {
@@ -1045,7 +1049,7 @@ static void verified_signatures(void) {
         struct signed_part s = part_of(signatures[i].token), other = s;
         uint32_t own = signatures[i].algorithm, bits = 99;
         is(signatures[i].name, verified(&s, key, own), JWT_OK);
-        is("the algorithms of a key", jwt_key_algorithms(BYTES(key), &bits), JWT_OK);
+        is("the algorithms of a key", jwt_key_algorithms(TEXT(key), &bits), JWT_OK);
         is("their bits", bits, signatures[i].bits);
         /* just the algorithms that the key serves have a verifier */
         for (uint32_t number = 1; number <= 12; number++)
@@ -1063,7 +1067,7 @@ static void verified_signatures(void) {
         is("a byte behind a signature", verified(&other, key, own), JWT_INVALID_SIGNATURE);
         other = s, other.message_len--;
         is("a byte of a message missing", verified(&other, key, own), JWT_INVALID_SIGNATURE);
-        is("neither message nor signature", jwt_verify_signature_key(NULL, 0, NULL, 0, BYTES(key), own),
+        is("neither message nor signature", jwt_verify_signature_key(NULL, 0, NULL, 0, TEXT(key), own),
            JWT_INVALID_SIGNATURE);
         static const uint32_t others[] = {0, 13, 32, UINT32_MAX};
         for (size_t k = 0; k < 4; k++) {
@@ -1135,7 +1139,7 @@ static void keys_without_algorithms(void) {
     for (size_t i = 0; i < sizeof rows / sizeof *rows; i++) {
         uint32_t bits = 99;
         is(rows[i].key, verified(&s, rows[i].key, rows[i].algorithm), rows[i].status);
-        is(rows[i].key, jwt_key_algorithms(BYTES(rows[i].key), &bits), rows[i].of_algorithms);
+        is(rows[i].key, jwt_key_algorithms(TEXT(rows[i].key), &bits), rows[i].of_algorithms);
         is("the bits of no algorithm", bits, 0);
     }
     uint32_t bits = 99;
@@ -1146,13 +1150,13 @@ static void keys_without_algorithms(void) {
     static const char own[] = "{\"kty\":\"oct\",\"k\":\"c2VjcmV0\",\"kid\":\"x\",\"alg\":\"RS256\","
                               "\"use\":\"enc\",\"key_ops\":[\"wrapKey\"]}";
     is("a secret that is said to be for RS256", verified(&s, own, JWT_HS256), JWT_OK);
-    is("its algorithms", jwt_key_algorithms(BYTES(own), &bits), JWT_OK);
+    is("its algorithms", jwt_key_algorithms(TEXT(own), &bits), JWT_OK);
     is("their bits", bits, HMAC_BITS);
 }
 
 static struct answer issued_by_key(const char *header, const char *claims, const char *key, size_t room) {
     struct answer a = fresh();
-    a.status = jwt_encode_key(BYTES(header), BYTES(claims), BYTES(key), a.room, room, &a.len);
+    a.status = jwt_encode_key(TEXT(header), TEXT(claims), TEXT(key), a.room, room, &a.len);
     return a;
 }
 
@@ -1204,7 +1208,7 @@ static void issued_by_keys(void) {
         a = issued_by_key(refused[i].header, refused[i].claims, refused[i].key, ROOM);
         is(refused[i].key, status_of(&a), refused[i].status);
     }
-    is("a key by a null pointer", jwt_encode_key(BYTES(header), BYTES(CLAIMS), NULL, 0, a.room, ROOM, &a.len),
+    is("a key by a null pointer", jwt_encode_key(TEXT(header), TEXT(CLAIMS), NULL, 0, a.room, ROOM, &a.len),
        JWT_BAD_KEY);
 }
 
@@ -1222,7 +1226,7 @@ static void issued_by_keys(void) {
 
 static struct answer key_of_certificate(const char *pem, size_t room) {
     struct answer a = fresh();
-    a.status = jwt_key_from_certificate(BYTES(pem), a.room, room, &a.len);
+    a.status = jwt_key_from_certificate(TEXT(pem), a.room, room, &a.len);
     return a;
 }
 
@@ -1315,10 +1319,15 @@ static void test_texts(void) {
         a.status = jwt_test_text(others[i], a.room, ROOM, &a.len);
         is("no test", status_of(&a), JWT_NO_STATUS);
     }
-    a = fresh();
-    a.status = jwt_test_text(JWT_TEST_KEY_IS_FOUND, a.room, 9, &a.len);
-    is("a buffer too small for a name", status_of(&a), JWT_NO_ROOM);
-    is("the name's length", a.len, 10);
+    for (uint32_t i = 1; i < 20; i++)
+        for (size_t room = 0; room <= 32; room++) {
+            a = fresh();
+            a.status = jwt_test_text(i, a.room, room, &a.len);
+            is("a name's buffer", status_of(&a), room < strlen(names[i]) ? JWT_NO_ROOM : JWT_OK);
+            is("a name's length", a.len, strlen(names[i]));
+        }
+    is("a name and no buffer", jwt_test_text(JWT_TEST_KEY_IS_FOUND, NULL, 0, &a.len), JWT_NO_ROOM);
+    is("its length", a.len, 10);
 }
 
 static void status_texts(void) {
@@ -1436,53 +1445,71 @@ static void nesting(void) {
 /* a key set with the secret under the id of NAMED, and another member */
 #define SET_WITH(member) "{\"keys\":[{\"kty\":\"oct\",\"kid\":\"b\"," member "\"k\":\"c2VjcmV0\"}]}"
 
-/* the calls by a secret, by a key and by a set, which are given alike */
-typedef uint32_t decode_call(const uint8_t *, size_t, const uint8_t *, size_t, const uint8_t *, size_t, uint64_t,
-                             uint8_t *, size_t, size_t *);
-typedef uint32_t moments_call(const uint8_t *, size_t, const uint8_t *, size_t, const uint8_t *, size_t, uint64_t *,
-                              uint64_t *);
-static const struct calls {
-    decode_call *decode, *failed_test;
-    moments_call *moments;
-} by_secret_calls = {jwt_decode_hmac, jwt_failed_test_hmac, jwt_moments_hmac},
-  by_key_calls = {jwt_decode_key, jwt_failed_test_key, jwt_moments_key},
-  by_set_calls = {jwt_decode_set, jwt_failed_test_set, jwt_moments_set};
+/* a token is verified with a secret, a key or a set */
+enum source { OF_SECRET, OF_KEY, OF_SET };
 
-static struct answer answer_of(decode_call *call, const char *token, const char *key, const char *options, uint64_t now,
-                               size_t room) {
+static struct answer decoded(enum source source, const char *token, const char *key, const char *options,
+                             uint64_t now) {
+    return source == OF_SECRET ? hmac_in(token, key, options, now, ROOM)
+           : source == OF_KEY  ? by_key(token, key, options, now, ROOM)
+                               : by_set(token, key, options, now, ROOM);
+}
+
+/* a verifier for tokens of any length */
+static uint32_t make(enum source source, const char *key, const char *options, struct jwt_verifier *v) {
+    *v = (struct jwt_verifier)JWT_VERIFIER_NONE;
+    switch (source) {
+    case OF_SECRET:
+        return jwt_verifier_secret(BYTES(key), TEXT(options), SIZE_MAX, true, JWT_PREPARE_NOTHING, v);
+    case OF_KEY:
+        return jwt_verifier_key(TEXT(key), TEXT(options), SIZE_MAX, true, JWT_PREPARE_NOTHING, v);
+    default:
+        return jwt_verifier_set(TEXT(key), TEXT(options), SIZE_MAX, true, JWT_PREPARE_NOTHING, v);
+    }
+}
+
+/* the number of the first test that fails, and the answer of the call that verifies */
+static struct answer tested(struct jwt_verifier *v, const char *token, size_t len, uint64_t now, uint32_t *test) {
     struct answer a = fresh();
-    a.status = call(BYTES(token), BYTES(key), BYTES(options), now, a.room, room, &a.len);
+    uint64_t last;
+    a.status = jwt_verifier_decode(v, token, len, now, a.room, ROOM, &a.len, &last, test);
     return a;
 }
 
-/* whether the first failed test has this name; if it is empty, the call that decodes accepts, else it refuses */
-static void fails(const struct calls *by, const char *token, const char *key, const char *options, uint64_t now,
-                  const char *name) {
-    struct answer a = answer_of(by->failed_test, token, key, options, now, ROOM);
-    is(*name ? name : "no test fails", gives(&a, name), 1);
-    a = answer_of(by->decode, token, key, options, now, ROOM);
-    is("whether it is accepted", status_of(&a) == JWT_OK, *name == 0);
+/* Whether the first failed test has this name; if it is empty, the token is accepted. With another status than JWT_OK no verifier is made,
+   and the call without one refuses the token. */
+static void fails(enum source source, const char *token, const char *key, const char *options, uint64_t now,
+                  const char *name, uint32_t status) {
+    struct answer plain = decoded(source, token, key, options, now), a = fresh();
+    struct jwt_verifier v;
+    uint32_t test;
+    is("whether it is accepted", status_of(&plain) == JWT_OK, *name == 0);
+    is("whether a verifier is made", make(source, key, options, &v), status);
+    if (status != JWT_OK) return;
+    struct answer by = tested(&v, token, strlen(token), now, &test);
+    is("the same as without a verifier", memcmp(&by, &plain, sizeof by), 0);
+    a.status = jwt_test_text(test, a.room, ROOM, &a.len);
+    is(*name ? name : "no test fails", *name ? gives(&a, name) : test == 0, 1);
+    jwt_verifier_free(&v);
 }
 
-/* whether the moments and the status are these; at the first and the last one the call accepts, and beside them it does not */
-static void lasts(const struct calls *by, const char *token, const char *key, const char *options, uint32_t status,
-                  uint64_t first, uint64_t last) {
+/* Whether the moments are these; at the first and the last one the token is accepted, and beside them it is not. With another status than
+   JWT_OK no verifier is made, and the token is accepted at no time. */
+static void lasts(enum source source, const char *token, const char *key, const char *options, uint64_t first,
+                  uint64_t last, uint32_t status) {
+    const uint64_t before = first ? first - 1 : 0, after = last == UINT64_MAX ? last : last + 1;
+    const uint64_t moments[] = {first, last, before, after};
     uint64_t got_first = 5, got_last = 4;
-    is("the status of moments", by->moments(BYTES(token), BYTES(key), BYTES(options), &got_first, &got_last), status);
-    is("the first moment", got_first == first, 1);
-    is("the last moment", got_last == last, 1);
-    if (status != JWT_OK) return;
-    struct answer a = answer_of(by->decode, token, key, options, first, ROOM);
-    is("at the first moment", status_of(&a) == JWT_OK, first <= last);
-    a = answer_of(by->decode, token, key, options, last, ROOM);
-    is("at the last moment", status_of(&a) == JWT_OK, first <= last);
-    if (first != 0) {
-        a = answer_of(by->decode, token, key, options, first - 1, ROOM);
-        is("before the first moment", status_of(&a) != JWT_OK, 1);
-    }
-    if (last != UINT64_MAX) {
-        a = answer_of(by->decode, token, key, options, last + 1, ROOM);
-        is("after the last moment", status_of(&a) != JWT_OK, 1);
+    struct jwt_verifier v;
+    is("whether a verifier is made", make(source, key, options, &v), status);
+    is("the status of moments", jwt_verifier_moments(&v, TEXT(token), &got_first, &got_last),
+       status == JWT_OK ? JWT_OK : JWT_NO_VERIFIER);
+    is("the first moment", got_first == (status == JWT_OK ? first : 0), 1);
+    is("the last moment", got_last == (status == JWT_OK ? last : 0), 1);
+    jwt_verifier_free(&v);
+    for (size_t i = 0; i < 4; i++) {
+        struct answer a = decoded(source, token, key, options, moments[i]);
+        is("at a moment", status_of(&a) == JWT_OK, first <= moments[i] && moments[i] <= last);
     }
 }
 
@@ -1491,140 +1518,139 @@ static void failed_tests(void) {
         const char *token, *secret, *options;
         uint64_t now;
         const char *name;
+        uint32_t status;
     } rows[] = {
-        {TOKEN, "secret", OPTIONS, LAST, ""},
-        {TOKEN, "secret", OPTIONS, LAST + 1, "ClaimRulesHold"},
-        {TOKEN, "Secret", OPTIONS, LAST, "SignatureIsAccepted"},
-        {TOKEN, "Secret", OPTIONS, LAST + 1, "SignatureIsAccepted"},
-        {"", "secret", OPTIONS, LAST, "HasThreeParts"},
-        {"e30.e30", "secret", OPTIONS, LAST, "HasThreeParts"},
-        {"e30=.e30.", "secret", OPTIONS, LAST, "HeaderIsPart"},
-        {"_w.e30.", "secret", OPTIONS, LAST, "HeaderIsJson"},
-        {"e30.e30.", "secret", OPTIONS, LAST, "HeaderReads"},
+        {TOKEN, "secret", OPTIONS, LAST, "", JWT_OK},
+        {TOKEN, "secret", OPTIONS, LAST + 1, "ClaimRulesHold", JWT_OK},
+        {TOKEN, "Secret", OPTIONS, LAST, "SignatureIsAccepted", JWT_OK},
+        {TOKEN, "Secret", OPTIONS, LAST + 1, "SignatureIsAccepted", JWT_OK},
+        {"", "secret", OPTIONS, LAST, "HasThreeParts", JWT_OK},
+        {"e30.e30", "secret", OPTIONS, LAST, "HasThreeParts", JWT_OK},
+        {"e30=.e30.", "secret", OPTIONS, LAST, "HeaderIsPart", JWT_OK},
+        {"_w.e30.", "secret", OPTIONS, LAST, "HeaderIsJson", JWT_OK},
+        {"e30.e30.", "secret", OPTIONS, LAST, "HeaderReads", JWT_OK},
         /* the header {"alg":"HS256","crit":["x"],"x":1} */
-        {"eyJhbGciOiJIUzI1NiIsImNyaXQiOlsieCJdLCJ4IjoxfQ.e30.", "secret", OPTIONS, LAST, "CritIsUnderstood"},
-        {TOKEN, "secret", "{}", LAST, "AlgorithmsAreListed"},
-        {TOKEN, "secret", "{\"algorithms\":[\"HS384\"]}", LAST, "AlgorithmIsListed"},
+        {"eyJhbGciOiJIUzI1NiIsImNyaXQiOlsieCJdLCJ4IjoxfQ.e30.", "secret", OPTIONS, LAST, "CritIsUnderstood", JWT_OK},
+        {TOKEN, "secret", "{}", LAST, "no verifier", JWT_UNFIT_KEY},
+        {TOKEN, "secret", "{\"algorithms\":[\"HS384\"]}", LAST, "AlgorithmIsListed", JWT_OK},
         /* the header {"alg":"ES256"} */
-        {"eyJhbGciOiJFUzI1NiJ9.e30.", "secret", "{\"algorithms\":[\"ES256\"]}", LAST, "VerifierIsMade"},
-        {TOKEN, "secret", "{\"algorithms\":[\"HS256\",\"RS256\"]}", LAST, "FamiliesAgree"},
-        {HS256 ".e30.Y", "secret", OPTIONS, LAST, "SignatureIsPart"},
-        {NO_PART, "secret", OPTIONS, LAST, "PayloadIsPart"},
-        {NO_JSON, "secret", OPTIONS, LAST, "PayloadIsJson"},
-        {NO_OBJECT, "secret", OPTIONS, LAST, "ClaimsAreAnObject"},
-        {NO_CLAIMS, "secret", OPTIONS, LAST, "ClaimRulesHold"},
-        {NO_CLAIMS, "secret", NOT_REQUIRED "}", LAST, ""},
+        {"eyJhbGciOiJFUzI1NiJ9.e30.", "secret", "{\"algorithms\":[\"ES256\"]}", LAST, "no verifier", JWT_UNFIT_KEY},
+        {TOKEN, "secret", "{\"algorithms\":[\"HS256\",\"RS256\"]}", LAST, "no verifier", JWT_MIXED_FAMILIES},
+        {HS256 ".e30.Y", "secret", OPTIONS, LAST, "SignatureIsPart", JWT_OK},
+        {NO_PART, "secret", OPTIONS, LAST, "PayloadIsPart", JWT_OK},
+        {NO_JSON, "secret", OPTIONS, LAST, "PayloadIsJson", JWT_OK},
+        {NO_OBJECT, "secret", OPTIONS, LAST, "ClaimsAreAnObject", JWT_OK},
+        {NO_CLAIMS, "secret", OPTIONS, LAST, "ClaimRulesHold", JWT_OK},
+        {NO_CLAIMS, "secret", NOT_REQUIRED "}", LAST, "", JWT_OK},
     };
     for (size_t i = 0; i < sizeof rows / sizeof *rows; i++)
-        fails(&by_secret_calls, rows[i].token, rows[i].secret, rows[i].options, rows[i].now, rows[i].name);
-    for (size_t room = 0; room <= 32; room++) {
-        struct answer a = answer_of(jwt_failed_test_hmac, TOKEN, "Secret", OPTIONS, LAST, room);
-        is("a name's buffer", status_of(&a), room < 19 ? JWT_NO_ROOM : JWT_OK);
-        is("a name's length", a.len, 19);
-    }
+        fails(OF_SECRET, rows[i].token, rows[i].secret, rows[i].options, rows[i].now, rows[i].name, rows[i].status);
+    struct jwt_verifier v;
     struct answer a = fresh();
-    is("no name and no buffer",
-       jwt_failed_test_hmac(BYTES(TOKEN), BYTES("secret"), BYTES(OPTIONS), LAST, NULL, 0, &a.len), JWT_OK);
-    is("the length of no name", a.len, 0);
-    is("a token by a null pointer, whose test fails",
-       jwt_failed_test_hmac(NULL, 0, BYTES("secret"), BYTES(OPTIONS), LAST, a.room, ROOM, &a.len), JWT_OK);
-    is("the length of its name", a.len, strlen("HasThreeParts"));
+    uint64_t last;
+    uint32_t test = 99;
+    make(OF_SECRET, "secret", OPTIONS, &v);
+    is("no buffer", jwt_verifier_decode(&v, TEXT(TOKEN), LAST, NULL, 0, &a.len, &last, &test), JWT_NO_ROOM);
+    is("no test fails without a buffer", test == 0 && last == LAST && a.len == strlen(CLAIMS), 1);
+    a = tested(&v, NULL, 0, LAST, &test);
+    is("a token by a null pointer", status_of(&a), JWT_INVALID_TOKEN);
+    is("its test", test, JWT_TEST_HAS_THREE_PARTS);
+    jwt_verifier_free(&v);
 }
 
 static void failed_tests_by_keys(void) {
     for (size_t i = 0; i < ALL; i++) {
         const char *token = by_all[i].token, *one = by_all[i].key, *options = by_all[i].options;
-        fails(&by_key_calls, token, one, options, LAST, "");
-        fails(&by_set_calls, token, ALL_KEYS, options, LAST, "");
-        fails(&by_key_calls, token, one, options, LAST + 1, "ClaimRulesHold");
-        fails(&by_set_calls, token, ALL_KEYS, options, LAST + 1, "ClaimRulesHold");
-        fails(&by_key_calls, tampered(token, 0), one, options, LAST, "SignatureIsAccepted");
-        fails(&by_set_calls, tampered(token, 0), ALL_KEYS, options, LAST, "SignatureIsAccepted");
-        fails(&by_key_calls, token, by_all[(i + 3) % ALL].key, options, LAST, "VerifierIsMade");
-        lasts(&by_key_calls, token, one, options, JWT_OK, 0, LAST);
-        lasts(&by_set_calls, token, ALL_KEYS, options, JWT_OK, 0, LAST);
-        lasts(&by_key_calls, tampered(token, 0), one, options, JWT_OK, 1, 0);
-        lasts(&by_set_calls, tampered(token, 0), ALL_KEYS, options, JWT_OK, 1, 0);
+        fails(OF_KEY, token, one, options, LAST, "", JWT_OK);
+        fails(OF_SET, token, ALL_KEYS, options, LAST, "", JWT_OK);
+        fails(OF_KEY, token, one, options, LAST + 1, "ClaimRulesHold", JWT_OK);
+        fails(OF_SET, token, ALL_KEYS, options, LAST + 1, "ClaimRulesHold", JWT_OK);
+        fails(OF_KEY, tampered(token, 0), one, options, LAST, "SignatureIsAccepted", JWT_OK);
+        fails(OF_SET, tampered(token, 0), ALL_KEYS, options, LAST, "SignatureIsAccepted", JWT_OK);
+        fails(OF_KEY, token, by_all[(i + 3) % ALL].key, options, LAST, "no verifier", JWT_UNFIT_KEY);
+        lasts(OF_KEY, token, one, options, 0, LAST, JWT_OK);
+        lasts(OF_SET, token, ALL_KEYS, options, 0, LAST, JWT_OK);
+        lasts(OF_KEY, tampered(token, 0), one, options, 1, 0, JWT_OK);
+        lasts(OF_SET, tampered(token, 0), ALL_KEYS, options, 1, 0, JWT_OK);
     }
     static const struct {
         const char *token, *set, *name;
+        uint32_t status;
     } rows[] = {
-        {NAMED, SET, ""},
-        {TOKEN, SET, "KeyIsFound"},
-        {NAMED, "{\"keys\":[]}", "KeyIsFound"},
-        {NAMED, SET_WITH("\"alg\":\"HS256\","), ""},
-        {NAMED, SET_WITH("\"alg\":\"HS512\","), "KeyAlgorithmAgrees"},
-        {NAMED, "{\"keys\":[{\"kty\":\"oct\",\"kid\":\"b\",\"k\":\"*\"}]}", "KeyIsUsable"},
-        {NAMED, "{\"keys\":[{\"kty\":\"oct\",\"kid\":\"b\",\"k\":\"AAAA\"}]}", "SignatureIsAccepted"},
-        {"a", SET, "HasThreeParts"},
+        {NAMED, SET, "", JWT_OK},
+        {TOKEN, SET, "KeyIsFound", JWT_OK},
+        {NAMED, "{\"keys\":[]}", "no verifier", JWT_UNFIT_KEY},
+        {NAMED, "{\"keys\":[" HMAC_KEY "]}", "KeyIsFound", JWT_OK},
+        {NAMED, SET_WITH("\"alg\":\"HS256\","), "", JWT_OK},
+        {NAMED, SET_WITH("\"alg\":\"HS512\","), "KeyAlgorithmAgrees", JWT_OK},
+        {NAMED, "{\"keys\":[{\"kty\":\"oct\",\"kid\":\"b\",\"k\":\"*\"}]}", "no verifier", JWT_UNFIT_KEY},
+        {NAMED, "{\"keys\":[{\"kty\":\"oct\",\"kid\":\"b\",\"k\":\"*\"}," HMAC_KEY "]}", "KeyIsUsable", JWT_OK},
+        {NAMED, "{\"keys\":[{\"kty\":\"OKP\",\"crv\":\"Ed25519\",\"kid\":\"b\",\"x\":\"AAAA\"}," HMAC_KEY "]}",
+         "VerifierIsMade", JWT_OK},
+        {NAMED, "{\"keys\":[{\"kty\":\"oct\",\"kid\":\"b\",\"k\":\"AAAA\"}]}", "SignatureIsAccepted", JWT_OK},
+        {"a", SET, "HasThreeParts", JWT_OK},
     };
     for (size_t i = 0; i < sizeof rows / sizeof *rows; i++)
-        fails(&by_set_calls, rows[i].token, rows[i].set, OPTIONS, LAST, rows[i].name);
-    struct answer a = answer_of(jwt_failed_test_set, TOKEN, SET, OPTIONS, LAST, 9);
-    is("a buffer too small for a name by a set", status_of(&a), JWT_NO_ROOM);
-    is("the length that it needs", a.len, strlen("KeyIsFound"));
-    a = answer_of(jwt_failed_test_key, tampered(BY_HS256, 0), HMAC_KEY, OPTIONS, LAST, 18);
-    is("a buffer too small for a name by a key", status_of(&a), JWT_NO_ROOM);
-    is("the length that it needs by a key", a.len, strlen("SignatureIsAccepted"));
+        fails(OF_SET, rows[i].token, rows[i].set, OPTIONS, LAST, rows[i].name, rows[i].status);
 }
 
 static void moments(void) {
     static const struct {
         const char *token, *secret, *options;
         uint64_t first, last;
+        uint32_t status;
     } rows[] = {
-        {TOKEN, "secret", OPTIONS, 0, LAST},
-        {TOKEN, "secret", "{\"algorithms\":[\"HS256\"],\"leeway\":0}", 0, LAST - 60},
-        {TOKEN, "secret", "{\"algorithms\":[\"HS256\"],\"reject_tokens_expiring_in_less_than\":10}", 0, LAST - 10},
-        {TOKEN, "Secret", OPTIONS, 1, 0},
-        {TOKEN, "secret", "{\"algorithms\":[\"HS256\"],\"sub\":\"s\"}", 1, 0},
-        {TOKEN, "secret", "{\"algorithms\":[\"HS256\"],\"required_spec_claims\":[\"exp\",\"iss\"]}", 1, 0},
-        {TOKEN, "secret", "{}", 1, 0},
-        {"", "secret", OPTIONS, 1, 0},
-        {NO_JSON, "secret", OPTIONS, 1, 0},
-        {FROM_1000_TO_2000, "secret", NOT_REQUIRED ",\"validate_nbf\":true}", 940, 2060},
-        {FROM_1000_TO_2000, "secret", NOT_REQUIRED ",\"validate_nbf\":true,\"leeway\":2000}", 0, 4000},
-        {FROM_1000_TO_2000, "secret", NOT_REQUIRED ",\"validate_exp\":false}", 0, UINT64_MAX},
-        {FROM_2000_TO_1000, "secret", NOT_REQUIRED ",\"validate_nbf\":true}", 1, 0},
-        {FROM_2000_TO_1000, "secret", NOT_REQUIRED ",\"validate_nbf\":true,\"leeway\":500}", 1500, 1500},
-        {TO_THE_GREATEST, "secret", OPTIONS, 0, UINT64_MAX},
-        {NO_CLAIMS, "secret", OPTIONS, 1, 0},
-        {NO_CLAIMS, "secret", NOT_REQUIRED "}", 0, UINT64_MAX},
+        {TOKEN, "secret", OPTIONS, 0, LAST, JWT_OK},
+        {TOKEN, "secret", "{\"algorithms\":[\"HS256\"],\"leeway\":0}", 0, LAST - 60, JWT_OK},
+        {TOKEN, "secret", "{\"algorithms\":[\"HS256\"],\"reject_tokens_expiring_in_less_than\":10}", 0, LAST - 10,
+         JWT_OK},
+        {TOKEN, "Secret", OPTIONS, 1, 0, JWT_OK},
+        {TOKEN, "secret", "{\"algorithms\":[\"HS256\"],\"sub\":\"s\"}", 1, 0, JWT_OK},
+        {TOKEN, "secret", "{\"algorithms\":[\"HS256\"],\"required_spec_claims\":[\"exp\",\"iss\"]}", 1, 0, JWT_OK},
+        {TOKEN, "secret", "{}", 1, 0, JWT_UNFIT_KEY},
+        {"", "secret", OPTIONS, 1, 0, JWT_OK},
+        {NO_JSON, "secret", OPTIONS, 1, 0, JWT_OK},
+        {FROM_1000_TO_2000, "secret", NOT_REQUIRED ",\"validate_nbf\":true}", 940, 2060, JWT_OK},
+        {FROM_1000_TO_2000, "secret", NOT_REQUIRED ",\"validate_nbf\":true,\"leeway\":2000}", 0, 4000, JWT_OK},
+        {FROM_1000_TO_2000, "secret", NOT_REQUIRED ",\"validate_exp\":false}", 0, UINT64_MAX, JWT_OK},
+        {FROM_2000_TO_1000, "secret", NOT_REQUIRED ",\"validate_nbf\":true}", 1, 0, JWT_OK},
+        {FROM_2000_TO_1000, "secret", NOT_REQUIRED ",\"validate_nbf\":true,\"leeway\":500}", 1500, 1500, JWT_OK},
+        {TO_THE_GREATEST, "secret", OPTIONS, 0, UINT64_MAX, JWT_OK},
+        {NO_CLAIMS, "secret", OPTIONS, 1, 0, JWT_OK},
+        {NO_CLAIMS, "secret", NOT_REQUIRED "}", 0, UINT64_MAX, JWT_OK},
     };
     for (size_t i = 0; i < sizeof rows / sizeof *rows; i++)
-        lasts(&by_secret_calls, rows[i].token, rows[i].secret, rows[i].options, JWT_OK, rows[i].first, rows[i].last);
-    lasts(&by_set_calls, NAMED, SET, OPTIONS, JWT_OK, 0, LAST);
-    lasts(&by_set_calls, TOKEN, SET, OPTIONS, JWT_OK, 1, 0);
+        lasts(OF_SECRET, rows[i].token, rows[i].secret, rows[i].options, rows[i].first, rows[i].last, rows[i].status);
+    lasts(OF_SET, NAMED, SET, OPTIONS, 0, LAST, JWT_OK);
+    lasts(OF_SET, TOKEN, SET, OPTIONS, 1, 0, JWT_OK);
 }
 
 /* texts that could not be read, and keys of which none is made, have the status of the call that decodes */
-static void tests_of_misread_texts(void) {
+static void misread_texts(void) {
     static const struct {
-        const struct calls *by;
+        enum source source;
         const char *token, *key, *options;
         uint32_t status;
     } rows[] = {
-        {&by_secret_calls, TOKEN, "secret", "{", JWT_BAD_OPTIONS},
-        {&by_secret_calls, "a", "", "", JWT_BAD_OPTIONS},
-        {&by_key_calls, BY_HS256, HMAC_KEY, "[]", JWT_BAD_OPTIONS},
-        {&by_key_calls, "a", "", "", JWT_BAD_OPTIONS},
-        {&by_key_calls, "a", "", OPTIONS, JWT_BAD_KEY},
-        {&by_key_calls, BY_HS256, BY_HS256, OPTIONS, JWT_BAD_KEY},
-        {&by_key_calls, BY_HS256, "{\"kty\":\"oct\",\"k\":\"c2VjcmV0\",\"use\":1}", OPTIONS, JWT_BAD_KEY},
-        {&by_key_calls, "a", "{}", OPTIONS, JWT_UNSUPPORTED_ALGORITHM},
-        {&by_key_calls, BY_HS256, "{\"kty\":\"oct\"}", OPTIONS, JWT_UNSUPPORTED_ALGORITHM},
-        {&by_key_calls, BY_HS256, "{\"kty\":\"oct\",\"k\":\"c2VjcmV0=\"}", OPTIONS, JWT_BASE64},
-        {&by_set_calls, NAMED, SET, "null", JWT_BAD_OPTIONS},
-        {&by_set_calls, "a", "{}", "{", JWT_BAD_OPTIONS},
-        {&by_set_calls, "a", "{}", OPTIONS, JWT_BAD_SET},
-        {&by_set_calls, NAMED, "[]", OPTIONS, JWT_BAD_SET},
+        {OF_SECRET, TOKEN, "secret", "{", JWT_BAD_OPTIONS},
+        {OF_SECRET, "a", "", "", JWT_BAD_OPTIONS},
+        {OF_KEY, BY_HS256, HMAC_KEY, "[]", JWT_BAD_OPTIONS},
+        {OF_KEY, "a", "", "", JWT_BAD_OPTIONS},
+        {OF_KEY, "a", "", OPTIONS, JWT_BAD_KEY},
+        {OF_KEY, BY_HS256, BY_HS256, OPTIONS, JWT_BAD_KEY},
+        {OF_KEY, BY_HS256, "{\"kty\":\"oct\",\"k\":\"c2VjcmV0\",\"use\":1}", OPTIONS, JWT_BAD_KEY},
+        {OF_KEY, "a", "{}", OPTIONS, JWT_UNSUPPORTED_ALGORITHM},
+        {OF_KEY, BY_HS256, "{\"kty\":\"oct\"}", OPTIONS, JWT_UNSUPPORTED_ALGORITHM},
+        {OF_KEY, BY_HS256, "{\"kty\":\"oct\",\"k\":\"c2VjcmV0=\"}", OPTIONS, JWT_BASE64},
+        {OF_SET, NAMED, SET, "null", JWT_BAD_OPTIONS},
+        {OF_SET, "a", "{}", "{", JWT_BAD_OPTIONS},
+        {OF_SET, "a", "{}", OPTIONS, JWT_BAD_SET},
+        {OF_SET, NAMED, "[]", OPTIONS, JWT_BAD_SET},
     };
     for (size_t i = 0; i < sizeof rows / sizeof *rows; i++) {
-        struct answer a = answer_of(rows[i].by->decode, rows[i].token, rows[i].key, rows[i].options, LAST, ROOM);
+        struct answer a = decoded(rows[i].source, rows[i].token, rows[i].key, rows[i].options, LAST);
         is("a misread text, to decode", status_of(&a), rows[i].status);
-        a = answer_of(rows[i].by->failed_test, rows[i].token, rows[i].key, rows[i].options, LAST, ROOM);
-        is("a misread text, for a failed test", status_of(&a), rows[i].status);
-        lasts(rows[i].by, rows[i].token, rows[i].key, rows[i].options, rows[i].status, 0, 0);
+        lasts(rows[i].source, rows[i].token, rows[i].key, rows[i].options, 1, 0, rows[i].status);
     }
 }
 
@@ -1632,7 +1658,7 @@ static void tests_of_misread_texts(void) {
 
 /* a call, and whether its result is right */
 static bool claims_given(struct answer *a) {
-    a->status = jwt_decode_hmac(BYTES(TOKEN), BYTES("secret"), BYTES(OPTIONS), LAST, a->room, ROOM, &a->len);
+    a->status = jwt_decode_hmac(TEXT(TOKEN), BYTES("secret"), TEXT(OPTIONS), LAST, a->room, ROOM, &a->len);
     return gives(a, CLAIMS);
 }
 
@@ -1644,13 +1670,13 @@ static bool vouched_claims_given(struct answer *a) {
 static bool signed_part_given(struct answer *a) {
     uint32_t algorithm = 99;
     size_t message = 99;
-    a->status = jwt_signed_part(BYTES(TOKEN), &algorithm, &message, a->room, ROOM, &a->len);
+    a->status = jwt_signed_part(TEXT(TOKEN), &algorithm, &message, (uint8_t *)a->room, ROOM, &a->len);
     if (a->status != JWT_OK) a->len += algorithm + message;
     return status_of(a) == JWT_OK && a->len == 32 && algorithm == JWT_HS256 && message == strlen(TOKEN) - 44;
 }
 
 static bool header_given(struct answer *a) {
-    a->status = jwt_decode_header(BYTES(TOKEN), a->room, ROOM, &a->len);
+    a->status = jwt_decode_header(TEXT(TOKEN), a->room, ROOM, &a->len);
     return gives(a, "{\"alg\":\"HS256\",\"typ\":\"JWT\"}");
 }
 
@@ -1676,7 +1702,8 @@ static bool token_given(struct answer *a) {
 
 static bool input_given(struct answer *a) {
     uint32_t algorithm = 99;
-    a->status = jwt_signing_input(BYTES(BY_CURVE_HEADER), BYTES(BY_CURVE_CLAIMS), &algorithm, a->room, ROOM, &a->len);
+    a->status =
+        jwt_signing_input(TEXT(BY_CURVE_HEADER), TEXT(BY_CURVE_CLAIMS), &algorithm, (uint8_t *)a->room, ROOM, &a->len);
     if (a->status != JWT_OK) a->len += algorithm;
     return gives(a, BY_CURVE_MESSAGE) && algorithm == JWT_ES256;
 }
@@ -1712,44 +1739,66 @@ static bool refusal_of_a_private_key_given(struct answer *a) {
     return status_of(a) == JWT_PROVIDER;
 }
 
-static bool name_given(struct answer *a) {
-    *a = answer_of(jwt_failed_test_hmac, TOKEN, "Secret", OPTIONS, LAST, ROOM);
-    return gives(a, "SignatureIsAccepted");
+/* Has one call of a verifier: memory is refused once the verifier is made. Sets *test to the first test that fails. */
+static void by_verifier(struct answer *a, enum source source, const char *token, const char *key, const char *options,
+                        uint64_t now, uint32_t *test) {
+    struct jwt_verifier v;
+    long allowed = refused_one;
+    refused_one = 0;
+    make(source, key, options, &v);
+    requests = 0, refused_one = allowed;
+    *a = tested(&v, token, strlen(token), now, test);
+    if (a->status == JWT_OUT_OF_MEMORY) a->len += *test;
+    jwt_verifier_free(&v);
 }
 
-static bool name_by_a_key_given(struct answer *a) {
-    *a = answer_of(jwt_failed_test_key, BY_ES256, P256_KEY, "{\"algorithms\":[\"ES256\"]}", LAST + 1, ROOM);
-    return gives(a, "ClaimRulesHold");
+static bool test_given(struct answer *a) {
+    uint32_t test = 99;
+    by_verifier(a, OF_SECRET, TOKEN, "Secret", OPTIONS, LAST, &test);
+    return status_of(a) == JWT_INVALID_SIGNATURE && test == JWT_TEST_SIGNATURE_IS_ACCEPTED;
 }
 
-static bool no_name_by_a_set_given(struct answer *a) {
-    *a = answer_of(jwt_failed_test_set, NAMED, SET, OPTIONS, LAST, ROOM);
-    return gives(a, "");
+static bool test_by_a_key_given(struct answer *a) {
+    uint32_t test = 99;
+    by_verifier(a, OF_KEY, BY_ES256, P256_KEY, "{\"algorithms\":[\"ES256\"]}", LAST + 1, &test);
+    return status_of(a) == JWT_EXPIRED_SIGNATURE && test == JWT_TEST_CLAIM_RULES_HOLD;
+}
+
+static bool no_test_by_a_set_given(struct answer *a) {
+    uint32_t test = 99;
+    by_verifier(a, OF_SET, NAMED, SET, OPTIONS, LAST, &test);
+    return gives(a, CLAIMS) && test == 0;
 }
 
 /* after a refusal both moments are 0 */
-static bool moments_given(struct answer *a, moments_call *call, const char *token, const char *key,
+static bool moments_given(struct answer *a, enum source source, const char *token, const char *key,
                           const char *options) {
+    struct jwt_verifier v;
     uint64_t first = 5, last = 4;
-    a->status = call(BYTES(token), BYTES(key), BYTES(options), &first, &last);
+    long allowed = refused_one;
+    refused_one = 0;
+    make(source, key, options, &v);
+    requests = 0, refused_one = allowed;
+    a->status = jwt_verifier_moments(&v, TEXT(token), &first, &last);
     a->len = a->status == JWT_OK ? 0 : first + last;
+    jwt_verifier_free(&v);
     return status_of(a) == JWT_OK && first == 0 && last == LAST;
 }
 
 static bool moments_by_a_secret_given(struct answer *a) {
-    return moments_given(a, jwt_moments_hmac, TOKEN, "secret", OPTIONS);
+    return moments_given(a, OF_SECRET, TOKEN, "secret", OPTIONS);
 }
 
 static bool moments_by_a_key_given(struct answer *a) {
-    return moments_given(a, jwt_moments_key, BY_EDDSA, ED_KEY, "{\"algorithms\":[\"EdDSA\"]}");
+    return moments_given(a, OF_KEY, BY_EDDSA, ED_KEY, "{\"algorithms\":[\"EdDSA\"]}");
 }
 
 static bool moments_by_a_set_given(struct answer *a) {
-    return moments_given(a, jwt_moments_set, NAMED, SET, OPTIONS);
+    return moments_given(a, OF_SET, NAMED, SET, OPTIONS);
 }
 
 static bool string_given(struct answer *a) {
-    a->status = jwt_quote(BYTES("a\"b\nc"), a->room, ROOM, &a->len);
+    a->status = jwt_quote(TEXT("a\"b\nc"), a->room, ROOM, &a->len);
     return gives(a, "\"a\\\"b\\nc\"");
 }
 
@@ -1761,13 +1810,13 @@ static bool checked_secret_given(struct answer *a) {
 }
 
 static bool checked_key_given(struct answer *a) {
-    a->status = jwt_check_key(BYTES("{\"kty\":\"oct\",\"k\":\"AAAA\"}"));
+    a->status = jwt_check_key(TEXT("{\"kty\":\"oct\",\"k\":\"AAAA\"}"));
     a->len = 0;
     return a->status == JWT_BLANK_KEY;
 }
 
 static bool checked_set_given(struct answer *a) {
-    a->status = jwt_check_set(BYTES(SET));
+    a->status = jwt_check_set(TEXT(SET));
     a->len = 0;
     return a->status == JWT_BLANK_KEY;
 }
@@ -1776,7 +1825,7 @@ static bool signature_verified(struct answer *a) {
     struct signed_part s = {.token = BY_RS256};
     long allowed = refused_one;
     refused_one = 0;
-    jwt_signed_part(BYTES(s.token), &s.algorithm, &s.message_len, s.bytes, sizeof s.bytes, &s.len);
+    jwt_signed_part(TEXT(s.token), &s.algorithm, &s.message_len, s.bytes, sizeof s.bytes, &s.len);
     requests = 0, refused_one = allowed;
     a->status = verified(&s, RSA_KEY, JWT_RS256);
     a->len = 0;
@@ -1785,7 +1834,7 @@ static bool signature_verified(struct answer *a) {
 
 static bool algorithms_given(struct answer *a) {
     uint32_t bits = 99;
-    a->status = jwt_key_algorithms(BYTES(RSA_KEY), &bits);
+    a->status = jwt_key_algorithms(TEXT(RSA_KEY), &bits);
     a->len = a->status == JWT_OK ? 0 : bits;
     return status_of(a) == JWT_OK && bits == RSA_BITS;
 }
@@ -1801,7 +1850,7 @@ static bool key_of_certificate_given(struct answer *a) {
 }
 
 static bool checked_member_given(struct answer *a) {
-    a->status = jwt_check_member(BYTES("{\"roles\":[\"user\",\"admin\"]}"), BYTES("roles"), BYTES("admin"));
+    a->status = jwt_check_member(TEXT("{\"roles\":[\"user\",\"admin\"]}"), TEXT("roles"), TEXT("admin"));
     a->len = 0;
     return a->status == JWT_OK;
 }
@@ -1840,9 +1889,9 @@ static void refused_memory(void) {
     is("a string out of memory", refused_in_turn(string_given) > 0, 1);
     is("a key in PEM out of memory", refused_in_turn(key_given) > 0, 1);
     is("a private key out of memory", refused_in_turn(refusal_of_a_private_key_given) > 0, 1);
-    is("a name out of memory", refused_in_turn(name_given) > 0, 1);
-    is("a name by a key out of memory", refused_in_turn(name_by_a_key_given) > 0, 1);
-    is("no name by a set out of memory", refused_in_turn(no_name_by_a_set_given) > 0, 1);
+    is("a test out of memory", refused_in_turn(test_given) > 0, 1);
+    is("a test by a key out of memory", refused_in_turn(test_by_a_key_given) > 0, 1);
+    is("no test by a set out of memory", refused_in_turn(no_test_by_a_set_given) > 0, 1);
     is("moments out of memory", refused_in_turn(moments_by_a_secret_given) > 0, 1);
     is("moments by a key out of memory", refused_in_turn(moments_by_a_key_given) > 0, 1);
     is("moments by a set out of memory", refused_in_turn(moments_by_a_set_given) > 0, 1);
@@ -1862,7 +1911,7 @@ static void refused_memory(void) {
 #define GREATEST (1 << 20)
 
 static char text[GREATEST + 100], token[3 * GREATEST + 300];
-static uint8_t big_room[2 * GREATEST];
+static char big_room[2 * GREATEST];
 
 /* `before`, this many letters, and `after` */
 static const char *filled(const char *before, size_t count, const char *after) {
@@ -1880,24 +1929,28 @@ static bool is_in_room(uint32_t status, size_t len, const char *wanted) {
 /* Of this size: claims that are issued and read back by a set, the set's text, and the key that verifies, of a test that fails, of
    moments and of a thumbprint. */
 static long wrong_issued_at(size_t size) {
-    static uint8_t part[3 * GREATEST + 300];
+    static char part[3 * GREATEST + 300];
     size_t len = 0, given;
     uint64_t first, last;
+    uint32_t test;
+    struct jwt_verifier v;
     long wrong = 0;
     filled("{\"exp\":940,\"sub\":\"", size, "\"}");
-    wrong += jwt_encode_hmac(BYTES("{\"alg\":\"HS256\",\"kid\":\"b\"}"), BYTES(text), BYTES("secret"), part,
-                             sizeof part, &len) != JWT_OK;
-    uint32_t status = jwt_decode_set(part, len, BYTES(SET), BYTES(OPTIONS), 1000, big_room, sizeof big_room, &given);
+    wrong += jwt_encode_hmac(TEXT("{\"alg\":\"HS256\",\"kid\":\"b\"}"), TEXT(text), BYTES("secret"), part, sizeof part,
+                             &len) != JWT_OK;
+    uint32_t status = jwt_decode_set(part, len, TEXT(SET), TEXT(OPTIONS), 1000, big_room, sizeof big_room, &given);
     wrong += !is_in_room(status, given, text);
     filled("{\"keys\":[{\"kty\":\"oct\",\"kid\":\"b\",\"k\":\"c2VjcmV0\"}],\"x\":\"", size, "\"}");
-    wrong += jwt_decode_set(part, len, BYTES(text), BYTES(OPTIONS), 1000, big_room, sizeof big_room, &given) != JWT_OK;
+    wrong += jwt_decode_set(part, len, TEXT(text), TEXT(OPTIONS), 1000, big_room, sizeof big_room, &given) != JWT_OK;
     filled("{\"kty\":\"oct\",\"k\":\"c2VjcmV0\",\"kid\":\"", size, "\"}");
-    wrong += jwt_decode_key(part, len, BYTES(text), BYTES(OPTIONS), 1000, big_room, sizeof big_room, &given) != JWT_OK;
-    status = jwt_failed_test_key(part, len, BYTES(text), BYTES(OPTIONS), 1000, big_room, sizeof big_room, &given);
-    wrong += !is_in_room(status, given, "");
-    status = jwt_moments_key(part, len, BYTES(text), BYTES(OPTIONS), &first, &last);
+    wrong += jwt_decode_key(part, len, TEXT(text), TEXT(OPTIONS), 1000, big_room, sizeof big_room, &given) != JWT_OK;
+    wrong += make(OF_KEY, text, OPTIONS, &v) != JWT_OK;
+    status = jwt_verifier_decode(&v, part, len, 1000, big_room, sizeof big_room, &given, &last, &test);
+    wrong += status != JWT_OK || test != 0 || last != 1000;
+    status = jwt_verifier_moments(&v, part, len, &first, &last);
     wrong += status != JWT_OK || first != 0 || last != 1000;
-    status = jwt_thumbprint(BYTES(text), 256, big_room, sizeof big_room, &given);
+    jwt_verifier_free(&v);
+    status = jwt_thumbprint(TEXT(text), 256, big_room, sizeof big_room, &given);
     return wrong + !is_in_room(status, given, "DWBh0SEIAPYh1x5uvot4z3AhaikHkxNJa3Ada2fT-Cg");
 }
 
@@ -1910,25 +1963,25 @@ static long wrong_at(size_t size) {
     token[at++] = '.';
     at += encode(filled("{\"exp\":940,\"sub\":\"", size, "\"}"), token + at);
     strcpy(token + at, ".cw");
-    uint32_t status = jwt_decode_verdict(BYTES(token), JWT_ES256, (const uint8_t *)token, at, BYTES("s"), true,
-                                         BYTES(ES256_LISTED "}"), 1000, big_room, sizeof big_room, &len);
+    uint32_t status = jwt_decode_verdict(TEXT(token), JWT_ES256, (const uint8_t *)token, at, BYTES("s"), true,
+                                         TEXT(ES256_LISTED "}"), 1000, big_room, sizeof big_room, &len);
     wrong += !is_in_room(status, len, text);
     filled(ES256_LISTED ",\"sub\":\"", size, "\"}");
-    status = jwt_decode_verdict(BYTES(token), JWT_ES256, (const uint8_t *)token, at, BYTES("s"), true, BYTES(text),
-                                1000, big_room, sizeof big_room, &len);
+    status = jwt_decode_verdict(TEXT(token), JWT_ES256, (const uint8_t *)token, at, BYTES("s"), true, TEXT(text), 1000,
+                                big_room, sizeof big_room, &len);
     wrong += status != JWT_OK;
     filled(ES256_LISTED ",\"aud\":[\"", size, "\"]}");
-    status = jwt_decode_verdict(BYTES(token), JWT_ES256, (const uint8_t *)token, at, BYTES("s"), true, BYTES(text),
-                                1000, big_room, sizeof big_room, &len);
+    status = jwt_decode_verdict(TEXT(token), JWT_ES256, (const uint8_t *)token, at, BYTES("s"), true, TEXT(text), 1000,
+                                big_room, sizeof big_room, &len);
     wrong += status != JWT_OK;
     /* an encoded text for a signature */
     token[at++] = '.';
     encode(filled("", size, ""), token + at);
-    status = jwt_signed_part(BYTES(token), &algorithm, &message, big_room, sizeof big_room, &len);
+    status = jwt_signed_part(TEXT(token), &algorithm, &message, (uint8_t *)big_room, sizeof big_room, &len);
     wrong += !is_in_room(status, len, text) || message != at - 1;
     at = encode(filled("{\"alg\":\"ES256\",\"kid\":\"", size, "\"}"), token);
     strcpy(token + at, "..");
-    status = jwt_decode_header(BYTES(token), big_room, sizeof big_room, &len);
+    status = jwt_decode_header(TEXT(token), big_room, sizeof big_room, &len);
     return wrong + !is_in_room(status, len, text) + wrong_issued_at(size);
 }
 
@@ -2004,13 +2057,13 @@ static void checked_secrets(void) {
 
     /* what is told is what a token shows: one that is signed with the empty secret is accepted */
     static const char claims[] = "{\"exp\":2532524891}";
-    uint8_t token[200], room[200];
+    char token[200], room[200];
     size_t token_len, len;
     is("signed with no secret",
-       jwt_encode_hmac(BYTES("{\"alg\":\"HS256\"}"), BYTES(claims), NULL, 0, token, sizeof token, &token_len), JWT_OK);
+       jwt_encode_hmac(TEXT("{\"alg\":\"HS256\"}"), TEXT(claims), NULL, 0, token, sizeof token, &token_len), JWT_OK);
     is("accepted with 64 zeros",
-       jwt_decode_hmac(token, token_len, zeros, 64, BYTES(OPTIONS), 0, room, sizeof room, &len), JWT_OK);
-    is("refused with 65", jwt_decode_hmac(token, token_len, zeros, 65, BYTES(OPTIONS), 0, room, sizeof room, &len),
+       jwt_decode_hmac(token, token_len, zeros, 64, TEXT(OPTIONS), 0, room, sizeof room, &len), JWT_OK);
+    is("refused with 65", jwt_decode_hmac(token, token_len, zeros, 65, TEXT(OPTIONS), 0, room, sizeof room, &len),
        JWT_INVALID_SIGNATURE);
 }
 
@@ -2043,7 +2096,7 @@ static void checked_keys(void) {
         {"", JWT_BAD_KEY},
     };
     for (size_t i = 0; i < sizeof rows / sizeof *rows; i++)
-        is(rows[i].key, jwt_check_key(BYTES(rows[i].key)), rows[i].status);
+        is(rows[i].key, jwt_check_key(TEXT(rows[i].key)), rows[i].status);
     is("a key by a null pointer", jwt_check_key(NULL, 0), JWT_BAD_KEY);
 }
 
@@ -2070,7 +2123,7 @@ static void checked_sets(void) {
         {"", JWT_BAD_SET},
     };
     for (size_t i = 0; i < sizeof rows / sizeof *rows; i++)
-        is(rows[i].set, jwt_check_set(BYTES(rows[i].set)), rows[i].status);
+        is(rows[i].set, jwt_check_set(TEXT(rows[i].set)), rows[i].status);
     is("a set by a null pointer", jwt_check_set(NULL, 0), JWT_BAD_SET);
 }
 
@@ -2095,7 +2148,7 @@ static void numbers(void) {
         {"", JWT_BAD_CLAIMS},
     };
     for (size_t i = 0; i < sizeof rows / sizeof *rows; i++)
-        is(rows[i].claims, jwt_check_numbers(BYTES(rows[i].claims)), rows[i].status);
+        is(rows[i].claims, jwt_check_numbers(TEXT(rows[i].claims)), rows[i].status);
 }
 
 static void times_of_issue(void) {
@@ -2174,12 +2227,10 @@ static void checked_members(void) {
         {"", "a", "a", JWT_BAD_CLAIMS},
     };
     for (size_t i = 0; i < sizeof rows / sizeof *rows; i++)
-        is(rows[i].text, jwt_check_member(BYTES(rows[i].json), BYTES(rows[i].name), BYTES(rows[i].text)),
-           rows[i].status);
-    is("a byte 0 of a text", jwt_check_member(BYTES(object), BYTES("t"), (const uint8_t *)"", 1), JWT_OK);
-    is("a byte 0 behind a text", jwt_check_member(BYTES(object), BYTES("roles"), (const uint8_t *)"user", 5),
-       JWT_NO_MEMBER);
-    is("no bytes by null pointers", jwt_check_member(BYTES("{\"\":[\"\"]}"), NULL, 0, NULL, 0), JWT_OK);
+        is(rows[i].text, jwt_check_member(TEXT(rows[i].json), TEXT(rows[i].name), TEXT(rows[i].text)), rows[i].status);
+    is("a byte 0 of a text", jwt_check_member(TEXT(object), TEXT("t"), "", 1), JWT_OK);
+    is("a byte 0 behind a text", jwt_check_member(TEXT(object), TEXT("roles"), "user", 5), JWT_NO_MEMBER);
+    is("no bytes by null pointers", jwt_check_member(TEXT("{\"\":[\"\"]}"), NULL, 0, NULL, 0), JWT_OK);
 }
 
 static void version(void) {
@@ -2239,7 +2290,7 @@ int main(void) {
     failed_tests();
     failed_tests_by_keys();
     moments();
-    tests_of_misread_texts();
+    misread_texts();
     refused_memory();
     sizes();
     growth();

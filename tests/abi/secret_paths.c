@@ -31,27 +31,27 @@ static void note(const char *what, const char *of, size_t secret_len, int is_wel
     if (!is_well) printf("FAILED: %s with %s and a secret of %zu bytes: %u\n", what, of, secret_len, found);
 }
 
-static uint32_t encode(const struct algorithm *by, const uint8_t *secret, size_t secret_len, uint8_t *token,
-                       size_t *len) {
-    return jwt_encode_hmac((const uint8_t *)by->header, strlen(by->header), (const uint8_t *)CLAIMS, strlen(CLAIMS),
-                           secret, secret_len, token, 1000, len);
+static uint32_t encode(const struct algorithm *by, const uint8_t *secret, size_t secret_len, char *token, size_t *len) {
+    return jwt_encode_hmac(by->header, strlen(by->header), CLAIMS, strlen(CLAIMS), secret, secret_len, token, 1000,
+                           len);
 }
 
 /* Returns how many jumps and addresses of a verification depend on the secret. */
-static unsigned verified(const struct algorithm *by, const uint8_t *secret, size_t secret_len, const uint8_t *token,
+static unsigned verified(const struct algorithm *by, const uint8_t *secret, size_t secret_len, const char *token,
                          size_t len, uint32_t *status) {
-    uint8_t claims[1000];
+    char claims[1000];
     size_t claims_len;
     unsigned before = VALGRIND_COUNT_ERRORS;
-    *status = jwt_decode_hmac(token, len, secret, secret_len, (const uint8_t *)by->options, strlen(by->options), 0,
-                              claims, sizeof claims, &claims_len);
+    *status = jwt_decode_hmac(token, len, secret, secret_len, by->options, strlen(by->options), 0, claims,
+                              sizeof claims, &claims_len);
     unsigned after = VALGRIND_COUNT_ERRORS;
     (void)VALGRIND_MAKE_MEM_DEFINED(status, sizeof *status);
     return after - before;
 }
 
 static void try_secret(const struct algorithm *by, size_t secret_len) {
-    uint8_t *secret = malloc(secret_len + 1), token[1000];
+    uint8_t *secret = malloc(secret_len + 1);
+    char token[1000];
     size_t len, issued_len;
     uint32_t status;
     memset(secret, 'x', secret_len);

@@ -26,12 +26,11 @@ static uint32_t status;
 /* Verifies the token of a call, if there is one. */
 static void *verify(void *given) {
     const struct call *call = given;
-    uint8_t claims[256];
+    char claims[256];
     size_t len;
     if (call->token)
-        status = jwt_decode_set((const uint8_t *)call->token, strlen(call->token), (const uint8_t *)ALL_KEYS,
-                                strlen(ALL_KEYS), (const uint8_t *)call->options, strlen(call->options), 0, claims,
-                                sizeof claims, &len);
+        status = jwt_decode_set(call->token, strlen(call->token), ALL_KEYS, strlen(ALL_KEYS), call->options,
+                                strlen(call->options), 0, claims, sizeof claims, &len);
     return NULL;
 }
 

@@ -7,6 +7,7 @@
 #include <stdlib.h>
 #include <string.h>
 
+#define TEXT(text) (text), strlen(text)
 #define BYTES(text) (const uint8_t *)(text), strlen(text)
 #define COUNT(list) (sizeof(list) / sizeof *(list))
 #define ROOM 400
@@ -79,11 +80,11 @@ static uint32_t make(enum source source, const char *keys, const char *options, 
                      struct jwt_verifier *verifier) {
     switch (source) {
     case OF_SET:
-        return jwt_verifier_set(BYTES(keys), BYTES(options), max_len, allows_blank, max_prepared, verifier);
+        return jwt_verifier_set(TEXT(keys), TEXT(options), max_len, allows_blank, max_prepared, verifier);
     case OF_KEY:
-        return jwt_verifier_key(BYTES(keys), BYTES(options), max_len, allows_blank, max_prepared, verifier);
+        return jwt_verifier_key(TEXT(keys), TEXT(options), max_len, allows_blank, max_prepared, verifier);
     default:
-        return jwt_verifier_secret(BYTES(keys), BYTES(options), max_len, allows_blank, max_prepared, verifier);
+        return jwt_verifier_secret(BYTES(keys), TEXT(options), max_len, allows_blank, max_prepared, verifier);
     }
 }
 
@@ -92,10 +93,10 @@ struct answer {
     size_t len;
     uint64_t last;
     uint32_t test;
-    uint8_t room[ROOM];
+    char room[ROOM];
 };
 
-static struct answer decode(struct jwt_verifier *verifier, const uint8_t *token, size_t token_len, uint64_t now,
+static struct answer decode(struct jwt_verifier *verifier, const char *token, size_t token_len, uint64_t now,
                             size_t room) {
     struct answer a = {0, 5, 5, 5, {0}};
     a.status = jwt_verifier_decode(verifier, token, token_len, now, a.room, room, &a.len, &a.last, &a.test);
@@ -103,7 +104,24 @@ static struct answer decode(struct jwt_verifier *verifier, const uint8_t *token,
 }
 
 static long status(struct jwt_verifier *verifier, const char *token) {
-    return decode(verifier, BYTES(token), 0, ROOM).status;
+    return decode(verifier, TEXT(token), 0, ROOM).status;
+}
+
+/* the times at which a verifier accepts a token, and the status */
+struct times {
+    uint32_t status;
+    uint64_t first, last;
+};
+
+static struct times times_of(struct jwt_verifier *verifier, const char *token, size_t token_len) {
+    struct times t = {0, 5, 4};
+    t.status = jwt_verifier_moments(verifier, token, token_len, &t.first, &t.last);
+    return t;
+}
+
+static bool has_no_times(struct jwt_verifier *verifier, const char *token, size_t token_len, uint32_t status) {
+    struct times t = times_of(verifier, token, token_len);
+    return t.status == status && t.first == 0 && t.last == 0;
 }
 
 /* ---- made of texts, or not */
@@ -206,6 +224,7 @@ static void made(void) {
 static void slips(void) {
     struct jwt_verifier v = JWT_VERIFIER_NONE, w = JWT_VERIFIER_NONE;
     is("no verifier", status(&v, BY_HS256), JWT_NO_VERIFIER);
+    is("its times", has_no_times(&v, TEXT(BY_HS256), JWT_NO_VERIFIER), 1);
     is("a share of none", jwt_verifier_share(&v, &w), JWT_NO_VERIFIER);
     jwt_verifier_free(&v);
     is("made", make(OF_SET, ALL_KEYS, HS256, 0, false, &v), JWT_OK);
@@ -218,6 +237,7 @@ static void slips(void) {
     is("a share of none in the place of one", (jwt_verifier_free(&v), jwt_verifier_share(&v, &w)),
        JWT_VERIFIER_IS_MADE);
     is("freed", status(&v, BY_HS256), JWT_NO_VERIFIER);
+    is("its times", has_no_times(&v, TEXT(BY_HS256), JWT_NO_VERIFIER), 1);
     is("the share stays", status(&w, BY_HS256), JWT_OK);
     struct jwt_verifier moved = w;
     is("moved", status(&moved, BY_HS256), JWT_OK);
@@ -238,11 +258,14 @@ static void lengths(void) {
         size_t limit = limits[i] ? limits[i] : JWT_TOKEN_LIMIT, len = strlen(BY_HS256);
         is("made", make(OF_KEY, HMAC_KEY, HS256, limits[i], false, &v), JWT_OK);
         is("a token by its length", status(&v, BY_HS256), len > limit ? JWT_TOKEN_TOO_LONG : JWT_OK);
-        uint8_t *token = calloc(limit + 1, 1);
+        char *token = calloc(limit + 1, 1);
         is("as long as allowed", decode(&v, token, limit, 0, ROOM).status, JWT_INVALID_TOKEN);
+        struct times t = times_of(&v, token, limit);
+        is("its times", t.status == JWT_OK && t.first == 1 && t.last == 0, 1);
         requests = 0;
         struct answer a = decode(&v, token, limit + 1, 0, ROOM);
         is("one byte longer", a.status == JWT_TOKEN_TOO_LONG && a.len == 0 && a.last == 0 && a.test == 0, 1);
+        is("its times", has_no_times(&v, token, limit + 1, JWT_TOKEN_TOO_LONG), 1);
         is("nothing is asked for", requests, 0);
         free(token);
         jwt_verifier_free(&v);
@@ -266,82 +289,101 @@ static const char *sets[] = {ALL_KEYS, SET_OF(RSA_KEY "," HMAC_KEY),
                              SET_OF(OCT("*") "," ED_KEY "," RSA_KEY "," HMAC_KEY), SET_OF(OCT("YQ") "," P256_KEY)};
 static const char *tokens[] = {BY_HS256, BY_RS256, BY_PS256, BY_ES256, BY_ES384, BY_EDDSA, "", "a.b.c", ".."};
 static const uint64_t times[] = {0, 1700000000, 2532524891u, LAST, LAST + 1, UINT64_MAX};
-/* the names of the tests, by their numbers */
-static const char *names[] = {"-",
-                              "HasThreeParts",
-                              "HeaderIsPart",
-                              "HeaderIsJson",
-                              "HeaderReads",
-                              "CritIsUnderstood",
-                              "KeyIsFound",
-                              "KeyAlgorithmAgrees",
-                              "KeyIsUsable",
-                              "AlgorithmsAreListed",
-                              "AlgorithmIsListed",
-                              "VerifierIsMade",
-                              "FamiliesAgree",
-                              "SignatureIsPart",
-                              "SignatureIsAccepted",
-                              "PayloadIsPart",
-                              "PayloadIsJson",
-                              "ClaimsRead",
-                              "ClaimsAreAnObject",
-                              "ClaimRulesHold"};
+/* the kinds of which one is the status if the test fails, by docs/RULES.md; the last test has those of the claim rules */
+static const struct {
+    uint32_t test, status, other;
+} kinds[] = {
+    {JWT_TEST_HAS_THREE_PARTS, JWT_INVALID_TOKEN, 0},
+    {JWT_TEST_HEADER_IS_PART, JWT_BASE64, 0},
+    {JWT_TEST_HEADER_IS_JSON, JWT_JSON, 0},
+    {JWT_TEST_HEADER_READS, JWT_JSON, 0},
+    {JWT_TEST_CRIT_IS_UNDERSTOOD, JWT_INVALID_CRIT, 0},
+    {JWT_TEST_KEY_IS_FOUND, JWT_NO_KEY, 0},
+    {JWT_TEST_KEY_ALGORITHM_AGREES, JWT_INVALID_ALGORITHM, 0},
+    {JWT_TEST_KEY_IS_USABLE, JWT_BASE64, JWT_UNSUPPORTED_ALGORITHM},
+    {JWT_TEST_ALGORITHMS_ARE_LISTED, JWT_MISSING_ALGORITHM, 0},
+    {JWT_TEST_ALGORITHM_IS_LISTED, JWT_INVALID_ALGORITHM, 0},
+    {JWT_TEST_VERIFIER_IS_MADE, JWT_INVALID_KEY_FORMAT, JWT_UNSUPPORTED_ALGORITHM},
+    {JWT_TEST_FAMILIES_AGREE, JWT_INVALID_ALGORITHM, 0},
+    {JWT_TEST_SIGNATURE_IS_PART, JWT_BASE64, 0},
+    {JWT_TEST_SIGNATURE_IS_ACCEPTED, JWT_INVALID_SIGNATURE, 0},
+    {JWT_TEST_PAYLOAD_IS_PART, JWT_BASE64, 0},
+    {JWT_TEST_PAYLOAD_IS_JSON, JWT_JSON, 0},
+    {JWT_TEST_CLAIMS_ARE_AN_OBJECT, JWT_JSON, 0},
+    {JWT_TEST_CLAIM_RULES_HOLD, JWT_EXPIRED_SIGNATURE, JWT_INVALID_SUBJECT},
+};
 static long compared;
 
-static bool alike(const struct answer *a, const struct answer *b) {
-    compared++;
-    return a->status == b->status && a->len == b->len && a->last == b->last && a->test == b->test &&
-           memcmp(a->room, b->room, ROOM) == 0;
-}
-
-static struct answer stateless(enum source source, const char *key, const char *options, const uint8_t *token,
-                               size_t len, uint64_t now, size_t room) {
+static struct answer stateless(enum source source, const char *key, const char *options, const char *token, size_t len,
+                               uint64_t now, size_t room) {
     struct answer a = {0, 5, 5, 5, {0}};
     if (source == OF_SET)
-        a.status = jwt_decode_set(token, len, BYTES(key), BYTES(options), now, a.room, room, &a.len);
+        a.status = jwt_decode_set(token, len, TEXT(key), TEXT(options), now, a.room, room, &a.len);
     else
-        a.status = jwt_decode_key(token, len, BYTES(key), BYTES(options), now, a.room, room, &a.len);
-    uint64_t first;
-    uint32_t told =
-        (source == OF_SET ? jwt_moments_set : jwt_moments_key)(token, len, BYTES(key), BYTES(options), &first, &a.last);
-    if (told != JWT_OK || (a.status != JWT_OK && a.status != JWT_NO_ROOM)) a.last = 0;
-    uint8_t name[32];
-    size_t name_len;
-    (source == OF_SET ? jwt_failed_test_set : jwt_failed_test_key)(token, len, BYTES(key), BYTES(options), now, name,
-                                                                   sizeof name, &name_len);
-    a.test = 0;
-    for (uint32_t i = 1; i < COUNT(names); i++)
-        if (name_len == strlen(names[i]) && memcmp(name, names[i], name_len) == 0) a.test = i;
+        a.status = jwt_decode_key(token, len, TEXT(key), TEXT(options), now, a.room, room, &a.len);
     return a;
+}
+
+/* whether the test is one of which the status comes */
+static bool agrees(uint32_t test, uint32_t status) {
+    if (status == JWT_OK || status == JWT_NO_ROOM) return test == 0;
+    for (size_t i = 0; i < COUNT(kinds); i++)
+        if (kinds[i].test == test) return status == kinds[i].status || status == kinds[i].other;
+    return false;
+}
+
+/* Whether a verifier leaves what the call without one leaves, the last time and a test of which the status comes, and the times at
+   which that call accepts: all those until LAST, or none. Sets *test. */
+static bool is_alike(struct jwt_verifier *v, const struct answer *plain, const char *token, size_t len, uint64_t now,
+                     size_t room, uint32_t *test) {
+    struct answer a = decode(v, token, len, now, room);
+    struct times t = times_of(v, token, len);
+    bool is_accepted = plain->status == JWT_OK || plain->status == JWT_NO_ROOM, is_ever = t.first == 0;
+    compared++;
+    *test = a.test;
+    return a.status == plain->status && a.len == plain->len && memcmp(a.room, plain->room, ROOM) == 0 &&
+           a.last == (is_accepted ? LAST : 0) && agrees(a.test, a.status) && t.status == JWT_OK &&
+           t.first == !is_ever && t.last == (is_ever ? LAST : 0) && is_accepted == (is_ever && now <= LAST);
+}
+
+/* whether a verifier, and one that keeps nothing prepared, leave it, and the same test */
+static bool are_alike(struct jwt_verifier v[2], const struct answer *plain, const char *token, size_t len, uint64_t now,
+                      size_t room) {
+    uint32_t test[2];
+    bool is_well = is_alike(&v[0], plain, token, len, now, room, &test[0]);
+    return is_alike(&v[1], plain, token, len, now, room, &test[1]) && is_well && test[0] == test[1];
 }
 
 /* the token as it is at each time, and damaged at every so many bytes */
 static void compare(struct jwt_verifier *v, enum source source, const char *key, const char *options, const char *text,
                     size_t step) {
-    uint8_t token[800];
-    size_t len = strlen(text), wrong = 0;
+    struct jwt_verifier both[2] = {*v, JWT_VERIFIER_NONE};
+    char token[800];
+    size_t len = strlen(text), wrong = 0, kept = max_prepared;
     memcpy(token, text, len);
+    max_prepared = JWT_PREPARE_NOTHING;
+    make(source, key, options, 0, false, &both[1]);
+    max_prepared = kept;
     for (size_t i = 0; i < 2 * COUNT(times); i++) {
         size_t room = i % 2 ? ROOM : 10;
         struct answer a = stateless(source, key, options, token, len, times[i / 2], room);
-        struct answer b = decode(v, token, len, times[i / 2], room);
-        wrong += !alike(&a, &b);
+        wrong += !are_alike(both, &a, token, len, times[i / 2], room);
     }
     for (size_t at = 0; at < len; at += step) {
         token[at] ^= 1;
         struct answer a = stateless(source, key, options, token, len, 1700000000, ROOM);
-        struct answer b = decode(v, token, len, 1700000000, ROOM);
-        wrong += !alike(&a, &b);
+        wrong += !are_alike(both, &a, token, len, 1700000000, ROOM);
         token[at] ^= 1;
     }
+    *v = both[0];
+    jwt_verifier_free(&both[1]);
     is(text, wrong, 0);
 }
 
 /* whether the call without a verifier accepts the token at some time */
 static bool accepts(enum source source, const char *key, const char *options, const char *token) {
     for (size_t i = 0; i < COUNT(times); i++)
-        if (stateless(source, key, options, BYTES(token), times[i], ROOM).status == JWT_OK) return true;
+        if (stateless(source, key, options, TEXT(token), times[i], ROOM).status == JWT_OK) return true;
     return false;
 }
 
@@ -383,8 +425,8 @@ static void large_set(size_t place, const char *other) {
     }
     len += sprintf(set + len, "%s]}", place < count ? P256_KEY : HMAC_KEY);
     struct jwt_verifier v = JWT_VERIFIER_NONE;
-    is("10,001 keys",
-       jwt_verifier_set((uint8_t *)set, len, BYTES("{\"algorithms\":[\"HS256\",\"HS512\"]}"), 0, false, 0, &v), JWT_OK);
+    is("10,001 keys", jwt_verifier_set(set, len, TEXT("{\"algorithms\":[\"HS256\",\"HS512\"]}"), 0, false, 0, &v),
+       JWT_OK);
     free(set);
     is("one of them", status(&v, BY_HS256), JWT_OK);
     is("another", status(&v, BY_RS256), JWT_NO_KEY);
@@ -416,7 +458,7 @@ static void *many(void *arg) {
     struct jwt_verifier *v = arg, more = JWT_VERIFIER_NONE;
     long wrong = 0;
     for (int i = 0; i < rounds; i++) {
-        struct answer a = decode(&v[0], BYTES(BY_HS256), LAST, ROOM);
+        struct answer a = decode(&v[0], TEXT(BY_HS256), LAST, ROOM);
         wrong += a.status != JWT_OK || a.last != LAST;
         wrong += i % 10 == 0 && status(&v[1], BY_RS256) != JWT_OK;
         wrong += status(&v[1], BY_HS256) != JWT_INVALID_ALGORITHM;
@@ -505,11 +547,25 @@ static long refused_in_turn(uint32_t (*call)(struct jwt_verifier *)) {
 static long decoding_refused_in_turn(struct jwt_verifier *v, const char *token) {
     for (long number = 1; number < 1000; number++) {
         requests = 0, refused_one = number;
-        struct answer a = decode(v, BYTES(token), 0, ROOM);
+        struct answer a = decode(v, TEXT(token), 0, ROOM);
         bool was_refused = requests >= number;
         refused_one = 0;
         if (a.status != (was_refused ? JWT_OUT_OF_MEMORY : JWT_OK) || (a.last != 0) == was_refused || a.test != 0 ||
             v->at == NULL)
+            return -1;
+        if (!was_refused) return number - 1;
+    }
+    return -1;
+}
+
+static long times_refused_in_turn(struct jwt_verifier *v, const char *token) {
+    for (long number = 1; number < 1000; number++) {
+        requests = 0, refused_one = number;
+        struct times t = times_of(v, TEXT(token));
+        bool was_refused = requests >= number;
+        refused_one = 0;
+        if (t.status != (was_refused ? JWT_OUT_OF_MEMORY : JWT_OK) || t.first != 0 ||
+            t.last != (was_refused ? 0 : LAST) || v->at == NULL)
             return -1;
         if (!was_refused) return number - 1;
     }
@@ -523,9 +579,11 @@ static void refused_memory(void) {
     makes_of_set(&shared_one);
     is("a share", refused_in_turn(shares), 1);
     is("RS256", decoding_refused_in_turn(&shared_one, BY_RS256) > 10, 1);
+    is("the times of RS256", times_refused_in_turn(&shared_one, BY_RS256) > 10, 1);
     jwt_verifier_free(&shared_one);
     make(OF_KEY, HMAC_KEY, HS256, 0, false, &shared_one);
     is("HS256", decoding_refused_in_turn(&shared_one, BY_HS256) > 10, 1);
+    is("the times of HS256", times_refused_in_turn(&shared_one, BY_HS256) > 10, 1);
     jwt_verifier_free(&shared_one);
 }
 
@@ -561,16 +619,16 @@ static void members(void) {
         {"{", "a", JWT_BAD_CLAIMS, 0, ""},
         {"", "a", JWT_BAD_CLAIMS, 0, ""},
     };
-    uint8_t room[ROOM];
+    char room[ROOM];
     size_t len;
     uint32_t type;
     for (size_t i = 0; i < COUNT(rows); i++) {
         len = 9, type = 9;
-        is(rows[i].name, jwt_member(BYTES(rows[i].json), BYTES(rows[i].name), &type, room, ROOM, &len), rows[i].status);
+        is(rows[i].name, jwt_member(TEXT(rows[i].json), TEXT(rows[i].name), &type, room, ROOM, &len), rows[i].status);
         is("its type", type, rows[i].type);
         is("its text", len == strlen(rows[i].text) && memcmp(room, rows[i].text, len) == 0, 1);
     }
-    is("a small buffer", jwt_member(BYTES(object), BYTES("sub"), &type, room, 2, &len), JWT_NO_ROOM);
+    is("a small buffer", jwt_member(TEXT(object), TEXT("sub"), &type, room, 2, &len), JWT_NO_ROOM);
     is("what it needs", len == 7 && type == JWT_STRING, 1);
 }
 
@@ -578,16 +636,16 @@ static void members(void) {
 static int verify(const char *way, const char *set, const char *options, const char *token, int count) {
     bool is_anew = strcmp(way, "anew") == 0;
     struct jwt_verifier verifier = JWT_VERIFIER_NONE;
-    uint8_t room[ROOM];
+    char room[ROOM];
     size_t len;
     uint64_t last;
     uint32_t test, status = JWT_OK;
     if (!is_anew)
-        status = jwt_verifier_set(BYTES(set), BYTES(options), 0, false,
+        status = jwt_verifier_set(TEXT(set), TEXT(options), 0, false,
                                   strcmp(way, "unprepared") == 0 ? JWT_PREPARE_NOTHING : 0, &verifier);
     for (; status == JWT_OK && count > 0; count--)
-        status = is_anew ? jwt_decode_set(BYTES(token), BYTES(set), BYTES(options), 1700000000, room, ROOM, &len)
-                         : jwt_verifier_decode(&verifier, BYTES(token), 1700000000, room, ROOM, &len, &last, &test);
+        status = is_anew ? jwt_decode_set(TEXT(token), TEXT(set), TEXT(options), 1700000000, room, ROOM, &len)
+                         : jwt_verifier_decode(&verifier, TEXT(token), 1700000000, room, ROOM, &len, &last, &test);
     jwt_verifier_free(&verifier);
     return status != JWT_OK;
 }

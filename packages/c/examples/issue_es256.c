@@ -5,7 +5,7 @@
 #include <stdio.h>
 #include <string.h>
 
-#define BYTES(text) (const uint8_t *)(text), strlen(text)
+#define TEXT(text) (text), strlen(text)
 #define HEADER "{\"alg\":\"ES256\",\"typ\":\"JWT\"}"
 #define CLAIMS "{\"exp\":2532524891,\"sub\":\"ada\"}"
 
@@ -18,33 +18,33 @@ static size_t sign(EVP_PKEY *key, const uint8_t *message, size_t message_len, ui
 }
 
 /* Writes the token of the claims, and returns the status. */
-static uint32_t issue(EVP_PKEY *key, const char *claims, uint8_t *token, size_t room, size_t *len) {
+static enum jwt_status issue(EVP_PKEY *key, const char *claims, char *token, size_t room, size_t *len) {
     uint8_t input[1024], der[128], pair[64];
     uint32_t algorithm;
     size_t input_len, pair_len;
-    uint32_t status = jwt_signing_input(BYTES(HEADER), BYTES(claims), &algorithm, input, sizeof input, &input_len);
+    enum jwt_status status = jwt_signing_input(TEXT(HEADER), TEXT(claims), &algorithm, input, sizeof input, &input_len);
     if (status != JWT_OK) return status;
     size_t der_len = sign(key, input, input_len, der, sizeof der);
     status = jwt_ecdsa_signature(der, der_len, algorithm, pair, sizeof pair, &pair_len);
     if (status != JWT_OK) return status;
-    return jwt_encode_signature(BYTES(HEADER), BYTES(claims), algorithm, input, input_len, pair, pair_len, token, room,
+    return jwt_encode_signature(TEXT(HEADER), TEXT(claims), algorithm, input, input_len, pair, pair_len, token, room,
                                 len);
 }
 
 /* Returns whether the claims that are read of the issued token, or the refusal's text, are these. */
 static bool says(EVP_PKEY *key, const char *claims, const char *wanted) {
-    uint8_t token[2048], jwk[1024], buffer[1024], *pem;
+    char token[2048], jwk[1024], buffer[1024], *pem;
     size_t token_len, jwk_len, len;
     BIO *text = BIO_new(BIO_s_mem());
     PEM_write_bio_PUBKEY(text, key);
     size_t pem_len = (size_t)BIO_get_mem_data(text, &pem);
-    uint32_t status = issue(key, claims, token, sizeof token, &token_len);
+    enum jwt_status status = issue(key, claims, token, sizeof token, &token_len);
     if (status == JWT_OK) status = jwt_key_from_pem(pem, pem_len, jwk, sizeof jwk, &jwk_len);
     if (status == JWT_OK)
-        status = jwt_decode_key(token, token_len, jwk, jwk_len, BYTES("{\"algorithms\":[\"ES256\"]}"), 0, buffer,
+        status = jwt_decode_key(token, token_len, jwk, jwk_len, TEXT("{\"algorithms\":[\"ES256\"]}"), 0, buffer,
                                 sizeof buffer, &len);
     if (status != JWT_OK) jwt_status_text(status, buffer, sizeof buffer, &len);
-    printf("%.*s\n", (int)len, (const char *)buffer);
+    printf("%.*s\n", (int)len, buffer);
     BIO_free(text);
     return len == strlen(wanted) && memcmp(buffer, wanted, len) == 0;
 }

@@ -18,35 +18,33 @@ static const char zeros_key[] = "{\"kty\":\"oct\",\"kid\":\"a\",\"k\":\"AAAA\"}"
 static const char zeros_set[] = "{\"keys\":[{\"kty\":\"oct\",\"kid\":\"a\",\"k\":\"AAAA\"}]}";
 
 /* The form of jwt_decode_key and of jwt_decode_set. */
-typedef uint32_t decoder(const uint8_t *, size_t, const uint8_t *, size_t, const uint8_t *, size_t, uint64_t, uint8_t *,
-                         size_t, size_t *);
+typedef enum jwt_status decoder(const char *, size_t, const char *, size_t, const char *, size_t, uint64_t, char *,
+                                size_t, size_t *);
 
 /* Writes options that list this algorithm and no other. A name that is not the program's own is written by jwt_quote: if it were
    put between quotation marks as it is, it could end the string, and add options of its own. */
-static uint32_t list(const char *algorithm, char *options, size_t size, int *options_len) {
-    uint8_t quoted[64];
+static enum jwt_status list(const char *algorithm, char *options, size_t size, int *options_len) {
+    char quoted[64];
     size_t len;
-    uint32_t status = jwt_quote((const uint8_t *)algorithm, strlen(algorithm), quoted, sizeof quoted, &len);
-    if (status == JWT_OK)
-        *options_len = snprintf(options, size, "{\"algorithms\":[%.*s]}", (int)len, (const char *)quoted);
+    enum jwt_status status = jwt_quote(algorithm, strlen(algorithm), quoted, sizeof quoted, &len);
+    if (status == JWT_OK) *options_len = snprintf(options, size, "{\"algorithms\":[%.*s]}", (int)len, quoted);
     return status;
 }
 
 /* Returns whether the claims, or the refusal's text, are these. The options list the algorithm that the key is for: the
    library compares neither the key's own alg nor its use with the token. */
 static bool says(decoder *decode, const char *token, const char *keys, const char *algorithm, const char *wanted) {
-    char options[128];
-    uint8_t buffer[512];
+    char options[128], buffer[512];
     size_t len;
     int options_len;
     /* not keys by which anyone can sign: once is enough, when the keys are read */
-    uint32_t status = (decode == jwt_decode_set ? jwt_check_set : jwt_check_key)((const uint8_t *)keys, strlen(keys));
+    enum jwt_status status = (decode == jwt_decode_set ? jwt_check_set : jwt_check_key)(keys, strlen(keys));
     if (status == JWT_OK) status = list(algorithm, options, sizeof options, &options_len);
     if (status == JWT_OK)
-        status = decode((const uint8_t *)token, strlen(token), (const uint8_t *)keys, strlen(keys),
-                        (const uint8_t *)options, (size_t)options_len, 1300819380, buffer, sizeof buffer, &len);
+        status = decode(token, strlen(token), keys, strlen(keys), options, (size_t)options_len, 1300819380, buffer,
+                        sizeof buffer, &len);
     if (status != JWT_OK) jwt_status_text(status, buffer, sizeof buffer, &len);
-    printf("%.*s\n", (int)len, (const char *)buffer);
+    printf("%.*s\n", (int)len, buffer);
     return len == strlen(wanted) && memcmp(buffer, wanted, len) == 0;
 }
 

@@ -6,7 +6,7 @@
 #include <stdio.h>
 #include <string.h>
 
-#define BYTES(text) (const uint8_t *)(text), strlen(text)
+#define TEXT(text) (text), strlen(text)
 
 /* Returns whether the signature is the message's, by a key for RS256 or EdDSA. */
 static bool checks(EVP_PKEY *key, const uint8_t *message, size_t message_len, const uint8_t *signature, size_t len) {
@@ -22,18 +22,20 @@ static bool checks(EVP_PKEY *key, const uint8_t *message, size_t message_len, co
    whichever one the header names. */
 static bool says(const char *token, EVP_PKEY *key, uint32_t algorithm, const char *options, uint64_t now,
                  const char *wanted) {
-    uint8_t signature[512], buffer[512];
+    uint8_t signature[512];
+    char buffer[512];
     uint32_t named;
     size_t message_len, signature_len, len;
     const uint8_t *message = (const uint8_t *)token;
-    uint32_t status = jwt_signed_part(BYTES(token), &named, &message_len, signature, sizeof signature, &signature_len);
+    enum jwt_status status =
+        jwt_signed_part(TEXT(token), &named, &message_len, signature, sizeof signature, &signature_len);
     if (status == JWT_OK) {
         bool yes = checks(key, message, message_len, signature, signature_len);
-        status = jwt_decode_verdict(BYTES(token), algorithm, message, message_len, signature, signature_len, yes,
-                                    BYTES(options), now, buffer, sizeof buffer, &len);
+        status = jwt_decode_verdict(TEXT(token), algorithm, message, message_len, signature, signature_len, yes,
+                                    TEXT(options), now, buffer, sizeof buffer, &len);
     }
     if (status != JWT_OK) jwt_status_text(status, buffer, sizeof buffer, &len);
-    printf("%.*s\n", (int)len, (const char *)buffer);
+    printf("%.*s\n", (int)len, buffer);
     return len == strlen(wanted) && memcmp(buffer, wanted, len) == 0;
 }
 

@@ -1,4 +1,5 @@
-/* Verifies a token with a secret, and shows refusals by the tests that failed and by their texts. The last line counts. */
+/* Verifies a token with a secret, by a verifier that reads the secret and the options once, and shows refusals by the tests that failed
+   and by their texts. The last line counts. */
 #include "jwtproved.h"
 #include <stdio.h>
 #include <string.h>
@@ -9,52 +10,48 @@ static const char token[] =
     ".5n9UAJL1AIlwf4kSXHbtQDkDOXMqJ3onY44FQziHZ0o";
 static const char options[] = "{\"algorithms\":[\"HS256\"]}";
 /* A real secret comes from a file, and is random. */
-static const char secret[] = "0123456789abcdef0123456789abcdef";
+static const uint8_t secret[] = "0123456789abcdef0123456789abcdef";
 
-/* Returns whether a secret serves for HS256: it is long enough (RFC 7518 section 3.2), and not everybody can sign with it. The
-   calls that verify take any: if a file of keys can't be read, say, a secret is easily empty. */
-static bool serves(const uint8_t *bytes, size_t len) {
-    return len >= 32 && jwt_check_secret(bytes, len) == JWT_OK;
+/* Prints the test of the token that failed. This is for the log of those who run the verifier: whoever sent the token is told that it
+   was refused, and no more. */
+static void print_test(uint32_t test) {
+    char name[32];
+    size_t len;
+    if (jwt_test_text(test, name, sizeof name, &len) == JWT_OK) printf("the test %.*s failed\n", (int)len, name);
 }
 
-/* Prints the first test that the token fails. This is for the log of those who run the verifier: whoever sent the token is told that
-   it was refused, and no more. */
-static void print_failed_test(const void *key, size_t key_len, uint64_t now) {
-    uint8_t name[32];
+/* Returns whether the claims, or the refusal's text, are these. The length of the secret is tested here (RFC 7518 section 3.2); no
+   verifier is made of one with which anyone can sign. */
+static bool says(const uint8_t *key, size_t key_len, uint64_t now, const char *wanted) {
+    struct jwt_verifier verifier = JWT_VERIFIER_NONE;
+    char text[512];
     size_t len;
-    uint32_t status = jwt_failed_test_hmac((const uint8_t *)token, strlen(token), key, key_len,
-                                           (const uint8_t *)options, strlen(options), now, name, sizeof name, &len);
-    if (status == JWT_OK) printf("the test %.*s failed\n", (int)len, (const char *)name);
-}
-
-/* Returns whether the claims, or the refusal's text, are these. */
-static bool says(const void *key, size_t key_len, uint64_t now, const char *wanted) {
-    uint8_t buffer[512];
-    size_t len;
-    if (!serves(key, key_len)) {
-        printf("the secret is too short for HS256, or anyone can sign with it\n");
-        return strcmp(wanted, "bad secret") == 0;
+    uint64_t last;
+    uint32_t test = 0;
+    if (key_len < 32) {
+        printf("the secret is too short for HS256\n");
+        return strcmp(wanted, "too short") == 0;
     }
-    uint32_t status = jwt_decode_hmac((const uint8_t *)token, strlen(token), key, key_len, (const uint8_t *)options,
-                                      strlen(options), now, buffer, sizeof buffer, &len);
-    if (status != JWT_OK) {
-        print_failed_test(key, key_len, now);
-        jwt_status_text(status, buffer, sizeof buffer, &len);
-    }
-    printf("%.*s\n", (int)len, (const char *)buffer);
-    return len == strlen(wanted) && memcmp(buffer, wanted, len) == 0;
+    enum jwt_status status = jwt_verifier_secret(key, key_len, options, strlen(options), 0, false, 0, &verifier);
+    if (status == JWT_OK)
+        status = jwt_verifier_decode(&verifier, token, strlen(token), now, text, sizeof text, &len, &last, &test);
+    jwt_verifier_free(&verifier);
+    print_test(test);
+    if (status != JWT_OK) jwt_status_text(status, text, sizeof text, &len);
+    printf("%.*s\n", (int)len, text);
+    return len == strlen(wanted) && memcmp(text, wanted, len) == 0;
 }
 
 int main(void) {
-    static const char other[] = "another secret of 32 or more bytes", zeros[300] = {0};
-    int right =
-        says(secret, strlen(secret), 2532524951, "{\"company\":\"ACME\",\"exp\":2532524891,\"sub\":\"b@b.com\"}");
-    right += says(secret, strlen(secret), 2532524952, "ExpiredSignature");
-    right += says(other, strlen(other), 2532524951, "InvalidSignature");
-    right += says("", 0, 2532524951, "bad secret");
-    right += says("secret", 6, 2532524951, "bad secret");
-    right += says(zeros, 32, 2532524951, "bad secret");
-    right += says(zeros, sizeof zeros, 2532524951, "bad secret");
+    static const uint8_t other[] = "another secret of 32 or more bytes", zeros[300] = {0};
+    const size_t secret_len = sizeof secret - 1;
+    int right = says(secret, secret_len, 2532524951, "{\"company\":\"ACME\",\"exp\":2532524891,\"sub\":\"b@b.com\"}");
+    right += says(secret, secret_len, 2532524952, "ExpiredSignature");
+    right += says(other, sizeof other - 1, 2532524951, "InvalidSignature");
+    right += says(secret, 0, 2532524951, "too short");
+    right += says(secret, 6, 2532524951, "too short");
+    right += says(zeros, 32, 2532524951, "Anyone can sign");
+    right += says(zeros, sizeof zeros, 2532524951, "Anyone can sign");
     printf("%d tokens with a secret from C, %d failed\n", right, 7 - right);
     return right != 7;
 }

@@ -26,7 +26,8 @@ __asm__(".symver dlerror, dlerror@GLIBC_2.2.5");
 
 /* The library, and the exception for its refusals. */
 struct state {
-    __typeof__(&jwt_verifier_secret) make_of_secret, make_of_key, make_of_set;
+    __typeof__(&jwt_verifier_secret) make_of_secret;
+    __typeof__(&jwt_verifier_key) make_of_key, make_of_set;
     __typeof__(&jwt_verifier_share) share;
     __typeof__(&jwt_verifier_decode) decode;
     __typeof__(&jwt_verifier_free) free;
@@ -57,18 +58,26 @@ static void refuse(const struct state *state, uint32_t status, uint32_t test) {
     }
 }
 
-static __typeof__(&jwt_verifier_secret) make_of(const struct state *state, const char *kind) {
-    if (strcmp(kind, "secret") == 0) {
-        return state->make_of_secret;
+/* The texts of a verifier that is to be made. */
+struct making {
+    const char *kind, *key, *options;
+    Py_ssize_t key_len, options_len, longest, prepared;
+};
+
+static enum jwt_status make(const struct state *state, const struct making *it, struct jwt_verifier *made) {
+    if (strcmp(it->kind, "secret") == 0) {
+        return state->make_of_secret((const uint8_t *)it->key, (size_t)it->key_len, it->options,
+                                     (size_t)it->options_len, (size_t)it->longest, false, (size_t)it->prepared, made);
     }
-    return strcmp(kind, "key") == 0 ? state->make_of_key : state->make_of_set;
+    return (strcmp(it->kind, "key") == 0 ? state->make_of_key : state->make_of_set)(
+        it->key, (size_t)it->key_len, it->options, (size_t)it->options_len, (size_t)it->longest, false,
+        (size_t)it->prepared, made);
 }
 
 /* Handles(kind, key, options, longest=0, prepared=0): raises Refusal if the library makes no verifier. */
 static PyObject *handles_new(PyTypeObject *type, PyObject *arguments, PyObject *names) {
     struct state *state = PyType_GetModuleState(type);
-    const char *kind, *key, *options;
-    Py_ssize_t key_len, options_len, longest = 0, prepared = 0;
+    struct making it = {0};
     Handles *self;
     uint32_t status;
 
@@ -80,8 +89,8 @@ static PyObject *handles_new(PyTypeObject *type, PyObject *arguments, PyObject *
         PyErr_SetString(PyExc_TypeError, "Handles takes no keyword arguments");
         return NULL;
     }
-    if (!PyArg_ParseTuple(arguments, "sy#y#|nn", &kind, &key, &key_len, &options, &options_len, &longest,
-                          &prepared)) {
+    if (!PyArg_ParseTuple(arguments, "sy#y#|nn", &it.kind, &it.key, &it.key_len, &it.options, &it.options_len,
+                          &it.longest, &it.prepared)) {
         return NULL;
     }
     self = (Handles *)PyType_GenericAlloc(type, 0);
@@ -89,9 +98,8 @@ static PyObject *handles_new(PyTypeObject *type, PyObject *arguments, PyObject *
         return NULL;
     }
     self->state = state;
-    self->is_of_secret = strcmp(kind, "secret") == 0;
-    status = make_of(state, kind)((const uint8_t *)key, (size_t)key_len, (const uint8_t *)options, (size_t)options_len,
-                                  (size_t)longest, false, (size_t)prepared, &self->first);
+    self->is_of_secret = strcmp(it.kind, "secret") == 0;
+    status = make(state, &it, &self->first);
     if (status != JWT_OK) {
         refuse(state, status, 0);
         Py_DECREF(self);
@@ -131,10 +139,10 @@ static void give_back(Handles *self, struct jwt_verifier *taken) {
 
 /* A token, and what the library says of it. */
 struct verification {
-    const uint8_t *token;
+    const char *token;
     size_t token_len;
     uint64_t now;
-    uint8_t *room;
+    char *room;
     size_t room_len, len;
     uint32_t status, test;
 };
@@ -164,7 +172,7 @@ static PyObject *claims_of_long(Handles *self, struct jwt_verifier *handle, stru
     }
     verify(self, handle, it);
     if (it->status == JWT_OK) {
-        claims = PyUnicode_DecodeUTF8((const char *)it->room, (Py_ssize_t)it->len, NULL);
+        claims = PyUnicode_DecodeUTF8(it->room, (Py_ssize_t)it->len, NULL);
     } else {
         refuse(self->state, it->status, it->test);
     }
@@ -181,7 +189,7 @@ static PyObject *claims_of(Handles *self, struct jwt_verifier *handle, struct ve
         refuse(self->state, it->status, it->test);
         return NULL;
     }
-    return PyUnicode_DecodeUTF8((const char *)it->room, (Py_ssize_t)it->len, NULL);
+    return PyUnicode_DecodeUTF8(it->room, (Py_ssize_t)it->len, NULL);
 }
 
 /* decode(token, now): returns the claims as JSON, or raises Refusal or MemoryError. */
@@ -189,8 +197,7 @@ static PyObject *handles_decode(PyObject *object, PyObject *const *arguments, Py
     Handles *self = (Handles *)object;
     struct jwt_verifier handle = JWT_VERIFIER_NONE;
     struct verification it = {0};
-    uint8_t room[ROOM];
-    char *token;
+    char room[ROOM], *token;
     Py_ssize_t token_len;
     PyObject *claims;
     uint32_t status;
@@ -202,8 +209,7 @@ static PyObject *handles_decode(PyObject *object, PyObject *const *arguments, Py
     if (PyBytes_AsStringAndSize(arguments[0], &token, &token_len) != 0) {
         return NULL;
     }
-    it = (struct verification){
-        .token = (const uint8_t *)token, .token_len = (size_t)token_len, .room = room, .room_len = ROOM};
+    it = (struct verification){.token = token, .token_len = (size_t)token_len, .room = room, .room_len = ROOM};
     it.now = PyLong_AsUnsignedLongLong(arguments[1]);
     if (PyErr_Occurred()) {
         return NULL;

@@ -39,7 +39,7 @@ static void leave(struct jwt_verifier *verifier) {
     atomic_store(&((struct held *)verifier->at)->is_busy, 0);
 }
 
-static uint32_t make(struct jwt_verifier *verifier) {
+static enum jwt_status make(struct jwt_verifier *verifier) {
     verifier->at = calloc(1, sizeof(struct held));
     if (verifier->at == NULL) {
         return JWT_OUT_OF_MEMORY;
@@ -48,26 +48,30 @@ static uint32_t make(struct jwt_verifier *verifier) {
     return JWT_OK;
 }
 
-uint32_t jwt_verifier_secret(const uint8_t *secret, size_t secret_len, const uint8_t *options, size_t options_len,
-                             size_t max_token_len, bool allows_blank, size_t max_prepared,
-                             struct jwt_verifier *verifier) {
+enum jwt_status jwt_verifier_secret(const uint8_t *secret, size_t secret_len, const char *options, size_t options_len,
+                                    size_t max_token_len, bool allows_blank, size_t max_prepared,
+                                    struct jwt_verifier *verifier) {
     (void)secret, (void)options, (void)options_len, (void)max_token_len, (void)allows_blank, (void)max_prepared;
     return secret_len == 3 ? JWT_UNFIT_KEY : make(verifier);
 }
 
-uint32_t jwt_verifier_key(const uint8_t *key, size_t key_len, const uint8_t *options, size_t options_len,
-                          size_t max_token_len, bool allows_blank, size_t max_prepared,
-                          struct jwt_verifier *verifier) {
-    return jwt_verifier_secret(key, key_len, options, options_len, max_token_len, allows_blank, max_prepared, verifier);
+enum jwt_status jwt_verifier_key(const char *key, size_t key_len, const char *options, size_t options_len,
+                                 size_t max_token_len, bool allows_blank, size_t max_prepared,
+                                 struct jwt_verifier *verifier) {
+    (void)key;
+    return jwt_verifier_secret(NULL, key_len, options, options_len, max_token_len, allows_blank, max_prepared,
+                               verifier);
 }
 
-uint32_t jwt_verifier_set(const uint8_t *set, size_t set_len, const uint8_t *options, size_t options_len,
-                          size_t max_token_len, bool allows_blank, size_t max_prepared,
-                          struct jwt_verifier *verifier) {
-    return jwt_verifier_secret(set, set_len, options, options_len, max_token_len, allows_blank, max_prepared, verifier);
+enum jwt_status jwt_verifier_set(const char *set, size_t set_len, const char *options, size_t options_len,
+                                 size_t max_token_len, bool allows_blank, size_t max_prepared,
+                                 struct jwt_verifier *verifier) {
+    (void)set;
+    return jwt_verifier_secret(NULL, set_len, options, options_len, max_token_len, allows_blank, max_prepared,
+                               verifier);
 }
 
-uint32_t jwt_verifier_share(struct jwt_verifier *verifier, struct jwt_verifier *other) {
+enum jwt_status jwt_verifier_share(struct jwt_verifier *verifier, struct jwt_verifier *other) {
     enter(verifier);
     usleep(50);
     leave(verifier);
@@ -83,7 +87,7 @@ void jwt_verifier_free(struct jwt_verifier *verifier) {
     }
 }
 
-static uint32_t say(const char *claims, size_t size, uint8_t *buffer, size_t buffer_len, size_t *len) {
+static enum jwt_status say(const char *claims, size_t size, char *buffer, size_t buffer_len, size_t *len) {
     *len = size;
     if (buffer_len < size) {
         return JWT_NO_ROOM;
@@ -93,9 +97,9 @@ static uint32_t say(const char *claims, size_t size, uint8_t *buffer, size_t buf
     return JWT_OK;
 }
 
-uint32_t jwt_verifier_decode(struct jwt_verifier *verifier, const uint8_t *token, size_t token_len, uint64_t now,
-                             uint8_t *buffer, size_t buffer_len, size_t *len, uint64_t *last, uint32_t *test) {
-    uint32_t status = token_len == 5 ? JWT_OUT_OF_MEMORY : JWT_INVALID_SIGNATURE;
+enum jwt_status jwt_verifier_decode(struct jwt_verifier *verifier, const char *token, size_t token_len, uint64_t now,
+                                    char *buffer, size_t buffer_len, size_t *len, uint64_t *last, uint32_t *test) {
+    enum jwt_status status = token_len == 5 ? JWT_OUT_OF_MEMORY : JWT_INVALID_SIGNATURE;
 
     (void)token;
     enter(verifier);

@@ -12,7 +12,7 @@
 #define NOW 1700000000
 
 struct text {
-    uint8_t bytes[65536];
+    char bytes[65536];
     size_t len;
 };
 
@@ -39,7 +39,7 @@ static double seconds(void) {
     return now.tv_sec + now.tv_nsec / 1e9;
 }
 
-static uint32_t decode(struct jwt_verifier *verifier, uint8_t *room, size_t size) {
+static enum jwt_status decode(struct jwt_verifier *verifier, char *room, size_t size) {
     size_t len;
     uint64_t last;
     uint32_t test;
@@ -52,7 +52,7 @@ static uint32_t decode(struct jwt_verifier *verifier, uint8_t *room, size_t size
 }
 
 int main(int count, char **words) {
-    static uint8_t room[65536];
+    static char room[65536];
     struct jwt_verifier verifier = JWT_VERIFIER_NONE;
     int is_verifier = count == 4 && strcmp(words[1], "verifier") == 0;
     long i, times = count == 4 ? atol(words[3]) : 0;

@@ -177,8 +177,8 @@ mod tests {
     fn of_c(parameter: &str) -> String {
         let name = parameter.rsplit(|it| it == ' ' || it == '*').next().unwrap_or_default();
         let kind = match parameter[..parameter.len() - name.len()].trim() {
-            "const uint8_t *" => "*const u8",
-            "uint8_t *" => "*mut u8",
+            "const char *" | "const uint8_t *" => "*const u8",
+            "char *" | "uint8_t *" => "*mut u8",
             "size_t *" => "*mut usize",
             "uint32_t *" => "*mut u32",
             "uint64_t *" => "*mut u64",
@@ -195,7 +195,7 @@ mod tests {
     #[test]
     fn the_calls_are_those_of_the_header_file() {
         let header = crate::tests::file_of_repository("packages/c/include/jwtproved.h");
-        let mut its = calls(&header, "\nuint32_t ", of_c);
+        let mut its = calls(&header, "\nenum jwt_status ", of_c);
         its.values_mut().filter_map(|it| it.last_mut()).for_each(|it| *it = "-> u32".to_string());
         its.extend(calls(&header, "\nvoid ", of_c));
         let ours = calls(include_str!("declared.rs"), "\n    pub fn ", of_rust);
