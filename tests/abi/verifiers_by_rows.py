@@ -1,6 +1,7 @@
 """Runs the rows of crates/jwt_vectors/data that verify a token with a JSON Web Key or a set of keys, through a verifier of the library for
-C and through the call without one: both leave the same status and bytes, and for the provider of all algorithms these are the row's. If
-no verifier is made, the call without one refuses the token.
+C and through the call without one: both leave the same status and bytes, and for the provider of all algorithms these are the row's. The
+time of a row is among those at which the verifier accepts the token, just if it does. If no verifier is made, the call without one refuses
+the token.
 The last line counts."""
 import argparse
 import ctypes
@@ -28,6 +29,7 @@ def declare(library):
         getattr(library, f"jwt_decode_{kind}").argtypes = [*BYTES, *BYTES, *BYTES, ctypes.c_uint64, *BUFFER]
         getattr(library, f"jwt_verifier_{kind}").argtypes = [*BYTES, *BYTES, *LIMITS, handle]
     library.jwt_verifier_decode.argtypes = [handle, *BYTES, ctypes.c_uint64, *BUFFER, ctypes.POINTER(ctypes.c_uint64), ctypes.POINTER(ctypes.c_uint32)]
+    library.jwt_verifier_moments.argtypes = [handle, *BYTES, ctypes.POINTER(ctypes.c_uint64), ctypes.POINTER(ctypes.c_uint64)]
     library.jwt_verifier_free.argtypes = [handle]
     library.jwt_status_text.argtypes = [ctypes.c_uint32, *BUFFER]
     return library
@@ -53,7 +55,8 @@ def shown(library, status, text):
 
 
 def results(library, row, kind, key):
-    """Returns the results without a verifier and through one, or None if no verifier is made, since it could accept no token."""
+    """Returns the results without a verifier and through one, or None if no verifier is made, since it could accept no token. The second is
+    no result if the verifier accepts the token at other times."""
     options = json.dumps(row["validation"]).encode()
     token, now = row["token"].encode(), row["now"]
     stateless = getattr(library, f"jwt_decode_{kind}")
@@ -62,11 +65,15 @@ def results(library, row, kind, key):
     status = getattr(library, f"jwt_verifier_{kind}")(*given(key), *given(options), 1 << 30, True, 0, ctypes.byref(handle))
     if status in (UNFIT_KEY, MIXED_FAMILIES):
         return plain, None
-    last, test = ctypes.c_uint64(), ctypes.c_uint32()
+    first, last, test = ctypes.c_uint64(), ctypes.c_uint64(), ctypes.c_uint32()
     by_handle = left(lambda *buffer: library.jwt_verifier_decode(ctypes.byref(handle), *given(token), now, *buffer, ctypes.byref(last), ctypes.byref(test)))
+    told = library.jwt_verifier_moments(ctypes.byref(handle), *given(token), ctypes.byref(first), ctypes.byref(last))
     library.jwt_verifier_free(ctypes.byref(handle))
-    # a text that is refused is refused when the verifier is made
-    return plain, by_handle if status == 0 else (status, b"")
+    if status != OK:
+        # a text that is refused is refused when the verifier is made
+        return plain, (status, b"")
+    is_within = told == OK and (first.value <= now <= last.value) == (by_handle[0] == OK)
+    return plain, by_handle if is_within else f"accepted from {first.value} to {last.value}, status {told}"
 
 
 def key_of(row):
