@@ -289,7 +289,8 @@ static const char *sets[] = {ALL_KEYS, SET_OF(RSA_KEY "," HMAC_KEY),
                              SET_OF(OCT("*") "," ED_KEY "," RSA_KEY "," HMAC_KEY), SET_OF(OCT("YQ") "," P256_KEY)};
 static const char *tokens[] = {BY_HS256, BY_RS256, BY_PS256, BY_ES256, BY_ES384, BY_EDDSA, "", "a.b.c", ".."};
 static const uint64_t times[] = {0, 1700000000, 2532524891u, LAST, LAST + 1, UINT64_MAX};
-/* the kinds of which one is the status if the test fails, by docs/RULES.md; the last test has those of the claim rules */
+/* the kinds of which one is the status if the test fails, by docs/RULES.md; the last test has those of the claim rules, and a test that no
+   verifier fails is not here */
 static const struct {
     uint32_t test, status, other;
 } kinds[] = {
@@ -301,10 +302,8 @@ static const struct {
     {JWT_TEST_KEY_IS_FOUND, JWT_NO_KEY, 0},
     {JWT_TEST_KEY_ALGORITHM_AGREES, JWT_INVALID_ALGORITHM, 0},
     {JWT_TEST_KEY_IS_USABLE, JWT_BASE64, JWT_UNSUPPORTED_ALGORITHM},
-    {JWT_TEST_ALGORITHMS_ARE_LISTED, JWT_MISSING_ALGORITHM, 0},
     {JWT_TEST_ALGORITHM_IS_LISTED, JWT_INVALID_ALGORITHM, 0},
     {JWT_TEST_VERIFIER_IS_MADE, JWT_INVALID_KEY_FORMAT, JWT_UNSUPPORTED_ALGORITHM},
-    {JWT_TEST_FAMILIES_AGREE, JWT_INVALID_ALGORITHM, 0},
     {JWT_TEST_SIGNATURE_IS_PART, JWT_BASE64, 0},
     {JWT_TEST_SIGNATURE_IS_ACCEPTED, JWT_INVALID_SIGNATURE, 0},
     {JWT_TEST_PAYLOAD_IS_PART, JWT_BASE64, 0},
