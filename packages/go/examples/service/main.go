@@ -15,12 +15,10 @@ import (
 	"curbsorrel.example/jwt"
 )
 
-// pair has the last key, whose tokens may not have expired yet, and the one that signs.
-type pair [2]*jwt.Signer
+type pair [2]*jwt.Signer // the last key, whose tokens may not have expired yet, and the one that signs
 
 func (p pair) rotated() *pair {
-	key := must(rsa.GenerateKey(rand.Reader, 2048))
-	return &pair{p[1], must(jwt.NewSigner(key, "RS256", jwt.WithKeyID(time.Now().Format(time.RFC3339Nano))))}
+	return &pair{p[1], must(jwt.NewSigner(must(rsa.GenerateKey(rand.Reader, 2048)), "RS256", jwt.WithKeyID(time.Now().Format(time.RFC3339Nano))))}
 }
 
 func must[T any](made T, err error) T {
