@@ -108,11 +108,13 @@ impl DecodingKey {
         Ok(DecodingKey::from_secret(&base64::decode(secret.as_bytes(), STANDARD)?))
     }
 
-    /// Returns a public RSA key as a key, from PEM of a SubjectPublicKeyInfo or an RSAPublicKey.
+    /// Returns a public RSA key as a key, from PEM of a SubjectPublicKeyInfo or an RSAPublicKey, or of a certificate.
+    ///
+    /// **Nothing of a certificate is verified**, neither a signature nor a name or a date: trust its key for the way by which it came.
     ///
     /// # Errors
     ///
-    /// Another text, such as a certificate, is [`ErrorKind::InvalidKeyFormat`] or [`ErrorKind::UnusableKey`], which says why.
+    /// Another text is [`ErrorKind::InvalidKeyFormat`] or [`ErrorKind::UnusableKey`], which says why.
     pub fn from_rsa_pem(key: &[u8]) -> Result<Self> {
         from_pem(AlgorithmFamily::Rsa, key)
     }
@@ -167,7 +169,7 @@ impl DecodingKey {
     /// Returns a public RSA key as a key, from DER of an RSAPublicKey or a SubjectPublicKeyInfo.
     #[must_use]
     pub fn from_rsa_der(der: &[u8]) -> Self {
-        let read = jwk_of_der("RSA PUBLIC KEY", der).or_else(|_| jwk_of_der("PUBLIC KEY", der));
+        let read = jwk_of_der(PKCS1, der).or_else(|_| jwk_of_der(SPKI, der));
         DecodingKey::of_bytes(AlgorithmFamily::Rsa, der, of_family(AlgorithmFamily::Rsa, read))
     }
 
@@ -182,7 +184,7 @@ impl DecodingKey {
         let read = match (der.first(), der.len()) {
             (Some(4), 65) => of_point("P-256"),
             (Some(4), 97) => of_point("P-384"),
-            (Some(0x30), _) => of_family(AlgorithmFamily::Ec, jwk_of_der("PUBLIC KEY", der)),
+            (Some(0x30), _) => of_family(AlgorithmFamily::Ec, jwk_of_der(SPKI, der)),
             _ => Err(ErrorKind::InvalidEcdsaKey),
         };
         DecodingKey::of_bytes(AlgorithmFamily::Ec, der, read)
@@ -196,7 +198,7 @@ impl DecodingKey {
                 let x = base64::encode(der, URL_SAFE);
                 Ok(Readable::Jwk(format!(r#"{{"kty":"OKP","crv":"Ed25519","x":"{x}"}}"#)))
             }
-            _ => of_family(AlgorithmFamily::Ed, jwk_of_der("PUBLIC KEY", der)),
+            _ => of_family(AlgorithmFamily::Ed, jwk_of_der(SPKI, der)),
         };
         DecodingKey::of_bytes(AlgorithmFamily::Ed, der, read)
     }
@@ -262,34 +264,30 @@ fn key_kind(status: u32) -> ErrorKind {
     Error::from_key_status(status).into_kind()
 }
 
-/// Returns the JSON Web Key of a public key in DER.
+const SPKI: &str = "PUBLIC KEY";
+const PKCS1: &str = "RSA PUBLIC KEY";
+const CERTIFICATE: &str = "CERTIFICATE";
+
+/// Returns the JSON Web Key of a public key or a certificate in DER.
 fn jwk_of_der(label: &str, der: &[u8]) -> std::result::Result<String, ErrorKind> {
-    calls::key_from_pem(pem::write(label, der).as_bytes()).map_err(key_kind)
+    calls::key_from_pem(&pem::write(label, der), label == CERTIFICATE).map_err(key_kind)
 }
 
-/// Returns a JSON Web Key, if it is of this family.
+/// Returns a JSON Web Key, unless it serves other families alone. One that serves none, such as a point that is not on its curve, is refused
+/// when it is used.
 fn of_family(
     family: AlgorithmFamily,
     jwk: std::result::Result<String, ErrorKind>,
 ) -> std::result::Result<Readable, ErrorKind> {
     let jwk = jwk?;
-    let (_, kty) = calls::member(&jwk, "kty").map_err(key_kind)?;
-    let wanted = match family {
-        AlgorithmFamily::Hmac => "oct",
-        AlgorithmFamily::Rsa => "RSA",
-        AlgorithmFamily::Ec => "EC",
-        AlgorithmFamily::Ed => "OKP",
-    };
-    if kty == wanted { Ok(Readable::Jwk(jwk)) } else { Err(ErrorKind::InvalidKeyFormat) }
+    let served = calls::key_algorithms(&jwk).map_err(key_kind)?;
+    let is_served = family.algorithms().iter().any(|it| served & (1 << it.number()) != 0);
+    if is_served || served == 0 { Ok(Readable::Jwk(jwk)) } else { Err(ErrorKind::InvalidKeyFormat) }
 }
 
 /// Returns the key of a text in PEM, if it is of this family.
 fn from_pem(family: AlgorithmFamily, text: &[u8]) -> Result<DecodingKey> {
     let block = pem::first(text).ok_or(ErrorKind::InvalidKeyFormat)?;
-    if block.label == "CERTIFICATE" {
-        let why = "it is a certificate, whose key nobody has verified; `openssl x509 -pubkey` has the key";
-        return Err(ErrorKind::UnusableKey(why.to_string()).into());
-    }
     let read = of_family(family, jwk_of_der(&block.label, &block.der))?;
     Ok(DecodingKey::of_bytes(family, &block.der, Ok(read)))
 }
@@ -324,10 +322,13 @@ pub fn decode<T: DeserializeOwned>(
     key: &DecodingKey,
     validation: &Validation,
 ) -> Result<TokenData<T>> {
+    let token = token.as_ref();
+    if validation.insecure_ignores_signature {
+        return unverified(token, validation, validation::now()?);
+    }
     if validation.algorithms.iter().any(|it| it.family() != key.family) {
         return Err(ErrorKind::InvalidAlgorithm.into());
     }
-    let token = token.as_ref();
     let claims = Verifier::for_one_token(key, validation)?.decode(token)?.claims;
     Ok(TokenData { header: decode_header(token)?, claims })
 }
@@ -353,13 +354,19 @@ pub fn decode_header(token: impl AsRef<[u8]>) -> Result<Header> {
 /// [`ErrorKind::InvalidCrit`].
 pub fn insecure_decode<T: DeserializeOwned>(token: impl AsRef<[u8]>) -> Result<TokenData<T>> {
     let token = token.as_ref();
+    let understood_crit = decode_header(token)?.crit.unwrap_or_default();
+    unverified(token, &Validation { understood_crit, ..Validation::nothing() }, 0)
+}
+
+/// Returns what a token has, if it passes all tests but those of its algorithm and its signature.
+fn unverified<T: DeserializeOwned>(token: &[u8], validation: &Validation, now: u64) -> Result<TokenData<T>> {
     let header = decode_header(token)?;
-    let options = validation::of_signature_alone(header.alg, header.crit.as_deref().unwrap_or_default());
-    let (_, message_len, signature) = calls::signed_part(token).map_err(Error::from_status)?;
-    let signed =
-        calls::Signed { algorithm: header.alg.number(), message: &token[..message_len], signature: &signature };
-    let claims = calls::decode_verdict(token, signed, true, &options, 0).map_err(Error::from_status)?;
-    Ok(TokenData { header, claims: serde_json::from_str(&claims)? })
+    let asked = Validation { algorithms: vec![header.alg], insecure_ignores_signature: false, ..validation.clone() };
+    // the library reads another signature, for which the verdict is yes
+    let message = &token[..token.iter().rposition(|it| *it == b'.').unwrap_or(0)];
+    let signed = calls::Signed { algorithm: header.alg.number(), message, signature: &[0] };
+    let claims = calls::decode_verdict(&[message, b".AA"].concat(), signed, true, &asked.options()?, now);
+    Ok(TokenData { header, claims: serde_json::from_str(&claims.map_err(Error::from_status)?)? })
 }
 
 /// Returns the claims of a token of which nothing is verified, like [`insecure_decode`].

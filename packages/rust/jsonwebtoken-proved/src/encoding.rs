@@ -144,7 +144,7 @@ pub fn encode<T: Serialize>(header: &Header, claims: &T, key: &EncodingKey) -> R
     }
     if key.family != AlgorithmFamily::Hmac {
         let input = SigningInput::new(header, claims)?;
-        return input.encode_verified(&signing::sign(key, header.alg, input.message())?, &signing::public_key(key)?);
+        return input.encode_verified(&signing::sign(key, header.alg, input.message())?, &signing::verifying_key(key)?);
     }
     calls::check(calls::Kind::Secret, &key.bytes).map_err(Error::from_key_status)?;
     let [header, claims] = [serde_json::to_string(header)?, serde_json::to_string(claims)?];

@@ -357,7 +357,7 @@ impl Jwk {
         }
         let public = match key.family() {
             AlgorithmFamily::Hmac => DecodingKey::from_secret(key.as_bytes()),
-            _ => signing::public_key(key)?,
+            _ => signing::verifying_key(key)?,
         };
         Jwk::from_decoding_key(&public, Some(alg))
     }

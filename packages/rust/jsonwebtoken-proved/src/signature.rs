@@ -1,10 +1,8 @@
 //! Signatures that are made or checked elsewhere, such as in a KMS or by another library.
 
-use crate::base64::{self, URL_SAFE};
 use crate::errors::{Error, ErrorKind, Result};
 use crate::library::calls::{self, Signed};
-use crate::library::handle::{Handle, Use};
-use crate::{Algorithm, DecodingKey, Header, TokenData, Validation, validation};
+use crate::{Algorithm, DecodingKey, Header, TokenData, Validation, status};
 use serde::Serialize;
 use serde::de::DeserializeOwned;
 use std::error::Error as StdError;
@@ -65,25 +63,17 @@ pub fn decode_by_verdict<T: DeserializeOwned>(
     Ok(TokenData { header: crate::decode_header(token)?, claims: serde_json::from_str(&claims)? })
 }
 
-/// Returns whether a signature is that of a message by a key. The message has to be that of a token: a header and a payload of JSON.
+/// Returns whether a signature is that of a message by a key.
 pub(crate) fn is_accepted(key: &DecodingKey, algorithm: Algorithm, message: &[u8], signature: &[u8]) -> Result<bool> {
-    let token = [message, b".", base64::encode(signature, URL_SAFE).as_bytes()].concat();
-    let header = crate::decode_header(&token).map_err(|_| not_of_a_token())?;
-    let options = validation::of_signature_alone(algorithm, header.crit.as_deref().unwrap_or_default());
     let (kind, text) = key.material()?;
-    let mut handle = Handle::new(kind, text, &options, message.len() + 2000, Use::Once).map_err(Error::from_key_status)?;
-    match handle.decode(&token, 0) {
-        Ok(_) => Ok(true),
-        Err(denied) => match Error::from_status(denied.status).into_kind() {
-            ErrorKind::InvalidSignature => Ok(false),
-            ErrorKind::InvalidToken | ErrorKind::Base64(_) | ErrorKind::Json(_) => Err(not_of_a_token()),
-            kind => Err(kind.into()),
-        },
+    match calls::verify_signature(kind, text, Signed { algorithm: algorithm.number(), message, signature }) {
+        Ok(()) => Ok(true),
+        Err(status::INVALID_SIGNATURE) => Ok(false),
+        Err(status::INVALID_KEY_FORMAT) => {
+            Err(ErrorKind::UnusableKey(format!("it does not verify with {algorithm}")).into())
+        }
+        Err(status) => Err(Error::from_key_status(status)),
     }
-}
-
-fn not_of_a_token() -> Error {
-    ErrorKind::Provider("the library verifies the messages of tokens alone".to_string()).into()
 }
 
 /// A token that is to be signed elsewhere, such as with a key in a KMS.

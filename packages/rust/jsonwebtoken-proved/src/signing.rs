@@ -1,11 +1,11 @@
-//! Signatures with RSA and curves, by OpenSSL if the feature `openssl` is on.
+//! Signatures by OpenSSL, if the feature `openssl` is on.
 
 use crate::errors::Result;
 use crate::{Algorithm, DecodingKey, EncodingKey};
 
 #[cfg(not(feature = "openssl"))]
 fn missing<T>() -> Result<T> {
-    let why = "signing with RSA and curves needs the feature openssl, or a Signer of yours";
+    let why = "all but HMAC of tokens needs the feature openssl, or a Signer of yours";
     Err(crate::errors::ErrorKind::Provider(why.to_string()).into())
 }
 
@@ -15,14 +15,14 @@ pub fn sign(_: &EncodingKey, _: Algorithm, _: &[u8]) -> Result<Vec<u8>> {
     missing()
 }
 
-/// Returns the public half of a private key.
+/// Returns the key that verifies what a key signs: the public half of a private key, or a secret.
 #[cfg(not(feature = "openssl"))]
-pub fn public_key(_: &EncodingKey) -> Result<DecodingKey> {
+pub fn verifying_key(_: &EncodingKey) -> Result<DecodingKey> {
     missing()
 }
 
 #[cfg(feature = "openssl")]
-pub use by_openssl::{public_key, sign};
+pub use by_openssl::{sign, verifying_key};
 
 #[cfg(feature = "openssl")]
 mod by_openssl {
@@ -45,7 +45,8 @@ mod by_openssl {
                 (Id::ED25519, PKey::private_key_from_raw_bytes(seed, Id::ED25519))
             }
             AlgorithmFamily::Ec => (Id::EC, PKey::private_key_from_der(key.as_bytes())),
-            _ => (Id::RSA, PKey::private_key_from_der(key.as_bytes())),
+            AlgorithmFamily::Rsa => (Id::RSA, PKey::private_key_from_der(key.as_bytes())),
+            AlgorithmFamily::Hmac => (Id::HMAC, PKey::hmac(key.as_bytes())),
         };
         let read = read.map_err(|_| ErrorKind::InvalidKeyFormat)?;
         if read.id() == id { Ok(read) } else { Err(ErrorKind::InvalidKeyFormat.into()) }
@@ -58,8 +59,8 @@ mod by_openssl {
 
     fn digest(algorithm: Algorithm) -> MessageDigest {
         match algorithm {
-            Algorithm::RS384 | Algorithm::PS384 | Algorithm::ES384 => MessageDigest::sha384(),
-            Algorithm::RS512 | Algorithm::PS512 => MessageDigest::sha512(),
+            Algorithm::HS384 | Algorithm::RS384 | Algorithm::PS384 | Algorithm::ES384 => MessageDigest::sha384(),
+            Algorithm::HS512 | Algorithm::RS512 | Algorithm::PS512 => MessageDigest::sha512(),
             _ => MessageDigest::sha256(),
         }
     }
@@ -91,12 +92,13 @@ mod by_openssl {
         key.public_key().to_bytes(key.group(), PointConversionForm::UNCOMPRESSED, &mut context)
     }
 
-    pub fn public_key(key: &EncodingKey) -> Result<DecodingKey> {
+    pub fn verifying_key(key: &EncodingKey) -> Result<DecodingKey> {
         let read = private(key)?;
         match key.family() {
+            AlgorithmFamily::Hmac => Ok(DecodingKey::from_secret(key.as_bytes())),
             AlgorithmFamily::Ed => Ok(DecodingKey::from_ed_der(&read.raw_public_key().map_err(failed)?)),
             AlgorithmFamily::Ec => Ok(DecodingKey::from_ec_der(&point(&read).map_err(failed)?)),
-            _ => {
+            AlgorithmFamily::Rsa => {
                 let rsa = read.rsa().map_err(failed)?;
                 Ok(DecodingKey::from_rsa_raw_components(&rsa.n().to_vec(), &rsa.e().to_vec()))
             }

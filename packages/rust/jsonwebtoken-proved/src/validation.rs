@@ -47,15 +47,6 @@ struct Options<'a> {
     understood_crit: &'a [String],
 }
 
-/// Returns the options by which each token with an accepted signature is accepted.
-pub(crate) fn of_signature_alone(algorithm: Algorithm, crit: &[String]) -> String {
-    let names = serde_json::json!({
-        "algorithms": [algorithm], "required_spec_claims": [], "validate_exp": false, "validate_nbf": false,
-        "validate_aud": false, "understood_crit": crit,
-    });
-    names.to_string()
-}
-
 /// The conditions on a token.
 ///
 /// ```
@@ -66,6 +57,7 @@ pub(crate) fn of_signature_alone(algorithm: Algorithm, crit: &[String]) -> Strin
 /// validation.set_issuer(&["https://login.example"]); // a token without iss is refused
 /// ```
 #[derive(Clone, Debug, PartialEq, Eq)]
+#[allow(clippy::struct_excessive_bools)] // as in the crate jsonwebtoken
 pub struct Validation {
     /// The claims that have to be there, among `exp`, `nbf`, `aud`, `iss` and `sub`: `exp` alone at first. Another name is
     /// [`ErrorKind::InvalidArgument`]. A claim that [`aud`](Validation::aud), [`iss`](Validation::iss) or [`sub`](Validation::sub) asks for has to
@@ -91,6 +83,9 @@ pub struct Validation {
     pub algorithms: Vec<Algorithm>,
     /// The names that the header's `crit` may have (RFC 7515 section 4.1.11): none at first.
     pub understood_crit: Vec<String>,
+    // public, so that `..Validation::default()` is allowed
+    #[doc(hidden)]
+    pub insecure_ignores_signature: bool,
 }
 
 impl Validation {
@@ -110,6 +105,17 @@ impl Validation {
             iss: None,
             sub: None,
             understood_crit: Vec::new(),
+            insecure_ignores_signature: false,
+        }
+    }
+
+    /// Accepts each token whose claims pass the tests, as [`insecure_decode`](crate::dangerous::insecure_decode) does not test them.
+    pub(crate) fn nothing() -> Validation {
+        Validation {
+            required_spec_claims: HashSet::new(),
+            validate_exp: false,
+            validate_aud: false,
+            ..Validation::default()
         }
     }
 
@@ -144,6 +150,13 @@ impl Validation {
         self.required_spec_claims = texts(items);
     }
 
+    /// Has [`decode`](crate::decode) look at neither the signature nor the algorithm: **anyone can have written the token.** Its claims are
+    /// checked. All other calls refuse such a `Validation` with [`ErrorKind::InvalidArgument`].
+    #[deprecated(note = "`dangerous::insecure_decode` reads tokens without verifying them")]
+    pub fn insecure_disable_signature_validation(&mut self) {
+        self.insecure_ignores_signature = true;
+    }
+
     /// Returns the options of `jwtproved.h`, as JSON.
     pub(crate) fn options(&self) -> Result<String> {
         self.check()?;
@@ -166,6 +179,9 @@ impl Validation {
 
     /// Refuses empty lists, empty names, and claims without a rule, which could only be a slip.
     fn check(&self) -> Result<()> {
+        if self.insecure_ignores_signature {
+            return Err(argument("insecure_disable_signature_validation is for decode alone"));
+        }
         if self.algorithms.is_empty() {
             return Err(ErrorKind::MissingAlgorithm.into());
         }
@@ -233,7 +249,8 @@ mod tests {
         for (claims, now, wanted) in rows {
             let token = encode(r#"{"alg":"HS256"}"#, claims, SECRET).unwrap();
             for options in [ours.as_str(), of_the_library] {
-                let answer = Handle::new(Kind::Secret, SECRET, options, 0, Use::Once).unwrap().decode(token.as_bytes(), now);
+                let answer =
+                    Handle::new(Kind::Secret, SECRET, options, 0, Use::Once).unwrap().decode(token.as_bytes(), now);
                 assert_eq!(
                     answer.err().map(|it| Error::from_status(it.status).into_kind()),
                     wanted,

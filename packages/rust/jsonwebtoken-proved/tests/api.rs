@@ -276,10 +276,81 @@ fn one_signature() {
     let verify = |signature: &str, message: &str| crypto::verify(signature, message.as_bytes(), &key, Algorithm::HS256);
     assert_eq!(verify(signature, message), Ok(true));
     assert_eq!(verify("AAAA", message), Ok(false));
-    assert!(matches!(verify(signature, "hello").unwrap_err().kind(), ErrorKind::Provider(_)));
+    assert_eq!(verify(signature, "hello"), Ok(false));
     assert!(matches!(verify("a b", message).unwrap_err().kind(), ErrorKind::Base64(_)));
     let refused = crypto::verify(signature, message.as_bytes(), &key, Algorithm::RS256).unwrap_err();
     assert_eq!(refused.kind(), &ErrorKind::InvalidAlgorithm);
+}
+
+/// A message need not be that of a token: RFC 4231 section 4.3, RFC 8032 section 7.1 (TEST 1), RFC 8037 appendix A.4.
+#[test]
+fn signatures_of_any_message() {
+    let secret = DecodingKey::from_secret(b"Jefe");
+    let ed = DecodingKey::from_ed_components("11qYAYKxCrfVS_7TyWQHOg7hcvPapiMlrwIaaPcHURo").unwrap();
+    let asked = "what do ya want for nothing?";
+    for (key, algorithm, message, signature) in [
+        (&secret, Algorithm::HS256, asked, "W9zBRr9gdU5qBCQmCJV1x1oAPwidJzmDnexYuWTsOEM"),
+        (&secret, Algorithm::HS384, asked, "r0XS43ZIQDFhf3jStYprG5x-9GT1oBtH5C7Dc2MiRF6OIkDKXmnix4syOez6shZJ"),
+        (
+            &secret,
+            Algorithm::HS512,
+            asked,
+            "Fkt6e_z4GeLjlfvnO1bgo4e9ZCIugx_WECcM1-olBVSXWL91wFqZSm0DT2X48Ob9yuqxo01Ka0tjbgcKOLznNw",
+        ),
+        (
+            &ed,
+            Algorithm::EdDSA,
+            "",
+            "5VZDAMNgrHKQhuLMgG6CioSHfx645dl02HPgZSJJAVVfuIIVkKM7rMYeOXAc-bRr0lv18FlbviRlUUFDjnoQCw",
+        ),
+        (
+            &ed,
+            Algorithm::EdDSA,
+            "eyJhbGciOiJFZERTQSJ9.RXhhbXBsZSBvZiBFZDI1NTE5IHNpZ25pbmc",
+            "hgyY0il_MGCjP0JzlnLWG1PPOt7-09PGcvMg3AIbQR6dWbhijcNR4ki4iylGjg5BhVsPt9g7sVvpAr_MuM0KAg",
+        ),
+    ] {
+        assert_eq!(crypto::verify(signature, message.as_bytes(), key, algorithm), Ok(true), "{algorithm} {message}");
+        let other = format!("{message}?");
+        assert_eq!(crypto::verify(signature, other.as_bytes(), key, algorithm), Ok(false), "{algorithm} {message}");
+        if let (AlgorithmFamily::Hmac, true) = (algorithm.family(), cfg!(feature = "openssl")) {
+            let key = EncodingKey::from_secret(b"Jefe");
+            assert_eq!(crypto::sign(message.as_bytes(), &key, algorithm).unwrap(), signature);
+        }
+    }
+    // a point that is not on its curve, and a secret that anyone has
+    let off = DecodingKey::from_ec_der(&[4; 65]);
+    for (key, algorithm) in [(off, Algorithm::ES256), (DecodingKey::from_secret(&[0; 32]), Algorithm::HS256)] {
+        let refused = crypto::verify("AAAA", b"", &key, algorithm).unwrap_err();
+        assert!(matches!(refused.kind(), ErrorKind::UnusableKey(_)), "{refused}");
+    }
+    let blank = crypto::sign(b"", &EncodingKey::from_secret(b""), Algorithm::HS256).unwrap_err();
+    assert!(!blank.is_refusal());
+}
+
+/// Programs for earlier versions of the crate read tokens without a key so.
+#[test]
+#[allow(deprecated)]
+fn signatures_that_are_ignored() {
+    let mut ignoring = Validation::new(Algorithm::HS256);
+    ignoring.insecure_disable_signature_validation();
+    let nobody = DecodingKey::from_secret(b"");
+    let issue = |header: &Header, claims: &Value| encode(header, claims, &EncodingKey::from_secret(SECRET)).unwrap();
+    let token = issue(&Header::new(Algorithm::HS512), &json!({"sub": "b@b.com", "exp": 4102444800u64}));
+    let forged = format!("{}.?", token.rsplit_once('.').unwrap().0);
+    for token in [&token, &forged] {
+        assert_eq!(decode::<Claims>(token, &nobody, &ignoring).unwrap().claims.sub, "b@b.com");
+    }
+    let kind_of = |token: &str| decode::<Claims>(token, &nobody, &ignoring).unwrap_err().into_kind();
+    assert_eq!(kind_of(&issue(&Header::default(), &json!({"sub": "b@b.com", "exp": 1}))), ErrorKind::ExpiredSignature);
+    assert_eq!(kind_of(token.rsplit_once('.').unwrap().0), ErrorKind::InvalidToken);
+    assert!(matches!(kind_of(&format!("{token}.AAAA")), ErrorKind::Base64(_)));
+    // no other call verifies like this
+    let key = DecodingKey::from_secret(SECRET);
+    let refused = jsonwebtoken::Verifier::new(&key, &ignoring).unwrap_err();
+    assert!(matches!(refused.kind(), ErrorKind::InvalidArgument(_)), "{refused}");
+    let of_default = Validation { leeway: 0, ..Validation::default() };
+    assert!(decode::<Claims>(&forged, &key, &of_default).unwrap_err().is_refusal());
 }
 
 #[test]

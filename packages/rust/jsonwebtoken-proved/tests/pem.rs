@@ -22,6 +22,20 @@ b3qCo5ZwKh9kG4LT6/I5IhlJH7aGhyxXFvUK+DWNmoudF8NAco9/h9iaGNj8q2et
 hFkMLs91kzk2PAcDTW9gb54h4FRWyuXpoQIDAQAB
 -----END RSA PUBLIC KEY-----
 ";
+/// A certificate of the same key, by `openssl x509 -force_pubkey`, with the signature of another key and a date that is over.
+const CERTIFICATE: &str = "-----BEGIN CERTIFICATE-----
+MIIBujCCAWwCAQEwBQYDK2VwMAwxCjAIBgNVBAMMAWEwHhcNMjYxMTI5MTcyNTQw
+WhcNMjYxMTMwMTcyNTQwWjAMMQowCAYDVQQDDAFhMIIBIjANBgkqhkiG9w0BAQEF
+AAOCAQ8AMIIBCgKCAQEAofgWCuLjybRlzo0tZWJjNiuSfb4p4fAkd/wWJcyQoTbj
+i9k0l8W26mPddxHmfHQp+Vaw+4qPCJrcS2mJPMEzP1Pt0Bm4d4QlL+yRT+SFd2lZ
+S+pCgNMsD1W/YpRPEwOWvG6b32690r2jZ47soMZo9wGzjb/7OMg0LOL+bSf63kpa
+SHSXndS5z5rexMdbBYUsLA9e+KXBdQOS+UTo7WTBEMa2R2CapHg665xsmtdVMTBQ
+Y4uDZlxvb3qCo5ZwKh9kG4LT6/I5IhlJH7aGhyxXFvUK+DWNmoudF8NAco9/h9ia
+GNj8q2ethFkMLs91kzk2PAcDTW9gb54h4FRWyuXpoQIDAQABMAUGAytlcANBAGZq
+WcnRAL6PQ23PbBZPI+orv96lSMF+NMqPSZKbzOfcxIqgK6Y0Jq52OdQAL4kQOW+o
+MKNEWdSLNp+A5T8xrQk=
+-----END CERTIFICATE-----
+";
 const EC: &str = "-----BEGIN PUBLIC KEY-----
 MFkwEwYHKoZIzj0CAQYIKoZIzj0DAQcDQgAEf83OJ3D2xF1Bg8vub9tLe1gHMzV7
 6e8Tus9uPHvRVEXH8UTNG72bfocs3+257rn0s2ldbqkLJK2KRiMohYjlrQ==
@@ -50,7 +64,7 @@ fn claims(key: &DecodingKey, algorithm: Algorithm, token: &str) -> Result<String
 fn tokens_of_the_keys() {
     let rsa = format!("eyJhbGciOiJSUzI1NiJ9.{PAYLOAD}.{RS256}");
     let of_one_line = PKCS1.replace('\n', "").replace("KEY-----", "KEY-----\n").replacen("-----END", "\n-----END", 1);
-    for pem in [RSA, PKCS1, &RSA.replace('\n', " \r\n"), &of_one_line] {
+    for pem in [RSA, PKCS1, CERTIFICATE, &RSA.replace('\n', " \r\n"), &of_one_line] {
         assert_eq!(
             claims(&DecodingKey::from_rsa_pem(pem.as_bytes()).unwrap(), Algorithm::RS256, &rsa).unwrap(),
             CLAIMS
@@ -113,7 +127,7 @@ fn keys_of_another_kind() {
     let rows: [(Made, [&str; 2]); 3] = [
         (DecodingKey::from_rsa_pem, [EC, ED]),
         (DecodingKey::from_ec_pem, [RSA, ED]),
-        (DecodingKey::from_ed_pem, [PKCS1, EC]),
+        (DecodingKey::from_ed_pem, [CERTIFICATE, EC]),
     ];
     for (made, pems) in rows {
         for pem in pems {
@@ -129,7 +143,7 @@ fn texts_that_are_not_public_keys() {
     let why = DecodingKey::from_ed_pem(PRIVATE.as_bytes()).unwrap_err().into_kind();
     assert_eq!(why, ErrorKind::UnusableKey("it is a private key".to_string()));
     let certificate = "-----BEGIN CERTIFICATE-----\nMAA=\n-----END CERTIFICATE-----";
-    assert!(matches!(DecodingKey::from_rsa_pem(certificate.as_bytes()).unwrap_err().kind(), ErrorKind::UnusableKey(_)));
+    assert_eq!(DecodingKey::from_rsa_pem(certificate.as_bytes()).unwrap_err().kind(), &ErrorKind::InvalidKeyFormat);
     let cut = EC.replace("MFkw", "MFkx");
     for text in ["", "{}", PRIVATE, &EC[..60], &cut, &EC.replace("-----END", "----END")] {
         assert!(DecodingKey::from_ec_pem(text.as_bytes()).is_err(), "{text}");

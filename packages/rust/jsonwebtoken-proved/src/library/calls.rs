@@ -7,6 +7,12 @@ use std::ptr;
 /// A call that checks a key.
 type Check = unsafe extern "C" fn(*const u8, usize) -> u32;
 
+/// A call that reads the public key of a text in PEM.
+type FromPem = unsafe extern "C" fn(*const u8, usize, *mut u8, usize, *mut usize) -> u32;
+
+/// A call that verifies one signature.
+type Verify = unsafe extern "C" fn(*const u8, usize, *const u8, usize, *const u8, usize, u32) -> u32;
+
 /// The kind of a key, which is that of the call that takes it.
 #[derive(Clone, Copy, Debug, PartialEq, Eq)]
 pub enum Kind {
@@ -70,21 +76,19 @@ pub fn check(kind: Kind, key: &[u8]) -> Result<(), u32> {
     checked(unsafe { call(key.as_ptr(), key.len()) })
 }
 
-pub fn key_from_pem(pem: &[u8]) -> Result<String, u32> {
+/// Returns the JSON Web Key of a public key in PEM, or of the key of a certificate of which nothing is verified.
+pub fn key_from_pem(pem: &str, is_certificate: bool) -> Result<String, u32> {
+    let call: FromPem = if is_certificate { declared::jwt_key_from_certificate } else { declared::jwt_key_from_pem };
     // SAFETY: the slice has the length that is given, and the buffer does not overlap it
-    text(pem.len() + 128, |buffer, size, len| unsafe {
-        declared::jwt_key_from_pem(pem.as_ptr(), pem.len(), buffer, size, len)
-    })
+    text(pem.len() + 128, |buffer, size, len| unsafe { call(pem.as_ptr(), pem.len(), buffer, size, len) })
 }
 
-/// Returns the type and the text of a member of a JSON object.
-pub fn member(json: &str, name: &str) -> Result<(u32, String), u32> {
-    let mut kind = 0;
-    // SAFETY: each slice has the length that is given, and the buffer overlaps none
-    let value = text(json.len(), |buffer, size, len| unsafe {
-        declared::jwt_member(json.as_ptr(), json.len(), name.as_ptr(), name.len(), &mut kind, buffer, size, len)
-    })?;
-    Ok((kind, value))
+/// Returns the algorithms that a JSON Web Key serves, as bits of their numbers.
+pub fn key_algorithms(jwk: &str) -> Result<u32, u32> {
+    let mut bits = 0;
+    // SAFETY: the slice has the length that is given
+    checked(unsafe { declared::jwt_key_algorithms(jwk.as_ptr(), jwk.len(), &mut bits) })?;
+    Ok(bits)
 }
 
 pub fn decode_header(token: &[u8]) -> Result<String, u32> {
@@ -110,6 +114,19 @@ pub struct Signed<'a> {
     pub algorithm: u32,
     pub message: &'a [u8],
     pub signature: &'a [u8],
+}
+
+/// Verifies a signature by a secret or a JSON Web Key.
+pub fn verify_signature(kind: Kind, key: &[u8], signed: Signed<'_>) -> Result<(), u32> {
+    let Signed { algorithm, message, signature } = signed;
+    let call: Verify = match kind {
+        Kind::Secret => declared::jwt_verify_signature_hmac,
+        Kind::Jwk | Kind::Set => declared::jwt_verify_signature_key,
+    };
+    // SAFETY: each slice has the length that is given
+    checked(unsafe {
+        call(message.as_ptr(), message.len(), signature.as_ptr(), signature.len(), key.as_ptr(), key.len(), algorithm)
+    })
 }
 
 pub fn decode_verdict(token: &[u8], signed: Signed<'_>, verdict: bool, options: &str, now: u64) -> Result<String, u32> {

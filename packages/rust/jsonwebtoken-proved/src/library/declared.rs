@@ -52,16 +52,6 @@ extern "C" {
         test: *mut u32,
     ) -> u32;
     pub fn jwt_verifier_free(verifier: *mut Verifier);
-    pub fn jwt_member(
-        json: *const u8,
-        json_len: usize,
-        name: *const u8,
-        name_len: usize,
-        kind: *mut u32,
-        buffer: *mut u8,
-        buffer_len: usize,
-        len: *mut usize,
-    ) -> u32;
     pub fn jwt_signed_part(
         token: *const u8,
         token_len: usize,
@@ -87,6 +77,25 @@ extern "C" {
         buffer_len: usize,
         len: *mut usize,
     ) -> u32;
+    pub fn jwt_verify_signature_hmac(
+        message: *const u8,
+        message_len: usize,
+        signature: *const u8,
+        signature_len: usize,
+        secret: *const u8,
+        secret_len: usize,
+        algorithm: u32,
+    ) -> u32;
+    pub fn jwt_verify_signature_key(
+        message: *const u8,
+        message_len: usize,
+        signature: *const u8,
+        signature_len: usize,
+        key: *const u8,
+        key_len: usize,
+        algorithm: u32,
+    ) -> u32;
+    pub fn jwt_key_algorithms(key: *const u8, key_len: usize, bits: *mut u32) -> u32;
     pub fn jwt_decode_header(
         token: *const u8,
         token_len: usize,
@@ -147,6 +156,13 @@ extern "C" {
     ) -> u32;
     pub fn jwt_key_from_pem(pem: *const u8, pem_len: usize, buffer: *mut u8, buffer_len: usize, len: *mut usize)
     -> u32;
+    pub fn jwt_key_from_certificate(
+        pem: *const u8,
+        pem_len: usize,
+        buffer: *mut u8,
+        buffer_len: usize,
+        len: *mut usize,
+    ) -> u32;
     pub fn jwt_check_secret(secret: *const u8, secret_len: usize) -> u32;
     pub fn jwt_check_key(key: *const u8, key_len: usize) -> u32;
     pub fn jwt_check_set(set: *const u8, set_len: usize) -> u32;

@@ -5,7 +5,8 @@ use super::declared;
 use std::ptr;
 
 /// A call that makes a verifier.
-type Make = unsafe extern "C" fn(*const u8, usize, *const u8, usize, usize, bool, usize, *mut declared::Verifier) -> u32;
+type Make =
+    unsafe extern "C" fn(*const u8, usize, *const u8, usize, usize, bool, usize, *mut declared::Verifier) -> u32;
 
 /// The tokens that a verifier is made for: whether it keeps its keys prepared, which takes as long as one or two verifications.
 #[derive(Clone, Copy)]
