@@ -13,6 +13,7 @@ from ._signatures import (
     encode_by_signature,
     signed_part,
     signing_input,
+    verify,
 )
 from ._verifier import Verifier
 from .exceptions import (
@@ -103,4 +104,5 @@ __all__ = [
     "signing_input",
     "thumbprint",
     "unregister_algorithm",
+    "verify",
 ]

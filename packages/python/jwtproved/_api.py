@@ -7,7 +7,7 @@ from typing import Any
 
 from . import _refusals, _signing
 from ._encoding import header_of, members_of, payload_of, unsignable, written
-from ._keys import Key, PyJWK, SigningKey, material_of, secret_of
+from ._keys import Key, PyJWK, SigningKey, material_of
 from ._library import ALGORITHMS, Refusal, answer, library, slices
 from ._parts import parts_of
 from ._rules import DEFAULTS, Moment, Names, Rules, options_of, plain, rules_of, warn_of
@@ -77,6 +77,21 @@ def _signs(algorithm: str) -> bool:
             raise
         return False
     return True
+
+
+def _by_secret(key: SigningKey, algorithm: str, header: bytes, claims: bytes) -> str:
+    """Returns the token that the library signs with a secret, or with a JSON Web Key of one."""
+    material = material_of(key)
+    no_secret = InvalidKeyError(f"the key is not a secret, and {algorithm} signs with one")
+    if material.kind == "set" or material.algorithm not in (None, algorithm):
+        raise no_secret
+    call = library.jwt_encode_hmac if material.kind == "secret" else library.jwt_encode_key
+    try:
+        return str(answer(call, *slices(header, claims, material.text)), "utf-8")
+    except Refusal as refusal:
+        if refusal.status == Status.INVALID_KEY_FORMAT:
+            raise no_secret from None
+        raise unsignable(refusal, claims) from None
 
 
 class PyJWT:
@@ -183,11 +198,8 @@ class PyJWT:
             raise NotImplementedError(f"algorithm is {named!r}, which is not one of {', '.join(ALGORITHMS)}")
         header = written("headers", members, json_encoder)
         if not _signs(named):
-            return _signing.signer_of(key, plain(named)).token(header, claims, members.get("crit", []))
-        try:
-            return str(answer(library.jwt_encode_hmac, *slices(header, claims, secret_of(key, named))), "utf-8")
-        except Refusal as refusal:
-            raise unsignable(refusal, claims) from None
+            return _signing.signer_of(key, plain(named)).token(header, claims)
+        return _by_secret(key, named, header, claims)
 
 
 def get_unverified_header(jwt: Token) -> dict[str, Any]:

@@ -1,8 +1,14 @@
-"""Private keys of the package cryptography. It is imported once a key needs it, which takes long."""
+"""Private keys of the package cryptography. It is imported once a key needs it, which takes long.
+
+The library reads public keys alone: it tells of which kind a JSON Web Key is, and what more a private one has is read and written here.
+"""
 import base64
+import json
 import re
 from typing import Any
 
+from ._keys import material_of_public
+from ._library import Refusal, algorithms_of, text_of
 from .exceptions import InvalidKeyError
 
 _BASE64URL = re.compile(r"[A-Za-z0-9_-]*")
@@ -45,16 +51,21 @@ def _rsa(jwk: dict[str, Any]) -> Any:
     return rsa.RSAPrivateNumbers(p, q, d, dp, dq, qi, public).private_key()
 
 
-def _ec(jwk: dict[str, Any]) -> Any:
+def _p256(jwk: dict[str, Any]) -> Any:
+    from cryptography.hazmat.primitives.asymmetric.ec import SECP256R1
+
+    return _ec(jwk, SECP256R1())
+
+
+def _p384(jwk: dict[str, Any]) -> Any:
+    from cryptography.hazmat.primitives.asymmetric.ec import SECP384R1
+
+    return _ec(jwk, SECP384R1())
+
+
+def _ec(jwk: dict[str, Any], curve: Any) -> Any:
     from cryptography.hazmat.primitives.asymmetric import ec
 
-    curves: dict[Any, Any] = {"P-256": ec.SECP256R1, "P-384": ec.SECP384R1}
-    if jwk.get("crv") not in curves:
-        raise InvalidKeyError(f"no token is signed or verified with a key of the curve {jwk.get('crv')!r}")
-    curve = curves[jwk["crv"]]()
-    size = curve.key_size // 8
-    if len(octets(jwk, "x")) != size or len(octets(jwk, "y")) != size:
-        raise InvalidKeyError(f"x and y of the key must have {size} bytes")
     public = ec.EllipticCurvePublicNumbers(number(jwk, "x"), number(jwk, "y"), curve)
     if "d" not in jwk:
         return public.public_key()
@@ -64,23 +75,30 @@ def _ec(jwk: dict[str, Any]) -> Any:
 def _okp(jwk: dict[str, Any]) -> Any:
     from cryptography.hazmat.primitives.asymmetric import ed25519
 
-    if jwk.get("crv") != "Ed25519":
-        raise InvalidKeyError(f"no token is signed or verified with a key of the curve {jwk.get('crv')!r}")
-    public = octets(jwk, "x")
     if "d" not in jwk:
-        return ed25519.Ed25519PublicKey.from_public_bytes(public)
+        return ed25519.Ed25519PublicKey.from_public_bytes(octets(jwk, "x"))
     return ed25519.Ed25519PrivateKey.from_private_bytes(octets(jwk, "d"))
 
 
-_KINDS = {"RSA": _rsa, "EC": _ec, "OKP": _okp}
+# by an algorithm that the key serves
+_READERS = {"RS256": _rsa, "ES256": _p256, "ES384": _p384, "EdDSA": _okp}
+
+
+def served(jwk: dict[str, Any]) -> tuple[str, ...]:
+    """Returns the algorithms that a JSON Web Key serves. Raises InvalidKeyError if the library can't read its public members."""
+    try:
+        return algorithms_of(json.dumps(jwk).encode())
+    except Refusal as refusal:
+        raise InvalidKeyError(f"the key can't be read: {text_of(refusal.status)}") from None
 
 
 def of_jwk(jwk: dict[str, Any]) -> Any:
     """Returns the private key of a JSON Web Key that has d (RFC 7518 section 6, RFC 8037 section 2), and of another one the public key."""
-    if jwk.get("kty") not in _KINDS:
-        raise InvalidKeyError(f"a key of the kind {jwk.get('kty')!r} is neither of RSA nor of a curve")
+    reader = next((_READERS[it] for it in served(jwk) if it in _READERS), None)
+    if reader is None:
+        raise InvalidKeyError("no token is signed or verified with a key of this kind, of this curve or of so few bits")
     try:
-        return _KINDS[jwk["kty"]](jwk)
+        return reader(jwk)
     except ValueError:
         # the text of the exception may show the key
         raise InvalidKeyError("the numbers of the key do not fit each other") from None
@@ -121,19 +139,6 @@ def is_private(key: Any) -> bool:
     return callable(getattr(key, "sign", None)) and callable(getattr(key, "public_key", None))
 
 
-def jwk_of(key: Any) -> dict[str, Any]:
-    """Returns the JSON Web Key of a public or private key of the package."""
-    from cryptography.hazmat.primitives.asymmetric import ec, ed25519, rsa
-
-    if isinstance(key, (rsa.RSAPrivateKey, rsa.RSAPublicKey)):
-        return _jwk_of_rsa(key)
-    if isinstance(key, (ec.EllipticCurvePrivateKey, ec.EllipticCurvePublicKey)):
-        return _jwk_of_ec(key)
-    if isinstance(key, (ed25519.Ed25519PrivateKey, ed25519.Ed25519PublicKey)):
-        return _jwk_of_okp(key)
-    raise InvalidKeyError("Not a public or private key")
-
-
 def _part(raw: bytes) -> str:
     return base64.urlsafe_b64encode(raw).rstrip(b"=").decode()
 
@@ -142,28 +147,39 @@ def _whole(value: int, size: int | None = None) -> str:
     return _part(value.to_bytes(size or max(1, (value.bit_length() + 7) // 8), "big"))
 
 
-def _jwk_of_rsa(key: Any) -> dict[str, Any]:
-    if not hasattr(key, "private_numbers"):
-        public = key.public_numbers()
-        return {"kty": "RSA", "key_ops": ["verify"], "n": _whole(public.n), "e": _whole(public.e)}
+def _secret_of_ec(key: Any) -> dict[str, Any]:
+    return {"d": _whole(key.private_numbers().private_value, (key.key_size + 7) // 8)}
+
+
+def _secret_of_rsa(key: Any) -> dict[str, Any]:
     its = key.private_numbers()
-    found = {"kty": "RSA", "key_ops": ["sign"], "n": _whole(its.public_numbers.n), "e": _whole(its.public_numbers.e), "d": _whole(its.d)}
-    return {**found, "p": _whole(its.p), "q": _whole(its.q), "dp": _whole(its.dmp1), "dq": _whole(its.dmq1), "qi": _whole(its.iqmp)}
+    names = {"d": its.d, "p": its.p, "q": its.q, "dp": its.dmp1, "dq": its.dmq1, "qi": its.iqmp}
+    return {"key_ops": ["sign"], **{name: _whole(it) for name, it in names.items()}}
 
 
-def _jwk_of_ec(key: Any) -> dict[str, Any]:
-    names = {"secp256r1": "P-256", "secp384r1": "P-384"}
-    if key.curve.name not in names:
-        raise InvalidKeyError(f"no token is signed or verified with a key of the curve {key.curve.name}")
-    size, is_private = key.curve.key_size // 8, hasattr(key, "private_numbers")
-    public = (key.public_key() if is_private else key).public_numbers()
-    found = {"kty": "EC", "crv": names[key.curve.name], "x": _whole(public.x, size), "y": _whole(public.y, size)}
-    return {**found, "d": _whole(key.private_numbers().private_value, size)} if is_private else found
+def _secret_of(key: Any) -> dict[str, Any]:
+    """Returns the members that the JSON Web Key of a private key has besides those of the public one."""
+    from cryptography.hazmat.primitives.asymmetric import ec, ed25519, rsa
+    from cryptography.hazmat.primitives.serialization import Encoding, NoEncryption, PrivateFormat
+
+    if isinstance(key, rsa.RSAPrivateKey):
+        return _secret_of_rsa(key)
+    if isinstance(key, ec.EllipticCurvePrivateKey):
+        return _secret_of_ec(key)
+    if isinstance(key, ed25519.Ed25519PrivateKey):
+        return {"d": _part(key.private_bytes(Encoding.Raw, PrivateFormat.Raw, NoEncryption()))}
+    raise InvalidKeyError("Not a public or private key")
 
 
-def _jwk_of_okp(key: Any) -> dict[str, Any]:
-    from cryptography.hazmat.primitives.serialization import Encoding, NoEncryption, PrivateFormat, PublicFormat
+def jwk_of(key: Any) -> dict[str, Any]:
+    """Returns the JSON Web Key of a public or private key of the package, whose public members the library writes."""
+    from cryptography.hazmat.primitives.asymmetric import rsa
 
     public = key.public_key() if is_private(key) else key
-    found = {"kty": "OKP", "crv": "Ed25519", "x": _part(public.public_bytes(Encoding.Raw, PublicFormat.Raw))}
-    return {**found, "d": _part(key.private_bytes(Encoding.Raw, PrivateFormat.Raw, NoEncryption()))} if is_private(key) else found
+    if not hasattr(public, "public_bytes"):
+        raise InvalidKeyError("Not a public or private key")
+    found: dict[str, Any] = json.loads(material_of_public(public).text)
+    if is_private(key):
+        return {**found, **_secret_of(key)}
+    # as PyJWT writes it
+    return {**found, "key_ops": ["verify"]} if isinstance(key, rsa.RSAPublicKey) else found

@@ -6,7 +6,14 @@ from typing import Any
 
 from ._status import Status
 
-ALGORITHMS = ("HS256", "HS384", "HS512", "RS256", "RS384", "RS512", "PS256", "PS384", "PS512", "ES256", "ES384", "EdDSA")
+# of one of these are the algorithms of a verifier (JWT_MIXED_FAMILIES); in the order of their numbers
+FAMILIES: tuple[tuple[str, ...], ...] = (
+    ("HS256", "HS384", "HS512"),
+    ("RS256", "RS384", "RS512", "PS256", "PS384", "PS512"),
+    ("ES256", "ES384"),
+    ("EdDSA",),
+)
+ALGORITHMS = tuple(it for family in FAMILIES for it in family)
 
 # the bytes that the prepared keys of a verifier may take: those of the library, or so few that it prepares none, for one token
 PREPARED, PREPARE_NOTHING = 0, 1
@@ -35,8 +42,12 @@ _PROTOTYPES: dict[str, list[Any]] = {
     "jwt_verifier_free": [_HANDLE],
     "jwt_decode_verdict": [*_BYTES, ctypes.c_uint32, *_BYTES, *_BYTES, ctypes.c_bool, *_BYTES, ctypes.c_uint64, *_BUFFER],
     "jwt_signed_part": [*_BYTES, _NUMBER, ctypes.POINTER(ctypes.c_size_t), *_BUFFER],
+    "jwt_verify_signature_hmac": [*_BYTES, *_BYTES, *_BYTES, ctypes.c_uint32],
+    "jwt_verify_signature_key": [*_BYTES, *_BYTES, *_BYTES, ctypes.c_uint32],
+    "jwt_key_algorithms": [*_BYTES, _NUMBER],
     "jwt_decode_header": [*_BYTES, *_BUFFER],
     "jwt_encode_hmac": [*_BYTES, *_BYTES, *_BYTES, *_BUFFER],
+    "jwt_encode_key": [*_BYTES, *_BYTES, *_BYTES, *_BUFFER],
     "jwt_signing_input": [*_BYTES, *_BYTES, _NUMBER, *_BUFFER],
     "jwt_encode_signature": [*_BYTES, *_BYTES, ctypes.c_uint32, *_BYTES, *_BYTES, *_BUFFER],
     "jwt_ecdsa_signature": [*_BYTES, ctypes.c_uint32, *_BUFFER],
@@ -115,6 +126,13 @@ def slices(*texts: bytes) -> list[Any]:
 def number_of(algorithm: str) -> int:
     """Returns the number of an algorithm in jwtproved.h."""
     return ALGORITHMS.index(algorithm) + 1
+
+
+def algorithms_of(key: bytes) -> tuple[str, ...]:
+    """Returns the algorithms that a JSON Web Key serves. Raises Refusal if the library can't read it."""
+    bits = ctypes.c_uint32()
+    check(library.jwt_key_algorithms(*slices(key), ctypes.byref(bits)))
+    return tuple(it for it in ALGORITHMS if bits.value >> number_of(it) & 1)
 
 
 def parts(token: bytes) -> tuple[str, bytes, bytes]:

@@ -10,11 +10,10 @@ _PART = re.compile(rb"[A-Za-z0-9_-]*={0,2}")
 
 
 class Parts(NamedTuple):
-    """The header of a token, the text of its payload and the bytes of this and of the signature."""
+    """The header of a token, the parts as they stand in it, and the bytes of payload and signature."""
 
     header: dict[str, Any]
-    # the header and the payload as they stand in the token
-    texts: tuple[bytes, bytes]
+    texts: tuple[bytes, bytes, bytes]
     payload: bytes
     signature: bytes
 
@@ -46,4 +45,4 @@ def parts_of(token: bytes) -> Parts:
     if len(found) != 3:
         raise DecodeError("Not enough segments")
     header, payload, signature = found
-    return Parts(_header_of(header), (header, payload), _bytes_of(payload, "payload"), _bytes_of(signature, "crypto"))
+    return Parts(_header_of(header), (header, payload, signature), _bytes_of(payload, "payload"), _bytes_of(signature, "crypto"))

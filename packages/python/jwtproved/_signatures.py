@@ -6,11 +6,12 @@ from typing import Any, NamedTuple
 
 from . import _refusals
 from ._encoding import header_of, payload_of, unsignable
-from ._keys import bytes_of, raw_of
-from ._library import ALGORITHMS, Refusal, answer, library, number_of, parts, slices
-from ._rules import Moment, Names, Rules, further_tests, options_of, rules_of, wrong_type
+from ._keys import Key, Material, bytes_of, material_of, raw_of
+from ._library import ALGORITHMS, Refusal, answer, check, library, number_of, parts, slices, text_of
+from ._rules import Further, Moment, Names, Rules, options_of, plain, rules_of, wrong_type
 from ._status import Status
 from ._verifier import Token, moment_of, token_of
+from .exceptions import InvalidKeyError
 from .types import Listed, Options
 
 
@@ -44,15 +45,14 @@ def signed_part(token: Token) -> SignedPart:
 def claims_by_verdict(token: bytes, part: SignedPart, verdict: bool, rules: Rules, now: int) -> dict[str, Any]:
     """Returns the claims of a token, if the verdict is True and the part is that of the token."""
     checked = [number_of(part.algorithm), *slices(part.message, part.signature), verdict]
+    further = Further(rules)
     try:
         said = answer(library.jwt_decode_verdict, *slices(token), *checked, *slices(rules.text(rules.algorithms)), now)
     except Refusal as refusal:
         # the header has been read, so that JSON which is refused is the payload's
-        raise _refusals.exception_of(refusal, token, True) from None
+        raise _refusals.exception_of(refusal, token, True, further.unlike) from None
     claims: dict[str, Any] = json.loads(said)
-    for claim, check in further_tests(rules):
-        if not claim or claim in claims:
-            check(claims, now)
+    further.check(claims, now)
     return claims
 
 
@@ -85,6 +85,31 @@ def decode_by_verdict(
     message, signature = bytes_of("part.message", part.message), raw_of("part.signature", part.signature)
     checked = SignedPart(_algorithm("part.algorithm", part.algorithm), message, signature)
     return claims_by_verdict(token_of("token", token), checked, verdict, rules, moment_of(now))
+
+
+def verify(message: str | bytes | bytearray | memoryview, signature: bytes, key: Key, algorithm: str) -> bool:
+    """Returns whether a signature is one of a message, with a key and this algorithm. No header and no claims are read: `decode` verifies tokens.
+
+    A signature with ES256 or ES384 is two numbers one after the other, which `ecdsa_signature` makes of one in DER.
+    """
+    asked = bytes_of("message", message), raw_of("signature", signature)
+    return is_signed(*asked, material_of(key), plain(_algorithm("algorithm", algorithm)))
+
+
+def is_signed(message: bytes, signature: bytes, material: Material, algorithm: str) -> bool:
+    """Returns whether the library accepts a signature of a message. Raises InvalidKeyError if the key does not serve the algorithm."""
+    if material.kind == "set":
+        raise InvalidKeyError("the key is a set, and a signature is verified with one key")
+    if material.algorithm not in (None, algorithm):
+        raise InvalidKeyError(f"the key is for {material.algorithm} by its alg, and not for {algorithm}")
+    call = library.jwt_verify_signature_hmac if material.kind == "secret" else library.jwt_verify_signature_key
+    try:
+        check(call(*slices(message, signature, material.text), number_of(algorithm)))
+    except Refusal as refusal:
+        if refusal.status != Status.INVALID_SIGNATURE:
+            raise InvalidKeyError(f"the key is not for {algorithm}, or does not serve: {text_of(refusal.status)}") from None
+        return False
+    return True
 
 
 def signing_input(payload: Mapping[str, Any], algorithm: str, headers: Mapping[str, Any] | None = None) -> SigningInput:

@@ -7,17 +7,11 @@ from typing import Any
 
 from . import _cryptography
 from ._encoding import unsignable
-from ._handles import Handles
 from ._keys import Material, PyJWK, PyJWKSet, bytes_of, material_of, material_of_public
-from ._library import PREPARED, Refusal, answer, library, number_of, slices
+from ._library import Refusal, algorithms_of, answer, library, number_of, slices
 from ._rules import wrong_type
-from ._signatures import ecdsa_signature
-from ._verifier import is_signed, signature_handles
-from ._status import Status
+from ._signatures import ecdsa_signature, is_signed
 from .exceptions import InvalidKeyError
-
-# of a JSON Web Key that is public
-_PUBLIC = ("kty", "crv", "n", "e", "x", "y")
 
 
 def signs(private: Any, algorithm: str) -> Callable[[bytes], bytes]:
@@ -35,38 +29,32 @@ def signs(private: Any, algorithm: str) -> Callable[[bytes], bytes]:
 
 
 class Signer:
-    """A private key for one algorithm, and the library's verifier of its public half."""
+    """A private key for one algorithm, and its public half as the library reads it."""
 
     def __init__(self, private: Any, public: Material, algorithm: str) -> None:
         self._public, self._algorithm = public, algorithm
-        try:
-            self._verifier = signature_handles(public, algorithm, prepared=PREPARED)
-        except Refusal as refusal:
-            if refusal.status != Status.UNFIT_KEY:
-                raise
+        if algorithm not in algorithms_of(public.text):
             size = f" of {private.key_size} bits" if hasattr(private, "key_size") else ""
             why = f"{algorithm} does not sign with this key, {type(private).__name__.strip('_')}{size}"
-            raise InvalidKeyError(f"{why}: a key of RSA has at least 2048 bits, and each other algorithm has a curve of its own") from None
-        self._signature = signs(private, algorithm)
+            raise InvalidKeyError(f"{why}: a key of RSA has at least 2048 bits, and each other algorithm has a curve of its own")
+        self._signs = signs(private, algorithm)
 
-    def token(self, header: bytes, claims: bytes, crit: list[str]) -> str:
-        """Returns the token of a header and claims, whose crit may have these names."""
-        number = number_of(self._algorithm)
+    def token(self, header: bytes, claims: bytes) -> str:
+        """Returns the token of a header and claims."""
         try:
             message = answer(library.jwt_signing_input, *slices(header, claims), ctypes.byref(ctypes.c_uint32()))
-            signature = self._signature(message)
-            token = answer(library.jwt_encode_signature, *slices(header, claims), number, *slices(message, signature))
+            signature = self.signature(message)
+            number = number_of(self._algorithm)
+            return str(answer(library.jwt_encode_signature, *slices(header, claims), number, *slices(message, signature)), "utf-8")
         except Refusal as refusal:
             raise unsignable(refusal, claims) from None
-        if not self._is_signed(token, crit):
-            raise InvalidKeyError("the public half of the key doesn't verify the signature that was made: the key is damaged, or the signer failed")
-        return str(token, "utf-8")
 
-    def _is_signed(self, token: bytes, crit: list[str]) -> bool:
-        try:
-            return is_signed(signature_handles(self._public, self._algorithm, crit) if crit else self._verifier, token)
-        except Refusal:
-            return False
+    def signature(self, message: bytes) -> bytes:
+        """Returns the signature of a message, which the library has verified."""
+        made = self._signs(message)
+        if not is_signed(message, made, self._public, self._algorithm):
+            raise InvalidKeyError("the public half of the key doesn't verify the signature that was made: the key is damaged, or the signer failed")
+        return made
 
 
 @functools.lru_cache(maxsize=64)
@@ -88,8 +76,7 @@ def _of_jwk(material: Material, algorithm: str) -> Signer:
         raise InvalidKeyError(f"the key is for {material.algorithm} by its alg, and not for {algorithm}")
     if "d" not in found:
         raise InvalidKeyError(f"the key is not private, and {algorithm} signs with the private one")
-    public = json.dumps({name: found[name] for name in _PUBLIC if name in found})
-    return Signer(_cryptography.of_jwk(found), Material("key", public.encode()), algorithm)
+    return Signer(_cryptography.of_jwk(found), material, algorithm)
 
 
 def signer_of(key: Any, algorithm: str) -> Signer:

@@ -2,15 +2,15 @@
 import functools
 import json
 import time
-from collections.abc import Callable, Iterable
+from collections.abc import Callable
 from typing import Any
 
 from . import _refusals
 from ._handles import Handles
 from ._keys import Key, Material, material_of
-from ._library import PREPARE_NOTHING, PREPARED, Refusal, parts
+from ._library import ALGORITHMS, FAMILIES, PREPARE_NOTHING, PREPARED, Refusal, algorithms_of, parts
 from ._parts import parts_of
-from ._rules import Moment, Names, Rules, further_tests, options_of, plain, plain_number, rules_of, wrong_type
+from ._rules import Further, Moment, Names, Rules, options_of, plain, plain_number, rules_of, wrong_type
 from ._status import Status
 from .exceptions import ClockError, DecodeError, InvalidKeyError
 from .types import Listed, Options
@@ -48,25 +48,8 @@ def moment_of(now: float | None) -> int:
     return int(now)
 
 
-# of the tests of a token, which are made in the order of their numbers (jwtproved.h)
-_SIGNATURE_IS_ACCEPTED = 14
-
-
-def signature_handles(material: Material, algorithm: str, crit: Iterable[str] = (), prepared: int = PREPARE_NOTHING) -> Handles:
-    """Returns the library's verifier of signatures with a key, by one algorithm, of tokens of any length. Raises Refusal if it makes none."""
-    asked = {"algorithms": [algorithm], "understood_crit": list(crit), "required_spec_claims": [], "validate_exp": False, "validate_aud": False}
-    return Handles(material.kind, material.text, json.dumps(asked).encode(), 2**62, prepared)
-
-
-def is_signed(handles: Handles, token: bytes) -> bool:
-    """Returns whether the library accepts the signature of a token, whatever its payload is. Raises Refusal if a test before that fails."""
-    try:
-        handles.decode(token, 0)
-    except Refusal as refusal:
-        if refusal.test < _SIGNATURE_IS_ACCEPTED:
-            raise
-        return refusal.test > _SIGNATURE_IS_ACCEPTED
-    return True
+# the number of the test (jwtproved.h)
+_ALGORITHM_IS_LISTED = 10
 
 
 def _made(material: Material, rules: Rules, algorithms: tuple[str, ...], longest: int, prepared: int) -> Handles | None:
@@ -79,56 +62,65 @@ def _made(material: Material, rules: Rules, algorithms: tuple[str, ...], longest
         raise _refusals.exception_of_texts(refusal) from None
 
 
-def _all_made(material: Material, rules: Rules, longest: int, prepared: int) -> tuple[Handles, dict[str, Handles]]:
-    """Returns the library's verifier for all algorithms, or, of a set that serves several, one for each of them by its name besides."""
-    listed = tuple(it for it in rules.algorithms if material.algorithm in (None, it))
-    is_last = material.kind == "set" or len(listed) == 1
-    made = {it: _made(material, rules, (it,), longest, prepared if is_last else PREPARE_NOTHING) for it in listed}
-    by_name = {name: handles for name, handles in made.items() if handles is not None}
-    if not by_name:
+def _all_made(material: Material, rules: Rules, longest: int, prepared: int) -> list[Handles]:
+    """Returns the library's verifiers, of which each has the algorithms of one family. A key is of one family, and a set can be of several."""
+    served = algorithms_of(material.text) if material.kind == "key" else ALGORITHMS
+    usable = [it for it in rules.algorithms if it in served and material.algorithm in (None, it)]
+    by_family = (tuple(it for it in usable if it in family) for family in FAMILIES)
+    made = (_made(material, rules, its, longest, prepared) for its in by_family if its)
+    found = [it for it in made if it is not None]
+    if not found:
         which = "each key of the set has no kid, or" if material.kind == "set" else "the key"
         raise InvalidKeyError(f"{which} is for none of the algorithms {', '.join(rules.algorithms)}, or does not serve")
-    first = next(iter(by_name.values()))
-    # the library wants one family, which all algorithms of one key are of; of a set, the header names the algorithm
-    if material.kind == "set":
-        return first, by_name if len(by_name) > 1 else {}
-    return first if is_last else _made(material, rules, tuple(by_name), longest, prepared) or first, {}
+    return found
 
 
 class Checker:
     """Verifies tokens with a key under rules: a Verifier without the checks of its arguments. With `waits` the key is prepared when the
     second token comes, since that takes as long as one or two verifications."""
 
+    # of the headers of tokens that were accepted, which say of which family the next one is
+    _MOST_HEADERS = 64
+
     def __init__(self, material: Material, rules: Rules, longest: int = 0, waits: bool = False) -> None:
         self._source = material, rules, longest
         self._tokens_unprepared = 2 if waits else 0
-        self._first, self._by_name = _all_made(*self._source, PREPARE_NOTHING if waits else PREPARED)
-        self._further = further_tests(rules)
-        self._unlike = None if not rules.audience else "Audience doesn't match (strict)" if rules.option("strict_aud") else "Audience doesn't match"
+        self._families = _all_made(*self._source, PREPARE_NOTHING if waits else PREPARED)
+        self._by_header: dict[bytes, int] = {}
+        self._further = Further(rules)
 
     def decode(self, token: bytes, now: int) -> dict[str, Any]:
         if self._tokens_unprepared:
             # two threads may both come to 0
             left = self._tokens_unprepared = max(self._tokens_unprepared - 1, 0)
             if not left:
-                self._first, self._by_name = _all_made(*self._source, PREPARED)
-        handles = self._handles_for(token) if self._by_name else self._first
+                self._families = _all_made(*self._source, PREPARED)
         try:
-            said = handles.decode(token, now)
+            said = self._families[0].decode(token, now) if len(self._families) == 1 else self._said(token, now)
         except Refusal as refusal:
-            raise _refusals.exception_of(refusal, token, unlike=self._unlike) from None
+            raise _refusals.exception_of(refusal, token, unlike=self._further.unlike) from None
         claims: dict[str, Any] = read_json(said, 0)[0]
-        for claim, check in self._further:
-            if not claim or claim in claims:
-                check(claims, now)
+        self._further.check(claims, now)
         return claims
 
-    def _handles_for(self, token: bytes) -> Handles:
-        """Returns the handles for the algorithm that the header names. If there are none, any of them refuses the token."""
-        try:
-            return self._by_name.get(parts(token)[0], self._first)
-        except Refusal:
-            return self._first
+    def _said(self, token: bytes, now: int) -> str:
+        """Returns the claims as JSON, by the verifier that has the algorithm of the header: each other one refuses the token by it."""
+        header = token.partition(b".")[0]
+        known = self._by_header.get(header)
+        if known is not None:
+            return str(self._families[known].decode(token, now))
+        for at, handles in enumerate(self._families):
+            try:
+                said = str(handles.decode(token, now))
+            except Refusal as refusal:
+                if refusal.test != _ALGORITHM_IS_LISTED or at + 1 == len(self._families):
+                    raise
+                continue
+            break
+        if len(self._by_header) >= self._MOST_HEADERS:
+            self._by_header.clear()
+        self._by_header[header] = at
+        return said
 
 
 class Refuser:

@@ -1,8 +1,4 @@
-"""The algorithms by the names of PyJWT: each signs, by hmac or by the package cryptography, and verifies by the library.
-
-`verify` takes the message of a token, which is its header and its payload with a dot between; of other messages the library verifies no
-signature yet.
-"""
+"""The algorithms by the names of PyJWT: each signs, by hmac or by the package cryptography, and verifies by the library."""
 import hashlib
 import hmac
 import importlib.util
@@ -11,18 +7,19 @@ from abc import ABC, abstractmethod
 from typing import Any, ClassVar, NoReturn
 
 from . import _cryptography
-from ._keys import Material, bytes_of, material_of, material_of_public, secret_of
-from ._library import Refusal
+from ._keys import Material, bytes_of, material_of, material_of_public
+from ._library import FAMILIES, algorithms_of
 from ._rules import wrong_type
+from ._signatures import is_signed
 from ._signing import signs
-from ._status import Status
-from ._verifier import is_signed, signature_handles
 from .exceptions import InvalidKeyError
 from .utils import base64url_encode
 
 has_crypto = importlib.util.find_spec("cryptography") is not None
 if has_crypto:
     from cryptography.hazmat.primitives import hashes
+
+_HMAC, _RSA, _EC, _OKP = FAMILIES
 
 # also those of PyJWT that are none of the twelve
 requires_cryptography = {
@@ -44,15 +41,16 @@ def get_default_algorithms() -> dict[str, "Algorithm"]:
     return found
 
 
-def _object(jwk: str | dict[str, Any], kind: str, error: str) -> dict[str, Any]:
+def _object(jwk: str | dict[str, Any], family: tuple[str, ...], error: str) -> dict[str, Any]:
+    """Returns a JSON Web Key that serves an algorithm of a family."""
     try:
         found = json.loads(jwk) if isinstance(jwk, str) else jwk
     except ValueError:
         found = None
     if not isinstance(found, dict):
         raise InvalidKeyError("Key is not valid JSON")
-    if found.get("kty") != kind:
-        raise InvalidKeyError(error)
+    if not set(_cryptography.served(found)) & set(family):
+        raise InvalidKeyError(f"{error}, or it does not serve")
     return found
 
 
@@ -82,14 +80,8 @@ class Algorithm(ABC):
         """Returns the signature of a message."""
 
     def verify(self, msg: bytes, key: Any, sig: bytes) -> bool:
-        """Returns whether the library accepts the signature of a token's message. Raises NotImplementedError for any other message."""
-        name = self._named("verifies")
-        try:
-            return is_signed(signature_handles(self._material(key), name), b"%s.%s" % (msg, base64url_encode(sig)))
-        except Refusal as refusal:
-            if refusal.status in (Status.UNFIT_KEY, Status.UNSUPPORTED_ALGORITHM, Status.BASE64, Status.BAD_KEY):
-                raise InvalidKeyError(f"{name} does not verify with this key") from None
-        raise NotImplementedError(f"{name} verifies the message of a token with this alg, and no other message yet")
+        """Returns whether the library accepts the signature of a message. Raises InvalidKeyError if the key does not serve the algorithm."""
+        return is_signed(bytes_of("msg", msg), bytes_of("sig", sig), self._material(key), self._named("verifies"))
 
     def _named(self, does: str) -> str:
         if self.name is None:
@@ -146,7 +138,10 @@ class HMACAlgorithm(Algorithm):
     def prepare_key(self, key: Any) -> bytes:
         if not isinstance(key, (str, bytes, bytearray, memoryview)):
             raise TypeError("Expected a string value")
-        return secret_of(bytes_of("key", key), self.name or "HMAC")
+        material = material_of(bytes_of("key", key))
+        if material.kind != "secret":
+            raise InvalidKeyError("the key is public, and is no secret of HMAC")
+        return material.text
 
     def sign(self, msg: bytes, key: bytes) -> bytes:
         return hmac.new(key, msg, self.hash_alg).digest()
@@ -160,14 +155,13 @@ class HMACAlgorithm(Algorithm):
 
     @staticmethod
     def from_jwk(jwk: str | dict[str, Any]) -> bytes:
-        return _cryptography.octets(_object(jwk, "oct", "Not an HMAC key"), "k")
+        return _cryptography.octets(_object(jwk, _HMAC, "Not an HMAC key"), "k")
 
 
 class _OfCryptography(Algorithm):
     """An algorithm whose keys are those of `cryptography`."""
 
-    # of a JSON Web Key, and in exceptions
-    _kind = _called = ""
+    _family: tuple[str, ...] = ()
 
     def prepare_key(self, key: Any) -> Any:
         """Returns a key of `cryptography` as it is, and reads one in PEM, which is public or private."""
@@ -176,8 +170,8 @@ class _OfCryptography(Algorithm):
             key = _cryptography.of_any_pem(bytes_of("key", key))
         elif not _cryptography.is_private(key) and not hasattr(key, "public_bytes"):
             raise wrong_type("key", "a key in PEM, or one of cryptography", key)
-        if _cryptography.jwk_of(key)["kty"] != self._kind:
-            raise InvalidKeyError(f"the key is of another kind than {self._kind}")
+        if not set(algorithms_of(self._material(key).text)) & set(self._family):
+            raise InvalidKeyError(f"the key is for none of {', '.join(self._family)}, or does not serve")
         return key
 
     def sign(self, msg: bytes, key: Any) -> bytes:
@@ -193,7 +187,7 @@ class _OfCryptography(Algorithm):
 class RSAAlgorithm(_OfCryptography):
     """RSASSA-PKCS1-v1_5 with SHA-2."""
 
-    _kind = "RSA"
+    _family = _RSA
     if has_crypto:
         SHA256, SHA384, SHA512 = hashes.SHA256, hashes.SHA384, hashes.SHA512
     _prefix = "RS"
@@ -206,7 +200,7 @@ class RSAAlgorithm(_OfCryptography):
 
     @staticmethod
     def from_jwk(jwk: str | dict[str, Any]) -> Any:
-        return _cryptography.of_jwk(_object(jwk, "RSA", "Not an RSA key"))
+        return _cryptography.of_jwk(_object(jwk, _RSA, "Not an RSA key"))
 
 
 class RSAPSSAlgorithm(RSAAlgorithm):
@@ -218,7 +212,7 @@ class RSAPSSAlgorithm(RSAAlgorithm):
 class ECAlgorithm(_OfCryptography):
     """ECDSA with P-256 and SHA-256, or P-384 and SHA-384."""
 
-    _kind = "EC"
+    _family = _EC
     if has_crypto:
         SHA256, SHA384, SHA512 = hashes.SHA256, hashes.SHA384, hashes.SHA512
 
@@ -228,17 +222,17 @@ class ECAlgorithm(_OfCryptography):
 
     @staticmethod
     def from_jwk(jwk: str | dict[str, Any]) -> Any:
-        return _cryptography.of_jwk(_object(jwk, "EC", "Not an Elliptic curve key"))
+        return _cryptography.of_jwk(_object(jwk, _EC, "Not an Elliptic curve key"))
 
 
 class OKPAlgorithm(_OfCryptography):
     """EdDSA with Ed25519."""
 
-    _kind, name = "OKP", "EdDSA"
+    _family, name = _OKP, "EdDSA"
 
     def __init__(self, **kwargs: Any) -> None:
         pass
 
     @staticmethod
     def from_jwk(jwk: str | dict[str, Any]) -> Any:
-        return _cryptography.of_jwk(_object(jwk, "OKP", "Not an Octet Key Pair"))
+        return _cryptography.of_jwk(_object(jwk, _OKP, "Not an Octet Key Pair"))

@@ -6,11 +6,11 @@ from . import _refusals
 from ._api import get_unverified_header
 from ._encoding import members_of
 from ._keys import Key, PyJWK, SigningKey, material_of
-from ._library import ALGORITHMS, Refusal
+from ._library import ALGORITHMS
 from ._parts import Parts, parts_of
-from ._rules import listed, warn_of
-from ._status import Status
-from ._verifier import Token, is_signed, signature_handles, token_of
+from ._rules import listed, rules_of, warn_of
+from ._signatures import SignedPart, claims_by_verdict, is_signed
+from ._verifier import Token, token_of
 from .algorithms import Algorithm, get_default_algorithms
 from .exceptions import DecodeError, InvalidAlgorithmError, InvalidKeyError, InvalidSignatureError
 from .types import Listed, Options
@@ -95,11 +95,14 @@ class PyJWS:
         if verifies and not names and not isinstance(key, PyJWK):
             raise DecodeError('It is required that you pass in a value for the "algorithms" argument when calling decode().')
         parts = parts_of(token_of("jwt", jwt))
-        if parts.header.get("b64", True) is False:
+        is_encoded = parts.header.get("b64", True)
+        if not isinstance(is_encoded, bool):
+            raise DecodeError("Invalid header string: b64 must be true or false")
+        if not is_encoded:
             if detached_payload is None:
                 why = "argument to decode a message having the b64 header set to false."
                 raise DecodeError(f'It is required that you pass in a value for the "detached_payload" {why}')
-            parts = parts._replace(texts=(parts.texts[0], detached_payload), payload=detached_payload)
+            parts = parts._replace(texts=(parts.texts[0], detached_payload, parts.texts[2]), payload=detached_payload)
         if verifies:
             self._verify(parts, key, names or (key.algorithm_name if isinstance(key, PyJWK) else "",))
         return {"payload": parts.payload, "header": parts.header, "signature": parts.signature}
@@ -132,27 +135,27 @@ class PyJWS:
             raise InvalidAlgorithmError(_refusals.UNLISTED_ALG)
         if named not in self._algorithms or named not in ALGORITHMS:
             raise InvalidAlgorithmError("Algorithm not supported")
-        token = b"%s.%s.%s" % (*parts.texts, base64url_encode(parts.signature))
-        if not _is_signed(key, named, token):
+        _check_header(parts, named)
+        if not _is_signed(key, named, parts):
             raise InvalidSignatureError("Signature verification failed")
 
 
-def _is_signed(key: Key, algorithm: str, token: bytes) -> bool:
+def _check_header(parts: Parts, algorithm: str) -> None:
+    """Raises an exception for what the library refuses in a header, such as its crit. It reads claims too, so that {} stands for the payload."""
+    header, _, signature = parts.texts
+    part = SignedPart(algorithm, b"%s.e30" % header, parts.signature)
+    claims_by_verdict(b"%s.e30.%s" % (header, signature), part, True, rules_of([algorithm], understood_crit="b64"), 0)
+
+
+def _is_signed(key: Key, algorithm: str, parts: Parts) -> bool:
     material = material_of(key)
     try:
-        handles = signature_handles(material, algorithm)
-    except Refusal as refusal:
-        if refusal.status != Status.UNFIT_KEY:
-            raise _refusals.exception_of_texts(refusal) from None
+        return is_signed(b"%s.%s" % parts.texts[:2], parts.signature, material, algorithm)
+    except InvalidKeyError:
+        # the token named it
         if isinstance(key, PyJWK):
             raise _refusals.other_algorithm(_refusals.UNFIT_KEY, "VerifierIsMade") from None
-        raise InvalidKeyError(f"the key is not for {algorithm}, or does not serve") from None
-    if token.count(b".") != 2:
-        raise NotImplementedError("a detached payload with a dot is not verified yet")
-    try:
-        return is_signed(handles, token)
-    except Refusal as refusal:
-        raise _refusals.exception_of(refusal, token) from None
+        raise
 
 
 _global = PyJWS()

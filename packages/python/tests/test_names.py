@@ -101,7 +101,15 @@ def detached():
     raises(jwt.DecodeError, jws.decode, token, SECRET, ["HS256"], said="detached_payload")
     raises(jwt.InvalidSignatureError, jwt.decode, token, SECRET, ["HS256"])
     mac = part(hmac.digest(SECRET.encode(), f"{head}.".encode() + b"a.b", "sha256"))
-    raises(NotImplementedError, jws.decode, f"{head}..{mac}", SECRET, ["HS256"], detached_payload=b"a.b", said="dot")
+    gives(b"a.b", jws.decode, f"{head}..{mac}", SECRET, ["HS256"], detached_payload=b"a.b")
+    raises(jwt.InvalidSignatureError, jws.decode, f"{head}..{mac}", SECRET, ["HS256"], detached_payload=b"a.c")
+    # RFC 7797 section 4.2, by its key
+    head, payload = "eyJhbGciOiJIUzI1NiIsImI2NCI6ZmFsc2UsImNyaXQiOlsiYjY0Il19", b"$.02"
+    key = {"kty": "oct", "k": "AyM1SysPpbyDfgZld3umj1qzKObwVMkoqQ-EstJQLr_T-1qS0gZH75aKtMN3Yj0iPS4hcgUuTwjAzZr1Z9CAow"}
+    for it in (jwt.PyJWK(key), key):
+        gives(payload, jws.decode, f"{head}..A5dxf2s96_n5FLueVuW1Z_vh161FwXZC4YLPff6dmDY", it, ["HS256"], detached_payload=payload)
+    raises(jwt.DecodeError, jwt.decode, f"{head}.e30.A5dxf2s96_n5FLueVuW1Z_vh161FwXZC4YLPff6dmDY", key, ["HS256"], said="crit")
+    raises(jwt.DecodeError, jws.decode, signed({}, b64=0), SECRET, ["HS256"], said="b64")
 
 
 def algorithms_of_jws():
@@ -124,15 +132,11 @@ def algorithms_of_jws():
     raises(jwt.InvalidKeyError, found["none"].prepare_key, "a")
     gives(hashlib.sha256(b"abc").digest(), found["HS256"].compute_hash_digest, b"abc")
     raises(NotImplementedError, found["none"].compute_hash_digest, b"abc")
-    # the message of a token
-    message = ".".join(map(part, (b"{}", b"x"))).encode()
-    mac = hmac.digest(SECRET.encode(), message, "sha256")
-    gives(mac, found["HS256"].sign, message, SECRET.encode())
-    raises(NotImplementedError, found["HS256"].verify, message, SECRET.encode(), mac)
-    message = ".".join(map(part, (b'{"alg":"HS256"}', b"x"))).encode()
-    mac = hmac.digest(SECRET.encode(), message, "sha256")
-    gives(True, found["HS256"].verify, message, SECRET.encode(), mac)
-    gives(False, found["HS256"].verify, message, SECRET.encode(), bytes(32))
+    for message in (b"", b"any.bytes\0\xff", bytes(5000)):
+        mac = hmac.digest(SECRET.encode(), message, "sha256")
+        gives(mac, found["HS256"].sign, message, SECRET.encode())
+        gives(True, found["HS256"].verify, message, SECRET.encode(), mac)
+        gives(False, found["HS256"].verify, message, SECRET.encode(), bytes(32))
     for it in ("", "-----BEGIN PUBLIC KEY-----\nAA==\n-----END PUBLIC KEY-----\n", "ssh-rsa AAAA"):
         raises(jwt.InvalidKeyError, found["HS256"].prepare_key, it)
     raises(TypeError, found["HS256"].prepare_key, None)

@@ -1,9 +1,10 @@
-"""Runs rows of crates/jwt_vectors/data by the installed package: those that verify with a JSON Web Key or a set of keys, and those about
-signatures that are made or checked elsewhere, keys in PEM and thumbprints. The last line counts."""
+"""Runs rows of crates/jwt_vectors/data by the installed package: those that verify with a JSON Web Key or a set of keys, one signature by any
+key, and those about signatures that are made or checked elsewhere, keys in PEM and thumbprints. The last line counts."""
+import base64
 import glob
 import json
 
-from counting import TOP, finish, gives, outcome, test
+from counting import TOP, finish, gives, outcome, part, test
 
 import jwtproved as jwt
 from jwtproved import _keys
@@ -66,6 +67,29 @@ def token_by_signature(row):
     return jwt.encode_by_signature(claims(row), part, raw(row["signature"]), {"typ": None, **row["header"]})
 
 
+def key_of(key):
+    """Returns a key as the package takes it, or None for one that has no such form."""
+    (form, value), = key.items()
+    if form == "jwk":
+        return value
+    if form == "rsa_components":
+        return {"kty": "RSA", **{name: it if isinstance(it, str) else part(raw(it)) for name, it in zip("ne", value)}}
+    if form == "ec_components":
+        return {"kty": "EC", "crv": "P-256" if len(value[0]) < 60 else "P-384", "x": value[0], "y": value[1]}
+    if form == "ed_der":
+        return {"kty": "OKP", "crv": "Ed25519", "x": part(raw(value))}
+    # a point that is not compressed (SEC 1 section 2.3.3)
+    octets = raw(value)
+    if form == "ec_der" and octets[:1] == b"\4" and len(octets) in (65, 97):
+        half = len(octets) // 2
+        return {"kty": "EC", "crv": "P-256" if half == 32 else "P-384", "x": part(octets[1 : half + 1]), "y": part(octets[half + 1 :])}
+    return octets if form == "secret" else None
+
+
+def is_signature(row):
+    return jwt.verify(raw(row["message"]), base64.urlsafe_b64decode(row["signature"] + "=="), key_of(row["key"]), row["algorithm"])
+
+
 def parts(row):
     part = jwt.signed_part(row["token"])
     return {"header": jwt.get_unverified_header(row["token"]), "signed": {"message": part.message.hex(), "signature": part.signature.hex()}}
@@ -85,6 +109,7 @@ def key_in_pem(row):
 
 
 CALLS = {
+    "verify": is_signature,
     "signing_input": message,
     "encode_by_signature": token_by_signature,
     "ecdsa_signature": signature,
@@ -98,7 +123,10 @@ CALLS = {
 def call_of(row):
     """Returns what runs a row, or None for one that the package has no call for."""
     # some headers and keys are those of Rust, and not JSON of one
-    if "header" in row.get("header", {}) or "other" in row.get("jwk", {}) or row.get("provider") not in (None, "StandardProvider"):
+    if "header" in row.get("header", {}) or "other" in row.get("jwk", {}) or row.get("provider") not in (None, "StandardProvider", "RsaProvider"):
+        return None
+    # the bytes of a signature are given, and not its text
+    if row["call"] == "verify" and (key_of(row["key"]) is None or row["want"] == {"err": "Base64"}):
         return None
     # of times that are issued, the package cuts the fraction
     if row.get("claims_json") == '{"exp":1.5}':
@@ -113,7 +141,7 @@ def run(row, call):
     want = row["want"]
     if "ok" in want:
         ok = want["ok"]
-        gives(ok["claims"] if "claims" in ok else ok, call, row)
+        gives(ok["claims"] if isinstance(ok, dict) and "claims" in ok else ok, call, row)
         return
     got = outcome(call, row)
     kinds = KINDS[want["err"].partition("(")[0]]

@@ -145,6 +145,28 @@ def ecdsa_signatures():
         raises(TypeError, jwt.ecdsa_signature, der, it, said="algorithm")
 
 
+def one_signature():
+    """A signature is verified with one key, which has to be for the algorithm. What is one is in the rows of `verify`."""
+    key = {"kty": "oct", "k": part(SECRET.encode())}
+    message, mac = b"any bytes", hmac.digest(SECRET.encode(), b"any bytes", "sha512")
+    for it in (SECRET, SECRET.encode(), key, jwt.PyJWK(key), jwt.PyJWK({**key, "alg": "HS512"})):
+        gives(True, jwt.verify, message, mac, it, "HS512")
+        gives(True, jwt.verify, message.decode(), memoryview(mac), it, algorithm="HS512")
+        for other in ((message + b" ", mac), (message, mac[:-1]), (message, b""), (message, mac[::-1])):
+            gives(False, jwt.verify, *other, it, "HS512")
+        raises(jwt.InvalidKeyError, jwt.verify, message, mac, it, "ES256", said="ES256")
+    raises(jwt.InvalidKeyError, jwt.verify, message, mac, jwt.PyJWK({**key, "alg": "HS512"}), "HS256", said="HS256")
+    raises(jwt.InvalidKeyError, jwt.verify, message, mac, {"keys": [key]}, "HS512", said="set")
+    raises(jwt.InvalidKeyError, jwt.verify, message, mac, "", "HS512", said="anyone")
+    raises(jwt.InvalidKeyError, jwt.verify, message, mac, ED_KEY, "HS512", said="HS512")
+    for it in (None, 5, [SECRET]):
+        raises(TypeError, jwt.verify, message, mac, it, "HS512", said="key")
+        raises(TypeError, jwt.verify, it, mac, SECRET, "HS512", said="message")
+        raises(TypeError, jwt.verify, message, it, SECRET, "HS512", said="signature")
+        raises(TypeError, jwt.verify, message, mac, SECRET, it, said="algorithm")
+    raises(ValueError, jwt.verify, message, mac, SECRET, "none", said="algorithm")
+
+
 def thumbprints():
     gives("NzbLsXh8uDCcd-6MNwXF4W_7noWXFZAfHkxZsRGC9Xs", jwt.thumbprint, KEY_2011)
     gives("kPrK_qmxVWaYVA9wwBF6Iuo3vVzz7TxHCTwXBygrS4k", jwt.thumbprint, jwt.PyJWK(ED_KEY))
@@ -169,6 +191,6 @@ def headers():
     test("a header is read as JSON", json.dumps(jwt.get_unverified_header(RS256)) == '{"alg": "RS256"}')
 
 
-for step in (tokens_of_standards, verdicts, messages, slips, ecdsa_signatures, thumbprints, headers):
+for step in (tokens_of_standards, verdicts, messages, slips, ecdsa_signatures, one_signature, thumbprints, headers):
     step()
 finish("signatures")
