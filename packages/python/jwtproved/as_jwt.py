@@ -2,7 +2,8 @@
 
     import jwtproved.as_jwt
 
-Raises ImportError if another package of this name was imported already.
+Raises ImportError if another package of this name was imported already. From then on the name of one algorithm, as in `algorithms="RS256"`,
+is taken for a list of it, since programs over PyJWT pass it.
 """
 import importlib
 import importlib.abc
@@ -13,6 +14,7 @@ from types import ModuleType
 from typing import Any
 
 import jwtproved
+from jwtproved import _rules
 
 # of the interface, which programs compare
 VERSION = "2.10.1"
@@ -55,3 +57,4 @@ if "jwt" in sys.modules:
     raise ImportError(f"jwt was imported already, from {getattr(sys.modules['jwt'], '__file__', '?')}: import jwtproved.as_jwt before it")
 sys.meta_path.insert(0, _Finder())
 sys.modules["jwt"] = _package()
+_rules.takes_text = True

@@ -262,6 +262,13 @@ try:
 except ModuleNotFoundError as error:
     assert "jwt.nothing" in str(error)
 import jwtproved.as_jwt
+assert jwt.decode(jwt.encode({}, "secret", "HS512"), "secret", algorithms="HS512") == {} == jwt.decode(jwt.encode({}, "secret"), "secret", "HS256")
+for name, kind in (("HS384", jwt.InvalidAlgorithmError), ("HS256,HS512", TypeError), ("", TypeError), ("HS25", TypeError), ("none", TypeError)):
+    try:
+        jwt.decode(jwt.encode({}, "secret"), "secret", algorithms=name)
+    except kind:
+        continue
+    raise AssertionError(name)
 """
 
 
