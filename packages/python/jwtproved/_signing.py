@@ -24,8 +24,17 @@ def signs(private: Any, algorithm: str) -> Callable[[bytes], bytes]:
     digest = getattr(hashes, f"SHA{algorithm[2:]}")()
     if algorithm.startswith("ES"):
         return lambda message: ecdsa_signature(private.sign(message, ec.ECDSA(digest)), algorithm)
-    padded = padding.PSS(padding.MGF1(digest), digest.digest_size) if algorithm.startswith("PS") else padding.PKCS1v15()
-    return lambda message: private.sign(message, padded, digest)  # type: ignore[no-any-return]
+    if algorithm.startswith("PS"):
+        padded = padding.PSS(padding.MGF1(digest), digest.digest_size)
+        return lambda message: private.sign(message, padded, digest)  # type: ignore[no-any-return]
+    return pkcs1_signs(private, digest)
+
+
+def pkcs1_signs(private: Any, digest: Any) -> Callable[[bytes], bytes]:
+    """Returns what signs a message with a private key of RSA by RSASSA-PKCS1-v1_5 (RFC 8017 section 8.2)."""
+    from cryptography.hazmat.primitives.asymmetric.padding import PKCS1v15
+
+    return lambda message: private.sign(message, PKCS1v15(), digest)  # type: ignore[no-any-return]
 
 
 class Signer:

@@ -4,6 +4,7 @@ import hmac
 import importlib.util
 import json
 from abc import ABC, abstractmethod
+from collections.abc import Callable
 from typing import Any, ClassVar, NoReturn
 
 from . import _cryptography
@@ -11,7 +12,7 @@ from ._keys import Material, bytes_of, material_of, material_of_public
 from ._library import FAMILIES, algorithms_of
 from ._rules import wrong_type
 from ._signatures import is_signed
-from ._signing import signs
+from ._signing import pkcs1_signs, signs
 from .exceptions import InvalidKeyError
 from .utils import base64url_encode
 
@@ -177,7 +178,10 @@ class _OfCryptography(Algorithm):
     def sign(self, msg: bytes, key: Any) -> bytes:
         if not _cryptography.is_private(key):
             raise InvalidKeyError("the key is public, and signing needs the private one")
-        return signs(key, self._named("signs"))(msg)
+        return self._signs(key)(msg)
+
+    def _signs(self, key: Any) -> Callable[[bytes], bytes]:
+        return signs(key, self._named("signs"))
 
     @staticmethod
     def to_jwk(key_obj: Any, as_dict: bool = False) -> Any:
@@ -185,7 +189,7 @@ class _OfCryptography(Algorithm):
 
 
 class RSAAlgorithm(_OfCryptography):
-    """RSASSA-PKCS1-v1_5 with SHA-2."""
+    """RSASSA-PKCS1-v1_5 with SHA-2. With another digest it signs alone, as for OAuth 1 (RFC 5849 section 3.4.3), and verifies nothing."""
 
     _family = _RSA
     if has_crypto:
@@ -197,6 +201,9 @@ class RSAAlgorithm(_OfCryptography):
         self.name = {self.SHA256: "256", self.SHA384: "384", self.SHA512: "512"}.get(hash_alg)
         if self.name is not None:
             self.name = f"{self._prefix}{self.name}"
+
+    def _signs(self, key: Any) -> Callable[[bytes], bytes]:
+        return super()._signs(key) if self.name or self._prefix != "RS" else pkcs1_signs(key, self.hash_alg())
 
     @staticmethod
     def from_jwk(jwk: str | dict[str, Any]) -> Any:

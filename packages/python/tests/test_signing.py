@@ -251,7 +251,11 @@ def algorithms_by_name():
         raises(jwt.InvalidKeyError, jwt.PyJWS().encode, b"any bytes", other, name)
     raises(jwt.InvalidAlgorithmError, jwt.PyJWS().decode, token, jwt.PyJWK(JWKS["RS256"]), ["EdDSA"])
     raises(jwt.InvalidKeyError, jwt.PyJWS().decode, token, RSA.public_key(), ["EdDSA"], said="EdDSA")
-    raises(NotImplementedError, algorithms.RSAAlgorithm(hashes.SHA1).sign, b"a", RSA, said="digest")
+    of_sha1 = algorithms.RSAAlgorithm(hashes.SHA1)
+    gives(None, lambda: RSA.public_key().verify(of_sha1.sign(b"a", of_sha1.prepare_key(pem(RSA).decode())), b"a", padding.PKCS1v15(), hashes.SHA1()))
+    raises(NotImplementedError, of_sha1.verify, b"a", RSA.public_key(), of_sha1.sign(b"a", RSA), said="digest")
+    raises(NotImplementedError, algorithms.RSAPSSAlgorithm(hashes.SHA1).sign, b"a", RSA, said="digest")
+    raises(NotImplementedError, algorithms.ECAlgorithm(hashes.SHA512).sign, b"a", P256, said="digest")
     gives(hashlib.sha384(b"abc").digest(), made["PS384"].compute_hash_digest, b"abc")
     raises(NotImplementedError, made["EdDSA"].compute_hash_digest, b"abc")
 
