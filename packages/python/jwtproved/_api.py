@@ -36,7 +36,7 @@ def _plain_call(
     understood_crit: Names,
 ) -> tuple[Any, ...] | None:
     """Returns what the checker for the arguments of a call is kept under, or None if they are to be read again."""
-    if options is not None or understood_crit is not None or type(algorithms) is not list or type(key) not in (str, bytes):
+    if options is not None or understood_crit is not None or type(algorithms) is not list or type(key) not in (str, bytes, PyJWK):
         return None
     asked = (audience, issuer, subject, leeway, *algorithms)
     return (type(key), key, *asked) if _PLAIN.issuperset(map(type, asked)) else None

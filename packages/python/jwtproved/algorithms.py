@@ -241,5 +241,9 @@ class OKPAlgorithm(_OfCryptography):
         pass
 
     @staticmethod
+    def to_jwk(key: Any, as_dict: bool = False) -> Any:
+        return _written(_cryptography.jwk_of(key), as_dict)
+
+    @staticmethod
     def from_jwk(jwk: str | dict[str, Any]) -> Any:
         return _cryptography.of_jwk(_object(jwk, _OKP, "Not an Octet Key Pair"))

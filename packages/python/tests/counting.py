@@ -1,5 +1,6 @@
 """What the tests of the package share: they count, and set the clock that the package reads."""
 import base64
+import importlib
 import os
 import sys
 
@@ -13,6 +14,18 @@ from jwtproved import _verifier
 TOP = os.path.dirname(os.path.dirname(os.path.dirname(os.path.dirname(os.path.abspath(__file__)))))
 sys.path.append(f"{TOP}/tests")
 import tokens
+
+def peer():
+    """Returns PyJWT, that of Debian if the environment has none, or None."""
+    found = list(sys.path)
+    sys.path.append("/usr/lib/python3/dist-packages")
+    try:
+        return importlib.import_module("jwt")
+    except ImportError:
+        return None
+    finally:
+        sys.path[:] = found
+
 
 SECRET = "0123456789abcdef0123456789abcdef"
 NOW = 1700000000

@@ -3,21 +3,19 @@ counts. Expected values are those of RFC 7515 to RFC 7518, and of PyJWT 2.10.1's
 import base64
 import hashlib
 import hmac
+import importlib
 import inspect
 import json
 import subprocess
 import sys
 import warnings
 
-from counting import HS, NOW, SECRET, at, changed, finish, gives, outcome, part, raises, signed, test
+from counting import HS, NOW, SECRET, at, changed, finish, gives, outcome, part, peer, raises, signed, test
 
 import jwtproved as jwt
 from jwtproved import algorithms, api_jws, utils
 
-try:
-    import jwt as peer
-except ImportError:
-    peer = None
+PEER = peer()
 
 # of a token that no library signs
 NONE = ".".join(map(part, (b'{"alg":"none"}', b'{"a":1,"exp":1}', b"")))
@@ -46,21 +44,49 @@ def modules():
     test("cryptography is not loaded by itself", subprocess.run([sys.executable, "-c", lean]).returncode == 0)
 
 
+# what no program makes: PyJWKClient keeps its sets in it
+NOT_ITS = {"PyJWTSetWithTimestamp"}
+
+
+def parameters(call):
+    return list(inspect.signature(call).parameters)
+
+
+def its_names(of):
+    """Yields each class and call that a module or a class of PyJWT defines, by its name."""
+    for name, it in vars(of).items():
+        call = it.__func__ if isinstance(it, (staticmethod, classmethod)) else it
+        if (inspect.isfunction(call) or inspect.isclass(call)) and call.__module__.startswith("jwt.") and (not name.startswith("_") or name == "__init__"):
+            yield name, call
+
+
 def arguments_are_its():
-    """The calls have PyJWT's arguments, in its order."""
-    if peer is None:
+    """Each class and call of PyJWT is here by its name, with its arguments in its order, as far as the version has them."""
+    if PEER is None:
         return
-    for name in ("encode", "decode", "get_unverified_header"):
-        # the order of subject and issuer is that of 2.10, which 2.6 has not
-        theirs, ours = (list(inspect.signature(getattr(it, name)).parameters) for it in (peer, jwt))
-        missing = [it for it in theirs if it not in ours]
-        test(f"{name} lacks {missing}", not missing and ours[:4] == theirs[:4])
-    missing = [it for it in peer.__all__ if not hasattr(jwt, it)]
-    test(f"the package lacks {missing} of PyJWT {peer.__version__}", not missing)
-    for name in vars(peer.exceptions):
-        if inspect.isclass(getattr(peer.exceptions, name)):
-            its, own = ([it.__name__ for it in getattr(of.exceptions, name).__mro__] for of in (peer, jwt))
+    for module in ("api_jwk", "api_jws", "api_jwt", "algorithms", "jwks_client", "utils"):
+        theirs, ours = (importlib.import_module(f"{of.__name__}.{module}") for of in (PEER, jwt))
+        for name, it in its_names(theirs):
+            if it.__module__ == theirs.__name__ and name not in NOT_ITS:
+                same_arguments(f"{module}.{name}", it, getattr(ours, name, None))
+    missing = [it for it in PEER.__all__ if not hasattr(jwt, it)]
+    test(f"the package lacks {missing} of PyJWT {PEER.__version__}", not missing)
+    for name in vars(PEER.exceptions):
+        if inspect.isclass(getattr(PEER.exceptions, name)):
+            its, own = ([it.__name__ for it in getattr(of.exceptions, name).__mro__] for of in (PEER, jwt))
             test(f"the bases of {name} are {own}, not {its}", its == own)
+
+
+def same_arguments(name, theirs, ours):
+    test(f"no {name}", ours is not None)
+    if ours is None:
+        return
+    if inspect.isclass(theirs):
+        for inner, it in its_names(theirs):
+            same_arguments(f"{name}.{inner}", it, getattr(ours, inner, None))
+        return
+    wanted, found = parameters(theirs), parameters(ours)
+    test(f"{name} has {found}, not {wanted}", [it for it in wanted if it in found] == wanted)
 
 
 def tokens_of_bytes():

@@ -9,17 +9,14 @@ import sys
 import textwrap
 import traceback
 
-from counting import NOW, SECRET, at, finish, gives, outcome, part, raises, test
+from counting import NOW, SECRET, at, finish, gives, outcome, part, peer, raises, test
 from cryptography.hazmat.primitives import hashes, serialization
 from cryptography.hazmat.primitives.asymmetric import ec, ed448, ed25519, padding, rsa, utils
 
 import jwtproved as jwt
 from jwtproved import _cryptography, algorithms
 
-try:
-    import jwt as peer
-except ImportError:
-    peer = None
+PEER = peer()
 
 RSA = rsa.generate_private_key(65537, 2048)
 P256, P384 = (ec.generate_private_key(curve()) for curve in (ec.SECP256R1, ec.SECP384R1))
@@ -99,8 +96,8 @@ def all_algorithms():
             gives(CLAIMS, jwt.decode, token, public_pem(key), [algorithm])
             gives(None, verify, algorithm, token)
             gives({"alg": algorithm, "kid": "a", "typ": "JWT"}, jwt.get_unverified_header, token)
-            if peer is not None:
-                gives(CLAIMS, peer.decode, token, key.public_key(), [algorithm])
+            if PEER is not None:
+                gives(CLAIMS, PEER.decode, token, key.public_key(), [algorithm])
     gives("RS256", lambda: jwt.get_unverified_header(jwt.encode({}, jwt.PyJWK(JWKS["RS256"])))["alg"])
     gives("PS512", lambda: jwt.get_unverified_header(jwt.encode({}, jwt.PyJWK({**JWKS["RS256"], "alg": "PS512"})))["alg"])
     gives("PS256", lambda: jwt.get_unverified_header(jwt.encode({}, RSA, "RS256", {"alg": "PS256"}))["alg"])
