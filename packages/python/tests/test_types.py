@@ -41,6 +41,7 @@ jwt.encode({}, of_ed, "EdDSA")
 jwt.Verifier(keys, ("RS256",)).decode(token.encode(), now=5.5)
 jwt.PyJWS().decode(token, secret, ["HS256"])
 jwt.PyJWT({"verify_aud": False}).decode(token, secret, ["HS256"])
+jwt.verify(b"message", b"signature", of_rsa.public_key(), "RS256").bit_length()
 
 jwt.decode(token, secret, algorithms="HS256")  # error
 jwt.decode(token, secret, b"HS256")  # error
@@ -62,6 +63,8 @@ jwt.Verifier(keys, ["RS256"], aud="a")  # error
 jwt.Verifier(keys, ["RS256"]).decode(token, datetime.datetime.now())  # error
 jwt.PyJWS().decode(token, secret, "HS256")  # error
 jwt.PyJWT({"verify": False})  # error
+jwt.verify(b"message", b"signature", secret, ["HS256"])  # error
+jwt.verify(b"message", "signature", secret, "HS256")  # error
 """
 
 
