@@ -41,8 +41,8 @@ ngx_http_jwt_unfit(void *text, size_t len, ngx_uint_t is_set)
 
     for (i = 0; i < 5 && len <= NGX_HTTP_JWT_TRIED; i++) {
         if ((is_set ? jwt_verifier_set : jwt_verifier_key)
-                (text, len, it[i].options.data, it[i].options.len, 0, 0,
-                 JWT_PREPARE_NOTHING, &verifier)
+                (text, len, (char *) it[i].options.data, it[i].options.len, 0,
+                 0, JWT_PREPARE_NOTHING, &verifier)
             == JWT_OK)
         {
             jwt_verifier_free(&verifier);
