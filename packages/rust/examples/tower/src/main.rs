@@ -50,8 +50,9 @@ where
         let next = self.inner.clone();
         let mut ready = std::mem::replace(&mut self.inner, next);
         let (keys, validation) = (self.keys.clone(), self.validation.clone());
+        let token = token(&request);
         Box::pin(async move {
-            match session(&keys, &validation, token(&request)).await {
+            match session(&keys, &validation, token).await {
                 Ok(session) => {
                     request.extensions_mut().insert(session);
                     ready.call(request).await

@@ -1,6 +1,7 @@
 //! ECDSA over P-256 by OpenSSL's libcrypto.
 
-use std::ffi::{c_int, c_long, c_void};
+use std::ffi::c_void;
+use std::os::raw::{c_int, c_long};
 use std::ptr;
 
 type Ptr = *mut c_void;
