@@ -17,11 +17,11 @@ use Rattle.jwt_command.specs.declared.verify.verdict.Denial.TheVariants.{Refused
 
 module _ (token : List ℕ) (keys : Keys) (options : Options) (time : ℕ) (typ : Option (List ℕ)) where
   -- the result of the tests by options that are settled, unless memory ran out
-  Tested : Result (TokenData Value) Refusal → Type 0
+  abbrev pub Tested : Result (TokenData Value) Refusal → Type 0
   Tested r = IsErrAnd r (λ refusal. IsMemory refusal.error)
       ⊎ ((settled : Options) × IsSettled keys token options settled × IsDecoded token keys settled time r)
 
-  Judged : Result (TokenData Value) Denial → Type 0
+  abbrev pub Judged : Result (TokenData Value) Denial → Type 0
   Judged verdict = (settled : Options) × IsSettled keys token options settled
       × IsJudged token keys settled time typ verdict
 
