@@ -1,4 +1,4 @@
-//! JSON Web Tokens for C. `include/jwtproved.h` describes how each is called.
+//! JSON Web Tokens for C. `packages/c/include/jwtproved.h` describes how each is called.
 //!
 //! The clause of each call says that the status, the length and the buffer hold a result that the
 //! library's own definitions allow. Nothing is kept between calls but the verifiers that C holds.
@@ -15,7 +15,7 @@
 #![tactic(auto)]
 
 ghost use Rattle.std.specs.Prelude.{◌≡◌, ℕ, List, length, None, Some, MatchOption};
-ghost use Rattle.jwt_base.specs.Kind.{Kind, text_of};
+ghost use Rattle.jwt_base.specs.Kind.{Kind};
 ghost use Rattle.jwt_c_calls.specs.BySignature.{AnswersSignature, AnswersEcdsa, LeavesInput};
 ghost use Rattle.jwt_c_calls.specs.Calls.{Answer, Leaves, LeavesSigned, AnswersHmac, AnswersKey};
 ghost use Rattle.jwt_c_calls.specs.Calls.{AnswersSet, AnswersSaid, AnswersHeader, AnswersNumbers};
@@ -31,7 +31,7 @@ ghost use Rattle.jwt_c_calls.specs.Options.{AnswersFault, AnswersQuoted};
 ghost use Rattle.jwt_c_calls.specs.Secrets.{ChecksSecret, ChecksKey, ChecksSet};
 ghost use Rattle.jwt_c_calls.specs.Serving.{AnswersAlgorithms};
 ghost use Rattle.jwt_c_calls.specs.Signatures.{AnswersVerifyHmac, AnswersVerifyKey};
-ghost use Rattle.jwt_c_calls.specs.Status.{kind_part, number, no_status, status_text, version};
+ghost use Rattle.jwt_c_calls.specs.Status.{kind_part, number, no_status, status_text, told_text, version};
 ghost use Rattle.jwt_c_calls.specs.Status.{algorithm_numbered, IsGiven, IsKept};
 ghost use Rattle.jwt_c_verifier.specs.TestNumbers.{LeavesTestName};
 ghost use Rattle.jwt_c_verifier.specs.Verifiers.{limits_of, AreOfKey, AreOfSecret, AreOfSet};
@@ -752,8 +752,8 @@ pub extern "C" fn jwt_status_text(status: u32, room: &mut [u8], len: &mut usize)
     ensures text { MatchOption (status_text status)
         (IsKept no_status result len.new room.old room.new)
         (λ given. IsGiven given result len.new room.old room.new) }
-    // The text of a refusal's status is that of its kind.
-    ensures kinds { (k : Kind) → status_text (number k) ≡ Some (text_of (kind_part k)) }
+    // The text of a refusal's status is that of its kind, as far as a status tells it.
+    ensures kinds { (k : Kind) → status_text (number k) ≡ Some (told_text (kind_part k)) }
 {
     match text_of(status) {
         Some(text) => put_bytes(text.as_bytes(), room, len),
@@ -777,7 +777,7 @@ pub extern "C" fn jwt_test_text(test: u32, room: &mut [u8], len: &mut usize) -> 
     put_bytes(test.name().as_bytes(), room, len)
 }
 
-/// Writes the version of the library, the `JWT_VERSION` of `include/jwtproved.h`.
+/// Writes the version of the library, the `JWT_VERSION` of `packages/c/include/jwtproved.h`.
 #[unsafe(no_mangle)]
 pub extern "C" fn jwt_version(room: &mut [u8], len: &mut usize) -> u32
     ensures { IsGiven version result len.new room.old room.new }

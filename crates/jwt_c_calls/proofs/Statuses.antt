@@ -1,19 +1,19 @@
--- The text of a refusal's status is that of its kind.
-use Rattle.std.proofs.Common.{◌≡◌, ◌+◌, ◌++◌, ℕ, [], Bool, true, false, Some, refl, slice_get, unwrap_or, codes, if◌then◌else◌}
+-- The text of a refusal's status is that of its kind, as far as a status tells it.
+use Rattle.std.proofs.Common.{◌≡◌, ◌+◌, ℕ, [], Bool, true, false, Some, refl, slice_get, unwrap_or, codes, if◌then◌else◌}
 use Rattle.std.specs.Str.{bytes_eq}
-use Rattle.jwt_base.specs.Kind.{Kind, text_of, InvalidToken, InvalidSignature, InvalidEcdsaKey, InvalidEddsaKey}
+use Rattle.jwt_base.specs.Kind.{Kind, InvalidToken, InvalidSignature, InvalidEcdsaKey, InvalidEddsaKey}
 use Rattle.jwt_base.specs.Kind.{RsaFailedSigning, InvalidAlgorithmName, UnsupportedAlgorithm, InvalidKeyFormat}
 use Rattle.jwt_base.specs.Kind.{ExpiredSignature, InvalidIssuer, InvalidAudience, InvalidSubject, ImmatureSignature}
 use Rattle.jwt_base.specs.Kind.{InvalidAlgorithm, MissingAlgorithm, MissingRequiredClaim, InvalidClaimFormat}
 use Rattle.jwt_base.specs.Kind.{InvalidRsaKey, Signing, Provider, Base64, Json, Utf8, OutOfMemory, ClockBeforeEpoch}
 use Rattle.jwt_base.specs.Kind.{InvalidCrit, NoKey}
-use Rattle.jwt_c_calls.specs.Status.{claim_names, kind_part, number, status_text}
+use Rattle.jwt_c_calls.specs.Status.{claim_names, kind_part, number, status_text, told_text}
 
 abbrev place : Bool → Bool → Bool → Bool → Bool → ℕ
 place a b c d e = if a then 0 else (if b then 1 else (if c then 2 else (if d then 3 else (if e then 4 else 19))))
 
 missing : (a b c d e : Bool) → status_text (40 + place a b c d e)
-    ≡ Some (codes "Missing required claim: " ++ unwrap_or (slice_get claim_names (place a b c d e)) [])
+    ≡ Some (told_text (MissingRequiredClaim (unwrap_or (slice_get claim_names (place a b c d e)) [])))
 missing true b c d e = refl
 missing false true c d e = refl
 missing false false true d e = refl
@@ -22,7 +22,7 @@ missing false false false false true = refl
 missing false false false false false = refl
 
 malformed : (a b c d e : Bool) → status_text (60 + place a b c d e)
-    ≡ Some (codes "Invalid format for claim: " ++ unwrap_or (slice_get claim_names (place a b c d e)) [])
+    ≡ Some (told_text (InvalidClaimFormat (unwrap_or (slice_get claim_names (place a b c d e)) [])))
 malformed true b c d e = refl
 malformed false true c d e = refl
 malformed false false true d e = refl
@@ -30,7 +30,7 @@ malformed false false false true e = refl
 malformed false false false false true = refl
 malformed false false false false false = refl
 
-pub kind_texts : (k : Kind) → status_text (number k) ≡ Some (text_of (kind_part k))
+pub kind_texts : (k : Kind) → status_text (number k) ≡ Some (told_text (kind_part k))
 kind_texts InvalidToken = refl
 kind_texts InvalidSignature = refl
 kind_texts InvalidEcdsaKey = refl

@@ -107,11 +107,21 @@ key_as_secret = 113
 abbrev pub mixed_families : ℕ
 mixed_families = 114
 
--- the status of a kind, with the kind's text
-abbrev pub of_kind : Kind → ℕ × List ℕ
-of_kind k = (number k, text_of k)
+-- The text of a status is that of its kind, without the colon that announces what no status tells: a message, or the
+-- claim of another name than the five. In C a provider's kind is that of a private key alone.
+abbrev pub told_text : Kind → List ℕ
+told_text (InvalidRsaKey message) = codes "RSA key invalid"
+told_text (Signing message) = codes "Signing failed"
+told_text (Provider message) = codes "Private key, and not a public one"
+told_text (MissingRequiredClaim []) = codes "Missing required claim"
+told_text (InvalidClaimFormat []) = codes "Invalid format for claim"
+told_text k = text_of k
 
--- the statuses with their texts; a claim of another name has none in the text
+-- the status of a kind, with its text
+abbrev pub of_kind : Kind → ℕ × List ℕ
+of_kind k = (number k, told_text k)
+
+-- the statuses with their texts
 abbrev pub statuses : List (ℕ × List ℕ)
 statuses = (0, codes "OK")
     ∷ of_kind InvalidToken ∷ of_kind InvalidSignature ∷ of_kind InvalidEcdsaKey ∷ of_kind InvalidEddsaKey
@@ -189,6 +199,6 @@ pub record IsKept (n status len : ℕ) (before after : List ℕ) : Type 0 where
 abbrev pub algorithm_numbered : ℕ → Option Algorithm
 algorithm_numbered n = if n == 0 then None else slice_get all_algorithms (n - 1)
 
--- the version of the library, the `JWT_VERSION` of `include/jwtproved.h`
+-- the version of the library, the `JWT_VERSION` of `packages/c/include/jwtproved.h`
 abbrev pub version : List ℕ
 version = codes "0.1.0"

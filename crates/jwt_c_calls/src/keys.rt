@@ -27,6 +27,7 @@ use std::alloc::Global;
 use std::result::Result;
 
 /// Returns the options that a text describes, and the key of a secret, for HMAC.
+#[inline(always)]
 pub fn options_and_secret(
     alloc: Global,
     options: &[u8],
@@ -43,6 +44,7 @@ pub fn options_and_secret(
 
 /// Returns the options and the key that two texts describe. The text of the key is one JSON Web Key
 /// (RFC 7517 section 4).
+#[inline(always)]
 pub fn options_and_key(
     alloc: Global,
     options: &[u8],
@@ -63,6 +65,7 @@ pub fn options_and_key(
 }
 
 /// Returns the options and the key set that two texts describe (RFC 7517 section 5).
+#[inline(always)]
 pub fn options_and_set(
     alloc: Global,
     options: &[u8],

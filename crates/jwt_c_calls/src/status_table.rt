@@ -3,7 +3,7 @@
 // A status says which registered claim is meant: no state is kept between calls, so the name has to
 // be in the number, or the caller would have to ask again with all that it gave. Missing claims
 // have 40 to 59 and malformed ones 60 to 79, so that a further claim has its status next to the
-// others. The names are those of `include/jwtproved.h`.
+// others. The names are those of `packages/c/include/jwtproved.h`.
 
 ghost use Rattle.std.specs.Prelude.{◌≡◌, map, option_map};
 ghost use Rattle.jwt_c_calls.specs.Status.{status_text, statuses, text_in};
@@ -43,11 +43,11 @@ pub const INVALID_ALGORITHM: Status = (14, "InvalidAlgorithm");
 
 pub const MISSING_ALGORITHM: Status = (15, "MissingAlgorithm");
 
-pub const INVALID_RSA_KEY: Status = (16, "RSA key invalid: ");
+pub const INVALID_RSA_KEY: Status = (16, "RSA key invalid");
 
-pub const SIGNING: Status = (17, "Signing failed: ");
+pub const SIGNING: Status = (17, "Signing failed");
 
-pub const PROVIDER: Status = (18, "Custom provider error: ");
+pub const PROVIDER: Status = (18, "Private key, and not a public one");
 
 pub const BASE64: Status = (19, "Base64 error");
 
@@ -73,7 +73,7 @@ pub const MISSING_ISS: Status = (43, "Missing required claim: iss");
 
 pub const MISSING_SUB: Status = (44, "Missing required claim: sub");
 
-pub const MISSING_CLAIM: Status = (59, "Missing required claim: ");
+pub const MISSING_CLAIM: Status = (59, "Missing required claim");
 
 pub const MALFORMED_EXP: Status = (60, "Invalid format for claim: exp");
 
@@ -85,7 +85,7 @@ pub const MALFORMED_ISS: Status = (63, "Invalid format for claim: iss");
 
 pub const MALFORMED_SUB: Status = (64, "Invalid format for claim: sub");
 
-pub const MALFORMED_CLAIM: Status = (79, "Invalid format for claim: ");
+pub const MALFORMED_CLAIM: Status = (79, "Invalid format for claim");
 
 pub const NO_ROOM: Status = (100, "Buffer too small");
 

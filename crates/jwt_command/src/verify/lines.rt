@@ -2,7 +2,7 @@
 
 // The first line at which memory runs out ends the command with status 3, so that a script that
 // reads the status alone does not mistake it for a refusal. A body that leaves a line out would be
-// proved; a row of `tests/jwt.jsonl` fails with it.
+// proved; a row of `tests/programs/jwt.jsonl` fails with it.
 
 ghost use Rattle.std.specs.Prelude.{IfOk};
 ghost use Rattle.jwt_validation.specs.OptionsOf.{options_of};
