@@ -22,7 +22,8 @@ use std::marker::Model;
 use std::mem::replace;
 use std::ptr::null_mut;
 
-/// A pointer to a holder of a verifier, or null: `struct jwt_verifier` of `packages/c/include/jwtproved.h`.
+/// A pointer to a holder of a verifier, or null: `struct jwt_verifier` of
+/// `packages/c/include/jwtproved.h`.
 #[repr(C)]
 pub struct Handle {
     at: *mut u8,
