@@ -10,5 +10,5 @@ returns-in-Ok-clause-ok c = typed c.args.case.token.now c.args.case.loaded.now.k
 
 pub returns-in_ok-denial-in-Err-clause-ok : goal.returns-in_ok-denial-in-Err-clause-ok
 returns-in_ok-denial-in-Err-clause-ok c = refused c.args.case.token.now c.args.case.loaded.now.keys (options_of c.args.validation.now)
-    c.args.case.time (option_map (λ s. s.now) c.args.case.typ) c.in-Err.refusal c.in_ok-denial.denial c.in-Err.ensures
-    c.in_ok-denial.ensures.ok.0 c.in_ok-denial.ensures.ok.1
+    c.args.case.time (option_map (λ s. s.now) c.args.case.typ) c.in-Err.refusal c.in_ok-denial-in-Err.denial c.in-Err.ensures
+    c.in_ok-denial-in-Err.ensures.ok.0 c.in_ok-denial-in-Err.ensures.ok.1
