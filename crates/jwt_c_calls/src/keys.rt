@@ -4,6 +4,8 @@
 // the family, so that the bytes of a public key never serve as a secret (RFC 8725 section 2.1); no
 // call that verifies parses PEM or DER. The key's `alg` and `use` are not compared with the token,
 // as `from_jwk` does not: the options say which algorithms count, with one key as with a secret.
+//
+// These functions are inlined: the options would be moved once more, and take 2 KiB more of the stack.
 
 ghost use Rattle.std.specs.Prelude.{◌≡◌, IfOk, IfErr};
 ghost use Rattle.jwt_base.specs.JsonText.{ReadsText};
