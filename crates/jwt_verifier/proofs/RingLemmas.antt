@@ -1,6 +1,6 @@
 -- An index of the keys of a set, made from the first to the last.
 use Rattle.std.proofs.Common.{◌≡◌, ◌∷◌, ◌∙◌, ◌<◌, ◌≤◌, ◌+◌, ◌++◌, ℕ, List, Bool, true, false, Option, Some, None, ap, find, get_or, length}
-use Rattle.std.proofs.Common.{Bor, [], arith, cond, inr, refl, string_bytes, subst, sym, take}
+use Rattle.std.proofs.Common.{Bor, [], cond, inr, refl, string_bytes, subst, sym, take}
 use Rattle.std.proofs.lemmas.List.{take_all, take_more}
 use Rattle.std.proofs.lemmas.List.Folds.{find-append}
 use Rattle.std.proofs.lemmas.Slice.Eq.{bytes_eq-Decides}

@@ -1,4 +1,4 @@
-use Rattle.std.proofs.Common.{◌≡◌, ◌∙◌, ap}
+use Rattle.std.proofs.Common.{◌∙◌, ap}
 use Rattle.std.proofs.lemmas.Result.{IfOk-weaker}
 use Rattle.jwt_keys.specs.Key.{Key}
 use Rattle.jwt_verifier.specs.declared.keys.Keys.TheVariants.{One}

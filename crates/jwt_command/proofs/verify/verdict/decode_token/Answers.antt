@@ -1,4 +1,4 @@
-use Rattle.std.proofs.Common.{◌≡◌, List, ⊎_elim, inl, inr, refl, subst}
+use Rattle.std.proofs.Common.{List, ⊎_elim, inl, inr, refl, subst}
 use Rattle.jwt_validation.specs.OptionsOf.{options_of}
 use Rattle.jsonwebtoken.specs.Calls.{Carries}
 use Rattle.jsonwebtoken.specs.Own.{listed, with_algorithms}
