@@ -1167,7 +1167,7 @@ static void issued_by_keys(void) {
     a = issued_by_key(header, CLAIMS, secret, strlen(NAMED) - 1);
     is("a buffer too small for a token by a key", status_of(&a), JWT_NO_ROOM);
     is("the token's length", a.len, strlen(NAMED));
-    /* as with the secret itself, by each algorithm; an empty secret is one too, and the key's own members are ignored */
+    /* as with the secret itself, by each algorithm, and the key's own members are ignored */
     static const char *const algorithms[] = {"HS256", "HS384", "HS512"};
     for (size_t i = 0; i < 3; i++) {
         char own[40];
@@ -1175,17 +1175,27 @@ static void issued_by_keys(void) {
         a = issued_by_key(own, CLAIMS, HMAC_KEY, ROOM);
         by_secret = issued_in(own, CLAIMS, HMAC_SECRET, ROOM);
         is(algorithms[i], status_of(&a) == JWT_OK && memcmp(&a, &by_secret, sizeof a) == 0, 1);
-        a = issued_by_key(own, "{}", "{\"kty\":\"oct\",\"k\":\"\",\"alg\":\"ES256\",\"use\":\"enc\"}", ROOM);
-        by_secret = issued_in(own, "{}", "", ROOM);
+        a = issued_by_key(own, "{}", "{\"kty\":\"oct\",\"k\":\"c2VjcmV0\",\"alg\":\"ES256\",\"use\":\"enc\"}", ROOM);
+        by_secret = issued_in(own, "{}", "secret", ROOM);
         is(algorithms[i], status_of(&a) == JWT_OK && memcmp(&a, &by_secret, sizeof a) == 0, 1);
     }
     static const struct {
         const char *header, *claims, *key;
         uint32_t status;
-    } refused[] = {
-        /* the header is read before the claims, and they before the key */
-        {"{}", "[]", "", JWT_BAD_HEADER},
-        {header, "[]", "", JWT_BAD_CLAIMS},
+    } rows[] = {
+        /* the key is checked before the header is read, and that is before the claims */
+        {"{}", "[]", "", JWT_BAD_KEY},
+        {"{}", "[]", OCT(""), JWT_BLANK_KEY},
+        {"{}", "[]", secret, JWT_BAD_HEADER},
+        {"{}", "[]", "{}", JWT_BAD_HEADER},
+        {header, "[]", secret, JWT_BAD_CLAIMS},
+        {header, "[]", RSA_KEY, JWT_BAD_CLAIMS},
+        /* anyone can sign with it: of no bytes, of zeros, and the text "ssh-rsa AAAA" */
+        {header, CLAIMS, OCT(""), JWT_BLANK_KEY},
+        {header, CLAIMS, OCT("AA"), JWT_BLANK_KEY},
+        {header, CLAIMS, OCT("AAAAAAAA"), JWT_BLANK_KEY},
+        {header, CLAIMS, OCT("AAAB"), JWT_OK},
+        {header, CLAIMS, OCT("c3NoLXJzYSBBQUFB"), JWT_KEY_AS_SECRET},
         {header, CLAIMS, "", JWT_BAD_KEY},
         {header, CLAIMS, "secret", JWT_BAD_KEY},
         {header, CLAIMS, OCT("c2VjcmV0") " x", JWT_BAD_KEY},
@@ -1204,9 +1214,9 @@ static void issued_by_keys(void) {
         {header, "{\"a\":1.5}", RSA_KEY, JWT_INVALID_KEY_FORMAT},
         {header, "{\"a\":1.5}", OCT("c2VjcmV0"), JWT_JSON},
     };
-    for (size_t i = 0; i < sizeof refused / sizeof *refused; i++) {
-        a = issued_by_key(refused[i].header, refused[i].claims, refused[i].key, ROOM);
-        is(refused[i].key, status_of(&a), refused[i].status);
+    for (size_t i = 0; i < sizeof rows / sizeof *rows; i++) {
+        a = issued_by_key(rows[i].header, rows[i].claims, rows[i].key, ROOM);
+        is(rows[i].key, status_of(&a), rows[i].status);
     }
     is("a key by a null pointer", jwt_encode_key(TEXT(header), TEXT(CLAIMS), NULL, 0, a.room, ROOM, &a.len),
        JWT_BAD_KEY);

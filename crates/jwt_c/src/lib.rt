@@ -21,8 +21,7 @@ ghost use Rattle.jwt_c_calls.specs.Calls.{Answer, Leaves, LeavesSigned, AnswersH
 ghost use Rattle.jwt_c_calls.specs.Calls.{AnswersSet, AnswersSaid, AnswersHeader, AnswersNumbers};
 ghost use Rattle.jwt_c_calls.specs.Calls.{AnswersIssuedAt};
 ghost use Rattle.jwt_c_calls.specs.Calls.{status_of};
-ghost use Rattle.jwt_c_calls.specs.Issued.{AnswersEncode, AnswersEncodeKey, AnswersThumbprint};
-ghost use Rattle.jwt_c_calls.specs.Issued.{hash_numbered};
+ghost use Rattle.jwt_c_calls.specs.Issued.{hash_numbered, AnswersEncode, AnswersThumbprint};
 ghost use Rattle.jwt_c_calls.specs.KeyFiles.{AnswersCertificate, AnswersPem};
 ghost use Rattle.jwt_c_calls.specs.Keys.{AnswersWithKey, AnswersWithOptions, AnswersWithSet};
 ghost use Rattle.jwt_c_calls.specs.Members.{LeavesMember};
@@ -36,6 +35,7 @@ ghost use Rattle.jwt_c_calls.specs.Status.{algorithm_numbered, IsGiven, IsKept};
 ghost use Rattle.jwt_c_verifier.specs.TestNumbers.{LeavesTestName};
 ghost use Rattle.jwt_c_verifier.specs.Verifiers.{limits_of, AreOfKey, AreOfSecret, AreOfSet};
 ghost use Rattle.jwt_c.specs.Held.{LeavesMade, LeavesMoments, LeavesShared, LeavesUntil, Takes};
+ghost use Rattle.jwt_c.specs.Issued.{LeavesByKey};
 
 mod handle;
 mod held;
@@ -278,10 +278,11 @@ pub extern "C" fn jwt_encode_hmac(
 }
 
 /// Signs a header and claims like `jwt_encode_hmac`, with the secret of a JSON Web Key of the type
-/// `oct` (RFC 7518 section 6.4). The key is a JSON text, which is read after the claims; any other
-/// text is refused with 106, a key of which
-/// [`DecodingKey::from_jwk`](jsonwebtoken::DecodingKey::from_jwk) makes none with its kind, and a
-/// key of another family with `InvalidKeyFormat`.
+/// `oct` (RFC 7518 section 6.4). The key is a JSON text. It is checked first, as by
+/// `jwt_check_key`: any other text is refused with 106, a secret with which anyone can sign with
+/// 107, and one that is the text of a key of another kind with 113. A key of which
+/// [`DecodingKey::from_jwk`](jsonwebtoken::DecodingKey::from_jwk) makes none is refused with its
+/// kind after the claims are read, and then a key of another family with `InvalidKeyFormat`.
 #[unsafe(no_mangle)]
 pub extern "C" fn jwt_encode_key(
     alloc: Global,
@@ -291,9 +292,13 @@ pub extern "C" fn jwt_encode_key(
     room: &mut [u8],
     len: &mut usize,
 ) -> u32
-    ensures { (a : Answer) × AnswersEncodeKey header.now claims.now key.now a
-        × Leaves a result len.new room.old room.new }
+    ensures { LeavesByKey header.now claims.now key.now result len.new room.old room.new }
 {
+    let found = key_status(alloc, key);
+    if found != OK.0 {
+        *len = 0;
+        return found;
+    }
     let answer = encode_key_answer(alloc, header, claims, key);
     leave(answer, room, len)
 }
