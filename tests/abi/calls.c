@@ -2006,18 +2006,19 @@ static void growth(void) {
         hmac(TOKEN, "secret", OPTIONS, LAST), hmac(TOKEN, "other", OPTIONS, LAST);
         for (size_t k = 0; k < ALL; k++) key(by_all[k].token, by_all[k].key, by_all[k].options, LAST);
     }
-    size_t before = mallinfo2().uordblks;
+    /* a byte that a call leaves is far more in the sum; freed blocks that malloc keeps for a thread count as used */
+    size_t most = mallinfo2().uordblks + 4096;
     for (int i = 0; i < 50000; i++) {
         wrong += hmac(TOKEN, "secret", OPTIONS, LAST) != JWT_OK;
         wrong += hmac(TOKEN, "other", OPTIONS, LAST) != JWT_INVALID_SIGNATURE;
     }
     is("results of 100000 calls", wrong, 0);
-    is("memory after 100000 calls", mallinfo2().uordblks, before);
+    is("memory after 100000 calls", mallinfo2().uordblks <= most, 1);
     for (int i = 0; i < 1000; i++)
         for (size_t k = 0; k < ALL; k++)
             wrong += key(by_all[k].token, by_all[k].key, by_all[k].options, LAST) != JWT_OK;
     is("results of 1000 calls by each key", wrong, 0);
-    is("memory after 1000 calls by each key", mallinfo2().uordblks, before);
+    is("memory after 1000 calls by each key", mallinfo2().uordblks <= most, 1);
 }
 
 static void *many(void *wrong) {
