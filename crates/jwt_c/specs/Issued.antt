@@ -1,4 +1,4 @@
--- What the call that signs with a JSON Web Key leaves.
+-- The result of the call that signs with a JSON Web Key.
 use Rattle.std.specs.Prelude.{◌≡◌, ◌⊎◌, ℕ, List}
 use Rattle.jwt_c_calls.specs.Calls.{Answer, Leaves}
 use Rattle.jwt_c_calls.specs.Issued.{AnswersEncodeKey}

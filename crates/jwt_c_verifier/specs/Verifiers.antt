@@ -180,7 +180,7 @@ TellsMoments v token (Ok m) = (length token ≤ v.limits.max_len)
 TellsMoments v token (Err status) = ((v.limits.max_len < length token) × (status ≡ token_too_long))
     ⊎ (status ≡ number kind.OutOfMemory)
 
--- the status, the first and the last time are left: 1 and 0 if there is none, and 0 and 0 with a status of a refusal
+-- the status, and the first and the last time: these are 1 and 0 if the token is accepted at no time, and 0 and 0 if it is refused
 abbrev pub AreLeft : Result (Option Moments) ℕ → ℕ → ℕ → ℕ → Type 0
 AreLeft (Ok (Some m)) status first last = (status ≡ 0) × (first ≡ m.first) × (last ≡ m.last)
 AreLeft (Ok None) status first last = (status ≡ 0) × (first ≡ 1) × (last ≡ 0)

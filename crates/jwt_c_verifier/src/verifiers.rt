@@ -149,8 +149,8 @@ pub fn answer_until(
     }
 }
 
-/// Returns the times at which a verifier accepts a token, or `None` if there is none; or the status
-/// of a token that is too long, or that memory ran out.
+/// Returns the first and the last time at which a verifier accepts a token, or `None` if it accepts
+/// the token at no time. A refusal is the status of a token that is too long, or of `OutOfMemory`.
 pub fn moments_by(alloc: Global, verifier: &Verifier, token: &[u8]) -> Result<Option<Moments>, u32>
     ensures { TellsMoments verifier.now token.now result }
 {
@@ -161,8 +161,8 @@ pub fn moments_by(alloc: Global, verifier: &Verifier, token: &[u8]) -> Result<Op
     }
 }
 
-/// Leaves the first and the last time, or 1 and 0 if there is none, or 0 and 0 with the status of the
-/// reason for which there is no answer.
+/// Sets `first` and `last` to the times that were found, or to 1 and 0 if there are none, and
+/// returns 0. After a refusal both are 0, and its status is returned.
 pub fn leave_moments(found: Result<Option<Moments>, u32>, first: &mut u64, last: &mut u64) -> u32
     ensures { AreLeft found result first.new last.new }
 {

@@ -4,7 +4,7 @@ use Rattle.jwt_base.specs.declared.algorithms.Algorithm.{Algorithm}
 use Rattle.jwt_validation.specs.Options.{Options}
 use Rattle.jsonwebtoken.specs.Own.{listed, with_algorithms}
 
--- these algorithms, or that of the key if there are none
+-- the algorithms that are listed; if none is, the one that the key is for
 abbrev pub or_own : List Algorithm → Option Algorithm → List Algorithm
 or_own [] own = listed own
 or_own (a ∷ rest) own = a ∷ rest

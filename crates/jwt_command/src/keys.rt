@@ -53,7 +53,7 @@ pub struct LoadedKeys {
 /// What keys are prepared for.
 #[derive(Clone, Copy)]
 pub struct Preparation<'a> {
-    /// The algorithms that are accepted; if there are none, those that the keys are for.
+    /// The algorithms that are accepted. If the list is empty, those that the keys are for are.
     pub algorithms: &'a [Algorithm],
     /// The greatest number of bytes of prepared keys.
     pub bytes: usize,

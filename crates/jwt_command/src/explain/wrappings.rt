@@ -147,7 +147,7 @@ const TYPOGRAPHIC: Wrapping = Wrapping {
 };
 
 const OTHER_CASE: Wrapping = Wrapping {
-    found: "'eyj' or 'EYJ', where a token has 'eyJ': its letters were made small or capital",
+    found: "'eyj' or 'EYJ', where a token has 'eyJ': the case of its letters was changed",
     wanted: "the token as it was issued: the case of its letters counts",
 };
 
