@@ -44,12 +44,6 @@ of_ok P r y is p = let held : IfOk {E = Error} (Ok y) P = rw is at p in held
 of_err : {R : Type 0} (Q : Error → Type 0) (r : Result R Error) (e : Error) → r ≡ Err e → IfErr r Q → Q e
 of_err {R = R} Q r e is q = let held : IfErr {T = R} (Err e) Q = rw is at q in held
 
--- what holds of the value of a call holds of that of the call as a test
-pub of_made : {R : Type 0} (c : Test) (P : R → Type 0) (made : Result R Error) (r : Result R Refusal)
-    → IsWithTest c made r → IfOk made P → IfOk r P
-of_made c P made (Ok y) is ok = of_ok P made y is ok
-of_made c P made (Err f) is ok = tt
-
 -- a call that is refused for memory alone
 pub memory_of : {R : Type 0} (c : Test) (made : Result R Error) (f : Refusal) → IsWithTest c made (Err f)
     → IfErr made IsMemory → IsMemory f.error

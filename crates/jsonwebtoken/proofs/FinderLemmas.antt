@@ -1,9 +1,8 @@
 -- The tests of a token by the key that a finder finds, whichever its source.
-use Rattle.std.proofs.Common.{◌≡◌, ◌⊎◌, ◌↔◌, ℕ, List, [], ◌∷◌, Option, None, Result, Ok, Err, ap, inl, inr, refl, subst, sym, ◌∙◌}
-use Rattle.std.proofs.lemmas.Result.{err_from_is_err_and}
+use Rattle.std.proofs.Common.{◌≡◌, ◌⊎◌, ◌↔◌, ℕ, List, [], ◌∷◌, Option, None, Result, Ok, Err, inl, inr, refl, subst, sym}
 use Rattle.std.specs.Prelude.{IsErrAnd}
 use Rattle.jwt_base.specs.Algorithm.{family_of}
-use Rattle.jwt_base.specs.Kind.{Kind}
+use Rattle.jwt_base.specs.Kind.{Kind, InvalidToken}
 use Rattle.jwt_base.specs.KindOf.{kind_of, IsMemory}
 use Rattle.jwt_base.specs.declared.algorithms.Algorithm.{Algorithm}
 use Rattle.jwt_base.specs.declared.errors.Error.{Error}
@@ -26,16 +25,14 @@ use Rattle.jsonwebtoken.specs.Tests.{ArePartsOf, Call, Compact, Contents, Given,
 use Rattle.jsonwebtoken.specs.Tests.{Test, claim_tests, decode_order, header_call, header_tests}
 use Rattle.jsonwebtoken.specs.Tests.{Token, key_of, set_order, token_tests, verifying_tests}
 use Rattle.jsonwebtoken.specs.declared.decoding.TokenData.{TokenData}
-use Rattle.jsonwebtoken.specs.declared.decoding.finder.Algorithms.{Algorithms}
-use Rattle.jsonwebtoken.specs.declared.decoding.finder.Algorithms.TheVariants.{Listed, OfKey}
 use Rattle.jsonwebtoken.specs.declared.refusal.Refusal.{Refusal}
-use Rattle.jsonwebtoken.specs.private_clauses.Asking.{NotesOwn, accepted_algorithms, given_key, noted_own}
+use Rattle.jsonwebtoken.specs.private_clauses.Asking.{given_key}
 use Rattle.jsonwebtoken.specs.private_clauses.Refused.{tested}
 use Rattle.jsonwebtoken.specs.Steps.{Failed, Step}
 use Rattle.jsonwebtoken.specs.private_clauses.Steps.{bare, no_contents, verifying_by, whole, with_header}
 use Rattle.jsonwebtoken.specs.private_clauses.Steps.{with_header_part, with_opening}
 use Rattle.jsonwebtoken.proofs.EachTest.{decides, same_answer}
-use Rattle.jsonwebtoken.proofs.Exits.{beside_claims, no_claims, opened, opened_passes, or_memory, stop}
+use Rattle.jsonwebtoken.proofs.Exits.{beside_claims, exit_noting, no_claims, opened, opened_passes, or_memory, stop}
 use Rattle.jsonwebtoken.proofs.LawsOf.{fixes, key_fits, looser, moments, named_key, one_text}
 use Rattle.jsonwebtoken.proofs.OwnLemmas.{no_header}
 
@@ -188,22 +185,26 @@ no_own_is : (keys : KeySource) (token : List ℕ) → ((t : Contents) → ¬ Has
 no_own_is (Given k) token none = refl
 no_own_is (InSet ks) token none = inr (refl, none)
 
-pub notes_own : (accepted : Algorithms) (keys : KeySource) (token : List ℕ) (t : Contents) → HasHeaderOf token t
-    → NotesOwn accepted keys token (noted_own accepted keys t.header)
-notes_own (Listed algorithms) keys token t p = refl
-notes_own OfKey keys token t p = own_is keys token t p
+-- a token that has no three parts, or whose header does not read, has none
+pub none_of_cut : (keys : KeySource) (token : List ℕ) (e : Error) {A : Type 0}
+    → IsMemory e ⊎ (((p : Parts) → ¬ ArePartsOf token p) × A)
+    → IsOwnOf keys token None ⊎ IsMemory e
+none_of_cut keys token e (inl m) = inr m
+none_of_cut keys token e (inr f) = inl (no_own_is keys token (λ t p. f.0 t.parts p.0))
 
-pub notes_none : (accepted : Algorithms) (keys : KeySource) (token : List ℕ) → ((t : Contents) → ¬ HasHeaderOf token t)
-    → NotesOwn accepted keys token None
-notes_none (Listed algorithms) keys token none = refl
-notes_none OfKey keys token none = no_own_is keys token none
+pub none_of_header : (keys : KeySource) (token : List ℕ) (parts : Parts) → ArePartsOf token parts → (c : Test) (e : Error)
+    → IsMemory e ⊎ ((x : Contents) × Failed bare header_tests (with_header_part parts.header x) c (kind_of e))
+    → IsOwnOf keys token None ⊎ IsMemory e
+none_of_header keys token parts has c e (inl m) = inr m
+none_of_header keys token parts has c e (inr f) = inl (no_own_is keys token (no_header token parts has c (kind_of e) f))
 
--- a refusal for memory is one of any call
-pub memory_step : {T R : Type 0} (call : Call T) (order : List Test) (shows : Contents → R → Type 0) (c : Test)
-    (r : Result R Error)
-    → IsErrAnd r IsMemory → Step call order whole shows (tested c r)
-memory_step call order shows c (Ok y) m = absurd m
-memory_step call order shows c (Err e) m = inl m
+-- the one that is found is that of the key which the header names
+pub own_of_opened : (keys : KeySource) (token : List ℕ) (parts : Parts) (h : Header) (own : Option Algorithm)
+    → (x : Contents) × Passes (token_tests bare) header_tests (with_header_part parts.header x) × (x.header ≡ h)
+    → ArePartsOf token parts → own ≡ own_by keys h → IsOwnOf keys token own
+own_of_opened keys token parts h own read has found =
+    subst (IsOwnOf keys token) (sym found) (own_is keys token (opened (header_call token) parts h read has no_contents)
+    (opened_passes (header_call token) parts h read has no_contents))
 
 -- ---- what is decided, and its laws
 
@@ -240,86 +241,60 @@ module _ {T : Type 0} (call : Call T) where
         one_text = fixes by set_order (List ℕ) Compact token refl one_text refl (named_key by set_order refl refl);
       }
 
--- ---- the exits of the engine
+-- ---- the exits of the calls that read a token
 
-module _ {T : Type 0} (call : Call T) (keys : KeySource) (o : Options) (token : List ℕ) (accepted : Algorithms) where
+module _ {T : Type 0} (call : Call T) (keys : KeySource) (o : Options) (token : List ℕ) where
   -- the call with these algorithms
   abbrev with : List Algorithm → Call T
   with algorithms =
       record call { keys = keys; options = with_algorithms o algorithms; token = Compact token }
 
-  -- what the engine says of a result, if it notes this algorithm and this test
-  abbrev pub Decoded : Option Algorithm → Test → Result (TokenData T) Error → Type 0
-  Decoded own c r = (IsErrAnd r IsMemory × (own ≡ None))
-      ⊎ (NotesOwn accepted keys token own
-      × Step (with (accepted_algorithms accepted own)) (order_by keys) whole (Carries call) (tested c r))
+  -- what a result says, if these algorithms are accepted
+  abbrev pub Says : List Algorithm → Result (TokenData T) Refusal → Type 0
+  Says algorithms = Step (with algorithms) (order_by keys) whole (Carries call)
 
-  -- an exit by an error, before the header is read
-  exit_error : (c : Test) (e : Error)
-      → IsMemory e ⊎ (NotesOwn accepted keys token None
-      × ((x : Contents) × Failed (with (accepted_algorithms accepted None)) (order_by keys) x c (kind_of e)))
-      → Decoded None c (Err e)
-  exit_error c e (inl m) = inl (m, refl)
-  exit_error c e (inr f) = inr (f.0, inr f.1)
+  -- there are no three parts
+  pub says_cut : (algorithms : List Algorithm) (f : Refusal)
+      → IsMemory f.error ⊎ (((p : Parts) → ¬ ArePartsOf token p) × ((HasThreeParts ≡ f.test)
+      × (kind_of f.error ≡ InvalidToken)))
+      → Says algorithms (Err f)
+  says_cut algorithms f fault = or_memory (λ s. (no_contents, inl s)) fault
 
-  -- if the header does not read
-  pub exit_header : (parts : Parts) → ArePartsOf token parts → (c : Test) (r : Result (TokenData T) Error) (e : Error)
-      → IsErrAnd r (λ y. y ≡ e)
-      → IsMemory e ⊎ ((x : Contents) × Failed bare header_tests (with_header_part parts.header x) c (kind_of e))
-      → Decoded None c r
-  exit_header parts has c r e is fault =
-      let p = err_from_is_err_and r is in
-      let refused : IsMemory e ⊎ ((x : Contents) × Failed bare header_tests (with_header_part parts.header x) c (kind_of e))
-      → Decoded None c (Err e) = λ q. exit_error c e (or_memory (λ f. (
-        notes_none accepted keys token (no_header token parts has c (kind_of e) f),
-        stop (with (accepted_algorithms accepted None)) (order_by keys) (HasThreeParts ∷ []) header_tests
-            (record f.0 { parts = parts }) c (kind_of e) (has, tt) f.1,
-      )) q) in
-      subst (Decoded None c) (sym (p.1 ∙ ap (λ (y : Error). Err y) p.2)) (refused fault)
+  module _ (parts : Parts) (has : ArePartsOf token parts) where
+    -- the header does not read
+    pub says_header : (algorithms : List Algorithm) (c : Test) (r : Result (TokenData T) Error) (e : Error)
+        → IsErrAnd r (λ y. y ≡ e)
+        → IsMemory e ⊎ ((x : Contents) × Failed bare header_tests (with_header_part parts.header x) c (kind_of e))
+        → Says algorithms (tested c r)
+    says_header algorithms c r e is fault = exit_noting (with algorithms) (order_by keys) whole (Carries call) c r e is
+        (λ f. stop (with algorithms) (order_by keys) (HasThreeParts ∷ []) header_tests
+        (record f.0 { parts = parts }) c (kind_of e) (has, tt) f.1) fault
 
-  module _ (parts : Parts) (h : Header) (own : Option Algorithm) (xs : List Algorithm)
-      (read : (x : Contents) × Passes (token_tests bare) header_tests (with_header_part parts.header x) × (x.header ≡ h))
-      (has : ArePartsOf token parts) (noted : own ≡ noted_own accepted keys h)
-      (same : xs ≡ accepted_algorithms accepted own) where
-    abbrev asking : List Algorithm → Call T
-    asking ys = record call { keys = keys; options = with_algorithms o ys; token = Compact [] }
+    module _ (h : Header) (xs algorithms : List Algorithm) (same : xs ≡ algorithms)
+        (read : (x : Contents) × Passes (token_tests bare) header_tests (with_header_part parts.header x) × (x.header ≡ h))
+      where
+        abbrev asking : List Algorithm → Call T
+        asking ys = record call { keys = keys; options = with_algorithms o ys; token = Compact [] }
 
-    notes : NotesOwn accepted keys token own
-    notes = subst (NotesOwn accepted keys token) (sym noted)
-        (notes_own accepted keys token (opened (header_call token) parts h read has no_contents)
-        (opened_passes (header_call token) parts h read has no_contents))
+        -- the claims are there
+        pub says_claims : (y : T)
+            → (x : Contents) × Passes (token_tests (asking xs)) (tests_after_header keys) (with_opening parts h x)
+            × call.reads x.payload_value y
+            → Says algorithms (Ok (record { header = h; claims = y }))
+        says_claims y f =
+            let held = subst (λ (ys : List Algorithm). Passes (token_tests (asking ys)) (tests_after_header keys)
+            (with_opening parts h f.0)) same f.1 in
+            beside_claims (with algorithms) parts h read has (order_by keys) y
+            (f.0, passes_after (asking algorithms) keys (Compact token) parts h read.0 f.0 held, f.2)
 
-    -- if the claims are there
-    pub exit_claims : (c : Test) (y : T)
-        → (x : Contents) × Passes (token_tests (asking xs)) (tests_after_header keys) (with_opening parts h x)
-        × call.reads x.payload_value y
-        → Decoded own c (Ok (record { header = h; claims = y }))
-    exit_claims c y f =
-        let held = subst (λ (ys : List Algorithm). Passes (token_tests (asking ys)) (tests_after_header keys)
-        (with_opening parts h f.0)) same f.1 in
-        inr (
-          notes,
-          beside_claims (with (accepted_algorithms accepted own)) parts h read has (order_by keys) y
-              (f.0, passes_after (asking (accepted_algorithms accepted own)) keys (Compact token) parts h read.0 f.0 held, f.2),
-        )
-
-    -- if they are refused
-    pub exit_refused : (c : Test) (e : Error) (q : Refusal) → c ≡ q.test → e ≡ q.error
-        → IsMemory q.error ⊎ ((x : Contents) × Failed (asking xs) (tests_after_header keys) (with_opening parts h x) q.test
-        (kind_of q.error))
-        → Decoded own c (Err e)
-    exit_refused c e q test error (inl m) = inr (notes, inl (subst IsMemory (sym error) m))
-    exit_refused c e q test error (inr f) =
-        let failed = subst (λ (ys : List Algorithm). Failed (asking ys) (tests_after_header keys)
-        (with_opening parts h f.0) q.test (kind_of q.error)) same f.1 in
-        let refused : Decoded own q.test (Err q.error) = inr (
-          notes,
-          no_claims (with (accepted_algorithms accepted own)) parts h read has (order_by keys) q
-              (inr (
-                f.0,
-                failed_after (asking (accepted_algorithms accepted own)) keys (Compact token) parts h read.0 f.0
-                    q.test (kind_of q.error) failed,
-              )),
-        ) in
-        subst (λ (d : Test). Decoded own d (Err e)) (sym test)
-        (subst (λ (y : Error). Decoded own q.test (Err y)) (sym error) refused)
+        -- they are refused
+        pub says_refused : (q : Refusal)
+            → IsMemory q.error ⊎ ((x : Contents) × Failed (asking xs) (tests_after_header keys) (with_opening parts h x) q.test
+            (kind_of q.error))
+            → Says algorithms (Err q)
+        says_refused q fault = no_claims (with algorithms) parts h read has (order_by keys) q (or_memory (λ f. (
+          f.0,
+          failed_after (asking algorithms) keys (Compact token) parts h read.0 f.0 q.test (kind_of q.error)
+              (subst (λ (ys : List Algorithm). Failed (asking ys) (tests_after_header keys)
+              (with_opening parts h f.0) q.test (kind_of q.error)) same f.1),
+        )) fault)

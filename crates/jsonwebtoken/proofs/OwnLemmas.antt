@@ -1,14 +1,11 @@
--- A token whose header is not read, and a refusal for memory with a test beside it.
-use Rattle.std.proofs.Common.{ℕ, List, [], ◌∷◌, Result, Ok, Err, refl}
-use Rattle.std.specs.Prelude.{IsErrAnd}
+-- A token whose header is not read, and the list of its key's own algorithm.
+use Rattle.std.proofs.Common.{◌≡◌, ℕ, List, [], ◌∷◌, Option, Some, None, refl}
+use Rattle.std.specs.Prelude.{MatchOption}
 use Rattle.jwt_base.specs.Kind.{Kind}
-use Rattle.jwt_base.specs.KindOf.{IsMemory}
-use Rattle.jwt_base.specs.declared.errors.Error.{Error}
-use Rattle.jsonwebtoken.specs.Own.{HasHeaderOf}
+use Rattle.jwt_base.specs.declared.algorithms.Algorithm.{Algorithm}
+use Rattle.jsonwebtoken.specs.Own.{HasHeaderOf, listed}
 use Rattle.jsonwebtoken.specs.Tests.{ArePartsOf, Contents, HasThreeParts, Parts, Test, header_call, header_order}
 use Rattle.jsonwebtoken.specs.Tests.{header_tests, token_tests}
-use Rattle.jsonwebtoken.specs.declared.refusal.Refusal.{Refusal}
-use Rattle.jsonwebtoken.specs.private_clauses.Refused.{IsWithTest}
 use Rattle.jsonwebtoken.specs.Steps.{Failed}
 use Rattle.jsonwebtoken.specs.private_clauses.Steps.{bare, with_header_part}
 use Rattle.jsonwebtoken.proofs.EachTest.{failed_by}
@@ -23,9 +20,8 @@ no_header token parts has f k s t p =
     let stopped = stop call header_order (HasThreeParts ∷ []) header_tests (record s.0 { parts = parts }) f k (has, tt) s.1 in
     not_passed (token_tests call) header_order f (failed_by call header_order refl stopped.0 f k stopped.1).0 t p
 
-pub memory_noted : {R : Type 0} (c : Test) (made : Result R Error) (r : Result R Refusal) → IsWithTest c made r
-    → IsErrAnd made IsMemory
-    → IsErrAnd r (λ f. IsMemory f.error)
-memory_noted {R = R} c made (Ok y) is m = let none : IsErrAnd {T = R} {E = Error} (Ok y) IsMemory = rw is at m in none
-memory_noted {R = R} c made (Err f) is m = let memory : IsErrAnd {T = R} {E = Error} (Err f.error) IsMemory =
-    rw is.1 at m in memory
+-- the slice of an algorithm, if there is one
+pub listed_is : (own : Option Algorithm) (algorithms : List Algorithm)
+    → MatchOption own (algorithms ≡ []) (λ a. algorithms ≡ a ∷ []) → algorithms ≡ listed own
+listed_is None algorithms is = is
+listed_is (Some a) algorithms is = is

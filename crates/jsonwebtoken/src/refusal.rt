@@ -118,15 +118,6 @@ pub(crate) fn with_test<R>(test: Test, made: Result<R>) -> Result<R, Refusal>
     }
 }
 
-/// Returns the error of a refusal, and notes its test.
-pub(crate) fn note(refusal: Refusal, failed: &mut Test) -> Error
-    ensures test { failed.new ≡ refusal.test }
-    ensures error { result ≡ refusal.error }
-{
-    *failed = refusal.test;
-    refusal.error
-}
-
 /// Returns the result of a call, without the test next to its error.
 pub(crate) fn without_test<R>(outcome: Result<R, Refusal>) -> Result<R>
     ensures { IsWithoutTest outcome result }

@@ -1,5 +1,5 @@
 -- What a ring of keys has of the keys that it was made of.
-use Rattle.std.specs.Prelude.{◌≡◌, ⊤, ℕ, ◌<◌, List, Option, Some, None, length, get_or}
+use Rattle.std.specs.Prelude.{◌≡◌, ⊤, ◌<◌, List, Option, Some, None, length, get_or}
 use Rattle.jwt_keys.specs.Key.{Key}
 use Rattle.jwt_keys.specs.KeyOfJwk.{IsKeyOf}
 use Rattle.jwt_keys.specs.declared.jwk.Jwk.{Jwk}

@@ -127,7 +127,8 @@ impl Verifier {
         if self.is_too_long(token) {
             return Err(Rejection::TooLong);
         }
-        match self.decode_whole_or_refusal(alloc, token, time) {
+        let keys = &self.keys;
+        match decode_by_or_refusal(alloc, &keys, token, &self.validation, time) {
             Ok(decoded) => Ok(decoded),
             Err(refused) => Err(Rejection::Failed(refused)),
         }
@@ -177,20 +178,6 @@ impl Verifier {
     {
         let keys = &self.keys;
         decode_by(alloc, &keys, token, &self.validation, time)
-    }
-
-    /// Verifies a token of any length.
-    fn decode_whole_or_refusal<T: Claims>(
-        &self,
-        alloc: Global,
-        token: &[u8],
-        time: u64,
-    ) -> Result<TokenData<T>, Refusal>
-        ensures { let call = call_with T.Claims self.now.keys self.now.validation token.now time in
-            DecidesByTest (token_tests call) (order_of self.now.keys) (Carries call) result }
-    {
-        let keys = &self.keys;
-        decode_by_or_refusal(alloc, &keys, token, &self.validation, time)
     }
 
     /// Returns the times at which a token of any length is accepted.

@@ -1,8 +1,8 @@
-//! The one body that makes the tests of a token in its compact form, over any finder of keys.
+//! The tests of a token in its compact form, over any finder of keys.
 
-// The test that fails is noted besides the result. A result with the test in its error is of
-// another type, and turning one into the other moves the header, which is large, once more for each
-// token.
+// `read_claims` makes all tests that follow those of the header. The three calls that are public put
+// header and claims together themselves: a function that returns them to another moves the header,
+// which is large, once more for each token, and so does `?`.
 
 ghost use Rattle.std.specs.Prelude.{◌≡◌, ◌⊎◌, ◌↔◌, ◌++◌, ℕ, List, [], Option, Some, None, IfOk};
 ghost use Rattle.std.specs.Prelude.{IsErrAnd};
@@ -16,25 +16,23 @@ ghost use Rattle.jsonwebtoken.specs.Laws.{HasLaws};
 ghost use Rattle.jsonwebtoken.specs.Order.{Decides};
 ghost use Rattle.jsonwebtoken.specs.Own.{with_algorithms, with_own};
 ghost use Rattle.jsonwebtoken.specs.Refused.{DecidesByTest};
-ghost use Rattle.jsonwebtoken.specs.private_clauses.Refused.{tested};
 ghost use Rattle.jsonwebtoken.specs.Steps.{Finds, Step};
-ghost use Rattle.jsonwebtoken.specs.private_clauses.Steps.{ShowsClaims, ShowsNothing, allowing};
-ghost use Rattle.jsonwebtoken.specs.private_clauses.Asking.{NotesOwn, accepted_algorithms};
-ghost use Rattle.jsonwebtoken.specs.private_clauses.Asking.{given_key, noted_own, options_asked};
+ghost use Rattle.jsonwebtoken.specs.private_clauses.Steps.{ShowsClaims};
+ghost use Rattle.jsonwebtoken.specs.private_clauses.Asking.{given_key, options_asked};
 ghost use Rattle.jsonwebtoken.specs.private_clauses.Steps.{parts_in};
-ghost use Rattle.jsonwebtoken.specs.private_clauses.Steps.{whole, with_header, with_opening};
+ghost use Rattle.jsonwebtoken.specs.private_clauses.Steps.{with_opening};
 ghost use Rattle.jsonwebtoken.specs.Tests.{Compact, VerifierIsMade, algorithm_tests, token_tests};
 ghost use Rattle.jsonwebtoken.specs.Tests.{verifying_tests};
 
 use crate::decoding::TokenData;
 use crate::decoding::crit::check_crit;
-use crate::decoding::finder::{Algorithms, KeyFinder};
+use crate::decoding::finder::KeyFinder;
 use crate::decoding::parts::{Asked, Opening};
 use crate::decoding::steps::{
-    check_families, check_listed, check_some_listed, read_header_noting, token_parts,
+    check_families, check_listed, check_some_listed, read_header, read_header_noting, token_parts,
     verify_and_read_claims,
 };
-use crate::refusal::{Refusal, Test, note, with_test};
+use crate::refusal::{Refusal, Test};
 use jwt_base::algorithms::Algorithm;
 use jwt_base::errors::Result;
 use jwt_base::json::Claims;
@@ -63,8 +61,32 @@ pub fn decode_by<K: KeyFinder, T: Claims>(
         (finding K.KeyFinder T.Claims keys.now token.now (options_of validation.now) time)
         (order_by (K.source keys.now)) (List ℕ) Compact token.now }
 {
+    let parts = match token_parts(token) {
+        Ok(parts) => parts,
+        Err(refusal) => return Err(refusal.error),
+    };
     let mut failed = Test::HasThreeParts;
-    decode_listed(alloc, keys, token, validation, time, &mut failed)
+    let header = match read_header_noting(alloc, parts.header, &mut failed) {
+        Ok(header) => header,
+        Err(error) => return Err(error),
+    };
+    let opening = Opening {
+        parts: &parts,
+        header: &header,
+    };
+    let asked = Asked {
+        algorithms: validation.algorithms.as_slice(),
+        validation,
+        time,
+    };
+    match read_claims(alloc, keys, &opening, &asked) {
+        Ok(claims) => Ok(TokenData { header, claims }),
+        Err(refusal) => {
+            // dropped by a call: the end of the block would have to be proved to drop every field
+            drop(header);
+            Err(refusal.error)
+        }
+    }
 }
 
 /// Verifies a token like [`decode_by`]; a refusal has the first test that fails, and its error. If
@@ -80,9 +102,31 @@ pub fn decode_by_or_refusal<K: KeyFinder, T: Claims>(
         keys.now token.now (options_of validation.now) time in
         DecidesByTest (token_tests call) (order_by (K.source keys.now)) (Carries call) result }
 {
+    let parts = token_parts(token)?;
     let mut failed = Test::HasThreeParts;
-    let decoded = decode_listed(alloc, keys, token, validation, time, &mut failed);
-    with_test(failed, decoded)
+    let header = match read_header_noting(alloc, parts.header, &mut failed) {
+        Ok(header) => header,
+        Err(error) => return Err(Refusal {
+            test: failed,
+            error,
+        }),
+    };
+    let opening = Opening {
+        parts: &parts,
+        header: &header,
+    };
+    let asked = Asked {
+        algorithms: validation.algorithms.as_slice(),
+        validation,
+        time,
+    };
+    match read_claims(alloc, keys, &opening, &asked) {
+        Ok(claims) => Ok(TokenData { header, claims }),
+        Err(refusal) => {
+            drop(header);
+            Err(refusal)
+        }
+    }
 }
 
 /// Verifies a token like [`decode_by_or_refusal`], with the algorithm of its key alone (RFC 8725
@@ -107,108 +151,30 @@ pub fn decode_by_own_algorithm<K: KeyFinder, T: Claims>(
         keys.now token.now (options_of validation.now) time) result.0 in
         DecidesByTest (token_tests call) (order_by (K.source keys.now)) (Carries call) result.1 }
 {
-    let mut failed = Test::HasThreeParts;
-    let mut own = None;
-    let decoded = decode_noting(
-        alloc,
-        keys,
-        token,
-        Algorithms::OfKey,
-        validation,
-        time,
-        &mut failed,
-        &mut own,
-    );
-    (own, with_test(failed, decoded))
-}
-
-/// Verifies a token with the algorithms that the options list, and notes the test that fails.
-fn decode_listed<K: KeyFinder, T: Claims>(
-    alloc: Global,
-    keys: &K,
-    token: &[u8],
-    validation: &Validation,
-    time: u64,
-    failed: &mut Test,
-) -> Result<TokenData<T>>
-    ensures { let call = finding K.KeyFinder T.Claims
-        keys.now token.now (options_of validation.now) time in
-        Step call (order_by (K.source keys.now)) whole (Carries call) (tested failed.new result) }
-{
-    let mut own = None;
-    let accepted = Algorithms::Listed(validation.algorithms.as_slice());
-    decode_noting(
-        alloc, keys, token, accepted, validation, time, failed, &mut own,
-    )
-}
-
-/// Verifies a token, and notes the test that fails, and the algorithm that its key is for if that
-/// is asked for.
-fn decode_noting<K: KeyFinder, T: Claims>(
-    alloc: Global,
-    keys: &K,
-    token: &[u8],
-    accepted: Algorithms<'_>,
-    validation: &Validation,
-    time: u64,
-    failed: &mut Test,
-    own: &mut Option<Algorithm>,
-) -> Result<TokenData<T>>
-    ensures { let call = finding K.KeyFinder T.Claims keys.now token.now
-        (with_algorithms (options_of validation.now)
-        (accepted_algorithms accepted.entry own.new)) time in
-        (IsErrAnd result IsMemory × (own.new ≡ None))
-        ⊎ (NotesOwn accepted.entry (K.source keys.now) token.now own.new
-        × Step call (order_by (K.source keys.now)) whole (Carries call) (tested failed.new result)) }
-{
-    *own = None;
     let parts = match token_parts(token) {
         Ok(parts) => parts,
-        Err(refusal) => return Err(note(refusal, failed)),
+        Err(refusal) => return (None, Err(refusal)),
     };
-    let header = read_header_noting(alloc, parts.header, failed)?;
-    *own = own_if_asked(keys, accepted, &header);
+    let header = match read_header(alloc, parts.header) {
+        Ok(header) => header,
+        Err(refusal) => return (None, Err(refusal)),
+    };
+    let own = keys.own_algorithm(&header);
     let opening = Opening {
         parts: &parts,
         header: &header,
     };
     let asked = Asked {
-        algorithms: algorithms_of(accepted, own),
+        algorithms: own.as_slice(),
         validation,
         time,
     };
-    let claims = read_claims(alloc, keys, &opening, &asked);
-    match claims {
-        Ok(claims) => Ok(TokenData { header, claims }),
+    match read_claims(alloc, keys, &opening, &asked) {
+        Ok(claims) => (own, Ok(TokenData { header, claims })),
         Err(refusal) => {
-            // dropped by a call: the end of the block would have to be proved to drop every field
             drop(header);
-            Err(note(refusal, failed))
+            (own, Err(refusal))
         }
-    }
-}
-
-/// Returns the algorithm that the key which the header names is for, if that is asked for.
-fn own_if_asked<K: KeyFinder>(
-    keys: &K,
-    accepted: Algorithms<'_>,
-    header: &Header,
-) -> Option<Algorithm>
-    ensures { result ≡ noted_own accepted.entry (K.source keys.now) header.now }
-{
-    match accepted {
-        Algorithms::Listed(_) => None,
-        Algorithms::OfKey => keys.own_algorithm(header),
-    }
-}
-
-/// Returns the algorithms that are accepted, if the key is for this one.
-fn algorithms_of<'a>(accepted: Algorithms<'a>, own: &'a Option<Algorithm>) -> &'a [Algorithm]
-    ensures { result.now ≡ accepted_algorithms accepted.entry own.now }
-{
-    match accepted {
-        Algorithms::Listed(algorithms) => algorithms,
-        Algorithms::OfKey => own.as_slice(),
     }
 }
 
@@ -248,7 +214,14 @@ fn verify_by<K: KeyFinder, T: Claims>(
         (with_opening (parts_in opening.now.parts.now) opening.now.header.now)
         (ShowsClaims T.reads) result }
 {
-    let verifier = verifier_by(alloc, keys, found, opening.header, asked.algorithms)?;
+    let algorithm = opening.header.alg;
+    check_some_listed(asked.algorithms)?;
+    check_listed(asked.algorithms, algorithm)?;
+    let verifier = match make_verifier(alloc, keys, found, algorithm) {
+        Ok(verifier) => verifier,
+        Err(refusal) => return Err(refusal),
+    };
+    check_families(asked.algorithms, algorithm)?;
     let claims = verify_and_read_claims(
         alloc,
         &verifier,
@@ -257,29 +230,6 @@ fn verify_by<K: KeyFinder, T: Claims>(
         asked.time,
     )?;
     Ok(claims)
-}
-
-/// Returns the verifier by the key and the header's algorithm, which is among those that are
-/// allowed.
-fn verifier_by<K: KeyFinder>(
-    alloc: Global,
-    keys: &K,
-    found: &K::Found,
-    header: &Header,
-    algorithms: &[Algorithm],
-) -> Result<K::Verifier, Refusal>
-    ensures tests { (o : Options) → Step (allowing (with_algorithms o algorithms.now)
-        (K.key keys.now found.now) (K.refusal keys.now))
-        algorithm_tests (with_header header.now) ShowsNothing result }
-    ensures accepts { IfOk result (λ v. (m s : List ℕ) → K.Verifier.accepts v m s
-        ↔ K.accepts keys.now header.now.alg (K.key keys.now found.now) m s) }
-{
-    let algorithm = header.alg;
-    check_some_listed(algorithms)?;
-    check_listed(algorithms, algorithm)?;
-    let verifier = make_verifier(alloc, keys, found, algorithm)?;
-    check_families(algorithms, algorithm)?;
-    Ok(verifier)
 }
 
 /// Returns the verifier that is made for the algorithm and the key.
@@ -295,6 +245,12 @@ pub(crate) fn make_verifier<K: KeyFinder>(
     ensures accepts { IfOk result (λ v. (m s : List ℕ) → K.Verifier.accepts v m s
         ↔ K.accepts keys.now algorithm (K.key keys.now found.now) m s) }
 {
-    let made = keys.verifier(alloc, algorithm, found);
-    with_test(Test::VerifierIsMade, made)
+    // neither by a call nor by `?`, which would move the verifier once more
+    match keys.verifier(alloc, algorithm, found) {
+        Ok(verifier) => Ok(verifier),
+        Err(error) => Err(Refusal {
+            test: Test::VerifierIsMade,
+            error,
+        }),
+    }
 }

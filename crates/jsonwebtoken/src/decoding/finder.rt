@@ -1,4 +1,4 @@
-//! Where the key of a token is found, and which algorithms are accepted.
+//! Where the key of a token is found.
 
 ghost use Rattle.std.specs.Prelude.{◌≡◌, ◌↔◌, ℕ, List, Option, None, IfOk, IfErr, OnOk};
 ghost use Rattle.jwt_base.specs.Kind.{Kind};
@@ -15,15 +15,6 @@ use jwt_base::errors::Result;
 use jwt_header::Header;
 use jwt_keys::provider::JwtVerifier;
 use std::alloc::Global;
-
-/// The algorithms that are accepted.
-#[derive(Clone, Copy)]
-pub(crate) enum Algorithms<'a> {
-    /// These.
-    Listed(&'a [Algorithm]),
-    /// That which the token's key is for, by its own `alg`, or none (RFC 8725 section 3.1).
-    OfKey,
-}
 
 /// Finds the key of a token, and makes its verifier, for [`decode_by`](crate::decode_by).
 ///

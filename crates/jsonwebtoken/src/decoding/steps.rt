@@ -116,8 +116,8 @@ pub(crate) fn read_json(alloc: Global, test: Test, bytes: &[u8]) -> Result<Value
 /// Returns the header that a header part stands for, and notes the test that fails. Four parts are
 /// known by their texts, without being read. The test is noted next to the result, so that no
 /// header is moved into a result of another type.
-// A call that returns a header clears the room for it first, and moves it afterwards: inlined, it
-// does neither.
+// A call that returns a header clears the room for it first, and moves it afterwards, so the known
+// one is made here.
 #[inline(always)]
 pub(crate) fn read_header_noting(alloc: Global, part: &[u8], failed: &mut Test) -> Result<Header>
     ensures { Step bare header_tests (with_header_part part.now) ShowsHeader
@@ -125,7 +125,26 @@ pub(crate) fn read_header_noting(alloc: Global, part: &[u8], failed: &mut Test) 
 {
     if let Some(algorithm) = known_algorithm(part) {
         *failed = Test::HeaderReads;
-        return known_header(alloc, algorithm);
+        let typ = Text::from_str(alloc, "JWT")?;
+        // as `Header::new` makes it
+        return Ok(Header {
+            alg: algorithm,
+            typ: Some(typ),
+            cty: None,
+            jku: None,
+            jwk: None,
+            kid: None,
+            x5u: None,
+            x5t: None,
+            x5t_s256: None,
+            url: None,
+            nonce: None,
+            x5c: None,
+            crit: None,
+            enc: None,
+            zip: None,
+            extras: Extras::new(alloc),
+        });
     }
     *failed = Test::HeaderIsPart;
     let bytes = part_bytes(alloc, part)?;
@@ -194,33 +213,6 @@ fn last_dot(text: &[u8]) -> Option<(&[u8], &[u8])>
 {
     let at = memrchr(b'.', text)?;
     Some((&text[..at], &text[at + 1..]))
-}
-
-/// Returns the header with the algorithm and the type `JWT` alone, as [`Header::new`] does. A
-/// header is large, so it is made in the result here, and not moved from that of another call.
-fn known_header(alloc: Global, algorithm: Algorithm) -> Result<Header>
-    ensures ok { IfOk result (λ header. header ≡ new_header algorithm) }
-    ensures err { IfErr result IsMemory }
-{
-    let typ = Text::from_str(alloc, "JWT")?;
-    Ok(Header {
-        alg: algorithm,
-        typ: Some(typ),
-        cty: None,
-        jku: None,
-        jwk: None,
-        kid: None,
-        x5u: None,
-        x5t: None,
-        x5t_s256: None,
-        url: None,
-        nonce: None,
-        x5c: None,
-        crit: None,
-        enc: None,
-        zip: None,
-        extras: Extras::new(alloc),
-    })
 }
 
 fn check_signature<V: JwtVerifier>(

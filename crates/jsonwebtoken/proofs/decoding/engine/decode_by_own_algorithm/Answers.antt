@@ -1,28 +1,65 @@
-use Rattle.std.proofs.Common.{⊎_elim, inl, inr}
+use Rattle.std.proofs.Common.{Err, None, inl, inr, refl, ⊎_elim}
 use Rattle.jwt_validation.specs.OptionsOf.{options_of}
-use Rattle.jsonwebtoken.specs.Calls.{Carries}
-use Rattle.jsonwebtoken.specs.Finder.{order_by}
 use Rattle.jsonwebtoken.specs.Finding.{finding}
-use Rattle.jsonwebtoken.specs.Own.{with_own}
-use Rattle.jsonwebtoken.specs.Steps.{Step}
-use Rattle.jsonwebtoken.specs.private_clauses.Refused.{tested}
-use Rattle.jsonwebtoken.specs.private_clauses.Steps.{whole}
-use Rattle.jsonwebtoken.proofs.Exits.{noted}
-use Rattle.jsonwebtoken.proofs.FinderLemmas.{decides_by, memory_step}
-use Rattle.jsonwebtoken.proofs.OwnLemmas.{memory_noted}
+use Rattle.jsonwebtoken.specs.Own.{listed, with_algorithms}
+use Rattle.jsonwebtoken.specs.private_clauses.Steps.{parts_in}
+use Rattle.jsonwebtoken.proofs.FinderLemmas.{decides_by, none_of_cut, none_of_header, own_of_opened}
+use Rattle.jsonwebtoken.proofs.FinderLemmas.{says_claims, says_cut, says_header, says_refused}
+use Rattle.jsonwebtoken.proofs.OwnLemmas.{listed_is}
 use Rattle.jsonwebtoken.proofs.decoding.engine.decode_by_own_algorithm.Goals as goal
 
-pub returns-clause-own : goal.returns-clause-own
-returns-clause-own g c =
-    ⊎_elim (λ m. inr (m.1, memory_noted _ c.decode_noting-decoded.result _ c.with_test.ensures m.0)) (λ f. inl f.0)
-    c.decode_noting-decoded.ensures
+pub returns-in-Err-clause-own : goal.returns-in-Err-clause-own
+returns-in-Err-clause-own g c =
+    ⊎_elim (λ n. inl n) (λ m. inr (refl, m))
+    (none_of_cut (g.K.KeyFinder.source c.args.keys.now) c.args.token.now c.in-Err.refusal.error c.in-Err.ensures)
 
-pub returns-clause-decided : goal.returns-clause-decided
-returns-clause-decided g c =
-    let call = with_own (finding g.K.KeyFinder g.T.Claims c.args.keys.now c.args.token.now
-    (options_of c.args.validation.now) c.args.time) c.decode_noting-decoded.new.own in
-    let step : Step call (order_by call.keys) whole (Carries call)
-    (tested c.decode_noting-decoded.new.failed c.decode_noting-decoded.result) =
-    ⊎_elim (λ m. memory_step call (order_by call.keys) (Carries call) _ _ m.0) (λ f. f.1) c.decode_noting-decoded.ensures in
-    decides_by call call.keys c.with_test.result
-    (rw (noted _ c.decode_noting-decoded.result _ c.with_test.ensures) at step)
+pub returns-in-Err-clause-decided : goal.returns-in-Err-clause-decided
+returns-in-Err-clause-decided g c =
+    let o = options_of c.args.validation.now in
+    let call = finding g.K.KeyFinder g.T.Claims c.args.keys.now c.args.token.now o c.args.time in
+    decides_by (record call { options = with_algorithms o (listed None) }) call.keys _
+    (says_cut call call.keys o c.args.token.now (listed None) _ c.in-Err.ensures)
+
+pub returns-in-Err-read_header-clause-own : goal.returns-in-Err-read_header-clause-own
+returns-in-Err-read_header-clause-own g c =
+    ⊎_elim (λ n. inl n) (λ m. inr (refl, m))
+    (none_of_header (g.K.KeyFinder.source c.args.keys.now) c.args.token.now (parts_in c.in-Ok.parts) c.in-Ok.ensures
+    c.in-Err-read_header.refusal.test c.in-Err-read_header.refusal.error c.in-Err-read_header.ensures)
+
+pub returns-in-Err-read_header-clause-decided : goal.returns-in-Err-read_header-clause-decided
+returns-in-Err-read_header-clause-decided g c =
+    let o = options_of c.args.validation.now in
+    let call = finding g.K.KeyFinder g.T.Claims c.args.keys.now c.args.token.now o c.args.time in
+    decides_by (record call { options = with_algorithms o (listed None) }) call.keys _
+    (says_header call call.keys o c.args.token.now (parts_in c.in-Ok.parts) c.in-Ok.ensures (listed None)
+    c.in-Err-read_header.refusal.test (Err c.in-Err-read_header.refusal.error) _ refl c.in-Err-read_header.ensures)
+
+pub returns-in-Ok-read_claims-clause-own : goal.returns-in-Ok-read_claims-clause-own
+returns-in-Ok-read_claims-clause-own g c =
+    inl (own_of_opened (g.K.KeyFinder.source c.args.keys.now) c.args.token.now (parts_in c.in-Ok.parts)
+    c.in-Ok-read_header.header _ c.in-Ok-read_header.ensures c.in-Ok.ensures c.own_algorithm-own.ensures)
+
+pub returns-in-Ok-read_claims-clause-decided : goal.returns-in-Ok-read_claims-clause-decided
+returns-in-Ok-read_claims-clause-decided g c =
+    let o = options_of c.args.validation.now in
+    let call = finding g.K.KeyFinder g.T.Claims c.args.keys.now c.args.token.now o c.args.time in
+    let own = c.own_algorithm-own.result in
+    decides_by (record call { options = with_algorithms o (listed own) }) call.keys _
+    (says_claims call call.keys o c.args.token.now (parts_in c.in-Ok.parts) c.in-Ok.ensures c.in-Ok-read_header.header _
+    (listed own) (listed_is own c.as_slice.result.now c.as_slice.ensures) c.in-Ok-read_header.ensures
+    c.in-Ok-read_claims.claims c.in-Ok-read_claims.ensures)
+
+pub returns-in-Err-read_claims-clause-own : goal.returns-in-Err-read_claims-clause-own
+returns-in-Err-read_claims-clause-own g c =
+    inl (own_of_opened (g.K.KeyFinder.source c.args.keys.now) c.args.token.now (parts_in c.in-Ok.parts)
+    c.in-Ok-read_header.header _ c.in-Ok-read_header.ensures c.in-Ok.ensures c.own_algorithm-own.ensures)
+
+pub returns-in-Err-read_claims-clause-decided : goal.returns-in-Err-read_claims-clause-decided
+returns-in-Err-read_claims-clause-decided g c =
+    let o = options_of c.args.validation.now in
+    let call = finding g.K.KeyFinder g.T.Claims c.args.keys.now c.args.token.now o c.args.time in
+    let own = c.own_algorithm-own.result in
+    decides_by (record call { options = with_algorithms o (listed own) }) call.keys _
+    (says_refused call call.keys o c.args.token.now (parts_in c.in-Ok.parts) c.in-Ok.ensures c.in-Ok-read_header.header _
+    (listed own) (listed_is own c.as_slice.result.now c.as_slice.ensures) c.in-Ok-read_header.ensures
+    c.in-Err-read_claims.refusal c.in-Err-read_claims.ensures)

@@ -1,5 +1,4 @@
 use Rattle.std.proofs.Common.{[], ◌++◌, inl, inr}
-use Rattle.jwt_keys.specs.Key.{Key}
 use Rattle.jsonwebtoken.specs.Finder.{finding_tests, tests_after_header}
 use Rattle.jsonwebtoken.specs.Finding.{finding}
 use Rattle.jsonwebtoken.specs.Order.{Passes}

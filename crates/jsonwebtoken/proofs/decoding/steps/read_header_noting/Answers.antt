@@ -1,5 +1,4 @@
-use Rattle.std.proofs.Common.{inl, inr, refl, sym}
-use Rattle.std.proofs.lemmas.Result.{IfErr-weaker}
+use Rattle.std.proofs.Common.{inl, inr, refl}
 use Rattle.serde_json.specs.View.{view}
 use Rattle.jwt_header.specs.Header.{new_header}
 use Rattle.jsonwebtoken.specs.private_clauses.Steps.{ShowsHeader, no_contents, bare, with_header_part}
@@ -7,26 +6,26 @@ use Rattle.jsonwebtoken.specs.Tests.{HeaderIsPart, HeaderIsJson, HeaderReads, he
 use Rattle.jsonwebtoken.proofs.Exits.{exit_noting, last_noting}
 use Rattle.jsonwebtoken.proofs.decoding.steps.read_header_noting.Goals as goal
 
+pub returns-in_err-typ : goal.returns-in_err-typ
+returns-in_err-typ c =
+    exit_noting bare header_tests (with_header_part c.args.part.now) ShowsHeader {A = ⊥} HeaderReads _ _
+    c.from_residual.ensures.1 (λ none. absurd none) (inl c.in_err-typ.ensures.err)
+
 pub returns-in-Some : goal.returns-in-Some
 returns-in-Some c =
-    let u = c.in-Some.ensures in
-    last_noting bare header_tests (with_header_part c.args.part.now) ShowsHeader {Q = λ e. ⊥} HeaderReads
-    c.known_header.result c.known_header.ensures.ok
-    (IfErr-weaker c.known_header.result _ _ (λ e memory. inl memory) c.known_header.ensures.err)
-    (λ h is. (
+    let u = c.in-Some.ensures in (
       record no_contents {
         header_bytes = u.bytes;
         header_value = u.value;
         header = new_header c.in-Some.algorithm;
       },
       (u.is_part, (u.is_json, (u.reads, tt))),
-      sym is,
-    ))
-    (λ e none. absurd none)
+      rw (c.in_ok-typ.ensures.ok, c.new.ensures) refl,
+    )
 
 pub returns-in_err-bytes : goal.returns-in_err-bytes
 returns-in_err-bytes c =
-    exit_noting bare header_tests (with_header_part c.args.part.now) ShowsHeader HeaderIsPart _ _ c.from_residual.ensures.1
+    exit_noting bare header_tests (with_header_part c.args.part.now) ShowsHeader HeaderIsPart _ _ c.from_residual-in_err-bytes.ensures.1
     (λ f. (no_contents, inl (f.1, (refl, f.0)))) c.in_err-bytes.ensures.err
 
 pub returns-in_err-value : goal.returns-in_err-value
