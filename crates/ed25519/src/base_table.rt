@@ -1,4 +1,4 @@
-//! The base point's multiples below the 16th, as sums take them. `tools/rows/base_tables` writes
+//! The base point's multiples below the 16th, as sums take them. `tools/certificates/base_tables` writes
 //! the table.
 
 ghost use Rattle.std.specs.Prelude.{◌<◌};
