@@ -1,3 +1,4 @@
+pub mod Attached
 pub mod Judged
 pub mod LineStatuses
 pub mod Numbers

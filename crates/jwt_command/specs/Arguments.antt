@@ -1,5 +1,5 @@
 -- The request that the arguments of the command line stand for.
-use Rattle.std.specs.Prelude.{◌≡◌, ◌⊎◌, ◌&&◌, ◌^◌, ⊤, ℕ, List, [], Bool, true, false, Option, Some, None, length, ltb, map}
+use Rattle.std.specs.Prelude.{◌≡◌, ◌≢◌, ◌⊎◌, ◌&&◌, ◌^◌, ⊤, ℕ, List, [], Bool, true, false, Option, Some, None, length, ltb, map}
 use Rattle.std.specs.Prelude.{All, IfSome, option_map, if◌then◌else◌, codes}
 use Rattle.std.specs.Borrow.{Bor}
 use Rattle.std.specs.Option.{option_or}
@@ -10,14 +10,17 @@ use Rattle.clap.specs.Simple.{subcommand_rows_of}
 use Rattle.clap.specs.Walk.{rows_of}
 use Rattle.clap.specs.declared.parser.matches.ArgMatches.{ArgMatches}
 use Rattle.clap.specs.declared.parser.matches.Found.{Found}
-use Rattle.jwt_base.specs.Algorithm.{algorithm_named}
+use Rattle.jwt_base.specs.Algorithm.{algorithm_named, family_of}
+use Rattle.jwt_base.specs.declared.algorithms.AlgorithmFamily.TheVariants.{Hmac}
 use Rattle.jwt_params.specs.declared.thumbprints.ThumbprintHash.{ThumbprintHash}
 use Rattle.jwt_params.specs.declared.thumbprints.ThumbprintHash.TheVariants.{SHA256, SHA384, SHA512}
 use Rattle.jwt_command.specs.declared.request.Checks.{Checks}
+use Rattle.jwt_command.specs.declared.request.Draft.{Draft}
 use Rattle.jwt_command.specs.declared.request.KeyFile.{KeyFile}
 use Rattle.jwt_command.specs.declared.request.KeyFile.TheVariants as file
 use Rattle.jwt_command.specs.declared.request.Request.{Request}
-use Rattle.jwt_command.specs.declared.request.Request.TheVariants.{Verify, Explain, Show, Sign, Keys, Jwk, Thumbprint}
+use Rattle.jwt_command.specs.declared.request.Request.TheVariants.{Verify, Explain, Show, Sign, SigningInput, Attach}
+use Rattle.jwt_command.specs.declared.request.Request.TheVariants.{Keys, Jwk, Thumbprint}
 use Rattle.jwt_command.specs.declared.request.SecretFile.{SecretFile}
 use Rattle.jwt_command.specs.declared.request.Showing.{Showing}
 use Rattle.jwt_command.specs.declared.request.Signing.{Signing}
@@ -104,11 +107,9 @@ pub record IsChecking (f : Found) (v : Verification) : Type 0 where
   pub time : IsNumberOf (first_value f (codes "now")) v.time
   pub is_json : IsFlag f (codes "json") v.is_json
 
--- the arguments of `sign`; the algorithm is HS256 if none is given
-pub record IsSigningOf (f : Found) (s : Signing) : Type 0 where
+-- the arguments of `sign` about header and claims; the algorithm is HS256 if none is given
+pub record IsDraftOf (f : Found) (s : Draft) : Type 0 where
   pub claims : text_of s.claims ≡ first_value f (codes "claims")
-  pub secret : (path : Bor (List ℕ)) × (first_value f (codes "secret-file") ≡ Some path.now)
-      × IsSecretFile f path s.secret
   pub algorithm : option_map algorithm_named (option_or (first_value f (codes "alg")) (Some (codes "HS256")))
       ≡ Some (Some s.algorithm)
   pub kid : text_of s.kid ≡ first_value f (codes "kid")
@@ -117,6 +118,19 @@ pub record IsSigningOf (f : Found) (s : Signing) : Type 0 where
   pub nbf_in : IsNumberOf (first_value f (codes "nbf-in")) s.nbf_in
   pub has_iat : IsFlag f (codes "iat") s.has_iat
   pub time : IsNumberOf (first_value f (codes "now")) s.time
+
+-- the arguments of `sign` with a secret
+pub record IsSigningOf (f : Found) (s : Signing) : Type 0 where
+  pub draft : IsDraftOf f s.draft
+  pub secret : (path : Bor (List ℕ)) × (first_value f (codes "secret-file") ≡ Some path.now)
+      × IsSecretFile f path s.secret
+
+-- the file of the keys that a signature is verified with, if one of these options is given
+abbrev pub IsKeyGiven : Found → Option KeyFile → Type 0
+IsKeyGiven f None =
+    (first_value f (codes "jwk") ≡ None) × (first_value f (codes "jwks") ≡ None)
+    × (first_value f (codes "pem") ≡ None)
+IsKeyGiven f (Some file) = IsKeyFile f file
 
 -- the arguments of `show`
 pub record IsShowing (f : Found) (s : Showing) : Type 0 where
@@ -151,9 +165,14 @@ IsCommand name f (Verify v) = (name ≡ codes "verify") × IsChecking f v
 IsCommand name f (Explain v) = (name ≡ codes "explain") × IsChecking f v
     × (v.has_header ≡ false) × (v.is_lines ≡ false) × IsFlag f (codes "brief") v.is_brief
 IsCommand name f (Show s) = (name ≡ codes "show") × IsShowing f s
-IsCommand name f (Sign s) = (name ≡ codes "sign") × IsSigningOf f s
-IsCommand name f (Keys l) = (name ≡ codes "keys") × IsFile f l.file
-IsCommand name f (Jwk l) = (name ≡ codes "jwk") × IsFile f l.file
+IsCommand name f (Sign s) = (name ≡ codes "sign") × (first_value f (codes "signature") ≡ None)
+    × IsFlag f (codes "signing-input") false × IsSigningOf f s
+IsCommand name f (SigningInput d) = (name ≡ codes "sign") × (first_value f (codes "signature") ≡ None)
+    × IsFlag f (codes "signing-input") true × IsDraftOf f d × (family_of d.algorithm ≢ Hmac)
+IsCommand name f (Attach a) = (name ≡ codes "sign") × (first_value f (codes "signature") ≡ Some a.signature.now)
+    × IsKeyGiven f a.key
+IsCommand name f (Keys l) = (name ≡ codes "keys") × IsFile f l.file × IsFlag f (codes "json") l.is_json
+IsCommand name f (Jwk file) = (name ≡ codes "jwk") × IsFile f file
 IsCommand name f (Thumbprint d) = (name ≡ codes "thumbprint") × IsFile f d.file
     × IsHash (first_value f (codes "hash")) d.hash
 

@@ -14,6 +14,7 @@ use Rattle.jsonwebtoken.specs.Order.{Passes, FailsFirst}
 use Rattle.jsonwebtoken.specs.Own.{listed, with_algorithms}
 use Rattle.jsonwebtoken.specs.Tests.{Contents, insecure_call, insecure_order, token_tests}
 use Rattle.jwt_command.specs.Answers.{IsVerdict, IsVerifyAnswer, IsSignAnswer}
+use Rattle.jwt_command.specs.BySignature.{IsAttached, IsInputAnswer}
 use Rattle.jwt_command.specs.Claimed.{header_asked, members_with_times}
 use Rattle.jwt_command.specs.FileKeys.{AreLoaded, IsJwkLine, IsTaken}
 use Rattle.jwt_command.specs.LineEnd.{IsLessLineEnd, IsSecret}
@@ -22,8 +23,12 @@ use Rattle.jwt_command.specs.Requested.{AreRequested}
 use Rattle.jwt_verifier.specs.Verifying.{source_of}
 use Rattle.jwt_verifier.specs.declared.keys.Keys.{Keys as KeyValues}
 use Rattle.jwt_command.specs.declared.keys.LoadedKeys.{LoadedKeys}
+use Rattle.jwt_command.specs.declared.request.Attaching.{Attaching}
+use Rattle.jwt_command.specs.declared.request.Draft.{Draft}
+use Rattle.jwt_command.specs.declared.request.KeyFile.{KeyFile}
 use Rattle.jwt_command.specs.declared.request.Request.{Request}
-use Rattle.jwt_command.specs.declared.request.Request.TheVariants.{Verify, Explain, Show, Sign, Keys, Jwk, Thumbprint}
+use Rattle.jwt_command.specs.declared.request.Request.TheVariants.{Verify, Explain, Show, Sign, SigningInput, Attach}
+use Rattle.jwt_command.specs.declared.request.Request.TheVariants.{Keys, Jwk, Thumbprint}
 use Rattle.jwt_command.specs.declared.request.Showing.{Showing}
 use Rattle.jwt_command.specs.declared.request.Signing.{Signing}
 use Rattle.jwt_command.specs.declared.request.Verification.{Verification}
@@ -100,13 +105,33 @@ abbrev pub IsSigned : Signing → List ℕ → List ℕ → ℕ → ℕ → List
 IsSigned s key text time status output =
     (secret : List ℕ) × IsSecret s.secret.is_trimmed key secret × IsTaken s.secret.allows_key secret
     × ((members : Members) × IsJson text (object members)
-    × IsSignAnswer (header_asked s) (object (members_with_times s time members)) secret status output)
+    × IsSignAnswer (header_asked s.draft) (object (members_with_times s.draft time members)) secret status output)
 
 -- the answer of `sign`
 abbrev pub IsSigning : Signing → ℕ → List ℕ → Type 0
 IsSigning s status output =
     (key : List ℕ) × (text : List ℕ)
-    × ((time : ℕ) × IsGiven s.time time × IsSigned s key text time status output)
+    × ((time : ℕ) × IsGiven s.draft.time time × IsSigned s key text time status output)
+
+-- status and output of `sign` for what another program has to sign
+abbrev pub IsSigningInput : Draft → ℕ → List ℕ → Type 0
+IsSigningInput d status output =
+    (text : List ℕ) × ((time : ℕ) × IsGiven d.time time
+    × ((members : Members) × IsJson text (object members)
+    × IsInputAnswer (header_asked d) (object (members_with_times d time members)) status output))
+
+-- the keys of the file that an argument names, if one does
+abbrev pub AreGiven : Option KeyFile → Option KeyValues → Type 0
+AreGiven None keys = keys ≡ None
+AreGiven (Some file) None = ⊥
+AreGiven (Some file) (Some keys) =
+    (bytes : List ℕ) × ((own : Option Algorithm) × AreLoaded file bytes keys own)
+
+-- status and output of `sign` for the signature of another program, by the signing input and the bytes of the signature's file
+abbrev pub IsAttaching : Attaching → ℕ → List ℕ → Type 0
+IsAttaching a status output =
+    (input : List ℕ) × (file : List ℕ)
+    × ((keys : Option KeyValues) × AreGiven a.key keys × IsAttached input file keys status output)
 
 -- the status of a line, which is a token
 abbrev pub IsLineStatus : Verification → LoadedKeys → Options → ℕ → Type 0
@@ -159,6 +184,8 @@ IsAnswer (Verify v) status output =
 IsAnswer (Explain v) status output = IsExplanation v status
 IsAnswer (Show s) status output = IsShown s status
 IsAnswer (Sign s) status output = IsSigning s status output
+IsAnswer (SigningInput d) status output = IsSigningInput d status output
+IsAnswer (Attach a) status output = IsAttaching a status output
 IsAnswer (Keys k) status output = status ≡ 0
 IsAnswer (Jwk k) status output = (status ≡ 0) × ((bytes : List ℕ) × IsJwkLine bytes output)
 IsAnswer (Thumbprint d) status output = status ≡ 0

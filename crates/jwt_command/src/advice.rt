@@ -41,16 +41,24 @@ const MORE: &str = "'jwt explain' with the same arguments says more\n";
 /// The line about a token of another type.
 const OTHER_TYPE: &str = "refused: InvalidType: the token's 'typ' is not that of --typ\n";
 
+/// Returns the line that says why a token is not accepted.
+pub fn denial_line(alloc: Global, denial: &Denial) -> Result<String, AllocError> {
+    match denial {
+        Denial::Refused(refusal) => error_line(alloc, &refusal.error),
+        Denial::OtherType => String::from_str(alloc, OTHER_TYPE),
+    }
+}
+
 /// Returns the lines that say why a token is not accepted by keys of a file.
 pub fn denial_lines(
     alloc: Global,
     denial: &Denial,
     has_line_end: bool,
 ) -> Result<String, AllocError> {
+    let mut lines = denial_line(alloc, denial)?;
     let Denial::Refused(refusal) = denial else {
-        return String::from_str(alloc, OTHER_TYPE);
+        return Ok(lines);
     };
-    let mut lines = error_line(alloc, &refusal.error)?;
     if has_line_end && matches!(refusal.error.kind(), ErrorKind::InvalidSignature) {
         lines.push_str(LINE_END)?;
     }

@@ -96,6 +96,7 @@ fn write_fault<W: Write>(
         Request::Verify(request) => request.is_json && !request.is_lines,
         Request::Explain(request) => request.is_json,
         Request::Show(request) => request.is_json,
+        Request::Keys(request) => request.is_json,
         _ => false,
     };
     if let (true, Ok(line)) = (is_json, fault_line(alloc, fault)) {

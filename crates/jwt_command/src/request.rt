@@ -1,12 +1,14 @@
 //! The request of the arguments.
 
-ghost use Rattle.std.specs.Prelude.{◌≡◌, ◌↔◌, Some, false, All, IfOk, IfSome, IsTrue, codes, map};
+ghost use Rattle.std.specs.Prelude.{◌≡◌, ◌≢◌, ◌↔◌, Some, false, All, IfOk, IfSome, IsTrue, codes, map};
 ghost use Rattle.std.specs.Prelude.{option_map};
 ghost use Rattle.clap.specs.Matches.{found_of, first_value};
-ghost use Rattle.jwt_base.specs.Algorithm.{algorithm_named};
+ghost use Rattle.jwt_base.specs.Algorithm.{algorithm_named, family_of};
+ghost use Rattle.jwt_base.specs.declared.algorithms.AlgorithmFamily.TheVariants.{Hmac};
 ghost use Rattle.jwt_command.specs.Arguments.{AreChecks, AreLinesAsked, IsChecking, IsCommand, IsFile};
 ghost use Rattle.jwt_command.specs.Arguments.{IsFlag};
-ghost use Rattle.jwt_command.specs.Arguments.{IsHash, IsKeyFile, IsNumberOf, IsRequestOf};
+ghost use Rattle.jwt_command.specs.Arguments.{IsDraftOf, IsHash, IsKeyFile, IsKeyGiven, IsNumberOf};
+ghost use Rattle.jwt_command.specs.Arguments.{IsRequestOf};
 ghost use Rattle.jwt_command.specs.Arguments.{IsRequirable, IsSecretFile, IsShowing, IsSigningOf};
 ghost use Rattle.jwt_command.specs.Arguments.{texts_of};
 
@@ -15,6 +17,7 @@ pub(crate) mod spans;
 
 use crate::fault::Fault;
 use crate::request::spans::{parse_span, parse_time};
+use crate::sign::by_signature::is_of_secret;
 use clap::ArgMatches;
 use jsonwebtoken::Algorithm;
 use jsonwebtoken::jwk::ThumbprintHash;
@@ -75,11 +78,10 @@ pub struct Verification<'m, 'a> {
     pub is_brief: bool,
 }
 
-/// The arguments of `sign`. The times are in seconds from now.
+/// The arguments of `sign` about header and claims. The times are in seconds from now.
 #[derive(Clone, Copy)]
-pub struct Signing<'a> {
+pub struct Draft<'a> {
     pub claims: Option<&'a str>,
-    pub secret: SecretFile<'a>,
     pub algorithm: Algorithm,
     pub kid: Option<&'a str>,
     pub typ: Option<&'a str>,
@@ -87,6 +89,22 @@ pub struct Signing<'a> {
     pub nbf_in: Option<u64>,
     pub has_iat: bool,
     pub time: Option<u64>,
+}
+
+/// The arguments of `sign` with a secret.
+#[derive(Clone, Copy)]
+pub struct Signing<'a> {
+    pub draft: Draft<'a>,
+    pub secret: SecretFile<'a>,
+}
+
+/// The arguments of `sign` with the signature of another program.
+#[derive(Clone, Copy)]
+pub struct Attaching<'a> {
+    /// The file of the signature.
+    pub signature: &'a str,
+    /// The file of the keys that the signature is verified with, if it is.
+    pub key: Option<KeyFile<'a>>,
 }
 
 /// The arguments of `show`.
@@ -97,10 +115,11 @@ pub struct Showing<'a> {
     pub is_json: bool,
 }
 
-/// The arguments of `keys` and of `jwk`.
+/// The arguments of `keys`.
 #[derive(Clone, Copy)]
 pub struct Listing<'a> {
     pub file: &'a str,
+    pub is_json: bool,
 }
 
 /// The arguments of `thumbprint`.
@@ -119,12 +138,16 @@ pub enum Request<'m, 'a> {
     Explain(Verification<'m, 'a>),
     /// Prints header and claims of a token, unverified.
     Show(Showing<'a>),
-    /// Signs claims.
+    /// Signs claims with a secret.
     Sign(Signing<'a>),
+    /// Prints what another program has to sign.
+    SigningInput(Draft<'a>),
+    /// Prints the token of a signature that another program made.
+    Attach(Attaching<'a>),
     /// Prints a table of a key set.
     Keys(Listing<'a>),
-    /// Prints the JSON Web Key of a key in PEM.
-    Jwk(Listing<'a>),
+    /// Prints the JSON Web Key of the key in PEM of a file.
+    Jwk(&'a str),
     /// Prints the thumbprint of a key.
     Thumbprint(Digesting<'a>),
 }
@@ -154,9 +177,9 @@ fn command_asked<'m, 'a: 'm>(
         "verify" => verification_asked(alloc, found).map(Request::Verify),
         "explain" => explanation_asked(alloc, found).map(Request::Explain),
         "show" => showing_asked(found).map(Request::Show),
-        "sign" => signing_asked(found).map(Request::Sign),
-        "keys" => Ok(Request::Keys(Listing { file: file(found) })),
-        "jwk" => Ok(Request::Jwk(Listing { file: file(found) })),
+        "sign" => signing_asked(found),
+        "keys" => Ok(Request::Keys(listing_asked(found))),
+        "jwk" => Ok(Request::Jwk(file(found))),
         "thumbprint" => digesting_asked(found).map(Request::Thumbprint),
         _ => Err(Fault::Usage("a command is needed")),
     }
@@ -397,15 +420,77 @@ fn showing_asked<'a>(matches: &ArgMatches<'a>) -> Result<Showing<'a>, Fault<'sta
     })
 }
 
-fn signing_asked<'a>(matches: &ArgMatches<'a>) -> Result<Signing<'a>, Fault<'static>>
+/// Returns the request of `sign`: for the token of a signature that is given, for what is to be
+/// signed, or for the token of a secret.
+fn signing_asked<'m, 'a: 'm>(matches: &ArgMatches<'a>) -> Result<Request<'m, 'a>, Fault<'static>>
+    ensures { IfOk result (IsCommand (codes "sign") (found_of matches.now)) }
+{
+    if let Some(signature) = matches.get_str("signature") {
+        return attaching_asked(matches, signature).map(Request::Attach);
+    }
+    if matches.get_flag("signing-input") {
+        return unsigned_asked(matches).map(Request::SigningInput);
+    }
+    secret_asked(matches).map(Request::Sign)
+}
+
+/// Returns the arguments for the token of this signature.
+fn attaching_asked<'a>(
+    matches: &ArgMatches<'a>,
+    signature: &'a str,
+) -> Result<Attaching<'a>, Fault<'static>>
+    ensures { IfOk result (λ a. (a.signature ≡ signature.entry)
+        × IsKeyGiven (found_of matches.now) a.key) }
+{
+    Ok(Attaching {
+        signature,
+        key: given_key_file(matches)?,
+    })
+}
+
+/// Returns the file of the keys that a signature is verified with, if one is given.
+fn given_key_file<'a>(matches: &ArgMatches<'a>) -> Result<Option<KeyFile<'a>>, Fault<'static>>
+    ensures { IfOk result (IsKeyGiven (found_of matches.now)) }
+{
+    if matches.get_str("jwk").is_none()
+        && matches.get_str("jwks").is_none()
+        && matches.get_str("pem").is_none()
+    {
+        return Ok(None);
+    }
+    let file = key_file(matches)?;
+    Ok(Some(file))
+}
+
+/// Returns the arguments for what another program has to sign, which no secret signs.
+fn unsigned_asked<'a>(matches: &ArgMatches<'a>) -> Result<Draft<'a>, Fault<'static>>
+    ensures { IfOk result (λ d. IsDraftOf (found_of matches.now) d
+        × (family_of d.algorithm ≢ Hmac)) }
+{
+    let draft = draft_asked(matches)?;
+    if is_of_secret(draft.algorithm) {
+        return Err(Fault::Usage("--signing-input wants --alg with RSA or a curve, such as RS256"));
+    }
+    Ok(draft)
+}
+
+fn secret_asked<'a>(matches: &ArgMatches<'a>) -> Result<Signing<'a>, Fault<'static>>
     ensures { IfOk result (IsSigningOf (found_of matches.now)) }
 {
     let Some(path) = matches.get_str("secret-file") else {
-        return Err(Fault::Usage("--secret-file is needed"));
+        return Err(Fault::Usage("one of --secret-file, --signing-input and --signature is needed"));
     };
     Ok(Signing {
-        claims: matches.get_str("claims"),
         secret: secret_file(matches, path),
+        draft: draft_asked(matches)?,
+    })
+}
+
+fn draft_asked<'a>(matches: &ArgMatches<'a>) -> Result<Draft<'a>, Fault<'static>>
+    ensures { IfOk result (IsDraftOf (found_of matches.now)) }
+{
+    Ok(Draft {
+        claims: matches.get_str("claims"),
         algorithm: algorithm(matches.get_str("alg").unwrap_or("HS256"))?,
         kid: matches.get_str("kid"),
         typ: matches.get_str("typ"),
@@ -422,6 +507,16 @@ fn signing_asked<'a>(matches: &ArgMatches<'a>) -> Result<Signing<'a>, Fault<'sta
         has_iat: matches.get_flag("iat"),
         time: time(matches, "now")?,
     })
+}
+
+fn listing_asked<'a>(matches: &ArgMatches<'a>) -> Listing<'a>
+    ensures { IsFile (found_of matches.now) result.file
+        × IsFlag (found_of matches.now) (codes "json") result.is_json }
+{
+    Listing {
+        file: file(matches),
+        is_json: matches.get_flag("json"),
+    }
 }
 
 fn digesting_asked<'a>(matches: &ArgMatches<'a>) -> Result<Digesting<'a>, Fault<'static>>

@@ -1,8 +1,11 @@
 //! From a request to its answer.
 
-ghost use Rattle.std.specs.Prelude.{◌≡◌, ℕ, List, IfOk, OnOk, is_some, string_bytes};
+ghost use Rattle.std.specs.Prelude.{◌≡◌, ℕ, List, Some, IfOk, OnOk, is_some, string_bytes};
 ghost use Rattle.jwt_validation.specs.OptionsOf.{options_of};
-ghost use Rattle.jwt_command.specs.Commands.{AreAsked, AreVerified, IsAnswer, IsExplanation};
+ghost use Rattle.jwt_verifier.specs.declared.keys.Keys.{Keys};
+ghost use Rattle.jwt_command.specs.BySignature.{IsAttached};
+ghost use Rattle.jwt_command.specs.Commands.{AreAsked, AreGiven, AreVerified, IsAnswer, IsAttaching};
+ghost use Rattle.jwt_command.specs.Commands.{IsExplanation, IsSigningInput};
 ghost use Rattle.jwt_command.specs.Commands.{IsGiven, IsGivenToken, IsShown};
 ghost use Rattle.jwt_command.specs.Commands.{IsSigned, IsSigning, IsTokenAnswer, IsTokenVerdict};
 ghost use Rattle.jwt_command.specs.Commands.{IsVerification, form_asked};
@@ -19,8 +22,11 @@ use crate::keys::jwk::jwk_answer;
 use crate::keys::table::keys_answer;
 use crate::keys::thumbprint::thumbprint_answer;
 use crate::keys::{LoadedKeys, Preparation, given_secret, load, names_algorithm};
-use crate::request::{Digesting, KeyFile, Listing, Request, Showing, Signing, Verification};
+use crate::request::{
+    Attaching, Digesting, Draft, KeyFile, Listing, Request, Showing, Signing, Verification,
+};
 use crate::show::show_answer;
+use crate::sign::by_signature::{attached_answer, input_answer};
 use crate::sign::{claims, claims_answer};
 use crate::verify::case::Case;
 use crate::verify::lines::answer_lines;
@@ -44,8 +50,10 @@ pub fn answer<'a, R: Files + Input + Print + Eprint + Clock + AllocGlobal>(
         Request::Explain(request) => run_explain(rt, request),
         Request::Show(request) => run_show(rt, request),
         Request::Sign(request) => run_sign(rt, request),
+        Request::SigningInput(draft) => run_signing_input(rt, draft),
+        Request::Attach(request) => run_attach(rt, request),
         Request::Keys(request) => run_keys(rt, request),
-        Request::Jwk(request) => run_jwk(rt, request),
+        Request::Jwk(path) => run_jwk(rt, path),
         Request::Thumbprint(request) => run_thumbprint(rt, request),
     }
 }
@@ -294,13 +302,21 @@ fn run_sign<'a, R: Files + Input + Clock + AllocGlobal>(
 ) -> Result<Answer, Fault<'a>>
     ensures { IfOk result (λ a. IsSigning request.entry.now a.status (string_bytes a.output)) }
 {
-    let time = current_time(rt, request.time)?;
+    let time = current_time(rt, request.draft.time)?;
     let key = file_bytes(rt, request.secret.path)?;
-    let text = match request.claims {
-        Some(path) => file_bytes(rt, path)?,
-        None => input_bytes(rt)?,
-    };
+    let text = claims_bytes(rt, request.draft.claims)?;
     sign_claims(rt.alloc(), request, &key, &text, time)
+}
+
+/// Returns the bytes of the file of claims, or those of standard input.
+fn claims_bytes<'a, R: Files + Input + AllocGlobal>(
+    rt: &R,
+    path: Option<&'a str>,
+) -> Result<Vec<u8>, Fault<'a>> {
+    match path {
+        Some(path) => file_bytes(rt, path),
+        None => input_bytes(rt),
+    }
 }
 
 /// Returns the answer of `sign` for the bytes of the secret's file and of the claims.
@@ -314,9 +330,59 @@ fn sign_claims<'a>(
     ensures { IfOk result (λ a. IsSigned request.entry.now key.now text.now time a.status
         (string_bytes a.output)) }
 {
-    let claims = claims(alloc, text, request, time)?;
+    let claims = claims(alloc, text, &request.draft, time)?;
     let secret = given_secret(alloc, request.secret, key)?;
-    claims_answer(alloc, request, &claims, secret)
+    claims_answer(alloc, &request.draft, &claims, secret)
+}
+
+fn run_signing_input<'a, R: Files + Input + Clock + AllocGlobal>(
+    rt: &R,
+    draft: &Draft<'a>,
+) -> Result<Answer, Fault<'a>>
+    ensures { IfOk result (λ a. IsSigningInput draft.entry.now a.status (string_bytes a.output)) }
+{
+    let time = current_time(rt, draft.time)?;
+    let text = claims_bytes(rt, draft.claims)?;
+    let claims = claims(rt.alloc(), &text, draft, time)?;
+    input_answer(rt.alloc(), draft, &claims)
+}
+
+/// Returns the token of the signing input on standard input and of the signature that a file has.
+fn run_attach<'a, R: Files + Input + AllocGlobal>(
+    rt: &R,
+    request: &Attaching<'a>,
+) -> Result<Answer, Fault<'a>>
+    ensures { IfOk result (λ a. IsAttaching request.entry.now a.status (string_bytes a.output)) }
+{
+    let signature = file_bytes(rt, request.signature)?;
+    let input = token_input(rt)?;
+    let input = strip_line_end(&input);
+    match request.key {
+        Some(file) => attach_verified(rt, file, input, &signature),
+        None => attached_answer(rt.alloc(), input, &signature, None),
+    }
+}
+
+/// Returns the token of a signing input and of a signature, verified with the keys of a file.
+fn attach_verified<'a, R: Files + AllocGlobal>(
+    rt: &R,
+    file: KeyFile<'a>,
+    input: &[u8],
+    signature: &[u8],
+) -> Result<Answer, Fault<'a>>
+    ensures { IfOk result (λ a. (keys : Keys) × AreGiven (Some file.entry) (Some keys)
+        × IsAttached input.now signature.now (Some keys) a.status (string_bytes a.output)) }
+{
+    let bytes = file_bytes(rt, path_of(file))?;
+    let preparation = Preparation {
+        algorithms: &[],
+        bytes: 0,
+    };
+    let loaded = load(rt.alloc(), file, &bytes, preparation)?;
+    let answer = attached_answer(rt.alloc(), input, signature, Some(&loaded));
+    // dropped at one place: each exit by `?` would have to be proved to drop every field
+    drop(loaded);
+    answer
 }
 
 fn run_keys<'a, R: Files + Input + AllocGlobal>(
@@ -326,7 +392,7 @@ fn run_keys<'a, R: Files + Input + AllocGlobal>(
     ensures { IfOk result (λ a. a.status ≡ 0) }
 {
     let bytes = key_bytes(rt, request.file)?;
-    keys_answer(rt.alloc(), request.file, &bytes)
+    keys_answer(rt.alloc(), request, &bytes)
 }
 
 /// Returns the bytes of a file of keys, or of standard input if its name is `-`.
@@ -341,15 +407,12 @@ fn key_bytes<'a, R: Files + Input + AllocGlobal>(
     }
 }
 
-fn run_jwk<'a, R: Files + Input + AllocGlobal>(
-    rt: &R,
-    request: &Listing<'a>,
-) -> Result<Answer, Fault<'a>>
+fn run_jwk<'a, R: Files + Input + AllocGlobal>(rt: &R, path: &'a str) -> Result<Answer, Fault<'a>>
     ensures { IfOk result (λ a. (a.status ≡ 0)
         × ((bytes : List ℕ) × IsJwkLine bytes (string_bytes a.output))) }
 {
-    let bytes = key_bytes(rt, request.file)?;
-    jwk_answer(rt.alloc(), request.file, &bytes)
+    let bytes = key_bytes(rt, path)?;
+    jwk_answer(rt.alloc(), path, &bytes)
 }
 
 fn run_thumbprint<'a, R: Files + Input + AllocGlobal>(

@@ -11,11 +11,13 @@ ghost use Rattle.jwt_base.specs.Members.{put_some};
 ghost use Rattle.jwt_command.specs.Answers.{IsSignAnswer};
 ghost use Rattle.jwt_command.specs.Claimed.{header_asked, numeric_date, members_with_times};
 
+pub(crate) mod by_signature;
+
 use crate::advice::error_line;
 use crate::answer::Answer;
 use crate::explain::findings::quote;
 use crate::fault::{Fault, fault_of, is_memory};
-use crate::request::Signing;
+use crate::request::Draft;
 use jsonwebtoken::errors::{Error, ErrorKind};
 use jsonwebtoken::{EncodingKey, Header, Text, encode};
 use jwt_base::serialization::json_value;
@@ -28,16 +30,16 @@ use std::alloc::{AllocError, Global};
 pub fn claims(
     alloc: Global,
     text: &[u8],
-    request: &Signing<'_>,
+    draft: &Draft<'_>,
     time: u64,
 ) -> Result<Value, Fault<'static>>
     ensures { IfOk result (λ v. (members : Members) × IsJson text.now (object members)
-        × (view v ≡ object (members_with_times request.entry.now time members))) }
+        × (view v ≡ object (members_with_times draft.entry.now time members))) }
 {
     match json_value(alloc, text) {
         Ok(Value::Object(members)) => {
             let mut members = members;
-            put_times(alloc, &mut members, request, time)?;
+            put_times(alloc, &mut members, draft, time)?;
             Ok(Value::Object(members))
         }
         Ok(_) => Err(Fault::Usage("the claims have to be a JSON object")),
@@ -48,14 +50,14 @@ pub fn claims(
 /// Returns the answer for claims, under the header that the arguments ask for.
 pub fn claims_answer(
     alloc: Global,
-    request: &Signing<'_>,
+    draft: &Draft<'_>,
     claims: &Value,
     secret: &[u8],
 ) -> Result<Answer, Fault<'static>>
-    ensures { IfOk result (λ a. IsSignAnswer (header_asked request.entry.now) (view claims.now)
+    ensures { IfOk result (λ a. IsSignAnswer (header_asked draft.entry.now) (view claims.now)
         secret.now a.status (string_bytes a.output)) }
 {
-    match header(alloc, request) {
+    match header(alloc, draft) {
         Ok(header) => {
             let answer = sign_answer(alloc, &header, claims, secret);
             // dropped at one place: each exit by `?` would have to be proved to drop every field
@@ -79,16 +81,16 @@ fn text(alloc: Global, given: Option<&str>) -> Result<Option<Text>, Error>
 fn put_times(
     alloc: Global,
     claims: &mut Map<String, Value>,
-    request: &Signing<'_>,
+    draft: &Draft<'_>,
     time: u64,
 ) -> Result<(), Fault<'static>>
     ensures { OnOk result (members_view claims.new.entries
-        ≡ members_with_times request.entry.now time (members_view claims.old.entries)) }
+        ≡ members_with_times draft.entry.now time (members_view claims.old.entries)) }
 {
-    put_later(alloc, claims, "exp", time, request.exp_in)?;
-    put_later(alloc, claims, "nbf", time, request.nbf_in)?;
+    put_later(alloc, claims, "exp", time, draft.exp_in)?;
+    put_later(alloc, claims, "nbf", time, draft.nbf_in)?;
     // `?` and `Ok(())`: the proof cannot refer to a call in tail position
-    put_iat(alloc, claims, time, request.has_iat)?;
+    put_iat(alloc, claims, time, draft.has_iat)?;
     Ok(())
 }
 
@@ -139,12 +141,12 @@ fn put_iat(
 
 /// Returns the header of a token that is signed as the arguments ask for, of the type `JWT` if they
 /// name no other.
-fn header(alloc: Global, request: &Signing<'_>) -> Result<Header, Error>
-    ensures { IfOk result (λ h. h ≡ header_asked request.entry.now) }
+pub fn header(alloc: Global, draft: &Draft<'_>) -> Result<Header, Error>
+    ensures { IfOk result (λ h. h ≡ header_asked draft.entry.now) }
 {
-    let kid = text(alloc, request.kid)?;
-    let typ = text(alloc, request.typ)?;
-    let mut header = Header::new(alloc, request.algorithm)?;
+    let kid = text(alloc, draft.kid)?;
+    let typ = text(alloc, draft.typ)?;
+    let mut header = Header::new(alloc, draft.algorithm)?;
     header.kid = kid;
     if typ.is_some() {
         header.typ = typ;
@@ -171,7 +173,8 @@ fn sign_answer(
     }
 }
 
-fn signed_answer(alloc: Global, token: String) -> Result<Answer, Fault<'static>>
+/// Returns the answer that is a token.
+pub fn signed_answer(alloc: Global, token: String) -> Result<Answer, Fault<'static>>
     ensures { IfOk result (λ a. (a.status ≡ 0)
         × (string_bytes a.output ≡ string_bytes token ++ 10 ∷ [])) }
 {
@@ -184,7 +187,8 @@ fn signed_answer(alloc: Global, token: String) -> Result<Answer, Fault<'static>>
     })
 }
 
-fn refusal_answer(alloc: Global, error: Error, claims: &Value) -> Result<Answer, Fault<'static>>
+/// Returns the answer for claims that are refused with an error.
+pub fn refusal_answer(alloc: Global, error: Error, claims: &Value) -> Result<Answer, Fault<'static>>
     ensures { IfOk result (λ a. (kind_of error ≢ kind.OutOfMemory) × (a.status ≡ 1)
         × (string_bytes a.output ≡ [])) }
 {
@@ -210,8 +214,22 @@ fn refusal_line(alloc: Global, error: &Error, claims: &Value) -> Result<String, 
             "refused: InvalidAlgorithm: a secret signs with HS256, HS384 and HS512\n",
         ),
         ErrorKind::Json => float_line(alloc, claims),
+        ErrorKind::InvalidSignature => String::from_str(
+            alloc,
+            "refused: InvalidSignature: the file has neither r and s of this curve nor DER of them\n",
+        ),
+        ErrorKind::Signing(reason) => signing_line(alloc, reason.as_str()),
         _ => error_line(alloc, error),
     }
+}
+
+/// Returns the line about a signature of another message or of another length.
+fn signing_line(alloc: Global, reason: &str) -> Result<String, AllocError> {
+    let reason = match reason {
+        "another message" => "the signing input is not written as --signing-input writes it",
+        _ => reason,
+    };
+    format!(in alloc; "refused: Signing: {reason}\n")
 }
 
 /// Returns the line about claims with a number that is not whole, which `encode` refuses.

@@ -2,7 +2,7 @@
 
 // An interrupted read is made again, as Rust's `read_to_end` does; any other failure is a fault. No
 // contract says that `run` reads at most 16777216 times: the meaning of a reader (`Read`) says
-// which bytes remain, and not how often it was asked. `tests/tool` counts the calls.
+// which bytes remain, and not how often it was asked. `tests/programs/tool` counts the calls.
 
 ghost use Rattle.std.specs.Prelude.{◌≡◌, ◌≢◌, ℕ, List, IfOk, IfErr, IfSome};
 ghost use Rattle.std.specs.Io.KnownBytes.{Consumes};

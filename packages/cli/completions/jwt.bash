@@ -16,11 +16,11 @@ _jwt() {
         *' explain '*) words='--secret-file --jwk --jwks --pem --trim --allow-key-as-secret --alg --aud --iss --sub --leeway --not-within --require --nbf --no-exp --strict --crit --typ --now --options --json --brief --help' ;;
         *' show --now') ;;
         *' show '*) words='--now --json --help' ;;
-        *' sign --secret-file' | *' sign --claims') files=-f ;;
-        *' sign --alg') words='HS256 HS384 HS512' ;;
+        *' sign --secret-file' | *' sign --signature' | *' sign --claims' | *' sign --pem' | *' sign --jwk' | *' sign --jwks') files=-f ;;
+        *' sign --alg') words='HS256 HS384 HS512 RS256 RS384 RS512 PS256 PS384 PS512 ES256 ES384 EdDSA' ;;
         *' sign --kid' | *' sign --typ' | *' sign --exp-in' | *' sign --nbf-in' | *' sign --now') ;;
-        *' sign '*) words='--secret-file --trim --allow-key-as-secret --claims --alg --kid --typ --exp-in --nbf-in --iat --now --help' ;;
-        *' keys '*) words='--help' files=-f ;;
+        *' sign '*) words='--secret-file --signing-input --signature --trim --allow-key-as-secret --claims --alg --kid --typ --exp-in --nbf-in --iat --now --pem --jwk --jwks --help' ;;
+        *' keys '*) words='--json --help' files=-f ;;
         *' jwk '*) words='--help' files=-f ;;
         *' thumbprint --hash') words='SHA256 SHA384 SHA512' ;;
         *' thumbprint '*) words='--hash --help' files=-f ;;

@@ -80,22 +80,28 @@ _jwt() {
             ;;
         *' sign')
             _arguments \
-                '--secret-file[Sign with HMAC and the bytes of this file as the secret]:FILE:_files' \
+                '(--signing-input --signature)--secret-file[Sign with HMAC and the bytes of this file as the secret]:FILE:_files' \
+                '(--secret-file --signature)--signing-input[Print what another program has to sign with RSA or a curve, without a line end]' \
+                '(--secret-file --signing-input)--signature[Print the token of the signing input on standard input and this signature, raw or in DER]:FILE:_files' \
                 '--trim[Leave one newline at the end of the secret file out of the secret]' \
                 '--allow-key-as-secret[Accept a secret that is the text of a key, for tests\: anyone can sign with a public key]' \
                 '--claims[Read the claims from this file (default\: standard input)]:FILE:_files' \
-                '--alg[Sign with HS256, HS384 or HS512 (default\: HS256)]:ALG:(HS256 HS384 HS512)' \
+                '--alg[Sign with this algorithm (default\: HS256)]:ALG:(HS256 HS384 HS512 RS256 RS384 RS512 PS256 PS384 PS512 ES256 ES384 EdDSA)' \
                 '--kid[Write this '\''kid'\'' into the header]:NAME: ' \
                 '--typ[Write this '\''typ'\'' into the header (default\: JWT)]:TYPE: ' \
                 '--exp-in[Let the token expire after this span, such as 15m or 12h]:SPAN: ' \
                 '--nbf-in[Let the token be valid after this span]:SPAN: ' \
                 '--iat[Write the time into '\''iat'\'']' \
                 '--now[Take this time as now\: seconds since 1970 UTC, or RFC 3339]:TIME: ' \
+                '--pem[Verify the signature with this public key in PEM (RFC 7468) first]:FILE:_files' \
+                '--jwk[Verify the signature with this JSON Web Key (RFC 7517) first]:FILE:_files' \
+                '--jwks[Verify the signature with the key of this set that the '\''kid'\'' names first]:FILE:_files' \
                 '(- *)--help[Print help]'
             ;;
         *' keys')
             _arguments \
                 ':FILE:_files' \
+                '--json[Write one line of JSON]' \
                 '(- *)--help[Print help]'
             ;;
         *' jwk')

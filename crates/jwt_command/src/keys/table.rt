@@ -5,7 +5,8 @@ ghost use Rattle.std.specs.Prelude.{◌≡◌, IfOk};
 use crate::answer::Answer;
 use crate::fault::{Fault, fault_of, value_unless_refused};
 use crate::keys::hints::set_problem;
-use crate::show::escapes::is_unseen;
+use crate::request::Listing;
+use crate::show::escapes::{escape_unseen, is_unseen};
 use jsonwebtoken::crypto::CryptoProvider;
 use jsonwebtoken::jwk::{
     AlgorithmParameters, EllipticCurve, Jwk, JwkSet, PublicKeyUse, ThumbprintHash,
@@ -14,6 +15,7 @@ use jsonwebtoken::{Algorithm, DecodingKey};
 use jwt_base::serialization::part_bytes;
 use jwt_secrets::is_blank_jwk;
 use jwt_standard::StandardProvider;
+use serde_json::Value;
 use std::alloc::{AllocError, Global};
 
 const HEADINGS: [&str; COLUMNS] = [
@@ -28,6 +30,9 @@ const HEADINGS: [&str; COLUMNS] = [
 
 const COLUMNS: usize = 7;
 
+/// The names of the columns in JSON, but the last.
+const NAMES: [&str; COLUMNS - 1] = ["kid", "type", "alg", "use", "size", "thumbprint"];
+
 /// The text for a member that is not base64url.
 const NO_BASE64URL: &str = "not base64url";
 
@@ -37,21 +42,85 @@ struct Row {
     cells: Vec<String>,
 }
 
-/// Returns the table of a key set.
-pub fn keys_answer<'a>(alloc: Global, path: &'a str, bytes: &[u8]) -> Result<Answer, Fault<'a>>
+/// The facts about a key that are reported.
+#[derive(Drop)]
+struct Facts {
+    /// The texts of the columns but the last, each if the key has one.
+    texts: Vec<Option<String>>,
+    /// Why no token is verified with the key, or `None` if one is.
+    problem: Option<&'static str>,
+}
+
+/// Returns the table of a key set, or its facts as one line of JSON.
+pub fn keys_answer<'a>(
+    alloc: Global,
+    request: &Listing<'a>,
+    bytes: &[u8],
+) -> Result<Answer, Fault<'a>>
     ensures { IfOk result (λ a. a.status ≡ 0) }
 {
-    let set = read_set(alloc, path, bytes)?;
-    let mut rows = Vec::new(alloc);
-    rows.push(headings(alloc)?)?;
-    for (place, jwk) in set.keys.iter().enumerate() {
-        rows.push(row_of(alloc, &set.keys[..place], jwk)?)?;
-    }
+    let keys = listed_keys(alloc, request.file, bytes)?;
+    let output = if request.is_json {
+        json_line(alloc, &keys)?
+    } else {
+        table(alloc, &keys)?
+    };
     Ok(Answer {
         status: 0,
-        output: page(alloc, &rows)?,
+        output,
         message: String::new(alloc),
     })
+}
+
+/// Returns what is reported of each key of the set of a file.
+fn listed_keys<'a>(alloc: Global, path: &'a str, bytes: &[u8]) -> Result<Vec<Facts>, Fault<'a>> {
+    let set = read_set(alloc, path, bytes)?;
+    let mut keys = Vec::new(alloc);
+    for (place, jwk) in set.keys.iter().enumerate() {
+        keys.push(facts_of(alloc, &set.keys[..place], jwk)?)?;
+    }
+    Ok(keys)
+}
+
+fn json_line(alloc: Global, keys: &[Facts]) -> Result<String, AllocError> {
+    let mut line = String::from_str(alloc, "{\"ok\":true,\"keys\":[")?;
+    let mut comma = "";
+    for key in keys {
+        line.push_str(comma)?;
+        push_object(alloc, &mut line, key)?;
+        comma = ",";
+    }
+    line.push_str("]}\n")?;
+    escape_unseen(alloc, line)
+}
+
+/// Adds the facts of a key as a JSON object.
+fn push_object(alloc: Global, line: &mut String, key: &Facts) -> Result<(), AllocError> {
+    line.push('{')?;
+    for (name, text) in NAMES.iter().zip(key.texts.iter()) {
+        let value = value_text(alloc, text.as_deref())?;
+        line.push_str(format!(in alloc; "\"{name}\":{value},")?.as_str())?;
+    }
+    let verifies = key.problem.is_none();
+    let why = value_text(alloc, key.problem)?;
+    line.push_str(format!(in alloc; "\"verifies\":{verifies},\"why\":{why}}}")?.as_str())
+}
+
+/// Returns a text as JSON, or null.
+fn value_text(alloc: Global, text: Option<&str>) -> Result<String, AllocError> {
+    match text {
+        Some(text) => Value::String(String::from_str(alloc, text)?).to_string(alloc),
+        None => String::from_str(alloc, "null"),
+    }
+}
+
+fn table(alloc: Global, keys: &[Facts]) -> Result<String, AllocError> {
+    let mut rows = Vec::new(alloc);
+    rows.push(headings(alloc)?)?;
+    for key in keys {
+        rows.push(row_of(alloc, key)?)?;
+    }
+    page(alloc, &rows)
 }
 
 /// Returns the set of a file, or the one key of it.
@@ -73,22 +142,36 @@ fn headings(alloc: Global) -> Result<Row, AllocError> {
     Ok(Row { cells })
 }
 
-fn row_of(alloc: Global, earlier: &[Jwk], jwk: &Jwk) -> Result<Row, Fault<'static>> {
+fn row_of(alloc: Global, key: &Facts) -> Result<Row, AllocError> {
     let mut cells = Vec::new(alloc);
-    cells.push(kid_text(alloc, jwk)?)?;
-    cells.push(String::from_str(alloc, type_name(jwk))?)?;
-    cells.push(String::from_str(alloc, algorithm_text(jwk))?)?;
-    cells.push(printable_text(alloc, use_name(jwk))?)?;
-    cells.push(size(alloc, jwk)?)?;
-    cells.push(thumbprint(alloc, jwk)?)?;
-    cells.push(String::from_str(alloc, usefulness_text(alloc, earlier, jwk)?)?)?;
+    for text in &key.texts {
+        cells.push(printable_text(alloc, text.as_deref().unwrap_or("-"))?)?;
+    }
+    cells.push(match key.problem {
+        Some(problem) => format!(in alloc; "no: {problem}")?,
+        None => String::from_str(alloc, "yes")?,
+    })?;
     Ok(Row { cells })
 }
 
-fn kid_text(alloc: Global, jwk: &Jwk) -> Result<String, AllocError> {
-    match &jwk.common.key_id {
-        Some(kid) => printable_text(alloc, kid.as_str()),
-        None => String::from_str(alloc, "-"),
+fn facts_of(alloc: Global, earlier: &[Jwk], jwk: &Jwk) -> Result<Facts, Fault<'static>> {
+    let mut texts = Vec::new(alloc);
+    texts.push(copy(alloc, kid_of(jwk))?)?;
+    texts.push(copy(alloc, Some(type_name(jwk)))?)?;
+    texts.push(copy(alloc, algorithm_name(jwk))?)?;
+    texts.push(copy(alloc, use_name(jwk))?)?;
+    texts.push(size(alloc, jwk)?)?;
+    texts.push(thumbprint(alloc, jwk)?)?;
+    Ok(Facts {
+        texts,
+        problem: problem_of(alloc, earlier, jwk)?,
+    })
+}
+
+fn copy(alloc: Global, text: Option<&str>) -> Result<Option<String>, AllocError> {
+    match text {
+        Some(text) => Ok(Some(String::from_str(alloc, text)?)),
+        None => Ok(None),
     }
 }
 
@@ -98,6 +181,13 @@ fn printable_text(alloc: Global, text: &str) -> Result<String, AllocError> {
         return format!(in alloc; "{text:?}");
     }
     String::from_str(alloc, text)
+}
+
+fn kid_of(jwk: &Jwk) -> Option<&str> {
+    match &jwk.common.key_id {
+        Some(kid) => Some(kid.as_str()),
+        None => None,
+    }
 }
 
 /// Returns the name of the type of a key.
@@ -111,30 +201,31 @@ fn type_name(jwk: &Jwk) -> &'static str {
     }
 }
 
-fn algorithm_text(jwk: &Jwk) -> &'static str {
+fn algorithm_name(jwk: &Jwk) -> Option<&'static str> {
     match &jwk.common.key_algorithm {
-        Some(named) => named.name(),
-        None => "-",
+        Some(named) => Some(named.name()),
+        None => None,
     }
 }
 
-fn use_name(jwk: &Jwk) -> &str {
+fn use_name(jwk: &Jwk) -> Option<&str> {
     match &jwk.common.public_key_use {
-        Some(PublicKeyUse::Signature) => "sig",
-        Some(PublicKeyUse::Encryption) => "enc",
-        Some(PublicKeyUse::Other(name)) => name.as_str(),
-        None => "-",
+        Some(PublicKeyUse::Signature) => Some("sig"),
+        Some(PublicKeyUse::Encryption) => Some("enc"),
+        Some(PublicKeyUse::Other(name)) => Some(name.as_str()),
+        None => None,
     }
 }
 
-fn size(alloc: Global, jwk: &Jwk) -> Result<String, Fault<'static>> {
-    match &jwk.algorithm {
-        AlgorithmParameters::EllipticCurve(key) => Ok(String::from_str(alloc, key.curve.name())?),
-        AlgorithmParameters::RSA(key) => bits_text(alloc, key.n.as_str()),
-        AlgorithmParameters::OctetKey(key) => secret_text(alloc, key.value.as_str()),
-        AlgorithmParameters::OctetKeyPair(key) => Ok(String::from_str(alloc, key.curve.name())?),
-        AlgorithmParameters::Other(_) => Ok(String::from_str(alloc, "-")?),
-    }
+fn size(alloc: Global, jwk: &Jwk) -> Result<Option<String>, Fault<'static>> {
+    let size = match &jwk.algorithm {
+        AlgorithmParameters::EllipticCurve(key) => String::from_str(alloc, key.curve.name())?,
+        AlgorithmParameters::RSA(key) => bits_text(alloc, key.n.as_str())?,
+        AlgorithmParameters::OctetKey(key) => secret_text(alloc, key.value.as_str())?,
+        AlgorithmParameters::OctetKeyPair(key) => String::from_str(alloc, key.curve.name())?,
+        AlgorithmParameters::Other(_) => return Ok(None),
+    };
+    Ok(Some(size))
 }
 
 /// Returns the number of bits of a number in base64url.
@@ -173,45 +264,46 @@ fn secret_text(alloc: Global, part: &str) -> Result<String, Fault<'static>> {
     }
 }
 
-fn thumbprint(alloc: Global, jwk: &Jwk) -> Result<String, Fault<'static>> {
-    match value_unless_refused(jwk.thumbprint(alloc, &StandardProvider, ThumbprintHash::SHA256))? {
-        Some(thumbprint) => Ok(thumbprint),
-        None => Ok(String::from_str(alloc, "-")?),
-    }
+fn thumbprint(alloc: Global, jwk: &Jwk) -> Result<Option<String>, Fault<'static>> {
+    value_unless_refused(jwk.thumbprint(alloc, &StandardProvider, ThumbprintHash::SHA256))
 }
 
-/// Returns as a text whether a key of a set is of use, which one with which anyone can sign is not.
-fn usefulness_text(
+/// Returns why a key of a set is of no use, if so: such as one with which anyone can sign.
+fn problem_of(
     alloc: Global,
     earlier: &[Jwk],
     jwk: &Jwk,
-) -> Result<&'static str, Fault<'static>> {
+) -> Result<Option<&'static str>, Fault<'static>> {
     match is_blank_jwk(alloc, jwk) {
-        Ok(true) => Ok("no: anyone can sign with it"),
-        Ok(false) => naming_text(alloc, earlier, jwk),
+        Ok(true) => Ok(Some("anyone can sign with it")),
+        Ok(false) => naming_problem(alloc, earlier, jwk),
         Err(_) => Err(Fault::Memory),
     }
 }
 
-/// Returns as a text whether a token can name a key of a set, and the key verifies; and why not.
-fn naming_text(alloc: Global, earlier: &[Jwk], jwk: &Jwk) -> Result<&'static str, Fault<'static>> {
+/// Returns why no token can name a key of a set, or the key does not verify.
+fn naming_problem(
+    alloc: Global,
+    earlier: &[Jwk],
+    jwk: &Jwk,
+) -> Result<Option<&'static str>, Fault<'static>> {
     let Some(kid) = &jwk.common.key_id else {
-        return Ok("no: it has no kid, so no token names it");
+        return Ok(Some("it has no kid, so no token names it"));
     };
     let is_other = |other: &Jwk| other.common.key_id.as_ref() == Some(kid);
     if earlier.iter().any(is_other) {
-        return Ok("no: an earlier key has its kid");
+        return Ok(Some("an earlier key has its kid"));
     }
-    verifier_text(alloc, jwk)
+    verifier_problem(alloc, jwk)
 }
 
-/// Returns as a text whether a verifier by this key is made, and why not.
-fn verifier_text(alloc: Global, jwk: &Jwk) -> Result<&'static str, Fault<'static>> {
+/// Returns why no verifier by this key is made.
+fn verifier_problem(alloc: Global, jwk: &Jwk) -> Result<Option<&'static str>, Fault<'static>> {
     let Some(algorithm) = algorithm_for(jwk) else {
-        return Ok("no: with no algorithm that is supported here");
+        return Ok(Some(unsupported(jwk)));
     };
     let Some(key) = value_unless_refused(DecodingKey::from_jwk(alloc, jwk))? else {
-        return Ok("no: a member of the key is malformed");
+        return Ok(Some("a member of the key is malformed"));
     };
     let made = StandardProvider.verifier_factory(alloc, &algorithm, &key);
     // dropped at one place: each exit by `?` would have to be proved to drop every field
@@ -219,9 +311,19 @@ fn verifier_text(alloc: Global, jwk: &Jwk) -> Result<&'static str, Fault<'static
     match value_unless_refused(made)? {
         Some(verifier) => {
             drop(verifier);
-            Ok("yes")
+            Ok(None)
         }
-        None => Ok("no: this is not a key of that algorithm"),
+        None => Ok(Some("this is not a key of that algorithm")),
+    }
+}
+
+/// Returns why there is no algorithm for a key.
+fn unsupported(jwk: &Jwk) -> &'static str {
+    match &jwk.algorithm {
+        AlgorithmParameters::Other(_) => {
+            "its type is unknown here, or lacks a member, such as n or e of RSA"
+        }
+        _ => "with no algorithm that is supported here",
     }
 }
 

@@ -10,8 +10,6 @@ enum Shape {
     Flag,
     /// A value, once at most.
     Once,
-    /// A value, once.
-    Needed,
     /// A value each time.
     Repeated,
     /// A value without a name before it.
@@ -116,11 +114,6 @@ fn argument<'a>(alloc: Global, entry: Entry) -> Arg<'a> {
             .long(entry.name)
             .value_name(entry.value)
             .action(ArgAction::Set),
-        Shape::Needed => named
-            .long(entry.name)
-            .value_name(entry.value)
-            .action(ArgAction::Set)
-            .required(true),
         Shape::Repeated => named
             .long(entry.name)
             .value_name(entry.value)
@@ -293,16 +286,89 @@ fn show_command<'a>(alloc: Global) -> Result<Command<'a>, AllocError> {
 
 fn sign_command<'a>(alloc: Global) -> Result<Command<'a>, AllocError> {
     let command = Command::new(alloc, "sign").about("Sign claims, and print the token");
-    add_entries(alloc, command, &sign_entries())
+    let command = add_signers(alloc, command)?;
+    let command = add_entries(alloc, command, &sign_entries())?;
+    let command = add_entries(alloc, command, &signed_entries())?;
+    command.group(signed_group(alloc)?)
 }
 
-fn sign_entries() -> [Entry; 11] {
+/// Adds the three ways to sign, of which one is needed.
+fn add_signers<'a>(alloc: Global, command: Command<'a>) -> Result<Command<'a>, AllocError> {
+    let by_secret = option(
+        "secret-file",
+        "FILE",
+        "Sign with HMAC and the bytes of this file as the secret",
+    );
+    let input = flag(
+        "signing-input",
+        "Print what another program has to sign with RSA or a curve, without a line end",
+    );
+    let given = option(
+        "signature",
+        "FILE",
+        "Print the token of the signing input on standard input and this signature, raw or in DER",
+    );
+    let command = add_entries(alloc, command, &[by_secret])?;
+    let command = command.arg(apart(argument(alloc, input), &OF_SECRETS)?)?;
+    let given = apart(argument(alloc, given), &OF_SECRETS)?;
+    let command = command.arg(apart(given, &OF_DRAFTS)?)?;
+    command.group(signer_group(alloc)?)
+}
+
+/// Returns an argument beside which none of these may be given.
+fn apart<'a>(argument: Arg<'a>, names: &[&'static str]) -> Result<Arg<'a>, AllocError> {
+    let mut argument = argument;
+    for name in names {
+        argument = argument.conflicts_with(name)?;
+    }
+    Ok(argument)
+}
+
+/// The arguments about the secret.
+const OF_SECRETS: [&str; 2] = ["trim", "allow-key-as-secret"];
+
+/// The arguments about header and claims.
+const OF_DRAFTS: [&str; 8] = [
+    "claims", "alg", "kid", "typ", "exp-in", "nbf-in", "iat", "now",
+];
+
+fn signer_group<'a>(alloc: Global) -> Result<ArgGroup<'a>, AllocError> {
+    let group = ArgGroup::new(alloc, "signer").required(true);
+    group
+        .arg("secret-file")?
+        .arg("signing-input")?
+        .arg("signature")
+}
+
+/// Returns the arguments about the keys that accept a signature.
+fn signed_entries() -> [Entry; 3] {
     [
-        needed_option(
-            "secret-file",
+        option(
+            "pem",
             "FILE",
-            "Sign with HMAC and the bytes of this file as the secret",
+            "Verify the signature with this public key in PEM (RFC 7468) first",
         ),
+        option(
+            "jwk",
+            "FILE",
+            "Verify the signature with this JSON Web Key (RFC 7517) first",
+        ),
+        option(
+            "jwks",
+            "FILE",
+            "Verify the signature with the key of this set that the 'kid' names first",
+        ),
+    ]
+}
+
+fn signed_group<'a>(alloc: Global) -> Result<ArgGroup<'a>, AllocError> {
+    let group = ArgGroup::new(alloc, "verified").conflicts_with("secret-file")?;
+    let group = group.conflicts_with("signing-input")?;
+    group.arg("pem")?.arg("jwk")?.arg("jwks")
+}
+
+fn sign_entries() -> [Entry; 10] {
+    [
         TRIM,
         ALLOW_KEY,
         option(
@@ -310,11 +376,7 @@ fn sign_entries() -> [Entry; 11] {
             "FILE",
             "Read the claims from this file (default: standard input)",
         ),
-        option(
-            "alg",
-            "ALG",
-            "Sign with HS256, HS384 or HS512 (default: HS256)",
-        ),
+        option("alg", "ALG", "Sign with this algorithm (default: HS256)"),
         option("kid", "NAME", "Write this 'kid' into the header"),
         option(
             "typ",
@@ -332,25 +394,19 @@ fn sign_entries() -> [Entry; 11] {
     ]
 }
 
-const fn needed_option(name: &'static str, value: &'static str, help: &'static str) -> Entry {
-    Entry {
-        name,
-        shape: Shape::Needed,
-        value,
-        help,
-    }
-}
-
 fn keys_command<'a>(alloc: Global) -> Result<Command<'a>, AllocError> {
     let command = Command::new(alloc, "keys").about("Print a table of a key set");
     add_entries(
         alloc,
         command,
-        &[place(
-            "file",
-            "FILE",
-            "A set of JSON Web Keys (RFC 7517); '-' reads it from standard input",
-        )],
+        &[
+            place(
+                "file",
+                "FILE",
+                "A set of JSON Web Keys (RFC 7517); '-' reads it from standard input",
+            ),
+            flag("json", "Write one line of JSON"),
+        ],
     )
 }
 

@@ -15,7 +15,7 @@ returns c =
       (
         made.0,
         made.1,
-        subst (λ d. IsSignAnswer (header_asked c.args.request.now) d c.in_ok-secret.secret.now a.status
+        subst (λ d. IsSignAnswer (header_asked c.args.request.now.draft) d c.in_ok-secret.secret.now a.status
             (string_bytes a.output)) made.2 says,
       ),
     ))
