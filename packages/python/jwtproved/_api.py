@@ -1,13 +1,14 @@
 """`encode`, `decode` and their like, by PyJWT's names."""
 import functools
 import json
+import marshal
 import warnings
 from collections.abc import Mapping
 from typing import Any
 
 from . import _refusals, _signing
 from ._encoding import header_of, members_of, payload_of, unsignable, written
-from ._keys import Key, PyJWK, SigningKey, material_of
+from ._keys import Key, PyJWK, SigningKey, material_known, material_of
 from ._library import ALGORITHMS, Refusal, answer, library, slices
 from ._parts import parts_of
 from ._rules import DEFAULTS, Moment, Names, Rules, options_of, plain, rules_of, warn_of
@@ -17,29 +18,24 @@ from ._verifier import Checker, Refuser, Token, checker_of, complete, moment_of,
 from .exceptions import DecodeError, InvalidKeyError
 from .types import Listed, Options
 
-# Of these types, arguments that are equal are the same. One of a subclass may be equal to another.
-_PLAIN = {str, int, type(None)}
 # The most checkers that an object finds without reading the arguments again: PyJWT's interface has no object that is made once.
 _MOST = 64
 # the text of {"alg":"HS256"}
 _HEADER_OF_NONE = b"eyJhbGciOiJIUzI1NiJ9"
 
 
-def _plain_call(
-    key: Any,
-    algorithms: Any,
-    options: Options | None,
-    audience: Names,
-    issuer: Names,
-    subject: str | None,
-    leeway: Moment,
-    understood_crit: Names,
-) -> tuple[Any, ...] | None:
-    """Returns what the checker for the arguments of a call is kept under, or None if they are to be read again."""
-    if options is not None or understood_crit is not None or type(algorithms) is not list or type(key) not in (str, bytes, PyJWK):
+def _call(key: Any, asked: tuple[Any, ...]) -> tuple[Any, ...] | None:
+    """Returns what the checker for a key and what else is asked for is kept under, or None if they are to be read again."""
+    kind = type(key)
+    known = key if kind is str or kind is bytes else material_known(key)
+    if known is None:
         return None
-    asked = (audience, issuer, subject, leeway, *algorithms)
-    return (type(key), key, *asked) if _PLAIN.issuperset(map(type, asked)) else None
+    try:
+        # Values of different types differ in what is written, and those of a subclass, which may be equal to others, are not written.
+        # What versions above 2 write depends on how often an object is referred to.
+        return kind, known, marshal.dumps(asked, 2)
+    except ValueError:
+        return None
 
 
 def _checker(key: Key, rules: Rules) -> Checker | Refuser:
@@ -99,7 +95,7 @@ class PyJWT:
 
     def __init__(self, options: Options | None = None) -> None:
         self._own = options_of(options, drops=True)
-        self._kept: dict[tuple[Any, ...], Checker | Refuser] = {}
+        self._kept: dict[tuple[Any, ...] | None, Checker | Refuser] = {}
         self.options = {**DEFAULTS, **self._own, "require": list(self._own.get("require", ()))}
 
     def decode(
@@ -125,15 +121,16 @@ class PyJWT:
         if kwargs or verify is not None or detached_payload is not None:
             _check_unused("decode", kwargs, verify, detached_payload, options)
         token = token_of("jwt", jwt)
-        call = _plain_call(key, algorithms, options, audience, issuer, subject, leeway, understood_crit)
-        checker = None if call is None else self._kept.get(call)
+        call = _call(key, (algorithms, options, audience, issuer, subject, leeway, understood_crit))
+        checker = self._kept.get(call)
         if checker is None:
             given = options_of(options, drops=True)
             rules = rules_of(algorithms, {**self._own, **given}, audience, issuer, subject, leeway, understood_crit)
             if given.get("verify_signature") is False:
                 return self._unverified(token, rules)
             checker = _checker(key, rules)
-            if call is not None:
+            # an option that is left out has a warning each time
+            if call is not None and len(given) == len(options or ()):
                 self._keep(call, checker)
         return checker.decode(token, moment_of(None))
 

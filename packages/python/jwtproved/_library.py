@@ -14,6 +14,8 @@ FAMILIES: tuple[tuple[str, ...], ...] = (
     ("EdDSA",),
 )
 ALGORITHMS = tuple(it for family in FAMILIES for it in family)
+# the type of the keys that serve an algorithm (RFC 7518 section 6.1, RFC 8037 section 2)
+KEY_TYPES = {it: key_type for key_type, family in zip(("oct", "RSA", "EC", "OKP"), FAMILIES) for it in family}
 
 # the bytes that the prepared keys of a verifier may take: those of the library, or so few that it prepares none, for one token
 PREPARED, PREPARE_NOTHING = 0, 1
@@ -56,6 +58,7 @@ _PROTOTYPES: dict[str, list[Any]] = {
     "jwt_check_issued_at": [ctypes.c_uint64] * 3,
     "jwt_check_secret": _BYTES,
     "jwt_check_key": _BYTES,
+    "jwt_check_set": _BYTES,
     "jwt_status_text": [ctypes.c_uint32, *_BUFFER],
     "jwt_test_text": [ctypes.c_uint32, *_BUFFER],
 }

@@ -24,6 +24,8 @@ read_json: Callable[[str, int], tuple[Any, int]] = json.JSONDecoder().scan_once 
 
 def token_of(name: str, value: Token) -> bytes:
     """Returns the bytes of a token. A lone surrogate becomes bytes that are in no token, since whoever sent it may have any text."""
+    if type(value) is str and value.isascii():
+        return value.encode()
     if isinstance(value, str):
         return plain(value).encode("utf-8", "surrogatepass")
     if isinstance(value, (bytes, bytearray, memoryview)):
@@ -36,8 +38,8 @@ def moment_of(now: float | None) -> int:
     """Returns a time of the caller, or else that of the system clock, in whole seconds since 1970-01-01 00:00:00 UTC."""
     if now is None:
         told = _clock()
-        # NaN fails both comparisons
-        if 0 <= told < 2**64:
+        # NaN fails both comparisons; those with a float take less time
+        if 0.0 <= told < 2.0**64:
             return int(told)
         raise ClockError(f"the system clock must be from 0 to 18446744073709551615 seconds since 1970-01-01, not {told}")
     if isinstance(now, bool) or not isinstance(now, (int, float)):
@@ -85,18 +87,23 @@ class Checker:
     def __init__(self, material: Material, rules: Rules, longest: int = 0, waits: bool = False) -> None:
         self._source = material, rules, longest
         self._tokens_unprepared = 2 if waits else 0
-        self._families = _all_made(*self._source, PREPARE_NOTHING if waits else PREPARED)
         self._by_header: dict[bytes, int] = {}
         self._further = Further(rules)
+        self._make(PREPARE_NOTHING if waits else PREPARED)
+
+    def _make(self, prepared: int) -> None:
+        self._families = _all_made(*self._source, prepared)
+        # of one family, as of every key but a set
+        self._only = self._families[0].decode if len(self._families) == 1 else None
 
     def decode(self, token: bytes, now: int) -> dict[str, Any]:
         if self._tokens_unprepared:
             # two threads may both come to 0
             left = self._tokens_unprepared = max(self._tokens_unprepared - 1, 0)
             if not left:
-                self._families = _all_made(*self._source, PREPARED)
+                self._make(PREPARED)
         try:
-            said = self._families[0].decode(token, now) if len(self._families) == 1 else self._said(token, now)
+            said = self._only(token, now) if self._only else self._said(token, now)
         except Refusal as refusal:
             raise _refusals.exception_of(refusal, token, unlike=self._further.unlike) from None
         claims: dict[str, Any] = read_json(said, 0)[0]

@@ -238,7 +238,8 @@ def what_does_nothing():
     gives(({}, [("RemovedInPyjwt3Warning", here)]), warned, jwt.decode, token, SECRET, ["HS256"], anything=5)
     gives(({}, [("DeprecationWarning", here)]), warned, jwt.decode, token, SECRET, ["HS256"], verify=False)
     gives(({}, []), warned, jwt.decode, token, SECRET, ["HS256"], verify=True)
-    gives(({}, [("RemovedInPyjwt3Warning", here)]), warned, jwt.decode, token, SECRET, ["HS256"], {"verify_at_hash": False})
+    for _ in range(3):
+        gives(({}, [("RemovedInPyjwt3Warning", here)]), warned, jwt.decode, token, SECRET, ["HS256"], {"verify_at_hash": False})
     raises(jwt.InvalidSignatureError, jwt.decode, changed(token), SECRET, ["HS256"], verify=False)
     for name in ("verify_at_hash", "enforce_minimum_key_length", "require_exp"):
         raises(TypeError, jwt.decode, token, SECRET, ["HS256"], {name: True}, said=name)

@@ -130,6 +130,10 @@ def public_keys():
         gives({}, jwt.decode, token, serialization.load_pem_public_key(text.encode()), [algorithm])
     for key in (ec.generate_private_key(ec.SECP521R1()), ed448.Ed448PrivateKey.generate()):
         raises(jwt.InvalidKeyError, jwt.decode, token, public_pem(key), ["EdDSA"], said="kind")
+    own, other = ED.public_key(), ed25519.Ed25519PrivateKey.generate().public_key()
+    for _ in range(3):
+        gives({}, jwt.decode, jwt.encode({}, ED, "EdDSA"), own, ["EdDSA"])
+        raises(jwt.InvalidSignatureError, jwt.decode, jwt.encode({}, ED, "EdDSA"), other, ["EdDSA"])
 
 
 class Failing:
@@ -229,6 +233,7 @@ def algorithms_by_name():
         gives(True, lambda: algorithm.verify(b"any bytes", public, algorithm.sign(b"any bytes", private)))
         known = json.loads(algorithm.to_jwk(key))
         test(f"the JSON Web Key of {name}", {it: known[it] for it in JWKS[name]} == JWKS[name])
+        gives(JWKS[name]["kty"], lambda: jwt.PyJWK(known).key_type)
         again = algorithm.from_jwk(algorithm.to_jwk(key, as_dict=True))
         gives(True, lambda: algorithm.verify(message, key.public_key(), algorithm.sign(message, again)))
         gives(public_pem(key), lambda: public_pem(again))
