@@ -15,6 +15,8 @@ pub struct Base64Error(&'static str);
 impl Base64Error {
     /// The error of a part of a token, which the library reads.
     pub(crate) const OF_TOKEN: Base64Error = Base64Error("a part of the token is not base64url");
+    /// The error of a JSON Web Key, which the library reads too.
+    pub(crate) const OF_KEY: Base64Error = Base64Error("a number or the secret of the key is not base64url");
 }
 
 impl fmt::Display for Base64Error {

@@ -2,9 +2,11 @@
 
 use crate::base64::{self, STANDARD, URL_SAFE};
 use crate::errors::{Error, ErrorKind, Result};
-use crate::jwk::{AlgorithmParameters, Jwk};
+use crate::jwk::{EllipticCurve, EllipticCurveKeyParameters, Jwk, OctetKeyPairParameters, RSAKeyParameters};
+use crate::kept::Kept;
 use crate::library::calls::{self, Kind};
-use crate::{AlgorithmFamily, Header, Validation, Verifier, pem, validation};
+use crate::{AlgorithmFamily, Header, Validation, pem, validation};
+use serde::Serialize;
 use serde::de::DeserializeOwned;
 use std::fmt;
 
@@ -60,24 +62,52 @@ impl fmt::Debug for DecodingKeyKind {
 /// may know is one of zeros alone, an empty one, and the text of a key of another kind: a text that contains an SSH key or PEM, the JSON
 /// of a JSON Web Key or a set, a key or a certificate in DER, or base64 of any of these. RFC 7518 section 3.2 requires secrets of at
 /// least 32, 48 and 64 bytes for HS256, HS384 and HS512.
-#[derive(Clone, Debug)]
+///
+/// A key keeps the verifier of the last [`Validation`] that [`decode`] was called with, and its clones share it: make a key once, and not
+/// for each token.
+#[derive(Clone)]
 pub struct DecodingKey {
     family: AlgorithmFamily,
     kind: DecodingKeyKind,
     read: std::result::Result<Readable, ErrorKind>,
+    /// The verifier of [`decode`].
+    kept: Kept,
 }
 
 /// What the library reads of a key.
-#[derive(Clone, Debug)]
+#[derive(Clone)]
 enum Readable {
     Secret,
-    /// A JSON Web Key of a public key.
-    Jwk(String),
+    Jwk(JwkText),
+}
+
+/// The JSON of a JSON Web Key. It is overwritten when it is dropped, since the key may be a secret.
+#[derive(Clone)]
+struct JwkText(Vec<u8>);
+
+impl JwkText {
+    fn of(members: &impl Serialize) -> std::result::Result<JwkText, ErrorKind> {
+        serde_json::to_vec(members).map(JwkText).map_err(|it| Error::from(it).into_kind())
+    }
+}
+
+impl Drop for JwkText {
+    fn drop(&mut self) {
+        calls::overwrite(&mut self.0);
+    }
 }
 
 impl DecodingKey {
+    fn of_kind(
+        family: AlgorithmFamily,
+        kind: DecodingKeyKind,
+        read: std::result::Result<Readable, ErrorKind>,
+    ) -> DecodingKey {
+        DecodingKey { family, kind, read, kept: Kept::default() }
+    }
+
     fn of_bytes(family: AlgorithmFamily, bytes: &[u8], read: std::result::Result<Readable, ErrorKind>) -> DecodingKey {
-        DecodingKey { family, kind: DecodingKeyKind::SecretOrDer(bytes.to_vec()), read }
+        DecodingKey::of_kind(family, DecodingKeyKind::SecretOrDer(bytes.to_vec()), read)
     }
 
     /// Returns the family of algorithms that the key is for.
@@ -133,9 +163,9 @@ impl DecodingKey {
     #[must_use]
     pub fn from_rsa_raw_components(modulus: &[u8], exponent: &[u8]) -> Self {
         let [n, e] = [modulus, exponent].map(|it| base64::encode(it, URL_SAFE));
-        let jwk = format!(r#"{{"kty":"RSA","n":"{n}","e":"{e}"}}"#);
+        let read = JwkText::of(&RSAKeyParameters { n, e, ..RSAKeyParameters::default() }).map(Readable::Jwk);
         let kind = DecodingKeyKind::RsaModulusExponent { n: modulus.to_vec(), e: exponent.to_vec() };
-        DecodingKey { family: AlgorithmFamily::Rsa, kind, read: Ok(Readable::Jwk(jwk)) }
+        DecodingKey::of_kind(AlgorithmFamily::Rsa, kind, read)
     }
 
     /// Returns a public key on P-256 or P-384 as a key, from PEM of a SubjectPublicKeyInfo.
@@ -177,13 +207,14 @@ impl DecodingKey {
     /// SubjectPublicKeyInfo is taken too.
     #[must_use]
     pub fn from_ec_der(der: &[u8]) -> Self {
-        let of_point = |curve: &str| {
+        let of_point = |curve: EllipticCurve| {
             let [x, y] = [&der[1..=(der.len() / 2)], &der[der.len() / 2 + 1..]].map(|it| base64::encode(it, URL_SAFE));
-            Ok(Readable::Jwk(format!(r#"{{"kty":"EC","crv":"{curve}","x":"{x}","y":"{y}"}}"#)))
+            let members = EllipticCurveKeyParameters { curve, x, y, ..EllipticCurveKeyParameters::default() };
+            JwkText::of(&members).map(Readable::Jwk)
         };
         let read = match (der.first(), der.len()) {
-            (Some(4), 65) => of_point("P-256"),
-            (Some(4), 97) => of_point("P-384"),
+            (Some(4), 65) => of_point(EllipticCurve::P256),
+            (Some(4), 97) => of_point(EllipticCurve::P384),
             (Some(0x30), _) => of_family(AlgorithmFamily::Ec, jwk_of_der(SPKI, der)),
             _ => Err(ErrorKind::InvalidEcdsaKey),
         };
@@ -195,8 +226,9 @@ impl DecodingKey {
     pub fn from_ed_der(der: &[u8]) -> Self {
         let read = match der.len() {
             32 => {
-                let x = base64::encode(der, URL_SAFE);
-                Ok(Readable::Jwk(format!(r#"{{"kty":"OKP","crv":"Ed25519","x":"{x}"}}"#)))
+                let (curve, x) = (EllipticCurve::Ed25519, base64::encode(der, URL_SAFE));
+                let members = OctetKeyPairParameters { curve, x, ..OctetKeyPairParameters::default() };
+                JwkText::of(&members).map(Readable::Jwk)
             }
             _ => of_family(AlgorithmFamily::Ed, jwk_of_der(SPKI, der)),
         };
@@ -219,15 +251,11 @@ impl DecodingKey {
     /// A number or a secret that is not base64url is [`ErrorKind::Base64`], and a key of another kind
     /// [`ErrorKind::UnsupportedAlgorithm`].
     pub fn from_jwk(jwk: &Jwk) -> Result<Self> {
-        match &jwk.algorithm {
-            AlgorithmParameters::RSA(it) => DecodingKey::from_rsa_components(&it.n, &it.e),
-            AlgorithmParameters::EllipticCurve(it) => DecodingKey::from_ec_components(&it.x, &it.y),
-            AlgorithmParameters::OctetKeyPair(it) => DecodingKey::from_ed_components(&it.x),
-            AlgorithmParameters::OctetKey(it) => {
-                Ok(DecodingKey::from_secret(&base64::decode(it.value.as_bytes(), URL_SAFE)?))
-            }
-            AlgorithmParameters::Other(_) => Err(ErrorKind::UnsupportedAlgorithm.into()),
-        }
+        let text = JwkText::of(&jwk.algorithm)?;
+        calls::key_algorithms(&text.0).map_err(Error::from_key_status)?;
+        let (family, kind) = jwk.algorithm.shown()?;
+        let read = calls::check(Kind::Jwk, &text.0).map(|()| Readable::Jwk(text));
+        Ok(DecodingKey::of_kind(family, kind, read.map_err(key_kind)))
     }
 
     /// Returns the bytes of the key.
@@ -246,9 +274,15 @@ impl DecodingKey {
     pub(crate) fn material(&self) -> Result<(Kind, &[u8])> {
         match &self.read {
             Ok(Readable::Secret) => Ok((Kind::Secret, self.try_get_as_bytes()?)),
-            Ok(Readable::Jwk(text)) => Ok((Kind::Jwk, text.as_bytes())),
+            Ok(Readable::Jwk(text)) => Ok((Kind::Jwk, &text.0)),
             Err(kind) => Err(kind.clone().into()),
         }
+    }
+}
+
+impl fmt::Debug for DecodingKey {
+    fn fmt(&self, f: &mut fmt::Formatter<'_>) -> fmt::Result {
+        f.debug_struct("DecodingKey").field("family", &self.family).field("kind", &self.kind).finish_non_exhaustive()
     }
 }
 
@@ -279,8 +313,8 @@ fn of_family(
     family: AlgorithmFamily,
     jwk: std::result::Result<String, ErrorKind>,
 ) -> std::result::Result<Readable, ErrorKind> {
-    let jwk = jwk?;
-    let served = calls::key_algorithms(&jwk).map_err(key_kind)?;
+    let jwk = JwkText(jwk?.into_bytes());
+    let served = calls::key_algorithms(&jwk.0).map_err(key_kind)?;
     let is_served = family.algorithms().iter().any(|it| served & (1 << it.number()) != 0);
     if is_served || served == 0 { Ok(Readable::Jwk(jwk)) } else { Err(ErrorKind::InvalidKeyFormat) }
 }
@@ -294,7 +328,9 @@ fn from_pem(family: AlgorithmFamily, text: &[u8]) -> Result<DecodingKey> {
 
 /// Verifies a token at the time of the system's clock, and returns its header and its claims.
 ///
-/// A [`Verifier`] is made for this call; make one yourself for many tokens.
+/// The key keeps what was read of it and of the `Validation`: from the second token on, a call with an equal `Validation` verifies with
+/// prepared keys, as a [`Verifier`] does. In a child process that was forked from a process with several threads it must not be called, nor
+/// a key dropped that it was called with.
 ///
 /// ```
 /// use jsonwebtoken_proved::{decode, encode, DecodingKey, EncodingKey, Header, Validation};
@@ -317,6 +353,10 @@ fn from_pem(family: AlgorithmFamily, text: &[u8]) -> Result<DecodingKey> {
 ///
 /// A token that is refused has a kind that says why ([`Error::is_refusal`]). An algorithm of another family than the key's is
 /// [`ErrorKind::InvalidAlgorithm`]. The other errors are those of [`Verifier::new`] and [`Verifier::decode`].
+///
+/// [`Verifier`]: crate::Verifier
+/// [`Verifier::new`]: crate::Verifier::new
+/// [`Verifier::decode`]: crate::Verifier::decode
 pub fn decode<T: DeserializeOwned>(
     token: impl AsRef<[u8]>,
     key: &DecodingKey,
@@ -329,8 +369,7 @@ pub fn decode<T: DeserializeOwned>(
     if validation.algorithms.iter().any(|it| it.family() != key.family) {
         return Err(ErrorKind::InvalidAlgorithm.into());
     }
-    let claims = Verifier::for_one_token(key, validation)?.decode(token)?.claims;
-    Ok(TokenData { header: decode_header(token)?, claims })
+    key.kept.verifier(key, validation)?.verifier.token_data(token, validation::now()?)
 }
 
 /// Returns the header of a token. Nothing is verified.

@@ -75,6 +75,7 @@ impl Error {
         match kind_of(status) {
             ErrorKind::Provider(_) => ErrorKind::UnusableKey("it is a private key".to_string()),
             ErrorKind::Json(_) | ErrorKind::InvalidToken => ErrorKind::UnusableKey(text_of(status)),
+            ErrorKind::Base64(_) => ErrorKind::Base64(Base64Error::OF_KEY),
             kind => kind,
         }
         .into()

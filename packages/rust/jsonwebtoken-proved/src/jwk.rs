@@ -7,7 +7,7 @@ use crate::errors::{Error, ErrorKind, Result};
 use crate::header::names;
 use crate::library::calls;
 use crate::signing;
-use crate::{Algorithm, AlgorithmFamily, DecodingKey, EncodingKey};
+use crate::{Algorithm, AlgorithmFamily, DecodingKey, DecodingKeyKind, EncodingKey};
 use serde::{Deserialize, Serialize};
 use serde_json::Value;
 use std::collections::BTreeMap;
@@ -313,6 +313,26 @@ pub enum AlgorithmParameters {
     OctetKeyPair(OctetKeyPairParameters),
     /// A key of another kind, or one that lacks a member.
     Other(OtherKeyParameters),
+}
+
+impl AlgorithmParameters {
+    /// Returns the family and the bytes that a [`DecodingKey`] of the key shows.
+    pub(crate) fn shown(&self) -> Result<(AlgorithmFamily, DecodingKeyKind)> {
+        let bytes = |text: &String| base64::decode(text.as_bytes(), URL_SAFE);
+        let (family, bytes) = match self {
+            AlgorithmParameters::RSA(it) => {
+                let (n, e) = (bytes(&it.n)?, bytes(&it.e)?);
+                return Ok((AlgorithmFamily::Rsa, DecodingKeyKind::RsaModulusExponent { n, e }));
+            }
+            AlgorithmParameters::EllipticCurve(it) => {
+                (AlgorithmFamily::Ec, [vec![4], bytes(&it.x)?, bytes(&it.y)?].concat())
+            }
+            AlgorithmParameters::OctetKeyPair(it) => (AlgorithmFamily::Ed, bytes(&it.x)?),
+            AlgorithmParameters::OctetKey(it) => (AlgorithmFamily::Hmac, bytes(&it.value)?),
+            AlgorithmParameters::Other(_) => return Err(ErrorKind::UnsupportedAlgorithm.into()),
+        };
+        Ok((family, DecodingKeyKind::SecretOrDer(bytes)))
+    }
 }
 
 /// The hash of a thumbprint.

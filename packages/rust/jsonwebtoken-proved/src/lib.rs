@@ -32,6 +32,7 @@ pub mod errors;
 mod header;
 pub mod jwk;
 pub mod jws;
+mod kept;
 mod keyset;
 #[allow(unsafe_code)]
 mod library;

@@ -4,7 +4,7 @@ use crate::errors::{Error, Result};
 use crate::library::calls::{self, Kind};
 use crate::library::handle::{Denied, Handle, Use};
 use crate::validation::{self, argument};
-use crate::{DecodingKey, Validation};
+use crate::{DecodingKey, Header, TokenData, Validation, decode_header};
 use serde::de::DeserializeOwned;
 use std::fmt;
 use std::sync::{Mutex, MutexGuard, PoisonError};
@@ -95,15 +95,47 @@ impl std::error::Error for Refusal {
 /// # Ok::<(), Error>(())
 /// ```
 pub struct Verifier {
-    handles: Mutex<Handles>,
+    readers: Mutex<Readers>,
 }
 
 /// Handles of the library with the same keys and options. Each call has one, shared from the first and kept for the next call.
-struct Handles {
+struct Readers {
     /// It is only shared, and verifies nothing.
     first: Handle,
     /// Those that no call has now.
-    idle: Vec<Handle>,
+    idle: Vec<Reader>,
+}
+
+/// A handle, and the last header that was read with it: that of the next token is most often the same.
+struct Reader {
+    handle: Handle,
+    last: Option<Box<ReadHeader>>,
+}
+
+struct ReadHeader {
+    /// The header part of the token, and its dot.
+    part: Vec<u8>,
+    header: Header,
+}
+
+impl ReadHeader {
+    fn of(token: &[u8]) -> Result<Box<ReadHeader>> {
+        let part = token.split_inclusive(|it| *it == b'.').next().unwrap_or_default();
+        Ok(Box::new(ReadHeader { part: part.to_vec(), header: decode_header(token)? }))
+    }
+}
+
+impl Reader {
+    fn token_data<T: DeserializeOwned>(&mut self, token: &[u8], now: u64) -> Result<TokenData<T>> {
+        let accepted = self.handle.decode(token, now).map_err(Refusal::from)?;
+        Ok(TokenData { claims: serde_json::from_str(&accepted.claims)?, header: self.header(token)?.clone() })
+    }
+
+    /// Returns the header of a token that was accepted, of which the header part ends at the first dot.
+    fn header(&mut self, token: &[u8]) -> Result<&Header> {
+        let last = self.last.take().filter(|it| token.starts_with(&it.part));
+        Ok(&self.last.insert(last.map_or_else(|| ReadHeader::of(token), Ok)?).header)
+    }
 }
 
 impl Verifier {
@@ -119,8 +151,7 @@ impl Verifier {
     /// [`ErrorKind::InvalidArgument`]: crate::errors::ErrorKind::InvalidArgument
     /// [`ErrorKind::MissingAlgorithm`]: crate::errors::ErrorKind::MissingAlgorithm
     pub fn new(key: &DecodingKey, validation: &Validation) -> Result<Verifier> {
-        let (kind, text) = key.material()?;
-        Verifier::made(kind, text, validation, 0, Use::Often)
+        Verifier::planned(key, validation, Use::Often)
     }
 
     /// Returns the verifier of a JSON Web Key Set (RFC 7517 section 5), of which a token names a key by its `kid`, and conditions. A key
@@ -150,16 +181,16 @@ impl Verifier {
         Verifier::made(kind, text, validation, longest, Use::Often)
     }
 
-    /// Returns the verifier of a key and conditions like [`Verifier::new`], for one token.
-    pub(crate) fn for_one_token(key: &DecodingKey, validation: &Validation) -> Result<Verifier> {
+    /// Returns the verifier of a key and conditions like [`Verifier::new`], for this use.
+    pub(crate) fn planned(key: &DecodingKey, validation: &Validation, planned: Use) -> Result<Verifier> {
         let (kind, text) = key.material()?;
-        Verifier::made(kind, text, validation, 0, Use::Once)
+        Verifier::made(kind, text, validation, 0, planned)
     }
 
     fn made(kind: Kind, key: &[u8], validation: &Validation, longest: usize, planned: Use) -> Result<Verifier> {
         let made = Handle::new(kind, key, &validation.options()?, longest, planned);
         let first = made.map_err(Error::from_key_status)?;
-        Ok(Verifier { handles: Mutex::new(Handles { first, idle: Vec::new() }) })
+        Ok(Verifier { readers: Mutex::new(Readers { first, idle: Vec::new() }) })
     }
 
     /// Verifies a token at the time of the system's clock, and returns its claims.
@@ -181,24 +212,32 @@ impl Verifier {
     /// A token that is not accepted is a [`Refusal`], whose error says why;
     /// [`ErrorKind::OutOfMemory`](crate::errors::ErrorKind::OutOfMemory) says nothing about the token.
     pub fn decode_json(&self, token: impl AsRef<[u8]>, now: u64) -> std::result::Result<Verified<String>, Refusal> {
-        let mut handle = self.handle()?;
-        let answer = handle.decode(token.as_ref(), now);
-        self.lock().idle.push(handle);
+        let mut reader = self.reader()?;
+        let answer = reader.handle.decode(token.as_ref(), now);
+        self.lock().idle.push(reader);
         let accepted = answer?;
         Ok(Verified { claims: accepted.claims, accepted_until: accepted.last })
     }
 
-    /// Returns a handle that no other call has.
-    fn handle(&self) -> Result<Handle> {
-        let mut handles = self.lock();
-        match handles.idle.pop() {
-            Some(handle) => Ok(handle),
-            None => handles.first.share().map_err(Error::from_status),
+    /// Verifies a token at the time `now`, and returns its header and its claims.
+    pub(crate) fn token_data<T: DeserializeOwned>(&self, token: &[u8], now: u64) -> Result<TokenData<T>> {
+        let mut reader = self.reader()?;
+        let read = reader.token_data(token, now);
+        self.lock().idle.push(reader);
+        read
+    }
+
+    /// Returns a reader that no other call has.
+    fn reader(&self) -> Result<Reader> {
+        let mut readers = self.lock();
+        match readers.idle.pop() {
+            Some(reader) => Ok(reader),
+            None => Ok(Reader { handle: readers.first.share().map_err(Error::from_status)?, last: None }),
         }
     }
 
-    fn lock(&self) -> MutexGuard<'_, Handles> {
-        self.handles.lock().unwrap_or_else(PoisonError::into_inner)
+    fn lock(&self) -> MutexGuard<'_, Readers> {
+        self.readers.lock().unwrap_or_else(PoisonError::into_inner)
     }
 }
 
@@ -232,7 +271,7 @@ mod tests {
             assert!(verifier.decode_json(TOKEN, NOW).is_ok() && verifier.decode_json("a", NOW).is_err());
             assert_eq!(verifier.lock().idle.len(), 1);
         }
-        let taken = [verifier.handle().unwrap(), verifier.handle().unwrap()];
+        let taken = [verifier.reader().unwrap(), verifier.reader().unwrap()];
         assert!(verifier.decode_json(TOKEN, NOW).is_ok());
         assert_eq!(verifier.lock().idle.len(), 1);
         drop(taken);
@@ -267,7 +306,7 @@ mod tests {
     #[ignore = "measures"]
     fn nanoseconds_of_a_call() {
         let (key, verifier) = verifier();
-        let mut handle = verifier.handle().unwrap();
+        let mut handle = verifier.reader().unwrap().handle;
         let mut buffer = [0; 256];
         let in_c = nanoseconds(|| assert_eq!(handle.status_of(TOKEN.as_bytes(), NOW, &mut buffer), 0));
         let in_rust = nanoseconds(|| assert!(verifier.decode_json(TOKEN, NOW).is_ok()));

@@ -197,6 +197,41 @@ fn json_web_keys() {
     assert!(serde_json::from_value::<Jwk>(json!({"kty": "oct", "k": "AA", "kid": 5})).is_err());
 }
 
+/// The library reads a key; one that serves no algorithm, or a secret that others may know, is refused when it is used.
+#[test]
+fn keys_of_json_web_keys() {
+    let x = "f83OJ3D2xF1Bg8vub9tLe1gHMzV76e8Tus9uPHvRVEU"; // RFC 7515 appendix A.3.1
+    let made = [
+        (json!({"kty": "oct", "k": "MDEyMzQ1Njc4OWFiY2RlZjAxMjM0NTY3ODlhYmNkZWY", "alg": "RS256"}), None),
+        (json!({"kty": "oct", "k": "AAAA"}), Some("Anyone can sign")),
+        (json!({"kty": "oct", "k": "c3NoLXJzYSBBQUFB"}), Some("is the text of a key")), // ssh-rsa AAAA
+        (json!({"kty": "EC", "crv": "P-256", "x": x, "y": x}), Some("serves no algorithm")),
+        (json!({"kty": "RSA", "n": "AQAB", "e": "AQAB"}), Some("serves no algorithm")),
+        (json!({"kty": "OKP", "crv": "Ed25519", "x": "AQAB"}), Some("serves no algorithm")),
+    ];
+    for (text, why) in made {
+        let jwk: Jwk = serde_json::from_value(text.clone()).unwrap();
+        let key = DecodingKey::from_jwk(&jwk).unwrap();
+        let refused = jsonwebtoken::Verifier::new(&key, &Validation::new_for_family(key.family())).err();
+        assert_eq!(refused.is_some(), why.is_some(), "{text}");
+        assert!(refused.map_or(true, |it| it.to_string().contains(why.unwrap_or_default())), "{text}");
+        assert!(Jwk::from_decoding_key(&key, None).map_or(true, |it| it.algorithm == jwk.algorithm), "{text}");
+    }
+    let refused = [
+        (json!({"kty": "oct", "k": "+/"}), "a text is not base64"),
+        (json!({"kty": "RSA", "n": "AQAB", "e": "AQ=B"}), "a text is not base64"),
+        (json!({"kty": "EC", "crv": "P-256", "x": "A", "y": "AQAB"}), "a text is not base64"),
+        (json!({"kty": "OKP", "crv": "Ed25519", "x": "AQA="}), "a text is not base64"),
+        (json!({"kty": "EC", "crv": "P-256", "x": "AQAB"}), "the key is of a kind that is not supported"),
+        (json!({"kty": "RSA", "n": "AQAB"}), "the key is of a kind that is not supported"),
+        (json!({}), "the key is of a kind that is not supported"),
+    ];
+    for (text, wanted) in refused {
+        let jwk: Jwk = serde_json::from_value(text.clone()).unwrap();
+        assert_eq!(DecodingKey::from_jwk(&jwk).unwrap_err().to_string(), wanted, "{text}");
+    }
+}
+
 #[test]
 fn algorithms() {
     for it in Algorithm::ALL {

@@ -34,17 +34,18 @@ pub fn checked(status: u32) -> Result<(), u32> {
     if status == status::OK { Ok(()) } else { Err(status) }
 }
 
-/// Returns the bytes that a call writes to a buffer of at first this size.
+/// Returns the bytes that a call of the library writes to a buffer of at first this size.
 fn written(size: usize, mut call: impl FnMut(*mut u8, usize, *mut usize) -> u32) -> Result<Vec<u8>, u32> {
-    let mut buffer = vec![0; size];
+    let mut buffer = Vec::with_capacity(size);
     let mut len = 0;
     loop {
-        match call(buffer.as_mut_ptr(), buffer.len(), &mut len) {
+        match call(buffer.as_mut_ptr(), buffer.capacity(), &mut len) {
             status::OK => {
-                buffer.truncate(len);
+                // SAFETY: the call has written so many bytes to the front of the buffer
+                unsafe { buffer.set_len(len) }
                 return Ok(buffer);
             }
-            status::NO_ROOM => buffer.resize(len, 0),
+            status::NO_ROOM => buffer.reserve(len),
             status => return Err(status),
         }
     }
@@ -84,7 +85,7 @@ pub fn key_from_pem(pem: &str, is_certificate: bool) -> Result<String, u32> {
 }
 
 /// Returns the algorithms that a JSON Web Key serves, as bits of their numbers.
-pub fn key_algorithms(jwk: &str) -> Result<u32, u32> {
+pub fn key_algorithms(jwk: &[u8]) -> Result<u32, u32> {
     let mut bits = 0;
     // SAFETY: the slice has the length that is given
     checked(unsafe { declared::jwt_key_algorithms(jwk.as_ptr(), jwk.len(), &mut bits) })?;

@@ -9,7 +9,7 @@ type Make =
     unsafe extern "C" fn(*const u8, usize, *const u8, usize, usize, bool, usize, *mut declared::Verifier) -> u32;
 
 /// The tokens that a verifier is made for: whether it keeps its keys prepared, which takes as long as one or two verifications.
-#[derive(Clone, Copy)]
+#[derive(Clone, Copy, PartialEq, Eq)]
 pub enum Use {
     /// For one token: nothing is prepared (`JWT_PREPARE_NOTHING`).
     Once,
