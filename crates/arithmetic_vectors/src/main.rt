@@ -2,10 +2,10 @@
 //! `weierstrass`, `weierstrass_group`, `ecdsa` and `ed25519`) and signatures (the latter two), and
 //! compares each result with the one that the row wants.
 //!
-//! The program reads the files `*.jsonl` of the folder that it runs in, which the programs of
-//! `tools/rows` write, but for that of signatures. A row is one line of JSON with the members `id`, `call`, those of the call's
-//! inputs, `want`, and `from`, the source of the result that is wanted. A row that differs is
-//! printed, and the last line counts.
+//! The program reads the files `*.jsonl` of the folder that it runs in, whose rows on numbers and
+//! points `tests/rows/arithmetic` answers too. A row is one line of JSON with the members `id`,
+//! `call`, those of the call's inputs, `want`, and `from`, the source of the result that is wanted. A
+//! row that differs is printed, and the last line counts.
 
 // Rows about numbers and points have a program of their own, since `modular` and the crates of
 // curves know nothing of tokens.

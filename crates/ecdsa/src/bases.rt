@@ -1,4 +1,4 @@
-//! The base points' multiples below the 16th, which have z = 1. `tools/rows/base_tables` writes the
+//! The base points' multiples below the 16th, which have z = 1. `tools/certificates/base_tables` writes the
 //! tables.
 
 // The table of the base point is a method of a trait (`BaseMultiples`), so that one body serves

@@ -1,4 +1,4 @@
--- Identities of polynomials. tools/rows/edwards_identities writes this file, and finds the factors of the lines.
+-- Identities of polynomials. tools/certificates/edwards_identities writes this file, and finds the factors of the lines.
 use Rattle.std.proofs.Common.{◌≡◌, true, List, [], ◌∷◌, refl}
 use Rattle.ring.proofs.Terms.{Term}
 use Rattle.ring.proofs.Terms.Term.{var, num, ◌⊕◌, ◌⊖◌, ◌⊗◌}

@@ -1,4 +1,4 @@
--- The primes of the curves, and the orders of P-256 and P-384. tools/rows/prime_certificates writes this file.
+-- The primes of the curves, and the orders of P-256 and P-384. tools/certificates/prime_certificates writes this file.
 use Rattle.std.proofs.Common.{refl}
 use Rattle.primes.specs.Primes.{IsPrime}
 use Rattle.primes.proofs.Certificates.{Certificate, trial, order, number, holds, prime_of}

@@ -3,6 +3,6 @@
 
 // A prime has a certificate by Pocklington's criterion with two prime factors of p - 1, whose check
 // is a test that computes; it needs no factorization and no greatest common divisors in the logic.
-// `tools/rows/prime_certificates` writes the certificates.
+// `tools/certificates/prime_certificates` writes the certificates.
 
 #![tactic(auto)]

@@ -1,4 +1,4 @@
--- P-256 and P-384: their primes make fields, and no point has order 2. tools/rows/cubic_certificates writes this file.
+-- P-256 and P-384: their primes make fields, and no point has order 2. tools/certificates/cubic_certificates writes this file.
 use Rattle.std.proofs.Common.{refl, lit<}
 use Rattle.residues.specs.Modulo.{minus}
 use Rattle.primes.proofs.CurvePrimes.{prime_p256, prime_p384}

@@ -1,5 +1,5 @@
 -- The sums of three points, grouped in both ways: X and Z, Y and Z are in one proportion.
--- tools/rows/weierstrass_identities writes this file.
+-- tools/certificates/weierstrass_identities writes this file.
 use Rattle.std.proofs.Common.{◌≡◌, ℕ, zero, suc, ◌^◌, ◌<◌, List, [], ◌∷◌, length, true, refl, arith}
 use Rattle.kronecker.proofs.Programs.{Expr, var, num, add, sub, mul, vanish, bounded_at, short}
 use Rattle.weierstrass_group.proofs.Identities.{cubic}

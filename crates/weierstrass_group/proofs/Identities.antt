@@ -1,4 +1,4 @@
--- Identities of the complete formulas, each checked at one point. tools/rows/weierstrass_identities writes this file.
+-- Identities of the complete formulas, each checked at one point. tools/certificates/weierstrass_identities writes this file.
 use Rattle.std.proofs.Common.{◌≡◌, ℕ, ◌^◌, List, [], ◌∷◌, true, refl}
 use Rattle.kronecker.proofs.Programs.{Expr, var, num, add, sub, mul, vanish, bounded}
 
