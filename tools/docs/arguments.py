@@ -90,7 +90,7 @@ class Source:
             return None
         found = list(self.reached(function))
         arguments = [it for it in found if isinstance(it, Argument)]
-        groups = [self.functions[it] for it in found if isinstance(it, str) and "ArgGroup::new" in self.functions[it]]
+        groups = [self.functions[it] for it in found if isinstance(it, str) and re.search(r"ArgGroup::new\(.*\.required\(true\)", self.functions[it])]
         group = re.search(rf"ArgGroup::new\(alloc, {TEXT}\)", groups[0])[1] if groups else ""
         members = [name for body_of in groups for name in re.findall(rf"\.arg\({TEXT}\)", body_of)]
         return Command(named[1], re.search(rf"\.about\(\s*{TEXT}", body)[1], arguments, group, members)

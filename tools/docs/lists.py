@@ -8,14 +8,11 @@ QUOTED = re.compile(r"'([\w-]+)'")
 
 def usage(command):
     """Returns the words of a line of use, each with how it is set: 'B' as it is typed, 'I' as a variable, 'R' as neither."""
-    optional = [it for it in command.named() if it.shape != "Needed"]
+    optional = command.named()
     words = [("B", f"jwt {command.name}")]
     words += [("R", " "), ("I", command.group.upper())] if command.group else []
-    for it in command.named():
-        if it.shape == "Needed":
-            words += [("B", f" --{it.name} "), ("I", it.value)]
-        elif len(optional) <= FEW:
-            words += [("R", " ["), ("B", f"--{it.name}{' ' * bool(it.value)}"), ("I", it.value), ("R", "]")]
+    for it in optional if len(optional) <= FEW else []:
+        words += [("R", " ["), ("B", f"--{it.name}{' ' * bool(it.value)}"), ("I", it.value), ("R", "]")]
     words += [("R", " ["), ("I", "OPTION"), ("R", "..]")] if len(optional) > FEW else []
     for it in command.places():
         before, after = (" [", "]") if it.shape == "Place" else (" ", "")
@@ -24,7 +21,7 @@ def usage(command):
 
 
 def meaning(argument):
-    return argument.help + {"Repeated": "; may be repeated", "Needed": "; is needed"}.get(argument.shape, "")
+    return argument.help + "; may be repeated" * (argument.shape == "Repeated")
 
 
 class Markdown:

@@ -12,7 +12,7 @@ def values(argument):
     if argument.value == "FILE":
         return FILES
     if argument.value in ("ALG", "HASH"):
-        return list(dict.fromkeys(re.findall(r"\b[A-Z]+\d{3}\b", argument.help))) or algorithms()
+        return re.findall(r"\b[A-Z]+\d{3}\b", argument.help.partition(" (default")[0]) or algorithms()
     return re.findall(r"'(\w+)'", argument.help) if argument.value == "CLAIM" else []
 
 
