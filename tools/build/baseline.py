@@ -27,13 +27,9 @@ ARCHIVES = ("libos_c.a", "liblibc_c.a")
 AROUND_MAIN = re.compile(r"\s(\.(?:ctors|dtors|init))\s")
 
 
-def cpu_words():
-    return ["--cpu", CPU] if "--cpu" in kit.help_of_check() else []
-
-
 def key(crate):
     """Returns the sum of all that is compiled, and of what compiles it."""
-    return key_of(built.sum_of_means(crate), built.sum_of_file(f"{kit.folder()}/toolchain/bin/clang"), built.sum_of_sources(crate), cpu_words())
+    return key_of(built.sum_of_means(crate), built.sum_of_file(f"{kit.folder()}/toolchain/bin/clang"), built.sum_of_sources(crate), CPU)
 
 
 def proved_earlier(crate, to, sum_of_all):
@@ -47,16 +43,14 @@ def proved_earlier(crate, to, sum_of_all):
 
 
 def compile_crate(crate, to, is_anew):
-    """Proves the crate, and compiles it to the file `to`. Returns whether that went well, or None if this kit's rattle takes other words."""
+    """Proves the crate, and compiles it to the file `to`. Returns whether that went well."""
     sum_of_all = key(crate)
     if not is_anew and proved_earlier(crate, to, sum_of_all):
         return True
-    words = [*crate.check_words(), *cpu_words(), "--jobs", "1", "--toolchain", f"{kit.folder()}/toolchain", "--backend", "llvm", "-o", to]
+    words = [*crate.check_words(), "--cpu", CPU, "--jobs", "1", "--toolchain", f"{kit.folder()}/toolchain", "--backend", "llvm", "-o", to]
     tell(f"compiling {crate.name} for each x86-64, for which it is proved once more")
     how = {"cwd": crate.folder, "stdin": subprocess.DEVNULL, "stdout": subprocess.PIPE, "stderr": subprocess.STDOUT}
     ran = subprocess.run([kit.program("rattle"), "build", *words], text=True, errors="replace", **how)
-    if ran.returncode == 2:
-        return None
     verdict = re.search(r"^logic=proved .*", ran.stdout, re.M)
     if ran.returncode or not verdict:
         print(ran.stdout)
@@ -68,13 +62,13 @@ def compile_crate(crate, to, is_anew):
 
 
 def link(crate, compiled):
-    """Links a program in the place of the one that rt ci linked. Returns whether that went well, or None if nothing can be linked here."""
+    """Links a program instead of the one that rt ci linked. Returns whether that went well."""
     to = f"{crate.folder}/out/{crate.name}"
     archives = [f"{kit.folder()}/c/{name}" for name in ARCHIVES]
     flags = ["-O2", "-fPIE", "-fno-stack-protector", "-nostartfiles", "-pie", "-Wl,--gc-sections,--build-id=none,-z,relro,-z,now,-z,noexecstack"]
     words = [os.environ.get("CC", "cc"), *flags, "-o", f"{to}.linked", START, compiled, *archives]
     if subprocess.run(words, stdin=subprocess.DEVNULL).returncode:
-        return None
+        return False
     sections = subprocess.run(["objdump", "-h", f"{to}.linked"], stdout=subprocess.PIPE, text=True, check=True).stdout
     found = AROUND_MAIN.search(sections)
     if found:
@@ -85,27 +79,21 @@ def link(crate, compiled):
 
 
 def build_library(crate, is_anew):
-    """Builds the static library of the crate; by rt lib, which proves what is below it too, if rattle can't. Returns whether it is built."""
-    is_well = None
-    if checks.are_built([crate]) and not checks.lacking_in_kit():
-        is_well = compile_crate(crate, f"{crate.folder}/out/lib{crate.name}.a", is_anew)
-    if is_well is None:
-        is_well = kit.rt("lib", *cpu_words(), cwd=crate.folder, stdin=subprocess.DEVNULL).returncode == 0
-    return is_well
+    """Builds the static library of the crate. Returns whether it is built."""
+    if checks.is_plain([crate]):
+        return kit.rt("lib", cwd=crate.folder, stdin=subprocess.DEVNULL).returncode == 0
+    return compile_crate(crate, f"{crate.folder}/out/lib{crate.name}.a", is_anew)
 
 
 def build_program(crate, is_anew):
     """Builds a program, or leaves the one that rt ci built if this can't be done here, and says so. Returns whether it is built."""
-    compiled = f"{crate.folder}/out/{crate.name}.every.o"
-    can_link = shutil.which(os.environ.get("CC", "cc")) and shutil.which("objdump")
-    is_well = None
-    if cpu_words() and can_link and checks.are_built([crate]) and not checks.lacking_in_kit():
-        is_well = compile_crate(crate, compiled, is_anew) and link(crate, compiled)
-    if is_well is None:
-        what = "that takes a C compiler which links, objdump, and a rattle that knows --cpu"
-        tell(f"{crate.name} is built for x86-64-v2 and glibc 2.34, and not for each x86-64 and older ones: {what}")
+    missing = [name for name in (os.environ.get("CC", "cc"), "objdump") if not shutil.which(name)]
+    missing += [name for name in ARCHIVES if not os.path.isfile(f"{kit.folder()}/c/{name}")]
+    if missing or checks.is_plain([crate]):
+        tell(f"{crate.name} is built for x86-64-v2 and glibc 2.34, and not for each x86-64 and older ones{', without ' * bool(missing)}{' and '.join(missing)}")
         return True
-    return is_well
+    compiled = f"{crate.folder}/out/{crate.name}.every.o"
+    return compile_crate(crate, compiled, is_anew) and link(crate, compiled)
 
 
 def build(crates, is_anew):

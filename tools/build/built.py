@@ -33,7 +33,7 @@ def sum_of(crate, files):
 
 
 def note(crate, *files):
-    """Notes beside the first file that these were built from the crate's sources."""
+    """Notes next to the first file that these were built from the crate's sources."""
     with open(f"{files[0]}.sum", "w", encoding="utf-8") as file:
         file.write(f"{sum_of(crate, files)}\n")
 

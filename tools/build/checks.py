@@ -8,31 +8,23 @@ import subprocess
 
 from build import kit
 
-FLAGS = "--crate-name --extern --antt-project --logic-built --links --jobs --crate-type --incremental --only --allow-holes".split()
-# An environment variable that has rt try each wrong body by itself.
-PLAIN = "JWT_TESTS_PLAIN"
+FLAGS = "--crate-name --extern --antt-project --logic-built --links --jobs --crate-type --incremental --only --allow-holes --cpu".split()
 
 
-def lacking_in_kit():
-    """Returns which flags of rattle and files of the kit are missing."""
+def lacking(crates):
+    """Returns which flags of rattle, files of the kit and libraries that rt built below these crates are missing."""
     flags = [f"rattle check {flag}" for flag in FLAGS if flag not in kit.help_of_check()]
     paths = [f"{kit.folder()}/{path}" for path in ("rattle/logic/antt-project.json", "logic_built", "rlibs", "toolchain")]
+    paths += [library.rlib() for crate in crates for library in crate.below]
     return [*flags, *[path for path in paths if not os.path.exists(path)]]
 
 
-def is_plain():
-    """Returns whether rt tries each wrong body by itself, because it is asked for or because the kit lacks something, and says so then."""
-    if os.environ.get(PLAIN):
-        return True
-    lacking = lacking_in_kit()
-    if lacking:
-        kit.tell(f"this kit has no {', no '.join(lacking[:3])}: rt tries each wrong body by itself, which takes longer")
-    return bool(lacking)
-
-
-def are_built(crates):
-    """Returns whether rt left the libraries below these crates where a check looks for them."""
-    return all(os.path.isdir(library.rlib()) for crate in crates for library in crate.below)
+def is_plain(crates):
+    """Returns whether rt itself does what a check would do for these crates, because something is missing, and says so then."""
+    found = lacking(crates)
+    if found:
+        kit.tell(f"there is no {', no '.join(found[:3])}: rt does it by itself, which takes longer")
+    return bool(found)
 
 
 def check(crate, folder, flags):

@@ -57,6 +57,10 @@ class Crate:
         found = [f"{at}/{name}" for part in ("src", "specs", "proofs") for at, _, names in os.walk(f"{self.folder}/{part}") for name in names]
         return sorted(os.path.relpath(path, self.folder) for path in found)
 
+    def modules(self):
+        """Returns the paths of its source files, below its folder."""
+        return [path for path in self.sources() if path.endswith(".rt")]
+
     def lines(self):
         """Returns how many lines the crate has: a measure of the work that it makes."""
         count = 0

@@ -1,4 +1,4 @@
-"""The edits that put a wrong body in the place of a right one, and the functions of the sources that they lie in.
+"""The edits that put wrong bodies instead of right ones, and the functions of the sources that they lie in.
 
 A file wrong-bodies/PATH.edits of a crate has the edits of its module src/PATH.rt. Each begins with a line '# TITLE', and has
 pairs of lines 'old: TEXT' and 'new: TEXT'. A line 'twin: TEXT' after a 'new:' line is a right body in the same place, in the
@@ -33,12 +33,11 @@ def module_of(file):
 
 
 class Block:
-    """An impl or a trait: what rattle calls it, whether it is of a trait, and whether it has type parameters."""
+    """An impl or a trait: what rattle calls it, and whether it is of a trait."""
 
     def __init__(self, line, inner):
         self.name, self.inner = name_of(line), inner
         self.is_of_trait = not re.match(r" *(?:pub )?(?:unsafe )?impl\b", line) or " for " in re.sub(r"<[^<>]*>", "", line)
-        self.is_generic = bool(re.match(r".*?\b(?:impl|trait)<[^>]*[A-Z]", line))
 
 
 class Function:
@@ -48,7 +47,6 @@ class Function:
         self.file, self.block, self.name, self.cycle = file, block, FUNCTION.match(head)[1], None
         self.spell([*module_of(file), *([block.name] if block else [])])
         self.first = self.last = first
-        self.is_generic = bool(block and block.is_generic)
 
     def spell(self, inside):
         """Takes its path from where rattle names it."""
@@ -56,17 +54,11 @@ class Function:
         self.path = plain(self.spelled.split("::"))
 
     def note_text(self, lines):
-        """Takes from the source's lines whether it has type parameters, a body, and a cycle of calls."""
+        """Takes from the source's lines whether it has a body, and a cycle of calls."""
         text = "\n".join(lines[self.first - 1 : self.last])
-        parameters = re.search(r"\bfn \w+([^(]*)\(", text)
-        self.is_generic = self.is_generic or bool(parameters and re.search(r"[A-Z]", parameters[1]))
         self.has_body = "{" in text and not lines[self.last - 1].endswith(";")
         cycle = re.search(r"#\[cycle\((\w+)\)\]", text)
         self.cycle = cycle[1] if cycle else None
-
-    def can_be_copied(self):
-        """Whether a function with the same head can stand beside it."""
-        return not self.cycle and not (self.block and self.block.is_of_trait)
 
     def is_destructor(self):
         return self.name == "drop" and bool(self.block and self.block.is_of_trait)
@@ -124,16 +116,10 @@ def functions_of(file, text):
     return found
 
 
-def sources(crate):
-    """Returns the paths of the crate's source files below its folder."""
-    found = [f"{at}/{name}" for at, _, files in os.walk(f"{crate.folder}/src") for name in files if name.endswith(".rt")]
-    return sorted(os.path.relpath(path, crate.folder) for path in found)
-
-
 def at_home(crate, functions):
     """Gives methods the module of their type, in which rattle names them, if the impl stands in another file. Returns the functions."""
     homes = {}
-    for path in sources(crate):
+    for path in crate.modules():
         homes.update(dict.fromkeys(TYPE.findall(text_of(f"{crate.folder}/{path}")), module_of(path)))
     for function in functions:
         types = [name for name in homes if function.block and function.block.name.startswith(name)]
@@ -147,52 +133,22 @@ def slug(title):
     return "_".join(re.findall(r"[a-z0-9]+", title.lower()))
 
 
-class Written:
-    """An edit as it is written: its module, its title, and its lines."""
-
-    def __init__(self, module, title):
-        self.module, self.title, self.lines = module, title, []
-        self.name = f"{module}/{slug(title)}"
-        self.said = "" if slug(title) else "it has no title"
-
-
-def written_in(module, text):
-    """Returns the edits of a text, in its order. One whose title stands above another one says so."""
-    found, own, names = [], None, set()
-    for line in text.split("\n"):
-        begins = re.match(r"#(?: |$)", line)
-        if begins or own is None and line.strip():
-            own = Written(module, line[1:].strip() if begins else "")
-            found.append(own)
-            own.said = own.said or "its title stands above another edit of the file too" * (own.name in names)
-            names.add(own.name)
-        if not begins and line.strip():
-            own.lines.append(line)
-    return found
-
-
-def written_below(folder):
-    """Returns the edits of a crate's folder as they are written, by file."""
-    top = f"{folder}/wrong-bodies"
-    files = sorted(f"{at}/{name}" for at, _, names in os.walk(top) for name in names if name.endswith(".edits"))
-    return [own for file in files for own in written_in(os.path.relpath(file, top)[: -len(".edits")], text_of(file))]
-
-
 class Edit:
-    """A wrong body: its texts, the function that it lies in, and what was found of it."""
+    """A wrong body of a module: its texts, the function that it lies in, and what was found of it. Its text begins with the title."""
 
-    def __init__(self, crate, written):
-        self.crate, self.name, self.title = crate, written.name, written.title
-        self.text = "\n".join([f"# {written.title}", *written.lines])
+    def __init__(self, crate, module, text):
+        self.crate, self.text = crate, text
+        title, *lines = text.split("\n")
+        self.name = f"{module}/{slug(title)}"
         self.pairs, self.function = [], None
         self.is_refused, self.misfit, self.has_twin = False, "", False
-        self.said = written.said or self.read(written) or self.place()
+        self.said = "it has no title" if not slug(title) else self.read(module, [line for line in lines if line.strip()]) or self.place()
         self.is_bad = bool(self.said)
 
-    def read(self, written):
+    def read(self, module, lines):
         """Reads the pairs of texts. Returns why it can't, or an empty text."""
-        path, old = f"src/{written.module}.rt", None
-        for line in written.lines:
+        path, old = f"src/{module}.rt", None
+        for line in lines:
             word, _, text = line.partition(":")
             text = text.removeprefix(" ")
             if word == "file" and old is None:
@@ -253,7 +209,15 @@ class Edit:
 
 
 def edits_of(crate):
-    """Returns the edits of a crate's folder wrong-bodies."""
-    edits = [Edit(crate, written) for written in written_below(crate.folder)]
+    """Returns the edits of a crate's folder wrong-bodies. One whose title stands above another one of its file says so."""
+    top, found = f"{crate.folder}/wrong-bodies", {}
+    for file in sorted(f"{at}/{name}" for at, _, names in os.walk(top) for name in names if name.endswith(".edits")):
+        untitled, *parts = re.split(r"(?m)^#(?=[ \n])", text_of(file))
+        for part in [*["\n" + untitled] * bool(untitled.strip()), *parts]:
+            edit = Edit(crate, os.path.relpath(file, top).removesuffix(".edits"), part)
+            if edit.name in found:
+                edit.said, edit.is_bad = "its title stands above another edit of the file too", True
+            found.setdefault(edit.name, []).append(edit)
+    edits = [edit for some in found.values() for edit in some]
     at_home(crate, [edit.function for edit in edits if edit.function])
     return edits

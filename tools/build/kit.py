@@ -79,12 +79,6 @@ def tell_logic():
         tell(f"note: everything here was proved by logic {LOGIC}, and this kit has another: {own}; the verdict is this kit's")
 
 
-def ci_words(is_anew):
-    """Returns the command that proves everything, anew if rt keeps what it proved earlier and can leave it."""
-    said = text_of_rt("help").partition("\n  rt ci ")[2].partition("\n  rt must-fail")[0]
-    return ["ci", *["--anew"] * (is_anew and "--anew" in said)]
-
-
 @functools.cache
 def help_of_check():
     """Returns the help of rattle's check, which names its flags."""
@@ -111,5 +105,5 @@ def checks_at_once():
 
 def one_job_each(environment):
     """Returns the environment in which rt gives each check one job: several jobs of one check take a sixth more time of the processors
-    in all. A kit whose rt does not know RT_JOBS decides by itself."""
+    in all."""
     return {"RT_JOBS": str(checks_at_once()), **environment}

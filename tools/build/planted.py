@@ -1,8 +1,7 @@
-"""Checks a crate in which wrong bodies are planted: many in one check.
+"""Checks a crate in which wrong bodies are planted: many in one check, one of a function or of a cycle of calls.
 
-A wrong body is a function of its own beside the right one, with the same head, clauses and proof files. A function of a
-trait, or of a cycle of calls, can have no such copy: it is changed in place, one at a time. The proofs of callers rest on a
-function's contract alone, so every other function loses its body, which would have to be read, and its proof.
+The proofs of callers rest on a function's contract alone, so every other function loses its body, which would have to be read, and its
+proof.
 """
 import os
 import re
@@ -10,7 +9,7 @@ import shutil
 import tempfile
 
 from build import checks
-from build.edits import FUNCTION, at_home, functions_of, plain, sources, text_of
+from build.edits import FUNCTION, at_home, functions_of, plain, text_of
 
 PARTS = ("src", "specs", "proofs")
 # The lines that rattle prints: a function's verdict, a goal that it did not prove, and an answer that is not a proof.
@@ -44,59 +43,29 @@ def applied(edits, twins=False):
     return texts
 
 
-def copy_of(edit, name, twins):
-    """Returns the lines of the edited function, under another name."""
-    own = edit.function
-    lines = applied([edit], twins)[own.file].split("\n")[own.first - 1 : own.last]
-    head = next(number for number, line in enumerate(lines) if FUNCTION.match(line))
-    lines[head] = re.sub(rf"\bfn {own.name}\b", f"fn {name}", lines[head], count=1)
-    # what follows the function ends the comment that hides the right body
-    is_open = sum(line.count("/*") - line.count("*/") for line in lines) > 0
-    return [*lines, "*/"] if is_open else lines
-
-
 class Planted:
     """A copy of a crate with edits planted: those that are tried in it, and those that are left for another one."""
 
     def __init__(self, crate, edits, twins=False):
-        self.crate, self.twins, self.texts, self.functions, self.copies = crate, twins, {}, {}, []
-        copied = [edit for edit in edits if edit.function.can_be_copied()]
-        in_place, self.left = [], []
+        self.crate, self.tried, self.left = crate, [], []
         for edit in edits:
-            if edit not in copied:
-                is_free = all(other.function.unit() != edit.function.unit() for other in in_place)
-                (in_place if is_free and applied([*in_place, edit], twins) is not None else self.left).append(edit)
-        self.tried = [*copied, *in_place]
-        self.plant(copied, in_place)
+            is_free = all(other.function.unit() != edit.function.unit() for other in self.tried)
+            (self.tried if is_free and applied([*self.tried, edit], twins) is not None else self.left).append(edit)
+        self.texts = applied(self.tried, twins)
+        found = [function for path in crate.modules() for function in functions_of(path, self.text(path))]
+        self.all_functions = at_home(crate, found)
+        spelled = {(function.file, function.spelled): function for function in found}
+        self.functions = {edit: spelled[edit.function.file, edit.function.spelled] for edit in self.tried}
 
-    def plant(self, copied, in_place):
-        self.texts = applied(in_place, self.twins)
-        spelled = {edit: edit.function.spelled for edit in in_place}
-        inserted = {}
-        for number, edit in enumerate(copied, 1):
-            own, name = edit.function, f"{edit.function.name}_wrong_{number}"
-            spelled[edit] = own.spelled[: -len(own.name)] + name
-            self.copies.append((own.spelled, spelled[edit]))
-            inserted.setdefault(own.file, []).append((own.last, ["", *copy_of(edit, name, self.twins)]))
-        for path, some in inserted.items():
-            lines = (self.texts.get(path) or text_of(f"{self.crate.folder}/{path}")).split("\n")
-            for last, added in sorted(some, key=lambda own: -own[0]):
-                lines[last:last] = added
-            self.texts[path] = "\n".join(lines)
-        found = []
-        for path in sources(self.crate):
-            found += functions_of(path, self.texts.get(path) or text_of(f"{self.crate.folder}/{path}"))
-        self.all_functions = at_home(self.crate, found)
-        found = {(function.file, function.spelled): function for function in self.all_functions}
-        self.functions = {edit: found[edit.function.file, spelled[edit]] for edit in self.tried}
+    def text(self, path):
+        """Returns the text of a source file with the edits."""
+        return self.texts.get(path) or text_of(f"{self.crate.folder}/{path}")
 
     def write(self, scratch, kept_proofs):
-        """Writes the crate's copy, with the copied functions, and without bodies and proofs of the others but for these."""
+        """Writes the crate's copy, without bodies and proofs of the functions that have no edit, but for these."""
         for part in PARTS:
             if os.path.isdir(f"{self.crate.folder}/{part}"):
                 shutil.copytree(f"{self.crate.folder}/{part}", f"{scratch}/{part}")
-        for right, wrong in self.copies:
-            copy_proofs(scratch, right, wrong)
         kept = {function.path for function in self.functions.values()} | kept_proofs
         # a recursive function keeps its body: rattle names its proofs otherwise than those of the same function without it; so does a
         # destructor, whose proofs rattle looks for elsewhere
@@ -105,8 +74,8 @@ class Planted:
         left_out = [own for own in self.all_functions if own.has_body and not stays(own)]
         for function in left_out:
             leave_out(self.crate, scratch, function.spelled)
-        for path in sources(self.crate):
-            lines = (self.texts.get(path) or text_of(f"{self.crate.folder}/{path}")).split("\n")
+        for path in self.crate.modules():
+            lines = self.text(path).split("\n")
             for function in sorted((own for own in left_out if own.file == path), key=lambda own: -own.first):
                 lines[function.first - 1 : function.last] = without_body(lines[function.first - 1 : function.last])
             with open(f"{scratch}/{path}", "w", encoding="utf-8") as opened:
@@ -132,25 +101,13 @@ class Planted:
         return self.check_once(work, kept_proofs, [])[1] if status == 2 else said
 
 
-def copy_proofs(scratch, right, wrong):
-    """Gives a copied function the proof files of the right one."""
-    source, copy = (f"{scratch}/proofs/{path.replace('::', '/')}" for path in (right, wrong))
-    if not os.path.isdir(source):
-        return
-    os.makedirs(copy)
-    old, new = (path.replace("::", ".") for path in (right, wrong))
-    for name in os.listdir(source):
-        if os.path.isfile(f"{source}/{name}"):
-            text = re.sub(rf"(\.(?:proofs|contracts)\.){re.escape(old)}\b", rf"\g<1>{new}", text_of(f"{source}/{name}"))
-            text = re.sub(rf"\b{old.split('.')[-1]}_spec\b", f"{new.split('.')[-1]}_spec", text)
-            with open(f"{copy}/{name}", "w", encoding="utf-8") as opened:
-                opened.write(text)
-
-
 def without_body(lines):
     """Returns as many lines of the function with another body, if they are in rt fmt's layout: a body stands between lines as far
     in as the head."""
-    head = next(number for number, line in enumerate(lines) if FUNCTION.match(line))
+    head = next((number for number, line in enumerate(lines) if FUNCTION.match(line)), None)
+    if head is None:
+        # an edit ends a comment at the head
+        return lines
     inner = re.match(" *", lines[head])[0]
     opens = (number for number, line in enumerate(lines) if number >= head and re.fullmatch(rf"{inner}\S.*{{|{inner}{{", line))
     first = next(opens, None)
@@ -166,7 +123,7 @@ def recursive_proofs(crate, path):
 
 
 def leave_out(crate, scratch, path):
-    """Puts a hole in the place of a function's proof."""
+    """Puts a hole instead of a function's proof."""
     folder = f"{scratch}/proofs/{path.replace('::', '/')}"
     os.makedirs(folder, exist_ok=True)
     for name in os.listdir(folder):

@@ -5,7 +5,7 @@ import shutil
 import subprocess
 import tempfile
 
-from build import baseline, built, checks, kit, wrong_bodies
+from build import baseline, built, kit, wrong_bodies
 from build.copies import copy_crates
 from build.crates import crates, with_those_below
 from build.kit import tell
@@ -27,12 +27,11 @@ def verdicts(said):
     return found
 
 
-def run_rt_ci(copy, is_anew, is_plain):
+def run_rt_ci(copy, is_anew):
     """Runs rt ci in the copy, and prints what rt says of each crate as it is done. Returns how many passed, or None if something failed."""
-    environment = dict(os.environ) if is_plain else kit.one_job_each(os.environ)
-    how = {"cwd": copy, "env": environment, "stdin": subprocess.DEVNULL, "stdout": subprocess.PIPE, "stderr": subprocess.STDOUT}
+    how = {"cwd": copy, "env": kit.one_job_each(os.environ), "stdin": subprocess.DEVNULL, "stdout": subprocess.PIPE, "stderr": subprocess.STDOUT}
     said = []
-    with subprocess.Popen(["rt", *kit.ci_words(is_anew)], text=True, errors="replace", **how) as ran:
+    with subprocess.Popen(["rt", "ci", *["--anew"] * is_anew], text=True, errors="replace", **how) as ran:
         for line in ran.stdout:
             said.append(line)
             if OF_RT.match(line):
@@ -48,19 +47,11 @@ def run_rt_ci(copy, is_anew, is_plain):
     return None
 
 
-def must_fail_edits(copies):
-    """Returns how many edits rt ci itself has to refuse in these crates."""
-    folders = [f"{crate.folder}/must-fail" for crate in copies.values()]
-    return sum(name.endswith(".edit") for folder in folders if os.path.isdir(folder) for name in os.listdir(folder))
-
-
-def prove_copy(copies, is_anew, is_plain):
-    """Proves all crates of a copy, tries the edits that stand in their folders must-fail, and builds the programs and the library for C.
-    Returns how many passed, or None if something failed."""
-    root = next(iter(copies.values())).root
-    passed, expected = run_rt_ci(root, is_anew, is_plain), len(copies) + must_fail_edits(copies)
-    if passed not in (None, expected):
-        print(f"rt ci passed {passed}, and not {expected}")
+def prove_copy(copies, is_anew):
+    """Proves all crates of a copy, and builds the programs and the library for C. Returns how many passed, or None if something failed."""
+    passed = run_rt_ci(next(iter(copies.values())).root, is_anew)
+    if passed not in (None, len(copies)):
+        print(f"rt ci passed {passed}, and not {len(copies)}")
         return None
     is_well = passed is not None and baseline.build(copies.values(), is_anew)
     return passed if is_well else None
@@ -100,7 +91,7 @@ def build(names, is_anew):
     tell(f"proving {len(some)} crates, from nothing in half an hour on four cores: {' '.join(crate.name for crate in some)}")
     with tempfile.TemporaryDirectory(prefix="prove-") as scratch:
         copies = copy_crates(some, f"{scratch}/copy")
-        is_well = prove_copy(copies, is_anew, checks.is_plain()) is not None
+        is_well = prove_copy(copies, is_anew) is not None
         if is_well:
             take(copies)
     return is_well
@@ -110,16 +101,12 @@ def test(names, is_anew):
     """Proves these crates and those below them, and has the prover refuse the wrong bodies of these. Returns how many crates are proved
     and wrong bodies are refused, and how many are not."""
     with tempfile.TemporaryDirectory(prefix="prove-") as scratch:
-        copies, is_plain = copy_crates([crates()[name] for name in names], f"{scratch}/copy"), checks.is_plain()
+        copies = copy_crates([crates()[name] for name in names], f"{scratch}/copy")
         edits = wrong_bodies.found_edits([copies[name] for name in names])
         total = sum(map(len, edits.values()))
-        if is_plain:
-            wrong_bodies.write_must_fail(edits)
-        passed = prove_copy(copies, is_anew, is_plain)
+        passed = prove_copy(copies, is_anew)
         if passed is None:
             return 0, len(copies) + total
         take(copies)
-        if is_plain:
-            return passed, len(copies) + total - passed
-        refused = wrong_bodies.refuse_over(edits, is_anew) if edits else 0
+        refused = wrong_bodies.refuse(edits, is_anew) if edits else 0
     return passed + refused, total - refused

@@ -1,5 +1,5 @@
 /*
- * The first code of a program that baseline.py links, in the place of the C library's own, which since glibc 2.34 asks for that version or
+ * The first code of a program that baseline.py links, instead of the C library's own, which since glibc 2.34 asks for that version or
  * a later one. This asks for __libc_start_main by the version that each glibc has, and hands it what calls the constructors, since before
  * 2.34 nothing else does; later ones then call this alone. The kit's C code takes the program's arguments in a constructor.
  */

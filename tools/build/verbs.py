@@ -65,7 +65,7 @@ def parser(description):
     added = verb("test", test, "proves crates, all if none is named, as build does, and has the prover refuse their wrong bodies")
     added.add_argument("crates", metavar="CRATE", nargs="*", type=crate_name)
     added = verb("wrong-bodies", wrong_bodies.try_crates, "has the prover refuse wrong bodies, over the libraries that rt lib builds")
-    added.add_argument("--twins", action="store_true", help="prove the right bodies beside them, and try no wrong body")
+    added.add_argument("--twins", action="store_true", help="prove their twins, the right bodies, and try no wrong body")
     added.add_argument("crates", metavar="CRATE", nargs="*", type=crate_name)
     added = verb("costs", costs.show_costs, "shows which functions of a crate take longest to prove, over the libraries that rt lib builds", False)
     added.add_argument("--most", type=int, default=30, help="how many functions are shown")

@@ -1,7 +1,7 @@
-"""Has the prover refuse wrong bodies, all of a crate in one check.
+"""Has the prover refuse wrong bodies, one of each function of a crate in one check.
 
-A file crates/NAME/wrong-bodies/MODULE.edits puts wrong bodies in the place of right ones (edits.py). The edits of a crate are planted in
-one copy of it (planted.py). An edit that this check does not show refused, as when a body does not compile, is tried again alone.
+A file crates/NAME/wrong-bodies/MODULE.edits puts wrong bodies instead of right ones (edits.py). The edits of a crate are planted in
+copies of it (planted.py). An edit that these checks do not show refused, as when a body does not compile, is tried again alone.
 
 An edit counts as refused only if a goal of its own function is left open: one that rattle made and did not prove, or one whose tactic in
 the function's file of answers found no proof. That a callee is not proved says nothing of it, nor does an answer that no longer fits,
@@ -9,8 +9,8 @@ since it may not fit a right body either. If that is all, the edit has to have a
 
 Which edits were refused is kept on this machine, by the sum of all that their check read. Nothing else is kept.
 
-If the kit lacks something that these checks need (checks.py), `rt must-fail` tries each edit by itself, and refuses it if the crate
-is not proved with it.
+If something that these checks need is not there (checks.py), or with JWT_TESTS_PLAIN=1, `rt must-fail` tries each edit by itself, and
+refuses it if the crate is not proved with it.
 """
 import concurrent.futures
 import os
@@ -29,6 +29,8 @@ from build.planted import Planted, Report
 MISFIT = "its answer no longer fits, while it fits the twin"
 NO_TWIN = "only an answer no longer fits, as it might under a right body"
 REFUSED = "refused, as it must be"
+# An environment variable that has rt try each wrong body by itself.
+PLAIN = "JWT_TESTS_PLAIN"
 
 
 def try_edits(crate, edits):
@@ -127,19 +129,14 @@ def side_by_side(call, edits):
         return list(pool.map(lambda crate: call(crate, edits[crate]), largest_first))
 
 
-def write_must_fail(edits):
-    """Writes the edits of crates as those that rt tries itself. Edits that can't be applied are left out."""
+def try_plainly(edits):
+    """Has rt must-fail try the edits of these crates of a copy, but those that can't be applied. Returns how many are refused."""
     for crate, some in edits.items():
         os.makedirs(f"{crate.folder}/must-fail", exist_ok=True)
         for edit in some:
             if not edit.is_bad:
                 with open(f"{crate.folder}/must-fail/{edit.name.replace('/', '-')}.edit", "w", encoding="utf-8") as file:
                     file.write(edit.must_fail_text())
-
-
-def try_plainly(edits):
-    """Has rt must-fail try the edits of these crates of a copy. Returns how many are refused."""
-    write_must_fail(edits)
     root = next(iter(edits)).root
     how = {"cwd": root, "stdin": subprocess.DEVNULL, "stdout": subprocess.PIPE, "stderr": subprocess.STDOUT, "text": True, "errors": "replace"}
     ran = kit.rt("must-fail", *[crate.name for crate in edits], **how)
@@ -154,20 +151,18 @@ def found_edits(named):
     return {crate: found for crate in named if (found := edits_of(crate))}
 
 
+def is_plain(crates):
+    """Returns whether rt must-fail tries the edits of these crates."""
+    return bool(os.environ.get(PLAIN)) or checks.is_plain(crates)
+
+
 def refuse(edits, is_anew):
-    """Tries the edits of these crates over the libraries as they are built. Returns how many are refused, and how many were tried now."""
-    tried = sum(side_by_side(lambda crate, some: try_all(crate, some, is_anew), edits))
-    return sum(edit.is_refused for some in edits.values() for edit in some), tried
-
-
-def refuse_over(edits, is_anew):
-    """Tries the edits of crates that rt ci proved. Returns how many are refused."""
-    if not checks.are_built(edits):
-        kit.tell("rt ci left no libraries where a check looks for them: each wrong body is tried by rt must-fail, which takes longer")
+    """Tries the edits of crates of a copy over the libraries that rt built. Returns how many are refused."""
+    if is_plain(edits):
         return try_plainly(edits)
-    refused, tried = refuse(edits, is_anew)
+    tried = sum(side_by_side(lambda crate, some: try_all(crate, some, is_anew), edits))
     print(f"{tried} of {sum(map(len, edits.values()))} wrong bodies were tried in this run, and the others in an earlier one")
-    return refused
+    return sum(edit.is_refused for some in edits.values() for edit in some)
 
 
 def build_below(named):
@@ -176,20 +171,15 @@ def build_below(named):
     return all(kit.rt("lib", cwd=crate.folder, stdin=subprocess.DEVNULL).returncode == 0 for crate in below)
 
 
-def try_in_copy(names):
-    """Has rt must-fail try the edits of these crates, on a copy. Returns how many are refused."""
-    with tempfile.TemporaryDirectory(prefix="wrong-bodies-") as scratch:
-        copies = copy_crates([crates()[name] for name in names], f"{scratch}/copy")
-        return try_plainly(found_edits([copies[name] for name in names]))
-
-
-def try_in_place(edits, given):
-    """Tries the edits over the libraries that rt lib builds. Returns how many are refused."""
-    if not build_below(list(edits)):
+def refuse_here(edits, is_anew):
+    """Tries the edits of crates over the libraries that rt lib builds, or on a copy if rt must-fail tries them. Returns how many are refused."""
+    if not is_plain([]) and not build_below(list(edits)):
         return 0
-    if not checks.are_built(edits):
-        return try_in_copy([crate.name for crate in edits])
-    return refuse_over(edits, given.anew)
+    if not is_plain(edits):
+        return refuse(edits, is_anew)
+    with tempfile.TemporaryDirectory(prefix="wrong-bodies-") as scratch:
+        copies = copy_crates(edits, f"{scratch}/copy")
+        return try_plainly(found_edits([copies[crate.name] for crate in edits]))
 
 
 def try_crates(given):
@@ -204,7 +194,6 @@ def try_crates(given):
         lost = sum(side_by_side(try_twins, edits)) if build_below(list(edits)) else len(edits)
         print(f"twins: {lost} not proved")
         return not lost
-    total = sum(map(len, edits.values()))
-    refused = try_in_copy([crate.name for crate in edits]) if checks.is_plain() else try_in_place(edits, given)
+    total, refused = sum(map(len, edits.values())), refuse_here(edits, given.anew)
     print(f"wrong bodies: {refused} refused, {total - refused} not")
     return refused == total

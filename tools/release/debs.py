@@ -42,7 +42,7 @@ def control(it, name, depends, size):
 
 def documents(it, name, proof):
     """Returns what Debian asks of each package, and what was proved."""
-    day = time.strftime("%a, %d %b %Y %H:%M:%S +0000", time.gmtime(it.moment))
+    day = time.strftime("%a, %d %b %Y %H:%M:%S +0000", time.gmtime(it.stamp))
     log = f"jwtproved ({it.version}) unstable; urgency=medium\n\n  * Version {it.version}, of commit {it.commit}.\n\n -- {it.maker}  {day}\n"
     folder = f"usr/share/doc/{name}"
     return {
@@ -79,9 +79,9 @@ def nginx_abi():
 
 def built_module(it):
     """Builds the nginx module over the library of this release. Returns its path."""
-    write_folder(f"{it.scratch}/over", unix.tarball(it, ""), it.moment)
+    write_folder(f"{it.scratch}/over", unix.tarball(it, ""), it.stamp)
     build = f"{it.scratch}/nginx"
-    environment = {**os.environ, "PKG_CONFIG_PATH": f"{it.scratch}/over/lib/pkgconfig", "SOURCE_DATE_EPOCH": str(it.moment)}
+    environment = {**os.environ, "PKG_CONFIG_PATH": f"{it.scratch}/over/lib/pkgconfig", "SOURCE_DATE_EPOCH": str(it.stamp)}
     subprocess.run(["make", "-s", "-C", f"{TOP}/packages/nginx", f"BUILD={build}"], env=environment, stdin=subprocess.DEVNULL, check=True)
     subprocess.run(["strip", "--strip-unneeded", f"{build}/objs/{MODULE}"], check=True)
     return f"{build}/objs/{MODULE}"
@@ -110,7 +110,7 @@ def write(it, name, proof, folder):
     sums = "".join(f"{hashlib.md5(made.content).hexdigest()}  {path}\n" for path, made in sorted(found.items()) if not made.link)
     for part, content in {"control": control(it, name, depends, size), "md5sums": sums, **extra}.items():
         found[f"DEBIAN/{part}"] = text(content, 0o755 if content.startswith("#!") else 0o644)
-    write_folder(f"{it.scratch}/{name}", found, it.moment)
+    write_folder(f"{it.scratch}/{name}", found, it.stamp)
     words = ["dpkg-deb", "--root-owner-group", "-Zxz", "--threads-max=1", "--build"]
     words += [f"{it.scratch}/{name}", f"{folder}/{name}_{it.version}_amd64.deb"]
-    subprocess.run(words, env={**os.environ, "SOURCE_DATE_EPOCH": str(it.moment)}, stdout=subprocess.DEVNULL, check=True)
+    subprocess.run(words, env={**os.environ, "SOURCE_DATE_EPOCH": str(it.stamp)}, stdout=subprocess.DEVNULL, check=True)

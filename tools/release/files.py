@@ -33,8 +33,8 @@ def zipped(content):
     return gzip.compress(content, 9, mtime=0)
 
 
-def write_folder(folder, files, moment):
-    """Writes files, by their paths below the folder, with the moment as their time."""
+def write_folder(folder, files, stamp):
+    """Writes files, by their paths below the folder, with this time."""
     for path, made in sorted(files.items()):
         at = f"{folder}/{path}"
         os.makedirs(os.path.dirname(at), exist_ok=True)
@@ -46,12 +46,12 @@ def write_folder(folder, files, moment):
             os.chmod(at, made.mode)
     for at, _, names in os.walk(folder, topdown=False):
         for name in names:
-            os.utime(f"{at}/{name}", (moment, moment), follow_symlinks=False)
+            os.utime(f"{at}/{name}", (stamp, stamp), follow_symlinks=False)
         os.chmod(at, 0o755)
-        os.utime(at, (moment, moment))
+        os.utime(at, (stamp, stamp))
 
 
-def write_tar(path, files, moment):
+def write_tar(path, files, stamp):
     """Writes a tar.gz."""
     with contextlib.ExitStack() as opened:
         raw = opened.enter_context(open(path, "wb"))
@@ -59,16 +59,16 @@ def write_tar(path, files, moment):
         tar = opened.enter_context(tarfile.open(fileobj=packed, mode="w", format=tarfile.USTAR_FORMAT))
         for name, made in sorted(files.items()):
             entry = tarfile.TarInfo(name)
-            entry.mtime, entry.mode, entry.size = moment, made.mode, len(made.content)
+            entry.mtime, entry.mode, entry.size = stamp, made.mode, len(made.content)
             entry.uname = entry.gname = "root"
             if made.link:
                 entry.type, entry.linkname, entry.mode = tarfile.SYMTYPE, made.link, 0o777
             tar.addfile(entry, io.BytesIO(made.content))
 
 
-def write_zip(path, files, moment):
+def write_zip(path, files, stamp):
     with zipfile.ZipFile(path, "w") as archive:
         for name, made in sorted(files.items()):
-            entry = zipfile.ZipInfo(name, time.gmtime(moment)[:6])
+            entry = zipfile.ZipInfo(name, time.gmtime(stamp)[:6])
             entry.external_attr = (0o100000 | made.mode) << 16
             archive.writestr(entry, made.content, zipfile.ZIP_DEFLATED, 9)

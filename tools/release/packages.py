@@ -8,7 +8,7 @@ import time
 
 from build.kit import TOP
 from release import elf
-from release.files import File, file, read, text, write_tar, write_zip
+from release.files import File, file, read, write_tar, write_zip
 
 # The oldest glibc that a wheel's tag names here: pip of older systems knows no tag of the form.
 OLDEST = "2.17"
@@ -26,7 +26,7 @@ def platform(glibc):
 def build_wheel(it, folder, name):
     """Has the package's own build backend write a wheel for the platform. Returns its path."""
     words = [sys.executable, "-Bc", "import backend, sys; print(backend.build_wheel(sys.argv[1], {'platform': sys.argv[2]}))", folder, name]
-    environment = {**os.environ, "PYTHONPATH": f"{TOP}/packages/python/build_backend", "SOURCE_DATE_EPOCH": str(it.moment)}
+    environment = {**os.environ, "PYTHONPATH": f"{TOP}/packages/python/build_backend", "SOURCE_DATE_EPOCH": str(it.stamp)}
     ran = subprocess.run(words, cwd=f"{TOP}/packages/python", env=environment, stdin=subprocess.DEVNULL, stdout=subprocess.PIPE, text=True, check=True)
     return f"{folder}/{ran.stdout.split()[-1]}"
 
@@ -45,7 +45,7 @@ def wheel(it, folder):
 
 
 def over_the_library_inside(source):
-    """Returns a file of Go's package that is linked to the static library beside it."""
+    """Returns a file of Go's package that is linked to the static library next to it."""
     before = source.partition(b"#cgo pkg-config")[0].rpartition(b"\n")[2]
     return CGO.sub(INSIDE if before else INSIDE_OF_BLOCK, source)
 
@@ -54,16 +54,16 @@ def go_module(it, folder):
     """Writes the module as a module proxy has it, in a folder go/."""
     path = re.search(r"^module (\S+)", read(f"{TOP}/packages/go/go.mod").decode(), re.M)[1]
     version = f"v{it.version}"
-    # the examples are a module of their own
-    names = [name for name in it.tracked(f"{TOP}/packages/go") if not name.endswith("_test.go") and not name.startswith("examples/")]
+    # the examples, and what measures, are modules of their own
+    names = [name for name in it.tracked(f"{TOP}/packages/go") if not name.endswith("_test.go") and not name.startswith(("examples/", "speed/"))]
     made = {name: file(f"{TOP}/packages/go/{name}") for name in names}
     made |= {name: File(over_the_library_inside(it_.content)) for name, it_ in made.items() if name.endswith(".go")}
     made |= {"LICENSE": file(f"{TOP}/LICENSE"), "libjwtproved.a": file(it.static), "jwtproved.h": file(f"{TOP}/packages/c/include/jwtproved.h")}
     at = f"{folder}/go/{path}/@v"
     os.makedirs(at)
-    write_zip(f"{at}/{version}.zip", {f"{path}@{version}/{name}": found for name, found in made.items()}, it.moment)
-    moment = time.strftime("%Y-%m-%dT%H:%M:%SZ", time.gmtime(it.moment))
-    for ending, content in ((".mod", read(f"{TOP}/packages/go/go.mod")), (".info", json.dumps({"Version": version, "Time": moment}).encode())):
+    write_zip(f"{at}/{version}.zip", {f"{path}@{version}/{name}": found for name, found in made.items()}, it.stamp)
+    stamp = time.strftime("%Y-%m-%dT%H:%M:%SZ", time.gmtime(it.stamp))
+    for ending, content in ((".mod", read(f"{TOP}/packages/go/go.mod")), (".info", json.dumps({"Version": version, "Time": stamp}).encode())):
         with open(f"{at}/{version}{ending}", "wb") as opened:
             opened.write(content)
     with open(f"{at}/list", "w", encoding="ascii") as opened:
@@ -76,4 +76,4 @@ def rust_crate(it, folder):
     made = {name: file(f"{TOP}/{CRATE}/{name}") for name in names}
     made |= {"LICENSE": file(f"{TOP}/LICENSE"), "build.rs": file(f"{TOP}/tools/release/build.rs"), "native/libjwtproved.a": file(it.static)}
     name = f"jsonwebtoken-proved-{it.version}"
-    write_tar(f"{folder}/{name}.crate", {f"{name}/{path}": found for path, found in made.items()}, it.moment)
+    write_tar(f"{folder}/{name}.crate", {f"{name}/{path}": found for path, found in made.items()}, it.stamp)

@@ -13,7 +13,7 @@ OUT = f"{TOP}/out/release"
 
 def tarball(it, text, folder):
     name = f"jwtproved-{it.version}-{sources.PLATFORM}"
-    write_tar(f"{folder}/{name}.tar.gz", {f"{name}/{path}": made for path, made in unix.tarball(it, text).items()}, it.moment)
+    write_tar(f"{folder}/{name}.tar.gz", {f"{name}/{path}": made for path, made in unix.tarball(it, text).items()}, it.stamp)
 
 
 def write_sums(folder):
@@ -38,7 +38,7 @@ def build(it, folder):
 
 
 def build_anew(to, is_draft):
-    """Puts a new folder in the place of this one."""
+    """Replaces this folder by a new one."""
     os.makedirs(os.path.dirname(to), exist_ok=True)
     with tempfile.TemporaryDirectory(prefix=".release-", dir=os.path.dirname(to)) as scratch:
         os.mkdir(f"{scratch}/made", 0o755)

@@ -10,7 +10,7 @@ from build.kit import stop
 
 PROGRAMS = baseline.PROGRAMS
 PLATFORM = "linux-x86_64"
-# What the artifacts are built with, beside the kit.
+# The programs and files that a build of the artifacts needs, besides the kit.
 TOOLS = ("cc", "dpkg-deb", "make", "objdump", "pkg-config", "strip")
 FILES = ("/usr/share/nginx/src/configure", f"{sysconfig.get_path('include')}/Python.h")
 
@@ -26,8 +26,8 @@ class Sources:
         self.scratch, self.is_draft = scratch, is_draft
         self.version, self.noted = c_library.version(), gate.read()
         self.major = self.version.split(".")[0]
-        self.commit, moment, self.maker = gate.git("log", "-1", "--format=%H%n%ct%n%an <%ae>").split("\n")
-        self.moment = int(moment)
+        self.commit, stamp, self.maker = gate.git("log", "-1", "--format=%H%n%ct%n%an <%ae>").split("\n")
+        self.stamp = int(stamp)
         self.static, self.shared, _ = c_library.names()
 
     def program(self, name):

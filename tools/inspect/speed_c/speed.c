@@ -1,7 +1,7 @@
 /*
- * Measures a verification by the library for C: speed WORK PREFIX COUNT verifies the token of PREFIX.token as often, with the set of
- * PREFIX.set under the options of PREFIX.options, and prints the nanoseconds for one. WORK is decode-set, which reads the texts each
- * time, or verifier, which reads them once.
+ * Measures a verification by the library for C: speed WORK SET OPTIONS TOKEN COUNT verifies the token as often, with the keys of the set
+ * under the options, and prints the nanoseconds for one. WORK is decode-set, which reads the texts each time, or verifier, which reads
+ * them once.
  */
 #include <jwtproved.h>
 #include <stdio.h>
@@ -10,27 +10,7 @@
 #include <time.h>
 
 #define NOW 1700000000
-
-struct text {
-    char bytes[65536];
-    size_t len;
-};
-
-static struct text token, set, options;
-
-static void read_text(struct text *text, const char *prefix, const char *name) {
-    char path[4096];
-    FILE *file;
-
-    snprintf(path, sizeof path, "%s.%s", prefix, name);
-    file = fopen(path, "rb");
-    if (file == NULL) {
-        perror(path);
-        exit(2);
-    }
-    text->len = fread(text->bytes, 1, sizeof text->bytes, file);
-    fclose(file);
-}
+#define TEXT(text) (text), strlen(text)
 
 static double seconds(void) {
     struct timespec now;
@@ -39,45 +19,29 @@ static double seconds(void) {
     return now.tv_sec + now.tv_nsec / 1e9;
 }
 
-static enum jwt_status decode(struct jwt_verifier *verifier, char *room, size_t size) {
+int main(int argc, char **argv) {
+    static char room[65536];
+    struct jwt_verifier verifier = JWT_VERIFIER_NONE;
+    enum jwt_status status = JWT_OK;
+    long i, times = argc == 6 ? atol(argv[5]) : 0;
+    int is_verifier = times > 0 && strcmp(argv[1], "verifier") == 0;
     size_t len;
     uint64_t last;
     uint32_t test;
-
-    if (verifier != NULL) {
-        return jwt_verifier_decode(verifier, token.bytes, token.len, NOW, room, size, &len, &last, &test);
-    }
-    return jwt_decode_set(token.bytes, token.len, set.bytes, set.len, options.bytes, options.len, NOW, room, size,
-                          &len);
-}
-
-int main(int count, char **words) {
-    static char room[65536];
-    struct jwt_verifier verifier = JWT_VERIFIER_NONE;
-    int is_verifier = count == 4 && strcmp(words[1], "verifier") == 0;
-    long i, times = count == 4 ? atol(words[3]) : 0;
     double start;
 
-    if (times <= 0 || (!is_verifier && strcmp(words[1], "decode-set") != 0)) {
-        fprintf(stderr, "usage: speed decode-set|verifier PREFIX COUNT\n");
+    if (times <= 0) {
+        fputs("usage: speed decode-set|verifier SET OPTIONS TOKEN COUNT\n", stderr);
         return 2;
     }
-    read_text(&token, words[2], "token");
-    read_text(&set, words[2], "set");
-    read_text(&options, words[2], "options");
-    if (is_verifier &&
-        jwt_verifier_set(set.bytes, set.len, options.bytes, options.len, 0, false, 0, &verifier) != JWT_OK) {
-        fprintf(stderr, "speed: no verifier is made of %s.set and %s.options\n", words[2], words[2]);
-        return 1;
-    }
+    const char *set = argv[2], *options = argv[3], *token = argv[4];
+    if (is_verifier) status = jwt_verifier_set(TEXT(set), TEXT(options), 0, false, 0, &verifier);
     start = seconds();
-    for (i = 0; i < times; i++) {
-        if (decode(is_verifier ? &verifier : NULL, room, sizeof room) != JWT_OK) {
-            fprintf(stderr, "speed: the token of %s.token is refused\n", words[2]);
-            return 1;
-        }
+    for (i = 0; i < times && status == JWT_OK; i++) {
+        status = is_verifier ? jwt_verifier_decode(&verifier, TEXT(token), NOW, room, sizeof room, &len, &last, &test)
+                             : jwt_decode_set(TEXT(token), TEXT(set), TEXT(options), NOW, room, sizeof room, &len);
     }
     printf("%.1f\n", (seconds() - start) / times * 1e9);
     jwt_verifier_free(&verifier);
-    return 0;
+    return status != JWT_OK;
 }
