@@ -69,7 +69,7 @@ func ParseJWK(text []byte) (Key, error) {
 	if !utf8.Valid(text) {
 		return Key{}, textError("JSON Web Key")
 	}
-	return tried(newKey(singleKey, text))
+	return checkedKey(newKey(singleKey, text))
 }
 
 // ParseJWKSet returns a JSON Web Key Set (RFC 7517 section 5) as a key. A token names one of its keys by its kid. A set is refused if no
@@ -78,7 +78,7 @@ func ParseJWKSet(text []byte) (Key, error) {
 	if !utf8.Valid(text) {
 		return Key{}, textError("JSON Web Key Set")
 	}
-	return tried(newKey(keySet, text))
+	return checkedKey(newKey(keySet, text))
 }
 
 // forAnyKey has options for each kind of key: the algorithms of a verifier are of one family.
@@ -86,8 +86,8 @@ var forAnyKey = []string{
 	`{"algorithms":["RS256"]}`, `{"algorithms":["ES256","ES384"]}`, `{"algorithms":["EdDSA"]}`, `{"algorithms":["HS256"]}`,
 }
 
-// tried returns a key that verifies tokens, unless others may have its secret.
-func tried(key Key) (Key, error) {
+// checkedKey returns a key that verifies tokens, unless others may have its secret.
+func checkedKey(key Key) (Key, error) {
 	if err := checkKey(key.kind, key.bytes()); err != nil {
 		if bytes.Contains(key.bytes(), []byte("-----BEGIN ")) {
 			return Key{}, fmt.Errorf("%w; ParsePEM reads a key in PEM", err)
@@ -115,7 +115,7 @@ func ParsePEM(text []byte) (Key, error) {
 	if err != nil {
 		return Key{}, err
 	}
-	return tried(newKey(singleKey, jwk))
+	return checkedKey(newKey(singleKey, jwk))
 }
 
 // NewPublicKey returns a public key of RSA, P-256, P-384 or Ed25519 as a key.
@@ -124,7 +124,7 @@ func NewPublicKey(public crypto.PublicKey) (Key, error) {
 	if err != nil {
 		return Key{}, err
 	}
-	return tried(newKey(singleKey, jwk))
+	return checkedKey(newKey(singleKey, jwk))
 }
 
 // jwkOfPublic returns the JSON Web Key of a public key.

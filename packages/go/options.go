@@ -185,13 +185,13 @@ func WithTime(now func() time.Time) Option {
 	}
 }
 
-// ofSystem is the time of the clock of the system.
-const ofSystem = math.MaxUint64
+// systemClock is the time of the clock of the system.
+const systemClock = math.MaxUint64
 
 // moment returns the time of a clock as the library takes it.
 func moment(now func() time.Time) (uint64, error) {
 	if now == nil {
-		return ofSystem, nil
+		return systemClock, nil
 	}
 	since := now().Unix()
 	if since < 0 {

@@ -20,11 +20,11 @@ type verifying struct {
 	prepared preparedSize
 	set      *KeySet    // that of the key, or nil
 	mutex    sync.Mutex // one goroutine makes handles for all others
-	current  atomic.Pointer[handlesOf]
+	current  atomic.Pointer[handleSet]
 }
 
-// handlesOf has the handles for a set that was fetched, or the reason for which there are none. For other keys there is no set.
-type handlesOf struct {
+// handleSet has the handles for a set that was fetched, or the reason for which there are none. For other keys there is no set.
+type handleSet struct {
 	set     *fetched
 	handles *handles
 	err     error
@@ -117,7 +117,7 @@ func (v *verifying) verify(token string) (*Token, error) {
 	return v.verifyBy(v.latest(), token)
 }
 
-func (v *verifying) verifyBy(by *handlesOf, token string) (*Token, error) {
+func (v *verifying) verifyBy(by *handleSet, token string) (*Token, error) {
 	if by.err != nil {
 		return nil, by.err
 	}
@@ -150,13 +150,13 @@ func mayHaveLaterKey(token string, err error) bool {
 }
 
 // latest returns the handles for the last set that was fetched, or for a key that stays.
-func (v *verifying) latest() *handlesOf {
+func (v *verifying) latest() *handleSet {
 	if it := v.current.Load(); it != nil && (v.set == nil || it.set == v.set.current.Load()) {
 		return it
 	}
 	v.mutex.Lock()
 	defer v.mutex.Unlock()
-	it, key := &handlesOf{}, v.key
+	it, key := &handleSet{}, v.key
 	if v.set != nil {
 		it.set = v.set.current.Load()
 		key = it.set.key

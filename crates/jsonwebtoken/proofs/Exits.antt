@@ -8,7 +8,7 @@ use Rattle.jwt_base.specs.Kind.{Kind}
 use Rattle.jwt_base.specs.KindOf.{kind_of, IsMemory, RefusesAs}
 use Rattle.jwt_base.specs.declared.errors.Error.{Error}
 use Rattle.jwt_header.specs.declared.header.Header.{Header}
-use Rattle.jwt_validation.specs.ClaimRules.{IsFault, IsRuleFault, missing, broken, RulesHold, Tells}
+use Rattle.jwt_validation.specs.ClaimRules.{IsFault, IsRuleFault, missing, broken, RulesHold, IsErrorFor}
 use Rattle.jwt_validation.specs.Options.{Options}
 use Rattle.serde_json.specs.Data.{Data}
 use Rattle.serde_json.specs.Find.{as_object}
@@ -240,7 +240,7 @@ not_held v d time k (broken none r first) held = first.fails (held.rules r)
 -- claims that `validate` refuses fail one of its tests
 pub rules_failed : (o : Options) (d : Data) (time : ℕ) (c : Test) (e : Error)
     → (IsSome (as_object d) × (c ≡ ClaimRulesHold)) ⊎ ((¬ IsSome (as_object d)) × (c ≡ ClaimsAreAnObject))
-    → ((k : Kind) × IsFault o d time k × Tells e k)
+    → ((k : Kind) × IsFault o d time k × IsErrorFor e k)
     → IsMemory e ⊎ Failed (holding o time) rule_tests (with_value d no_contents) c (kind_of e)
 rules_failed o d time c e (inl (object, is)) (k, inl (none, json), told) = absurd (none object)
 rules_failed o d time c e (inr (none, is)) (k, inr (object, fault), told) = absurd (none object)

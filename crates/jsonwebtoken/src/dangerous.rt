@@ -10,7 +10,7 @@ ghost use Rattle.jsonwebtoken.specs.Tests.{insecure_order, insecure_claims_order
 ghost use Rattle.jsonwebtoken.specs.Tests.{token_tests};
 
 use crate::decoding::steps::{read_header, read_payload, token_parts};
-use crate::decoding::{TokenData, beside};
+use crate::decoding::{TokenData, token_data};
 use crate::refusal::{Refusal, without_test};
 use jwt_base::errors::Result;
 use jwt_base::json::Claims;
@@ -46,7 +46,7 @@ fn insecure_decode_by_steps<T: Claims>(alloc: Global, token: &[u8]) -> Result<To
     let parts = token_parts(token)?;
     let header = read_header(alloc, parts.header)?;
     let claims = read_payload(alloc, parts.payload);
-    beside(header, claims)
+    token_data(header, claims)
 }
 
 fn insecure_decode_claims_by_steps<T: Claims>(alloc: Global, token: &[u8]) -> Result<T, Refusal>

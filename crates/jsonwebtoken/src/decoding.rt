@@ -143,7 +143,7 @@ pub fn decode_header(alloc: Global, token: &[u8]) -> Result<Header>
 // Here the drop of a header at a refusal is proved once. The calls that verify a token in its compact
 // form put both together themselves: this would move the header once more, 200 ns a token.
 #[inline(always)]
-pub(crate) fn beside<T: Drop>(
+pub(crate) fn token_data<T: Drop>(
     header: Header,
     claims: Result<T, Refusal>,
 ) -> Result<TokenData<T>, Refusal>

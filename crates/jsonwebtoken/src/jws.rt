@@ -35,7 +35,7 @@ use crate::decoding::parts::{Opening, TokenParts};
 use crate::decoding::steps::{
     check_families, check_listed, check_some_listed, read_header, verify_and_read_claims,
 };
-use crate::decoding::{TokenData, beside};
+use crate::decoding::{TokenData, token_data};
 use crate::encoding::steps::{check_family, header_part, payload_part, sign_parts, with_part};
 use crate::refusal::{Refusal, Test, with_test, without_test};
 use jwt_base::errors::{ErrorKind, Result, new_error};
@@ -281,7 +281,7 @@ fn decode_parts<P: CryptoProvider, T: Claims>(
         header: &header,
     };
     let claims = read_claims_by_key(alloc, provider, &opening, key, validation, time);
-    beside(header, claims)
+    token_data(header, claims)
 }
 
 /// Returns the claims of a token that passes, by the key, the tests that follow those of its

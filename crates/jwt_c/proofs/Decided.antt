@@ -8,13 +8,13 @@ use Rattle.jwt_validation.specs.declared.validation.Validation.{Validation}
 use Rattle.jwt_verifier.specs.declared.keys.Keys.{Keys}
 use Rattle.jwt_verifier.specs.declared.limits.Limits.{Limits}
 use Rattle.jwt_verifier.specs.declared.verifier.Verifier.{Verifier}
-use Rattle.jwt_c_calls.specs.Calls.{Answer, Gives, Refuses, Misreads, Leaves, AnswersKey, AnswersSet}
+use Rattle.jwt_c_calls.specs.Calls.{Answer, Returns, Refuses, InputError, Leaves, AnswersKey, AnswersSet}
 use Rattle.jwt_c_calls.specs.Status.{number, IsGiven, IsKept}
 use Rattle.jwt_c_verifier.specs.Verifiers.{AnswersUntil, AnswersWith, AreOfKey, AreOfSet, IsMade, IsRefusedWith}
 use Rattle.jwt_c_verifier.specs.Verifiers.{IsUnmade, TellsTest}
-use Rattle.jwt_c_verifier.specs.declared.verifiers.Denied.{Denied}
+use Rattle.jwt_c_verifier.specs.declared.verifiers.TokenRefusal.{TokenRefusal}
 use Rattle.jwt_c_verifier.proofs.Transfers.{by_key, by_set}
-use Rattle.jwt_c.specs.Held.{verifier_in, IsHeldAs, LeavesBy, LeavesMade, LeavesUntil, Takes}
+use Rattle.jwt_c.specs.Held.{verifier_in, IsHeldAs, LeavesBy, LeavesMade, LeavesUntil, FitsVerifier}
 use Rattle.jwt_c.specs.declared.shared.Shared.{Shared}
 
 -- ---- making
@@ -33,8 +33,8 @@ module _ (Refused : Answer → Type 0) (AreOf : Options → Keys → Type 0) (li
 
 -- what a verifier leaves by the two sides of a result
 left_by : {V : Type 0} (items : V → List ℕ) (last_of : V → ℕ) (v : Verifier) (token : List ℕ) (time : ℕ)
-    (r : Result V Denied) (last test status len : ℕ) (old new : List ℕ)
-    → IfOk r (λ a. (length token ≤ v.limits.max_len) × AnswersUntil v.keys v.validation token time (last_of a) (Gives (items a)))
+    (r : Result V TokenRefusal) (last test status len : ℕ) (old new : List ℕ)
+    → IfOk r (λ a. (length token ≤ v.limits.max_len) × AnswersUntil v.keys v.validation token time (last_of a) (Returns (items a)))
     → IfErr r (λ d. IsRefusedWith v token time d.status d.test)
     → IfOk r (λ a. (last ≡ last_of a) × (test ≡ 0) × IsGiven (items a) status len old new)
     → IfErr r (λ d. (last ≡ 0) × (test ≡ d.test) × IsKept d.status status len old new)
@@ -43,8 +43,8 @@ left_by items last_of v token time (Ok a) last test status len old new ok err gi
     inr (
       ok.0,
       (
-        Gives (items a),
-        subst (λ (n : ℕ). AnswersUntil v.keys v.validation token time n (Gives (items a)))
+        Returns (items a),
+        subst (λ (n : ℕ). AnswersUntil v.keys v.validation token time n (Returns (items a)))
             (sym given.0) ok.1,
         given.1,
         given.2,
@@ -58,9 +58,9 @@ left_by items last_of v token time (Err d) last test status len old new ok (inr 
     inr (short.0, (Refuses short.1.0, short.1.1, told, subst (λ (n : ℕ). IsKept n status len old new) short.1.3 kept.2))
 
 pub decided : {V : Type 0} (items : V → List ℕ) (last_of : V → ℕ) (held : Option Shared) (s : Shared) (v : Verifier)
-    (token : List ℕ) (time : ℕ) (r : Result V Denied) (last test status len : ℕ) (old new : List ℕ)
+    (token : List ℕ) (time : ℕ) (r : Result V TokenRefusal) (last test status len : ℕ) (old new : List ℕ)
     → held ≡ Some s → v ≡ verifier_in s
-    → IfOk r (λ a. (length token ≤ v.limits.max_len) × AnswersUntil v.keys v.validation token time (last_of a) (Gives (items a)))
+    → IfOk r (λ a. (length token ≤ v.limits.max_len) × AnswersUntil v.keys v.validation token time (last_of a) (Returns (items a)))
     → IfErr r (λ d. IsRefusedWith v token time d.status d.test)
     → IfOk r (λ a. (last ≡ last_of a) × (test ≡ 0) × IsGiven (items a) status len old new)
     → IfErr r (λ d. (last ≡ 0) × (test ≡ d.test) × IsKept d.status status len old new)
@@ -74,14 +74,14 @@ decided items last_of held s v token time r last test status len old new h e ok 
 -- the answer without the last time
 without_last : (keys : Keys) (validation : Validation) (token : List ℕ) (time last : ℕ) (a : Answer)
     → AnswersUntil keys validation token time last a → AnswersWith keys validation token time a
-without_last keys validation token time last (Gives b) x = (tt, tt, (x.2.0, x.2.1.0, x.2.2))
+without_last keys validation token time last (Returns b) x = (tt, tt, (x.2.0, x.2.1.0, x.2.2))
 without_last keys validation token time last (Refuses k) x = x
-without_last keys validation token time last (Misreads i) x = x
+without_last keys validation token time last (InputError i) x = x
 
 -- which is what the calls leave with the texts that the verifier was made of
 pub as_set : (held : Option Shared) (token : List ℕ) (time last test status len : ℕ) (old new : List ℕ)
     → LeavesUntil held token time last test status len old new
-    → (options set : List ℕ) → Takes held (AreOfSet options set) (length token)
+    → (options set : List ℕ) → FitsVerifier held (AreOfSet options set) (length token)
     → (a : Answer) × AnswersSet options token set time a × Leaves a status len old new
 as_set None token time last test status len old new d options set takes = absurd takes
 as_set (Some s) token time last test status len old new (inl long) options set takes =
@@ -96,7 +96,7 @@ as_set (Some s) token time last test status len old new (inr left) options set t
 
 pub as_key : (held : Option Shared) (token : List ℕ) (time last test status len : ℕ) (old new : List ℕ)
     → LeavesUntil held token time last test status len old new
-    → (options key : List ℕ) → Takes held (AreOfKey options key) (length token)
+    → (options key : List ℕ) → FitsVerifier held (AreOfKey options key) (length token)
     → (a : Answer) × AnswersKey options token key time a × Leaves a status len old new
 as_key None token time last test status len old new d options key takes = absurd takes
 as_key (Some s) token time last test status len old new (inl long) options key takes =

@@ -1,4 +1,4 @@
--- The machine values of a `Kept`, and of pairs. Assumes `Logic`.
+-- The machine values of a `RawBox`, and of pairs. Assumes `Logic`.
 use Rattle.std.proofs.Common.{◌≡◌, ℕ, List, [], ◌∷◌, ◌++◌, refl, subst}
 use mathlib.Core.Bool.{Bool, true, false, ◌&&◌}
 use lib.Dec.{T}
@@ -26,7 +26,7 @@ use Rattle.core.proofs.alloc.Calls.{Al, handle_tells}
 use Rattle.core.proofs.cell.Inside.{Good, one}
 use Rattle.std_alloc.specs.Box.Ownership.{box_owns}
 use Rattle.std_alloc.proofs.ResultValues.{and_tt}
-use Rattle.jwt_c.specs.contracts.kept.Kept as kept_type
+use Rattle.jwt_c.specs.contracts.raw_box.RawBox as kept_type
 
 abbrev pub both : Val → Val → Val
 both v w = vstruct (vcons v (vcons w vnil))

@@ -39,8 +39,8 @@ LeavesShared held before after status = MatchOption before
 -- ---- verifying
 
 -- the handle holds a verifier of these options and keys, which takes tokens of this length
-abbrev pub Takes : Option Shared → (Options → Keys → Type 0) → ℕ → Type 0
-Takes held AreOf len = MatchOption held ⊥
+abbrev pub FitsVerifier : Option Shared → (Options → Keys → Type 0) → ℕ → Type 0
+FitsVerifier held AreOf len = MatchOption held ⊥
     (λ s. AreOf (options_of (verifier_in s).validation) (verifier_in s).keys
     × (len ≤ (verifier_in s).limits.max_len))
 

@@ -15,7 +15,7 @@ ghost use Rattle.jwt_c.specs.Owned.{handle_owns};
 ghost use Rattle.jwt_c.specs.contracts.shared.Shared.{the_row as shared_row};
 ghost use Rattle.jwt_c.specs.declared.shared.Shared.{Shared as SharedValue};
 
-use crate::kept::Kept;
+use crate::raw_box::RawBox;
 use crate::shared::Shared;
 use std::alloc::Global;
 use std::marker::Model;
@@ -46,24 +46,24 @@ impl Handle {
         }
     }
 
-    pub(crate) fn some(kept: Kept<Shared, Global>) -> Handle
+    pub(crate) fn some(kept: RawBox<Shared, Global>) -> Handle
         ensures { result.held ≡ Some kept.value }
     {
-        let Kept { at, alloc } = kept;
+        let RawBox { at, alloc } = kept;
         Handle {
             at: at as *mut u8,
             alloc,
         }
     }
 
-    pub(crate) fn into_kept(self) -> Option<Kept<Shared, Global>>
+    pub(crate) fn into_raw(self) -> Option<RawBox<Shared, Global>>
         ensures { MatchOption result (self.held ≡ None) (λ k. self.held ≡ Some k.value) }
     {
         let Handle { at, alloc } = self;
         if at.is_null() {
             None
         } else {
-            Some(Kept {
+            Some(RawBox {
                 at: at as *mut Shared,
                 alloc,
             })
@@ -74,13 +74,13 @@ impl Handle {
     pub(crate) fn of(value: Box<Shared>) -> Handle
         ensures { result.held ≡ Some value.value }
     {
-        Handle::some(Kept::of(value))
+        Handle::some(RawBox::of(value))
     }
 
     pub(crate) fn into_box(self) -> Option<Box<Shared>>
         ensures { MatchOption result (self.held ≡ None) (λ b. self.held ≡ Some b.value) }
     {
-        match self.into_kept() {
+        match self.into_raw() {
             Some(kept) => Some(kept.into_box()),
             None => None,
         }

@@ -18,7 +18,7 @@ ghost use Rattle.std.specs.Prelude.{◌≡◌, ℕ, List, length, None, Some, Ma
 ghost use Rattle.jwt_base.specs.Kind.{Kind};
 ghost use Rattle.jwt_c_calls.specs.BySignature.{AnswersSignature, AnswersEcdsa, LeavesInput};
 ghost use Rattle.jwt_c_calls.specs.Calls.{Answer, Leaves, LeavesSigned, AnswersHmac, AnswersKey};
-ghost use Rattle.jwt_c_calls.specs.Calls.{AnswersSet, AnswersSaid, AnswersHeader, AnswersNumbers};
+ghost use Rattle.jwt_c_calls.specs.Calls.{AnswersSet, AnswersGivenVerdict, AnswersHeader, AnswersNumbers};
 ghost use Rattle.jwt_c_calls.specs.Calls.{AnswersIssuedAt};
 ghost use Rattle.jwt_c_calls.specs.Calls.{status_of};
 ghost use Rattle.jwt_c_calls.specs.Issued.{hash_numbered, AnswersEncode, AnswersThumbprint};
@@ -34,20 +34,20 @@ ghost use Rattle.jwt_c_calls.specs.Status.{kind_part, number, no_status, status_
 ghost use Rattle.jwt_c_calls.specs.Status.{algorithm_numbered, IsGiven, IsKept};
 ghost use Rattle.jwt_c_verifier.specs.TestNumbers.{LeavesTestName};
 ghost use Rattle.jwt_c_verifier.specs.Verifiers.{limits_of, AreOfKey, AreOfSecret, AreOfSet};
-ghost use Rattle.jwt_c.specs.Held.{LeavesMade, LeavesMoments, LeavesShared, LeavesUntil, Takes};
+ghost use Rattle.jwt_c.specs.Held.{LeavesMade, LeavesMoments, LeavesShared, LeavesUntil, FitsVerifier};
 ghost use Rattle.jwt_c.specs.Issued.{LeavesByKey};
 
 mod handle;
-mod held;
-mod kept;
+mod handle_results;
+mod raw_box;
 mod shared;
 
 use crate::handle::Handle;
-use crate::held::{leave_made, leave_until, put};
+use crate::handle_results::{store, write_handle, write_verdict};
 use jsonwebtoken::signed_part;
 use jwt_c_calls::answers::{
-    CallerVerdict, header_answer, hmac_answer, issued_at_answer, key_answer, numbers_answer,
-    said_answer, set_answer,
+    CallerVerdict, given_verdict_answer, header_answer, hmac_answer, issued_at_answer, key_answer,
+    numbers_answer, set_answer,
 };
 use jwt_c_calls::by_signature::{ecdsa_answer, input_answer, signature_answer};
 use jwt_c_calls::issued::{encode_answer, encode_key_answer, thumbprint_answer};
@@ -62,7 +62,7 @@ use jwt_c_calls::status::{algorithm_number, leave, number_of, put_bytes, status_
 use jwt_c_calls::status_table::{NO_MEMBER, NO_STATUS, NO_VERIFIER, OK, VERIFIER_IS_MADE, text_of};
 use jwt_c_verifier::test_numbers::numbered_test;
 use jwt_c_verifier::verifiers::{
-    answer_until, leave_moments, limits, moments_by, verifier_of_key, verifier_of_secret,
+    decode_with_expiry, leave_moments, limits, moments_by, verifier_of_key, verifier_of_secret,
     verifier_of_set,
 };
 use std::alloc::Global;
@@ -158,7 +158,7 @@ pub extern "C" fn jwt_decode_verdict(
     room: &mut [u8],
     len: &mut usize,
 ) -> u32
-    ensures { (a : Answer) × AnswersSaid (algorithm_numbered algorithm) options.now token.now
+    ensures { (a : Answer) × AnswersGivenVerdict (algorithm_numbered algorithm) options.now token.now
         (record { message = message.now; signature = signature.now; says_yes = verdict }) time a
         × Leaves a result len.new room.old room.new }
 {
@@ -168,7 +168,7 @@ pub extern "C" fn jwt_decode_verdict(
         signature,
         verdict,
     };
-    let answer = said_answer(alloc, token, &said, options, time);
+    let answer = given_verdict_answer(alloc, token, &said, options, time);
     leave(answer, room, len)
 }
 
@@ -555,7 +555,7 @@ pub extern "C" fn jwt_verifier_set(
 {
     let allowed = limits(max_len, allows_blank, max_prepared);
     let made = verifier_of_set(alloc, options, set, allowed);
-    leave_made(alloc, made, verifier)
+    write_handle(alloc, made, verifier)
 }
 
 /// Makes the verifier with the options and the key that two texts describe, like
@@ -577,7 +577,7 @@ pub extern "C" fn jwt_verifier_key(
 {
     let allowed = limits(max_len, allows_blank, max_prepared);
     let made = verifier_of_key(alloc, options, key, allowed);
-    leave_made(alloc, made, verifier)
+    write_handle(alloc, made, verifier)
 }
 
 /// Makes the verifier with the options that a text describes, and a secret, for HMAC, like
@@ -598,7 +598,7 @@ pub extern "C" fn jwt_verifier_secret(
 {
     let allowed = limits(max_len, allows_blank, max_prepared);
     let made = verifier_of_secret(alloc, options, secret, allowed);
-    leave_made(alloc, made, verifier)
+    write_handle(alloc, made, verifier)
 }
 
 /// Leaves one more handle of a verifier, for another thread: 0; 22 if memory ran out; 108 if the
@@ -618,7 +618,7 @@ pub extern "C" fn jwt_verifier_share(
     }
     match verifier.take(alloc) {
         Some(made) => {
-            let status = put(alloc, made.share().ok(), other);
+            let status = store(alloc, made.share().ok(), other);
             *verifier = Handle::of(made);
             status
         }
@@ -648,19 +648,19 @@ pub extern "C" fn jwt_verifier_decode(
 
     // What the calls without a verifier leave, with any texts that it was made of.
     ensures set { (options set : List ℕ)
-        → Takes verifier.old.held (AreOfSet options set) (length token.now)
+        → FitsVerifier verifier.old.held (AreOfSet options set) (length token.now)
         → (a : Answer) × AnswersSet options token.now set time a
         × Leaves a result len.new room.old room.new }
     ensures key { (options key : List ℕ)
-        → Takes verifier.old.held (AreOfKey options key) (length token.now)
+        → FitsVerifier verifier.old.held (AreOfKey options key) (length token.now)
         → (a : Answer) × AnswersKey options token.now key time a
         × Leaves a result len.new room.old room.new }
 {
     match verifier.take(alloc) {
         Some(made) => {
-            let answer = answer_until(alloc, &made.verifier, token, time);
+            let answer = decode_with_expiry(alloc, &made.verifier, token, time);
             *verifier = Handle::of(made);
-            leave_until(answer, room, len, last, test)
+            write_verdict(answer, room, len, last, test)
         }
         None => {
             *last = 0;

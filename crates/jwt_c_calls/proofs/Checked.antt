@@ -1,16 +1,16 @@
 -- What the status of a check says, by the result that it stands for.
 use Rattle.std.proofs.Common.{◌≡◌, ◌∙◌, ℕ, Result, Ok, Err, IfOk, IfErr, ap, inl, inr, subst, sym}
-use Rattle.jwt_c_calls.specs.Calls.{AnswersBy, MisreadsOne, answer_of, refusal_status}
+use Rattle.jwt_c_calls.specs.Calls.{AnswersBy, IsErrorOfOne, answer_of, refusal_status}
 use Rattle.jwt_c_calls.specs.Secrets.{ChecksText}
 use Rattle.jwt_c_calls.specs.Status.{number, input_status}
 use Rattle.jwt_c_calls.specs.declared.inputs.Input.{Input}
-use Rattle.jwt_c_calls.specs.declared.inputs.CallRefusal.{CallRefusal}
-use Rattle.jwt_c_calls.specs.declared.inputs.CallRefusal.TheVariants as refused
+use Rattle.jwt_c_calls.specs.declared.inputs.CallError.{CallError}
+use Rattle.jwt_c_calls.specs.declared.inputs.CallError.TheVariants as refused
 
 -- the status of a text by the two sides of a result
-pub checked : {X : Type 0} (input : Input) (Reads : X → Type 0) (Says : X → ℕ → Type 0) (r : Result ℕ CallRefusal) (s : ℕ)
+pub checked : {X : Type 0} (input : Input) (Reads : X → Type 0) (Says : X → ℕ → Type 0) (r : Result ℕ CallError) (s : ℕ)
     → IfOk r (λ n. (x : X) × Reads x × Says x n)
-    → IfErr r (λ e. AnswersBy Reads (MisreadsOne input Reads) (λ _ _. ⊥) (λ _ _. ⊥) (answer_of e))
+    → IfErr r (λ e. AnswersBy Reads (IsErrorOfOne input Reads) (λ _ _. ⊥) (λ _ _. ⊥) (answer_of e))
     → IfOk r (λ n. s ≡ n) → IfErr r (λ e. s ≡ refusal_status e)
     → ChecksText input Reads Says s
 checked input Reads Says (Ok n) s p q said kept = inr (inr (p.0, p.1, subst (Says p.0) (sym said) p.2))

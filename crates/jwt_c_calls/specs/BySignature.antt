@@ -12,7 +12,7 @@ use Rattle.jwt_key_files.specs.EcdsaSignatures.{IsSignatureOf, IsSignatureRefuse
 use Rattle.jsonwebtoken.specs.Issue.{Issue, Written, encode_order, issue_tests, message_to_sign}
 use Rattle.jsonwebtoken.specs.IssueGiven.{IsSignedElsewhere, encoding_by_signature, signing, signing_order, token_of}
 use Rattle.jsonwebtoken.specs.Order.{Passes, FailsFirst}
-use Rattle.jwt_c_calls.specs.Calls.{Answer, AnswersBy, Gives, Refuses, Misreads, Leaves, MisreadsTwo}
+use Rattle.jwt_c_calls.specs.Calls.{Answer, AnswersBy, Returns, Refuses, InputError, Leaves, IsErrorOfTwo}
 use Rattle.jwt_c_calls.specs.Inputs.{ReadsClaimsText}
 use Rattle.jwt_c_calls.specs.Status.{algorithm_numbered}
 use Rattle.jwt_c_calls.specs.declared.inputs.Input.{Input}
@@ -23,9 +23,9 @@ use Rattle.jwt_c_calls.specs.declared.inputs.Input.TheVariants as input
 abbrev pub ReadsBoth : List ℕ → List ℕ → Header × Data → Type 0
 ReadsBoth header claims e = ReadsText ReadsHeader header e.0 × ReadsClaimsText claims e.1
 
-abbrev pub MisreadsEither : List ℕ → List ℕ → Input → Type 0
-MisreadsEither header claims =
-    MisreadsTwo input.Header (ReadsText ReadsHeader header) input.Claims (ReadsClaimsText claims)
+abbrev pub IsErrorOfEither : List ℕ → List ℕ → Input → Type 0
+IsErrorOfEither header claims =
+    IsErrorOfTwo input.Header (ReadsText ReadsHeader header) input.Claims (ReadsClaimsText claims)
 
 -- ---- the message that is to be signed
 
@@ -41,7 +41,7 @@ HasNoMessage header value = FailsFirst (issue_tests (signing header (Some value)
 
 abbrev pub AnswersInput : List ℕ → List ℕ → Answer → Type 0
 AnswersInput header claims = AnswersBy {E = Header × Data}
-    (ReadsBoth header claims) (MisreadsEither header claims)
+    (ReadsBoth header claims) (IsErrorOfEither header claims)
     (λ e. IsMessageOf e.0 e.1) (λ e. HasNoMessage e.0 e.1)
 
 -- the text is that of a header with this algorithm
@@ -50,10 +50,10 @@ NamesAlgorithm header algorithm = (h : Header) × ReadsText ReadsHeader header h
 
 -- the number of the header's algorithm; without a message 0
 abbrev pub IsNumberFor : List ℕ → Answer → ℕ → Type 0
-IsNumberFor header (Gives message) n =
+IsNumberFor header (Returns message) n =
     (algorithm : Algorithm) × (algorithm_numbered n ≡ Some algorithm) × NamesAlgorithm header algorithm
 IsNumberFor header (Refuses k) n = n ≡ 0
-IsNumberFor header (Misreads i) n = n ≡ 0
+IsNumberFor header (InputError i) n = n ≡ 0
 
 -- the result of `jwt_signing_input`: the header's algorithm, and the message in the buffer; or a
 -- refusal
@@ -78,7 +78,7 @@ IsNotIssuedBy g header value =
 
 abbrev pub AnswersGiven : GivenSignature → List ℕ → List ℕ → Answer → Type 0
 AnswersGiven g header claims = AnswersBy {E = Header × Data}
-    (ReadsBoth header claims) (MisreadsEither header claims)
+    (ReadsBoth header claims) (IsErrorOfEither header claims)
     (λ e. IsTokenBy g e.0 e.1) (λ e. IsNotIssuedBy g e.0 e.1)
 
 -- a number of no algorithm is refused, before the header is read
@@ -92,10 +92,10 @@ AnswersSignature (Some algorithm) message signature header claims a =
 -- the two numbers of a signature in DER (RFC 7518 section 3.4); a number of no algorithm is refused
 abbrev pub AnswersEcdsa : Option Algorithm → List ℕ → Answer → Type 0
 AnswersEcdsa None der a = a ≡ Refuses kind.InvalidAlgorithmName
-AnswersEcdsa (Some algorithm) der (Gives signature) = IsSignatureOf algorithm der signature
+AnswersEcdsa (Some algorithm) der (Returns signature) = IsSignatureOf algorithm der signature
 AnswersEcdsa (Some algorithm) der (Refuses k) =
     (k ≡ kind.OutOfMemory) ⊎ IsSignatureRefused algorithm der k
-AnswersEcdsa (Some algorithm) der (Misreads i) = ⊥
+AnswersEcdsa (Some algorithm) der (InputError i) = ⊥
 
 -- ---- for private clauses: the results for a header and claims that were read
 

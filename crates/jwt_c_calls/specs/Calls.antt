@@ -36,25 +36,25 @@ use Rattle.jwt_c_calls.specs.Status.{number, input_status, algorithm_numbered, I
 use Rattle.jwt_c_calls.specs.declared.answers.CallerVerdict as given
 use Rattle.jwt_c_calls.specs.declared.inputs.Input.{Input}
 use Rattle.jwt_c_calls.specs.declared.inputs.Input.TheVariants as input
-use Rattle.jwt_c_calls.specs.declared.inputs.CallRefusal.{CallRefusal}
-use Rattle.jwt_c_calls.specs.declared.inputs.CallRefusal.TheVariants as refused
+use Rattle.jwt_c_calls.specs.declared.inputs.CallError.{CallError}
+use Rattle.jwt_c_calls.specs.declared.inputs.CallError.TheVariants as refused
 
 -- ---- results
 
 -- the result of a call
 pub data Answer : Type 0 where
   -- these bytes
-  Gives : List ℕ → Answer
+  Returns : List ℕ → Answer
   -- the token is refused
   Refuses : Kind → Answer
   -- this text does not describe the value that it must
-  Misreads : Input → Answer
+  InputError : Input → Answer
 
 -- its form in status, length and buffer
 abbrev pub Leaves : Answer → ℕ → ℕ → List ℕ → List ℕ → Type 0
-Leaves (Gives bytes) = IsGiven bytes
+Leaves (Returns bytes) = IsGiven bytes
 Leaves (Refuses k) = IsKept (number k)
-Leaves (Misreads i) = IsKept (input_status i)
+Leaves (InputError i) = IsKept (input_status i)
 
 -- ---- texts
 
@@ -69,26 +69,26 @@ pub record IsTextOf (text : List ℕ) (value : Data) : Type 0 where
 -- ---- texts that are given
 
 -- a text that no value can be read from
-abbrev pub Misread : {X : Type 0} → (X → Type 0) → Type 0
-Misread Reads = (x : _) → ¬ Reads x
+abbrev pub HasNoReading : {X : Type 0} → (X → Type 0) → Type 0
+HasNoReading Reads = (x : _) → ¬ Reads x
 
--- the only text is misread
-abbrev pub MisreadsOne : {X : Type 0} → Input → (X → Type 0) → Input → Type 0
-MisreadsOne first Reads i = (i ≡ first) × Misread Reads
+-- the only text is input_error
+abbrev pub IsErrorOfOne : {X : Type 0} → Input → (X → Type 0) → Input → Type 0
+IsErrorOfOne first Reads i = (i ≡ first) × HasNoReading Reads
 
--- the first of two texts is misread; or it is read, and the second is misread
-abbrev pub MisreadsTwo : {X Y : Type 0} → Input → (X → Type 0) → Input → (Y → Type 0) → Input → Type 0
-MisreadsTwo first Reads second ReadsToo i = MisreadsOne first Reads i
-    ⊎ (((x : _) × Reads x) × MisreadsOne second ReadsToo i)
+-- the first of two texts is input_error; or it is read, and the second is input_error
+abbrev pub IsErrorOfTwo : {X Y : Type 0} → Input → (X → Type 0) → Input → (Y → Type 0) → Input → Type 0
+IsErrorOfTwo first Reads second ReadsToo i = IsErrorOfOne first Reads i
+    ⊎ (((x : _) × Reads x) × IsErrorOfOne second ReadsToo i)
 
 -- The result for the values that the texts are read as: the bytes that are written; or the kind
--- with which the values are refused, or memory ran out; or a text is misread.
+-- with which the values are refused, or memory ran out; or a text is input_error.
 abbrev pub AnswersBy : {E : Type 0} → (E → Type 0) → (Input → Type 0)
     → (E → List ℕ → Type 0) → (E → Kind → Type 0) → Answer → Type 0
-AnswersBy Reads MisreadAs Shows Refused (Gives bytes) = (e : _) × Reads e × Shows e bytes
-AnswersBy Reads MisreadAs Shows Refused (Refuses k) = (k ≡ kind.OutOfMemory)
+AnswersBy Reads IsInputError Shows Refused (Returns bytes) = (e : _) × Reads e × Shows e bytes
+AnswersBy Reads IsInputError Shows Refused (Refuses k) = (k ≡ kind.OutOfMemory)
     ⊎ ((e : _) × Reads e × Refused e k)
-AnswersBy Reads MisreadAs Shows Refused (Misreads i) = MisreadAs i
+AnswersBy Reads IsInputError Shows Refused (InputError i) = IsInputError i
 
 -- ---- claims
 
@@ -124,7 +124,7 @@ IsClaimsText Accepted claims = (t : Contents) × Accepted t × IsTextOf claims t
 abbrev pub AnswersWhere : List ℕ → (Options → Contents → Type 0) → (Options → Kind → Type 0)
     → Answer → Type 0
 AnswersWhere text Accepted Refused = AnswersBy
-    (ReadsText ReadsOptions text) (MisreadsOne input.Options (ReadsText ReadsOptions text))
+    (ReadsText ReadsOptions text) (IsErrorOfOne input.Options (ReadsText ReadsOptions text))
     (λ o. IsClaimsText (Accepted o)) Refused
 
 -- accepted contents pass every test of `decode`; a refusal has the kind of the first that fails
@@ -138,7 +138,7 @@ AnswersHmac text token secret time = AnswersWhere text
 abbrev pub AnswersSet : List ℕ → List ℕ → List ℕ → ℕ → Answer → Type 0
 AnswersSet text token set time = AnswersBy {E = Options × List Jwk}
     (λ e. ReadsText ReadsOptions text e.0 × ReadsText ReadsSet set e.1)
-    (MisreadsTwo input.Options (ReadsText ReadsOptions text) input.Set (ReadsText ReadsSet set))
+    (IsErrorOfTwo input.Options (ReadsText ReadsOptions text) input.Set (ReadsText ReadsSet set))
     (λ e. IsClaimsText (Passes (token_tests (set_call token e.1 time e.0)) set_order))
     (λ e. FailsFirst (token_tests (set_call token e.1 time e.0)) set_order)
 
@@ -160,7 +160,7 @@ FailsByJwk token time options jwk k =
 abbrev pub AnswersKey : List ℕ → List ℕ → List ℕ → ℕ → Answer → Type 0
 AnswersKey text token key time = AnswersBy {E = Options × Jwk}
     (λ e. ReadsText ReadsOptions text e.0 × ReadsText ReadsKey key e.1)
-    (MisreadsTwo input.Options (ReadsText ReadsOptions text) input.Key (ReadsText ReadsKey key))
+    (IsErrorOfTwo input.Options (ReadsText ReadsOptions text) input.Key (ReadsText ReadsKey key))
     (λ e. IsClaimsText (PassesByJwk token time e.0 e.1))
     (λ e. FailsByJwk token time e.0 e.1)
 
@@ -185,23 +185,23 @@ abbrev pub verdict_by : Said → Algorithm → Verdict
 verdict_by s a = record { algorithm = a; message = s.message; signature = s.signature; says_yes = s.says_yes }
 
 -- a number of no algorithm is refused, before the options are read
-abbrev pub AnswersSaid : Option Algorithm → List ℕ → List ℕ → Said → ℕ → Answer → Type 0
-AnswersSaid None text token s time a = a ≡ Refuses kind.InvalidAlgorithmName
-AnswersSaid (Some algorithm) text token s time a =
+abbrev pub AnswersGivenVerdict : Option Algorithm → List ℕ → List ℕ → Said → ℕ → Answer → Type 0
+AnswersGivenVerdict None text token s time a = a ≡ Refuses kind.InvalidAlgorithmName
+AnswersGivenVerdict (Some algorithm) text token s time a =
     AnswersVerdict text token (verdict_by s algorithm) time a
 
 -- the claims hold no number but integers from -2^63 to 2^64 - 1, else `Json`
 abbrev pub AnswersNumbers : List ℕ → Answer → Type 0
 AnswersNumbers text = AnswersBy {E = Data}
-    (ReadsClaimsText text) (MisreadsOne input.Claims (ReadsClaimsText text))
+    (ReadsClaimsText text) (IsErrorOfOne input.Claims (ReadsClaimsText text))
     (λ claims bytes. (has_float claims ≡ false) × (bytes ≡ []))
     (λ claims k. (has_float claims ≡ true) × (k ≡ kind.Json))
 
 -- issued by the time and the leeway, else `ImmatureSignature` (RFC 7519 section 4.1.6)
 abbrev pub AnswersIssuedAt : ℕ → ℕ → ℕ → Answer → Type 0
-AnswersIssuedAt issued_at leeway time (Gives bytes) = (issued_at ≤ time + leeway) × (bytes ≡ [])
+AnswersIssuedAt issued_at leeway time (Returns bytes) = (issued_at ≤ time + leeway) × (bytes ≡ [])
 AnswersIssuedAt issued_at leeway time (Refuses k) = (time + leeway < issued_at) × (k ≡ kind.ImmatureSignature)
-AnswersIssuedAt issued_at leeway time (Misreads i) = ⊥
+AnswersIssuedAt issued_at leeway time (InputError i) = ⊥
 
 -- ---- the header and the message that is signed
 
@@ -212,10 +212,10 @@ IsHeaderText token text = (t : Contents) × Passes (token_tests (header_call tok
 
 -- the header's text; or the kind of the first failed test, or memory ran out
 abbrev pub AnswersHeader : List ℕ → Answer → Type 0
-AnswersHeader token (Gives text) = IsHeaderText token text
+AnswersHeader token (Returns text) = IsHeaderText token text
 AnswersHeader token (Refuses k) =
     (k ≡ kind.OutOfMemory) ⊎ FailsFirst (token_tests (header_call token)) header_order k
-AnswersHeader token (Misreads i) = ⊥
+AnswersHeader token (InputError i) = ⊥
 
 -- the result of `jwt_signed_part`: the header's algorithm, the length of the message, which is the
 -- front of the token, and the signature's bytes in the buffer (RFC 7515 section 5.1); or a refusal
@@ -232,28 +232,28 @@ LeavesSigned token algorithm message_len status len before after =
 -- ---- for private clauses
 
 -- the result that a refusal stands for
-abbrev pub answer_of : CallRefusal → Answer
-answer_of (refused.Input i) = Misreads i
+abbrev pub answer_of : CallError → Answer
+answer_of (refused.Input i) = InputError i
 answer_of (refused.Token e) = Refuses (kind_of e)
 
 -- the result that a result of bytes is
-abbrev pub answer_in : {V : Type 0} → (V → List ℕ) → Result V CallRefusal → Answer
-answer_in items (Ok b) = Gives (items b)
+abbrev pub answer_in : {V : Type 0} → (V → List ℕ) → Result V CallError → Answer
+answer_in items (Ok b) = Returns (items b)
 answer_in items (Err r) = answer_of r
 
 -- the status of an answer without bytes
 abbrev pub status_of : Answer → ℕ
-status_of (Gives bytes) = 0
+status_of (Returns bytes) = 0
 status_of (Refuses k) = number k
-status_of (Misreads i) = input_status i
+status_of (InputError i) = input_status i
 
-abbrev pub refusal_status : CallRefusal → ℕ
+abbrev pub refusal_status : CallError → ℕ
 refusal_status (refused.Input i) = input_status i
 refusal_status (refused.Token e) = number (kind_of e)
 
 -- the claims are passed on as their text, unless memory ran out, and a refusal unchanged
 abbrev pub HandsOut : {D V : Type 0} → (D → Value) → (V → List ℕ)
-    → Result D Error → Result V CallRefusal → Type 0
+    → Result D Error → Result V CallError → Type 0
 HandsOut claims items (Ok d) (Ok b) =
     depth (view (claims d)) ≤ max_depth → IsTextOf (items b) (view (claims d))
 HandsOut claims items (Ok d) (Err r) = answer_of r ≡ Refuses kind.OutOfMemory

@@ -6,8 +6,8 @@ use Rattle.jwt_base.specs.JsonText.{IsJson}
 use Rattle.jwt_base.specs.KindOf.{IsMemory}
 use Rattle.jwt_base.specs.declared.errors.Error.{Error}
 use Rattle.jwt_c_calls.specs.declared.inputs.Input.{Input}
-use Rattle.jwt_c_calls.specs.declared.inputs.CallRefusal.{CallRefusal}
-use Rattle.jwt_c_calls.specs.declared.inputs.CallRefusal.TheVariants as refused
+use Rattle.jwt_c_calls.specs.declared.inputs.CallError.{CallError}
+use Rattle.jwt_c_calls.specs.declared.inputs.CallError.TheVariants as refused
 
 -- the text is JSON of this object (RFC 7519 section 4)
 abbrev pub ReadsClaimsText : List ℕ → Data → Type 0
@@ -15,7 +15,7 @@ ReadsClaimsText text value = IsJson text value × IsSome (as_object value)
 
 -- for a private clause: a value that was read is passed on; a text that could not be read is at
 -- fault, unless memory ran out
-abbrev pub IsReadAs : {T : Type 0} → Input → Result T Error → Result T CallRefusal → Type 0
+abbrev pub IsReadAs : {T : Type 0} → Input → Result T Error → Result T CallError → Type 0
 IsReadAs input (Ok read) (Ok given) = given ≡ read
 IsReadAs input (Ok read) (Err r) = ⊥
 IsReadAs input (Err e) (Ok given) = ⊥

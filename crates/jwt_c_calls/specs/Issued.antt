@@ -20,7 +20,7 @@ use Rattle.jwt_params.specs.declared.thumbprints.ThumbprintHash.TheVariants.{SHA
 use Rattle.jsonwebtoken.specs.ByHmac.{encoding_by_hmac}
 use Rattle.jsonwebtoken.specs.Order.{Passes, FailsFirst}
 use Rattle.jsonwebtoken.specs.Issue.{Issue, IsIssued, Written, encode_order, issue_tests}
-use Rattle.jwt_c_calls.specs.Calls.{Answer, AnswersBy, Refuses, MisreadsOne, MisreadsTwo}
+use Rattle.jwt_c_calls.specs.Calls.{Answer, AnswersBy, Refuses, IsErrorOfOne, IsErrorOfTwo}
 use Rattle.jwt_c_calls.specs.Inputs.{ReadsClaimsText}
 use Rattle.jwt_c_calls.specs.Keys.{StandsForNoKey}
 use Rattle.jwt_c_calls.specs.declared.inputs.Input.{Input}
@@ -46,7 +46,7 @@ IsNotIssued secret header value = FailsFirst (issue_tests (hmac_issue secret hea
 abbrev pub AnswersEncode : List ℕ → List ℕ → List ℕ → Answer → Type 0
 AnswersEncode header claims secret = AnswersBy {E = Header × Data}
     (λ e. ReadsText ReadsHeader header e.0 × ReadsClaimsText claims e.1)
-    (MisreadsTwo input.Header (ReadsText ReadsHeader header) input.Claims (ReadsClaimsText claims))
+    (IsErrorOfTwo input.Header (ReadsText ReadsHeader header) input.Claims (ReadsClaimsText claims))
     (λ e. IsTokenOf secret e.0 e.1) (λ e. IsNotIssued secret e.0 e.1)
 
 -- the key is a secret (RFC 7518 section 6.4), and the token is issued with it
@@ -68,18 +68,18 @@ abbrev pub IsNotIssuedByJwk : Jwk → Header → Data → Kind → Type 0
 IsNotIssuedByJwk jwk header value k = StandsForNoKey jwk k
     ⊎ ((key : Key) × IsKeyOf jwk.algorithm key × IsNotIssuedBy key header value k)
 
--- one of the three texts is misread, and those before it are read
-abbrev pub MisreadsOneOf : (header claims key : List ℕ) → Input → Type 0
-MisreadsOneOf header claims key i =
-    MisreadsTwo input.Header (ReadsText ReadsHeader header) input.Claims (ReadsClaimsText claims) i
+-- one of the three texts is input_error, and those before it are read
+abbrev pub IsErrorOfAny : (header claims key : List ℕ) → Input → Type 0
+IsErrorOfAny header claims key i =
+    IsErrorOfTwo input.Header (ReadsText ReadsHeader header) input.Claims (ReadsClaimsText claims) i
     ⊎ (((e : Header × Data) × (ReadsText ReadsHeader header e.0 × ReadsClaimsText claims e.1))
-    × MisreadsOne input.Key (ReadsText ReadsKey key) i)
+    × IsErrorOfOne input.Key (ReadsText ReadsKey key) i)
 
 -- the texts are read in this order
 abbrev pub AnswersEncodeKey : (header claims key : List ℕ) → Answer → Type 0
 AnswersEncodeKey header claims key = AnswersBy {E = (Header × Data) × Jwk}
     (λ e. (ReadsText ReadsHeader header e.0.0 × ReadsClaimsText claims e.0.1) × ReadsText ReadsKey key e.1)
-    (MisreadsOneOf header claims key)
+    (IsErrorOfAny header claims key)
     (λ e. IsTokenByJwk e.1 e.0.0 e.0.1) (λ e. IsNotIssuedByJwk e.1 e.0.0 e.0.1)
 
 -- ---- thumbprints
@@ -98,7 +98,7 @@ thumbprint_of hash key = digested (λ text. Ok (hash_bytes (hash_named hash) tex
 -- the base64url text of the thumbprint, or the kind of the refusal
 abbrev pub AnswersHashed : ThumbprintHash → List ℕ → Answer → Type 0
 AnswersHashed hash text = AnswersBy
-    (ReadsText ReadsKey text) (MisreadsOne input.Key (ReadsText ReadsKey text))
+    (ReadsText ReadsKey text) (IsErrorOfOne input.Key (ReadsText ReadsKey text))
     (λ key part. (bytes : List ℕ) × (thumbprint_of hash key ≡ Ok bytes) × IsPart part bytes)
     (λ key k. thumbprint_of hash key ≡ Err k)
 
@@ -110,5 +110,5 @@ AnswersThumbprint (Some hash) text a = AnswersHashed hash text a
 -- for a private clause: the result for a header and claims that were read
 abbrev pub AnswersEncodeText : (key : List ℕ) → Header → Data → Answer → Type 0
 AnswersEncodeText key header value = AnswersBy
-    (ReadsText ReadsKey key) (MisreadsOne input.Key (ReadsText ReadsKey key))
+    (ReadsText ReadsKey key) (IsErrorOfOne input.Key (ReadsText ReadsKey key))
     (λ jwk. IsTokenByJwk jwk header value) (λ jwk. IsNotIssuedByJwk jwk header value)

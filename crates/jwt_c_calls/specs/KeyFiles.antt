@@ -8,7 +8,7 @@ use Rattle.jwt_keys.specs.declared.jwk.Jwk.{Jwk}
 use Rattle.jwt_key_files.specs.Certificates.{IsCertificatePemRefused}
 use Rattle.jwt_key_files.specs.JwksOfPem.{IsJwkOfPem, IsJwkOfCertificatePem}
 use Rattle.jwt_key_files.specs.PemKeys.{IsPemRefused}
-use Rattle.jwt_c_calls.specs.Calls.{Answer, Gives, Refuses, Misreads}
+use Rattle.jwt_c_calls.specs.Calls.{Answer, Returns, Refuses, InputError}
 
 -- the compact JSON text of the JSON Web Key (RFC 7517 section 4) of the key that the first block of a
 -- text holds (RFC 7468 section 3)
@@ -18,9 +18,9 @@ IsTextOfPem pem text =
 
 -- the key's text; or the kind of the refusal of the text in PEM, or memory ran out
 abbrev pub AnswersPem : (pem : List ℕ) → Answer → Type 0
-AnswersPem pem (Gives text) = IsTextOfPem pem text
+AnswersPem pem (Returns text) = IsTextOfPem pem text
 AnswersPem pem (Refuses k) = (k ≡ kind.OutOfMemory) ⊎ IsPemRefused pem k
-AnswersPem pem (Misreads i) = ⊥
+AnswersPem pem (InputError i) = ⊥
 
 -- the compact JSON text of the JSON Web Key of the key of the certificate that the first block of a text holds (RFC 7468
 -- section 5, RFC 5280 section 4.1); nothing else of the certificate is looked into
@@ -30,6 +30,6 @@ IsTextOfCertificate pem text =
 
 -- the key's text; or the kind of the refusal of the text in PEM, or memory ran out
 abbrev pub AnswersCertificate : (pem : List ℕ) → Answer → Type 0
-AnswersCertificate pem (Gives text) = IsTextOfCertificate pem text
+AnswersCertificate pem (Returns text) = IsTextOfCertificate pem text
 AnswersCertificate pem (Refuses k) = (k ≡ kind.OutOfMemory) ⊎ IsCertificatePemRefused pem k
-AnswersCertificate pem (Misreads i) = ⊥
+AnswersCertificate pem (InputError i) = ⊥

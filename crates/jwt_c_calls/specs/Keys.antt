@@ -9,13 +9,13 @@ use Rattle.jwt_keys.specs.KeyOfJwk.{IsKeyOf, refusal_of}
 use Rattle.jwt_keys.specs.declared.jwk.Jwk.{Jwk}
 use Rattle.jwt_validation.specs.Options.{Options}
 use Rattle.jwt_validation.specs.OptionsRead.{ReadsOptions}
-use Rattle.jwt_c_calls.specs.Calls.{Answer, AnswersBy, MisreadsOne, MisreadsTwo}
+use Rattle.jwt_c_calls.specs.Calls.{Answer, AnswersBy, IsErrorOfOne, IsErrorOfTwo}
 use Rattle.jwt_c_calls.specs.declared.inputs.Input.TheVariants as input
 
 -- with the options that the text describes: the bytes that are shown, unless memory ran out
 abbrev pub AnswersWithOptions : List ℕ → (Options → List ℕ → Type 0) → Answer → Type 0
 AnswersWithOptions text Shows = AnswersBy
-    (ReadsText ReadsOptions text) (MisreadsOne input.Options (ReadsText ReadsOptions text))
+    (ReadsText ReadsOptions text) (IsErrorOfOne input.Options (ReadsText ReadsOptions text))
     Shows (λ _ _. ⊥)
 
 -- the kind with which a JSON Web Key that stands for no key is refused (RFC 7518 section 6)
@@ -28,7 +28,7 @@ StandsForNoKey jwk k =
 abbrev pub AnswersWithKey : List ℕ → List ℕ → (Options → Key → List ℕ → Type 0) → Answer → Type 0
 AnswersWithKey text key Shows = AnswersBy {E = Options × Jwk}
     (λ e. ReadsText ReadsOptions text e.0 × ReadsText ReadsKey key e.1)
-    (MisreadsTwo input.Options (ReadsText ReadsOptions text) input.Key (ReadsText ReadsKey key))
+    (IsErrorOfTwo input.Options (ReadsText ReadsOptions text) input.Key (ReadsText ReadsKey key))
     (λ e bytes. (k : Key) × IsKeyOf e.1.algorithm k × Shows e.0 k bytes)
     (λ e. StandsForNoKey e.1)
 
@@ -37,5 +37,5 @@ abbrev pub AnswersWithSet :
     List ℕ → List ℕ → (Options → List Jwk → List ℕ → Type 0) → Answer → Type 0
 AnswersWithSet text set Shows = AnswersBy {E = Options × List Jwk}
     (λ e. ReadsText ReadsOptions text e.0 × ReadsText ReadsSet set e.1)
-    (MisreadsTwo input.Options (ReadsText ReadsOptions text) input.Set (ReadsText ReadsSet set))
+    (IsErrorOfTwo input.Options (ReadsText ReadsOptions text) input.Set (ReadsText ReadsSet set))
     (λ e. Shows e.0 e.1) (λ _ _. ⊥)

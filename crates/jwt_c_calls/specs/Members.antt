@@ -3,7 +3,7 @@ use Rattle.std.specs.Prelude.{◌≡◌, ◌⊎◌, ℕ, List, None, Some, Match
 use Rattle.std.specs.Str.{IsUtf8}
 use Rattle.serde_json.specs.Data.{Data, null, boolean, number, string, array, object}
 use Rattle.serde_json.specs.Find.{get, as_str}
-use Rattle.jwt_c_calls.specs.Calls.{Answer, AnswersBy, IsTextOf, Leaves, MisreadsOne}
+use Rattle.jwt_c_calls.specs.Calls.{Answer, AnswersBy, IsTextOf, Leaves, IsErrorOfOne}
 use Rattle.jwt_c_calls.specs.Inputs.{ReadsClaimsText}
 use Rattle.jwt_c_calls.specs.Status.{no_member, IsGiven, IsKept}
 use Rattle.jwt_c_calls.specs.declared.inputs.Input.TheVariants as input
@@ -40,7 +40,7 @@ pub record IsAbsent (text name : List ℕ) : Type 0 where
 -- the text does not describe an object, or memory ran out
 abbrev pub AnswersNothing : List ℕ → Answer → Type 0
 AnswersNothing text = AnswersBy {E = Data}
-    (ReadsClaimsText text) (MisreadsOne input.Claims (ReadsClaimsText text)) (λ _ _. ⊥) (λ _ _. ⊥)
+    (ReadsClaimsText text) (IsErrorOfOne input.Claims (ReadsClaimsText text)) (λ _ _. ⊥) (λ _ _. ⊥)
 
 -- the member's type and text; or the status that says that the object has none of this name; or the
 -- text is refused

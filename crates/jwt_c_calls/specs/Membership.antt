@@ -45,6 +45,6 @@ abbrev pub SaysMemberHas : List ℕ → List ℕ → Data → ℕ → Type 0
 SaysMemberHas name text value status = ((member_has name text value ≡ true) × (status ≡ 0))
     ⊎ (((member_has name text value ≡ false) ⊎ (¬ IsUtf8 name)) × (status ≡ no_member))
 
--- the status says it of the object that the text describes; or the text is misread, or memory ran out
+-- the status says it of the object that the text describes; or the text is input_error, or memory ran out
 abbrev pub ChecksMember : List ℕ → List ℕ → List ℕ → ℕ → Type 0
 ChecksMember json name text = ChecksText input.Claims (ReadsClaimsText json) (SaysMemberHas name text)

@@ -13,13 +13,13 @@ use Rattle.jwt_validation.specs.declared.fault.Form.TheVariants.{Whole, Flag, On
 use Rattle.jwt_validation.specs.declared.fault.Form.TheVariants.{ClaimList}
 use Rattle.jwt_validation.specs.declared.fault.OptionsFault.{OptionsFault}
 use Rattle.jwt_validation.specs.declared.fault.OptionsFault.TheVariants as fault
-use Rattle.jwt_c_calls.specs.Calls.{Answer, Gives, Refuses, Misreads, IsTextOf}
+use Rattle.jwt_c_calls.specs.Calls.{Answer, Returns, Refuses, InputError, IsTextOf}
 
 -- the JSON text of the string (RFC 8259 section 7), which is read back as it; bytes that are not UTF-8 are refused
 abbrev pub AnswersQuoted : List ℕ → Answer → Type 0
-AnswersQuoted text (Gives quoted) = IsUtf8 text × IsTextOf quoted (string text)
+AnswersQuoted text (Returns quoted) = IsUtf8 text × IsTextOf quoted (string text)
 AnswersQuoted text (Refuses k) = (k ≡ kind.OutOfMemory) ⊎ ((k ≡ kind.Utf8) × ¬ IsUtf8 text)
-AnswersQuoted text (Misreads i) = ⊥
+AnswersQuoted text (InputError i) = ⊥
 
 abbrev pub form_text : Form → List ℕ
 form_text Whole = codes " is not a whole number from 0 to 2^64 - 1"
@@ -44,8 +44,8 @@ IsValueFault value said = (((o : Options) × ReadsOptions value o) × (said ≡ 
 -- nothing, if the text describes options; else that it is not JSON, or what keeps its value from being
 -- options
 abbrev pub AnswersFault : List ℕ → Answer → Type 0
-AnswersFault text (Gives said) =
+AnswersFault text (Returns said) =
     (((d : Data) → ¬ IsJson text d) × (said ≡ codes "the options are not JSON"))
     ⊎ ((d : Data) × IsJson text d × IsValueFault d said)
 AnswersFault text (Refuses k) = k ≡ kind.OutOfMemory
-AnswersFault text (Misreads i) = ⊥
+AnswersFault text (InputError i) = ⊥

@@ -7,7 +7,7 @@ use Rattle.jwt_keys.specs.JwkSet.{ReadsSet}
 use Rattle.jwt_keys.specs.declared.jwk.Jwk.{Jwk}
 use Rattle.jwt_secrets.specs.Blank.{IsBlank, IsBlankJwk, HasBlankKey}
 use Rattle.jwt_secrets.specs.KeyTexts.{IsKeyText, JwkHasKeyText, SetHasKeyText}
-use Rattle.jwt_c_calls.specs.Calls.{Misread}
+use Rattle.jwt_c_calls.specs.Calls.{HasNoReading}
 use Rattle.jwt_c_calls.specs.Status.{number, blank_key, key_as_secret, input_status}
 use Rattle.jwt_c_calls.specs.declared.inputs.Input.{Input}
 use Rattle.jwt_c_calls.specs.declared.inputs.Input.TheVariants as input
@@ -27,10 +27,10 @@ SaysOfJwk jwk = SaysWhether (IsBlankJwk jwk) (JwkHasKeyText jwk)
 abbrev pub SaysOfSet : List Jwk → ℕ → Type 0
 SaysOfSet keys = SaysWhether (HasBlankKey keys) (SetHasKeyText keys)
 
--- the status says it of the value that the text is read as; or the text is misread, or memory ran out
+-- the status says it of the value that the text is read as; or the text is input_error, or memory ran out
 abbrev pub ChecksText : {X : Type 0} → Input → (X → Type 0) → (X → ℕ → Type 0) → ℕ → Type 0
 ChecksText input Reads Says status = (status ≡ number kind.OutOfMemory)
-    ⊎ (((status ≡ input_status input) × Misread Reads)
+    ⊎ (((status ≡ input_status input) × HasNoReading Reads)
     ⊎ ((x : _) × Reads x × Says x status))
 
 -- of a secret (RFC 2104 section 2, RFC 8725 section 3.1); or memory ran out, which it does not of one that anyone can sign with

@@ -10,7 +10,7 @@ use Rattle.jwt_keys.specs.Key.{Key}
 use Rattle.jwt_keys.specs.KeyOfJwk.{IsKeyOf}
 use Rattle.jwt_keys.specs.declared.jwk.Jwk.{Jwk}
 use Rattle.jwt_standard.specs.StandardKeys.{verifier_refusal}
-use Rattle.jwt_c_calls.specs.Calls.{Answer, Gives, Refuses, Misreads, MisreadsOne}
+use Rattle.jwt_c_calls.specs.Calls.{Answer, Returns, Refuses, InputError, IsErrorOfOne}
 use Rattle.jwt_c_calls.specs.Keys.{StandsForNoKey}
 use Rattle.jwt_c_calls.specs.declared.inputs.Input.TheVariants as input
 
@@ -33,8 +33,8 @@ AreBitsOf jwk bits = (key : Key) × IsKeyOf jwk.algorithm key × (bits ≡ servi
 
 -- of the JSON Web Key that the text describes; without a result 0
 abbrev pub AnswersAlgorithms : (key : List ℕ) → ℕ → Answer → Type 0
-AnswersAlgorithms key bits (Gives bytes) =
+AnswersAlgorithms key bits (Returns bytes) =
     (jwk : Jwk) × ReadsText ReadsKey key jwk × AreBitsOf jwk bits × (bytes ≡ [])
 AnswersAlgorithms key bits (Refuses k) = (bits ≡ 0)
     × ((k ≡ kind.OutOfMemory) ⊎ ((jwk : Jwk) × ReadsText ReadsKey key jwk × StandsForNoKey jwk k))
-AnswersAlgorithms key bits (Misreads i) = (bits ≡ 0) × MisreadsOne input.Key (ReadsText ReadsKey key) i
+AnswersAlgorithms key bits (InputError i) = (bits ≡ 0) × IsErrorOfOne input.Key (ReadsText ReadsKey key) i

@@ -10,7 +10,7 @@ use Rattle.jwt_keys.specs.Key.{Key, Plain}
 use Rattle.jwt_keys.specs.KeyOfJwk.{IsKeyOf}
 use Rattle.jwt_keys.specs.declared.jwk.Jwk.{Jwk}
 use Rattle.jwt_standard.specs.StandardKeys.{verifier_refusal, StandardAccepts}
-use Rattle.jwt_c_calls.specs.Calls.{Answer, Gives, Refuses, Misreads, AnswersBy, MisreadsOne}
+use Rattle.jwt_c_calls.specs.Calls.{Answer, Returns, Refuses, InputError, AnswersBy, IsErrorOfOne}
 use Rattle.jwt_c_calls.specs.Keys.{StandsForNoKey}
 use Rattle.jwt_c_calls.specs.declared.inputs.Input.TheVariants as input
 
@@ -40,11 +40,11 @@ IsRefusedByJwk algorithm jwk message signature k = StandsForNoKey jwk k
 -- ---- the results: no bytes, if the signature is accepted, or the kind of the refusal
 
 abbrev pub AnswersVerifyHmacBy : Algorithm → (message signature secret : List ℕ) → Answer → Type 0
-AnswersVerifyHmacBy algorithm message signature secret (Gives bytes) =
+AnswersVerifyHmacBy algorithm message signature secret (Returns bytes) =
     IsAcceptedBy algorithm (Plain Hmac secret) message signature × (bytes ≡ [])
 AnswersVerifyHmacBy algorithm message signature secret (Refuses k) =
     (k ≡ kind.OutOfMemory) ⊎ IsRefusedBy algorithm (Plain Hmac secret) message signature k
-AnswersVerifyHmacBy algorithm message signature secret (Misreads i) = ⊥
+AnswersVerifyHmacBy algorithm message signature secret (InputError i) = ⊥
 
 -- with a secret, for HMAC; a number of no algorithm is refused
 abbrev pub AnswersVerifyHmac : Option Algorithm → (message signature secret : List ℕ) → Answer → Type 0
@@ -54,7 +54,7 @@ AnswersVerifyHmac (Some algorithm) message signature secret a =
 
 abbrev pub AnswersVerifyKeyBy : Algorithm → (message signature key : List ℕ) → Answer → Type 0
 AnswersVerifyKeyBy algorithm message signature key = AnswersBy
-    (ReadsText ReadsKey key) (MisreadsOne input.Key (ReadsText ReadsKey key))
+    (ReadsText ReadsKey key) (IsErrorOfOne input.Key (ReadsText ReadsKey key))
     (λ jwk bytes. IsAcceptedByJwk algorithm jwk message signature × (bytes ≡ []))
     (λ jwk. IsRefusedByJwk algorithm jwk message signature)
 

@@ -16,13 +16,13 @@ ghost use Rattle.jwt_base.specs.KindOf.{kind_of, IsMemory};
 ghost use Rattle.jwt_header.specs.Header.{header_value};
 ghost use Rattle.jsonwebtoken.specs.Order.{Passes, FailsFirst};
 ghost use Rattle.jsonwebtoken.specs.Tests.{Contents, header_order, header_call, token_tests};
-ghost use Rattle.jwt_c_calls.specs.Calls.{Gives, Refuses, AnswersHmac, AnswersKey, AnswersSet};
-ghost use Rattle.jwt_c_calls.specs.Calls.{AnswersVerdict, AnswersSaid, AnswersHeader};
+ghost use Rattle.jwt_c_calls.specs.Calls.{Returns, Refuses, AnswersHmac, AnswersKey, AnswersSet};
+ghost use Rattle.jwt_c_calls.specs.Calls.{AnswersVerdict, AnswersGivenVerdict, AnswersHeader};
 ghost use Rattle.jwt_c_calls.specs.Calls.{AnswersNumbers, AnswersIssuedAt};
 ghost use Rattle.jwt_c_calls.specs.Calls.{HandsOut, IsHeaderText, IsTextOf, answer_of, answer_in, said_value};
 ghost use Rattle.jwt_c_calls.specs.Status.{algorithm_numbered};
 
-use crate::inputs::{CallRefusal, Input, read_as, read_claims};
+use crate::inputs::{CallError, Input, read_as, read_claims};
 use crate::keys::{options_and_key, options_and_secret, options_and_set};
 use crate::status::numbered_algorithm;
 use jsonwebtoken::crypto::hmac::HmacProvider;
@@ -43,9 +43,9 @@ pub fn hmac_answer(
     secret: &[u8],
     options: &[u8],
     time: u64,
-) -> Result<Vec<u8>, CallRefusal>
+) -> Result<Vec<u8>, CallError>
     ensures ok { IfOk result (λ b. AnswersHmac options.now token.now secret.now time
-        (Gives b.items)) }
+        (Returns b.items)) }
     ensures err { IfErr result (λ r. AnswersHmac options.now token.now secret.now time
         (answer_of r)) }
 {
@@ -54,7 +54,7 @@ pub fn hmac_answer(
     // dropped at one place: each exit would have to be proved to drop every field
     drop(key);
     drop(validation);
-    hand_out(alloc, answer)
+    answer_of_claims(alloc, answer)
 }
 
 /// Returns the claims of a token that is verified with a key, which is the JSON text of one JSON
@@ -65,15 +65,15 @@ pub fn key_answer(
     key: &[u8],
     options: &[u8],
     time: u64,
-) -> Result<Vec<u8>, CallRefusal>
-    ensures ok { IfOk result (λ b. AnswersKey options.now token.now key.now time (Gives b.items)) }
+) -> Result<Vec<u8>, CallError>
+    ensures ok { IfOk result (λ b. AnswersKey options.now token.now key.now time (Returns b.items)) }
     ensures err { IfErr result (λ r. AnswersKey options.now token.now key.now time (answer_of r)) }
 {
     let (validation, key) = options_and_key(alloc, options, key)?;
     let answer = decode(alloc, &StandardProvider, token, &key, &validation, time);
     drop(key);
     drop(validation);
-    hand_out(alloc, answer)
+    answer_of_claims(alloc, answer)
 }
 
 /// Returns the claims of a token that is verified with the key of the set that its header names, by
@@ -84,15 +84,15 @@ pub fn set_answer(
     set: &[u8],
     options: &[u8],
     time: u64,
-) -> Result<Vec<u8>, CallRefusal>
-    ensures ok { IfOk result (λ b. AnswersSet options.now token.now set.now time (Gives b.items)) }
+) -> Result<Vec<u8>, CallError>
+    ensures ok { IfOk result (λ b. AnswersSet options.now token.now set.now time (Returns b.items)) }
     ensures err { IfErr result (λ r. AnswersSet options.now token.now set.now time (answer_of r)) }
 {
     let (validation, keys) = options_and_set(alloc, options, set)?;
     let answer = decode_with_set(alloc, &StandardProvider, token, &keys, &validation, time);
     drop(keys);
     drop(validation);
-    hand_out(alloc, answer)
+    answer_of_claims(alloc, answer)
 }
 
 /// The verdict of a caller on a signature of a message, by the algorithm of this number.
@@ -105,14 +105,14 @@ pub struct CallerVerdict<'a> {
 }
 
 /// Returns the claims of a token whose signature the caller has checked.
-pub fn said_answer(
+pub fn given_verdict_answer(
     alloc: Global,
     token: &[u8],
     said: &CallerVerdict<'_>,
     options: &[u8],
     time: u64,
-) -> Result<Vec<u8>, CallRefusal>
-    ensures { AnswersSaid (algorithm_numbered said.now.algorithm) options.now token.now
+) -> Result<Vec<u8>, CallError>
+    ensures { AnswersGivenVerdict (algorithm_numbered said.now.algorithm) options.now token.now
         (said_value said.now) time (answer_in (λ b. b.items) result) }
 {
     match numbered_algorithm(said.algorithm) {
@@ -120,13 +120,13 @@ pub fn said_answer(
             let verdict = VerdictProvider::new(by, said.message, said.signature, said.verdict);
             verdict_answer(alloc, token, &verdict, options, time)
         }
-        None => Err(CallRefusal::Token(new_error(ErrorKind::InvalidAlgorithmName))),
+        None => Err(CallError::Token(new_error(ErrorKind::InvalidAlgorithmName))),
     }
 }
 
 /// Returns the header of a token, which is not verified, as its text.
-pub fn header_answer(alloc: Global, token: &[u8]) -> Result<Vec<u8>, CallRefusal>
-    ensures ok { IfOk result (λ b. AnswersHeader token.now (Gives b.items)) }
+pub fn header_answer(alloc: Global, token: &[u8]) -> Result<Vec<u8>, CallError>
+    ensures ok { IfOk result (λ b. AnswersHeader token.now (Returns b.items)) }
     ensures err { IfErr result (λ r. AnswersHeader token.now (answer_of r)) }
 {
     let value = header_of(alloc, token)?;
@@ -135,31 +135,34 @@ pub fn header_answer(alloc: Global, token: &[u8]) -> Result<Vec<u8>, CallRefusal
 
 /// Checks that every number of the claims, which are the JSON text of an object, is an integer from
 /// -2^63 to 2^64 - 1; else the refusal is `Json`.
-pub fn numbers_answer(alloc: Global, claims: &[u8]) -> Result<(), CallRefusal>
-    ensures ok { OnOk result (AnswersNumbers claims.now (Gives [])) }
+pub fn numbers_answer(alloc: Global, claims: &[u8]) -> Result<(), CallError>
+    ensures ok { OnOk result (AnswersNumbers claims.now (Returns [])) }
     ensures err { IfErr result (λ r. AnswersNumbers claims.now (answer_of r)) }
 {
     let value = read_as(Input::Claims, read_claims(alloc, claims))?;
     if has_float(&value) {
-        return Err(CallRefusal::Token(new_error(ErrorKind::Json)));
+        return Err(CallError::Token(new_error(ErrorKind::Json)));
     }
     Ok(())
 }
 
 /// Checks that a token was issued by the time `time`, or at most `leeway` seconds after it; else the
 /// refusal is `ImmatureSignature`.
-pub fn issued_at_answer(issued_at: u64, leeway: u64, time: u64) -> Result<(), CallRefusal>
-    ensures ok { OnOk result (AnswersIssuedAt issued_at leeway time (Gives [])) }
+pub fn issued_at_answer(issued_at: u64, leeway: u64, time: u64) -> Result<(), CallError>
+    ensures ok { OnOk result (AnswersIssuedAt issued_at leeway time (Returns [])) }
     ensures err { IfErr result (λ r. AnswersIssuedAt issued_at leeway time (answer_of r)) }
 {
     if u128::from(issued_at) > u128::from(time) + u128::from(leeway) {
-        return Err(CallRefusal::Token(new_error(ErrorKind::ImmatureSignature)));
+        return Err(CallError::Token(new_error(ErrorKind::ImmatureSignature)));
     }
     Ok(())
 }
 
 // Returns the claims as their text, or the refusal.
-fn hand_out(alloc: Global, answer: Result<TokenData<Value>, Error>) -> Result<Vec<u8>, CallRefusal>
+fn answer_of_claims(
+    alloc: Global,
+    answer: Result<TokenData<Value>, Error>,
+) -> Result<Vec<u8>, CallError>
     ensures { HandsOut (λ d. d.claims) (λ b. b.items) answer result }
 {
     match answer {
@@ -168,11 +171,11 @@ fn hand_out(alloc: Global, answer: Result<TokenData<Value>, Error>) -> Result<Ve
             drop(data);
             text
         }
-        Err(refused) => Err(CallRefusal::from(refused)),
+        Err(refused) => Err(CallError::from(refused)),
     }
 }
 
-fn claims_text(alloc: Global, claims: &Value) -> Result<Vec<u8>, CallRefusal>
+fn claims_text(alloc: Global, claims: &Value) -> Result<Vec<u8>, CallError>
     ensures text { IfOk result (λ b. depth (view claims.now) ≤ max_depth
         → IsTextOf b.items (view claims.now)) }
     ensures err { IfErr result (λ r. answer_of r ≡ Refuses kind.OutOfMemory) }
@@ -187,16 +190,16 @@ fn verdict_answer(
     verdict: &VerdictProvider<'_>,
     options: &[u8],
     time: u64,
-) -> Result<Vec<u8>, CallRefusal>
+) -> Result<Vec<u8>, CallError>
     ensures ok { IfOk result (λ b. AnswersVerdict options.now token.now verdict.now time
-        (Gives b.items)) }
+        (Returns b.items)) }
     ensures err { IfErr result (λ r. AnswersVerdict options.now token.now verdict.now time
         (answer_of r)) }
 {
     let validation = read_as(Input::Options, Validation::from_slice(alloc, options))?;
     let answer = decode_by_verdict(alloc, token, verdict, &validation, time);
     drop(validation);
-    hand_out(alloc, answer)
+    answer_of_claims(alloc, answer)
 }
 
 fn header_of(alloc: Global, token: &[u8]) -> Result<Value, Error>

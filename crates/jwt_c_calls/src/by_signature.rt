@@ -5,10 +5,10 @@ ghost use Rattle.serde_json.specs.View.{view};
 ghost use Rattle.jwt_c_calls.specs.BySignature.{AnswersInput, AnswersInputOf, NamesAlgorithm};
 ghost use Rattle.jwt_c_calls.specs.BySignature.{AnswersGiven, AnswersGivenFor, AnswersSignature};
 ghost use Rattle.jwt_c_calls.specs.BySignature.{AnswersEcdsa};
-ghost use Rattle.jwt_c_calls.specs.Calls.{Gives, answer_of};
+ghost use Rattle.jwt_c_calls.specs.Calls.{Returns, answer_of};
 ghost use Rattle.jwt_c_calls.specs.Status.{algorithm_numbered};
 
-use crate::inputs::{CallRefusal, Input, read_as, read_claims};
+use crate::inputs::{CallError, Input, read_as, read_claims};
 use crate::status::numbered_algorithm;
 use jsonwebtoken::crypto::signature::SignatureProvider;
 use jsonwebtoken::errors::{ErrorKind, new_error};
@@ -19,13 +19,9 @@ use std::alloc::Global;
 use std::result::Result;
 
 /// Returns the message of a token that is to be signed elsewhere, and the header's algorithm.
-pub fn input_answer(
-    alloc: Global,
-    header: &[u8],
-    claims: &[u8],
-) -> Result<SigningInput, CallRefusal>
+pub fn input_answer(alloc: Global, header: &[u8], claims: &[u8]) -> Result<SigningInput, CallError>
     ensures ok { IfOk result (λ s. AnswersInput header.now claims.now
-        (Gives (string_bytes s.message))) }
+        (Returns (string_bytes s.message))) }
     ensures algorithm { IfOk result (λ s. NamesAlgorithm header.now s.algorithm) }
     ensures err { IfErr result (λ r. AnswersInput header.now claims.now (answer_of r)) }
 {
@@ -47,9 +43,9 @@ pub fn signature_answer(
     algorithm: u32,
     message: &[u8],
     signature: &[u8],
-) -> Result<Vec<u8>, CallRefusal>
+) -> Result<Vec<u8>, CallError>
     ensures ok { IfOk result (λ b. AnswersSignature (algorithm_numbered algorithm)
-        message.now signature.now header.now claims.now (Gives b.items)) }
+        message.now signature.now header.now claims.now (Returns b.items)) }
     ensures err { IfErr result (λ r. AnswersSignature (algorithm_numbered algorithm)
         message.now signature.now header.now claims.now (answer_of r)) }
 {
@@ -58,26 +54,26 @@ pub fn signature_answer(
             let given = SignatureProvider::new(by, message, signature);
             given_answer(alloc, header, claims, &given)
         }
-        None => Err(CallRefusal::Token(new_error(ErrorKind::InvalidAlgorithmName))),
+        None => Err(CallError::Token(new_error(ErrorKind::InvalidAlgorithmName))),
     }
 }
 
 /// Returns the two numbers of a signature in DER, by the algorithm of ECDSA with this number.
-pub fn ecdsa_answer(alloc: Global, der: &[u8], algorithm: u32) -> Result<Vec<u8>, CallRefusal>
+pub fn ecdsa_answer(alloc: Global, der: &[u8], algorithm: u32) -> Result<Vec<u8>, CallError>
     ensures ok { IfOk result (λ b. AnswersEcdsa (algorithm_numbered algorithm) der.now
-        (Gives b.items)) }
+        (Returns b.items)) }
     ensures err { IfErr result (λ r. AnswersEcdsa (algorithm_numbered algorithm) der.now
         (answer_of r)) }
 {
     match numbered_algorithm(algorithm) {
         Some(by) => Ok(ecdsa_signature(alloc, der, by)?),
-        None => Err(CallRefusal::Token(new_error(ErrorKind::InvalidAlgorithmName))),
+        None => Err(CallError::Token(new_error(ErrorKind::InvalidAlgorithmName))),
     }
 }
 
-fn input_of(alloc: Global, header: &Header, claims: &Value) -> Result<SigningInput, CallRefusal>
+fn input_of(alloc: Global, header: &Header, claims: &Value) -> Result<SigningInput, CallError>
     ensures ok { IfOk result (λ s. AnswersInputOf header.now (view claims.now)
-        (Gives (string_bytes s.message))) }
+        (Returns (string_bytes s.message))) }
     ensures algorithm { IfOk result (λ s. header.now.alg ≡ s.algorithm) }
     ensures err { IfErr result (λ r. AnswersInputOf header.now (view claims.now) (answer_of r)) }
 {
@@ -91,8 +87,8 @@ fn given_answer(
     header: &[u8],
     claims: &[u8],
     given: &SignatureProvider<'_>,
-) -> Result<Vec<u8>, CallRefusal>
-    ensures ok { IfOk result (λ b. AnswersGiven given.now header.now claims.now (Gives b.items)) }
+) -> Result<Vec<u8>, CallError>
+    ensures ok { IfOk result (λ b. AnswersGiven given.now header.now claims.now (Returns b.items)) }
     ensures err { IfErr result (λ r. AnswersGiven given.now header.now claims.now (answer_of r)) }
 {
     let header = read_as(Input::Header, Header::from_slice(alloc, header))?;
@@ -108,9 +104,9 @@ fn issue(
     header: &Header,
     claims: &Value,
     given: &SignatureProvider<'_>,
-) -> Result<Vec<u8>, CallRefusal>
+) -> Result<Vec<u8>, CallError>
     ensures ok { IfOk result (λ b. AnswersGivenFor given.now header.now (view claims.now)
-        (Gives b.items)) }
+        (Returns b.items)) }
     ensures err { IfErr result (λ r. AnswersGivenFor given.now header.now (view claims.now)
         (answer_of r)) }
 {

@@ -26,42 +26,42 @@ pub enum Input {
 
 /// The reason for which a call has no result.
 #[derive(Drop)]
-pub enum CallRefusal {
+pub enum CallError {
     Input(Input),
     Token(Error),
 }
 
-impl From<Error> for CallRefusal {
+impl From<Error> for CallError {
     ghost use Rattle.jwt_c_calls.specs.Calls.{Refuses, answer_of};
 
     ghost from_gives = { λ e r. answer_of r ≡ Refuses (kind_of e) };
 
-    fn from(refused: Error) -> CallRefusal {
-        CallRefusal::Token(refused)
+    fn from(refused: Error) -> CallError {
+        CallError::Token(refused)
     }
 }
 
-impl From<AllocError> for CallRefusal {
+impl From<AllocError> for CallError {
     ghost use Rattle.jwt_c_calls.specs.Calls.{Refuses, answer_of};
 
     ghost from_gives = { λ _ r. answer_of r ≡ Refuses kind.OutOfMemory };
 
-    fn from(refused: AllocError) -> CallRefusal {
-        CallRefusal::Token(Error::from(refused))
+    fn from(refused: AllocError) -> CallError {
+        CallError::Token(Error::from(refused))
     }
 }
 
 /// Returns the value that was read from a text, or the refusal of the text.
-pub fn read_as<T>(input: Input, read: Result<T, Error>) -> Result<T, CallRefusal>
+pub fn read_as<T>(input: Input, read: Result<T, Error>) -> Result<T, CallError>
     ensures { IsReadAs input read result }
 {
     match read {
         Ok(value) => Ok(value),
         Err(refused) => {
             if *refused.kind() == ErrorKind::OutOfMemory {
-                Err(CallRefusal::Token(refused))
+                Err(CallError::Token(refused))
             } else {
-                Err(CallRefusal::Input(input))
+                Err(CallError::Input(input))
             }
         }
     }

@@ -3,13 +3,13 @@
 ghost use Rattle.std.specs.Prelude.{◌≡◌, ◌⊎◌, IfOk, IfErr};
 ghost use Rattle.serde_json.specs.View.{view};
 ghost use Rattle.jwt_base.specs.KindOf.{kind_of, IsMemory};
-ghost use Rattle.jwt_c_calls.specs.Calls.{Gives, answer_of};
+ghost use Rattle.jwt_c_calls.specs.Calls.{Returns, answer_of};
 ghost use Rattle.jwt_c_calls.specs.Issued.{AnswersEncode, AnswersEncodeKey, AnswersEncodeText};
 ghost use Rattle.jwt_c_calls.specs.Issued.{AnswersThumbprint, AnswersHashed, hash_numbered};
 ghost use Rattle.jwt_c_calls.specs.Issued.{IsNotIssued, IsNotIssuedBy, IsNotIssuedByJwk};
 ghost use Rattle.jwt_c_calls.specs.Issued.{IsTokenBy, IsTokenByJwk, IsTokenOf};
 
-use crate::inputs::{CallRefusal, Input, read_as, read_claims};
+use crate::inputs::{CallError, Input, read_as, read_claims};
 use jsonwebtoken::crypto::hmac::HmacProvider;
 use jsonwebtoken::errors::{Error, ErrorKind, new_error};
 use jsonwebtoken::{AlgorithmFamily, DecodingKey, EncodingKey, Header, encode};
@@ -25,8 +25,8 @@ pub fn encode_answer(
     header: &[u8],
     claims: &[u8],
     secret: &[u8],
-) -> Result<Vec<u8>, CallRefusal>
-    ensures ok { IfOk result (λ b. AnswersEncode header.now claims.now secret.now (Gives b.items)) }
+) -> Result<Vec<u8>, CallError>
+    ensures ok { IfOk result (λ b. AnswersEncode header.now claims.now secret.now (Returns b.items)) }
     ensures err { IfErr result (λ r. AnswersEncode header.now claims.now secret.now (answer_of r)) }
 {
     let header = read_as(Input::Header, Header::from_slice(alloc, header))?;
@@ -46,8 +46,8 @@ pub fn encode_key_answer(
     header: &[u8],
     claims: &[u8],
     key: &[u8],
-) -> Result<Vec<u8>, CallRefusal>
-    ensures ok { IfOk result (λ b. AnswersEncodeKey header.now claims.now key.now (Gives b.items)) }
+) -> Result<Vec<u8>, CallError>
+    ensures ok { IfOk result (λ b. AnswersEncodeKey header.now claims.now key.now (Returns b.items)) }
     ensures err { IfErr result (λ r. AnswersEncodeKey header.now claims.now key.now (answer_of r)) }
 {
     let header = read_as(Input::Header, Header::from_slice(alloc, header))?;
@@ -71,13 +71,13 @@ pub fn numbered_hash(bits: u32) -> Option<ThumbprintHash>
 }
 
 /// Returns the thumbprint of a key, by the hash of this many bits.
-pub fn thumbprint_answer(alloc: Global, key: &[u8], bits: u32) -> Result<Vec<u8>, CallRefusal>
-    ensures ok { IfOk result (λ b. AnswersThumbprint (hash_numbered bits) key.now (Gives b.items)) }
+pub fn thumbprint_answer(alloc: Global, key: &[u8], bits: u32) -> Result<Vec<u8>, CallError>
+    ensures ok { IfOk result (λ b. AnswersThumbprint (hash_numbered bits) key.now (Returns b.items)) }
     ensures err { IfErr result (λ r. AnswersThumbprint (hash_numbered bits) key.now (answer_of r)) }
 {
     match numbered_hash(bits) {
         Some(hash) => thumbprint_of(alloc, key, hash),
-        None => Err(CallRefusal::Token(new_error(ErrorKind::InvalidAlgorithmName))),
+        None => Err(CallError::Token(new_error(ErrorKind::InvalidAlgorithmName))),
     }
 }
 
@@ -96,9 +96,9 @@ fn issue_by_text(
     header: &Header,
     claims: &Value,
     key: &[u8],
-) -> Result<Vec<u8>, CallRefusal>
+) -> Result<Vec<u8>, CallError>
     ensures ok { IfOk result (λ b. AnswersEncodeText key.now header.now (view claims.now)
-        (Gives b.items)) }
+        (Returns b.items)) }
     ensures err { IfErr result (λ r. AnswersEncodeText key.now header.now (view claims.now)
         (answer_of r)) }
 {
@@ -138,8 +138,8 @@ fn issue_by_key(
     Ok(token)
 }
 
-fn thumbprint_of(alloc: Global, key: &[u8], hash: ThumbprintHash) -> Result<Vec<u8>, CallRefusal>
-    ensures ok { IfOk result (λ b. AnswersHashed hash key.now (Gives b.items)) }
+fn thumbprint_of(alloc: Global, key: &[u8], hash: ThumbprintHash) -> Result<Vec<u8>, CallError>
+    ensures ok { IfOk result (λ b. AnswersHashed hash key.now (Returns b.items)) }
     ensures err { IfErr result (λ r. AnswersHashed hash key.now (answer_of r)) }
 {
     let key = read_as(Input::Key, Jwk::from_slice(alloc, key))?;

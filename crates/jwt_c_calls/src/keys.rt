@@ -20,7 +20,7 @@ ghost use Rattle.jwt_validation.specs.OptionsRead.{ReadsOptions};
 ghost use Rattle.jwt_c_calls.specs.Calls.{answer_of};
 ghost use Rattle.jwt_c_calls.specs.Keys.{AnswersWithOptions, AnswersWithKey, AnswersWithSet};
 
-use crate::inputs::{CallRefusal, Input, read_as};
+use crate::inputs::{CallError, Input, read_as};
 use jsonwebtoken::DecodingKey;
 use jwt_keys::jwk::Jwk;
 use jwt_keys::jwk_set::JwkSet;
@@ -34,7 +34,7 @@ pub fn options_and_secret(
     alloc: Global,
     options: &[u8],
     secret: &[u8],
-) -> Result<(Validation, DecodingKey), CallRefusal>
+) -> Result<(Validation, DecodingKey), CallError>
     ensures ok { IfOk result (λ g. ReadsText ReadsOptions options.now (options_of g.0)
         × (g.1 ≡ Plain family.Hmac secret.now)) }
     ensures err { IfErr result (λ r. AnswersWithOptions options.now (λ _ _. ⊥) (answer_of r)) }
@@ -51,7 +51,7 @@ pub fn options_and_key(
     alloc: Global,
     options: &[u8],
     key: &[u8],
-) -> Result<(Validation, DecodingKey), CallRefusal>
+) -> Result<(Validation, DecodingKey), CallError>
     ensures ok { IfOk result (λ g. (jwk : Jwk) × ReadsText ReadsOptions options.now (options_of g.0)
         × ReadsText ReadsKey key.now jwk × IsKeyOf jwk.algorithm g.1) }
     ensures err { IfErr result (λ r. AnswersWithKey options.now key.now (λ _ _ _. ⊥)
@@ -72,7 +72,7 @@ pub fn options_and_set(
     alloc: Global,
     options: &[u8],
     set: &[u8],
-) -> Result<(Validation, JwkSet), CallRefusal>
+) -> Result<(Validation, JwkSet), CallError>
     ensures ok { IfOk result (λ g. ReadsText ReadsOptions options.now (options_of g.0)
         × ReadsText ReadsSet set.now g.1.keys.items) }
     ensures err { IfErr result (λ r. AnswersWithSet options.now set.now (λ _ _ _. ⊥)

@@ -9,7 +9,7 @@ ghost use Rattle.jwt_c_calls.specs.Calls.{Refuses, answer_of};
 ghost use Rattle.jwt_c_calls.specs.Members.{type_number, IsValueText, IsFound, IsAbsent};
 ghost use Rattle.jwt_c_calls.specs.Members.{AnswersNothing};
 
-use crate::inputs::{CallRefusal, Input, read_as, read_claims};
+use crate::inputs::{CallError, Input, read_as, read_claims};
 use serde_json::Value;
 use std::alloc::Global;
 use std::result::Result;
@@ -27,7 +27,7 @@ pub struct Found {
 
 /// Returns the member of this name of the object that a JSON text describes, or `None` if the
 /// object has none. A text of anything else is refused.
-pub fn member_answer(alloc: Global, json: &[u8], name: &[u8]) -> Result<Option<Found>, CallRefusal>
+pub fn member_answer(alloc: Global, json: &[u8], name: &[u8]) -> Result<Option<Found>, CallError>
     ensures ok { IfOk result (λ o. MatchOption o (IsAbsent json.now name.now)
         (IsFound json.now name.now)) }
     ensures err { IfErr result (λ r. AnswersNothing json.now (answer_of r)) }
@@ -46,7 +46,7 @@ pub fn member_answer(alloc: Global, json: &[u8], name: &[u8]) -> Result<Option<F
     }))
 }
 
-fn text_of(alloc: Global, value: &Value) -> Result<Vec<u8>, CallRefusal>
+fn text_of(alloc: Global, value: &Value) -> Result<Vec<u8>, CallError>
     ensures ok { IfOk result (λ b. depth (view value.now) ≤ max_depth
         → IsValueText (view value.now) b.items) }
     ensures err { IfErr result (λ r. answer_of r ≡ Refuses kind.OutOfMemory) }

@@ -11,7 +11,7 @@ ghost use Rattle.jwt_c_calls.specs.Members.{AnswersNothing};
 ghost use Rattle.jwt_c_calls.specs.Membership.{ChecksMember, SaysMemberHas, has_text, is_text};
 ghost use Rattle.jwt_c_calls.specs.Membership.{some_is_text, parts, words};
 
-use crate::inputs::{CallRefusal, Input, read_as, read_claims};
+use crate::inputs::{CallError, Input, read_as, read_claims};
 use crate::status::status_of;
 use crate::status_table::{NO_MEMBER, OK};
 use serde_json::Value;
@@ -30,7 +30,7 @@ pub fn member_status(alloc: Global, json: &[u8], name: &[u8], text: &[u8]) -> u3
     }
 }
 
-fn member_answer(alloc: Global, json: &[u8], name: &[u8], text: &[u8]) -> Result<u32, CallRefusal>
+fn member_answer(alloc: Global, json: &[u8], name: &[u8], text: &[u8]) -> Result<u32, CallError>
     ensures ok { IfOk result (λ status. (object : Data) × ReadsClaimsText json.now object
         × SaysMemberHas name.now text.now object status) }
     ensures err { IfErr result (λ r. AnswersNothing json.now (answer_of r)) }

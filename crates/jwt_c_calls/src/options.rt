@@ -6,11 +6,11 @@ ghost use Rattle.serde_json.specs.Data.{string};
 ghost use Rattle.serde_json.specs.View.{view};
 ghost use Rattle.serde_json.specs.Written.{compact_text};
 ghost use Rattle.jwt_base.specs.Kind as kind;
-ghost use Rattle.jwt_c_calls.specs.Calls.{Gives, IsTextOf, Refuses, answer_of};
+ghost use Rattle.jwt_c_calls.specs.Calls.{Returns, IsTextOf, Refuses, answer_of};
 ghost use Rattle.jwt_c_calls.specs.Options.{AnswersFault, AnswersQuoted, IsValueFault};
 ghost use Rattle.jwt_c_calls.specs.Options.{fault_text, form_text};
 
-use crate::inputs::CallRefusal;
+use crate::inputs::CallError;
 use jsonwebtoken::errors::{ErrorKind, new_error};
 use jwt_base::serialization::json_value;
 use jwt_validation::{Form, OptionsFault, options_fault};
@@ -20,12 +20,12 @@ use std::result::Result;
 use std::str;
 
 /// Returns a text as a JSON string. Bytes that are not UTF-8 are refused with `Utf8`.
-pub fn quoted_answer(alloc: Global, text: &[u8]) -> Result<Vec<u8>, CallRefusal>
-    ensures ok { IfOk result (λ b. AnswersQuoted text.now (Gives b.items)) }
+pub fn quoted_answer(alloc: Global, text: &[u8]) -> Result<Vec<u8>, CallError>
+    ensures ok { IfOk result (λ b. AnswersQuoted text.now (Returns b.items)) }
     ensures err { IfErr result (λ r. AnswersQuoted text.now (answer_of r)) }
 {
     let Ok(text) = str::from_utf8(text) else {
-        return Err(CallRefusal::Token(new_error(ErrorKind::Utf8)));
+        return Err(CallError::Token(new_error(ErrorKind::Utf8)));
     };
     // bound to a name: the proof cannot refer to a call in tail position
     let quoted = quoted(alloc, text)?;
@@ -34,15 +34,15 @@ pub fn quoted_answer(alloc: Global, text: &[u8]) -> Result<Vec<u8>, CallRefusal>
 
 /// Returns what keeps a text from being options: which member, and why; or nothing, if it is the
 /// JSON text of options.
-pub fn options_answer(alloc: Global, text: &[u8]) -> Result<Vec<u8>, CallRefusal>
-    ensures ok { IfOk result (λ b. AnswersFault text.now (Gives b.items)) }
+pub fn options_answer(alloc: Global, text: &[u8]) -> Result<Vec<u8>, CallError>
+    ensures ok { IfOk result (λ b. AnswersFault text.now (Returns b.items)) }
     ensures err { IfErr result (λ r. AnswersFault text.now (answer_of r)) }
 {
     let value = match json_value(alloc, text) {
         Ok(value) => value,
         Err(refused) => {
             return if *refused.kind() == ErrorKind::OutOfMemory {
-                Err(CallRefusal::Token(refused))
+                Err(CallError::Token(refused))
             } else {
                 text_bytes(alloc, "the options are not JSON")
             };
@@ -51,7 +51,7 @@ pub fn options_answer(alloc: Global, text: &[u8]) -> Result<Vec<u8>, CallRefusal
     value_fault(alloc, &value)
 }
 
-fn fault_text(alloc: Global, fault: OptionsFault<'_>) -> Result<Vec<u8>, CallRefusal>
+fn fault_text(alloc: Global, fault: OptionsFault<'_>) -> Result<Vec<u8>, CallError>
     ensures ok { IfOk result (λ b. b.items ≡ fault_text fault.entry) }
     ensures err { IfErr result (λ r. answer_of r ≡ Refuses kind.OutOfMemory) }
 {
@@ -62,7 +62,7 @@ fn fault_text(alloc: Global, fault: OptionsFault<'_>) -> Result<Vec<u8>, CallRef
     }
 }
 
-fn text_bytes(alloc: Global, text: &str) -> Result<Vec<u8>, CallRefusal>
+fn text_bytes(alloc: Global, text: &str) -> Result<Vec<u8>, CallError>
     ensures ok { IfOk result (λ b. b.items ≡ text.now) }
     ensures err { IfErr result (λ r. answer_of r ≡ Refuses kind.OutOfMemory) }
 {
@@ -70,7 +70,7 @@ fn text_bytes(alloc: Global, text: &str) -> Result<Vec<u8>, CallRefusal>
 }
 
 // Returns the name as JSON, and this text after it.
-fn name_and_text(alloc: Global, name: &str, text: &str) -> Result<Vec<u8>, CallRefusal>
+fn name_and_text(alloc: Global, name: &str, text: &str) -> Result<Vec<u8>, CallError>
     ensures ok { IfOk result (λ b. b.items ≡ compact_text (string name.now) ++ text.now) }
     ensures err { IfErr result (λ r. answer_of r ≡ Refuses kind.OutOfMemory) }
 {
@@ -79,7 +79,7 @@ fn name_and_text(alloc: Global, name: &str, text: &str) -> Result<Vec<u8>, CallR
     Ok(said)
 }
 
-fn quoted(alloc: Global, text: &str) -> Result<Vec<u8>, CallRefusal>
+fn quoted(alloc: Global, text: &str) -> Result<Vec<u8>, CallError>
     ensures ok { IfOk result (λ b. IsTextOf b.items (string text.now)) }
     ensures text { IfOk result (λ b. b.items ≡ compact_text (string text.now)) }
     ensures err { IfErr result (λ r. answer_of r ≡ Refuses kind.OutOfMemory) }
@@ -104,7 +104,7 @@ fn form_text(form: Form) -> &'static str
 }
 
 // Returns what keeps a value from being options, or nothing.
-fn value_fault(alloc: Global, value: &Value) -> Result<Vec<u8>, CallRefusal>
+fn value_fault(alloc: Global, value: &Value) -> Result<Vec<u8>, CallError>
     ensures ok { IfOk result (λ b. IsValueFault (view value.now) b.items) }
     ensures err { IfErr result (λ r. answer_of r ≡ Refuses kind.OutOfMemory) }
 {

@@ -10,12 +10,12 @@ ghost use Rattle.jwt_keys.specs.Jwk.{ReadsKey};
 ghost use Rattle.jwt_keys.specs.JwkSet.{ReadsSet};
 ghost use Rattle.jwt_keys.specs.declared.jwk.Jwk.{Jwk};
 ghost use Rattle.jwt_secrets.specs.Blank.{IsBlank};
-ghost use Rattle.jwt_c_calls.specs.Calls.{AnswersBy, MisreadsOne, answer_of, refusal_status};
+ghost use Rattle.jwt_c_calls.specs.Calls.{AnswersBy, IsErrorOfOne, answer_of, refusal_status};
 ghost use Rattle.jwt_c_calls.specs.Secrets.{ChecksSecret, ChecksKey, ChecksSet, SaysOfSecret};
 ghost use Rattle.jwt_c_calls.specs.Secrets.{SaysOfJwk, SaysOfSet};
 ghost use Rattle.jwt_c_calls.specs.declared.inputs.Input.TheVariants as input;
 
-use crate::inputs::{CallRefusal, Input, read_as};
+use crate::inputs::{CallError, Input, read_as};
 use crate::status::{number_of, status_of};
 use crate::status_table::{BLANK_KEY, KEY_AS_SECRET, OK};
 use jsonwebtoken::errors::Error;
@@ -68,11 +68,11 @@ fn secret_answer(alloc: Global, secret: &[u8]) -> Result<u32, Error>
     Ok(OK.0)
 }
 
-fn key_answer(alloc: Global, key: &[u8]) -> Result<u32, CallRefusal>
+fn key_answer(alloc: Global, key: &[u8]) -> Result<u32, CallError>
     ensures ok { IfOk result (λ status. (jwk : Jwk) × ReadsText ReadsKey key.now jwk
         × SaysOfJwk jwk status) }
     ensures err { IfErr result (λ r. AnswersBy (ReadsText ReadsKey key.now)
-        (MisreadsOne input.Key (ReadsText ReadsKey key.now)) (λ _ _. ⊥) (λ _ _. ⊥) (answer_of r)) }
+        (IsErrorOfOne input.Key (ReadsText ReadsKey key.now)) (λ _ _. ⊥) (λ _ _. ⊥) (answer_of r)) }
 {
     let jwk = read_as(Input::Key, Jwk::from_slice(alloc, key))?;
     let status = jwk_answer(alloc, &jwk);
@@ -95,7 +95,7 @@ fn jwk_answer(alloc: Global, jwk: &Jwk) -> Result<u32, Error>
     Ok(OK.0)
 }
 
-fn answer_status(answer: Result<u32, CallRefusal>) -> u32
+fn answer_status(answer: Result<u32, CallError>) -> u32
     ensures ok { IfOk answer (λ status. result ≡ status) }
     ensures err { IfErr answer (λ r. result ≡ refusal_status r) }
 {
@@ -105,11 +105,11 @@ fn answer_status(answer: Result<u32, CallRefusal>) -> u32
     }
 }
 
-fn set_answer(alloc: Global, set: &[u8]) -> Result<u32, CallRefusal>
+fn set_answer(alloc: Global, set: &[u8]) -> Result<u32, CallError>
     ensures ok { IfOk result (λ status. (keys : List Jwk) × ReadsText ReadsSet set.now keys
         × SaysOfSet keys status) }
     ensures err { IfErr result (λ r. AnswersBy (ReadsText ReadsSet set.now)
-        (MisreadsOne input.Set (ReadsText ReadsSet set.now)) (λ _ _. ⊥) (λ _ _. ⊥) (answer_of r)) }
+        (IsErrorOfOne input.Set (ReadsText ReadsSet set.now)) (λ _ _. ⊥) (λ _ _. ⊥) (answer_of r)) }
 {
     let set = read_as(Input::Set, JwkSet::from_slice(alloc, set))?;
     Ok(keys_answer(alloc, &set)?)

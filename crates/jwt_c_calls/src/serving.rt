@@ -2,11 +2,11 @@
 
 ghost use Rattle.std.specs.Prelude.{◌≡◌, ◌⊎◌, ◌≤◌, [], IfErr, IfOk};
 ghost use Rattle.jwt_base.specs.KindOf.{kind_of, IsMemory};
-ghost use Rattle.jwt_c_calls.specs.Calls.{Gives, answer_of};
+ghost use Rattle.jwt_c_calls.specs.Calls.{Returns, answer_of};
 ghost use Rattle.jwt_c_calls.specs.Keys.{StandsForNoKey};
 ghost use Rattle.jwt_c_calls.specs.Serving.{AnswersAlgorithms, AreBitsOf, bit_of, serving_bits};
 
-use crate::inputs::{CallRefusal, Input, read_as};
+use crate::inputs::{CallError, Input, read_as};
 use jsonwebtoken::crypto::CryptoProvider;
 use jsonwebtoken::errors::{Error, ErrorKind};
 use jsonwebtoken::{Algorithm, DecodingKey};
@@ -17,8 +17,8 @@ use std::result::Result;
 
 /// Returns the algorithms that a key serves, which is the JSON text of one JSON Web Key (RFC 7517
 /// section 4): 2 to the number of each, added up.
-pub fn algorithms_answer(alloc: Global, key: &[u8]) -> Result<u32, CallRefusal>
-    ensures ok { IfOk result (λ bits. AnswersAlgorithms key.now bits (Gives [])) }
+pub fn algorithms_answer(alloc: Global, key: &[u8]) -> Result<u32, CallError>
+    ensures ok { IfOk result (λ bits. AnswersAlgorithms key.now bits (Returns [])) }
     ensures err { IfErr result (λ r. AnswersAlgorithms key.now 0 (answer_of r)) }
 {
     let jwk = read_as(Input::Key, Jwk::from_slice(alloc, key))?;

@@ -6,14 +6,14 @@
 
 ghost use Rattle.std.specs.Prelude.{◌⊎◌, [], IfErr, OnOk};
 ghost use Rattle.jwt_base.specs.KindOf.{kind_of, IsMemory};
-ghost use Rattle.jwt_c_calls.specs.Calls.{Gives, answer_of};
+ghost use Rattle.jwt_c_calls.specs.Calls.{Returns, answer_of};
 ghost use Rattle.jwt_c_calls.specs.Signatures.{AnswersVerifyHmac, AnswersVerifyHmacBy};
 ghost use Rattle.jwt_c_calls.specs.Signatures.{AnswersVerifyKey, AnswersVerifyKeyBy};
 ghost use Rattle.jwt_c_calls.specs.Signatures.{IsAcceptedBy, IsAcceptedByJwk, IsRefusedBy};
 ghost use Rattle.jwt_c_calls.specs.Signatures.{IsRefusedByJwk};
 ghost use Rattle.jwt_c_calls.specs.Status.{algorithm_numbered};
 
-use crate::inputs::{CallRefusal, Input, read_as};
+use crate::inputs::{CallError, Input, read_as};
 use crate::status::numbered_algorithm;
 use jsonwebtoken::crypto::{CryptoProvider, JwtVerifier};
 use jsonwebtoken::errors::{Error, ErrorKind, new_error};
@@ -30,15 +30,15 @@ pub fn hmac_signature_answer(
     signature: &[u8],
     secret: &[u8],
     algorithm: u32,
-) -> Result<(), CallRefusal>
+) -> Result<(), CallError>
     ensures ok { OnOk result (AnswersVerifyHmac (algorithm_numbered algorithm)
-        message.now signature.now secret.now (Gives [])) }
+        message.now signature.now secret.now (Returns [])) }
     ensures err { IfErr result (λ r. AnswersVerifyHmac (algorithm_numbered algorithm)
         message.now signature.now secret.now (answer_of r)) }
 {
     match numbered_algorithm(algorithm) {
         Some(by) => verify_by_secret(alloc, message, signature, secret, by),
-        None => Err(CallRefusal::Token(new_error(ErrorKind::InvalidAlgorithmName))),
+        None => Err(CallError::Token(new_error(ErrorKind::InvalidAlgorithmName))),
     }
 }
 
@@ -50,15 +50,15 @@ pub fn key_signature_answer(
     signature: &[u8],
     key: &[u8],
     algorithm: u32,
-) -> Result<(), CallRefusal>
+) -> Result<(), CallError>
     ensures ok { OnOk result (AnswersVerifyKey (algorithm_numbered algorithm)
-        message.now signature.now key.now (Gives [])) }
+        message.now signature.now key.now (Returns [])) }
     ensures err { IfErr result (λ r. AnswersVerifyKey (algorithm_numbered algorithm)
         message.now signature.now key.now (answer_of r)) }
 {
     match numbered_algorithm(algorithm) {
         Some(by) => verify_by_text(alloc, message, signature, key, by),
-        None => Err(CallRefusal::Token(new_error(ErrorKind::InvalidAlgorithmName))),
+        None => Err(CallError::Token(new_error(ErrorKind::InvalidAlgorithmName))),
     }
 }
 
@@ -68,9 +68,9 @@ fn verify_by_secret(
     signature: &[u8],
     secret: &[u8],
     algorithm: Algorithm,
-) -> Result<(), CallRefusal>
+) -> Result<(), CallError>
     ensures ok { OnOk result (AnswersVerifyHmacBy algorithm message.now signature.now secret.now
-        (Gives [])) }
+        (Returns [])) }
     ensures err { IfErr result (λ r. AnswersVerifyHmacBy algorithm message.now signature.now
         secret.now (answer_of r)) }
 {
@@ -88,9 +88,9 @@ fn verify_by_text(
     signature: &[u8],
     key: &[u8],
     algorithm: Algorithm,
-) -> Result<(), CallRefusal>
+) -> Result<(), CallError>
     ensures ok { OnOk result (AnswersVerifyKeyBy algorithm message.now signature.now key.now
-        (Gives [])) }
+        (Returns [])) }
     ensures err { IfErr result (λ r. AnswersVerifyKeyBy algorithm message.now signature.now key.now
         (answer_of r)) }
 {

@@ -8,7 +8,7 @@ ghost use Rattle.jwt_c_calls.specs.Calls.{refusal_status};
 ghost use Rattle.jwt_c_calls.specs.Status.{number, input_status, claim_place};
 ghost use Rattle.jwt_c_calls.specs.Status.{algorithm_numbered, IsGiven, IsKept};
 
-use crate::inputs::{CallRefusal, Input};
+use crate::inputs::{CallError, Input};
 use crate::status_table::*;
 use jsonwebtoken::Algorithm;
 use jsonwebtoken::errors::ErrorKind;
@@ -49,12 +49,12 @@ pub fn number_of(kind: &ErrorKind) -> u32
 }
 
 /// Returns the status of a refusal.
-pub fn status_of(refusal: &CallRefusal) -> u32
+pub fn status_of(refusal: &CallError) -> u32
     ensures { result ≡ refusal_status refusal.now }
 {
     match refusal {
-        CallRefusal::Input(input) => input_status(*input),
-        CallRefusal::Token(refused) => number_of(refused.kind()),
+        CallError::Input(input) => input_status(*input),
+        CallError::Token(refused) => number_of(refused.kind()),
     }
 }
 
@@ -112,7 +112,7 @@ pub fn put_bytes(bytes: &[u8], room: &mut [u8], len: &mut usize) -> u32
 }
 
 /// Writes a result: its bytes, or the reason for which there are none.
-pub fn leave(answer: Result<Vec<u8>, CallRefusal>, room: &mut [u8], len: &mut usize) -> u32
+pub fn leave(answer: Result<Vec<u8>, CallError>, room: &mut [u8], len: &mut usize) -> u32
     ensures given { IfOk answer (λ b. IsGiven b.items result len.new room.old room.new) }
     ensures kept { IfErr answer (λ r. IsKept (refusal_status r) result len.new room.old room.new) }
 {

@@ -10,7 +10,7 @@ use Rattle.jsonwebtoken.proofs.EachTest.{met}
 use Rattle.jwt_verifier.specs.Verifying.{order_of}
 use Rattle.jwt_verifier.specs.declared.keys.Keys.{Keys}
 use Rattle.jwt_verifier.specs.declared.keys.Keys.TheVariants.{One, Set}
-use Rattle.jwt_c_calls.specs.Calls.{Answer, Gives, Refuses, Misreads, AnswersKey, AnswersSet}
+use Rattle.jwt_c_calls.specs.Calls.{Answer, Returns, Refuses, InputError, AnswersKey, AnswersSet}
 use Rattle.jwt_c_verifier.specs.Verifiers.{AnswersWith, AreOfKey, AreOfSet, verifier_call}
 
 pub payload_is_json : (keys : Keys) (validation : Validation) (token : List ℕ) (time : ℕ) (t : Contents)
@@ -24,19 +24,19 @@ pub by_set : (options set token : List ℕ) (time : ℕ) (keys : Keys) (validati
     → AreOfSet options set (options_of validation) keys → AnswersWith keys validation token time a
     → AnswersSet options token set time a
 by_set options set token time (One key) validation a of x = absurd of.1
-by_set options set token time (Set ks) validation (Gives b) of x = ((options_of validation, ks.keys.items), (of.0, of.1), x.2)
+by_set options set token time (Set ks) validation (Returns b) of x = ((options_of validation, ks.keys.items), (of.0, of.1), x.2)
 by_set options set token time (Set ks) validation (Refuses k) of (inl e) = inl e
 by_set options set token time (Set ks) validation (Refuses k) of (inr x) =
     inr ((options_of validation, ks.keys.items), (of.0, of.1), x.2)
-by_set options set token time (Set ks) validation (Misreads i) of x = absurd x
+by_set options set token time (Set ks) validation (InputError i) of x = absurd x
 
 pub by_key : (options text token : List ℕ) (time : ℕ) (keys : Keys) (validation : Validation) (a : Answer)
     → AreOfKey options text (options_of validation) keys → AnswersWith keys validation token time a
     → AnswersKey options token text time a
 by_key options text token time (Set ks) validation a of x = absurd of.1
-by_key options text token time (One key) validation (Gives b) of x =
+by_key options text token time (One key) validation (Returns b) of x =
     ((options_of validation, of.1.0), (of.0, of.1.1), (x.2.0, (key, of.1.2, x.2.1), x.2.2))
 by_key options text token time (One key) validation (Refuses k) of (inl e) = inl e
 by_key options text token time (One key) validation (Refuses k) of (inr x) =
     inr ((options_of validation, of.1.0), (of.0, of.1.1), inr (key, of.1.2, x.2))
-by_key options text token time (One key) validation (Misreads i) of x = absurd x
+by_key options text token time (One key) validation (InputError i) of x = absurd x

@@ -16,11 +16,11 @@ use Rattle.jsonwebtoken.proofs.LawsOf.{moments}
 use Rattle.jwt_verifier.specs.Verifying.{order_of}
 use Rattle.jwt_verifier.specs.declared.keys.Keys.{Keys}
 use Rattle.jwt_verifier.specs.declared.keys.Keys.TheVariants.{One, Set}
-use Rattle.jwt_c_calls.specs.Calls.{Gives, IsTextOf}
+use Rattle.jwt_c_calls.specs.Calls.{Returns, IsTextOf}
 use Rattle.jwt_c_calls.proofs.Handed.{shallow}
 use Rattle.jwt_c_verifier.specs.Verifiers.{AnswersUntil, IsLast, verifier_call}
 use Rattle.jwt_c_verifier.specs.declared.verifiers.Accepted.{Accepted}
-use Rattle.jwt_c_verifier.specs.declared.verifiers.Denied.{Denied}
+use Rattle.jwt_c_verifier.specs.declared.verifiers.TokenRefusal.{TokenRefusal}
 use Rattle.jwt_c_verifier.proofs.Transfers.{payload_is_json}
 
 has_moments : (keys : Keys) (validation : Validation) (token : List ℕ) (time : ℕ)
@@ -49,7 +49,7 @@ module _ (keys : Keys) (validation : Validation) (token : List ℕ) (time : ℕ)
       → last ≡ last_moment (options_of validation) (claims_of (view claims))
       → ((t : Contents) × Passes (token_tests (verifier_call keys validation token time)) (order_of keys) t
       × ((t.header ≡ header) × (view claims ≡ t.payload_value)))
-      → AnswersUntil keys validation token time last (Gives text)
+      → AnswersUntil keys validation token time last (Returns text)
   accepted_until fits header claims text last shown l a =
       let flat : depth (view claims) ≤ max_depth = rw a.2.1 (shallow a.0 (payload_is_json keys validation token time a.0 a.1)) in
       let json : IsTextOf text a.0.payload_value = rw a.2.1 at (shown flat) in
@@ -59,9 +59,9 @@ module _ (keys : Keys) (validation : Validation) (token : List ℕ) (time : ℕ)
   pub handed_until : time ≤ end_of_time → (header : Header) (claims : Value) (limit : ℕ) → length token ≤ limit
       → ((t : Contents) × Passes (token_tests (verifier_call keys validation token time)) (order_of keys) t
       × ((t.header ≡ header) × (view claims ≡ t.payload_value)))
-      → (r : Result Accepted Denied) → IfOk r (λ a. depth (view claims) ≤ max_depth → IsTextOf a.text.items (view claims))
+      → (r : Result Accepted TokenRefusal) → IfOk r (λ a. depth (view claims) ≤ max_depth → IsTextOf a.text.items (view claims))
       → IfOk r (λ a. a.last ≡ last_moment (options_of validation) (claims_of (view claims)))
-      → IfOk r (λ a. (length token ≤ limit) × AnswersUntil keys validation token time a.last (Gives a.text.items))
+      → IfOk r (λ a. (length token ≤ limit) × AnswersUntil keys validation token time a.last (Returns a.text.items))
   handed_until fits header claims limit short passed (Ok a) shown last =
       (short, accepted_until fits header claims a.text.items a.last shown last passed)
   handed_until fits header claims limit short passed (Err d) shown last = tt

@@ -25,15 +25,15 @@ use Rattle.jsonwebtoken.specs.Accepted.{AreMoments}
 use Rattle.jsonwebtoken.specs.Order.{Passes, FailsFirst, IsFirstFailed}
 use Rattle.jsonwebtoken.specs.Tests.{Call, Compact, Contents, token_tests, verifying_call}
 use Rattle.jsonwebtoken.specs.declared.refusal.Test.{Test}
-use Rattle.jwt_verifier.specs.Fitness.{token_limit, prepared_limit, AreFit, IsUnfit}
+use Rattle.jwt_verifier.specs.Fitness.{token_limit, prepared_limit, AreFit, IsKeyProblem}
 use Rattle.jwt_verifier.specs.Verifying.{source_of, order_of}
-use Rattle.jwt_verifier.specs.declared.fitness.Unfit.{Unfit}
-use Rattle.jwt_verifier.specs.declared.fitness.Unfit.TheVariants.{Blank, Mixed, Useless, Memory}
+use Rattle.jwt_verifier.specs.declared.fitness.KeyProblem.{KeyProblem}
+use Rattle.jwt_verifier.specs.declared.fitness.KeyProblem.TheVariants.{Blank, Mixed, Useless, Memory}
 use Rattle.jwt_verifier.specs.declared.keys.Keys.{Keys}
 use Rattle.jwt_verifier.specs.declared.keys.Keys.TheVariants.{One, Set}
 use Rattle.jwt_verifier.specs.declared.limits.Limits.{Limits}
 use Rattle.jwt_verifier.specs.declared.verifier.Verifier.{Verifier}
-use Rattle.jwt_c_calls.specs.Calls.{Answer, Gives, Refuses, Misreads, AnswersBy, IsClaimsText, status_of}
+use Rattle.jwt_c_calls.specs.Calls.{Answer, Returns, Refuses, InputError, AnswersBy, IsClaimsText, status_of}
 use Rattle.jwt_c_calls.specs.Status.{number, blank_key, key_as_secret, mixed_families, unfit_key}
 use Rattle.jwt_c_calls.specs.Status.{token_too_long}
 use Rattle.jwt_c_verifier.specs.TestNumbers.{test_number}
@@ -89,11 +89,11 @@ abbrev pub HaveNoKeyText : Bool → Keys → Type 0
 HaveNoKeyText allows_blank keys = IsTrue allows_blank ⊎ (¬ HaveKeyText keys)
 
 -- the status of keys of which no verifier is made
-abbrev pub unfit_status : Unfit → ℕ
-unfit_status Blank = blank_key
-unfit_status Mixed = mixed_families
-unfit_status Useless = unfit_key
-unfit_status Memory = number kind.OutOfMemory
+abbrev pub problem_status : KeyProblem → ℕ
+problem_status Blank = blank_key
+problem_status Mixed = mixed_families
+problem_status Useless = unfit_key
+problem_status Memory = number kind.OutOfMemory
 
 -- Why no verifier is made of the keys: memory ran out; or a secret is the text of a key, which is not allowed; or
 -- else they are unfit.
@@ -101,7 +101,7 @@ abbrev pub AreRefused : Bool → List Algorithm → Keys → ℕ → Type 0
 AreRefused allows_blank algorithms keys status = (status ≡ number kind.OutOfMemory)
     ⊎ (((status ≡ key_as_secret) × (¬ IsTrue allows_blank) × HaveKeyText keys)
     ⊎ (HaveNoKeyText allows_blank keys
-    × ((why : Unfit) × IsUnfit allows_blank algorithms keys why × (status ≡ unfit_status why))))
+    × ((why : KeyProblem) × IsKeyProblem allows_blank algorithms keys why × (status ≡ problem_status why))))
 
 -- the verifier has options and keys of these texts, and fit ones
 abbrev pub IsVerifierOf : (Options → Keys → Type 0) → Limits → Verifier → Type 0
@@ -158,9 +158,9 @@ TellsTest keys validation token time k test = ((k ≡ kind.OutOfMemory) × (test
 
 -- the number of the first failed test, or 0 if none failed
 abbrev pub TellsTestOf : Keys → Validation → List ℕ → ℕ → Answer → ℕ → Type 0
-TellsTestOf keys validation token time (Gives bytes) test = test ≡ 0
+TellsTestOf keys validation token time (Returns bytes) test = test ≡ 0
 TellsTestOf keys validation token time (Refuses k) test = TellsTest keys validation token time k test
-TellsTestOf keys validation token time (Misreads i) test = ⊥
+TellsTestOf keys validation token time (InputError i) test = ⊥
 
 -- the status of a token that is refused, and the number of the test: by its length; or with a kind
 abbrev pub IsRefusedWith : Verifier → List ℕ → ℕ → ℕ → ℕ → Type 0

@@ -9,11 +9,11 @@ ghost use Rattle.jwt_validation.specs.Claim.{claims_of};
 ghost use Rattle.jwt_validation.specs.Moments.{last_moment};
 ghost use Rattle.jwt_validation.specs.OptionsOf.{options_of};
 ghost use Rattle.jwt_verifier.specs.Fitness.{AreFit};
-ghost use Rattle.jwt_c_calls.specs.Calls.{Gives, IsTextOf};
+ghost use Rattle.jwt_c_calls.specs.Calls.{Returns, IsTextOf};
 ghost use Rattle.jwt_c_calls.specs.Status.{key_as_secret, number};
 ghost use Rattle.jwt_c_calls.specs.Keys.{AnswersWithKey, AnswersWithOptions, AnswersWithSet};
 ghost use Rattle.jwt_c_verifier.specs.TestNumbers.{test_number as number_of_test};
-ghost use Rattle.jwt_c_verifier.specs.Verifiers.{limits_of, unless_zero, unfit_status};
+ghost use Rattle.jwt_c_verifier.specs.Verifiers.{limits_of, unless_zero, problem_status};
 ghost use Rattle.jwt_c_verifier.specs.Verifiers.{AnswersUntil, AreLeft, AreOfKey, TellsMoments};
 ghost use Rattle.jwt_c_verifier.specs.Verifiers.{AreOfSecret, AreOfSet, IsMade, IsRefusedWith};
 ghost use Rattle.jwt_c_verifier.specs.Verifiers.{AreRefused, HaveKeyText, HaveNoKeyText};
@@ -28,7 +28,9 @@ use jwt_c_calls::status_table::{
 };
 use jwt_secrets::key_texts::{has_key_text, set_has_key_text};
 use jwt_validation::{Validation, claimed_moments};
-use jwt_verifier::{Keys, Limits, PREPARED_LIMIT, Rejection, TOKEN_LIMIT, Unfit, Verifier};
+use jwt_verifier::{
+    KeyProblem, Keys, Limits, PREPARED_LIMIT, TOKEN_LIMIT, Verifier, VerifierRefusal,
+};
 use serde_json::Value;
 use std::alloc::Global;
 use std::result::Result;
@@ -113,7 +115,7 @@ pub struct Accepted {
 
 /// The reason for which a token is not accepted, in numbers.
 #[derive(Clone, Copy)]
-pub struct Denied {
+pub struct TokenRefusal {
     /// The status.
     pub status: u32,
     /// The number of the first test that failed, or 0 if none did: the token is too long, or memory
@@ -123,29 +125,29 @@ pub struct Denied {
 
 /// Returns the claims of a token that is verified with a verifier, and the last time at which the
 /// token is accepted; or the reason for which it is refused.
-pub fn answer_until(
+pub fn decode_with_expiry(
     alloc: Global,
     verifier: &Verifier,
     token: &[u8],
     time: u64,
-) -> Result<Accepted, Denied>
+) -> Result<Accepted, TokenRefusal>
     ensures ok { IfOk result (λ a. (length token.now ≤ verifier.now.limits.max_len)
         × AnswersUntil verifier.now.keys verifier.now.validation token.now time a.last
-        (Gives a.text.items)) }
+        (Returns a.text.items)) }
     ensures err { IfErr result (λ d. IsRefusedWith verifier.now token.now time d.status d.test) }
 {
     match verifier.decode_or_refusal::<Value>(alloc, token, time) {
         Ok(decoded) => {
-            let accepted = hand_out(alloc, &decoded, &verifier.validation);
+            let accepted = answer_of_claims(alloc, &decoded, &verifier.validation);
             // dropped at one place: each exit would have to be proved to drop every field
             drop(decoded);
             accepted
         }
-        Err(Rejection::TooLong) => Err(Denied {
+        Err(VerifierRefusal::TooLong) => Err(TokenRefusal {
             status: TOKEN_TOO_LONG.0,
             test: 0,
         }),
-        Err(Rejection::Failed(refusal)) => Err(reason_of(&refusal)),
+        Err(VerifierRefusal::Failed(refusal)) => Err(reason_of(&refusal)),
     }
 }
 
@@ -156,8 +158,8 @@ pub fn moments_by(alloc: Global, verifier: &Verifier, token: &[u8]) -> Result<Op
 {
     match verifier.first_and_last_moment::<Value>(alloc, token) {
         Ok(moments) => Ok(moments),
-        Err(Rejection::TooLong) => Err(TOKEN_TOO_LONG.0),
-        Err(Rejection::Failed(_)) => Err(OUT_OF_MEMORY.0),
+        Err(VerifierRefusal::TooLong) => Err(TOKEN_TOO_LONG.0),
+        Err(VerifierRefusal::Failed(_)) => Err(OUT_OF_MEMORY.0),
     }
 }
 
@@ -192,7 +194,7 @@ fn verifier_of(
     check_key_texts(alloc, &keys, limits.allows_blank)?;
     match Verifier::with_limits(alloc, keys, validation, limits) {
         Ok(verifier) => Ok(verifier),
-        Err(unfit) => Err(status_of_unfit(unfit)),
+        Err(problem) => Err(status_of_problem(problem)),
     }
 }
 
@@ -222,23 +224,23 @@ fn have_key_text(alloc: Global, keys: &Keys) -> Checked<bool>
     }
 }
 
-fn status_of_unfit(unfit: Unfit) -> u32
-    ensures { result ≡ unfit_status unfit }
+fn status_of_problem(problem: KeyProblem) -> u32
+    ensures { result ≡ problem_status problem }
 {
-    match unfit {
-        Unfit::Blank => BLANK_KEY.0,
-        Unfit::Mixed => MIXED_FAMILIES.0,
-        Unfit::Useless => UNFIT_KEY.0,
-        Unfit::Memory => OUT_OF_MEMORY.0,
+    match problem {
+        KeyProblem::Blank => BLANK_KEY.0,
+        KeyProblem::Mixed => MIXED_FAMILIES.0,
+        KeyProblem::Useless => UNFIT_KEY.0,
+        KeyProblem::Memory => OUT_OF_MEMORY.0,
     }
 }
 
 // Returns the claims and the last time, or the reason that memory ran out.
-fn hand_out(
+fn answer_of_claims(
     alloc: Global,
     decoded: &TokenData<Value>,
     validation: &Validation,
-) -> Result<Accepted, Denied>
+) -> Result<Accepted, TokenRefusal>
     ensures text { IfOk result (λ a. depth (view decoded.now.claims) ≤ max_depth
         → IsTextOf a.text.items (view decoded.now.claims)) }
     ensures last { IfOk result (λ a. a.last
@@ -247,7 +249,7 @@ fn hand_out(
 {
     match claims_until(alloc, decoded, validation) {
         Ok(accepted) => Ok(accepted),
-        Err(_) => Err(Denied {
+        Err(_) => Err(TokenRefusal {
             status: 22,
             test: 0,
         }),
@@ -274,12 +276,12 @@ fn claims_until(
     })
 }
 
-fn reason_of(refusal: &Refusal) -> Denied
+fn reason_of(refusal: &Refusal) -> TokenRefusal
     ensures status { result.status ≡ number (kind_of refusal.now.error) }
     ensures test { (IsMemory refusal.now.error × (result.test ≡ 0))
         ⊎ ((¬ IsMemory refusal.now.error) × (result.test ≡ number_of_test refusal.now.test)) }
 {
-    Denied {
+    TokenRefusal {
         status: number_of(refusal.error.kind()),
         test: failed_test(refusal),
     }

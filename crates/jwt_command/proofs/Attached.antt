@@ -22,7 +22,7 @@ use Rattle.jwt_base.specs.declared.algorithms.AlgorithmFamily.TheVariants.{Hmac}
 use Rattle.jwt_verifier.specs.declared.keys.Keys.{Keys}
 use Rattle.jwt_command.specs.BySignature.{IsDataAnswer, IsInputAnswer, IsNotTokenOf, IsSignatureIn, IsUnsigned}
 use Rattle.jwt_command.specs.BySignature.{given, signature_options}
-use Rattle.jwt_command.specs.Commands.{IsSettled}
+use Rattle.jwt_command.specs.Commands.{ChoosesAlgorithm}
 
 pub no_input : (header : Header) (claims : Data) (e : Error) (status : ℕ) (output : List ℕ)
     → IsMemory e ⊎ FailsFirst (issue_tests (signing header (Some claims))) signing_order (kind_of e)
@@ -66,7 +66,7 @@ unsigned_is input text contents d is_text read same other =
 
 -- options that list an algorithm are settled
 pub settled_is : (keys : Keys) (token : List ℕ) (a : Algorithm) (options settled : Options)
-    → options ≡ signature_options a → IsSettled keys token options settled → settled ≡ signature_options a
+    → options ≡ signature_options a → ChoosesAlgorithm keys token options settled → settled ≡ signature_options a
 settled_is keys token a options settled is (inl some) = some.1 ∙ is
 settled_is keys token a options settled is (inr none) =
     let bad : a ∷ [] ≡ [] = sym (ap (λ (o : Options). o.algorithms) is) ∙ none.0 in cc

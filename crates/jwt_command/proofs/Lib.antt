@@ -1,5 +1,5 @@
 pub mod Attached
-pub mod Judged
+pub mod TypedVerdict
 pub mod LineStatuses
 pub mod Numbers
 pub mod Required

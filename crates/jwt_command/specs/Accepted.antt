@@ -16,8 +16,8 @@ use Rattle.serde_json.specs.View.{view}
 use Rattle.serde_json.specs.declared.value.Value.{Value}
 use Rattle.jwt_verifier.specs.Verifying.{order_of, source_of}
 use Rattle.jwt_verifier.specs.declared.keys.Keys.{Keys}
-use Rattle.jwt_command.specs.declared.verify.verdict.Denial.{Denial}
-use Rattle.jwt_command.specs.declared.verify.verdict.Denial.TheVariants.{Refused, OtherType}
+use Rattle.jwt_command.specs.declared.verify.verdict.TokenRefusal.{TokenRefusal}
+use Rattle.jwt_command.specs.declared.verify.verdict.TokenRefusal.TheVariants.{Refused, OtherType}
 
 -- a token, checked with these keys and options at a time, by the provider of all algorithms
 abbrev pub checking : List ℕ → Keys → Options → ℕ → Call Value
@@ -41,10 +41,10 @@ abbrev pub IsAccepted : List ℕ → Keys → Options → ℕ → Option (List �
 IsAccepted token keys options time typ t = PassesAll token keys options time t × HasType typ t.header
 
 -- the token is not accepted: by its first failed test, or by its type
-abbrev pub IsDenied : List ℕ → Keys → Options → ℕ → Option (List ℕ) → Denial → Type 0
-IsDenied token keys options time typ (Refused refusal) =
+abbrev pub IsTokenRefusal : List ℕ → Keys → Options → ℕ → Option (List ℕ) → TokenRefusal → Type 0
+IsTokenRefusal token keys options time typ (Refused refusal) =
     (¬ IsMemory refusal.error) × IsRefusal (token_tests (checking token keys options time)) (order_of keys) refusal
-IsDenied token keys options time typ OtherType =
+IsTokenRefusal token keys options time typ OtherType =
     (t : Contents) × PassesAll token keys options time t × ¬ HasType typ t.header
 
 -- the result of the tests: header and claims, or the first failed test
@@ -54,12 +54,12 @@ IsDecoded token keys options time r =
     (Carries (checking token keys options time)) r
 
 -- the verdict: header and claims of a token that is accepted, or why it is not
-abbrev pub IsJudged : List ℕ → Keys → Options → ℕ → Option (List ℕ) → Result (TokenData Value) Denial → Type 0
-IsJudged token keys options time typ (Ok d) = (t : Contents) × IsAccepted token keys options time typ t
+abbrev pub IsTypedVerdict : List ℕ → Keys → Options → ℕ → Option (List ℕ) → Result (TokenData Value) TokenRefusal → Type 0
+IsTypedVerdict token keys options time typ (Ok d) = (t : Contents) × IsAccepted token keys options time typ t
     × (t.header ≡ d.header) × (view d.claims ≡ t.payload_value)
-IsJudged token keys options time typ (Err denial) = IsDenied token keys options time typ denial
+IsTypedVerdict token keys options time typ (Err reason) = IsTokenRefusal token keys options time typ reason
 
 -- why the token is not accepted, or nothing if it is
-abbrev pub IsDenialIfAny : List ℕ → Keys → Options → ℕ → Option (List ℕ) → Option Denial → Type 0
-IsDenialIfAny token keys options time typ None = (t : Contents) × IsAccepted token keys options time typ t
-IsDenialIfAny token keys options time typ (Some denial) = IsDenied token keys options time typ denial
+abbrev pub IsRefusalIfAny : List ℕ → Keys → Options → ℕ → Option (List ℕ) → Option TokenRefusal → Type 0
+IsRefusalIfAny token keys options time typ None = (t : Contents) × IsAccepted token keys options time typ t
+IsRefusalIfAny token keys options time typ (Some reason) = IsTokenRefusal token keys options time typ reason

@@ -11,9 +11,9 @@ use Rattle.jsonwebtoken.specs.ByHmac.{encoding_by_hmac}
 use Rattle.jsonwebtoken.specs.Issue.{Issue, Written, IsIssued, encode_order, issue_tests}
 use Rattle.jsonwebtoken.specs.Order.{Passes, FailsFirst}
 use Rattle.jsonwebtoken.specs.Tests.{Contents}
-use Rattle.jwt_command.specs.Accepted.{IsAccepted, IsDenied}
+use Rattle.jwt_command.specs.Accepted.{IsAccepted, IsTokenRefusal}
 use Rattle.jwt_verifier.specs.declared.keys.Keys.{Keys}
-use Rattle.jwt_command.specs.declared.verify.verdict.Denial.{Denial}
+use Rattle.jwt_command.specs.declared.verify.verdict.TokenRefusal.{TokenRefusal}
 use Rattle.jwt_command.specs.declared.verify.OutputForm.{OutputForm}
 use Rattle.jwt_command.specs.declared.verify.OutputForm.TheVariants.{Claims, HeaderAndClaims, Json, Line}
 
@@ -42,18 +42,18 @@ IsRefusedText HeaderAndClaims output = output ≡ []
 IsRefusedText Json output = Unit {0}
 IsRefusedText Line output = Unit {0}
 
--- status 0 for a token that is accepted, and 1 for one that is denied
+-- status 0 for a token that is accepted, and 1 for one that is refused
 abbrev pub IsVerdict : List ℕ → Keys → Options → ℕ → Option (List ℕ) → ℕ → Type 0
 IsVerdict token keys options time typ status =
     ((t : Contents) × IsAccepted token keys options time typ t × (status ≡ 0))
-    ⊎ ((denial : Denial) × IsDenied token keys options time typ denial × (status ≡ 1))
+    ⊎ ((reason : TokenRefusal) × IsTokenRefusal token keys options time typ reason × (status ≡ 1))
 
--- Status 0 and the claims of a token that is accepted, or status 1 and nothing of one that is denied.
+-- Status 0 and the claims of a token that is accepted, or status 1 and nothing of one that is refused.
 abbrev pub IsVerifyAnswer : List ℕ → Keys → Options → ℕ → Option (List ℕ) → OutputForm → ℕ → List ℕ → Type 0
 IsVerifyAnswer token keys options time typ form status output =
     ((t : Contents) × IsAccepted token keys options time typ t × (status ≡ 0)
     × IsAcceptedText form t.header t.payload_value output)
-    ⊎ ((denial : Denial) × IsDenied token keys options time typ denial
+    ⊎ ((reason : TokenRefusal) × IsTokenRefusal token keys options time typ reason
     × (status ≡ 1) × IsRefusedText form output)
 
 -- a token of these claims under this header, signed with HMAC and a secret (RFC 7518 section 3.2)

@@ -22,9 +22,9 @@ use Rattle.jwt_command.specs.declared.request.Request.{Request}
 use Rattle.jwt_command.specs.declared.request.Request.TheVariants.{Verify, Explain, Show, Sign, SigningInput, Attach}
 use Rattle.jwt_command.specs.declared.request.Request.TheVariants.{Keys, Jwk, Thumbprint}
 use Rattle.jwt_command.specs.declared.request.SecretFile.{SecretFile}
-use Rattle.jwt_command.specs.declared.request.Showing.{Showing}
-use Rattle.jwt_command.specs.declared.request.Signing.{Signing}
-use Rattle.jwt_command.specs.declared.request.Verification.{Verification}
+use Rattle.jwt_command.specs.declared.request.ShowArgs.{ShowArgs}
+use Rattle.jwt_command.specs.declared.request.SignArgs.{SignArgs}
+use Rattle.jwt_command.specs.declared.request.VerifyArgs.{VerifyArgs}
 
 -- the text that a reference points to, if there is one
 abbrev pub text_of : Option (Bor (List ℕ)) → Option (List ℕ)
@@ -99,7 +99,7 @@ pub record AreChecks (f : Found) (c : Checks) : Type 0 where
   pub understood : texts_of c.understood ≡ values_of f (codes "crit")
 
 -- the arguments that `verify` and `explain` share
-pub record IsChecking (f : Found) (v : Verification) : Type 0 where
+pub record IsChecking (f : Found) (v : VerifyArgs) : Type 0 where
   pub token : text_of v.token ≡ first_value f (codes "token")
   pub key : IsKeyFile f v.key
   pub checks : AreChecks f v.checks
@@ -120,7 +120,7 @@ pub record IsDraftOf (f : Found) (s : Draft) : Type 0 where
   pub time : IsNumberOf (first_value f (codes "now")) s.time
 
 -- the arguments of `sign` with a secret
-pub record IsSigningOf (f : Found) (s : Signing) : Type 0 where
+pub record IsSigningOf (f : Found) (s : SignArgs) : Type 0 where
   pub draft : IsDraftOf f s.draft
   pub secret : (path : Bor (List ℕ)) × (first_value f (codes "secret-file") ≡ Some path.now)
       × IsSecretFile f path s.secret
@@ -133,7 +133,7 @@ IsKeyGiven f None =
 IsKeyGiven f (Some file) = IsKeyFile f file
 
 -- the arguments of `show`
-pub record IsShowing (f : Found) (s : Showing) : Type 0 where
+pub record IsShowing (f : Found) (s : ShowArgs) : Type 0 where
   pub token : text_of s.token ≡ first_value f (codes "token")
   pub time : IsNumberOf (first_value f (codes "now")) s.time
   pub is_json : IsFlag f (codes "json") s.is_json

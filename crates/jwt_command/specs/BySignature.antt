@@ -15,8 +15,8 @@ use Rattle.jsonwebtoken.specs.IssueGiven.{IsSignedElsewhere, encoding_by_signatu
 use Rattle.jsonwebtoken.specs.Order.{Passes, FailsFirst}
 use Rattle.jsonwebtoken.specs.Tests.{Contents, dot, insecure_call, insecure_order, token_tests}
 use Rattle.jwt_verifier.specs.declared.keys.Keys.{Keys}
-use Rattle.jwt_command.specs.Accepted.{IsDenialIfAny}
-use Rattle.jwt_command.specs.declared.verify.verdict.Denial.{Denial}
+use Rattle.jwt_command.specs.Accepted.{IsRefusalIfAny}
+use Rattle.jwt_command.specs.declared.verify.verdict.TokenRefusal.{TokenRefusal}
 
 -- ---- what is to be signed
 
@@ -80,15 +80,15 @@ signature_options algorithm = record (default_options (algorithm ∷ [])) {
 }
 
 -- why the keys, if there are any, do not accept the token, or nothing if they do
-abbrev pub IsChecked : Option Keys → Algorithm → (token : List ℕ) → Option Denial → Type 0
-IsChecked None algorithm token denial = denial ≡ None
-IsChecked (Some keys) algorithm token denial = IsDenialIfAny token keys (signature_options algorithm) 0 None denial
+abbrev pub IsChecked : Option Keys → Algorithm → (token : List ℕ) → Option TokenRefusal → Type 0
+IsChecked None algorithm token reason = reason ≡ None
+IsChecked (Some keys) algorithm token reason = IsRefusalIfAny token keys (signature_options algorithm) 0 None reason
 
 -- status 0, the token and a newline, if the keys accept it; or status 1 and nothing
 abbrev pub IsTokenAnswer : Option Keys → Algorithm → (token : List ℕ) → ℕ → List ℕ → Type 0
 IsTokenAnswer keys algorithm token status output =
     (IsChecked keys algorithm token None × (status ≡ 0) × (output ≡ token ++ 10 ∷ []))
-    ⊎ (((denial : Denial) × IsChecked keys algorithm token (Some denial)) × (status ≡ 1) × (output ≡ []))
+    ⊎ (((reason : TokenRefusal) × IsChecked keys algorithm token (Some reason)) × (status ≡ 1) × (output ≡ []))
 
 -- the same, of the header and the claims of a signing input; or status 1 and nothing, if there is no token of them
 abbrev pub IsDataAnswer : Option Keys → Header → Data → (input file : List ℕ) → ℕ → List ℕ → Type 0

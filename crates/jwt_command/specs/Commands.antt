@@ -23,15 +23,15 @@ use Rattle.jwt_command.specs.Requested.{AreRequested}
 use Rattle.jwt_verifier.specs.Verifying.{source_of}
 use Rattle.jwt_verifier.specs.declared.keys.Keys.{Keys as KeyValues}
 use Rattle.jwt_command.specs.declared.keys.LoadedKeys.{LoadedKeys}
-use Rattle.jwt_command.specs.declared.request.Attaching.{Attaching}
+use Rattle.jwt_command.specs.declared.request.AttachArgs.{AttachArgs}
 use Rattle.jwt_command.specs.declared.request.Draft.{Draft}
 use Rattle.jwt_command.specs.declared.request.KeyFile.{KeyFile}
 use Rattle.jwt_command.specs.declared.request.Request.{Request}
 use Rattle.jwt_command.specs.declared.request.Request.TheVariants.{Verify, Explain, Show, Sign, SigningInput, Attach}
 use Rattle.jwt_command.specs.declared.request.Request.TheVariants.{Keys, Jwk, Thumbprint}
-use Rattle.jwt_command.specs.declared.request.Showing.{Showing}
-use Rattle.jwt_command.specs.declared.request.Signing.{Signing}
-use Rattle.jwt_command.specs.declared.request.Verification.{Verification}
+use Rattle.jwt_command.specs.declared.request.ShowArgs.{ShowArgs}
+use Rattle.jwt_command.specs.declared.request.SignArgs.{SignArgs}
+use Rattle.jwt_command.specs.declared.request.VerifyArgs.{VerifyArgs}
 use Rattle.jwt_command.specs.declared.verify.OutputForm.{OutputForm}
 use Rattle.jwt_command.specs.declared.verify.OutputForm.TheVariants.{Claims, HeaderAndClaims, Json, Line}
 
@@ -47,37 +47,37 @@ IsGivenToken (Some token) bytes = token.now ≢ codes "-" → bytes ≡ token.no
 
 -- the options for a token: if they name no algorithm, that of its key is the only one, or none is if the key is not one of
 -- a set that has one (RFC 8725 section 3.1)
-abbrev pub IsSettled : KeyValues → List ℕ → Options → Options → Type 0
-IsSettled keys token options settled =
+abbrev pub ChoosesAlgorithm : KeyValues → List ℕ → Options → Options → Type 0
+ChoosesAlgorithm keys token options settled =
     ((options.algorithms ≢ []) × (settled ≡ options))
     ⊎ ((options.algorithms ≡ []) × ((own : Option Algorithm) × IsOwnOf (source_of keys) token own
     × (settled ≡ with_algorithms options (listed own))))
 
 -- how an accepted token is written
-abbrev pub form_asked : Verification → OutputForm
+abbrev pub form_asked : VerifyArgs → OutputForm
 form_asked v = if v.is_json then Json else if v.has_header then HeaderAndClaims else Claims
 
 -- the type that the header has to have, if one is asked for
-abbrev pub type_asked : Verification → Option (List ℕ)
+abbrev pub type_asked : VerifyArgs → Option (List ℕ)
 type_asked v = option_map (λ t. t.now) v.typ
 
 -- status and output for the bytes of a token, less their line end, under these keys and options
-abbrev pub IsTokenAnswer : Verification → LoadedKeys → Options → List ℕ → ℕ → OutputForm → ℕ → List ℕ → Type 0
+abbrev pub IsTokenAnswer : VerifyArgs → LoadedKeys → Options → List ℕ → ℕ → OutputForm → ℕ → List ℕ → Type 0
 IsTokenAnswer v loaded options bytes time form status output =
     (token : List ℕ) × IsLessLineEnd bytes token
-    × ((settled : Options) × IsSettled loaded.keys token options settled
+    × ((settled : Options) × ChoosesAlgorithm loaded.keys token options settled
     × IsVerifyAnswer token loaded.keys settled time (type_asked v) form status output)
 
 -- the status of `explain`, which is that of `verify`
-abbrev pub IsTokenVerdict : Verification → LoadedKeys → Options → List ℕ → ℕ → ℕ → Type 0
+abbrev pub IsTokenVerdict : VerifyArgs → LoadedKeys → Options → List ℕ → ℕ → ℕ → Type 0
 IsTokenVerdict v loaded options bytes time status =
     (token : List ℕ) × IsLessLineEnd bytes token
-    × ((settled : Options) × IsSettled loaded.keys token options settled
+    × ((settled : Options) × ChoosesAlgorithm loaded.keys token options settled
     × IsVerdict token loaded.keys settled time (type_asked v) status)
 
 -- the keys and the options are those of the arguments, with the files that they name; if these name no algorithm, that of
 -- the one key is listed
-abbrev pub AreAsked : Verification → LoadedKeys → Options → Type 0
+abbrev pub AreAsked : VerifyArgs → LoadedKeys → Options → Type 0
 AreAsked v loaded options =
     (key : List ℕ) × AreLoaded v.key key loaded.keys loaded.own
     × ((file : Option (List ℕ)) × (is_some file ≡ is_some v.checks.options)
@@ -85,7 +85,7 @@ AreAsked v loaded options =
     × (options ≡ with_key_algorithm loaded.own requested)))
 
 -- the answer of `verify` to a token
-abbrev pub IsVerification : Verification → ℕ → List ℕ → Type 0
+abbrev pub IsVerification : VerifyArgs → ℕ → List ℕ → Type 0
 IsVerification v status output =
     (bytes : List ℕ) × IsGivenToken v.token bytes
     × ((time : ℕ) × IsGiven v.time time
@@ -93,7 +93,7 @@ IsVerification v status output =
     × IsTokenAnswer v loaded options bytes time (form_asked v) status output)))
 
 -- the status of `explain`
-abbrev pub IsExplanation : Verification → ℕ → Type 0
+abbrev pub IsExplanation : VerifyArgs → ℕ → Type 0
 IsExplanation v status =
     (bytes : List ℕ) × IsGivenToken v.token bytes
     × ((time : ℕ) × IsGiven v.time time
@@ -101,14 +101,14 @@ IsExplanation v status =
     × IsTokenVerdict v loaded options bytes time status)))
 
 -- status and output of `sign`, by the bytes of the secret's file and of the claims; the secret is one that is taken
-abbrev pub IsSigned : Signing → List ℕ → List ℕ → ℕ → ℕ → List ℕ → Type 0
+abbrev pub IsSigned : SignArgs → List ℕ → List ℕ → ℕ → ℕ → List ℕ → Type 0
 IsSigned s key text time status output =
     (secret : List ℕ) × IsSecret s.secret.is_trimmed key secret × IsTaken s.secret.allows_key secret
     × ((members : Members) × IsJson text (object members)
     × IsSignAnswer (header_asked s.draft) (object (members_with_times s.draft time members)) secret status output)
 
 -- the answer of `sign`
-abbrev pub IsSigning : Signing → ℕ → List ℕ → Type 0
+abbrev pub IsSigning : SignArgs → ℕ → List ℕ → Type 0
 IsSigning s status output =
     (key : List ℕ) × (text : List ℕ)
     × ((time : ℕ) × IsGiven s.draft.time time × IsSigned s key text time status output)
@@ -128,13 +128,13 @@ AreGiven (Some file) (Some keys) =
     (bytes : List ℕ) × ((own : Option Algorithm) × AreLoaded file bytes keys own)
 
 -- status and output of `sign` for the signature of another program, by the signing input and the bytes of the signature's file
-abbrev pub IsAttaching : Attaching → ℕ → List ℕ → Type 0
+abbrev pub IsAttaching : AttachArgs → ℕ → List ℕ → Type 0
 IsAttaching a status output =
     (input : List ℕ) × (file : List ℕ)
     × ((keys : Option KeyValues) × AreGiven a.key keys × IsAttached input file keys status output)
 
 -- the status of a line, which is a token
-abbrev pub IsLineStatus : Verification → LoadedKeys → Options → ℕ → Type 0
+abbrev pub IsLineStatus : VerifyArgs → LoadedKeys → Options → ℕ → Type 0
 IsLineStatus v loaded options status =
     (bytes : List ℕ) × ((time : ℕ) × IsGiven v.time time
     × ((output : List ℕ) × IsTokenAnswer v loaded options bytes time Line status output))
@@ -150,13 +150,13 @@ Each P [] = ⊤
 Each P (n ∷ ns) = P n × Each P ns
 
 -- the greatest status of some lines; that these are all lines of the input, it can't say
-abbrev pub IsLinesStatus : Verification → LoadedKeys → Options → ℕ → Type 0
+abbrev pub IsLinesStatus : VerifyArgs → LoadedKeys → Options → ℕ → Type 0
 IsLinesStatus v loaded options status =
     (statuses : List ℕ) × Each (IsLineStatus v loaded options) statuses
     × (status ≡ greatest_status statuses)
 
 -- the status of `verify` for many lines
-abbrev pub AreVerified : Verification → ℕ → Type 0
+abbrev pub AreVerified : VerifyArgs → ℕ → Type 0
 AreVerified v status =
     (loaded : LoadedKeys) × ((options : Options) × AreAsked v loaded options
     × IsLinesStatus v loaded options status)
@@ -170,7 +170,7 @@ IsReadable token status =
     × (status ≡ 1))
 
 -- the status of `show`
-abbrev pub IsShown : Showing → ℕ → Type 0
+abbrev pub IsShown : ShowArgs → ℕ → Type 0
 IsShown s status =
     (bytes : List ℕ) × IsGivenToken s.token bytes
     × ((token : List ℕ) × IsLessLineEnd bytes token × IsReadable token status)

@@ -1,22 +1,22 @@
 //! Refusals in sentences.
 
-use crate::verify::verdict::Denial;
+use crate::verify::verdict::TokenRefusal;
 use jsonwebtoken::errors::{Error, ErrorKind};
 use std::alloc::{AllocError, Global};
 
-/// Returns the name of a denial: the kind of its error, or that of another type.
-pub fn denial_name(denial: &Denial) -> &'static str {
-    match denial {
-        Denial::Refused(refusal) => refusal.error.kind().name(),
-        Denial::OtherType => "InvalidType",
+/// Returns the name of a refusal: the kind of its error, or that of another type.
+pub fn refusal_name(reason: &TokenRefusal) -> &'static str {
+    match reason {
+        TokenRefusal::Refused(refusal) => refusal.error.kind().name(),
+        TokenRefusal::OtherType => "InvalidType",
     }
 }
 
-/// Returns the claim that a denial names.
-pub fn denied_claim(denial: &Denial) -> Option<&str> {
-    match denial {
-        Denial::Refused(refusal) => named_claim(&refusal.error),
-        Denial::OtherType => None,
+/// Returns the claim that a refusal names.
+pub fn refused_claim(reason: &TokenRefusal) -> Option<&str> {
+    match reason {
+        TokenRefusal::Refused(refusal) => named_claim(&refusal.error),
+        TokenRefusal::OtherType => None,
     }
 }
 
@@ -42,21 +42,21 @@ const MORE: &str = "'jwt explain' with the same arguments says more\n";
 const OTHER_TYPE: &str = "refused: InvalidType: the token's 'typ' is not that of --typ\n";
 
 /// Returns the line that says why a token is not accepted.
-pub fn denial_line(alloc: Global, denial: &Denial) -> Result<String, AllocError> {
-    match denial {
-        Denial::Refused(refusal) => error_line(alloc, &refusal.error),
-        Denial::OtherType => String::from_str(alloc, OTHER_TYPE),
+pub fn token_refusal_line(alloc: Global, reason: &TokenRefusal) -> Result<String, AllocError> {
+    match reason {
+        TokenRefusal::Refused(refusal) => error_line(alloc, &refusal.error),
+        TokenRefusal::OtherType => String::from_str(alloc, OTHER_TYPE),
     }
 }
 
 /// Returns the lines that say why a token is not accepted by keys of a file.
-pub fn denial_lines(
+pub fn token_refusal_lines(
     alloc: Global,
-    denial: &Denial,
+    reason: &TokenRefusal,
     has_line_end: bool,
 ) -> Result<String, AllocError> {
-    let mut lines = denial_line(alloc, denial)?;
-    let Denial::Refused(refusal) = denial else {
+    let mut lines = token_refusal_line(alloc, reason)?;
+    let TokenRefusal::Refused(refusal) = reason else {
         return Ok(lines);
     };
     if has_line_end && matches!(refusal.error.kind(), ErrorKind::InvalidSignature) {

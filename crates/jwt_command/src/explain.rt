@@ -4,7 +4,7 @@ ghost use Rattle.std.specs.Prelude.{◌≡◌, IfOk, option_map};
 ghost use Rattle.jwt_validation.specs.Options.{Options};
 ghost use Rattle.jwt_validation.specs.OptionsOf.{options_of};
 ghost use Rattle.jwt_command.specs.Answers.{IsVerdict};
-ghost use Rattle.jwt_command.specs.Commands.{IsSettled};
+ghost use Rattle.jwt_command.specs.Commands.{ChoosesAlgorithm};
 
 pub(crate) mod claim_findings;
 pub(crate) mod explanation;
@@ -14,7 +14,7 @@ pub(crate) mod part_findings;
 pub(crate) mod signature_findings;
 pub(crate) mod wrappings;
 
-use crate::advice::denial_name;
+use crate::advice::refusal_name;
 use crate::answer::Answer;
 use crate::explain::claim_findings::{ClaimFailure, claim_failures, python_lines};
 use crate::explain::explanation::{
@@ -28,7 +28,7 @@ use crate::request::Checks;
 use crate::times::claim_lines;
 use crate::verify::case::Case;
 use crate::verify::options::strict_validation;
-use crate::verify::verdict::{Denial, denial_of};
+use crate::verify::verdict::{TokenRefusal, refusal_of};
 use jsonwebtoken::{Header, Moments, Test, Validation, claimed_moments, decode_header, validate};
 use serde_json::Value;
 use std::alloc::{AllocError, Global};
@@ -46,14 +46,14 @@ pub fn explain_answer(
 ) -> Result<Answer, Fault<'static>>
     ensures { let keys = case.entry.loaded.now.keys in let token = case.entry.token.now in
         IfOk result (λ a. (settled : Options)
-        × IsSettled keys token (options_of validation.now) settled
+        × ChoosesAlgorithm keys token (options_of validation.now) settled
         × IsVerdict token keys settled case.entry.time (option_map (λ s. s.now) case.entry.typ)
         a.status) }
 {
-    let denial = denial_of(alloc, case, validation)?;
-    match denial {
+    let reason = refusal_of(alloc, case, validation)?;
+    match reason {
         None => explain_acceptance(alloc, case, validation, checks, form),
-        Some(denial) => explain_denial(alloc, case, validation, &denial, form),
+        Some(reason) => explain_refusal(alloc, case, validation, &reason, form),
     }
 }
 
@@ -122,11 +122,11 @@ pub fn outcome_of(
     alloc: Global,
     case: Case<'_>,
     validation: &Validation,
-    denial: &Denial,
+    reason: &TokenRefusal,
 ) -> Result<Outcome, Fault<'static>> {
-    match denial {
-        Denial::OtherType => Ok(Outcome::OtherType(type_finding(alloc, case)?)),
-        Denial::Refused(refusal) => Ok(Outcome::Failed(
+    match reason {
+        TokenRefusal::OtherType => Ok(Outcome::OtherType(type_finding(alloc, case)?)),
+        TokenRefusal::Refused(refusal) => Ok(Outcome::Failed(
             refusal.test,
             findings_of(alloc, case, validation, refusal)?,
         )),
@@ -242,17 +242,17 @@ fn explanation_text(
     }
 }
 
-fn explain_denial(
+fn explain_refusal(
     alloc: Global,
     case: Case<'_>,
     validation: &Validation,
-    denial: &Denial,
+    reason: &TokenRefusal,
     form: ExplanationForm,
 ) -> Result<Answer, Fault<'static>>
     ensures { IfOk result (λ a. a.status ≡ 1) }
 {
-    let outcome = outcome_of(alloc, case, validation, denial)?;
-    let kind = Some(denial_name(denial));
+    let outcome = outcome_of(alloc, case, validation, reason)?;
+    let kind = Some(refusal_name(reason));
     let explanation = explanation_of(alloc, case, validation, outcome, kind, None)?;
     let output = explanation_text(alloc, &explanation, form);
     drop(explanation);

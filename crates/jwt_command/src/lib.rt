@@ -24,7 +24,7 @@ use answer::write_output;
 use clap::ArgMatches;
 use fault::Fault;
 use request::arguments::command;
-use request::{Request, request_asked};
+use request::{Request, parse_request};
 use run::answer;
 use serde_json::Value;
 use std::alloc::{AllocError, Global};
@@ -42,7 +42,7 @@ pub fn run_command<T: Runtime + AllocGlobal, W: Write>(
     ensures { IsFaultStatus result ⊎ ((r : Request) × IsRequestOf matches.now r
         × IsStatus r (W.contents writer.old) (W.contents writer.new) result) }
 {
-    match request_asked(rt.alloc(), matches) {
+    match parse_request(rt.alloc(), matches) {
         Ok(request) => write_answer(rt, &request, writer),
         Err(fault) => report_fault(rt, &fault),
     }

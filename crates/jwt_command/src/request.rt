@@ -66,7 +66,7 @@ pub struct Checks<'m, 'a> {
 /// The arguments of `verify`, which has no `--brief`, and `explain`, which has neither `--header` nor
 /// `--lines`.
 #[derive(Drop)]
-pub struct Verification<'m, 'a> {
+pub struct VerifyArgs<'m, 'a> {
     pub token: Option<&'a str>,
     pub key: KeyFile<'a>,
     pub checks: Checks<'m, 'a>,
@@ -93,14 +93,14 @@ pub struct Draft<'a> {
 
 /// The arguments of `sign` with a secret.
 #[derive(Clone, Copy)]
-pub struct Signing<'a> {
+pub struct SignArgs<'a> {
     pub draft: Draft<'a>,
     pub secret: SecretFile<'a>,
 }
 
 /// The arguments of `sign` with the signature of another program.
 #[derive(Clone, Copy)]
-pub struct Attaching<'a> {
+pub struct AttachArgs<'a> {
     /// The file of the signature.
     pub signature: &'a str,
     /// The file of the keys that the signature is verified with, if it is.
@@ -109,7 +109,7 @@ pub struct Attaching<'a> {
 
 /// The arguments of `show`.
 #[derive(Clone, Copy)]
-pub struct Showing<'a> {
+pub struct ShowArgs<'a> {
     pub token: Option<&'a str>,
     pub time: Option<u64>,
     pub is_json: bool,
@@ -117,14 +117,14 @@ pub struct Showing<'a> {
 
 /// The arguments of `keys`.
 #[derive(Clone, Copy)]
-pub struct Listing<'a> {
+pub struct KeysArgs<'a> {
     pub file: &'a str,
     pub is_json: bool,
 }
 
 /// The arguments of `thumbprint`.
 #[derive(Drop)]
-pub struct Digesting<'a> {
+pub struct ThumbprintArgs<'a> {
     pub file: &'a str,
     pub hash: ThumbprintHash,
 }
@@ -133,40 +133,40 @@ pub struct Digesting<'a> {
 #[derive(Drop)]
 pub enum Request<'m, 'a> {
     /// Verifies a token and prints its claims.
-    Verify(Verification<'m, 'a>),
+    Verify(VerifyArgs<'m, 'a>),
     /// Explains whether a token is accepted.
-    Explain(Verification<'m, 'a>),
+    Explain(VerifyArgs<'m, 'a>),
     /// Prints header and claims of a token, unverified.
-    Show(Showing<'a>),
+    Show(ShowArgs<'a>),
     /// Signs claims with a secret.
-    Sign(Signing<'a>),
+    Sign(SignArgs<'a>),
     /// Prints what another program has to sign.
     SigningInput(Draft<'a>),
     /// Prints the token of a signature that another program made.
-    Attach(Attaching<'a>),
+    Attach(AttachArgs<'a>),
     /// Prints a table of a key set.
-    Keys(Listing<'a>),
+    Keys(KeysArgs<'a>),
     /// Prints the JSON Web Key of the key in PEM of a file.
     Jwk(&'a str),
     /// Prints the thumbprint of a key.
-    Thumbprint(Digesting<'a>),
+    Thumbprint(ThumbprintArgs<'a>),
 }
 
 /// Returns the request of the arguments.
-pub fn request_asked<'m, 'a: 'm>(
+pub fn parse_request<'m, 'a: 'm>(
     alloc: Global,
     matches: &'m ArgMatches<'a>,
 ) -> Result<Request<'m, 'a>, Fault<'static>>
     ensures { IfOk result (IsRequestOf matches.now) }
 {
     match matches.subcommand() {
-        Some((name, found)) => command_asked(alloc, name, found),
+        Some((name, found)) => parse_command(alloc, name, found),
         None => Err(Fault::Usage("a command is needed")),
     }
 }
 
 /// Returns the request of a command and its arguments.
-fn command_asked<'m, 'a: 'm>(
+fn parse_command<'m, 'a: 'm>(
     alloc: Global,
     name: &str,
     found: &'m ArgMatches<'a>,
@@ -174,36 +174,36 @@ fn command_asked<'m, 'a: 'm>(
     ensures { IfOk result (IsCommand name.now (found_of found.now)) }
 {
     match name {
-        "verify" => verification_asked(alloc, found).map(Request::Verify),
-        "explain" => explanation_asked(alloc, found).map(Request::Explain),
-        "show" => showing_asked(found).map(Request::Show),
-        "sign" => signing_asked(found),
-        "keys" => Ok(Request::Keys(listing_asked(found))),
+        "verify" => parse_verify(alloc, found).map(Request::Verify),
+        "explain" => parse_explain(alloc, found).map(Request::Explain),
+        "show" => parse_show(found).map(Request::Show),
+        "sign" => parse_sign(found),
+        "keys" => Ok(Request::Keys(parse_keys(found))),
         "jwk" => Ok(Request::Jwk(file(found))),
-        "thumbprint" => digesting_asked(found).map(Request::Thumbprint),
+        "thumbprint" => parse_thumbprint(found).map(Request::Thumbprint),
         _ => Err(Fault::Usage("a command is needed")),
     }
 }
 
-fn verification_asked<'m, 'a: 'm>(
+fn parse_verify<'m, 'a: 'm>(
     alloc: Global,
     matches: &'m ArgMatches<'a>,
-) -> Result<Verification<'m, 'a>, Fault<'static>>
+) -> Result<VerifyArgs<'m, 'a>, Fault<'static>>
     ensures { IfOk result (λ v. IsChecking (found_of matches.now) v
         × IsFlag (found_of matches.now) (codes "header") v.has_header
         × AreLinesAsked (found_of matches.now) v.is_lines) }
 {
-    let is_lines = lines_asked(matches)?;
-    let mut request = checking_asked(alloc, matches)?;
+    let is_lines = parse_lines(matches)?;
+    let mut request = parse_verification(alloc, matches)?;
     request.has_header = matches.get_flag("header");
     request.is_lines = is_lines;
     Ok(request)
 }
 
-fn explanation_asked<'m, 'a: 'm>(
+fn parse_explain<'m, 'a: 'm>(
     alloc: Global,
     matches: &'m ArgMatches<'a>,
-) -> Result<Verification<'m, 'a>, Fault<'static>>
+) -> Result<VerifyArgs<'m, 'a>, Fault<'static>>
     ensures { IfOk result (λ v. IsChecking (found_of matches.now) v
         × (v.has_header ≡ false) × (v.is_lines ≡ false)
         × IsFlag (found_of matches.now) (codes "brief") v.is_brief) }
@@ -212,13 +212,13 @@ fn explanation_asked<'m, 'a: 'm>(
     if is_brief && matches.get_flag("json") {
         return Err(Fault::Usage("--brief and --json ask for two forms of an answer"));
     }
-    let mut request = checking_asked(alloc, matches)?;
+    let mut request = parse_verification(alloc, matches)?;
     request.is_brief = is_brief;
     Ok(request)
 }
 
 /// Returns whether each line of standard input is a token. No token may stand beside `--lines`.
-fn lines_asked(matches: &ArgMatches<'_>) -> Result<bool, Fault<'static>>
+fn parse_lines(matches: &ArgMatches<'_>) -> Result<bool, Fault<'static>>
     ensures { IfOk result (λ is_lines. AreLinesAsked (found_of matches.now) is_lines) }
 {
     let is_lines = matches.get_flag("lines");
@@ -236,19 +236,19 @@ fn lines_asked(matches: &ArgMatches<'_>) -> Result<bool, Fault<'static>>
 }
 
 /// Returns the arguments that `verify` and `explain` share.
-fn checking_asked<'m, 'a: 'm>(
+fn parse_verification<'m, 'a: 'm>(
     alloc: Global,
     matches: &'m ArgMatches<'a>,
-) -> Result<Verification<'m, 'a>, Fault<'static>>
+) -> Result<VerifyArgs<'m, 'a>, Fault<'static>>
     ensures { IfOk result (λ v. IsChecking (found_of matches.now) v
         × (v.has_header ≡ false) × (v.is_lines ≡ false)) }
 {
-    Ok(Verification {
+    Ok(VerifyArgs {
         token: matches.get_str("token"),
         key: key_file(matches)?,
         typ: matches.get_str("typ"),
         time: time(matches, "now")?,
-        checks: checks_asked(alloc, matches)?,
+        checks: parse_checks(alloc, matches)?,
         has_header: false,
         is_json: matches.get_flag("json"),
         is_lines: false,
@@ -305,7 +305,7 @@ fn time(matches: &ArgMatches<'_>, id: &str) -> Result<Option<u64>, Fault<'static
     }
 }
 
-fn checks_asked<'m, 'a: 'm>(
+fn parse_checks<'m, 'a: 'm>(
     alloc: Global,
     matches: &'m ArgMatches<'a>,
 ) -> Result<Checks<'m, 'a>, Fault<'static>>
@@ -410,10 +410,10 @@ fn algorithm(name: &str) -> Result<Algorithm, Fault<'static>>
     }
 }
 
-fn showing_asked<'a>(matches: &ArgMatches<'a>) -> Result<Showing<'a>, Fault<'static>>
+fn parse_show<'a>(matches: &ArgMatches<'a>) -> Result<ShowArgs<'a>, Fault<'static>>
     ensures { IfOk result (IsShowing (found_of matches.now)) }
 {
-    Ok(Showing {
+    Ok(ShowArgs {
         token: matches.get_str("token"),
         time: time(matches, "now")?,
         is_json: matches.get_flag("json"),
@@ -422,27 +422,27 @@ fn showing_asked<'a>(matches: &ArgMatches<'a>) -> Result<Showing<'a>, Fault<'sta
 
 /// Returns the request of `sign`: for the token of a signature that is given, for what is to be
 /// signed, or for the token of a secret.
-fn signing_asked<'m, 'a: 'm>(matches: &ArgMatches<'a>) -> Result<Request<'m, 'a>, Fault<'static>>
+fn parse_sign<'m, 'a: 'm>(matches: &ArgMatches<'a>) -> Result<Request<'m, 'a>, Fault<'static>>
     ensures { IfOk result (IsCommand (codes "sign") (found_of matches.now)) }
 {
     if let Some(signature) = matches.get_str("signature") {
-        return attaching_asked(matches, signature).map(Request::Attach);
+        return parse_attach(matches, signature).map(Request::Attach);
     }
     if matches.get_flag("signing-input") {
-        return unsigned_asked(matches).map(Request::SigningInput);
+        return parse_signing_input(matches).map(Request::SigningInput);
     }
-    secret_asked(matches).map(Request::Sign)
+    parse_sign_by_secret(matches).map(Request::Sign)
 }
 
 /// Returns the arguments for the token of this signature.
-fn attaching_asked<'a>(
+fn parse_attach<'a>(
     matches: &ArgMatches<'a>,
     signature: &'a str,
-) -> Result<Attaching<'a>, Fault<'static>>
+) -> Result<AttachArgs<'a>, Fault<'static>>
     ensures { IfOk result (λ a. (a.signature ≡ signature.entry)
         × IsKeyGiven (found_of matches.now) a.key) }
 {
-    Ok(Attaching {
+    Ok(AttachArgs {
         signature,
         key: given_key_file(matches)?,
     })
@@ -463,30 +463,30 @@ fn given_key_file<'a>(matches: &ArgMatches<'a>) -> Result<Option<KeyFile<'a>>, F
 }
 
 /// Returns the arguments for what another program has to sign, which no secret signs.
-fn unsigned_asked<'a>(matches: &ArgMatches<'a>) -> Result<Draft<'a>, Fault<'static>>
+fn parse_signing_input<'a>(matches: &ArgMatches<'a>) -> Result<Draft<'a>, Fault<'static>>
     ensures { IfOk result (λ d. IsDraftOf (found_of matches.now) d
         × (family_of d.algorithm ≢ Hmac)) }
 {
-    let draft = draft_asked(matches)?;
+    let draft = parse_draft(matches)?;
     if is_of_secret(draft.algorithm) {
         return Err(Fault::Usage("--signing-input wants --alg with RSA or a curve, such as RS256"));
     }
     Ok(draft)
 }
 
-fn secret_asked<'a>(matches: &ArgMatches<'a>) -> Result<Signing<'a>, Fault<'static>>
+fn parse_sign_by_secret<'a>(matches: &ArgMatches<'a>) -> Result<SignArgs<'a>, Fault<'static>>
     ensures { IfOk result (IsSigningOf (found_of matches.now)) }
 {
     let Some(path) = matches.get_str("secret-file") else {
         return Err(Fault::Usage("one of --secret-file, --signing-input and --signature is needed"));
     };
-    Ok(Signing {
+    Ok(SignArgs {
         secret: secret_file(matches, path),
-        draft: draft_asked(matches)?,
+        draft: parse_draft(matches)?,
     })
 }
 
-fn draft_asked<'a>(matches: &ArgMatches<'a>) -> Result<Draft<'a>, Fault<'static>>
+fn parse_draft<'a>(matches: &ArgMatches<'a>) -> Result<Draft<'a>, Fault<'static>>
     ensures { IfOk result (IsDraftOf (found_of matches.now)) }
 {
     Ok(Draft {
@@ -509,21 +509,21 @@ fn draft_asked<'a>(matches: &ArgMatches<'a>) -> Result<Draft<'a>, Fault<'static>
     })
 }
 
-fn listing_asked<'a>(matches: &ArgMatches<'a>) -> Listing<'a>
+fn parse_keys<'a>(matches: &ArgMatches<'a>) -> KeysArgs<'a>
     ensures { IsFile (found_of matches.now) result.file
         × IsFlag (found_of matches.now) (codes "json") result.is_json }
 {
-    Listing {
+    KeysArgs {
         file: file(matches),
         is_json: matches.get_flag("json"),
     }
 }
 
-fn digesting_asked<'a>(matches: &ArgMatches<'a>) -> Result<Digesting<'a>, Fault<'static>>
+fn parse_thumbprint<'a>(matches: &ArgMatches<'a>) -> Result<ThumbprintArgs<'a>, Fault<'static>>
     ensures { IfOk result (λ d. IsFile (found_of matches.now) d.file
         × IsHash (first_value (found_of matches.now) (codes "hash")) d.hash) }
 {
-    Ok(Digesting {
+    Ok(ThumbprintArgs {
         file: file(matches),
         hash: hash(matches)?,
     })

@@ -23,7 +23,7 @@ use crate::keys::table::keys_answer;
 use crate::keys::thumbprint::thumbprint_answer;
 use crate::keys::{LoadedKeys, Preparation, given_secret, load, names_algorithm};
 use crate::request::{
-    Attaching, Digesting, Draft, KeyFile, Listing, Request, Showing, Signing, Verification,
+    AttachArgs, Draft, KeyFile, KeysArgs, Request, ShowArgs, SignArgs, ThumbprintArgs, VerifyArgs,
 };
 use crate::show::show_answer;
 use crate::sign::by_signature::{attached_answer, input_answer};
@@ -62,7 +62,7 @@ pub fn answer<'a, R: Files + Input + Print + Eprint + Clock + AllocGlobal>(
 /// how many tokens were accepted and refused.
 fn run_verify_lines<'a, R: Files + Input + Print + Eprint + Clock + AllocGlobal>(
     rt: &R,
-    request: &Verification<'_, 'a>,
+    request: &VerifyArgs<'_, 'a>,
 ) -> Result<Answer, Fault<'a>>
     ensures { IfOk result (λ a. AreVerified request.entry.now a.status) }
 {
@@ -85,7 +85,7 @@ fn run_verify_lines<'a, R: Files + Input + Print + Eprint + Clock + AllocGlobal>
 /// file name an algorithm, the keys have to.
 fn keys_and_options<'a, R: Files + AllocGlobal>(
     rt: &R,
-    request: &Verification<'_, 'a>,
+    request: &VerifyArgs<'_, 'a>,
 ) -> Result<(LoadedKeys, Validation), Fault<'a>>
     ensures { IfOk result (λ p. AreAsked request.entry.now p.0 (options_of p.1)) }
 {
@@ -118,7 +118,7 @@ fn options_bytes<'a, R: Files + AllocGlobal>(
 /// no algorithm, the keys have to, and that of one key is listed in the options.
 fn keys_for<'a, R: Files + AllocGlobal>(
     rt: &R,
-    request: &Verification<'_, 'a>,
+    request: &VerifyArgs<'_, 'a>,
     validation: &mut Validation,
 ) -> Result<LoadedKeys, Fault<'a>>
     ensures { IfOk result (λ l. ((key : List ℕ)
@@ -167,7 +167,7 @@ fn path_of<'a>(file: KeyFile<'a>) -> &'a str {
 
 fn run_verify<'a, R: Files + Input + Clock + AllocGlobal>(
     rt: &R,
-    request: &Verification<'_, 'a>,
+    request: &VerifyArgs<'_, 'a>,
 ) -> Result<Answer, Fault<'a>>
     ensures { IfOk result (λ a. IsVerification request.entry.now a.status (string_bytes a.output)) }
 {
@@ -182,7 +182,7 @@ fn run_verify<'a, R: Files + Input + Clock + AllocGlobal>(
 /// Returns the answer of `verify` under these keys and options.
 fn verify_token<R: Files + Input + Clock + AllocGlobal>(
     rt: &R,
-    request: &Verification<'_, '_>,
+    request: &VerifyArgs<'_, '_>,
     loaded: &LoadedKeys,
     validation: &Validation,
 ) -> Result<Answer, Fault<'static>>
@@ -220,7 +220,7 @@ fn token_bytes<R: Files + Input + AllocGlobal>(
     }
 }
 
-fn form(request: &Verification<'_, '_>) -> OutputForm
+fn form(request: &VerifyArgs<'_, '_>) -> OutputForm
     ensures { result ≡ form_asked request.entry.now }
 {
     if request.is_json {
@@ -234,7 +234,7 @@ fn form(request: &Verification<'_, '_>) -> OutputForm
 
 fn run_explain<'a, R: Files + Input + Clock + AllocGlobal>(
     rt: &R,
-    request: &Verification<'_, 'a>,
+    request: &VerifyArgs<'_, 'a>,
 ) -> Result<Answer, Fault<'a>>
     ensures { IfOk result (λ a. IsExplanation request.entry.now a.status) }
 {
@@ -249,7 +249,7 @@ fn run_explain<'a, R: Files + Input + Clock + AllocGlobal>(
 /// Returns the answer of `explain` under these keys and options.
 fn explain_token<R: Files + Input + Clock + AllocGlobal>(
     rt: &R,
-    request: &Verification<'_, '_>,
+    request: &VerifyArgs<'_, '_>,
     loaded: &LoadedKeys,
     validation: &Validation,
 ) -> Result<Answer, Fault<'static>>
@@ -275,7 +275,7 @@ fn explain_token<R: Files + Input + Clock + AllocGlobal>(
     )
 }
 
-fn explanation_form(request: &Verification<'_, '_>) -> ExplanationForm {
+fn explanation_form(request: &VerifyArgs<'_, '_>) -> ExplanationForm {
     if request.is_json {
         ExplanationForm::Json
     } else if request.is_brief {
@@ -287,7 +287,7 @@ fn explanation_form(request: &Verification<'_, '_>) -> ExplanationForm {
 
 fn run_show<'a, R: Files + Input + Clock + AllocGlobal>(
     rt: &R,
-    request: &Showing<'a>,
+    request: &ShowArgs<'a>,
 ) -> Result<Answer, Fault<'a>>
     ensures { IfOk result (λ a. IsShown request.entry.now a.status) }
 {
@@ -298,7 +298,7 @@ fn run_show<'a, R: Files + Input + Clock + AllocGlobal>(
 
 fn run_sign<'a, R: Files + Input + Clock + AllocGlobal>(
     rt: &R,
-    request: &Signing<'a>,
+    request: &SignArgs<'a>,
 ) -> Result<Answer, Fault<'a>>
     ensures { IfOk result (λ a. IsSigning request.entry.now a.status (string_bytes a.output)) }
 {
@@ -322,7 +322,7 @@ fn claims_bytes<'a, R: Files + Input + AllocGlobal>(
 /// Returns the answer of `sign` for the bytes of the secret's file and of the claims.
 fn sign_claims<'a>(
     alloc: Global,
-    request: &Signing<'a>,
+    request: &SignArgs<'a>,
     key: &[u8],
     text: &[u8],
     time: u64,
@@ -350,7 +350,7 @@ fn run_signing_input<'a, R: Files + Input + Clock + AllocGlobal>(
 /// Returns the token of the signing input on standard input and of the signature that a file has.
 fn run_attach<'a, R: Files + Input + AllocGlobal>(
     rt: &R,
-    request: &Attaching<'a>,
+    request: &AttachArgs<'a>,
 ) -> Result<Answer, Fault<'a>>
     ensures { IfOk result (λ a. IsAttaching request.entry.now a.status (string_bytes a.output)) }
 {
@@ -387,7 +387,7 @@ fn attach_verified<'a, R: Files + AllocGlobal>(
 
 fn run_keys<'a, R: Files + Input + AllocGlobal>(
     rt: &R,
-    request: &Listing<'a>,
+    request: &KeysArgs<'a>,
 ) -> Result<Answer, Fault<'a>>
     ensures { IfOk result (λ a. a.status ≡ 0) }
 {
@@ -417,7 +417,7 @@ fn run_jwk<'a, R: Files + Input + AllocGlobal>(rt: &R, path: &'a str) -> Result<
 
 fn run_thumbprint<'a, R: Files + Input + AllocGlobal>(
     rt: &R,
-    request: &Digesting<'a>,
+    request: &ThumbprintArgs<'a>,
 ) -> Result<Answer, Fault<'a>>
     ensures { IfOk result (λ a. a.status ≡ 0) }
 {

@@ -6,14 +6,14 @@ ghost use Rattle.jwt_validation.specs.Options.{Options};
 ghost use Rattle.jwt_validation.specs.OptionsOf.{options_of};
 ghost use Rattle.jwt_command.specs.Answers.{IsHeaderLine, IsAcceptedText, IsRefusedText};
 ghost use Rattle.jwt_command.specs.Answers.{IsVerifyAnswer};
-ghost use Rattle.jwt_command.specs.Commands.{IsSettled};
+ghost use Rattle.jwt_command.specs.Commands.{ChoosesAlgorithm};
 
 pub(crate) mod case;
 pub(crate) mod lines;
 pub(crate) mod options;
 pub(crate) mod verdict;
 
-use crate::advice::{denial_lines, denial_name, denied_claim};
+use crate::advice::{refusal_name, refused_claim, token_refusal_lines};
 use crate::answer::{Answer, value_line};
 use crate::explain::explanation::first_finding;
 use crate::explain::findings::Finding;
@@ -21,7 +21,7 @@ use crate::explain::orders::TYPE_AGREES;
 use crate::explain::outcome_of;
 use crate::fault::Fault;
 use crate::verify::case::Case;
-use crate::verify::verdict::{Denial, judge};
+use crate::verify::verdict::{TokenRefusal, verify_with_type};
 use jsonwebtoken::{Header, TokenData, Validation};
 use serde_json::Value;
 use std::alloc::{AllocError, Global};
@@ -52,18 +52,18 @@ pub fn verify_answer(
 ) -> Result<Answer, Fault<'static>>
     ensures { let keys = case.entry.loaded.now.keys in let token = case.entry.token.now in
         IfOk result (λ a. (settled : Options)
-        × IsSettled keys token (options_of validation.now) settled
+        × ChoosesAlgorithm keys token (options_of validation.now) settled
         × IsVerifyAnswer token keys settled case.entry.time
         (option_map (λ s. s.now) case.entry.typ) form a.status (string_bytes a.output)) }
 {
-    match judge(alloc, case, validation)? {
+    match verify_with_type(alloc, case, validation)? {
         Ok(contents) => {
             let answer = accepted_answer(alloc, &contents, form);
             // dropped at one place: each exit by `?` would have to be proved to drop every field
             drop(contents);
             answer
         }
-        Err(denial) => denied_answer(alloc, case, validation, &denial, form),
+        Err(reason) => refused_answer(alloc, case, validation, &reason, form),
     }
 }
 
@@ -123,48 +123,48 @@ fn accepted_line(alloc: Global, claims: &Value) -> Result<String, AllocError> {
 }
 
 /// Returns the answer to a token that is not accepted.
-fn denied_answer(
+fn refused_answer(
     alloc: Global,
     case: Case<'_>,
     validation: &Validation,
-    denial: &Denial,
+    reason: &TokenRefusal,
     form: OutputForm,
 ) -> Result<Answer, Fault<'static>>
     ensures { IfOk result (λ a. (a.status ≡ 1) × IsRefusedText form (string_bytes a.output)) }
 {
-    let output = denied_text(alloc, case, validation, denial, form)?;
+    let output = refused_text(alloc, case, validation, reason, form)?;
     Ok(Answer {
         status: 1,
         output,
-        message: denial_lines(alloc, denial, case.loaded.has_line_end)?,
+        message: token_refusal_lines(alloc, reason, case.loaded.has_line_end)?,
     })
 }
 
-fn denied_text(
+fn refused_text(
     alloc: Global,
     case: Case<'_>,
     validation: &Validation,
-    denial: &Denial,
+    reason: &TokenRefusal,
     form: OutputForm,
 ) -> Result<String, Fault<'static>>
     ensures { IfOk result (λ text. IsRefusedText form (string_bytes text)) }
 {
     match form {
-        OutputForm::Json => denied_line(alloc, case, validation, denial),
-        OutputForm::Line => Ok(outcome_line(alloc, denial, None)?),
+        OutputForm::Json => refused_line(alloc, case, validation, reason),
+        OutputForm::Line => Ok(outcome_line(alloc, reason, None)?),
         _ => Ok(String::new(alloc)),
     }
 }
 
-/// Returns one line of JSON about a denial.
-fn denied_line(
+/// Returns one line of JSON about a refusal.
+fn refused_line(
     alloc: Global,
     case: Case<'_>,
     validation: &Validation,
-    denial: &Denial,
+    reason: &TokenRefusal,
 ) -> Result<String, Fault<'static>> {
-    let outcome = outcome_of(alloc, case, validation, denial)?;
-    let line = outcome_line(alloc, denial, first_finding(&outcome));
+    let outcome = outcome_of(alloc, case, validation, reason)?;
+    let line = outcome_line(alloc, reason, first_finding(&outcome));
     // dropped at one place: each exit by `?` would have to be proved to drop every field
     drop(outcome);
     Ok(line?)
@@ -172,11 +172,11 @@ fn denied_line(
 
 fn outcome_line(
     alloc: Global,
-    denial: &Denial,
+    reason: &TokenRefusal,
     finding: Option<&Finding>,
 ) -> Result<String, AllocError> {
     let mut line = String::from_str(alloc, "{\"ok\":false")?;
-    push_denial(&mut line, denial)?;
+    push_refusal(&mut line, reason)?;
     if let Some(finding) = finding {
         push_text(alloc, &mut line, "found", finding.found.as_str())?;
         push_text(alloc, &mut line, "wanted", finding.wanted.as_str())?;
@@ -185,13 +185,13 @@ fn outcome_line(
     Ok(line)
 }
 
-/// Adds the members about a denial.
-fn push_denial(line: &mut String, denial: &Denial) -> Result<(), AllocError> {
-    push_member(line, "kind", denial_name(denial))?;
-    if let Some(claim) = denied_claim(denial) {
+/// Adds the members about a refusal.
+fn push_refusal(line: &mut String, reason: &TokenRefusal) -> Result<(), AllocError> {
+    push_member(line, "kind", refusal_name(reason))?;
+    if let Some(claim) = refused_claim(reason) {
         push_member(line, "claim", claim)?;
     }
-    push_member(line, "test", failed_test_name(denial))
+    push_member(line, "test", failed_test_name(reason))
 }
 
 /// Adds a member whose text may need escapes.
@@ -213,9 +213,9 @@ fn push_member(line: &mut String, name: &str, text: &str) -> Result<(), AllocErr
 }
 
 /// Returns the name of the test that failed.
-fn failed_test_name(denial: &Denial) -> &'static str {
-    match denial {
-        Denial::Refused(refusal) => refusal.test.name(),
-        Denial::OtherType => TYPE_AGREES,
+fn failed_test_name(reason: &TokenRefusal) -> &'static str {
+    match reason {
+        TokenRefusal::Refused(refusal) => refusal.test.name(),
+        TokenRefusal::OtherType => TYPE_AGREES,
     }
 }

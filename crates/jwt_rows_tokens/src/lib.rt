@@ -4,7 +4,7 @@
 #![tactic(auto)]
 
 pub mod by_provider;
-pub mod elsewhere;
+pub mod external_signature;
 pub mod files;
 mod issue;
 mod jwks;

@@ -9,7 +9,7 @@ use Rattle.serde_json.specs.Data.{Data, Members, no_members, member}
 use Rattle.serde_json.specs.Find.{get, as_bool, as_str, as_object}
 use Rattle.jwt_base.specs.Members.{present, optional, read_option, is_named, texts}
 use Rattle.jwt_validation.specs.Options.{Options, defaults}
-use Rattle.jwt_validation.specs.OptionsRead.{option_names, has_other, HasOptionNames, as_whole, or_default, text_set}
+use Rattle.jwt_validation.specs.OptionsRead.{option_names, has_other, HasOptionNames, whole_number, or_default, text_set}
 use Rattle.jwt_validation.specs.OptionsRead.{algorithms_in, settled, usual_options, ReadsTimes}
 use Rattle.jwt_validation.specs.OptionsRead.{ReadsOptions, AreStrict, member_is, is_non_empty_list, is_claim_list, has_item}
 use Rattle.jwt_validation.specs.OptionsFault.{Shape, shapes, has_form, member_has_form, is_well, first_malformed, first_other}
@@ -152,8 +152,8 @@ times_read : (d : Data) (usual : Options) → member_has_form Whole (present (ge
     → member_has_form Flag (present (get (codes "validate_aud") d)) ≡ true
     → (l : ℕ) × (r : ℕ) × (e : Bool) × (n : Bool) × (a : Bool) × ReadsTimes d usual l r e n a
 times_read d usual wl wr we wn wa =
-    let (l, at_l) = default_read usual.leeway Whole as_whole (λ v. refl) (get (codes "leeway") d) wl in
-    let (r, at_r) = default_read usual.reject Whole as_whole (λ v. refl)
+    let (l, at_l) = default_read usual.leeway Whole whole_number (λ v. refl) (get (codes "leeway") d) wl in
+    let (r, at_r) = default_read usual.reject Whole whole_number (λ v. refl)
     (get (codes "reject_tokens_expiring_in_less_than") d) wr in
     let (e, at_e) = default_read usual.checks_exp Flag as_bool (λ v. refl) (get (codes "validate_exp") d) we in
     let (n, at_n) = default_read usual.checks_nbf Flag as_bool (λ v. refl) (get (codes "validate_nbf") d) wn in
@@ -219,9 +219,9 @@ read_faultless d o r =
     well_none d shapes (
       default_well defaults.required TextList text_set is_text_set (get (codes "required_spec_claims") d) _ m.required,
       (
-        default_well usual.leeway Whole as_whole (λ v. refl) (get (codes "leeway") d) _ t.at_leeway,
+        default_well usual.leeway Whole whole_number (λ v. refl) (get (codes "leeway") d) _ t.at_leeway,
         (
-          default_well usual.reject Whole as_whole (λ v. refl) (get (codes "reject_tokens_expiring_in_less_than") d) _
+          default_well usual.reject Whole whole_number (λ v. refl) (get (codes "reject_tokens_expiring_in_less_than") d) _
               t.at_reject,
           (
             default_well usual.checks_exp Flag as_bool (λ v. refl) (get (codes "validate_exp") d) _ t.at_exp,

@@ -118,5 +118,5 @@ NamesClaim (kind.InvalidClaimFormat claim) = ⊤
 NamesClaim _ = ⊥
 
 -- the error is of the kind, or memory ran out for the name that the kind holds
-abbrev pub Tells : Error → Kind → Type 0
-Tells e k = (kind_of e ≡ k) ⊎ (IsMemory e × NamesClaim k)
+abbrev pub IsErrorFor : Error → Kind → Type 0
+IsErrorFor e k = (kind_of e ≡ k) ⊎ (IsMemory e × NamesClaim k)

@@ -4,7 +4,7 @@ use Rattle.std.specs.Prelude.{if◌then◌else◌}
 use Rattle.serde_json.specs.Data.{Data, Members, no_members, member}
 use Rattle.serde_json.specs.Find.{get, as_bool, as_str, as_object}
 use Rattle.jwt_base.specs.Members.{present, is_named, texts}
-use Rattle.jwt_validation.specs.OptionsRead.{option_names, HasOptionNames, as_whole, algorithms_in, or_default}
+use Rattle.jwt_validation.specs.OptionsRead.{option_names, HasOptionNames, whole_number, algorithms_in, or_default}
 use Rattle.jwt_validation.specs.OptionsRead.{is_non_empty_list, is_claim_list}
 use Rattle.jwt_validation.specs.declared.fault.Form.{Form}
 use Rattle.jwt_validation.specs.declared.fault.Form.TheVariants.{Whole, Flag, OneText, TextList, AlgorithmList, NonEmptyList}
@@ -14,7 +14,7 @@ use Rattle.jwt_validation.specs.declared.fault.OptionsFault.TheVariants as fault
 
 -- whether the value has this form
 abbrev pub has_form : Form → Data → Bool
-has_form Whole d = is_some (as_whole d)
+has_form Whole d = is_some (whole_number d)
 has_form Flag d = is_some (as_bool d)
 has_form OneText d = is_some (as_str d)
 has_form TextList d = is_some (texts d)

@@ -24,8 +24,8 @@ abbrev pub HasOptionNames : Data → Type 0
 HasOptionNames d = option_map (has_other option_names) (as_object d) ≡ Some false
 
 -- a whole number from 0 to 2^64 - 1
-abbrev pub as_whole : Data → Option ℕ
-as_whole d = option_and_then as_u64 (as_number d)
+abbrev pub whole_number : Data → Option ℕ
+whole_number d = option_and_then as_u64 (as_number d)
 
 -- an optional member: the default if it is absent or null
 abbrev pub or_default : {A : Type 0} → A → (Data → Option A) → Option Data → Option A
@@ -50,9 +50,9 @@ usual_options is_strict = if is_strict then strict_options [] else defaults
 
 -- the times in seconds, and which claims are checked
 pub record ReadsTimes (d : Data) (usual : Options) (leeway reject : ℕ) (checks_exp checks_nbf checks_aud : Bool) : Type 0 where
-  pub at_leeway : or_default usual.leeway as_whole (get (codes "leeway") d) ≡ Some leeway
+  pub at_leeway : or_default usual.leeway whole_number (get (codes "leeway") d) ≡ Some leeway
   pub at_reject :
-      or_default usual.reject as_whole (get (codes "reject_tokens_expiring_in_less_than") d) ≡ Some reject
+      or_default usual.reject whole_number (get (codes "reject_tokens_expiring_in_less_than") d) ≡ Some reject
   pub at_exp : or_default usual.checks_exp as_bool (get (codes "validate_exp") d) ≡ Some checks_exp
   pub at_nbf : or_default usual.checks_nbf as_bool (get (codes "validate_nbf") d) ≡ Some checks_nbf
   pub at_aud : or_default usual.checks_aud as_bool (get (codes "validate_aud") d) ≡ Some checks_aud

@@ -10,7 +10,7 @@ ghost use Rattle.serde_json.specs.Find.{as_object};
 ghost use Rattle.serde_json.specs.View.{view};
 ghost use Rattle.jwt_base.specs.Kind.{Kind};
 ghost use Rattle.jwt_validation.specs.ClaimRules.{IsMissing, IsFirstBroken, Holds, RulesHold};
-ghost use Rattle.jwt_validation.specs.ClaimRules.{IsFault, Tells};
+ghost use Rattle.jwt_validation.specs.ClaimRules.{IsFault, IsErrorFor};
 ghost use Rattle.jwt_validation.specs.private_clauses.ClaimsSeen.{claims_seen};
 ghost use Rattle.jwt_validation.specs.Moments.{IsAcceptedWithin, Looser};
 ghost use Rattle.jwt_validation.specs.Options.{Options};
@@ -47,7 +47,7 @@ pub fn validate(alloc: Global, claims: &Value, options: &Validation, time: u64) 
     ensures ok { IsOk result ↔ (IsSome (as_object (view claims.now))
         × RulesHold (options_of options.now) (view claims.now) time) }
     ensures err { IfErr result (λ e. (k : Kind)
-        × IsFault (options_of options.now) (view claims.now) time k × Tells e k) }
+        × IsFault (options_of options.now) (view claims.now) time k × IsErrorFor e k) }
     ensures moments { IsOk result ↔ IsAcceptedWithin (options_of options.now)
         (view claims.now) time }
     ensures looser { OnOk result ((w : Options) → Looser (options_of options.now) w
@@ -64,7 +64,7 @@ fn check(alloc: Global, claims: &Value, options: &Validation, time: u64) -> Resu
     ensures ok { IsOk result ↔ (IsSome (as_object (view claims.now))
         × RulesHold (options_of options.now) (view claims.now) time) }
     ensures err { IfErr result (λ e. (k : Kind)
-        × IsFault (options_of options.now) (view claims.now) time k × Tells e k) }
+        × IsFault (options_of options.now) (view claims.now) time k × IsErrorFor e k) }
 {
     if !claims.is_object() {
         return Err(new_error(ErrorKind::Json));

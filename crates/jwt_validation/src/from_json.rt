@@ -15,7 +15,7 @@ ghost use Rattle.jwt_base.specs.Members.{optional};
 ghost use Rattle.jwt_validation.specs.Options.{Options, among, no_texts};
 ghost use Rattle.jwt_validation.specs.OptionsOf.{options_of};
 ghost use Rattle.jwt_validation.specs.OptionsRead.{option_names, has_other, HasOptionNames};
-ghost use Rattle.jwt_validation.specs.OptionsRead.{as_whole, or_default, text_set, algorithms_in};
+ghost use Rattle.jwt_validation.specs.OptionsRead.{whole_number, or_default, text_set, algorithms_in};
 ghost use Rattle.jwt_validation.specs.OptionsRead.{settled, usual_options, ReadsTimes};
 ghost use Rattle.jwt_validation.specs.OptionsRead.{AreStrict, ReadsMembers, ReadsOptions};
 
@@ -208,10 +208,10 @@ fn usual_times(is_strict: bool) -> Times
 }
 
 fn optional_number(value: &Value, name: &str, default: u64) -> Result<u64>
-    ensures ok { IfOk result (λ n. or_default default as_whole (get name.now (view value.now))
+    ensures ok { IfOk result (λ n. or_default default whole_number (get name.now (view value.now))
         ≡ Some n) }
     ensures err { IfErr result
-        (RefusesAs kind.Json (or_default default as_whole (get name.now (view value.now)) ≡ None)) }
+        (RefusesAs kind.Json (or_default default whole_number (get name.now (view value.now)) ≡ None)) }
 {
     match present(value, name) {
         None => Ok(default),

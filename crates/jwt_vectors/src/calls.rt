@@ -7,7 +7,9 @@ use jsonwebtoken::jwk::{
 };
 use jsonwebtoken::{Enc, Zip};
 use jwt_rows::{Answer, Row};
-use jwt_rows_tokens::{by_provider, elsewhere, files, keys, places, prepared, sizes, tokens};
+use jwt_rows_tokens::{
+    by_provider, external_signature, files, keys, places, prepared, sizes, tokens,
+};
 use jwt_rows_types::json::{json_call, membered_call, named_call};
 use jwt_rows_types::{extras, headers, jwks, operations, parameters};
 use jwt_rows_values::json::{are_equal, claims, value};
@@ -55,9 +57,9 @@ fn of_files(call: &str, row: &Row<'_>) -> Answer {
         | "dangerous::insecure_decode_claims"
         | "dangerous::insecure_decode_claims::<u64>" => tokens::read_token(call, row),
         "TokenData::debug" => tokens::debug_text(row),
-        "signing_input" => elsewhere::input(row),
-        "encode_by_signature" => elsewhere::encode(row),
-        "decode_by_verdict" => elsewhere::decode(row),
+        "signing_input" => external_signature::input(row),
+        "encode_by_signature" => external_signature::encode(row),
+        "decode_by_verdict" => external_signature::decode(row),
         "Jwk::thumbprint" | "Jwk::from_encoding_key" | "Jwk::from_decoding_key" => {
             by_provider::answer(call, row)
         }
@@ -91,8 +93,8 @@ fn of_value(name: &str, method: &str, call: &str, row: &Row<'_>) -> Answer {
         "DecodingKeyKind" => keys::kind(method, row),
         "PreparedHmac" => prepared::hmac(method, row),
         "PreparedRsa" => prepared::rsa(method, row),
-        "SignatureProvider" => elsewhere::signature(method, row),
-        "VerdictProvider" => elsewhere::verdict(method, row),
+        "SignatureProvider" => external_signature::signature(method, row),
+        "VerdictProvider" => external_signature::verdict(method, row),
         "Jws" => tokens::parts(method, row),
         _ => of_json(name, method, call, row),
     }

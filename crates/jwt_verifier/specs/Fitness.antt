@@ -9,8 +9,8 @@ use Rattle.jwt_keys.specs.KeyOfJwk.{IsKeyOf}
 use Rattle.jwt_keys.specs.declared.jwk.Jwk.{Jwk}
 use Rattle.jwt_secrets.specs.Blank.{IsBlankKey, HasBlankKey}
 use Rattle.jwt_standard.specs.StandardKeys.{verifier_refusal}
-use Rattle.jwt_verifier.specs.declared.fitness.Unfit.{Unfit}
-use Rattle.jwt_verifier.specs.declared.fitness.Unfit.TheVariants.{Blank, Mixed, Useless, Memory}
+use Rattle.jwt_verifier.specs.declared.fitness.KeyProblem.{KeyProblem}
+use Rattle.jwt_verifier.specs.declared.fitness.KeyProblem.TheVariants.{Blank, Mixed, Useless, Memory}
 use Rattle.jwt_verifier.specs.declared.keys.Keys.{Keys}
 use Rattle.jwt_verifier.specs.declared.keys.Keys.TheVariants.{One, Set}
 use Rattle.jwt_verifier.specs.declared.limits.Limits.{Limits}
@@ -65,8 +65,8 @@ AreFit allows_blank algorithms keys =
 
 -- Why no verifier is made of the keys: memory ran out; or anyone can sign, which is not allowed; or else
 -- the algorithms are of several families; or else no key serves.
-abbrev pub IsUnfit : Bool → List Algorithm → Keys → Unfit → Type 0
-IsUnfit allows_blank algorithms keys why = (why ≡ Memory)
+abbrev pub IsKeyProblem : Bool → List Algorithm → Keys → KeyProblem → Type 0
+IsKeyProblem allows_blank algorithms keys why = (why ≡ Memory)
     ⊎ (((why ≡ Blank) × (¬ IsTrue allows_blank) × HasBlank keys)
     ⊎ (((why ≡ Mixed) × AreSafe allows_blank keys × (¬ AreOfOneFamily algorithms))
     ⊎ ((why ≡ Useless) × AreSafe allows_blank keys × AreOfOneFamily algorithms

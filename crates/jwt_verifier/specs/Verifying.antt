@@ -8,8 +8,8 @@ use Rattle.jsonwebtoken.specs.Tests.{Call, Compact, KeySource, Given, InSet, dec
 use Rattle.jsonwebtoken.specs.declared.refusal.Test.{Test}
 use Rattle.jwt_verifier.specs.declared.keys.Keys.{Keys}
 use Rattle.jwt_verifier.specs.declared.keys.Keys.TheVariants.{One, Set}
-use Rattle.jwt_verifier.specs.declared.verifier.Rejection.{Rejection}
-use Rattle.jwt_verifier.specs.declared.verifier.Rejection.TheVariants.{TooLong, Failed}
+use Rattle.jwt_verifier.specs.declared.verifier.VerifierRefusal.{VerifierRefusal}
+use Rattle.jwt_verifier.specs.declared.verifier.VerifierRefusal.TheVariants.{TooLong, Failed}
 
 -- where the key of a token comes from
 abbrev pub source_of : Keys → KeySource
@@ -29,7 +29,7 @@ call_with claims keys validation token time =
 
 -- A result that meets this relation, for a token of this length. A token that is longer than the limit is
 -- refused by its length alone.
-abbrev pub IsBounded : {R E : Type 0} → (Result R E → Type 0) → ℕ → ℕ → Result R (Rejection E) → Type 0
+abbrev pub IsBounded : {R E : Type 0} → (Result R E → Type 0) → ℕ → ℕ → Result R (VerifierRefusal E) → Type 0
 IsBounded Is limit len (Ok y) = (len ≤ limit) × Is (Ok y)
 IsBounded Is limit len (Err TooLong) = limit < len
 IsBounded Is limit len (Err (Failed e)) = (len ≤ limit) × Is (Err e)

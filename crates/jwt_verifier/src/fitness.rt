@@ -7,7 +7,7 @@ ghost use Rattle.std.specs.Prelude.{◌≡◌, ◌⊎◌, ◌↔◌, None, IfOk,
 ghost use Rattle.jwt_base.specs.KindOf.{IsMemory};
 ghost use Rattle.jwt_standard.specs.StandardKeys.{verifier_refusal};
 ghost use Rattle.jwt_verifier.specs.Fitness.{AreFit, AreOfOneFamily, AreSafe, CanServe, HasBlank};
-ghost use Rattle.jwt_verifier.specs.Fitness.{IsUnfit, JwkServes, Serves};
+ghost use Rattle.jwt_verifier.specs.Fitness.{IsKeyProblem, JwkServes, Serves};
 ghost use Rattle.std.specs.List.{Any};
 
 use crate::keys::Keys;
@@ -23,7 +23,7 @@ use std::result::Result;
 
 /// The reason for which no verifier is made of keys.
 #[derive(Debug, Clone, Copy)]
-pub enum Unfit {
+pub enum KeyProblem {
     /// Anyone can sign with the secret, or with one of the set.
     Blank,
     /// The options list algorithms of several families, and so accept no token.
@@ -35,13 +35,13 @@ pub enum Unfit {
     Memory,
 }
 
-impl From<Error> for Unfit {
-    ghost use Rattle.jwt_verifier.specs.declared.fitness.Unfit.TheVariants as unfit;
+impl From<Error> for KeyProblem {
+    ghost use Rattle.jwt_verifier.specs.declared.fitness.KeyProblem.TheVariants as problem;
 
-    ghost from_gives = { λ _ why. why ≡ unfit.Memory };
+    ghost from_gives = { λ _ why. why ≡ problem.Memory };
 
-    fn from(_refused: Error) -> Unfit {
-        Unfit::Memory
+    fn from(_refused: Error) -> KeyProblem {
+        KeyProblem::Memory
     }
 }
 
@@ -53,9 +53,9 @@ pub(crate) fn check_keys(
     keys: &Keys,
     algorithms: &[Algorithm],
     allows_blank: bool,
-) -> Result<(), Unfit>
+) -> Result<(), KeyProblem>
     ensures ok { OnOk result (AreFit allows_blank algorithms.now keys.now) }
-    ensures err { IfErr result (IsUnfit allows_blank algorithms.now keys.now) }
+    ensures err { IfErr result (IsKeyProblem allows_blank algorithms.now keys.now) }
 {
     check_safe(alloc, keys, allows_blank)?;
     check_families(algorithms)?;
@@ -63,16 +63,16 @@ pub(crate) fn check_keys(
     Ok(())
 }
 
-fn check_safe(alloc: Global, keys: &Keys, allows_blank: bool) -> Result<(), Unfit>
+fn check_safe(alloc: Global, keys: &Keys, allows_blank: bool) -> Result<(), KeyProblem>
     ensures ok { OnOk result (AreSafe allows_blank keys.now) }
-    ensures err { IfErr result (λ why. (why ≡ Unfit.Memory)
-        ⊎ ((why ≡ Unfit.Blank) × (¬ IsTrue allows_blank) × HasBlank keys.now)) }
+    ensures err { IfErr result (λ why. (why ≡ KeyProblem.Memory)
+        ⊎ ((why ≡ KeyProblem.Blank) × (¬ IsTrue allows_blank) × HasBlank keys.now)) }
 {
     if allows_blank {
         return Ok(());
     }
     if have_blank(alloc, keys)? {
-        return Err(Unfit::Blank);
+        return Err(KeyProblem::Blank);
     }
     Ok(())
 }
@@ -87,14 +87,14 @@ fn have_blank(alloc: Global, keys: &Keys) -> Checked<bool>
     }
 }
 
-fn check_families(algorithms: &[Algorithm]) -> Result<(), Unfit>
+fn check_families(algorithms: &[Algorithm]) -> Result<(), KeyProblem>
     ensures ok { OnOk result (AreOfOneFamily algorithms.now) }
-    ensures err { IfErr result (λ why. (why ≡ Unfit.Mixed) × (¬ AreOfOneFamily algorithms.now)) }
+    ensures err { IfErr result (λ why. (why ≡ KeyProblem.Mixed) × (¬ AreOfOneFamily algorithms.now)) }
 {
     if are_of_one_family(algorithms) {
         Ok(())
     } else {
-        Err(Unfit::Mixed)
+        Err(KeyProblem::Mixed)
     }
 }
 
@@ -109,15 +109,15 @@ fn are_of_one_family(algorithms: &[Algorithm]) -> bool
     }
 }
 
-fn check_served(alloc: Global, keys: &Keys, algorithms: &[Algorithm]) -> Result<(), Unfit>
+fn check_served(alloc: Global, keys: &Keys, algorithms: &[Algorithm]) -> Result<(), KeyProblem>
     ensures ok { OnOk result (CanServe algorithms.now keys.now) }
-    ensures err { IfErr result (λ why. (why ≡ Unfit.Memory)
-        ⊎ ((why ≡ Unfit.Useless) × (¬ CanServe algorithms.now keys.now))) }
+    ensures err { IfErr result (λ why. (why ≡ KeyProblem.Memory)
+        ⊎ ((why ≡ KeyProblem.Useless) × (¬ CanServe algorithms.now keys.now))) }
 {
     if keys_serve(alloc, keys, algorithms)? {
         Ok(())
     } else {
-        Err(Unfit::Useless)
+        Err(KeyProblem::Useless)
     }
 }
 

@@ -1,6 +1,6 @@
 //! Verifying many tokens with the same keys and options.
 
-// `Rejection` is an error of its own, since a token that is too long fails no test of `decode`.
+// `VerifierRefusal` is an error of its own, since a token that is too long fails no test of `decode`.
 
 ghost use Rattle.std.specs.Prelude.{◌≡◌, ◌↔◌, ◌<◌, ◌≤◌, ℕ, List, length, IfOk, IfErr, IsTrue};
 ghost use Rattle.jsonwebtoken.specs.Accepted.{FindsMoments};
@@ -9,10 +9,10 @@ ghost use Rattle.jsonwebtoken.specs.Laws.{HasLaws};
 ghost use Rattle.jsonwebtoken.specs.Order.{Decides};
 ghost use Rattle.jsonwebtoken.specs.Refused.{DecidesByTest};
 ghost use Rattle.jsonwebtoken.specs.Tests.{Compact, token_tests};
-ghost use Rattle.jwt_verifier.specs.Fitness.{usual_limits, AreFit, IsUnfit};
+ghost use Rattle.jwt_verifier.specs.Fitness.{usual_limits, AreFit, IsKeyProblem};
 ghost use Rattle.jwt_verifier.specs.Verifying.{call_with, order_of, IsBounded};
 
-use crate::fitness::{Unfit, check_keys};
+use crate::fitness::{KeyProblem, check_keys};
 use crate::key_ring::KeyRing;
 use crate::keys::Keys;
 use crate::limits::Limits;
@@ -27,7 +27,7 @@ use std::result::Result;
 
 /// The reason for which a verifier does not accept a token.
 #[derive(Debug, Drop)]
-pub enum Rejection<E> {
+pub enum VerifierRefusal<E> {
     /// The token is longer than the verifier allows.
     TooLong,
     /// A test of the token failed, or memory ran out.
@@ -51,11 +51,11 @@ impl Verifier {
     /// another family, an RSA modulus of a length that is not allowed, a point that is not on the
     /// curve, a set without any other key that has a `kid`. A key of a set that does not serve is
     /// refused when a token names it.
-    pub fn new(alloc: Global, keys: Keys, validation: Validation) -> Result<Verifier, Unfit>
+    pub fn new(alloc: Global, keys: Keys, validation: Validation) -> Result<Verifier, KeyProblem>
         ensures ok { IfOk result (λ v. (v.keys ≡ keys) × (v.validation ≡ validation)
             × (v.limits ≡ usual_limits)
             × AreFit usual_limits.allows_blank validation.algorithms.items keys) }
-        ensures err { IfErr result (IsUnfit usual_limits.allows_blank
+        ensures err { IfErr result (IsKeyProblem usual_limits.allows_blank
             validation.algorithms.items keys) }
     {
         Verifier::with_limits(alloc, keys, validation, Limits::new())
@@ -68,11 +68,11 @@ impl Verifier {
         keys: Keys,
         validation: Validation,
         limits: Limits,
-    ) -> Result<Verifier, Unfit>
+    ) -> Result<Verifier, KeyProblem>
         ensures ok { IfOk result (λ v. (v.keys ≡ keys) × (v.validation ≡ validation)
             × (v.limits ≡ limits)
             × AreFit limits.allows_blank validation.algorithms.items keys) }
-        ensures err { IfErr result (IsUnfit limits.allows_blank validation.algorithms.items keys) }
+        ensures err { IfErr result (IsKeyProblem limits.allows_blank validation.algorithms.items keys) }
     {
         let keys = ring_of_fit(alloc, keys, validation.algorithms.as_slice(), limits)?;
         Ok(Verifier {
@@ -91,7 +91,7 @@ impl Verifier {
         alloc: Global,
         token: &[u8],
         time: u64,
-    ) -> Result<TokenData<T>, Rejection<Error>>
+    ) -> Result<TokenData<T>, VerifierRefusal<Error>>
         ensures decided { let call = call_with T.Claims self.now.keys self.now.validation
             token.now time in
             IsBounded (Decides (token_tests call) (order_of self.now.keys) (Carries call))
@@ -104,11 +104,11 @@ impl Verifier {
             (order_of self.now.keys) (List ℕ) Compact token.now }
     {
         if self.is_too_long(token) {
-            return Err(Rejection::TooLong);
+            return Err(VerifierRefusal::TooLong);
         }
         match self.decode_whole(alloc, token, time) {
             Ok(decoded) => Ok(decoded),
-            Err(refused) => Err(Rejection::Failed(refused)),
+            Err(refused) => Err(VerifierRefusal::Failed(refused)),
         }
     }
 
@@ -119,18 +119,18 @@ impl Verifier {
         alloc: Global,
         token: &[u8],
         time: u64,
-    ) -> Result<TokenData<T>, Rejection<Refusal>>
+    ) -> Result<TokenData<T>, VerifierRefusal<Refusal>>
         ensures { let call = call_with T.Claims self.now.keys self.now.validation token.now time in
             IsBounded (DecidesByTest (token_tests call) (order_of self.now.keys) (Carries call))
             self.now.limits.max_len (length token.now) result }
     {
         if self.is_too_long(token) {
-            return Err(Rejection::TooLong);
+            return Err(VerifierRefusal::TooLong);
         }
         let keys = &self.keys;
         match decode_by_or_refusal(alloc, &keys, token, &self.validation, time) {
             Ok(decoded) => Ok(decoded),
-            Err(refused) => Err(Rejection::Failed(refused)),
+            Err(refused) => Err(VerifierRefusal::Failed(refused)),
         }
     }
 
@@ -143,17 +143,17 @@ impl Verifier {
         &self,
         alloc: Global,
         token: &[u8],
-    ) -> Result<Option<Moments>, Rejection<Error>>
+    ) -> Result<Option<Moments>, VerifierRefusal<Error>>
         ensures { IsBounded (FindsMoments (call_with T.Claims self.now.keys self.now.validation
             token.now 0) (order_of self.now.keys))
             self.now.limits.max_len (length token.now) result }
     {
         if self.is_too_long(token) {
-            return Err(Rejection::TooLong);
+            return Err(VerifierRefusal::TooLong);
         }
         match self.moments_of_whole::<T>(alloc, token) {
             Ok(moments) => Ok(moments),
-            Err(refused) => Err(Rejection::Failed(refused)),
+            Err(refused) => Err(VerifierRefusal::Failed(refused)),
         }
     }
 
@@ -196,10 +196,10 @@ fn ring_of_fit(
     keys: Keys,
     algorithms: &[Algorithm],
     limits: Limits,
-) -> Result<KeyRing, Unfit>
+) -> Result<KeyRing, KeyProblem>
     ensures ok { IfOk result (λ ring. (ring ≡ keys)
         × AreFit limits.allows_blank algorithms.now keys) }
-    ensures err { IfErr result (IsUnfit limits.allows_blank algorithms.now keys) }
+    ensures err { IfErr result (IsKeyProblem limits.allows_blank algorithms.now keys) }
 {
     check_keys(alloc, &keys, algorithms, limits.allows_blank)?;
     // bound to a name: the proof cannot refer to a call in tail position

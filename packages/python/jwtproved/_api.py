@@ -11,7 +11,7 @@ from ._encoding import header_of, members_of, payload_of, unsignable, written
 from ._keys import Key, PyJWK, SigningKey, material_known, material_of
 from ._library import ALGORITHMS, Refusal, answer, library, slices
 from ._parts import parts_of
-from ._rules import DEFAULTS, Moment, Names, Rules, options_of, plain, rules_of, warn_of
+from ._rules import DEFAULTS, Moment, Names, Rules, exact_str, options_of, rules_of, warn_of
 from ._signatures import claims_by_verdict, signed_part
 from ._status import Status
 from ._verifier import Checker, Refuser, Token, checker_of, complete, moment_of, token_of
@@ -19,7 +19,7 @@ from .exceptions import DecodeError, InvalidKeyError
 from .types import Listed, Options
 
 # The most checkers that an object finds without reading the arguments again: PyJWT's interface has no object that is made once.
-_MOST = 64
+_CACHE_SIZE = 64
 # the text of {"alg":"HS256"}
 _HEADER_OF_NONE = b"eyJhbGciOiJIUzI1NiJ9"
 
@@ -135,7 +135,7 @@ class PyJWT:
         return checker.decode(token, moment_of(None))
 
     def _keep(self, call: tuple[Any, ...], checker: Checker | Refuser) -> None:
-        if len(self._kept) >= _MOST:
+        if len(self._kept) >= _CACHE_SIZE:
             self._kept.clear()
         self._kept[call] = checker
 
@@ -195,7 +195,7 @@ class PyJWT:
             raise NotImplementedError(f"algorithm is {named!r}, which is not one of {', '.join(ALGORITHMS)}")
         header = written("headers", members, json_encoder)
         if not _signs(named):
-            return _signing.signer_of(key, plain(named)).token(header, claims)
+            return _signing.signer_of(key, exact_str(named)).token(header, claims)
         return _by_secret(key, named, header, claims)
 
 

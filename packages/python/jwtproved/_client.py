@@ -14,7 +14,7 @@ from urllib.parse import urlsplit
 from ._api import get_unverified_header
 from ._keys import PyJWK, PyJWKSet
 from ._refusals import unknown
-from ._rules import plain, wrong_type
+from ._rules import exact_str, wrong_type
 from .exceptions import PyJWKClientConnectionError, PyJWKClientError
 
 if TYPE_CHECKING:
@@ -33,7 +33,7 @@ _VALUE = re.compile(r"[\t\x20-\x7e\x80-\xff]*")
 def _checked_uri(uri: Any) -> str:
     if not isinstance(uri, str):
         raise wrong_type("uri", "a string", uri)
-    uri = plain(uri)
+    uri = exact_str(uri)
     if not all("\x21" <= it <= "\x7e" for it in uri):
         raise ValueError(f"uri has a blank or a character that has to be escaped: {uri!r}")
     try:
@@ -237,7 +237,7 @@ class PyJWKClient:
             raise unknown(kid)
         found = None if self._keys is None else self._keys.get(kid)
         if found is None:
-            found = self._found(plain(kid))
+            found = self._found(exact_str(kid))
             if self._keys is not None:
                 self._keys.put(kid, found)
         return found

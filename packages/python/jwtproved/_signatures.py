@@ -8,7 +8,7 @@ from . import _refusals
 from ._encoding import header_of, payload_of, unsignable
 from ._keys import Key, Material, bytes_of, material_of, raw_of
 from ._library import ALGORITHMS, Refusal, answer, check, library, number_of, parts, slices, text_of
-from ._rules import Further, Moment, Names, Rules, options_of, plain, rules_of, wrong_type
+from ._rules import Further, Moment, Names, Rules, exact_str, options_of, rules_of, wrong_type
 from ._status import Status
 from ._verifier import Token, moment_of, token_of
 from .exceptions import InvalidKeyError
@@ -93,7 +93,7 @@ def verify(message: str | bytes | bytearray | memoryview, signature: bytes, key:
     A signature with ES256 or ES384 is two numbers one after the other, which `ecdsa_signature` makes of one in DER.
     """
     asked = bytes_of("message", message), raw_of("signature", signature)
-    return is_signed(*asked, material_of(key), plain(_algorithm("algorithm", algorithm)))
+    return is_signed(*asked, material_of(key), exact_str(_algorithm("algorithm", algorithm)))
 
 
 def is_signed(message: bytes, signature: bytes, material: Material, algorithm: str) -> bool:

@@ -10,7 +10,7 @@ from ._handles import Handles
 from ._keys import Key, Material, material_of
 from ._library import ALGORITHMS, FAMILIES, PREPARE_NOTHING, PREPARED, Refusal, algorithms_of, parts
 from ._parts import parts_of
-from ._rules import Further, Moment, Names, Rules, options_of, plain, plain_number, rules_of, wrong_type
+from ._rules import Further, Moment, Names, Rules, exact_number, exact_str, options_of, rules_of, wrong_type
 from ._status import Status
 from .exceptions import ClockError, DecodeError, InvalidKeyError
 from .types import Listed, Options
@@ -27,7 +27,7 @@ def token_of(name: str, value: Token) -> bytes:
     if type(value) is str and value.isascii():
         return value.encode()
     if isinstance(value, str):
-        return plain(value).encode("utf-8", "surrogatepass")
+        return exact_str(value).encode("utf-8", "surrogatepass")
     if isinstance(value, (bytes, bytearray, memoryview)):
         return bytes(value)
     # as of a cookie that is not there
@@ -44,7 +44,7 @@ def moment_of(now: float | None) -> int:
         raise ClockError(f"the system clock must be from 0 to 18446744073709551615 seconds since 1970-01-01, not {told}")
     if isinstance(now, bool) or not isinstance(now, (int, float)):
         raise wrong_type("now", "an int or a float", now)
-    now = plain_number(now)
+    now = exact_number(now)
     if not 0 <= now < 2**64:
         raise ValueError(f"now must be from 0 to 18446744073709551615 seconds since 1970-01-01, not {now}")
     return int(now)

@@ -1,6 +1,6 @@
 use Rattle.std.proofs.Common.{[], refl}
-use Rattle.jwt_c_calls.specs.Calls.{Gives}
+use Rattle.jwt_c_calls.specs.Calls.{Returns}
 use Rattle.jwt_c.proofs.jwt_check_numbers.Goals as goal
 
 pub returns-in-Ok : goal.returns-in-Ok
-returns-in-Ok c = (Gives [], c.in-Ok.ensures.ok, refl)
+returns-in-Ok c = (Returns [], c.in-Ok.ensures.ok, refl)

@@ -1,12 +1,12 @@
 use Rattle.std.proofs.Common.{refl}
 use Rattle.std.specs.String.{string_bytes}
-use Rattle.jwt_c_calls.specs.Calls.{Gives}
+use Rattle.jwt_c_calls.specs.Calls.{Returns}
 use Rattle.jwt_c_calls.proofs.Answered.{no_message}
 use Rattle.jwt_c.proofs.jwt_signing_input.Goals as goal
 
 pub returns-in-Ok : goal.returns-in-Ok
 returns-in-Ok c = (
-  Gives (string_bytes c.in-Ok.input.message),
+  Returns (string_bytes c.in-Ok.input.message),
   c.in-Ok.ensures.ok,
   (_, c.algorithm_number.ensures, c.in-Ok.ensures.algorithm),
   rw c.as_bytes.ensures.value at c.put_bytes.ensures,

@@ -7,5 +7,5 @@ use Rattle.jwt_c.proofs.jwt_verifier_secret.Goals as goal
 pub returns : goal.returns
 returns c = made_of (AnswersWithOptions c.args.options.now (λ _ _. ⊥))
     (AreOfSecret c.args.options.now c.args.secret.now) (limits_of c.args.max_len c.args.allows_blank c.args.max_prepared) (inl refl)
-    c.verifier_of_secret-made.result c.args.verifier.now.held c.leave_made.new.verifier.held c.leave_made.result
-    (rw c.limits-allowed.ensures at c.verifier_of_secret-made.ensures) c.leave_made.ensures
+    c.verifier_of_secret-made.result c.args.verifier.now.held c.write_handle.new.verifier.held c.write_handle.result
+    (rw c.limits-allowed.ensures at c.verifier_of_secret-made.ensures) c.write_handle.ensures

@@ -5,7 +5,7 @@ ghost use Rattle.std.specs.Prelude.{◌≡◌, IfOk};
 use crate::answer::Answer;
 use crate::fault::{Fault, fault_of, value_unless_refused};
 use crate::keys::hints::set_problem;
-use crate::request::Listing;
+use crate::request::KeysArgs;
 use crate::show::escapes::{escape_unseen, is_unseen};
 use jsonwebtoken::crypto::CryptoProvider;
 use jsonwebtoken::jwk::{
@@ -54,7 +54,7 @@ struct Facts {
 /// Returns the table of a key set, or its facts as one line of JSON.
 pub fn keys_answer<'a>(
     alloc: Global,
-    request: &Listing<'a>,
+    request: &KeysArgs<'a>,
     bytes: &[u8],
 ) -> Result<Answer, Fault<'a>>
     ensures { IfOk result (λ a. a.status ≡ 0) }

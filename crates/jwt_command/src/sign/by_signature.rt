@@ -18,14 +18,14 @@ ghost use Rattle.jwt_command.specs.BySignature.{IsNotTokenOf, IsSignatureIn, IsT
 ghost use Rattle.jwt_command.specs.BySignature.{IsUnsigned, numbers_length, signature_options};
 ghost use Rattle.jwt_command.specs.Claimed.{header_asked};
 
-use crate::advice::denial_line;
+use crate::advice::token_refusal_line;
 use crate::answer::Answer;
 use crate::fault::{Fault, fault_of};
 use crate::keys::LoadedKeys;
 use crate::request::Draft;
 use crate::sign::{header, refusal_answer, signed_answer};
 use crate::verify::case::Case;
-use crate::verify::verdict::{Denial, denial_of};
+use crate::verify::verdict::{TokenRefusal, refusal_of};
 use jsonwebtoken::crypto::signature::SignatureProvider;
 use jsonwebtoken::dangerous::insecure_decode;
 use jsonwebtoken::errors::Error;
@@ -200,25 +200,25 @@ fn token_answer(
     ensures { IfOk result (λ a. IsTokenAnswer (option_map (λ l. l.now.keys) loaded.entry) algorithm
         (string_bytes token) a.status (string_bytes a.output)) }
 {
-    let denial = denial_by(alloc, token.as_str(), algorithm, loaded)?;
-    match denial {
+    let reason = refusal_by_key(alloc, token.as_str(), algorithm, loaded)?;
+    match reason {
         None => signed_answer(alloc, token),
-        Some(denial) => Ok(Answer {
+        Some(reason) => Ok(Answer {
             status: 1,
             output: String::new(alloc),
-            message: denial_line(alloc, &denial)?,
+            message: token_refusal_line(alloc, &reason)?,
         }),
     }
 }
 
 /// Returns why the keys refuse the signature of a token, or `None` if they accept it or there are no
 /// keys.
-fn denial_by<'c>(
+fn refusal_by_key<'c>(
     alloc: Global,
     token: &'c str,
     algorithm: Algorithm,
     loaded: Option<&'c LoadedKeys>,
-) -> Result<Option<Denial>, Fault<'static>>
+) -> Result<Option<TokenRefusal>, Fault<'static>>
     ensures { IfOk result (IsChecked (option_map (λ l. l.now.keys) loaded.entry) algorithm
         token.now) }
 {
@@ -232,10 +232,10 @@ fn denial_by<'c>(
         typ: None,
         time: 0,
     };
-    let denial = denial_of(alloc, case, &validation);
+    let reason = refusal_of(alloc, case, &validation);
     // dropped at one place: each exit by `?` would have to be proved to drop every field
     drop(validation);
-    denial
+    reason
 }
 
 /// Returns options of which the algorithm alone is tested, and no claim.

@@ -13,7 +13,7 @@ use crate::clock::current_time;
 use crate::fault::Fault;
 use crate::files::{input_fault, strip_line_end};
 use crate::keys::LoadedKeys;
-use crate::request::Verification;
+use crate::request::VerifyArgs;
 use crate::verify::case::Case;
 use crate::verify::{OutputForm, verify_answer};
 use jsonwebtoken::Validation;
@@ -44,7 +44,7 @@ pub struct Tally {
 /// the kit says what standard input holds.
 pub fn answer_lines<R: Input + Print + Clock + AllocGlobal>(
     rt: &R,
-    request: &Verification<'_, '_>,
+    request: &VerifyArgs<'_, '_>,
     loaded: &LoadedKeys,
     validation: &Validation,
 ) -> Result<Tally, Fault<'static>>
@@ -123,7 +123,7 @@ fn read_part<R: BufRead>(reader: &mut R, line: &mut Vec<u8>) -> Result<bool, Fau
 /// Returns the line of JSON for a token, which may have a line end.
 fn line_answer<R: Clock + AllocGlobal>(
     rt: &R,
-    request: &Verification<'_, '_>,
+    request: &VerifyArgs<'_, '_>,
     loaded: &LoadedKeys,
     validation: &Validation,
     line: &[u8],

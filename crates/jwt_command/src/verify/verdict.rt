@@ -4,8 +4,8 @@ ghost use Rattle.std.specs.Prelude.{◌≡◌, ◌⊎◌, ◌↔◌, IsTrue, IfO
 ghost use Rattle.jwt_base.specs.KindOf.{IsMemory};
 ghost use Rattle.jwt_validation.specs.Options.{Options};
 ghost use Rattle.jwt_validation.specs.OptionsOf.{options_of};
-ghost use Rattle.jwt_command.specs.Accepted.{HasType, IsDecoded, IsDenialIfAny, IsJudged};
-ghost use Rattle.jwt_command.specs.Commands.{IsSettled};
+ghost use Rattle.jwt_command.specs.Accepted.{HasType, IsDecoded, IsRefusalIfAny, IsTypedVerdict};
+ghost use Rattle.jwt_command.specs.Commands.{ChoosesAlgorithm};
 
 use crate::fault::{Fault, is_memory};
 use crate::verify::case::Case;
@@ -18,7 +18,7 @@ use std::alloc::Global;
 
 /// The reason for which a token is not accepted.
 #[derive(Drop)]
-pub enum Denial {
+pub enum TokenRefusal {
     /// A test of the library failed.
     Refused(Refusal),
     /// The header's `typ` is not the one that is asked for.
@@ -28,41 +28,41 @@ pub enum Denial {
 /// Returns header and claims of a token that is accepted, at the time `time`, in seconds since
 /// 1970-01-01 00:00:00 UTC, or why it is not. If a type is asked for, the header has to have it. If
 /// no algorithm is listed, that of the token's key is accepted.
-pub fn judge(
+pub fn verify_with_type(
     alloc: Global,
     case: Case<'_>,
     validation: &Validation,
-) -> Result<Result<TokenData<Value>, Denial>, Fault<'static>>
+) -> Result<Result<TokenData<Value>, TokenRefusal>, Fault<'static>>
     ensures ok { let keys = case.entry.loaded.now.keys in let token = case.entry.token.now in
         IfOk result (λ verdict. (settled : Options)
-        × IsSettled keys token (options_of validation.now) settled
-        × IsJudged token keys settled case.entry.time (option_map (λ s. s.now) case.entry.typ)
+        × ChoosesAlgorithm keys token (options_of validation.now) settled
+        × IsTypedVerdict token keys settled case.entry.time (option_map (λ s. s.now) case.entry.typ)
         verdict) }
     ensures err { IfErr result (λ fault. fault ≡ Fault.Memory) }
 {
     match decode_token(alloc, case, validation) {
         Ok(contents) => Ok(check_type(contents, case.typ)),
         Err(refusal) => {
-            let denial = denial_by(refusal)?;
-            Ok(Err(denial))
+            let reason = as_token_refusal(refusal)?;
+            Ok(Err(reason))
         }
     }
 }
 
-/// Returns why [`judge`] does not accept a token, or `None` if it does.
-pub fn denial_of(
+/// Returns why [`verify_with_type`] does not accept a token, or `None` if it does.
+pub fn refusal_of(
     alloc: Global,
     case: Case<'_>,
     validation: &Validation,
-) -> Result<Option<Denial>, Fault<'static>>
+) -> Result<Option<TokenRefusal>, Fault<'static>>
     ensures ok { let keys = case.entry.loaded.now.keys in let token = case.entry.token.now in
-        IfOk result (λ denial. (settled : Options)
-        × IsSettled keys token (options_of validation.now) settled
-        × IsDenialIfAny token keys settled case.entry.time
-        (option_map (λ s. s.now) case.entry.typ) denial) }
+        IfOk result (λ reason. (settled : Options)
+        × ChoosesAlgorithm keys token (options_of validation.now) settled
+        × IsRefusalIfAny token keys settled case.entry.time
+        (option_map (λ s. s.now) case.entry.typ) reason) }
     ensures err { IfErr result (λ fault. fault ≡ Fault.Memory) }
 {
-    let verdict = judge(alloc, case, validation)?;
+    let verdict = verify_with_type(alloc, case, validation)?;
     Ok(verdict.err())
 }
 
@@ -76,7 +76,7 @@ fn decode_token(
 ) -> Result<TokenData<Value>, Refusal>
     ensures { let keys = case.entry.loaded.now.keys in let token = case.entry.token.now in
         IsErrAnd result (λ refusal. IsMemory refusal.error)
-        ⊎ ((settled : Options) × IsSettled keys token (options_of validation.now) settled
+        ⊎ ((settled : Options) × ChoosesAlgorithm keys token (options_of validation.now) settled
         × IsDecoded token keys settled case.entry.time result) }
 {
     let keys = &case.loaded.keys;
@@ -87,15 +87,18 @@ fn decode_token(
 }
 
 /// Returns header and claims, unless the header has another type than the one that is asked for.
-fn check_type(contents: TokenData<Value>, typ: Option<&str>) -> Result<TokenData<Value>, Denial>
+fn check_type(
+    contents: TokenData<Value>,
+    typ: Option<&str>,
+) -> Result<TokenData<Value>, TokenRefusal>
     ensures accepted { IfOk result (λ d. (d ≡ contents)
         × HasType (option_map (λ s. s.now) typ.entry) contents.header) }
-    ensures denied { IfErr result (λ denial. (denial ≡ Denial.OtherType)
+    ensures other_type { IfErr result (λ reason. (reason ≡ TokenRefusal.OtherType)
         × ¬ HasType (option_map (λ s. s.now) typ.entry) contents.header) }
 {
     if !has_type(&contents.header, typ) {
         drop(contents);
-        return Err(Denial::OtherType);
+        return Err(TokenRefusal::OtherType);
     }
     Ok(contents)
 }
@@ -114,14 +117,14 @@ fn has_type(header: &Header, typ: Option<&str>) -> bool
     }
 }
 
-/// Returns the denial of a token that is refused, unless memory ran out.
-fn denial_by(refusal: Refusal) -> Result<Denial, Fault<'static>>
-    ensures ok { IfOk result (λ denial. (denial ≡ Denial.Refused refusal)
+/// Returns the refusal of a token, unless memory ran out.
+fn as_token_refusal(refusal: Refusal) -> Result<TokenRefusal, Fault<'static>>
+    ensures ok { IfOk result (λ reason. (reason ≡ TokenRefusal.Refused refusal)
         × ¬ IsMemory refusal.error) }
     ensures err { IfErr result (λ fault. (fault ≡ Fault.Memory) × IsMemory refusal.error) }
 {
     if is_memory(&refusal.error) {
         return Err(Fault::Memory);
     }
-    Ok(Denial::Refused(refusal))
+    Ok(TokenRefusal::Refused(refusal))
 }

@@ -2,7 +2,7 @@
 
 use crate::errors::{Error, Result};
 use crate::library::calls::{self, Kind};
-use crate::library::handle::{Denied, Handle, Use};
+use crate::library::handle::{Handle, TokenRefusal, Use};
 use crate::validation::{self, argument};
 use crate::{DecodingKey, Header, TokenData, Validation, decode_header};
 use serde::de::DeserializeOwned;
@@ -60,9 +60,9 @@ impl From<Refusal> for Error {
     }
 }
 
-impl From<Denied> for Refusal {
-    fn from(denied: Denied) -> Refusal {
-        Refusal { error: Error::from_status(denied.status), test: denied.test }
+impl From<TokenRefusal> for Refusal {
+    fn from(refusal: TokenRefusal) -> Refusal {
+        Refusal { error: Error::from_status(refusal.status), test: refusal.test }
     }
 }
 

@@ -22,4 +22,4 @@ pub returns : goal.returns
 returns g c =
     let call = insecure_call c.args.token.now g.T.Claims.reads in
     beside call (parts_in c.in_ok-parts.parts) c.in_ok-header.header c.in_ok-header.ensures c.in_ok-parts.ensures
-    insecure_order c.read_payload-claims.result c.beside.result c.beside.ensures c.read_payload-claims.ensures
+    insecure_order c.read_payload-claims.result c.token_data.result c.token_data.ensures c.read_payload-claims.ensures

@@ -18,4 +18,4 @@ returns g c =
     let call = decoding_parts g.P.CryptoProvider g.T.Claims c.args.provider.now (parts_in c.args.parts.now)
     c.args.key.now c.args.validation.now c.args.time in
     beside call (parts_in c.args.parts.now) c.in_ok-header.header c.in_ok-header.ensures refl jws_order
-    c.read_claims_by_key-claims.result c.beside.result c.beside.ensures c.read_claims_by_key-claims.ensures
+    c.read_claims_by_key-claims.result c.token_data.result c.token_data.ensures c.read_claims_by_key-claims.ensures

@@ -7,7 +7,7 @@ use Rattle.jsonwebtoken.specs.Tests.{decode_order, token_tests}
 use Rattle.jsonwebtoken.proofs.EachTest.{met}
 use Rattle.jwt_base.specs.JsonText.{ReadsText}
 use Rattle.jwt_validation.specs.OptionsRead.{ReadsOptions}
-use Rattle.jwt_c_calls.specs.Calls.{hmac_call, MisreadsOne}
+use Rattle.jwt_c_calls.specs.Calls.{hmac_call, IsErrorOfOne}
 use Rattle.jwt_c_calls.proofs.Answered.{no_options}
 use Rattle.jwt_c_calls.proofs.Handed.{shallow, handed_ok, handed_err}
 use Rattle.jwt_c_calls.specs.declared.inputs.Input.TheVariants as input
@@ -25,10 +25,10 @@ returns-clause-ok c =
     let given = c.in_ok-validation.ensures.ok in
     let said = rw given.1 at c.decode-answer.ensures.decided.accepted in
     handed_ok (λ d. d.claims) (λ b. b.items) (ReadsText ReadsOptions c.args.options.now)
-    (MisreadsOne input.Options (ReadsText ReadsOptions c.args.options.now))
+    (IsErrorOfOne input.Options (ReadsText ReadsOptions c.args.options.now))
     (λ o. Passes (token_tests (call o)) decode_order) (λ o. FailsFirst (token_tests (call o)) decode_order)
     (λ o t p. shallow t (met (call o) decode_order t p PayloadIsJson refl)) (λ d t. t.header ≡ d.header)
-    (options_of c.in_ok-validation.validation) given.0 c.decode-answer.result c.hand_out.result c.hand_out.ensures said
+    (options_of c.in_ok-validation.validation) given.0 c.decode-answer.result c.answer_of_claims.result c.answer_of_claims.ensures said
 
 pub returns-clause-err : goal.returns-clause-err
 returns-clause-err c =
@@ -36,7 +36,7 @@ returns-clause-err c =
     let given = c.in_ok-validation.ensures.ok in
     let said = rw given.1 at c.decode-answer.ensures.decided.refused in
     handed_err (λ d. d.claims) (λ b. b.items) (ReadsText ReadsOptions c.args.options.now)
-    (MisreadsOne input.Options (ReadsText ReadsOptions c.args.options.now))
+    (IsErrorOfOne input.Options (ReadsText ReadsOptions c.args.options.now))
     (λ o. Passes (token_tests (call o)) decode_order) (λ o. FailsFirst (token_tests (call o)) decode_order)
     (λ o t p. shallow t (met (call o) decode_order t p PayloadIsJson refl)) (λ d t. t.header ≡ d.header)
-    (options_of c.in_ok-validation.validation) given.0 c.decode-answer.result c.hand_out.result c.hand_out.ensures said
+    (options_of c.in_ok-validation.validation) given.0 c.decode-answer.result c.answer_of_claims.result c.answer_of_claims.ensures said

@@ -13,7 +13,7 @@ use Rattle.jwt_base.specs.KindOf.{kind_of, IsMemory}
 use Rattle.jsonwebtoken.specs.Tests.{Contents}
 use Rattle.jwt_keys.specs.Jwk.{ReadsKey}
 use Rattle.jwt_validation.specs.OptionsRead.{ReadsOptions}
-use Rattle.jwt_c_calls.specs.Calls.{key_call, PassesByJwk, FailsByJwk, MisreadsTwo}
+use Rattle.jwt_c_calls.specs.Calls.{key_call, PassesByJwk, FailsByJwk, IsErrorOfTwo}
 use Rattle.jwt_c_calls.specs.declared.inputs.Input.TheVariants as input
 use Rattle.jwt_c_calls.proofs.Answered.{no_key}
 use Rattle.jwt_c_calls.proofs.Handed.{shallow, handed_ok, handed_err}
@@ -32,12 +32,12 @@ returns-clause-ok c =
     (options_of c.in_ok-validation.validation) given.0 t × ((t.header ≡ d.header) × (view d.claims ≡ t.payload_value)))
     (λ d x. (x.0, (c.in_ok-validation.key, given.3, x.1), x.2)) c.decode-answer.ensures.decided.accepted in
     handed_ok (λ d. d.claims) (λ b. b.items) (λ (e : Options × Jwk). ReadsText ReadsOptions c.args.options.now e.0
-    × ReadsText ReadsKey c.args.key.now e.1) (MisreadsTwo input.Options (ReadsText ReadsOptions c.args.options.now)
+    × ReadsText ReadsKey c.args.key.now e.1) (IsErrorOfTwo input.Options (ReadsText ReadsOptions c.args.options.now)
     input.Key (ReadsText ReadsKey c.args.key.now)) (λ e. PassesByJwk token c.args.time e.0 e.1)
     (λ e. FailsByJwk token c.args.time e.0 e.1)
     (λ e t p. shallow t (met (key_call token p.0 c.args.time e.0) decode_order t p.2 PayloadIsJson refl))
     (λ d t. t.header ≡ d.header) (options_of c.in_ok-validation.validation, given.0) (given.1, given.2)
-    c.decode-answer.result c.hand_out.result c.hand_out.ensures said
+    c.decode-answer.result c.answer_of_claims.result c.answer_of_claims.ensures said
 
 pub returns-clause-err : goal.returns-clause-err
 returns-clause-err c =
@@ -47,9 +47,9 @@ returns-clause-err c =
     (options_of c.in_ok-validation.validation) given.0 (kind_of e))
     (λ e x. or_memory (λ f. inr (c.in_ok-validation.key, given.3, f)) x) c.decode-answer.ensures.decided.refused in
     handed_err (λ d. d.claims) (λ b. b.items) (λ (e : Options × Jwk). ReadsText ReadsOptions c.args.options.now e.0
-    × ReadsText ReadsKey c.args.key.now e.1) (MisreadsTwo input.Options (ReadsText ReadsOptions c.args.options.now)
+    × ReadsText ReadsKey c.args.key.now e.1) (IsErrorOfTwo input.Options (ReadsText ReadsOptions c.args.options.now)
     input.Key (ReadsText ReadsKey c.args.key.now)) (λ e. PassesByJwk token c.args.time e.0 e.1)
     (λ e. FailsByJwk token c.args.time e.0 e.1)
     (λ e t p. shallow t (met (key_call token p.0 c.args.time e.0) decode_order t p.2 PayloadIsJson refl))
     (λ d t. t.header ≡ d.header) (options_of c.in_ok-validation.validation, given.0) (given.1, given.2)
-    c.decode-answer.result c.hand_out.result c.hand_out.ensures said
+    c.decode-answer.result c.answer_of_claims.result c.answer_of_claims.ensures said

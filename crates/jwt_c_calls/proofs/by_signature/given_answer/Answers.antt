@@ -7,27 +7,27 @@ use Rattle.jwt_crypto.specs.GivenSignature.{GivenSignature}
 use Rattle.jwt_header.specs.Header.{ReadsHeader}
 use Rattle.jwt_header.specs.declared.header.Header.{Header}
 use Rattle.jwt_c_calls.specs.BySignature.{AnswersGiven, AnswersGivenFor}
-use Rattle.jwt_c_calls.specs.Calls.{Answer, Gives, Refuses, Misreads, answer_of}
+use Rattle.jwt_c_calls.specs.Calls.{Answer, Returns, Refuses, InputError, answer_of}
 use Rattle.jwt_c_calls.specs.Inputs.{ReadsClaimsText}
 use Rattle.jwt_c_calls.specs.declared.inputs.Input.TheVariants as input
-use Rattle.jwt_c_calls.proofs.Answered.{misread, read_ok}
+use Rattle.jwt_c_calls.proofs.Answered.{input_error, read_ok}
 use Rattle.jwt_c_calls.proofs.by_signature.given_answer.Goals as goal
 
 -- the result for a header and claims is the result for the texts that are read as them
 read_first : (g : GivenSignature) (header claims : List ℕ) (h : Header) (d : Data) → ReadsText ReadsHeader header h
     → ReadsClaimsText claims d
     → (a : Answer) → AnswersGivenFor g h d a → AnswersGiven g header claims a
-read_first g header claims h d r s (Gives b) x = (x.0, rw x.1 (r, s), x.2)
+read_first g header claims h d r s (Returns b) x = (x.0, rw x.1 (r, s), x.2)
 read_first g header claims h d r s (Refuses k) (inl m) = inl m
 read_first g header claims h d r s (Refuses k) (inr f) = inr (f.0, rw f.1 (r, s), f.2)
-read_first g header claims h d r s (Misreads i) x = absurd x
+read_first g header claims h d r s (InputError i) x = absurd x
 
 pub returns-in_err-claims-clause-err : goal.returns-in_err-claims-clause-err
 returns-in_err-claims-clause-err c =
     let read = read_ok (ReadsText ReadsHeader c.args.header.now) input.Header c.from_slice.result _
     c.in_ok-header.ensures c.from_slice.ensures.ok in
     let p = err_from_is_err_and c.from_residual-in_err-claims.result c.from_residual-in_err-claims.ensures.1 in
-    rw (p.1, p.2) (misread _ _ _ _ input.Claims _ (λ none. inr ((_, read), (refl, none))) c.read_claims.result
+    rw (p.1, p.2) (input_error _ _ _ _ input.Claims _ (λ none. inr ((_, read), (refl, none))) c.read_claims.result
     (Err _) c.in_err-claims.ensures c.read_claims.ensures.err)
 
 pub returns-clause-ok : goal.returns-clause-ok
@@ -37,7 +37,7 @@ returns-clause-ok c =
     let claims = read_ok (λ v. ReadsClaimsText c.args.claims.now (view v)) input.Claims c.read_claims.result _
     c.in_ok-claims.ensures c.read_claims.ensures.ok in
     IfOk-weaker c.issue-token.result _ _ (λ b x. read_first c.args.given.now c.args.header.now c.args.claims.now _ _ header
-    claims (Gives b.items) x) c.issue-token.ensures.ok
+    claims (Returns b.items) x) c.issue-token.ensures.ok
 
 pub returns-clause-err : goal.returns-clause-err
 returns-clause-err c =

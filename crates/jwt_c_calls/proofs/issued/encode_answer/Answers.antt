@@ -5,7 +5,7 @@ use Rattle.jwt_base.specs.JsonText.{ReadsText}
 use Rattle.jwt_header.specs.Header.{ReadsHeader}
 use Rattle.jwt_c_calls.specs.Inputs.{ReadsClaimsText}
 use Rattle.jwt_c_calls.specs.declared.inputs.Input.TheVariants as input
-use Rattle.jwt_c_calls.proofs.Answered.{misread, read_ok}
+use Rattle.jwt_c_calls.proofs.Answered.{input_error, read_ok}
 use Rattle.jwt_c_calls.proofs.issued.encode_answer.Goals as goal
 
 pub returns-in_err-claims-clause-err : goal.returns-in_err-claims-clause-err
@@ -13,7 +13,7 @@ returns-in_err-claims-clause-err c =
     let read = read_ok (ReadsText ReadsHeader c.args.header.now) input.Header c.from_slice.result _
     c.in_ok-header.ensures c.from_slice.ensures.ok in
     let p = err_from_is_err_and c.from_residual-in_err-claims.result c.from_residual-in_err-claims.ensures.1 in
-    rw (p.1, p.2) (misread _ _ _ _ input.Claims _ (λ none. inr ((_, read), (refl, none))) c.read_claims.result
+    rw (p.1, p.2) (input_error _ _ _ _ input.Claims _ (λ none. inr ((_, read), (refl, none))) c.read_claims.result
     (Err _) c.in_err-claims.ensures c.read_claims.ensures.err)
 
 pub returns-in_err-token-clause-err : goal.returns-in_err-token-clause-err

@@ -3,13 +3,13 @@ use Rattle.std.proofs.lemmas.Result.{err_from_is_err_and}
 use Rattle.jwt_base.specs.JsonText.{ReadsText}
 use Rattle.jwt_keys.specs.Jwk.{ReadsKey}
 use Rattle.jwt_c_calls.specs.declared.inputs.Input.TheVariants as input
-use Rattle.jwt_c_calls.proofs.Answered.{misread, read_ok}
+use Rattle.jwt_c_calls.proofs.Answered.{input_error, read_ok}
 use Rattle.jwt_c_calls.proofs.secrets.key_answer.Goals as goal
 
 pub returns-in_err-jwk-clause-err : goal.returns-in_err-jwk-clause-err
 returns-in_err-jwk-clause-err c =
     let p = err_from_is_err_and c.from_residual.result c.from_residual.ensures.1 in
-    rw (p.1, p.2) (misread _ _ _ _ input.Key _ (λ none. (refl, none)) c.from_slice.result (Err _) c.in_err-jwk.ensures
+    rw (p.1, p.2) (input_error _ _ _ _ input.Key _ (λ none. (refl, none)) c.from_slice.result (Err _) c.in_err-jwk.ensures
     c.from_slice.ensures.err)
 
 pub returns-clause-ok : goal.returns-clause-ok

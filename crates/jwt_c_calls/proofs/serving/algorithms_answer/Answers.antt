@@ -2,18 +2,18 @@ use Rattle.std.proofs.Common.{ℕ, List, Err, ⊎_elim, inl, inr, refl}
 use Rattle.std.proofs.lemmas.Result.{err_from_is_err_and}
 use Rattle.jwt_base.specs.JsonText.{ReadsText}
 use Rattle.jwt_keys.specs.Jwk.{ReadsKey}
-use Rattle.jwt_c_calls.specs.Calls.{AnswersBy, MisreadsOne, answer_of}
+use Rattle.jwt_c_calls.specs.Calls.{AnswersBy, IsErrorOfOne, answer_of}
 use Rattle.jwt_c_calls.specs.Keys.{StandsForNoKey}
 use Rattle.jwt_c_calls.specs.Serving.{AnswersAlgorithms}
-use Rattle.jwt_c_calls.specs.declared.inputs.CallRefusal.{CallRefusal}
-use Rattle.jwt_c_calls.specs.declared.inputs.CallRefusal.TheVariants as refused
+use Rattle.jwt_c_calls.specs.declared.inputs.CallError.{CallError}
+use Rattle.jwt_c_calls.specs.declared.inputs.CallError.TheVariants as refused
 use Rattle.jwt_c_calls.specs.declared.inputs.Input.TheVariants as input
-use Rattle.jwt_c_calls.proofs.Answered.{misread, read_ok}
+use Rattle.jwt_c_calls.proofs.Answered.{input_error, read_ok}
 use Rattle.jwt_c_calls.proofs.serving.algorithms_answer.Goals as goal
 
 -- a refusal comes with no bits
-no_bits : (key : List ℕ) (r : CallRefusal)
-    → AnswersBy (ReadsText ReadsKey key) (MisreadsOne input.Key (ReadsText ReadsKey key)) (λ _ _. ⊥) StandsForNoKey (answer_of r)
+no_bits : (key : List ℕ) (r : CallError)
+    → AnswersBy (ReadsText ReadsKey key) (IsErrorOfOne input.Key (ReadsText ReadsKey key)) (λ _ _. ⊥) StandsForNoKey (answer_of r)
     → AnswersAlgorithms key 0 (answer_of r)
 no_bits key (refused.Input i) m = (refl, m)
 no_bits key (refused.Token e) m = (refl, m)
@@ -21,7 +21,7 @@ no_bits key (refused.Token e) m = (refl, m)
 pub returns-in_err-jwk-clause-err : goal.returns-in_err-jwk-clause-err
 returns-in_err-jwk-clause-err c =
     let p = err_from_is_err_and c.from_residual.result c.from_residual.ensures.1 in
-    rw (p.1, p.2) (no_bits c.args.key.now _ (misread _ _ _ _ input.Key _ (λ none. (refl, none)) c.from_slice.result (Err _)
+    rw (p.1, p.2) (no_bits c.args.key.now _ (input_error _ _ _ _ input.Key _ (λ none. (refl, none)) c.from_slice.result (Err _)
     c.in_err-jwk.ensures c.from_slice.ensures.err))
 
 pub returns-in_err-bits-clause-err : goal.returns-in_err-bits-clause-err

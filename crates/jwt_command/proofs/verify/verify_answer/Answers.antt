@@ -26,6 +26,6 @@ returns-in-Ok c =
 pub returns-in-Err : goal.returns-in-Err
 returns-in-Err c =
     let says = c.in_ok-contents.ensures.ok in
-    let denied = rw c.in-Err.is at says.2 in
-    IfOk-weaker c.denied_answer.result _ _ (λ a has. (says.0, says.1, inr (c.in-Err.denial, denied, has.0, has.1)))
-    c.denied_answer.ensures
+    let refused = rw c.in-Err.is at says.2 in
+    IfOk-weaker c.refused_answer.result _ _ (λ a has. (says.0, says.1, inr (c.in-Err.reason, refused, has.0, has.1)))
+    c.refused_answer.ensures

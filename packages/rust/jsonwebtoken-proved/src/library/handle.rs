@@ -41,7 +41,7 @@ pub struct Accepted {
 
 /// The status of a token that is not accepted, and the number of the first test that failed, or 0 if none was made.
 #[derive(Debug)]
-pub struct Denied {
+pub struct TokenRefusal {
     pub status: u32,
     pub test: u32,
 }
@@ -105,7 +105,7 @@ impl Handle {
     }
 
     /// Verifies a token at the time `now`.
-    pub fn decode(&mut self, token: &[u8], now: u64) -> Result<Accepted, Denied> {
+    pub fn decode(&mut self, token: &[u8], now: u64) -> Result<Accepted, TokenRefusal> {
         let (mut last, mut test) = (0, 0);
         // SAFETY: no other call has this verifier, the slice has the length that is given, and the buffer does not overlap it
         let claims = text(token.len() + 64, |buffer, size, len| unsafe {
@@ -123,7 +123,7 @@ impl Handle {
         });
         match claims {
             Ok(claims) => Ok(Accepted { claims, last }),
-            Err(status) => Err(Denied { status, test }),
+            Err(status) => Err(TokenRefusal { status, test }),
         }
     }
 }

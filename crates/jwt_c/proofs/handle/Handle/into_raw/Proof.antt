@@ -1,4 +1,4 @@
--- `into_kept` takes the handle apart, and makes of its pointer what is kept, unless it is null.
+-- `into_raw` takes the handle apart, and makes of its pointer what is kept, unless it is null.
 use Rattle.std.proofs.Common.{◌≡◌, ℕ, List, [], ◌∷◌, ◌++◌, refl, sym, ap, ◌∙◌, subst, lit<, Option, Some, None}
 use mir.Val.{Val, vptr, vnull, vcons, vnil, has_ty}
 use base.Logic.{SProp, ent, emp, id⊢, via, fst∗, snd∗, never, guard, guard_i}
@@ -36,10 +36,10 @@ use Rattle.std.specs.contracts.impls.GlobalAllocator.TheImpl.{ghosts}
 use Rattle.std_alloc.proofs.ResultValues.{and_tt}
 use Rattle.std_alloc.specs.Box.Ownership.{box_owns}
 use Rattle.jwt_c.specs.Owned.{handle_owns}
-use Rattle.jwt_c.specs.contracts.handle.Handle.into_kept.{ended, clauses}
-use Rattle.jwt_c.specs.contracts.handle.Handle.into_kept.Key.{name as #self}
-use Rattle.jwt_c.proofs.handle.Handle.into_kept.Statement.{statement}
-use Rattle.jwt_c.proofs.handle.Handle.into_kept.Code as code
+use Rattle.jwt_c.specs.contracts.handle.Handle.into_raw.{ended, clauses}
+use Rattle.jwt_c.specs.contracts.handle.Handle.into_raw.Key.{name as #self}
+use Rattle.jwt_c.proofs.handle.Handle.into_raw.Statement.{statement}
+use Rattle.jwt_c.proofs.handle.Handle.into_raw.Code as code
 use Rattle.jwt_c.proofs.Values.{both, both_tt, KeptRow, kept_good, kept_in}
 use Rattle.jwt_c.proofs.HandleValues.{Z, R, Hd, handle_out}
 

@@ -36,10 +36,10 @@ use Rattle.std.proofs.raw_atomic.Walks.{proved_at, leaves}
 use Rattle.jwt_c.proofs.Values.{both, kept_good, kept_in}
 use Rattle.std_alloc.specs.contracts.boxed.Box.into_raw_with_allocator as callee
 use Rattle.std_alloc.proofs.boxed.Box.into_raw_with_allocator.Met.{met}
-use Rattle.jwt_c.specs.contracts.kept.Kept.of.{ended, clauses}
-use Rattle.jwt_c.specs.contracts.kept.Kept.of.Key.{name as #self}
-use Rattle.jwt_c.proofs.kept.Kept.of.Statement.{statement}
-use Rattle.jwt_c.proofs.kept.Kept.of.Code as code
+use Rattle.jwt_c.specs.contracts.raw_box.RawBox.of.{ended, clauses}
+use Rattle.jwt_c.specs.contracts.raw_box.RawBox.of.Key.{name as #self}
+use Rattle.jwt_c.proofs.raw_box.RawBox.of.Statement.{statement}
+use Rattle.jwt_c.proofs.raw_box.RawBox.of.Code as code
 
 pub of_spec : {M : Type 1} → statement M
 of_spec 𝓤 𝓛 𝓜 𝓡 wired T A L LA g d dx dd allocator glue glued =

@@ -35,10 +35,10 @@ use Rattle.std.proofs.raw_atomic.Walks.{proved_at, leaves}
 use Rattle.jwt_c.proofs.Values.{both, KeptRow, kept_good, kept_out}
 use Rattle.std_alloc.specs.contracts.boxed.Box.from_raw as callee
 use Rattle.std_alloc.proofs.boxed.Box.from_raw.Met.{met}
-use Rattle.jwt_c.specs.contracts.kept.Kept.into_box.{ended, clauses}
-use Rattle.jwt_c.specs.contracts.kept.Kept.into_box.Key.{name as #self}
-use Rattle.jwt_c.proofs.kept.Kept.into_box.Statement.{statement}
-use Rattle.jwt_c.proofs.kept.Kept.into_box.Code as code
+use Rattle.jwt_c.specs.contracts.raw_box.RawBox.into_box.{ended, clauses}
+use Rattle.jwt_c.specs.contracts.raw_box.RawBox.into_box.Key.{name as #self}
+use Rattle.jwt_c.proofs.raw_box.RawBox.into_box.Statement.{statement}
+use Rattle.jwt_c.proofs.raw_box.RawBox.into_box.Code as code
 
 pub into_box_spec : {M : Type 1} → statement M
 into_box_spec 𝓤 𝓛 𝓜 𝓡 wired T A L LA g d dx dd allocator glue glued =

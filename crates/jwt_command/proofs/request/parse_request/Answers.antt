@@ -1,14 +1,14 @@
 use Rattle.std.proofs.Common.{sym}
 use Rattle.std.proofs.lemmas.Result.{IfOk-weaker}
 use Rattle.clap.specs.Matches.{found_of}
-use Rattle.jwt_command.proofs.request.request_asked.Goals as goal
+use Rattle.jwt_command.proofs.request.parse_request.Goals as goal
 
 pub returns-in-Some : goal.returns-in-Some
 returns-in-Some c =
-    IfOk-weaker c.command_asked.result _ _
+    IfOk-weaker c.parse_command.result _ _
     (λ r says. (
       c.in-Some.name.now,
       sym c.in-Some.ensures.name,
       (found_of c.in-Some.found.now, sym c.in-Some.ensures.rows, says),
     ))
-    c.command_asked.ensures
+    c.parse_command.ensures

@@ -7,28 +7,28 @@ use std::alloc::Allocator;
 use std::marker::Model;
 
 /// The pointer of a box, which owns what the box owns.
-pub(crate) struct Kept<T, A: Allocator> {
+pub(crate) struct RawBox<T, A: Allocator> {
     pub(crate) at: *mut T,
     pub(crate) alloc: A,
     pub(crate) ghost value: { T },
 }
 
-impl<T, A: Allocator> Model for Kept<T, A> {
+impl<T, A: Allocator> Model for RawBox<T, A> {
     ghost also_owns = { λ k. box_owns (A.dealloc_token k.alloc) T.row k.at k.value };
 }
 
-impl<T: Drop, A: Allocator> Kept<T, A> {
-    pub(crate) fn of(value: Box<T, A>) -> Kept<T, A>
+impl<T: Drop, A: Allocator> RawBox<T, A> {
+    pub(crate) fn of(value: Box<T, A>) -> RawBox<T, A>
         ensures { result.value ≡ value.value }
     {
         let (at, alloc) = Box::into_raw_with_allocator(value);
-        Kept { at, alloc }
+        RawBox { at, alloc }
     }
 
     pub(crate) fn into_box(self) -> Box<T, A>
         ensures { result.value ≡ self.value }
     {
-        let Kept { at, alloc } = self;
+        let RawBox { at, alloc } = self;
         unsafe { Box::from_raw(alloc, at) }
     }
 }

@@ -8,13 +8,13 @@ use crate::handle::Handle;
 use crate::shared::Shared;
 use jwt_c_calls::status::put_bytes;
 use jwt_c_calls::status_table::{OK, OUT_OF_MEMORY, VERIFIER_IS_MADE};
-use jwt_c_verifier::verifiers::{Accepted, Denied};
+use jwt_c_verifier::verifiers::{Accepted, TokenRefusal};
 use jwt_verifier::Verifier;
 use std::alloc::Global;
 use std::result::Result;
 
 /// Leaves the handle of a holder, if there is one and memory for it: 0, else 22.
-pub(crate) fn put(alloc: Global, made: Option<Shared>, verifier: &mut Handle) -> u32
+pub(crate) fn store(alloc: Global, made: Option<Shared>, verifier: &mut Handle) -> u32
     ensures { MatchOption verifier.new.held (result ≡ 22)
         (λ s. (result ≡ 0) × MatchOption made ⊥ (λ m. s ≡ m)) }
 {
@@ -30,7 +30,7 @@ pub(crate) fn put(alloc: Global, made: Option<Shared>, verifier: &mut Handle) ->
 
 /// Leaves a verifier that was made, or its status, in a handle. One that holds a verifier already
 /// is unchanged.
-pub(crate) fn leave_made(alloc: Global, made: Result<Verifier, u32>, verifier: &mut Handle) -> u32
+pub(crate) fn write_handle(alloc: Global, made: Result<Verifier, u32>, verifier: &mut Handle) -> u32
     ensures { IsHeldAs made verifier.old.held verifier.new.held result }
 {
     if let Some(held) = verifier.take(alloc) {
@@ -38,15 +38,15 @@ pub(crate) fn leave_made(alloc: Global, made: Result<Verifier, u32>, verifier: &
         return VERIFIER_IS_MADE.0;
     }
     match made {
-        Ok(made) => hold(alloc, made, verifier),
+        Ok(made) => store_new(alloc, made, verifier),
         Err(status) => status,
     }
 }
 
 /// Leaves the claims of an accepted token and the last time at which it is accepted, or the reason
 /// for which it is refused.
-pub(crate) fn leave_until(
-    answer: Result<Accepted, Denied>,
+pub(crate) fn write_verdict(
+    answer: Result<Accepted, TokenRefusal>,
     room: &mut [u8],
     len: &mut usize,
     last: &mut u64,
@@ -63,18 +63,18 @@ pub(crate) fn leave_until(
             *test = 0;
             put_bytes(accepted.text.as_slice(), room, len)
         }
-        Err(denied) => {
+        Err(refusal) => {
             *last = 0;
-            *test = denied.test;
+            *test = refusal.test;
             *len = 0;
-            denied.status
+            refusal.status
         }
     }
 }
 
-fn hold(alloc: Global, made: Verifier, verifier: &mut Handle) -> u32
+fn store_new(alloc: Global, made: Verifier, verifier: &mut Handle) -> u32
     ensures { MatchOption verifier.new.held (result ≡ 22)
         (λ s. (result ≡ 0) × (verifier_in s ≡ made)) }
 {
-    put(alloc, Shared::new(alloc, made).ok(), verifier)
+    store(alloc, Shared::new(alloc, made).ok(), verifier)
 }

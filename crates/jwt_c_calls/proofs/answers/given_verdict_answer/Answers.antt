@@ -1,6 +1,6 @@
 use Rattle.jwt_c_calls.specs.Calls.{AnswersVerdict}
 use Rattle.jwt_c_calls.proofs.Answered.{one_side}
-use Rattle.jwt_c_calls.proofs.answers.said_answer.Goals as goal
+use Rattle.jwt_c_calls.proofs.answers.given_verdict_answer.Goals as goal
 
 pub returns-in-Some : goal.returns-in-Some
 returns-in-Some c =
