@@ -8,8 +8,9 @@ use Rattle.limbs.proofs.Congruences.{mul_alike}
 use Rattle.residues.specs.Modulo.{plus, minus, times}
 use Rattle.weierstrass.specs.Weierstrass.{Point}
 use Rattle.primes.specs.Primes.{IsPrime}
-use Rattle.weierstrass_group.proofs.PrimeField.{power_inverse}
-use Rattle.ecdsa.specs.Ecdsa.{inverse, HasX}
+use Rattle.primes.specs.Inverses.{inverse}
+use Rattle.primes.proofs.PrimeInverses.{power_inverse}
+use Rattle.ecdsa.specs.Ecdsa.{HasX}
 use Rattle.ecdsa.specs.private_clauses.Sums.{HasSecond}
 
 -- n - 1, and 1 more

@@ -2,6 +2,7 @@ pub mod Curves
 pub mod Ecdsa
 pub mod Moduli
 pub mod private_clauses
+pub use Rattle.primes.specs.Inverses
 pub use Rattle.primes.specs.Primes
 pub use Rattle.residues.specs.Bytes
 pub use Rattle.residues.specs.Modulo

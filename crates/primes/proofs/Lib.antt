@@ -5,4 +5,5 @@ pub mod Divisors
 pub mod Fermat
 pub mod Holes
 pub mod Pocklington
+pub mod PrimeInverses
 pub mod Trials

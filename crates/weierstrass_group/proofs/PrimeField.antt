@@ -8,14 +8,10 @@ use Rattle.limbs.proofs.Congruences.{add_alike, mul_alike}
 use Rattle.residues.specs.Modulo.{minus, times, power}
 use Rattle.kronecker.proofs.Symbols.{minus_back, cancel}
 use Rattle.primes.specs.Primes.{IsPrime}
-use Rattle.primes.proofs.Fermat.{fermat, one_left}
+use Rattle.primes.proofs.Fermat.{fermat}
+use Rattle.primes.proofs.PrimeInverses.{power_inverse}
 use Rattle.weierstrass_group.proofs.Field.{plus_is, times_is}
 use Rattle.weierstrass_group.specs.Group.{IsCurve, IsField, IsUnit, cubic_at}
-
--- a power less by one
-one_less : (a n : ℕ) → 0 < n → a ^ (n - 1) * a ≡ a ^ n
-one_less a zero h = absurd (omega arith)
-one_less a (suc n) h = let e : suc n - 1 ≡ n = omega arith in rw (e, pow-suc a n) refl
 
 module _ (p : ℕ) (prime : IsPrime p) where
   pos : 0 < p
@@ -24,29 +20,13 @@ module _ (p : ℕ) (prime : IsPrime p) where
   zero_left : 0 % p ≡ 0
   zero_left = mod-eq_of_lt pos
 
-  -- a ^ (p - 1) is 1
-  pub fermat_one : (a : ℕ) → (a % p ≡ 0 % p → ⊥) → a ^ (p - 1) % p ≡ 1 % p
-  fermat_one a h = one_left p prime a (a ^ (p - 1)) h (ap (λ n. n % p) (one_less a p pos) ∙ fermat p prime a)
-
-  two_less : (a : ℕ) → 1 < p → a * a ^ (p - 2) ≡ a ^ (p - 1)
-  two_less a h =
-      let e : p - 1 ≡ suc (p - 2) = omega arith in
-      rw (e, pow-suc a (p - 2)) (let k : a * a ^ (p - 2) ≡ a ^ (p - 2) * a = omega arith in k)
-
-  -- the power of p - 2 is the inverse
-  pub power_inverse : (a : ℕ) → (a % p ≡ 0 % p → ⊥) → (a * power p a (p - 2)) % p ≡ 1 % p
-  unfolding power
-  power_inverse a h =
-      mul_alike p a a (a ^ (p - 2) % p) (a ^ (p - 2)) refl (mod-mod (a ^ (p - 2)) p)
-      ∙ ap (λ n. n % p) (two_less a prime.above) ∙ fermat_one a h
-
   unit_or_zero : (a : ℕ) → IsUnit p a ⊎ (a % p ≡ 0 % p)
   unit_or_zero a = go (cases_lt 0 (a % p))
     where
       go : (0 < a % p) ⊎ (a % p ≤ 0) → IsUnit p a ⊎ (a % p ≡ 0 % p)
       go (inl l) = inl (record {
         inverse = power p a (p - 2);
-        is_inverse = power_inverse a (λ e. let z = zero_left in omega arith);
+        is_inverse = power_inverse p prime a (λ e. let z = zero_left in omega arith);
       })
       go (inr l) = inr (let z = zero_left in omega arith)
 
