@@ -28,7 +28,7 @@ field = IsField-by p prime two_below
 pub positive : 0 < p
 positive = omega (arith, two_below)
 
-half_is : p ≡ suc ((p - 1) / 2 + (p - 1) / 2)
+pub half_is : p ≡ suc ((p - 1) / 2 + (p - 1) / 2)
 unfolding p
 half_is = refl
 
@@ -82,7 +82,7 @@ unfolding u_of v_of
 negative_root y x h = root_negative p d field x y ∙ h
 
 -- the root that was found is one
-root_found : (y x r : ℕ) → root_of (u_of y) (v_of y) x ≡ Some r → IsRoot y r
+pub root_found : (y x r : ℕ) → root_of (u_of y) (v_of y) x ≡ Some r → IsRoot y r
 unfolding root_of
 root_found y x r h =
     elim (eqb_tells (times p (v_of y) (times p x x)) (u_of y)) [

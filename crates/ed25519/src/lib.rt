@@ -8,6 +8,7 @@ mod base_table;
 mod comb;
 mod constants;
 pub mod decoding;
+mod encoding;
 pub mod field;
 pub mod group;
 pub mod joint;

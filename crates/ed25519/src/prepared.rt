@@ -7,12 +7,12 @@ ghost use Rattle.ed25519.specs.declared.field.FieldElement.{FieldElement};
 
 use crate::comb::{comb_of, joint_by_combs};
 use crate::decoding::decode;
+use crate::encoding::is_encoding;
 use crate::field::FieldElement;
 use crate::joint::negative;
 use crate::moduli::{Order, OrderModulus};
 use crate::verification::challenge;
 use edwards::factors::Addend;
-use edwards::points::is_same_point;
 use residues::montgomery::Montgomery;
 use residues::residue::Residue;
 use std::alloc::{AllocError, Global};
@@ -69,15 +69,12 @@ fn is_signature_by_over<N: Order>(key: &PreparedKey, message: &[u8], signature: 
         return false;
     }
     let (first, second) = signature.split_at(32);
-    let Some(commitment) = decode::<FieldElement>(first) else {
-        return false;
-    };
     let Some(_s) = N::from_bytes(second) else {
         return false;
     };
     let challenge = challenge::<N>(first, key.public.as_slice(), message);
-    is_same_point(
+    is_encoding(
+        first,
         joint_by_combs(key.table.as_slice(), second, &challenge),
-        commitment,
     )
 }

@@ -22,13 +22,13 @@ abbrev h_of : (p : ℕ) → Point → Point → ℕ
 h_of p P Q = plus p (times p (plus p P.y P.x) (plus p Q.y Q.x)) (times p (minus p P.y P.x) (minus p Q.y Q.x))
 
 -- three points, d and the root of -1
-abbrev env : Point → Point → Point → (d r : ℕ) → ℕ → ℕ
+abbrev pub env : Point → Point → Point → (d r : ℕ) → ℕ → ℕ
 env P Q R d r = at (P.x ∷ P.y ∷ P.z ∷ P.t ∷ Q.x ∷ Q.y ∷ Q.z ∷ Q.t ∷ R.x ∷ R.y ∷ R.z ∷ R.t ∷ d ∷ r ∷ [])
 
-abbrev four : (x y z t : ℕ) → Point
+abbrev pub four : (x y z t : ℕ) → Point
 four x y z t = record { x = x; y = y; z = z; t = t }
 
-abbrev nil : Point
+abbrev pub nil : Point
 nil = four 0 0 0 0
 
 module _ (p d : ℕ) (field : IsField p) where
@@ -62,13 +62,13 @@ module _ (p d : ℕ) (field : IsField p) where
   unfolding times
   a_factor a b h = field.factor a b (sym (mod-mod (a * b) p) ∙ h)
 
-  other_factor : (a b : ℕ) → (Alike p a 0 → ⊥) → Alike p (times p a b) 0 → Alike p b 0
+  pub other_factor : (a b : ℕ) → (Alike p a 0 → ⊥) → Alike p (times p a b) 0 → Alike p b 0
   other_factor a b n h = elim (a_factor a b h) [ inl l ↦ absurd (n l) | inr r ↦ r ]
 
-  apart_times : (a b : ℕ) → (Alike p a 0 → ⊥) → (Alike p b 0 → ⊥) → Alike p (times p a b) 0 → ⊥
+  pub apart_times : (a b : ℕ) → (Alike p a 0 → ⊥) → (Alike p b 0 → ⊥) → Alike p (times p a b) 0 → ⊥
   apart_times a b m n h = n (other_factor a b m h)
 
-  cancel : (c a b : ℕ) → (Alike p c 0 → ⊥) → Alike p (times p c a) (times p c b) → Alike p a b
+  pub cancel : (c a b : ℕ) → (Alike p c 0 → ⊥) → Alike p (times p c a) (times p c b) → Alike p a b
   unfolding value
   cancel c a b n h =
       minus_none p positive a b

@@ -1,4 +1,5 @@
 pub mod Addends
+pub mod Affine
 pub mod Curves
 pub mod Groups
 pub mod Identities
