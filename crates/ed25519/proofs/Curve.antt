@@ -13,6 +13,7 @@ use Rattle.edwards_group.specs.Group.{Alike, IsField, IsCurve, IsPoint}
 use Rattle.edwards_group.proofs.Curves.{IsField-by, IsCurve-by, IsPoint-by_root, root_turned, root_negative}
 use Rattle.ed25519.specs.Ed25519.{p, d, base, twice_d, u_of, v_of, candidate, root_of, signed, point_at, point_of, decoded}
 use Rattle.ed25519.proofs.MinusOne.{root_of_minus_one_is}
+use Rattle.ed25519.proofs.Roots.{some_same, none_some}
 
 pub prime : IsPrime p
 unfolding p
@@ -70,9 +71,6 @@ twice_d_is = refl
 abbrev pub IsRoot : ℕ → ℕ → Type 0
 IsRoot y x = Alike p (times p (v_of y) (times p x x)) (u_of y)
 
-same_some : {x y : ℕ} → Some x ≡ Some y → x ≡ y
-same_some e = cc
-
 turned : (y x : ℕ) → times p (v_of y) (times p x x) ≡ minus p 0 (u_of y) → IsRoot y (times p x root)
 unfolding u_of v_of
 turned y x e = root_turned p d field x y root (ap (λ n. n % p) e) root_is
@@ -88,21 +86,18 @@ root_found y x r h =
     elim (eqb_tells (times p (v_of y) (times p x x)) (u_of y)) [
       | inl a ↦
           let e : Some x ≡ Some r = rw a.0 at h in
-          let same : x ≡ r = same_some e in
+          let same : x ≡ r = some_same e in
           rw (← same) (ap (λ n. n % p) a.1)
       | inr a ↦
           let g = rw a.0 at h in
           elim (eqb_tells (times p (v_of y) (times p x x)) (minus p 0 (u_of y))) [
             | inl b ↦
                 let e : Some (times p x (power p 2 ((p - 1) / 4))) ≡ Some r = rw b.0 at g in
-                let same : times p x (power p 2 ((p - 1) / 4)) ≡ r = same_some e in
+                let same : times p x (power p 2 ((p - 1) / 4)) ≡ r = some_same e in
                 rw (← same, root_of_minus_one_is) (turned y x b.1)
             | inr b ↦ absurd (let e : None ≡ Some r = rw b.0 at g in cc)
           ]
     ]
-
-none_some : {A : Type 0} {x : A} → ◌≡◌ {A = Option A} None (Some x) → ⊥
-none_some e = cc
 
 -- as is the one of the sign
 root_signed : (y x r sign : ℕ) → IsRoot y x → signed sign (Some x) ≡ Some r → IsRoot y r
@@ -111,15 +106,12 @@ root_signed y x r sign is h = refused (x == 0 && sign == 1) (x % 2 == sign) h
   where
     refused : (a b : Bool) → cond a None (cond b (Some x) (Some (minus p 0 x))) ≡ Some r → IsRoot y r
     refused true b e = absurd (none_some e)
-    refused false true e = subst (IsRoot y) (same_some e) is
-    refused false false e = subst (IsRoot y) (same_some e) (negative_root y x is)
+    refused false true e = subst (IsRoot y) (some_same e) is
+    refused false false e = subst (IsRoot y) (some_same e) (negative_root y x is)
 
 pub IsPoint-found : (y x : ℕ) → IsRoot y x → IsPoint p d (record { x = x; y = y; z = 1; t = times p x y })
 unfolding u_of v_of
 IsPoint-found y x h = IsPoint-by_root p d field x y h
-
-same_point : {P Q : Point} → Some P ≡ Some Q → P ≡ Q
-same_point e = cc
 
 point_none : (y sign : ℕ) (P : Point) → point_at y (signed sign None) ≡ Some P → ⊥
 unfolding point_at signed
@@ -129,7 +121,7 @@ point_some : (y sign x : ℕ) (P : Point) → IsRoot y x → (o : Option ℕ) �
     → IsPoint p d P
 unfolding point_at
 point_some y sign x P is None e h = absurd (none_some h)
-point_some y sign x P is (Some r) e h = subst (IsPoint p d) (same_point h) (IsPoint-found y r (root_signed y x r sign is e))
+point_some y sign x P is (Some r) e h = subst (IsPoint p d) (some_same h) (IsPoint-found y r (root_signed y x r sign is e))
 
 point_signed : (y sign : ℕ) (P : Point) (o : Option ℕ) → ((x : ℕ) → o ≡ Some x → IsRoot y x)
     → point_at y (signed sign o) ≡ Some P → IsPoint p d P

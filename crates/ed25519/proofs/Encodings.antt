@@ -19,10 +19,10 @@ use Rattle.primes.specs.Inverses.{inverse}
 use Rattle.primes.proofs.Pocklington.{pow_alike}
 use Rattle.primes.proofs.PrimeInverses.{power_inverse}
 use Rattle.ed25519.specs.Ed25519.{p, d, u_of, v_of, candidate, root_of, signed, point_at, point_of, decoded, IsEquation}
-use Rattle.ed25519.specs.private_clauses.Encodings.{Encode, IsCommitment}
+use Rattle.ed25519.specs.private_clauses.Encodings.{IsEncoding, IsCommitment}
 use Rattle.ed25519.proofs.Curve.{prime, field, positive, half_is, root_found, IsRoot, IsPoint-decoded}
 use Rattle.ed25519.proofs.Roots.{root_first, root_second, signed_none, signed_same, signed_other, point_not_below, point_below}
-use Rattle.ed25519.proofs.Roots.{point_found}
+use Rattle.ed25519.proofs.Roots.{point_found, some_same, none_some}
 use Rattle.ed25519.proofs.SquareRoots.{candidate_square, same_squares, cube_is, seventh_is}
 
 -- w + u = 0
@@ -169,12 +169,6 @@ signed_is sign x r l e (inr other) = elim (cases_lt 0 x) [
       signed_other sign r x (λ z s. absurd (omega arith)) (λ s. absurd (omega arith)) back
 ]
 
-some_same : {A : Type 0} {x y : A} → Some x ≡ Some y → x ≡ y
-some_same e = cc
-
-none_some : {A : Type 0} {x : A} → ◌≡◌ {A = Option A} None (Some x) → ⊥
-none_some e = cc
-
 -- a signed root has the sign
 sign_of : (sign x r : ℕ) → sign < 2 → x < p → signed sign (Some x) ≡ Some r → (r % 2 ≡ sign) × (r < p)
 sign_of sign x r ls lx h = elim (eqb_tells (x % 2) sign) [
@@ -254,7 +248,7 @@ module _ (bytes : List ℕ) (Q : Point) (on : IsPoint p d Q) where
   sign_in = little_endian bytes / 2 ^ 255
 
   pub encodes : (x : ℕ) → y_in < p → x < p → x % 2 ≡ sign_in → Alike p (times p x Q.z) Q.x → Alike p (times p y_in Q.z) Q.y
-      → Encode bytes Q
+      → IsEncoding bytes Q
   unfolding decoded times u_of v_of
   encodes x ly lx s ex ey =
       let root : IsRoot y_in x = A.root_of_point p d field Q x y_in on ex ey in
@@ -297,14 +291,14 @@ module _ (bytes : List ℕ) (Q : Point) (on : IsPoint p d Q) where
         y_is = mod-mod (y_in * Q.z) p ∙ sym y_same ∙ ap (λ z. z % p) (let k : Q.y * 1 ≡ Q.y = omega arith in k);
       }
 
-  pub y_holds : Encode bytes Q → y_in < p
+  pub y_holds : IsEncoding bytes Q → y_in < p
   unfolding decoded
   y_holds e = elim (cases_lt y_in p) [
     | inr h ↦ absurd (none_some (point_not_below y_in sign_in h ∙ e.decodes))
     | inl h ↦ h
   ]
 
-  pub holds : sign_in < 2 → Encode bytes Q → Holds
+  pub holds : sign_in < 2 → IsEncoding bytes Q → Holds
   unfolding decoded
   holds ls e =
       let h : y_in < p = y_holds e in
@@ -336,7 +330,7 @@ module _ (bytes : List ℕ) (Q : Point) (on : IsPoint p d Q) where
 
   -- the test of the sign decides where the y is the point's
   pub decides : (odd : Bool) (x sign : ℕ) → y_in < p → sign < 2 → sign ≡ sign_in → times p y_in Q.z ≡ Q.y
-      → x ≡ times p Q.x (inverse p Q.z) → (IsTrue odd ↔ x % 2 ≡ 1) → IsTrue (beq odd (eqb sign 1)) ↔ Encode bytes Q
+      → x ≡ times p Q.x (inverse p Q.z) → (IsTrue odd ↔ x % 2 ≡ 1) → IsTrue (beq odd (eqb sign 1)) ↔ IsEncoding bytes Q
   unfolding x_from
   decides odd x sign ly ls s ey ex o =
       let t = sign_test odd x sign ls o in
@@ -348,13 +342,13 @@ module _ (bytes : List ℕ) (Q : Point) (on : IsPoint p d Q) where
             t.1 (ap (λ z. z % 2) (one_x x k.x below k.x_below x_is k.x_is) ∙ k.sign ∙ sym s),
       )
 
-  pub y_same : Q.y < p → sign_in < 2 → Encode bytes Q → times p y_in Q.z ≡ Q.y
+  pub y_same : Q.y < p → sign_in < 2 → IsEncoding bytes Q → times p y_in Q.z ≡ Q.y
   y_same l ls e = let k = holds ls e in same_below (times p y_in Q.z) Q.y (times_below y_in Q.z) l k.y_is
 
 -- bytes that encode the sum are those of an R for which the equation holds
 pub committed : (bytes : List ℕ) (key sum : Point) (s c : ℕ)
     → ((P : Point) → IsPoint p d P → AreSame p sum P ↔ IsEquation key P s c)
-    → Encode bytes sum ↔ IsCommitment key s c bytes
+    → IsEncoding bytes sum ↔ IsCommitment key s c bytes
 committed bytes key sum s c by = (
   λ e. record {
     commitment = e.point;

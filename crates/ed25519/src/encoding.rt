@@ -4,19 +4,19 @@ ghost use Rattle.std.specs.Prelude.{◌≡◌, ◌↔◌, IsTrue, length};
 ghost use Rattle.edwards.specs.Numbers.{numbers};
 ghost use Rattle.edwards_group.specs.Group.{IsPoint};
 ghost use Rattle.ed25519.specs.Ed25519.{p, d};
-ghost use Rattle.ed25519.specs.private_clauses.Encodings.{Encode};
+ghost use Rattle.ed25519.specs.private_clauses.Encodings.{IsEncoding};
 
 use crate::decoding::parts;
 use crate::moduli::Field;
 use edwards::points::ExtendedPoint;
 use primes::inverses::invert_tested;
 
-/// Returns whether the 32 bytes encode this point of the curve. Takes no square root: the point's x
-/// and y are compared with the bytes.
-pub fn is_encoding<F: Field>(bytes: &[u8], point: ExtendedPoint<F>) -> bool
+// Whether the 32 bytes encode this point of the curve. It takes no square root: the point's x and y
+// are compared with the bytes.
+pub(crate) fn is_encoding<F: Field>(bytes: &[u8], point: ExtendedPoint<F>) -> bool
     requires size { length bytes.now ≡ 32 }
     requires on_curve { IsPoint p d (numbers F.number point) }
-    ensures { IsTrue result ↔ Encode bytes.now (numbers F.number point) }
+    ensures { IsTrue result ↔ IsEncoding bytes.now (numbers F.number point) }
 {
     let Some((y, sign)) = parts::<F>(bytes) else {
         return false;

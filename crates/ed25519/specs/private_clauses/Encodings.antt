@@ -4,7 +4,7 @@ use Rattle.edwards.specs.Edwards.{Point, AreSame}
 use Rattle.ed25519.specs.Ed25519.{p, decoded, IsEquation}
 
 -- the bytes encode the point that Q stands for: it is the one that they are decoded to (RFC 8032 sections 5.1.2 and 5.1.3)
-pub record Encode (bytes : List ℕ) (Q : Point) : Type 0 where
+pub record IsEncoding (bytes : List ℕ) (Q : Point) : Type 0 where
   pub point : Point
   pub decodes : decoded bytes ≡ Some point
   pub same : AreSame p Q point
