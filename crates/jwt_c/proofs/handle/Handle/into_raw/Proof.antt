@@ -65,8 +65,8 @@ module _ {M : Type 1} {𝓤 : Ura M} {𝓛 : Logic 𝓤} {K : Type 0} {Γ : List
       use1 𝓛 (given (Testable (block_ptr b o)) (‵ (handle_owns R a (block_ptr b o) (Some y))))
       (tested 𝓛 a (block_ptr b o) y) $ learn t (λ u. one b o y e refl u))
 
-pub into_kept_spec : {M : Type 1} → statement M
-into_kept_spec 𝓤 𝓛 𝓜 𝓡 wired =
+pub into_raw_spec : {M : Type 1} → statement M
+into_raw_spec 𝓤 𝓛 𝓜 𝓡 wired =
     let H = 𝓛.H in let 𝓣 = tables 𝓤 H 𝓜 𝓡 𝓡.env in let LZ = heap_laws.the_row_laws in let c =
     clauses 𝓛 𝓜.mem 𝓡.returns in let fn = code.function in let Lr : RattleType = KeptRow R Z LZ ghosts in
     let hs : Stays ended.signature.params ended.kept = (stay_dropped (plain (λ _. Hd)) yes, tt) in
