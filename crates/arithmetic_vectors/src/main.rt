@@ -4,8 +4,10 @@
 //!
 //! The program reads the files `*.jsonl` of the folder that it runs in, whose rows on numbers and
 //! points `tests/rows/arithmetic` answers too. A row is one line of JSON with the members `id`,
-//! `call`, those of the call's inputs, `want`, and `from`, the source of the result that is wanted. A
-//! row that differs is printed, and the last line counts.
+//! `call`, those of the call's inputs, `want`, and `from`, the source of the result that is wanted.
+//! A row that differs is printed, and the last line counts.
+//!
+//! For developers: a new row is a line of a file in `crates/arithmetic_vectors/data`.
 
 // Rows about numbers and points have a program of their own, since `modular` and the crates of
 // curves know nothing of tokens.

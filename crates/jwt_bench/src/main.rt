@@ -1,5 +1,14 @@
 //! Measures the time for one token: to read and verify it, to issue it, or to read its header; and
 //! the time to compare two strings.
+//!
+//! For developers: `tools/inspect/speed` runs it next to peers, and `crates/jwt_bench/README.md`
+//! has the figures.
+//!
+//! `jwt_bench decode FILE COUNT` verifies the token of the file this many times, after a tenth of
+//! that to warm up, and prints the nanoseconds for one; `prepared-decode`, `encode`,
+//! `prepared-encode`, `header`, `compare-first` and `compare-last` are the other kinds of work, and
+//! `decode-jwk` verifies with a JSON Web Key. Without arguments it does one of each, which the
+//! tests run.
 #![tactic(auto)]
 
 mod fault;

@@ -2,6 +2,13 @@
 //!
 //! The clause of each call says that the status, the length and the buffer hold a result that the
 //! library's own definitions allow. Nothing is kept between calls but the verifiers that C holds.
+//!
+//! For programs in C, and for the packages for Python, Rust, Go and nginx, which call nothing else.
+//! A call is a function with the header's name that leaves the answer of a function of
+//! `jwt_c_calls` or `jwt_c_verifier` in the caller's buffer: `jwt_decode_set` leaves that of
+//! `set_answer`. `handle` and `raw_box` have the one pointer that a caller keeps, a verifier's.
+//!
+//! `packages/c/examples` has programs to start from.
 
 // A call has one clause: some result is that of the library's own definitions, and exactly it
 // stands in status, length and buffer. Since a first failed test is one only if nothing passes,

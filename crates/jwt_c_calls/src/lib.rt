@@ -1,4 +1,15 @@
 //! The calls for C over slices and results; `jwt_c` exports them.
+//!
+//! For `jwt_c` and `jwt_c_verifier`; a program in C takes `packages/c/include/jwtproved.h`.
+//!
+//! Each call has a function here that returns what the call leaves in the buffer, or a `CallError`:
+//! a text that can't be read, such as options that are no JSON, or the library's own refusal. Its
+//! contract is a definition of `specs/Calls.antt`, `specs/BySignature.antt` or a file beside them,
+//! over the texts that C passes. [`status_table`] has the numbers and texts of the statuses, with
+//! which the header, the packages and RULES are compared.
+//!
+//! `set_answer(alloc, token, set, options, time)` reads options and a set, calls `decode_with_set`,
+//! and returns the claims as JSON.
 #![tactic(auto)]
 
 pub mod answers;

@@ -1,4 +1,14 @@
 //! The command `jwt`: it verifies, shows and signs tokens, and lists keys.
+//!
+//! For the program `jwt`, whose `main` is a call of [`start`]; docs/COMMAND.md is its users' page.
+//!
+//! The arguments become a request (`request`), which `run` answers: it reads the files that are
+//! named (`files`), makes keys of them (`keys`), and has the library decide (`verify::verdict`). An
+//! answer is a status, an output and a message, and `run_command` writes them. What `explain` says
+//! besides the verdict, such as which claim is missing, is found by calls of the library too.
+//!
+//! The contract of [`run_command`] speaks of the request of the arguments, of some contents of the
+//! files and of what was written; `crates/jwt_command/README.md` lists what is proved.
 #![tactic(auto)]
 
 ghost use Rattle.std.specs.Prelude.{◌⊎◌};

@@ -1,5 +1,13 @@
 //! A service that logs users in: sessions as tokens, keys that are changed, a renewal, and a set of
 //! keys that others fetch.
+//!
+//! For whoever writes a service in Rattle over the library: it is a program that runs, and what it
+//! states of itself is proved. Its parts are the samples of README, docs/USING.md and the crates'
+//! own pages, which the tests compare with it.
+//!
+//! [`login`] issues a session and verifies it, [`keys`] goes through a change of keys, `renewal`
+//! lets a session end after a day however often it is renewed, and `published` has the set that
+//! others fetch. `samples` has the small ones, each a function that is called once.
 #![tactic(auto)]
 
 mod clock;

@@ -1,4 +1,13 @@
-//! The header of a token (RFC 7515 section 4).
+//! The header of a token (RFC 7515 section 4): the members that are known by their names, and the
+//! others as `Extras`.
+//!
+//! For whoever issues tokens with more than an algorithm in their header, or reads one before the
+//! token is verified; `jsonwebtoken` exports it.
+//!
+//! `Header::new(Algorithm::HS256)` is a header with the type `JWT`, and every other member is a
+//! field: `header.kid = Some(kid)`. [`Extras`] holds what has no field, and refuses the names of
+//! those that have one ([`is_header_name`]). The values of a header are those of whoever sent the
+//! token until it is verified; `decode` never lets them choose more than the key that `kid` names.
 #![tactic(auto)]
 
 mod certificates;

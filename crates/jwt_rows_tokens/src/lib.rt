@@ -1,6 +1,15 @@
 //! Rows about keys, signatures and tokens.
 //!
-//! Each function makes the calls of one type, or of one group, by their names.
+//! For `jwt_vectors`, the program of the rows; the other rows are in `jwt_rows_values` and
+//! `jwt_rows_types`, so that the three are proved side by side.
+//!
+//! Each function makes the calls of one type, or of one group, by their names: a row with
+//! `"call":"decode"` is answered by a function of [`tokens`], and one with
+//! `"call":"PreparedHmac::add"` by one of [`prepared`]. A new row of a call that is here is a line
+//! of a file in `crates/jwt_vectors/data`; a new call is an arm of a `match`.
+//!
+//! A row's wanted result is from a standard or from another implementation, never from this
+//! library: its member `from` says which.
 #![tactic(auto)]
 
 pub mod by_provider;

@@ -1,6 +1,14 @@
 //! Rows about names, errors, JSON values, secrets by which anyone can sign, claims and validations.
 //!
-//! Each function makes the calls of one type, or of one group, by their names.
+//! For `jwt_vectors`, the program of the rows; the other rows are in `jwt_rows_types` and
+//! `jwt_rows_tokens`, so that the three are proved side by side.
+//!
+//! Each function makes the calls of one type, or of one group, by their names: a row with
+//! `"call":"validate"` is answered by a function of [`rules`]. A new row of a call that is here is
+//! a line of a file in `crates/jwt_vectors/data`; a new call is an arm of a `match`.
+//!
+//! A row's wanted result is from a standard or from another implementation, never from this
+//! library: its member `from` says which.
 #![tactic(auto)]
 
 pub mod algorithms;

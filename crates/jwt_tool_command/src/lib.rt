@@ -1,4 +1,13 @@
 //! The command of the program `jwt_tool`: it reads standard input, and prints one line.
+//!
+//! For shells and scripts that verify, issue or show a token with a secret, or verify claims, and
+//! need no options: `jwt_tool decode HS256 SECRET TIME < token` prints the claims as JSON, or the
+//! kind of the refusal. Without arguments it prints the header of a token.
+//!
+//! The program is a library and a `main`, since a library is proved once and a program for each
+//! processor. The contract of [`start`] says that the exit status is one of the command's; that of
+//! its `run`, that the line is what the library's own definitions allow for the arguments and the
+//! input.
 #![tactic(auto)]
 
 ghost use Rattle.std.specs.Prelude.{IfOk};

@@ -1,10 +1,13 @@
 //! Makes the calls of rows of test vectors, and compares each result with the one that the row
 //! wants.
 //!
-//! A row is one line of JSON (`crates/jwt_vectors/README.md`). Without arguments the program reads the files
-//! `*.jsonl` of the folder that it runs in. With the argument `refused`, each row is tried with
-//! each of its requests for memory refused in turn, by whoever runs the program (`tests/refuse.c`).
-//! The last line counts.
+//! A row is one line of JSON (`crates/jwt_vectors/README.md`). Without arguments the program reads
+//! the files `*.jsonl` of the folder that it runs in. With the argument `refused`, each row is
+//! tried with each of its requests for memory refused in turn, by whoever runs the program
+//! (`tests/programs/refuse.c`). The last line counts.
+//!
+//! For developers: `tools/prove run jwt_vectors` builds and runs it. A new row of a call that the
+//! program knows is a line of data, and is no code; CONTRIBUTING.md says what a new call takes.
 #![tactic(auto)]
 
 mod calls;
