@@ -97,7 +97,7 @@ fn with_signature(
             signature,
         }),
         Err(refusal) => {
-            // dropped by a call: the end of the block would have to be proved to drop every field
+            // one drop
             drop(header);
             Err(refusal)
         }

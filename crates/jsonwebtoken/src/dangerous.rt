@@ -54,7 +54,7 @@ fn insecure_decode_claims_by_steps<T: Claims>(alloc: Global, token: &[u8]) -> Re
         (HasClaims (insecure_call token.now T.reads)) result }
 {
     let parts = token_parts(token)?;
-    // bound to a name: the proof cannot refer to a call in tail position
+    // named for the proof
     let claims = read_payload(alloc, parts.payload)?;
     Ok(claims)
 }

@@ -134,7 +134,7 @@ pub fn decode_header(alloc: Global, token: &[u8]) -> Result<Header>
         Err(refusal) => return Err(refusal.error),
     };
     let mut failed = Test::HasThreeParts;
-    // bound to a name: the proof cannot refer to a call in tail position
+    // named for the proof
     let header = read_header_noting(alloc, parts.header, &mut failed)?;
     Ok(header)
 }
@@ -152,7 +152,7 @@ pub(crate) fn token_data<T: Drop>(
     match claims {
         Ok(claims) => Ok(TokenData { header, claims }),
         Err(refusal) => {
-            // dropped by a call: the end of the block would have to be proved to drop every field
+            // one drop
             drop(header);
             Err(refusal)
         }

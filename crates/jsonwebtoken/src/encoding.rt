@@ -72,7 +72,7 @@ fn encode_by_steps<P: CryptoProvider, T: Claims>(
     let header_text = header_part(alloc, header)?;
     let claims_text = claims_part(alloc, claims)?;
     let signed = sign_parts(alloc, &signer, header_text, claims_text.as_str())?;
-    // bound to a name: the proof cannot refer to a call in tail position
+    // named for the proof
     let token = with_part(signed.message, signed.signature.as_str())?;
     Ok(token)
 }

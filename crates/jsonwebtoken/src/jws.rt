@@ -249,7 +249,7 @@ fn decode_by_steps<P: CryptoProvider, T: Claims>(
         payload: token.payload.as_bytes(),
         signature: token.signature.as_bytes(),
     };
-    // bound to a name: the proof cannot refer to a call in tail position
+    // named for the proof
     let data = decode_parts(alloc, provider, &parts, key, validation, time)?;
     Ok(data)
 }

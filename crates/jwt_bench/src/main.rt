@@ -42,7 +42,7 @@ fn measure<T: Runtime + AllocGlobal>(
 ) -> Result<(), BenchFault> {
     let prepared = Prepared::new(rt.alloc(), work, text)?;
     let measured = measure_prepared(rt, &prepared, text, count);
-    // One call: at the end of the scope the proof goes through each field.
+    // one drop
     drop(prepared);
     measured
 }
@@ -69,7 +69,7 @@ fn measure_verifying<T: Runtime + AllocGlobal>(
 ) -> Result<(), BenchFault> {
     let verifying = Verifying::new(rt.alloc(), text)?;
     let measured = measure_read(rt, &verifying, count);
-    // One call: at the end of the scope the proof goes through each field.
+    // one drop
     drop(verifying);
     measured
 }
@@ -109,7 +109,7 @@ fn measure_named<T: Runtime + AllocGlobal>(
 fn work_once(alloc: Global, work: Work, text: &str) -> Result<(), BenchFault> {
     let prepared = Prepared::new(alloc, work, text)?;
     let done = repeat(alloc, &prepared, text, 1);
-    // One call: at the end of the scope the proof goes through each field.
+    // one drop
     drop(prepared);
     done
 }
@@ -117,7 +117,7 @@ fn work_once(alloc: Global, work: Work, text: &str) -> Result<(), BenchFault> {
 fn verify_once(alloc: Global, text: &str) -> Result<(), BenchFault> {
     let verifying = Verifying::new(alloc, text)?;
     let done = verifying.repeat(alloc, 1);
-    // One call: at the end of the scope the proof goes through each field.
+    // one drop
     drop(verifying);
     done
 }

@@ -52,7 +52,7 @@ impl Verifying {
             0,
         );
         let is_ok = black_box(&answer).is_ok();
-        // One call: at the end of the scope the proof goes through each field.
+        // one drop
         drop(answer);
         is_ok
     }

@@ -51,7 +51,7 @@ pub fn hmac_answer(
 {
     let (validation, key) = options_and_secret(alloc, options, secret)?;
     let answer = decode(alloc, &HmacProvider, token, &key, &validation, time);
-    // dropped at one place: each exit would have to be proved to drop every field
+    // one drop
     drop(key);
     drop(validation);
     answer_of_claims(alloc, answer)

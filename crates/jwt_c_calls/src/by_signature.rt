@@ -28,7 +28,7 @@ pub fn input_answer(alloc: Global, header: &[u8], claims: &[u8]) -> Result<Signi
     let header = read_as(Input::Header, Header::from_slice(alloc, header))?;
     let claims = read_as(Input::Claims, read_claims(alloc, claims))?;
     let input = input_of(alloc, &header, &claims);
-    // dropped at one place: each exit would have to be proved to drop every field
+    // one drop
     drop(claims);
     drop(header);
     input
@@ -77,7 +77,7 @@ fn input_of(alloc: Global, header: &Header, claims: &Value) -> Result<SigningInp
     ensures algorithm { IfOk result (λ s. header.now.alg ≡ s.algorithm) }
     ensures err { IfErr result (λ r. AnswersInputOf header.now (view claims.now) (answer_of r)) }
 {
-    // bound to a name: the proof cannot refer to a call in tail position
+    // named for the proof
     let input = signing_input(alloc, header, claims)?;
     Ok(input)
 }

@@ -32,7 +32,7 @@ pub fn encode_answer(
     let header = read_as(Input::Header, Header::from_slice(alloc, header))?;
     let claims = read_as(Input::Claims, read_claims(alloc, claims))?;
     let token = issue(alloc, &header, &claims, secret);
-    // dropped at one place: each exit would have to be proved to drop every field
+    // one drop
     drop(claims);
     drop(header);
     let token = token?;

@@ -16,7 +16,7 @@ pub fn pem_answer(alloc: Global, pem: &[u8]) -> Result<Vec<u8>, CallError>
 {
     let jwk = jwk_from_pem(alloc, pem)?;
     let text = jwk.to_text(alloc);
-    // dropped at one place: each exit would have to be proved to drop every field
+    // one drop
     drop(jwk);
     Ok(text?)
 }

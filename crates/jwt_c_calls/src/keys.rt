@@ -60,7 +60,7 @@ pub fn options_and_key(
     let validation = read_as(Input::Options, Validation::from_slice(alloc, options))?;
     let jwk = read_as(Input::Key, Jwk::from_slice(alloc, key))?;
     let made = DecodingKey::from_jwk(alloc, &jwk);
-    // dropped at one place: each exit would have to be proved to drop every field
+    // one drop
     drop(jwk);
     let key = made?;
     Ok((validation, key))

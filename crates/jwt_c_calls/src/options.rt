@@ -27,7 +27,7 @@ pub fn quoted_answer(alloc: Global, text: &[u8]) -> Result<Vec<u8>, CallError>
     let Ok(text) = str::from_utf8(text) else {
         return Err(CallError::Token(new_error(ErrorKind::Utf8)));
     };
-    // bound to a name: the proof cannot refer to a call in tail position
+    // named for the proof
     let quoted = quoted(alloc, text)?;
     Ok(quoted)
 }

@@ -76,7 +76,7 @@ fn key_answer(alloc: Global, key: &[u8]) -> Result<u32, CallError>
 {
     let jwk = read_as(Input::Key, Jwk::from_slice(alloc, key))?;
     let status = jwk_answer(alloc, &jwk);
-    // dropped at one place: each exit would have to be proved to drop every field
+    // one drop
     drop(jwk);
     let status = status?;
     Ok(status)

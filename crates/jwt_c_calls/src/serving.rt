@@ -23,7 +23,7 @@ pub fn algorithms_answer(alloc: Global, key: &[u8]) -> Result<u32, CallError>
 {
     let jwk = read_as(Input::Key, Jwk::from_slice(alloc, key))?;
     let bits = jwk_bits(alloc, &jwk);
-    // dropped at one place: each exit would have to be proved to drop every field
+    // one drop
     drop(jwk);
     let bits = bits?;
     Ok(bits)

@@ -76,7 +76,7 @@ fn verify_by_secret(
 {
     let key = DecodingKey::from_secret(alloc, secret)?;
     let verified = verify_by_key(alloc, message, signature, &key, algorithm);
-    // dropped at one place: each exit would have to be proved to drop every field
+    // one drop
     drop(key);
     verified?;
     Ok(())

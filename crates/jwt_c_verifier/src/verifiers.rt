@@ -139,7 +139,7 @@ pub fn decode_with_expiry(
     match verifier.decode_or_refusal::<Value>(alloc, token, time) {
         Ok(decoded) => {
             let accepted = answer_of_claims(alloc, &decoded, &verifier.validation);
-            // dropped at one place: each exit would have to be proved to drop every field
+            // one drop
             drop(decoded);
             accepted
         }

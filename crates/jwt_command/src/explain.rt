@@ -69,7 +69,7 @@ fn explain_acceptance(
     let strict = refusal_if_strict(alloc, case, validation, checks)?;
     let explanation = explanation_of(alloc, case, validation, Outcome::Accepted, None, strict)?;
     let output = explanation_text(alloc, &explanation, form);
-    // dropped at one place: each exit by `?` would have to be proved to drop every field
+    // one drop
     drop(explanation);
     Ok(Answer {
         status: 0,
@@ -98,7 +98,7 @@ fn refusal_if_strict(
         Ok(None) => Ok(Vec::new(alloc)),
         Err(fault) => Err(fault),
     };
-    // dropped at one place: each exit by `?` would have to be proved to drop every field
+    // one drop
     drop(strict);
     Ok(failures?.into_iter().next())
 }
@@ -198,7 +198,7 @@ fn claim_times(
         Some(claims) => {
             let lines = lines_about(alloc, &claims, validation, case.time);
             let moments = moments_of(alloc, &claims, validation);
-            // dropped at one place: each exit by `?` would have to be proved to drop every field
+            // one drop
             drop(claims);
             Ok((lines?, moments?))
         }

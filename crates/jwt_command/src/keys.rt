@@ -214,7 +214,7 @@ fn load_jwk<'a>(
     };
     let own = own_algorithm(&jwk);
     let read = DecodingKey::from_jwk(alloc, &jwk);
-    // dropped at one place: each exit by `?` would have to be proved to drop every field
+    // one drop
     drop(jwk);
     match read {
         Ok(key) => accept_key(alloc, path, key, own, preparation),

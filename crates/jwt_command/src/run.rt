@@ -68,7 +68,7 @@ fn run_verify_lines<'a, R: Files + Input + Print + Eprint + Clock + AllocGlobal>
 {
     let (loaded, validation) = keys_and_options(rt, request)?;
     let tally = answer_lines(rt, request, &loaded, &validation);
-    // dropped at one place: each exit by `?` would have to be proved to drop every field
+    // one drop
     drop(loaded);
     drop(validation);
     let tally = tally?;
@@ -94,7 +94,7 @@ fn keys_and_options<'a, R: Files + AllocGlobal>(
     match keys_for(rt, request, &mut validation) {
         Ok(loaded) => Ok((loaded, validation)),
         Err(fault) => {
-            // dropped by a call: the end of the block would have to be proved to drop every field
+            // one drop
             drop(validation);
             Err(fault)
         }
@@ -173,7 +173,7 @@ fn run_verify<'a, R: Files + Input + Clock + AllocGlobal>(
 {
     let (loaded, validation) = keys_and_options(rt, request)?;
     let answer = verify_token(rt, request, &loaded, &validation);
-    // dropped at one place: each exit by `?` would have to be proved to drop every field
+    // one drop
     drop(loaded);
     drop(validation);
     answer
@@ -240,7 +240,7 @@ fn run_explain<'a, R: Files + Input + Clock + AllocGlobal>(
 {
     let (loaded, validation) = keys_and_options(rt, request)?;
     let answer = explain_token(rt, request, &loaded, &validation);
-    // dropped at one place: each exit by `?` would have to be proved to drop every field
+    // one drop
     drop(loaded);
     drop(validation);
     answer
@@ -380,7 +380,7 @@ fn attach_verified<'a, R: Files + AllocGlobal>(
     };
     let loaded = load(rt.alloc(), file, &bytes, preparation)?;
     let answer = attached_answer(rt.alloc(), input, signature, Some(&loaded));
-    // dropped at one place: each exit by `?` would have to be proved to drop every field
+    // one drop
     drop(loaded);
     answer
 }

@@ -34,7 +34,7 @@ pub fn show_answer(
     match insecure_decode(alloc, token) {
         Ok(data) => {
             let answer = contents_answer(alloc, &data, time, is_json);
-            // dropped at one place: each exit by `?` would have to be proved to drop every field
+            // one drop
             drop(data);
             answer
         }
@@ -54,7 +54,7 @@ fn contents_answer(
         return Err(Fault::Memory);
     };
     let output = contents_text(alloc, &header, &data.claims, time, is_json);
-    // dropped at one place: each exit by `?` would have to be proved to drop every field
+    // one drop
     drop(header);
     Ok(Answer {
         status: 0,
@@ -111,7 +111,7 @@ fn unread_answer(
         return Err(Fault::Memory);
     }
     let salvaged = salvage_texts(alloc, token, time, is_json, error.kind());
-    // dropped at one place: each exit by `?` would have to be proved to drop every field
+    // one drop
     drop(error);
     let (output, message) = salvaged?;
     Ok(Answer {

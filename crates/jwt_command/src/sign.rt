@@ -60,7 +60,7 @@ pub fn claims_answer(
     match header(alloc, draft) {
         Ok(header) => {
             let answer = sign_answer(alloc, &header, claims, secret);
-            // dropped at one place: each exit by `?` would have to be proved to drop every field
+            // one drop
             drop(header);
             answer
         }
@@ -89,7 +89,7 @@ fn put_times(
 {
     put_later(alloc, claims, "exp", time, draft.exp_in)?;
     put_later(alloc, claims, "nbf", time, draft.nbf_in)?;
-    // `?` and `Ok(())`: the proof cannot refer to a call in tail position
+    // no tail call, for the proof
     put_iat(alloc, claims, time, draft.has_iat)?;
     Ok(())
 }
@@ -197,7 +197,7 @@ pub fn refusal_answer(alloc: Global, error: Error, claims: &Value) -> Result<Ans
         return Err(Fault::Memory);
     }
     let message = refusal_line(alloc, &error, claims);
-    // dropped at one place: each exit by `?` would have to be proved to drop every field
+    // one drop
     drop(error);
     Ok(Answer {
         status: 1,

@@ -59,7 +59,7 @@ pub fn verify_answer(
     match verify_with_type(alloc, case, validation)? {
         Ok(contents) => {
             let answer = accepted_answer(alloc, &contents, form);
-            // dropped at one place: each exit by `?` would have to be proved to drop every field
+            // one drop
             drop(contents);
             answer
         }
@@ -165,7 +165,7 @@ fn refused_line(
 ) -> Result<String, Fault<'static>> {
     let outcome = outcome_of(alloc, case, validation, reason)?;
     let line = outcome_line(alloc, reason, first_finding(&outcome));
-    // dropped at one place: each exit by `?` would have to be proved to drop every field
+    // one drop
     drop(outcome);
     Ok(line?)
 }

@@ -118,7 +118,7 @@ impl Header {
         ensures err { IfErr result (RefusesAs kind.Json
             ((h : Header) → ¬ ReadsHeader (view value.now) h)) }
     {
-        // bound to a name: the proof cannot refer to a call in tail position
+        // named for the proof
         let header = Header::read(alloc, value)?;
         Ok(header)
     }

@@ -37,7 +37,7 @@ pub fn unverified_key_from_certificate(alloc: Global, der: &[u8]) -> Result<Deco
     let Some(info) = read_certificate(der) else {
         return Err(invalid_key());
     };
-    // bound to a name: the proof cannot refer to a call in tail position
+    // named for the proof
     let key = info_key(alloc, info)?;
     Ok(key)
 }

@@ -32,7 +32,7 @@ pub fn jwk_from_pem(alloc: Global, pem: &[u8]) -> Result<Jwk>
     ensures err { IfErr result (λ e. IsMemory e ⊎ IsPemRefused pem.now (kind_of e)) }
 {
     let key = public_key_from_pem(alloc, pem)?;
-    // bound to a name: the proof cannot refer to a call in tail position
+    // named for the proof
     let jwk = jwk_of(alloc, &key)?;
     Ok(jwk)
 }

@@ -22,7 +22,7 @@ pub(crate) fn info_key(alloc: Global, der: &[u8]) -> Result<DecodingKey>
     let Some(_) = read_info(der) else {
         return Err(invalid_key());
     };
-    // bound to a name: the proof cannot refer to a call in tail position
+    // named for the proof
     let key = public_key_from_der(alloc, der)?;
     Ok(key)
 }

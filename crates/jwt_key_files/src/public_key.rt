@@ -44,7 +44,7 @@ pub(crate) fn rsa_key(alloc: Global, der: &[u8]) -> Result<DecodingKey>
     let Some((modulus, exponent)) = read_rsa(der) else {
         return Err(invalid_key());
     };
-    // bound to a name: the proof cannot refer to a call in tail position
+    // named for the proof
     let key = DecodingKey::from_rsa_raw_components(alloc, modulus, exponent)?;
     Ok(key)
 }

@@ -37,7 +37,7 @@ pub fn ecdsa_signature(alloc: Global, der: &[u8], algorithm: Algorithm) -> Resul
     let Some(size) = size_of(algorithm) else {
         return Err(new_error(ErrorKind::InvalidAlgorithm));
     };
-    // bound to a name: the proof cannot refer to a call in tail position
+    // named for the proof
     let signature = numbers(alloc, size, der)?;
     Ok(signature)
 }

@@ -79,7 +79,7 @@ fn header_comes_back(alloc: Global, text: &[u8], token: &Token) -> bool {
     match decode_header(alloc, text) {
         Ok(header) => {
             let is_back = header == token.header;
-            // dropped by one call: each exit would have to be proved to drop every field
+            // one drop
             drop(header);
             is_back
         }

@@ -147,7 +147,7 @@ impl PublicKey {
         let Some(em) = lowest_octets(&octets, (em_bits + 7) / 8) else {
             return Ok(false);
         };
-        // bound to a name: the proof cannot refer to a call in tail position
+        // named for the proof
         let yes = is_consistent(alloc, hash, front_bits(em_bits), message, em)?;
         Ok(yes)
     }

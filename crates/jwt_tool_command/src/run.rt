@@ -250,7 +250,7 @@ fn header_value(alloc: Global, input: &[u8]) -> Result<Value>
 {
     let header = decode_header(alloc, input)?;
     let value = header.to_value(alloc);
-    // dropped at one place: each exit would have to be proved to drop every field
+    // one drop
     drop(header);
     value
 }
@@ -271,7 +271,7 @@ fn claims_value(
     let validation = Validation::new(alloc, algorithm)?;
     let data: TokenData<Value> = decode(alloc, &HmacProvider, input, &key, &validation, time)?;
     let TokenData { header, claims } = data;
-    // dropped by a call: the end of the function would have to be proved to drop every field
+    // one drop
     drop(header);
     Ok(claims)
 }

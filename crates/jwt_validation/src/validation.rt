@@ -332,7 +332,7 @@ fn copied_set(set: &HashSet<String>) -> Result<HashSet<String>>
     ensures ok { IfOk result (λ copy. contains_text copy ≡ contains_text set.now) }
     ensures err { IfErr result IsMemory }
 {
-    // bound to a name: the proof cannot refer to a call in tail position
+    // named for the proof
     let copy = set.clone()?;
     Ok(copy)
 }

@@ -181,7 +181,7 @@ fn jwk_serves(alloc: Global, jwk: &Jwk, algorithms: &[Algorithm]) -> Checked<boo
     }
     match DecodingKey::from_jwk(alloc, jwk) {
         Ok(key) => {
-            // bound to a name: the proof cannot refer to a call in tail position
+            // named for the proof
             let serves = key_serves(alloc, &key, algorithms)?;
             Ok(serves)
         }

@@ -202,7 +202,7 @@ fn ring_of_fit(
     ensures err { IfErr result (IsKeyProblem limits.allows_blank algorithms.now keys) }
 {
     check_keys(alloc, &keys, algorithms, limits.allows_blank)?;
-    // bound to a name: the proof cannot refer to a call in tail position
+    // named for the proof
     let ring = KeyRing::new(alloc, keys, algorithms, limits.max_prepared)?;
     Ok(ring)
 }

@@ -82,7 +82,7 @@ pub fn decode_by<K: KeyFinder, T: Claims>(
     match read_claims(alloc, keys, &opening, &asked) {
         Ok(claims) => Ok(TokenData { header, claims }),
         Err(refusal) => {
-            // dropped by a call: the end of the block would have to be proved to drop every field
+            // one drop
             drop(header);
             Err(refusal.error)
         }
@@ -194,7 +194,7 @@ fn read_claims<K: KeyFinder, T: Claims>(
 {
     check_crit(opening.header, asked.validation)?;
     let found = keys.find(alloc, opening.header)?;
-    // bound to a name: the proof cannot refer to a call in tail position
+    // named for the proof
     let claims = verify_by(alloc, keys, &found, opening, asked)?;
     Ok(claims)
 }

@@ -148,7 +148,7 @@ pub fn clone_members(members: &Map<String, Value>) -> Result<Map<String, Value>>
     ensures ok { IfOk result (λ m. members_view m.entries ≡ members_view members.now.entries) }
     ensures err { IfErr result IsMemory }
 {
-    // bound to a name: the proof cannot refer to a call in tail position
+    // named for the proof
     let copy = members.clone()?;
     Ok(copy)
 }

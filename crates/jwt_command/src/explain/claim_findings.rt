@@ -59,7 +59,7 @@ pub fn claim_findings(
         return Err(Fault::Memory);
     };
     let failures = claim_failures(alloc, &claims, validation, time);
-    // dropped at one place: each exit by `?` would have to be proved to drop every field
+    // one drop
     drop(claims);
     let mut findings = Vec::new(alloc);
     for failure in failures? {

@@ -202,7 +202,7 @@ fn is_named_twice(alloc: Global, case: Case<'_>) -> Result<bool, Fault<'static>>
                 .iter()
                 .filter(|jwk| jwk.common.key_id == header.kid)
                 .count();
-            // dropped at one place: each exit by `?` would have to be proved to drop every field
+            // one drop
             drop(header);
             Ok(count > 1)
         }
@@ -219,7 +219,7 @@ fn finding_by_header(
     match decode_header(alloc, case.token) {
         Ok(header) => {
             let finding = header_finding(alloc, case, validation, test, &header);
-            // dropped at one place: each exit by `?` would have to be proved to drop every field
+            // one drop
             drop(header);
             finding
         }

@@ -75,7 +75,7 @@ fn begins_with_header(alloc: Global, token: &[u8]) -> Result<bool, Fault<'static
     match part_value(alloc, front)? {
         Some(value) => {
             let is_object = value.as_object().is_some();
-            // dropped at one place: each exit by `?` would have to be proved to drop every field
+            // one drop
             drop(value);
             Ok(is_object)
         }
@@ -214,7 +214,7 @@ fn type_text(alloc: Global, part: &[u8]) -> Result<String, Fault<'static>> {
     let name = match part_value(alloc, part)? {
         Some(value) => {
             let name = type_name(&value);
-            // dropped at one place: each exit by `?` would have to be proved to drop every field
+            // one drop
             drop(value);
             name
         }
@@ -229,7 +229,7 @@ fn header_finding(alloc: Global, part: &[u8]) -> Result<Finding, Fault<'static>>
         Some(value) => {
             let found = header_problem(alloc, &value);
             let wanted = header_cure(&value);
-            // dropped at one place: each exit by `?` would have to be proved to drop every field
+            // one drop
             drop(value);
             Ok(Finding {
                 found: found?,

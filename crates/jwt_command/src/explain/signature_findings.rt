@@ -68,7 +68,7 @@ fn lengths_of(
     };
     let algorithm = header.alg;
     let made = length_for(alloc, &header, case.loaded.keys.keys());
-    // dropped at one place: each exit by `?` would have to be proved to drop every field
+    // one drop
     drop(header);
     Ok(made?.map(|made| Lengths {
         algorithm,

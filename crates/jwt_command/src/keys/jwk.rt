@@ -21,7 +21,7 @@ pub fn jwk_answer<'a>(alloc: Global, path: &'a str, bytes: &[u8]) -> Result<Answ
         Err(error) => return Err(not_pem(path, &error, bytes)),
     };
     let value = jwk.to_value(alloc);
-    // dropped at one place: each exit would have to be proved to drop every field
+    // one drop
     drop(jwk);
     let Ok(value) = value else {
         return Err(Fault::Memory);

@@ -233,7 +233,7 @@ fn bits_text(alloc: Global, part: &str) -> Result<String, Fault<'static>> {
     match value_unless_refused(part_bytes(alloc, part.as_bytes()))? {
         Some(bytes) => {
             let count = bit_count(&bytes);
-            // dropped at one place: each exit by `?` would have to be proved to drop every field
+            // one drop
             drop(bytes);
             Ok(format!(in alloc; "{count} bits")?)
         }
@@ -306,7 +306,7 @@ fn verifier_problem(alloc: Global, jwk: &Jwk) -> Result<Option<&'static str>, Fa
         return Ok(Some("a member of the key is malformed"));
     };
     let made = StandardProvider.verifier_factory(alloc, &algorithm, &key);
-    // dropped at one place: each exit by `?` would have to be proved to drop every field
+    // one drop
     drop(key);
     match value_unless_refused(made)? {
         Some(verifier) => {

@@ -20,7 +20,7 @@ pub fn thumbprint_answer<'a>(
 {
     let jwk = key(alloc, path, bytes)?;
     let answer = key_answer(alloc, path, &jwk, hash);
-    // dropped at one place: each exit by `?` would have to be proved to drop every field
+    // one drop
     drop(jwk);
     answer
 }

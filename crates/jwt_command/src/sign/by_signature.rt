@@ -49,7 +49,7 @@ pub fn input_answer(
     match header(alloc, draft) {
         Ok(header) => {
             let answer = message_answer(alloc, &header, claims);
-            // dropped at one place: each exit by `?` would have to be proved to drop every field
+            // one drop
             drop(header);
             answer
         }
@@ -70,7 +70,7 @@ pub fn attached_answer(
 {
     let contents = unsigned(alloc, input)?;
     let answer = contents_answer(alloc, &contents, input, file, loaded);
-    // dropped at one place: each exit by `?` would have to be proved to drop every field
+    // one drop
     drop(contents);
     answer
 }
@@ -156,7 +156,7 @@ fn token_of(
     let algorithm = contents.header.alg;
     let signature = signature_in(alloc, algorithm, file)?;
     let given = SignatureProvider::new(algorithm, input, &signature);
-    // bound to a name: the proof cannot refer to a call in tail position
+    // named for the proof
     let token = encode_by_signature(alloc, &contents.header, &contents.claims, &given)?;
     Ok(token)
 }
@@ -174,7 +174,7 @@ fn signature_in(alloc: Global, algorithm: Algorithm, file: &[u8]) -> Result<Vec<
     if file.len() == both {
         return Ok(file.to_vec(alloc)?);
     }
-    // bound to a name: the proof cannot refer to a call in tail position
+    // named for the proof
     let signature = ecdsa_signature(alloc, file, algorithm)?;
     Ok(signature)
 }
@@ -233,7 +233,7 @@ fn refusal_by_key<'c>(
         time: 0,
     };
     let reason = refusal_of(alloc, case, &validation);
-    // dropped at one place: each exit by `?` would have to be proved to drop every field
+    // one drop
     drop(validation);
     reason
 }

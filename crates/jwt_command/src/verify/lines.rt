@@ -139,7 +139,7 @@ fn line_answer<R: Clock + AllocGlobal>(
         typ: request.typ,
         time,
     };
-    // bound to a name: the proof cannot refer to a call in tail position
+    // named for the proof
     let answer = verify_answer(rt.alloc(), case, validation, OutputForm::Line)?;
     Ok(answer)
 }

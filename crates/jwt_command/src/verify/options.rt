@@ -158,7 +158,7 @@ fn change(
         return Err(Fault::Memory);
     };
     set_times(validation, checks);
-    // `?` and `Ok(())`: the proof cannot refer to a call in tail position
+    // no tail call, for the proof
     set_required(alloc, &mut validation.required_spec_claims, checks)?;
     Ok(())
 }
@@ -183,7 +183,7 @@ fn set_names(
     set_issuers(alloc, validation, checks.issuers)?;
     set_subject(alloc, validation, checks.subject)?;
     set_understood(alloc, validation, checks.understood)?;
-    // `?` and `Ok(())`: the proof cannot refer to a call in tail position
+    // no tail call, for the proof
     set_algorithms(alloc, validation, checks.algorithms.as_deref())?;
     Ok(())
 }
@@ -271,7 +271,7 @@ fn set_required(
     require_named(alloc, claims, checks.required)?;
     require_if(alloc, claims, checks.audiences.is_some(), "aud")?;
     require_if(alloc, claims, checks.issuers.is_some(), "iss")?;
-    // `?` and `Ok(())`: the proof cannot refer to a call in tail position
+    // no tail call, for the proof
     require_if(alloc, claims, checks.subject.is_some(), "sub")?;
     Ok(())
 }
