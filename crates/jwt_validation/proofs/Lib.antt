@@ -1,4 +1,5 @@
 pub mod ClaimRuleLemmas
+pub mod ClaimsAlike
 pub mod Listed
 pub mod NamePlaces
 pub mod OptionsFaultLemmas

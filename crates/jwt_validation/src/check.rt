@@ -5,7 +5,6 @@
 // made in 128 bits.
 
 ghost use Rattle.std.specs.Prelude.{◌≡◌, ◌↔◌, IsOk, OnOk, IfErr, IsSome, MatchOption};
-ghost use Rattle.std.specs.HashSet.{contains_text};
 ghost use Rattle.serde_json.specs.Find.{as_object};
 ghost use Rattle.serde_json.specs.View.{view};
 ghost use Rattle.jwt_base.specs.Kind.{Kind};
@@ -16,13 +15,12 @@ ghost use Rattle.jwt_validation.specs.Moments.{IsAcceptedWithin, Looser};
 ghost use Rattle.jwt_validation.specs.Options.{Options};
 ghost use Rattle.jwt_validation.specs.OptionsOf.{options_of};
 
-use crate::claims::{NAMES, Name, SpecClaims};
+use crate::claims::{NAMES, Name, SpecClaims, is_required};
 use crate::rules::{RULES, Rule, holds, missing_claim, refusal};
 use crate::validation::Validation;
 use jwt_base::errors::{ErrorKind, Result, new_error};
 use serde_json::Value;
 use std::alloc::Global;
-use std::collections::HashSet;
 
 /// Checks claims at the time `time`, in whole seconds since 1970-01-01 00:00:00 UTC.
 ///
@@ -56,10 +54,6 @@ pub fn validate(alloc: Global, claims: &Value, options: &Validation, time: u64) 
     check(alloc, claims, options, time)
 }
 
-/// The number of names up to which a set is walked: to hash a name takes longer than to compare it
-/// with a few.
-const FEW: usize = 8;
-
 fn check(alloc: Global, claims: &Value, options: &Validation, time: u64) -> Result<()>
     ensures ok { IsOk result ↔ (IsSome (as_object (view claims.now))
         × RulesHold (options_of options.now) (view claims.now) time) }
@@ -69,7 +63,7 @@ fn check(alloc: Global, claims: &Value, options: &Validation, time: u64) -> Resu
     if !claims.is_object() {
         return Err(new_error(ErrorKind::Json));
     }
-    let claims = SpecClaims::read(claims);
+    let claims = SpecClaims::read_asked(claims, options);
     if let Some(name) = first_missing(&claims, options) {
         return Err(missing_claim(alloc, name.text()));
     }
@@ -90,15 +84,6 @@ fn first_missing(claims: &SpecClaims, options: &Validation) -> Option<Name>
         }
     }
     None
-}
-
-fn is_required(names: &HashSet<String>, name: &str) -> bool
-    ensures { result ≡ contains_text names.now name.now }
-{
-    if names.len() > FEW {
-        return names.contains(name);
-    }
-    names.iter().any(|required| name == required.as_str())
 }
 
 fn first_broken(claims: &SpecClaims, options: &Validation, time: u64) -> Option<Rule>

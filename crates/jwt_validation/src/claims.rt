@@ -8,8 +8,11 @@ ghost use Rattle.serde_json.specs.Find.{get, as_str};
 ghost use Rattle.serde_json.specs.View.{view};
 ghost use Rattle.jwt_validation.specs.Claim.{time_in, text_in, texts_in, claims_of};
 ghost use Rattle.jwt_validation.specs.ClaimRules.{text, HasValue, SharesMember};
+ghost use Rattle.jwt_validation.specs.OptionsOf.{options_of};
 ghost use Rattle.jwt_validation.specs.private_clauses.ClaimsSeen.{seen, texts_among, claims_seen};
+ghost use Rattle.jwt_validation.specs.private_clauses.ClaimsSeen.{AreAlike};
 
+use crate::validation::Validation;
 use serde_json::Value;
 use std::collections::HashSet;
 use std::slice;
@@ -82,6 +85,46 @@ impl<'a> SpecClaims<'a> {
         }
     }
 
+    /// Looks up the claims that the options ask about: to the rules, the others are as if absent.
+    pub fn read_asked(claims: &'a Value, options: &Validation) -> SpecClaims<'a>
+        ensures { AreAlike (options_of options.now) (claims_seen result)
+            (claims_of (view claims.now)) }
+    {
+        let required = &options.required_spec_claims;
+        let is_exp = options.validate_exp || is_required(required, "exp");
+        let is_nbf = options.validate_nbf || is_required(required, "nbf");
+        let is_sub = options.sub.is_some() || is_required(required, "sub");
+        let is_iss = options.iss.is_some() || is_required(required, "iss");
+        let is_aud = options.validate_aud || is_required(required, "aud");
+        SpecClaims {
+            exp: if is_exp {
+                time_claim(claims, "exp")
+            } else {
+                Claim::Absent
+            },
+            nbf: if is_nbf {
+                time_claim(claims, "nbf")
+            } else {
+                Claim::Absent
+            },
+            sub: if is_sub {
+                text_claim(claims, "sub")
+            } else {
+                Claim::Absent
+            },
+            iss: if is_iss {
+                texts_claim(claims, "iss")
+            } else {
+                Claim::Absent
+            },
+            aud: if is_aud {
+                texts_claim(claims, "aud")
+            } else {
+                Claim::Absent
+            },
+        }
+    }
+
     /// Returns whether the claim of this name is present, with a value.
     pub fn has_value(&self, name: Name) -> bool
         ensures { IsTrue result ↔ HasValue (claims_seen self.now) name }
@@ -94,6 +137,20 @@ impl<'a> SpecClaims<'a> {
             Name::Sub => matches!(self.sub, Claim::Value(_)),
         }
     }
+}
+
+/// The number of names up to which a set is walked: to hash a name takes longer than to compare it
+/// with a few.
+const FEW: usize = 8;
+
+/// Returns whether the name is in the set.
+pub fn is_required(names: &HashSet<String>, name: &str) -> bool
+    ensures { result ≡ contains_text names.now name.now }
+{
+    if names.len() > FEW {
+        return names.contains(name);
+    }
+    names.iter().any(|required| name == required.as_str())
 }
 
 /// Returns whether one of the strings is in the set.

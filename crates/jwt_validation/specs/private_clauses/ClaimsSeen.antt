@@ -1,10 +1,13 @@
 -- For private clauses: the meaning of the borrowed claims.
-use Rattle.std.specs.Prelude.{ℕ, List}
+use Rattle.std.specs.Prelude.{◌≡◌, ◌⊎◌, ℕ, List, IsTrue, IsSome}
 use Rattle.std.specs.List.{filter_map}
 use Rattle.serde_json.specs.Find.{as_str}
 use Rattle.serde_json.specs.View.{view}
 use Rattle.serde_json.specs.declared.value.Value.{Value}
 use Rattle.jwt_validation.specs.Claim.{Claims}
+use Rattle.jwt_validation.specs.ClaimRules.{text}
+use Rattle.jwt_validation.specs.Options.{Options}
+use Rattle.jwt_validation.specs.declared.claims.Name.TheVariants.{Exp, Nbf, Aud, Iss, Sub}
 use Rattle.jwt_validation.specs.declared.claims.Claim.{Claim}
 use Rattle.jwt_validation.specs.declared.claims.Claim.TheVariants as claim
 use Rattle.jwt_validation.specs.declared.claims.SpecClaims.{SpecClaims}
@@ -18,6 +21,14 @@ seen f (claim.Value a) = claim.Value (f a)
 -- the strings of a list of values
 abbrev pub texts_among : List Value → List (List ℕ)
 texts_among = filter_map (λ v. as_str (view v))
+
+-- the two agree on each claim that the options ask about
+pub record AreAlike (v : Options) (c e : Claims) : Type 0 where
+  pub exp : IsTrue v.checks_exp ⊎ IsTrue (v.required (text Exp)) → c.exp ≡ e.exp
+  pub nbf : IsTrue v.checks_nbf ⊎ IsTrue (v.required (text Nbf)) → c.nbf ≡ e.nbf
+  pub sub : IsSome v.sub ⊎ IsTrue (v.required (text Sub)) → c.sub ≡ e.sub
+  pub iss : IsSome v.iss ⊎ IsTrue (v.required (text Iss)) → c.iss ≡ e.iss
+  pub aud : IsTrue v.checks_aud ⊎ IsTrue (v.required (text Aud)) → c.aud ≡ e.aud
 
 abbrev pub claims_seen : SpecClaims → Claims
 claims_seen c = record {
