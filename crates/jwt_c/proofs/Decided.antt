@@ -9,7 +9,7 @@ use Rattle.jwt_verifier.specs.declared.keys.Keys.{Keys}
 use Rattle.jwt_verifier.specs.declared.limits.Limits.{Limits}
 use Rattle.jwt_verifier.specs.declared.verifier.Verifier.{Verifier}
 use Rattle.jwt_c_calls.specs.Calls.{Answer, Returns, Refuses, InputError, Leaves, AnswersKey, AnswersSet}
-use Rattle.jwt_c_calls.specs.Status.{number, IsGiven, IsKept}
+use Rattle.jwt_c_calls.specs.Status.{IsGiven, IsKept}
 use Rattle.jwt_c_verifier.specs.Verifiers.{AnswersUntil, AnswersWith, AreOfKey, AreOfSet, IsMade, IsRefusedWith}
 use Rattle.jwt_c_verifier.specs.Verifiers.{IsUnmade, TellsTest}
 use Rattle.jwt_c_verifier.specs.declared.verifiers.TokenRefusal.{TokenRefusal}

@@ -1,20 +1,17 @@
 -- The machine values of a `Handle`. Assumes `Logic`.
-use Rattle.std.proofs.Common.{◌≡◌, ℕ, List, [], ◌∷◌, ◌++◌, refl, subst, Option, Some, None}
-use mathlib.Core.Bool.{Bool, true, false, ◌&&◌}
-use lib.Dec.{T}
+use Rattle.std.proofs.Common.{◌≡◌, List, [], ◌∷◌, ◌++◌, refl, subst, Option}
 use seplogic.Ra.Ura.{Ura}
-use mir.Val.{Val, vptr, vstruct, vcons, vnil, of_list, has_ty, WT}
-use base.Fml.{ftrue}
+use mir.Val.{Val, vstruct, of_list}
 use types.Logic.{Logic}
-use types.Kit.{Item, Goal, Soaks, Seq, Step, step, ‵, ◌$◌, move, drop, fsplit, fjoin, fpick, fpack, feq_i, feq_l}
+use types.Kit.{Item, Goal, Seq, Step, step, ‵, ◌$◌, move, drop, fsplit, fjoin, fpick, fpack, feq_i, feq_l}
 use denote.RattleType.{RattleType, Valss}
 use denote.Builtin.{RawPtr}
-use denote.RawPtr.{Ptr, block_ptr, null_ptr, ptr_val, in_a_block}
+use denote.RawPtr.{Ptr, ptr_val}
 use denote.Steps.{nothing}
 use denote.Param.{layout}
 use denote.Struct.Struct.{within}
 use denote.Struct.Owning.{shape, to}
-use Rattle.core.proofs.alloc.Calls.{Al, handle_tells}
+use Rattle.core.proofs.alloc.Calls.{handle_tells}
 use Rattle.core.proofs.cell.Inside.{Good}
 use Rattle.std.specs.contracts.alloc.Global as heap
 use Rattle.std.proofs.alloc.Global.TheLaws as heap_laws

@@ -9,7 +9,7 @@ use Rattle.jwt_crypto.specs.GivenSignature.{GivenSignature}
 use Rattle.jwt_header.specs.Header.{ReadsHeader}
 use Rattle.jwt_header.specs.declared.header.Header.{Header}
 use Rattle.jwt_key_files.specs.EcdsaSignatures.{IsSignatureOf, IsSignatureRefused}
-use Rattle.jsonwebtoken.specs.Issue.{Issue, Written, encode_order, issue_tests, message_to_sign}
+use Rattle.jsonwebtoken.specs.Issue.{Written, encode_order, issue_tests, message_to_sign}
 use Rattle.jsonwebtoken.specs.IssueGiven.{IsSignedElsewhere, encoding_by_signature, signing, signing_order, token_of}
 use Rattle.jsonwebtoken.specs.Order.{Passes, FailsFirst}
 use Rattle.jwt_c_calls.specs.Calls.{Answer, AnswersBy, Returns, Refuses, InputError, Leaves, IsErrorOfTwo}

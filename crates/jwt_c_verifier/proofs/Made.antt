@@ -1,6 +1,5 @@
 -- A verifier that is made of values is made of the texts that describe them.
-use Rattle.std.proofs.Common.{◌≡◌, ℕ, Result, Ok, Err, IfOk, IfErr, inl, inr, refl, sym, subst}
-use Rattle.jwt_base.specs.declared.algorithms.Algorithm.{Algorithm}
+use Rattle.std.proofs.Common.{◌≡◌, ℕ, Result, Ok, Err, IfOk, IfErr, inl, inr, sym, subst}
 use Rattle.jwt_validation.specs.Options.{Options}
 use Rattle.jwt_validation.specs.OptionsOf.{options_of}
 use Rattle.jwt_validation.specs.declared.validation.Validation.{Validation}
@@ -8,7 +7,7 @@ use Rattle.jwt_verifier.specs.Fitness.{AreFit}
 use Rattle.jwt_verifier.specs.declared.keys.Keys.{Keys}
 use Rattle.jwt_verifier.specs.declared.limits.Limits.{Limits}
 use Rattle.jwt_verifier.specs.declared.verifier.Verifier.{Verifier}
-use Rattle.jwt_c_calls.specs.Calls.{Answer, answer_of, refusal_status, status_of}
+use Rattle.jwt_c_calls.specs.Calls.{Answer, answer_of, refusal_status}
 use Rattle.jwt_c_calls.specs.declared.inputs.CallError.{CallError}
 use Rattle.jwt_c_calls.specs.declared.inputs.CallError.TheVariants as refused
 use Rattle.jwt_c_verifier.specs.Verifiers.{AreRefused, HaveNoKeyText, IsMade, IsUnmade}

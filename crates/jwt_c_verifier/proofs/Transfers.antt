@@ -1,5 +1,5 @@
 -- What a verifier answers is what the calls answer with the texts that it was made of.
-use Rattle.std.proofs.Common.{◌≡◌, ◌⊎◌, ℕ, List, inl, inr, refl}
+use Rattle.std.proofs.Common.{ℕ, List, inl, inr, refl}
 use Rattle.jwt_base.specs.JsonText.{IsJson}
 use Rattle.jwt_validation.specs.OptionsOf.{options_of}
 use Rattle.jwt_validation.specs.declared.validation.Validation.{Validation}

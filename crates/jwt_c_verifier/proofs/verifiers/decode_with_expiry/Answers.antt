@@ -1,4 +1,4 @@
-use Rattle.std.proofs.Common.{◌≡◌, ◌≤◌, arith, inr}
+use Rattle.std.proofs.Common.{◌≤◌, arith, inr}
 use Rattle.jwt_validation.specs.Moments.{end_of_time}
 use Rattle.jwt_c_verifier.proofs.Reasons.{refused_with, out_of_memory}
 use Rattle.jwt_c_verifier.proofs.Until.{handed_until}

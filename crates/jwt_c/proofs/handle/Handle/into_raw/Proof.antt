@@ -2,12 +2,11 @@
 use Rattle.std.proofs.Common.{◌≡◌, ℕ, List, [], ◌∷◌, ◌++◌, refl, sym, ap, ◌∙◌, subst, lit<, Option, Some, None}
 use mir.Val.{Val, vptr, vnull, vcons, vnil, has_ty}
 use base.Logic.{SProp, ent, emp, id⊢, via, fst∗, snd∗, never, guard, guard_i}
-use base.Fml.{Fml, ftrue, fex}
 use seplogic.Ra.Ura.{Ura}
 use prog.Wp.{WpFn}
 use types.Logic.{Logic, sem}
-use types.Kit.{Item, Goal, Soaks, Seq, ‵, raw, ◌⊛◌, at_ret, given, ◌$◌, ◌∵◌, !, qed, by, move, keep, drop, split}
-use types.Kit.{fsplit, fjoin, fpick, suffices, use0, use1, learn, rewrite}
+use types.Kit.{Item, Goal, Seq, ‵, raw, ◌⊛◌, at_ret, given, ◌$◌, ◌∵◌, !, qed, by, move, keep, drop, split}
+use types.Kit.{fsplit, fjoin, fpick, suffices, use0, use1, learn}
 use types.Run.{stop, fld, lit, of_opd, bin, no_more, and_then, first, branches, exec, returns, enter}
 use types.ByLocal.{alloc_all, pass_all, free_all, look_at, get, get_in, sets, sets_last, env}
 use types.Part.{agg, sub, whole}
@@ -34,7 +33,6 @@ use Rattle.std.proofs.raw_atomic.Walks.{proved_at, leaves}
 use Rattle.std.specs.declared.alloc.Global.{Global}
 use Rattle.std.specs.contracts.impls.GlobalAllocator.TheImpl.{ghosts}
 use Rattle.std_alloc.proofs.ResultValues.{and_tt}
-use Rattle.std_alloc.specs.Box.Ownership.{box_owns}
 use Rattle.jwt_c.specs.Owned.{handle_owns}
 use Rattle.jwt_c.specs.contracts.handle.Handle.into_raw.{ended, clauses}
 use Rattle.jwt_c.specs.contracts.handle.Handle.into_raw.Key.{name as #self}

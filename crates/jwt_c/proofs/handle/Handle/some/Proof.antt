@@ -24,7 +24,7 @@ use Rattle.jwt_c.specs.contracts.handle.Handle.some.Key.{name as #self}
 use Rattle.jwt_c.proofs.handle.Handle.some.Statement.{statement}
 use Rattle.jwt_c.proofs.handle.Handle.some.Code as code
 use Rattle.jwt_c.proofs.Values.{both, KeptRow, kept_good, kept_out}
-use Rattle.jwt_c.proofs.HandleValues.{Z, R, Hd, handle_in}
+use Rattle.jwt_c.proofs.HandleValues.{Z, R, handle_in}
 
 pub some_spec : {M : Type 1} → statement M
 some_spec 𝓤 𝓛 𝓜 𝓡 wired =
