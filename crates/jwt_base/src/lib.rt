@@ -2,8 +2,7 @@
 //! parts of a token and the JSON in them, and the small value types.
 //!
 //! For whoever handles an error or a value of the library: `jsonwebtoken` exports what its callers
-//! need of it, as `jsonwebtoken::errors`, `jsonwebtoken::Algorithm` and
-//! `jsonwebtoken::serialization`.
+//! need of it, as `jsonwebtoken::errors`, `jsonwebtoken::json` and `jsonwebtoken::Algorithm`.
 //!
 //! [`errors::ErrorKind`] is the kind of a refusal, and `error.kind()` returns it.
 //! [`serialization::part_bytes`] reads a part of a token (RFC 7515 section 2), and

@@ -7,7 +7,8 @@
 //! `Header::new(Algorithm::HS256)` is a header with the type `JWT`, and every other member is a
 //! field: `header.kid = Some(kid)`. [`Extras`] holds what has no field, and refuses the names of
 //! those that have one ([`is_header_name`]). The values of a header are those of whoever sent the
-//! token until it is verified; `decode` never lets them choose more than the key that `kid` names.
+//! token until it is verified; `decode` lets them choose the key that `kid` names and one of the
+//! algorithms that are listed, and no more.
 #![tactic(auto)]
 
 mod certificates;
