@@ -1,5 +1,5 @@
-//! The combs of the base points: their multiples by the numbers of eight bits that stand as far apart
-//! as a comb's teeth, which have z = 1. `tools/certificates/base_tables` writes the tables.
+//! The combs of the base points: their multiples by the numbers of eight bits that stand as far
+//! apart as a comb's teeth, which have z = 1. `tools/certificates/base_tables` writes the tables.
 
 ghost use Rattle.std.specs.Prelude.{ℕ, ◌<◌};
 ghost use Rattle.ecdsa.specs.Curves.{b256, base256, b384, base384};

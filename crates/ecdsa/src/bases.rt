@@ -1,5 +1,5 @@
-//! The base points' multiples below the 16th, which have z = 1. `tools/certificates/base_tables` writes the
-//! tables.
+//! The base points' multiples below the 16th, which have z = 1. `tools/certificates/base_tables`
+//! writes the tables.
 
 // The table of the base point is a method of a trait (`BaseMultiples`), so that one body serves
 // both curves, and each residue type brings its own curve's constants.

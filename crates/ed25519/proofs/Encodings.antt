@@ -328,7 +328,7 @@ module _ (bytes : List ℕ) (Q : Point) (on : IsPoint p d Q) where
   unfolding x_from
   x_from_below = times_below Q.x (inverse p Q.z)
 
-  -- the test of the sign decides where the y is the point's
+  -- if y is the point's, the test of the sign decides
   pub decides : (odd : Bool) (x sign : ℕ) → y_in < p → sign < 2 → sign ≡ sign_in → times p y_in Q.z ≡ Q.y
       → x ≡ times p Q.x (inverse p Q.z) → (IsTrue odd ↔ x % 2 ≡ 1) → IsTrue (beq odd (eqb sign 1)) ↔ IsEncoding bytes Q
   unfolding x_from

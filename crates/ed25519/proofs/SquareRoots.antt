@@ -1,4 +1,4 @@
--- Square roots modulo a prime 8 k + 5: a candidate leads to a root where there is one.
+-- Square roots modulo a prime 8 k + 5: a candidate leads to a root if there is one.
 use Rattle.std.proofs.Common.{◌≡◌, ℕ, suc, ◌+◌, ◌-◌, ◌*◌, ◌%◌, ◌^◌, ◌<◌, ◌⊎◌, inl, inr, refl, sym, ap, ◌∙◌, arith}
 use Rattle.std.proofs.Math.Nat.{mod-eq_of_lt, add-mul-mod_self_left, pow-suc, pow-zero}
 use Rattle.std.proofs.lemmas.Nat.{pow-add, mul-pow}

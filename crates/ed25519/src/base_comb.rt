@@ -1,5 +1,5 @@
-//! The comb of the base point: its multiples by the numbers of eight bits that stand as far apart as a
-//! comb's teeth, as sums take them. `tools/certificates/base_tables` writes the table.
+//! The comb of the base point: its multiples by the numbers of eight bits that stand as far apart
+//! as a comb's teeth, as sums take them. `tools/certificates/base_tables` writes the table.
 
 ghost use Rattle.combs.specs.Combs.{spread};
 ghost use Rattle.edwards.specs.Factors.{affine_numbers};

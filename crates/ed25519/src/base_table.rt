@@ -1,5 +1,5 @@
-//! The base point's multiples below the 16th, as sums take them. `tools/certificates/base_tables` writes
-//! the table.
+//! The base point's multiples below the 16th, as sums take them. `tools/certificates/base_tables`
+//! writes the table.
 
 ghost use Rattle.std.specs.Prelude.{◌<◌};
 ghost use Rattle.edwards.specs.Factors.{affine_numbers};

@@ -51,7 +51,7 @@ module _ (p d : ℕ) (field : IsField p) where
   positive : 0 < p
   positive = omega (arith, field.above_two)
 
-  -- v x^2 = u, where x z = X and y z = Y
+  -- v x^2 = u, if x z = X and y z = Y
   pub root_of_point : (Q : Point) (x y : ℕ) → IsPoint p d Q → Alike p (times p x Q.z) Q.x → Alike p (times p y Q.z) Q.y
       → Alike p (times p (v_by p d field y) (times p x x)) (u_by p d field y)
   unfolding value
@@ -62,7 +62,7 @@ module _ (p d : ℕ) (field : IsField p) where
       (follows p positive root_left root_right root_lines (env Q (four x y 0 0) nil d 0) root_identity
       (ex, (ey, (on.product, (on.equation, tt)))))
 
-  -- v is not 0, where d is not -1
+  -- v is not 0, if d is not -1
   pub v_apart : (x y : ℕ) → (Alike p (plus p d 1) 0 → ⊥) → Alike p (times p (v_by p d field y) (times p x x)) (u_by p d field y)
       → Alike p (v_by p d field y) 0 → ⊥
   unfolding value

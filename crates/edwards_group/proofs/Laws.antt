@@ -62,7 +62,7 @@ module _ (p d : ℕ) (field : IsField p) where
   unfolding times
   a_factor a b h = field.factor a b (sym (mod-mod (a * b) p) ∙ h)
 
-  pub other_factor : (a b : ℕ) → (Alike p a 0 → ⊥) → Alike p (times p a b) 0 → Alike p b 0
+  other_factor : (a b : ℕ) → (Alike p a 0 → ⊥) → Alike p (times p a b) 0 → Alike p b 0
   other_factor a b n h = elim (a_factor a b h) [ inl l ↦ absurd (n l) | inr r ↦ r ]
 
   pub apart_times : (a b : ℕ) → (Alike p a 0 → ⊥) → (Alike p b 0 → ⊥) → Alike p (times p a b) 0 → ⊥

@@ -4,7 +4,7 @@
 //!
 //! Each call has a function here that returns what the call leaves in the buffer, or a `CallError`:
 //! a text that can't be read, such as options that are no JSON, or the library's own refusal. Its
-//! contract is a definition of `specs/Calls.antt`, `specs/BySignature.antt` or a file beside them,
+//! contract is a definition of `specs/Calls.antt`, `specs/BySignature.antt` or a file next to them,
 //! over the texts that C passes. [`status_table`] has the numbers and texts of the statuses, with
 //! which the header, the packages and RULES are compared.
 //!

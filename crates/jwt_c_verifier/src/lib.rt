@@ -4,9 +4,9 @@
 //! `packages/c/include/jwtproved.h`.
 //!
 //! [`verifiers`] makes a `jwt_verifier::Verifier` of the texts of options and keys, or returns the
-//! status that says why there is none, and verifies a token with it: `decode_with_expiry` returns
-//! the claims and the last time at which they are accepted, or the status and the number of the
-//! test that failed. [`test_numbers`] has those numbers.
+//! status of the reason for which there is none. `decode_with_expiry` verifies a token with it, and
+//! returns the claims and the last time at which they are accepted, or the status and the number of
+//! the test that failed. [`test_numbers`] has those numbers.
 //!
 //! It is apart from `jwt_c_calls` so that both are proved at the same time.
 #![tactic(auto)]

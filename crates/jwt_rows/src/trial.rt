@@ -1,6 +1,6 @@
 //! How a call is tried: with ample memory, or with one of its requests for memory refused.
 //!
-//! Whoever runs the program refuses the requests, as `tests/refuse.c` does: it takes a request for
+//! Whoever runs the program refuses the requests, as `tests/programs/refuse.c` does: it takes a request for
 //! `ORDER` bytes and N more, which no machine could meet, as the order to refuse the Nth request
 //! that comes after it.
 

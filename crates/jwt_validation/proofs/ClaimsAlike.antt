@@ -1,4 +1,4 @@
--- Claims that agree where the options ask about them are missing alike, and meet and break the same rules.
+-- Claims that agree on what the options ask about are missing alike, and meet and break the same rules.
 use Rattle.std.proofs.Common.{◌≡◌, ℕ, Bool, true, false, Option, Some, None, inl, inr, refl, ap}
 use Rattle.std.specs.Prelude.{◌↔◌, IsTrue, IsSome, IfSome}
 use Rattle.jwt_validation.specs.Claim.{Claims}
