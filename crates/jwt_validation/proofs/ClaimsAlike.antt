@@ -1,10 +1,10 @@
 -- Claims that agree on what the options ask about are missing alike, and meet and break the same rules.
-use Rattle.std.proofs.Common.{◌≡◌, ℕ, Bool, true, false, Option, Some, None, inl, inr, refl, ap}
+use Rattle.std.proofs.Common.{◌≡◌, ℕ, Bool, true, false, Option, Some, None, inl, inr, refl, ap, sym, ◌∙◌}
 use Rattle.std.specs.Prelude.{◌↔◌, IsTrue, IsSome, IfSome}
 use Rattle.jwt_validation.specs.Claim.{Claims}
-use Rattle.jwt_validation.specs.ClaimRules.{Holds, IsMissing, IsFirstBroken, kind_of_rule, format_or}
+use Rattle.jwt_validation.specs.ClaimRules.{text, Holds, HasValue, IsMissing, IsFirstBroken, kind_of_rule, format_or}
 use Rattle.jwt_validation.specs.Options.{Options}
-use Rattle.jwt_validation.specs.private_clauses.ClaimsSeen.{AreAlike}
+use Rattle.jwt_validation.specs.private_clauses.ClaimsSeen.{AreAlike, Lacks}
 use Rattle.jwt_base.specs.Kind as kind
 use Rattle.jwt_validation.specs.declared.claims.Name.{Name}
 use Rattle.jwt_validation.specs.declared.claims.Name.TheVariants.{Exp, Nbf, Aud, Iss, Sub}
@@ -24,13 +24,19 @@ is_true_of : (b : Bool) (P : Type 0) → ((IsTrue b → P) → ⊥) → IsTrue b
 is_true_of true P n = refl
 is_true_of false P n = absurd (n (λ t. absurd (cc)))
 
-module _ (v : Options) (c e : Claims) (a : AreAlike v c e) where
-  pub missing_alike : (n : Name) → IsMissing v c n ↔ IsMissing v e n
-  missing_alike Exp = (λ m. (m.0, rw (← a.exp (inr m.0)) m.1), λ m. (m.0, rw (a.exp (inr m.0)) m.1))
-  missing_alike Nbf = (λ m. (m.0, rw (← a.nbf (inr m.0)) m.1), λ m. (m.0, rw (a.nbf (inr m.0)) m.1))
-  missing_alike Aud = (λ m. (m.0, rw (← a.aud (inr m.0)) m.1), λ m. (m.0, rw (a.aud (inr m.0)) m.1))
-  missing_alike Iss = (λ m. (m.0, rw (← a.iss (inr m.0)) m.1), λ m. (m.0, rw (a.iss (inr m.0)) m.1))
-  missing_alike Sub = (λ m. (m.0, rw (← a.sub (inr m.0)) m.1), λ m. (m.0, rw (a.sub (inr m.0)) m.1))
+module _ (v : Options) (r : Name → Bool) (same : (n : Name) → r n ≡ v.required (text n)) (c e : Claims) (a : AreAlike v r c e) where
+  seen_alike : (n : Name) → IsTrue (r n) → HasValue c n ↔ HasValue e n
+  seen_alike Exp t = (λ h. rw (← a.exp (inr t)) h, λ h. rw (a.exp (inr t)) h)
+  seen_alike Nbf t = (λ h. rw (← a.nbf (inr t)) h, λ h. rw (a.nbf (inr t)) h)
+  seen_alike Aud t = (λ h. rw (← a.aud (inr t)) h, λ h. rw (a.aud (inr t)) h)
+  seen_alike Iss t = (λ h. rw (← a.iss (inr t)) h, λ h. rw (a.iss (inr t)) h)
+  seen_alike Sub t = (λ h. rw (← a.sub (inr t)) h, λ h. rw (a.sub (inr t)) h)
+
+  pub missing_alike : (n : Name) → Lacks r c n ↔ IsMissing v e n
+  missing_alike n = (
+    λ m. (sym (same n) ∙ m.0, λ h. m.1 ((seen_alike n m.0).1 h)),
+    λ m. (same n ∙ m.0, λ h. m.1 ((seen_alike n (same n ∙ m.0)).0 h)),
+  )
 
   pub holds_alike : (time : ℕ) (r : Rule) → Holds v c time r ↔ Holds v e time r
   holds_alike time ExpFormat = (λ h t. rw (← a.exp (inl t)) (h t), λ h t. rw (a.exp (inl t)) (h t))

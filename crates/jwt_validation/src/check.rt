@@ -8,14 +8,14 @@ ghost use Rattle.std.specs.Prelude.{◌≡◌, ◌↔◌, IsOk, OnOk, IfErr, IsS
 ghost use Rattle.serde_json.specs.Find.{as_object};
 ghost use Rattle.serde_json.specs.View.{view};
 ghost use Rattle.jwt_base.specs.Kind.{Kind};
-ghost use Rattle.jwt_validation.specs.ClaimRules.{IsMissing, IsFirstBroken, Holds, RulesHold};
+ghost use Rattle.jwt_validation.specs.ClaimRules.{IsFirstBroken, Holds, RulesHold};
 ghost use Rattle.jwt_validation.specs.ClaimRules.{IsFault, IsErrorFor};
-ghost use Rattle.jwt_validation.specs.private_clauses.ClaimsSeen.{claims_seen};
+ghost use Rattle.jwt_validation.specs.private_clauses.ClaimsSeen.{claims_seen, requires_claim, Lacks};
 ghost use Rattle.jwt_validation.specs.Moments.{IsAcceptedWithin, Looser};
 ghost use Rattle.jwt_validation.specs.Options.{Options};
 ghost use Rattle.jwt_validation.specs.OptionsOf.{options_of};
 
-use crate::claims::{NAMES, Name, SpecClaims, is_required};
+use crate::claims::{NAMES, Name, RequiredClaims, SpecClaims};
 use crate::rules::{RULES, Rule, holds, missing_claim, refusal};
 use crate::validation::Validation;
 use jwt_base::errors::{ErrorKind, Result, new_error};
@@ -63,8 +63,9 @@ fn check(alloc: Global, claims: &Value, options: &Validation, time: u64) -> Resu
     if !claims.is_object() {
         return Err(new_error(ErrorKind::Json));
     }
-    let claims = SpecClaims::read_asked(claims, options);
-    if let Some(name) = first_missing(&claims, options) {
+    let required = RequiredClaims::of(&options.required_spec_claims);
+    let claims = SpecClaims::read_asked(claims, options, &required);
+    if let Some(name) = first_missing(&claims, &required) {
         return Err(missing_claim(alloc, name.text()));
     }
     match first_broken(&claims, options, time) {
@@ -73,13 +74,13 @@ fn check(alloc: Global, claims: &Value, options: &Validation, time: u64) -> Resu
     }
 }
 
-fn first_missing(claims: &SpecClaims, options: &Validation) -> Option<Name>
+fn first_missing(claims: &SpecClaims, required: &RequiredClaims) -> Option<Name>
     ensures { MatchOption result
-        ((n : Name) → ¬ IsMissing (options_of options.now) (claims_seen claims.now) n)
-        (λ n. IsMissing (options_of options.now) (claims_seen claims.now) n) }
+        ((n : Name) → ¬ Lacks (requires_claim required.now) (claims_seen claims.now) n)
+        (λ n. Lacks (requires_claim required.now) (claims_seen claims.now) n) }
 {
     for name in NAMES {
-        if !claims.has_value(name) && is_required(&options.required_spec_claims, name.text()) {
+        if required.has(name) && !claims.has_value(name) {
             return Some(name);
         }
     }

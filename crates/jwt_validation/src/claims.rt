@@ -1,6 +1,7 @@
 //! The claims of a token that have rules (RFC 7519 section 4.1).
 
-ghost use Rattle.std.specs.Prelude.{◌≡◌, ◌↔◌, IsTrue, is_some, false};
+ghost use Rattle.std.specs.Prelude.{◌≡◌, ◌↔◌, ◌||◌, IsTrue, is_some, false};
+ghost use Rattle.std.specs.Str.{bytes_eq};
 ghost use Rattle.std.specs.HashSet.{contains_text};
 ghost use Rattle.std.specs.List.{list_all, list_any};
 ghost use Rattle.std.specs.Option.{option_map_or};
@@ -10,7 +11,7 @@ ghost use Rattle.jwt_validation.specs.Claim.{time_in, text_in, texts_in, claims_
 ghost use Rattle.jwt_validation.specs.ClaimRules.{text, HasValue, SharesMember};
 ghost use Rattle.jwt_validation.specs.OptionsOf.{options_of};
 ghost use Rattle.jwt_validation.specs.private_clauses.ClaimsSeen.{seen, texts_among, claims_seen};
-ghost use Rattle.jwt_validation.specs.private_clauses.ClaimsSeen.{AreAlike};
+ghost use Rattle.jwt_validation.specs.private_clauses.ClaimsSeen.{AreAlike, requires_claim};
 
 use crate::validation::Validation;
 use serde_json::Value;
@@ -85,17 +86,21 @@ impl<'a> SpecClaims<'a> {
         }
     }
 
-    /// Looks up the claims that the options ask about: to the rules, the others are as if absent.
-    pub fn read_asked(claims: &'a Value, options: &Validation) -> SpecClaims<'a>
-        ensures { AreAlike (options_of options.now) (claims_seen result)
-            (claims_of (view claims.now)) }
+    /// Looks up the claims that the options ask about or that are required: to the rules, the others
+    /// are as if absent.
+    pub fn read_asked(
+        claims: &'a Value,
+        options: &Validation,
+        required: &RequiredClaims,
+    ) -> SpecClaims<'a>
+        ensures { AreAlike (options_of options.now) (requires_claim required.now)
+            (claims_seen result) (claims_of (view claims.now)) }
     {
-        let required = &options.required_spec_claims;
-        let is_exp = options.validate_exp || is_required(required, "exp");
-        let is_nbf = options.validate_nbf || is_required(required, "nbf");
-        let is_sub = options.sub.is_some() || is_required(required, "sub");
-        let is_iss = options.iss.is_some() || is_required(required, "iss");
-        let is_aud = options.validate_aud || is_required(required, "aud");
+        let is_exp = options.validate_exp || required.exp;
+        let is_nbf = options.validate_nbf || required.nbf;
+        let is_sub = options.sub.is_some() || required.sub;
+        let is_iss = options.iss.is_some() || required.iss;
+        let is_aud = options.validate_aud || required.aud;
         SpecClaims {
             exp: if is_exp {
                 time_claim(claims, "exp")
@@ -139,18 +144,73 @@ impl<'a> SpecClaims<'a> {
     }
 }
 
-/// The number of names up to which a set is walked: to hash a name takes longer than to compare it
-/// with a few.
+/// The claims that are required.
+#[derive(Clone, Copy)]
+pub struct RequiredClaims {
+    pub exp: bool,
+    pub nbf: bool,
+    pub aud: bool,
+    pub iss: bool,
+    pub sub: bool,
+}
+
+/// The number of names up to which a set is walked: to hash the five names takes longer than to
+/// walk a few.
 const FEW: usize = 8;
 
-/// Returns whether the name is in the set.
-pub fn is_required(names: &HashSet<String>, name: &str) -> bool
-    ensures { result ≡ contains_text names.now name.now }
-{
-    if names.len() > FEW {
-        return names.contains(name);
+impl RequiredClaims {
+    /// Looks each name up in the set.
+    pub fn of(names: &HashSet<String>) -> RequiredClaims
+        ensures { (n : Name) → requires_claim result n ≡ contains_text names.now (text n) }
+    {
+        if names.len() > FEW {
+            return RequiredClaims {
+                exp: names.contains("exp"),
+                nbf: names.contains("nbf"),
+                aud: names.contains("aud"),
+                iss: names.contains("iss"),
+                sub: names.contains("sub"),
+            };
+        }
+        let mut required = RequiredClaims {
+            exp: false,
+            nbf: false,
+            aud: false,
+            iss: false,
+            sub: false,
+        };
+        for name in names.iter() {
+            required.add(name.as_str());
+        }
+        required
     }
-    names.iter().any(|required| name == required.as_str())
+
+    /// Returns whether the claim of this name is required.
+    pub fn has(&self, name: Name) -> bool
+        ensures { result ≡ requires_claim self.now name }
+    {
+        match name {
+            Name::Exp => self.exp,
+            Name::Nbf => self.nbf,
+            Name::Aud => self.aud,
+            Name::Iss => self.iss,
+            Name::Sub => self.sub,
+        }
+    }
+
+    fn add(&mut self, name: &str)
+        ensures { (n : Name) → requires_claim self.new n
+            ≡ (requires_claim self.old n || bytes_eq (text n) name.now) }
+    {
+        match name {
+            "exp" => self.exp = true,
+            "nbf" => self.nbf = true,
+            "aud" => self.aud = true,
+            "iss" => self.iss = true,
+            "sub" => self.sub = true,
+            _ => (),
+        }
+    }
 }
 
 /// Returns whether one of the strings is in the set.
