@@ -195,6 +195,7 @@ impl PreparedHmac {
         None
     }
 
+    #[inline(always)]
     fn key_for(&self, hash: Hash, secret: &[u8]) -> SecretInUse
         ensures algorithm { algorithm_of result ≡ algorithm_for hash }
         ensures code { (m s : List ℕ) → IsCodeBy result m s ↔ (s ≡ hmac hash secret.now m) }

@@ -4,7 +4,8 @@
 // A verifier keeps two hashers and no block. They hold a secret's blocks (`HoldSecret`), but which
 // secret can't be told from them, up to a collision of the hash's steps. So a signature is defined
 // as the code under every secret that they hold, of which there is at least one (a ghost field),
-// and which all give one code.
+// and which all give one code. A call clears the room for the hashers that it returns and moves them
+// afterwards, so those that a token takes are inlined.
 
 ghost use Rattle.std.specs.Prelude.{◌≡◌, ◌↔◌, ℕ, List, ◌++◌, IfOk, IfErr, IsTrue};
 ghost use Rattle.jwt_base.specs.KindOf.{IsMemory};
@@ -49,6 +50,7 @@ impl Hashers {
         }
     }
 
+    #[inline(always)]
     fn clone(&self) -> Hashers
         ensures { result ≡ self.now }
     {
@@ -115,6 +117,7 @@ impl PreparedHashers {
         }
     }
 
+    #[inline(always)]
     pub(crate) fn clone(&self) -> PreparedHashers
         ensures { result.hashers ≡ self.now.hashers }
     {
@@ -207,6 +210,7 @@ fn copy_512(hasher: &Sha512) -> Sha512
     copy
 }
 
+#[inline(always)]
 fn code_256(first: &Sha256, second: &Sha256, message: &[u8]) -> [u8; 32]
     ensures { (secret : List ℕ) → Holds256 first.now (inner_block Hash.Sha256 secret)
         → Holds256 second.now (outer_block Hash.Sha256 secret)
@@ -216,6 +220,7 @@ fn code_256(first: &Sha256, second: &Sha256, message: &[u8]) -> [u8; 32]
 }
 
 // Feeds the message to the first hasher, and its digest to the second.
+#[inline(always)]
 fn finish_by<const N: usize, D: Digest<Output = [u8; N]>>(
     mut first: D,
     mut second: D,
