@@ -36,16 +36,15 @@ PLAIN = "JWT_TESTS_PLAIN"
 def try_edits(crate, edits):
     """Tries edits in as few checks as they fit in, and then alone what was not refused."""
     left = edits
-    while left:
-        planted = Planted(crate, left)
-        found = Report(planted)
-        for edit in planted.tried:
-            found.judge(edit)
-        broken = found.uncompiled()
-        left = [edit for edit in left if edit not in broken] if broken else planted.left
-    alone = [edit for edit in edits if not edit.is_refused and not edit.misfit]
     with tempfile.TemporaryDirectory(prefix="wrong-bodies-") as work:
-        for edit in alone:
+        while left:
+            planted = Planted(crate, left)
+            found = Report(planted, work)
+            for edit in planted.tried:
+                found.judge(edit)
+            broken = found.uncompiled()
+            left = [edit for edit in left if edit not in broken] if broken else planted.left
+        for edit in [edit for edit in edits if not edit.is_refused and not edit.misfit]:
             Report(Planted(crate, [edit]), work).judge(edit)
     for edit in edits:
         if not edit.is_refused and edit.misfit:
