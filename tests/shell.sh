@@ -5,6 +5,8 @@ passed=0
 failed=()
 # What was left out, as it was said.
 left_out=()
+# The names of the commands that were begun and not yet tallied, each with the file of what it says.
+begun=()
 # What is said right before the last line.
 remark=
 
@@ -48,6 +50,22 @@ tally() {
         failed+=("$1")
         printf '%s\n' "$said" "FAILED: $1"
     fi
+}
+
+# begin NAME COMMAND..: begins a command that `tally_begun` tallies, so that several run side by side.
+begin() {
+    begun+=("$1" "$(mktemp)")
+    "${@:2}" > "${begun[-1]}" 2>&1 &
+}
+
+# tally_begun: waits for the commands that were begun, and tallies each.
+tally_begun() {
+    wait
+    while [ ${#begun[@]} -gt 0 ]; do
+        tally "${begun[0]}" cat "${begun[1]}"
+        rm -f "${begun[1]}"
+        begun=("${begun[@]:2}")
+    done
 }
 
 # leave_out PACKAGES WHAT: says that this is left out, which in CI is a failure.
