@@ -1,10 +1,10 @@
-"""The commands of the program jwt and their arguments, as its sources have them: read from the calls of src/request/arguments.rt."""
+"""The commands of the program jwt and their arguments, as its sources have them: read from the calls of src/arguments.rt of jwt_requests."""
 import os
 import re
 from typing import NamedTuple
 
 TOP = os.path.dirname(os.path.dirname(os.path.dirname(os.path.realpath(__file__))))
-CRATES = ("jwt_command",)
+SOURCE = "crates/jwt_requests/src/arguments.rt"
 TEXT = r'"((?:[^"\\]|\\.)*)"'
 # a text, which is passed over, or a word with the texts that are all its arguments, or with an opening bracket
 WORDS = re.compile(rf'{TEXT}|(?<![.\w])(\w+)(?:\(((?:\s*{TEXT},?)+)\s*\)|(\()|\b)')
@@ -50,7 +50,7 @@ def read(path):
 
 def source():
     """Returns the path of the file, below the top of the repository, or None."""
-    return next((it for it in (f"crates/{name}/src/request/arguments.rt" for name in CRATES) if os.path.isfile(f"{TOP}/{it}")), None)
+    return SOURCE if os.path.isfile(f"{TOP}/{SOURCE}") else None
 
 
 def algorithms():
@@ -98,6 +98,6 @@ class Source:
 
 def commands():
     """Returns the commands, in the order of help."""
-    found = Source(read(source()))
-    called = re.findall(r"add_subcommand\(command, (\w+)\(", found.functions["command"])
-    return [found.command(it) for it in called]
+    text = read(source())
+    found = Source(text)
+    return [found.command(it) for it in re.findall(r"add_subcommand\(command, (\w+)\(", text)]

@@ -1,7 +1,6 @@
 pub mod Attached
 pub mod TypedVerdict
 pub mod LineStatuses
-pub mod Numbers
 pub mod Required
 pub mod Shown
 pub mod Signed

@@ -3,7 +3,7 @@ use Rattle.std.proofs.Common.{◌≡◌, ◌∙◌, ℕ, max, ◌∷◌, ap}
 use Rattle.jwt_validation.specs.Options.{Options}
 use Rattle.jwt_command.specs.Commands.{IsLineStatus, IsLinesStatus}
 use Rattle.jwt_command.specs.declared.keys.LoadedKeys.{LoadedKeys}
-use Rattle.jwt_command.specs.declared.request.VerifyArgs.{VerifyArgs}
+use Rattle.jwt_requests.specs.declared.request.VerifyArgs.{VerifyArgs}
 
 -- one more line
 pub one_more_line : (v : VerifyArgs) (loaded : LoadedKeys) (options : Options) (status line after : ℕ)

@@ -7,7 +7,7 @@ use Rattle.std.specs.Option.{option_or}
 use Rattle.std.specs.Str.{bytes_eq}
 use Rattle.jwt_validation.specs.Options.{Options, Texts, among}
 use Rattle.jwt_command.specs.Requested.{AreRequested, IsBase, changed_options, texts_or, required_claims, strict_options_if}
-use Rattle.jwt_command.specs.declared.request.Checks.{Checks}
+use Rattle.jwt_requests.specs.declared.request.Checks.{Checks}
 
 or_behind : (b a c : Bool) → (b || (a || c)) ≡ ((a || b) || c)
 or_behind true true c = refl

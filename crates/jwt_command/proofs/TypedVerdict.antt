@@ -12,8 +12,8 @@ use Rattle.jsonwebtoken.specs.declared.refusal.Refusal.{Refusal}
 use Rattle.jwt_verifier.specs.declared.keys.Keys.{Keys}
 use Rattle.jwt_command.specs.Accepted.{HasType, IsDecoded, IsRefusalIfAny, IsTokenRefusal, IsTypedVerdict}
 use Rattle.jwt_command.specs.Commands.{ChoosesAlgorithm}
-use Rattle.jwt_command.specs.declared.verify.verdict.TokenRefusal.{TokenRefusal}
-use Rattle.jwt_command.specs.declared.verify.verdict.TokenRefusal.TheVariants.{Refused, OtherType}
+use Rattle.jwt_findings.specs.declared.refusals.TokenRefusal.{TokenRefusal}
+use Rattle.jwt_findings.specs.declared.refusals.TokenRefusal.TheVariants.{Refused, OtherType}
 
 module _ (token : List ℕ) (keys : Keys) (options : Options) (time : ℕ) (typ : Option (List ℕ)) where
   -- the result of the tests by options that are settled, unless memory ran out

@@ -3,8 +3,8 @@ use Rattle.std.proofs.Common.{◌≡◌, ◌⊎◌, inl, inr}
 use Rattle.jwt_base.specs.Kind.{Kind}
 use Rattle.jwt_base.specs.KindOf.{IsMemory, RefusesAs}
 use Rattle.jwt_base.specs.declared.errors.Error.{Error}
-use Rattle.jwt_command.specs.declared.fault.Fault.{Fault}
-use Rattle.jwt_command.specs.declared.fault.Fault.TheVariants as fault
+use Rattle.jwt_requests.specs.declared.fault.Fault.{Fault}
+use Rattle.jwt_requests.specs.declared.fault.Fault.TheVariants as fault
 
 pub unless_memory : {P Q : Type 0} (k : Kind) (e : Error) (f : Fault) → RefusesAs k P e
     → (IsMemory e → f ≡ fault.Memory) → (P → Q)

@@ -16,8 +16,8 @@ use Rattle.serde_json.specs.View.{view}
 use Rattle.serde_json.specs.declared.value.Value.{Value}
 use Rattle.jwt_verifier.specs.Verifying.{order_of, source_of}
 use Rattle.jwt_verifier.specs.declared.keys.Keys.{Keys}
-use Rattle.jwt_command.specs.declared.verify.verdict.TokenRefusal.{TokenRefusal}
-use Rattle.jwt_command.specs.declared.verify.verdict.TokenRefusal.TheVariants.{Refused, OtherType}
+use Rattle.jwt_findings.specs.declared.refusals.TokenRefusal.{TokenRefusal}
+use Rattle.jwt_findings.specs.declared.refusals.TokenRefusal.TheVariants.{Refused, OtherType}
 
 -- a token, checked with these keys and options at a time, by the provider of all algorithms
 abbrev pub checking : List ℕ → Keys → Options → ℕ → Call Value

@@ -13,7 +13,7 @@ use Rattle.jsonwebtoken.specs.Order.{Passes, FailsFirst}
 use Rattle.jsonwebtoken.specs.Tests.{Contents}
 use Rattle.jwt_command.specs.Accepted.{IsAccepted, IsTokenRefusal}
 use Rattle.jwt_verifier.specs.declared.keys.Keys.{Keys}
-use Rattle.jwt_command.specs.declared.verify.verdict.TokenRefusal.{TokenRefusal}
+use Rattle.jwt_findings.specs.declared.refusals.TokenRefusal.{TokenRefusal}
 use Rattle.jwt_command.specs.declared.verify.OutputForm.{OutputForm}
 use Rattle.jwt_command.specs.declared.verify.OutputForm.TheVariants.{Claims, HeaderAndClaims, Json, Line}
 

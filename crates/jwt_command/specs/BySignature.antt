@@ -16,7 +16,7 @@ use Rattle.jsonwebtoken.specs.Order.{Passes, FailsFirst}
 use Rattle.jsonwebtoken.specs.Tests.{Contents, dot, insecure_call, insecure_order, token_tests}
 use Rattle.jwt_verifier.specs.declared.keys.Keys.{Keys}
 use Rattle.jwt_command.specs.Accepted.{IsRefusalIfAny}
-use Rattle.jwt_command.specs.declared.verify.verdict.TokenRefusal.{TokenRefusal}
+use Rattle.jwt_findings.specs.declared.refusals.TokenRefusal.{TokenRefusal}
 
 -- ---- what is to be signed
 

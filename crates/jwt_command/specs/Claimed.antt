@@ -5,7 +5,7 @@ use Rattle.serde_json.specs.Data.{Data, Members, number, unsigned}
 use Rattle.jwt_base.specs.Members.{put_some}
 use Rattle.jwt_header.specs.Header.{new_header}
 use Rattle.jwt_header.specs.declared.header.Header.{Header}
-use Rattle.jwt_command.specs.declared.request.Draft.{Draft}
+use Rattle.jwt_requests.specs.declared.request.Draft.{Draft}
 
 -- the header of the algorithm, with the type `JWT` if no other is given (RFC 7519 section 5.1)
 abbrev pub header_asked : Draft → Header

@@ -23,15 +23,15 @@ use Rattle.jwt_command.specs.Requested.{AreRequested}
 use Rattle.jwt_verifier.specs.Verifying.{source_of}
 use Rattle.jwt_verifier.specs.declared.keys.Keys.{Keys as KeyValues}
 use Rattle.jwt_command.specs.declared.keys.LoadedKeys.{LoadedKeys}
-use Rattle.jwt_command.specs.declared.request.AttachArgs.{AttachArgs}
-use Rattle.jwt_command.specs.declared.request.Draft.{Draft}
-use Rattle.jwt_command.specs.declared.request.KeyFile.{KeyFile}
-use Rattle.jwt_command.specs.declared.request.Request.{Request}
-use Rattle.jwt_command.specs.declared.request.Request.TheVariants.{Verify, Explain, Show, Sign, SigningInput, Attach}
-use Rattle.jwt_command.specs.declared.request.Request.TheVariants.{Keys, Jwk, Thumbprint}
-use Rattle.jwt_command.specs.declared.request.ShowArgs.{ShowArgs}
-use Rattle.jwt_command.specs.declared.request.SignArgs.{SignArgs}
-use Rattle.jwt_command.specs.declared.request.VerifyArgs.{VerifyArgs}
+use Rattle.jwt_requests.specs.declared.request.AttachArgs.{AttachArgs}
+use Rattle.jwt_requests.specs.declared.request.Draft.{Draft}
+use Rattle.jwt_requests.specs.declared.request.KeyFile.{KeyFile}
+use Rattle.jwt_requests.specs.declared.request.Request.{Request}
+use Rattle.jwt_requests.specs.declared.request.Request.TheVariants.{Verify, Explain, Show, Sign, SigningInput, Attach}
+use Rattle.jwt_requests.specs.declared.request.Request.TheVariants.{Keys, Jwk, Thumbprint}
+use Rattle.jwt_requests.specs.declared.request.ShowArgs.{ShowArgs}
+use Rattle.jwt_requests.specs.declared.request.SignArgs.{SignArgs}
+use Rattle.jwt_requests.specs.declared.request.VerifyArgs.{VerifyArgs}
 use Rattle.jwt_command.specs.declared.verify.OutputForm.{OutputForm}
 use Rattle.jwt_command.specs.declared.verify.OutputForm.TheVariants.{Claims, HeaderAndClaims, Json, Line}
 

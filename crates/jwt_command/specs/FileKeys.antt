@@ -20,8 +20,8 @@ use Rattle.jwt_secrets.specs.KeyTexts.{IsKeyText}
 use Rattle.jwt_command.specs.LineEnd.{IsSecret}
 use Rattle.jwt_verifier.specs.declared.keys.Keys.{Keys}
 use Rattle.jwt_verifier.specs.declared.keys.Keys.TheVariants.{One, Set}
-use Rattle.jwt_command.specs.declared.request.KeyFile.{KeyFile}
-use Rattle.jwt_command.specs.declared.request.KeyFile.TheVariants as file
+use Rattle.jwt_requests.specs.declared.request.KeyFile.{KeyFile}
+use Rattle.jwt_requests.specs.declared.request.KeyFile.TheVariants as file
 
 -- The secret is taken: not every byte of it is 0 (RFC 2104 section 2), and it is not the text of a key of another kind
 -- (RFC 8725 sections 2.1 and 3.1), unless that is allowed.

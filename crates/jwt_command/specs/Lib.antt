@@ -1,6 +1,5 @@
 pub mod Accepted
 pub mod Answers
-pub mod Arguments
 pub mod BySignature
 pub mod Claimed
 pub mod Commands

@@ -7,7 +7,7 @@ use Rattle.std.specs.Str.{bytes_eq}
 use Rattle.jwt_base.specs.JsonText.{ReadsText}
 use Rattle.jwt_validation.specs.Options.{Options, Texts, among, default_options, no_texts, requiring_configured}
 use Rattle.jwt_validation.specs.OptionsRead.{ReadsOptions}
-use Rattle.jwt_command.specs.declared.request.Checks.{Checks}
+use Rattle.jwt_requests.specs.declared.request.Checks.{Checks}
 
 -- the strings that an argument is given; none without the argument
 abbrev pub given_texts : Option (Bor (List (Bor (List ℕ)))) → Texts

@@ -5,7 +5,7 @@ ghost use Rattle.std.specs.Io.KnownBytes.{Appends};
 ghost use Rattle.serde_json.specs.View.{view};
 ghost use Rattle.jwt_command.specs.Answers.{IsLineOf};
 
-use crate::fault::Fault;
+use jwt_requests::Fault;
 use serde_json::Value;
 use std::alloc::{AllocError, Global};
 use std::io::Write;

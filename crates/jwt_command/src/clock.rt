@@ -3,7 +3,7 @@
 ghost use Rattle.std.specs.Prelude.{IfOk};
 ghost use Rattle.jwt_command.specs.Commands.{IsGiven};
 
-use crate::fault::Fault;
+use jwt_requests::Fault;
 use std::rt::Clock;
 use std::time::{SystemTime, UNIX_EPOCH};
 

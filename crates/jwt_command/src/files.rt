@@ -3,7 +3,7 @@
 ghost use Rattle.std.specs.Prelude.{◌≤◌, length, IfOk, IfSome};
 ghost use Rattle.jwt_command.specs.LineEnd.{IsLessLineEnd};
 
-use crate::fault::Fault;
+use jwt_requests::Fault;
 use jwt_verifier::TOKEN_LIMIT;
 use std::alloc::Global;
 use std::fs;

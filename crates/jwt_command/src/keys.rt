@@ -22,19 +22,17 @@ ghost use Rattle.jsonwebtoken.specs.Own.{own_of};
 ghost use Rattle.jwt_command.specs.LineEnd.{IsSecret};
 ghost use Rattle.jwt_command.specs.FileKeys.{AreLoaded, HasKeysFault, IsTaken, IsNotTaken};
 
-pub(crate) mod hints;
 pub(crate) mod jwk;
 pub(crate) mod table;
 pub(crate) mod thumbprint;
 
-use crate::fault::{Fault, fault_of};
 use crate::files::strip_line_end;
-use crate::keys::hints::{key_problem, pem_problem, set_problem};
-use crate::request::{KeyFile, SecretFile};
 use jsonwebtoken::errors::{Error, ErrorKind};
 use jsonwebtoken::jwk::{Jwk, JwkSet, own_algorithm};
 use jsonwebtoken::{Algorithm, DecodingKey};
+use jwt_findings::{key_problem, pem_problem, set_problem};
 use jwt_key_files::pem::public_key_from_pem;
+use jwt_requests::{Fault, KeyFile, SecretFile, fault_of};
 use jwt_secrets::key_texts::is_key_text;
 use jwt_secrets::{has_blank_key, is_blank, is_blank_key};
 use jwt_verifier::{KeyRing, Keys};

@@ -2,39 +2,33 @@
 //!
 //! For the program `jwt`, whose `main` is a call of [`start`]; docs/COMMAND.md is its users' page.
 //!
-//! The arguments become a request (`request`), which `run` answers: it reads the files that are
+//! The arguments become a request (`jwt_requests`), which `run` answers: it reads the files that are
 //! named (`files`), makes keys of them (`keys`), and has the library decide (`verify::verdict`). An
-//! answer is a status, an output and a message, and `run_command` writes them. What `explain` says
-//! besides the verdict, such as which claim is missing, is found by calls of the library too.
+//! answer is a status, an output and a message, and `run_command` writes them. What is said besides
+//! the verdict, such as which claim is missing, `jwt_findings` finds by calls of the library too.
 //!
 //! The contract of [`run_command`] speaks of the request of the arguments, of some contents of the
 //! files and of what was written; `crates/jwt_command/README.md` lists what is proved.
 #![tactic(auto)]
 
 ghost use Rattle.std.specs.Prelude.{◌⊎◌};
-ghost use Rattle.jwt_command.specs.Arguments.{IsRequestOf};
+ghost use Rattle.jwt_requests.specs.Arguments.{IsRequestOf};
 ghost use Rattle.jwt_command.specs.Commands.{IsFaultStatus, IsStatus};
-ghost use Rattle.jwt_command.specs.declared.request.Request.{Request};
+ghost use Rattle.jwt_requests.specs.declared.request.Request.{Request};
 
-mod advice;
 mod answer;
 mod clock;
 mod explain;
-mod fault;
 mod files;
 mod keys;
-mod request;
 mod run;
 mod show;
 mod sign;
-mod times;
 mod verify;
 
 use answer::write_output;
 use clap::ArgMatches;
-use fault::Fault;
-use request::arguments::command;
-use request::{Request, parse_request};
+use jwt_requests::{Fault, Request, command, parse_request};
 use run::answer;
 use serde_json::Value;
 use std::alloc::{AllocError, Global};

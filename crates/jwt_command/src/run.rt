@@ -15,16 +15,11 @@ ghost use Rattle.jwt_command.specs.Own.{with_key_algorithm};
 use crate::answer::Answer;
 use crate::clock::current_time;
 use crate::explain::explain_answer;
-use crate::explain::explanation::ExplanationForm;
-use crate::fault::Fault;
 use crate::files::{file_bytes, input_bytes, is_file_name, strip_line_end, token_input};
 use crate::keys::jwk::jwk_answer;
 use crate::keys::table::keys_answer;
 use crate::keys::thumbprint::thumbprint_answer;
 use crate::keys::{LoadedKeys, Preparation, given_secret, load, names_algorithm};
-use crate::request::{
-    AttachArgs, Draft, KeyFile, KeysArgs, Request, ShowArgs, SignArgs, ThumbprintArgs, VerifyArgs,
-};
 use crate::show::show_answer;
 use crate::sign::by_signature::{attached_answer, input_answer};
 use crate::sign::{claims, claims_answer};
@@ -33,6 +28,11 @@ use crate::verify::lines::answer_lines;
 use crate::verify::options::{lists_none, requested_validation};
 use crate::verify::{OutputForm, verify_answer};
 use jsonwebtoken::Validation;
+use jwt_findings::ExplanationForm;
+use jwt_requests::{
+    AttachArgs, Draft, Fault, KeyFile, KeysArgs, Request, ShowArgs, SignArgs, ThumbprintArgs,
+    VerifyArgs,
+};
 use jwt_verifier::PREPARED_LIMIT;
 use std::alloc::Global;
 use std::rt::{Clock, Files};

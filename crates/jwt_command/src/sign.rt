@@ -13,17 +13,15 @@ ghost use Rattle.jwt_command.specs.Claimed.{header_asked, numeric_date, members_
 
 pub(crate) mod by_signature;
 
-use crate::advice::error_line;
 use crate::answer::Answer;
-use crate::explain::findings::quote;
-use crate::fault::{Fault, fault_of, is_memory};
-use crate::request::Draft;
-use jsonwebtoken::errors::{Error, ErrorKind};
+use jsonwebtoken::errors::Error;
 use jsonwebtoken::{EncodingKey, Header, Text, encode};
 use jwt_base::serialization::json_value;
+use jwt_findings::unsigned_line;
+use jwt_requests::{Draft, Fault, fault_of, is_memory};
 use jwt_standard::StandardProvider;
 use serde_json::{Map, Value};
-use std::alloc::{AllocError, Global};
+use std::alloc::Global;
 
 /// Returns the claims of a JSON text, which is that of an object, with the times that the
 /// arguments ask for.
@@ -196,7 +194,7 @@ pub fn refusal_answer(alloc: Global, error: Error, claims: &Value) -> Result<Ans
         drop(error);
         return Err(Fault::Memory);
     }
-    let message = refusal_line(alloc, &error, claims);
+    let message = unsigned_line(alloc, &error, claims);
     // one drop
     drop(error);
     Ok(Answer {
@@ -204,54 +202,4 @@ pub fn refusal_answer(alloc: Global, error: Error, claims: &Value) -> Result<Ans
         output: String::new(alloc),
         message: message?,
     })
-}
-
-/// Returns the line that says why claims are not signed.
-fn refusal_line(alloc: Global, error: &Error, claims: &Value) -> Result<String, AllocError> {
-    match error.kind() {
-        ErrorKind::InvalidAlgorithm => String::from_str(
-            alloc,
-            "refused: InvalidAlgorithm: a secret signs with HS256, HS384 and HS512\n",
-        ),
-        ErrorKind::Json => float_line(alloc, claims),
-        ErrorKind::InvalidSignature => String::from_str(
-            alloc,
-            "refused: InvalidSignature: the file has neither r and s of this curve nor DER of them\n",
-        ),
-        ErrorKind::Signing(reason) => signing_line(alloc, reason.as_str()),
-        _ => error_line(alloc, error),
-    }
-}
-
-/// Returns the line about a signature of another message or of another length.
-fn signing_line(alloc: Global, reason: &str) -> Result<String, AllocError> {
-    let reason = match reason {
-        "another message" => "the signing input is not written as --signing-input writes it",
-        _ => reason,
-    };
-    format!(in alloc; "refused: Signing: {reason}\n")
-}
-
-/// Returns the line about claims with a number that is not whole, which `encode` refuses.
-fn float_line(alloc: Global, claims: &Value) -> Result<String, AllocError> {
-    match float_name(claims) {
-        Some(name) => format!(in alloc;
-            "refused: Json: the claim {} is a number that is not whole, which is not signed\n",
-            quote(alloc, name)?
-        ),
-        None => String::from_str(
-            alloc,
-            "refused: Json: a claim has a number that is not whole, which is not signed\n",
-        ),
-    }
-}
-
-/// Returns the name of the first claim that is a number that is not whole.
-fn float_name(claims: &Value) -> Option<&str> {
-    for (name, value) in claims.as_object()? {
-        if value.is_f64() {
-            return Some(name.as_str());
-        }
-    }
-    None
 }

@@ -13,16 +13,12 @@ pub(crate) mod lines;
 pub(crate) mod options;
 pub(crate) mod verdict;
 
-use crate::advice::{refusal_name, refused_claim, token_refusal_lines};
 use crate::answer::{Answer, value_line};
-use crate::explain::explanation::first_finding;
-use crate::explain::findings::Finding;
-use crate::explain::orders::TYPE_AGREES;
-use crate::explain::outcome_of;
-use crate::fault::Fault;
 use crate::verify::case::Case;
-use crate::verify::verdict::{TokenRefusal, verify_with_type};
+use crate::verify::verdict::verify_with_type;
 use jsonwebtoken::{Header, TokenData, Validation};
+use jwt_findings::{TokenRefusal, refusal_json, short_refusal_json, token_refusal_lines};
+use jwt_requests::Fault;
 use serde_json::Value;
 use std::alloc::{AllocError, Global};
 
@@ -150,72 +146,8 @@ fn refused_text(
     ensures { IfOk result (λ text. IsRefusedText form (string_bytes text)) }
 {
     match form {
-        OutputForm::Json => refused_line(alloc, case, validation, reason),
-        OutputForm::Line => Ok(outcome_line(alloc, reason, None)?),
+        OutputForm::Json => Ok(refusal_json(alloc, case.checked(), validation, reason)?),
+        OutputForm::Line => Ok(short_refusal_json(alloc, reason)?),
         _ => Ok(String::new(alloc)),
-    }
-}
-
-/// Returns one line of JSON about a refusal.
-fn refused_line(
-    alloc: Global,
-    case: Case<'_>,
-    validation: &Validation,
-    reason: &TokenRefusal,
-) -> Result<String, Fault<'static>> {
-    let outcome = outcome_of(alloc, case, validation, reason)?;
-    let line = outcome_line(alloc, reason, first_finding(&outcome));
-    // one drop
-    drop(outcome);
-    Ok(line?)
-}
-
-fn outcome_line(
-    alloc: Global,
-    reason: &TokenRefusal,
-    finding: Option<&Finding>,
-) -> Result<String, AllocError> {
-    let mut line = String::from_str(alloc, "{\"ok\":false")?;
-    push_refusal(&mut line, reason)?;
-    if let Some(finding) = finding {
-        push_text(alloc, &mut line, "found", finding.found.as_str())?;
-        push_text(alloc, &mut line, "wanted", finding.wanted.as_str())?;
-    }
-    line.push_str("}\n")?;
-    Ok(line)
-}
-
-/// Adds the members about a refusal.
-fn push_refusal(line: &mut String, reason: &TokenRefusal) -> Result<(), AllocError> {
-    push_member(line, "kind", refusal_name(reason))?;
-    if let Some(claim) = refused_claim(reason) {
-        push_member(line, "claim", claim)?;
-    }
-    push_member(line, "test", failed_test_name(reason))
-}
-
-/// Adds a member whose text may need escapes.
-fn push_text(alloc: Global, line: &mut String, name: &str, text: &str) -> Result<(), AllocError> {
-    let value = Value::String(String::from_str(alloc, text)?);
-    line.push_str(",\"")?;
-    line.push_str(name)?;
-    line.push_str("\":")?;
-    line.push_str(value.to_string(alloc)?.as_str())
-}
-
-/// Adds a member, neither of whose texts needs an escape.
-fn push_member(line: &mut String, name: &str, text: &str) -> Result<(), AllocError> {
-    line.push_str(",\"")?;
-    line.push_str(name)?;
-    line.push_str("\":\"")?;
-    line.push_str(text)?;
-    line.push('"')
-}
-
-/// Returns the name of the test that failed.
-fn failed_test_name(reason: &TokenRefusal) -> &'static str {
-    match reason {
-        TokenRefusal::Refused(refusal) => refusal.test.name(),
-        TokenRefusal::OtherType => TYPE_AGREES,
     }
 }

@@ -6,9 +6,9 @@ ghost use Rattle.jwt_key_files.specs.PemKeys.{IsPemRefused};
 ghost use Rattle.jwt_command.specs.FileKeys.{IsJwkLine};
 
 use crate::answer::{Answer, value_line};
-use crate::fault::Fault;
 use crate::keys::not_pem;
 use jwt_key_files::jwk::jwk_from_pem;
+use jwt_requests::Fault;
 use std::alloc::Global;
 
 /// Returns the JSON Web Key of the public key in PEM that a file holds, as one line of JSON.

@@ -3,16 +3,14 @@
 ghost use Rattle.std.specs.Prelude.{◌≡◌, IfOk};
 
 use crate::answer::Answer;
-use crate::fault::{Fault, fault_of, value_unless_refused};
-use crate::keys::hints::set_problem;
-use crate::request::KeysArgs;
-use crate::show::escapes::{escape_unseen, is_unseen};
 use jsonwebtoken::crypto::CryptoProvider;
 use jsonwebtoken::jwk::{
     AlgorithmParameters, EllipticCurve, Jwk, JwkSet, PublicKeyUse, ThumbprintHash,
 };
 use jsonwebtoken::{Algorithm, DecodingKey};
 use jwt_base::serialization::part_bytes;
+use jwt_findings::{escape_unseen, is_unseen, set_problem};
+use jwt_requests::{Fault, KeysArgs, fault_of, value_unless_refused};
 use jwt_secrets::is_blank_jwk;
 use jwt_standard::StandardProvider;
 use serde_json::Value;

@@ -4,8 +4,7 @@
 // these would have to be the same, with the same times, or the signature would be of another
 // message.
 
-ghost use Rattle.std.specs.Prelude.{◌≡◌, ◌≢◌, ◌⊎◌, ◌∷◌, [], ◌++◌, List, ℕ, IfOk, IfErr, IsTrue};
-ghost use Rattle.std.specs.Prelude.{◌↔◌, option_map, string_bytes};
+ghost use Rattle.std.specs.Prelude.{◌≡◌, ◌≢◌, ◌⊎◌, IfOk, IfErr, option_map, string_bytes};
 ghost use Rattle.serde_json.specs.View.{view};
 ghost use Rattle.jwt_base.specs.Algorithm.{family_of};
 ghost use Rattle.jwt_base.specs.Kind as kind;
@@ -18,21 +17,18 @@ ghost use Rattle.jwt_command.specs.BySignature.{IsNotTokenOf, IsSignatureIn, IsT
 ghost use Rattle.jwt_command.specs.BySignature.{IsUnsigned, numbers_length, signature_options};
 ghost use Rattle.jwt_command.specs.Claimed.{header_asked};
 
-use crate::advice::token_refusal_line;
 use crate::answer::Answer;
-use crate::fault::{Fault, fault_of};
 use crate::keys::LoadedKeys;
-use crate::request::Draft;
 use crate::sign::{header, refusal_answer, signed_answer};
 use crate::verify::case::Case;
-use crate::verify::verdict::{TokenRefusal, refusal_of};
+use crate::verify::verdict::refusal_of;
 use jsonwebtoken::crypto::signature::SignatureProvider;
 use jsonwebtoken::dangerous::insecure_decode;
 use jsonwebtoken::errors::Error;
-use jsonwebtoken::{
-    Algorithm, AlgorithmFamily, Header, TokenData, Validation, encode_by_signature, signing_input,
-};
+use jsonwebtoken::{Algorithm, Header, TokenData, Validation, encode_by_signature, signing_input};
+use jwt_findings::{TokenRefusal, token_refusal_line};
 use jwt_key_files::signature::ecdsa_signature;
+use jwt_requests::{Draft, Fault, fault_of, is_of_secret};
 use serde_json::Value;
 use std::alloc::Global;
 
@@ -115,13 +111,6 @@ fn unless_of_secret(contents: TokenData<Value>) -> Result<TokenData<Value>, Faul
         ));
     }
     Ok(contents)
-}
-
-/// Returns whether a secret signs with the algorithm.
-pub fn is_of_secret(algorithm: Algorithm) -> bool
-    ensures { IsTrue result ↔ family_of algorithm ≡ Hmac }
-{
-    matches!(algorithm.family(), AlgorithmFamily::Hmac)
 }
 
 fn contents_answer(

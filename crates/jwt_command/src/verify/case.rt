@@ -1,6 +1,8 @@
 //! A token, and what it is checked with.
 
 use crate::keys::LoadedKeys;
+use jwt_findings::{CheckedKeys, CheckedToken};
+use jwt_verifier::Keys;
 
 /// A token, and what it is checked with besides the options.
 #[derive(Clone, Copy)]
@@ -11,4 +13,20 @@ pub struct Case<'c> {
     pub typ: Option<&'c str>,
     /// The time, in seconds since 1970-01-01 00:00:00 UTC.
     pub time: u64,
+}
+
+impl<'c> Case<'c> {
+    /// Returns the token with all that its findings are made of.
+    pub fn checked(self) -> CheckedToken<'c> {
+        CheckedToken {
+            text: self.token,
+            keys: match self.loaded.keys.keys() {
+                Keys::One(key) => CheckedKeys::One(key),
+                Keys::Set(set) => CheckedKeys::Set(set),
+            },
+            has_line_end: self.loaded.has_line_end,
+            typ: self.typ,
+            time: self.time,
+        }
+    }
 }

@@ -10,13 +10,12 @@ ghost use Rattle.jwt_command.specs.Commands.{IsLineStatus, IsLinesStatus};
 
 use crate::answer::Answer;
 use crate::clock::current_time;
-use crate::fault::Fault;
 use crate::files::{input_fault, strip_line_end};
 use crate::keys::LoadedKeys;
-use crate::request::VerifyArgs;
 use crate::verify::case::Case;
 use crate::verify::{OutputForm, verify_answer};
 use jsonwebtoken::Validation;
+use jwt_requests::{Fault, VerifyArgs};
 use jwt_verifier::TOKEN_LIMIT;
 use memchr::memchr;
 use std::alloc::Global;

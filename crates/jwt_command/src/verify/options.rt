@@ -16,10 +16,9 @@ ghost use Rattle.jwt_command.specs.Requested.{changed_options, given_texts, kept
 ghost use Rattle.jwt_command.specs.Requested.{required_claims, strict_options, strict_options_if};
 ghost use Rattle.jwt_command.specs.Requested.{texts_or};
 
-use crate::fault::{Fault, fault_of};
-use crate::request::Checks;
 use jsonwebtoken::errors::Error;
 use jsonwebtoken::{Algorithm, Validation};
+use jwt_requests::{Checks, Fault, fault_of};
 use std::alloc::Global;
 use std::collections::HashSet;
 

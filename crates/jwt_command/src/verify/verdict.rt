@@ -7,23 +7,15 @@ ghost use Rattle.jwt_validation.specs.OptionsOf.{options_of};
 ghost use Rattle.jwt_command.specs.Accepted.{HasType, IsDecoded, IsRefusalIfAny, IsTypedVerdict};
 ghost use Rattle.jwt_command.specs.Commands.{ChoosesAlgorithm};
 
-use crate::fault::{Fault, is_memory};
 use crate::verify::case::Case;
 use crate::verify::options::lists_none;
 use jsonwebtoken::{
     Header, Refusal, TokenData, Validation, decode_by_or_refusal, decode_by_own_algorithm,
 };
+use jwt_findings::TokenRefusal;
+use jwt_requests::{Fault, is_memory};
 use serde_json::Value;
 use std::alloc::Global;
-
-/// The reason for which a token is not accepted.
-#[derive(Drop)]
-pub enum TokenRefusal {
-    /// A test of the library failed.
-    Refused(Refusal),
-    /// The header's `typ` is not the one that is asked for.
-    OtherType,
-}
 
 /// Returns header and claims of a token that is accepted, at the time `time`, in seconds since
 /// 1970-01-01 00:00:00 UTC, or why it is not. If a type is asked for, the header has to have it. If

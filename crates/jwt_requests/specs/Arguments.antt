@@ -14,17 +14,17 @@ use Rattle.jwt_base.specs.Algorithm.{algorithm_named, family_of}
 use Rattle.jwt_base.specs.declared.algorithms.AlgorithmFamily.TheVariants.{Hmac}
 use Rattle.jwt_params.specs.declared.thumbprints.ThumbprintHash.{ThumbprintHash}
 use Rattle.jwt_params.specs.declared.thumbprints.ThumbprintHash.TheVariants.{SHA256, SHA384, SHA512}
-use Rattle.jwt_command.specs.declared.request.Checks.{Checks}
-use Rattle.jwt_command.specs.declared.request.Draft.{Draft}
-use Rattle.jwt_command.specs.declared.request.KeyFile.{KeyFile}
-use Rattle.jwt_command.specs.declared.request.KeyFile.TheVariants as file
-use Rattle.jwt_command.specs.declared.request.Request.{Request}
-use Rattle.jwt_command.specs.declared.request.Request.TheVariants.{Verify, Explain, Show, Sign, SigningInput, Attach}
-use Rattle.jwt_command.specs.declared.request.Request.TheVariants.{Keys, Jwk, Thumbprint}
-use Rattle.jwt_command.specs.declared.request.SecretFile.{SecretFile}
-use Rattle.jwt_command.specs.declared.request.ShowArgs.{ShowArgs}
-use Rattle.jwt_command.specs.declared.request.SignArgs.{SignArgs}
-use Rattle.jwt_command.specs.declared.request.VerifyArgs.{VerifyArgs}
+use Rattle.jwt_requests.specs.declared.request.Checks.{Checks}
+use Rattle.jwt_requests.specs.declared.request.Draft.{Draft}
+use Rattle.jwt_requests.specs.declared.request.KeyFile.{KeyFile}
+use Rattle.jwt_requests.specs.declared.request.KeyFile.TheVariants as file
+use Rattle.jwt_requests.specs.declared.request.Request.{Request}
+use Rattle.jwt_requests.specs.declared.request.Request.TheVariants.{Verify, Explain, Show, Sign, SigningInput, Attach}
+use Rattle.jwt_requests.specs.declared.request.Request.TheVariants.{Keys, Jwk, Thumbprint}
+use Rattle.jwt_requests.specs.declared.request.SecretFile.{SecretFile}
+use Rattle.jwt_requests.specs.declared.request.ShowArgs.{ShowArgs}
+use Rattle.jwt_requests.specs.declared.request.SignArgs.{SignArgs}
+use Rattle.jwt_requests.specs.declared.request.VerifyArgs.{VerifyArgs}
 
 -- the text that a reference points to, if there is one
 abbrev pub text_of : Option (Bor (List ℕ)) → Option (List ℕ)

@@ -1,8 +1,8 @@
 //! Findings about the parts of a token: their contents and those that a failed test asks for.
 
-use crate::explain::findings::{Finding, part_value, quote};
-use crate::explain::wrappings::wrapping_of;
-use crate::fault::{Fault, value_unless_refused};
+use crate::attempts::value_unless_refused;
+use crate::findings::{Finding, part_value, quote};
+use crate::wrappings::wrapping_of;
 use jsonwebtoken::errors::Error;
 use jsonwebtoken::{Test, decode_header};
 use jwt_base::serialization::part_bytes;
@@ -31,7 +31,7 @@ pub fn split_parts(token: &[u8]) -> Option<Parts<'_>> {
 }
 
 /// Returns the finding of a text that is not three parts.
-pub fn text_finding(alloc: Global, token: &[u8]) -> Result<Finding, Fault<'static>> {
+pub fn text_finding(alloc: Global, token: &[u8]) -> Result<Finding, AllocError> {
     if let Some(found) = wrapping_of(token) {
         return Finding::new(alloc, found.found, found.wanted);
     }
@@ -68,7 +68,7 @@ pub fn text_finding(alloc: Global, token: &[u8]) -> Result<Finding, Fault<'stati
 }
 
 /// Returns whether the text before the first dot is a JSON object in base64url.
-fn begins_with_header(alloc: Global, token: &[u8]) -> Result<bool, Fault<'static>> {
+fn begins_with_header(alloc: Global, token: &[u8]) -> Result<bool, AllocError> {
     let Some(front) = token.split(|byte| *byte == b'.').next() else {
         return Ok(false);
     };
@@ -106,7 +106,7 @@ pub fn part_finding(
     token: &[u8],
     part: &[u8],
     test: Test,
-) -> Result<Finding, Fault<'static>> {
+) -> Result<Finding, AllocError> {
     if let Test::HeaderIsPart
     | Test::HeaderIsJson
     | Test::SignatureIsPart
@@ -145,7 +145,7 @@ fn is_no_header(part: &[u8]) -> bool {
         && !part.starts_with(b"D")
 }
 
-fn no_header(alloc: Global) -> Result<Finding, Fault<'static>> {
+fn no_header(alloc: Global) -> Result<Finding, AllocError> {
     Finding::new(
         alloc,
         "a first part that is no header, which begins with 'eyJ'",
@@ -169,7 +169,7 @@ fn json_problem(part: &[u8]) -> &'static str {
 }
 
 /// Returns the finding of a text whose header or claims can't be read.
-pub fn unread_finding(alloc: Global, token: &[u8]) -> Result<Finding, Fault<'static>> {
+pub fn unread_finding(alloc: Global, token: &[u8]) -> Result<Finding, AllocError> {
     let Some(parts) = split_parts(token) else {
         return text_finding(alloc, token);
     };
@@ -185,7 +185,7 @@ pub fn unread_finding(alloc: Global, token: &[u8]) -> Result<Finding, Fault<'sta
 
 /// Returns the finding of a payload that no claims were written as, so that it was changed after
 /// the signature was made over it.
-pub fn altered_finding(alloc: Global, payload: &[u8]) -> Result<Option<Finding>, Fault<'static>> {
+pub fn altered_finding(alloc: Global, payload: &[u8]) -> Result<Option<Finding>, AllocError> {
     if payload.is_empty() {
         return Ok(Some(Finding::new(
             alloc,
@@ -210,7 +210,7 @@ pub fn altered_finding(alloc: Global, payload: &[u8]) -> Result<Option<Finding>,
 }
 
 /// Returns the name of the type of a part's value.
-fn type_text(alloc: Global, part: &[u8]) -> Result<String, Fault<'static>> {
+fn type_text(alloc: Global, part: &[u8]) -> Result<String, AllocError> {
     let name = match part_value(alloc, part)? {
         Some(value) => {
             let name = type_name(&value);
@@ -224,7 +224,7 @@ fn type_text(alloc: Global, part: &[u8]) -> Result<String, Fault<'static>> {
 }
 
 /// Returns the finding of a part whose value is not a header.
-fn header_finding(alloc: Global, part: &[u8]) -> Result<Finding, Fault<'static>> {
+fn header_finding(alloc: Global, part: &[u8]) -> Result<Finding, AllocError> {
     match part_value(alloc, part)? {
         Some(value) => {
             let found = header_problem(alloc, &value);
@@ -350,7 +350,7 @@ fn header_cure(header: &Value) -> &'static str {
 }
 
 /// Returns the first test of a header that can't be read, or `None` if it can.
-fn header_test(alloc: Global, token: &[u8], header: &[u8]) -> Result<Option<Test>, Fault<'static>> {
+fn header_test(alloc: Global, token: &[u8], header: &[u8]) -> Result<Option<Test>, AllocError> {
     if is_refused(part_bytes(alloc, header))? {
         return Ok(Some(Test::HeaderIsPart));
     }
@@ -363,7 +363,7 @@ fn header_test(alloc: Global, token: &[u8], header: &[u8]) -> Result<Option<Test
     Ok(None)
 }
 
-fn is_refused<R: Drop>(made: Result<R, Error>) -> Result<bool, Fault<'static>> {
+fn is_refused<R: Drop>(made: Result<R, Error>) -> Result<bool, AllocError> {
     let value = value_unless_refused(made)?;
     Ok(value.is_none())
 }

@@ -1,7 +1,7 @@
 use Rattle.std.proofs.Common.{sym}
 use Rattle.std.proofs.lemmas.Result.{IfOk-weaker}
 use Rattle.clap.specs.Matches.{found_of}
-use Rattle.jwt_command.proofs.request.parse_request.Goals as goal
+use Rattle.jwt_requests.proofs.request.parse_request.Goals as goal
 
 pub returns-in-Some : goal.returns-in-Some
 returns-in-Some c =

@@ -3,7 +3,7 @@
 ghost use Rattle.std.specs.Prelude.{◌≡◌, ◌⊎◌, ◌↔◌, IsTrue, Ok, Err, Some, None};
 ghost use Rattle.jwt_base.specs.KindOf.{IsMemory};
 
-use jsonwebtoken::errors::{Error, ErrorKind};
+use jwt_base::errors::{Error, ErrorKind};
 use std::alloc::{AllocError, AllocFailed};
 
 /// The reason for which there is no answer.

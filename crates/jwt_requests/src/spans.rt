@@ -4,7 +4,7 @@
 // number, since the kit's `jiff` states nothing of dates and spans.
 
 ghost use Rattle.std.specs.Prelude.{◌≡◌, ℕ, Some};
-ghost use Rattle.jwt_command.specs.Arguments.{decimal_value};
+ghost use Rattle.jwt_requests.specs.Arguments.{decimal_value};
 
 use jiff::{SignedDuration, Timestamp};
 

@@ -1,8 +1,7 @@
 //! The contents of a text that is not a token as it stands: those of its parts that are JSON.
 
-use crate::explain::findings::part_value;
-use crate::explain::wrappings::is_encrypted;
-use crate::fault::Fault;
+use crate::findings::part_value;
+use crate::wrappings::is_encrypted;
 use serde_json::Value;
 use std::alloc::{AllocError, Global};
 
@@ -17,7 +16,7 @@ pub struct Salvage {
 
 /// Returns the header and the claims of a text, of which nothing is verified, as far as they are
 /// JSON in base64url. Text around a token is left out, such as quotes or the word Bearer.
-pub fn salvage_of(alloc: Global, text: &[u8]) -> Result<Salvage, Fault<'static>> {
+pub fn salvage_of(alloc: Global, text: &[u8]) -> Result<Salvage, AllocError> {
     let token = decode_url(alloc, likely_token(text))?;
     let is_encrypted = is_encrypted(&token);
     let mut parts = token.split(|byte| *byte == b'.');
@@ -109,7 +108,7 @@ fn has_dot(run: &[u8]) -> bool {
             .any(|window| window.eq_ignore_ascii_case(b"%2e"))
 }
 
-fn value_of(alloc: Global, part: Option<&[u8]>) -> Result<Option<Value>, Fault<'static>> {
+fn value_of(alloc: Global, part: Option<&[u8]>) -> Result<Option<Value>, AllocError> {
     match part {
         Some(part) => part_value(alloc, &plain_part(alloc, part)?),
         None => Ok(None),

@@ -1,54 +1,15 @@
 //! How an explanation is written.
 
-use crate::explain::claim_findings::ClaimFailure;
-use crate::explain::findings::Finding;
-use crate::explain::orders::{TYPE_AGREES, sentence};
-use crate::fault::Fault;
+use crate::claim_findings::ClaimFailure;
+use crate::explanation::Explanation;
+use crate::findings::Finding;
+use crate::outcomes::{Outcome, first_finding};
+use crate::sentences::{TYPE_AGREES, sentence};
 use crate::times::{distance_text, time_text};
 use jsonwebtoken::{Moments, Test};
 use serde_json::{Map, Value};
 use std::alloc::{AllocError, Global};
 use std::slice;
-
-/// The result of the tests of a token.
-#[derive(Drop)]
-pub enum Outcome {
-    /// Each test passes.
-    Accepted,
-    /// This is the first test that fails, with one finding or more.
-    Failed(Test, Vec<Finding>),
-    /// Each test of the library passes, but the token's type is not the one that is asked for.
-    OtherType(Finding),
-}
-
-/// Why a token is accepted or refused, and when it is accepted.
-#[derive(Drop)]
-pub struct Explanation<'e> {
-    /// The tests in their order.
-    pub order: &'e [Test],
-    pub outcome: Outcome,
-    /// The kind of the refusal, if there is one.
-    pub kind: Option<&'e str>,
-    /// The times at which each test passes.
-    pub moments: Option<Moments>,
-    /// The time of the tests, in seconds since 1970-01-01 00:00:00 UTC.
-    pub time: u64,
-    /// Lines about the claims that are times.
-    pub times: String,
-    /// The refusal under strict options, if the token is accepted without them.
-    pub strict: Option<ClaimFailure>,
-}
-
-/// How an explanation is written.
-#[derive(Clone, Copy)]
-pub enum ExplanationForm {
-    /// A line for each test, and the verdict.
-    Page,
-    /// The verdict, its cause and its cure.
-    Brief,
-    /// One line of JSON.
-    Json,
-}
 
 /// The word before the name of a test that fails.
 const FAILED: &str = "FAILED";
@@ -81,7 +42,7 @@ pub fn brief_page(alloc: Global, explanation: &Explanation<'_>) -> Result<String
 }
 
 /// Returns an explanation as one line of JSON.
-pub fn json_line(alloc: Global, explanation: &Explanation<'_>) -> Result<String, Fault<'static>> {
+pub fn json_line(alloc: Global, explanation: &Explanation<'_>) -> Result<String, AllocError> {
     let mut members = Map::new(alloc);
     put_member(
         alloc,
@@ -209,15 +170,6 @@ fn last_line(alloc: Global, explanation: &Explanation<'_>) -> Result<String, All
             &strict.finding,
         ),
         None => Ok(String::new(alloc)),
-    }
-}
-
-/// Returns the finding that a token is refused for.
-pub fn first_finding(outcome: &Outcome) -> Option<&Finding> {
-    match outcome {
-        Outcome::Accepted => None,
-        Outcome::Failed(_, findings) => findings.first(),
-        Outcome::OtherType(finding) => Some(finding),
     }
 }
 

@@ -1,6 +1,6 @@
 use Rattle.std.proofs.Common.{◌≡◌, Some, map, take}
 use Rattle.jwt_base.specs.Algorithm.{algorithm_named}
-use Rattle.jwt_command.proofs.request.algorithms_named.Given as goal
+use Rattle.jwt_requests.proofs.request.algorithms_named.Given as goal
 
 -- the algorithms of the names so far
 abbrev pub invariant-loop-name : goal.invariant-loop-name

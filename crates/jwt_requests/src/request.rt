@@ -5,22 +5,18 @@ ghost use Rattle.std.specs.Prelude.{option_map};
 ghost use Rattle.clap.specs.Matches.{found_of, first_value};
 ghost use Rattle.jwt_base.specs.Algorithm.{algorithm_named, family_of};
 ghost use Rattle.jwt_base.specs.declared.algorithms.AlgorithmFamily.TheVariants.{Hmac};
-ghost use Rattle.jwt_command.specs.Arguments.{AreChecks, AreLinesAsked, IsChecking, IsCommand, IsFile};
-ghost use Rattle.jwt_command.specs.Arguments.{IsFlag};
-ghost use Rattle.jwt_command.specs.Arguments.{IsDraftOf, IsHash, IsKeyFile, IsKeyGiven, IsNumberOf};
-ghost use Rattle.jwt_command.specs.Arguments.{IsRequestOf};
-ghost use Rattle.jwt_command.specs.Arguments.{IsRequirable, IsSecretFile, IsShowing, IsSigningOf};
-ghost use Rattle.jwt_command.specs.Arguments.{texts_of};
-
-pub(crate) mod arguments;
-pub(crate) mod spans;
+ghost use Rattle.jwt_requests.specs.Arguments.{AreChecks, AreLinesAsked, IsChecking, IsCommand, IsFile};
+ghost use Rattle.jwt_requests.specs.Arguments.{IsFlag};
+ghost use Rattle.jwt_requests.specs.Arguments.{IsDraftOf, IsHash, IsKeyFile, IsKeyGiven, IsNumberOf};
+ghost use Rattle.jwt_requests.specs.Arguments.{IsRequestOf};
+ghost use Rattle.jwt_requests.specs.Arguments.{IsRequirable, IsSecretFile, IsShowing, IsSigningOf};
+ghost use Rattle.jwt_requests.specs.Arguments.{texts_of};
 
 use crate::fault::Fault;
-use crate::request::spans::{parse_span, parse_time};
-use crate::sign::by_signature::is_of_secret;
+use crate::spans::{parse_span, parse_time};
 use clap::ArgMatches;
-use jsonwebtoken::Algorithm;
-use jsonwebtoken::jwk::ThumbprintHash;
+use jwt_base::algorithms::{Algorithm, AlgorithmFamily};
+use jwt_params::thumbprints::ThumbprintHash;
 use std::alloc::Global;
 
 /// The file of a secret.
@@ -472,6 +468,13 @@ fn parse_signing_input<'a>(matches: &ArgMatches<'a>) -> Result<Draft<'a>, Fault<
         return Err(Fault::Usage("--signing-input wants --alg with RSA or a curve, such as RS256"));
     }
     Ok(draft)
+}
+
+/// Returns whether a secret signs with the algorithm.
+pub fn is_of_secret(algorithm: Algorithm) -> bool
+    ensures { IsTrue result ↔ family_of algorithm ≡ Hmac }
+{
+    matches!(algorithm.family(), AlgorithmFamily::Hmac)
 }
 
 fn parse_sign_by_secret<'a>(matches: &ArgMatches<'a>) -> Result<SignArgs<'a>, Fault<'static>>

@@ -1,18 +1,17 @@
 //! Findings: the contents of a token and those that a failed test asks for.
 
-use crate::explain::claim_findings::claim_findings;
-use crate::explain::part_findings::{
+use crate::attempts::value_unless_refused;
+use crate::checked::{CheckedKeys, CheckedToken};
+use crate::claim_findings::claim_findings;
+use crate::part_findings::{
     Parts, altered_finding, is_of_base64url, part_finding, split_parts, text_finding,
 };
-use crate::explain::signature_findings::length_finding;
-use crate::fault::{Fault, value_unless_refused};
-use crate::verify::case::Case;
+use crate::signature_findings::length_finding;
 use jsonwebtoken::jwk::JwkSet;
 use jsonwebtoken::{
     Algorithm, AlgorithmFamily, Header, Refusal, Test, Text, Validation, decode_header,
 };
 use jwt_base::serialization::{json_value, part_bytes};
-use jwt_verifier::Keys;
 use serde_json::Value;
 use std::alloc::{AllocError, Global};
 
@@ -25,7 +24,7 @@ pub struct Finding {
 
 impl Finding {
     /// Returns the finding of these two sentences.
-    pub fn new(alloc: Global, found: &str, wanted: &str) -> Result<Finding, Fault<'static>> {
+    pub fn new(alloc: Global, found: &str, wanted: &str) -> Result<Finding, AllocError> {
         Ok(Finding {
             found: String::from_str(alloc, found)?,
             wanted: String::from_str(alloc, wanted)?,
@@ -69,7 +68,7 @@ pub fn choice(alloc: Global, names: &[String]) -> Result<String, AllocError> {
 }
 
 /// Returns the value of a part, or `None` if it is not base64url or not JSON.
-pub fn part_value(alloc: Global, part: &[u8]) -> Result<Option<Value>, Fault<'static>> {
+pub fn part_value(alloc: Global, part: &[u8]) -> Result<Option<Value>, AllocError> {
     match value_unless_refused(part_bytes(alloc, part))? {
         Some(bytes) => value_unless_refused(json_value(alloc, &bytes)),
         None => Ok(None),
@@ -80,27 +79,27 @@ pub fn part_value(alloc: Global, part: &[u8]) -> Result<Option<Value>, Fault<'st
 /// fails.
 pub fn findings_of(
     alloc: Global,
-    case: Case<'_>,
+    token: CheckedToken<'_>,
     validation: &Validation,
     refusal: &Refusal,
-) -> Result<Vec<Finding>, Fault<'static>> {
-    if let (Test::ClaimRulesHold, Some(parts)) = (refusal.test, split_parts(case.token)) {
-        return claim_findings(alloc, parts.payload, validation, case.time);
+) -> Result<Vec<Finding>, AllocError> {
+    if let (Test::ClaimRulesHold, Some(parts)) = (refusal.test, split_parts(token.text)) {
+        return claim_findings(alloc, parts.payload, validation, token.time);
     }
     let mut findings = Vec::new(alloc);
-    findings.push(finding_of(alloc, case, validation, refusal.test)?)?;
+    findings.push(finding_of(alloc, token, validation, refusal.test)?)?;
     Ok(findings)
 }
 
 /// Returns the finding of a test other than that of the claim rules.
 fn finding_of(
     alloc: Global,
-    case: Case<'_>,
+    token: CheckedToken<'_>,
     validation: &Validation,
     test: Test,
-) -> Result<Finding, Fault<'static>> {
-    let Some(parts) = split_parts(case.token) else {
-        return text_finding(alloc, case.token);
+) -> Result<Finding, AllocError> {
+    let Some(parts) = split_parts(token.text) else {
+        return text_finding(alloc, token.text);
     };
     match test {
         Test::HeaderIsPart
@@ -110,7 +109,7 @@ fn finding_of(
         | Test::PayloadIsPart
         | Test::PayloadIsJson
         | Test::ClaimsRead
-        | Test::ClaimsAreAnObject => finding_by_part(alloc, case, parts, test),
+        | Test::ClaimsAreAnObject => finding_by_part(alloc, token, parts, test),
         Test::KeyIsUsable => Finding::new(
             alloc,
             "a key whose members are malformed, or that verifies nothing here",
@@ -121,48 +120,48 @@ fn finding_of(
             "no algorithm that is accepted",
             "--alg, or a key with an 'alg' of its own",
         ),
-        Test::SignatureIsAccepted => signature_finding(alloc, case, parts),
-        _ => finding_by_header(alloc, case, validation, test),
+        Test::SignatureIsAccepted => signature_finding(alloc, token, parts),
+        _ => finding_by_header(alloc, token, validation, test),
     }
 }
 
 /// Returns the finding of a test of the whole text or of a part.
 fn finding_by_part(
     alloc: Global,
-    case: Case<'_>,
+    token: CheckedToken<'_>,
     parts: Parts<'_>,
     test: Test,
-) -> Result<Finding, Fault<'static>> {
+) -> Result<Finding, AllocError> {
     match test {
         Test::HeaderIsPart | Test::HeaderIsJson | Test::HeaderReads => {
-            part_finding(alloc, case.token, parts.header, test)
+            part_finding(alloc, token.text, parts.header, test)
         }
-        Test::SignatureIsPart => signature_part_finding(alloc, case, parts),
-        _ => part_finding(alloc, case.token, parts.payload, test),
+        Test::SignatureIsPart => signature_part_finding(alloc, token, parts),
+        _ => part_finding(alloc, token.text, parts.payload, test),
     }
 }
 
 /// Returns the finding of a signature part that is not base64url.
 fn signature_part_finding(
     alloc: Global,
-    case: Case<'_>,
+    token: CheckedToken<'_>,
     parts: Parts<'_>,
-) -> Result<Finding, Fault<'static>> {
+) -> Result<Finding, AllocError> {
     if parts.signature.iter().all(|byte| is_of_base64url(*byte))
-        && let Some(finding) = length_finding(alloc, case, parts)?
+        && let Some(finding) = length_finding(alloc, token, parts)?
     {
         return Ok(finding);
     }
-    part_finding(alloc, case.token, parts.signature, Test::SignatureIsPart)
+    part_finding(alloc, token.text, parts.signature, Test::SignatureIsPart)
 }
 
 /// Returns the finding of a signature that is not accepted.
 fn signature_finding(
     alloc: Global,
-    case: Case<'_>,
+    token: CheckedToken<'_>,
     parts: Parts<'_>,
-) -> Result<Finding, Fault<'static>> {
-    if let Some(finding) = length_finding(alloc, case, parts)? {
+) -> Result<Finding, AllocError> {
+    if let Some(finding) = length_finding(alloc, token, parts)? {
         return Ok(finding);
     }
     if let Some(finding) = altered_finding(alloc, parts.payload)? {
@@ -171,18 +170,18 @@ fn signature_finding(
     Finding::new(
         alloc,
         "a signature that does not match this header, payload and key",
-        wanted_key(alloc, case)?,
+        wanted_key(alloc, token)?,
     )
 }
 
 /// Returns what a signature that does not match asks for, which the keys tell.
-fn wanted_key(alloc: Global, case: Case<'_>) -> Result<&'static str, Fault<'static>> {
-    if case.loaded.has_line_end {
+fn wanted_key(alloc: Global, token: CheckedToken<'_>) -> Result<&'static str, AllocError> {
+    if token.has_line_end {
         return Ok(
             "the secret that it was signed with: the file ends with a newline, which --trim leaves out",
         );
     }
-    if is_named_twice(alloc, case)? {
+    if is_named_twice(alloc, token)? {
         return Ok(
             "the key that the token was signed with, as the first of its kid: the set has another key of this kid, which is never tried",
         );
@@ -191,11 +190,11 @@ fn wanted_key(alloc: Global, case: Case<'_>) -> Result<&'static str, Fault<'stat
 }
 
 /// Returns whether several keys of a set have the `kid` of the token.
-fn is_named_twice(alloc: Global, case: Case<'_>) -> Result<bool, Fault<'static>> {
-    let Keys::Set(set) = case.loaded.keys.keys() else {
+fn is_named_twice(alloc: Global, token: CheckedToken<'_>) -> Result<bool, AllocError> {
+    let CheckedKeys::Set(set) = token.keys else {
         return Ok(false);
     };
-    match value_unless_refused(decode_header(alloc, case.token))? {
+    match value_unless_refused(decode_header(alloc, token.text))? {
         Some(header) => {
             let count = set
                 .keys
@@ -212,44 +211,44 @@ fn is_named_twice(alloc: Global, case: Case<'_>) -> Result<bool, Fault<'static>>
 
 fn finding_by_header(
     alloc: Global,
-    case: Case<'_>,
+    token: CheckedToken<'_>,
     validation: &Validation,
     test: Test,
-) -> Result<Finding, Fault<'static>> {
-    match decode_header(alloc, case.token) {
+) -> Result<Finding, AllocError> {
+    match decode_header(alloc, token.text) {
         Ok(header) => {
-            let finding = header_finding(alloc, case, validation, test, &header);
+            let finding = header_finding(alloc, token, validation, test, &header);
             // one drop
             drop(header);
             finding
         }
-        Err(_) => Err(Fault::Memory),
+        Err(_) => Err(AllocError),
     }
 }
 
 /// Returns the finding of a test of the header's members.
 fn header_finding(
     alloc: Global,
-    case: Case<'_>,
+    token: CheckedToken<'_>,
     validation: &Validation,
     test: Test,
     header: &Header,
-) -> Result<Finding, Fault<'static>> {
+) -> Result<Finding, AllocError> {
     match test {
         Test::CritIsUnderstood => crit_finding(alloc, header),
-        Test::KeyIsFound => kid_finding(alloc, &header.kid, case.loaded.keys.keys()),
+        Test::KeyIsFound => kid_finding(alloc, &header.kid, token.keys),
         Test::KeyAlgorithmAgrees => algorithm_finding(
             alloc,
             header,
-            wanted_algorithm(key_algorithm_name(header, case.loaded.keys.keys())),
+            wanted_algorithm(key_algorithm_name(header, token.keys)),
         ),
         Test::AlgorithmIsListed => listing_finding(alloc, header, validation),
         Test::FamiliesAgree => family_finding(alloc, header, validation),
-        _ => verifier_finding(alloc, header, case.loaded.keys.keys()),
+        _ => verifier_finding(alloc, header, token.keys),
     }
 }
 
-fn crit_finding(alloc: Global, header: &Header) -> Result<Finding, Fault<'static>> {
+fn crit_finding(alloc: Global, header: &Header) -> Result<Finding, AllocError> {
     let names = crit_names(alloc, header)?;
     let listed = if names.is_empty() {
         "nothing"
@@ -275,14 +274,18 @@ fn crit_names(alloc: Global, header: &Header) -> Result<String, AllocError> {
     choice(alloc, &names)
 }
 
-fn kid_finding(alloc: Global, kid: &Option<Text>, keys: &Keys) -> Result<Finding, Fault<'static>> {
+fn kid_finding(
+    alloc: Global,
+    kid: &Option<Text>,
+    keys: CheckedKeys<'_>,
+) -> Result<Finding, AllocError> {
     let found = match kid {
         Some(kid) => format!(in alloc; "the kid {}", quote(alloc, kid.as_str())?)?,
         None => String::from_str(alloc, "a header without a kid")?,
     };
     let names = match keys {
-        Keys::Set(set) => kid_names(alloc, set)?,
-        Keys::One(_) => String::new(alloc),
+        CheckedKeys::Set(set) => kid_names(alloc, set)?,
+        CheckedKeys::One(_) => String::new(alloc),
     };
     let wanted = if names.is_empty() {
         String::from_str(alloc, "the kid of a key of the set, of which none has one")?
@@ -302,11 +305,7 @@ fn kid_names(alloc: Global, set: &JwkSet) -> Result<String, AllocError> {
     choice(alloc, &names)
 }
 
-fn algorithm_finding(
-    alloc: Global,
-    header: &Header,
-    wanted: &str,
-) -> Result<Finding, Fault<'static>> {
+fn algorithm_finding(alloc: Global, header: &Header, wanted: &str) -> Result<Finding, AllocError> {
     Ok(Finding {
         found: format!(in alloc; "the algorithm {}", header.alg.name())?,
         wanted: String::from_str(alloc, wanted)?,
@@ -314,8 +313,8 @@ fn algorithm_finding(
 }
 
 /// Returns the name of the algorithm that the key of a set is for.
-fn key_algorithm_name(header: &Header, keys: &Keys) -> &'static str {
-    let (Some(kid), Keys::Set(set)) = (&header.kid, keys) else {
+fn key_algorithm_name(header: &Header, keys: CheckedKeys<'_>) -> &'static str {
+    let (Some(kid), CheckedKeys::Set(set)) = (&header.kid, keys) else {
         return "none";
     };
     match set.find(kid.as_str()) {
@@ -342,7 +341,7 @@ fn listing_finding(
     alloc: Global,
     header: &Header,
     validation: &Validation,
-) -> Result<Finding, Fault<'static>> {
+) -> Result<Finding, AllocError> {
     let names = algorithm_names(alloc, &validation.algorithms)?;
     algorithm_finding(alloc, header, names.as_str())
 }
@@ -359,7 +358,7 @@ fn family_finding(
     alloc: Global,
     header: &Header,
     validation: &Validation,
-) -> Result<Finding, Fault<'static>> {
+) -> Result<Finding, AllocError> {
     let names = algorithm_names(alloc, &validation.algorithms)?;
     Ok(Finding {
         found: format!(in alloc; "{names} are accepted, of different families")?,
@@ -370,11 +369,11 @@ fn family_finding(
 fn verifier_finding(
     alloc: Global,
     header: &Header,
-    keys: &Keys,
-) -> Result<Finding, Fault<'static>> {
+    keys: CheckedKeys<'_>,
+) -> Result<Finding, AllocError> {
     let found = match keys {
-        Keys::One(key) => key_name(key.family()),
-        Keys::Set(_) => "a key of the set that does not fit",
+        CheckedKeys::One(key) => key_name(key.family()),
+        CheckedKeys::Set(_) => "a key of the set that does not fit",
     };
     Ok(Finding {
         found: String::from_str(alloc, found)?,

@@ -1,15 +1,14 @@
 //! Findings about the signature of a token: its number of bytes and that of a signature by the
 //! key.
 
-use crate::explain::findings::Finding;
-use crate::explain::part_findings::Parts;
-use crate::fault::{Fault, value_unless_refused};
-use crate::verify::case::Case;
+use crate::attempts::value_unless_refused;
+use crate::checked::{CheckedKeys, CheckedToken};
+use crate::findings::Finding;
+use crate::part_findings::Parts;
 use jsonwebtoken::{
     Algorithm, AlgorithmFamily, DecodingKey, DecodingKeyKind, Header, decode_header,
 };
 use jwt_base::serialization::part_bytes;
-use jwt_verifier::Keys;
 use std::alloc::{AllocError, Global};
 
 /// The number of bytes of which the usual sizes of RSA keys are multiples.
@@ -29,10 +28,10 @@ struct Lengths {
 /// Returns the finding of a signature whose length is not that of one by the key, if it is not.
 pub fn length_finding(
     alloc: Global,
-    case: Case<'_>,
+    token: CheckedToken<'_>,
     parts: Parts<'_>,
-) -> Result<Option<Finding>, Fault<'static>> {
-    let Some(lengths) = lengths_of(alloc, case, parts)? else {
+) -> Result<Option<Finding>, AllocError> {
+    let Some(lengths) = lengths_of(alloc, token, parts)? else {
         return Ok(None);
     };
     if lengths.found == lengths.made {
@@ -60,14 +59,14 @@ pub fn length_finding(
 
 fn lengths_of(
     alloc: Global,
-    case: Case<'_>,
+    token: CheckedToken<'_>,
     parts: Parts<'_>,
-) -> Result<Option<Lengths>, Fault<'static>> {
-    let Some(header) = value_unless_refused(decode_header(alloc, case.token))? else {
+) -> Result<Option<Lengths>, AllocError> {
+    let Some(header) = value_unless_refused(decode_header(alloc, token.text))? else {
         return Ok(None);
     };
     let algorithm = header.alg;
-    let made = length_for(alloc, &header, case.loaded.keys.keys());
+    let made = length_for(alloc, &header, token.keys);
     // one drop
     drop(header);
     Ok(made?.map(|made| Lengths {
@@ -77,10 +76,14 @@ fn lengths_of(
     }))
 }
 
-fn length_for(alloc: Global, header: &Header, keys: &Keys) -> Result<Option<u64>, Fault<'static>> {
+fn length_for(
+    alloc: Global,
+    header: &Header,
+    keys: CheckedKeys<'_>,
+) -> Result<Option<u64>, AllocError> {
     match keys {
-        Keys::One(key) => Ok(length_by(header.alg, key)),
-        Keys::Set(_) => length_by_set(alloc, header, keys),
+        CheckedKeys::One(key) => Ok(length_by(header.alg, key)),
+        CheckedKeys::Set(_) => length_by_set(alloc, header, keys),
     }
 }
 
@@ -111,9 +114,9 @@ fn modulus_length(key: &DecodingKey) -> Option<u64> {
 fn length_by_set(
     alloc: Global,
     header: &Header,
-    keys: &Keys,
-) -> Result<Option<u64>, Fault<'static>> {
-    let (Some(kid), Keys::Set(set)) = (&header.kid, keys) else {
+    keys: CheckedKeys<'_>,
+) -> Result<Option<u64>, AllocError> {
+    let (Some(kid), CheckedKeys::Set(set)) = (&header.kid, keys) else {
         return Ok(None);
     };
     let Some(jwk) = set.find(kid.as_str()) else {
@@ -144,7 +147,7 @@ fn is_hexadecimal(signature: &[u8], count: u64) -> bool {
 
 /// Returns whether a signature looks like one of an elliptic curve in DER: a sequence of two
 /// numbers.
-fn is_der(alloc: Global, signature: &[u8], algorithm: Algorithm) -> Result<bool, Fault<'static>> {
+fn is_der(alloc: Global, signature: &[u8], algorithm: Algorithm) -> Result<bool, AllocError> {
     if !matches!(algorithm, Algorithm::ES256 | Algorithm::ES384) {
         return Ok(false);
     }

@@ -1,8 +1,17 @@
 //! Refusals in sentences.
 
-use crate::verify::verdict::TokenRefusal;
+use jsonwebtoken::Refusal;
 use jsonwebtoken::errors::{Error, ErrorKind};
 use std::alloc::{AllocError, Global};
+
+/// The reason for which a token is not accepted.
+#[derive(Drop)]
+pub enum TokenRefusal {
+    /// A test of the library failed.
+    Refused(Refusal),
+    /// The header's `typ` is not the one that is asked for.
+    OtherType,
+}
 
 /// Returns the name of a refusal: the kind of its error, or that of another type.
 pub fn refusal_name(reason: &TokenRefusal) -> &'static str {

@@ -1,8 +1,7 @@
 //! Findings about claims: those that a token has and those that the options ask for.
 
-use crate::explain::findings::{Finding, choice, part_value, quote};
-use crate::explain::part_findings::type_name;
-use crate::fault::Fault;
+use crate::findings::{Finding, choice, part_value, quote};
+use crate::part_findings::type_name;
 use crate::times::{distance_text, is_likely_milliseconds, span_text, time_text};
 use jsonwebtoken::Validation;
 use jsonwebtoken::options::{Rule, broken_rules};
@@ -36,7 +35,7 @@ pub fn claim_failures(
     claims: &Value,
     validation: &Validation,
     time: u64,
-) -> Result<Vec<ClaimFailure>, Fault<'static>> {
+) -> Result<Vec<ClaimFailure>, AllocError> {
     let rules = Rules {
         claims,
         validation,
@@ -54,9 +53,9 @@ pub fn claim_findings(
     payload: &[u8],
     validation: &Validation,
     time: u64,
-) -> Result<Vec<Finding>, Fault<'static>> {
+) -> Result<Vec<Finding>, AllocError> {
     let Some(claims) = part_value(alloc, payload)? else {
-        return Err(Fault::Memory);
+        return Err(AllocError);
     };
     let failures = claim_failures(alloc, &claims, validation, time);
     // one drop
@@ -106,10 +105,10 @@ fn push_broken(
     alloc: Global,
     rules: Rules<'_>,
     failures: &mut Vec<ClaimFailure>,
-) -> Result<(), Fault<'static>> {
+) -> Result<(), AllocError> {
     // the only refusal is `OutOfMemory`
     let Ok(broken) = broken_rules(alloc, rules.claims, rules.validation, rules.time) else {
-        return Err(Fault::Memory);
+        return Err(AllocError);
     };
     for rule in broken {
         if !is_missing(rules, claim_of(rule)) {

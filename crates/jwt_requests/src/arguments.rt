@@ -62,10 +62,20 @@ pub fn command<'a>(alloc: Global) -> Result<Command<'a>, AllocError> {
         .about("Verify, explain, show and sign JSON Web Tokens")
         .subcommand_required(true)
         .arg_required_else_help(true);
+    let command = add_token_commands(alloc, command)?;
+    add_key_commands(alloc, command)
+}
+
+/// Adds the commands that take or make a token.
+fn add_token_commands<'a>(alloc: Global, command: Command<'a>) -> Result<Command<'a>, AllocError> {
     let command = add_subcommand(command, verify_command(alloc))?;
     let command = add_subcommand(command, explain_command(alloc))?;
     let command = add_subcommand(command, show_command(alloc))?;
-    let command = add_subcommand(command, sign_command(alloc))?;
+    add_subcommand(command, sign_command(alloc))
+}
+
+/// Adds the commands that take keys alone.
+fn add_key_commands<'a>(alloc: Global, command: Command<'a>) -> Result<Command<'a>, AllocError> {
     let command = add_subcommand(command, keys_command(alloc))?;
     let command = add_subcommand(command, jwk_command(alloc))?;
     add_subcommand(command, thumbprint_command(alloc))
@@ -128,7 +138,7 @@ fn argument<'a>(alloc: Global, entry: Entry) -> Arg<'a> {
 
 fn add_keys<'a>(alloc: Global, command: Command<'a>) -> Result<Command<'a>, AllocError> {
     let command = add_entries(alloc, command, &key_entries())?;
-    command.group(key_group(alloc)?)
+    add_group(command, key_group(alloc))
 }
 
 fn key_entries() -> [Entry; 6] {
@@ -254,6 +264,34 @@ fn add_subcommand<'a>(
     }
 }
 
+/// Adds an argument to a command, if there was memory for it.
+fn add_argument<'a>(
+    command: Command<'a>,
+    added: Result<Arg<'a>, AllocError>,
+) -> Result<Command<'a>, AllocError> {
+    match added {
+        Ok(added) => command.arg(added),
+        Err(error) => {
+            drop(command);
+            Err(error)
+        }
+    }
+}
+
+/// Adds a group of arguments to a command, if there was memory for it.
+fn add_group<'a>(
+    command: Command<'a>,
+    added: Result<ArgGroup<'a>, AllocError>,
+) -> Result<Command<'a>, AllocError> {
+    match added {
+        Ok(added) => command.group(added),
+        Err(error) => {
+            drop(command);
+            Err(error)
+        }
+    }
+}
+
 fn verify_command<'a>(alloc: Global) -> Result<Command<'a>, AllocError> {
     let command = Command::new(alloc, "verify").about("Verify a token and print its claims");
     let command = add_checks(alloc, command)?;
@@ -289,7 +327,7 @@ fn sign_command<'a>(alloc: Global) -> Result<Command<'a>, AllocError> {
     let command = add_signers(alloc, command)?;
     let command = add_entries(alloc, command, &sign_entries())?;
     let command = add_entries(alloc, command, &signed_entries())?;
-    command.group(signed_group(alloc)?)
+    add_group(command, signed_group(alloc))
 }
 
 /// Adds the three ways to sign, of which one is needed.
@@ -299,20 +337,28 @@ fn add_signers<'a>(alloc: Global, command: Command<'a>) -> Result<Command<'a>, A
         "FILE",
         "Sign with HMAC and the bytes of this file as the secret",
     );
+    let command = add_entries(alloc, command, &[by_secret])?;
+    let command = add_argument(command, signing_input_argument(alloc))?;
+    let command = add_argument(command, signature_argument(alloc))?;
+    add_group(command, signer_group(alloc))
+}
+
+fn signing_input_argument<'a>(alloc: Global) -> Result<Arg<'a>, AllocError> {
     let input = flag(
         "signing-input",
         "Print what another program has to sign with RSA or a curve, without a line end",
     );
+    apart(argument(alloc, input), &OF_SECRETS)
+}
+
+fn signature_argument<'a>(alloc: Global) -> Result<Arg<'a>, AllocError> {
     let given = option(
         "signature",
         "FILE",
         "Print the token of the signing input on standard input and this signature, raw or in DER",
     );
-    let command = add_entries(alloc, command, &[by_secret])?;
-    let command = command.arg(apart(argument(alloc, input), &OF_SECRETS)?)?;
     let given = apart(argument(alloc, given), &OF_SECRETS)?;
-    let command = command.arg(apart(given, &OF_DRAFTS)?)?;
-    command.group(signer_group(alloc)?)
+    apart(given, &OF_DRAFTS)
 }
 
 /// Returns an argument beside which none of these may be given.
