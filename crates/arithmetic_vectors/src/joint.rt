@@ -18,10 +18,7 @@ pub fn joint<F: BaseMultiples>(
     second: &[u8],
     point: ProjectivePoint<F>,
 ) -> Option<ProjectivePoint<F>> {
-    if first.len() != second.len() {
-        return None;
-    }
-    if !point.z.is_same(F::one()) {
+    if first.len() != second.len() || !point.z.is_same(F::one()) {
         return None;
     }
     Some(joint_multiple(first, second, point))

@@ -21,9 +21,9 @@ mod points;
 mod row;
 mod signatures;
 
-use row::{Fault, Row};
+use row::Row;
 use serde_json::Value;
-use std::alloc::Global;
+use std::alloc::{AllocError, Global};
 use std::process::ExitCode;
 use std::rt::Runtime;
 use std::{fs, io};
@@ -35,18 +35,23 @@ struct Count {
     differ: usize,
 }
 
-/// Returns the difference of a row's result from the wanted one, if there is one.
-fn difference(alloc: Global, line: &str) -> Result<Option<String>, Fault> {
-    let Ok(value) = Value::from_str(alloc, line) else {
-        return Err(Fault::Unknown);
-    };
-    let row = Row::new(alloc, &value);
-    let given = calls::answer(row)?.to_string(alloc)?;
-    let wanted = row.value("want")?.to_string(alloc)?;
-    if given.as_str() == wanted.as_str() {
+/// Returns the difference of a line's result from the wanted one, if there is one.
+fn difference(alloc: Global, line: &str) -> Result<Option<String>, AllocError> {
+    match Value::from_str(alloc, line) {
+        Ok(Value::Object(members)) => difference_of(&Row::new(alloc, &members)),
+        _ => Ok(Some(String::from_str(alloc, "not a JSON object")?)),
+    }
+}
+
+fn difference_of(row: &Row<'_>) -> Result<Option<String>, AllocError> {
+    let alloc = row.alloc();
+    let given = calls::answer(row).and_then(|value| value.to_string(alloc).ok());
+    let wanted = row.wanted();
+    let fault = row.fault();
+    if fault.is_empty() && given.is_some() && given == wanted {
         return Ok(None);
     }
-    Ok(Some(format!(in alloc; "wanted {wanted}, got {given}")?))
+    Ok(Some(format!(in alloc; "wanted {wanted:?}, got {given:?} {fault}")?))
 }
 
 /// Tries the rows of a file, and prints a line for each that differs.
@@ -59,7 +64,7 @@ fn try_rows<T: Runtime + AllocGlobal>(rt: &T, file: &str, count: &mut Count) -> 
         match difference(rt.alloc(), line) {
             Ok(None) => continue,
             Ok(Some(difference)) => println!(rt; "DIFFERS: {file}:{number}: {difference}")?,
-            Err(fault) => println!(rt; "DIFFERS: {file}:{number}: {fault}")?,
+            Err(_) => println!(rt; "DIFFERS: {file}:{number}: out of memory")?,
         }
         count.differ = count.differ.saturating_add(1);
     }

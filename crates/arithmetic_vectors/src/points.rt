@@ -6,7 +6,7 @@ ghost use Rattle.std.specs.Prelude.{◌≤◌};
 
 use crate::joint::{base_point, joint};
 use crate::joint_edwards::edwards_joint_multiple;
-use crate::row::{Fault, Row};
+use crate::row::Row;
 use ecdsa::bases::BaseMultiples;
 use ecdsa::constants::{b_256, b_384};
 use ecdsa::keys::read_key;
@@ -15,96 +15,90 @@ use primes::inverses::read;
 use residues::montgomery::Montgomery;
 use residues::residue::Residue;
 use serde_json::Value;
-use std::alloc::Global;
 use weierstrass::points::{ProjectivePoint, add, double, point_at_infinity};
 
 type Residues256 = Montgomery<FieldModulus256, 4>;
 
 type Residues384 = Montgomery<FieldModulus384, 6>;
 
-/// Counts the right ones among the sums of the multiples of a point by -k to k with each other.
-/// `multiples` lists those by -2k to 2k, and the coordinates of the first of both points are
-/// multiplied by `scale`.
-pub fn right_sums(row: Row<'_>) -> Result<Value, Fault> {
-    sums_by_curve::<Residues256, Residues384>(row)
+/// Makes a call about the points of a curve. A point of Ed25519 is the hexadecimal string of its
+/// encoding (RFC 8032 section 5.1.2).
+pub fn by_curve(call: &str, row: &Row<'_>) -> Option<Value> {
+    by_residues::<Residues256, Residues384>(call, row)
 }
 
-/// Returns whether the multiple of the curve's base point by the number at `scalar` is the point at
-/// `multiple`.
-pub fn is_multiple(row: Row<'_>) -> Result<Value, Fault> {
-    multiple_by_curve::<Residues256, Residues384>(row)
-}
-
-/// Returns whether the sum of the multiple of the curve's base point by the number at `scalar` and
-/// that of the point at `other` by the number at `other_scalar` is the point at `multiple`. A point
-/// of Ed25519 is the hexadecimal string of its encoding (RFC 8032 section 5.1.2).
-pub fn is_joint_multiple(row: Row<'_>) -> Result<Value, Fault> {
-    joint_multiple_by_curve::<Residues256, Residues384>(row)
-}
-
-fn sums_by_curve<F: Field256, G: Field384>(row: Row<'_>) -> Result<Value, Fault> {
-    match row.text("curve")? {
-        "P-256" => sums::<F, 32>(row, b_256()),
-        "P-384" => sums::<G, 48>(row, b_384()),
-        _ => Err(Fault::Member("curve")),
+fn by_residues<F: Field256, G: Field384>(call: &str, row: &Row<'_>) -> Option<Value> {
+    match row.text("curve") {
+        "P-256" => on_curve::<F, 32>(call, row, b_256()),
+        "P-384" => on_curve::<G, 48>(call, row, b_384()),
+        "Ed25519" if call == "is_joint_multiple" => edwards_joint_multiple(row),
+        _ => row.refuse("curve"),
     }
 }
 
-fn sums<F: Residue, const S: usize>(row: Row<'_>, b: F) -> Result<Value, Fault>
+fn on_curve<F: BaseMultiples, const S: usize>(call: &str, row: &Row<'_>, b: F) -> Option<Value>
     requires { S ≤ 66 }
 {
-    row.takes(&["curve", "multiples", "scale"])?;
+    match call {
+        "right_sums" => sums::<F, S>(row, b),
+        "is_multiple" => multiple::<F, S>(row, b),
+        _ => joint_multiple::<F, S>(row, b),
+    }
+}
+
+// Counts the right ones among the sums of the multiples of a point by -k to k with each other.
+// `multiples` lists those by -2k to 2k, and the coordinates of the first of both points are
+// multiplied by `scale`.
+fn sums<F: Residue, const S: usize>(row: &Row<'_>, b: F) -> Option<Value>
+    requires { S ≤ 66 }
+{
+    row.takes(&["curve", "multiples", "scale"]);
     let points = multiples::<F, S>(row, b)?;
     let scale = scale::<F, S>(row)?;
-    Ok(Value::from(count_sums(b, points.as_slice(), scale)))
+    Some(Value::from(count_sums(b, points.as_slice(), scale)))
 }
 
 // Returns the points of the list at `multiples`.
-fn multiples<F: Residue, const S: usize>(
-    row: Row<'_>,
-    b: F,
-) -> Result<Vec<ProjectivePoint<F>>, Fault>
+fn multiples<F: Residue, const S: usize>(row: &Row<'_>, b: F) -> Option<Vec<ProjectivePoint<F>>>
     requires { S ≤ 66 }
 {
     let mut points = Vec::new(row.alloc());
-    for value in row.list("multiples")? {
-        points.push(point_of::<F, S>(row.alloc(), b, value)?)?;
+    for value in row.list("multiples") {
+        points
+            .push(point_of::<F, S>(row, "multiples", b, value.as_str()?)?)
+            .ok()?;
     }
-    Ok(points)
+    Some(points)
 }
 
-// Returns the point that a value describes, on the curve with this b and with coordinates of `S`
-// octets.
+// Returns the point that the hexadecimal digits of a member describe, on the curve with this b and
+// with coordinates of `S` octets.
 fn point_of<F: Residue, const S: usize>(
-    alloc: Global,
+    row: &Row<'_>,
+    name: &'static str,
     b: F,
-    value: &Value,
-) -> Result<ProjectivePoint<F>, Fault>
+    digits: &str,
+) -> Option<ProjectivePoint<F>>
     requires { S ≤ 66 }
 {
-    let Some(digits) = value.as_str() else {
-        return Err(Fault::Member("a point"));
-    };
     if digits.is_empty() {
-        return Ok(point_at_infinity());
+        return Some(point_at_infinity());
     }
-    match hex::decode(alloc, digits) {
-        Ok(octets) => read_key::<F, S>(b, octets.as_slice()).ok_or(Fault::Member("a point")),
-        Err(_) => Err(Fault::Member("a point")),
+    match hex::decode(row.alloc(), digits) {
+        Ok(octets) => read_key::<F, S>(b, octets.as_slice()),
+        Err(_) => row.refuse(name),
     }
 }
 
 // Returns the residue at `scale`, which is not 0.
-fn scale<F: Residue, const S: usize>(row: Row<'_>) -> Result<F, Fault> {
-    let octets = row.octets("scale")?;
+fn scale<F: Residue, const S: usize>(row: &Row<'_>) -> Option<F> {
+    let octets = row.octets("scale");
     let octets = octets.as_slice();
     if octets.len() != S {
-        return Err(Fault::Member("scale"));
+        return row.refuse("scale");
     }
-    match read::<F, S>(octets) {
-        Some(scale) if !scale.is_same(F::zero()) => Ok(scale),
-        _ => Err(Fault::Member("scale")),
-    }
+    let scale = read::<F, S>(octets)?;
+    (!scale.is_same(F::zero())).then_some(scale)
 }
 
 // Counts the right ones among the sums of the multiples by -k to k with each other. The list has
@@ -165,58 +159,38 @@ fn is_point<F: Residue>(given: ProjectivePoint<F>, wanted: ProjectivePoint<F>) -
         && given.y.is_same(wanted.y.times(given.z))
 }
 
-fn multiple_by_curve<F: Field256, G: Field384>(row: Row<'_>) -> Result<Value, Fault> {
-    match row.text("curve")? {
-        "P-256" => multiple::<F, 32>(row, b_256()),
-        "P-384" => multiple::<G, 48>(row, b_384()),
-        _ => Err(Fault::Member("curve")),
-    }
-}
-
 // Whether the multiple of the base point by the number at `scalar` is the point at `multiple`.
-fn multiple<F: BaseMultiples, const S: usize>(row: Row<'_>, b: F) -> Result<Value, Fault>
+fn multiple<F: BaseMultiples, const S: usize>(row: &Row<'_>, b: F) -> Option<Value>
     requires { S ≤ 66 }
 {
-    row.takes(&["curve", "scalar", "multiple"])?;
-    let scalar = scalar::<S>(row, "scalar")?;
-    let wanted = point_of::<F, S>(row.alloc(), b, row.value("multiple")?)?;
-    match joint(scalar.as_slice(), &[0_u8; S], base_point::<F>()) {
-        Some(given) => Ok(Value::Bool(is_point(given, wanted))),
-        None => Err(Fault::Member("scalar")),
-    }
+    row.takes(&["curve", "scalar", "multiple"]);
+    let wanted = point_of::<F, S>(row, "multiple", b, row.text("multiple"))?;
+    let scalar = scalar::<S>(row, "scalar");
+    let given = joint(scalar.as_slice(), &[0_u8; S], base_point::<F>())?;
+    Some(Value::Bool(is_point(given, wanted)))
 }
 
-// The number at a name, in `S` octets of which the least significant is the first.
-fn scalar<const S: usize>(row: Row<'_>, name: &'static str) -> Result<Vec<u8>, Fault> {
-    let mut scalar = row.octets(name)?;
+// The number at a name, in octets of which the least significant is the first. Its `S` octets are
+// counted by whoever takes them.
+fn scalar<const S: usize>(row: &Row<'_>, name: &'static str) -> Vec<u8> {
+    let mut scalar = row.octets(name);
     if scalar.len() != S {
-        return Err(Fault::Member(name));
+        row.note(name);
     }
     scalar.as_mut_slice().reverse();
-    Ok(scalar)
-}
-
-fn joint_multiple_by_curve<F: Field256, G: Field384>(row: Row<'_>) -> Result<Value, Fault> {
-    match row.text("curve")? {
-        "P-256" => joint_multiple::<F, 32>(row, b_256()),
-        "P-384" => joint_multiple::<G, 48>(row, b_384()),
-        "Ed25519" => edwards_joint_multiple(row),
-        _ => Err(Fault::Member("curve")),
-    }
+    scalar
 }
 
 // Whether the sum of the base point's multiple by the number at `scalar` and that of the point at
 // `other` by the number at `other_scalar` is the point at `multiple`.
-fn joint_multiple<F: BaseMultiples, const S: usize>(row: Row<'_>, b: F) -> Result<Value, Fault>
+fn joint_multiple<F: BaseMultiples, const S: usize>(row: &Row<'_>, b: F) -> Option<Value>
     requires { S ≤ 66 }
 {
-    row.takes(&["curve", "scalar", "other_scalar", "other", "multiple"])?;
-    let first = scalar::<S>(row, "scalar")?;
-    let second = scalar::<S>(row, "other_scalar")?;
-    let other = point_of::<F, S>(row.alloc(), b, row.value("other")?)?;
-    let wanted = point_of::<F, S>(row.alloc(), b, row.value("multiple")?)?;
-    match joint(first.as_slice(), second.as_slice(), other) {
-        Some(given) => Ok(Value::Bool(is_point(given, wanted))),
-        None => Err(Fault::Member("other")),
-    }
+    row.takes(&["curve", "scalar", "other_scalar", "other", "multiple"]);
+    let other = point_of::<F, S>(row, "other", b, row.text("other"))?;
+    let wanted = point_of::<F, S>(row, "multiple", b, row.text("multiple"))?;
+    let first = scalar::<S>(row, "scalar");
+    let second = scalar::<S>(row, "other_scalar");
+    let given = joint(first.as_slice(), second.as_slice(), other)?;
+    Some(Value::Bool(is_point(given, wanted)))
 }

@@ -1,7 +1,7 @@
 //! Rows of test vectors: the inputs that a row describes, its call, and the result as a JSON value.
 //! `crates/jwt_vectors/README.md` has their form.
 //!
-//! For the crates of rows (`jwt_rows_values`, `jwt_rows_types`, `jwt_rows_tokens`), whose functions
+//! For the crates of rows (`jwt_rows_values` and `jwt_rows_tokens`), whose functions
 //! make the calls, and `jwt_vectors`, which reads the files and compares.
 //!
 //! A type that a row describes is an [`Input`], as `row.input::<Validation>("validation")`, and a

@@ -5,7 +5,7 @@ use crate::bytes::bytes_of;
 use crate::input::Input;
 use crate::output::{Output, Refuse};
 use crate::trial::Trial;
-use jsonwebtoken::errors;
+use jsonwebtoken::{Algorithm, errors};
 use jwt_base::serialization::json_value;
 use serde_json::{Map, Value};
 use std::alloc::Global;
@@ -15,14 +15,16 @@ use std::cell::Cell;
 const COMMON: [&str; 5] = ["id", "call", "want", "from", "requests"];
 
 /// A row: one call of the library, its inputs and the result that is wanted; and the trial of the
-/// call. It notes which members it is asked for.
+/// call. It notes which members it is asked for, and which it lacks: a plain value stands in for a
+/// member that is missing or malformed, and the row has no result.
 #[derive(Drop)]
 pub struct Row<'a> {
     alloc: Global,
     members: &'a Map<String, Value>,
     /// A bit for each member, in their order: whether the row was asked for it.
     asked: Cell<u64>,
-    last_name: Cell<&'static str>,
+    /// The name of a member that is missing, malformed or refused, or an empty one.
+    lacking: Cell<&'static str>,
     is_text: Cell<bool>,
     trial: Trial,
 }
@@ -35,7 +37,7 @@ impl<'a> Row<'a> {
             alloc,
             members,
             asked: Cell::new(0),
-            last_name: Cell::new("call"),
+            lacking: Cell::new(""),
             is_text: Cell::new(false),
             trial: Trial::new(alloc, number),
         }
@@ -48,7 +50,6 @@ impl<'a> Row<'a> {
 
     /// Returns the member of this name, if the row has it.
     pub fn value(&self, name: &'static str) -> Option<&'a Value> {
-        self.last_name.set(name);
         let mut bit = 1_u64;
         for (known, value) in self.members {
             if known.as_str() == name {
@@ -60,55 +61,86 @@ impl<'a> Row<'a> {
         None
     }
 
+    /// Returns what was found at a name, or what stands in for it, and notes that it does.
+    pub fn found<T: Drop>(&self, name: &'static str, found: Option<T>, substitute: T) -> T {
+        if let Some(found) = found {
+            return found;
+        }
+        self.lacking.set(name);
+        substitute
+    }
+
     /// Returns the string at a name.
-    pub fn text(&self, name: &'static str) -> Option<&'a str> {
-        self.value(name)?.as_str()
+    pub fn text(&self, name: &'static str) -> &'a str {
+        self.found(name, self.value(name).and_then(Value::as_str), "")
     }
 
     /// Returns the whole number at a name.
-    pub fn number(&self, name: &'static str) -> Option<u64> {
-        self.value(name)?.as_u64()
+    pub fn number(&self, name: &'static str) -> u64 {
+        self.found(name, self.value(name).and_then(Value::as_u64), 0)
     }
 
     /// Returns the truth value at a name.
-    pub fn flag(&self, name: &'static str) -> Option<bool> {
-        self.value(name)?.as_bool()
+    pub fn flag(&self, name: &'static str) -> bool {
+        self.found(name, self.value(name).and_then(Value::as_bool), false)
     }
 
     /// Returns the list at a name.
-    pub fn list(&self, name: &'static str) -> Option<&'a [Value]> {
-        let items = self.value(name)?.as_array()?;
-        Some(items.as_slice())
+    pub fn list(&self, name: &'static str) -> &'a [Value] {
+        match self.value(name) {
+            Some(Value::Array(items)) => items.as_slice(),
+            _ => self.found(name, None, &[]),
+        }
     }
 
     /// Returns the list of strings at a name.
-    pub fn texts(&self, name: &'static str) -> Option<Vec<&'a str>> {
+    pub fn texts(&self, name: &'static str) -> Vec<&'a str> {
         let mut texts = Vec::new(self.alloc);
-        for item in self.list(name)? {
-            texts.push(item.as_str()?).ok()?;
+        for item in self.list(name) {
+            let text = self.found(name, item.as_str(), "");
+            let pushed = texts.push(text);
+            self.found(name, pushed.ok(), ());
         }
-        Some(texts)
+        texts
     }
 
     /// Returns the bytes that the member of this name describes.
-    pub fn bytes(&self, name: &'static str) -> Option<Vec<u8>> {
-        bytes_of(self.alloc, self.value(name)?)
+    pub fn bytes(&self, name: &'static str) -> Vec<u8> {
+        let bytes = match self.value(name) {
+            Some(described) => bytes_of(self.alloc, described),
+            None => None,
+        };
+        self.found(name, bytes, Vec::new(self.alloc))
     }
 
     /// Returns the JSON value at `name`, or that of the text which `name_json` describes.
-    pub fn json(&self, name: &'static str, name_json: &'static str) -> Option<Value> {
-        match self.value(name) {
+    pub fn json(&self, name: &'static str, name_json: &'static str) -> Value {
+        let value = match self.value(name) {
             Some(value) => value.clone().ok(),
-            None => {
-                let text = self.bytes(name_json)?;
-                json_value(self.alloc, text.as_slice()).ok()
-            }
-        }
+            None => self.json_of_text(name_json),
+        };
+        self.found(name, value, Value::Null)
+    }
+
+    fn json_of_text(&self, name: &'static str) -> Option<Value> {
+        json_value(self.alloc, self.bytes(name).as_slice()).ok()
+    }
+
+    /// Returns the algorithm at a name.
+    pub fn algorithm(&self, name: &'static str) -> Algorithm {
+        self.found(name, self.read::<Algorithm>(name), Algorithm::HS256)
     }
 
     /// Returns the value that the member of this name describes.
     pub fn read<T: Input>(&self, name: &'static str) -> Option<T> {
-        T::read(self.alloc, self.value(name)?)
+        let value = match self.value(name) {
+            Some(described) => T::read(self.alloc, described),
+            None => None,
+        };
+        if value.is_none() {
+            self.lacking.set(name);
+        }
+        value
     }
 
     /// Returns the value that the member of this name describes, behind a pointer.
@@ -118,7 +150,8 @@ impl<'a> Row<'a> {
 
     /// Has the result shown as its compact JSON text if the row's member `text` says so.
     pub fn choose_form(&self) {
-        self.is_text.set(self.flag("text") == Some(true));
+        self.is_text
+            .set(self.value("text").is_some() && self.flag("text"));
     }
 
     /// Orders that a request for memory is refused, and returns the allocator. The call is made
@@ -146,10 +179,9 @@ impl<'a> Row<'a> {
     /// Returns the result of a call that returned this value.
     pub fn give<T: Output>(&self, value: &T) -> Answer {
         self.stop();
-        let shown = value.show(self.alloc)?;
+        let shown = value.show(self.alloc);
         if self.is_text.get() {
-            let text = shown.to_string(self.alloc).ok()?;
-            return object(self.alloc, "ok", Value::String(text));
+            return object(self.alloc, "ok", compact(self.alloc, shown?));
         }
         object(self.alloc, "ok", shown)
     }
@@ -171,7 +203,11 @@ impl<'a> Row<'a> {
         self.stop();
         match answer {
             Ok(()) => self.give(after),
-            Err(_refusal) if before != after => object(self.alloc, "changed", Value::Bool(true)),
+            Err(_refusal) if before != after => object(
+                self.alloc,
+                "changed",
+                true.show(self.alloc),
+            ),
             Err(refusal) => self.refuse(&refusal),
         }
     }
@@ -181,9 +217,9 @@ impl<'a> Row<'a> {
         self.trial.was_refused()
     }
 
-    /// Returns the name that the row was asked for last.
-    pub fn last_name(&self) -> &'static str {
-        self.last_name.get()
+    /// Returns the name of a member that is missing, malformed or refused, or an empty one.
+    pub fn lacking(&self) -> &'static str {
+        self.lacking.get()
     }
 
     /// Returns the name of a member that the row was not asked for, and that not every row may
@@ -208,7 +244,13 @@ pub fn has_only(value: &Value, names: &[&str]) -> bool {
     }
 }
 
-fn is_among(name: &str, names: &[&str]) -> bool {
+// Returns a string of the compact JSON text of a value.
+fn compact(alloc: Global, value: Value) -> Answer {
+    value.to_string(alloc).ok().map(Value::String)
+}
+
+/// Returns whether a name is one of these.
+pub fn is_among(name: &str, names: &[&str]) -> bool {
     for known in names {
         if *known == name {
             return true;

@@ -2,25 +2,42 @@
 
 use crate::{issue, jwks, providers, tokens};
 use jsonwebtoken::crypto::CryptoProvider;
-use jsonwebtoken::crypto::hmac::HmacProvider;
-use jwt_rows::inputs::providers::{Provider, provider_of};
-use jwt_rows::{Answer, Row};
-use jwt_rsa::RsaProvider;
+use jsonwebtoken::crypto::hmac::{HmacProvider, PreparedHmac};
+use jwt_rows::{Answer, Input, Row};
+use jwt_rsa::{PreparedRsa, RsaProvider};
 use jwt_standard::StandardProvider;
-use jwt_test_providers::providers::{NoProvider, YesProvider};
+use jwt_test_providers::providers::{NoProvider, TableProvider, YesProvider};
+use serde_json::Value;
 
 /// Makes the call of this name, if it is among those that are given a provider.
 pub fn answer(call: &str, row: &Row<'_>) -> Answer {
-    match provider_of(row)? {
-        Provider::Hmac => answer_by(call, row, &HmacProvider),
-        Provider::Standard => answer_by(call, row, &StandardProvider),
-        Provider::Rsa => answer_by(call, row, &RsaProvider),
-        Provider::Prepared(prepared) => answer_by(call, row, &*prepared),
-        Provider::PreparedRsa(prepared) => answer_by(call, row, &&prepared),
-        Provider::Table(table) => answer_by(call, row, &table),
-        Provider::Yes => answer_by(call, row, &YesProvider),
-        Provider::No => answer_by(call, row, &NoProvider),
+    let Some(described) = row.value("provider") else {
+        return answer_by(call, row, &HmacProvider);
+    };
+    match described {
+        Value::String(name) => by_name(name.as_str(), call, row),
+        _ if described.get("prepared").is_some() => by_described::<PreparedHmac>(call, row),
+        _ if described.get("table").is_some() => by_described::<TableProvider>(call, row),
+        _ => {
+            let provider = row.input::<PreparedRsa>("provider")?;
+            answer_by(call, row, &&*provider)
+        }
     }
+}
+
+fn by_name(name: &str, call: &str, row: &Row<'_>) -> Answer {
+    match name {
+        "StandardProvider" => answer_by(call, row, &StandardProvider),
+        "RsaProvider" => answer_by(call, row, &RsaProvider),
+        "YesProvider" => answer_by(call, row, &YesProvider),
+        "NoProvider" => answer_by(call, row, &NoProvider),
+        _ => None,
+    }
+}
+
+fn by_described<P: CryptoProvider + Input>(call: &str, row: &Row<'_>) -> Answer {
+    let provider = row.input::<P>("provider")?;
+    answer_by(call, row, &*provider)
 }
 
 fn answer_by<P: CryptoProvider>(call: &str, row: &Row<'_>, provider: &P) -> Answer {

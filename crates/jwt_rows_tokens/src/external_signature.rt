@@ -50,24 +50,24 @@ impl Input for Elsewhere {
 /// Calls `signing_input`.
 pub fn input(row: &Row<'_>) -> Answer {
     let header = row.input::<Header>("header")?;
-    let claims = row.json("claims", "claims_json")?;
+    let claims = row.json("claims", "claims_json");
     row.end(signing_input(row.begin(), &header, &claims))
 }
 
 /// Calls `encode_by_signature`.
 pub fn encode(row: &Row<'_>) -> Answer {
     let header = row.input::<Header>("header")?;
-    let claims = row.json("claims", "claims_json")?;
-    let given = of_row(row)?;
+    let claims = row.json("claims", "claims_json");
+    let given = of_row(row, false);
     row.end(encode_by_signature(row.begin(), &header, &claims, &given.signature()))
 }
 
 /// Calls `decode_by_verdict`.
 pub fn decode(row: &Row<'_>) -> Answer {
-    let token = row.bytes("token")?;
-    let given = of_row(row)?;
+    let token = row.bytes("token");
+    let given = of_row(row, row.flag("verdict"));
     let options = row.input::<Validation>("validation")?;
-    let time = row.number("now")?;
+    let time = row.number("now");
     let token = token.as_slice();
     row.end(decode_by_verdict::<Value>(row.begin(), token, &given.verdict(), &options, time))
 }
@@ -88,7 +88,7 @@ fn by_signature(method: &str, row: &Row<'_>, provider: &SignatureProvider<'_>) -
     if method == "key" {
         return row.end(provider.key(row.begin()));
     }
-    let algorithm = row.read::<Algorithm>("algorithm")?;
+    let algorithm = row.algorithm("algorithm");
     if method == "verifier_factory" {
         let key = row.input::<DecodingKey>("key")?;
         return make_verifier(row, provider, algorithm, &key);
@@ -104,7 +104,7 @@ fn by_verdict(method: &str, row: &Row<'_>, provider: &VerdictProvider<'_>) -> An
     if method.starts_with("rsa_pub") {
         return of_der(method, row, provider);
     }
-    let algorithm = row.read::<Algorithm>("algorithm")?;
+    let algorithm = row.algorithm("algorithm");
     if method == "signer_factory" {
         let key = row.input::<EncodingKey>("key")?;
         return by_signer(method, row, provider, algorithm, &key);
@@ -113,14 +113,14 @@ fn by_verdict(method: &str, row: &Row<'_>, provider: &VerdictProvider<'_>) -> An
     by_verifier(method, row, provider, algorithm, &key)
 }
 
-// Returns the signature that the row itself describes.
-fn of_row(row: &Row<'_>) -> Option<Elsewhere> {
-    Some(Elsewhere {
-        algorithm: row.read::<Algorithm>("algorithm")?,
-        message: row.bytes("message")?,
-        signature: row.bytes("signature")?,
-        is_valid: row.flag("verdict") == Some(true),
-    })
+// Returns the signature that the row itself describes, with a verdict on it.
+fn of_row(row: &Row<'_>, is_valid: bool) -> Elsewhere {
+    Elsewhere {
+        algorithm: row.algorithm("algorithm"),
+        message: row.bytes("message"),
+        signature: row.bytes("signature"),
+        is_valid,
+    }
 }
 
 // Returns the key at `key`, or the given signature's own if the row has none.
@@ -191,7 +191,7 @@ fn verification_key(row: &Row<'_>, given: &VerdictProvider<'_>) -> Option<Box<De
 }
 
 fn verify<V: JwtVerifier>(row: &Row<'_>, verifier: &V) -> Answer {
-    let message = row.bytes("message")?;
-    let signature = row.bytes("signature")?;
+    let message = row.bytes("message");
+    let signature = row.bytes("signature");
     row.end(verifier.verify(row.begin(), message.as_slice(), signature.as_slice()))
 }

@@ -15,7 +15,7 @@ use std::alloc::Global;
 
 /// Makes a call that reads a key in DER.
 pub fn of_der(call: &str, row: &Row<'_>) -> Answer {
-    let der = row.bytes("der")?;
+    let der = row.bytes("der");
     row.end(key_of_der(row.begin(), call, der.as_slice()))
 }
 
@@ -30,7 +30,7 @@ pub fn key_of_der(alloc: Global, call: &str, der: &[u8]) -> errors::Result<Decod
 
 /// Makes a call that reads a key in PEM.
 pub fn of_pem(call: &str, row: &Row<'_>) -> Answer {
-    let pem = row.bytes("pem")?;
+    let pem = row.bytes("pem");
     let pem = pem.as_slice();
     let alloc = row.begin();
     match call {
@@ -42,7 +42,7 @@ pub fn of_pem(call: &str, row: &Row<'_>) -> Answer {
 
 /// Calls `rsa_components_from_der`.
 pub fn components_of_der(row: &Row<'_>) -> Answer {
-    let der = row.bytes("der")?;
+    let der = row.bytes("der");
     row.begin();
     let found = rsa_components_from_der(der.as_slice());
     row.stop();
@@ -54,15 +54,15 @@ pub fn components_of_der(row: &Row<'_>) -> Answer {
 
 /// Calls `ecdsa_signature`.
 pub fn signature_of_der(row: &Row<'_>) -> Answer {
-    let der = row.bytes("der")?;
-    let algorithm = row.read::<Algorithm>("algorithm")?;
+    let algorithm = row.algorithm("algorithm");
+    let der = row.bytes("der");
     row.end(ecdsa_signature(row.begin(), der.as_slice(), algorithm))
 }
 
 /// Calls `is_same`.
 pub fn are_same(row: &Row<'_>) -> Answer {
-    let expected = row.bytes("expected")?;
-    let given = row.bytes("given")?;
+    let expected = row.bytes("expected");
+    let given = row.bytes("given");
     row.begin();
     row.give(&is_same(expected.as_slice(), given.as_slice()))
 }

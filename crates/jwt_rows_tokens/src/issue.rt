@@ -10,7 +10,7 @@ pub fn encode_claims<P: CryptoProvider>(call: &str, row: &Row<'_>, provider: &P)
     let header = row.input::<Header>("header")?;
     let key = row.input::<EncodingKey>("key")?;
     if call == "encode" {
-        let claims = row.json("claims", "claims_json")?;
+        let claims = row.json("claims", "claims_json");
         let alloc = row.begin();
         return row.end(encode(alloc, provider, &header, &claims, &key));
     }
@@ -20,18 +20,18 @@ pub fn encode_claims<P: CryptoProvider>(call: &str, row: &Row<'_>, provider: &P)
 
 /// Calls `sign`.
 pub fn sign_message<P: CryptoProvider>(row: &Row<'_>, provider: &P) -> Answer {
-    let message = row.bytes("message")?;
-    let algorithm = row.read::<Algorithm>("algorithm")?;
+    let algorithm = row.algorithm("algorithm");
     let key = row.input::<EncodingKey>("key")?;
+    let message = row.bytes("message");
     row.end(sign(row.begin(), provider, message.as_slice(), &key, algorithm))
 }
 
 /// Calls `verify`.
 pub fn verify_message<P: CryptoProvider>(row: &Row<'_>, provider: &P) -> Answer {
-    let signature = row.text("signature")?;
-    let message = row.bytes("message")?;
-    let algorithm = row.read::<Algorithm>("algorithm")?;
+    let algorithm = row.algorithm("algorithm");
     let key = row.input::<DecodingKey>("key")?;
+    let signature = row.text("signature");
+    let message = row.bytes("message");
     let message = message.as_slice();
     row.end(verify(row.begin(), provider, signature, message, &key, algorithm))
 }
@@ -41,5 +41,5 @@ fn optional_claims(row: &Row<'_>) -> Option<Option<Value>> {
     if row.value("claims").is_none() && row.value("claims_json").is_none() {
         return Some(None);
     }
-    Some(Some(row.json("claims", "claims_json")?))
+    Some(Some(row.json("claims", "claims_json")))
 }

@@ -16,7 +16,7 @@ pub fn thumbprint<P: CryptoProvider>(row: &Row<'_>, provider: &P) -> Answer {
 
 /// Calls `from_encoding_key`.
 pub fn of_encoding_key<P: CryptoProvider>(row: &Row<'_>, provider: &P) -> Answer {
-    let algorithm = row.read::<Algorithm>("algorithm")?;
+    let algorithm = row.algorithm("algorithm");
     let key = row.input::<EncodingKey>("key")?;
     row.end(Jwk::from_encoding_key(row.begin(), provider, &key, algorithm).map(JwkValue))
 }
@@ -33,5 +33,5 @@ fn optional_algorithm(row: &Row<'_>) -> Option<Option<Algorithm>> {
     if row.value("algorithm").is_none() {
         return Some(None);
     }
-    Some(Some(row.read::<Algorithm>("algorithm")?))
+    Some(Some(row.algorithm("algorithm")))
 }

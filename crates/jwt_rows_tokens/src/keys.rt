@@ -13,11 +13,11 @@ pub fn encoding_key(method: &str, row: &Row<'_>) -> Answer {
             encoding_key_of_bytes(method, row)
         }
         "from_base64_secret" => {
-            let text = row.text("text")?;
+            let text = row.text("text");
             row.end(EncodingKey::from_base64_secret(row.begin(), text))
         }
         "from_urlsafe_base64_secret" => {
-            let text = row.text("text")?;
+            let text = row.text("text");
             row.end(EncodingKey::from_urlsafe_base64_secret(row.begin(), text))
         }
         "debug" => debug::<EncodingKey>(row, "key"),
@@ -64,7 +64,7 @@ pub fn kind(method: &str, row: &Row<'_>) -> Answer {
 }
 
 fn encoding_key_of_bytes(method: &str, row: &Row<'_>) -> Answer {
-    let bytes = row.bytes("bytes")?;
+    let bytes = row.bytes("bytes");
     let bytes = bytes.as_slice();
     let alloc = row.begin();
     let answer = match method {
@@ -96,7 +96,7 @@ fn of_encoding_key(method: &str, row: &Row<'_>) -> Answer {
 }
 
 fn decoding_key_of_bytes(method: &str, row: &Row<'_>) -> Answer {
-    let bytes = row.bytes("bytes")?;
+    let bytes = row.bytes("bytes");
     let bytes = bytes.as_slice();
     let alloc = row.begin();
     let answer = match method {
@@ -109,7 +109,7 @@ fn decoding_key_of_bytes(method: &str, row: &Row<'_>) -> Answer {
 }
 
 fn decoding_key_of_text(method: &str, row: &Row<'_>) -> Answer {
-    let text = row.text("text")?;
+    let text = row.text("text");
     let alloc = row.begin();
     let answer = match method {
         "from_base64_secret" => DecodingKey::from_base64_secret(alloc, text),
@@ -121,20 +121,20 @@ fn decoding_key_of_text(method: &str, row: &Row<'_>) -> Answer {
 fn decoding_key_of_components(method: &str, row: &Row<'_>) -> Answer {
     match method {
         "from_rsa_components" => {
-            let (n, e) = (row.text("n")?, row.text("e")?);
+            let (n, e) = (row.text("n"), row.text("e"));
             row.end(DecodingKey::from_rsa_components(row.begin(), n, e))
         }
         "from_ec_components" => {
-            let (x, y) = (row.text("x")?, row.text("y")?);
+            let (x, y) = (row.text("x"), row.text("y"));
             row.end(DecodingKey::from_ec_components(row.begin(), x, y))
         }
         "from_ed_components" => {
-            let x = row.text("x")?;
+            let x = row.text("x");
             row.end(DecodingKey::from_ed_components(row.begin(), x))
         }
         _ => {
-            let n = row.bytes("n")?;
-            let e = row.bytes("e")?;
+            let n = row.bytes("n");
+            let e = row.bytes("e");
             row.end(DecodingKey::from_rsa_raw_components(row.begin(), n.as_slice(), e.as_slice()))
         }
     }

@@ -48,14 +48,14 @@ impl Runs {
 /// Makes a call of this module.
 pub fn answer(call: &str, row: &Row<'_>) -> Answer {
     let alloc = row.alloc();
-    let of = row.text("of")?;
-    let der = row.bytes("der")?;
+    let of = row.text("of");
+    let der = row.bytes("der");
     let mut runs = Runs::new(alloc);
     match call {
         "place" => add_place(alloc, of, &mut runs, der.as_slice())?,
         "each_cut" => add_cuts(alloc, of, &mut runs, der.as_slice())?,
         _ => {
-            let mask = u8::try_from(row.number("mask")?).ok()?;
+            let mask = u8::try_from(row.number("mask")).ok()?;
             add_changes(alloc, of, &mut runs, der.as_slice(), mask)?;
         }
     }

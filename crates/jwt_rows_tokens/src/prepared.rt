@@ -16,11 +16,11 @@ pub fn hmac(method: &str, row: &Row<'_>) -> Answer {
     if method == "zeroize" {
         return zeroize(row);
     }
-    let algorithm = row.read::<Algorithm>("algorithm")?;
+    let algorithm = row.algorithm("algorithm");
     if method == "verifier_factory, zeroize, verify each" {
         return verify_after_zeroize(row, algorithm);
     }
-    let secret = row.bytes("secret")?;
+    let secret = row.bytes("secret");
     match method {
         "new" => new_hmac(row, algorithm, secret.as_slice()),
         _ => of_secret(method, row, algorithm, secret.as_slice()),
@@ -32,9 +32,9 @@ pub fn rsa(method: &str, row: &Row<'_>) -> Answer {
     if method == "new" {
         return new_rsa(row);
     }
-    let n = row.bytes("n")?;
-    let e = row.bytes("e")?;
     let mut provider = row.input::<PreparedRsa>("provider")?;
+    let n = row.bytes("n");
+    let e = row.bytes("e");
     match method {
         "is_prepared" => {
             row.begin();
@@ -45,15 +45,15 @@ pub fn rsa(method: &str, row: &Row<'_>) -> Answer {
 }
 
 fn zeroize(row: &Row<'_>) -> Answer {
-    let asked = row.list("asked")?;
     let mut provider = row.input::<PreparedHmac>("provider")?;
+    let asked = row.list("asked");
     row.begin();
     provider.zeroize();
     give_secrets(row, asked, &provider)
 }
 
 fn new_hmac(row: &Row<'_>, algorithm: Algorithm, secret: &[u8]) -> Answer {
-    let asked = row.list("asked")?;
+    let asked = row.list("asked");
     match PreparedHmac::new(row.begin(), algorithm, secret) {
         Ok(provider) => give_secrets(row, asked, &provider),
         Err(refusal) => row.refuse(&refusal),
@@ -75,7 +75,7 @@ fn new_rsa(row: &Row<'_>) -> Answer {
     let alloc = row.begin();
     let provider = PreparedRsa::new(alloc);
     row.stop();
-    let flags = keys(alloc, row.list("asked")?, &provider)?;
+    let flags = keys(alloc, row.list("asked"), &provider)?;
     row.give(&flags)
 }
 
@@ -114,7 +114,7 @@ fn add_secret(
     algorithm: Algorithm,
     secret: &[u8],
 ) -> Answer {
-    let asked = row.list("asked")?;
+    let asked = row.list("asked");
     let before = secrets(row.alloc(), asked, provider)?;
     let answer = provider.add(row.begin(), algorithm, secret);
     row.stop();
@@ -134,7 +134,7 @@ fn keys(alloc: Global, asked: &[Value], provider: &PreparedRsa) -> Option<Vec<bo
 }
 
 fn add_key(row: &Row<'_>, provider: &mut PreparedRsa, n: &[u8], e: &[u8]) -> Answer {
-    let asked = row.list("asked")?;
+    let asked = row.list("asked");
     let before = keys(row.alloc(), asked, provider)?;
     let answer = provider.add(row.begin(), n, e);
     row.stop();

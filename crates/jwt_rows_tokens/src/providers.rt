@@ -10,7 +10,7 @@ use jwt_rows::{Answer, Row};
 
 /// Makes a signer, or makes one and then a call of it.
 pub fn by_signer<P: CryptoProvider>(call: &str, row: &Row<'_>, provider: &P) -> Answer {
-    let algorithm = row.read::<Algorithm>("algorithm")?;
+    let algorithm = row.algorithm("algorithm");
     let key = row.input::<EncodingKey>("key")?;
     if call == "CryptoProvider::signer_factory" {
         let alloc = row.begin();
@@ -31,13 +31,13 @@ pub fn by_signer<P: CryptoProvider>(call: &str, row: &Row<'_>, provider: &P) -> 
 
 /// Signs the message at `message`.
 pub fn sign<S: JwtSigner>(row: &Row<'_>, signer: &S) -> Answer {
-    let message = row.bytes("message")?;
+    let message = row.bytes("message");
     row.end(signer.sign(row.begin(), message.as_slice()))
 }
 
 /// Makes a verifier, or makes one and then a call of it.
 pub fn by_verifier<P: CryptoProvider>(call: &str, row: &Row<'_>, provider: &P) -> Answer {
-    let algorithm = row.read::<Algorithm>("algorithm")?;
+    let algorithm = row.algorithm("algorithm");
     let mut key = row.input::<DecodingKey>("key")?;
     if call == "CryptoProvider::verifier_factory" {
         let alloc = row.begin();
@@ -66,7 +66,7 @@ pub fn by_verifier<P: CryptoProvider>(call: &str, row: &Row<'_>, provider: &P) -
 pub fn verify_each<V: JwtVerifier>(row: &Row<'_>, verifier: &V) -> Answer {
     let alloc = row.alloc();
     let mut verdicts = Vec::new(alloc);
-    for asked in row.list("asked")? {
+    for asked in row.list("asked") {
         let (message, signature) = two_of(alloc, asked)?;
         let verdict = verifier.verify(alloc, message.as_slice(), signature.as_slice());
         verdicts.push(verdict.ok()?).ok()?;
@@ -76,7 +76,7 @@ pub fn verify_each<V: JwtVerifier>(row: &Row<'_>, verifier: &V) -> Answer {
 
 /// Makes a call that reads a key in DER.
 pub fn of_der<P: CryptoProvider>(method: &str, row: &Row<'_>, provider: &P) -> Answer {
-    let der = row.bytes("der")?;
+    let der = row.bytes("der");
     let der = der.as_slice();
     match method {
         "rsa_pub_components_from_private_key" => {
@@ -86,7 +86,7 @@ pub fn of_der<P: CryptoProvider>(method: &str, row: &Row<'_>, provider: &P) -> A
             row.end(provider.rsa_pub_components_from_public_key(row.begin(), der))
         }
         "ec_pub_components_from_private_key" => {
-            let algorithm = row.read::<Algorithm>("algorithm")?;
+            let algorithm = row.algorithm("algorithm");
             row.end(provider.ec_pub_components_from_private_key(row.begin(), der, algorithm))
         }
         "ed_pub_components_from_private_key" => {
@@ -99,14 +99,14 @@ pub fn of_der<P: CryptoProvider>(method: &str, row: &Row<'_>, provider: &P) -> A
 
 /// Calls `compute_digest`.
 pub fn digest<P: CryptoProvider>(row: &Row<'_>, provider: &P) -> Answer {
-    let bytes = row.bytes("bytes")?;
     let hash = row.read::<ThumbprintHash>("hash")?;
+    let bytes = row.bytes("bytes");
     row.end(provider.compute_digest(row.begin(), bytes.as_slice(), hash))
 }
 
 fn verify<V: JwtVerifier>(row: &Row<'_>, verifier: &V) -> Answer {
-    let message = row.bytes("message")?;
-    let signature = row.bytes("signature")?;
+    let message = row.bytes("message");
+    let signature = row.bytes("signature");
     let alloc = row.begin();
     match verifier.verify(alloc, message.as_slice(), signature.as_slice()) {
         Ok(is_yes) => {

@@ -23,9 +23,9 @@ use token::{Token, named_token, with_header, with_lists, with_text};
 /// Makes the call `sizes`.
 pub fn answer(row: &Row<'_>) -> Answer {
     let alloc = row.alloc();
-    let (way, of) = (row.text("way")?, row.text("of")?);
-    let last = row.number("to_size")?;
-    for size in row.number("from_size")?..last.saturating_add(1) {
+    let (way, of) = (row.text("way"), row.text("of"));
+    let last = row.number("to_size");
+    for size in row.number("from_size")..last.saturating_add(1) {
         if !is_well(alloc, way, of, usize::try_from(size).ok()?)? {
             return row.give(&size);
         }

@@ -33,7 +33,7 @@ struct WithSet {
 /// Makes a call that verifies a token with a key.
 pub fn check_by_key<P: CryptoProvider>(call: &str, row: &Row<'_>, provider: &P) -> Answer {
     let given = with_key(row)?;
-    let time = row.number("now")?;
+    let time = row.number("now");
     let (token, key, options) = (given.token.as_slice(), &*given.key, &*given.options);
     let a = row.begin();
     match call {
@@ -59,7 +59,7 @@ pub fn check_by_key<P: CryptoProvider>(call: &str, row: &Row<'_>, provider: &P) 
 /// Makes a call that verifies a token with the key of a set.
 pub fn check_by_set<P: CryptoProvider>(call: &str, row: &Row<'_>, provider: &P) -> Answer {
     let given = with_set(row)?;
-    let time = row.number("now")?;
+    let time = row.number("now");
     let (token, set, options) = (given.token.as_slice(), &*given.set, &*given.options);
     let a = row.begin();
     match call {
@@ -108,7 +108,7 @@ pub fn check_parts<P: CryptoProvider>(row: &Row<'_>, provider: &P) -> Answer {
     let token = row.input::<Jws<Value>>("parts")?;
     let key = row.input::<DecodingKey>("key")?;
     let options = row.input::<Validation>("validation")?;
-    let time = row.number("now")?;
+    let time = row.number("now");
     row.end(jws::decode(row.begin(), provider, &token, &key, &options, time))
 }
 
@@ -134,7 +134,7 @@ pub fn parts(method: &str, row: &Row<'_>) -> Answer {
 
 /// Makes a call that reads a token and verifies nothing.
 pub fn read_token(call: &str, row: &Row<'_>) -> Answer {
-    let token = row.bytes("token")?;
+    let token = row.bytes("token");
     let token = token.as_slice();
     let alloc = row.begin();
     match call {
@@ -150,16 +150,16 @@ pub fn read_token(call: &str, row: &Row<'_>) -> Answer {
 
 /// Returns what `Debug` writes of a token's data.
 pub fn debug_text(row: &Row<'_>) -> Answer {
-    let token = row.bytes("token")?;
+    let token = row.bytes("token");
     let data = insecure_decode::<Value>(row.alloc(), token.as_slice()).ok()?;
     let data = Box::new(row.alloc(), data).ok()?;
     give_text(row, &data)
 }
 
 fn with_key(row: &Row<'_>) -> Option<WithKey> {
-    let token = row.bytes("token")?;
     let key = row.input::<DecodingKey>("key")?;
     let options = row.input::<Validation>("validation")?;
+    let token = row.bytes("token");
     Some(WithKey {
         token,
         key,
@@ -168,7 +168,7 @@ fn with_key(row: &Row<'_>) -> Option<WithKey> {
 }
 
 fn with_set(row: &Row<'_>) -> Option<WithSet> {
-    let token = row.bytes("token")?;
+    let token = row.bytes("token");
     let set = key_set(row)?;
     let options = row.input::<Validation>("validation")?;
     Some(WithSet {

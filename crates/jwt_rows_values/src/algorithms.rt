@@ -10,7 +10,7 @@ use jwt_rows::{Answer, Row};
 pub fn algorithm(method: &str, row: &Row<'_>) -> Answer {
     match method {
         "from_str" => {
-            let text = row.text("text")?;
+            let text = row.text("text");
             row.begin();
             row.end(text.parse::<Algorithm>())
         }
@@ -53,7 +53,7 @@ pub fn family(method: &str, row: &Row<'_>) -> Answer {
 pub fn key_algorithm(method: &str, row: &Row<'_>) -> Answer {
     match method {
         "from_str" => {
-            let text = row.text("text")?;
+            let text = row.text("text");
             row.begin();
             row.end(text.parse::<KeyAlgorithm>())
         }
@@ -63,7 +63,7 @@ pub fn key_algorithm(method: &str, row: &Row<'_>) -> Answer {
             row.end(KeyAlgorithm::from_value(value))
         }
         "from" => {
-            let algorithm = row.read::<Algorithm>("algorithm")?;
+            let algorithm = row.algorithm("algorithm");
             row.begin();
             row.give(&KeyAlgorithm::from(algorithm))
         }
@@ -75,7 +75,7 @@ pub fn key_algorithm(method: &str, row: &Row<'_>) -> Answer {
 }
 
 fn of_algorithm(method: &str, row: &Row<'_>) -> Answer {
-    let algorithm = row.read::<Algorithm>("algorithm")?;
+    let algorithm = row.algorithm("algorithm");
     let alloc = row.begin();
     match method {
         "name" => row.give(&algorithm.name()),

@@ -21,11 +21,8 @@ pub fn kind(method: &str, row: &Row<'_>) -> Answer {
 pub fn error(method: &str, row: &Row<'_>) -> Answer {
     match method {
         "eq" => eq::<Error>(row),
-        "from" => match row.text("fault") {
-            Some(fault) => of_fault(fault, row),
-            None => of_kind_alone(method, row),
-        },
-        "new" => of_kind_alone(method, row),
+        "from" if row.value("fault").is_some() => of_fault(row.text("fault"), row),
+        "from" | "new" => of_kind_alone(method, row),
         "into_kind" => {
             let error = row.read::<Error>("kind")?;
             row.begin();
@@ -67,7 +64,7 @@ fn convert<T: Drop, E: Into<Error> + Drop>(row: &Row<'_>, answer: Result<T, E>) 
 }
 
 fn of_bytes(fault: &str, row: &Row<'_>) -> Answer {
-    let bytes = row.bytes("bytes")?;
+    let bytes = row.bytes("bytes");
     match fault {
         "serde_json::Error" => {
             let answer = Value::from_slice(row.alloc(), bytes.as_slice());

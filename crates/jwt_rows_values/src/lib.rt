@@ -1,19 +1,28 @@
-//! Rows about names, errors, JSON values, secrets by which anyone can sign, claims and validations.
+//! Rows about names, errors, JSON values, secrets by which anyone can sign, claims and validations,
+//! and about the types that have a JSON value: JSON Web Keys, their parameters, headers and their
+//! members.
 //!
-//! For `jwt_vectors`, the program of the rows; the other rows are in `jwt_rows_types` and
-//! `jwt_rows_tokens`, so that the three are proved side by side.
+//! For `jwt_vectors`, the program of the rows; the other rows are in `jwt_rows_tokens`, so that the
+//! two are proved side by side.
 //!
-//! Each function makes the calls of one type, or of one group, by their names: a row with
-//! `"call":"validate"` is answered by a function of [`rules`]. A new row of a call that is here is
-//! a line of a file in `crates/jwt_vectors/data`; a new call is an arm of a `match`.
+//! Each function makes the calls of one type, of one group, or of one trait, by their names: a row
+//! with `"call":"validate"` is answered by a function of [`rules`], and one with
+//! `"call":"Header::from_value"` by one of [`headers`]. A new row of a call that is here is a line
+//! of a file in `crates/jwt_vectors/data`; a new call is an arm of a `match`.
 //!
 //! A row's wanted result is from a standard or from another implementation, never from this
 //! library: its member `from` says which.
 #![tactic(auto)]
 
 pub mod algorithms;
+pub mod claims;
 pub mod errors;
+pub mod extras;
+pub mod headers;
 pub mod json;
+pub mod jwks;
+pub mod operations;
+pub mod parameters;
 pub mod parts;
 pub mod rules;
 pub mod secrets;

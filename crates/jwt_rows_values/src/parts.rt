@@ -5,7 +5,7 @@ use jwt_rows::{Answer, Row};
 
 /// Makes a call that decodes a text.
 pub fn decode(call: &str, row: &Row<'_>) -> Answer {
-    let text = row.bytes("text")?;
+    let text = row.bytes("text");
     let text = text.as_slice();
     let alloc = row.begin();
     let answer = match call {
@@ -18,7 +18,7 @@ pub fn decode(call: &str, row: &Row<'_>) -> Answer {
 
 /// Makes a call that takes bytes.
 pub fn of_bytes(call: &str, row: &Row<'_>) -> Answer {
-    let bytes = row.bytes("bytes")?;
+    let bytes = row.bytes("bytes");
     let alloc = row.begin();
     match call {
         "part_text" => row.end(part_text(alloc, bytes.as_slice())),

@@ -3,6 +3,7 @@
 use jsonwebtoken::errors::ErrorKind;
 use jsonwebtoken::options::broken_rules;
 use jsonwebtoken::{Clock, Validation, claimed_moments, get_current_timestamp, validate};
+use jwt_rows::row::is_among;
 use jwt_rows::{Answer, Row};
 
 /// A clock that stands still.
@@ -21,32 +22,29 @@ impl Clock for FixedClock {
 
 /// Calls `validate`.
 pub fn claims_are_valid(row: &Row<'_>) -> Answer {
-    let claims = row.json("claims", "claims_json")?;
     let options = row.input::<Validation>("validation")?;
-    let time = row.number("now")?;
+    let claims = row.json("claims", "claims_json");
+    let time = row.number("now");
     row.end(validate(row.begin(), &claims, &options, time))
 }
 
 /// Returns whether `validate` refuses with `MissingRequiredClaim` of one of the claims at `among`.
 pub fn names_missing(row: &Row<'_>) -> Answer {
-    let claims = row.json("claims", "claims_json")?;
     let options = row.input::<Validation>("validation")?;
-    let time = row.number("now")?;
-    let among = row.value("among")?.as_array()?;
-    let refusal = validate(row.alloc(), &claims, &options, time).err()?;
+    let claims = row.json("claims", "claims_json");
+    let refusal = validate(row.alloc(), &claims, &options, row.number("now")).err()?;
+    let among = row.texts("among");
     row.give(&match refusal.kind() {
-        ErrorKind::MissingRequiredClaim(name) => {
-            among.iter().any(|one| one.as_str() == Some(name.as_str()))
-        }
+        ErrorKind::MissingRequiredClaim(name) => is_among(name.as_str(), among.as_slice()),
         _ => false,
     })
 }
 
 /// Calls `broken_rules`.
 pub fn broken(row: &Row<'_>) -> Answer {
-    let claims = row.json("claims", "claims_json")?;
     let options = row.input::<Validation>("validation")?;
-    let time = row.number("now")?;
+    let claims = row.json("claims", "claims_json");
+    let time = row.number("now");
     row.end(broken_rules(row.begin(), &claims, &options, time))
 }
 

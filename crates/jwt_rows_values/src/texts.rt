@@ -9,7 +9,7 @@ use jwt_rows::{Answer, Row};
 pub fn text(method: &str, row: &Row<'_>) -> Answer {
     match method {
         "from_str" => {
-            let text = row.text("text")?;
+            let text = row.text("text");
             row.end(Text::from_str(row.begin(), text))
         }
         "from" => {
@@ -33,7 +33,7 @@ pub fn text(method: &str, row: &Row<'_>) -> Answer {
 pub fn texts(method: &str, row: &Row<'_>) -> Answer {
     match method {
         "from_slice" => {
-            let texts = row.texts("texts")?;
+            let texts = row.texts("texts");
             row.end(Texts::from_slice(row.begin(), texts.as_slice()))
         }
         "from" => {

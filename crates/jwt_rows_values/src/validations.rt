@@ -14,11 +14,11 @@ pub fn validation(method: &str, row: &Row<'_>) -> Answer {
             row.end(Validation::new_for_family(row.begin(), family))
         }
         "from_value" => {
-            let value = row.json("value", "value_json")?;
+            let value = row.json("value", "value_json");
             row.end(Validation::from_value(row.begin(), &value))
         }
         "from_slice" => {
-            let bytes = row.bytes("bytes")?;
+            let bytes = row.bytes("bytes");
             row.end(Validation::from_slice(row.begin(), bytes.as_slice()))
         }
         "clone" => {
@@ -34,13 +34,13 @@ pub fn validation(method: &str, row: &Row<'_>) -> Answer {
 
 /// Calls `options_fault`.
 pub fn fault(row: &Row<'_>) -> Answer {
-    let value = row.json("value", "value_json")?;
+    let value = row.json("value", "value_json");
     row.begin();
     row.give(&options_fault(&value))
 }
 
 fn of_algorithm(method: &str, row: &Row<'_>) -> Answer {
-    let algorithm = row.read::<Algorithm>("algorithm")?;
+    let algorithm = row.algorithm("algorithm");
     let alloc = row.begin();
     let answer = match method {
         "new" => Validation::new(alloc, algorithm),
@@ -55,7 +55,7 @@ fn set_one(method: &str, row: &Row<'_>) -> Answer {
     let mut after = row.input::<Validation>("validation")?;
     let answer = match method {
         "set_subject" => {
-            let subject = row.text("text")?;
+            let subject = row.text("text");
             let alloc = row.begin();
             after.set_subject(alloc, subject)
         }
@@ -69,7 +69,7 @@ fn set_one(method: &str, row: &Row<'_>) -> Answer {
 
 // Calls the setter of this name with the strings at `texts`.
 fn set_texts(method: &str, row: &Row<'_>) -> Answer {
-    let texts = row.texts("texts")?;
+    let texts = row.texts("texts");
     let texts = texts.as_slice();
     let before = row.input::<Validation>("validation")?;
     let mut after = row.input::<Validation>("validation")?;

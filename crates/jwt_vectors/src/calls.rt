@@ -10,16 +10,18 @@ use jwt_rows::{Answer, Row};
 use jwt_rows_tokens::{
     by_provider, external_signature, files, keys, places, prepared, sizes, tokens,
 };
-use jwt_rows_types::json::{json_call, membered_call, named_call};
-use jwt_rows_types::{extras, headers, jwks, operations, parameters};
-use jwt_rows_values::json::{are_equal, claims, value};
-use jwt_rows_values::{algorithms, errors, parts, rules, secrets, texts, validations};
+use jwt_rows_values::claims::{are_equal, claims, value};
+use jwt_rows_values::json::{json_call, membered_call, named_call};
+use jwt_rows_values::{
+    algorithms, errors, extras, headers, jwks, operations, parameters, parts, rules, secrets,
+    texts, validations,
+};
 use serde_json::Value;
 
 /// Makes the call that the row names, with the row's inputs, and returns its result, or none if
 /// there is no such call or an input is missing or malformed.
 pub fn answer(row: &Row<'_>) -> Answer {
-    let call = row.text("call")?;
+    let call = row.text("call");
     match call {
         "part_bytes" | "standard_bytes" | "url_bytes" => parts::decode(call, row),
         "part_text" | "json_value" => parts::of_bytes(call, row),

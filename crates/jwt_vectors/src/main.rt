@@ -54,9 +54,13 @@ fn is_sparing(members: &Map<String, Value>) -> bool {
 
 // Returns the difference of the result of the row's call from the wanted one, if there is one.
 fn difference(alloc: Global, row: &Row<'_>, wanted: &str) -> Result<Option<String>, AllocError> {
-    let Some(answer) = calls::answer(row) else {
-        let name = row.last_name();
+    let answer = calls::answer(row);
+    let name = row.lacking();
+    if !name.is_empty() {
         return Ok(Some(format!(in alloc; "{name} is missing, malformed or refused")?));
+    }
+    let Some(answer) = answer else {
+        return Ok(Some(String::from_str(alloc, "no such call, or memory ran out")?));
     };
     if let Some(name) = row.unknown_name() {
         return Ok(Some(format!(in alloc; "the call does not take {name}")?));

@@ -18,8 +18,7 @@ impl Input for Extras {
         };
         let mut extras = Extras::new(alloc);
         for pair in pairs {
-            let name = pair.get(0)?.as_str()?;
-            extras.insert(alloc, name, pair.get(1)?).ok()?;
+            add_pair(alloc, &mut extras, pair)?;
         }
         Some(extras)
     }
@@ -37,6 +36,11 @@ impl Input for Header {
     }
 }
 
+fn add_pair(alloc: Global, extras: &mut Extras, pair: &Value) -> Option<()> {
+    let name = pair.get(0)?.as_str()?;
+    extras.insert(alloc, name, pair.get(1)?).ok()
+}
+
 fn with_fields(alloc: Global, members: &Value, fields: &Value) -> Option<Header> {
     let mut header = Box::new(alloc, Header::from_value(alloc, members).ok()?).ok()?;
     set_fields(alloc, &mut header, fields)?;
@@ -44,11 +48,22 @@ fn with_fields(alloc: Global, members: &Value, fields: &Value) -> Option<Header>
 }
 
 fn set_fields(alloc: Global, header: &mut Header, fields: &Value) -> Option<()> {
-    set_optional(alloc, &mut header.enc, fields.get("enc"))?;
-    set_optional(alloc, &mut header.zip, fields.get("zip"))?;
-    set_optional(alloc, &mut header.jwk, fields.get("jwk"))?;
+    let Header {
+        enc,
+        zip,
+        jwk,
+        extras,
+        ..
+    } = header;
+    set_optional(alloc, enc, fields.get("enc"))?;
+    set_optional(alloc, zip, fields.get("zip"))?;
+    set_optional(alloc, jwk, fields.get("jwk"))?;
+    set_extras(alloc, extras, fields)
+}
+
+fn set_extras(alloc: Global, extras: &mut Extras, fields: &Value) -> Option<()> {
     if let Some(described) = fields.get("extras") {
-        header.extras = Extras::read(alloc, described)?;
+        *extras = Extras::read(alloc, described)?;
     }
     Some(())
 }

@@ -24,18 +24,15 @@ impl Input for Jwk {
 
 impl Input for JwkSet {
     fn read(alloc: Global, described: &Value) -> Option<JwkSet> {
-        let mut set = JwkSet::new(alloc);
-        for key in described.get("keys")?.as_array()? {
-            set.keys.push(<Jwk as Input>::read(alloc, key)?).ok()?;
-        }
-        Some(set)
+        let keys = Vec::<Jwk>::read(alloc, described.get("keys")?)?;
+        Some(JwkSet { keys })
     }
 }
 
 /// Returns the key that the JSON value at `jwk` reads as, or that of the text which `jwk_json`
 /// describes.
 pub fn jwk(row: &Row<'_>) -> Option<Box<Jwk>> {
-    let value = row.json("jwk", "jwk_json")?;
+    let value = row.json("jwk", "jwk_json");
     Box::new(row.alloc(), Jwk::from_value(row.alloc(), &value).ok()?).ok()
 }
 

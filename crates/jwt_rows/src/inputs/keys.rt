@@ -28,14 +28,7 @@ impl Input for DecodingKey {
         let (name, given) = constructor(described)?;
         match name {
             "jwk" => key_of_jwk(alloc, given),
-            "rsa_components" => {
-                let (n, e) = (given.get(0)?.as_str()?, given.get(1)?.as_str()?);
-                DecodingKey::from_rsa_components(alloc, n, e).ok()
-            }
-            "ec_components" => {
-                let (x, y) = (given.get(0)?.as_str()?, given.get(1)?.as_str()?);
-                DecodingKey::from_ec_components(alloc, x, y).ok()
-            }
+            "rsa_components" | "ec_components" => key_of_components(alloc, name, given),
             _ => key_of_bytes(alloc, name, bytes_of(alloc, given)?.as_slice()),
         }
     }
@@ -66,13 +59,24 @@ fn key_of_jwk(alloc: Global, described: &Value) -> Option<DecodingKey> {
     DecodingKey::from_jwk(alloc, &jwk).ok()
 }
 
+fn key_of_components(alloc: Global, name: &str, given: &Value) -> Option<DecodingKey> {
+    let first = given.get(0)?.as_str()?;
+    let second = given.get(1)?.as_str()?;
+    let key = match name {
+        "rsa_components" => DecodingKey::from_rsa_components(alloc, first, second),
+        _ => DecodingKey::from_ec_components(alloc, first, second),
+    };
+    key.ok()
+}
+
 fn key_of_bytes(alloc: Global, name: &str, bytes: &[u8]) -> Option<DecodingKey> {
-    match name {
-        "secret" => DecodingKey::from_secret(alloc, bytes).ok(),
-        "rsa_der" => DecodingKey::from_rsa_der(alloc, bytes).ok(),
-        "ec_der" => DecodingKey::from_ec_der(alloc, bytes).ok(),
-        "ed_der" => DecodingKey::from_ed_der(alloc, bytes).ok(),
-        "pem" => public_key_from_pem(alloc, bytes).ok(),
-        _ => None,
-    }
+    let key = match name {
+        "secret" => DecodingKey::from_secret(alloc, bytes),
+        "rsa_der" => DecodingKey::from_rsa_der(alloc, bytes),
+        "ec_der" => DecodingKey::from_ec_der(alloc, bytes),
+        "ed_der" => DecodingKey::from_ed_der(alloc, bytes),
+        "pem" => public_key_from_pem(alloc, bytes),
+        _ => return None,
+    };
+    key.ok()
 }

@@ -12,37 +12,31 @@ use std::alloc::Global;
 
 impl Input for EllipticCurve {
     fn read(_alloc: Global, described: &Value) -> Option<EllipticCurve> {
-        match described.as_str()? {
-            "P-256" => Some(EllipticCurve::P256),
-            "P-384" => Some(EllipticCurve::P384),
-            "P-521" => Some(EllipticCurve::P521),
-            "Ed25519" => Some(EllipticCurve::Ed25519),
-            _ => None,
-        }
+        EllipticCurve::from_value(described).ok()
     }
 }
 
 impl Input for EllipticCurveKeyType {
     fn read(_alloc: Global, described: &Value) -> Option<EllipticCurveKeyType> {
-        (described.as_str()? == "EC").then_some(EllipticCurveKeyType::EC)
+        EllipticCurveKeyType::from_value(described).ok()
     }
 }
 
 impl Input for RSAKeyType {
     fn read(_alloc: Global, described: &Value) -> Option<RSAKeyType> {
-        (described.as_str()? == "RSA").then_some(RSAKeyType::RSA)
+        RSAKeyType::from_value(described).ok()
     }
 }
 
 impl Input for OctetKeyType {
     fn read(_alloc: Global, described: &Value) -> Option<OctetKeyType> {
-        (described.as_str()? == "oct").then_some(OctetKeyType::Octet)
+        OctetKeyType::from_value(described).ok()
     }
 }
 
 impl Input for OctetKeyPairType {
     fn read(_alloc: Global, described: &Value) -> Option<OctetKeyPairType> {
-        (described.as_str()? == "OKP").then_some(OctetKeyPairType::OctetKeyPair)
+        OctetKeyPairType::from_value(described).ok()
     }
 }
 

@@ -60,13 +60,13 @@ impl Input for Text {
     }
 }
 
-impl Input for Vec<Text> {
-    fn read(alloc: Global, described: &Value) -> Option<Vec<Text>> {
-        let mut texts = Vec::new(alloc);
-        for text in described.as_array()? {
-            texts.push(Text::read(alloc, text)?).ok()?;
+impl<T: Input> Input for Vec<T> {
+    fn read(alloc: Global, described: &Value) -> Option<Vec<T>> {
+        let mut values = Vec::new(alloc);
+        for value in described.as_array()? {
+            values.push(T::read(alloc, value)?).ok()?;
         }
-        Some(texts)
+        Some(values)
     }
 }
 

@@ -1,6 +1,6 @@
 //! Errors: the name of the kind, and after it in parentheses the string that the kind holds. Rules.
 
-use crate::answer::{Answer, object, pair, string};
+use crate::answer::{Answer, Shown, object, string};
 use crate::output::{List, Output, Refuse};
 use jsonwebtoken::errors::{Error, ErrorKind};
 use jsonwebtoken::options::{OptionsFault, Rule};
@@ -15,7 +15,7 @@ impl Output for ErrorKind {
             Some(text) => format!(in alloc; "{name}({text})"),
             None => String::from_str(alloc, name),
         };
-        Some(Value::String(text.ok()?))
+        text.ok().map(Value::String)
     }
 }
 
@@ -34,15 +34,13 @@ impl Output for Test {
 /// The text that `Debug` writes.
 impl Output for OptionsFault<'_> {
     fn show(&self, alloc: Global) -> Answer {
-        let text = format!(in alloc; "{self:?}");
-        Some(Value::String(text.ok()?))
+        format!(in alloc; "{self:?}").ok().map(Value::String)
     }
 }
 
 impl Output for Rule {
     fn show(&self, alloc: Global) -> Answer {
-        let text = format!(in alloc; "{self:?}");
-        Some(Value::String(text.ok()?))
+        format!(in alloc; "{self:?}").ok().map(Value::String)
     }
 }
 
@@ -54,13 +52,13 @@ impl Output for Vec<Rule> {
 
 impl Refuse for Error {
     fn refuse(&self, alloc: Global) -> Answer {
-        object(alloc, "err", self.show(alloc)?)
+        object(alloc, "err", self.show(alloc))
     }
 }
 
 impl Refuse for AllocError {
     fn refuse(&self, alloc: Global) -> Answer {
-        object(alloc, "err", string(alloc, "OutOfMemory")?)
+        object(alloc, "err", string(alloc, "OutOfMemory"))
     }
 }
 
@@ -70,8 +68,10 @@ impl Refuse for Refusal {
         if matches!(self.error.kind(), ErrorKind::OutOfMemory) {
             return self.error.refuse(alloc);
         }
-        let kind = self.error.show(alloc)?;
-        pair(alloc, ("err", kind), ("test", self.test.show(alloc)?))
+        let mut shown = Shown::new(alloc);
+        shown.add("err", &self.error);
+        shown.add("test", &self.test);
+        shown.end()
     }
 }
 

@@ -1,65 +1,55 @@
 //! Keys: an object of the family and the bytes, or of the family and the two numbers of RSA.
 
-use crate::answer::{Answer, digits};
-use crate::output::Output;
+use crate::answer::{Answer, Shown};
+use crate::output::{Bytes, Output};
 use jsonwebtoken::jwk::EllipticCurve;
 use jsonwebtoken::{DecodingKey, DecodingKeyKind, EncodingKey};
-use serde_json::{Map, Value, put};
 use std::alloc::Global;
 
 impl Output for EncodingKey {
     fn show(&self, alloc: Global) -> Answer {
-        let mut members = Map::new(alloc);
-        put(&mut members, alloc, "family", self.family().show(alloc)?).ok()?;
-        add_bytes(alloc, &mut members, "bytes", self.as_bytes())?;
-        Some(Value::Object(members))
+        let mut shown = Shown::new(alloc);
+        shown.add("family", &self.family());
+        shown.add("bytes", &Bytes(self.as_bytes()));
+        shown.end()
     }
 }
 
 impl Output for DecodingKey {
     fn show(&self, alloc: Global) -> Answer {
-        let mut members = Map::new(alloc);
-        put(&mut members, alloc, "family", self.family().show(alloc)?).ok()?;
-        add_kind(alloc, &mut members, self.kind())?;
-        Some(Value::Object(members))
+        let mut shown = Shown::new(alloc);
+        shown.add("family", &self.family());
+        add_kind(&mut shown, self.kind());
+        shown.end()
     }
 }
 
 impl Output for DecodingKeyKind {
     fn show(&self, alloc: Global) -> Answer {
-        let mut members = Map::new(alloc);
-        add_kind(alloc, &mut members, self)?;
-        Some(Value::Object(members))
+        let mut shown = Shown::new(alloc);
+        add_kind(&mut shown, self);
+        shown.end()
     }
 }
 
 /// A point on a curve.
 impl Output for (EllipticCurve, Vec<u8>, Vec<u8>) {
     fn show(&self, alloc: Global) -> Answer {
-        let mut members = Map::new(alloc);
-        put(&mut members, alloc, "crv", self.0.show(alloc)?).ok()?;
-        add_bytes(alloc, &mut members, "x", self.1.as_slice())?;
-        add_bytes(alloc, &mut members, "y", self.2.as_slice())?;
-        Some(Value::Object(members))
+        let mut shown = Shown::new(alloc);
+        shown.add("crv", &self.0);
+        shown.add("x", &self.1);
+        shown.add("y", &self.2);
+        shown.end()
     }
 }
 
 // Adds the content of a key: its bytes, or its two numbers.
-fn add_kind(alloc: Global, members: &mut Map<String, Value>, kind: &DecodingKeyKind) -> Option<()> {
+fn add_kind(shown: &mut Shown, kind: &DecodingKeyKind) {
     match kind {
-        DecodingKeyKind::SecretOrDer(bytes) => add_bytes(alloc, members, "bytes", bytes.as_slice()),
+        DecodingKeyKind::SecretOrDer(bytes) => shown.add("bytes", bytes),
         DecodingKeyKind::RsaModulusExponent { n, e } => {
-            add_bytes(alloc, members, "n", n.as_slice())?;
-            add_bytes(alloc, members, "e", e.as_slice())
+            shown.add("n", n);
+            shown.add("e", e);
         }
     }
-}
-
-fn add_bytes(
-    alloc: Global,
-    members: &mut Map<String, Value>,
-    name: &str,
-    bytes: &[u8],
-) -> Option<()> {
-    put(members, alloc, name, digits(alloc, bytes)?).ok()
 }

@@ -1,6 +1,6 @@
 //! Values of the plain types: as themselves, bytes in hexadecimal, and null for none.
 
-use crate::answer::{Answer, digits, object, pair, string};
+use crate::answer::{Answer, Shown, digits, object, string};
 use crate::output::Output;
 use serde_json::{Map, Value};
 use std::alloc::Global;
@@ -123,7 +123,7 @@ impl<T: Output> Output for Option<T> {
 impl<T: Output> Output for Found<T> {
     fn show(&self, alloc: Global) -> Answer {
         match &self.0 {
-            Some(value) => object(alloc, "some", value.show(alloc)?),
+            Some(value) => object(alloc, "some", value.show(alloc)),
             None => Some(Value::Null),
         }
     }
@@ -139,7 +139,9 @@ impl Output for (Vec<u8>, Vec<u8>) {
 /// A modulus and an exponent.
 impl Output for (Bytes<'_>, Bytes<'_>) {
     fn show(&self, alloc: Global) -> Answer {
-        let n = self.0.show(alloc)?;
-        pair(alloc, ("n", n), ("e", self.1.show(alloc)?))
+        let mut shown = Shown::new(alloc);
+        shown.add("n", &self.0);
+        shown.add("e", &self.1);
+        shown.end()
     }
 }

@@ -1,7 +1,7 @@
 //! Tokens and their parts, and the moments at which they are accepted.
 
-use crate::answer::{Answer, digits, pair, string};
-use crate::output::Output;
+use crate::answer::{Answer, Shown};
+use crate::output::{Bytes, Output};
 use jsonwebtoken::jwk::Jwk;
 use jsonwebtoken::jws::Jws;
 use jsonwebtoken::{Algorithm, Moments, SignedPart, SigningInput, TokenData};
@@ -10,9 +10,10 @@ use std::alloc::Global;
 
 impl Output for TokenData<Value> {
     fn show(&self, alloc: Global) -> Answer {
-        let claims = self.claims.show(alloc)?;
-        let header = self.header.to_value(alloc).ok()?;
-        pair(alloc, ("claims", claims), ("header", header))
+        let mut shown = Shown::new(alloc);
+        shown.add("claims", &self.claims);
+        shown.put("header", self.header.to_value(alloc).ok());
+        shown.end()
     }
 }
 
@@ -31,27 +32,32 @@ impl Output for Jws<Value> {
 
 impl Output for Moments {
     fn show(&self, alloc: Global) -> Answer {
-        let last = Value::from(self.last);
-        pair(alloc, ("first", Value::from(self.first)), ("last", last))
+        let mut shown = Shown::new(alloc);
+        shown.add("first", &self.first);
+        shown.add("last", &self.last);
+        shown.end()
     }
 }
 
 impl Output for SigningInput {
     fn show(&self, alloc: Global) -> Answer {
-        let algorithm = self.algorithm.show(alloc)?;
-        let message = string(alloc, self.message.as_str())?;
-        pair(alloc, ("algorithm", algorithm), ("message", message))
+        let mut shown = Shown::new(alloc);
+        shown.add("algorithm", &self.algorithm);
+        shown.add("message", &self.message);
+        shown.end()
     }
 }
 
 /// The header, and an object of the message and the signature.
 impl Output for SignedPart<'_> {
     fn show(&self, alloc: Global) -> Answer {
-        let message = digits(alloc, self.message)?;
-        let signature = digits(alloc, self.signature.as_slice())?;
-        let signed = pair(alloc, ("message", message), ("signature", signature))?;
-        let header = self.header.to_value(alloc).ok()?;
-        pair(alloc, ("header", header), ("signed", signed))
+        let mut signed = Shown::new(alloc);
+        signed.add("message", &Bytes(self.message));
+        signed.add("signature", &self.signature);
+        let mut shown = Shown::new(alloc);
+        shown.put("header", self.header.to_value(alloc).ok());
+        shown.put("signed", signed.end());
+        shown.end()
     }
 }
 
@@ -74,8 +80,9 @@ pub struct Verdict {
 
 impl Output for Verdict {
     fn show(&self, alloc: Global) -> Answer {
-        let algorithm = self.algorithm.show(alloc)?;
-        let verdict = Value::Bool(self.is_yes);
-        pair(alloc, ("algorithm", algorithm), ("verdict", verdict))
+        let mut shown = Shown::new(alloc);
+        shown.add("algorithm", &self.algorithm);
+        shown.add("verdict", &self.is_yes);
+        shown.end()
     }
 }

@@ -1,6 +1,6 @@
 //! Types that have a JSON value: this value; with the kind of the key, where there is a key.
 
-use crate::answer::{Answer, pair, string};
+use crate::answer::{Answer, Shown, string};
 use crate::output::{List, Output};
 use jsonwebtoken::jwk::{
     AlgorithmParameters, CommonParameters, EllipticCurveKeyParameters, FreeMembers, Jwk, JwkSet,
@@ -59,16 +59,19 @@ impl Output for Extras {
 
 impl Output for AlgorithmParameters {
     fn show(&self, alloc: Global) -> Answer {
-        let value = self.to_value(alloc).ok()?;
-        pair(alloc, ("kind", kind(alloc, self)?), ("value", value))
+        let mut shown = Shown::new(alloc);
+        shown.put("kind", kind(alloc, self));
+        shown.put("value", self.to_value(alloc).ok());
+        shown.end()
     }
 }
 
 impl Output for Jwk {
     fn show(&self, alloc: Global) -> Answer {
-        let value = self.to_value(alloc).ok()?;
-        let kind = kind(alloc, &self.algorithm)?;
-        pair(alloc, ("kind", kind), ("value", value))
+        let mut shown = Shown::new(alloc);
+        shown.put("kind", kind(alloc, &self.algorithm));
+        shown.put("value", self.to_value(alloc).ok());
+        shown.end()
     }
 }
 
@@ -86,15 +89,13 @@ impl Output for JwkSet {
 
 impl Output for Header {
     fn show(&self, alloc: Global) -> Answer {
-        let value = self.to_value(alloc).ok()?;
-        match &self.jwk {
-            Some(key) => pair(
-                alloc,
-                ("jwk", kind(alloc, &key.algorithm)?),
-                ("value", value),
-            ),
-            None => Some(value),
-        }
+        let Some(key) = &self.jwk else {
+            return self.to_value(alloc).ok();
+        };
+        let mut shown = Shown::new(alloc);
+        shown.put("jwk", kind(alloc, &key.algorithm));
+        shown.put("value", self.to_value(alloc).ok());
+        shown.end()
     }
 }
 

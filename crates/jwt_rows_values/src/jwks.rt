@@ -17,7 +17,7 @@ pub fn jwk(method: &str, row: &Row<'_>) -> Answer {
             row.end(key.to_text(row.begin()))
         }
         "from_slice" => {
-            let bytes = row.bytes("bytes")?;
+            let bytes = row.bytes("bytes");
             row.end(Jwk::from_slice(row.begin(), bytes.as_slice()))
         }
         _ => json_call::<Jwk>(method, row),
@@ -33,7 +33,7 @@ pub fn jwk_set(method: &str, row: &Row<'_>) -> Answer {
         }
         "find" => {
             let set = row.input::<JwkSet>("set")?;
-            let kid = row.text("kid")?;
+            let kid = row.text("kid");
             row.begin();
             row.give(&set.find(kid))
         }
@@ -42,7 +42,7 @@ pub fn jwk_set(method: &str, row: &Row<'_>) -> Answer {
             row.end(set.to_text(row.begin()))
         }
         "from_slice" => {
-            let bytes = row.bytes("bytes")?;
+            let bytes = row.bytes("bytes");
             row.end(JwkSet::from_slice(row.begin(), bytes.as_slice()))
         }
         _ => json_call::<JwkSet>(method, row),

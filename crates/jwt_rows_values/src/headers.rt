@@ -8,7 +8,7 @@ use jwt_rows::{Answer, Row};
 pub fn header(method: &str, row: &Row<'_>) -> Answer {
     match method {
         "new" => {
-            let algorithm = row.read::<Algorithm>("algorithm")?;
+            let algorithm = row.algorithm("algorithm");
             row.end(Header::new(row.begin(), algorithm))
         }
         "x5c_der" => {
@@ -20,7 +20,7 @@ pub fn header(method: &str, row: &Row<'_>) -> Answer {
             row.end(header.to_text(row.begin()))
         }
         "from_slice" => {
-            let bytes = row.bytes("bytes")?;
+            let bytes = row.bytes("bytes");
             row.end(Header::from_slice(row.begin(), bytes.as_slice()))
         }
         _ => json_call::<Header>(method, row),

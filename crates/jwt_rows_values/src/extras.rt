@@ -20,8 +20,8 @@ pub fn extras(method: &str, row: &Row<'_>) -> Answer {
             row.give(extras.inner())
         }
         "contains" => {
-            let name = row.text("name")?;
             let extras = row.input::<Extras>("extras")?;
+            let name = row.text("name");
             row.begin();
             row.give(&extras.contains(name))
         }
@@ -31,7 +31,7 @@ pub fn extras(method: &str, row: &Row<'_>) -> Answer {
 }
 
 fn by_type(method: &str, row: &Row<'_>) -> Answer {
-    match row.text("as")? {
+    match row.text("as") {
         "Value" => of_member::<Value>(method, row),
         "String" => of_member::<String>(method, row),
         "bool" => of_member::<bool>(method, row),
@@ -44,23 +44,24 @@ fn by_type(method: &str, row: &Row<'_>) -> Answer {
 }
 
 fn of_member<T: Claims + Input + Output>(method: &str, row: &Row<'_>) -> Answer {
-    let name = row.text("name")?;
     if method == "get" {
-        let extras = row.input::<Extras>("extras")?;
-        let alloc = row.begin();
-        return match extras.get::<T>(alloc, name) {
-            Ok(member) => row.give(&Found(member)),
-            Err(refusal) => row.refuse(&refusal),
-        };
+        return get::<T>(row);
     }
     let value = row.read::<T>("value")?;
-    insert(row, name, &value)
+    insert(row, &value)
 }
 
-fn insert<T: Claims>(row: &Row<'_>, name: &str, value: &T) -> Answer {
+fn get<T: Claims + Output>(row: &Row<'_>) -> Answer {
+    let extras = row.input::<Extras>("extras")?;
+    let name = row.text("name");
+    let member = extras.get::<T>(row.begin(), name);
+    row.end(member.map(Found))
+}
+
+fn insert<T: Claims>(row: &Row<'_>, value: &T) -> Answer {
     let before = row.input::<Extras>("extras")?;
     let mut after = row.input::<Extras>("extras")?;
-    let alloc = row.begin();
-    let answer = after.insert(alloc, name, value);
+    let name = row.text("name");
+    let answer = after.insert(row.begin(), name, value);
     row.end_change(answer, &*before, &*after)
 }
