@@ -2,6 +2,7 @@ pub mod Parts
 pub mod Readings
 pub mod PaddedTexts
 pub mod Copies
+pub mod DecimalNumbers
 pub mod Kept
 pub mod FreeMembers
 pub mod MembersWritten

@@ -6,6 +6,7 @@ pub mod Algorithm
 pub mod Base64Url
 pub mod JsonText
 pub mod DataEq
+pub mod Decimal
 pub mod Members
 pub mod Claims
 pub mod Written

@@ -12,6 +12,7 @@
 
 pub mod algorithms;
 pub mod cloning;
+pub mod decimal;
 pub mod errors;
 pub mod json;
 pub mod serialization;

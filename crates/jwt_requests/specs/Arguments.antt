@@ -1,16 +1,15 @@
 -- The request that the arguments of the command line stand for.
-use Rattle.std.specs.Prelude.{◌≡◌, ◌≢◌, ◌⊎◌, ◌&&◌, ◌^◌, ⊤, ℕ, List, [], Bool, true, false, Option, Some, None, length, ltb, map}
-use Rattle.std.specs.Prelude.{All, IfSome, option_map, if◌then◌else◌, codes}
+use Rattle.std.specs.Prelude.{◌≡◌, ◌≢◌, ◌⊎◌, ⊤, ℕ, List, [], Bool, true, false, Option, Some, None, map}
+use Rattle.std.specs.Prelude.{All, IfSome, option_map, codes}
 use Rattle.std.specs.Borrow.{Bor}
 use Rattle.std.specs.Option.{option_or}
-use Rattle.std.specs.Str.{all_ascii_digits}
-use Rattle.std.specs.Str.Parse.{digits_value}
 use Rattle.clap.specs.Matches.{first_value, matched_of, one_text, raw_values, subcommand_name_of}
 use Rattle.clap.specs.Simple.{subcommand_rows_of}
 use Rattle.clap.specs.Walk.{rows_of}
 use Rattle.clap.specs.declared.parser.matches.ArgMatches.{ArgMatches}
 use Rattle.clap.specs.declared.parser.matches.Found.{Found}
 use Rattle.jwt_base.specs.Algorithm.{algorithm_named, family_of}
+use Rattle.jwt_base.specs.Decimal.{decimal_value}
 use Rattle.jwt_base.specs.declared.algorithms.AlgorithmFamily.TheVariants.{Hmac}
 use Rattle.jwt_params.specs.declared.thumbprints.ThumbprintHash.{ThumbprintHash}
 use Rattle.jwt_params.specs.declared.thumbprints.ThumbprintHash.TheVariants.{SHA256, SHA384, SHA512}
@@ -43,13 +42,6 @@ pub record IsFlag (f : Found) (id : List ℕ) (b : Bool) : Type 0 where
   pub set : one_text f id ≡ Some (codes "true") → b ≡ true
   pub unset : one_text f id ≡ Some (codes "false") → b ≡ false
   pub absent : one_text f id ≡ None → b ≡ false
-
--- the number that one or more decimal digits stand for, if it has at most 64 bits
-abbrev pub decimal_value : List ℕ → Option ℕ
-decimal_value word =
-    if all_ascii_digits word && (ltb 0 (length word)
-    && ltb (digits_value 10 word) (2 ^ 64)) then Some (digits_value 10 word)
-    else None
 
 -- the number of a value; of one that is no such number, but a time or a span, this says that there is a number
 abbrev pub IsNumberOf : Option (List ℕ) → Option ℕ → Type 0

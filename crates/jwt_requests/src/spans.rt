@@ -4,9 +4,10 @@
 // number, since the kit's `jiff` states nothing of dates and spans.
 
 ghost use Rattle.std.specs.Prelude.{◌≡◌, ℕ, Some};
-ghost use Rattle.jwt_requests.specs.Arguments.{decimal_value};
+ghost use Rattle.jwt_base.specs.Decimal.{decimal_value};
 
 use jiff::{SignedDuration, Timestamp};
+use jwt_base::decimal::decimal_number;
 
 /// Returns the time of a text, in whole seconds since 1970-01-01 00:00:00 UTC: decimal digits, or
 /// a date and time of RFC 3339, whose fraction of a second is left out. `None` stands for another
@@ -14,7 +15,7 @@ use jiff::{SignedDuration, Timestamp};
 pub fn parse_time(text: &str) -> Option<u64>
     ensures { (n : ℕ) → decimal_value text.now ≡ Some n → result ≡ Some n }
 {
-    let number = number(text);
+    let number = decimal_number(text);
     if number.is_some() || is_decimal(text) {
         return number;
     }
@@ -27,22 +28,12 @@ pub fn parse_time(text: &str) -> Option<u64>
 pub fn parse_span(text: &str) -> Option<u64>
     ensures { (n : ℕ) → decimal_value text.now ≡ Some n → result ≡ Some n }
 {
-    let number = number(text);
+    let number = decimal_number(text);
     if number.is_some() || is_decimal(text) {
         return number;
     }
     let span = text.parse::<SignedDuration>().ok()?;
     u64::try_from(span.as_secs()).ok()
-}
-
-/// Returns the number that one or more decimal digits stand for, if it has at most 64 bits.
-fn number(text: &str) -> Option<u64>
-    ensures { result ≡ decimal_value text.now }
-{
-    if text.starts_with('+') {
-        return None;
-    }
-    text.parse::<u64>().ok()
 }
 
 /// Returns whether each character is a decimal digit.

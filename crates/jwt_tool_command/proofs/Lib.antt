@@ -1,4 +1,3 @@
 pub mod Calls
-pub mod Moments
 pub mod Said
 pub mod Thumbprints

@@ -1,9 +1,9 @@
 -- The requests that the arguments of the program stand for.
-use Rattle.std.specs.Prelude.{◌&&◌, ◌^◌, ltb, length, if◌then◌else◌, ℕ, List, [], ◌∷◌, Option, Some, None, option_map}
+use Rattle.std.specs.Prelude.{if◌then◌else◌, ℕ, List, [], ◌∷◌, Option, Some, None, option_map}
 use Rattle.std.specs.Prelude.{option_and_then, codes}
-use Rattle.std.specs.Str.{bytes_eq, all_ascii_digits}
-use Rattle.std.specs.Str.Parse.{digits_value}
+use Rattle.std.specs.Str.{bytes_eq}
 use Rattle.jwt_base.specs.Algorithm.{algorithm_named}
+use Rattle.jwt_base.specs.Decimal.{decimal_value}
 use Rattle.jwt_base.specs.declared.algorithms.Algorithm.{Algorithm}
 use Rattle.jwt_params.specs.declared.thumbprints.ThumbprintHash.{ThumbprintHash}
 use Rattle.jwt_params.specs.declared.thumbprints.ThumbprintHash.TheVariants.{SHA256, SHA384, SHA512}
@@ -17,13 +17,6 @@ pub data Request : Type 0 where
   ForToken : Algorithm → List ℕ → Request
   ForClaims : Algorithm → List ℕ → ℕ → Request
   ForClaimsBySet : Algorithm → List ℕ → ℕ → Request
-
--- the number that one or more decimal digits stand for, if it has at most 64 bits
-abbrev pub moment_of : List ℕ → Option ℕ
-moment_of word =
-    if all_ascii_digits word && (ltb 0 (length word)
-    && ltb (digits_value 10 word) (2 ^ 64)) then Some (digits_value 10 word)
-    else None
 
 -- the request of one argument
 abbrev pub request_named : List ℕ → Option Request
@@ -54,7 +47,7 @@ encoding_request word algorithm secret =
 abbrev pub claims_asked : (Algorithm → List ℕ → ℕ → Request) → List ℕ → List ℕ → List ℕ
     → Option Request
 claims_asked request algorithm by moment =
-    option_and_then (λ a. option_map (λ time. request a by time) (moment_of moment))
+    option_and_then (λ a. option_map (λ time. request a by time) (decimal_value moment))
     (algorithm_named algorithm)
 
 -- `decode` with a secret, or `decode-set` with the text of a set

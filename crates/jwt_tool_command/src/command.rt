@@ -5,11 +5,12 @@ ghost use Rattle.jwt_base.specs.Algorithm.{algorithm_named};
 ghost use Rattle.jwt_tool_command.specs.Words.{Request, request_of, request_named};
 ghost use Rattle.jwt_tool_command.specs.Words.{thumbprint_request, hash_of_name};
 ghost use Rattle.jwt_tool_command.specs.Words.{encoding_request, decoding_request};
-ghost use Rattle.jwt_tool_command.specs.Words.{claims_asked, ForClaims, ForClaimsBySet, moment_of};
+ghost use Rattle.jwt_tool_command.specs.Words.{claims_asked, ForClaims, ForClaimsBySet};
 ghost use Rattle.jwt_tool_command.specs.Asked.{asked};
 
 use jsonwebtoken::jwk::ThumbprintHash;
 use jwt_base::algorithms::Algorithm;
+use jwt_base::decimal::decimal_number;
 
 /// A command of the program.
 #[derive(Debug, Drop)]
@@ -118,7 +119,7 @@ fn decode_by_secret<'a>(algorithm: &str, secret: &'a str, time: &str) -> Option<
     ensures { option_map asked result ≡ claims_asked ForClaims algorithm.now secret.now time.now }
 {
     let algorithm = algorithm_of(algorithm)?;
-    let time = time_of(time)?;
+    let time = decimal_number(time)?;
     Some(Command::Decode {
         algorithm,
         secret,
@@ -130,7 +131,7 @@ fn decode_by_set<'a>(algorithm: &str, set: &'a str, time: &str) -> Option<Comman
     ensures { option_map asked result ≡ claims_asked ForClaimsBySet algorithm.now set.now time.now }
 {
     let algorithm = algorithm_of(algorithm)?;
-    let time = time_of(time)?;
+    let time = decimal_number(time)?;
     Some(Command::DecodeWithSet {
         algorithm,
         set,
@@ -142,14 +143,4 @@ fn algorithm_of(name: &str) -> Option<Algorithm>
     ensures { result ≡ algorithm_named name.now }
 {
     name.parse::<Algorithm>().ok()
-}
-
-/// Returns the number that one or more decimal digits stand for.
-fn time_of(word: &str) -> Option<u64>
-    ensures { result ≡ moment_of word.now }
-{
-    if word.starts_with('+') {
-        return None;
-    }
-    word.parse::<u64>().ok()
 }

@@ -7,7 +7,7 @@ use Rattle.std.specs.declared.result.Result.TheVariants.{Ok, Err}
 use Rattle.std.specs.Str.{all_ascii_digits}
 use Rattle.std.specs.Str.Parse.{digits_value}
 use Rattle.std.proofs.lemmas.Bool.{ltb-true, lt-ltb, false≢true}
-use Rattle.jwt_requests.specs.Arguments.{decimal_value}
+use Rattle.jwt_base.specs.Decimal.{decimal_value}
 
 read_as : {E : Type 0} (a b c : Bool) (v : ℕ) (r : Result ℕ E) → OkIff r ((a ≡ true) × (b ≡ true) × (c ≡ true)) v
     → result_ok r ≡ (if a && (b && c) then Some v else None)

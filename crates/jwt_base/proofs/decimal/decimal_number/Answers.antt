@@ -1,7 +1,7 @@
 use Rattle.std.proofs.Common.{rules, ◌∙◌}
 use Rattle.std.proofs.lemmas.Str.Parse.{numerals_by_value, tells_all_ascii_digits, parse_plain}
-use Rattle.jwt_requests.proofs.Numbers.{number_read}
-use Rattle.jwt_requests.proofs.spans.number.Goals as goal
+use Rattle.jwt_base.proofs.DecimalNumbers.{number_read}
+use Rattle.jwt_base.proofs.decimal.decimal_number.Goals as goal
 
 pub returns : goal.returns
 returns c = c.ok.ensures.value
