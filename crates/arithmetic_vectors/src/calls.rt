@@ -1,6 +1,6 @@
 //! The calls that rows name. Numbers are hexadecimal strings, the most significant octet first.
 
-ghost use Rattle.std.specs.Prelude.{◌≡◌, ◌<◌, ◌≤◌, ◌%◌, IfOk, IfSome, length};
+ghost use Rattle.std.specs.Prelude.{◌≡◌, ◌<◌, IfOk, IfSome};
 
 use crate::points::by_curve;
 use crate::row::Row;

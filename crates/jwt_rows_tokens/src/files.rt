@@ -1,7 +1,7 @@
 //! Keys as files hold them, signatures in DER, and the comparison of signatures.
 
 use jsonwebtoken::crypto::is_same;
-use jsonwebtoken::{Algorithm, DecodingKey, errors};
+use jsonwebtoken::{DecodingKey, errors};
 use jwt_key_files::certificate::{
     unverified_key_from_certificate, unverified_key_from_certificate_pem,
 };

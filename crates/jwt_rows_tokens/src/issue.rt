@@ -1,7 +1,7 @@
 //! Tokens that are issued, and signatures as base64url strings.
 
 use jsonwebtoken::crypto::{CryptoProvider, sign, verify};
-use jsonwebtoken::{Algorithm, DecodingKey, EncodingKey, Header, encode, jws};
+use jsonwebtoken::{DecodingKey, EncodingKey, Header, encode, jws};
 use jwt_rows::{Answer, Row};
 use serde_json::Value;
 

@@ -3,7 +3,7 @@
 
 use jsonwebtoken::crypto::{CryptoProvider, JwtSigner, JwtVerifier};
 use jsonwebtoken::jwk::{EllipticCurve, ThumbprintHash};
-use jsonwebtoken::{Algorithm, DecodingKey, EncodingKey};
+use jsonwebtoken::{DecodingKey, EncodingKey};
 use jwt_rows::inputs::providers::two_of;
 use jwt_rows::output::Verdict;
 use jwt_rows::{Answer, Row};

@@ -1,7 +1,7 @@
 //! Headers (RFC 7515 section 4).
 
 use crate::json::{json_call, json_input};
-use jsonwebtoken::{Algorithm, Header};
+use jsonwebtoken::Header;
 use jwt_rows::{Answer, Row};
 
 /// Makes a call of `Header`.

@@ -1,7 +1,7 @@
 //! Validations: their JSON values and their setters.
 
 use jsonwebtoken::options::options_fault;
-use jsonwebtoken::{Algorithm, AlgorithmFamily, Validation};
+use jsonwebtoken::{AlgorithmFamily, Validation};
 use jwt_rows::calls::{debug, eq};
 use jwt_rows::{Answer, Row};
 

@@ -18,7 +18,6 @@ use jsonwebtoken::Validation;
 use jwt_requests::{Fault, VerifyArgs};
 use jwt_verifier::TOKEN_LIMIT;
 use memchr::memchr;
-use std::alloc::Global;
 use std::io::{self, BufRead, BufReader, BufWriter, ErrorKind, Write};
 use std::rt::Clock;
 

@@ -8,7 +8,6 @@ ghost use Rattle.std.specs.Prelude.{unwrap_or, not, true, false};
 ghost use Rattle.std.specs.Option.{option_or};
 ghost use Rattle.std.specs.HashSet.{contains_text};
 ghost use Rattle.std.specs.Str.{bytes_eq};
-ghost use Rattle.jwt_base.specs.KindOf.{IsMemory};
 ghost use Rattle.jwt_validation.specs.Options.{among, default_options};
 ghost use Rattle.jwt_validation.specs.OptionsOf.{options_of};
 ghost use Rattle.jwt_command.specs.Requested.{AreRequested, IsBase, IsNoBase};
