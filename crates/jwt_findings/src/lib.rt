@@ -40,6 +40,7 @@ mod times;
 mod unsigned;
 mod wrappings;
 
+pub use attempts::value_unless_refused;
 pub use checked::{CheckedKeys, CheckedToken};
 pub use contents::{contents_text, salvage_texts};
 pub use escapes::{escape_unseen, is_unseen};

@@ -1,6 +1,6 @@
 //! The faults that leave a command without an answer.
 
-ghost use Rattle.std.specs.Prelude.{◌≡◌, ◌⊎◌, ◌↔◌, IsTrue, Ok, Err, Some, None};
+ghost use Rattle.std.specs.Prelude.{◌≡◌, ◌⊎◌, ◌↔◌, IsTrue};
 ghost use Rattle.jwt_base.specs.KindOf.{IsMemory};
 
 use jwt_base::errors::{Error, ErrorKind};
@@ -72,17 +72,4 @@ pub fn fault_of<'a>(error: &Error, fault: Fault<'a>) -> Fault<'a>
         return Fault::Memory;
     }
     fault
-}
-
-/// Returns the value that a call made, or `None` if it was refused for another reason than memory.
-pub fn value_unless_refused<R>(made: Result<R, Error>) -> Result<Option<R>, Fault<'static>>
-    ensures value { (value : R) → made ≡ Ok value → result ≡ Ok (Some value) }
-    ensures memory { (error : Error) → made ≡ Err error → IsMemory error → result ≡ Err Fault.Memory }
-    ensures none { (error : Error) → made ≡ Err error → ¬ IsMemory error → result ≡ Ok None }
-{
-    match made {
-        Ok(value) => Ok(Some(value)),
-        Err(error) if is_memory(&error) => Err(Fault::Memory),
-        Err(_) => Ok(None),
-    }
 }

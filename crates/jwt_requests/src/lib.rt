@@ -22,7 +22,7 @@ mod request;
 mod spans;
 
 pub use arguments::command;
-pub use fault::{Fault, fault_of, is_memory, value_unless_refused};
+pub use fault::{Fault, fault_of, is_memory};
 pub use request::{
     AttachArgs, Checks, Draft, KeyFile, KeysArgs, Request, SecretFile, ShowArgs, SignArgs,
     ThumbprintArgs, VerifyArgs, is_of_secret, parse_request,

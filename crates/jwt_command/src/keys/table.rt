@@ -9,8 +9,8 @@ use jsonwebtoken::jwk::{
 };
 use jsonwebtoken::{Algorithm, DecodingKey};
 use jwt_base::serialization::part_bytes;
-use jwt_findings::{escape_unseen, is_unseen, set_problem};
-use jwt_requests::{Fault, KeysArgs, fault_of, value_unless_refused};
+use jwt_findings::{escape_unseen, is_unseen, set_problem, value_unless_refused};
+use jwt_requests::{Fault, KeysArgs, fault_of};
 use jwt_secrets::is_blank_jwk;
 use jwt_standard::StandardProvider;
 use serde_json::Value;
@@ -263,7 +263,8 @@ fn secret_text(alloc: Global, part: &str) -> Result<String, Fault<'static>> {
 }
 
 fn thumbprint(alloc: Global, jwk: &Jwk) -> Result<Option<String>, Fault<'static>> {
-    value_unless_refused(jwk.thumbprint(alloc, &StandardProvider, ThumbprintHash::SHA256))
+    let made = jwk.thumbprint(alloc, &StandardProvider, ThumbprintHash::SHA256);
+    Ok(value_unless_refused(made)?)
 }
 
 /// Returns why a key of a set is of no use, if so: such as one with which anyone can sign.

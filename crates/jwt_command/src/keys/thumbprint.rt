@@ -4,8 +4,9 @@ ghost use Rattle.std.specs.Prelude.{◌≡◌, IfOk};
 
 use crate::answer::Answer;
 use jsonwebtoken::jwk::{Jwk, ThumbprintHash};
+use jwt_findings::value_unless_refused;
 use jwt_key_files::jwk::jwk_from_pem;
-use jwt_requests::{Fault, fault_of, value_unless_refused};
+use jwt_requests::{Fault, fault_of};
 use jwt_standard::StandardProvider;
 use std::alloc::Global;
 
