@@ -3,8 +3,8 @@
 ghost use Rattle.std.specs.Prelude.{◌≡◌};
 ghost use Rattle.jwt_base.specs.Decimal.{decimal_value};
 
-/// Returns the number that one or more decimal digits stand for, if it has at most 64 bits. A sign
-/// is none of them.
+/// Returns the number that one or more decimal digits stand for, if it has at most 64 bits. A text
+/// with a sign has none.
 pub fn decimal_number(text: &str) -> Option<u64>
     ensures { result ≡ decimal_value text.now }
 {
