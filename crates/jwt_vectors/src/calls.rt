@@ -7,6 +7,9 @@ use jsonwebtoken::jwk::{
 };
 use jsonwebtoken::{Enc, Zip};
 use jwt_rows::{Answer, Row};
+use jwt_rows_arithmetic::numbers::{limb, modulus, natural};
+use jwt_rows_arithmetic::points::by_curve;
+use jwt_rows_arithmetic::signatures::is_signature;
 use jwt_rows_tokens::{
     by_provider, external_signature, files, keys, places, prepared, sizes, tokens,
 };
@@ -41,6 +44,9 @@ pub fn answer(row: &Row<'_>) -> Answer {
         "is_same" => files::are_same(row),
         "sizes" => sizes::answer(row),
         "place" | "each_cut" | "each_change" => places::answer(call, row),
+        "limb_from_octets" => limb(row),
+        "right_sums" | "is_multiple" | "is_joint_multiple" => by_curve(call, row),
+        "is_signature" => is_signature(row),
         _ => of_files(call, row),
     }
 }
@@ -98,6 +104,8 @@ fn of_value(name: &str, method: &str, call: &str, row: &Row<'_>) -> Answer {
         "SignatureProvider" => external_signature::signature(method, row),
         "VerdictProvider" => external_signature::verdict(method, row),
         "Jws" => tokens::parts(method, row),
+        "Natural" => natural(method, row),
+        "Modulus" => modulus(method, row),
         _ => of_json(name, method, call, row),
     }
 }

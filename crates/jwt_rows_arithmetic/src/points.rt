@@ -1,42 +1,41 @@
-//! The calls that rows about points of P-256 and P-384 name. A point is the hexadecimal string of
-//! its uncompressed form (SEC 1 section 2.3.3), and the empty string stands for the point at
-//! infinity.
+//! Points of P-256 and P-384, which stand in a row as the octets of their uncompressed form (SEC 1
+//! section 2.3.3), and the point at infinity as none; and points of Ed25519, as those of their
+//! encoding (RFC 8032 section 5.1.2).
 
 ghost use Rattle.std.specs.Prelude.{◌≤◌};
 
 use crate::joint::{base_point, joint};
 use crate::joint_edwards::edwards_joint_multiple;
-use crate::row::Row;
+use crate::octets;
 use ecdsa::bases::BaseMultiples;
 use ecdsa::constants::{b_256, b_384};
 use ecdsa::keys::read_key;
 use ecdsa::moduli::{Field256, Field384, FieldModulus256, FieldModulus384};
+use jwt_rows::{Answer, Row};
 use primes::inverses::read;
 use residues::montgomery::Montgomery;
 use residues::residue::Residue;
-use serde_json::Value;
 use weierstrass::points::{ProjectivePoint, add, double, point_at_infinity};
 
 type Residues256 = Montgomery<FieldModulus256, 4>;
 
 type Residues384 = Montgomery<FieldModulus384, 6>;
 
-/// Makes a call about the points of a curve. A point of Ed25519 is the hexadecimal string of its
-/// encoding (RFC 8032 section 5.1.2).
-pub fn by_curve(call: &str, row: &Row<'_>) -> Option<Value> {
+/// Makes a call about the points of a curve.
+pub fn by_curve(call: &str, row: &Row<'_>) -> Answer {
     by_residues::<Residues256, Residues384>(call, row)
 }
 
-fn by_residues<F: Field256, G: Field384>(call: &str, row: &Row<'_>) -> Option<Value> {
+fn by_residues<F: Field256, G: Field384>(call: &str, row: &Row<'_>) -> Answer {
     match row.text("curve") {
         "P-256" => on_curve::<F, 32>(call, row, b_256()),
         "P-384" => on_curve::<G, 48>(call, row, b_384()),
         "Ed25519" if call == "is_joint_multiple" => edwards_joint_multiple(row),
-        _ => row.refuse("curve"),
+        _ => None,
     }
 }
 
-fn on_curve<F: BaseMultiples, const S: usize>(call: &str, row: &Row<'_>, b: F) -> Option<Value>
+fn on_curve<F: BaseMultiples, const S: usize>(call: &str, row: &Row<'_>, b: F) -> Answer
     requires { S ≤ 66 }
 {
     match call {
@@ -49,13 +48,13 @@ fn on_curve<F: BaseMultiples, const S: usize>(call: &str, row: &Row<'_>, b: F) -
 // Counts the right ones among the sums of the multiples of a point by -k to k with each other.
 // `multiples` lists those by -2k to 2k, and the coordinates of the first of both points are
 // multiplied by `scale`.
-fn sums<F: Residue, const S: usize>(row: &Row<'_>, b: F) -> Option<Value>
+fn sums<F: Residue, const S: usize>(row: &Row<'_>, b: F) -> Answer
     requires { S ≤ 66 }
 {
-    row.takes(&["curve", "multiples", "scale"]);
     let points = multiples::<F, S>(row, b)?;
     let scale = scale::<F, S>(row)?;
-    Some(Value::from(count_sums(b, points.as_slice(), scale)))
+    row.begin();
+    row.give(&count_sums(b, points.as_slice(), scale))
 }
 
 // Returns the points of the list at `multiples`.
@@ -65,17 +64,16 @@ fn multiples<F: Residue, const S: usize>(row: &Row<'_>, b: F) -> Option<Vec<Proj
     let mut points = Vec::new(row.alloc());
     for value in row.list("multiples") {
         points
-            .push(point_of::<F, S>(row, "multiples", b, value.as_str()?)?)
+            .push(point_of::<F, S>(row, b, value.as_str()?)?)
             .ok()?;
     }
     Some(points)
 }
 
-// Returns the point that the hexadecimal digits of a member describe, on the curve with this b and
-// with coordinates of `S` octets.
+// Returns the point that hexadecimal digits describe, on the curve with this b and with coordinates
+// of `S` octets.
 fn point_of<F: Residue, const S: usize>(
     row: &Row<'_>,
-    name: &'static str,
     b: F,
     digits: &str,
 ) -> Option<ProjectivePoint<F>>
@@ -84,18 +82,16 @@ fn point_of<F: Residue, const S: usize>(
     if digits.is_empty() {
         return Some(point_at_infinity());
     }
-    match hex::decode(row.alloc(), digits) {
-        Ok(octets) => read_key::<F, S>(b, octets.as_slice()),
-        Err(_) => row.refuse(name),
-    }
+    let octets = hex::decode(row.alloc(), digits).ok()?;
+    read_key::<F, S>(b, octets.as_slice())
 }
 
 // Returns the residue at `scale`, which is not 0.
 fn scale<F: Residue, const S: usize>(row: &Row<'_>) -> Option<F> {
-    let octets = row.octets("scale");
+    let octets = octets(row, "scale");
     let octets = octets.as_slice();
     if octets.len() != S {
-        return row.refuse("scale");
+        return None;
     }
     let scale = read::<F, S>(octets)?;
     (!scale.is_same(F::zero())).then_some(scale)
@@ -160,37 +156,33 @@ fn is_point<F: Residue>(given: ProjectivePoint<F>, wanted: ProjectivePoint<F>) -
 }
 
 // Whether the multiple of the base point by the number at `scalar` is the point at `multiple`.
-fn multiple<F: BaseMultiples, const S: usize>(row: &Row<'_>, b: F) -> Option<Value>
+fn multiple<F: BaseMultiples, const S: usize>(row: &Row<'_>, b: F) -> Answer
     requires { S ≤ 66 }
 {
-    row.takes(&["curve", "scalar", "multiple"]);
-    let wanted = point_of::<F, S>(row, "multiple", b, row.text("multiple"))?;
-    let scalar = scalar::<S>(row, "scalar");
+    let wanted = point_of::<F, S>(row, b, row.text("multiple"))?;
+    let scalar = scalar(row, "scalar");
+    row.begin();
     let given = joint(scalar.as_slice(), &[0_u8; S], base_point::<F>())?;
-    Some(Value::Bool(is_point(given, wanted)))
+    row.give(&is_point(given, wanted))
 }
 
-// The number at a name, in octets of which the least significant is the first. Its `S` octets are
-// counted by whoever takes them.
-fn scalar<const S: usize>(row: &Row<'_>, name: &'static str) -> Vec<u8> {
-    let mut scalar = row.octets(name);
-    if scalar.len() != S {
-        row.note(name);
-    }
+// The number at a name, in octets of which the least significant is the first.
+fn scalar(row: &Row<'_>, name: &'static str) -> Vec<u8> {
+    let mut scalar = octets(row, name);
     scalar.as_mut_slice().reverse();
     scalar
 }
 
 // Whether the sum of the base point's multiple by the number at `scalar` and that of the point at
 // `other` by the number at `other_scalar` is the point at `multiple`.
-fn joint_multiple<F: BaseMultiples, const S: usize>(row: &Row<'_>, b: F) -> Option<Value>
+fn joint_multiple<F: BaseMultiples, const S: usize>(row: &Row<'_>, b: F) -> Answer
     requires { S ≤ 66 }
 {
-    row.takes(&["curve", "scalar", "other_scalar", "other", "multiple"]);
-    let other = point_of::<F, S>(row, "other", b, row.text("other"))?;
-    let wanted = point_of::<F, S>(row, "multiple", b, row.text("multiple"))?;
-    let first = scalar::<S>(row, "scalar");
-    let second = scalar::<S>(row, "other_scalar");
+    let other = point_of::<F, S>(row, b, row.text("other"))?;
+    let wanted = point_of::<F, S>(row, b, row.text("multiple"))?;
+    let first = scalar(row, "scalar");
+    let second = scalar(row, "other_scalar");
+    row.begin();
     let given = joint(first.as_slice(), second.as_slice(), other)?;
-    Some(Value::Bool(is_point(given, wanted)))
+    row.give(&is_point(given, wanted))
 }

@@ -1,27 +1,25 @@
 //! Signatures on curves, verified by the bytes of a key and by the key that is prepared.
 
-use crate::row::Row;
+use crate::octets;
 use ecdsa::curves::{is_es256, is_es384};
 use ecdsa::prepared_curves::{is_es256_by, is_es384_by, prepare_p256, prepare_p384};
 use ed25519::prepared::{is_signature_by, prepare_key};
 use ed25519::verification;
-use serde_json::Value;
+use jwt_rows::{Answer, Row};
 use std::alloc::{AllocError, Global};
 
 /// Returns whether the signature is one of the message by the algorithm and key, if both ways of
 /// verifying say the same.
-pub fn is_signature(row: &Row<'_>) -> Option<Value> {
-    row.takes(&["algorithm", "key", "message", "signature"]);
-    let key = row.octets("key");
-    let message = row.octets("message");
-    let signature = row.octets("signature");
+pub fn is_signature(row: &Row<'_>) -> Answer {
+    let key = octets(row, "key");
+    let message = octets(row, "message");
+    let signature = octets(row, "signature");
     let (key, message, signature) = (key.as_slice(), message.as_slice(), signature.as_slice());
     let algorithm = row.text("algorithm");
     let by_bytes = by_bytes(algorithm, key, message, signature);
-    match by_prepared(row.alloc(), algorithm, key, message, signature) {
-        Ok(verdict) if verdict == by_bytes => Some(Value::Bool(verdict)),
-        Ok(_) => row.refuse("another verdict by the prepared key"),
-        Err(_) => None,
+    match by_prepared(row.begin(), algorithm, key, message, signature) {
+        Ok(verdict) if verdict != by_bytes => row.found("the same by a prepared key", None, None),
+        answer => row.end(answer),
     }
 }
 
