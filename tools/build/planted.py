@@ -1,7 +1,7 @@
 """Checks a crate in which wrong bodies are planted: many in one check, one of a function or of a cycle of calls.
 
-The proofs of callers rest on a function's contract alone, so every other function loses its body, which would have to be read, and its
-proof.
+A further wrong body of a function stands in a copy of it, under another name and with the same contract and answers. The proofs of
+callers rest on a function's contract alone, so every other function loses its body, which would have to be read, and its proof.
 """
 import os
 import re
@@ -43,19 +43,49 @@ def applied(edits, twins=False):
     return texts
 
 
+def copied(edit, name, twins):
+    """Returns the text of the edit's function with the edit and under another name, or None if there can be no such copy."""
+    own = edit.function
+    text = "\n".join(text_of(f"{edit.crate.folder}/{own.file}").split("\n")[own.first - 1 : own.last])
+    if own.cycle or own.block and own.block.is_of_trait or os.path.isdir(recursive_proofs(edit.crate, own.spelled)):
+        return None
+    for path, old, new, twin in edit.pairs:
+        if path != own.file or text.count(old) != 1:
+            return None
+        text = text.replace(old, twin if twins else new)
+    return re.sub(rf"\bfn {own.name}\b", f"fn {name}", text, count=1)
+
+
 class Planted:
     """A copy of a crate with edits planted: those that are tried in it, and those that are left for another one."""
 
     def __init__(self, crate, edits, twins=False):
         self.crate, self.tried, self.left = crate, [], []
+        # the text of an edit's copy of its function, by its name
+        self.copies, names = {}, {}
         for edit in edits:
             is_free = all(other.function.unit() != edit.function.unit() for other in self.tried)
-            (self.tried if is_free and applied([*self.tried, edit], twins) is not None else self.left).append(edit)
-        self.texts = applied(self.tried, twins)
+            name = names[edit] = edit.function.name if is_free else f"{edit.function.name}_{len(self.copies)}"
+            text = None if is_free else copied(edit, name, twins)
+            if text:
+                self.copies[edit] = name, text
+            at_place = [it for it in [*self.tried, edit] if it not in self.copies]
+            (self.tried if (is_free or text) and applied(at_place, twins) is not None else self.left).append(edit)
+        self.texts = applied([edit for edit in self.tried if edit not in self.copies], twins)
+        for edit, (_, text) in self.copies.items():
+            self.insert(edit.function, text)
         found = [function for path in crate.modules() for function in functions_of(path, self.text(path))]
         self.all_functions = at_home(crate, found)
         spelled = {(function.file, function.spelled): function for function in found}
-        self.functions = {edit: spelled[edit.function.file, edit.function.spelled] for edit in self.tried}
+        renamed = lambda edit: "::".join([*edit.function.spelled.split("::")[:-1], names[edit]])
+        self.functions = {edit: spelled[edit.function.file, renamed(edit)] for edit in self.tried}
+
+    def insert(self, function, text):
+        """Puts the text of a copy after the function."""
+        lines = self.text(function.file).split("\n")
+        found = at_home(self.crate, functions_of(function.file, self.text(function.file)))
+        last = next(own.last for own in found if own.spelled == function.spelled)
+        self.texts[function.file] = "\n".join([*lines[:last], "", text, *lines[last:]])
 
     def text(self, path):
         """Returns the text of a source file with the edits."""
@@ -66,6 +96,8 @@ class Planted:
         for part in PARTS:
             if os.path.isdir(f"{self.crate.folder}/{part}"):
                 shutil.copytree(f"{self.crate.folder}/{part}", f"{scratch}/{part}")
+        for edit, (name, _) in self.copies.items():
+            copy_proofs(scratch, edit.function, name)
         kept = {function.path for function in self.functions.values()} | kept_proofs
         # a recursive function keeps its body: rattle names its proofs otherwise than those of the same function without it; so does a
         # destructor, whose proofs rattle looks for elsewhere
@@ -120,6 +152,17 @@ def recursive_proofs(crate, path):
     """Returns the folder of a function's proofs, if it calls itself."""
     *modules, name = path.split("::")
     return "/".join([crate.folder, "proofs", *modules, f"+{name}"])
+
+
+def copy_proofs(scratch, function, name):
+    """Copies a function's answers for a copy of it under this name."""
+    folder = f"{scratch}/proofs/{function.spelled.replace('::', '/')}"
+    if os.path.isdir(folder):
+        to = shutil.copytree(folder, f"{os.path.dirname(folder)}/{name}")
+        for file in (f"{at}/{it}" for at, _, names in os.walk(to) for it in names):
+            text = re.sub(rf"\b{function.name}(?=\b|_spec\b)", name, text_of(file))
+            with open(file, "w", encoding="utf-8") as opened:
+                opened.write(text)
 
 
 def leave_out(crate, scratch, path):
