@@ -170,13 +170,13 @@ fn parse_command<'m, 'a: 'm>(
     ensures { IfOk result (IsCommand name.now (found_of found.now)) }
 {
     match name {
-        "verify" => parse_verify(alloc, found).map(Request::Verify),
-        "explain" => parse_explain(alloc, found).map(Request::Explain),
-        "show" => parse_show(found).map(Request::Show),
+        "verify" => parse_verify(alloc, found),
+        "explain" => parse_explain(alloc, found),
+        "show" => parse_show(found),
         "sign" => parse_sign(found),
         "keys" => Ok(Request::Keys(parse_keys(found))),
         "jwk" => Ok(Request::Jwk(file(found))),
-        "thumbprint" => parse_thumbprint(found).map(Request::Thumbprint),
+        "thumbprint" => parse_thumbprint(found),
         _ => Err(Fault::Usage("a command is needed")),
     }
 }
@@ -184,25 +184,21 @@ fn parse_command<'m, 'a: 'm>(
 fn parse_verify<'m, 'a: 'm>(
     alloc: Global,
     matches: &'m ArgMatches<'a>,
-) -> Result<VerifyArgs<'m, 'a>, Fault<'static>>
-    ensures { IfOk result (λ v. IsChecking (found_of matches.now) v
-        × IsFlag (found_of matches.now) (codes "header") v.has_header
-        × AreLinesAsked (found_of matches.now) v.is_lines) }
+) -> Result<Request<'m, 'a>, Fault<'static>>
+    ensures { IfOk result (IsCommand (codes "verify") (found_of matches.now)) }
 {
     let is_lines = parse_lines(matches)?;
     let mut request = parse_verification(alloc, matches)?;
     request.has_header = matches.get_flag("header");
     request.is_lines = is_lines;
-    Ok(request)
+    Ok(Request::Verify(request))
 }
 
 fn parse_explain<'m, 'a: 'm>(
     alloc: Global,
     matches: &'m ArgMatches<'a>,
-) -> Result<VerifyArgs<'m, 'a>, Fault<'static>>
-    ensures { IfOk result (λ v. IsChecking (found_of matches.now) v
-        × (v.has_header ≡ false) × (v.is_lines ≡ false)
-        × IsFlag (found_of matches.now) (codes "brief") v.is_brief) }
+) -> Result<Request<'m, 'a>, Fault<'static>>
+    ensures { IfOk result (IsCommand (codes "explain") (found_of matches.now)) }
 {
     let is_brief = matches.get_flag("brief");
     if is_brief && matches.get_flag("json") {
@@ -210,7 +206,7 @@ fn parse_explain<'m, 'a: 'm>(
     }
     let mut request = parse_verification(alloc, matches)?;
     request.is_brief = is_brief;
-    Ok(request)
+    Ok(Request::Explain(request))
 }
 
 /// Returns whether each line of standard input is a token. No token may stand beside `--lines`.
@@ -406,14 +402,14 @@ fn algorithm(name: &str) -> Result<Algorithm, Fault<'static>>
     }
 }
 
-fn parse_show<'a>(matches: &ArgMatches<'a>) -> Result<ShowArgs<'a>, Fault<'static>>
-    ensures { IfOk result (IsShowing (found_of matches.now)) }
+fn parse_show<'m, 'a: 'm>(matches: &ArgMatches<'a>) -> Result<Request<'m, 'a>, Fault<'static>>
+    ensures { IfOk result (IsCommand (codes "show") (found_of matches.now)) }
 {
-    Ok(ShowArgs {
+    Ok(Request::Show(ShowArgs {
         token: matches.get_str("token"),
         time: time(matches, "now")?,
         is_json: matches.get_flag("json"),
-    })
+    }))
 }
 
 /// Returns the request of `sign`: for the token of a signature that is given, for what is to be
@@ -422,26 +418,15 @@ fn parse_sign<'m, 'a: 'm>(matches: &ArgMatches<'a>) -> Result<Request<'m, 'a>, F
     ensures { IfOk result (IsCommand (codes "sign") (found_of matches.now)) }
 {
     if let Some(signature) = matches.get_str("signature") {
-        return parse_attach(matches, signature).map(Request::Attach);
+        return Ok(Request::Attach(AttachArgs {
+            signature,
+            key: given_key_file(matches)?,
+        }));
     }
     if matches.get_flag("signing-input") {
-        return parse_signing_input(matches).map(Request::SigningInput);
+        return Ok(Request::SigningInput(parse_signing_input(matches)?));
     }
-    parse_sign_by_secret(matches).map(Request::Sign)
-}
-
-/// Returns the arguments for the token of this signature.
-fn parse_attach<'a>(
-    matches: &ArgMatches<'a>,
-    signature: &'a str,
-) -> Result<AttachArgs<'a>, Fault<'static>>
-    ensures { IfOk result (λ a. (a.signature ≡ signature.entry)
-        × IsKeyGiven (found_of matches.now) a.key) }
-{
-    Ok(AttachArgs {
-        signature,
-        key: given_key_file(matches)?,
-    })
+    Ok(Request::Sign(parse_sign_by_secret(matches)?))
 }
 
 /// Returns the file of the keys that a signature is verified with, if one is given.
@@ -522,14 +507,13 @@ fn parse_keys<'a>(matches: &ArgMatches<'a>) -> KeysArgs<'a>
     }
 }
 
-fn parse_thumbprint<'a>(matches: &ArgMatches<'a>) -> Result<ThumbprintArgs<'a>, Fault<'static>>
-    ensures { IfOk result (λ d. IsFile (found_of matches.now) d.file
-        × IsHash (first_value (found_of matches.now) (codes "hash")) d.hash) }
+fn parse_thumbprint<'m, 'a: 'm>(matches: &ArgMatches<'a>) -> Result<Request<'m, 'a>, Fault<'static>>
+    ensures { IfOk result (IsCommand (codes "thumbprint") (found_of matches.now)) }
 {
-    Ok(ThumbprintArgs {
+    Ok(Request::Thumbprint(ThumbprintArgs {
         file: file(matches),
         hash: hash(matches)?,
-    })
+    }))
 }
 
 fn hash(matches: &ArgMatches<'_>) -> Result<ThumbprintHash, Fault<'static>>
