@@ -2,8 +2,8 @@
 //! and about the types that have a JSON value: JSON Web Keys, their parameters, headers and their
 //! members.
 //!
-//! For `jwt_vectors`, the program of the rows; the other rows are in `jwt_rows_tokens`, so that the
-//! two are proved side by side.
+//! For `jwt_vectors`, the program of the rows; the other rows are in `jwt_rows_tokens` and
+//! `jwt_rows_arithmetic`, so that the three are proved side by side.
 //!
 //! Each function makes the calls of one type, of one group, or of one trait, by their names: a row
 //! with `"call":"validate"` is answered by a function of [`rules`], and one with
