@@ -44,7 +44,7 @@ def try_edits(crate, edits):
                 found.judge(edit)
             broken = found.uncompiled()
             left = [edit for edit in left if edit not in broken] if broken else planted.left
-        for edit in [edit for edit in edits if not edit.is_refused and not edit.misfit]:
+        for edit in [edit for edit in edits if not edit.is_refused and not (edit.misfit and edit.has_twin)]:
             Report(Planted(crate, [edit]), work).judge(edit)
     for edit in edits:
         if not edit.is_refused and edit.misfit:
