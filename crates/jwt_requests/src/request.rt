@@ -9,7 +9,7 @@ ghost use Rattle.jwt_requests.specs.Arguments.{AreChecks, AreLinesAsked, IsCheck
 ghost use Rattle.jwt_requests.specs.Arguments.{IsFlag};
 ghost use Rattle.jwt_requests.specs.Arguments.{IsDraftOf, IsHash, IsKeyFile, IsKeyGiven, IsNumberOf};
 ghost use Rattle.jwt_requests.specs.Arguments.{IsRequestOf};
-ghost use Rattle.jwt_requests.specs.Arguments.{IsRequirable, IsSecretFile, IsShowing, IsSigningOf};
+ghost use Rattle.jwt_requests.specs.Arguments.{IsRequirable, IsSecretFile, IsSigningOf};
 ghost use Rattle.jwt_requests.specs.Arguments.{texts_of};
 
 use crate::fault::Fault;
