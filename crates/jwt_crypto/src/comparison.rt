@@ -1,8 +1,7 @@
 //! A comparison that does not stop early.
 
 // Bytes are compared by a fold without an early stop, in the verifiers and in the search for a
-// prepared secret. No contract speaks of time; `crates/jwt_bench` shows that the built code has no
-// exit that depends on content.
+// prepared secret. No contract speaks of time; docs/SPEED.md tells what the built code does.
 
 ghost use Rattle.std.specs.Prelude.{◌≡◌, ◌↔◌, IsTrue};
 

@@ -3,7 +3,7 @@
 mod finder;
 mod key_set;
 mod reasons;
-mod secret;
+pub mod secret;
 mod signature;
 mod verdict;
 
