@@ -5,8 +5,7 @@
 //!
 //! For programs in C, and for the packages for Python, Rust, Go and nginx, which call nothing else.
 //! A call is a function with the header's name that leaves the answer of a function of
-//! `jwt_c_calls` or `jwt_c_verifier` in the caller's buffer: `jwt_decode_set` leaves that of
-//! `set_answer`. `handle` and `raw_box` have the one pointer that a caller keeps, a verifier's.
+//! `jwt_c_calls` in the caller's buffer: `jwt_decode_set` leaves that of `set_answer`.
 //!
 //! `packages/c/examples` has programs to start from.
 
@@ -14,10 +13,10 @@
 // stands in status, length and buffer. Since a first failed test is one only if nothing passes,
 // accepted and refused exclude each other, and no further clause says that nothing is lost.
 //
-// The library for C is three crates: what calls return, as functions over slices and results
-// (`jwt_c_calls`); those with a verifier (`jwt_c_verifier`); the exports (`jwt_c`). `rt ci` only
-// checks a static library; `tools/prove` builds it then, by rattle over the libraries that `rt ci`
-// built, or by `rt lib`, which proves these again.
+// The library for C is two crates: what calls return, as functions over slices and results, and
+// the struct that holds a verifier (`jwt_c_calls`); the exports alone (`jwt_c`), since they are
+// proved twice: `rt ci` only checks a static library, and `tools/prove` builds it then, by rattle
+// over the libraries that `rt ci` built, or by `rt lib`, which proves these again.
 
 #![tactic(auto)]
 
@@ -39,24 +38,19 @@ ghost use Rattle.jwt_c_calls.specs.Serving.{AnswersAlgorithms};
 ghost use Rattle.jwt_c_calls.specs.Signatures.{AnswersVerifyHmac, AnswersVerifyKey};
 ghost use Rattle.jwt_c_calls.specs.Status.{kind_part, number, no_status, status_text, told_text, version};
 ghost use Rattle.jwt_c_calls.specs.Status.{algorithm_numbered, IsGiven, IsKept};
-ghost use Rattle.jwt_c_verifier.specs.TestNumbers.{LeavesTestName};
-ghost use Rattle.jwt_c_verifier.specs.Verifiers.{limits_of, AreOfKey, AreOfSecret, AreOfSet};
-ghost use Rattle.jwt_c.specs.Held.{LeavesMade, LeavesMoments, LeavesShared, LeavesUntil, FitsVerifier};
+ghost use Rattle.jwt_c_calls.specs.TestNumbers.{LeavesTestName};
+ghost use Rattle.jwt_c_calls.specs.Verifiers.{limits_of, AreOfKey, AreOfSecret, AreOfSet};
+ghost use Rattle.jwt_c_calls.specs.Held.{LeavesMade, LeavesMoments, LeavesShared, LeavesUntil, FitsVerifier};
 ghost use Rattle.jwt_c.specs.Issued.{LeavesByKey};
 
-mod handle;
-mod handle_results;
-mod raw_box;
-mod shared;
-
-use crate::handle::Handle;
-use crate::handle_results::{store, write_handle, write_verdict};
 use jsonwebtoken::signed_part;
 use jwt_c_calls::answers::{
     CallerVerdict, given_verdict_answer, header_answer, hmac_answer, issued_at_answer, key_answer,
     numbers_answer, set_answer,
 };
 use jwt_c_calls::by_signature::{ecdsa_answer, input_answer, signature_answer};
+use jwt_c_calls::handle::Handle;
+use jwt_c_calls::handle_results::{store, write_handle, write_verdict};
 use jwt_c_calls::issued::{encode_answer, encode_key_answer, thumbprint_answer};
 use jwt_c_calls::key_files::{certificate_answer, pem_answer};
 use jwt_c_calls::members::member_answer;
@@ -67,8 +61,8 @@ use jwt_c_calls::serving::algorithms_answer;
 use jwt_c_calls::signatures::{hmac_signature_answer, key_signature_answer};
 use jwt_c_calls::status::{algorithm_number, leave, number_of, put_bytes, status_of};
 use jwt_c_calls::status_table::{NO_MEMBER, NO_STATUS, NO_VERIFIER, OK, VERIFIER_IS_MADE, text_of};
-use jwt_c_verifier::test_numbers::numbered_test;
-use jwt_c_verifier::verifiers::{
+use jwt_c_calls::test_numbers::numbered_test;
+use jwt_c_calls::verifiers::{
     decode_with_expiry, leave_moments, limits, moments_by, verifier_of_key, verifier_of_secret,
     verifier_of_set,
 };

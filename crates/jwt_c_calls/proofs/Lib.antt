@@ -1,6 +1,13 @@
 pub mod Answered
 pub mod Checked
+pub mod Decided
 pub mod Depths
 pub mod Handed
+pub mod HandleValues
+pub mod Made
+pub mod Reasons
 pub mod Statuses
+pub mod Transfers
+pub mod Until
+pub mod Values
 pub mod Words

@@ -12,3 +12,7 @@ pub use Rattle.jwt_base.specs.Kind
 pub mod Secrets
 pub mod Serving
 pub mod Signatures
+pub mod TestNumbers
+pub mod Verifiers
+pub mod Owned
+pub mod Held

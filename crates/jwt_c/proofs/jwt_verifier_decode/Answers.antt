@@ -1,6 +1,6 @@
 use Rattle.std.proofs.Common.{◌≡◌, Some}
-use Rattle.jwt_c.specs.Held.{verifier_in}
-use Rattle.jwt_c.proofs.Decided.{decided, as_set, as_key}
+use Rattle.jwt_c_calls.specs.Held.{verifier_in}
+use Rattle.jwt_c_calls.proofs.Decided.{decided, as_set, as_key}
 use Rattle.jwt_c.proofs.jwt_verifier_decode.Goals as goal
 
 pub returns-in-Some-clause-decided : goal.returns-in-Some-clause-decided

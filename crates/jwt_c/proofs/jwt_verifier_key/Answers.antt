@@ -1,7 +1,7 @@
 use Rattle.std.proofs.Common.{inl, refl}
 use Rattle.jwt_c_calls.specs.Keys.{AnswersWithKey}
-use Rattle.jwt_c_verifier.specs.Verifiers.{limits_of, AreOfKey}
-use Rattle.jwt_c.proofs.Decided.{made_of}
+use Rattle.jwt_c_calls.specs.Verifiers.{limits_of, AreOfKey}
+use Rattle.jwt_c_calls.proofs.Decided.{made_of}
 use Rattle.jwt_c.proofs.jwt_verifier_key.Goals as goal
 
 pub returns : goal.returns

@@ -1,8 +1,8 @@
 use Rattle.std.proofs.Common.{◌≡◌, Option, Some, subst, sym}
 use Rattle.jwt_verifier.specs.declared.verifier.Verifier.{Verifier}
-use Rattle.jwt_c_verifier.specs.Verifiers.{TellsMoments}
-use Rattle.jwt_c.specs.Held.{verifier_in, LeavesMoments}
-use Rattle.jwt_c.specs.declared.shared.Shared.{Shared}
+use Rattle.jwt_c_calls.specs.Verifiers.{TellsMoments}
+use Rattle.jwt_c_calls.specs.Held.{verifier_in, LeavesMoments}
+use Rattle.jwt_c_calls.specs.declared.shared.Shared.{Shared}
 use Rattle.jwt_c.proofs.jwt_verifier_moments.Goals as goal
 
 pub returns-in-Some-clause-times : goal.returns-in-Some-clause-times

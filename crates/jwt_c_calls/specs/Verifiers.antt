@@ -1,0 +1,187 @@
+-- The results of the calls for C that make a verifier, and of those that verify with one.
+use Rattle.std.specs.Prelude.{◌≡◌, ◌⊎◌, ◌↔◌, ◌≤◌, ◌<◌, ◌==◌, ℕ, List, length, Bool, Result, Ok, Err, IsTrue}
+use Rattle.std.specs.Prelude.{if◌then◌else◌, Option, Some, None}
+use Rattle.serde_json.specs.declared.value.Value.{Value}
+use Rattle.jwt_base.specs.Claims.{IsValue}
+use Rattle.jwt_base.specs.JsonText.{ReadsText}
+use Rattle.jwt_base.specs.Kind.{Kind}
+use Rattle.jwt_base.specs.Kind as kind
+use Rattle.jwt_base.specs.declared.algorithms.Algorithm.{Algorithm}
+use Rattle.jwt_base.specs.declared.algorithms.AlgorithmFamily.TheVariants.{Hmac}
+use Rattle.jwt_keys.specs.Jwk.{ReadsKey}
+use Rattle.jwt_keys.specs.JwkSet.{ReadsSet}
+use Rattle.jwt_keys.specs.Key.{Plain}
+use Rattle.jwt_keys.specs.KeyOfJwk.{IsKeyOf}
+use Rattle.jwt_keys.specs.declared.jwk.Jwk.{Jwk}
+use Rattle.jwt_secrets.specs.KeyTexts.{HasKeyText, SetHasKeyText}
+use Rattle.jwt_standard.specs.StandardKeys.{verifier_refusal, StandardAccepts}
+use Rattle.jwt_validation.specs.Moments.{end_of_time}
+use Rattle.jwt_validation.specs.Options.{Options}
+use Rattle.jwt_validation.specs.OptionsOf.{options_of}
+use Rattle.jwt_validation.specs.OptionsRead.{ReadsOptions}
+use Rattle.jwt_validation.specs.declared.interval.Moments.{Moments}
+use Rattle.jwt_validation.specs.declared.validation.Validation.{Validation}
+use Rattle.jsonwebtoken.specs.Accepted.{AreMoments}
+use Rattle.jsonwebtoken.specs.Order.{Passes, FailsFirst, IsFirstFailed}
+use Rattle.jsonwebtoken.specs.Tests.{Call, Compact, Contents, token_tests, verifying_call}
+use Rattle.jsonwebtoken.specs.declared.refusal.Test.{Test}
+use Rattle.jwt_verifier.specs.Fitness.{token_limit, prepared_limit, AreFit, IsKeyProblem}
+use Rattle.jwt_verifier.specs.Verifying.{source_of, order_of}
+use Rattle.jwt_verifier.specs.declared.fitness.KeyProblem.{KeyProblem}
+use Rattle.jwt_verifier.specs.declared.fitness.KeyProblem.TheVariants.{Blank, Mixed, Useless, Memory}
+use Rattle.jwt_verifier.specs.declared.keys.Keys.{Keys}
+use Rattle.jwt_verifier.specs.declared.keys.Keys.TheVariants.{One, Set}
+use Rattle.jwt_verifier.specs.declared.limits.Limits.{Limits}
+use Rattle.jwt_verifier.specs.declared.verifier.Verifier.{Verifier}
+use Rattle.jwt_c_calls.specs.Calls.{Answer, Returns, Refuses, InputError, AnswersBy, IsClaimsText, status_of}
+use Rattle.jwt_c_calls.specs.Status.{number, blank_key, key_as_secret, mixed_families, unfit_key}
+use Rattle.jwt_c_calls.specs.Status.{token_too_long}
+use Rattle.jwt_c_calls.specs.TestNumbers.{test_number}
+
+-- ---- making a verifier
+
+-- the number that is given, or the usual one if 0 is
+abbrev pub unless_zero : ℕ → ℕ → ℕ
+unless_zero given usual = if given == 0 then usual else given
+
+-- the limits that the arguments of a call stand for: a length of 0 is that of 1 MiB, and 0 bytes of prepared keys are
+-- 64 MiB
+abbrev pub limits_of : ℕ → Bool → ℕ → Limits
+limits_of max_len allows_blank max_prepared = record {
+  max_len = unless_zero max_len token_limit;
+  allows_blank = allows_blank;
+  max_prepared = unless_zero max_prepared prepared_limit;
+}
+
+-- the text of a set describes these keys (RFC 7517 section 5)
+abbrev pub IsSetText : List ℕ → Keys → Type 0
+IsSetText text (One key) = ⊥
+IsSetText text (Set set) = ReadsText ReadsSet text set.keys.items
+
+-- the text of a JSON Web Key describes one that stands for this key (RFC 7517 section 4, RFC 7518
+-- section 6)
+abbrev pub IsKeyText : List ℕ → Keys → Type 0
+IsKeyText text (One key) = (jwk : Jwk) × ReadsText ReadsKey text jwk × IsKeyOf jwk.algorithm key
+IsKeyText text (Set set) = ⊥
+
+-- the key is the secret, for HMAC
+abbrev pub IsSecret : List ℕ → Keys → Type 0
+IsSecret secret (One key) = key ≡ Plain Hmac secret
+IsSecret secret (Set set) = ⊥
+
+-- the options and the keys that texts describe
+abbrev pub AreOfSet : List ℕ → List ℕ → Options → Keys → Type 0
+AreOfSet options set o keys = ReadsText ReadsOptions options o × IsSetText set keys
+
+abbrev pub AreOfKey : List ℕ → List ℕ → Options → Keys → Type 0
+AreOfKey options key o keys = ReadsText ReadsOptions options o × IsKeyText key keys
+
+abbrev pub AreOfSecret : List ℕ → List ℕ → Options → Keys → Type 0
+AreOfSecret options secret o keys = ReadsText ReadsOptions options o × IsSecret secret keys
+
+-- the secret, or one of the set, is the text of a key of another kind (RFC 8725 section 3.1)
+abbrev pub HaveKeyText : Keys → Type 0
+HaveKeyText (One key) = HasKeyText key
+HaveKeyText (Set set) = SetHasKeyText set.keys.items
+
+-- none is, or that is allowed
+abbrev pub HaveNoKeyText : Bool → Keys → Type 0
+HaveNoKeyText allows_blank keys = IsTrue allows_blank ⊎ (¬ HaveKeyText keys)
+
+-- the status of keys of which no verifier is made
+abbrev pub problem_status : KeyProblem → ℕ
+problem_status Blank = blank_key
+problem_status Mixed = mixed_families
+problem_status Useless = unfit_key
+problem_status Memory = number kind.OutOfMemory
+
+-- Why no verifier is made of the keys: memory ran out; or a secret is the text of a key, which is not allowed; or
+-- else they are unfit.
+abbrev pub AreRefused : Bool → List Algorithm → Keys → ℕ → Type 0
+AreRefused allows_blank algorithms keys status = (status ≡ number kind.OutOfMemory)
+    ⊎ (((status ≡ key_as_secret) × (¬ IsTrue allows_blank) × HaveKeyText keys)
+    ⊎ (HaveNoKeyText allows_blank keys
+    × ((why : KeyProblem) × IsKeyProblem allows_blank algorithms keys why × (status ≡ problem_status why))))
+
+-- the verifier has options and keys of these texts, and fit ones
+abbrev pub IsVerifierOf : (Options → Keys → Type 0) → Limits → Verifier → Type 0
+IsVerifierOf AreOf limits v = AreOf (options_of v.validation) v.keys × (v.limits ≡ limits)
+    × HaveNoKeyText limits.allows_blank v.keys × AreFit limits.allows_blank v.validation.algorithms.items v.keys
+
+-- the status says why there is no verifier: the texts are refused; or the keys that they describe are
+-- refused for the options
+abbrev pub IsUnmade : (Answer → Type 0) → (Options → Keys → Type 0) → Bool → ℕ → Type 0
+IsUnmade Refused AreOf allows_blank status = ((a : Answer) × Refused a × (status ≡ status_of a))
+    ⊎ ((o : Options) × (keys : Keys) × AreOf o keys
+    × AreRefused allows_blank o.algorithms keys status)
+
+-- the verifier, or the status of the reason for which there is none
+abbrev pub IsMade :
+    (Answer → Type 0) → (Options → Keys → Type 0) → Limits → Result Verifier ℕ → Type 0
+IsMade Refused AreOf limits (Ok v) = IsVerifierOf AreOf limits v
+IsMade Refused AreOf limits (Err status) = IsUnmade Refused AreOf limits.allows_blank status
+
+-- ---- verifying with it
+
+-- `decode` or `decode_with_set` by all twelve algorithms, with these keys and options
+abbrev pub verifier_call : Keys → Validation → List ℕ → ℕ → Call Value
+verifier_call keys validation token time =
+    verifying_call (Compact token) (source_of keys) (options_of validation) time
+    verifier_refusal StandardAccepts IsValue
+
+-- the claims of an accepted token, or the kind with which it is refused
+abbrev pub AnswersWith : Keys → Validation → List ℕ → ℕ → Answer → Type 0
+AnswersWith keys validation token time = AnswersBy {E = Unit {0}} (λ _. Unit {0}) (λ _. ⊥)
+    (λ _. IsClaimsText (Passes (token_tests (verifier_call keys validation token time))
+    (order_of keys)))
+    (λ _. FailsFirst (token_tests (verifier_call keys validation token time)) (order_of keys))
+
+-- from this time on, these contents pass exactly up to the last one (RFC 7519 section 4.1.4)
+abbrev pub IsLast : {T : Type 0} → Call T → List Test → ℕ → Contents → ℕ → Type 0
+IsLast call order time t last = (m : ℕ) → time ≤ m → m ≤ end_of_time
+    → Passes (token_tests (record call { time = m })) order t ↔ (m ≤ last)
+
+-- The claims of an accepted token, which is accepted up to the last time and not after it; or the
+-- kind with which it is refused.
+abbrev pub AnswersUntil : Keys → Validation → List ℕ → ℕ → ℕ → Answer → Type 0
+AnswersUntil keys validation token time last = AnswersBy {E = Unit {0}} (λ _. Unit {0}) (λ _. ⊥)
+    (λ _. IsClaimsText (λ t. Passes (token_tests (verifier_call keys validation token time))
+    (order_of keys) t × IsLast (verifier_call keys validation token time) (order_of keys) time t last))
+    (λ _. FailsFirst (token_tests (verifier_call keys validation token time)) (order_of keys))
+
+-- the number of the first failed test of a token that is refused with this kind, or 0 if memory ran out
+abbrev pub TellsTest : Keys → Validation → List ℕ → ℕ → Kind → ℕ → Type 0
+TellsTest keys validation token time k test = ((k ≡ kind.OutOfMemory) × (test ≡ 0))
+    ⊎ ((f : Test)
+    × IsFirstFailed (token_tests (verifier_call keys validation token time)) (order_of keys) f
+    × (test ≡ test_number f))
+
+-- the number of the first failed test, or 0 if none failed
+abbrev pub TellsTestOf : Keys → Validation → List ℕ → ℕ → Answer → ℕ → Type 0
+TellsTestOf keys validation token time (Returns bytes) test = test ≡ 0
+TellsTestOf keys validation token time (Refuses k) test = TellsTest keys validation token time k test
+TellsTestOf keys validation token time (InputError i) test = ⊥
+
+-- the status of a token that is refused, and the number of the test: by its length; or with a kind
+abbrev pub IsRefusedWith : Verifier → List ℕ → ℕ → ℕ → ℕ → Type 0
+IsRefusedWith v token time status test =
+    ((v.limits.max_len < length token) × (status ≡ token_too_long) × (test ≡ 0))
+    ⊎ ((length token ≤ v.limits.max_len) × ((k : Kind)
+    × AnswersWith v.keys v.validation token time (Refuses k)
+    × TellsTest v.keys v.validation token time k test × (status ≡ number k)))
+
+-- ---- the times at which it accepts
+
+-- the times at which the verifier accepts the token, if it does at some (RFC 7519 sections 4.1.4 and 4.1.5); or the status:
+-- the token is too long, or memory ran out
+abbrev pub TellsMoments : Verifier → List ℕ → Result (Option Moments) ℕ → Type 0
+TellsMoments v token (Ok m) = (length token ≤ v.limits.max_len)
+    × AreMoments (verifier_call v.keys v.validation token 0) (order_of v.keys) m
+TellsMoments v token (Err status) = ((v.limits.max_len < length token) × (status ≡ token_too_long))
+    ⊎ (status ≡ number kind.OutOfMemory)
+
+-- the status, and the first and the last time: these are 1 and 0 if the token is accepted at no time, and 0 and 0 if it is refused
+abbrev pub AreLeft : Result (Option Moments) ℕ → ℕ → ℕ → ℕ → Type 0
+AreLeft (Ok (Some m)) status first last = (status ≡ 0) × (first ≡ m.first) × (last ≡ m.last)
+AreLeft (Ok None) status first last = (status ≡ 0) × (first ≡ 1) × (last ≡ 0)
+AreLeft (Err why) status first last = (status ≡ why) × (first ≡ 0) × (last ≡ 0)

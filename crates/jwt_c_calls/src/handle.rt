@@ -1,0 +1,105 @@
+//! What C holds of a verifier.
+//!
+//! C may write nothing into a struct that points to a value with a count, so the pointer is one to
+//! bytes, and the struct says itself what it owns.
+
+// A verifier is a struct of the caller's that holds a pointer, all zeros at first, as `regex_t` is
+// used, and not a pointer that a call returns: so a slip has a status, such as a use after the
+// struct was freed. An export may not take a pointer to a value with a count, so the struct holds
+// one to bytes, and says in its model what it owns: at null nothing, otherwise a box with its
+// value. This code and its proofs know nothing of tokens.
+
+ghost use Rattle.std.specs.Prelude.{◌≡◌, Option, Some, None, MatchOption};
+ghost use Rattle.std.specs.Coded.{coded_option};
+ghost use Rattle.jwt_c_calls.specs.Owned.{handle_owns};
+ghost use Rattle.jwt_c_calls.specs.contracts.shared.Shared.{the_row as shared_row};
+ghost use Rattle.jwt_c_calls.specs.declared.shared.Shared.{Shared as SharedValue};
+
+use crate::raw_box::RawBox;
+use crate::shared::Shared;
+use std::alloc::Global;
+use std::marker::Model;
+use std::mem::replace;
+use std::ptr::null_mut;
+
+/// A pointer to a holder of a verifier, or null: `struct jwt_verifier` of
+/// `packages/c/include/jwtproved.h`.
+#[repr(C)]
+pub struct Handle {
+    at: *mut u8,
+    alloc: Global,
+    pub ghost held: { Option SharedValue } by { coded_option shared_row.coded },
+}
+
+impl Model for Handle {
+    ghost also_owns = { λ h. handle_owns shared_row h.alloc h.at h.held };
+}
+
+impl Handle {
+    /// Returns the handle that holds nothing.
+    pub fn none(alloc: Global) -> Handle
+        ensures { result.held ≡ None }
+    {
+        Handle {
+            at: null_mut(),
+            alloc,
+        }
+    }
+
+    fn some(kept: RawBox<Shared, Global>) -> Handle
+        ensures { result.held ≡ Some kept.value }
+    {
+        let RawBox { at, alloc } = kept;
+        Handle {
+            at: at as *mut u8,
+            alloc,
+        }
+    }
+
+    fn into_raw(self) -> Option<RawBox<Shared, Global>>
+        ensures { MatchOption result (self.held ≡ None) (λ k. self.held ≡ Some k.value) }
+    {
+        let Handle { at, alloc } = self;
+        if at.is_null() {
+            None
+        } else {
+            Some(RawBox {
+                at: at as *mut Shared,
+                alloc,
+            })
+        }
+    }
+
+    /// Returns the handle of a holder. It may go to another thread, since what it holds may.
+    pub fn of(value: Box<Shared>) -> Handle
+        ensures { result.held ≡ Some value.value }
+    {
+        Handle::some(RawBox::of(value))
+    }
+
+    fn into_box(self) -> Option<Box<Shared>>
+        ensures { MatchOption result (self.held ≡ None) (λ b. self.held ≡ Some b.value) }
+    {
+        match self.into_raw() {
+            Some(kept) => Some(kept.into_box()),
+            None => None,
+        }
+    }
+
+    /// Returns the holder, if there is one, and leaves nothing.
+    pub fn take(&mut self, alloc: Global) -> Option<Box<Shared>>
+        ensures taken { MatchOption result (self.old.held ≡ None)
+            (λ b. self.old.held ≡ Some b.value) }
+        ensures none { self.new.held ≡ None }
+    {
+        replace(self, Handle::none(alloc)).into_box()
+    }
+}
+
+impl Drop for Handle {
+    fn drop(self) {
+        if let Some(value) = self.into_box() {
+            drop(value);
+        }
+    }
+}

@@ -1,4 +1,0 @@
-pub mod Made
-pub mod Reasons
-pub mod Transfers
-pub mod Until

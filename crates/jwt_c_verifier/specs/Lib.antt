@@ -1,2 +1,0 @@
-pub mod TestNumbers
-pub mod Verifiers
