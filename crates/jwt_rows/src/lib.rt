@@ -1,8 +1,8 @@
 //! Rows of test vectors: the inputs that a row describes, its call, and the result as a JSON value.
 //! `crates/jwt_vectors/README.md` has their form.
 //!
-//! For the crates of rows (`jwt_rows_values`, `jwt_rows_tokens` and `jwt_rows_arithmetic`), whose
-//! functions make the calls, and `jwt_vectors`, which reads the files and compares.
+//! For the crates of rows (`jwt_rows_values` and `jwt_rows_tokens`), whose functions make the calls,
+//! and `jwt_vectors`, which reads the files and compares.
 //!
 //! A type that a row describes is an [`Input`], as `row.input::<Validation>("validation")`, and a
 //! result that a row wants is an [`Output`]. [`trial`] runs a row with its Nth request for memory

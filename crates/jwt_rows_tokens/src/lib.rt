@@ -1,7 +1,7 @@
 //! Rows about keys, signatures and tokens.
 //!
-//! For `jwt_vectors`, the program of the rows; the other rows are in `jwt_rows_values` and
-//! `jwt_rows_arithmetic`, so that the three are proved side by side.
+//! For `jwt_vectors`, the program of the rows; the other rows are in `jwt_rows_values`, so that the
+//! two are proved side by side.
 //!
 //! Each function makes the calls of one type, or of one group, by their names: a row with
 //! `"call":"decode"` is answered by a function of [`tokens`], and one with

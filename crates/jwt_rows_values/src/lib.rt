@@ -1,9 +1,9 @@
 //! Rows about names, errors, JSON values, secrets by which anyone can sign, claims and validations,
-//! and about the types that have a JSON value: JSON Web Keys, their parameters, headers and their
-//! members.
+//! about the types that have a JSON value (JSON Web Keys, their parameters, headers and their
+//! members), and about the arithmetic below RSA and the curves.
 //!
-//! For `jwt_vectors`, the program of the rows; the other rows are in `jwt_rows_tokens` and
-//! `jwt_rows_arithmetic`, so that the three are proved side by side.
+//! For `jwt_vectors`, the program of the rows; those about tokens are in `jwt_rows_tokens`, so that
+//! the two are proved side by side.
 //!
 //! Each function makes the calls of one type, of one group, or of one trait, by their names: a row
 //! with `"call":"validate"` is answered by a function of [`rules`], and one with
@@ -15,6 +15,7 @@
 #![tactic(auto)]
 
 pub mod algorithms;
+pub mod arithmetic;
 pub mod claims;
 pub mod errors;
 pub mod extras;

@@ -7,12 +7,12 @@ use jsonwebtoken::jwk::{
 };
 use jsonwebtoken::{Enc, Zip};
 use jwt_rows::{Answer, Row};
-use jwt_rows_arithmetic::numbers::{limb, modulus, natural};
-use jwt_rows_arithmetic::points::by_curve;
-use jwt_rows_arithmetic::signatures::is_signature;
 use jwt_rows_tokens::{
     by_provider, external_signature, files, keys, places, prepared, sizes, tokens,
 };
+use jwt_rows_values::arithmetic::numbers::{limb, modulus, natural};
+use jwt_rows_values::arithmetic::points::by_curve;
+use jwt_rows_values::arithmetic::signatures::is_signature;
 use jwt_rows_values::claims::{are_equal, claims, value};
 use jwt_rows_values::json::{json_call, membered_call, named_call};
 use jwt_rows_values::{

@@ -1,6 +1,6 @@
 //! Signatures on curves, verified by the bytes of a key and by the key that is prepared.
 
-use crate::octets;
+use crate::arithmetic::octets;
 use ecdsa::curves::{is_es256, is_es384};
 use ecdsa::prepared_curves::{is_es256_by, is_es384_by, prepare_p256, prepare_p384};
 use ed25519::prepared::{is_signature_by, prepare_key};

@@ -4,9 +4,9 @@
 
 ghost use Rattle.std.specs.Prelude.{◌≤◌};
 
-use crate::joint::{base_point, joint};
-use crate::joint_edwards::edwards_joint_multiple;
-use crate::octets;
+use crate::arithmetic::joint::{base_point, joint};
+use crate::arithmetic::joint_edwards::edwards_joint_multiple;
+use crate::arithmetic::octets;
 use ecdsa::bases::BaseMultiples;
 use ecdsa::constants::{b_256, b_384};
 use ecdsa::keys::read_key;

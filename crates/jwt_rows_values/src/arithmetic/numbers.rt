@@ -2,7 +2,7 @@
 
 ghost use Rattle.std.specs.Prelude.{◌≡◌, ◌<◌, IfOk, IfSome};
 
-use crate::octets;
+use crate::arithmetic::octets;
 use jwt_rows::{Answer, Row};
 use modular::{Modulus, Natural, limb_from_octets};
 use std::alloc::{AllocError, Global};

@@ -1,6 +1,6 @@
 //! Sums of multiples of two points of Ed25519.
 
-use crate::octets;
+use crate::arithmetic::octets;
 use ed25519::decoding::decode;
 use ed25519::field::FieldElement;
 use ed25519::joint::joint_multiple;

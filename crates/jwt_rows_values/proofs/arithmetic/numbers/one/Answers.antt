@@ -1,7 +1,7 @@
 use Rattle.std.proofs.Common.{◌≡◌, ◌∙◌, [], ◌∷◌, refl}
 use Rattle.std.proofs.lemmas.Result.{IfOk-weaker}
 use Rattle.modular.specs.Octets.{os2ip}
-use Rattle.jwt_rows_arithmetic.proofs.numbers.one.Goals as goal
+use Rattle.jwt_rows_values.proofs.arithmetic.numbers.one.Goals as goal
 
 one_octet : os2ip (1 ∷ []) ≡ 1
 unfolding os2ip
