@@ -1,11 +1,11 @@
 -- The base points lie on their curves.
 use Rattle.std.proofs.Common.{refl}
 use Rattle.residues.specs.Modulo.{plus, minus, times}
-use Rattle.weierstrass_group.specs.Group.{cubic_at, spot}
+use Rattle.weierstrass.specs.Group.{cubic_at, spot}
 use Rattle.ecdsa.specs.private_clauses.Sums.{HasBase}
-use Rattle.weierstrass_group.proofs.Points.{alike_self}
-use Rattle.weierstrass_group.proofs.Curves.{curve-256, curve-384}
-use Rattle.primes.proofs.CurvePrimes.{prime_p256, prime_p384}
+use Rattle.weierstrass.proofs.PointLemmas.{alike_self}
+use Rattle.weierstrass.proofs.Curves.{curve-256, curve-384}
+use Rattle.algebra.proofs.CurvePrimes.{prime_p256, prime_p384}
 use Rattle.ecdsa.specs.Curves.{p256, b256, base256, p384, b384, base384}
 
 pub has_base_256 : HasBase p256 b256 base256

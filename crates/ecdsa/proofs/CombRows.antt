@@ -5,14 +5,14 @@ use Rattle.std.proofs.Math.Nat.{pow-suc}
 use Rattle.std.proofs.lemmas.Nat.{pow-add, pow_pos}
 use Rattle.std.proofs.lemmas.Bool.{and_parts, cases_lt}
 use Rattle.weierstrass.specs.Weierstrass.{Point, sum_of}
-use Rattle.weierstrass_group.specs.Group.{IsCurve, Alike, IsPoint, spot_point, times_point}
-use Rattle.weierstrass_group.specs.Jacobian.{IsMultiple}
-use Rattle.weierstrass_group.proofs.Points.{alike_turned, alike_twice}
-use Rattle.weierstrass_group.proofs.Sums.{pos, sum_alike}
-use Rattle.weierstrass_group.proofs.Law.{point_alike}
-use Rattle.weierstrass_group.proofs.Multiples.{multiple_point, multiples_sum, neutral_left}
-use Rattle.weierstrass_group.proofs.Tables.{is_affine, affine_alike}
-use Rattle.weierstrass_group.proofs.JacobianWindows.{affine_multiple}
+use Rattle.weierstrass.specs.Group.{IsCurve, Alike, IsPoint, spot_point, times_point}
+use Rattle.weierstrass.specs.Jacobian.{IsMultiple}
+use Rattle.weierstrass.proofs.PointLemmas.{alike_turned, alike_twice}
+use Rattle.weierstrass.proofs.Sums.{pos, sum_alike}
+use Rattle.weierstrass.proofs.Law.{point_alike}
+use Rattle.weierstrass.proofs.Multiples.{multiple_point, multiples_sum, neutral_left}
+use Rattle.weierstrass.proofs.Tables.{is_affine, affine_alike}
+use Rattle.weierstrass.proofs.JacobianWindows.{affine_multiple}
 use Rattle.combs.specs.Combs.{spread}
 use Rattle.combs.proofs.CombLemmas.{spread_zero, spread_more}
 

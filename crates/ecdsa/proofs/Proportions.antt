@@ -9,13 +9,13 @@ use Rattle.limbs.proofs.Congruences.{add_alike, mul_alike}
 use Rattle.residues.specs.Modulo.{plus, minus, times, power}
 use Rattle.residues.specs.Bytes.{little_endian}
 use Rattle.weierstrass.specs.Weierstrass.{Point, triple, products, sum_of, multiple_of}
-use Rattle.primes.specs.Primes.{IsPrime}
-use Rattle.primes.specs.Inverses.{inverse}
-use Rattle.primes.proofs.PrimeInverses.{power_inverse}
-use Rattle.weierstrass_group.specs.Group.{cubic_at, Alike, IsPoint, spot}
-use Rattle.weierstrass_group.specs.Joint.{IsJoint}
-use Rattle.weierstrass_group.proofs.Field.{unit_cancel, plus_is, times_is, plus_alike, minus_alike}
-use Rattle.weierstrass_group.proofs.Points.{alike_self, alike_turned}
+use Rattle.algebra.specs.Primes.{IsPrime}
+use Rattle.algebra.specs.Inverses.{inverse}
+use Rattle.algebra.proofs.PrimeInverses.{power_inverse}
+use Rattle.weierstrass.specs.Group.{cubic_at, Alike, IsPoint, spot}
+use Rattle.weierstrass.specs.Joint.{IsJoint}
+use Rattle.weierstrass.proofs.Field.{unit_cancel, plus_is, times_is, plus_alike, minus_alike}
+use Rattle.weierstrass.proofs.PointLemmas.{alike_self, alike_turned}
 use Rattle.ecdsa.specs.Ecdsa.{is_on_curve, is_public_key, x_of, y_of, key_point, sum_for, HasX}
 use Rattle.ecdsa.specs.private_clauses.Sums.{IsSumFor}
 

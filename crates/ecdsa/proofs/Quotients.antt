@@ -7,9 +7,9 @@ use Rattle.std.proofs.lemmas.Bool.{cases_lt}
 use Rattle.limbs.proofs.Congruences.{mul_alike}
 use Rattle.residues.specs.Modulo.{plus, minus, times}
 use Rattle.weierstrass.specs.Weierstrass.{Point}
-use Rattle.primes.specs.Primes.{IsPrime}
-use Rattle.primes.specs.Inverses.{inverse}
-use Rattle.primes.proofs.PrimeInverses.{power_inverse}
+use Rattle.algebra.specs.Primes.{IsPrime}
+use Rattle.algebra.specs.Inverses.{inverse}
+use Rattle.algebra.proofs.PrimeInverses.{power_inverse}
 use Rattle.ecdsa.specs.Ecdsa.{HasX}
 use Rattle.ecdsa.specs.private_clauses.Sums.{HasSecond}
 

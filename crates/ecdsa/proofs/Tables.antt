@@ -2,9 +2,9 @@
 use Rattle.std.proofs.Common.{◌≡◌, ℕ, ◌+◌, ◌*◌, ◌%◌, ◌^◌, ◌<◌, true, List, [], length, get_or, refl}
 use Rattle.residues.specs.Modulo.{plus, minus, times}
 use Rattle.weierstrass.specs.Weierstrass.{triple, products, sum_of}
-use Rattle.weierstrass_group.specs.Group.{spot_point}
-use Rattle.weierstrass_group.specs.Jacobian.{IsMultiple}
-use Rattle.weierstrass_group.proofs.Tables.{is_affine, are_rows, are_below, below_at, row_multiple}
+use Rattle.weierstrass.specs.Group.{spot_point}
+use Rattle.weierstrass.specs.Jacobian.{IsMultiple}
+use Rattle.weierstrass.proofs.Tables.{is_affine, are_rows, are_below, below_at, row_multiple}
 use Rattle.ecdsa.specs.declared.bases.TheConstants.{TABLE_256, TABLE_384}
 use Rattle.ecdsa.specs.Curves.{p256, b256, base256, p384, b384, base384}
 use Rattle.ecdsa.specs.Moduli.{field_256_root, field_384_root}

@@ -2,10 +2,10 @@ pub mod Curves
 pub mod Ecdsa
 pub mod Moduli
 pub mod private_clauses
-pub use Rattle.primes.specs.Inverses
-pub use Rattle.primes.specs.Primes
+pub use Rattle.algebra.specs.Inverses
+pub use Rattle.algebra.specs.Primes
 pub use Rattle.residues.specs.Bytes
 pub use Rattle.residues.specs.Modulo
 pub use Rattle.weierstrass.specs.Numbers
 pub use Rattle.weierstrass.specs.Weierstrass
-pub use Rattle.weierstrass_group.specs.Group
+pub use Rattle.weierstrass.specs.Group

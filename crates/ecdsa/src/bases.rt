@@ -7,8 +7,8 @@
 ghost use Rattle.std.specs.Prelude.{ℕ, ◌<◌};
 ghost use Rattle.ecdsa.specs.Curves.{b256, base256, b384, base384};
 ghost use Rattle.weierstrass.specs.Weierstrass.{Point};
-ghost use Rattle.weierstrass_group.specs.Group.{spot_point};
-ghost use Rattle.weierstrass_group.specs.Jacobian.{IsMultiple};
+ghost use Rattle.weierstrass.specs.Group.{spot_point};
+ghost use Rattle.weierstrass.specs.Jacobian.{IsMultiple};
 
 use crate::moduli::{FieldModulus256, FieldModulus384};
 use residues::montgomery::{Montgomery, from_form};

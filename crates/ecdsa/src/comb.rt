@@ -5,8 +5,8 @@
 ghost use Rattle.std.specs.Prelude.{◌≡◌, ℕ, ◌+◌, ◌*◌, ◌%◌, length};
 ghost use Rattle.weierstrass.specs.Numbers.{numbers};
 ghost use Rattle.weierstrass.specs.Weierstrass.{Point};
-ghost use Rattle.weierstrass_group.specs.Joint.{IsJoint};
-ghost use Rattle.weierstrass_group.specs.private_clauses.Formulas.{IsJointOf};
+ghost use Rattle.weierstrass.specs.Joint.{IsJoint};
+ghost use Rattle.weierstrass.specs.private_clauses.Formulas.{IsJointOf};
 ghost use Rattle.combs.specs.Combs.{spread};
 ghost use Rattle.ecdsa.specs.private_clauses.Combs.{IsComb};
 
@@ -14,8 +14,8 @@ use crate::base_combs::BaseCombs;
 use crate::spots::Spot;
 use combs::comb_digit;
 use residues::residue::Residue;
+use weierstrass::jacobian::{add_affine, double, nothing, projective};
 use weierstrass::points::ProjectivePoint;
-use weierstrass_group::jacobian::{add_affine, double, nothing, projective};
 
 /// Returns the sum of the base point's multiple by the first number and the multiple of the table's
 /// point by the second. The least significant byte of a number is its first.

@@ -1,8 +1,8 @@
 //! The groups of the two curves' points.
 
 ghost use Rattle.ecdsa.specs.Curves.{p256, n256, b256, base256, p384, n384, b384, base384};
-ghost use Rattle.primes.specs.Primes.{IsPrime};
-ghost use Rattle.weierstrass_group.specs.Group.{IsCurve, IsPoint, IsGroup, HasOrder};
+ghost use Rattle.algebra.specs.Primes.{IsPrime};
+ghost use Rattle.weierstrass.specs.Group.{IsCurve, IsPoint, IsGroup, HasOrder};
 
 /// States that the points of P-256 are a group: does nothing, and its contract is the theorem. The
 /// sum of the definition is the one by chords and tangents, without an exception; the number modulo

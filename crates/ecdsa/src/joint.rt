@@ -7,16 +7,16 @@
 ghost use Rattle.std.specs.Prelude.{◌≡◌, ℕ, ◌+◌, ◌*◌, ◌<◌, length};
 ghost use Rattle.weierstrass.specs.Numbers.{numbers};
 ghost use Rattle.weierstrass.specs.Weierstrass.{Point};
-ghost use Rattle.weierstrass_group.specs.Group.{spot_point};
-ghost use Rattle.weierstrass_group.specs.Joint.{IsJoint};
-ghost use Rattle.weierstrass_group.specs.private_clauses.Entries.{entry_of, IsEntry, AreMultiples};
-ghost use Rattle.weierstrass_group.specs.private_clauses.Formulas.{IsJointOf, jacobian_times};
+ghost use Rattle.weierstrass.specs.Group.{spot_point};
+ghost use Rattle.weierstrass.specs.Joint.{IsJoint};
+ghost use Rattle.weierstrass.specs.private_clauses.Entries.{entry_of, IsEntry, AreMultiples};
+ghost use Rattle.weierstrass.specs.private_clauses.Formulas.{IsJointOf, jacobian_times};
 
 use crate::bases::BaseMultiples;
 use residues::residue::Residue;
+use weierstrass::entries::{Sixteen, add_entry, entry_at, entry_for, following, four_from};
+use weierstrass::jacobian::{add_affine, double, nothing, projective};
 use weierstrass::points::ProjectivePoint;
-use weierstrass_group::entries::{Sixteen, add_entry, entry_at, entry_for, following, four_from};
-use weierstrass_group::jacobian::{add_affine, double, nothing, projective};
 
 /// Returns the sum of the base point's multiple by the first number and the multiple of a point, of
 /// Z = 1, by the second. The least significant byte of a number is its first.

@@ -6,11 +6,11 @@ use Rattle.std.specs.Prelude.{nat_lt}
 use Rattle.residues.specs.Modulo.{plus, minus, times, power}
 use Rattle.residues.specs.Bytes.{little_endian}
 use Rattle.edwards.specs.Edwards.{Point}
-use Rattle.primes.specs.Primes.{IsPrime}
-use Rattle.primes.proofs.Bits.{by_bits, power_is}
-use Rattle.primes.proofs.CurvePrimes.{prime_p25519}
-use Rattle.edwards_group.specs.Group.{Alike, IsField, IsCurve, IsPoint}
-use Rattle.edwards_group.proofs.Curves.{IsField-by, IsCurve-by, IsPoint-by_root, root_turned, root_negative}
+use Rattle.algebra.specs.Primes.{IsPrime}
+use Rattle.algebra.proofs.Bits.{by_bits, power_is}
+use Rattle.algebra.proofs.CurvePrimes.{prime_p25519}
+use Rattle.edwards.specs.Group.{Alike, IsField, IsCurve, IsPoint}
+use Rattle.edwards.proofs.Curves.{IsField-by, IsCurve-by, IsPoint-by_root, root_turned, root_negative}
 use Rattle.ed25519.specs.Ed25519.{p, d, base, twice_d, u_of, v_of, candidate, root_of, signed, point_at, point_of, decoded}
 use Rattle.ed25519.proofs.MinusOne.{root_of_minus_one_is}
 use Rattle.ed25519.proofs.Roots.{some_same, none_some}

@@ -12,12 +12,12 @@ use Rattle.limbs.proofs.Congruences.{add_alike, mul_alike}
 use Rattle.residues.specs.Modulo.{plus, minus, times, power}
 use Rattle.residues.specs.Bytes.{little_endian}
 use Rattle.edwards.specs.Edwards.{Point, AreSame}
-use Rattle.edwards_group.specs.Group.{Alike, IsPoint}
-use Rattle.edwards_group.proofs.Affine as A
-use Rattle.edwards_group.proofs.Laws.{cancel}
-use Rattle.primes.specs.Inverses.{inverse}
-use Rattle.primes.proofs.Pocklington.{pow_alike}
-use Rattle.primes.proofs.PrimeInverses.{power_inverse}
+use Rattle.edwards.specs.Group.{Alike, IsPoint}
+use Rattle.edwards.proofs.Affine as A
+use Rattle.edwards.proofs.Laws.{cancel}
+use Rattle.algebra.specs.Inverses.{inverse}
+use Rattle.algebra.proofs.Pocklington.{pow_alike}
+use Rattle.algebra.proofs.PrimeInverses.{power_inverse}
 use Rattle.ed25519.specs.Ed25519.{p, d, u_of, v_of, candidate, root_of, signed, point_at, point_of, decoded, IsEquation}
 use Rattle.ed25519.specs.private_clauses.Encodings.{IsEncoding, IsCommitment}
 use Rattle.ed25519.proofs.Curve.{prime, field, positive, half_is, root_found, IsRoot, IsPoint-decoded}

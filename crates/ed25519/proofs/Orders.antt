@@ -2,9 +2,9 @@
 use Rattle.std.proofs.Common.{◌^◌, ◌<◌, refl, lit<}
 use Rattle.edwards.specs.Edwards.{Point, neutral, products, sum_of, double_of, step_of, steps_of, multiple_of, AreSame}
 use Rattle.residues.specs.Modulo.{plus, minus, times}
-use Rattle.edwards_group.specs.Group.{repeat_of}
-use Rattle.edwards_group.proofs.Laws as L
-use Rattle.edwards_group.proofs.Multiples as G
+use Rattle.edwards.specs.Group.{repeat_of}
+use Rattle.edwards.proofs.Laws as L
+use Rattle.edwards.proofs.Multiples as G
 use Rattle.ed25519.specs.Ed25519.{p, d, base, twice_d, order}
 use Rattle.ed25519.specs.Joint.{IsBase}
 use Rattle.ed25519.proofs.Curve.{field, curve, IsPoint-base}

@@ -4,11 +4,11 @@ use Rattle.std.proofs.Math.Nat.{mod-eq_of_lt, add-mul-mod_self_left, pow-suc, po
 use Rattle.std.proofs.lemmas.Nat.{pow-add, mul-pow}
 use Rattle.std.proofs.lemmas.Bool.{cases_lt}
 use Rattle.limbs.proofs.Congruences.{add_alike, mul_alike}
-use Rattle.primes.specs.Primes.{IsPrime}
-use Rattle.primes.proofs.Fermat.{factor}
-use Rattle.primes.proofs.Pocklington.{pow_alike}
-use Rattle.primes.proofs.PrimeInverses.{fermat_one}
-use Rattle.edwards_group.specs.Group.{Alike}
+use Rattle.algebra.specs.Primes.{IsPrime}
+use Rattle.algebra.proofs.Fermat.{factor}
+use Rattle.algebra.proofs.Pocklington.{pow_alike}
+use Rattle.algebra.proofs.PrimeInverses.{fermat_one}
+use Rattle.edwards.specs.Group.{Alike}
 
 split_squares : (q a b : ℕ) → (a + q * b) * (a + b) ≡ (a * a + q * (b * b)) + suc q * (a * b)
 split_squares q a b = omega arith

@@ -1,7 +1,7 @@
 -- Sums of a multiple of the base point and a multiple of another point.
 use Rattle.std.specs.Prelude.{ℕ}
 use Rattle.edwards.specs.Edwards.{Point, sum_of, neutral, AreSame}
-use Rattle.edwards_group.specs.Group.{IsPoint, repeat_of}
+use Rattle.edwards.specs.Group.{IsPoint, repeat_of}
 use Rattle.ed25519.specs.Ed25519.{p, d, base, twice_d, order}
 
 -- Q is m times the base point and n times P

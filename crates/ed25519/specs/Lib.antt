@@ -6,7 +6,7 @@ pub mod private_clauses
 pub use Rattle.edwards.specs.Edwards
 pub use Rattle.edwards.specs.Factors
 pub use Rattle.edwards.specs.Numbers
-pub use Rattle.edwards_group.specs.Group
-pub use Rattle.primes.specs.Primes
+pub use Rattle.edwards.specs.Group
+pub use Rattle.algebra.specs.Primes
 pub use Rattle.residues.specs.Bytes
 pub use Rattle.residues.specs.Modulo

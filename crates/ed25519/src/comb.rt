@@ -7,7 +7,7 @@ ghost use Rattle.edwards.specs.Edwards.{Point};
 ghost use Rattle.edwards.specs.Factors.{factor_numbers, addend_numbers};
 ghost use Rattle.edwards.specs.Numbers.{numbers};
 ghost use Rattle.residues.specs.Bytes.{little_endian};
-ghost use Rattle.edwards_group.specs.Group.{IsPoint};
+ghost use Rattle.edwards.specs.Group.{IsPoint};
 ghost use Rattle.ed25519.specs.Ed25519.{p, d, base};
 ghost use Rattle.ed25519.specs.private_clauses.Prepared.{IsMultiple, IsPrepared};
 ghost use Rattle.ed25519.specs.private_clauses.Combs.{AreSpread, IsComb};

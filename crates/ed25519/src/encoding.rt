@@ -2,14 +2,14 @@
 
 ghost use Rattle.std.specs.Prelude.{◌≡◌, ◌↔◌, IsTrue, length};
 ghost use Rattle.edwards.specs.Numbers.{numbers};
-ghost use Rattle.edwards_group.specs.Group.{IsPoint};
+ghost use Rattle.edwards.specs.Group.{IsPoint};
 ghost use Rattle.ed25519.specs.Ed25519.{p, d};
 ghost use Rattle.ed25519.specs.private_clauses.Encodings.{IsEncoding};
 
 use crate::decoding::parts;
 use crate::moduli::Field;
+use algebra::inverses::invert_tested;
 use edwards::points::ExtendedPoint;
-use primes::inverses::invert_tested;
 
 // Whether the 32 bytes encode this point of the curve. It takes no square root: the point's x and y
 // are compared with the bytes.

@@ -2,8 +2,8 @@
 
 ghost use Rattle.ed25519.specs.Ed25519.{p, d};
 ghost use Rattle.ed25519.specs.Joint.{IsBase};
-ghost use Rattle.edwards_group.specs.Group.{IsCurve, IsGroup};
-ghost use Rattle.primes.specs.Primes.{IsPrime};
+ghost use Rattle.edwards.specs.Group.{IsCurve, IsGroup};
+ghost use Rattle.algebra.specs.Primes.{IsPrime};
 
 /// States that the points of Ed25519 are a group: does nothing, and its contract is the theorem.
 /// The number modulo which points are taken is a prime, the sum of the definition has no exception,

@@ -8,7 +8,7 @@
 //! times as fast.
 //!
 //! `specs/Ed25519.antt` has the RFC's steps, which the contracts name, without the cofactor; the
-//! sums behind them are the group's, by `edwards_group`.
+//! sums behind them are the group's, by `edwards`.
 #![tactic(auto)]
 
 mod base_comb;

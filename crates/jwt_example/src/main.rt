@@ -10,7 +10,8 @@
 //! others fetch. `samples` has the small ones, each a function that is called once.
 //!
 //! `jwt_example decode FILE COUNT` verifies the token of the file this many times, and prints the
-//! nanoseconds for one; [`speed`] has the other kinds of work, and docs/SPEED.md the figures.
+//! nanoseconds for one; [`speed`], which is no part of the service, has the other kinds of work, and
+//! docs/SPEED.md the figures.
 #![tactic(auto)]
 
 mod clock;

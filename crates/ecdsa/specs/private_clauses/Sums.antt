@@ -2,8 +2,8 @@
 use Rattle.std.specs.Prelude.{◌≡◌, ℕ, ◌+◌, ◌<◌}
 use Rattle.residues.specs.Modulo.{times}
 use Rattle.weierstrass.specs.Weierstrass.{Point}
-use Rattle.primes.specs.Primes.{IsPrime}
-use Rattle.weierstrass_group.specs.Group.{IsCurve, IsPoint, Alike}
+use Rattle.algebra.specs.Primes.{IsPrime}
+use Rattle.weierstrass.specs.Group.{IsCurve, IsPoint, Alike}
 use Rattle.ecdsa.specs.Ecdsa.{sum_for}
 
 -- R is the point of the definition, if this is a curve and these are its points

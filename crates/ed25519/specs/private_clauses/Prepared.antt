@@ -3,7 +3,7 @@ use Rattle.std.specs.Prelude.{◌≡◌, ℕ, ◌<◌, List, slice_index_or}
 use Rattle.edwards.specs.Edwards.{Point, AreSame}
 use Rattle.edwards.specs.Factors.{AddendNumbers, addend_of, addend_numbers}
 use Rattle.edwards.specs.declared.factors.Addend.{Addend}
-use Rattle.edwards_group.specs.Group.{IsPoint, repeat_of}
+use Rattle.edwards.specs.Group.{IsPoint, repeat_of}
 use Rattle.ed25519.specs.Ed25519.{p, d, twice_d}
 
 -- Q is j times P

@@ -1,6 +1,6 @@
-use Rattle.primes.proofs.CurvePrimes.{prime_n256}
-use Rattle.weierstrass_group.proofs.Groups.{group}
-use Rattle.weierstrass_group.proofs.Orders.{nothing-256, order-256}
+use Rattle.algebra.proofs.CurvePrimes.{prime_n256}
+use Rattle.weierstrass.proofs.Groups.{group}
+use Rattle.weierstrass.proofs.Orders.{nothing-256, order-256}
 use Rattle.ecdsa.specs.Curves.{p256, n256, b256, base256}
 use Rattle.ecdsa.proofs.BasePoints.{has_base_256}
 use Rattle.ecdsa.proofs.group.group_law_256.Goals as goal

@@ -1,6 +1,6 @@
-use Rattle.primes.proofs.CurvePrimes.{prime_n384}
-use Rattle.weierstrass_group.proofs.Groups.{group}
-use Rattle.weierstrass_group.proofs.Orders.{nothing-384, order-384}
+use Rattle.algebra.proofs.CurvePrimes.{prime_n384}
+use Rattle.weierstrass.proofs.Groups.{group}
+use Rattle.weierstrass.proofs.Orders.{nothing-384, order-384}
 use Rattle.ecdsa.specs.Curves.{p384, n384, b384, base384}
 use Rattle.ecdsa.proofs.BasePoints.{has_base_384}
 use Rattle.ecdsa.proofs.group.group_law_384.Goals as goal

@@ -1,7 +1,7 @@
 use Rattle.std.proofs.Common.{◌≡◌, ◌+◌, subst, arith}
 use Rattle.weierstrass.specs.Numbers.{numbers}
-use Rattle.weierstrass_group.specs.private_clauses.Formulas.{IsJointOf}
-use Rattle.weierstrass_group.proofs.JacobianWindows.{first_joint}
+use Rattle.weierstrass.specs.private_clauses.Formulas.{IsJointOf}
+use Rattle.weierstrass.proofs.JacobianWindows.{first_joint}
 use Rattle.ecdsa.proofs.joint.add_of_base.Goals as goal
 
 pub returns-then-digit-eq0 : goal.returns-then-digit-eq0

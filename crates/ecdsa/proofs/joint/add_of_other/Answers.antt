@@ -1,5 +1,5 @@
 use Rattle.weierstrass.specs.Numbers.{numbers}
-use Rattle.weierstrass_group.proofs.JacobianWindows.{second_joint}
+use Rattle.weierstrass.proofs.JacobianWindows.{second_joint}
 use Rattle.ecdsa.proofs.joint.add_of_other.Goals as goal
 
 pub returns : goal.returns

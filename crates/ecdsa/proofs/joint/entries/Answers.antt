@@ -1,10 +1,10 @@
 use Rattle.std.proofs.Common.{◌≡◌, ℕ, zero, suc, ◌<◌, ◌∙◌, ap, arith}
 use Rattle.weierstrass.specs.Weierstrass.{Point}
 use Rattle.weierstrass.specs.Numbers.{numbers}
-use Rattle.weierstrass_group.specs.declared.entries.Sixteen.{Sixteen}
-use Rattle.weierstrass_group.specs.Group.{spot_point}
-use Rattle.weierstrass_group.specs.private_clauses.Entries.{entry_of, IsEntry}
-use Rattle.weierstrass_group.specs.private_clauses.Formulas.{jacobian_sum, jacobian_times}
+use Rattle.weierstrass.specs.declared.entries.Sixteen.{Sixteen}
+use Rattle.weierstrass.specs.Group.{spot_point}
+use Rattle.weierstrass.specs.private_clauses.Entries.{entry_of, IsEntry}
+use Rattle.weierstrass.specs.private_clauses.Formulas.{jacobian_sum, jacobian_times}
 use Rattle.ecdsa.proofs.joint.entries.Goals as goal
 
 none : (p : ℕ) (P S : Point) → S ≡ record { x = 1; y = 1; z = 0 } → S ≡ jacobian_times p 0 P

@@ -3,11 +3,11 @@ use Rattle.residues.proofs.Numbers.{little_endian-drop, little_endian-drop_all}
 use Rattle.residues.specs.Bytes.{little_endian}
 use Rattle.weierstrass.specs.Weierstrass.{Point}
 use Rattle.weierstrass.specs.Numbers.{numbers}
-use Rattle.weierstrass_group.specs.Group.{spot_point}
-use Rattle.weierstrass_group.specs.Jacobian.{IsMultiple}
-use Rattle.weierstrass_group.specs.private_clauses.Entries.{entry_of}
-use Rattle.weierstrass_group.specs.private_clauses.Formulas.{jacobian_times}
-use Rattle.weierstrass_group.proofs.JacobianWindows.{times_multiple, joint_at, none_joint_of, joint_by}
+use Rattle.weierstrass.specs.Group.{spot_point}
+use Rattle.weierstrass.specs.Jacobian.{IsMultiple}
+use Rattle.weierstrass.specs.private_clauses.Entries.{entry_of}
+use Rattle.weierstrass.specs.private_clauses.Formulas.{jacobian_times}
+use Rattle.weierstrass.proofs.JacobianWindows.{times_multiple, joint_at, none_joint_of, joint_by}
 use Rattle.ecdsa.proofs.joint.joint_multiple.Goals as goal
 
 -- a byte by its halves

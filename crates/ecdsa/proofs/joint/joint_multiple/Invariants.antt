@@ -1,6 +1,6 @@
 use Rattle.std.proofs.Common.{length, drop, ◌≤◌}
 use Rattle.residues.specs.Bytes.{little_endian}
-use Rattle.weierstrass_group.specs.private_clauses.Formulas.{IsJointOf}
+use Rattle.weierstrass.specs.private_clauses.Formulas.{IsJointOf}
 use Rattle.weierstrass.specs.Numbers.{numbers}
 use Rattle.ecdsa.proofs.joint.joint_multiple.Given as goal
 

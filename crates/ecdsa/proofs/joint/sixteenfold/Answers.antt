@@ -1,7 +1,7 @@
 use Rattle.std.proofs.Common.{ap, ◌∙◌}
 use Rattle.weierstrass.specs.Numbers.{numbers}
-use Rattle.weierstrass_group.specs.private_clauses.Formulas.{jacobian_double}
-use Rattle.weierstrass_group.proofs.JacobianWindows.{sixteen_joint}
+use Rattle.weierstrass.specs.private_clauses.Formulas.{jacobian_double}
+use Rattle.weierstrass.proofs.JacobianWindows.{sixteen_joint}
 use Rattle.ecdsa.proofs.joint.sixteenfold.Goals as goal
 
 pub returns : goal.returns

@@ -7,7 +7,7 @@ use Rattle.std.specs.Prelude.{◌↔◌, IsTrue}
 use Rattle.ecdsa.specs.Ecdsa.{sum_for, HasX}
 use Rattle.ecdsa.proofs.Steps.{verdict}
 use Rattle.ecdsa.proofs.Proportions.{key_is_point, has_x_of}
-use Rattle.weierstrass_group.specs.Group.{IsPoint, Alike}
+use Rattle.weierstrass.specs.Group.{IsPoint, Alike}
 use Rattle.ecdsa.proofs.verification.is_signature_by.Goals as goal
 
 pub returns : goal.returns

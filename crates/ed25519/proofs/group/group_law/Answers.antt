@@ -1,5 +1,5 @@
 use Rattle.ed25519.specs.Ed25519.{p, d}
-use Rattle.edwards_group.proofs.Groups.{group}
+use Rattle.edwards.proofs.Groups.{group}
 use Rattle.ed25519.proofs.Curve.{prime, field, curve}
 use Rattle.ed25519.proofs.Orders.{base_is}
 use Rattle.ed25519.proofs.group.group_law.Goals as goal

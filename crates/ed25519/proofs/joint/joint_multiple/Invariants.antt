@@ -2,7 +2,7 @@ use Rattle.std.proofs.Common.{◌≤◌, ◌%◌, drop}
 use Rattle.residues.specs.Bytes.{little_endian}
 use Rattle.edwards.specs.Factors.{factor_numbers}
 use Rattle.edwards.specs.Numbers.{numbers}
-use Rattle.edwards_group.specs.Group.{IsPoint}
+use Rattle.edwards.specs.Group.{IsPoint}
 use Rattle.ed25519.specs.Elements.{whole}
 use Rattle.ed25519.specs.Ed25519.{p, d}
 use Rattle.ed25519.specs.Joint.{IsJoint}

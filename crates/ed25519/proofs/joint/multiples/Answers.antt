@@ -1,7 +1,7 @@
 use Rattle.std.proofs.Common.{◌≡◌, ◌+◌, ◌≤◌, ◌-◌, ◌∙◌, refl, sym, subst, length-set, arith}
 use Rattle.edwards.specs.Factors.{addend_numbers}
 use Rattle.edwards.specs.Numbers.{numbers}
-use Rattle.edwards_group.specs.Group.{IsPoint}
+use Rattle.edwards.specs.Group.{IsPoint}
 use Rattle.ed25519.specs.Ed25519.{p, d}
 use Rattle.ed25519.specs.private_clauses.Prepared.{IsMultiple}
 use Rattle.ed25519.proofs.Joints.{IsMultiple-none, IsMultiple-step, IsMultiple-at, IsPrepared-by, ArePrepared-more}

@@ -1,6 +1,6 @@
 use Rattle.std.proofs.Common.{◌≡◌, ◌-◌, length}
 use Rattle.edwards.specs.Numbers.{numbers}
-use Rattle.edwards_group.specs.Group.{IsPoint}
+use Rattle.edwards.specs.Group.{IsPoint}
 use Rattle.ed25519.specs.Ed25519.{p, d}
 use Rattle.ed25519.specs.private_clauses.Prepared.{ArePrepared, IsMultiple}
 use Rattle.ed25519.proofs.joint.multiples.Given as goal

@@ -1,5 +1,5 @@
 use Rattle.edwards.specs.Numbers.{numbers}
-use Rattle.edwards_group.specs.Group.{negative_of}
+use Rattle.edwards.specs.Group.{negative_of}
 use Rattle.ed25519.proofs.joint.negative.Goals as goal
 
 pub returns : goal.returns

@@ -3,7 +3,7 @@ use Rattle.residues.specs.Bytes.{little_endian}
 use Rattle.residues.proofs.Loads.{little_endian-lt}
 use Rattle.edwards.specs.Edwards.{Point}
 use Rattle.edwards.specs.Numbers.{numbers}
-use Rattle.edwards_group.specs.Group.{IsPoint}
+use Rattle.edwards.specs.Group.{IsPoint}
 use Rattle.ed25519.specs.Ed25519.{p, d}
 use Rattle.ed25519.specs.Elements.{whole}
 use Rattle.ed25519.proofs.Encodings.{committed}

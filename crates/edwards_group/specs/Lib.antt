@@ -1,3 +1,0 @@
-pub mod Group
-pub use Rattle.edwards.specs.Edwards
-pub use Rattle.residues.specs.Modulo

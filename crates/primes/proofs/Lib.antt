@@ -1,9 +1,0 @@
-pub mod Bits
-pub mod Certificates
-pub mod CurvePrimes
-pub mod Divisors
-pub mod Fermat
-pub mod Holes
-pub mod Pocklington
-pub mod PrimeInverses
-pub mod Trials

@@ -1,3 +1,0 @@
-pub mod Alike
-pub mod Polynomials
-pub mod Terms

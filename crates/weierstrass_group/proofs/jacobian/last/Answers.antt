@@ -1,7 +1,0 @@
-use Rattle.weierstrass.specs.Numbers.{numbers}
-use Rattle.weierstrass_group.specs.private_clauses.Formulas.{jacobian_last}
-use Rattle.weierstrass_group.proofs.jacobian.last.Goals as goal
-
-pub returns : goal.returns
-unfolding jacobian_last numbers
-returns g c = cc
