@@ -10,15 +10,9 @@ pub enum Fault {
     /// A call of the library was refused.
     #[error("refused: {0}")]
     Refused(Error),
-    /// The file, the clock or the output failed.
-    #[error("input or output failed")]
-    Io,
-    /// The arguments are not among those that the program takes.
-    #[error("usage: jwt_example [decode|encode|header|prepared-decode|prepared-encode|decode-jwk|compare-first|compare-last FILE COUNT]")]
-    Words,
-    /// A call that is measured was refused, or two different strings were the same.
-    #[error("the work failed")]
-    Work,
+    /// A line could not be printed.
+    #[error("output failed")]
+    Output,
 }
 
 impl From<Error> for Fault {
@@ -29,7 +23,7 @@ impl From<Error> for Fault {
 
 impl From<io::Error> for Fault {
     fn from(_fault: io::Error) -> Fault {
-        Fault::Io
+        Fault::Output
     }
 }
 

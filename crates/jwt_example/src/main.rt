@@ -8,10 +8,6 @@
 //! [`login`] issues a session and verifies it, [`keys`] goes through a change of keys, `renewal`
 //! lets a session end after a day however often it is renewed, and `published` has the set that
 //! others fetch. `samples` has the small ones, each a function that is called once.
-//!
-//! `jwt_example decode FILE COUNT` verifies the token of the file this many times, and prints the
-//! nanoseconds for one; [`speed`], which is no part of the service, has the other kinds of work, and
-//! docs/SPEED.md the figures.
 #![tactic(auto)]
 
 mod clock;
@@ -26,19 +22,16 @@ mod samples;
 mod service;
 mod session;
 mod signing;
-mod speed;
 
 use fault::Fault;
 use keys::show_keys;
 use login::show_login;
 use samples::show_samples;
-use speed::{measure, show_works};
-use std::env;
 use std::process::ExitCode;
 use std::rt::Runtime;
 
 fn main(rt: HostRuntime) -> ExitCode {
-    match start(&rt) {
+    match show_all(&rt) {
         Ok(()) => ExitCode::SUCCESS,
         Err(fault) => {
             let _ = eprintln!(rt; "{fault}");
@@ -47,21 +40,8 @@ fn main(rt: HostRuntime) -> ExitCode {
     }
 }
 
-/// Shows everything, or measures the work that the arguments name.
-fn start<T: Runtime + AllocGlobal>(rt: &T) -> Result<(), Fault> {
-    let mut words = env::args(rt)?;
-    let _program = words.next();
-    let words = words.collect::<Vec<String>>(rt.alloc())?;
-    match words.as_slice() {
-        [] => show_all(rt),
-        [name, file, count] => measure(rt, name.as_str(), file.as_str(), count.as_str()),
-        _ => Err(Fault::Words),
-    }
-}
-
 fn show_all<T: Runtime + AllocGlobal>(rt: &T) -> Result<(), Fault> {
     show_login(rt)?;
     show_keys(rt)?;
-    show_samples(rt)?;
-    show_works(rt)
+    show_samples(rt)
 }

@@ -3,7 +3,7 @@
 mod finder;
 mod key_set;
 mod reasons;
-pub mod secret;
+mod secret;
 mod signature;
 mod verdict;
 

@@ -1,4 +1,4 @@
-//! The measurements of jwt_example, by the Rust crate jsonwebtoken over ring.
+//! The measurements of jwt_bench, by the Rust crate jsonwebtoken over ring.
 
 use jsonwebtoken::errors::Result;
 use jsonwebtoken::{decode, decode_header, encode, Algorithm, DecodingKey, EncodingKey, Header, Validation};
