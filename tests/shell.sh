@@ -5,7 +5,7 @@ passed=0
 failed=()
 # What was left out, as it was said.
 left_out=()
-# The names of the commands that were begun and not yet tallied, each with the file of what it says.
+# The commands that were begun and not yet counted: the name, the file of what it says and the process of each.
 begun=()
 # What is said right before the last line.
 remark=
@@ -33,38 +33,50 @@ try() {
     fi
 }
 
-# tally NAME COMMAND..: runs a command whose last line begins with how many tests or rows it ran, and ends with how many failed. What
-# else it says is printed if something failed, and so is what it left out.
-tally() {
-    local said last line
-    said=$("${@:2}" 2>&1)
-    last=$(tail -n 1 <<< "$said")
-    if [[ $last =~ ^([0-9]+)\ .*,\ 0\ (failed|differ)$ ]]; then
+# count NAME STATUS SAID: counts a command that ended with this status and said this. It passed if the status is 0 and the last line begins
+# with how many tests or rows ran, and ends with '0 failed' or '0 differ'. If none ran, it has to have said what it left out. All that it
+# said is printed if it failed, and otherwise what it left out.
+count() {
+    local last line left
+    last=$(tail -n 1 <<< "$3")
+    mapfile -t left < <(grep '^left out, ' <<< "$3")
+    if [ "$2" -eq 0 ] && [[ $last =~ ^([0-9]+)\ .*,\ 0\ (failed|differ)$ ]] && [ $((BASH_REMATCH[1] + ${#left[@]})) -gt 0 ]; then
         passed=$((passed + BASH_REMATCH[1]))
-        while read -r line; do
+        for line in "${left[@]}"; do
             left_out+=("$line")
             echo "$line"
-        done < <(grep '^left out, ' <<< "$said")
+        done
         echo "passed: $1: $last"
     else
         failed+=("$1")
-        printf '%s\n' "$said" "FAILED: $1"
+        printf '%s\n' "$3" "FAILED: $1, with status $2"
     fi
 }
 
-# begin NAME COMMAND..: begins a command that `tally_begun` tallies, so that several run side by side.
-begin() {
-    begun+=("$1" "$(mktemp)")
-    "${@:2}" > "${begun[-1]}" 2>&1 &
+# tally NAME COMMAND..: runs a command, and counts its tests.
+tally() {
+    local said status=0
+    said=$("${@:2}" 2>&1) || status=$?
+    count "$1" "$status" "$said"
 }
 
-# tally_begun: waits for the commands that were begun, and tallies each.
+# begin NAME COMMAND..: begins a command that `tally_begun` counts, so that several run side by side.
+begin() {
+    local said
+    said=$(mktemp)
+    "${@:2}" > "$said" 2>&1 &
+    begun+=("$1" "$said" $!)
+}
+
+# tally_begun: waits for each command that was begun, and counts its tests.
 tally_begun() {
-    wait
+    local status
     while [ ${#begun[@]} -gt 0 ]; do
-        tally "${begun[0]}" cat "${begun[1]}"
+        status=0
+        wait "${begun[2]}" || status=$?
+        count "${begun[0]}" "$status" "$(cat "${begun[1]}")"
         rm -f "${begun[1]}"
-        begun=("${begun[@]:2}")
+        begun=("${begun[@]:3}")
     done
 }
 
