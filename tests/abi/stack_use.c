@@ -1,5 +1,6 @@
-/* Tests how much stack a call takes that verifies a token: it runs in a thread whose stack is painted before, and what is
-   not as it was painted afterwards was used. So the tables of curves' multiples, which are on the stack, have a bound. */
+/* Tests how much stack a call needs that verifies a token or makes a verifier. The call runs in a thread whose stack is painted before;
+   the bytes with another value afterwards were used. The tables of multiples of curve points are on the stack, and the JSON reader
+   needs about 600 bytes for each level of nesting. */
 #include "keys.h"
 #include <jwtproved.h>
 #include <pthread.h>
@@ -9,28 +10,41 @@
 #include <sys/mman.h>
 
 enum { STACK = 1 << 20, PAINT = 0xa5 };
-/* What a whole call with each algorithm takes at most, in bytes. */
-enum { MOST = 36 << 10 };
+/* The most bytes of stack that a call needs, for a short token without nesting, and for a token that nests as deep as JSON may. */
+enum { MOST = 36 << 10, MOST_OF_NESTED = 112 << 10 };
+/* The levels of arrays in a member. With the object around them there are 127, the most that is read. */
+enum { LEVELS = 126 };
+static const uint64_t EXPIRED = 2532525000;
+static const char BY_HMAC[] = "{\"algorithms\":[\"HS256\"]}";
 
-static const struct call {
-    const char *name, *token, *options;
-} NO_CALL = {NULL, NULL, NULL},
-  CALLS[] = {
-      {"HS256", BY_HS256, "{\"algorithms\":[\"HS256\"]}"}, {"RS256", BY_RS256, "{\"algorithms\":[\"RS256\"]}"},
-      {"PS256", BY_PS256, "{\"algorithms\":[\"PS256\"]}"}, {"ES256", BY_ES256, "{\"algorithms\":[\"ES256\"]}"},
-      {"ES384", BY_ES384, "{\"algorithms\":[\"ES384\"]}"}, {"EdDSA", BY_EDDSA, "{\"algorithms\":[\"EdDSA\"]}"},
+enum way { NOTHING, BY_SET, BY_VERIFIER, MAKES_VERIFIER };
+struct call {
+    enum way way;
+    const char *token, *options;
+    uint64_t now;
 };
 
 static uint32_t status;
+static struct jwt_verifier verifier = JWT_VERIFIER_NONE;
 
-/* Verifies the token of a call, if there is one. */
-static void *verify(void *given) {
+static uint32_t make_verifier(const char *options) {
+    return jwt_verifier_set(ALL_KEYS, strlen(ALL_KEYS), options, strlen(options), 0, false, 0, &verifier);
+}
+
+static void *make(void *given) {
     const struct call *call = given;
-    char claims[256];
+    static char claims[288];
     size_t len;
-    if (call->token)
+    uint64_t last;
+    uint32_t failed_test;
+    if (call->way == BY_SET)
         status = jwt_decode_set(call->token, strlen(call->token), ALL_KEYS, strlen(ALL_KEYS), call->options,
-                                strlen(call->options), 0, claims, sizeof claims, &len);
+                                strlen(call->options), call->now, claims, sizeof claims, &len);
+    else if (call->way == BY_VERIFIER)
+        status = jwt_verifier_decode(&verifier, call->token, strlen(call->token), call->now, claims, sizeof claims,
+                                     &len, &last, &failed_test);
+    else if (call->way == MAKES_VERIFIER)
+        status = make_verifier(call->options);
     return NULL;
 }
 
@@ -44,7 +58,7 @@ static size_t stack_of(const struct call *call) {
     pthread_attr_init(&attributes);
     size_t used = 0;
     if (!pthread_attr_setstack(&attributes, stack, STACK) &&
-        !pthread_create(&thread, &attributes, verify, (void *)call) && !pthread_join(thread, NULL)) {
+        !pthread_create(&thread, &attributes, make, (void *)call) && !pthread_join(thread, NULL)) {
         const uint8_t *at = stack;
         while (at < stack + STACK && *at == PAINT) at++;
         used = (size_t)(stack + STACK - at);
@@ -54,18 +68,79 @@ static size_t stack_of(const struct call *call) {
     return used;
 }
 
-int main(void) {
-    unsigned passed = 0, failed = 0;
+static unsigned passed, failed;
+
+/* Tests the status of a call, and its stack beyond that of a thread that makes no call. */
+static void test(const char *name, const struct call *call, uint32_t wanted, size_t most) {
+    static const char *const CALLED[] = {"", "jwt_decode_set", "jwt_verifier_decode", "jwt_verifier_set"};
+    static const struct call NO_CALL;
     const size_t thread = stack_of(&NO_CALL);
-    for (size_t i = 0; i < sizeof CALLS / sizeof *CALLS; i++) {
-        status = UINT32_MAX;
-        const size_t whole = stack_of(&CALLS[i]);
-        const int is_well = thread && whole > thread && status == JWT_OK && whole - thread <= MOST;
-        passed += is_well;
-        failed += !is_well;
-        printf("%s%s: %zu bytes of stack, status %u\n", is_well ? "" : "FAILED: ", CALLS[i].name, whole - thread,
-               status);
+    status = UINT32_MAX;
+    const size_t whole = stack_of(call);
+    const int is_well = thread && whole > thread && status == wanted && whole - thread <= most;
+    passed += is_well;
+    failed += !is_well;
+    printf("%s%s, %s: %zu bytes of stack, status %u\n", is_well ? "" : "FAILED: ", name, CALLED[call->way],
+           whole - thread, status);
+}
+
+/* Verifies a token with the key set, and with a verifier of the set. */
+static void verify(const char *name, const char *token, const char *options, uint64_t now, uint32_t wanted,
+                   size_t most) {
+    const struct call by_set = {BY_SET, token, options, now}, by_verifier = {BY_VERIFIER, token, options, now};
+    const struct call makes = {MAKES_VERIFIER, NULL, options, 0};
+    test(name, &by_set, wanted, most);
+    test(name, &makes, JWT_OK, MOST);
+    test(name, &by_verifier, wanted, most);
+    jwt_verifier_free(&verifier);
+}
+
+/* Verifies a valid token, a forged one, and the valid one after it expired. */
+static void verify_all(const char *name, const char *token, const char *options, size_t most) {
+    char forged[2048];
+    snprintf(forged, sizeof forged, "%s", token);
+    char *const changed = strrchr(forged, '.') + 5;
+    *changed = *changed == 'A' ? 'B' : 'A';
+    verify(name, token, options, 0, JWT_OK, most);
+    verify(name, forged, options, 0, JWT_INVALID_SIGNATURE, most);
+    verify(name, token, options, EXPIRED, JWT_EXPIRED_SIGNATURE, most);
+}
+
+/* Writes a token with HS256, with this many levels of arrays in its header and in its claims. */
+static void write_nested(size_t of_header, size_t of_claims, char *token, size_t room) {
+    static const char SECRET[] = "a secret of thirty-two characters";
+    char open[LEVELS + 1], close[LEVELS + 1], header[512], claims[512];
+    memset(open, '[', LEVELS);
+    memset(close, ']', LEVELS);
+    int header_len = snprintf(header, sizeof header, "{\"alg\":\"HS256\",\"kid\":\"hmac\",\"x\":[%.*s%.*s]}",
+                              (int)of_header - 1, open, (int)of_header - 1, close);
+    int claims_len = snprintf(claims, sizeof claims, "{\"exp\":2532524891,\"x\":[%.*s%.*s]}", (int)of_claims - 1, open,
+                              (int)of_claims - 1, close);
+    size_t len;
+    if (jwt_encode_hmac(header, (size_t)header_len, claims, (size_t)claims_len, (const uint8_t *)SECRET,
+                        strlen(SECRET), token, room - 1, &len) != JWT_OK)
+        len = 0;
+    token[len] = 0;
+}
+
+int main(void) {
+    static const char *const ALGORITHMS[][2] = {
+        {"HS256", BY_HS256}, {"RS256", BY_RS256}, {"PS256", BY_PS256},
+        {"ES256", BY_ES256}, {"ES384", BY_ES384}, {"EdDSA", BY_EDDSA},
+    };
+    char options[64], nested[2048];
+    for (size_t i = 0; i < sizeof ALGORITHMS / sizeof *ALGORITHMS; i++) {
+        snprintf(options, sizeof options, "{\"algorithms\":[\"%s\"]}", ALGORITHMS[i][0]);
+        verify_all(ALGORITHMS[i][0], ALGORITHMS[i][1], options, MOST);
     }
+    verify("no dot", "abc", BY_HMAC, 0, JWT_INVALID_TOKEN, MOST);
+    verify("a header without alg", "e30.e30.", BY_HMAC, 0, JWT_JSON, MOST);
+    verify("an unknown kid", "eyJhbGciOiJIUzI1NiIsImtpZCI6IngifQ.e30.", BY_HMAC, 0, JWT_NO_KEY, MOST);
+    verify("another algorithm", BY_ES256, BY_HMAC, 0, JWT_INVALID_ALGORITHM, MOST);
+    write_nested(LEVELS, 1, nested, sizeof nested);
+    verify_all("a header that nests", nested, BY_HMAC, MOST_OF_NESTED);
+    write_nested(1, LEVELS, nested, sizeof nested);
+    verify_all("claims that nest", nested, BY_HMAC, MOST_OF_NESTED);
     printf("%u passed, %u failed\n", passed, failed);
     return failed != 0;
 }
