@@ -10,8 +10,9 @@
 //! `"call":"Header::from_value"` by one of [`headers`]. A new row of a call that is here is a line
 //! of a file in `crates/jwt_vectors/data`; a new call is an arm of a `match`.
 //!
-//! A row's wanted result is from a standard or from another implementation, never from this
-//! library: its member `from` says which.
+//! A row's expected result is from a standard, from another implementation, or from this library's
+//! own rules, a section of `docs/RULES.md`: its member `from` says which. The README of `jwt_vectors`
+//! lists the programs that answer rows without this library.
 #![tactic(auto)]
 
 pub mod algorithms;
