@@ -18,13 +18,17 @@ use std::alloc::Global;
 
 /// Finds the key of a token, and makes its verifier, for [`decode_by`](crate::decode_by).
 ///
-/// It is for keys that are kept in another way than [`decode`](crate::decode) and
-/// [`decode_with_set`](crate::decode_with_set) take them: with an index, prepared, or in a
-/// database. `source` says which key or which set the keys stand for, and the prover holds the rest
-/// to it. Over a table of keys, `source` is the set of its rows, `find` looks up the row with the
-/// header's `kid` and returns what [`key_for`](crate::jwk::key_for) makes of it, `own_algorithm` is
-/// [`own_algorithm`](crate::jwk::own_algorithm) of it, and `verifier` asks a provider. `KeyRing` of
-/// the crate `jwt_verifier` is such a finder.
+/// Use it for keys that are kept in another form than [`decode`](crate::decode) and
+/// [`decode_with_set`](crate::decode_with_set) take: with an index, or prepared. `source` is the
+/// key or the key set that the finder stands for, and the prover checks the calls against it. Over
+/// a table of keys, `source` is the set of its rows, `find` looks up the row with the header's
+/// `kid` and returns what [`key_for`](crate::jwk::key_for) makes of it, `own_algorithm` is
+/// [`own_algorithm`](crate::jwk::own_algorithm) of it, and `verifier` calls a provider. `KeyRing`
+/// of the crate `jwt_verifier` is such a finder.
+///
+/// By these laws a finder's result depends on the finder and the header alone. A lookup that reads
+/// a database during `decode` can return different rows, so it does not meet them: read the keys
+/// first, and make a finder of what was read.
 pub trait KeyFinder {
     /// A key that was found.
     type Found: Drop;
