@@ -33,11 +33,11 @@ typedef struct {
 } ngx_http_jwt_key_t;
 
 
-/* a value that may not be empty or 0, and the answer if it is */
+/* variables of which one has to be met, and the answer if none is */
 typedef struct {
-    ngx_http_complex_value_t  value;
-    ngx_str_t                 text;     /* as it is written */
-    ngx_int_t                 answer;
+    ngx_array_t            variables;   /* indexes of ngx_int_t */
+    ngx_str_t              text;        /* as they are written */
+    ngx_int_t              answer;
 } ngx_http_jwt_require_t;
 
 
@@ -180,6 +180,7 @@ ngx_int_t ngx_http_jwt_quote(ngx_pool_t *pool, ngx_str_t *text, ngx_uint_t n,
 ngx_uint_t ngx_http_jwt_is_same_text(ngx_str_t *a, ngx_str_t *b);
 ngx_uint_t ngx_http_jwt_is_plain(ngx_str_t *text);
 ngx_uint_t ngx_http_jwt_has_variable(ngx_str_t *text);
+ngx_uint_t ngx_http_jwt_take_name(ngx_str_t *text);
 
 /* ngx_http_jwt_variables.c */
 ngx_http_jwt_ctx_t *ngx_http_jwt_add_ctx(ngx_http_request_t *r);

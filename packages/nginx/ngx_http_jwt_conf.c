@@ -463,31 +463,63 @@ ngx_http_jwt_key(ngx_conf_t *cf, ngx_command_t *cmd, void *conf)
 }
 
 
+/* Adds a variable, and its text, to those of which one has to be met. */
 static char *
-ngx_http_jwt_add_required(ngx_conf_t *cf, ngx_array_t *required,
-    ngx_str_t *value, ngx_int_t answer)
+ngx_http_jwt_add_variable(ngx_conf_t *cf, ngx_http_jwt_require_t *require,
+    ngx_str_t *value)
 {
-    ngx_http_jwt_require_t            *it;
-    ngx_http_compile_complex_value_t   ccv;
+    u_char     *text;
+    ngx_int_t  *index;
+    ngx_str_t   name = *value;
 
-    it = ngx_array_push(required);
-    if (it == NULL) {
+    if (!ngx_http_jwt_take_name(&name)) {
+        return "takes one $variable in each value: write $a $b to require "
+               "both, and any $a $b to require one of them";
+    }
+
+    text = ngx_pnalloc(cf->pool, require->text.len + 1 + value->len);
+    index = ngx_array_push(&require->variables);
+    if (text == NULL || index == NULL) {
         return NGX_CONF_ERROR;
     }
 
-    if (value->data[0] != '$') {
-        return "takes values that begin with a variable";
+    require->text.len = ngx_sprintf(text, "%V%s%V", &require->text,
+                                    require->text.len > 0 ? " " : "", value)
+                        - text;
+    require->text.data = text;
+    *index = ngx_http_get_variable_index(cf, &name);
+
+    return *index != NGX_ERROR ? NGX_CONF_OK : NGX_CONF_ERROR;
+}
+
+
+/* Requires a variable, or one of those after the word any. */
+static char *
+ngx_http_jwt_add_required(ngx_conf_t *cf, ngx_array_t *required,
+    ngx_str_t *value, ngx_uint_t n, ngx_int_t answer)
+{
+    char                    *rv = NGX_CONF_OK;
+    ngx_uint_t               i, is_any = n > 1;
+    ngx_http_jwt_require_t  *it;
+
+    it = ngx_array_push(required);
+
+    if (it == NULL
+        || ngx_array_init(&it->variables, cf->pool, n, sizeof(ngx_int_t))
+           != NGX_OK)
+    {
+        return NGX_CONF_ERROR;
     }
 
-    it->text = *value;
     it->answer = answer;
-    ngx_memzero(&ccv, sizeof(ngx_http_compile_complex_value_t));
-    ccv.cf = cf;
-    ccv.value = value;
-    ccv.complex_value = &it->value;
+    it->text = value[0];
+    it->text.len *= is_any;
 
-    return ngx_http_compile_complex_value(&ccv) == NGX_OK ? NGX_CONF_OK
-           : NGX_CONF_ERROR;
+    for (i = is_any; i < n && rv == NGX_CONF_OK; i++) {
+        rv = ngx_http_jwt_add_variable(cf, it, &value[i]);
+    }
+
+    return rv;
 }
 
 
@@ -497,7 +529,7 @@ ngx_http_jwt_require(ngx_conf_t *cf, ngx_command_t *cmd, void *conf)
     char                     *rv = NGX_CONF_OK;
     ngx_str_t                *value = cf->args->elts;
     ngx_int_t                 answer = NGX_HTTP_FORBIDDEN;
-    ngx_uint_t                i, n = cf->args->nelts;
+    ngx_uint_t                i, size, n = cf->args->nelts, is_any;
     ngx_http_jwt_loc_conf_t  *jlcf = conf;
 
     if (ngx_strncmp(value[n - 1].data, "error=", 6) == 0) {
@@ -505,10 +537,14 @@ ngx_http_jwt_require(ngx_conf_t *cf, ngx_command_t *cmd, void *conf)
         answer = ngx_atoi(value[n].data + 6, value[n].len - 6);
     }
 
-    if (n < 2
+    is_any = ngx_strcmp(value[1].data, "any") == 0;
+    size = is_any ? n - 1 : 1;
+
+    if (n < 2 + is_any
         || (answer != NGX_HTTP_UNAUTHORIZED && answer != NGX_HTTP_FORBIDDEN))
     {
-        return "takes $variables, and error=401 or error=403 at the end";
+        return "takes $variables, or any and $variables, and error=401 or "
+               "error=403 at the end";
     }
 
     ngx_http_jwt_keep_place(cf, jlcf);
@@ -522,8 +558,9 @@ ngx_http_jwt_require(ngx_conf_t *cf, ngx_command_t *cmd, void *conf)
         return NGX_CONF_ERROR;
     }
 
-    for (i = 1; i < n && rv == NGX_CONF_OK; i++) {
-        rv = ngx_http_jwt_add_required(cf, jlcf->required, &value[i], answer);
+    for (i = 1; i < n && rv == NGX_CONF_OK; i += size) {
+        rv = ngx_http_jwt_add_required(cf, jlcf->required, &value[i], size,
+                                       answer);
     }
 
     return rv;

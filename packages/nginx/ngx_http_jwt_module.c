@@ -76,12 +76,37 @@ ngx_http_jwt_refuse(ngx_http_request_t *r, ngx_str_t *realm, ngx_int_t answer,
 }
 
 
+/* Returns whether a variable of a requirement has a byte that is not '0'. */
+static ngx_uint_t
+ngx_http_jwt_is_met(ngx_http_request_t *r, ngx_http_jwt_require_t *require)
+{
+    ngx_int_t                  *index = require->variables.elts;
+    ngx_uint_t                  i, n;
+    ngx_http_variable_value_t  *vv;
+
+    for (i = 0; i < require->variables.nelts; i++) {
+        vv = ngx_http_get_flushed_variable(r, index[i]);
+
+        if (vv == NULL || vv->not_found) {
+            continue;
+        }
+
+        for (n = 0; n < vv->len; n++) {
+            if (vv->data[n] != '0') {
+                return 1;
+            }
+        }
+    }
+
+    return 0;
+}
+
+
 /* Tests the values of auth_jwt_require. */
 static ngx_int_t
 ngx_http_jwt_test(ngx_http_request_t *r, ngx_http_jwt_loc_conf_t *jlcf,
     ngx_http_jwt_ctx_t *ctx)
 {
-    ngx_str_t                value;
     ngx_uint_t               i;
     ngx_http_jwt_require_t  *it;
 
@@ -92,11 +117,7 @@ ngx_http_jwt_test(ngx_http_request_t *r, ngx_http_jwt_loc_conf_t *jlcf,
     it = jlcf->required->elts;
 
     for (i = 0; i < jlcf->required->nelts; i++) {
-        if (ngx_http_complex_value(r, &it[i].value, &value) != NGX_OK) {
-            return NGX_HTTP_INTERNAL_SERVER_ERROR;
-        }
-
-        if (value.len == 0 || (value.len == 1 && value.data[0] == '0')) {
+        if (!ngx_http_jwt_is_met(r, &it[i])) {
             ctx->unmet = it[i].text;
 
             return ngx_http_jwt_refuse(r, &jlcf->realm, it[i].answer,

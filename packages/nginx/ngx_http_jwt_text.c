@@ -1,6 +1,10 @@
 #include "ngx_http_jwt.h"
 
 
+#define NGX_HTTP_JWT_LETTERS                                                 \
+    "abcdefghijklmnopqrstuvwxyzABCDEFGHIJKLMNOPQRSTUVWXYZ0123456789_"
+
+
 /* Allocates the result of a call of the library. */
 uint32_t
 ngx_http_jwt_write(ngx_http_jwt_call_pt call, ngx_pool_t *pool, ngx_str_t *in,
@@ -89,4 +93,21 @@ ngx_uint_t
 ngx_http_jwt_has_variable(ngx_str_t *text)
 {
     return ngx_strlchr(text->data, text->data + text->len, '$') != NULL;
+}
+
+
+/* Takes the $ from a text that is one variable, and returns 0 of any other. */
+ngx_uint_t
+ngx_http_jwt_take_name(ngx_str_t *text)
+{
+    if (text->len < 2 || text->data[0] != '$'
+        || strspn((char *) text->data + 1, NGX_HTTP_JWT_LETTERS)
+           != text->len - 1)
+    {
+        return 0;
+    }
+
+    text->data++;
+    text->len--;
+    return 1;
 }

@@ -1,10 +1,6 @@
 #include "ngx_http_jwt.h"
 
 
-#define NGX_HTTP_JWT_LETTERS                                                 \
-    "abcdefghijklmnopqrstuvwxyzABCDEFGHIJKLMNOPQRSTUVWXYZ0123456789_"
-
-
 /* where a claim is found, and the text that it has to have */
 typedef struct {
     ngx_str_t   *names;     /* of members, from the claims inwards */
@@ -438,13 +434,11 @@ ngx_http_jwt_is_taken(ngx_conf_t *cf, ngx_str_t *name)
 }
 
 
-/* Returns why a variable, without its $, is not one of these directives. */
+/* Takes the $ from a variable, or returns why these directives bind none. */
 static char *
 ngx_http_jwt_check_variable(ngx_conf_t *cf, ngx_str_t *name)
 {
-    if (name->data[-1] != '$' || name->len == 0
-        || strspn((char *) name->data, NGX_HTTP_JWT_LETTERS) != name->len)
-    {
+    if (!ngx_http_jwt_take_name(name)) {
         return "takes $variable, of letters, digits and _, first";
     }
 
@@ -505,9 +499,6 @@ ngx_http_jwt_claim(ngx_conf_t *cf, ngx_command_t *cmd, void *conf)
     ngx_str_t            *value = cf->args->elts;
     ngx_http_variable_t  *var;
     ngx_http_jwt_path_t  *path;
-
-    value[1].data++;
-    value[1].len--;
 
     rv = ngx_http_jwt_check_variable(cf, &value[1]);
     if (rv != NGX_CONF_OK) {

@@ -280,7 +280,7 @@ BAD = [
     ("an error alone", "auth_jwt_require error=403;", '"auth_jwt_require" directive takes $variables'),
     ("another error", "auth_jwt_require $host error=404;", '"auth_jwt_require" directive takes $variables'),
     ("an error that is none", "auth_jwt_require $host error=;", '"auth_jwt_require" directive takes $variables'),
-    ("an error in front", "auth_jwt_require error=403 $host;", '"auth_jwt_require" directive takes values that begin with a variable'),
+    ("an error in front", "auth_jwt_require error=403 $host;", '"auth_jwt_require" directive takes one $variable in each value'),
     ("a variable as issuer", "auth_jwt_iss $host;", '"auth_jwt_iss" directive takes no variables in'),
     ("a variable in an audience", "auth_jwt_aud web https://$host/;", '"auth_jwt_aud" directive takes no variables in'),
     ("a variable as algorithm", "auth_jwt_alg $alg;", '"auth_jwt_alg" directive takes no variables in'),
@@ -296,8 +296,16 @@ BAD = [
     ("a server with a location of none", f"{KEYS} location /a {{{{ auth_jwt off; location /a/b {{{{ auth_jwt_require $host; }}}} }}}}", "auth_jwt_require protects nothing without auth_jwt in"),
     ("a location around one with a token", f"location /a {{{{ auth_jwt_require $host; location /a/b {{{{ {KEYS} }}}} }}}}", "auth_jwt_require protects nothing without auth_jwt in"),
     ("one server of two", f"{KEYS} }}}} server {{{{ auth_jwt_require $host;", "auth_jwt_require protects nothing without auth_jwt in"),
-    ("no variable", "auth_jwt_require yes;", '"auth_jwt_require" directive takes values that begin with a variable'),
-    ("an empty value", 'auth_jwt_require "";', '"auth_jwt_require" directive takes values that begin with a variable'),
+    ("no variable", "auth_jwt_require yes;", '"auth_jwt_require" directive takes one $variable in each value'),
+    ("an empty value", 'auth_jwt_require "";', '"auth_jwt_require" directive takes one $variable in each value'),
+    *(
+        (f"a value that is not one variable: {it}", f"{KEYS} auth_jwt_require {it};", "takes one $variable in each value: write $a $b to require both, and any $a $b to require one of them in")
+        for it in ("$host$uri", '"$host,$uri"', '"$host $uri"', '"$host:x"', "x$host", "$host$", "$", "0", "${{host}}x", "${{host}}", "$host any", "$host $uri$host", "any $host$uri", "any x", "any any", "any $host x error=401", "ANY $host", '" any" $host')
+    ),
+    ("any of none", "auth_jwt_require any;", '"auth_jwt_require" directive takes $variables, or any and $variables, and error=401'),
+    ("any of none, with an error", "auth_jwt_require any error=401;", '"auth_jwt_require" directive takes $variables, or any and $variables'),
+    ("any with another error", "auth_jwt_require any $host error=404;", '"auth_jwt_require" directive takes $variables, or any and $variables'),
+    ("any of an unknown variable", f"{KEYS} auth_jwt_require any $host $nosuch;", "nosuch"),
     ("an unknown variable that is required", f"{KEYS} auth_jwt_require $nosuch;", "nosuch"),
     ("a claim of a server", "auth_jwt_claim $user sub;", '"auth_jwt_claim" directive is not allowed here'),
 ]
@@ -757,6 +765,8 @@ REQUIRED_MAPS = """
     map $jwt_claim_role $is_admin {{ admin 1; }}
     map $jwt_claim_sub $is_welcome {{ default 1; eve 0; }}
     map $jwt_claim_list $has_both {{ ~"a".*"b" 1; }}
+    map $jwt_claim_role $flag_a {{ default 0; a 1; }}
+    map $jwt_claim_role $flag_b {{ default 0; b 1; }}
 """
 REQUIRED = """
         auth_jwt_key_file {work}/keys.json;
@@ -767,7 +777,9 @@ REQUIRED = """
         location /welcome {{ auth_jwt r; auth_jwt_require $is_welcome; }}
         location /claim {{ auth_jwt r; auth_jwt_require $jwt_claim_scope error=401; }}
         location /list {{ auth_jwt r; auth_jwt_require $has_both; }}
-        location /text {{ auth_jwt r; auth_jwt_require $jwt_claim_tenant$jwt_claim_scope; }}
+        location /one_of {{ auth_jwt r; auth_jwt_require any $jwt_claim_tenant $jwt_claim_scope; }}
+        location /flags {{ auth_jwt r; auth_jwt_require any $flag_a $flag_b error=401; }}
+        location /mixed {{ auth_jwt r; auth_jwt_require $is_welcome; auth_jwt_require any $is_admin $jwt_claim_scope; auth_jwt_require any $jwt_claim_tenant; }}
         location /all {{ auth_jwt r; auth_jwt_require $is_welcome $jwt_claim_scope; auth_jwt_require $is_admin error=403; }}
         location /above {{
             auth_jwt r; auth_jwt_require $is_admin error=403;
@@ -936,7 +948,7 @@ def early(server):
 
 
 def required(server):
-    """A token that is accepted is refused all the same if a value of auth_jwt_require is empty or 0."""
+    """A token that is accepted is refused all the same if a value of auth_jwt_require has no byte but `0`."""
     for path, claims, wanted, *unmet in (
         ("/admin", {"role": "admin"}, 200, None),
         ("/admin", {"sub": "ada"}, 403),
@@ -952,16 +964,29 @@ def required(server):
         ("/claim", {"scope": "0"}, 401),
         ("/claim", {"scope": 0}, 401),
         ("/claim", {"scope": 1.5}, 401),
-        ("/claim", {"scope": "00"}, 200),
+        ("/claim", {"scope": "00"}, 401, "$jwt_claim_scope"),
+        ("/claim", {"scope": "0" * 1000}, 401),
+        ("/claim", {"scope": "0" * 1000 + "1"}, 200),
+        ("/claim", {"scope": "000 "}, 200),
         ("/claim", {"scope": "read"}, 200),
         # the text of it is neither empty nor 0
         ("/claim", {"scope": False}, 200),
         ("/list", {"list": ["a", "b"]}, 200),
         ("/list", {"list": ["b", "a"]}, 403),
-        ("/text", {}, 403, "$jwt_claim_tenant$jwt_claim_scope"),
-        ("/text", {"tenant": "0"}, 403),
-        ("/text", {"tenant": "0", "scope": "0"}, 200),
-        ("/text", {"scope": "x"}, 200),
+        ("/one_of", {}, 403, "any $jwt_claim_tenant $jwt_claim_scope"),
+        ("/one_of", {"tenant": "0"}, 403),
+        ("/one_of", {"tenant": "0", "scope": "0"}, 403),
+        ("/one_of", {"tenant": "0", "scope": "1"}, 200),
+        ("/one_of", {"tenant": "x"}, 200),
+        ("/one_of", {"scope": "x"}, 200),
+        ("/flags", {}, 401, "any $flag_a $flag_b"),
+        ("/flags", {"role": "a"}, 200),
+        ("/flags", {"role": "b"}, 200),
+        ("/mixed", {"role": "admin", "tenant": "x"}, 200),
+        ("/mixed", {"scope": "x", "tenant": "x"}, 200),
+        ("/mixed", {"tenant": "x"}, 403, "any $is_admin $jwt_claim_scope"),
+        ("/mixed", {"role": "admin"}, 403, "any $jwt_claim_tenant"),
+        ("/mixed", {"role": "admin", "tenant": "x", "sub": "eve"}, 403, "$is_welcome"),
         ("/all", {"role": "admin", "scope": "x"}, 200),
         ("/all", {"role": "admin"}, 403, "$jwt_claim_scope"),
         ("/all", {"scope": "x"}, 403, "$is_admin"),
