@@ -186,6 +186,7 @@ ngx_uint_t ngx_http_jwt_take_name(ngx_str_t *text);
 ngx_http_jwt_ctx_t *ngx_http_jwt_add_ctx(ngx_http_request_t *r);
 ngx_uint_t ngx_http_jwt_is_clone(ngx_http_request_t *r);
 ngx_int_t ngx_http_jwt_add_variables(ngx_conf_t *cf);
+ngx_int_t ngx_http_jwt_watch_variables(ngx_cycle_t *cycle);
 char *ngx_http_jwt_claim(ngx_conf_t *cf, ngx_command_t *cmd, void *conf);
 
 

@@ -300,6 +300,8 @@ ngx_module_t  ngx_http_jwt_module = {
     &ngx_http_jwt_module_ctx,      /* module context */
     ngx_http_jwt_commands,         /* module directives */
     NGX_HTTP_MODULE,               /* module type */
-    NULL, NULL, NULL, NULL, NULL, NULL, NULL,
+    NULL,                          /* init master */
+    ngx_http_jwt_watch_variables,  /* init module */
+    NULL, NULL, NULL, NULL, NULL,
     NGX_MODULE_V1_PADDING
 };

@@ -9,6 +9,17 @@ typedef struct {
 } ngx_http_jwt_path_t;
 
 
+/* how nginx reads a variable */
+typedef struct {
+    ngx_http_get_variable_pt  get_handler;
+    uintptr_t                 data;
+} ngx_http_jwt_reader_t;
+
+
+/* whether a variable of this module was read */
+static ngx_uint_t  ngx_http_jwt_is_read;
+
+
 /* Marks a context among the cleanups of a pool. */
 static void
 ngx_http_jwt_cleanup(void *data)
@@ -102,6 +113,8 @@ ngx_http_jwt_find_ctx(ngx_http_request_t *r)
 {
     ngx_http_jwt_ctx_t       *ctx;
     ngx_http_jwt_loc_conf_t  *jlcf;
+
+    ngx_http_jwt_is_read = 1;
 
     for ( ;; ) {
         ctx = ngx_http_get_module_ctx(r, ngx_http_jwt_module);
@@ -403,6 +416,64 @@ ngx_http_jwt_add_variables(ngx_conf_t *cf)
 
         var->get_handler = v->get_handler;
         var->data = (uintptr_t) &v->name;
+    }
+
+    return NGX_OK;
+}
+
+
+/*
+ * Reads a variable for nginx, which does not cache it if it reads one of this
+ * module, as a map of a claim does: a request may have several tokens.
+ */
+static ngx_int_t
+ngx_http_jwt_watch(ngx_http_request_t *r, ngx_http_variable_value_t *v,
+    uintptr_t data)
+{
+    ngx_int_t               rc;
+    ngx_uint_t              was_read = ngx_http_jwt_is_read;
+    ngx_http_jwt_reader_t  *reader = (ngx_http_jwt_reader_t *) data;
+
+    ngx_http_jwt_is_read = 0;
+    rc = reader->get_handler(r, v, reader->data);
+
+    if (ngx_http_jwt_is_read) {
+        v->no_cacheable = 1;
+    }
+
+    ngx_http_jwt_is_read |= was_read;
+    return rc;
+}
+
+
+/* Has each variable that nginx caches read by ngx_http_jwt_watch. */
+ngx_int_t
+ngx_http_jwt_watch_variables(ngx_cycle_t *cycle)
+{
+    ngx_uint_t                  i;
+    ngx_http_variable_t        *var;
+    ngx_http_jwt_reader_t      *reader;
+    ngx_http_jwt_main_conf_t   *jmcf;
+    ngx_http_core_main_conf_t  *cmcf;
+
+    jmcf = ngx_http_cycle_get_module_main_conf(cycle, ngx_http_jwt_module);
+    if (jmcf == NULL || jmcf->rules == NULL) {
+        return NGX_OK;
+    }
+
+    cmcf = ngx_http_cycle_get_module_main_conf(cycle, ngx_http_core_module);
+    var = cmcf->variables.elts;
+    reader = ngx_palloc(cycle->pool, cmcf->variables.nelts
+                                     * sizeof(ngx_http_jwt_reader_t));
+    if (reader == NULL) {
+        return NGX_ERROR;
+    }
+
+    for (i = 0; i < cmcf->variables.nelts; i++) {
+        reader[i].get_handler = var[i].get_handler;
+        reader[i].data = var[i].data;
+        var[i].get_handler = ngx_http_jwt_watch;
+        var[i].data = (uintptr_t) &reader[i];
     }
 
     return NGX_OK;

@@ -673,7 +673,9 @@ NAMES = """
     auth_jwt_contains $has_seven value 7;
     map $jwt_claim_sub $early {{ default other; ada known; }}
     map $jwt_claim_sub $late {{ default other; ada known; }}
-    map $jwt_claim_sub $each {{ volatile; default other; ada known; }}
+    map $jwt_claim_role $is_admin {{ "~^admin$" 1; }}
+    map $is_admin $may_write {{ 1 1; }}
+    geo $jwt_claim_ip $is_near {{ default ""; 10.0.0.0/8 1; }}
     limit_req_zone $jwt_claim_sub zone=subs:1m rate=1r/m;
     proxy_cache_path {work}/cache keys_zone=stored:1m;
     log_format hits '$uri $http_x_user $http_range $arg_token';
@@ -747,8 +749,17 @@ PLACES = """
             auth_jwt early; limit_req zone=subs;
             if ($jwt_claim_sub = "ada") {{ return 403; }}
             if ($early = "known") {{ return 403; }}
-            if ($each = "known") {{ return 403; }}
-            add_header X-Maps "$early $late $each";
+            add_header X-Maps "$early $late";
+        }}
+        # two tokens
+        @TWO@
+        location = /included {{ ssi on; ssi_types *; }}
+        location = /of_admin {{ auth_jwt part token=$arg_t; auth_jwt_require $may_write; ssi on; ssi_types *; }}
+        location = /gate_x {{ internal; auth_jwt x token=$cookie_x; auth_jwt_require $is_admin $jwt_claim_more; empty_gif; }}
+        location = /to_y_is_admin {{ auth_request /gate_x; error_page 403 = /y_is_admin; }}
+        location ~ ^/assigned/(?<word>\w+)$ {{
+            auth_jwt r; set $is_set 1; auth_jwt_require $word $is_set $is_admin;
+            add_header X-Echo "$word $is_set"; empty_gif;
         }}
         # claims
         location = /long {{ auth_jwt long; auth_jwt_aud @LONG@; }}
@@ -796,8 +807,19 @@ REQUIRED = """
         location /except {{ limit_except OPTIONS {{ auth_jwt r; auth_jwt_require $is_welcome; }} }}
 """
 
+# what a map, a map of a map, and a geo read of the token of the cookie x is not kept for that of y
+TWO = "".join(
+    f"""
+        location = /x_{name} {{{{ auth_jwt x token=$cookie_x; auth_jwt_require any ${name} $jwt_claim_sub; try_files /nosuch /y_{name}; }}}}
+        location = /y_{name} {{{{
+            auth_jwt y token=$cookie_y; auth_jwt_require ${name};
+            proxy_pass http://127.0.0.1:{{port}}/echo; proxy_set_header X-User "${name} $jwt_claim_sub";
+        }}}}
+"""
+    for name in ("is_admin", "may_write", "is_near")
+)
 LONG = [f'caf\u00e9 "{n}" \\ ' + "x" * n for n in range(100)]
-PLACES = PLACES.replace("@LONG@", " ".join('"' + it.replace("\\", "\\\\").replace('"', '\\"') + '"' for it in LONG))
+PLACES = PLACES.replace("@TWO@", TWO).replace("@LONG@", " ".join('"' + it.replace("\\", "\\\\").replace('"', '\\"') + '"' for it in LONG))
 
 
 def quoted(text):
@@ -936,11 +958,37 @@ def redirected(server):
             test(f"{path}: {server.read('ends.log')}", found)
 
 
+def two_tokens(server):
+    """No value that was read of one token of a request counts for another one, nor is it passed on."""
+    admin, user = ({**PASS, **claims} for claims in ({"role": "admin", "ip": "10.1.2.3", "sub": "ada"}, {"role": "user", "ip": "8.8.8.8", "sub": "ben"}))
+    for name in ("is_admin", "may_write", "is_near"):
+        for path, x, y, wanted in (
+            (f"/y_{name}", admin, user, (403, None)),
+            (f"/x_{name}", admin, user, (403, None)),
+            (f"/x_{name}", user, user, (403, None)),
+            (f"/x_{name}", user, admin, (204, "1 ada")),
+            (f"/x_{name}", admin, admin, (204, "1 ada")),
+        ):
+            got, headers = server.get(path, Cookie=f"x={signed(x)}; y={signed(y)}")
+            test(f"{path}, {x['role']} and {y['role']}: {got} {headers['X-Echo']}", (got, headers["X-Echo"]) == wanted)
+    for more, x, y, wanted in (("", admin, user, 403), ("", admin, admin, 204), ("", user, user, 403), ("more", admin, user, 200)):
+        got, _ = server.get("/to_y_is_admin", Cookie=f"x={signed({**x, 'more': more})}; y={signed(y)}")
+        test(f"a gate that refuses {x['role']} and {y['role']}: {got}", got == wanted)
+    server.write("root/of_admin", 'part for <!--#echo var="jwt_claim_sub" --> <!--#echo var="may_write" default="not" -->\n')
+    for order in ((admin, user), (user, admin), (user, admin, user)):
+        server.write("root/included", "".join(f'<!--#include virtual="/of_admin?t={signed(it)}" -->' for it in order))
+        got = server.fetch("/included")[2]
+        test(f"parts of two tokens: {got}", re.findall("part for .*", got) == ["part for ada 1"])
+    for claims, wanted in ((admin, (200, "tree 1")), (user, (403, None))):
+        got, headers = server.get("/assigned/tree", signed(claims))
+        test(f"values that nginx assigns: {got} {headers['X-Echo']}", (got, headers["X-Echo"]) == wanted)
+
+
 def early(server):
     """What nginx asks before the token is verified has no claims, as README.md says."""
     for _ in range(3):
         got, headers = server.get("/early", signed({**PASS, "sub": "ada"}))
-        test(f"before a token is verified: {got} {headers['X-Maps']}", got == 200 and headers["X-Maps"] == "other known known")
+        test(f"before a token is verified: {got} {headers['X-Maps']}", got == 200 and headers["X-Maps"] == "known known")
     for it in (0, 1, 50, 99):
         got, _ = server.get("/long", signed({**PASS, "aud": LONG[it]}))
         test(f"audience {it} of {len(LONG)}: {got}", got == 200)
@@ -1118,6 +1166,7 @@ def places(server):
     parts(server)
     rewritten(server)
     redirected(server)
+    two_tokens(server)
     early(server)
     claims(server)
     deep_claims(server)
