@@ -49,6 +49,7 @@ struct ngx_http_jwt_loc_conf_s {
     ngx_flag_t             enabled;
     ngx_str_t              realm;       /* with escapes */
     ngx_int_t              token;       /* index of a variable, or -1 */
+    ngx_str_t              variable;    /* its name */
     ngx_array_t           *keys;        /* of ngx_http_jwt_key_t */
     void                  *server;      /* of the locations of sets */
     time_t                 period;      /* between fetches */
@@ -129,7 +130,7 @@ struct ngx_http_jwt_rules_s {
 /* the verdict on the token of a request or of a subrequest */
 typedef struct {
     ngx_http_request_t    *request;
-    ngx_str_t              token;       /* empty if there is none */
+    ngx_str_t              token;       /* empty if there is not one */
     ngx_str_t              claims;      /* of an accepted token, in JSON */
     uint32_t               status;
     uint32_t               test;        /* that failed, or 0 */
@@ -138,6 +139,7 @@ typedef struct {
     ngx_uint_t             waited;      /* for so many sets */
     unsigned               is_waiting:1;
     unsigned               cannot_wait:1;
+    unsigned               has_several:1;  /* tokens */
 } ngx_http_jwt_ctx_t;
 
 
@@ -181,6 +183,10 @@ ngx_uint_t ngx_http_jwt_is_same_text(ngx_str_t *a, ngx_str_t *b);
 ngx_uint_t ngx_http_jwt_is_plain(ngx_str_t *text);
 ngx_uint_t ngx_http_jwt_has_variable(ngx_str_t *text);
 ngx_uint_t ngx_http_jwt_take_name(ngx_str_t *text);
+
+/* ngx_http_jwt_token.c */
+ngx_int_t ngx_http_jwt_find_token(ngx_http_request_t *r,
+    ngx_http_jwt_loc_conf_t *jlcf, ngx_str_t *token);
 
 /* ngx_http_jwt_variables.c */
 ngx_http_jwt_ctx_t *ngx_http_jwt_add_ctx(ngx_http_request_t *r);

@@ -236,6 +236,7 @@ ngx_http_jwt_merge_loc_conf(ngx_conf_t *cf, void *parent, void *child)
 
     if (conf->enabled == NGX_CONF_UNSET) {
         conf->token = prev->token;
+        conf->variable = prev->variable;
     }
 
     if (conf->file == NULL) {
@@ -293,7 +294,7 @@ static char *
 ngx_http_jwt(ngx_conf_t *cf, ngx_command_t *cmd, void *conf)
 {
     char                     *rv;
-    ngx_str_t                *value = cf->args->elts, name;
+    ngx_str_t                *value = cf->args->elts, *name;
     ngx_http_jwt_loc_conf_t  *jlcf = conf;
 
     if (jlcf->enabled != NGX_CONF_UNSET) {
@@ -310,14 +311,15 @@ ngx_http_jwt(ngx_conf_t *cf, ngx_command_t *cmd, void *conf)
         return rv;
     }
 
-    name.data = value[2].data + sizeof("token=$") - 1;
-    name.len = value[2].len - (sizeof("token=$") - 1);
+    name = &jlcf->variable;
+    name->data = value[2].data + sizeof("token=$") - 1;
+    name->len = value[2].len - (sizeof("token=$") - 1);
 
-    if (ngx_strncmp(value[2].data, "token=$", 7) != 0 || name.len == 0) {
+    if (ngx_strncmp(value[2].data, "token=$", 7) != 0 || name->len == 0) {
         return "takes token=$variable as its second argument";
     }
 
-    jlcf->token = ngx_http_get_variable_index(cf, &name);
+    jlcf->token = ngx_http_get_variable_index(cf, name);
     return jlcf->token != NGX_ERROR ? NGX_CONF_OK : NGX_CONF_ERROR;
 }
 

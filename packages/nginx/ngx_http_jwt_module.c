@@ -8,40 +8,6 @@
 static ngx_http_output_header_filter_pt  ngx_http_next_header_filter;
 
 
-/* Reads a variable, or the header Authorization (RFC 6750 section 2.1). */
-static ngx_int_t
-ngx_http_jwt_find_token(ngx_http_request_t *r, ngx_int_t variable,
-    ngx_str_t *token)
-{
-    ngx_table_elt_t            *h = r->headers_in.authorization;
-    ngx_http_variable_value_t  *vv;
-
-    if (variable != NGX_CONF_UNSET) {
-        /* read again, as a rewrite may have changed it */
-        vv = ngx_http_get_flushed_variable(r, variable);
-        if (vv == NULL || vv->not_found) {
-            return NGX_DECLINED;
-        }
-
-        token->len = vv->len;
-        token->data = vv->data;
-
-    } else if (h != NULL
-               && ngx_strncasecmp(h->value.data, (u_char *) "Bearer ", 7) == 0)
-    {
-        token->len = h->value.len - 7;
-        token->data = h->value.data + 7;
-
-        while (token->len > 0 && *token->data == ' ') {
-            token->len--;
-            token->data++;
-        }
-    }
-
-    return token->len > 0 ? NGX_OK : NGX_DECLINED;
-}
-
-
 static ngx_int_t
 ngx_http_jwt_refuse(ngx_http_request_t *r, ngx_str_t *realm, ngx_int_t answer,
     const char *error)
@@ -158,7 +124,7 @@ ngx_http_jwt_answer(ngx_http_request_t *r, ngx_http_jwt_loc_conf_t *jlcf,
 static ngx_int_t
 ngx_http_jwt_handler(ngx_http_request_t *r)
 {
-    ngx_int_t                 rc = NGX_OK;
+    ngx_int_t                 rc;
     ngx_http_jwt_ctx_t       *ctx;
     ngx_http_jwt_loc_conf_t  *jlcf;
 
@@ -177,7 +143,18 @@ ngx_http_jwt_handler(ngx_http_request_t *r)
         return NGX_AGAIN;
     }
 
-    if (ngx_http_jwt_find_token(r, jlcf->token, &ctx->token) != NGX_OK) {
+    rc = ngx_http_jwt_find_token(r, jlcf, &ctx->token);
+    ctx->has_several = rc == NGX_ABORT;
+
+    if (ctx->has_several) {
+        /* auth_request makes 500 of 400 */
+        return ngx_http_jwt_refuse(r, &jlcf->realm,
+                                   r == r->main ? NGX_HTTP_BAD_REQUEST
+                                   : NGX_HTTP_UNAUTHORIZED,
+                                   ", error=\"invalid_request\"");
+    }
+
+    if (rc != NGX_OK) {
         return ngx_http_jwt_refuse(r, &jlcf->realm, NGX_HTTP_UNAUTHORIZED, "");
     }
 

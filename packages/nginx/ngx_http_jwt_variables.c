@@ -364,6 +364,10 @@ ngx_http_jwt_text_variable(ngx_http_request_t *r,
         return NGX_OK;
     }
 
+    if (ctx->has_several) {
+        return ngx_http_jwt_set_value(v, (u_char *) "SeveralTokens", 13);
+    }
+
     if (ctx->token.len == 0) {
         return ngx_http_jwt_set_value(v, (u_char *) "NoToken", 7);
     }

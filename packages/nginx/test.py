@@ -43,6 +43,9 @@ SERVER = """
         location /parties {{ auth_jwt_aud web app; auth_jwt_iss https://login.example; }}
         location /leeway {{ auth_jwt_leeway 600s; }}
         location /cookie {{ auth_jwt site token=$cookie_auth; }}
+        location /argument {{ auth_jwt site token=$arg_my_Token; }}
+        location /gated {{ auth_jwt off; auth_request /gate; }}
+        location = /gate {{ internal; auth_jwt gate token=$cookie_auth; empty_gif; }}
         location /any {{ satisfy any; allow 127.0.0.1; deny all; }}
         location /cached {{ auth_jwt_cache 4; }}
         location /anew {{ auth_jwt_cache 0; }}
@@ -143,6 +146,42 @@ def verdicts(server, rows):
     ):
         got, _ = server.get(path, **headers)
         test(f"{name}: {got}", got == status)
+
+
+def several(server):
+    """Two cookies or arguments of the token's name are refused, as two headers Authorization are, whichever of them has a token."""
+    good, other = signed(PASS), signed(PASS, b"x" * 32)
+    for path, lines, wanted in (
+        # nginx's own answer
+        ("/", [("Authorization", "Bearer x")] * 2, 400),
+        *(("/cookie", [("Cookie", f"{it}; auth={good}")], 200) for it in ("a=b", "auths=x", "xauth=x", "a=auth", "a=%61uth", "a=authx=", "x-auth=y", "%61uths=")),
+        *(("/cookie", [("Cookie", f"auth={good}; {it}")], 200) for it in ("a=b", "auths=x", "xauth=x", "auth", "")),
+        *(("/cookie", [("Cookie", f"auth={good}; {it}")], 400) for it in (f"auth={other}", f"auth={good}", "auth=", "AUTH=x", "auth =x", f"a=b;auth={other}", f"a=b,auth={other}", f"a=b auth={other}", "a=b;\tauth=x", "%61u%54h=x")),
+        *(("/cookie", [("Cookie", f"{it}; auth={good}")], 400) for it in (f"auth={other}", "Auth=x", "auth=")),
+        ("/cookie", [("Cookie", f"auth={good}"), ("Cookie", f"auth={other}")], 400),
+        ("/cookie", [("Cookie", f"auth={good}"), ("cookie", f"a=b; auth={other}")], 400),
+        ("/cookie", [("Cookie", "a=b"), ("Cookie", f"auth={good}")], 200),
+        ("/cookie", [("Cookie", f"auth={good}"), ("X-Cookie", f"auth={other}")], 200),
+        ("/gated", [("Cookie", f"auth={good}")], 200),
+        ("/gated", [("Cookie", f"auth={good}; auth={other}")], 401),
+        *((f"/argument?{it}my_token={good}", [], 200) for it in ("", "a=b&", "my_tokens=x&", "xmy_token=x&", "my_token&", "a=my_token&", "next=%2Fa%3Fb%26my_token%3Dx&", "%6Dy_tokens=x&", "%=x&", "%6&", "my_toke%6G=x&")),
+        *((f"/argument?my_token={good}{it}", [], 200) for it in ("&a=b", "&my_tokens=x", "&my_token", "&", "&%", "&my_toke%")),
+        *((f"/argument?my_token={good}{it}", [], 400) for it in (f"&my_token={other}", "&my_token=", "&MY_TOKEN=x", "&%6dy_token=x", "&%6D%79%5F%54%6f%6B%65%6E=x", ";my_token=x", "&a=b;my_token=x")),
+        *((f"/argument?{it}&my_token={good}", [], 400) for it in (f"my_token={other}", "%6Dy_token=x", "a&My_Token=x", "a=b;my_token=x")),
+        (f"/argument?%6dy_token={good}", [], 401),
+        (f"/argument?a=b%26my_token={good}", [], 401),
+    ):
+        connection = http.client.HTTPConnection("127.0.0.1", server.port, timeout=60)
+        connection.putrequest("GET", path)
+        for line in lines:
+            connection.putheader(*line)
+        connection.endheaders()
+        answer = connection.getresponse()
+        connection.close()
+        test(f"{path} {lines}: {answer.status}", answer.status == wanted)
+        if wanted == 400 and path != "/":
+            said = answer.headers["X-Status"], answer.headers.get_all("WWW-Authenticate")
+            test(f"{path} {lines}: {said}", said == ("SeveralTokens", ['Bearer realm="site", error="invalid_request"']))
 
 
 def again(server, path):
@@ -1264,6 +1303,7 @@ def run_default(module):
         with started(server):
             for _ in range(3):
                 verdicts(server, rows)
+                several(server)
                 variables(server)
                 refused(server)
             again(server, "/")
@@ -1283,6 +1323,7 @@ def run_anew(module):
         rows = write_keys(server)
         with started(server):
             verdicts(server, rows)
+            several(server)
             variables(server)
             refused(server)
             again(server, "/")
@@ -1338,6 +1379,7 @@ def run_valgrind(module):
         with under_valgrind(server):
             for _ in range(2):
                 verdicts(server, rows)
+                several(server)
                 variables(server)
                 refused(server)
             again(server, "/")
