@@ -6,6 +6,41 @@
 
 
 static ngx_http_output_header_filter_pt  ngx_http_next_header_filter;
+/* its place tells the headers of this module, also where they were copied */
+static u_char  ngx_http_jwt_challenge[] = "WWW-Authenticate";
+
+
+/*
+ * Takes the challenges of earlier refusals from an answer, as before an
+ * internal redirect, and also the last one if the token is accepted.
+ */
+static void
+ngx_http_jwt_drop_challenges(ngx_http_request_t *r, ngx_uint_t is_accepted)
+{
+    ngx_uint_t        i;
+    ngx_list_part_t  *part;
+    ngx_table_elt_t  *h, *last = NULL;
+
+    for (part = &r->headers_out.headers.part; part != NULL; part = part->next) {
+        h = part->elts;
+
+        for (i = 0; i < part->nelts; i++) {
+            if (h[i].key.data != ngx_http_jwt_challenge) {
+                continue;
+            }
+
+            if (last != NULL) {
+                last->hash = 0;
+            }
+
+            last = &h[i];
+        }
+    }
+
+    if (is_accepted && last != NULL) {
+        last->hash = 0;
+    }
+}
 
 
 static ngx_int_t
@@ -31,7 +66,8 @@ ngx_http_jwt_refuse(ngx_http_request_t *r, ngx_str_t *realm, ngx_int_t answer,
     h->value.len = ngx_snprintf(h->value.data, size, "Bearer realm=%V%s",
                                 realm, error)
                    - h->value.data;
-    ngx_str_set(&h->key, "WWW-Authenticate");
+    h->key.len = sizeof(ngx_http_jwt_challenge) - 1;
+    h->key.data = ngx_http_jwt_challenge;
     h->hash = 1;
 #if (nginx_version >= 1023000)
     h->next = NULL;
@@ -102,10 +138,20 @@ static ngx_int_t
 ngx_http_jwt_answer(ngx_http_request_t *r, ngx_http_jwt_loc_conf_t *jlcf,
     ngx_http_jwt_ctx_t *ctx)
 {
+    ngx_int_t            rc;
+    ngx_http_request_t  *it;
+
     switch (ctx->status) {
 
     case JWT_OK:
-        return ngx_http_jwt_test(r, jlcf, ctx);
+        rc = ngx_http_jwt_test(r, jlcf, ctx);
+
+        /* auth_request has copied the challenge of an earlier subrequest */
+        for (it = r; rc == NGX_OK && it != NULL; it = it->parent) {
+            ngx_http_jwt_drop_challenges(it, 1);
+        }
+
+        return rc;
 
     case JWT_OUT_OF_MEMORY:
     case JWT_CLOCK_BEFORE_EPOCH:
@@ -197,6 +243,7 @@ ngx_http_jwt_header_filter(ngx_http_request_t *r)
     ngx_http_jwt_loc_conf_t  *jlcf;
 
     jlcf = ngx_http_get_module_loc_conf(r, ngx_http_jwt_module);
+    ngx_http_jwt_drop_challenges(r, 0);
 
     if (ngx_http_jwt_is_fetch(r)) {
         if (r->upstream != NULL && !r->upstream->cacheable) {

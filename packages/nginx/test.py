@@ -800,6 +800,18 @@ PLACES = """
             auth_jwt r; set $is_set 1; auth_jwt_require $word $is_set $is_admin;
             add_header X-Echo "$word $is_set"; empty_gif;
         }}
+        # a second location, or another gate, is asked about what the first one refuses
+        location = /second_app {{ auth_jwt first; auth_jwt_aud web; error_page 401 = @app; recursive_error_pages on; access_log off; }}
+        location @app {{
+            auth_jwt second; auth_jwt_aud app; auth_jwt_require $jwt_claim_role; error_page 401 403 = @all; recursive_error_pages on;
+            rewrite ^ /echo break; proxy_pass http://127.0.0.1:{port};
+        }}
+        location @all {{ auth_jwt third; auth_jwt_aud all; try_files /nosuch =404; }}
+        location = /second_gate {{ auth_request /gate_app; error_page 401 = @gate; access_log off; }}
+        location @gate {{ auth_request /gate_web; rewrite ^ /echo break; proxy_pass http://127.0.0.1:{port}; }}
+        location = /gate_web {{ internal; auth_jwt gate_web; auth_jwt_aud web; empty_gif; }}
+        location = /second_after_gate {{ auth_request /gate_app; error_page 401 = @all; access_log off; }}
+        location = /either {{ satisfy any; auth_jwt either; auth_jwt_aud web; auth_request /gate_app; access_log off; }}
         # claims
         location = /long {{ auth_jwt long; auth_jwt_aud @LONG@; }}
         location = /claims {{
@@ -1023,6 +1035,30 @@ def two_tokens(server):
         test(f"values that nginx assigns: {got} {headers['X-Echo']}", (got, headers["X-Echo"]) == wanted)
 
 
+def challenges(server):
+    """An accepted answer has no challenge of an earlier refusal, and a refused one has that of the last."""
+    refused = 'Bearer realm="{}", error="invalid_token"'
+    for path, claims, wanted in (
+        ("/second_app", {"aud": "web"}, (200, None)),
+        ("/second_app", {"aud": "app", "role": "x"}, (204, None)),
+        ("/second_app", {"aud": "app"}, (401, refused.format("third"))),
+        ("/second_app", {"aud": "all"}, (404, None)),
+        ("/second_app", {"aud": "none"}, (401, refused.format("third"))),
+        ("/second_app", None, (401, 'Bearer realm="third"')),
+        ("/second_gate", {"aud": "app"}, (200, None)),
+        ("/second_gate", {"aud": "web"}, (204, None)),
+        ("/second_gate", {"aud": "none"}, (401, refused.format("gate_web"))),
+        ("/second_after_gate", {"aud": "all"}, (404, None)),
+        ("/second_after_gate", {"aud": "none"}, (401, refused.format("third"))),
+        ("/either", {"aud": "web"}, (200, None)),
+        ("/either", {"aud": "app"}, (200, None)),
+        ("/either", {"aud": "none"}, (401, refused.format("gate"))),
+    ):
+        got, headers = server.get(path, None if claims is None else signed({**PASS, **claims}))
+        said = headers.get_all("WWW-Authenticate") or [None]
+        test(f"{path}, {claims}: {got} {said}", (got, said) == (wanted[0], [wanted[1]]))
+
+
 def early(server):
     """What nginx asks before the token is verified has no claims, as README.md says."""
     for _ in range(3):
@@ -1206,6 +1242,7 @@ def places(server):
     rewritten(server)
     redirected(server)
     two_tokens(server)
+    challenges(server)
     early(server)
     claims(server)
     deep_claims(server)
