@@ -10,6 +10,8 @@
 
 /* a longer key file or fetched set is refused */
 #define NGX_HTTP_JWT_SET   1048576
+/* seconds from the end of a fetch to the next */
+#define NGX_HTTP_JWT_PAUSE  10
 /* room for the text of a status or of a test */
 #define NGX_HTTP_JWT_TEXT  64
 /* the longest token with its claims that is remembered */

@@ -569,6 +569,20 @@ ngx_http_jwt_require(ngx_conf_t *cf, ngx_command_t *cmd, void *conf)
 }
 
 
+static char *
+ngx_http_jwt_period(ngx_conf_t *cf, ngx_command_t *cmd, void *conf)
+{
+    char                     *rv;
+    ngx_http_jwt_loc_conf_t  *jlcf = conf;
+
+    rv = ngx_conf_set_sec_slot(cf, cmd, conf);
+
+    return rv == NGX_CONF_OK && jlcf->period < NGX_HTTP_JWT_PAUSE
+           ? "takes 10s at least, since keys are not fetched more often: "
+             "write 10s" : rv;
+}
+
+
 static ngx_conf_num_bounds_t  ngx_http_jwt_slot_bounds = {
     ngx_conf_check_num_bounds, 0, NGX_HTTP_JWT_MOST
 };
@@ -589,7 +603,7 @@ ngx_command_t  ngx_http_jwt_commands[] = {
     ngx_http_jwt_command("auth_jwt_key_request", NGX_CONF_TAKE12,
                          ngx_http_jwt_key, keys, "iss"),
     ngx_http_jwt_command("auth_jwt_key_cache", NGX_CONF_TAKE1,
-                         ngx_conf_set_sec_slot, period, NULL),
+                         ngx_http_jwt_period, period, NULL),
     ngx_http_jwt_command("auth_jwt_alg", NGX_CONF_1MORE, ngx_http_jwt_list,
                          algorithms, "algorithms"),
     ngx_http_jwt_command("auth_jwt_aud", NGX_CONF_1MORE, ngx_http_jwt_list,

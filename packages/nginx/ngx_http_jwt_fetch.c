@@ -8,8 +8,7 @@
 #include "ngx_http_jwt.h"
 
 
-/* seconds from the end of a fetch to the next, and if there is no set yet */
-#define NGX_HTTP_JWT_PAUSE        10
+/* seconds from the end of a fetch to the next if there is no set yet */
 #define NGX_HTTP_JWT_FIRST_PAUSE  1
 /* seconds after which a fetch is given up */
 #define NGX_HTTP_JWT_LIMIT        60

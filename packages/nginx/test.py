@@ -289,6 +289,11 @@ BAD = [
     ("a location of another server", "location /a {{ auth_jwt r; auth_jwt_alg HS256; auth_jwt_key_request /keys; }} }} server {{ location = /keys {{ }}", 'auth_jwt_key_request "/keys" has no'),
     ("two uris", "auth_jwt_key_request /keys; auth_jwt_key_request /keys;", '"auth_jwt_key_request" directive is duplicate'),
     ("no time", "auth_jwt_key_cache off;", '"auth_jwt_key_cache" directive invalid value'),
+    *(
+        (f"keys for {it}", f"auth_jwt_key_cache {it};", '"auth_jwt_key_cache" directive takes 10s at least, since keys are not fetched more often: write 10s in')
+        for it in ("0", "0s", "1s", "9", "9s")
+    ),
+    ("two times", "auth_jwt_key_cache 10s; auth_jwt_key_cache 20s;", '"auth_jwt_key_cache" directive is duplicate'),
     ("two lists", "auth_jwt_aud web; auth_jwt_aud app;", '"auth_jwt_aud" directive is duplicate'),
     ("an unknown algorithm", "auth_jwt r; auth_jwt_key_file {work}/keys.json; auth_jwt_alg HS257;", 'auth_jwt_alg "HS257": Options not understood: no algorithm of this name'),
     ("none", "auth_jwt r; auth_jwt_key_file {work}/keys.json; auth_jwt_alg none;", 'auth_jwt_alg "none": Options not understood'),
@@ -352,6 +357,8 @@ RIGHT = [
     "auth_jwt r; auth_jwt_alg HS256; auth_jwt_key_file {work}/key.json iss=a; auth_jwt_key_file {work}/keys.json iss=b; auth_jwt_key_file {work}/key.json iss=b;",
     "auth_jwt r; auth_jwt_alg HS256; auth_jwt_key_request /a iss=a; auth_jwt_key_request /a iss=b; auth_jwt_key_request /b iss=b; location ~ ^/[ab]$ {{ }}",
     "auth_jwt_cache 1048576;",
+    "auth_jwt_key_cache 10s;",
+    "auth_jwt_key_cache 10;",
     # a token is asked for below, above, or in a part of the location, or it is said that none is
     f"auth_jwt_require $host; auth_jwt_aud web; location /a {{{{ {KEYS} }}}} location /b {{{{ }}}}",
     f"{KEYS} location /a {{{{ auth_jwt_require $host; auth_jwt_aud web; }}}}",
