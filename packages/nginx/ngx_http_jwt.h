@@ -14,6 +14,8 @@
 #define NGX_HTTP_JWT_PAUSE  10
 /* room for the text of a status or of a test */
 #define NGX_HTTP_JWT_TEXT  64
+/* the test of this module after those of the library: iss is one text */
+#define NGX_HTTP_JWT_TEST  (JWT_TEST_CLAIM_RULES_HOLD + 1)
 /* the longest token with its claims that is remembered */
 #define NGX_HTTP_JWT_SLOT  4000
 

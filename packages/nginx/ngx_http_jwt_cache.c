@@ -106,6 +106,28 @@ ngx_http_jwt_decode_by(struct jwt_verifier *verifier, ngx_http_jwt_ctx_t *ctx,
 
 
 /*
+ * Refuses an accepted token of which iss is a list (RFC 7519 section 4.1.1 has
+ * one text): its issuer would sign in the name of others besides its own.
+ */
+static uint32_t
+ngx_http_jwt_check_issuer(ngx_http_jwt_ctx_t *ctx)
+{
+    size_t     len;
+    uint32_t   status, type;
+
+    status = jwt_member((char *) ctx->claims.data, ctx->claims.len, "iss", 3,
+                        &type, NULL, 0, &len);
+
+    if (status == JWT_OUT_OF_MEMORY || type == JWT_STRING) {
+        return status == JWT_OUT_OF_MEMORY ? status : JWT_OK;
+    }
+
+    ctx->test = NGX_HTTP_JWT_TEST;
+    return JWT_INVALID_ISSUER;
+}
+
+
+/*
  * Sources without an issuer are one set: the first that has a key of the kid
  * decides.  Each of the others decides by itself about its issuer's tokens,
  * and of their refusals that counts which came after most tests.
@@ -123,6 +145,10 @@ ngx_http_jwt_decode(ngx_http_jwt_rules_t *rules, ngx_http_jwt_ctx_t *ctx,
         status = ngx_http_jwt_decode_by(&it->verifier, ctx, now, last);
         it->lacks_key = status == JWT_NO_VERIFIER
                         || ctx->test == JWT_TEST_KEY_IS_FOUND;
+
+        if (status == JWT_OK && rules->is_bound) {
+            status = ngx_http_jwt_check_issuer(ctx);
+        }
 
         if (!it->lacks_key && (!rules->is_bound || ctx->test == 0)) {
             return status;

@@ -372,6 +372,10 @@ ngx_http_jwt_text_variable(ngx_http_request_t *r,
         return ngx_http_jwt_set_value(v, (u_char *) "NoToken", 7);
     }
 
+    if (is_test && ctx->test == NGX_HTTP_JWT_TEST) {
+        return ngx_http_jwt_set_value(v, (u_char *) "IssuerIsOneText", 15);
+    }
+
     text = ngx_pnalloc(r->pool, NGX_HTTP_JWT_TEXT);
 
     if (text == NULL

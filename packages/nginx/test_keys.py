@@ -21,6 +21,7 @@ FETCHED = """
     auth_jwt_alg HS256;
     add_header X-Status "$jwt_status" always;
     add_header X-Sub "$jwt_claim_sub" always;
+    add_header X-Test "$jwt_failed_test" always;
     proxy_read_timeout 2s;
     location / {{ set $seen $from; auth_jwt fetched; auth_jwt_key_request /keys; }}
     location = /keys {{
@@ -44,6 +45,7 @@ FETCHED = """
     location = /others {{ internal; proxy_pass http://127.0.0.1:{others}/jwks; }}
     location /bound_files {{ auth_jwt bound; auth_jwt_key_file {work}/a.json iss=a.example; auth_jwt_key_file {work}/single.json iss=b.example; }}
     # where the keys come from
+    location /named {{ auth_jwt named; auth_jwt_key_file {work}/a.json; auth_jwt_iss a.example; }}
     location /of_file {{ auth_jwt file; auth_jwt_key_request /file; }}
     location = /file {{ internal; alias {work}/set.json; }}
     location /of_store {{ auth_jwt store; auth_jwt_key_request /store; }}
@@ -522,7 +524,7 @@ def bound(server):
     tells("a key of the other's set, in its name", accepted, (0, 0), "/bound", "a", "a.example")
     tells("a key of the set before it", no_key, (0, 0), "/bound", "b", "b.example")
     for issuer in ("g.example", "c.example", "", "a.example b.example", ["a.example"]):
-        tells(f"a key of the other's set, in the name {issuer}", (200, "OK") if issuer == ["a.example"] else other_issuer, (0, 0), "/bound", "a", issuer)
+        tells(f"a key of the other's set, in the name {issuer}", other_issuer, (0, 0), "/bound", "a", issuer)
 
 
 def protocols(server):
@@ -549,8 +551,15 @@ def places(server):
     test("a return before the first set", server.get("/returned", token("a"))[0] == 500)
     test("a return after it", eventually(lambda: server.get("/returned", token("a"))[0] == 200))
     asks(server, "a return", {"a!": 401, "b": 401, "a": 200}, 0, "/returned")
+        ("a list of its name", other_issuer, "a", ["a.example"]),
+        ("a list of both names", other_issuer, "a", ["a.example", "b.example"]),
+        ("a list of both names, by the single key", other_issuer, "b", ["b.example", "a.example"]),
+        ("a list of the other name", other_issuer, "a", ["b.example"]),
     server.write("set.json", {"keys": keys("c")})
     test("the first issuer", server.get("/two", token("c"))[0] == 200)
+    got = [server.get(path, token("a", iss=["a.example", "x"]))[1]["X-Test"] for path in ("/bound_files", "/named")]
+    test(f"the test that a list fails: {got}", got == ["IssuerIsOneText", None])
+    test("a list as issuer without iss=", server.get("/named", token("a", iss=["x", "a.example"]))[0] == 200)
     test("the second issuer", server.get("/two", token("a"))[0] == 200)
     test("neither", server.get("/two", token("b"))[0] == 401 and server.get("/two", token("a", SECRETS["c"]))[0] == 401)
     server.write("root/part", 'part of <!--#echo var="jwt_claim_sub" -->\n')
