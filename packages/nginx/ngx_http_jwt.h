@@ -108,6 +108,7 @@ typedef struct {
     time_t                    cut;      /* when the last one was cut off */
     time_t                    fetched;  /* when one gave a set */
     ngx_uint_t                has_set;
+    ngx_str_t                 text;     /* of the set */
     ngx_uint_t                is_failing;  /* the last gave none */
 } ngx_http_jwt_source_t;
 

@@ -6,8 +6,16 @@
     "\"iss\":%V}"
 
 
-/* keys of a longer text are not tried for what they are for */
+/*
+ * keys of a longer text are not tried for what they are for, nor prepared if
+ * they are fetched
+ */
 #define NGX_HTTP_JWT_TRIED  65536
+/*
+ * bytes of prepared keys of a fetched set, such as 64 keys on P-256: a worker
+ * serves no other request meanwhile, for 0.1 s
+ */
+#define NGX_HTTP_JWT_PREPARED  1048576
 
 
 /* options that keys of one kind serve, and what is said of such keys */
@@ -238,6 +246,7 @@ ngx_http_jwt_free_rules(void *data)
 
     for (i = 0; i < rules->count; i++) {
         jwt_verifier_free(&rules->sources[i].verifier);
+        ngx_free(rules->sources[i].text.data);
     }
 }
 
@@ -391,28 +400,59 @@ ngx_http_jwt_set_rules(ngx_conf_t *cf, ngx_http_jwt_loc_conf_t *conf)
 }
 
 
-/* Replaces the set with a fetched one, if that is usable. */
-uint32_t
-ngx_http_jwt_take_set(ngx_http_jwt_source_t *source, ngx_array_t *set)
+/* Replaces the verifier by that of another set, if that is usable. */
+static uint32_t
+ngx_http_jwt_replace_set(ngx_http_jwt_source_t *source, ngx_str_t *text)
 {
+    size_t                prepared = NGX_HTTP_JWT_PREPARED;
+    u_char               *copy;
     uint32_t              status;
     struct jwt_verifier   next = JWT_VERIFIER_NONE;
 
-    status = jwt_check_set(set->elts, set->nelts);
+    if (text->len > NGX_HTTP_JWT_TRIED) {
+        prepared = JWT_PREPARE_NOTHING;
+    }
 
-    if (status == JWT_OK) {
-        status = jwt_verifier_set(set->elts, set->nelts,
-                                  (char *) source->options.data,
-                                  source->options.len, 0, 0, 0, &next);
+    copy = ngx_alloc(text->len, ngx_cycle->log);
+    if (copy == NULL) {
+        return JWT_OUT_OF_MEMORY;
+    }
+
+    status = jwt_verifier_set((char *) text->data, text->len,
+                              (char *) source->options.data,
+                              source->options.len, 0, 0, prepared, &next);
+    if (status != JWT_OK) {
+        ngx_free(copy);
+        return status;
+    }
+
+    jwt_verifier_free(&source->verifier);
+    ngx_free(source->text.data);
+    ngx_memcpy(copy, text->data, text->len);
+    source->verifier = next;
+    source->text.data = copy;
+    source->text.len = text->len;
+    source->rules->sets++;
+
+    return JWT_OK;
+}
+
+
+/* Takes a fetched set, if it is usable. */
+uint32_t
+ngx_http_jwt_take_set(ngx_http_jwt_source_t *source, ngx_array_t *set)
+{
+    uint32_t   status = JWT_OK;
+    ngx_str_t  text = { set->nelts, set->elts };
+
+    if (!source->has_set || !ngx_http_jwt_is_same_text(&source->text, &text)) {
+        status = ngx_http_jwt_replace_set(source, &text);
     }
 
     if (status == JWT_OK) {
-        jwt_verifier_free(&source->verifier);
-        source->verifier = next;
         source->has_set = 1;
         source->is_failing = 0;
         source->fetched = ngx_time();
-        source->rules->sets++;
     }
 
     return status;

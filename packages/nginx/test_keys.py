@@ -32,6 +32,8 @@ FETCHED = """
     location /audience {{ auth_jwt fetched; auth_jwt_key_request /keys; auth_jwt_aud app; }}
     location /same {{ auth_jwt same; auth_jwt_key_request /keys; }}
     location /anew {{ auth_jwt fetched; auth_jwt_key_request /keys; auth_jwt_cache 0; }}
+    location /curve {{ auth_jwt curve; auth_jwt_alg ES256; auth_jwt_key_request /keys; }}
+    location /plain {{ }}
     location /seldom {{ auth_jwt fetched; auth_jwt_key_request /keys; auth_jwt_key_cache 1d; }}
     location /backend {{ auth_jwt fetched; auth_jwt_key_request /keys; proxy_pass http://127.0.0.1:{backend}; proxy_read_timeout 5s; }}
     # files and an uri
@@ -43,9 +45,9 @@ FETCHED = """
         auth_jwt_key_file {work}/g.json iss=g.example;
     }}
     location = /others {{ internal; proxy_pass http://127.0.0.1:{others}/jwks; }}
+    location /named {{ auth_jwt named; auth_jwt_key_file {work}/a.json; auth_jwt_iss a.example; }}
     location /bound_files {{ auth_jwt bound; auth_jwt_key_file {work}/a.json iss=a.example; auth_jwt_key_file {work}/single.json iss=b.example; }}
     # where the keys come from
-    location /named {{ auth_jwt named; auth_jwt_key_file {work}/a.json; auth_jwt_iss a.example; }}
     location /of_file {{ auth_jwt file; auth_jwt_key_request /file; }}
     location = /file {{ internal; alias {work}/set.json; }}
     location /of_store {{ auth_jwt store; auth_jwt_key_request /store; }}
@@ -245,6 +247,67 @@ def faults(server):
     server.keys.answer = whole(keys("a"))
     later(server, PAUSE)
     asks(server, "a small set after it", {"a": 200, "e": 401}, 1)
+
+
+# the prime of P-256 and its base point (FIPS 186-4, D.1.2.3)
+PRIME = 2**256 - 2**224 + 2**192 + 2**96 - 1
+BASE = (
+    0x6B17D1F2E12C4247F8BCE6E563A440F277037D812DEB33A0F4A13945D898C296,
+    0x4FE342E2FE1A7F9B8EE7EB4A7C0F9E162BCE33576B315ECECBB6406837BF51F5,
+)
+
+
+def curve_keys(count):
+    """Returns this many keys on P-256: the base point twice, three times and so on."""
+    (x, y), found = BASE, []
+    slope = (3 * x * x - 3) * pow(2 * y, -1, PRIME)
+    for number in range(count):
+        if number:
+            slope = (y - BASE[1]) * pow(x - BASE[0], -1, PRIME)
+        last, x = x, (slope * slope - x - BASE[0]) % PRIME
+        y = (slope * (last - x) - y) % PRIME
+        found.append({"kty": "EC", "crv": "P-256", "kid": f"{number:x}", **{name: made.part(it.to_bytes(32, "big")).decode() for name, it in (("x", x), ("y", y))}})
+    return found
+
+
+def longest_wait(server, ends):
+    """Returns how long a request waited that needs no key, until this event."""
+    longest = 0
+    while not ends.is_set():
+        began = time.monotonic()
+        server.get("/plain")
+        longest = max(longest, time.monotonic() - began)
+    return longest
+
+
+def large(server):
+    """A set of 1 MiB does not stop a worker, and the same set again is not read again."""
+    text, waits = json.dumps({"keys": curve_keys(7500)}, separators=(",", ":")), []
+    test(f"a set of {len(text)} bytes", 2**20 - 4096 < len(text) < 2**20)
+    unsigned = made.part(json.dumps({"alg": "ES256", "kid": f"{7499:x}"}).encode()).decode() + ".e30." + "A" * 86
+    # the machine may be busy
+    while len(waits) < 5 and min(waits, default=1) > 0.2:
+        # not the text before it
+        server.keys.answer, ends = whole(text + " " * len(waits)), threading.Event()
+        later(server, OLD)
+        before = len(server.keys.asked)
+        thread = threading.Thread(target=lambda: waits.append(longest_wait(server, ends)))
+        thread.start()
+        status, headers = server.get("/curve", unsigned)
+        test("a fetch of it", eventually(lambda: len(server.keys.asked) == before + 1))
+        time.sleep(0.5)
+        ends.set()
+        thread.join()
+        # the key is found
+        test(f"one of its keys: {status} {headers['X-Status']}", (status, headers["X-Status"]) == (401, "InvalidSignature"))
+    test(f"requests that need no key waited {waits} s", min(waits) <= 0.2)
+    server.keys.answer = whole(keys("c"))
+    asks(server, "a small set", {"c": 200}, 1)
+    later(server, OLD)
+    asks(server, "the same set again", {"c": 200}, 1)
+    time.sleep(0.3)
+    got = server.ask("/", token("c"))
+    test(f"a token that was accepted before it: {got}", got == (200, 0))
 
 
 def waiting(server):
@@ -488,8 +551,15 @@ def bound(server):
         ("the single key in the name of the other, by its kid", other_issuer, "a", "a.example", "b"),
         ("another name", other_issuer, "a", "c.example"),
         ("no key", other_signature, "c", "a.example"),
+        ("a list of its name", other_issuer, "a", ["a.example"]),
+        ("a list of both names", other_issuer, "a", ["a.example", "b.example"]),
+        ("a list of both names, by the single key", other_issuer, "b", ["b.example", "a.example"]),
+        ("a list of the other name", other_issuer, "a", ["b.example"]),
     ):
         tells(f"files, {name}", wanted, (0, 0), "/bound_files", *given)
+    got = [server.get(path, token("a", iss=["a.example", "x"]))[1]["X-Test"] for path in ("/bound_files", "/named")]
+    test(f"the test that a list fails: {got}", got == ["IssuerIsOneText", None])
+    test("a list as issuer without iss=", server.get("/named", token("a", iss=["x", "a.example"]))[0] == 200)
     tells("files, an expired token of the second", (401, "ExpiredSignature"), (0, 0), "/bound_files", "b", "b.example", exp=NOW - 5)
     # the first of them answers later
     server.keys.answer, server.others.answer = late(0.3, whole(keys("a"))), whole(keys("b"))
@@ -551,15 +621,8 @@ def places(server):
     test("a return before the first set", server.get("/returned", token("a"))[0] == 500)
     test("a return after it", eventually(lambda: server.get("/returned", token("a"))[0] == 200))
     asks(server, "a return", {"a!": 401, "b": 401, "a": 200}, 0, "/returned")
-        ("a list of its name", other_issuer, "a", ["a.example"]),
-        ("a list of both names", other_issuer, "a", ["a.example", "b.example"]),
-        ("a list of both names, by the single key", other_issuer, "b", ["b.example", "a.example"]),
-        ("a list of the other name", other_issuer, "a", ["b.example"]),
     server.write("set.json", {"keys": keys("c")})
     test("the first issuer", server.get("/two", token("c"))[0] == 200)
-    got = [server.get(path, token("a", iss=["a.example", "x"]))[1]["X-Test"] for path in ("/bound_files", "/named")]
-    test(f"the test that a list fails: {got}", got == ["IssuerIsOneText", None])
-    test("a list as issuer without iss=", server.get("/named", token("a", iss=["x", "a.example"]))[0] == 200)
     test("the second issuer", server.get("/two", token("a"))[0] == 200)
     test("neither", server.get("/two", token("b"))[0] == 401 and server.get("/two", token("a", SECRETS["c"]))[0] == 401)
     server.write("root/part", 'part of <!--#echo var="jwt_claim_sub" -->\n')
@@ -617,6 +680,9 @@ def run(module):
         with started(server):
             for part in ALL:
                 part(server)
+    # with memory as fast as it is
+    with servers(module) as server, started(server):
+        large(server)
 
 
 # nginx of two workers by the clock of the machine, which takes keys from a server that has a new one each few seconds
