@@ -21,7 +21,7 @@ ngx_http_jwt_drop_challenges(ngx_http_request_t *r, ngx_uint_t is_accepted)
     ngx_list_part_t  *part;
     ngx_table_elt_t  *h, *last = NULL;
 
-    for (part = &r->headers_out.headers.part; part != NULL; part = part->next) {
+    for (part = &r->headers_out.headers.part; part; part = part->next) {
         h = part->elts;
 
         for (i = 0; i < part->nelts; i++) {
@@ -167,6 +167,29 @@ ngx_http_jwt_answer(ngx_http_request_t *r, ngx_http_jwt_loc_conf_t *jlcf,
 }
 
 
+/* Finds the token, or answers that there is none or that there are several. */
+static ngx_int_t
+ngx_http_jwt_require_token(ngx_http_request_t *r,
+    ngx_http_jwt_loc_conf_t *jlcf, ngx_http_jwt_ctx_t *ctx)
+{
+    ngx_int_t  rc;
+
+    rc = ngx_http_jwt_find_token(r, jlcf, &ctx->token);
+    ctx->has_several = rc == NGX_ABORT;
+
+    if (ctx->has_several) {
+        /* auth_request makes 500 of 400 */
+        return ngx_http_jwt_refuse(r, &jlcf->realm,
+                                   r == r->main ? NGX_HTTP_BAD_REQUEST
+                                   : NGX_HTTP_UNAUTHORIZED,
+                                   ", error=\"invalid_request\"");
+    }
+
+    return rc == NGX_OK ? rc
+           : ngx_http_jwt_refuse(r, &jlcf->realm, NGX_HTTP_UNAUTHORIZED, "");
+}
+
+
 static ngx_int_t
 ngx_http_jwt_handler(ngx_http_request_t *r)
 {
@@ -189,19 +212,9 @@ ngx_http_jwt_handler(ngx_http_request_t *r)
         return NGX_AGAIN;
     }
 
-    rc = ngx_http_jwt_find_token(r, jlcf, &ctx->token);
-    ctx->has_several = rc == NGX_ABORT;
-
-    if (ctx->has_several) {
-        /* auth_request makes 500 of 400 */
-        return ngx_http_jwt_refuse(r, &jlcf->realm,
-                                   r == r->main ? NGX_HTTP_BAD_REQUEST
-                                   : NGX_HTTP_UNAUTHORIZED,
-                                   ", error=\"invalid_request\"");
-    }
-
+    rc = ngx_http_jwt_require_token(r, jlcf, ctx);
     if (rc != NGX_OK) {
-        return ngx_http_jwt_refuse(r, &jlcf->realm, NGX_HTTP_UNAUTHORIZED, "");
+        return rc;
     }
 
     ctx->status = ngx_http_jwt_verify(jlcf->rules, ctx);

@@ -60,7 +60,7 @@ ngx_http_jwt_count_cookies(ngx_http_request_t *r, ngx_str_t *name)
     ngx_list_part_t  *part;
     ngx_table_elt_t  *h;
 
-    for (part = &r->headers_in.headers.part; part != NULL; part = part->next) {
+    for (part = &r->headers_in.headers.part; part; part = part->next) {
         h = part->elts;
 
         for (i = 0; i < part->nelts; i++) {
@@ -78,7 +78,7 @@ ngx_http_jwt_count_cookies(ngx_http_request_t *r, ngx_str_t *name)
 
 /*
  * Returns whether a request has several cookies or arguments of the name of a
- * variable, of which nginx reads the first, and a service maybe another one.
+ * variable: nginx reads the first, and a service may read another one.
  */
 static ngx_uint_t
 ngx_http_jwt_has_several(ngx_http_request_t *r, ngx_str_t *variable)

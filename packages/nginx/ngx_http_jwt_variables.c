@@ -343,6 +343,22 @@ ngx_http_jwt_path_variable(ngx_http_request_t *r,
 }
 
 
+/* Returns the text of what this module found, or NULL. */
+static const char *
+ngx_http_jwt_own_text(ngx_http_jwt_ctx_t *ctx, ngx_uint_t is_test)
+{
+    if (is_test) {
+        return ctx->test == NGX_HTTP_JWT_TEST ? "IssuerIsOneText" : NULL;
+    }
+
+    if (ctx->has_several) {
+        return "SeveralTokens";
+    }
+
+    return ctx->token.len == 0 ? "NoToken" : NULL;
+}
+
+
 /* jwt_status and jwt_failed_test: data is the name. */
 static ngx_int_t
 ngx_http_jwt_text_variable(ngx_http_request_t *r,
@@ -350,6 +366,7 @@ ngx_http_jwt_text_variable(ngx_http_request_t *r,
 {
     size_t               len;
     u_char              *text;
+    const char          *own;
     ngx_uint_t           is_test = ((ngx_str_t *) data)->data[4] == 'f';
     ngx_http_jwt_ctx_t  *ctx;
 
@@ -364,16 +381,9 @@ ngx_http_jwt_text_variable(ngx_http_request_t *r,
         return NGX_OK;
     }
 
-    if (ctx->has_several) {
-        return ngx_http_jwt_set_value(v, (u_char *) "SeveralTokens", 13);
-    }
-
-    if (ctx->token.len == 0) {
-        return ngx_http_jwt_set_value(v, (u_char *) "NoToken", 7);
-    }
-
-    if (is_test && ctx->test == NGX_HTTP_JWT_TEST) {
-        return ngx_http_jwt_set_value(v, (u_char *) "IssuerIsOneText", 15);
+    own = ngx_http_jwt_own_text(ctx, is_test);
+    if (own != NULL) {
+        return ngx_http_jwt_set_value(v, (u_char *) own, ngx_strlen(own));
     }
 
     text = ngx_pnalloc(r->pool, NGX_HTTP_JWT_TEXT);
