@@ -56,6 +56,18 @@ class Sample:
     def status(self, path, token=None, **headers):
         return self.server.get(path, token, **headers)[0]
 
+    def ask(self, method, path, headers):
+        """Returns the status of a request with these header lines, also several with one name."""
+        connection = http.client.HTTPConnection("127.0.0.1", self.server.port, timeout=20)
+        connection.putrequest(method, path)
+        for line in headers:
+            connection.putheader(*line)
+        connection.endheaders()
+        answer = connection.getresponse()
+        answer.read()
+        connection.close()
+        return answer.status
+
     def stop(self):
         self.keys.stop()
         self.backend.stop()
@@ -101,6 +113,11 @@ def fetched(it):
     test(f"README, a reload while the server of keys is down: {got}", got == [404, 404, 401])
 
 
+# Values of a claim that meet auth_jwt_require, and values that do not. The variable of a fraction is empty.
+MET = [False, None, [], {}, [0], "no", "false", " ", "0 ", "0.0", "-0", "00x", "０"]
+UNMET = ["", "0", "00", "0" * 100, 0, 0.5, -0.0, {"x": 0.5}]
+
+
 def rules(it):
     got = [it.status("/admin/x", given) for given in (token(role="admin"), token(role="user"), token(), None)]
     test(f"README, a role: {got}", got == [404, 403, 403, 401])
@@ -109,6 +126,9 @@ def rules(it):
         test(f"README, the role {role!r}: {got}", got == 403)
     got = [it.status("/notes/x", token(**claims)) for claims in ({"role": "admin"}, {"role": "admin", "sub": ""}, {"role": "user"})]
     test(f"README, two values: {got}", got == [404, 403, 403])
+    for value, wanted in [(it, 404) for it in MET] + [(it, 403) for it in UNMET]:
+        got = it.status("/notes/x", token(role="admin", sub=value))
+        test(f"README, a required claim {value!r}: {got}", got == wanted)
 
 
 def with_role(text):
@@ -174,14 +194,13 @@ def access_tokens(it):
 
 def preflight(it):
     for method, given, wanted in (("OPTIONS", None, 200), *((it, None, 401) for it in ("GET", "HEAD", "POST", "OPTION", "OPTIONSX")), ("GET", token(), 200), ("DELETE", token(SECOND), 401)):
-        connection = http.client.HTTPConnection("127.0.0.1", it.server.port, timeout=20)
-        connection.request(method, "/api/x", headers={"Authorization": f"Bearer {given}"} if given else {})
-        got = connection.getresponse().status
+        got = it.ask(method, "/api/x", [("Authorization", f"Bearer {given}")] if given else [])
         test(f"README, {method}: {got}", got == wanted)
 
 
 def issuers(it):
     login, other = ISSUERS["iss"], "https://other.example"
+    lists = [login], [other], [login, other], [other, login]
     wanted = {
         "of the first": (token(iss=login), 200),
         "of the second": (token(SECOND, "b", iss=other), 200),
@@ -193,6 +212,9 @@ def issuers(it):
         "of the second by the kid of the first, in its name": (token(SECOND, iss=login), 401),
         "of the first in the name of the second": (token(iss=other), 401),
         "of the first by the kid of the second, in its name": (token(kid="b", iss=other), 401),
+        # a list, by the key of each
+        **{f"of the first in the names {names}": (token(iss=names), 401) for names in lists},
+        **{f"of the second in the names {names}": (token(SECOND, "b", iss=names), 401) for names in lists},
         **{f"of {name!r}": (token(iss=name), 401) for name in unlike(login)},
         **{f"of {name!r}": (token(SECOND, "b", iss=name), 401) for name in unlike(other)},
     }
@@ -216,9 +238,17 @@ def cookie(it):
     good = token()
     got = [it.status("/app/x", Cookie=given) for given in (f"auth={good}", f"auth={token(SECOND)}", f'auth="{good}"', f"auths={good}", f"xauth={good}", "auth=")]
     test(f"README, a cookie: {got}", got == [200] + [401] * 5 and it.status("/app/x", good) == 401)
+    for one, two in ((good, token(SECOND)), (token(SECOND), good), (good, good), (good, "")):
+        twice = [("Cookie", f"auth={one}; auth={two}")], [("Cookie", f"auth={one}"), ("Cookie", f"auth={two}")], [("Cookie", f"auth={one}; x=y; AUTH={two}")]
+        got = [it.ask("GET", "/app/x", headers) for headers in twice]
+        test(f"README, two cookies: {got}", got == [400] * 3)
 
 
 def websocket(it):
+    for one, two in ((token(), token(SECOND)), (token(SECOND), token()), (token(), token()), (token(), "")):
+        got = [it.status(f"/socket?{query}") for query in (f"token={one}&token={two}", f"token={one}&x=y&TOKEN={two}", f"%74oken={one}&token={two}")]
+        test(f"README, two arguments: {got}", got == [400] * 3)
+
     def upgrade(connection):
         more = "Upgrade: websocket\r\n"
         connection.sendall(head(status="101 Switching Protocols", more=more).replace(b"Connection: close", b"Connection: upgrade"))
