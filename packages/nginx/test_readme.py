@@ -1,18 +1,32 @@
-"""Runs the samples of README.md as they stand, but for names of hosts and files, and with algorithms by which tokens are signed here."""
+"""Runs each sample of README.md unchanged, except for its ports, files, trusted certificates and algorithms.
+
+A sample that fetches keys by https also runs against servers with a wrong certificate. A sample that passes requests to a service also gets
+requests that name a user themselves.
+"""
+import collections
+import contextlib
 import http.client
 import json
 import os
 import re
 import signal
 import socket
+import ssl
+import subprocess
 import tempfile
+import threading
 import time
 
 from harness import NOW, SECRET, TOP, Server, eventually, free_port, oct_key, signed, started, test
 from key_server import KeyServer, close, head, whole
 
 SECOND = SECRET[::-1]
-ISSUERS = {"iss": "https://login.example"}
+THIRD = SECRET[1:] + SECRET[:1]
+ISSUER, OTHER = "https://login.example", "https://other.example"
+ISSUERS = {"iss": ISSUER}
+BEARER = {"Authorization": "Bearer {}"}
+# The name in each certificate, and whether the trusted authority signed it.
+CERTIFICATES = {"right": ("login.example", True), "of another name": ("evil.example", True), "that signed itself": ("login.example", False)}
 
 
 def samples():
@@ -22,36 +36,106 @@ def samples():
     return [(re.findall(r"^## (.*)$|\*\*(.*?)\*\*", before, re.M)[-1], sample) for before, sample in zip(parts[::2], parts[1::2])]
 
 
-class Sample:
-    """A sample in an nginx of its own, with a server of keys and one behind it."""
+def write_certificates(folder):
+    """Writes the authority and each certificate, with its private key, to a file named after it."""
+    words = ["openssl", "req", "-x509", "-newkey", "ec", "-pkeyopt", "ec_paramgen_curve:P-256", "-nodes", "-days", "2"]
 
-    def __init__(self, module, work, sample):
-        self.keys, self.backend, self.port = KeyServer(whole([oct_key("a")])), KeyServer(whole("served\n")), free_port()
+    def write(name, host, *more):
+        files = ["-keyout", f"{folder}/{name}.key", "-out", f"{folder}/{name}"]
+        subprocess.run([*words, *files, "-subj", f"/CN={host}", "-addext", f"subjectAltName=DNS:{host}", *more], check=True, capture_output=True)
+
+    write("authority", "authority.example")
+    for name, (host, is_trusted) in CERTIFICATES.items():
+        write(name, host, *(["-CA", f"{folder}/authority", "-CAkey", f"{folder}/authority.key"] if is_trusted else []))
+
+
+def context(folder, name):
+    made = ssl.SSLContext(ssl.PROTOCOL_TLS_SERVER)
+    made.load_cert_chain(f"{folder}/{name}", f"{folder}/{name}.key")
+    return made
+
+
+class TlsKeyServer(KeyServer):
+    """A key server with TLS. A client gets this certificate if it asks for login.example (SNI), and else a certificate of another name."""
+
+    def __init__(self, answer, folder, certificate):
+        asked_for = context(folder, certificate)
+        self.context = context(folder, "of another name")
+        self.context.sni_callback = lambda connection, name, _: setattr(connection, "context", asked_for if name == "login.example" else self.context)
+        super().__init__(answer)
+
+    def handle(self, connection):
+        with contextlib.suppress(OSError):
+            super().handle(self.context.wrap_socket(connection, server_side=True))
+
+
+class NameServer:
+    """A DNS server on the loopback. It answers each query of an address with `address`, for a second (RFC 1035 section 4.1)."""
+
+    def __init__(self):
+        self.address, self.socket = "127.0.0.1", socket.socket(socket.AF_INET, socket.SOCK_DGRAM)
+        self.socket.bind(("127.0.0.1", 0))
+        self.port = self.socket.getsockname()[1]
+        threading.Thread(target=self.serve, daemon=True).start()
+
+    def serve(self):
+        with self.socket:
+            while True:
+                query, client = self.socket.recvfrom(512)
+                if not query:
+                    return
+                self.socket.sendto(self.answer(query), client)
+
+    def answer(self, query):
+        asks_for_address = query[-4:] == b"\0\1\0\1"
+        address = b"\xc0\x0c\0\1\0\1\0\0\0\1\0\4" + socket.inet_aton(self.address)
+        return query[:2] + b"\x81\x80\0\1\0" + bytes([asks_for_address]) + bytes(4) + query[12:] + address * asks_for_address
+
+    def stop(self):
+        self.socket.sendto(b"", ("127.0.0.1", self.port))
+
+
+class Sample:
+    """An nginx with one sample, the key server, and the service."""
+
+    def __init__(self, module, work, certificates, sample, certificate="right", workers=2):
+        self.module, self.certificates, self.text = module, certificates, sample
+        self.keys = TlsKeyServer(whole([oct_key("a")]), certificates, certificate)
+        self.backend, self.names, self.port = KeyServer(whole("served\n")), NameServer(), free_port()
         for old, new in (
             ("modules/ngx_http_jwt_module.so", os.path.abspath(module)),
-            ("https://login.example/.well-known", f"http://127.0.0.1:{self.keys.port}/.well-known"),
-            ("http://backend", f"http://127.0.0.1:{self.backend.port}"),
-            ("listen 8080", f"listen 127.0.0.1:{self.port}"),
+            ("/etc/ssl/certs/ca-certificates.crt", f"{certificates}/authority"),
+            ("listen 8080;", f"listen 127.0.0.1:{self.port}; {self.two_tokens()}"),
+            ("resolver 10.0.0.2;", f"resolver 127.0.0.1:{self.names.port};"),
+            ("https://$issuer/", f"https://$issuer:{self.keys.port}/"),
             ("/var/log/nginx", work),
             ("/var/cache/nginx/keys", f"{work}/store"),
             ("RS256", "HS256"),
             ("ES256", "HS384"),
-            ("add_header X-User $user;", "add_header X-User $user; add_header X-Verdict $verdict always;"),
         ):
             sample = sample.replace(old, new)
-        escaped = sample.replace("{", "{{").replace("}", "}}")
-        is_of_http = "server {" in sample
-        self.server = Server(module, work, "" if is_of_http else escaped, http_conf=escaped if is_of_http and "load_module" not in sample else "")
-        if "load_module" in sample:
+        if "auth_jwt " not in sample:
+            sample += "location /api/ { auth_jwt api; auth_jwt_key_request /keys; auth_jwt_alg HS256; }"
+        # the sample's addresses stay unchanged, since nginx finds these names in its own configuration
+        groups = f"upstream login.example {{ server 127.0.0.1:{self.keys.port}; }} upstream backend {{ server 127.0.0.1:{self.backend.port}; }}\n"
+        escaped, http_conf = (it.replace("{", "{{").replace("}", "}}") for it in (sample, groups))
+        is_whole, is_of_http = "load_module" in sample, "server {" in sample
+        self.server = Server(module, work, "" if is_of_http else escaped, workers, http_conf + (escaped if is_of_http and not is_whole else ""))
+        if is_whole:
             paths = f"client_body_temp_path {work}/temp; proxy_temp_path {work}/temp; fastcgi_temp_path {work}/temp; uwsgi_temp_path {work}/temp; scgi_temp_path {work}/temp;"
             user = "user root;\n" if os.geteuid() == 0 else ""
-            text = f"{user}daemon off;\npid {work}/nginx.pid;\nerror_log {work}/error.log info;\n" + sample.replace("http {", f"http {{ {paths}", 1)
+            text = f"{user}daemon off;\npid {work}/nginx.pid;\nerror_log {work}/error.log info;\n" + sample.replace("http {", f"http {{ {paths} {groups}", 1)
             self.server.write("nginx.conf", text)
             self.server.write("access.log", "")
         if is_of_http:
             self.server.port = self.port
         for name, keys in (("jwks", [oct_key("a")]), ("second", [oct_key("b", SECOND)]), ("old", [oct_key("b", SECOND)])):
             self.server.write(f"{name}.json", {"keys": keys})
+
+    def two_tokens(self):
+        """Returns a location that requires the variable of the sample's map for a token in a cookie, and then redirects to the sample's location."""
+        found = re.search(r"^map \S+ (\$\w+)", self.text, re.M)
+        return f"location = /two {{ auth_jwt two token=$cookie_two; auth_jwt_key_file jwks.json; auth_jwt_alg RS256; auth_jwt_require {found[1]}; try_files /none /admin/x; }}" if found else ""
 
     def status(self, path, token=None, **headers):
         return self.server.get(path, token, **headers)[0]
@@ -69,8 +153,17 @@ class Sample:
         return answer.status
 
     def stop(self):
-        self.keys.stop()
-        self.backend.stop()
+        for it in (self.keys, self.backend, self.names):
+            it.stop()
+
+
+@contextlib.contextmanager
+def running(module, certificates, sample, **options):
+    with tempfile.TemporaryDirectory(prefix="nginx-jwt-") as work:
+        it = Sample(module, work, certificates, sample, **options)
+        with started(it.server):
+            yield it
+        it.stop()
 
 
 def token(secret=SECRET, kid="a", digest="sha256", alg="HS256", **claims):
@@ -94,23 +187,58 @@ def first(it):
         test(f"README, the audience {name!r}", it.status("/api/x", token(**names)) == 401)
     for name in unlike(ISSUERS["iss"]):
         test(f"README, the issuer {name!r}", it.status("/api/x", token(aud="api", iss=name)) == 401)
-    test("README, the user is passed on", "X-User: ada\r\n" in it.backend.asked[-1])
     test("README, one fetch", len(it.keys.asked) == 1 and it.keys.asked[0].startswith("GET /.well-known/jwks.json "))
     wanted = '401 "GET /api/x HTTP/1.1" "InvalidSignature" "-" "SignatureIsAccepted" "a"'
     test("README, the log", eventually(lambda: wanted in it.server.read("jwt.log") and '200 "GET /api/x HTTP/1.1" "OK" "ada" "-" "-"' in it.server.read("jwt.log")))
-    test("README, keys from outside", it.status("/keys") == 404)
 
 
-def fetched(it):
+# Header lines of a key server. With each but the first, nginx would store the set for too long, or not at all.
+STORING = ["", "Cache-Control: public, max-age=3600", "Cache-Control: no-cache", "Cache-Control: no-store, private", "Expires: Fri, 31 Dec 2100 23:59:59 GMT"]
+STORING += ["Expires: Thu, 01 Jan 1970 00:00:00 GMT", "X-Accel-Expires: 3600", "X-Accel-Expires: 0", "Set-Cookie: a=b", "Vary: *"]
+
+
+def stored(it):
     got = [it.status("/", given) for given in (token(), token(SECOND, "b"), token(SECOND), None)]
     test(f"README, a stored set and a file: {got}", got == [404, 404, 401, 401])
-    it.keys.answer = close
-    # the stored answer serves after a reload, though it is old
-    time.sleep(10.5)
-    it.server.process.send_signal(signal.SIGHUP)
-    time.sleep(1.5)
-    got = [it.status("/", given) for given in (token(), token(SECOND, "b"), token(SECOND))]
-    test(f"README, a reload while the server of keys is down: {got}", got == [404, 404, 401])
+    with contextlib.ExitStack() as stack:
+        # one worker, because each worker has its own set
+        reloaded = stack.enter_context(running(it.module, it.certificates, it.text, workers=1))
+        servers = {line: stack.enter_context(running(it.module, it.certificates, it.text, workers=1)) for line in STORING}
+        for line, other in servers.items():
+            other.keys.answer = whole([oct_key("a")], more=f"{line}\r\n" if line else "")
+            test(f"README, a set with {line!r}", other.status("/", token()) == 404)
+            other.keys.answer = whole([oct_key("c", THIRD)], more=f"{line}\r\n" if line else "")
+        cases = token(THIRD, "c"), token(), token(SECOND, "b")
+        test("README, a set before a reload", reloaded.status("/", token()) == 404)
+        reloaded.keys.answer = whole([oct_key("c", THIRD)])
+        time.sleep(2.5)
+        reloaded.server.process.send_signal(signal.SIGHUP)
+        time.sleep(1.5)
+        got = [reloaded.status("/", given) for given in cases]
+        test(f"README, a set after a reload: {got}", got == [404, 401, 404])
+        # the pause after a fetch
+        time.sleep(6.5)
+        for line, other in servers.items():
+            got = [other.status("/", given) for given in cases]
+            test(f"README, a set with {line!r} in which a key replaced the other: {got}", got == [404, 401, 404])
+            other.keys.answer = close
+        # what is stored is old
+        time.sleep(2.5)
+        for other in servers.values():
+            other.server.process.send_signal(signal.SIGHUP)
+        time.sleep(1.5)
+        for line, other in servers.items():
+            got = [other.status("/", given) for given in cases]
+            test(f"README, a reload while the server of the set with {line!r} is down: {got}", got == [404, 401, 404])
+
+
+def renamed(it):
+    with running(it.module, it.certificates, it.text, workers=1) as other:
+        other.names.address = "127.0.0.2"
+        got = other.status("/api/x", token())
+        test(f"README, an address without a server: {got}", got == 503)
+        other.names.address = "127.0.0.1"
+        test("README, the next address", eventually(lambda: other.status("/api/x", token()) == 404))
 
 
 # Values of a claim that meet auth_jwt_require, and values that do not. The variable of a fraction is empty.
@@ -129,6 +257,8 @@ def rules(it):
     for value, wanted in [(it, 404) for it in MET] + [(it, 403) for it in UNMET]:
         got = it.status("/notes/x", token(role="admin", sub=value))
         test(f"README, a required claim {value!r}: {got}", got == wanted)
+    got = [it.status("/two", token(role=of_header), Cookie=f"two={token(role=of_cookie)}") for of_cookie, of_header in (("admin", "admin"), ("admin", "user"), ("user", "admin"))]
+    test(f"README, a role of another token of the request: {got}", got == [404, 403, 403])
 
 
 def with_role(text):
@@ -189,17 +319,22 @@ def access_tokens(it):
     for typ in ("JWT", "", "at+jwts", "xat+jwt", "atjwt", "attjwt", "at+jwt ", '"at+jwt"', "at+jwt\n", "x\nat+jwt", "text/at+jwt", "application/application/at+jwt"):
         test(f"README, the type {typ!r}", it.status("/", signed({"exp": NOW + 3600}, typ=typ)) == 401)
     test("README, no type", it.status("/", token()) == 401)
-    test("README, the token goes no further", it.status("/", good) == 200 and "X-User: ada\r\n" in it.backend.asked[-1] and good not in it.backend.asked[-1])
+    got = [it.status("/two", given, Cookie=f"two={good}") for given in (good, token())]
+    test(f"README, a type of another token of the request: {got}", got == [200, 401])
+    test("README, the token goes no further", it.status("/", good) == 200 and good not in it.backend.asked[-1])
 
 
 def preflight(it):
     for method, given, wanted in (("OPTIONS", None, 200), *((it, None, 401) for it in ("GET", "HEAD", "POST", "OPTION", "OPTIONSX")), ("GET", token(), 200), ("DELETE", token(SECOND), 401)):
         got = it.ask(method, "/api/x", [("Authorization", f"Bearer {given}")] if given else [])
         test(f"README, {method}: {got}", got == wanted)
+    for given in (None, token(SECOND), token()):
+        got = it.ask("OPTIONS", "/api/x", FORGED + ([("Authorization", f"Bearer {given}")] if given else []))
+        test(f"README, OPTIONS has no user, though the client names one: {got}", got == 200 and passed_on(it, "X-User") == [])
 
 
 def issuers(it):
-    login, other = ISSUERS["iss"], "https://other.example"
+    login, other = ISSUER, OTHER
     lists = [login], [other], [login, other], [other, login]
     wanted = {
         "of the first": (token(iss=login), 200),
@@ -225,13 +360,16 @@ def issuers(it):
 
 
 def families(it):
-    other = {"iss": "https://other.example", "digest": "sha384", "alg": "HS384"}
+    other = {"iss": OTHER, "digest": "sha384", "alg": "HS384"}
     mixed = {**other, **ISSUERS}
     cases = [token(**ISSUERS), token(SECOND, "b", **other), token(SECOND, "b", **ISSUERS), token(**other), token(SECOND, **ISSUERS), None]
     # the key of one with the name of the other
     cases += [token(SECOND, "b", **mixed), token(SECOND, "a", **mixed), token(iss=other["iss"])]
     got = [it.status("/api/x", given) for given in cases]
     test(f"README, two families: {got}", got == [200, 200] + [401] * 7)
+    cases += [token(iss=[ISSUER, OTHER]), token(SECOND, "b", **{**other, "iss": [OTHER, ISSUER]})]
+    got = [it.server.get("/api/x", given)[1].get_all("WWW-Authenticate", []) for given in cases]
+    test(f"README, two families, WWW-Authenticate: {got}", [len(lines) for lines in got] == [0, 0] + [1] * 9)
 
 
 def cookie(it):
@@ -267,37 +405,86 @@ def websocket(it):
 
 
 def gate(it):
-    os.remove(f"{it.server.work}/root/files")
-    os.mkdir(f"{it.server.work}/root/files")
-    it.server.write("root/files/x", "served\n")
-    got = [it.server.get("/files/x", given) for given in (token(), token(SECOND), None)]
-    test(f"README, a gate: {[status for status, _ in got]}", [status for status, _ in got] == [200, 401, 401] and got[0][1]["X-User"] == "ada")
-    verdicts = [headers["X-Verdict"] for _, headers in got]
-    test(f"README, a gate: {verdicts}", verdicts == ["OK  ", "InvalidSignature SignatureIsAccepted a", "NoToken  "])
+    wanted = {token(): (200, '"ada" "OK  "'), token(SECOND): (401, '"" "InvalidSignature SignatureIsAccepted a"'), None: (401, '"" "NoToken  "')}
+    got = [it.status("/files/x", given) for given in wanted]
+    test(f"README, a gate: {got}", got == [status for status, _ in wanted.values()])
+    for status, words in wanted.values():
+        test(f"README, the log of a gate has {words}", eventually(lambda: f'{status} "GET /files/x HTTP/1.1" {words}' in it.server.read("gate.log")))
 
 
-# by the words before the sample
-RUNS = {
-    "Defaults.": first,
-    "A reload": fetched,
-    "Roles and scopes,": roles,
-    "A claim that is one text.": rules,
-    "Access tokens alone,": access_tokens,
-    "A CORS preflight": preflight,
-    "Two issuers": issuers,
-    "Issuers with algorithms of two families": families,
-    "A cookie": cookie,
-    "A WebSocket": websocket,
-    "A service that decides,": gate,
+def by(secret=SECRET, kid="a", digest="sha256", alg="HS256", **claims):
+    """Returns a call that signs these claims, and others, for an access token."""
+    return lambda **more: signed({"exp": NOW + 3600, "sub": "ada", **claims, **more}, secret, digest, kid=kid, alg=alg, typ="at+jwt")
+
+
+# Tests of a sample, and the path, header and tokens of a request that it lets pass. In the path and the header {} is the token.
+Case = collections.namedtuple("Case", "tests path header tokens")
+# By the words before the sample.
+SAMPLES = {
+    "Defaults.": Case(first, "/api/x", BEARER, [by(aud="api", **ISSUERS)]),
+    "A reload": Case(stored, "/", BEARER, [by()]),
+    "The issuer's address": Case(renamed, "/api/x", BEARER, [by()]),
+    "Roles and scopes,": Case(roles, "/entra/app/x", BEARER, [by(roles="Notes.Admin")]),
+    "A claim that is one text.": Case(rules, "/admin/x", BEARER, [by(role="admin")]),
+    "Access tokens alone,": Case(access_tokens, "/", BEARER, [by()]),
+    "A CORS preflight": Case(preflight, "/api/x", BEARER, [by()]),
+    "Two issuers,": Case(issuers, "/api/x", BEARER, [by(**ISSUERS), by(SECOND, "b", iss=OTHER)]),
+    "Issuers with algorithms of two families": Case(families, "/api/x", BEARER, [by(**ISSUERS), by(SECOND, "b", "sha384", "HS384", iss=OTHER)]),
+    "A cookie": Case(cookie, "/app/x", {"Cookie": "auth={}"}, [by()]),
+    "A WebSocket": Case(websocket, "/socket?token={}", {}, [by()]),
+    "A service that decides,": Case(gate, "/files/x", BEARER, [by()]),
 }
+# A user and an issuer that the client names itself.
+FORGED = [(name, "root") for name in ("X-User", "x-user", "X-USER", "X-User", "X-Issuer", "x-issuer")]
+
+
+def passed_on(it, name):
+    """Returns the values of this header in the last request to the service."""
+    return re.findall(rf"(?im)^{name}: (.*)\r$", "".join(it.backend.asked[-1:]))
+
+
+def asked(it, case, given, more=()):
+    """Returns the status of the sample's request with this token."""
+    return it.ask("GET", case.path.format(given), [(name, value.format(given)) for name, value in case.header.items()] + list(more))
+
+
+def identity(it, words, case):
+    """The service gets the user and the issuer of the token, also if the client names others."""
+    for issuer, sign in zip((ISSUER, OTHER), case.tokens):
+        for sub, users in (("ada", ["ada"]), ("", [])):
+            status = asked(it, case, sign(sub=sub), FORGED)
+            got = passed_on(it, "X-User")
+            test(f"README, {words} the client's own X-User: {status} {got}", status == 200 and got == users)
+            if len(case.tokens) > 1:
+                got = passed_on(it, "X-Issuer")
+                test(f"README, {words} the client's own X-Issuer: {got}", got == [issuer])
+
+
+def wrong_certificates(module, certificates, words, sample, case):
+    """The sample takes no keys from a server with a wrong certificate, and would without proxy_ssl_verify."""
+    for name in list(CERTIFICATES)[1:]:
+        with running(module, certificates, sample, certificate=name) as it:
+            got = asked(it, case, case.tokens[0]())
+            test(f"README, {words} keys with a certificate {name}: {got}", got == 503 and not it.keys.asked)
+        with running(module, certificates, sample.replace("proxy_ssl_verify on;", ""), certificate=name) as it:
+            got = asked(it, case, case.tokens[0]())
+            test(f"README, {words} a certificate {name} that is not verified: {got}", got in (200, 404) and it.keys.asked)
 
 
 def run(module):
-    found = samples()
-    test(f"the samples of README: {[words for words, _ in found]}", ["".join(words) for words, _ in found] == list(RUNS))
-    for words, sample in found:
-        with tempfile.TemporaryDirectory(prefix="nginx-jwt-") as work:
-            it = Sample(module, work, sample)
-            with started(it.server):
-                RUNS["".join(words)](it)
-            it.stop()
+    found = {"".join(words): sample for words, sample in samples()}
+    test(f"the samples of README: {list(found)}", list(found) == list(SAMPLES) and len(found) == len(samples()))
+    with tempfile.TemporaryDirectory(prefix="nginx-jwt-") as certificates:
+        write_certificates(certificates)
+        for words, sample in found.items():
+            case = SAMPLES[words]
+            with running(module, certificates, sample) as it:
+                got = [asked(it, case, sign()) for sign in case.tokens]
+                test(f"README, {words} a token: {got}", set(got) <= {200, 404})
+                for path in re.findall(r"location = (/\w+) ", sample):
+                    test(f"README, {words} {path} from outside", it.status(path, case.tokens[0]()) == 404)
+                if "http://backend" in sample:
+                    identity(it, words, case)
+                case.tests(it)
+            if "proxy_pass https:" in sample:
+                wrong_certificates(module, certificates, words, sample, case)
