@@ -14,8 +14,8 @@
 #define NGX_HTTP_JWT_PAUSE  10
 /* room for the text of a status or of a test */
 #define NGX_HTTP_JWT_TEXT  64
-/* the test of this module after those of the library: iss is one text */
-#define NGX_HTTP_JWT_TEST  (JWT_TEST_CLAIM_RULES_HOLD + 1)
+/* this module's own test, after those of the library: iss is no list */
+#define NGX_HTTP_JWT_ISSUER_TEST  (JWT_TEST_CLAIM_RULES_HOLD + 1)
 /* the longest token with its claims that is remembered */
 #define NGX_HTTP_JWT_SLOT  4000
 
@@ -37,7 +37,7 @@ typedef struct {
 } ngx_http_jwt_key_t;
 
 
-/* variables of which one has to be met, and the answer if none is */
+/* variables, one of which must be met, and the answer if none is */
 typedef struct {
     ngx_array_t            variables;   /* indexes of ngx_int_t */
     ngx_str_t              text;        /* as they are written */
@@ -135,7 +135,7 @@ struct ngx_http_jwt_rules_s {
 /* the verdict on the token of a request or of a subrequest */
 typedef struct {
     ngx_http_request_t    *request;
-    ngx_str_t              token;       /* empty if there is not one */
+    ngx_str_t              token;       /* empty if none, or several */
     ngx_str_t              claims;      /* of an accepted token, in JSON */
     uint32_t               status;
     uint32_t               test;        /* that failed, or 0 */

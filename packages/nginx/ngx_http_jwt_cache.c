@@ -106,8 +106,8 @@ ngx_http_jwt_decode_by(struct jwt_verifier *verifier, ngx_http_jwt_ctx_t *ctx,
 
 
 /*
- * Refuses an accepted token of which iss is a list (RFC 7519 section 4.1.1 has
- * one text): its issuer would sign in the name of others besides its own.
+ * Refuses an accepted token if its iss is a list, against RFC 7519 section
+ * 4.1.1: its issuer would sign in the names of others too.
  */
 static uint32_t
 ngx_http_jwt_check_issuer(ngx_http_jwt_ctx_t *ctx)
@@ -122,7 +122,7 @@ ngx_http_jwt_check_issuer(ngx_http_jwt_ctx_t *ctx)
         return status == JWT_OUT_OF_MEMORY ? status : JWT_OK;
     }
 
-    ctx->test = NGX_HTTP_JWT_TEST;
+    ctx->test = NGX_HTTP_JWT_ISSUER_TEST;
     return JWT_INVALID_ISSUER;
 }
 

@@ -465,7 +465,7 @@ ngx_http_jwt_key(ngx_conf_t *cf, ngx_command_t *cmd, void *conf)
 }
 
 
-/* Adds a variable, and its text, to those of which one has to be met. */
+/* Adds a variable, and its text, to a requirement. */
 static char *
 ngx_http_jwt_add_variable(ngx_conf_t *cf, ngx_http_jwt_require_t *require,
     ngx_str_t *value)

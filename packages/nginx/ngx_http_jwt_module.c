@@ -6,13 +6,13 @@
 
 
 static ngx_http_output_header_filter_pt  ngx_http_next_header_filter;
-/* its place tells the headers of this module, also where they were copied */
+/* its address marks headers of this module, also those that nginx copies */
 static u_char  ngx_http_jwt_challenge[] = "WWW-Authenticate";
 
 
 /*
- * Takes the challenges of earlier refusals from an answer, as before an
- * internal redirect, and also the last one if the token is accepted.
+ * Removes the challenges of earlier refusals, such as those before an internal
+ * redirect, and also the last one if the token is accepted.
  */
 static void
 ngx_http_jwt_drop_challenges(ngx_http_request_t *r, ngx_uint_t is_accepted)

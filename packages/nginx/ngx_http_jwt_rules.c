@@ -7,13 +7,13 @@
 
 
 /*
- * keys of a longer text are not tried for what they are for, nor prepared if
- * they are fetched
+ * keys of a longer text are not tried for what they are for, and fetched ones
+ * are not prepared
  */
 #define NGX_HTTP_JWT_TRIED  65536
 /*
- * bytes of prepared keys of a fetched set, such as 64 keys on P-256: a worker
- * serves no other request meanwhile, for 0.1 s
+ * bytes of prepared keys of a fetched set: 64 keys on P-256 take 0.1 s, in
+ * which the worker serves no other request
  */
 #define NGX_HTTP_JWT_PREPARED  1048576
 

@@ -1,7 +1,7 @@
 #include "ngx_http_jwt.h"
 
 
-/* Returns whether a name, which may be percent-encoded, and = begin a text. */
+/* Returns whether a text begins with a name, maybe percent-encoded, and =. */
 static ngx_uint_t
 ngx_http_jwt_is_named(u_char *p, u_char *last, ngx_str_t *name)
 {
@@ -83,22 +83,15 @@ ngx_http_jwt_count_cookies(ngx_http_request_t *r, ngx_str_t *name)
 static ngx_uint_t
 ngx_http_jwt_has_several(ngx_http_request_t *r, ngx_str_t *variable)
 {
-    ngx_str_t  name;
-
-    name.data = ngx_strlchr(variable->data, variable->data + variable->len,
-                            '_');
-    if (name.data++ == NULL) {
-        return 0;
-    }
-
-    name.len = variable->data + variable->len - name.data;
+    ngx_str_t  cookie = { variable->len - 7, variable->data + 7 };
+    ngx_str_t  argument = { variable->len - 4, variable->data + 4 };
 
     if (ngx_strncasecmp(variable->data, (u_char *) "cookie_", 7) == 0) {
-        return ngx_http_jwt_count_cookies(r, &name) > 1;
+        return ngx_http_jwt_count_cookies(r, &cookie) > 1;
     }
 
     return ngx_strncasecmp(variable->data, (u_char *) "arg_", 4) == 0
-           && ngx_http_jwt_count(&r->args, &name, "&;") > 1;
+           && ngx_http_jwt_count(&r->args, &argument, "&;") > 1;
 }
 
 

@@ -348,7 +348,8 @@ static const char *
 ngx_http_jwt_own_text(ngx_http_jwt_ctx_t *ctx, ngx_uint_t is_test)
 {
     if (is_test) {
-        return ctx->test == NGX_HTTP_JWT_TEST ? "IssuerIsOneText" : NULL;
+        return ctx->test == NGX_HTTP_JWT_ISSUER_TEST ? "IssuerIsOneText"
+               : NULL;
     }
 
     if (ctx->has_several) {
@@ -441,8 +442,8 @@ ngx_http_jwt_add_variables(ngx_conf_t *cf)
 
 
 /*
- * Reads a variable for nginx, which does not cache it if it reads one of this
- * module, as a map of a claim does: a request may have several tokens.
+ * Reads a variable of nginx.  If it reads one of this module, such as a map of
+ * a claim, it is not cached: a request may have several tokens.
  */
 static ngx_int_t
 ngx_http_jwt_watch(ngx_http_request_t *r, ngx_http_variable_value_t *v,
@@ -464,7 +465,7 @@ ngx_http_jwt_watch(ngx_http_request_t *r, ngx_http_variable_value_t *v,
 }
 
 
-/* Has each variable that nginx caches read by ngx_http_jwt_watch. */
+/* Lets ngx_http_jwt_watch read each variable that nginx caches. */
 ngx_int_t
 ngx_http_jwt_watch_variables(ngx_cycle_t *cycle)
 {

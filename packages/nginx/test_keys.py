@@ -285,8 +285,8 @@ def large(server):
     text, waits = json.dumps({"keys": curve_keys(7500)}, separators=(",", ":")), []
     test(f"a set of {len(text)} bytes", 2**20 - 4096 < len(text) < 2**20)
     unsigned = made.part(json.dumps({"alg": "ES256", "kid": f"{7499:x}"}).encode()).decode() + ".e30." + "A" * 86
-    # the machine may be busy
-    while len(waits) < 5 and min(waits, default=1) > 0.2:
+    # again if the machine is busy
+    while len(waits) < 20 and 0.2 < min(waits, default=1) < 2:
         # not the text before it
         server.keys.answer, ends = whole(text + " " * len(waits)), threading.Event()
         later(server, OLD)
