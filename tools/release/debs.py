@@ -21,6 +21,8 @@ PACKAGES = {
     "libnginx-mod-http-jwtproved": ("httpd", "module for nginx", "The module lets a request pass if it has a valid token."),
 }
 TRIGGER = "activate-noawait ldconfig\n"
+# The packages of Debian that have a file of the same path: jwt has /usr/bin/jwt too.
+CONFLICTS = {"jwtproved": "jwt"}
 
 
 def control(it, name, depends, size):
@@ -33,6 +35,7 @@ def control(it, name, depends, size):
         "Maintainer": it.maker,
         "Installed-Size": str(size // 1024 + 1),
         "Depends": depends,
+        **({"Conflicts": CONFLICTS[name]} if name in CONFLICTS else {}),
         "Section": section,
         "Priority": "optional",
         "Description": f"{ABOUT} ({what})\n {more}",
