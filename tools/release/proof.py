@@ -1,4 +1,4 @@
-"""PROOF.txt: what was proved of a release, by what, and what has to be believed."""
+"""PROOF.txt: what was proved of a release, by what, and what has to be believed. Of a draft that was not proved it says only this."""
 import hashlib
 import os
 import re
@@ -17,6 +17,7 @@ Trusted, and proved by nothing here:
 - that a signature can't be forged, and that the constants of the curves are those of the standards
 What was only tested: the packages over the library, and what docs/RULES.md in the repository names so.
 """
+NOT_PROVED = "not proved\n"
 DRAFT = "THIS IS A DRAFT, AND NO RELEASE: neither that the sources are those of the commit nor that the gate has passed was tested.\n"
 
 
@@ -61,9 +62,17 @@ def files(it):
     return lines
 
 
+def is_proved(compiled):
+    """Returns whether the prover's last line is kept for each of these crates, which are compiled once those below them are proved."""
+    return all(map(built.verdict_of, compiled))
+
+
 def write(it):
     """Returns the text."""
-    proved = with_those_below([crates()[c_library.CRATE], *(crates()[name] for name in PROGRAMS)])
+    compiled = [crates()[c_library.CRATE], *(crates()[name] for name in PROGRAMS)]
+    if it.is_draft and not is_proved(compiled):
+        return NOT_PROVED
+    proved = with_those_below(compiled)
     lines = [
         f"jwtproved {it.version} for Linux on x86-64",
         "",
