@@ -13,6 +13,7 @@ use Rattle.jsonwebtoken.specs.Order.{Passes, FailsFirst}
 use Rattle.jsonwebtoken.specs.Tests.{Contents}
 use Rattle.jwt_command.specs.Accepted.{IsAccepted, IsTokenRefusal}
 use Rattle.jwt_verifier.specs.declared.keys.Keys.{Keys}
+use Rattle.jwt_findings.specs.Escapes.{escaped}
 use Rattle.jwt_findings.specs.declared.refusals.TokenRefusal.{TokenRefusal}
 use Rattle.jwt_command.specs.declared.verify.OutputForm.{OutputForm}
 use Rattle.jwt_command.specs.declared.verify.OutputForm.TheVariants.{Claims, HeaderAndClaims, Json, Line}
@@ -21,16 +22,21 @@ use Rattle.jwt_command.specs.declared.verify.OutputForm.TheVariants.{Claims, Hea
 abbrev pub IsLineOf : Data → List ℕ → Type 0
 IsLineOf value text = has_float value ≡ false → text ≡ compact_text value ++ 10 ∷ []
 
--- the header's JSON text and a newline
+-- a value's JSON text, with the characters that are not seen escaped, and a newline; for a value with a float, this says
+-- nothing
+abbrev pub IsSeenLineOf : Data → List ℕ → Type 0
+IsSeenLineOf value text = has_float value ≡ false → text ≡ escaped (compact_text value) ++ 10 ∷ []
+
+-- the header's JSON text, with the characters that are not seen escaped, and a newline
 abbrev pub IsHeaderLine : Header → List ℕ → Type 0
 IsHeaderLine header text = (value : Data) × (header_value header ≡ Some value)
-    × (text ≡ compact_text value ++ 10 ∷ [])
+    × (text ≡ escaped (compact_text value) ++ 10 ∷ [])
 
 -- the output for an accepted token; of one line of JSON, this says nothing
 abbrev pub IsAcceptedText : OutputForm → Header → Data → List ℕ → Type 0
-IsAcceptedText Claims header claims output = IsLineOf claims output
+IsAcceptedText Claims header claims output = IsSeenLineOf claims output
 IsAcceptedText HeaderAndClaims header claims output =
-    (first second : List ℕ) × IsHeaderLine header first × IsLineOf claims second
+    (first second : List ℕ) × IsHeaderLine header first × IsSeenLineOf claims second
     × (output ≡ first ++ second)
 IsAcceptedText Json header claims output = Unit {0}
 IsAcceptedText Line header claims output = Unit {0}

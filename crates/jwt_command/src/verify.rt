@@ -5,7 +5,7 @@ ghost use Rattle.serde_json.specs.View.{view};
 ghost use Rattle.jwt_validation.specs.Options.{Options};
 ghost use Rattle.jwt_validation.specs.OptionsOf.{options_of};
 ghost use Rattle.jwt_command.specs.Answers.{IsHeaderLine, IsAcceptedText, IsRefusedText};
-ghost use Rattle.jwt_command.specs.Answers.{IsVerifyAnswer};
+ghost use Rattle.jwt_command.specs.Answers.{IsSeenLineOf, IsVerifyAnswer};
 ghost use Rattle.jwt_command.specs.Commands.{ChoosesAlgorithm};
 
 pub(crate) mod case;
@@ -13,11 +13,13 @@ pub(crate) mod lines;
 pub(crate) mod options;
 pub(crate) mod verdict;
 
-use crate::answer::{Answer, value_line};
+use crate::answer::Answer;
 use crate::verify::case::Case;
 use crate::verify::verdict::verify_with_type;
 use jsonwebtoken::{Header, TokenData, Validation};
-use jwt_findings::{TokenRefusal, refusal_json, short_refusal_json, token_refusal_lines};
+use jwt_findings::{
+    TokenRefusal, escape_unseen, refusal_json, short_refusal_json, token_refusal_lines,
+};
 use jwt_requests::Fault;
 use serde_json::Value;
 use std::alloc::{AllocError, Global};
@@ -88,10 +90,10 @@ fn accepted_text(
         (view contents.now.claims) (string_bytes text)) }
 {
     match form {
-        OutputForm::Claims => Ok(value_line(alloc, &contents.claims)?),
+        OutputForm::Claims => Ok(seen_line(alloc, &contents.claims)?),
         OutputForm::HeaderAndClaims => {
             let mut text = header_line(alloc, &contents.header)?;
-            text.push_str(value_line(alloc, &contents.claims)?.as_str())?;
+            text.push_str(seen_line(alloc, &contents.claims)?.as_str())?;
             Ok(text)
         }
         OutputForm::Json | OutputForm::Line => Ok(accepted_line(alloc, &contents.claims)?),
@@ -103,14 +105,23 @@ fn header_line(alloc: Global, header: &Header) -> Result<String, Fault<'static>>
     ensures { IfOk result (λ text. IsHeaderLine header.now (string_bytes text)) }
 {
     match header.to_value(alloc) {
-        Ok(value) => Ok(value_line(alloc, &value)?),
+        Ok(value) => Ok(seen_line(alloc, &value)?),
         Err(_) => Err(Fault::Memory),
     }
 }
 
-/// Returns one line of JSON with the claims.
+/// Returns the JSON text of a value, with the characters that are not seen escaped, and a newline.
+fn seen_line(alloc: Global, value: &Value) -> Result<String, AllocError>
+    ensures { IfOk result (λ text. IsSeenLineOf (view value.now) (string_bytes text)) }
+{
+    let mut line = escape_unseen(alloc, value.to_string(alloc)?)?;
+    line.push('\n')?;
+    Ok(line)
+}
+
+/// Returns one line of JSON with the claims, as [`seen_line`] writes them.
 fn accepted_line(alloc: Global, claims: &Value) -> Result<String, AllocError> {
-    let claims = claims.to_string(alloc)?;
+    let claims = escape_unseen(alloc, claims.to_string(alloc)?)?;
     let mut line = String::with_capacity(alloc, claims.len() + LINE)?;
     line.push_str("{\"ok\":true,\"claims\":")?;
     line.push_str(claims.as_str())?;

@@ -8,7 +8,8 @@
 //! decided and proved elsewhere.
 //!
 //! The functions fail for memory alone. Their texts are tested, by the rows of
-//! `tests/programs/jwt.jsonl`, and no clause says them.
+//! `tests/programs/jwt.jsonl`, and no clause says them. [`escape_unseen`] alone has a contract: what
+//! it escapes, and how, is proved.
 //!
 //! ```rust
 //! let order = order(case.loaded.keys.keys());
