@@ -10,6 +10,8 @@ use Rattle.clap.specs.declared.parser.matches.ArgMatches.{ArgMatches}
 use Rattle.clap.specs.declared.parser.matches.Found.{Found}
 use Rattle.jwt_base.specs.Algorithm.{algorithm_named, family_of}
 use Rattle.jwt_base.specs.Decimal.{decimal_value}
+use Rattle.jwt_base.specs.declared.algorithms.Algorithm.{Algorithm}
+use Rattle.jwt_base.specs.declared.algorithms.AlgorithmFamily.{AlgorithmFamily}
 use Rattle.jwt_base.specs.declared.algorithms.AlgorithmFamily.TheVariants.{Hmac}
 use Rattle.jwt_params.specs.declared.thumbprints.ThumbprintHash.{ThumbprintHash}
 use Rattle.jwt_params.specs.declared.thumbprints.ThumbprintHash.TheVariants.{SHA256, SHA384, SHA512}
@@ -73,15 +75,27 @@ abbrev pub IsRequirable : List ℕ → Type 0
 IsRequirable name = (name ≡ codes "exp") ⊎ (name ≡ codes "nbf") ⊎ (name ≡ codes "aud") ⊎ (name ≡ codes "iss")
     ⊎ (name ≡ codes "sub")
 
+-- algorithms of one family: with those of several, each token would be refused
+abbrev pub AreOfOneFamily : List Algorithm → Type 0
+AreOfOneFamily algorithms = (f : AlgorithmFamily) × All (λ a. family_of a ≡ f) algorithms
+
+-- names of which none is empty
+abbrev pub AreNames : Bor (List (Bor (List ℕ))) → Type 0
+AreNames names = All (λ s. s.now ≢ []) names.now
+
 -- what a token is checked against
 pub record AreChecks (f : Found) (c : Checks) : Type 0 where
   pub options : text_of c.options ≡ first_value f (codes "options")
   pub is_strict : IsFlag f (codes "strict") c.is_strict
   pub algorithms : option_map (map algorithm_named) (values_of f (codes "alg"))
       ≡ option_map (λ a. map Some a.items) c.algorithms
+  pub of_one_family : IfSome c.algorithms (λ a. AreOfOneFamily a.items)
   pub audiences : texts_of c.audiences ≡ values_of f (codes "aud")
+  pub audiences_are_names : IfSome c.audiences AreNames
   pub issuers : texts_of c.issuers ≡ values_of f (codes "iss")
+  pub issuers_are_names : IfSome c.issuers AreNames
   pub subject : text_of c.subject ≡ first_value f (codes "sub")
+  pub subject_is_name : IfSome c.subject (λ s. s.now ≢ [])
   pub leeway : IsNumberOf (first_value f (codes "leeway")) c.leeway
   pub not_within : IsNumberOf (first_value f (codes "not-within")) c.not_within
   pub required : texts_of c.required ≡ values_of f (codes "require")
@@ -145,15 +159,16 @@ abbrev pub IsFromInput : Option (List ℕ) → Type 0
 IsFromInput None = ⊤
 IsFromInput (Some token) = token ≡ codes "-"
 
--- whether each line of standard input is a token; no token is given then
-abbrev pub AreLinesAsked : Found → Bool → Type 0
-AreLinesAsked f is_lines =
-    IsFlag f (codes "lines") is_lines × (is_lines ≡ true → IsFromInput (first_value f (codes "token")))
+-- whether each line of standard input is a token; no token is given then, and no header is asked for
+abbrev pub AreLinesAsked : Found → Bool → Bool → Type 0
+AreLinesAsked f is_lines has_header =
+    IsFlag f (codes "lines") is_lines × IsFlag f (codes "header") has_header
+    × (is_lines ≡ true → (has_header ≡ false) × IsFromInput (first_value f (codes "token")))
 
 -- the command of this name, with these arguments
 abbrev pub IsCommand : List ℕ → Found → Request → Type 0
 IsCommand name f (Verify v) = (name ≡ codes "verify") × IsChecking f v
-    × IsFlag f (codes "header") v.has_header × AreLinesAsked f v.is_lines
+    × AreLinesAsked f v.is_lines v.has_header
 IsCommand name f (Explain v) = (name ≡ codes "explain") × IsChecking f v
     × (v.has_header ≡ false) × (v.is_lines ≡ false) × IsFlag f (codes "brief") v.is_brief
 IsCommand name f (Show s) = (name ≡ codes "show") × IsShowing f s

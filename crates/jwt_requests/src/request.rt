@@ -1,16 +1,16 @@
 //! The request of the arguments.
 
-ghost use Rattle.std.specs.Prelude.{◌≡◌, ◌≢◌, ◌↔◌, Some, false, All, IfOk, IfSome, IsTrue, codes, map};
-ghost use Rattle.std.specs.Prelude.{option_map};
+ghost use Rattle.std.specs.Prelude.{◌≡◌, ◌≢◌, ◌↔◌, [], Some, true, false, All, IfOk, IfSome, IsTrue, codes};
+ghost use Rattle.std.specs.Prelude.{map, option_map};
 ghost use Rattle.clap.specs.Matches.{found_of, first_value};
 ghost use Rattle.jwt_base.specs.Algorithm.{algorithm_named, family_of};
 ghost use Rattle.jwt_base.specs.declared.algorithms.AlgorithmFamily.TheVariants.{Hmac};
-ghost use Rattle.jwt_requests.specs.Arguments.{AreChecks, AreLinesAsked, IsChecking, IsCommand, IsFile};
-ghost use Rattle.jwt_requests.specs.Arguments.{IsFlag};
+ghost use Rattle.jwt_requests.specs.Arguments.{AreChecks, AreNames, AreOfOneFamily};
+ghost use Rattle.jwt_requests.specs.Arguments.{IsChecking, IsCommand, IsFile, IsFlag};
 ghost use Rattle.jwt_requests.specs.Arguments.{IsDraftOf, IsHash, IsKeyFile, IsKeyGiven, IsNumberOf};
 ghost use Rattle.jwt_requests.specs.Arguments.{IsRequestOf};
-ghost use Rattle.jwt_requests.specs.Arguments.{IsRequirable, IsSecretFile, IsSigningOf};
-ghost use Rattle.jwt_requests.specs.Arguments.{texts_of};
+ghost use Rattle.jwt_requests.specs.Arguments.{IsFromInput, IsRequirable, IsSecretFile, IsSigningOf};
+ghost use Rattle.jwt_requests.specs.Arguments.{text_of, texts_of};
 
 use crate::fault::Fault;
 use crate::spans::{parse_span, parse_time};
@@ -187,9 +187,10 @@ fn parse_verify<'m, 'a: 'm>(
 ) -> Result<Request<'m, 'a>, Fault<'static>>
     ensures { IfOk result (IsCommand (codes "verify") (found_of matches.now)) }
 {
-    let is_lines = parse_lines(matches)?;
+    let has_header = matches.get_flag("header");
+    let is_lines = parse_lines(matches, has_header)?;
     let mut request = parse_verification(alloc, matches)?;
-    request.has_header = matches.get_flag("header");
+    request.has_header = has_header;
     request.is_lines = is_lines;
     Ok(Request::Verify(request))
 }
@@ -209,21 +210,24 @@ fn parse_explain<'m, 'a: 'm>(
     Ok(Request::Explain(request))
 }
 
-/// Returns whether each line of standard input is a token. No token may stand beside `--lines`.
-fn parse_lines(matches: &ArgMatches<'_>) -> Result<bool, Fault<'static>>
-    ensures { IfOk result (λ is_lines. AreLinesAsked (found_of matches.now) is_lines) }
+/// Returns whether each line of standard input is a token. Neither a token nor `--header` may stand
+/// beside `--lines`.
+fn parse_lines(matches: &ArgMatches<'_>, has_header: bool) -> Result<bool, Fault<'static>>
+    ensures { IfOk result (λ is_lines. IsFlag (found_of matches.now) (codes "lines") is_lines
+        × (is_lines ≡ true → (has_header ≡ false)
+        × IsFromInput (first_value (found_of matches.now) (codes "token")))) }
 {
-    let is_lines = matches.get_flag("lines");
+    if !matches.get_flag("lines") {
+        return Ok(false);
+    }
+    if has_header {
+        return Err(Fault::Usage("--lines prints no headers; leave out --header"));
+    }
     match matches.get_str("token") {
-        None | Some("-") => Ok(is_lines),
-        Some(_) => {
-            if is_lines {
-                return Err(Fault::Usage(
-                    "--lines reads the tokens from standard input, and takes none on the command line",
-                ));
-            }
-            Ok(is_lines)
-        }
+        None | Some("-") => Ok(true),
+        Some(_) => Err(Fault::Usage(
+            "--lines reads the tokens from standard input, and takes none on the command line",
+        )),
     }
 }
 
@@ -306,9 +310,15 @@ fn parse_checks<'m, 'a: 'm>(
     Ok(Checks {
         options: matches.get_str("options"),
         is_strict: matches.get_flag("strict"),
-        audiences: matches.get_strs("aud"),
-        issuers: matches.get_strs("iss"),
-        subject: matches.get_str("sub"),
+        audiences: names(
+            matches.get_strs("aud"),
+            "--aud must name an audience; leave it out to require none",
+        )?,
+        issuers: names(
+            matches.get_strs("iss"),
+            "--iss must name an issuer; leave it out to require none",
+        )?,
+        subject: subject(matches)?,
         leeway: span(
             matches,
             "leeway",
@@ -325,6 +335,40 @@ fn parse_checks<'m, 'a: 'm>(
         understood: matches.get_strs("crit"),
         algorithms: algorithms(alloc, matches.get_strs("alg"))?,
     })
+}
+
+/// Returns the names, unless one is empty.
+fn names<'m, 'a: 'm>(
+    names: Option<&'m [&'a str]>,
+    mistake: &'static str,
+) -> Result<Option<&'m [&'a str]>, Fault<'static>>
+    ensures given { IfOk result (λ given. given ≡ names.entry) }
+    ensures named { IfOk result (λ given. IfSome given AreNames) }
+{
+    let Some(given) = names else {
+        return Ok(None);
+    };
+    if given.iter().all(|name| is_name(name)) {
+        Ok(Some(given))
+    } else {
+        Err(Fault::Usage(mistake))
+    }
+}
+
+fn is_name(text: &str) -> bool
+    ensures { IsTrue result ↔ text.now ≢ [] }
+{
+    !text.is_empty()
+}
+
+fn subject<'a>(matches: &ArgMatches<'a>) -> Result<Option<&'a str>, Fault<'static>>
+    ensures given { IfOk result (λ s. text_of s ≡ first_value (found_of matches.now) (codes "sub")) }
+    ensures named { IfOk result (λ s. IfSome s (λ name. name.now ≢ [])) }
+{
+    match matches.get_str("sub") {
+        Some("") => Err(Fault::Usage("--sub must name a subject; leave it out to require none")),
+        subject => Ok(subject),
+    }
 }
 
 fn span(
@@ -367,16 +411,37 @@ fn is_requirable(name: &str) -> bool
     matches!(name, "exp" | "nbf" | "aud" | "iss" | "sub")
 }
 
+/// Returns the algorithms of these names, if they are of one family.
 fn algorithms(
     alloc: Global,
     names: Option<&[&str]>,
 ) -> Result<Option<Vec<Algorithm>>, Fault<'static>>
-    ensures { IfOk result (λ given. option_map (map algorithm_named) (texts_of names.entry)
+    ensures given { IfOk result (λ given. option_map (map algorithm_named) (texts_of names.entry)
         ≡ option_map (λ a. map Some a.items) given) }
+    ensures of_one_family { IfOk result (λ given. IfSome given (λ a. AreOfOneFamily a.items)) }
 {
-    match names {
-        Some(names) => Ok(Some(algorithms_named(alloc, names)?)),
-        None => Ok(None),
+    let Some(names) = names else {
+        return Ok(None);
+    };
+    let algorithms = algorithms_named(alloc, names)?;
+    if are_of_one_family(&algorithms) {
+        Ok(Some(algorithms))
+    } else {
+        drop(algorithms);
+        Err(Fault::Usage(
+            "--alg must name algorithms of one family, such as HS256 and HS512, RS256 and PS256, or ES256 and ES384",
+        ))
+    }
+}
+
+fn are_of_one_family(algorithms: &[Algorithm]) -> bool
+    ensures { IsTrue result ↔ AreOfOneFamily algorithms.now }
+{
+    match algorithms.first() {
+        Some(first) => algorithms
+            .iter()
+            .all(|other| other.family() == first.family()),
+        None => true,
     }
 }
 
