@@ -1,17 +1,16 @@
 """`encode`, `decode` and their like, by PyJWT's names."""
 import functools
 import json
-import marshal
 import warnings
 from collections.abc import Mapping
-from typing import Any
+from typing import Any, Never
 
 from . import _refusals, _signing
 from ._encoding import header_of, members_of, payload_of, unsignable, written
 from ._keys import Key, PyJWK, SigningKey, material_known, material_of
 from ._library import ALGORITHMS, Refusal, answer, library, slices
 from ._parts import parts_of
-from ._rules import DEFAULTS, Moment, Names, Rules, exact_str, options_of, rules_of, warn_of
+from ._rules import DEFAULTS, Moment, Names, Rules, arguments_of, check_keywords, exact_str, names_nearest, options_of, rules_of
 from ._signatures import claims_by_verdict, signed_part
 from ._status import Status
 from ._verifier import Checker, Refuser, Token, checker_of, complete, moment_of, token_of
@@ -24,17 +23,60 @@ _CACHE_SIZE = 64
 _HEADER_OF_NONE = b"eyJhbGciOiJIUzI1NiJ9"
 
 
-def _call(key: Any, asked: tuple[Any, ...]) -> tuple[Any, ...] | None:
-    """Returns what the checker for a key and what else is asked for is kept under, or None if they are to be read again."""
+_LISTS = frozenset((list, tuple, set, frozenset))
+
+
+def _exact(value: Any) -> Any:
+    """Returns a string, or strings with the type of their list, to compare them. Raises TypeError for any other type, and for a subclass,
+    whose instances may be equal to other strings."""
+    kind = type(value)
+    if kind is str:
+        return value
+    if kind not in _LISTS:
+        raise TypeError
+    for it in value:
+        if type(it) is not str:
+            raise TypeError
+    return kind, *value
+
+
+def _exact_options(options: Any) -> tuple[Any, ...]:
+    """Returns the names and values of options to compare them, as `_exact` does."""
+    if type(options) is not dict:
+        raise TypeError
+    found: tuple[Any, ...] = ()
+    for name, value in options.items():
+        if type(name) is not str:
+            raise TypeError
+        found += name, value if value is True or value is False else _exact(value)
+    return found
+
+
+def _call(
+    key: Any, algorithms: Any, options: Any, audience: Any, issuer: Any, subject: Any, leeway: Any, understood_crit: Any
+) -> tuple[Any, ...] | None:
+    """Returns what the checker for these arguments is kept under, or None if they are to be read again.
+
+    Two calls have the same only if all arguments are of the same types and equal. Only types of Python's own count, since instances of
+    a subclass may be equal to others.
+    """
     kind = type(key)
     known = key if kind is str or kind is bytes else material_known(key)
-    if known is None:
+    if known is None or type(leeway) is not int:
         return None
     try:
-        # Values of different types differ in what is written, and those of a subclass, which may be equal to others, are not written.
-        # What versions above 2 write depends on how often an object is referred to.
-        return kind, known, marshal.dumps(asked, 2)
-    except ValueError:
+        return (
+            kind,
+            known,
+            _exact(algorithms),
+            leeway,
+            options if options is None else _exact_options(options),
+            audience if audience is None else _exact(audience),
+            issuer if issuer is None else _exact(issuer),
+            subject if subject is None else _exact(subject),
+            understood_crit if understood_crit is None else _exact(understood_crit),
+        )
+    except TypeError:
         return None
 
 
@@ -50,14 +92,10 @@ def _checker(key: Key, rules: Rules) -> Checker | Refuser:
         raise
 
 
-def _check_unused(call: str, kwargs: dict[str, Any], verify: Any, detached_payload: Any, options: Any) -> None:
-    """Warns of what PyJWT warns of. Raises an exception for what would be a condition by another name."""
-    for name in kwargs:
-        if name in ("aud", "iss", "sub", "algorithm", "nonce", "now"):
-            raise TypeError(f"{call}() got an unexpected keyword argument {name!r}")
+def _check_unused(verify: Any, detached_payload: Any, options: Any) -> None:
+    """Warns of a `verify` that differs from the options. Raises NotImplementedError for a payload that is not in the token."""
     if detached_payload is not None:
         raise NotImplementedError("detached_payload is for PyJWS.decode: the claims of a token are in it")
-    warn_of(call, kwargs, 4)
     if verify is not None and verify != (options or {}).get("verify_signature", True):
         text = "The `verify` argument to `decode` does nothing in PyJWT 2.0 and newer: `verify_signature` in `options` does"
         warnings.warn(text, DeprecationWarning, stacklevel=3)
@@ -93,6 +131,9 @@ def _by_secret(key: SigningKey, algorithm: str, header: bytes, claims: bytes) ->
 class PyJWT:
     """Issues and verifies tokens under options of its own, which each call may change."""
 
+    # whether `algorithms` may be one name, and a keyword that is near no argument is only warned of: as_jwt has a subclass
+    _is_lenient = False
+
     def __init__(self, options: Options | None = None) -> None:
         self._own = options_of(options, drops=True)
         self._kept: dict[tuple[Any, ...] | None, Checker | Refuser] = {}
@@ -112,20 +153,23 @@ class PyJWT:
         leeway: Moment = 0,
         *,
         understood_crit: Names = None,
-        **kwargs: Any,
+        **kwargs: Never,
     ) -> dict[str, Any]:
         """Returns the claims of a token, verified with a key at the time of the clock.
 
-        A refusal raises an exception below InvalidTokenError. `verify`, and arguments of other names, do nothing, with a warning.
+        A refusal raises an exception below InvalidTokenError. `verify` does nothing, with a warning.
         """
-        if kwargs or verify is not None or detached_payload is not None:
-            _check_unused("decode", kwargs, verify, detached_payload, options)
+        if kwargs:
+            check_keywords("decode", kwargs, _DECODE, self._is_lenient)
+        if verify is not None or detached_payload is not None:
+            _check_unused(verify, detached_payload, options)
         token = token_of("jwt", jwt)
-        call = _call(key, (algorithms, options, audience, issuer, subject, leeway, understood_crit))
+        call = _call(key, algorithms, options, audience, issuer, subject, leeway, understood_crit)
         checker = self._kept.get(call)
         if checker is None:
             given = options_of(options, drops=True)
-            rules = rules_of(algorithms, {**self._own, **given}, audience, issuer, subject, leeway, understood_crit)
+            conditions = audience, issuer, subject, leeway, understood_crit
+            rules = rules_of(algorithms, {**self._own, **given}, *conditions, takes_one=self._is_lenient)
             if given.get("verify_signature") is False:
                 return self._unverified(token, rules)
             checker = _checker(key, rules)
@@ -153,12 +197,15 @@ class PyJWT:
         leeway: Moment = 0,
         *,
         understood_crit: Names = None,
-        **kwargs: Any,
+        **kwargs: Never,
     ) -> dict[str, Any]:
         """Returns the claims that `decode` returns as `payload`, with the token's `header` and the bytes of its `signature`."""
+        if kwargs:
+            check_keywords("decode_complete", kwargs, _DECODE, self._is_lenient)
         token = token_of("jwt", jwt)
-        asked: dict[str, Any] = {"subject": subject, "issuer": issuer, "leeway": leeway, "understood_crit": understood_crit, **kwargs}
-        return complete(token, self.decode(token, key, algorithms, options, verify, detached_payload, audience, **asked))
+        conditions = audience, subject, issuer, leeway
+        claims = self.decode(token, key, algorithms, options, verify, detached_payload, *conditions, understood_crit=understood_crit)
+        return complete(token, claims)
 
     @staticmethod
     def _unverified(token: bytes, rules: Rules) -> dict[str, Any]:
@@ -175,6 +222,7 @@ class PyJWT:
         asked = tuple({**unless_asked, **dict(rules.options)}.items())
         return claims_by_verdict(token, part, True, rules._replace(algorithms=(part.algorithm,), options=asked), now)
 
+    @names_nearest
     def encode(
         self,
         payload: Mapping[str, Any],
@@ -203,6 +251,8 @@ def get_unverified_header(jwt: Token) -> dict[str, Any]:
     """Returns the header of a token. Nothing is verified."""
     return _refusals.header_of(token_of("jwt", jwt))
 
+
+_DECODE = arguments_of(PyJWT.decode)
 
 _global = PyJWT()
 decode = _global.decode

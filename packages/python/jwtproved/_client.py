@@ -14,7 +14,7 @@ from urllib.parse import urlsplit
 from ._api import get_unverified_header
 from ._keys import PyJWK, PyJWKSet
 from ._refusals import unknown
-from ._rules import exact_str, wrong_type
+from ._rules import exact_str, names_nearest, wrong_type
 from .exceptions import PyJWKClientConnectionError, PyJWKClientError
 
 if TYPE_CHECKING:
@@ -163,6 +163,7 @@ class PyJWKClient:
     # the least time from a fetch for an unknown kid to the next one, and from a fetch that failed to the next one, in seconds
     _pause = 10.0
 
+    @names_nearest
     def __init__(
         self,
         uri: str,

@@ -8,7 +8,7 @@ from . import _refusals
 from ._encoding import header_of, payload_of, unsignable
 from ._keys import Key, Material, bytes_of, material_of, raw_of
 from ._library import ALGORITHMS, Refusal, answer, check, library, number_of, parts, slices, text_of
-from ._rules import Further, Moment, Names, Rules, exact_str, options_of, rules_of, wrong_type
+from ._rules import Further, Moment, Names, Rules, exact_str, names_nearest, options_of, rules_of, wrong_type
 from ._status import Status
 from ._verifier import Token, moment_of, token_of
 from .exceptions import InvalidKeyError
@@ -56,6 +56,7 @@ def claims_by_verdict(token: bytes, part: SignedPart, verdict: bool, rules: Rule
     return claims
 
 
+@names_nearest
 def decode_by_verdict(
     token: Token,
     part: SignedPart,

@@ -10,7 +10,7 @@ from ._handles import Handles
 from ._keys import Key, Material, material_of
 from ._library import ALGORITHMS, FAMILIES, PREPARE_NOTHING, PREPARED, Refusal, algorithms_of, parts
 from ._parts import parts_of
-from ._rules import Further, Moment, Names, Rules, exact_number, exact_str, options_of, rules_of, wrong_type
+from ._rules import Further, Moment, Names, Rules, exact_number, exact_str, names_nearest, options_of, rules_of, wrong_type
 from ._status import Status
 from .exceptions import ClockError, DecodeError, InvalidKeyError
 from .types import Listed, Options
@@ -165,6 +165,7 @@ class Verifier:
     A token may have at most `max_token_length` bytes, 1 MiB if it is None.
     """
 
+    @names_nearest
     def __init__(
         self,
         key: Key,

@@ -1,6 +1,6 @@
 """Tokens over any bytes, by the names of PyJWT. The library verifies the signature, and looks at no claim."""
 import json
-from typing import Any
+from typing import Any, Never
 
 from . import _refusals
 from ._api import get_unverified_header
@@ -8,7 +8,7 @@ from ._encoding import members_of
 from ._keys import Key, PyJWK, SigningKey, material_of
 from ._library import ALGORITHMS
 from ._parts import Parts, parts_of
-from ._rules import listed, rules_of, warn_of
+from ._rules import arguments_of, check_keywords, listed, names_nearest, options_of, rules_of, wrong_type
 from ._signatures import SignedPart, claims_by_verdict, is_signed
 from ._verifier import Token, token_of
 from .algorithms import Algorithm, get_default_algorithms
@@ -21,11 +21,13 @@ class PyJWS:
     """Issues and verifies tokens whose payload is any bytes (RFC 7515). Of `algorithms`, all are served if it is None."""
 
     header_typ = "JWT"
+    # as that of PyJWT
+    _is_lenient = False
 
     def __init__(self, algorithms: Listed | None = None, options: Options | None = None) -> None:
-        names = listed(algorithms)
+        names = listed(algorithms, self._is_lenient)
         self._algorithms = {name: it for name, it in get_default_algorithms().items() if names is None or name in names}
-        self.options: dict[str, Any] = {"verify_signature": True, **dict(options or {})}
+        self.options: dict[str, Any] = {"verify_signature": True, **options_of(options, drops=True)}
 
     def get_algorithms(self) -> list[str]:
         """Returns the names of the algorithms that this object signs and verifies with."""
@@ -52,6 +54,7 @@ class PyJWS:
             raise KeyError("The specified algorithm could not be removed because it is not registered.")
         del self._algorithms[alg_id]
 
+    @names_nearest
     def encode(
         self,
         payload: bytes,
@@ -86,12 +89,15 @@ class PyJWS:
         algorithms: Listed | None = None,
         options: Options | None = None,
         detached_payload: bytes | None = None,
-        **kwargs: Any,
+        **kwargs: Never,
     ) -> dict[str, Any]:
         """Returns the bytes that `decode` returns as `payload`, with the token's `header` and the bytes of its `signature`."""
-        warn_of("decode_complete", kwargs)
-        verifies = {**self.options, **dict(options or {})}["verify_signature"]
-        names = listed(algorithms)
+        if kwargs:
+            check_keywords("decode_complete", kwargs, _DECODE, self._is_lenient)
+        verifies = {**self.options, **options_of(options, drops=True)}["verify_signature"]
+        if not isinstance(verifies, bool):
+            raise wrong_type("verify_signature", "True or False", verifies)
+        names = listed(algorithms, self._is_lenient)
         if verifies and not names and not isinstance(key, PyJWK):
             raise DecodeError('It is required that you pass in a value for the "algorithms" argument when calling decode().')
         parts = parts_of(token_of("jwt", jwt))
@@ -114,13 +120,14 @@ class PyJWS:
         algorithms: Listed | None = None,
         options: Options | None = None,
         detached_payload: bytes | None = None,
-        **kwargs: Any,
+        **kwargs: Never,
     ) -> Any:
         """Returns the bytes of a token's payload, once the library has verified the signature with a key, by one of these algorithms.
 
         A payload that is detached (RFC 7797) has to be given. A refusal raises an exception below InvalidTokenError.
         """
-        warn_of("decode", kwargs)
+        if kwargs:
+            check_keywords("decode", kwargs, _DECODE, self._is_lenient)
         return self.decode_complete(jwt, key, algorithms, options, detached_payload)["payload"]
 
     def get_unverified_header(self, jwt: Token) -> dict[str, Any]:
@@ -157,6 +164,8 @@ def _is_signed(key: Key, algorithm: str, parts: Parts) -> bool:
             raise _refusals.other_algorithm(_refusals.UNFIT_KEY, "VerifierIsMade") from None
         raise
 
+
+_DECODE = arguments_of(PyJWS.decode)
 
 _global = PyJWS()
 encode = _global.encode

@@ -2,8 +2,9 @@
 
     import jwtproved.as_jwt
 
-Raises ImportError if another package of this name was imported already. From then on the name of one algorithm, as in `algorithms="RS256"`,
-is taken for a list of it, since programs over PyJWT pass it.
+Raises ImportError if another package of this name was imported already. The classes and calls of `jwt` also take what programs over PyJWT
+pass: the name of one algorithm, as in `algorithms="RS256"`, is a list of it, and a keyword that is near no argument is only warned of.
+Those of `jwtproved` stay as they are.
 """
 import importlib
 import importlib.abc
@@ -14,10 +15,36 @@ from types import ModuleType
 from typing import Any
 
 import jwtproved
-from jwtproved import _rules
 
 # of the interface, which programs compare
 VERSION = "2.10.1"
+
+
+class PyJWT(jwtproved.PyJWT):
+    __doc__ = jwtproved.PyJWT.__doc__
+    _is_lenient = True
+
+
+def _calls_of(made: Any, *names: str) -> dict[str, Any]:
+    return {type(made).__name__: type(made), **{name: getattr(made, name) for name in names}}
+
+
+# what the module jwt.api_jwt, and jwt, have in place of the names of jwtproved.api_jwt
+_OF_API_JWT = _calls_of(PyJWT(), "decode", "decode_complete", "encode")
+
+
+def _of_api_jws() -> dict[str, Any]:
+    """Returns what the module jwt.api_jws has in place of the names of jwtproved.api_jws."""
+    from jwtproved import api_jws
+
+    class PyJWS(api_jws.PyJWS):
+        __doc__ = api_jws.PyJWS.__doc__
+        _is_lenient = True
+
+    return _calls_of(PyJWS(), "decode", "decode_complete", "encode", "get_algorithm_by_name")
+
+
+_OWN = {"jwt.api_jwt": lambda: _OF_API_JWT, "jwt.api_jws": _of_api_jws}
 
 
 class _Finder(importlib.abc.MetaPathFinder, importlib.abc.Loader):
@@ -31,13 +58,30 @@ class _Finder(importlib.abc.MetaPathFinder, importlib.abc.Loader):
 
     def create_module(self, spec: importlib.machinery.ModuleSpec) -> ModuleType:
         found = importlib.import_module(f"{jwtproved.__name__}{spec.name[3:]}")
+        if spec.name in _OWN:
+            made = ModuleType(spec.name, found.__doc__)
+            vars(made).update(_public(found), **_OWN[spec.name]())
+            return made
         spec.loader_state = found.__spec__
         return found
 
     def exec_module(self, module: ModuleType) -> None:
         # it is a module of this package, under another name
-        if module.__spec__ is not None:
+        if module.__spec__ is not None and module.__spec__.loader_state is not None:
             module.__spec__ = module.__spec__.loader_state
+
+
+def _public(module: ModuleType) -> dict[str, Any]:
+    return {name: value for name, value in vars(module).items() if not name.startswith("_") or name == "__all__"}
+
+
+def _later(name: str) -> Any:
+    """Returns a module that is loaded when a program uses it, or a name of such a module."""
+    if name in jwtproved._MODULES:
+        return importlib.import_module(f"jwt.{name}")
+    if name in jwtproved._OF_API_JWS:
+        return getattr(importlib.import_module("jwt.api_jws"), name)
+    raise AttributeError(f"module 'jwt' has no attribute {name!r}")
 
 
 def _package() -> ModuleType:
@@ -45,11 +89,8 @@ def _package() -> ModuleType:
     made = ModuleType("jwt", jwtproved.__doc__)
     made.__spec__ = importlib.machinery.ModuleSpec("jwt", None, is_package=True)
     made.__path__, made.__package__ = [], "jwt"
-    for name, value in vars(jwtproved).items():
-        if not name.startswith("_"):
-            setattr(made, name, value)
-    # those that are loaded when they are asked for
-    vars(made).update(__getattr__=lambda name: getattr(jwtproved, name), __version__=VERSION, __all__=jwtproved.__all__)
+    loaded = {name: value for name, value in _public(jwtproved).items() if name not in jwtproved._MODULES}
+    vars(made).update(loaded, **_OF_API_JWT, __getattr__=_later, __version__=VERSION)
     return made
 
 
@@ -57,4 +98,5 @@ if "jwt" in sys.modules:
     raise ImportError(f"jwt was imported already, from {getattr(sys.modules['jwt'], '__file__', '?')}: import jwtproved.as_jwt before it")
 sys.meta_path.insert(0, _Finder())
 sys.modules["jwt"] = _package()
-_rules.takes_text = True
+# which is an attribute of the package without an import of its own
+importlib.import_module("jwt.api_jwt")

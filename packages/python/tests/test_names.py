@@ -138,6 +138,30 @@ def detached():
     raises(jwt.DecodeError, jws.decode, signed({}, b64=0), SECRET, ["HS256"], said="b64")
 
 
+def options_of_jws():
+    """An option is one of those of `decode`, and True or False: a setting that is missing turns nothing off."""
+    at(NOW)
+    token, wrong = jwt.PyJWS().encode(b"a", SECRET, "HS256"), "another secret"
+    for it in (None, 0, 1, "", "no", [], "False"):
+        for call in (jwt.PyJWS().decode, jwt.PyJWS().decode_complete, jwt.decode, jwt.decode_complete):
+            raises(TypeError, call, token, wrong, **HS, options={"verify_signature": it}, said="verify_signature must be True or False")
+        for made in (jwt.PyJWS, jwt.PyJWT):
+            raises(TypeError, made, options={"verify_signature": it}, said="verify_signature must be True or False")
+        changes = jwt.PyJWS()
+        changes.options["verify_signature"] = it
+        raises(TypeError, changes.decode, token, wrong, **HS, said="verify_signature must be True or False")
+    for options in ({"verfy_signature": True}, {"algorithms": ["HS256"]}, {5: False}):
+        raises(TypeError, jwt.PyJWS, options=options, said="is not an option")
+        raises(TypeError, jwt.PyJWS().decode, token, SECRET, **HS, options=options, said="is not an option")
+    for it in ([], "verify_signature", 5):
+        raises(TypeError, jwt.PyJWS, options=it, said="options")
+        raises(TypeError, jwt.PyJWS().decode, token, SECRET, **HS, options=it, said="options")
+    gives(b"a", jwt.PyJWS(options={"verify_signature": False}).decode, token, wrong, **HS)
+    gives(b"a", jwt.PyJWS().decode, token, wrong, **HS, options={"verify_signature": False})
+    raises(jwt.InvalidSignatureError, jwt.PyJWS().decode, token, wrong, **HS, options={"verify_signature": True})
+    raises(jwt.InvalidSignatureError, jwt.PyJWS(options={"verify_signature": False}).decode, token, wrong, **HS, options={"verify_signature": True})
+
+
 def algorithms_of_jws():
     jws = jwt.PyJWS(algorithms=["HS256"])
     gives(["HS256"], jws.get_algorithms)
@@ -228,14 +252,10 @@ def warned(call, *arguments, **options):
 
 
 def what_does_nothing():
-    """An argument that does nothing is warned of, where it stands; one that would be a condition is an error."""
+    """An argument that does nothing is warned of, where it stands."""
     at(NOW)
     # where the call is made
     token, here = signed({}), "counting.py"
-    for call in (jwt.decode, lambda *_, **it: jwt.PyJWS().decode(*_, **it)):
-        got = warned(call, token, SECRET, ["HS256"], anything=5)
-        test(f"a keyword: {got}", [it[0] for it in got[1]] == ["RemovedInPyjwt3Warning"] and got[0] in ({}, b"{}"))
-    gives(({}, [("RemovedInPyjwt3Warning", here)]), warned, jwt.decode, token, SECRET, ["HS256"], anything=5)
     gives(({}, [("DeprecationWarning", here)]), warned, jwt.decode, token, SECRET, ["HS256"], verify=False)
     gives(({}, []), warned, jwt.decode, token, SECRET, ["HS256"], verify=True)
     for _ in range(3):
@@ -243,8 +263,40 @@ def what_does_nothing():
     raises(jwt.InvalidSignatureError, jwt.decode, changed(token), SECRET, ["HS256"], verify=False)
     for name in ("verify_at_hash", "enforce_minimum_key_length", "require_exp"):
         raises(TypeError, jwt.decode, token, SECRET, ["HS256"], {name: True}, said=name)
-    for name in ("aud", "iss", "sub", "algorithm", "now", "nonce"):
-        raises(TypeError, jwt.decode, token, SECRET, ["HS256"], said=name, **{name: "a"})
+
+
+# keywords that `decode` does not have, and what its error says of each
+UNKNOWN = {
+    **{name: "'issuer'" for name in ("isuer", "isser", "issuers", "Issuer", "iss")},
+    **{name: "'audience'" for name in ("audiance", "audiences", "aud")},
+    **{name: "'leeway'" for name in ("leway", "leeways")},
+    **{name: "'algorithms'" for name in ("algorithm", "algoritms", "alg")},
+    **{"sub": "'subject'", "subjct": "'subject'", "option": "'options'", "crit": "'understood_crit'"},
+    **{"require": "options={'require': ..}", "required": "options={'require': ..}", "verify_exp": "options={'verify_exp': ..}"},
+    **{"verfy_aud": "options={'verify_aud': ..}", "jti": "options={'verify_jti': ..}", "now": "'now' of Verifier.decode"},
+    **{name: f"{name!r} of Verifier" for name in ("max_token_length", "reject_tokens_expiring_in_less_than")},
+    "nonce": "compare the claim",
+}
+
+
+def unknown_keywords():
+    """An unknown keyword is an error that names the nearest argument, or all of them."""
+    at(NOW)
+    token = signed({"iss": "https://evil"})
+    calls = (jwt.decode, jwt.decode_complete, jwt.PyJWT().decode, lambda it, key, **more: jwt.PyJWS().decode(it, key, **more))
+    for call in calls:
+        for name, said in UNKNOWN.items():
+            raises(TypeError, call, token, SECRET, said=f"unexpected keyword argument {name!r}; ", **HS, **{name: "a"})
+            raises(TypeError, call, token, SECRET, said=said if call in calls[:3] else name, **HS, **{name: "a"})
+        raises(TypeError, call, token, SECRET, said="'anything'; the arguments are jwt, key, algorithms, options, ", **HS, anything=5)
+    for call, arguments, said in (
+        (jwt.encode, {"payload": {}, "key": SECRET, "algoritm": "HS256"}, "encode() got an unexpected keyword argument 'algoritm'; did you mean 'algorithm'?"),
+        (jwt.PyJWS().encode, {"payload": b"", "key": SECRET, "header": {}}, "did you mean 'headers'?"),
+        (jwt.Verifier, {"key": SECRET, **HS, "isuer": "a"}, "Verifier() got an unexpected keyword argument 'isuer'; did you mean 'issuer'?"),
+        (jwt.decode_by_verdict, {"token": token, "part": jwt.signed_part(token), "verdict": True, **HS, "isuer": "a"}, "did you mean 'issuer'?"),
+        (jwt.PyJWKClient, {"uri": "https://login.example/keys", "lifspan": 5}, "did you mean 'lifespan'?"),
+    ):
+        raises(TypeError, call, said=said, **arguments)
 
 
 def texts():
@@ -280,10 +332,11 @@ import jwt.algorithms, jwt.api_jws, jwt.exceptions, jwt.jwks_client, jwt.utils, 
 from jwt.api_jwt import PyJWT
 from jwt.api_jwk import PyJWK
 from jwt import PyJWS, ExpiredSignatureError, algorithms
-assert jwt.decode is jwtproved.decode and PyJWT is jwtproved.PyJWT and PyJWK is jwtproved.PyJWK and PyJWS is jwtproved.PyJWS
+assert jwt.decode is jwt.api_jwt.decode and PyJWT is jwt.PyJWT and PyJWK is jwtproved.PyJWK and PyJWS is jwt.PyJWS is jwt.api_jws.PyJWS
+assert issubclass(PyJWT, jwtproved.PyJWT) and issubclass(PyJWS, jwtproved.PyJWS) and jwt.api_jws is sys.modules["jwt.api_jws"]
 assert jwt.exceptions is jwtproved.exceptions and algorithms is jwtproved.algorithms and jwt.__version__ == "2.10.1"
 assert jwtproved.utils.__spec__.name == "jwtproved.utils" and jwt.__name__ == "jwt"
-assert not [it for it in sys.modules if it.startswith("jwt.") and sys.modules[it].__name__ == it]
+assert [it for it in sys.modules if it.startswith("jwt.") and sys.modules[it].__name__ == it] == ["jwt.api_jwt", "jwt.api_jws"]
 try:
     import jwt.nothing
 except ModuleNotFoundError as error:
@@ -296,6 +349,30 @@ for name, kind in (("HS384", jwt.InvalidAlgorithmError), ("HS256,HS512", TypeErr
     except kind:
         continue
     raise AssertionError(name)
+
+# what programs over PyJWT pass is taken by the calls of jwt alone
+import warnings
+token, own = jwt.encode({}, "secret"), (jwtproved.decode, jwtproved.decode_complete, jwtproved.PyJWT().decode, jwtproved.PyJWS().decode)
+its = jwt.decode, jwt.decode_complete, jwt.api_jwt.decode, jwt.PyJWT().decode, jwt.api_jwt.PyJWT({}).decode, jwt.PyJWS().decode, jwt.api_jws.decode
+for call in (*own, *its, jwtproved.api_jwt.decode, jwtproved.api_jws.decode):
+    for more in ({"algorithms": "HS256"}, {"algorithms": ["HS256"], "foo": 1}):
+        with warnings.catch_warnings(record=True) as seen:
+            warnings.simplefilter("always")
+            try:
+                got = call(token, "secret", **more)
+            except TypeError:
+                got = TypeError
+        assert (got is TypeError) == (call not in its), (call, more)
+        assert [it.category.__name__ for it in seen] == ["RemovedInPyjwt3Warning"] * ("foo" in more and call in its), (call, seen)
+        assert all(it.filename == "<string>" for it in seen)
+for call in its:
+    for name in ("isuer", "iss", "aud", "sub", "audiance", "leway", "algorithm", "require", "verify_exp", "now", "nonce", "max_token_length"):
+        try:
+            call(token, "secret", ["HS256"], **{name: "a"})
+        except TypeError as error:
+            assert f"unexpected keyword argument {name!r}; " in str(error), error
+            continue
+        raise AssertionError((call, name))
 """
 
 
@@ -308,8 +385,8 @@ def in_its_place():
     test("it is not in place by itself", jwt.__name__ == "jwtproved")
 
 
-for step in (modules, arguments_are_its, tokens_of_bytes, detached, algorithms_of_jws, texts_and_numbers, signatures_in_der, unverified):
+for step in (modules, arguments_are_its, tokens_of_bytes, detached, options_of_jws, algorithms_of_jws, texts_and_numbers, signatures_in_der, unverified):
     step()
-for step in (what_does_nothing, texts, in_its_place):
+for step in (what_does_nothing, unknown_keywords, texts, in_its_place):
     step()
 finish("names")

@@ -54,12 +54,19 @@ jwt.decode(token, None, ["HS256"])  # error
 jwt.decode(token, of_rsa, ["RS256"])  # error
 jwt.decode(token, x509.load_pem_x509_certificate(b""), ["RS256"])  # error
 jwt.decode(None, secret, ["HS256"])  # error
+jwt.decode(token, secret, ["HS256"], isuer="https://login.example")  # error
+jwt.decode(token, secret, ["HS256"], anything=5)  # error
+jwt.decode_complete(token, secret, ["HS256"], isuer="https://login.example")  # error
+jwt.PyJWT().decode(token, secret, ["HS256"], leway=5)  # error
+jwt.PyJWS().decode(token, secret, ["HS256"], audiance="web")  # error
+jwt.encode({}, secret, algoritm="HS256")  # error
 jwt.encode([], secret)  # error
 jwt.encode({}, None)  # error
 jwt.encode({}, secret).decode()  # error
 jwt.decode_by_verdict(token, jwt.signed_part(token), True, "HS256")  # error
 jwt.Verifier(keys, "RS256")  # error
 jwt.Verifier(keys, ["RS256"], aud="a")  # error
+jwt.Verifier(keys, ["RS256"], isuer="a")  # error
 jwt.Verifier(keys, ["RS256"]).decode(token, datetime.datetime.now())  # error
 jwt.PyJWS().decode(token, secret, "HS256")  # error
 jwt.PyJWT({"verify": False})  # error
