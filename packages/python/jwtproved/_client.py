@@ -25,6 +25,7 @@ _clock = time.monotonic
 _LONGEST = 86400
 # of the keys of a set that is fetched, since each is read by itself
 _MOST_KEYS = 1000
+_NO_SIGNING_KEYS = "The JWKS endpoint did not contain any signing keys"
 # a name and a value of a header (RFC 9110 sections 5.1 and 5.5)
 _NAME = re.compile(r"[!#$%&'*+\-.^_`|~0-9A-Za-z]+")
 _VALUE = re.compile(r"[\t\x20-\x7e\x80-\xff]*")
@@ -193,7 +194,8 @@ class PyJWKClient:
         self._keys = _Keys(lifespan, max_cached_keys) if cache_keys and not cache_jwk_set else None
         self._lock = threading.Lock()
         self._under_way: "Future[PyJWKSet] | None" = None
-        self._has_failed = False
+        # why the last fetch gave no usable set, or None
+        self._failure: str | None = None
         # before these times no set is fetched for an unknown kid, or instead of one that is not fresh
         self._refetch_from = self._renew_from = -math.inf
         # whether a thread refreshes for an unknown kid
@@ -226,7 +228,7 @@ class PyJWKClient:
         """Returns the keys of the set that have a `kid`, and whose `use` is `sig` or missing. Raises PyJWKClientError if none has."""
         found = self.get_jwk_set(refresh)._signing
         if not found:
-            raise PyJWKClientError("The JWKS endpoint did not contain any signing keys")
+            raise PyJWKClientError(_NO_SIGNING_KEYS)
         return list(found)
 
     def get_signing_key(self, kid: str) -> PyJWK:
@@ -255,7 +257,7 @@ class PyJWKClient:
     def _found(self, kid: str) -> PyJWK:
         # by calls of the interface, in PyJWT's order: a subclass may choose among the keys
         if self.jwk_set_cache is None and _clock() < self._refetch_from and self.match_kid(self._last_keys, kid) is None:
-            raise unknown(kid)
+            raise self._not_found(kid)
         try:
             self._last_keys = self.get_signing_keys()
             found = self.match_kid(self._last_keys, kid)
@@ -267,8 +269,14 @@ class PyJWKClient:
         if found is None and (self.jwk_set_cache is not None or _clock() >= self._refetch_from):
             found = self._found_later(kid)
         if found is None:
-            raise unknown(kid)
+            raise self._not_found(kid)
         return found
+
+    def _not_found(self, kid: str) -> PyJWKClientError:
+        """Returns the error for a kid that is not in the last set, in which case a set that can't be fetched may have it."""
+        if self._failure is not None:
+            return PyJWKClientConnectionError(f"the key set can't be fetched, and the last one has no such kid: {self._failure}")
+        return unknown(kid)
 
     def _found_later(self, kid: str) -> PyJWK | None:
         """Returns the key of a later set, if there is one, or if it is time to fetch one."""
@@ -290,7 +298,7 @@ class PyJWKClient:
             if self._under_way is None:
                 mine = self._under_way = Future()
             under_way = self._under_way
-            waits = kept.is_overdue() and not self._has_failed
+            waits = kept.is_overdue() and self._failure is None
         if mine is not None:
             self._begin(mine)
         if waits:
@@ -304,7 +312,7 @@ class PyJWKClient:
             threading.Thread(target=run, args=(self._renew, mine), name="jwtproved", daemon=True).start()
         except RuntimeError as error:
             # no further thread can be started
-            self._end(mine, None)
+            self._end(mine, None, error)
             mine.set_exception(error)
             self._warn(error)
 
@@ -345,7 +353,7 @@ class PyJWKClient:
         try:
             found = _set_of(self.fetch_data())
         except BaseException as error:
-            self._end(mine, None)
+            self._end(mine, None, error)
             mine.set_exception(error)
             raise
         self._end(mine, found)
@@ -356,15 +364,17 @@ class PyJWKClient:
         try:
             return under_way.result(self.timeout)
         except TimeoutError:
-            self._end(under_way, None)
-            raise PyJWKClientConnectionError('Fail to fetch data from the url, err: "timed out"') from None
+            late = PyJWKClientConnectionError('Fail to fetch data from the url, err: "timed out"')
+            self._end(under_way, None, late)
+            raise late from None
 
-    def _end(self, under_way: "Future[PyJWKSet]", found: PyJWKSet | None) -> None:
+    def _end(self, under_way: "Future[PyJWKSet]", found: PyJWKSet | None, error: BaseException | None = None) -> None:
         with self._lock:
             if self._under_way is under_way:
                 self._under_way = None
-            self._has_failed = found is None or not found._signing
-            if self._has_failed:
+            self._failure = None
+            if found is None or not found._signing:
+                self._failure = _NO_SIGNING_KEYS if error is None else f"{error}" or type(error).__name__
                 self._renew_from = _clock() + self._pause
             if found is not None and self.jwk_set_cache is not None:
                 self.jwk_set_cache.put(found)

@@ -309,6 +309,42 @@ def misbehaves(named):
         gives(CLAIMS, decoded, client, token("a"))
 
 
+def outages():
+    """While no set can be fetched, a token with an unknown kid is no refusal but a failed fetch, and one with a known kid is verified."""
+    failing = {"500": says(HTML, status="500 Oops"), "no JSON": says(HTML), "no keys": says(b"{}"), "none that signs": says(set_of("a").replace(b'"kty"', b'"use":"enc","kty"'))}
+    for arguments in ({}, {"cache_jwk_set": False, "cache_keys": True}, {"cache_keys": True}):
+        for name, answer in failing.items():
+            with serving(says(GOOD), **arguments) as (server, client):
+                client._pause = 20
+                gives(CLAIMS, decoded, client, token("a"))
+                server.answer = answer
+                fetches = len(server.heads)
+                first = outcome(decoded, client, token("b"))
+                test(f"{name}: {first!r}", isinstance(first, (jwt.PyJWKClientError, jwt.PyJWKSetError)) and not isinstance(first, jwt.InvalidTokenError))
+                for it in "bcd":
+                    got = outcome(decoded, client, token(it, by="a"))
+                    is_down = isinstance(got, (jwt.PyJWKClientError, jwt.PyJWKSetError)) and not isinstance(got, jwt.InvalidTokenError)
+                    test(f"{name}: {it} with {arguments}: {got!r}", is_down if "cache_jwk_set" in arguments else type(got) is jwt.PyJWKClientConnectionError)
+                    gives(CLAIMS, decoded, client, token("a"))
+                    raises(jwt.UnknownKeyError, decoded, client, token(None, by="a"), said="no kid")
+                test(f"{name}: one fetch", len(server.heads) == fetches + 1 or "cache_jwk_set" in arguments)
+    # the set that a client does not keep is fetched, and does not have the kid; then the server is down
+    client = Fetching(GOOD, GOOD, OSError("down"), cache_jwk_set=False)
+    client._pause = 20
+    gives(CLAIMS, decoded, client, token("a"))
+    for kind in (OSError, jwt.PyJWKClientConnectionError, jwt.PyJWKClientConnectionError):
+        raises(kind, decoded, client, token("b", by="a"), said="down")
+    gives(3, lambda: client.fetches)
+    # once a set can be fetched again, it decides
+    client = Fetching(GOOD, KeyError(), ROTATED)
+    gives(CLAIMS, decoded, client, token("a"))
+    for kind in (KeyError, jwt.PyJWKClientConnectionError, jwt.PyJWKClientConnectionError):
+        raises(kind, decoded, client, token("b"))
+    time.sleep(0.31)
+    gives(CLAIMS, decoded, client, token("b"))
+    raises(jwt.UnknownKeyError, decoded, client, token("a"))
+
+
 def nobody_listens():
     with socket.socket() as silent:
         silent.bind(("127.0.0.1", 0))
@@ -848,7 +884,7 @@ def threads_at_once():
             test(f"{client.fetches} fetches, not 2", client.fetches == 2)
 
 
-for step in (rotation, refetches, misbehaving, nobody_listens, no_signing_keys, an_old_set, a_thousand_keys, threads, caches, headers):
+for step in (rotation, refetches, misbehaving, outages, nobody_listens, no_signing_keys, an_old_set, a_thousand_keys, threads, caches, headers):
     step()
 for step in (redirects_to_another_scheme, threads_end, arguments, all_algorithms, apps):
     step()
