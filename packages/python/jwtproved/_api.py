@@ -131,7 +131,7 @@ def _by_secret(key: SigningKey, algorithm: str, header: bytes, claims: bytes) ->
 class PyJWT:
     """Issues and verifies tokens under options of its own, which each call may change."""
 
-    # whether `algorithms` may be one name, and a keyword that is near no argument is only warned of: as_jwt has a subclass
+    # whether `algorithms` may be one name, a time to sign a float, and a keyword that is near no argument is only warned of: as_jwt has a subclass
     _is_lenient = False
 
     def __init__(self, options: Options | None = None) -> None:
@@ -234,9 +234,10 @@ class PyJWT:
     ) -> str:
         """Returns the token of the claims, signed with a secret, or with a private key by the package `cryptography`.
 
-        Without an algorithm it is that of a PyJWK, or else HS256. The members of header and claims are in the order of names.
+        Without an algorithm it is that of a PyJWK, or else HS256. The members of header and claims are in the order of names. `exp`, `nbf`
+        and `iat` are ints of seconds since 1970-01-01 00:00:00 UTC, or datetimes; one without a time zone is UTC.
         """
-        claims = payload_of(payload, json_encoder)
+        claims = payload_of(payload, json_encoder, self._is_lenient)
         members = members_of(algorithm or (key.algorithm_name if isinstance(key, PyJWK) else "HS256"), headers)
         named = members["alg"]
         if not isinstance(named, str) or named not in ALGORITHMS:

@@ -2,15 +2,22 @@
 import calendar
 import datetime
 import json
+import math
 from collections.abc import Mapping
 from typing import Any
 
 from ._library import Refusal, text_of
-from ._rules import wrong_type
+from ._rules import exact_number, wrong_type
 from ._status import Status
 from .exceptions import InvalidTokenError
 
 Encoder = type[json.JSONEncoder] | None
+
+# the last second of the year 9999
+_LAST_TIME = 253402300799
+_UNITS = ((10**3, "milliseconds"), (10**6, "microseconds"), (10**9, "nanoseconds"))
+# what to write instead of a time of another type
+_INSTEAD = ((datetime.timedelta, "; add it to datetime.datetime.now(datetime.timezone.utc)"), (float, "; int() makes whole seconds of it"))
 
 _UNSIGNABLE: dict[int, str] = {
     Status.BAD_HEADER: "headers has a member of a wrong type",
@@ -57,19 +64,32 @@ def members_of(algorithm: Any, headers: Mapping[str, Any] | None) -> dict[str, A
     return members
 
 
-def payload_of(payload: Mapping[str, Any], encoder: Encoder = None) -> bytes:
-    """Returns the claims of a token that is issued; dates become whole seconds."""
+def payload_of(payload: Mapping[str, Any], encoder: Encoder = None, cuts: bool = False) -> bytes:
+    """Returns the claims of a token that is issued; dates become whole seconds, and if `cuts` also floats."""
     if not isinstance(payload, Mapping):
         raise TypeError("Expecting a mapping object, as JWT only supports JSON objects as payloads.")
-    claims = {name: _whole(value) if name in ("exp", "iat", "nbf") else value for name, value in payload.items()}
+    claims = {name: _time(name, value, cuts) if name in ("exp", "iat", "nbf") else value for name, value in payload.items()}
     return written("payload", claims, encoder)
 
 
-def _whole(value: Any) -> Any:
-    """Returns a time as whole seconds since 1970-01-01 00:00:00 UTC, if it is a date or a float."""
+def _time(name: str, value: Any, cuts: bool) -> int:
+    """Returns a time (RFC 7519 section 2) in whole seconds since 1970-01-01 00:00:00 UTC.
+
+    Raises TypeError for what is neither an int nor a datetime, and ValueError for a time before 1970 or after the year 9999.
+    """
     if isinstance(value, datetime.datetime):
-        return calendar.timegm(value.utctimetuple())
-    return int(value) if isinstance(value, float) and value == value and abs(value) < 2**63 else value
+        value = calendar.timegm(value.utctimetuple())
+    elif cuts and isinstance(value, float) and math.isfinite(value):
+        value = int(value)
+    if isinstance(value, bool) or not isinstance(value, int):
+        instead = next((it for kind, it in _INSTEAD if isinstance(value, kind)), "")
+        raise TypeError(f"{name} must be an int of seconds since 1970-01-01 UTC or a datetime, not {type(value).__name__}{instead}")
+    value = exact_number(value)
+    if not 0 <= value <= _LAST_TIME:
+        unit = next((it for factor, it in _UNITS if _LAST_TIME < value <= _LAST_TIME * factor), None)
+        looks = f", which looks like {unit}" if unit else ""
+        raise ValueError(f"{name} must be seconds since 1970-01-01 UTC, from 0 to {_LAST_TIME} (the year 9999), not {value}{looks}")
+    return int(value)
 
 
 def written(name: str, value: Mapping[str, Any], encoder: Encoder) -> bytes:

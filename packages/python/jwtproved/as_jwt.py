@@ -3,8 +3,8 @@
     import jwtproved.as_jwt
 
 Raises ImportError if another package of this name was imported already. The classes and calls of `jwt` also take what programs over PyJWT
-pass: the name of one algorithm, as in `algorithms="RS256"`, is a list of it, and a keyword that is near no argument is only warned of.
-Those of `jwtproved` stay as they are.
+pass: the name of one algorithm, as in `algorithms="RS256"`, is a list of it, a time to sign may be a float, which is cut to whole seconds,
+and a keyword that is near no argument is only warned of. Those of `jwtproved` stay as they are.
 """
 import importlib
 import importlib.abc

@@ -365,6 +365,12 @@ for call in (*own, *its, jwtproved.api_jwt.decode, jwtproved.api_jws.decode):
         assert (got is TypeError) == (call not in its), (call, more)
         assert [it.category.__name__ for it in seen] == ["RemovedInPyjwt3Warning"] * ("foo" in more and call in its), (call, seen)
         assert all(it.filename == "<string>" for it in seen)
+assert jwt.decode(jwt.encode({"iat": 5.9}, "secret"), "secret", ["HS256"]) == {"iat": 5}
+try:
+    jwtproved.encode({"iat": 5.9}, "secret")
+    raise AssertionError
+except TypeError as error:
+    assert "int()" in str(error), error
 for call in its:
     for name in ("isuer", "iss", "aud", "sub", "audiance", "leway", "algorithm", "require", "verify_exp", "now", "nonce", "max_token_length"):
         try:

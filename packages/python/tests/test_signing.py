@@ -107,7 +107,7 @@ def odd_claims():
     """The token is verified, whatever its claims and header say."""
     at(NOW)
     unchecked = {"verify_signature": False}
-    for claims in ({}, {"exp": 0, "nbf": 2**63, "iat": "x", "aud": 5, "iss": [], "sub": None}, {"aud": ["a"]}, {"text": "x" * 2**20}):
+    for claims in ({}, {"exp": 0, "nbf": 253402300799, "aud": 5, "iss": [], "sub": None}, {"aud": ["a"]}, {"text": "x" * 2**20}):
         gives(claims, lambda claims=claims: jwt.decode(jwt.encode(claims, ED, "EdDSA"), options=unchecked))
     moment = datetime.datetime.fromtimestamp(NOW + 5, tz=datetime.timezone.utc)
     gives({"exp": NOW + 5}, lambda: jwt.decode(jwt.encode({"exp": moment}, ED, "EdDSA"), ED.public_key(), ["EdDSA"]))
