@@ -7,7 +7,7 @@ from typing import Any, Never
 
 from . import _refusals, _signing
 from ._encoding import header_of, members_of, payload_of, unsignable, written
-from ._keys import Key, PyJWK, SigningKey, material_known, material_of
+from ._keys import Key, PyJWK, SigningKey, bytes_of, is_private, material_known, material_of
 from ._library import ALGORITHMS, Refusal, answer, library, slices
 from ._parts import parts_of
 from ._rules import DEFAULTS, Moment, Names, Rules, arguments_of, check_keywords, exact_str, names_nearest, options_of, rules_of
@@ -115,7 +115,13 @@ def _signs(algorithm: str) -> bool:
 
 def _by_secret(key: SigningKey, algorithm: str, header: bytes, claims: bytes) -> str:
     """Returns the token that the library signs with a secret, or with a JSON Web Key of one."""
-    material = material_of(key)
+    try:
+        material = material_of(key)
+    except (InvalidKeyError, TypeError):
+        if is_private(key) or isinstance(key, (str, bytes, bytearray, memoryview)) and b"PRIVATE KEY-----" in bytes_of("key", key):
+            why = f'{algorithm} signs with a secret, and this is a private key: give its algorithm, such as algorithm="RS256"'
+            raise InvalidKeyError(why) from None
+        raise
     no_secret = InvalidKeyError(f"the key is not a secret, and {algorithm} signs with one")
     if material.kind == "set" or material.algorithm not in (None, algorithm):
         raise no_secret

@@ -7,7 +7,7 @@ import json
 import re
 from typing import Any
 
-from ._keys import material_of_public
+from ._keys import is_private, material_of_public
 from ._library import Refusal, algorithms_of, text_of
 from .exceptions import InvalidKeyError
 
@@ -132,11 +132,6 @@ def of_any_pem(text: bytes) -> Any:
         return load_pem_public_key(text)
     except (ValueError, UnsupportedAlgorithm):
         raise InvalidKeyError("Could not parse the provided public key.") from None
-
-
-def is_private(key: Any) -> bool:
-    """Returns whether this is a private key of the package, or has the calls of one, such as a key in a KMS."""
-    return callable(getattr(key, "sign", None)) and callable(getattr(key, "public_key", None))
 
 
 def _part(raw: bytes) -> str:

@@ -7,7 +7,7 @@ from typing import Any
 
 from . import _cryptography
 from ._encoding import unsignable
-from ._keys import Material, PyJWK, PyJWKSet, bytes_of, material_of, material_of_public
+from ._keys import Material, PyJWK, PyJWKSet, bytes_of, is_private, material_of, material_of_public
 from ._library import Refusal, algorithms_of, answer, library, number_of, slices
 from ._rules import wrong_type
 from ._signatures import ecdsa_signature, is_signed
@@ -98,7 +98,7 @@ def signer_of(key: Any, algorithm: str) -> Signer:
         return _of_pem(text, algorithm)
     if isinstance(key, (dict, PyJWK, PyJWKSet)):
         return _of_jwk(material_of(key), algorithm)
-    if _cryptography.is_private(key):
+    if is_private(key):
         return _of_object(key, algorithm)
     if hasattr(key, "public_bytes"):
         raise InvalidKeyError(f"the key is public, and {algorithm} signs with the private one")

@@ -8,7 +8,7 @@ from collections.abc import Callable
 from typing import Any, ClassVar, NoReturn
 
 from . import _cryptography
-from ._keys import Material, bytes_of, material_of, material_of_public
+from ._keys import Material, PyJWK, bytes_of, is_private, material_of, material_of_public
 from ._library import FAMILIES, algorithms_of
 from ._rules import wrong_type
 from ._signatures import is_signed
@@ -90,7 +90,13 @@ class Algorithm(ABC):
         return self.name
 
     def _material(self, key: Any) -> Material:
-        return material_of_public(key.public_key() if _cryptography.is_private(key) else key)
+        if isinstance(key, PyJWK):
+            return key._material
+        return material_of_public(key.public_key() if is_private(key) else key)
+
+    def _of_jwk(self, key: Any) -> Any:
+        """Returns the key of a PyJWK, and any other as it is."""
+        return self.from_jwk(key._jwk_data) if isinstance(key, PyJWK) else key
 
     @staticmethod
     @abstractmethod
@@ -137,6 +143,7 @@ class HMACAlgorithm(Algorithm):
         self.name = {self.SHA256: "HS256", self.SHA384: "HS384", self.SHA512: "HS512"}.get(hash_alg)
 
     def prepare_key(self, key: Any) -> bytes:
+        key = self._of_jwk(key)
         if not isinstance(key, (str, bytes, bytearray, memoryview)):
             raise TypeError("Expected a string value")
         material = material_of(bytes_of("key", key))
@@ -144,8 +151,8 @@ class HMACAlgorithm(Algorithm):
             raise InvalidKeyError("the key is public, and is no secret of HMAC")
         return material.text
 
-    def sign(self, msg: bytes, key: bytes) -> bytes:
-        return hmac.new(key, msg, self.hash_alg).digest()
+    def sign(self, msg: bytes, key: Any) -> bytes:
+        return hmac.new(self._of_jwk(key), msg, self.hash_alg).digest()
 
     def _material(self, key: Any) -> Material:
         return material_of(key)
@@ -165,18 +172,20 @@ class _OfCryptography(Algorithm):
     _family: tuple[str, ...] = ()
 
     def prepare_key(self, key: Any) -> Any:
-        """Returns a key of `cryptography` as it is, and reads one in PEM, which is public or private."""
+        """Returns a key of `cryptography` as it is, and reads a PyJWK, or one in PEM, which is public or private."""
         _cryptography.need(self.name or "this algorithm")
+        key = self._of_jwk(key)
         if isinstance(key, (str, bytes, bytearray, memoryview)):
             key = _cryptography.of_any_pem(bytes_of("key", key))
-        elif not _cryptography.is_private(key) and not hasattr(key, "public_bytes"):
+        elif not is_private(key) and not hasattr(key, "public_bytes"):
             raise wrong_type("key", "a key in PEM, or one of cryptography", key)
         if not set(algorithms_of(self._material(key).text)) & set(self._family):
             raise InvalidKeyError(f"the key is for none of {', '.join(self._family)}, or does not serve")
         return key
 
     def sign(self, msg: bytes, key: Any) -> bytes:
-        if not _cryptography.is_private(key):
+        key = self._of_jwk(key)
+        if not is_private(key):
             raise InvalidKeyError("the key is public, and signing needs the private one")
         return self._signs(key)(msg)
 

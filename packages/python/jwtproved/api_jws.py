@@ -75,7 +75,7 @@ class PyJWS:
         made = self.get_algorithm_by_name(members["alg"])
         header = base64url_encode(json.dumps(members, separators=(",", ":"), cls=json_encoder, sort_keys=sort_headers).encode())
         message = b"%s.%s" % (header, payload if is_detached else base64url_encode(payload))
-        prepared = made.prepare_key(made.from_jwk(key._jwk_data) if isinstance(key, PyJWK) else key)
+        prepared = made.prepare_key(key)
         signature = made.sign(message, prepared)
         if made.name is not None and not made.verify(message, prepared, signature):
             raise InvalidKeyError("the public half of the key doesn't verify the signature that was made: the key is damaged, or the signer failed")

@@ -262,6 +262,66 @@ def algorithms_by_name():
     raises(NotImplementedError, made["EdDSA"].compute_hash_digest, b"abc")
 
 
+def keys_of_jwks():
+    """The objects of the module `algorithms` take a PyJWK, which is the `key` of itself."""
+    for name, made in algorithms.get_default_algorithms().items():
+        if name == "none":
+            continue
+        known = JWKS.get(name, {"kty": "oct", "k": part(SECRET.encode())})
+        public = {it: known[it] for it in known if name.startswith("HS") or it in ("kty", "crv", "n", "e", "x", "y")}
+        secret = SECRET.encode() if name.startswith("HS") else KEYS[name]
+        signature = made.sign(b"any bytes", secret)
+        for it in (public, known):
+            gives(True, lambda: made.verify(b"any bytes", jwt.PyJWK(it).key, signature))
+            gives(False, lambda: made.verify(b"any bytes", jwt.PyJWK(it).key, changed(signature)))
+            gives(False, lambda: made.verify(b"other bytes", jwt.PyJWK(it).key, signature))
+        gives(True, lambda: made.verify(b"any bytes", secret, made.sign(b"any bytes", jwt.PyJWK(known).key)))
+        gives(True, lambda: made.verify(b"any bytes", made.prepare_key(jwt.PyJWK(public).key), signature))
+        if not name.startswith("HS"):
+            raises(jwt.InvalidKeyError, made.sign, b"any bytes", jwt.PyJWK(public).key, said="public")
+            raises(jwt.InvalidKeyError, made.prepare_key, jwt.PyJWK({"kty": "oct", "k": part(SECRET.encode())}).key)
+        other = jwt.PyJWK({"kty": "oct", "k": part(SECRET.encode()), "alg": "HS512" if name == "HS256" else "HS256"})
+        raises(jwt.InvalidKeyError, made.verify, b"any bytes", other.key, signature, said=name)
+    # as social-auth-core verifies, with the algorithm of the key
+    for name in ("RS256", "ES256", "ES384", "EdDSA"):
+        key, token = jwt.PyJWK({**JWKS[name], "alg": name}), jwt.encode(CLAIMS, KEYS[name], name)
+        message, _, last = token.rpartition(".")
+        gives(True, key.Algorithm.verify, message.encode(), key.key, base64.urlsafe_b64decode(last + "=="))
+
+
+def dicts_that_change():
+    """A PyJWK is the key that its dict was."""
+    at(NOW)
+    for name, known in JWKS.items():
+        given = dict(known, kid="a", use="sig")
+        key, token = jwt.PyJWK(given), jwt.encode(CLAIMS, KEYS[name], name)
+        given.update(kid="b", use="enc", d="AA", n="AA", x="AA")
+        gives(("a", "sig"), lambda: (key.key_id, key.public_key_use))
+        gives(CLAIMS, jwt.decode, token, key, [name])
+        gives(CLAIMS, lambda: jwt.decode(jwt.encode(CLAIMS, key, name), KEYS[name].public_key(), [name]))
+        gives(b"a", lambda: jwt.PyJWS().decode(jwt.PyJWS().encode(b"a", key, name), KEYS[name].public_key(), [name]))
+    given = {"kty": "oct", "k": part(SECRET.encode()), "key_ops": ["sign"]}
+    key = jwt.PyJWK(given)
+    given["key_ops"].append("other")
+    given["k"] = part(b"another secret")
+    gives(b"a", lambda: jwt.PyJWS().decode(jwt.PyJWS().encode(b"a", key), SECRET, ["HS256"]))
+    gives(CLAIMS, lambda: jwt.decode(jwt.encode(CLAIMS, key), SECRET, ["HS256"]))
+    gives(["sign"], lambda: key._jwk_data["key_ops"])
+
+
+def private_keys():
+    """A private key where a public one is expected, or a secret, is an error that says so."""
+    for name, key in KEYS.items():
+        token = jwt.encode({}, key, name)
+        for call in (lambda it: jwt.decode(token, it, [name]), lambda it: jwt.Verifier(it, [name]), lambda it: jwt.verify(b"", b"", it, name)):
+            raises(TypeError, call, key, said="key is a private key, ")
+            raises(TypeError, call, key, said="pass the public key")
+            raises(jwt.InvalidKeyError, call, pem(key), said="it is a private key; pass the public key")
+            raises(jwt.InvalidKeyError, call, pem(key).decode(), said="it is a private key; pass the public key")
+        for it in (key, pem(key), pem(key).decode(), bytearray(pem(key))):
+            raises(jwt.InvalidKeyError, jwt.encode, {}, it, said='this is a private key: give its algorithm, such as algorithm="RS256"')
+
+
 def threads():
     """One key signs in many threads."""
     at(NOW)
@@ -283,6 +343,8 @@ def without_cryptography():
 
 
 test("the tests have a JSON Web Key of each kind", {it["kty"] for it in JWKS.values()} == {"RSA", "EC", "OKP"} and json.dumps(JWKS))
-for step in (all_algorithms, odd_claims, public_keys, signers_that_fail, slips, algorithms_by_name, threads, without_cryptography):
+for step in (all_algorithms, odd_claims, public_keys, signers_that_fail, slips, algorithms_by_name, keys_of_jwks, dicts_that_change, private_keys):
+    step()
+for step in (threads, without_cryptography):
     step()
 finish("signing")
