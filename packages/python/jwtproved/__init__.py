@@ -5,6 +5,7 @@ from . import api_jwk, api_jwt, jwks_client
 from ._api import PyJWT, decode, decode_complete, encode, get_unverified_header
 from ._client import PyJWKClient
 from ._keys import PyJWK, PyJWKSet, thumbprint
+from ._library import no_fork as _no_fork
 from ._signatures import (
     SignedPart,
     SigningInput,
@@ -54,10 +55,11 @@ _OF_API_JWS = ("PyJWS", "get_algorithm_by_name", "register_algorithm", "unregist
 def __getattr__(name: str) -> Any:
     import importlib
 
-    if name in _MODULES:
-        return importlib.import_module(f"{__name__}.{name}")
-    if name in _OF_API_JWS:
-        return getattr(importlib.import_module(f"{__name__}.api_jws"), name)
+    with _no_fork:
+        if name in _MODULES:
+            return importlib.import_module(f"{__name__}.{name}")
+        if name in _OF_API_JWS:
+            return getattr(importlib.import_module(f"{__name__}.api_jws"), name)
     raise AttributeError(f"module {__name__!r} has no attribute {name!r}")
 
 

@@ -1,15 +1,9 @@
 """The calls of the library that a token needs, by ctypes. If the wheel was built with Python's headers, those of _fast.c take their place."""
 import ctypes
-import os
-import threading
 from typing import Any
 
-from ._library import Handle, check, library, slices
+from ._library import Handle, check, library, no_fork, slices
 from ._status import Status
-
-# a finalizer may verify while this thread has the lock, and a child has to find it free
-_sharing = threading.RLock()
-os.register_at_fork(before=_sharing.acquire, after_in_parent=_sharing.release, after_in_child=_sharing.release)
 
 
 def is_issued(issued_at: int, leeway: int, now: int) -> bool:
@@ -45,7 +39,7 @@ class Handles:
             return self._idle.pop()
         except IndexError:
             made = _Owned()
-            with _sharing:
+            with no_fork:
                 check(library.jwt_verifier_share(self._first, made))
             return made
 

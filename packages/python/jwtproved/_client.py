@@ -13,6 +13,7 @@ from urllib.parse import urlsplit
 
 from ._api import get_unverified_header
 from ._keys import PyJWK, PyJWKSet
+from ._library import no_fork
 from ._refusals import unknown
 from ._rules import exact_str, names_nearest, wrong_type
 from .exceptions import PyJWKClientConnectionError, PyJWKClientError
@@ -207,7 +208,8 @@ class PyJWKClient:
     def fetch_data(self) -> Any:
         """Fetches the set, and returns it as the server's JSON. Raises PyJWKClientConnectionError, or PyJWKClientError."""
         # what it imports takes long to load, and most programs fetch nothing
-        from . import _download
+        with no_fork:
+            from . import _download
 
         try:
             return json.loads(_download.body(self.uri, self.headers, self.timeout, self.ssl_context))
@@ -289,7 +291,8 @@ class PyJWKClient:
 
     def _renewed(self, kept: _Sets, last: PyJWKSet) -> PyJWKSet:
         """Returns the last set, while a thread fetches the next one. One that is overdue is used only once a fetch has failed."""
-        from concurrent.futures import Future, wait
+        with no_fork:
+            from concurrent.futures import Future, wait
 
         mine: "Future[PyJWKSet] | None" = None
         with self._lock:
@@ -324,14 +327,16 @@ class PyJWKClient:
             self._warn(error)
 
     def _warn(self, error: Exception) -> None:
-        import logging
+        with no_fork:
+            import logging
 
         logging.getLogger("jwtproved").warning("the last set of keys of %s is used: %s", self.uri, error)
 
     def _fetched(self, seeks: bool = False) -> PyJWKSet:
         """Returns a set that is fetched. Threads that ask for it at the same time get the same. One that `seeks` an unknown kid gets the
         last set during the pause."""
-        from concurrent.futures import Future
+        with no_fork:
+            from concurrent.futures import Future
 
         with self._lock:
             under_way = self._under_way

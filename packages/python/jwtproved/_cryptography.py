@@ -3,23 +3,58 @@
 The library reads public keys alone: it tells of which kind a JSON Web Key is, and what more a private one has is read and written here.
 """
 import base64
+import functools
 import json
 import re
 from typing import Any
 
 from ._keys import is_private, material_of_public
-from ._library import Refusal, algorithms_of, text_of
+from ._library import Refusal, algorithms_of, before_fork, no_fork, text_of
+from ._rules import Call
 from .exceptions import InvalidKeyError
 
 _BASE64URL = re.compile(r"[A-Za-z0-9_-]*")
 
 
 def need(what: str) -> None:
-    """Raises NotImplementedError if the package is not installed."""
+    """Loads the package. Raises NotImplementedError if it is not installed."""
     try:
-        import cryptography  # noqa: F401
+        with no_fork:
+            import cryptography  # noqa: F401
     except ImportError:
         raise NotImplementedError(f"{what} needs the package cryptography, which `pip install 'jwtproved[crypto]'` brings") from None
+    _load()
+
+
+@functools.cache
+def _load() -> None:
+    """Imports what the calls below import, and what the package imports for its first signature."""
+    with no_fork:
+        from cryptography import exceptions  # noqa: F401
+        from cryptography.hazmat.backends import default_backend
+        from cryptography.hazmat.primitives import hashes, serialization  # noqa: F401
+        from cryptography.hazmat.primitives.asymmetric import ec, ed25519, padding, rsa  # noqa: F401
+
+        default_backend()
+        before_fork.append(_sign)
+
+
+def _sign() -> None:
+    """Signs once. OpenSSL locks what it keeps for threads when one ends, and when one uses it for the first time, as that of a child may."""
+    from cryptography.hazmat.primitives.asymmetric.ed25519 import Ed25519PrivateKey
+
+    Ed25519PrivateKey.generate().sign(b"")
+
+
+def _without_forks(call: Call) -> Call:
+    """Has a fork wait until a call that reads a key has ended."""
+
+    @functools.wraps(call)
+    def held(*arguments: Any) -> Any:
+        with no_fork:
+            return call(*arguments)
+
+    return held  # type: ignore[return-value]
 
 
 def octets(jwk: dict[str, Any], name: str) -> bytes:
@@ -92,6 +127,7 @@ def served(jwk: dict[str, Any]) -> tuple[str, ...]:
         raise InvalidKeyError(f"the key can't be read: {text_of(refusal.status)}") from None
 
 
+@_without_forks
 def of_jwk(jwk: dict[str, Any]) -> Any:
     """Returns the private key of a JSON Web Key that has d (RFC 7518 section 6, RFC 8037 section 2), and of another one the public key."""
     reader = next((_READERS[it] for it in served(jwk) if it in _READERS), None)
@@ -104,6 +140,7 @@ def of_jwk(jwk: dict[str, Any]) -> Any:
         raise InvalidKeyError("the numbers of the key do not fit each other") from None
 
 
+@_without_forks
 def of_pem(text: bytes) -> Any:
     """Returns the private key of a text in PEM."""
     from cryptography.exceptions import UnsupportedAlgorithm
@@ -119,6 +156,7 @@ def of_pem(text: bytes) -> Any:
         raise InvalidKeyError(f"the key {why}") from None
 
 
+@_without_forks
 def of_any_pem(text: bytes) -> Any:
     """Returns the private or public key of a text in PEM, or the public one of a line of SSH."""
     from cryptography.exceptions import UnsupportedAlgorithm

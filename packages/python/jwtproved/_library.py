@@ -2,6 +2,8 @@
 import ctypes
 import functools
 import os
+import threading
+from collections.abc import Callable
 from typing import Any
 
 from ._status import Status
@@ -19,6 +21,21 @@ KEY_TYPES = {it: key_type for key_type, family in zip(("oct", "RSA", "EC", "OKP"
 
 # the bytes that the prepared keys of a verifier may take: those of the library, or so few that it prepares none, for one token
 PREPARED, PREPARE_NOTHING = 0, 1
+
+# A fork waits for the thread that holds it, such as one that imports a module, or reads a key by OpenSSL: the child has no such thread, and
+# would wait for what that thread has locked for ever. A finalizer may verify while its thread holds it.
+no_fork = threading.RLock()
+# what the thread that forks does first
+before_fork: list[Callable[[], None]] = []
+
+
+def _before_fork() -> None:
+    no_fork.acquire()
+    for call in before_fork:
+        call()
+
+
+os.register_at_fork(before=_before_fork, after_in_parent=no_fork.release, after_in_child=no_fork.release)
 
 _FILE = "libjwtproved.so"
 PATH = os.environ.get("JWTPROVED_LIBRARY") or os.path.join(os.path.dirname(os.path.abspath(__file__)), _FILE)

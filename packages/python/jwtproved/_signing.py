@@ -7,15 +7,39 @@ from typing import Any
 
 from . import _cryptography
 from ._encoding import unsignable
-from ._keys import Material, PyJWK, PyJWKSet, bytes_of, is_private, material_of, material_of_public
-from ._library import Refusal, algorithms_of, answer, library, number_of, slices
+from ._keys import Material, PyJWK, PyJWKSet, bytes_of, is_of_cryptography, is_private, material_of, material_of_public
+from ._library import Refusal, algorithms_of, answer, library, no_fork, number_of, slices
 from ._rules import wrong_type
 from ._signatures import ecdsa_signature, is_signed
 from .exceptions import InvalidKeyError
 
 
+# the algorithms with which cryptography has signed
+_used: set[str] = set()
+
+
+def _made_first(sign: Callable[[bytes], bytes], algorithm: str) -> Callable[[bytes], bytes]:
+    """Returns a call that signs, at first without a fork meanwhile: cryptography and OpenSSL take locks when they sign for the first time."""
+
+    def signed(message: bytes) -> bytes:
+        if algorithm in _used:
+            return sign(message)
+        with no_fork:
+            made = sign(message)
+        _used.add(algorithm)
+        return made
+
+    return signed
+
+
 def signs(private: Any, algorithm: str) -> Callable[[bytes], bytes]:
     """Returns what signs a message with a private key that is of the algorithm's kind."""
+    sign = _signs(private, algorithm)
+    # another signer, such as a KMS, may take long, or fork
+    return _made_first(sign, algorithm) if is_of_cryptography(private) else sign
+
+
+def _signs(private: Any, algorithm: str) -> Callable[[bytes], bytes]:
     from cryptography.hazmat.primitives import hashes
     from cryptography.hazmat.primitives.asymmetric import ec, padding
 

@@ -5,6 +5,7 @@ import concurrent.futures
 import datetime
 import hashlib
 import json
+import subprocess
 import sys
 import textwrap
 import traceback
@@ -330,6 +331,48 @@ def threads():
     test("each thread has its own token", got == list(range(80)))
 
 
+FORKING = """
+import os, signal, sys, threading, time
+sys.path[:] = {path}
+if {is_by_ctypes}:
+    sys.modules["jwtproved._fast"] = None
+import jwtproved as jwt
+key, algorithm = {key!r}, {algorithm!r}
+thread = threading.Thread(target=lambda: {call})
+thread.start()
+children = []
+while thread.is_alive() or not children:
+    time.sleep({pause})
+    child = os.fork()
+    if child == 0:
+        # ends a child that waits for a lock
+        signal.alarm(20)
+        {call}
+        os._exit(0)
+    children.append(child)
+thread.join()
+sys.exit(any([os.waitpid(it, 0)[1] for it in children]))
+"""
+
+
+def forks_at_first():
+    """A child that is forked while a thread signs for the first time, and imports cryptography, signs too."""
+    calls = {
+        "jwt.encode({}, key, algorithm)": [(pem(RSA), "RS256"), (pem(ED).decode(), "EdDSA"), (JWKS["ES256"], "ES256")],
+        'jwt.PyJWS().encode(b"a", key, algorithm)': [(pem(P384), "ES384")],
+        "jwt.PyJWK(key).Algorithm.prepare_key(jwt.PyJWK(key))": [(JWKS["RS256"], "RS256")],
+    }
+    begun = []
+    for call, keys in calls.items():
+        for key, algorithm in keys:
+            for pause in (0, 0.02):
+                about = {"path": sys.path, "is_by_ctypes": sys.modules["jwtproved._fast"] is None, "call": call, "key": key, "algorithm": algorithm}
+                program = FORKING.format(**about, pause=pause)
+                begun.append((f"{call} {algorithm} {pause}", subprocess.Popen([sys.executable, "-c", program], stderr=subprocess.PIPE, text=True)))
+    for name, it in begun:
+        test(f"forks: {name}: {it.communicate()[1]}", it.returncode == 0)
+
+
 def without_cryptography():
     """Without cryptography the error names what brings it, and secrets sign."""
     found = sys.modules["cryptography"]
@@ -345,6 +388,6 @@ def without_cryptography():
 test("the tests have a JSON Web Key of each kind", {it["kty"] for it in JWKS.values()} == {"RSA", "EC", "OKP"} and json.dumps(JWKS))
 for step in (all_algorithms, odd_claims, public_keys, signers_that_fail, slips, algorithms_by_name, keys_of_jwks, dicts_that_change, private_keys):
     step()
-for step in (threads, without_cryptography):
+for step in (threads, forks_at_first, without_cryptography):
     step()
 finish("signing")
