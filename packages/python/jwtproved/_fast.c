@@ -78,6 +78,7 @@ static enum jwt_status make(const struct state *state, const struct making *it, 
 static PyObject *handles_new(PyTypeObject *type, PyObject *arguments, PyObject *names) {
     struct state *state = PyType_GetModuleState(type);
     struct making it = {0};
+    PyThreadState *thread;
     Handles *self;
     uint32_t status;
 
@@ -99,7 +100,10 @@ static PyObject *handles_new(PyTypeObject *type, PyObject *arguments, PyObject *
     }
     self->state = state;
     self->is_of_secret = strcmp(it.kind, "secret") == 0;
+    /* other threads go on while keys are prepared */
+    thread = PyEval_SaveThread();
     status = make(state, &it, &self->first);
+    PyEval_RestoreThread(thread);
     if (status != JWT_OK) {
         refuse(state, status, 0);
         Py_DECREF(self);

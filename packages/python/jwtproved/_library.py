@@ -19,8 +19,9 @@ ALGORITHMS = tuple(it for family in FAMILIES for it in family)
 # the type of the keys that serve an algorithm (RFC 7518 section 6.1, RFC 8037 section 2)
 KEY_TYPES = {it: key_type for key_type, family in zip(("oct", "RSA", "EC", "OKP"), FAMILIES) for it in family}
 
-# the bytes that the prepared keys of a verifier may take: those of the library, or so few that it prepares none, for one token
-PREPARED, PREPARE_NOTHING = 0, 1
+# the bytes that the prepared keys of a verifier may take: those of the library, those of a set for `decode`, which is often one that was
+# fetched and may have many keys, or so few that it prepares none, for one token
+PREPARED, PREPARED_OF_SET, PREPARE_NOTHING = 0, 2**20, 1
 
 # A fork waits for the thread that holds it, such as one that imports a module, or reads a key by OpenSSL: the child has no such thread, and
 # would wait for what that thread has locked for ever. A finalizer may verify while its thread holds it.

@@ -8,7 +8,7 @@ from typing import Any
 from . import _refusals
 from ._handles import Handles
 from ._keys import Key, Material, material_of
-from ._library import ALGORITHMS, FAMILIES, PREPARE_NOTHING, PREPARED, Refusal, algorithms_of, parts
+from ._library import ALGORITHMS, FAMILIES, PREPARE_NOTHING, PREPARED, PREPARED_OF_SET, Refusal, algorithms_of, parts
 from ._parts import parts_of
 from ._rules import Further, Moment, Names, Rules, exact_number, exact_str, names_nearest, options_of, rules_of, wrong_type
 from ._status import Status
@@ -101,7 +101,7 @@ class Checker:
             # two threads may both come to 0
             left = self._tokens_unprepared = max(self._tokens_unprepared - 1, 0)
             if not left:
-                self._make(PREPARED)
+                self._make(PREPARED_OF_SET if self._source[0].kind == "set" else PREPARED)
         try:
             said = self._only(token, now) if self._only else self._said(token, now)
         except Refusal as refusal:
