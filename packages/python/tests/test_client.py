@@ -3,6 +3,8 @@ import base64
 import concurrent.futures
 import contextlib
 import contextvars
+import functools
+import io
 import json
 import logging
 import math
@@ -14,6 +16,7 @@ import sys
 import tempfile
 import threading
 import time
+import unittest.mock
 import urllib.error
 import urllib.request
 
@@ -593,6 +596,39 @@ def redirects_to_another_scheme():
         test(f"from {before} to {after}: {got}", is_followed != isinstance(got, urllib.error.URLError))
 
 
+def mocks():
+    """A test's mock of urllib.request.urlopen takes the place of the server. A wrapper of Python's own function takes it of none."""
+    uri = "https://login.example/keys"
+    text = GOOD.decode()
+    response = unittest.mock.MagicMock()
+    response.__enter__.return_value.read.return_value = text
+    for given in ({"return_value": response}, {"side_effect": lambda *_, **__: io.BytesIO(GOOD)}, {"return_value": response, "autospec": True}):
+        with unittest.mock.patch("urllib.request.urlopen", **given) as urlopen:
+            client = jwt.PyJWKClient(uri, headers={"X-a": "b"}, timeout=7)
+            gives(CLAIMS, decoded, client, token("a"))
+            gives(1, lambda: urlopen.call_count)
+            asked, words = urlopen.call_args
+            gives((uri, "b", {"timeout": 7, "context": None}), lambda: (asked[0].full_url, asked[0].get_header("X-a"), words))
+            raises(jwt.InvalidSignatureError, decoded, client, token("a", by="b"))
+    for error, said in ((urllib.error.URLError("down"), "down"), (TimeoutError("down"), "timed out")):
+        with unittest.mock.patch("urllib.request.urlopen", side_effect=error):
+            raises(jwt.PyJWKClientConnectionError, decoded, jwt.PyJWKClient(uri), token("a"), said=said)
+    with unittest.mock.patch("urllib.request.urlopen", lambda *_, **__: io.BytesIO(GOOD + b" " * 2**20)):
+        raises(jwt.PyJWKClientConnectionError, decoded, jwt.PyJWKClient(uri), token("a"), said="more than 1048576 bytes")
+    with unittest.mock.patch("urllib.request.urlopen", lambda *_, **__: time.sleep(5)):
+        raises(jwt.PyJWKClientConnectionError, decoded, jwt.PyJWKClient(uri, timeout=0.1), token("a"), said="timed out")
+    real = urllib.request.urlopen
+
+    @functools.wraps(real)
+    def watched(*arguments, **words):
+        return real(*arguments, **words)
+
+    with unittest.mock.patch("urllib.request.urlopen", watched), serving(redirects("ftp://127.0.0.1/keys")) as (server, client):
+        raises(jwt.PyJWKClientConnectionError, decoded, client, token("a"), said="a redirect from http to ftp")
+        server.answer = says(GOOD)
+        gives(CLAIMS, decoded, client, token("a"))
+
+
 def threads_end():
     """A fetch that takes too long is cut, though the server goes on."""
     with serving(dribbles(head(100000)), timeout=0.1) as (_, client):
@@ -886,7 +922,7 @@ def threads_at_once():
 
 for step in (rotation, refetches, misbehaving, outages, nobody_listens, no_signing_keys, an_old_set, a_thousand_keys, threads, caches, headers):
     step()
-for step in (redirects_to_another_scheme, threads_end, arguments, all_algorithms, apps):
+for step in (redirects_to_another_scheme, mocks, threads_end, arguments, all_algorithms, apps):
     step()
 for step in (puts, fails_by_itself, chooses, without_kids, threads_at_once, stale_sets, forks):
     step()
