@@ -6,7 +6,11 @@ class PyJWTError(Exception):
 
 
 class InvalidTokenError(PyJWTError):
-    """The token is refused. `failed_test` is the name of the test that failed (docs/RULES.md), for a log, or None if it is not known."""
+    """The token is refused. `failed_test` is the name of the test of the library that failed (docs/RULES.md), for a log.
+
+    It is None if this package's own code rejects the token: PyJWKClient, or a check of `iat`, `jti`, `sub` that is no string, `strict_aud` or
+    a required claim that the library does not know.
+    """
 
     failed_test: str | None = None
 
