@@ -275,7 +275,7 @@ class PyJWKClient:
         return found
 
     def _not_found(self, kid: str) -> PyJWKClientError:
-        """Returns the error for a kid that is not in the last set, in which case a set that can't be fetched may have it."""
+        """Returns the error for a kid that is not in the last set. If the last fetch failed, a later set may have the kid."""
         if self._failure is not None:
             return PyJWKClientConnectionError(f"the key set can't be fetched, and the last one has no such kid: {self._failure}")
         return unknown(kid)

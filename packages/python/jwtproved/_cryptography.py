@@ -40,7 +40,7 @@ def _load() -> None:
 
 
 def _sign() -> None:
-    """Signs once. OpenSSL locks what it keeps for threads when one ends, and when one uses it for the first time, as that of a child may."""
+    """Signs once in this thread. When a thread first uses OpenSSL, or ends, OpenSSL takes a lock, which a child might find locked for ever."""
     from cryptography.hazmat.primitives.asymmetric.ed25519 import Ed25519PrivateKey
 
     Ed25519PrivateKey.generate().sign(b"")

@@ -85,7 +85,7 @@ class _Redirects(urllib.request.HTTPRedirectHandler):
 
 
 def _replacement() -> Any:
-    """Returns what a program has put in place of `urllib.request.urlopen`, such as a test's mock, or None. A wrapper of Python's own is none."""
+    """Returns what a program has put in place of `urllib.request.urlopen`, such as a test's mock. Returns None for Python's own, also wrapped."""
     found: Any = urllib.request.urlopen
     while hasattr(found, "__wrapped__"):
         found = found.__wrapped__

@@ -19,8 +19,8 @@ ALGORITHMS = tuple(it for family in FAMILIES for it in family)
 # the type of the keys that serve an algorithm (RFC 7518 section 6.1, RFC 8037 section 2)
 KEY_TYPES = {it: key_type for key_type, family in zip(("oct", "RSA", "EC", "OKP"), FAMILIES) for it in family}
 
-# the bytes that the prepared keys of a verifier may take: those of the library, those of a set for `decode`, which is often one that was
-# fetched and may have many keys, or so few that it prepares none, for one token
+# the most bytes of prepared keys: the library's default, a bound for sets in `decode`, since fetched sets may have many keys, and so few
+# that no key is prepared, for one token
 PREPARED, PREPARED_OF_SET, PREPARE_NOTHING = 0, 2**20, 1
 
 # A fork waits for the thread that holds it, such as one that imports a module, or reads a key by OpenSSL: the child has no such thread, and

@@ -14,12 +14,12 @@ from ._signatures import ecdsa_signature, is_signed
 from .exceptions import InvalidKeyError
 
 
-# the algorithms with which cryptography has signed
+# algorithms that have signed once, by cryptography
 _used: set[str] = set()
 
 
 def _made_first(sign: Callable[[bytes], bytes], algorithm: str) -> Callable[[bytes], bytes]:
-    """Returns a call that signs, at first without a fork meanwhile: cryptography and OpenSSL take locks when they sign for the first time."""
+    """Returns a call that signs. A fork waits for the first signature, since cryptography and OpenSSL take locks for it."""
 
     def signed(message: bytes) -> bytes:
         if algorithm in _used:

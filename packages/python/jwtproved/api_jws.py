@@ -21,7 +21,7 @@ class PyJWS:
     """Issues and verifies tokens whose payload is any bytes (RFC 7515). Of `algorithms`, all are served if it is None."""
 
     header_typ = "JWT"
-    # as that of PyJWT
+    # see PyJWT
     _is_lenient = False
 
     def __init__(self, algorithms: Listed | None = None, options: Options | None = None) -> None:

@@ -4,7 +4,7 @@
 
 Raises ImportError if another package of this name was imported already. The classes and calls of `jwt` also take what programs over PyJWT
 pass: the name of one algorithm, as in `algorithms="RS256"`, is a list of it, a time to sign may be a float, which is cut to whole seconds,
-and a keyword that is near no argument is only warned of. Those of `jwtproved` stay as they are.
+and a keyword that is near no argument is only warned of. The calls of `jwtproved` do not change.
 """
 import importlib
 import importlib.abc
@@ -98,5 +98,5 @@ if "jwt" in sys.modules:
     raise ImportError(f"jwt was imported already, from {getattr(sys.modules['jwt'], '__file__', '?')}: import jwtproved.as_jwt before it")
 sys.meta_path.insert(0, _Finder())
 sys.modules["jwt"] = _package()
-# which is an attribute of the package without an import of its own
+# `import jwt` alone has jwt.api_jwt
 importlib.import_module("jwt.api_jwt")
