@@ -101,11 +101,12 @@ func (d *NumericDate) UnmarshalJSON(text []byte) error {
 	return nil
 }
 
-// readClaims reads claims into a value, and asks its method Validate.
+// readClaims reads claims into a value that keeps nothing from before, and calls its method Validate.
 func readClaims(claims []byte, into any) error {
 	if err := checkNames(claims, mayFold(into)); err != nil {
 		return fmt.Errorf("%w: %v", ErrMalformed, err)
 	}
+	clearTarget(into)
 	if err := json.Unmarshal(claims, into); err != nil {
 		return unreadClaims(err)
 	}
@@ -154,6 +155,18 @@ func validatorOf(into any) validator {
 		}
 	}
 	return nil
+}
+
+// clearTarget sets the value that claims are read into to zero: json.Unmarshal keeps each field and map entry without a claim. The
+// pointers to the value stay.
+func clearTarget(into any) {
+	values := reached(into)
+	for i := len(values) - 1; i >= 0; i-- {
+		if values[i].CanSet() {
+			values[i].Set(reflect.Zero(values[i].Type()))
+			return
+		}
+	}
 }
 
 // setZero leaves nothing in what a value leads to.

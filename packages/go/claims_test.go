@@ -5,7 +5,9 @@ import (
 	"errors"
 	"fmt"
 	"math"
+	"reflect"
 	"strings"
+	"sync"
 	"testing"
 	"time"
 )
@@ -100,6 +102,55 @@ func TestReadClaims(t *testing.T) {
 		if err != nil && (!strings.HasPrefix(err.Error(), "jwt: ") || fmt.Sprintf("%+v", read) != fmt.Sprintf("%+v", session{})) {
 			t.Errorf("%s: %+v, %v", it.claims, read, err)
 		}
+	}
+}
+
+// profile has each way in which a struct keeps what was read before.
+type profile struct {
+	*RegisteredClaims
+	Role   string `json:"role"`
+	Admin  *bool  `json:"admin"`
+	Realm  struct{ Roles []string }
+	Groups map[string]string `json:"groups"`
+	Text   []byte            `json:"text"`
+	seen   int
+}
+
+// TestReusedTargets reads the claims of two tokens into one value: it has those of the second one alone, as a new value has.
+func TestReusedTargets(t *testing.T) {
+	admin := claimsOfAny(t, `{"sub":"ada","jti":"j","role":"admin","admin":true,"realm":{"roles":["a","b"]},"groups":{"a":"1"},"text":"YQ=="}`)
+	guest := claimsOfAny(t, `{"sub":"bob","role":null,"groups":{"b":"2"}}`)
+	pool := sync.Pool{New: func() any { return new(profile) }}
+	pooled := func() any {
+		it := pool.Get()
+		pool.Put(it)
+		return it
+	}
+	for name, made := range map[string]func() any{
+		"a struct":             func() any { return &profile{seen: 1} },
+		"a pooled struct":      pooled,
+		"a pointer":            func() any { it := new(profile); return &it },
+		"a nil pointer":        func() any { return new(*profile) },
+		"a struct in an any":   func() any { var it any = new(profile); return &it },
+		"a map":                func() any { return &map[string]any{"role": "admin"} },
+		"a map of texts":       func() any { return &map[string]json.RawMessage{"role": []byte("1")} },
+		"an any":               func() any { return new(any) },
+		"a map in an any":      func() any { var it any = map[string]any{"role": "admin"}; return &it },
+		"pointers to pointers": func() any { return new(**********profile) },
+	} {
+		reused, fresh := made(), made()
+		first, second, alone := admin.Claims(reused), guest.Claims(reused), guest.Claims(fresh)
+		if first != nil || second != nil || alone != nil || !reflect.DeepEqual(reused, fresh) {
+			t.Errorf("%s: %v, %v, %v", name, first, second, alone)
+		}
+		if text, err := json.Marshal(reused); err != nil || !strings.Contains(string(text), "bob") || strings.Contains(string(text), `"admin":true`) || strings.Contains(string(text), `"a"`) {
+			t.Errorf("%s: %s, %v", name, text, err)
+		}
+	}
+	held := map[string]any{"mine": 1}
+	into := held
+	if err := guest.Claims(&into); err != nil || len(held) != 1 || len(into) != 3 {
+		t.Error(err, held, into)
 	}
 }
 
