@@ -5,13 +5,18 @@ package jwt
 import (
 	"bytes"
 	"encoding/json"
+	"strconv"
 	"strings"
+	"time"
 	"unicode/utf8"
 )
 
 // Sign returns the token of claims, which json.Marshal writes, signed with a secret, with HS256, HS384 or HS512. Members of header other
 // than alg and typ are those of the map, which may be nil and may not name another alg. No claim may be a float. A text that is not
 // UTF-8 is ErrOption, and a secret that NewSecretKey refuses is ErrKey.
+//
+// An exp, nbf or iat is a whole number of seconds from 1970 to the year 9999 (RFC 7519 section 2), such as NewNumericDate returns. Any
+// other value is ErrOption, such as null, milliseconds, or a time.Time in a map: verifiers do not read it, or read another time.
 func Sign(claims any, secret []byte, algorithm string, header map[string]any) (string, error) {
 	if err := checkKey(secretKey, secret); err != nil {
 		return "", err
@@ -84,8 +89,48 @@ func parts(claims any, algorithm string, header map[string]any) (headerOf, claim
 	if headerOf, err = headerText(algorithm, header); err != nil {
 		return nil, nil, err
 	}
-	claimsOf, err = marshal("claims", claims)
+	claimsOf, err = claimsText(claims)
 	return headerOf, claimsOf, err
+}
+
+// claimsText returns the text of claims, whose times verifiers read.
+func claimsText(claims any) ([]byte, error) {
+	text, err := marshal("claims", claims)
+	if err != nil {
+		return nil, err
+	}
+	var members map[string]json.RawMessage // of the exact names, and of several members of one name the last, as the library reads them
+	if json.Unmarshal(text, &members) != nil {
+		return text, nil // the library says that it is no object
+	}
+	values, _ := claims.(map[string]any)
+	for _, name := range []string{"exp", "nbf", "iat"} {
+		if err := checkTime(name, members[name], values[name]); err != nil {
+			return nil, err
+		}
+	}
+	return text, nil
+}
+
+// lastSecond is the last one of the year 9999. Milliseconds and nanoseconds of our time are greater.
+const lastSecond = 253402300799
+
+// checkTime returns an error if a claim is there, and is not a whole number of seconds from 1970 to the year 9999. A value of a map shows
+// that it is a time.Duration; the nanoseconds of a short one would be such a number.
+func checkTime(name string, text json.RawMessage, value any) error {
+	if span, is := value.(time.Duration); is {
+		return optionError("the claim %s is the time.Duration %v: write jwt.NewNumericDate(time.Now().Add(d))", name, span)
+	}
+	if text == nil {
+		return nil
+	}
+	if string(text) == "null" {
+		return optionError("the claim %s is null: leave it out, or write jwt.NewNumericDate(t)", name)
+	}
+	if since, err := strconv.ParseUint(string(text), 10, 64); err != nil || since > lastSecond {
+		return optionError("the claim %s is %.100s, and not in whole seconds from 1970 to the year 9999: write jwt.NewNumericDate(t)", name, text)
+	}
+	return nil
 }
 
 // headerText returns the text of a header with these members.

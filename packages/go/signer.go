@@ -171,12 +171,12 @@ func signatureVerifier(public Key, algorithm string, header []byte) (*handles, e
 
 // Sign returns the token of claims, which json.Marshal writes, and of which none may be a float. Its signature is verified by the public key
 // before it is returned. If the key can't sign, or its signature is wrong, the error is ErrSigning. Claims that can't be written are
-// ErrOption.
+// ErrOption, and so is an exp, nbf or iat that the function Sign refuses.
 func (s *Signer) Sign(claims any) (string, error) {
 	if s == nil || s.made == nil {
 		return "", optionError("NewSigner did not make this Signer")
 	}
-	text, err := marshal("claims", claims)
+	text, err := claimsText(claims)
 	if err != nil {
 		return "", err
 	}

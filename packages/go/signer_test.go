@@ -18,6 +18,7 @@ import (
 	"strings"
 	"sync"
 	"testing"
+	"time"
 )
 
 var (
@@ -274,7 +275,7 @@ func TestClaimsOfSigner(t *testing.T) {
 		}
 	}
 	long := strings.Repeat("a", 1<<20)
-	for _, it := range []any{map[string]any{}, map[string]any{"exp": "x"}, map[string]any{"exp": 1, "nbf": now + 5, "aud": 1}, map[string]any{"long": long}} {
+	for _, it := range []any{map[string]any{}, map[string]any{"sub": 5}, map[string]any{"exp": 1, "nbf": now + 5, "aud": 1}, map[string]any{"long": long}} {
 		token, err := made.Sign(it)
 		if err != nil {
 			t.Errorf("%.50v: %v", it, err)
@@ -291,6 +292,63 @@ func TestClaimsOfSigner(t *testing.T) {
 	}
 	if _, err := made.Sign(map[string]any{}); err != nil {
 		t.Error(err)
+	}
+}
+
+// TestTimesOfClaims has values of exp, nbf and iat, and a part of the error of each way to sign, or "" if it signs. RFC 7519 section 2 has
+// times as numbers of seconds.
+func TestTimesOfClaims(t *testing.T) {
+	made, err := NewSigner(edKey, "EdDSA")
+	if err != nil {
+		t.Fatal(err)
+	}
+	type pointer struct {
+		At *NumericDate `json:"nbf"`
+	}
+	type omitted struct {
+		At *NumericDate `json:"nbf,omitempty"`
+	}
+	in := func(name string) func(any) any { return func(it any) any { return map[string]any{name: it} } }
+	year9999, write := time.Date(9999, 12, 31, 23, 59, 59, 999, time.UTC), "write jwt.NewNumericDate("
+	rows := []struct {
+		claims any
+		cause  string
+	}{
+		{omitted{}, ""},
+		{pointer{NewNumericDate(time.Unix(now, 0))}, ""},
+		{pointer{}, "the claim nbf is null: leave it out, or " + write},
+		{struct {
+			At time.Time `json:"exp"`
+		}{time.Unix(now, 0).UTC()}, `the claim exp is "2023-11-14T22:13:20Z", and not in whole seconds`},
+		{struct {
+			At time.Duration `json:"exp"`
+		}{time.Hour}, "the claim exp is 3600000000000, and not in whole seconds"},
+		{map[string]string{"iat": "1700000000"}, `the claim iat is "1700000000", `},
+		{json.RawMessage(`{"exp":1,"\u0065xp":null}`), "the claim exp is null"},
+		{json.RawMessage(`{"exp":null,"exp":1,"Exp":null,"a":{"exp":null}}`), ""},
+	}
+	for _, made := range []func(any) any{in("exp"), in("nbf"), in("iat")} {
+		for value, cause := range map[any]string{
+			0: "", now: "", uint64(now): "", float64(now): "", json.Number("253402300799"): "", NewNumericDate(year9999): "", *NewNumericDate(time.Unix(now, 5)): "",
+			NewNumericDate(year9999.Add(time.Second)): write, 253402300800: write, time.UnixMilli(now * 1000).UnixMilli(): write, json.Number("18446744073709551616"): write,
+			nil: "is null", true: write, "": write, "1700000000": write, -1: write, json.Number("-0"): write, 1.5: write, json.Number("1.0"): write, json.Number("17e8"): write,
+			time.Unix(now, 0): write, [1]int{now}: write, time.Hour: write, 5 * time.Second: "is the time.Duration 5s: write jwt.NewNumericDate(time.Now().Add(d))",
+		} {
+			rows = append(rows, struct {
+				claims any
+				cause  string
+			}{made(value), cause})
+		}
+	}
+	for _, it := range rows {
+		_, bySecret := Sign(it.claims, secret, "HS256", nil)
+		_, byKey := made.Sign(it.claims)
+		_, elsewhere := NewSigningInput(it.claims, "ES256", nil)
+		for _, err := range []error{bySecret, byKey, elsewhere} {
+			if (err == nil) != (it.cause == "") || err != nil && (!errors.Is(err, ErrOption) || !strings.Contains(err.Error(), it.cause)) {
+				t.Errorf("%v: %v, without %s", it.claims, err, it.cause)
+			}
+		}
 	}
 }
 
