@@ -91,7 +91,7 @@ func TestVerdict(t *testing.T) {
 		{"a claim without a rule", joesToken, checked, verdict, []string{"ES256"}, []Option{WithRequired("jti")}, ErrOption},
 		{"no token", "a.b", checked, verdict, []string{"ES256"}, nil, ErrMalformed},
 	} {
-		token, err := ParseByVerdict(it.token, it.checked, it.verdict, it.algorithms, append([]Option{at(joesTime)}, it.with...)...)
+		token, err := ParseByVerdict(it.token, it.checked, it.verdict, it.algorithms, atUnless(joesTime, it.with)...)
 		if !errors.Is(err, it.want) || (token != nil) != (it.want == nil) {
 			t.Errorf("%s: %v, %v, not %v", it.name, token, err, it.want)
 		}

@@ -30,9 +30,19 @@ func signed(header, claims string, secret []byte) string {
 
 func at(moment int64) Option { return WithTime(func() time.Time { return time.Unix(moment, 0) }) }
 
+// atUnless returns options at a time, unless they have another one.
+func atUnless(moment int64, with []Option) []Option {
+	return append(append([]Option{}, with...), func(asked *options) error {
+		if asked.now == nil {
+			return at(moment)(asked)
+		}
+		return nil
+	})
+}
+
 func parse(t *testing.T, token string, key Key, algorithms []string, with ...Option) (*Token, error) {
 	t.Helper()
-	return Parse(token, key, algorithms, append([]Option{at(now)}, with...)...)
+	return Parse(token, key, algorithms, atUnless(now, with)...)
 }
 
 func secretOf(t *testing.T, secret []byte) Key {

@@ -73,32 +73,23 @@ type flight struct {
 	ended chan struct{}
 }
 
-// KeySetOption changes how a KeySet fetches.
+// KeySetOption changes how a KeySet fetches. Each may be given once.
 type KeySetOption func(*KeySet) error
 
 // WithRefresh has the set fetched so often in the background: every 5 minutes without this option. After a fetch that failed, the next
 // one is as soon as WithRefetch allows.
 func WithRefresh(every time.Duration) KeySetOption {
-	return func(set *KeySet) error {
-		set.refresh = every
-		return checkPositive("WithRefresh", every)
-	}
+	return func(set *KeySet) error { return setDuration("WithRefresh", &set.refresh, every) }
 }
 
 // WithRefetch has this as the least time from a fetch for an unknown kid to the next one: 10 seconds without this option.
 func WithRefetch(least time.Duration) KeySetOption {
-	return func(set *KeySet) error {
-		set.refetch = least
-		return checkPositive("WithRefetch", least)
-	}
+	return func(set *KeySet) error { return setDuration("WithRefetch", &set.refetch, least) }
 }
 
 // WithTimeout has this as the longest time that a fetch takes, and that Parse waits for it: 10 seconds without this option.
 func WithTimeout(longest time.Duration) KeySetOption {
-	return func(set *KeySet) error {
-		set.timeout = longest
-		return checkPositive("WithTimeout", longest)
-	}
+	return func(set *KeySet) error { return setDuration("WithTimeout", &set.timeout, longest) }
 }
 
 // WithLazyStart has NewKeySet return at once, so that a service starts while the key server is down. Until a set is fetched, Parse returns
@@ -110,11 +101,25 @@ func WithLazyStart() KeySetOption {
 	}
 }
 
-func checkPositive(option string, duration time.Duration) error {
+// setDuration sets a duration that is 0 until an option gives it.
+func setDuration(option string, at *time.Duration, duration time.Duration) error {
 	if duration <= 0 {
 		return optionError("%s: %v is not more than 0", option, duration)
 	}
+	if *at != 0 {
+		return optionError("%s is given twice: %s", option, leaveOneOut)
+	}
+	*at = duration
 	return nil
+}
+
+// setDefaults sets the durations that no option gave.
+func (s *KeySet) setDefaults() {
+	for at, duration := range map[*time.Duration]time.Duration{&s.refresh: 5 * time.Minute, &s.refetch: 10 * time.Second, &s.timeout: 10 * time.Second} {
+		if *at == 0 {
+			*at = duration
+		}
+	}
 }
 
 // NewKeySet returns the set that fetch returns, once the first fetch gave a usable one, or at once with WithLazyStart. It is fetched again
@@ -126,7 +131,7 @@ func NewKeySet(ctx context.Context, fetch Fetch, opts ...KeySetOption) (*KeySet,
 	if fetch == nil {
 		return nil, optionError("fetch is nil")
 	}
-	set := &KeySet{fetch: fetch, refresh: 5 * time.Minute, refetch: 10 * time.Second, timeout: 10 * time.Second, ctx: ctx}
+	set := &KeySet{fetch: fetch, ctx: ctx}
 	for i, it := range opts {
 		if it == nil {
 			return nil, optionError("the option at place %d is nil", i)
@@ -135,6 +140,7 @@ func NewKeySet(ctx context.Context, fetch Fetch, opts ...KeySetOption) (*KeySet,
 			return nil, err
 		}
 	}
+	set.setDefaults()
 	if set.isLazy {
 		set.current.Store(&fetched{key: newKey(keySet, []byte(`{"keys":[]}`))})
 		set.failure = errNotFetched

@@ -189,7 +189,14 @@ func following(t *testing.T, uri string, with ...KeySetOption) (*KeySet, *Verifi
 	t.Helper()
 	until, cancel := context.WithCancel(context.Background())
 	t.Cleanup(cancel)
-	with = append([]KeySetOption{WithRefresh(time.Hour), WithRefetch(soon), WithTimeout(20 * time.Second)}, with...)
+	with = append(append([]KeySetOption{}, with...), func(set *KeySet) error {
+		for at, duration := range map[*time.Duration]time.Duration{&set.refresh: time.Hour, &set.refetch: soon, &set.timeout: 20 * time.Second} {
+			if *at == 0 {
+				*at = duration
+			}
+		}
+		return nil
+	})
 	set, err := FetchKeySet(until, uri, nil, with...)
 	for i := 0; i < 20 && err != nil; i++ {
 		// on a busy machine a good answer may take long too
@@ -795,6 +802,9 @@ func TestKeySetArguments(t *testing.T) {
 		{"WithRefresh", func() (*KeySet, error) { return NewKeySet(until, good, WithRefresh(0)) }},
 		{"WithRefetch", func() (*KeySet, error) { return NewKeySet(until, good, WithRefetch(-1)) }},
 		{"WithTimeout", func() (*KeySet, error) { return NewKeySet(until, good, WithTimeout(-time.Second)) }},
+		{"WithRefresh is given twice", func() (*KeySet, error) { return NewKeySet(until, good, WithRefresh(1), WithRefresh(1)) }},
+		{"WithRefetch is given twice", func() (*KeySet, error) { return NewKeySet(until, good, WithRefetch(1), WithRefetch(2)) }},
+		{"WithTimeout is given twice", func() (*KeySet, error) { return NewKeySet(until, good, WithTimeout(1), WithTimeout(2)) }},
 		{"uri", func() (*KeySet, error) { return FetchKeySet(until, "", nil) }},
 		{"uri", func() (*KeySet, error) { return FetchKeySet(until, "/keys", nil) }},
 		{"uri", func() (*KeySet, error) { return FetchKeySet(until, "https://", nil) }},

@@ -28,9 +28,10 @@ type guard struct {
 	reads    []func(context.Context, *Token) (context.Context, error)
 	access   []func(*http.Request, *Token) bool
 	log      func(*http.Request, error)
+	given    onlyOnce
 }
 
-// MiddlewareOption changes what Middleware does.
+// MiddlewareOption changes what Middleware does. Each may be given once, but for WithClaims and WithAccess.
 type MiddlewareOption func(*guard) error
 
 // WithTokenFrom takes the token from what this function returns, such as the value of a cookie, instead of the header Authorization. An
@@ -47,7 +48,7 @@ func WithTokenFrom(find func(*http.Request) string) MiddlewareOption {
 			}
 			return token, nil
 		}
-		return nil
+		return by.given.add("WithTokenFrom", leaveOneOut)
 	}
 }
 
@@ -61,7 +62,10 @@ func WithRealm(realm string) MiddlewareOption {
 			}
 		}
 		by.realm = realm
-		return checkTexts("WithRealm", realm)
+		if err := checkTexts("WithRealm", realm); err != nil {
+			return err
+		}
+		return by.given.add("WithRealm", leaveOneOut)
 	}
 }
 
@@ -102,7 +106,7 @@ func WithLog(log func(*http.Request, error)) MiddlewareOption {
 			return optionError("WithLog has no function")
 		}
 		by.log = log
-		return nil
+		return by.given.add("WithLog", leaveOneOut)
 	}
 }
 
@@ -136,7 +140,7 @@ func Middleware(verifier *Verifier, opts ...MiddlewareOption) (func(http.Handler
 	if verifier == nil || verifier.made == nil {
 		return nil, optionError("NewVerifier did not make this Verifier")
 	}
-	by := &guard{verifier: verifier, token: bearerToken, realm: "api", log: func(*http.Request, error) {}}
+	by := &guard{verifier: verifier, token: bearerToken, realm: "api", log: func(*http.Request, error) {}, given: onlyOnce{}}
 	for i, it := range opts {
 		if it == nil {
 			return nil, optionError("the option at place %d is nil", i)

@@ -172,6 +172,12 @@ func TestMiddlewareSlips(t *testing.T) {
 			t.Errorf("%d: %v", i, err)
 		}
 	}
+	finds, logs := func(*http.Request) string { return "" }, func(*http.Request, error) {}
+	for _, it := range [][]MiddlewareOption{{WithRealm("a"), WithRealm("b")}, {WithTokenFrom(finds), WithTokenFrom(finds)}, {WithLog(logs), WithLog(logs)}} {
+		if protect, err := Middleware(verifier, it...); protect != nil || !errors.Is(err, ErrOption) || !strings.Contains(err.Error(), " is given twice: ") {
+			t.Error(err)
+		}
+	}
 	for i, it := range []MiddlewareOption{WithClaims[map[string]any](), WithClaims[any](), WithClaims[session](), WithClaims[readsItself](), WithClaims[*session]()} {
 		if _, err := Middleware(verifier, it); err != nil {
 			t.Errorf("%d: %v", i, err)

@@ -26,10 +26,29 @@ type options struct {
 	noExpiry    bool
 	issuedAt    bool
 	now         func() time.Time // nil for that of the system
+	given       onlyOnce
 }
 
-// Option is a condition on a token.
+// Option is a condition on a token. Each may be given once, but for WithRequired: a second one would replace the first, or widen it.
 type Option func(*options) error
+
+// onlyOnce has the names of the options that are given.
+type onlyOnce map[string]bool
+
+// What an error says of an option that is given twice.
+const (
+	inOneCall   = "give all values in one call"
+	leaveOneOut = "leave one of the two out"
+)
+
+// add returns an error, which says what to write, if an option is given a second time.
+func (o onlyOnce) add(option, instead string) error {
+	if o[option] {
+		return optionError("%s is given twice: %s", option, instead)
+	}
+	o[option] = true
+	return nil
+}
 
 func (o *options) requires(name string) bool {
 	for _, it := range o.Required {
@@ -57,6 +76,14 @@ func checkTexts(argument string, texts ...string) error {
 	return nil
 }
 
+// checkList returns an error if an option has no text, a wrong one, or is given a second time.
+func (o *options) checkList(option string, texts []string) error {
+	if err := checkTexts(option, texts...); err != nil {
+		return err
+	}
+	return o.given.add(option, inOneCall)
+}
+
 // seconds returns a number of whole seconds.
 func seconds(option string, duration, least time.Duration) (uint64, error) {
 	if duration < least || duration%time.Second != 0 {
@@ -69,8 +96,8 @@ func seconds(option string, duration, least time.Duration) (uint64, error) {
 // an audience is refused.
 func WithAudience(audiences ...string) Option {
 	return func(asked *options) error {
-		asked.Audience = append(asked.Audience, audiences...)
-		return checkTexts("WithAudience", audiences...)
+		asked.Audience = audiences
+		return asked.checkList("WithAudience", audiences)
 	}
 }
 
@@ -85,8 +112,8 @@ func WithAnyAudience() Option {
 // WithIssuer asks for one of these issuers, of which there has to be one, and none may be empty.
 func WithIssuer(issuers ...string) Option {
 	return func(asked *options) error {
-		asked.Issuer = append(asked.Issuer, issuers...)
-		return checkTexts("WithIssuer", issuers...)
+		asked.Issuer = issuers
+		return asked.checkList("WithIssuer", issuers)
 	}
 }
 
@@ -94,12 +121,15 @@ func WithIssuer(issuers ...string) Option {
 func WithSubject(subject string) Option {
 	return func(asked *options) error {
 		asked.Subject = &subject
-		return checkTexts("WithSubject", subject)
+		if err := checkTexts("WithSubject", subject); err != nil {
+			return err
+		}
+		return asked.given.add("WithSubject", leaveOneOut)
 	}
 }
 
 // WithRequired asks for these claims, among exp, nbf, aud, iss and sub, of which there has to be one. exp is asked for in any case,
-// unless WithoutExpiry is given; both contradict each other.
+// unless WithoutExpiry is given; both contradict each other. WithRequired may be given several times.
 func WithRequired(claims ...string) Option {
 	return func(asked *options) error {
 		for _, it := range claims {
@@ -142,8 +172,11 @@ func WithEarly() Option {
 func WithRemaining(least time.Duration) Option {
 	return func(asked *options) error {
 		remaining, err := seconds("WithRemaining", least, time.Second)
+		if err != nil {
+			return err
+		}
 		asked.Remaining = &remaining
-		return err
+		return asked.given.add("WithRemaining", leaveOneOut)
 	}
 }
 
@@ -151,8 +184,11 @@ func WithRemaining(least time.Duration) Option {
 func WithLeeway(leeway time.Duration) Option {
 	return func(asked *options) error {
 		allowed, err := seconds("WithLeeway", leeway, 0)
+		if err != nil {
+			return err
+		}
 		asked.Leeway = allowed
-		return err
+		return asked.given.add("WithLeeway", leaveOneOut)
 	}
 }
 
@@ -169,8 +205,8 @@ func WithIssuedAt() Option {
 // to be one. The caller has to do what they ask for: Token.Header has them. Without it, a token with a crit is refused.
 func WithUnderstoodCrit(names ...string) Option {
 	return func(asked *options) error {
-		asked.Crit = append(asked.Crit, names...)
-		return checkTexts("WithUnderstoodCrit", names...)
+		asked.Crit = names
+		return asked.checkList("WithUnderstoodCrit", names)
 	}
 }
 
@@ -181,7 +217,7 @@ func WithTime(now func() time.Time) Option {
 			return optionError("WithTime has no function")
 		}
 		asked.now = now
-		return nil
+		return asked.given.add("WithTime", leaveOneOut)
 	}
 }
 
@@ -226,7 +262,7 @@ func conditions(algorithms []string, opts []Option) (*options, []byte, error) {
 	if err := checkTexts("algorithms", algorithms...); err != nil {
 		return nil, nil, err
 	}
-	asked := &options{Strict: true, Algorithms: algorithms, Required: []string{}}
+	asked := &options{Strict: true, Algorithms: algorithms, Required: []string{}, given: onlyOnce{}}
 	for i, it := range opts {
 		if it == nil {
 			return nil, nil, optionError("the option at place %d is nil", i)

@@ -48,9 +48,19 @@ var slips = []struct {
 	{"WithUnderstoodCrit", []Option{WithUnderstoodCrit([]string(nil)...)}},
 	{"WithUnderstoodCrit", []Option{WithUnderstoodCrit("x", "")}},
 	{"WithUnderstoodCrit", []Option{WithUnderstoodCrit("\xff")}},
-	{"WithTime", []Option{WithTime(nil)}},
-	{"WithTime", []Option{WithTime(func() time.Time { return time.Unix(-1, 0) })}},
-	{"WithTime", []Option{WithTime(func() time.Time { return time.Time{} })}},
+	{"WithTime has no function", []Option{WithTime(nil)}},
+	{"WithTime: the clock", []Option{WithTime(func() time.Time { return time.Unix(-1, 0) })}},
+	{"WithTime: the clock", []Option{WithTime(func() time.Time { return time.Time{} })}},
+	{"WithIssuer is given twice: give all values in one call", []Option{WithIssuer("https://evil"), WithIssuer("b")}},
+	{"WithIssuer is given twice", append([]Option{WithIssuer("https://evil")}, WithIssuer("b"))},
+	{"WithIssuer is given twice", []Option{WithIssuer("b"), WithRequired("iss"), WithIssuer("https://evil")}},
+	{"WithIssuer is given twice", []Option{WithIssuer("https://evil"), WithIssuer("https://evil")}},
+	{"WithAudience is given twice: give all values in one call", []Option{WithAudience("a"), WithAudience("b")}},
+	{"WithUnderstoodCrit is given twice: give all values in one call", []Option{WithUnderstoodCrit("a"), WithUnderstoodCrit("b")}},
+	{"WithSubject is given twice: leave one of the two out", []Option{WithSubject("a"), WithSubject("\ufffd")}},
+	{"WithLeeway is given twice: leave one of the two out", []Option{WithLeeway(0), WithLeeway(time.Second)}},
+	{"WithRemaining is given twice: leave one of the two out", []Option{WithRemaining(time.Hour), WithRemaining(time.Second)}},
+	{"WithTime is given twice: leave one of the two out", []Option{at(now + 1), at(now)}},
 	{"nil", []Option{nil}},
 }
 
@@ -64,7 +74,7 @@ func TestSlips(t *testing.T) {
 		if parsed != nil || !errors.Is(err, ErrOption) || !strings.Contains(err.Error(), it.name) {
 			t.Errorf("%s: %v, %v", it.name, parsed, err)
 		}
-		parsed, err = ParseByVerdict(token, signatureOf(t, token), true, []string{"HS256"}, append([]Option{at(now)}, it.with...)...)
+		parsed, err = ParseByVerdict(token, signatureOf(t, token), true, []string{"HS256"}, atUnless(now, it.with)...)
 		if parsed != nil || !errors.Is(err, ErrOption) || !strings.Contains(err.Error(), it.name) {
 			t.Errorf("%s: %v, %v", it.name, parsed, err)
 		}
@@ -79,6 +89,16 @@ func TestSlips(t *testing.T) {
 	}
 	var verifier Verifier
 	if _, err := verifier.Parse(token); !errors.Is(err, ErrOption) {
+		t.Error(err)
+	}
+	// options serve several verifiers, and only WithRequired may be given several times
+	twice := []Option{WithRequired("iss"), WithRequired("sub"), WithIssuer("https://evil"), WithoutExpiry(), WithoutExpiry()}
+	for range [2]int{} {
+		if _, err := parse(t, token, key, []string{"HS256"}, twice...); err != nil {
+			t.Error(err)
+		}
+	}
+	if _, err := parse(t, signed(`{"alg":"HS256"}`, `{"exp":1700000001,"iss":"https://evil"}`, secret), key, []string{"HS256"}, twice...); !errors.Is(err, ErrMissingClaim) {
 		t.Error(err)
 	}
 }

@@ -55,22 +55,35 @@ func (Signer) Format(state fmt.State, _ rune) {
 	_, _ = io.WriteString(state, "jwt.Signer([redacted])")
 }
 
-// SignerOption sets a member of the header of the tokens that a Signer issues.
+// SignerOption sets a member of the header of the tokens that a Signer issues. Each member may be set once.
 type SignerOption func(members map[string]any) error
+
+// setMember sets a member of a header, or returns an error if an option set it before.
+func setMember(members map[string]any, name string, value any) error {
+	if _, isThere := members[name]; isThere {
+		return optionError("the options set the header's %s twice: %s", quoted(name), leaveOneOut)
+	}
+	members[name] = value
+	return nil
+}
 
 // WithKeyID names the key by this kid, which may not be empty, so that those who have its set of keys find it.
 func WithKeyID(kid string) SignerOption {
 	return func(members map[string]any) error {
-		members["kid"] = kid
-		return checkTexts("WithKeyID", kid)
+		if err := checkTexts("WithKeyID", kid); err != nil {
+			return err
+		}
+		return setMember(members, "kid", kid)
 	}
 }
 
 // WithHeader sets any member of the header, which json.Marshal writes, such as typ. Another alg than the Signer's is ErrOption.
 func WithHeader(name string, value any) SignerOption {
 	return func(members map[string]any) error {
-		members[name] = value
-		return checkTexts("WithHeader", name)
+		if err := checkTexts("WithHeader", name); err != nil {
+			return err
+		}
+		return setMember(members, name, value)
 	}
 }
 

@@ -190,6 +190,9 @@ func TestSignerSlips(t *testing.T) {
 		{rsaKey, "RS256", []SignerOption{WithHeader("kid", 5)}, ErrOption},
 		{rsaKey, "RS256", []SignerOption{WithHeader("a", make(chan int))}, ErrOption},
 		{rsaKey, "RS256", []SignerOption{WithHeader("a", 1.5)}, ErrOption},
+		{rsaKey, "RS256", []SignerOption{WithKeyID("a"), WithKeyID("b")}, ErrOption},
+		{rsaKey, "RS256", []SignerOption{WithKeyID("a"), WithHeader("kid", "b")}, ErrOption},
+		{rsaKey, "RS256", []SignerOption{WithHeader("typ", nil), WithHeader("typ", "JWT")}, ErrOption},
 		{rsaKey, "RS256", []SignerOption{WithHeader("alg", "RS256"), WithKeyID("a")}, nil},
 		{&noPrimes, "RS256", nil, nil},
 	} {
