@@ -3,6 +3,7 @@
 package jwt
 
 import (
+	"bytes"
 	"context"
 	"errors"
 	"fmt"
@@ -56,16 +57,74 @@ type KeySet struct {
 	underWay *flight   // the fetch that is under way, or nil
 	from     time.Time // before this time no set is fetched for an unknown kid
 	failure  error     // of the last fetch
+	at       time.Time // of the last fetch that gave a usable set
 	waiting  int       // how many calls of Parse wait for a fetch
 }
 
-// fetched is a set that is usable, or the empty one before the first (WithLazyStart), which has no time.
+// fetched is a set that is usable, or the empty one before the first (WithLazyStart).
 type fetched struct {
-	key Key
-	at  time.Time
+	key     Key
+	isEmpty bool
+	mutex   sync.Mutex // of kept
+	kept    []*keptHandles
 }
 
-func (f *fetched) isEmpty() bool { return f.at.IsZero() }
+// mostKept is for how many different options the handles of a set are kept.
+const mostKept = 16
+
+// keptHandles has the handles of a set for options, as soon as the first call has made them.
+type keptHandles struct {
+	options []byte
+	once    sync.Once
+	made    *handleSet
+}
+
+// handles returns the handles of the set for the options of verifiers, and makes them if this is the first call with the options. It makes
+// them without a lock, so that only calls with the same options wait.
+func (f *fetched) handles(options []byte) *handleSet {
+	it := f.keptFor(options)
+	it.once.Do(func() { it.made = newHandleSet(f, f.key, options, forFetchedSet) })
+	if errors.Is(it.made.err, ErrOutOfMemory) {
+		f.forget(it)
+	}
+	return it.made
+}
+
+func (f *fetched) keptFor(options []byte) *keptHandles {
+	f.mutex.Lock()
+	defer f.mutex.Unlock()
+	for _, it := range f.kept {
+		if bytes.Equal(it.options, options) {
+			return it
+		}
+	}
+	if len(f.kept) == mostKept {
+		f.kept = f.kept[1:]
+	}
+	f.kept = append(f.kept, &keptHandles{options: options})
+	return f.kept[len(f.kept)-1]
+}
+
+func (f *fetched) forget(handles *keptHandles) {
+	f.mutex.Lock()
+	defer f.mutex.Unlock()
+	for i, it := range f.kept {
+		if it == handles {
+			f.kept = append(f.kept[:i:i], f.kept[i+1:]...)
+			return
+		}
+	}
+}
+
+// prepare makes the handles that the verifiers of the set before will need, so that none of their calls waits for them.
+func (f *fetched) prepare(before *fetched) {
+	before.mutex.Lock()
+	kept := append([]*keptHandles(nil), before.kept...)
+	before.mutex.Unlock()
+	for _, it := range kept {
+		f.handles(it.options)
+	}
+}
 
 // flight is a fetch, whose end closes the channel.
 type flight struct {
@@ -142,7 +201,7 @@ func NewKeySet(ctx context.Context, fetch Fetch, opts ...KeySetOption) (*KeySet,
 	}
 	set.setDefaults()
 	if set.isLazy {
-		set.current.Store(&fetched{key: newKey(keySet, []byte(`{"keys":[]}`))})
+		set.current.Store(&fetched{key: newKey(keySet, []byte(`{"keys":[]}`)), isEmpty: true})
 		set.failure = errNotFetched
 		set.start()
 	} else if set.wait(set.start()); set.current.Load() == nil {
@@ -214,10 +273,12 @@ func (s *KeySet) Key() Key {
 
 // Fetched returns when the set that is used was fetched, or the zero time if there is none.
 func (s *KeySet) Fetched() time.Time {
-	if s == nil || s.current.Load() == nil {
+	if s == nil {
 		return time.Time{}
 	}
-	return s.current.Load().at // that of the empty set is zero
+	s.mutex.Lock()
+	defer s.mutex.Unlock()
+	return s.at
 }
 
 // Err returns the error of the last fetch, or nil if it gave a usable set.
@@ -297,13 +358,14 @@ func (s *KeySet) end(begun *flight, found *fetched, err error) {
 	defer s.mutex.Unlock()
 	if err == nil {
 		s.current.Store(found)
+		s.at = time.Now()
 	}
 	s.failure = err
 	s.underWay = nil
 	close(begun.ended)
 }
 
-// usable returns the set that is fetched, if it is usable.
+// usable returns the set that is fetched, if it is usable. If its text is the same as before, it is the set before, with its handles.
 func (s *KeySet) usable(ctx context.Context) (*fetched, error) {
 	text, err := s.fetch(ctx)
 	if err != nil {
@@ -315,11 +377,19 @@ func (s *KeySet) usable(ctx context.Context) (*fetched, error) {
 	if len(text) > largestSet {
 		return nil, fetchError("it has more than %d bytes", largestSet)
 	}
+	before := s.current.Load()
+	if before != nil && !before.isEmpty && bytes.Equal(text, before.key.bytes()) {
+		return before, nil
+	}
 	key, err := ParseJWKSet(text)
 	if err != nil {
 		return nil, err
 	}
-	return &fetched{key, time.Now()}, nil
+	found := &fetched{key: key}
+	if before != nil {
+		found.prepare(before)
+	}
+	return found, nil
 }
 
 // wait waits for the end of a fetch, but no longer than until the timeout after its begin. It returns whether the fetch has ended.

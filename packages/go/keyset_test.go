@@ -3,11 +3,14 @@ package jwt
 import (
 	"bufio"
 	"context"
+	"crypto/ecdsa"
 	"crypto/ed25519"
+	"crypto/elliptic"
 	"crypto/sha256"
 	"errors"
 	"fmt"
 	"io"
+	"math/big"
 	"net"
 	"net/http"
 	"net/http/httptest"
@@ -568,6 +571,107 @@ func TestUndecided(t *testing.T) {
 	}
 }
 
+// multiples returns the set of the first multiples of the base point of P-256, each named by its number in hexadecimal, which is its private
+// key.
+func multiples(last int) string {
+	keys := make([]string, last)
+	for i := range keys {
+		x, y := elliptic.P256().ScalarBaseMult(big.NewInt(int64(i + 1)).Bytes())
+		keys[i] = fmt.Sprintf(`{"kty":"EC","crv":"P-256","kid":"%x","x":%q,"y":%q}`, i+1, part(x.FillBytes(make([]byte, 32))), part(y.FillBytes(make([]byte, 32))))
+	}
+	return `{"keys":[` + strings.Join(keys, ",") + `]}`
+}
+
+// tokenOfMultiple returns a token that names a multiple of the base point, signed with it.
+func tokenOfMultiple(t *testing.T, number int) string {
+	t.Helper()
+	key := &ecdsa.PrivateKey{D: big.NewInt(int64(number))}
+	key.Curve = elliptic.P256()
+	key.X, key.Y = key.ScalarBaseMult(key.D.Bytes())
+	made, err := NewSigner(key, "ES256", WithKeyID(fmt.Sprintf("%x", number)))
+	if err != nil {
+		t.Fatal(err)
+	}
+	token, err := made.Sign(map[string]any{"exp": now + 1})
+	if err != nil {
+		t.Fatal(err)
+	}
+	return token
+}
+
+// TestLargeSet has a set of almost 1 MiB follow one of a single key. To prepare all its keys would take seconds. In the meantime no token
+// of the earlier key waits, and a fetch of the same text makes nothing again.
+func TestLargeSet(t *testing.T) {
+	const count, longestWait = 7500, 200 * time.Millisecond
+	var text atomic.Value
+	text.Store(multiples(1))
+	until, cancel := context.WithCancel(context.Background())
+	defer cancel()
+	set, err := NewKeySet(until, func(context.Context) ([]byte, error) { return []byte(fmt.Sprint(text.Load())), nil }, WithRefetch(time.Nanosecond))
+	if err != nil {
+		t.Fatal(err)
+	}
+	verifier, err := NewVerifier(set.Key(), []string{"ES256"}, at(now))
+	if err != nil {
+		t.Fatal(err)
+	}
+	known, later, unknown := tokenOfMultiple(t, 1), tokenOfMultiple(t, count), tokenOfMultiple(t, count+1)
+	large := multiples(count)
+	text.Store(large)
+	begin, ended := time.Now(), make(chan struct{})
+	go func() {
+		wants(t, verifier, later, nil)
+		close(ended)
+	}()
+	longest := time.Duration(0)
+	for isUnderWay := true; isUnderWay; {
+		select {
+		case <-ended:
+			isUnderWay = false
+		default:
+		}
+		called := time.Now()
+		wants(t, verifier, known, nil)
+		if took := time.Since(called); took > longest {
+			longest = took
+		}
+	}
+	t.Logf("%d bytes, usable after %v, the longest call took %v", len(large), time.Since(begin), longest)
+	if longest > longestWait || len(large) < largestSet*9/10 {
+		t.Errorf("a call took %v, with %d bytes", longest, len(large))
+	}
+	before, fetched := verifier.made.latest(), set.Fetched()
+	wants(t, verifier, unknown, ErrUnknownKey)
+	if verifier.made.latest() != before || !set.Fetched().After(fetched) {
+		t.Error("the handles of the same text are made again")
+	}
+}
+
+// TestKeptHandles has verifiers with the same options, which share their handles, and with more other options than are kept.
+func TestKeptHandles(t *testing.T) {
+	server := serve(t, says(setOf("a")))
+	set, verifier := following(t, server.uri)
+	same, err := NewVerifier(set.Key(), eddsa, at(now-1))
+	if err != nil || same.made.latest().handles != verifier.made.latest().handles {
+		t.Error(err)
+	}
+	for i := 0; i < 2*mostKept; i++ {
+		other, err := NewVerifier(set.Key(), eddsa, at(now), WithIssuer(fmt.Sprint(i)))
+		if err != nil {
+			t.Fatal(err)
+		}
+		wants(t, other, tokenOf("a", "a"), ErrMissingClaim)
+	}
+	server.answer.Store(says(setOf("b")))
+	for _, it := range []*Verifier{verifier, same} {
+		wants(t, it, tokenOf("b", "b"), nil)
+		wants(t, it, tokenOf("a", "a"), ErrUnknownKey)
+	}
+	if kept := len(set.current.Load().kept); kept != mostKept {
+		t.Error(kept)
+	}
+}
+
 // TestWaiting has more tokens with unknown kids than may wait for a fetch: the others are answered at once, and so are known kids.
 func TestWaiting(t *testing.T) {
 	goOn := make(chan struct{})
@@ -714,7 +818,7 @@ func TestManyKeys(t *testing.T) {
 	keys := []string{strings.TrimSuffix(setOf("9999"), "]}")}
 	for i := 0; i < 9999; i++ {
 		other := sha256.Sum256([]byte{byte(i), byte(i >> 8)})
-		keys = append(keys, fmt.Sprintf(`{"kty":"OKP","crv":"Ed25519","kid":"%d","x":%q}`, i, part(other[:])))
+		keys = append(keys, fmt.Sprintf(`{"kty":"OKP","crv":"Ed25519","kid":"%x","x":%q}`, i, part(other[:])))
 	}
 	many := strings.Join(keys, ",") + "]}"
 	if len(many) > largestSet {

@@ -114,6 +114,8 @@ type preparedSize = C.size_t
 const (
 	forManyTokens preparedSize = 0 // that of the library, JWT_PREPARED_LIMIT
 	forOneToken   preparedSize = C.JWT_PREPARE_NOTHING
+	// forFetchedSet has room for 64 keys on P-256. Whoever serves a set decides how many keys it has, and to prepare thousands takes seconds.
+	forFetchedSet preparedSize = 1 << 20
 )
 
 // newHandle returns a handle of a key and options, or the refusal.

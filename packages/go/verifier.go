@@ -18,8 +18,7 @@ type verifying struct {
 	options  []byte
 	key      Key
 	prepared preparedSize
-	set      *KeySet    // that of the key, or nil
-	mutex    sync.Mutex // one goroutine makes handles for all others
+	set      *KeySet // that of the key, or nil
 	current  atomic.Pointer[handleSet]
 }
 
@@ -151,25 +150,31 @@ func mayHaveLaterKey(token string, err error) bool {
 
 // latest returns the handles for the last set that was fetched, or for a key that stays.
 func (v *verifying) latest() *handleSet {
-	if it := v.current.Load(); it != nil && (v.set == nil || it.set == v.set.current.Load()) {
+	it := v.current.Load()
+	if it != nil && (v.set == nil || it.set == v.set.current.Load()) {
 		return it
 	}
-	v.mutex.Lock()
-	defer v.mutex.Unlock()
-	it, key := &handleSet{}, v.key
-	if v.set != nil {
-		it.set = v.set.current.Load()
-		key = it.set.key
-	}
-	if last := v.current.Load(); last != nil && last.set == it.set {
-		return last
-	}
-	it.handles, it.err = newHandles(key, v.options, defaultLength, v.prepared)
-	if it.set != nil && it.set.isEmpty() && isStatus(it.err, unfitKey) {
-		it.err = &joinedError{ErrFetch, it.err, errNotFetched.Error()}
+	switch {
+	case v.set == nil:
+		it = newHandleSet(nil, v.key, v.options, v.prepared)
+	case v.prepared == forOneToken:
+		set := v.set.current.Load()
+		it = newHandleSet(set, set.key, v.options, v.prepared)
+	default:
+		it = v.set.current.Load().handles(v.options)
 	}
 	if !errors.Is(it.err, ErrOutOfMemory) {
 		v.current.Store(it)
+	}
+	return it
+}
+
+// newHandleSet returns handles of a key, or of the set that the key is.
+func newHandleSet(set *fetched, key Key, options []byte, prepared preparedSize) *handleSet {
+	it := &handleSet{set: set}
+	it.handles, it.err = newHandles(key, options, defaultLength, prepared)
+	if set != nil && set.isEmpty && isStatus(it.err, unfitKey) {
+		it.err = &joinedError{ErrFetch, it.err, errNotFetched.Error()}
 	}
 	return it
 }
