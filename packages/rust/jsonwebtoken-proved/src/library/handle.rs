@@ -15,6 +15,9 @@ pub enum Use {
     Once,
     /// For many tokens: keys are prepared up to the library's limit.
     Often,
+    /// For many tokens by a set that is fetched: keys are prepared up to 1 MiB, 64 keys on P-256. Whoever serves a set decides how many
+    /// keys it has, and to prepare thousands takes seconds.
+    Fetched,
 }
 
 impl Use {
@@ -23,6 +26,7 @@ impl Use {
         match self {
             Use::Once => 1,
             Use::Often => 0,
+            Use::Fetched => 1 << 20,
         }
     }
 }
