@@ -20,10 +20,12 @@ import (
 // headerNames are the members of a header that have a type (RFC 7515 section 4.1, RFC 7516 section 4.1, RFC 8555 section 6), after alg.
 var headerNames = []string{"typ", "cty", "jku", "jwk", "kid", "x5u", "x5c", "x5t", "x5t#S256", "crit", "enc", "zip", "url", "nonce"}
 
-// longestText is how many bytes of a text that anyone can have written stand in an error, and longestHeader how long a header is looked at.
+// longestText is how many bytes of a text that anyone can have written stand in an error, longestHeader how long a header is looked at, and
+// deepestPath how many steps the path to a number has.
 const (
 	longestText   = 100
 	longestHeader = 8192
+	deepestPath   = 8
 )
 
 // quoted returns a text that anyone can have written, in ASCII and not too long.
@@ -47,6 +49,8 @@ func causeOf(status C.enum_jwt_status, test C.uint32_t, token string) string {
 	switch {
 	case status == C.JWT_NO_KEY:
 		return missingKey(token)
+	case kindOf(status) == ErrMissingClaim:
+		return malformedClaim(claimOf(status), token)
 	case status != C.JWT_JSON:
 		return ""
 	}
@@ -61,6 +65,25 @@ func causeOf(status C.enum_jwt_status, test C.uint32_t, token string) string {
 		return "the claims are not an object"
 	}
 	return ""
+}
+
+// malformedClaim returns what is at fault in a claim that is there, and has no value that the library reads. A missing one has no fault.
+func malformedClaim(name, token string) string {
+	parts := strings.Split(token, ".")
+	if len(parts) != 3 {
+		return ""
+	}
+	claims, err := base64.RawURLEncoding.DecodeString(parts[1])
+	if err != nil {
+		return ""
+	}
+	if _, found, err := member(claims, name); err != nil || found == 0 {
+		return ""
+	}
+	if name == "exp" || name == "nbf" {
+		return "it is there, but not a whole number of seconds"
+	}
+	return "it is there, but malformed"
 }
 
 // missingKey returns which key a set does not have.
@@ -135,22 +158,46 @@ func unwritten(err error, header, claims []byte) error {
 	return optionError("the claims or the header can't be written")
 }
 
-// unfitNumber returns the name of the first member that has a number which the library does not write.
+// unfitNumber returns the path of the first number of an object which the library does not write, such as a.b[0].
 func unfitNumber(object []byte) (string, bool) {
+	path, value := "", json.RawMessage(object)
+	for i := 0; i < deepestPath; i++ {
+		step, part := unfitPart(value)
+		if step == "" {
+			break
+		}
+		path, value = path+step, part
+	}
+	return strings.TrimPrefix(path, "."), path != ""
+}
+
+// unfitPart returns the first member of an object, or the first element of a list, that has such a number, and the step to it. Of another
+// value the step is empty.
+func unfitPart(value json.RawMessage) (string, json.RawMessage) {
 	var members map[string]json.RawMessage
-	if json.Unmarshal(object, &members) != nil {
-		return "", false
-	}
-	names := make([]string, 0, len(members))
-	for name := range members {
-		names = append(names, name)
-	}
-	sort.Strings(names)
-	for _, name := range names {
-		at, length := slice([]byte(`{"a":` + string(members[name]) + `}`))
-		if C.jwt_check_numbers(at, length) == C.JWT_JSON {
-			return name, true
+	var elements []json.RawMessage
+	if json.Unmarshal(value, &members) == nil {
+		names := make([]string, 0, len(members))
+		for name := range members {
+			names = append(names, name)
+		}
+		sort.Strings(names)
+		for _, name := range names {
+			if hasUnfitNumber(members[name]) {
+				return "." + name, members[name]
+			}
+		}
+	} else if json.Unmarshal(value, &elements) == nil {
+		for i, it := range elements {
+			if hasUnfitNumber(it) {
+				return fmt.Sprintf("[%d]", i), it
+			}
 		}
 	}
-	return "", false
+	return "", nil
+}
+
+func hasUnfitNumber(value json.RawMessage) bool {
+	at, length := slice([]byte(`{"a":` + string(value) + `}`))
+	return C.jwt_check_numbers(at, length) == C.JWT_JSON
 }

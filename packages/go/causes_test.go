@@ -35,13 +35,17 @@ func TestCausesOfTokens(t *testing.T) {
 		{`{"alg":"HS256","kid":"a","crit":"x"}`, good, ": the header's crit is of another type"},
 		{`{"alg":"HS256","kid":"a","jwk":"x"}`, good, ": the header's jwk is of another type"},
 		{`{"alg":"HS256","kid":"a","x5t#S256":1}`, good, ": the header's x5t#S256 is of another type"},
-		{`{"alg":"HS256","kid":"a","price":{"of":[1.5]}}`, good, `: the header's "price" has a number that is not an integer of 64 bits`},
+		{`{"alg":"HS256","kid":"a","price":{"of":[1.5]}}`, good, `: the header's "price.of[0]" has a number that is not an integer of 64 bits`},
+		{`{"alg":"HS256","kid":"a","a":` + strings.Repeat("[", 20) + "1.5" + strings.Repeat("]", 20) + "}", good, `: the header's "a` + strings.Repeat("[0]", deepestPath-1) + `" has a number that is not an integer of 64 bits`},
 		{`{"alg":"HS256","kid":5,"x":"` + strings.Repeat("a", 9000) + `"}`, good, ": a member of the header"},
 		{`{"alg":"HS256"`, good, ": the header is not JSON"},
 		{`[]`, good, ": the header is not an object"},
 		{`null`, good, ": the header is not an object"},
 		{`{"alg":"HS256","kid":"a"}`, `{`, ": the payload is not JSON"},
 		{`{"alg":"HS256","kid":"a"}`, `[]`, ": the claims are not an object"},
+		{`{"alg":"HS256","kid":"a"}`, `{}`, ": Missing required claim: exp"},
+		{`{"alg":"HS256","kid":"a"}`, `{"exp":1700000000.5}`, ": Missing required claim: exp: it is there, but not a whole number of seconds"},
+		{`{"alg":"HS256","kid":"a"}`, `{"exp":null}`, ": Missing required claim: exp: it is there, but not a whole number of seconds"},
 	} {
 		_, err := parse(t, signed(it.header, it.claims, secret), set, []string{"HS256"})
 		if err == nil || !strings.HasSuffix(err.Error(), it.cause) {
@@ -69,12 +73,14 @@ func TestCausesOfArguments(t *testing.T) {
 		cause string
 	}{
 		{sign(map[string]any{"sub": "a", "price": 1.5, "total": 1e300}, "HS256", nil), ErrOption, `the claim "price" has a number`},
-		{sign(map[string]any{"a": []any{map[string]any{"b": json.Number("1e2")}}}, "HS256", nil), ErrOption, `the claim "a" has a number`},
+		{sign(map[string]any{"a": []any{map[string]any{"b": json.Number("1e2")}}}, "HS256", nil), ErrOption, `the claim "a[0].b" has a number`},
 		{sign(map[string]any{"n": json.Number("18446744073709551616")}, "HS256", nil), ErrOption, `the claim "n" has a number`},
 		{sign(map[string]any{}, "HS256", map[string]any{"x": 0.5}), ErrOption, `the header's "x" has a number`},
+		{sign(map[string]any{"": map[string]any{"a.b": 0.5}}, "HS256", nil), ErrOption, `the claim ".a.b" has a number`},
 		{sign(map[string]any{}, "HS256", map[string]any{"kid": 5}), ErrOption, "the header's kid is of another type"},
 		{sign(map[string]any{}, "ES256K", nil), ErrOption, `alg "ES256K" is none of the twelve`},
 		{sign([]any{}, "HS256", nil), ErrOption, "the claims are not an object"},
+		{only(NewVerifier(key, []string{"HS256"}, WithRequired("jti"))), ErrOption, `no rule for the claim "jti": check it in the method Validate`},
 		{only(NewVerifier(key, []string{"HS256", "ES256K"})), ErrOption, `"ES256K", which is none of the twelve`},
 		{only(ParseByVerdict(joesToken, Signature{Algorithm: "ES256"}, true, []string{"none"})), ErrOption, `"none", which is none of the twelve`},
 		{only(ParsePEM([]byte(private))), ErrKey, "it is a private key"},

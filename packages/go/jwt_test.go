@@ -142,7 +142,7 @@ func TestClaimOfError(t *testing.T) {
 		if !errors.Is(err, it.want) || !errors.As(err, &refused) || refused.Claim != it.claim {
 			t.Errorf("%s: %v, %+v, not of %q", it.claims, err, refused, it.claim)
 		}
-		if it.claim != "" && !strings.HasSuffix(err.Error(), ": "+it.claim) {
+		if it.claim != "" && !strings.Contains(err.Error(), ": "+it.claim) {
 			t.Errorf("%v does not name %s", err, it.claim)
 		}
 	}

@@ -257,7 +257,7 @@ func fetchBy(client *http.Client, uri string) Fetch {
 		}
 		defer response.Body.Close()
 		if response.StatusCode != http.StatusOK {
-			return nil, fmt.Errorf("the status is %d", response.StatusCode)
+			return nil, fmt.Errorf("%s: the status is %d", request.URL.Redacted(), response.StatusCode)
 		}
 		return io.ReadAll(io.LimitReader(response.Body, largestSet+1))
 	}

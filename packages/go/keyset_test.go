@@ -552,7 +552,7 @@ func TestUndecided(t *testing.T) {
 		_, err := verifier.Parse(tokenOf("b", "b"))
 		var refused *Error
 		if !errors.Is(err, ErrFetch) || !errors.Is(err, ErrUnknownKey) || !errors.As(err, &refused) || refused.Test != "KeyIsFound" ||
-			!strings.Contains(err.Error(), "the status is 503") {
+			!strings.Contains(err.Error(), server.uri+": the status is 503") {
 			t.Error(err)
 		}
 	}
@@ -891,6 +891,11 @@ func TestRedirects(t *testing.T) {
 	defer secure.Close()
 	_, err := FetchKeySet(context.Background(), secure.URL, secure.Client())
 	if !errors.Is(err, ErrFetch) || !strings.Contains(err.Error(), "from https to http") {
+		t.Error(err)
+	}
+	missing := serve(t, sends(head("404 Not Found", 0, "")))
+	_, err = FetchKeySet(context.Background(), strings.Replace(missing.uri, "http://", "http://user:password@", 1), nil)
+	if !errors.Is(err, ErrFetch) || !strings.Contains(err.Error(), "@"+strings.TrimPrefix(missing.uri, "http://")+": the status is 404") || strings.Contains(err.Error(), "password") {
 		t.Error(err)
 	}
 	upgrading := serve(t, redirects(secure.URL))

@@ -12,7 +12,7 @@ import (
 
 // The kinds of refusals of a request, besides those of its token.
 var (
-	// ErrNoToken is a request that has no token.
+	// ErrNoToken is a request that has no token. The text of the error says where it was looked for.
 	ErrNoToken = errors.New("jwt: the request has no token")
 	// ErrRequest is a request that has several headers Authorization.
 	ErrRequest = errors.New("jwt: the request has several headers Authorization")
@@ -44,7 +44,7 @@ func WithTokenFrom(find func(*http.Request) string) MiddlewareOption {
 		by.token = func(request *http.Request) (string, error) {
 			token := find(request)
 			if token == "" {
-				return "", ErrNoToken
+				return "", fmt.Errorf("%w: the function of WithTokenFrom found none", ErrNoToken)
 			}
 			return token, nil
 		}
@@ -169,11 +169,11 @@ func bearerToken(request *http.Request) (string, error) {
 		return "", ErrRequest
 	}
 	if len(values) == 0 {
-		return "", ErrNoToken
+		return "", fmt.Errorf("%w: there is no header Authorization", ErrNoToken)
 	}
 	scheme, token, _ := strings.Cut(values[0], " ")
 	if !strings.EqualFold(scheme, "Bearer") {
-		return "", ErrNoToken
+		return "", fmt.Errorf("%w: the header Authorization does not begin with %q", ErrNoToken, "Bearer ")
 	}
 	return strings.TrimLeft(token, " "), nil
 }

@@ -129,6 +129,30 @@ func TestMiddlewareWithoutVerdict(t *testing.T) {
 	ask(signed(`{"alg":"HS256"}`, `{"exp":1}`, secret), 500, ErrOption)
 }
 
+// TestNoTokenInText has requests without a token: the error says where it was looked for.
+func TestNoTokenInText(t *testing.T) {
+	verifier, err := NewVerifier(secretOf(t, secret), []string{"HS256"})
+	if err != nil {
+		t.Fatal(err)
+	}
+	finds := WithTokenFrom(func(*http.Request) string { return "" })
+	for _, it := range []struct {
+		values []string
+		with   []MiddlewareOption
+		text   string
+	}{
+		{nil, nil, "there is no header Authorization"},
+		{[]string{"eyJh.e30.AAAA"}, nil, `does not begin with "Bearer "`},
+		{[]string{"Bearer a"}, []MiddlewareOption{finds}, "the function of WithTokenFrom found none"},
+	} {
+		guarded, _, logged := guarding(t, verifier, it.with...)
+		asked(guarded, "Authorization", it.values...)
+		if !errors.Is(*logged, ErrNoToken) || !strings.Contains((*logged).Error(), it.text) {
+			t.Error(*logged)
+		}
+	}
+}
+
 // TestTokenFrom has the token in a cookie, and not in the header.
 func TestTokenFrom(t *testing.T) {
 	verifier, err := NewVerifier(secretOf(t, secret), []string{"HS256"}, at(now))

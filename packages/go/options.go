@@ -137,7 +137,7 @@ func WithRequired(claims ...string) Option {
 			case "exp", "nbf", "aud", "iss", "sub":
 				asked.Required = append(asked.Required, it)
 			default:
-				return optionError("WithRequired: the library has no rule for the claim %q", it)
+				return optionError("WithRequired: the library has no rule for the claim %q: check it in the method Validate of your type of claims", it)
 			}
 		}
 		return checkTexts("WithRequired", claims...)
