@@ -263,7 +263,8 @@ func fetchBy(client *http.Client, uri string) Fetch {
 	}
 }
 
-// Key returns the set as a key for NewVerifier. Its verifiers follow the set as it changes.
+// Key returns the set as a key for NewVerifier. Its verifiers follow the set as it changes. Each prepares at most 1 MiB of its keys, such as 64
+// on P-256.
 func (s *KeySet) Key() Key {
 	if s == nil || s.current.Load() == nil {
 		return Key{}
