@@ -5,6 +5,7 @@ package jwt
 import (
 	"bytes"
 	"encoding/json"
+	"reflect"
 	"strconv"
 	"strings"
 	"time"
@@ -103,24 +104,63 @@ func claimsText(claims any) ([]byte, error) {
 	if json.Unmarshal(text, &members) != nil {
 		return text, nil // the library says that it is no object
 	}
-	values, _ := claims.(map[string]any)
 	for _, name := range []string{"exp", "nbf", "iat"} {
-		if err := checkTime(name, members[name], values[name]); err != nil {
+		if span, is := durationIn(reflect.ValueOf(claims), name); is {
+			return nil, optionError("the claim %s is the time.Duration %v: write jwt.NewNumericDate(time.Now().Add(d))", name, span)
+		}
+		if err := checkTime(name, members[name]); err != nil {
 			return nil, err
 		}
 	}
 	return text, nil
 }
 
+// durationIn returns the claim of a map or a struct that is a time.Duration. JSON has its nanoseconds, and those of some minutes are a time
+// before the year 9999. What a type writes by its own MarshalJSON is not looked at.
+func durationIn(claims reflect.Value, name string) (time.Duration, bool) {
+	if !claims.IsValid() || claims.Type().Implements(reflect.TypeOf((*json.Marshaler)(nil)).Elem()) {
+		return 0, false
+	}
+	switch claims.Kind() {
+	case reflect.Pointer, reflect.Interface:
+		return durationIn(claims.Elem(), name)
+	case reflect.Map:
+		if key := claims.Type().Key(); key.Kind() == reflect.String {
+			return durationOf(claims.MapIndex(reflect.ValueOf(name).Convert(key)))
+		}
+	case reflect.Struct:
+		for i := 0; i < claims.NumField(); i++ {
+			field := claims.Type().Field(i)
+			span, is := time.Duration(0), false
+			if called, _, _ := strings.Cut(field.Tag.Get("json"), ","); called == name {
+				span, is = durationOf(claims.Field(i))
+			} else if field.Anonymous && called == "" {
+				span, is = durationIn(claims.Field(i), name)
+			}
+			if is {
+				return span, true
+			}
+		}
+	}
+	return 0, false
+}
+
+// durationOf returns a value, or what it leads to, as a time.Duration.
+func durationOf(value reflect.Value) (time.Duration, bool) {
+	for value.Kind() == reflect.Pointer || value.Kind() == reflect.Interface {
+		value = value.Elem()
+	}
+	if !value.IsValid() || value.Type() != reflect.TypeOf(time.Duration(0)) {
+		return 0, false
+	}
+	return time.Duration(value.Int()), true
+}
+
 // lastSecond is the last one of the year 9999. Milliseconds and nanoseconds of our time are greater.
 const lastSecond = 253402300799
 
-// checkTime returns an error if a claim is there, and is not a whole number of seconds from 1970 to the year 9999. A value of a map shows
-// that it is a time.Duration; the nanoseconds of a short one would be such a number.
-func checkTime(name string, text json.RawMessage, value any) error {
-	if span, is := value.(time.Duration); is {
-		return optionError("the claim %s is the time.Duration %v: write jwt.NewNumericDate(time.Now().Add(d))", name, span)
-	}
+// checkTime returns an error if a claim is there, and is not a whole number of seconds from 1970 to the year 9999.
+func checkTime(name string, text json.RawMessage) error {
 	if text == nil {
 		return nil
 	}

@@ -298,6 +298,13 @@ func TestClaimsOfSigner(t *testing.T) {
 	}
 }
 
+// writesItself is a time.Duration in Go, and a time in JSON.
+type writesItself struct {
+	At time.Duration `json:"exp"`
+}
+
+func (writesItself) MarshalJSON() ([]byte, error) { return []byte(`{"exp":1700000000}`), nil }
+
 // TestTimesOfClaims has values of exp, nbf and iat, and a part of the error of each way to sign, or "" if it signs. RFC 7519 section 2 has
 // times as numbers of seconds.
 func TestTimesOfClaims(t *testing.T) {
@@ -311,6 +318,13 @@ func TestTimesOfClaims(t *testing.T) {
 	type omitted struct {
 		At *NumericDate `json:"nbf,omitempty"`
 	}
+	type spanning struct {
+		Other time.Duration `json:"ttl"`
+		At    time.Duration `json:"exp"`
+	}
+	type span struct{ spanning }
+	type text string
+	second := time.Second
 	in := func(name string) func(any) any { return func(it any) any { return map[string]any{name: it} } }
 	year9999, write := time.Date(9999, 12, 31, 23, 59, 59, 999, time.UTC), "write jwt.NewNumericDate("
 	rows := []struct {
@@ -325,7 +339,14 @@ func TestTimesOfClaims(t *testing.T) {
 		}{time.Unix(now, 0).UTC()}, `the claim exp is "2023-11-14T22:13:20Z", and not in whole seconds`},
 		{struct {
 			At time.Duration `json:"exp"`
-		}{time.Hour}, "the claim exp is 3600000000000, and not in whole seconds"},
+		}{time.Hour}, "the claim exp is the time.Duration 1h0m0s: " + write},
+		{span{spanning{At: 5 * time.Second}}, "the claim exp is the time.Duration 5s: " + write},
+		{&span{}, "the claim exp is the time.Duration 0s: " + write},
+		{map[text]*time.Duration{"exp": &second}, "the claim exp is the time.Duration 1s: " + write},
+		{map[text]any{"exp": now, "a": time.Second, "nbf": (*time.Duration)(nil)}, "the claim nbf is null"},
+		{map[text]any{"exp": now, "ttl": time.Second}, ""},
+		{writesItself{time.Minute}, ""},
+		{map[int]time.Duration{5: 5}, ""},
 		{map[string]string{"iat": "1700000000"}, `the claim iat is "1700000000", `},
 		{json.RawMessage(`{"exp":1,"\u0065xp":null}`), "the claim exp is null"},
 		{json.RawMessage(`{"exp":null,"exp":1,"Exp":null,"a":{"exp":null}}`), ""},
@@ -335,7 +356,7 @@ func TestTimesOfClaims(t *testing.T) {
 			0: "", now: "", uint64(now): "", float64(now): "", json.Number("253402300799"): "", NewNumericDate(year9999): "", *NewNumericDate(time.Unix(now, 5)): "",
 			NewNumericDate(year9999.Add(time.Second)): write, 253402300800: write, time.UnixMilli(now * 1000).UnixMilli(): write, json.Number("18446744073709551616"): write,
 			nil: "is null", true: write, "": write, "1700000000": write, -1: write, json.Number("-0"): write, 1.5: write, json.Number("1.0"): write, json.Number("17e8"): write,
-			time.Unix(now, 0): write, [1]int{now}: write, time.Hour: write, 5 * time.Second: "is the time.Duration 5s: write jwt.NewNumericDate(time.Now().Add(d))",
+			time.Unix(now, 0): write, [1]int{now}: write, time.Hour: "is the time.Duration 1h0m0s: write", 5 * time.Second: "is the time.Duration 5s: write jwt.NewNumericDate(time.Now().Add(d))",
 		} {
 			rows = append(rows, struct {
 				claims any
