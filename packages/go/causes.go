@@ -20,8 +20,8 @@ import (
 // headerNames are the members of a header that have a type (RFC 7515 section 4.1, RFC 7516 section 4.1, RFC 8555 section 6), after alg.
 var headerNames = []string{"typ", "cty", "jku", "jwk", "kid", "x5u", "x5c", "x5t", "x5t#S256", "crit", "enc", "zip", "url", "nonce"}
 
-// longestText is how many bytes of a text that anyone can have written stand in an error, longestHeader how long a header is looked at, and
-// deepestPath how many steps the path to a number has.
+// longestText is how many bytes of a text from the token an error shows. A longer header than longestHeader is not searched for its fault.
+// deepestPath is how many steps the path to a number has.
 const (
 	longestText   = 100
 	longestHeader = 8192
@@ -67,7 +67,7 @@ func causeOf(status C.enum_jwt_status, test C.uint32_t, token string) string {
 	return ""
 }
 
-// malformedClaim returns what is at fault in a claim that is there, and has no value that the library reads. A missing one has no fault.
+// malformedClaim returns the fault of a required claim whose value the library does not read, or "" if the claim is missing.
 func malformedClaim(name, token string) string {
 	parts := strings.Split(token, ".")
 	if len(parts) != 3 {

@@ -105,7 +105,7 @@ func TestReadClaims(t *testing.T) {
 	}
 }
 
-// profile has each way in which a struct keeps what was read before.
+// profile keeps earlier claims in several ways: in pointers, structs, maps and slices.
 type profile struct {
 	*RegisteredClaims
 	Role   string `json:"role"`
@@ -116,7 +116,7 @@ type profile struct {
 	seen   int
 }
 
-// TestReusedTargets reads the claims of two tokens into one value: it has those of the second one alone, as a new value has.
+// TestReusedTargets reads the claims of two tokens into one value. Then the value equals a new one with the claims of the second token.
 func TestReusedTargets(t *testing.T) {
 	admin := claimsOfAny(t, `{"sub":"ada","jti":"j","role":"admin","admin":true,"realm":{"roles":["a","b"]},"groups":{"a":"1"},"text":"YQ=="}`)
 	guest := claimsOfAny(t, `{"sub":"bob","role":null,"groups":{"b":"2"}}`)

@@ -77,8 +77,8 @@ func (t *Token) Header() (map[string]any, error) {
 // Claims reads the claims into a value, as json.Unmarshal does, and then calls its method Validate, if it has one. A float, and an integer
 // beyond 64 bits, is the nearest double.
 //
-// Claims first sets the value to the zero value of its type, so a value that was used before has the claims of this token alone. Fields
-// that are no claims become zero too; a map is replaced by a new one. If Claims returns an error, the value is zero.
+// Claims first sets the value to the zero value of its type, so a reused value has the claims of this token alone. Fields without a claim
+// become zero too, and a new map replaces a map. If Claims returns an error, the value is zero.
 //
 // The error is ErrMalformedClaim if a claim is of another type than its field, with Error.Claim, ErrInvalidClaims if Validate returned an
 // error, and ErrOption if the value is not one that claims are read into.

@@ -366,7 +366,7 @@ func (s *KeySet) end(begun *flight, found *fetched, err error) {
 	close(begun.ended)
 }
 
-// usable returns the set that is fetched, if it is usable. If its text is the same as before, it is the set before, with its handles.
+// usable fetches a set, and returns it if it is usable. If the text is the same as before, usable returns the set before, with its handles.
 func (s *KeySet) usable(ctx context.Context) (*fetched, error) {
 	text, err := s.fetch(ctx)
 	if err != nil {

@@ -842,11 +842,12 @@ func TestManyKeys(t *testing.T) {
 		t.Error(err)
 	}
 	// the set is not read for each token
+	known, forged, unknown := tokenOf("9999", "9999"), tokenOf("9999", "9998"), tokenOf("x", "x")
 	begin := time.Now()
 	for i := 0; i < 50; i++ {
-		wants(t, verifier, tokenOf("9999", "9999"), nil)
-		wants(t, verifier, tokenOf("9999", "9998"), ErrSignature)
-		wants(t, verifier, tokenOf("x", "x"), ErrUnknownKey)
+		wants(t, verifier, known, nil)
+		wants(t, verifier, forged, ErrSignature)
+		wants(t, verifier, unknown, ErrUnknownKey)
 	}
 	if took := time.Since(begin); took > time.Second {
 		t.Error(took)

@@ -114,7 +114,7 @@ type preparedSize = C.size_t
 const (
 	forManyTokens preparedSize = 0 // that of the library, JWT_PREPARED_LIMIT
 	forOneToken   preparedSize = C.JWT_PREPARE_NOTHING
-	// forFetchedSet has room for 64 keys on P-256. Whoever serves a set decides how many keys it has, and to prepare thousands takes seconds.
+	// forFetchedSet has room for 64 keys on P-256. A key server can send thousands of keys, and preparing them all takes seconds.
 	forFetchedSet preparedSize = 1 << 20
 )
 

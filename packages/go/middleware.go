@@ -31,7 +31,7 @@ type guard struct {
 	given    onlyOnce
 }
 
-// MiddlewareOption changes what Middleware does. Each may be given once, but for WithClaims and WithAccess.
+// MiddlewareOption changes what Middleware does. Only WithClaims and WithAccess may be given several times.
 type MiddlewareOption func(*guard) error
 
 // WithTokenFrom takes the token from what this function returns, such as the value of a cookie, instead of the header Authorization. An

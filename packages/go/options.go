@@ -29,13 +29,14 @@ type options struct {
 	given       onlyOnce
 }
 
-// Option is a condition on a token. Each may be given once, but for WithRequired: a second one would replace the first, or widen it.
+// Option is a condition on a token. Only WithRequired may be given several times: any other second option is ErrOption, since it would
+// replace or widen the first.
 type Option func(*options) error
 
-// onlyOnce has the names of the options that are given.
+// onlyOnce has the names of the options so far.
 type onlyOnce map[string]bool
 
-// What an error says of an option that is given twice.
+// The advice in the error of a second option.
 const (
 	inOneCall   = "give all values in one call"
 	leaveOneOut = "leave one of the two out"

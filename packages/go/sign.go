@@ -115,8 +115,8 @@ func claimsText(claims any) ([]byte, error) {
 	return text, nil
 }
 
-// durationIn returns the claim of a map or a struct that is a time.Duration. JSON has its nanoseconds, and those of some minutes are a time
-// before the year 9999. What a type writes by its own MarshalJSON is not looked at.
+// durationIn returns the claim of a map or a struct if it is a time.Duration. In JSON it would be nanoseconds, and four minutes a time before
+// the year 9999. A type with a method MarshalJSON may write a time, so durationIn skips it.
 func durationIn(claims reflect.Value, name string) (time.Duration, bool) {
 	if !claims.IsValid() || claims.Type().Implements(reflect.TypeOf((*json.Marshaler)(nil)).Elem()) {
 		return 0, false

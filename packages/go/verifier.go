@@ -18,7 +18,7 @@ type verifying struct {
 	options  []byte
 	key      Key
 	prepared preparedSize
-	set      *KeySet // that of the key, or nil
+	set      *KeySet // nil for a key that stays
 	current  atomic.Pointer[handleSet]
 }
 

@@ -107,7 +107,7 @@ struct Fetched {
     verifiers: Mutex<Vec<(Validation, Arc<Made>)>>,
 }
 
-/// A verifier, or why there is none, as soon as a call has made it.
+/// A verifier or the error of making it, as soon as a call has made it.
 type Made = Mutex<Option<Result<Arc<Verifier>>>>;
 
 impl Fetched {

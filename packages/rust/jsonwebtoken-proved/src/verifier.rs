@@ -187,7 +187,7 @@ impl Verifier {
         Verifier::made(kind, text, validation, 0, planned)
     }
 
-    /// Returns the verifier of a set that was fetched and checked, and conditions.
+    /// Returns the verifier of a fetched set, which was checked before, and conditions.
     pub(crate) fn of_fetched(set: &str, validation: &Validation) -> Result<Verifier> {
         Verifier::made(Kind::Set, set.as_bytes(), validation, 0, Use::Fetched)
     }

@@ -15,8 +15,8 @@ pub enum Use {
     Once,
     /// For many tokens: keys are prepared up to the library's limit.
     Often,
-    /// For many tokens by a set that is fetched: keys are prepared up to 1 MiB, 64 keys on P-256. Whoever serves a set decides how many
-    /// keys it has, and to prepare thousands takes seconds.
+    /// For many tokens by a fetched set: keys are prepared up to 1 MiB, 64 keys on P-256. A key server can send thousands of keys, and
+    /// preparing them all takes seconds.
     Fetched,
 }
 
