@@ -640,8 +640,7 @@ static int verify(const char *way, const char *set, const char *options, const c
     uint64_t last;
     uint32_t test, status = JWT_OK;
     if (!is_anew)
-        status = jwt_verifier_set(TEXT(set), TEXT(options), 0, false,
-                                  strcmp(way, "unprepared") == 0 ? JWT_PREPARE_NOTHING : 0, &verifier);
+        status = jwt_verifier_set(TEXT(set), TEXT(options), 0, false, strtoull(way, NULL, 10), &verifier);
     for (; status == JWT_OK && count > 0; count--)
         status = is_anew ? jwt_decode_set(TEXT(token), TEXT(set), TEXT(options), 1700000000, room, ROOM, &len)
                          : jwt_verifier_decode(&verifier, TEXT(token), 1700000000, room, ROOM, &len, &last, &test);
@@ -650,7 +649,8 @@ static int verify(const char *way, const char *set, const char *options, const c
 }
 
 int main(int argc, char **argv) {
-    if (argc == 6) /* prepared|unprepared|anew SET OPTIONS TOKEN COUNT, for tests/programs/verified_once */
+    /* anew, or the greatest number of bytes of prepared keys; SET OPTIONS TOKEN COUNT: for tests/programs/verified_once */
+    if (argc == 6)
         return verify(argv[1], argv[2], argv[3], argv[4], atoi(argv[5]));
     is_few = argc > 1 && strcmp(argv[1], "few") == 0;
     size_t step = is_few ? 400 : 23;

@@ -1,3 +1,4 @@
 pub mod CurveLemmas
 pub mod OrderLemmas
+pub mod PreparedLemmas
 pub mod RingLemmas

@@ -32,13 +32,12 @@ abbrev pub HasBlank : Keys → Type 0
 HasBlank (One key) = IsBlankKey key
 HasBlank (Set set) = HasBlankKey set.keys.items
 
--- anyone may be able to sign, or nobody can
+-- all-zero secrets are allowed, or there is none
 abbrev pub AreSafe : Bool → Keys → Type 0
 AreSafe allows_blank keys = IsTrue allows_blank ⊎ (¬ HasBlank keys)
 
--- one family has all the algorithms: else every token is refused, since each listed algorithm has to be of the family
--- of the token's
--- (RFC 8725 section 3.1)
+-- one family has all the algorithms: otherwise every token is refused, since each listed algorithm must be of the family of
+-- the token's algorithm (RFC 8725 section 3.1)
 abbrev pub AreOfOneFamily : List Algorithm → Type 0
 AreOfOneFamily algorithms = (f : AlgorithmFamily) × All (λ a. family_of a ≡ f) algorithms
 

@@ -1,7 +1,9 @@
 pub mod Fitness
 pub mod KeyVerifiers
 pub mod PreparedOf
+pub mod PreparedSize
 pub mod Ring
 pub mod RingFound
 pub mod RingKeys
+pub mod RingValue
 pub mod Verifying

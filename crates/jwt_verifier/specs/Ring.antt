@@ -1,4 +1,4 @@
--- What a ring of keys has of the keys that it was made of.
+-- The entries of a key ring, by the keys that it was made of.
 use Rattle.std.specs.Prelude.{◌≡◌, ⊤, ◌<◌, List, Option, Some, None, length, get_or}
 use Rattle.jwt_keys.specs.Key.{Key}
 use Rattle.jwt_keys.specs.KeyOfJwk.{IsKeyOf}

@@ -4,12 +4,16 @@
 // it keeps, it refuses and accepts as `StandardProvider` does. Another kind of key that is prepared
 // is a variant of `Prepared`, its bytes in `Prepared::new`, and a variant of `KeyVerifier`.
 
-ghost use Rattle.std.specs.Prelude.{◌≡◌, ◌↔◌, ℕ, List, None, IfOk, IfErr, IfSome, Ok, OnOk};
+ghost use Rattle.std.specs.Prelude.{◌≡◌, ◌↔◌, ◌+◌, ◌≤◌, ℕ, List, None, IfOk, IfErr, IfSome, Ok, OnOk};
+ghost use Rattle.std.specs.Prelude.{IsTrue};
+ghost use Rattle.std.specs.List.{Any};
+ghost use Rattle.jwt_base.specs.Algorithm.{family_of};
 ghost use Rattle.jwt_base.specs.declared.algorithms.AlgorithmFamily.TheVariants as family;
 ghost use Rattle.jwt_base.specs.KindOf.{IsMemory, Refuses};
-ghost use Rattle.jwt_keys.specs.Key.{Components, Plain};
+ghost use Rattle.jwt_keys.specs.Key.{Bytes, Components, Plain, key_content};
 ghost use Rattle.jwt_standard.specs.StandardKeys.{verifier_refusal, StandardAccepts};
-ghost use Rattle.jwt_verifier.specs.PreparedOf.{IsPreparedOf};
+ghost use Rattle.jwt_verifier.specs.PreparedOf.{IsNeeded, IsPreparedOf};
+ghost use Rattle.jwt_verifier.specs.PreparedSize.{point_size, prepared_size, rsa_size, secret_size};
 
 use crate::budget::Budget;
 use crate::key_verifier::KeyVerifier;
@@ -70,6 +74,8 @@ impl Prepared {
     ) -> Checked<Prepared>
         ensures ok { IfOk result (IsPreparedOf key.now) }
         ensures err { IfErr result IsMemory }
+        ensures needed { IfOk result (IsNeeded algorithms.now key.now) }
+        ensures room { IfOk result (λ p. prepared_size p + budget.new.left ≤ budget.old.left) }
     {
         if !are_of_family(algorithms, key.family()) {
             return Ok(Prepared::Nothing);
@@ -82,7 +88,7 @@ impl Prepared {
                 prepare_rsa(alloc, n.as_slice(), e.as_slice(), budget)
             }
             DecodingKeyKind::SecretOrDer(point) => {
-                prepare_curve(alloc, key, point.len(), budget)
+                prepare_curve(alloc, key, point.as_slice(), budget)
             }
         }
     }
@@ -116,7 +122,9 @@ impl Prepared {
 }
 
 /// Returns whether one of the algorithms is of this family.
-fn are_of_family(algorithms: &[Algorithm], family: AlgorithmFamily) -> bool {
+fn are_of_family(algorithms: &[Algorithm], family: AlgorithmFamily) -> bool
+    ensures { IsTrue result ↔ Any (λ a. family_of a ≡ family) algorithms.now }
+{
     algorithms
         .iter()
         .any(|algorithm| algorithm.family() == family)
@@ -153,10 +161,12 @@ fn prepare_secret(
 ) -> Checked<Prepared>
     ensures ok { IfOk result (IsPreparedOf (Plain family.Hmac secret.now)) }
     ensures err { IfErr result IsMemory }
+    ensures room { IfOk result (λ p. prepared_size p + budget.new.left ≤ budget.old.left) }
 {
+    let size = KEY_SIZE + secret.len();
     let mut prepared = Prepared::Nothing;
     for algorithm in algorithms {
-        if budget.take(KEY_SIZE.saturating_add(secret.len())) {
+        if budget.take(size) {
             add_secret(alloc, &mut prepared, *algorithm, secret)?;
         }
     }
@@ -173,6 +183,8 @@ fn add_secret(
     ensures ok { OnOk result (IsPreparedOf (Plain family.Hmac secret.now) prepared.old
         → IsPreparedOf (Plain family.Hmac secret.now) prepared.new) }
     ensures err { IfErr result IsMemory }
+    ensures room { OnOk result
+        (prepared_size prepared.new ≤ prepared_size prepared.old + secret_size secret.now) }
 {
     if let Prepared::Secret(secrets) = prepared {
         return added(PreparedHmac::add(secrets, alloc, algorithm, secret));
@@ -188,9 +200,12 @@ fn add_secret(
 fn prepare_rsa(alloc: Global, n: &[u8], e: &[u8], budget: &mut Budget) -> Checked<Prepared>
     ensures ok { IfOk result (IsPreparedOf (Components n.now e.now)) }
     ensures err { IfErr result IsMemory }
+    ensures room { IfOk result (λ p. prepared_size p + budget.new.left ≤ budget.old.left) }
 {
-    let size = n.len().saturating_mul(MODULUS_TIMES);
-    if !budget.take(KEY_SIZE.saturating_add(size)) {
+    let Some(size) = modulus_size(n.len()) else {
+        return Ok(Prepared::Nothing);
+    };
+    if !budget.take(size) {
         return Ok(Prepared::Nothing);
     }
     let mut rsa = PreparedRsa::new(alloc);
@@ -198,17 +213,27 @@ fn prepare_rsa(alloc: Global, n: &[u8], e: &[u8], budget: &mut Budget) -> Checke
     Ok(Prepared::Rsa(rsa))
 }
 
-/// Prepares a key on a curve with a point of this length, if there is room for it.
+/// Returns the bytes that a prepared RSA key with a modulus of this length takes, if that is a
+/// number of bytes.
+fn modulus_size(length: usize) -> Option<usize>
+    ensures { IfSome result (λ size. size ≡ rsa_size length) }
+{
+    length.checked_mul(MODULUS_TIMES)?.checked_add(KEY_SIZE)
+}
+
+/// Prepares a key on a curve with this point, if there is room for it.
 fn prepare_curve(
     alloc: Global,
     key: &DecodingKey,
-    length: usize,
+    point: &[u8],
     budget: &mut Budget,
 ) -> Checked<Prepared>
+    requires { key_content key.now ≡ Bytes point.now }
     ensures ok { IfOk result (IsPreparedOf key.now) }
     ensures err { IfErr result IsMemory }
+    ensures room { IfOk result (λ p. prepared_size p + budget.new.left ≤ budget.old.left) }
 {
-    if !budget.take(curve_size(key.family(), length)) {
+    if !budget.take(curve_size(key.family(), point.len())) {
         return Ok(Prepared::Nothing);
     }
     match PreparedCurve::new(alloc, key)? {
@@ -217,14 +242,14 @@ fn prepare_curve(
     }
 }
 
-/// Returns the bytes that a prepared key on a curve takes.
-fn curve_size(family: AlgorithmFamily, length: usize) -> usize {
-    if family == AlgorithmFamily::Ed {
-        ED25519_SIZE
-    } else if length > P256_POINT {
-        P384_SIZE
-    } else {
-        P256_SIZE
+/// Returns the bytes that a prepared key on a curve with a point of this length takes.
+fn curve_size(family: AlgorithmFamily, length: usize) -> usize
+    ensures { result ≡ point_size family length }
+{
+    match family {
+        AlgorithmFamily::Ed => ED25519_SIZE,
+        _ if length > P256_POINT => P384_SIZE,
+        _ => P256_SIZE,
     }
 }
 

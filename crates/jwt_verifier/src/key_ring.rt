@@ -4,11 +4,17 @@
 // the keys that are prepared are the first ones, and none that no token finds. A key of no use has
 // an entry too, without a key, and a token that names it is refused as by the set.
 
-ghost use Rattle.std.specs.Prelude.{◌≡◌, ◌<◌, ◌+◌, IfOk, IfErr, IfSome, OnOk, get_or, length};
+ghost use Rattle.std.specs.Prelude.{◌≡◌, ◌<◌, ◌≤◌, ◌+◌, IfOk, IfErr, IfSome, OnOk, get_or, length};
+ghost use Rattle.std.specs.Prelude.{All, Contains, Some};
 ghost use Rattle.jwt_base.specs.KindOf.{IsMemory};
 ghost use Rattle.jwt_keys.specs.declared.jwk.Jwk.{Jwk as JwkValue};
 ghost use Rattle.jwt_keys.specs.KeyOfJwk.{IsKeyOf};
 ghost use Rattle.jsonwebtoken.specs.Finder.{FindsKey, own_by};
+ghost use Rattle.jsonwebtoken.specs.Own.{own_of};
+ghost use Rattle.jsonwebtoken.specs.Tests.{AgreesWith};
+ghost use Rattle.jwt_keys.specs.Key.{Key};
+ghost use Rattle.jwt_verifier.specs.PreparedOf.{IsNeededOf, IsPreparedOf};
+ghost use Rattle.jwt_verifier.specs.PreparedSize.{named_size, prepared_size};
 ghost use Rattle.jwt_verifier.specs.Ring.{IsEntryOf};
 ghost use Rattle.jwt_verifier.specs.RingFound.{IsFit, found_key};
 ghost use Rattle.jwt_verifier.specs.RingKeys.{IsGivenOf, IsIndexOf, IsIndexUpTo, IsNamedOf};
@@ -29,7 +35,7 @@ use std::result::Result;
 
 /// Keys that are made once, and serve many tokens: the key that is given, or those of a set, of
 /// which the first with each `kid` is found by it (RFC 7517 section 4.5). A contract sees the keys
-/// that it was made of.
+/// that it was made of, and the bytes that the prepared ones take together.
 ///
 /// A reference to it is a [`KeyFinder`](jsonwebtoken::KeyFinder): the calls over a finder return
 /// with it what `decode` or `decode_with_set` returns by `StandardProvider` with these keys. Finding
@@ -42,15 +48,19 @@ pub struct KeyRing {
 }
 
 impl Model for KeyRing {
-    ghost use Rattle.jwt_verifier.specs.contracts.keys.Keys.{the_row};
-    ghost use Rattle.jwt_verifier.specs.declared.keys.Keys.{Keys};
+    ghost use Rattle.std.specs.Prelude.{◌+◌};
+    ghost use Rattle.jwt_verifier.specs.PreparedSize.{named_size, prepared_size};
     ghost use Rattle.jwt_verifier.specs.RingKeys.{IsRingOf};
+    ghost use Rattle.jwt_verifier.specs.RingValue.{Ring, ring_code};
 
-    ghost Value = { Keys };
+    ghost Value = { Ring };
 
-    ghost coded = { the_row.coded };
+    ghost coded = { ring_code };
 
-    ghost view = { λ ring. ring.keys };
+    ghost view = { λ ring. record {
+      keys = ring.keys;
+      prepared = prepared_size ring.given + named_size ring.named;
+    } };
 
     ghost invariant = { λ ring. IsRingOf ring.keys ring.given ring.named };
 }
@@ -59,18 +69,20 @@ impl KeyRing {
     /// Returns the ring of these keys, which refuses none: keys that serve no token are refused when
     /// one names them. The only refusal is `OutOfMemory`.
     ///
-    /// It prepares the keys to verify with these algorithms, or with its own one if a key of a set
-    /// is for one (RFC 7517 section 4.4), from the first key to the last, as long as they take at
-    /// most `prepared` bytes together; the others verify too, with the same result. A secret takes
-    /// 1 KiB and its length for each of the algorithms, an RSA key 1 KiB and four times the length
-    /// of its modulus, and a key on P-256, P-384 or of Ed25519 16, 24 or 32 KiB.
+    /// It prepares the keys to verify with these algorithms, from the first key to the last, as long
+    /// as they take at most `prepared` bytes together; the others verify too, with the same result.
+    /// A key of a set that is for one algorithm (RFC 7517 section 4.4) is prepared for it alone, and
+    /// only if it is among these. A secret takes 1 KiB and its length for each of the algorithms, an
+    /// RSA key 1 KiB and four times the length of its modulus, and a key on P-256, P-384 or of
+    /// Ed25519 16, 24 or 32 KiB.
     pub fn new(
         alloc: Global,
         keys: Keys,
         algorithms: &[Algorithm],
         prepared: usize,
     ) -> Checked<KeyRing>
-        ensures ok { IfOk result (λ ring. ring ≡ keys) }
+        ensures ok { IfOk result (λ ring. ring.keys ≡ keys) }
+        ensures room { IfOk result (λ ring. ring.prepared ≤ prepared) }
         ensures err { IfErr result IsMemory }
     {
         let mut budget = Budget { left: prepared };
@@ -81,7 +93,7 @@ impl KeyRing {
 
     /// Returns the keys that it was made of.
     pub fn keys(&self) -> &Keys
-        ensures { result.now ≡ self.now }
+        ensures { result.now ≡ self.now.keys }
     {
         &self.keys
     }
@@ -92,7 +104,7 @@ impl KeyRing {
         alloc: Global,
         header: &Header,
     ) -> Result<Found<'r>, Refusal>
-        ensures found { FindsKey (source_of self.now) found_key header.now result }
+        ensures found { FindsKey (source_of self.now.keys) found_key header.now result }
         ensures fit { IfOk result IsFit }
     {
         find_in(alloc, &self.keys, &self.given, &self.named, header)
@@ -100,7 +112,7 @@ impl KeyRing {
 
     /// Returns the algorithm that the key of the token with this header is for, if it is one of a set.
     pub(crate) fn find_own(&self, header: &Header) -> Option<Algorithm>
-        ensures { result ≡ own_by (source_of self.now) header.now }
+        ensures { result ≡ own_by (source_of self.now.keys) header.now }
     {
         own_in(&self.keys, &self.named, header)
     }
@@ -115,6 +127,7 @@ fn given_of(
 ) -> Checked<Prepared>
     ensures ok { IfOk result (IsGivenOf keys.now) }
     ensures err { IfErr result IsMemory }
+    ensures room { IfOk result (λ p. prepared_size p + budget.new.left ≤ budget.old.left) }
 {
     match keys {
         Keys::One(key) => Prepared::new(alloc, key, algorithms, budget),
@@ -131,6 +144,7 @@ fn named_of(
 ) -> Checked<BTreeMap<String, Entry>>
     ensures ok { IfOk result (IsNamedOf keys.now) }
     ensures err { IfErr result IsMemory }
+    ensures room { IfOk result (λ m. named_size m + budget.new.left ≤ budget.old.left) }
 {
     match keys {
         Keys::One(_) => Ok(BTreeMap::new(alloc)),
@@ -147,6 +161,7 @@ fn index(
 ) -> Checked<BTreeMap<String, Entry>>
     ensures ok { IfOk result (IsIndexOf keys.now) }
     ensures err { IfErr result IsMemory }
+    ensures room { IfOk result (λ m. named_size m + budget.new.left ≤ budget.old.left) }
 {
     let mut named = BTreeMap::new(alloc);
     let mut at = 0;
@@ -170,6 +185,8 @@ fn put(
     ensures ok { OnOk result
         (IsIndexUpTo keys.now at named.old → IsIndexUpTo keys.now (at + 1) named.new) }
     ensures err { IfErr result IsMemory }
+    ensures room { OnOk result
+        (named_size named.new + budget.new.left ≤ named_size named.old + budget.old.left) }
 {
     let Some(kid) = &keys[at].common.key_id else {
         return Ok(());
@@ -195,22 +212,53 @@ fn entry_of(
     ensures ok { IfOk result
         (λ e. (j : JwkValue) → IsEntryOf keys.now (get_or keys.now at j) e) }
     ensures err { IfErr result IsMemory }
+    ensures needed { IfOk result (λ e. (j : JwkValue) (k : Key) → e.key ≡ Some k
+        → IsNeededOf (get_or keys.now at j) algorithms.now k e.prepared) }
+    ensures room { IfOk result
+        (λ e. prepared_size e.prepared + budget.new.left ≤ budget.old.left) }
 {
     let key = key_if_usable(alloc, &keys[at])?;
-    let own = own_algorithm(&keys[at]);
-    let prepared = match &key {
-        Some(key) => Prepared::new(alloc, key, own_or_listed(&own, algorithms), budget)?,
-        None => Prepared::Nothing,
-    };
+    let prepared = prepared_of(alloc, &keys[at], &key, algorithms, budget)?;
     Ok(Entry { at, key, prepared })
 }
 
-/// Returns the algorithms that a key can verify with: its own one, or those that are listed.
-fn own_or_listed<'a>(own: &'a Option<Algorithm>, listed: &'a [Algorithm]) -> &'a [Algorithm] {
-    if own.is_some() {
-        own.as_slice()
-    } else {
-        listed
+/// Prepares the key that a JSON Web Key stands for, if it does, for the listed algorithms that it is
+/// for.
+fn prepared_of(
+    alloc: Global,
+    jwk: &Jwk,
+    key: &Option<DecodingKey>,
+    listed: &[Algorithm],
+    budget: &mut Budget,
+) -> Checked<Prepared>
+    ensures ok { IfOk result (λ p. (k : Key) → key.now ≡ Some k → IsPreparedOf k p) }
+    ensures err { IfErr result IsMemory }
+    ensures needed { IfOk result (λ p. (k : Key) → key.now ≡ Some k
+        → IsNeededOf jwk.now listed.now k p) }
+    ensures room { IfOk result (λ p. prepared_size p + budget.new.left ≤ budget.old.left) }
+{
+    let Some(key) = key else {
+        return Ok(Prepared::Nothing);
+    };
+    let own = own_algorithm(jwk);
+    let algorithms = agreeing(jwk, &own, listed);
+    // named for the proof
+    let prepared = Prepared::new(alloc, key, algorithms, budget)?;
+    Ok(prepared)
+}
+
+/// Returns the listed algorithms that a key can verify with (RFC 7517 section 4.4): all of them, or,
+/// if it has an `alg`, its own algorithm alone if that is listed.
+fn agreeing<'a>(jwk: &Jwk, own: &'a Option<Algorithm>, listed: &'a [Algorithm]) -> &'a [Algorithm]
+    requires { own.now ≡ own_of jwk.now }
+    ensures { All (λ a. Contains listed.now a × AgreesWith a jwk.now) result.now }
+{
+    match jwk.common.key_algorithm {
+        None => listed,
+        Some(_) => match own {
+            Some(algorithm) if listed.contains(algorithm) => own.as_slice(),
+            _ => &[],
+        },
     }
 }
 

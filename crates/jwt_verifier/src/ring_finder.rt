@@ -44,7 +44,7 @@ impl<'r> KeyFinder for &'r KeyRing {
 
     type Verifier = KeyVerifier<'r>;
 
-    ghost source = { λ ring. source_of ring.now };
+    ghost source = { λ ring. source_of ring.now.keys };
 
     ghost key = { λ _ found. found_key found };
 

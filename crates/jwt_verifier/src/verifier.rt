@@ -52,8 +52,8 @@ impl Verifier {
     /// curve, a set without any other key that has a `kid`. A key of a set that does not serve is
     /// refused when a token names it.
     pub fn new(alloc: Global, keys: Keys, validation: Validation) -> Result<Verifier, KeyProblem>
-        ensures ok { IfOk result (λ v. (v.keys ≡ keys) × (v.validation ≡ validation)
-            × (v.limits ≡ usual_limits)
+        ensures ok { IfOk result (λ v. (v.keys.keys ≡ keys) × (v.validation ≡ validation)
+            × (v.limits ≡ usual_limits) × (v.keys.prepared ≤ usual_limits.max_prepared)
             × AreFit usual_limits.allows_blank validation.algorithms.items keys) }
         ensures err { IfErr result (IsKeyProblem usual_limits.allows_blank
             validation.algorithms.items keys) }
@@ -69,8 +69,8 @@ impl Verifier {
         validation: Validation,
         limits: Limits,
     ) -> Result<Verifier, KeyProblem>
-        ensures ok { IfOk result (λ v. (v.keys ≡ keys) × (v.validation ≡ validation)
-            × (v.limits ≡ limits)
+        ensures ok { IfOk result (λ v. (v.keys.keys ≡ keys) × (v.validation ≡ validation)
+            × (v.limits ≡ limits) × (v.keys.prepared ≤ limits.max_prepared)
             × AreFit limits.allows_blank validation.algorithms.items keys) }
         ensures err { IfErr result (IsKeyProblem limits.allows_blank validation.algorithms.items keys) }
     {
@@ -92,16 +92,16 @@ impl Verifier {
         token: &[u8],
         time: u64,
     ) -> Result<TokenData<T>, VerifierRefusal<Error>>
-        ensures decided { let call = call_with T.Claims self.now.keys self.now.validation
+        ensures decided { let call = call_with T.Claims self.now.keys.keys self.now.validation
             token.now time in
-            IsBounded (Decides (token_tests call) (order_of self.now.keys) (Carries call))
+            IsBounded (Decides (token_tests call) (order_of self.now.keys.keys) (Carries call))
             self.now.limits.max_len (length token.now) result }
 
         // The laws of `decode` and `decode_with_set` hold: the token is accepted exactly at the
         // times from the first to the last, among others.
         ensures laws { length token.now ≤ self.now.limits.max_len
-            → HasLaws (call_with T.Claims self.now.keys self.now.validation token.now time)
-            (order_of self.now.keys) (List ℕ) Compact token.now }
+            → HasLaws (call_with T.Claims self.now.keys.keys self.now.validation token.now time)
+            (order_of self.now.keys.keys) (List ℕ) Compact token.now }
     {
         if self.is_too_long(token) {
             return Err(VerifierRefusal::TooLong);
@@ -120,8 +120,8 @@ impl Verifier {
         token: &[u8],
         time: u64,
     ) -> Result<TokenData<T>, VerifierRefusal<Refusal>>
-        ensures { let call = call_with T.Claims self.now.keys self.now.validation token.now time in
-            IsBounded (DecidesByTest (token_tests call) (order_of self.now.keys) (Carries call))
+        ensures { let call = call_with T.Claims self.now.keys.keys self.now.validation token.now time in
+            IsBounded (DecidesByTest (token_tests call) (order_of self.now.keys.keys) (Carries call))
             self.now.limits.max_len (length token.now) result }
     {
         if self.is_too_long(token) {
@@ -144,8 +144,8 @@ impl Verifier {
         alloc: Global,
         token: &[u8],
     ) -> Result<Option<Moments>, VerifierRefusal<Error>>
-        ensures { IsBounded (FindsMoments (call_with T.Claims self.now.keys self.now.validation
-            token.now 0) (order_of self.now.keys))
+        ensures { IsBounded (FindsMoments (call_with T.Claims self.now.keys.keys self.now.validation
+            token.now 0) (order_of self.now.keys.keys))
             self.now.limits.max_len (length token.now) result }
     {
         if self.is_too_long(token) {
@@ -170,11 +170,11 @@ impl Verifier {
         token: &[u8],
         time: u64,
     ) -> Checked<TokenData<T>>
-        ensures decided { let call = call_with T.Claims self.now.keys self.now.validation
+        ensures decided { let call = call_with T.Claims self.now.keys.keys self.now.validation
             token.now time in
-            Decides (token_tests call) (order_of self.now.keys) (Carries call) result }
-        ensures laws { HasLaws (call_with T.Claims self.now.keys self.now.validation token.now time)
-            (order_of self.now.keys) (List ℕ) Compact token.now }
+            Decides (token_tests call) (order_of self.now.keys.keys) (Carries call) result }
+        ensures laws { HasLaws (call_with T.Claims self.now.keys.keys self.now.validation token.now time)
+            (order_of self.now.keys.keys) (List ℕ) Compact token.now }
     {
         let keys = &self.keys;
         decode_by(alloc, &keys, token, &self.validation, time)
@@ -182,8 +182,8 @@ impl Verifier {
 
     /// Returns the times at which a token of any length is accepted.
     fn moments_of_whole<T: Claims>(&self, alloc: Global, token: &[u8]) -> Checked<Option<Moments>>
-        ensures { FindsMoments (call_with T.Claims self.now.keys self.now.validation token.now 0)
-            (order_of self.now.keys) result }
+        ensures { FindsMoments (call_with T.Claims self.now.keys.keys self.now.validation token.now 0)
+            (order_of self.now.keys.keys) result }
     {
         let keys = &self.keys;
         first_and_last_moment::<&KeyRing, T>(alloc, &keys, token, &self.validation)
@@ -197,7 +197,7 @@ fn ring_of_fit(
     algorithms: &[Algorithm],
     limits: Limits,
 ) -> Result<KeyRing, KeyProblem>
-    ensures ok { IfOk result (λ ring. (ring ≡ keys)
+    ensures ok { IfOk result (λ ring. (ring.keys ≡ keys) × (ring.prepared ≤ limits.max_prepared)
         × AreFit limits.allows_blank algorithms.now keys) }
     ensures err { IfErr result (IsKeyProblem limits.allows_blank algorithms.now keys) }
 {

@@ -1,8 +1,9 @@
-use Rattle.std.proofs.Common.{◌≡◌, ◌∙◌, ℕ, List, Some, ap, false, string_bytes, subst, sym, true}
+use Rattle.std.proofs.Common.{◌≡◌, ◌∙◌, ℕ, List, Some, ap, arith, false, string_bytes, subst, sym, true}
 use Rattle.std.proofs.lemmas.Map.Text.{btree_map_updates_text}
 use Rattle.std.specs.BTreeMap.{get_by_text}
 use Rattle.std.specs.Option.{is_some}
 use Rattle.jwt_keys.specs.declared.jwk.Jwk.{Jwk}
+use Rattle.jwt_verifier.proofs.PreparedLemmas.{named_more}
 use Rattle.jwt_verifier.proofs.RingLemmas.{named, nameless, repeated}
 use Rattle.jwt_verifier.proofs.key_ring.put.Goals as goal
 
@@ -29,3 +30,9 @@ returns-clause-ok c =
     (sym known))
     c.in_ok-entry.ensures.ok
     (btree_map_updates_text (string_bytes c.in_ok-name.name) c.args.named.now c.insert.new.self _ c.in_ok-insert.ensures.updates)
+
+pub returns-clause-room : goal.returns-clause-room
+returns-clause-room c =
+    let more = named_more _ c.args.named.now c.insert.new.self c.in_ok-name.name c.in_ok-entry.entry
+    c.in_ok-insert.ensures.entries in
+    omega (arith, more, c.in_ok-entry.ensures.room)

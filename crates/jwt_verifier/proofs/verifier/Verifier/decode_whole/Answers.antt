@@ -11,12 +11,12 @@ use Rattle.jwt_verifier.proofs.verifier.Verifier.decode_whole.Goals as goal
 
 pub returns-clause-decided : goal.returns-clause-decided
 returns-clause-decided g c =
-    let call = call_with g.T.Claims c.args.self.now.keys c.args.self.now.validation c.args.token.now c.args.time in
+    let call = call_with g.T.Claims c.args.self.now.keys.keys c.args.self.now.validation c.args.token.now c.args.time in
     subst (λ (order : List Test). Decides (token_tests call) order (Carries call) c.decode_by.result)
-    (same_order c.args.self.now.keys) c.decode_by.ensures.decided
+    (same_order c.args.self.now.keys.keys) c.decode_by.ensures.decided
 
 pub returns-clause-laws : goal.returns-clause-laws
 returns-clause-laws g c =
-    let call = call_with g.T.Claims c.args.self.now.keys c.args.self.now.validation c.args.token.now c.args.time in
+    let call = call_with g.T.Claims c.args.self.now.keys.keys c.args.self.now.validation c.args.token.now c.args.time in
     subst (λ (order : List Test). HasLaws call order (List ℕ) Compact c.args.token.now)
-    (same_order c.args.self.now.keys) c.decode_by.ensures.laws
+    (same_order c.args.self.now.keys.keys) c.decode_by.ensures.laws

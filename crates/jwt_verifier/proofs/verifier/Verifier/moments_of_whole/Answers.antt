@@ -7,6 +7,6 @@ use Rattle.jwt_verifier.proofs.verifier.Verifier.moments_of_whole.Goals as goal
 
 pub returns : goal.returns
 returns g c =
-    let call = call_with g.T.Claims c.args.self.now.keys c.args.self.now.validation c.args.token.now 0 in
+    let call = call_with g.T.Claims c.args.self.now.keys.keys c.args.self.now.validation c.args.token.now 0 in
     subst (λ (order : List Test). FindsMoments call order c.first_and_last_moment.result)
-    (same_order c.args.self.now.keys) c.first_and_last_moment.ensures
+    (same_order c.args.self.now.keys.keys) c.first_and_last_moment.ensures
