@@ -65,21 +65,21 @@ type_asked v = option_map (λ t. t.now) v.typ
 abbrev pub IsTokenAnswer : VerifyArgs → LoadedKeys → Options → List ℕ → ℕ → OutputForm → ℕ → List ℕ → Type 0
 IsTokenAnswer v loaded options bytes time form status output =
     (token : List ℕ) × IsLessLineEnd bytes token
-    × ((settled : Options) × ChoosesAlgorithm loaded.keys token options settled
-    × IsVerifyAnswer token loaded.keys settled time (type_asked v) form status output)
+    × ((settled : Options) × ChoosesAlgorithm loaded.keys.keys token options settled
+    × IsVerifyAnswer token loaded.keys.keys settled time (type_asked v) form status output)
 
 -- the status of `explain`, which is that of `verify`
 abbrev pub IsTokenVerdict : VerifyArgs → LoadedKeys → Options → List ℕ → ℕ → ℕ → Type 0
 IsTokenVerdict v loaded options bytes time status =
     (token : List ℕ) × IsLessLineEnd bytes token
-    × ((settled : Options) × ChoosesAlgorithm loaded.keys token options settled
-    × IsVerdict token loaded.keys settled time (type_asked v) status)
+    × ((settled : Options) × ChoosesAlgorithm loaded.keys.keys token options settled
+    × IsVerdict token loaded.keys.keys settled time (type_asked v) status)
 
 -- the keys and the options are those of the arguments, with the files that they name; if these name no algorithm, that of
 -- the one key is listed
 abbrev pub AreAsked : VerifyArgs → LoadedKeys → Options → Type 0
 AreAsked v loaded options =
-    (key : List ℕ) × AreLoaded v.key key loaded.keys loaded.own
+    (key : List ℕ) × AreLoaded v.key key loaded.keys.keys loaded.own
     × ((file : Option (List ℕ)) × (is_some file ≡ is_some v.checks.options)
     × ((requested : Options) × AreRequested v.checks file requested
     × (options ≡ with_key_algorithm loaded.own requested)))

@@ -29,7 +29,7 @@ pub fn explain_answer(
     checks: &Checks<'_, '_>,
     form: ExplanationForm,
 ) -> Result<Answer, Fault<'static>>
-    ensures { let keys = case.entry.loaded.now.keys in let token = case.entry.token.now in
+    ensures { let keys = case.entry.loaded.now.keys.keys in let token = case.entry.token.now in
         IfOk result (λ a. (settled : Options)
         × ChoosesAlgorithm keys token (options_of validation.now) settled
         × IsVerdict token keys settled case.entry.time (option_map (λ s. s.now) case.entry.typ)

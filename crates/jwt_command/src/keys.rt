@@ -118,7 +118,7 @@ pub fn load<'a>(
     bytes: &[u8],
     preparation: Preparation<'_>,
 ) -> Result<LoadedKeys, Fault<'a>>
-    ensures ok { IfOk result (λ l. AreLoaded file.entry bytes.now l.keys l.own) }
+    ensures ok { IfOk result (λ l. AreLoaded file.entry bytes.now l.keys.keys l.own) }
     ensures err { IfErr result (λ e. (e ≡ Fault.Memory) ⊎ HasKeysFault file.entry bytes.now) }
 {
     match file {
@@ -173,7 +173,7 @@ fn load_secret<'a>(
     ensures ok { IfOk result (λ l. (secret : List ℕ)
         × IsSecret file.entry.is_trimmed bytes.now secret
         × IsTaken file.entry.allows_key secret
-        × (l.keys ≡ Keys.One (Plain Hmac secret)) × (l.own ≡ None)) }
+        × (l.keys.keys ≡ Keys.One (Plain Hmac secret)) × (l.own ≡ None)) }
     ensures err { IfErr result (λ e. (e ≡ Fault.Memory)
         ⊎ ((secret : List ℕ) × IsSecret file.entry.is_trimmed bytes.now secret
         × IsNotTaken file.entry.allows_key secret)) }
@@ -196,7 +196,7 @@ fn load_jwk<'a>(
 ) -> Result<LoadedKeys, Fault<'a>>
     ensures ok { IfOk result (λ l. (jwk : Jwk) × ReadsText ReadsKey bytes.now jwk
         × ((key : Key) × IsKeyOf jwk.algorithm key × (¬ IsBlankKey key)
-        × (l.keys ≡ Keys.One key) × (l.own ≡ own_of jwk))) }
+        × (l.keys.keys ≡ Keys.One key) × (l.own ≡ own_of jwk))) }
     ensures err { IfErr result (λ e. (e ≡ Fault.Memory)
         ⊎ (((jwk : Jwk) → ¬ ReadsText ReadsKey bytes.now jwk)
         ⊎ (((jwk : Jwk) × ReadsText ReadsKey bytes.now jwk
@@ -231,7 +231,7 @@ fn accept_key<'a>(
     own: Option<Algorithm>,
     preparation: Preparation<'_>,
 ) -> Result<LoadedKeys, Fault<'a>>
-    ensures ok { IfOk result (λ l. (¬ IsBlankKey key) × (l.keys ≡ Keys.One key) × (l.own ≡ own)) }
+    ensures ok { IfOk result (λ l. (¬ IsBlankKey key) × (l.keys.keys ≡ Keys.One key) × (l.own ≡ own)) }
     ensures err { IfErr result (λ e. (e ≡ Fault.Memory) ⊎ IsBlankKey key) }
 {
     if is_blank_key(&key) {
@@ -250,7 +250,7 @@ fn load_set<'a>(
     preparation: Preparation<'_>,
 ) -> Result<LoadedKeys, Fault<'a>>
     ensures ok { IfOk result (λ l. (set : JwkSet) × ReadsText ReadsSet bytes.now set.keys.items
-        × (¬ HasBlankKey set.keys.items) × (l.keys ≡ Keys.Set set) × (l.own ≡ None)) }
+        × (¬ HasBlankKey set.keys.items) × (l.keys.keys ≡ Keys.Set set) × (l.own ≡ None)) }
     ensures err { IfErr result (λ e. (e ≡ Fault.Memory)
         ⊎ (((keys : List Jwk) → ¬ ReadsText ReadsSet bytes.now keys)
         ⊎ ((keys : List Jwk) × ReadsText ReadsSet bytes.now keys × HasBlankKey keys))) }
@@ -271,7 +271,7 @@ fn accept_set<'a>(
     set: JwkSet,
     preparation: Preparation<'_>,
 ) -> Result<LoadedKeys, Fault<'a>>
-    ensures ok { IfOk result (λ l. (¬ HasBlankKey set.keys.items) × (l.keys ≡ Keys.Set set)
+    ensures ok { IfOk result (λ l. (¬ HasBlankKey set.keys.items) × (l.keys.keys ≡ Keys.Set set)
         × (l.own ≡ None)) }
     ensures err { IfErr result (λ e. (e ≡ Fault.Memory) ⊎ HasBlankKey set.keys.items) }
 {
@@ -292,7 +292,7 @@ fn load_pem<'a>(
     preparation: Preparation<'_>,
 ) -> Result<LoadedKeys, Fault<'a>>
     ensures ok { IfOk result (λ l. (key : Key) × IsPemOf bytes.now key
-        × (l.keys ≡ Keys.One key) × (l.own ≡ None)) }
+        × (l.keys.keys ≡ Keys.One key) × (l.own ≡ None)) }
     ensures err { IfErr result (λ e. (e ≡ Fault.Memory)
         ⊎ ((k : Kind) × IsPemRefused bytes.now k)) }
 {
@@ -310,7 +310,7 @@ fn loaded_keys(
     has_line_end: bool,
     preparation: Preparation<'_>,
 ) -> Result<LoadedKeys, Fault<'static>>
-    ensures ok { IfOk result (λ l. (l.keys ≡ keys) × (l.own ≡ own)) }
+    ensures ok { IfOk result (λ l. (l.keys.keys ≡ keys) × (l.own ≡ own)) }
     ensures err { IfErr result (λ e. e ≡ Fault.Memory) }
 {
     let algorithms = if preparation.algorithms.is_empty() {

@@ -122,7 +122,7 @@ fn keys_for<'a, R: Files + AllocGlobal>(
     validation: &mut Validation,
 ) -> Result<LoadedKeys, Fault<'a>>
     ensures { IfOk result (λ l. ((key : List ℕ)
-        × AreLoaded request.entry.now.key key l.keys l.own)
+        × AreLoaded request.entry.now.key key l.keys.keys l.own)
         × (options_of validation.new ≡ with_key_algorithm l.own (options_of validation.old))) }
 {
     let key = file_bytes(rt, path_of(request.key))?;

@@ -48,7 +48,7 @@ pub fn verify_answer(
     validation: &Validation,
     form: OutputForm,
 ) -> Result<Answer, Fault<'static>>
-    ensures { let keys = case.entry.loaded.now.keys in let token = case.entry.token.now in
+    ensures { let keys = case.entry.loaded.now.keys.keys in let token = case.entry.token.now in
         IfOk result (λ a. (settled : Options)
         × ChoosesAlgorithm keys token (options_of validation.now) settled
         × IsVerifyAnswer token keys settled case.entry.time

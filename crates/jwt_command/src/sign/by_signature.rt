@@ -61,7 +61,7 @@ pub fn attached_answer(
     loaded: Option<&LoadedKeys>,
 ) -> Result<Answer, Fault<'static>>
     ensures { IfOk result (λ a. IsAttached input.now file.now
-        (option_map (λ l. l.now.keys) loaded.entry) a.status (string_bytes a.output)) }
+        (option_map (λ l. l.now.keys.keys) loaded.entry) a.status (string_bytes a.output)) }
 {
     let contents = unsigned(alloc, input)?;
     let answer = contents_answer(alloc, &contents, input, file, loaded);
@@ -119,7 +119,7 @@ fn contents_answer(
     file: &[u8],
     loaded: Option<&LoadedKeys>,
 ) -> Result<Answer, Fault<'static>>
-    ensures { IfOk result (λ a. IsDataAnswer (option_map (λ l. l.now.keys) loaded.entry)
+    ensures { IfOk result (λ a. IsDataAnswer (option_map (λ l. l.now.keys.keys) loaded.entry)
         contents.now.header (view contents.now.claims) input.now file.now a.status
         (string_bytes a.output)) }
 {
@@ -185,7 +185,7 @@ fn token_answer(
     algorithm: Algorithm,
     loaded: Option<&LoadedKeys>,
 ) -> Result<Answer, Fault<'static>>
-    ensures { IfOk result (λ a. IsTokenAnswer (option_map (λ l. l.now.keys) loaded.entry) algorithm
+    ensures { IfOk result (λ a. IsTokenAnswer (option_map (λ l. l.now.keys.keys) loaded.entry) algorithm
         (string_bytes token) a.status (string_bytes a.output)) }
 {
     let reason = refusal_by_key(alloc, token.as_str(), algorithm, loaded)?;
@@ -207,7 +207,7 @@ fn refusal_by_key<'c>(
     algorithm: Algorithm,
     loaded: Option<&'c LoadedKeys>,
 ) -> Result<Option<TokenRefusal>, Fault<'static>>
-    ensures { IfOk result (IsChecked (option_map (λ l. l.now.keys) loaded.entry) algorithm
+    ensures { IfOk result (IsChecked (option_map (λ l. l.now.keys.keys) loaded.entry) algorithm
         token.now) }
 {
     let Some(loaded) = loaded else {

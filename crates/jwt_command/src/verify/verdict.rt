@@ -25,7 +25,7 @@ pub fn verify_with_type(
     case: Case<'_>,
     validation: &Validation,
 ) -> Result<Result<TokenData<Value>, TokenRefusal>, Fault<'static>>
-    ensures ok { let keys = case.entry.loaded.now.keys in let token = case.entry.token.now in
+    ensures ok { let keys = case.entry.loaded.now.keys.keys in let token = case.entry.token.now in
         IfOk result (λ verdict. (settled : Options)
         × ChoosesAlgorithm keys token (options_of validation.now) settled
         × IsTypedVerdict token keys settled case.entry.time (option_map (λ s. s.now) case.entry.typ)
@@ -47,7 +47,7 @@ pub fn refusal_of(
     case: Case<'_>,
     validation: &Validation,
 ) -> Result<Option<TokenRefusal>, Fault<'static>>
-    ensures ok { let keys = case.entry.loaded.now.keys in let token = case.entry.token.now in
+    ensures ok { let keys = case.entry.loaded.now.keys.keys in let token = case.entry.token.now in
         IfOk result (λ reason. (settled : Options)
         × ChoosesAlgorithm keys token (options_of validation.now) settled
         × IsRefusalIfAny token keys settled case.entry.time
@@ -66,7 +66,7 @@ fn decode_token(
     case: Case<'_>,
     validation: &Validation,
 ) -> Result<TokenData<Value>, Refusal>
-    ensures { let keys = case.entry.loaded.now.keys in let token = case.entry.token.now in
+    ensures { let keys = case.entry.loaded.now.keys.keys in let token = case.entry.token.now in
         IsErrAnd result (λ refusal. IsMemory refusal.error)
         ⊎ ((settled : Options) × ChoosesAlgorithm keys token (options_of validation.now) settled
         × IsDecoded token keys settled case.entry.time result) }

@@ -21,7 +21,7 @@ returns g c =
           (
             says.0,
             says.1,
-            subst (λ f. IsVerifyAnswer token c.args.loaded.now.keys says.0 c.in_ok-time.time (type_asked c.args.request.now) f
+            subst (λ f. IsVerifyAnswer token c.args.loaded.now.keys.keys says.0 c.in_ok-time.time (type_asked c.args.request.now) f
                 a.status (string_bytes a.output)) c.form.ensures says.2,
           ),
         ),

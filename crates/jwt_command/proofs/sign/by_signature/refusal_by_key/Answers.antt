@@ -7,7 +7,7 @@ use Rattle.jwt_command.proofs.sign.by_signature.refusal_by_key.Goals as goal
 
 pub returns : goal.returns
 returns c =
-    let keys = c.in-Some.loaded.now.keys in
+    let keys = c.in-Some.loaded.now.keys.keys in
     let bytes = c.as_bytes.result.now in
     let same : bytes ≡ c.args.token.now = search rules in
     IfOk-weaker c.refusal_of-reason.result _ _

@@ -11,7 +11,7 @@ use Rattle.jwt_command.proofs.verify.verdict.decode_token.Goals as goal
 
 pub returns-then-lists_none : goal.returns-then-lists_none
 returns-then-lists_none c =
-    let keys = c.args.case.loaded.now.keys in
+    let keys = c.args.case.loaded.now.keys.keys in
     let own = c.decode_by_own_algorithm.result.0 in
     let settled = with_algorithms (options_of c.args.validation.now) (listed own) in
     let call = checking c.args.case.token.now keys settled c.args.case.time in
@@ -24,7 +24,7 @@ returns-then-lists_none c =
 
 pub returns : goal.returns
 returns c =
-    let keys = c.args.case.loaded.now.keys in
+    let keys = c.args.case.loaded.now.keys.keys in
     let options = options_of c.args.validation.now in
     let call = checking c.args.case.token.now keys options c.args.case.time in
     inr (
