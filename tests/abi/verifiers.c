@@ -149,6 +149,10 @@ static void made(void) {
         {OF_KEY, OCT("*"), HS256, JWT_BASE64},
         {OF_KEY, "{\"kty\":\"AKP\",\"k\":\"AAAA\"}", HS256, JWT_UNSUPPORTED_ALGORITHM},
         {OF_SECRET, "a secret", "[", JWT_BAD_OPTIONS},
+        /* an empty name, which stands for a setting that was left out */
+        {OF_SET, "{", "{\"algorithms\":[\"HS256\"],\"aud\":[\"\"]}", JWT_BAD_OPTIONS},
+        {OF_KEY, HMAC_KEY, "{\"algorithms\":[\"HS256\"],\"iss\":[\"a\",\"\"]}", JWT_BAD_OPTIONS},
+        {OF_SECRET, "a secret", "{\"algorithms\":[\"HS256\"],\"sub\":\"\"}", JWT_BAD_OPTIONS},
         /* keys with which anyone can sign, before those that do not serve */
         {OF_SET, SET_OF(RSA_KEY "," OCT("")), HS256, JWT_BLANK_KEY},
         {OF_SET, SET_OF(RSA_KEY "," OCT("AAAA")), RS256, JWT_BLANK_KEY},

@@ -34,7 +34,7 @@ module _ (Refused : Answer → Type 0) (AreOf : Options → Keys → Type 0) (li
 -- what a verifier leaves by the two sides of a result
 left_by : {V : Type 0} (items : V → List ℕ) (last_of : V → ℕ) (v : Verifier) (token : List ℕ) (time : ℕ)
     (r : Result V TokenRefusal) (last test status len : ℕ) (old new : List ℕ)
-    → IfOk r (λ a. (length token ≤ v.limits.max_len) × AnswersUntil v.keys v.validation token time (last_of a) (Returns (items a)))
+    → IfOk r (λ a. (length token ≤ v.limits.max_len) × AnswersUntil v.keys.keys v.validation token time (last_of a) (Returns (items a)))
     → IfErr r (λ d. IsRefusedWith v token time d.status d.test)
     → IfOk r (λ a. (last ≡ last_of a) × (test ≡ 0) × IsGiven (items a) status len old new)
     → IfErr r (λ d. (last ≡ 0) × (test ≡ d.test) × IsKept d.status status len old new)
@@ -44,7 +44,7 @@ left_by items last_of v token time (Ok a) last test status len old new ok err gi
       ok.0,
       (
         Returns (items a),
-        subst (λ (n : ℕ). AnswersUntil v.keys v.validation token time n (Returns (items a)))
+        subst (λ (n : ℕ). AnswersUntil v.keys.keys v.validation token time n (Returns (items a)))
             (sym given.0) ok.1,
         given.1,
         given.2,
@@ -53,14 +53,14 @@ left_by items last_of v token time (Ok a) last test status len old new ok err gi
 left_by items last_of v token time (Err d) last test status len old new ok (inl long) given kept =
     inl (long.0, kept.0, kept.1 ∙ long.2, subst (λ (n : ℕ). IsKept n status len old new) long.1 kept.2)
 left_by items last_of v token time (Err d) last test status len old new ok (inr short) given kept =
-    let told : TellsTest v.keys v.validation token time short.1.0 test =
-    subst (TellsTest v.keys v.validation token time short.1.0) (sym kept.1) short.1.2 in
+    let told : TellsTest v.keys.keys v.validation token time short.1.0 test =
+    subst (TellsTest v.keys.keys v.validation token time short.1.0) (sym kept.1) short.1.2 in
     inr (short.0, (Refuses short.1.0, short.1.1, told, subst (λ (n : ℕ). IsKept n status len old new) short.1.3 kept.2))
 
 pub decided : {V : Type 0} (items : V → List ℕ) (last_of : V → ℕ) (held : Option Shared) (s : Shared) (v : Verifier)
     (token : List ℕ) (time : ℕ) (r : Result V TokenRefusal) (last test status len : ℕ) (old new : List ℕ)
     → held ≡ Some s → v ≡ verifier_in s
-    → IfOk r (λ a. (length token ≤ v.limits.max_len) × AnswersUntil v.keys v.validation token time (last_of a) (Returns (items a)))
+    → IfOk r (λ a. (length token ≤ v.limits.max_len) × AnswersUntil v.keys.keys v.validation token time (last_of a) (Returns (items a)))
     → IfErr r (λ d. IsRefusedWith v token time d.status d.test)
     → IfOk r (λ a. (last ≡ last_of a) × (test ≡ 0) × IsGiven (items a) status len old new)
     → IfErr r (λ d. (last ≡ 0) × (test ≡ d.test) × IsKept d.status status len old new)
@@ -88,7 +88,7 @@ as_set (Some s) token time last test status len old new (inl long) options set t
     let over : (verifier_in s).limits.max_len < length token = long.0 in
     let within : length token ≤ (verifier_in s).limits.max_len = takes.1 in absurd (omega arith)
 as_set (Some s) token time last test status len old new (inr left) options set takes =
-    let keys = (verifier_in s).keys in let validation = (verifier_in s).validation in let a = left.1.0 in (
+    let keys = (verifier_in s).keys.keys in let validation = (verifier_in s).validation in let a = left.1.0 in (
       a,
       by_set options set token time keys validation a takes.0 (without_last keys validation token time last a left.1.1),
       left.1.3,
@@ -103,7 +103,7 @@ as_key (Some s) token time last test status len old new (inl long) options key t
     let over : (verifier_in s).limits.max_len < length token = long.0 in
     let within : length token ≤ (verifier_in s).limits.max_len = takes.1 in absurd (omega arith)
 as_key (Some s) token time last test status len old new (inr left) options key takes =
-    let keys = (verifier_in s).keys in let validation = (verifier_in s).validation in let a = left.1.0 in (
+    let keys = (verifier_in s).keys.keys in let validation = (verifier_in s).validation in let a = left.1.0 in (
       a,
       by_key options key token time keys validation a takes.0 (without_last keys validation token time last a left.1.1),
       left.1.3,

@@ -30,7 +30,7 @@ module _ (keys : Keys) (validation : Validation) (token : List ℕ) (time : ℕ)
   refused_with (inr r) is (inr some) = (
     kind_of refusal.error,
     inr (tt, tt, record { failed = refusal.test; first = r.first; kind = r.kind }),
-    inr (refusal.test, r.first, some.1),
+    inr (some.0, (refusal.test, r.first, some.1)),
     is,
   )
 

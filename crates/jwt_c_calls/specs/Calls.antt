@@ -24,7 +24,7 @@ use Rattle.jwt_keys.specs.KeyOfJwk.{IsKeyOf, refusal_of}
 use Rattle.jwt_keys.specs.declared.jwk.Jwk.{Jwk}
 use Rattle.jwt_standard.specs.StandardKeys.{verifier_refusal, StandardAccepts}
 use Rattle.jwt_validation.specs.Options.{Options}
-use Rattle.jwt_validation.specs.OptionsRead.{ReadsOptions}
+use Rattle.jwt_c_calls.specs.Inputs.{ReadsOptions}
 use Rattle.jwt_crypto.specs.Verdict.{Verdict, IsVerified, refusal_by}
 use Rattle.jsonwebtoken.specs.ByHmac.{decoding_by_hmac}
 use Rattle.jsonwebtoken.specs.Order.{Passes, FailsFirst}
@@ -72,17 +72,17 @@ pub record IsTextOf (text : List ℕ) (value : Data) : Type 0 where
 abbrev pub HasNoReading : {X : Type 0} → (X → Type 0) → Type 0
 HasNoReading Reads = (x : _) → ¬ Reads x
 
--- the only text is input_error
+-- the only text is at fault: no value can be read from it
 abbrev pub IsErrorOfOne : {X : Type 0} → Input → (X → Type 0) → Input → Type 0
 IsErrorOfOne first Reads i = (i ≡ first) × HasNoReading Reads
 
--- the first of two texts is input_error; or it is read, and the second is input_error
+-- the first of two texts is at fault; or a value is read from it, and the second text is at fault
 abbrev pub IsErrorOfTwo : {X Y : Type 0} → Input → (X → Type 0) → Input → (Y → Type 0) → Input → Type 0
 IsErrorOfTwo first Reads second ReadsToo i = IsErrorOfOne first Reads i
     ⊎ (((x : _) × Reads x) × IsErrorOfOne second ReadsToo i)
 
 -- The result for the values that the texts are read as: the bytes that are written; or the kind
--- with which the values are refused, or memory ran out; or a text is input_error.
+-- with which the values are refused, or memory ran out; or a text is at fault.
 abbrev pub AnswersBy : {E : Type 0} → (E → Type 0) → (Input → Type 0)
     → (E → List ℕ → Type 0) → (E → Kind → Type 0) → Answer → Type 0
 AnswersBy Reads IsInputError Shows Refused (Returns bytes) = (e : _) × Reads e × Shows e bytes
@@ -115,7 +115,7 @@ set_call token keys time options =
     verifying_call (Compact token) (InSet keys) options time
     verifier_refusal StandardAccepts IsValue
 
--- the text is that of the claims of accepted contents
+-- the text is the JSON of the claims of accepted contents
 abbrev pub IsClaimsText : (Contents → Type 0) → List ℕ → Type 0
 IsClaimsText Accepted claims = (t : Contents) × Accepted t × IsTextOf claims t.payload_value
 
@@ -251,7 +251,7 @@ abbrev pub refusal_status : CallError → ℕ
 refusal_status (refused.Input i) = input_status i
 refusal_status (refused.Token e) = number (kind_of e)
 
--- the claims are passed on as their text, unless memory ran out, and a refusal unchanged
+-- the claims are returned as their text, unless memory ran out, and a refusal is returned unchanged
 abbrev pub HandsOut : {D V : Type 0} → (D → Value) → (V → List ℕ)
     → Result D Error → Result V CallError → Type 0
 HandsOut claims items (Ok d) (Ok b) =

@@ -41,7 +41,7 @@ LeavesShared held before after status = MatchOption before
 -- the handle holds a verifier of these options and keys, which takes tokens of this length
 abbrev pub FitsVerifier : Option Shared → (Options → Keys → Type 0) → ℕ → Type 0
 FitsVerifier held AreOf len = MatchOption held ⊥
-    (λ s. AreOf (options_of (verifier_in s).validation) (verifier_in s).keys
+    (λ s. AreOf (options_of (verifier_in s).validation) (verifier_in s).keys.keys
     × (len ≤ (verifier_in s).limits.max_len))
 
 -- the result of a verifier, with the last time at which the token is accepted, or 0 if it is not, and the
@@ -51,10 +51,10 @@ LeavesBy v token time last test status len before after =
     ((v.limits.max_len < length token) × (last ≡ 0) × (test ≡ 0)
     × IsKept token_too_long status len before after)
     ⊎ ((length token ≤ v.limits.max_len)
-    × ((a : Answer) × AnswersUntil v.keys v.validation token time last a
-    × TellsTestOf v.keys v.validation token time a test × Leaves a status len before after))
+    × ((a : Answer) × AnswersUntil v.keys.keys v.validation token time last a
+    × TellsTestOf v.keys.keys v.validation token time a test × Leaves a status len before after))
 
--- that of the verifier which a handle holds
+-- the result of the verifier that a handle holds
 abbrev pub LeavesUntil : Option Shared → List ℕ → ℕ → ℕ → ℕ → ℕ → ℕ → List ℕ → List ℕ → Type 0
 LeavesUntil held token time last test status len before after = MatchOption held
     ((last ≡ 0) × (test ≡ 0) × IsKept no_verifier status len before after)

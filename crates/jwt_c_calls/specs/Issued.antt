@@ -68,7 +68,7 @@ abbrev pub IsNotIssuedByJwk : Jwk → Header → Data → Kind → Type 0
 IsNotIssuedByJwk jwk header value k = StandsForNoKey jwk k
     ⊎ ((key : Key) × IsKeyOf jwk.algorithm key × IsNotIssuedBy key header value k)
 
--- one of the three texts is input_error, and those before it are read
+-- one of the three texts is at fault, and values are read from the texts before it
 abbrev pub IsErrorOfAny : (header claims key : List ℕ) → Input → Type 0
 IsErrorOfAny header claims key i =
     IsErrorOfTwo input.Header (ReadsText ReadsHeader header) input.Claims (ReadsClaimsText claims) i

@@ -8,7 +8,7 @@ use Rattle.jwt_keys.specs.Key.{Key}
 use Rattle.jwt_keys.specs.KeyOfJwk.{IsKeyOf, refusal_of}
 use Rattle.jwt_keys.specs.declared.jwk.Jwk.{Jwk}
 use Rattle.jwt_validation.specs.Options.{Options}
-use Rattle.jwt_validation.specs.OptionsRead.{ReadsOptions}
+use Rattle.jwt_c_calls.specs.Inputs.{ReadsOptions}
 use Rattle.jwt_c_calls.specs.Calls.{Answer, AnswersBy, IsErrorOfOne, IsErrorOfTwo}
 use Rattle.jwt_c_calls.specs.declared.inputs.Input.TheVariants as input
 

@@ -1,5 +1,5 @@
 -- A text that is written into options, and the fault of a text that is not options, as it is reported to C.
-use Rattle.std.specs.Prelude.{◌≡◌, ◌⊎◌, ◌++◌, ℕ, List, [], codes}
+use Rattle.std.specs.Prelude.{◌≡◌, ◌⊎◌, ◌++◌, ℕ, List, [], Some, codes}
 use Rattle.std.specs.Str.{IsUtf8}
 use Rattle.serde_json.specs.Data.{Data, string}
 use Rattle.serde_json.specs.Written.{compact_text}
@@ -7,13 +7,14 @@ use Rattle.jwt_base.specs.JsonText.{IsJson}
 use Rattle.jwt_base.specs.Kind as kind
 use Rattle.jwt_validation.specs.Options.{Options}
 use Rattle.jwt_validation.specs.OptionsFault.{HasFault}
-use Rattle.jwt_validation.specs.OptionsRead.{ReadsOptions}
+use Rattle.jwt_validation.specs.OptionsRead as validation
 use Rattle.jwt_validation.specs.declared.fault.Form.{Form}
 use Rattle.jwt_validation.specs.declared.fault.Form.TheVariants.{Whole, Flag, OneText, TextList, AlgorithmList, NonEmptyList}
 use Rattle.jwt_validation.specs.declared.fault.Form.TheVariants.{ClaimList}
 use Rattle.jwt_validation.specs.declared.fault.OptionsFault.{OptionsFault}
 use Rattle.jwt_validation.specs.declared.fault.OptionsFault.TheVariants as fault
 use Rattle.jwt_c_calls.specs.Calls.{Answer, Returns, Refuses, InputError, IsTextOf}
+use Rattle.jwt_c_calls.specs.Inputs.{ReadsOptions, empty_member}
 
 -- the JSON text of the string (RFC 8259 section 7), which is read back as it; bytes that are not UTF-8 are refused
 abbrev pub AnswersQuoted : List ℕ → Answer → Type 0
@@ -36,10 +37,16 @@ fault_text fault.NotAnObject = codes "the options are not a JSON object"
 fault_text (fault.Unknown name) = compact_text (string name.now) ++ codes " is not an option"
 fault_text (fault.Malformed name form) = compact_text (string name.now) ++ form_text form
 
--- nothing, if the value is options; else what keeps it from being options
+-- the member's name as JSON, and that it has or is an empty string
+abbrev pub empty_text : List ℕ → List ℕ
+empty_text name = compact_text (string name) ++ codes " has an empty text"
+
+-- nothing, if the value is options; else what keeps it from being options, which an empty string is at last
 abbrev pub IsValueFault : Data → List ℕ → Type 0
 IsValueFault value said = (((o : Options) × ReadsOptions value o) × (said ≡ []))
-    ⊎ ((f : OptionsFault) × HasFault value f × (said ≡ fault_text f))
+    ⊎ (((f : OptionsFault) × HasFault value f × (said ≡ fault_text f))
+    ⊎ (((o : Options) × validation.ReadsOptions value o)
+    × ((name : List ℕ) × (empty_member value ≡ Some name) × (said ≡ empty_text name))))
 
 -- nothing, if the text describes options; else that it is not JSON, or what keeps its value from being
 -- options

@@ -27,13 +27,13 @@ SaysOfJwk jwk = SaysWhether (IsBlankJwk jwk) (JwkHasKeyText jwk)
 abbrev pub SaysOfSet : List Jwk → ℕ → Type 0
 SaysOfSet keys = SaysWhether (HasBlankKey keys) (SetHasKeyText keys)
 
--- the status says it of the value that the text is read as; or the text is input_error, or memory ran out
+-- the status says it of the value that is read from the text; or the text is at fault, or memory ran out
 abbrev pub ChecksText : {X : Type 0} → Input → (X → Type 0) → (X → ℕ → Type 0) → ℕ → Type 0
 ChecksText input Reads Says status = (status ≡ number kind.OutOfMemory)
     ⊎ (((status ≡ input_status input) × HasNoReading Reads)
     ⊎ ((x : _) × Reads x × Says x status))
 
--- of a secret (RFC 2104 section 2, RFC 8725 section 3.1); or memory ran out, which it does not of one that anyone can sign with
+-- of a secret (RFC 2104 section 2, RFC 8725 section 3.1); or memory ran out, which it never does for a secret of zeros alone
 abbrev pub ChecksSecret : List ℕ → ℕ → Type 0
 ChecksSecret secret status = SaysOfSecret secret status ⊎ ((¬ IsBlank secret) × (status ≡ number kind.OutOfMemory))
 

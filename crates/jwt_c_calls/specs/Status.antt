@@ -29,9 +29,8 @@ claim_place name =
     else (if bytes_eq name (codes "sub") then 4
     else 19))))
 
--- The status of a refusal of this kind: from 1 on of kinds without a claim, from 40 on of a required claim that is
--- missing, and from
--- 60 on of a claim of another form. The numbers up to 39, 59 and 79 that no kind has are kept for more of each.
+-- The status of a refusal of this kind: from 1 on for kinds without a claim, from 40 on for a required claim that is
+-- missing, and from 60 on for a claim of another form. The numbers up to 39, 59 and 79 that no kind has are kept for more of each.
 abbrev pub number : Kind → ℕ
 number InvalidToken = 1
 number InvalidSignature = 2

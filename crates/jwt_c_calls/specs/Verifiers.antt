@@ -18,7 +18,7 @@ use Rattle.jwt_standard.specs.StandardKeys.{verifier_refusal, StandardAccepts}
 use Rattle.jwt_validation.specs.Moments.{end_of_time}
 use Rattle.jwt_validation.specs.Options.{Options}
 use Rattle.jwt_validation.specs.OptionsOf.{options_of}
-use Rattle.jwt_validation.specs.OptionsRead.{ReadsOptions}
+use Rattle.jwt_c_calls.specs.Inputs.{ReadsOptions}
 use Rattle.jwt_validation.specs.declared.interval.Moments.{Moments}
 use Rattle.jwt_validation.specs.declared.validation.Validation.{Validation}
 use Rattle.jsonwebtoken.specs.Accepted.{AreMoments}
@@ -44,8 +44,8 @@ use Rattle.jwt_c_calls.specs.TestNumbers.{test_number}
 abbrev pub unless_zero : ℕ → ℕ → ℕ
 unless_zero given usual = if given == 0 then usual else given
 
--- the limits that the arguments of a call stand for: a length of 0 is that of 1 MiB, and 0 bytes of prepared keys are
--- 64 MiB
+-- the limits for the arguments of a call: 0 selects 1 MiB for the length of a token, and 64 MiB for the bytes of prepared
+-- keys
 abbrev pub limits_of : ℕ → Bool → ℕ → Limits
 limits_of max_len allows_blank max_prepared = record {
   max_len = unless_zero max_len token_limit;
@@ -103,10 +103,11 @@ AreRefused allows_blank algorithms keys status = (status ≡ number kind.OutOfMe
     ⊎ (HaveNoKeyText allows_blank keys
     × ((why : KeyProblem) × IsKeyProblem allows_blank algorithms keys why × (status ≡ problem_status why))))
 
--- the verifier has options and keys of these texts, and fit ones
+-- the verifier has options and keys of these texts, and fit ones, and prepares no more of them than the limits allow
 abbrev pub IsVerifierOf : (Options → Keys → Type 0) → Limits → Verifier → Type 0
-IsVerifierOf AreOf limits v = AreOf (options_of v.validation) v.keys × (v.limits ≡ limits)
-    × HaveNoKeyText limits.allows_blank v.keys × AreFit limits.allows_blank v.validation.algorithms.items v.keys
+IsVerifierOf AreOf limits v = AreOf (options_of v.validation) v.keys.keys × (v.limits ≡ limits)
+    × HaveNoKeyText limits.allows_blank v.keys.keys × AreFit limits.allows_blank v.validation.algorithms.items v.keys.keys
+    × (v.keys.prepared ≤ limits.max_prepared)
 
 -- the status says why there is no verifier: the texts are refused; or the keys that they describe are
 -- refused for the options
@@ -149,12 +150,12 @@ AnswersUntil keys validation token time last = AnswersBy {E = Unit {0}} (λ _. U
     (order_of keys) t × IsLast (verifier_call keys validation token time) (order_of keys) time t last))
     (λ _. FailsFirst (token_tests (verifier_call keys validation token time)) (order_of keys))
 
--- the number of the first failed test of a token that is refused with this kind, or 0 if memory ran out
+-- the number of the first failed test of a token that is refused with this kind; if memory ran out 0, and only then
 abbrev pub TellsTest : Keys → Validation → List ℕ → ℕ → Kind → ℕ → Type 0
 TellsTest keys validation token time k test = ((k ≡ kind.OutOfMemory) × (test ≡ 0))
-    ⊎ ((f : Test)
+    ⊎ ((¬ (k ≡ kind.OutOfMemory)) × ((f : Test)
     × IsFirstFailed (token_tests (verifier_call keys validation token time)) (order_of keys) f
-    × (test ≡ test_number f))
+    × (test ≡ test_number f)))
 
 -- the number of the first failed test, or 0 if none failed
 abbrev pub TellsTestOf : Keys → Validation → List ℕ → ℕ → Answer → ℕ → Type 0
@@ -167,8 +168,8 @@ abbrev pub IsRefusedWith : Verifier → List ℕ → ℕ → ℕ → ℕ → Typ
 IsRefusedWith v token time status test =
     ((v.limits.max_len < length token) × (status ≡ token_too_long) × (test ≡ 0))
     ⊎ ((length token ≤ v.limits.max_len) × ((k : Kind)
-    × AnswersWith v.keys v.validation token time (Refuses k)
-    × TellsTest v.keys v.validation token time k test × (status ≡ number k)))
+    × AnswersWith v.keys.keys v.validation token time (Refuses k)
+    × TellsTest v.keys.keys v.validation token time k test × (status ≡ number k)))
 
 -- ---- the times at which it accepts
 
@@ -176,7 +177,7 @@ IsRefusedWith v token time status test =
 -- the token is too long, or memory ran out
 abbrev pub TellsMoments : Verifier → List ℕ → Result (Option Moments) ℕ → Type 0
 TellsMoments v token (Ok m) = (length token ≤ v.limits.max_len)
-    × AreMoments (verifier_call v.keys v.validation token 0) (order_of v.keys) m
+    × AreMoments (verifier_call v.keys.keys v.validation token 0) (order_of v.keys.keys) m
 TellsMoments v token (Err status) = ((v.limits.max_len < length token) × (status ≡ token_too_long))
     ⊎ (status ≡ number kind.OutOfMemory)
 

@@ -22,7 +22,7 @@ ghost use Rattle.jwt_c_calls.specs.Calls.{AnswersNumbers, AnswersIssuedAt};
 ghost use Rattle.jwt_c_calls.specs.Calls.{HandsOut, IsHeaderText, IsTextOf, answer_of, answer_in, said_value};
 ghost use Rattle.jwt_c_calls.specs.Status.{algorithm_numbered};
 
-use crate::inputs::{CallError, Input, read_as, read_claims};
+use crate::inputs::{CallError, Input, read_as, read_claims, read_options};
 use crate::keys::{options_and_key, options_and_secret, options_and_set};
 use crate::status::numbered_algorithm;
 use jsonwebtoken::crypto::hmac::HmacProvider;
@@ -196,7 +196,7 @@ fn verdict_answer(
     ensures err { IfErr result (λ r. AnswersVerdict options.now token.now verdict.now time
         (answer_of r)) }
 {
-    let validation = read_as(Input::Options, Validation::from_slice(alloc, options))?;
+    let validation = read_as(Input::Options, read_options(alloc, options))?;
     let answer = decode_by_verdict(alloc, token, verdict, &validation, time);
     drop(validation);
     answer_of_claims(alloc, answer)

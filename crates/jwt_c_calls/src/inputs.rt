@@ -1,15 +1,23 @@
 //! The JSON texts that are arguments of calls for C, and the reasons for which a call has no
 //! result.
 
-ghost use Rattle.std.specs.Prelude.{◌≡◌, IfOk, IfErr};
+ghost use Rattle.std.specs.Prelude.{◌≡◌, List, [], Some, None, IfOk, IfErr, MatchOption, codes, false};
+ghost use Rattle.std.specs.Option.{option_map_or};
 ghost use Rattle.serde_json.specs.Data.{Data};
+ghost use Rattle.serde_json.specs.Find.{get};
 ghost use Rattle.serde_json.specs.View.{view};
+ghost use Rattle.jwt_base.specs.JsonText.{ReadsText};
 ghost use Rattle.jwt_base.specs.Kind as kind;
 ghost use Rattle.jwt_base.specs.KindOf.{kind_of, RefusesAs};
-ghost use Rattle.jwt_c_calls.specs.Inputs.{ReadsClaimsText, IsReadAs};
+ghost use Rattle.jwt_validation.specs.Options.{Options};
+ghost use Rattle.jwt_validation.specs.OptionsOf.{options_of};
+ghost use Rattle.jwt_c_calls.specs.Inputs.{IsReadAs, ReadsClaimsText, ReadsOptions, empty_member};
+ghost use Rattle.jwt_c_calls.specs.Inputs.{has_empty_item, is_text, lists_empty};
 
+use crate::membership::{is_text, some_is_text};
 use jsonwebtoken::errors::{Error, ErrorKind, new_error};
 use jwt_base::serialization::json_value;
+use jwt_validation::Validation;
 use serde_json::Value;
 use std::alloc::{AllocError, Global};
 use std::result::Result;
@@ -77,4 +85,63 @@ pub fn read_claims(alloc: Global, text: &[u8]) -> Result<Value, Error>
         return Err(new_error(ErrorKind::Json));
     }
     Ok(value)
+}
+
+/// Returns the options that a JSON text describes. A text that `Validation::from_slice` refuses, and
+/// one with an empty string in `aud` or `iss` or as `sub`, is refused with `Json`.
+#[inline(always)]
+pub fn read_options(alloc: Global, text: &[u8]) -> Result<Validation, Error>
+    ensures ok { IfOk result (λ v. ReadsText ReadsOptions text.now (options_of v)) }
+    ensures err { IfErr result (RefusesAs kind.Json
+        ((o : Options) → ¬ ReadsText ReadsOptions text.now o)) }
+{
+    let value = json_value(alloc, text)?;
+    match empty_member(&value) {
+        Some(_) => Err(new_error(ErrorKind::Json)),
+        None => Validation::from_value(alloc, &value),
+    }
+}
+
+/// Returns the first of the members `aud`, `iss` and `sub` of options that has or is an empty string.
+pub fn empty_member(options: &Value) -> Option<&'static str>
+    ensures { MatchOption result (empty_member (view options.now) ≡ None)
+        (λ name. empty_member (view options.now) ≡ Some name.now) }
+{
+    if lists_empty(options, "aud") {
+        return Some("aud");
+    }
+    if lists_empty(options, "iss") {
+        return Some("iss");
+    }
+    if is_empty_subject(options) {
+        return Some("sub");
+    }
+    None
+}
+
+fn lists_empty(options: &Value, name: &str) -> bool
+    ensures { result ≡ lists_empty name.now (view options.now) }
+{
+    match options.get(name) {
+        Some(list) => has_empty_item(list),
+        None => false,
+    }
+}
+
+fn has_empty_item(value: &Value) -> bool
+    ensures { result ≡ has_empty_item (view value.now) }
+{
+    match value {
+        Value::Array(items) => some_is_text(items.as_slice(), b""),
+        _ => false,
+    }
+}
+
+fn is_empty_subject(options: &Value) -> bool
+    ensures { result ≡ option_map_or (is_text []) (get (codes "sub") (view options.now)) false }
+{
+    match options.get("sub") {
+        Some(subject) => is_text(subject, b""),
+        None => false,
+    }
 }

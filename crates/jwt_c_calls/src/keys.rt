@@ -16,11 +16,11 @@ ghost use Rattle.jwt_keys.specs.Key.{Plain};
 ghost use Rattle.jwt_keys.specs.KeyOfJwk.{IsKeyOf};
 ghost use Rattle.jwt_keys.specs.declared.jwk.Jwk.{Jwk};
 ghost use Rattle.jwt_validation.specs.OptionsOf.{options_of};
-ghost use Rattle.jwt_validation.specs.OptionsRead.{ReadsOptions};
+ghost use Rattle.jwt_c_calls.specs.Inputs.{ReadsOptions};
 ghost use Rattle.jwt_c_calls.specs.Calls.{answer_of};
 ghost use Rattle.jwt_c_calls.specs.Keys.{AnswersWithOptions, AnswersWithKey, AnswersWithSet};
 
-use crate::inputs::{CallError, Input, read_as};
+use crate::inputs::{CallError, Input, read_as, read_options};
 use jsonwebtoken::DecodingKey;
 use jwt_keys::jwk::Jwk;
 use jwt_keys::jwk_set::JwkSet;
@@ -39,7 +39,7 @@ pub fn options_and_secret(
         × (g.1 ≡ Plain family.Hmac secret.now)) }
     ensures err { IfErr result (λ r. AnswersWithOptions options.now (λ _ _. ⊥) (answer_of r)) }
 {
-    let validation = read_as(Input::Options, Validation::from_slice(alloc, options))?;
+    let validation = read_as(Input::Options, read_options(alloc, options))?;
     let key = DecodingKey::from_secret(alloc, secret)?;
     Ok((validation, key))
 }
@@ -57,7 +57,7 @@ pub fn options_and_key(
     ensures err { IfErr result (λ r. AnswersWithKey options.now key.now (λ _ _ _. ⊥)
         (answer_of r)) }
 {
-    let validation = read_as(Input::Options, Validation::from_slice(alloc, options))?;
+    let validation = read_as(Input::Options, read_options(alloc, options))?;
     let jwk = read_as(Input::Key, Jwk::from_slice(alloc, key))?;
     let made = DecodingKey::from_jwk(alloc, &jwk);
     // one drop
@@ -78,7 +78,7 @@ pub fn options_and_set(
     ensures err { IfErr result (λ r. AnswersWithSet options.now set.now (λ _ _ _. ⊥)
         (answer_of r)) }
 {
-    let validation = read_as(Input::Options, Validation::from_slice(alloc, options))?;
+    let validation = read_as(Input::Options, read_options(alloc, options))?;
     let keys = read_as(Input::Set, JwkSet::from_slice(alloc, set))?;
     Ok((validation, keys))
 }

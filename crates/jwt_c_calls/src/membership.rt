@@ -6,10 +6,10 @@ ghost use Rattle.std.specs.Str.{bytes_eq};
 ghost use Rattle.serde_json.specs.Data.{Data};
 ghost use Rattle.serde_json.specs.View.{view, items_view};
 ghost use Rattle.jwt_c_calls.specs.Calls.{answer_of, refusal_status};
-ghost use Rattle.jwt_c_calls.specs.Inputs.{ReadsClaimsText};
+ghost use Rattle.jwt_c_calls.specs.Inputs.{ReadsClaimsText, is_text, some_is_text};
 ghost use Rattle.jwt_c_calls.specs.Members.{AnswersNothing};
-ghost use Rattle.jwt_c_calls.specs.Membership.{ChecksMember, SaysMemberHas, has_text, is_text};
-ghost use Rattle.jwt_c_calls.specs.Membership.{some_is_text, parts, words};
+ghost use Rattle.jwt_c_calls.specs.Membership.{ChecksMember, SaysMemberHas, has_text};
+ghost use Rattle.jwt_c_calls.specs.Membership.{parts, words};
 
 use crate::inputs::{CallError, Input, read_as, read_claims};
 use crate::status::status_of;
@@ -77,7 +77,7 @@ fn has_part(text: &[u8], part: &[u8]) -> bool
     text.split(|byte| *byte == b' ').any(|own| own == part)
 }
 
-fn some_is_text(items: &[Value], text: &[u8]) -> bool
+pub(crate) fn some_is_text(items: &[Value], text: &[u8]) -> bool
     ensures { result ≡ some_is_text text.now (items_view items.now) }
 {
     for item in items {
@@ -88,7 +88,7 @@ fn some_is_text(items: &[Value], text: &[u8]) -> bool
     false
 }
 
-fn is_text(value: &Value, text: &[u8]) -> bool
+pub(crate) fn is_text(value: &Value, text: &[u8]) -> bool
     ensures { result ≡ is_text text.now (view value.now) }
 {
     match value.as_str() {

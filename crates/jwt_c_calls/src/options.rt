@@ -10,7 +10,7 @@ ghost use Rattle.jwt_c_calls.specs.Calls.{Returns, IsTextOf, Refuses, answer_of}
 ghost use Rattle.jwt_c_calls.specs.Options.{AnswersFault, AnswersQuoted, IsValueFault};
 ghost use Rattle.jwt_c_calls.specs.Options.{fault_text, form_text};
 
-use crate::inputs::CallError;
+use crate::inputs::{CallError, empty_member};
 use jsonwebtoken::errors::{ErrorKind, new_error};
 use jwt_base::serialization::json_value;
 use jwt_validation::{Form, OptionsFault, options_fault};
@@ -110,6 +110,9 @@ fn value_fault(alloc: Global, value: &Value) -> Result<Vec<u8>, CallError>
 {
     match options_fault(value) {
         Some(fault) => fault_text(alloc, fault),
-        None => Ok(Vec::new(alloc)),
+        None => match empty_member(value) {
+            Some(name) => name_and_text(alloc, name, " has an empty text"),
+            None => Ok(Vec::new(alloc)),
+        },
     }
 }

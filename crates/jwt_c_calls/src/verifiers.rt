@@ -132,7 +132,7 @@ pub fn decode_with_expiry(
     time: u64,
 ) -> Result<Accepted, TokenRefusal>
     ensures ok { IfOk result (λ a. (length token.now ≤ verifier.now.limits.max_len)
-        × AnswersUntil verifier.now.keys verifier.now.validation token.now time a.last
+        × AnswersUntil verifier.now.keys.keys verifier.now.validation token.now time a.last
         (Returns a.text.items)) }
     ensures err { IfErr result (λ d. IsRefusedWith verifier.now token.now time d.status d.test) }
 {
@@ -186,9 +186,10 @@ fn verifier_of(
     validation: Validation,
     limits: Limits,
 ) -> Result<Verifier, u32>
-    ensures ok { IfOk result (λ v. (v.keys ≡ keys) × (v.validation ≡ validation)
+    ensures ok { IfOk result (λ v. (v.keys.keys ≡ keys) × (v.validation ≡ validation)
         × (v.limits ≡ limits) × HaveNoKeyText limits.allows_blank keys
-        × AreFit limits.allows_blank validation.algorithms.items keys) }
+        × AreFit limits.allows_blank validation.algorithms.items keys
+        × (v.keys.prepared ≤ limits.max_prepared)) }
     ensures err { IfErr result (AreRefused limits.allows_blank validation.algorithms.items keys) }
 {
     check_key_texts(alloc, &keys, limits.allows_blank)?;

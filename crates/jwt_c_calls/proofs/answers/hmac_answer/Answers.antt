@@ -6,7 +6,7 @@ use Rattle.jsonwebtoken.specs.declared.refusal.Test.TheVariants.{PayloadIsJson}
 use Rattle.jsonwebtoken.specs.Tests.{decode_order, token_tests}
 use Rattle.jsonwebtoken.proofs.EachTest.{met}
 use Rattle.jwt_base.specs.JsonText.{ReadsText}
-use Rattle.jwt_validation.specs.OptionsRead.{ReadsOptions}
+use Rattle.jwt_c_calls.specs.Inputs.{ReadsOptions}
 use Rattle.jwt_c_calls.specs.Calls.{hmac_call, IsErrorOfOne}
 use Rattle.jwt_c_calls.proofs.Answered.{no_options}
 use Rattle.jwt_c_calls.proofs.Handed.{shallow, handed_ok, handed_err}

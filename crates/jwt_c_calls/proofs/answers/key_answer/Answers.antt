@@ -12,7 +12,7 @@ use Rattle.jwt_base.specs.JsonText.{ReadsText}
 use Rattle.jwt_base.specs.KindOf.{kind_of, IsMemory}
 use Rattle.jsonwebtoken.specs.Tests.{Contents}
 use Rattle.jwt_keys.specs.Jwk.{ReadsKey}
-use Rattle.jwt_validation.specs.OptionsRead.{ReadsOptions}
+use Rattle.jwt_c_calls.specs.Inputs.{ReadsOptions}
 use Rattle.jwt_c_calls.specs.Calls.{key_call, PassesByJwk, FailsByJwk, IsErrorOfTwo}
 use Rattle.jwt_c_calls.specs.declared.inputs.Input.TheVariants as input
 use Rattle.jwt_c_calls.proofs.Answered.{no_key}

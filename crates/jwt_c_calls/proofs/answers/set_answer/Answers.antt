@@ -10,7 +10,7 @@ use Rattle.jsonwebtoken.specs.Tests.{Call, set_order, token_tests}
 use Rattle.jsonwebtoken.proofs.EachTest.{met}
 use Rattle.jwt_base.specs.JsonText.{ReadsText}
 use Rattle.jwt_keys.specs.JwkSet.{ReadsSet}
-use Rattle.jwt_validation.specs.OptionsRead.{ReadsOptions}
+use Rattle.jwt_c_calls.specs.Inputs.{ReadsOptions}
 use Rattle.jwt_c_calls.specs.Calls.{set_call, IsErrorOfTwo}
 use Rattle.jwt_c_calls.specs.declared.inputs.Input.TheVariants as input
 use Rattle.jwt_c_calls.proofs.Answered.{no_set}
