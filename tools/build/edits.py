@@ -142,6 +142,8 @@ class Edit:
         self.name = f"{module}/{slug(title)}"
         self.pairs, self.function = [], None
         self.is_refused, self.misfit, self.has_twin = False, "", False
+        # the goals whose answers do not fit it, whether a tactic in one finds no proof, and the goals whose answers are left out
+        self.unfit, self.is_unproved, self.left_out = set(), False, set()
         self.said = "it has no title" if not slug(title) else self.read(module, [line for line in lines if line.strip()]) or self.place()
         self.is_bad = bool(self.said)
 

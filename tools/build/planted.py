@@ -8,25 +8,19 @@ import re
 import shutil
 import tempfile
 
-from build import checks
+from build import answers, checks
 from build.edits import FUNCTION, at_home, functions_of, plain, text_of
 
 PARTS = ("src", "specs", "proofs")
 # The lines that rattle prints: a function's verdict, a goal that it did not prove, and an answer that is not a proof.
 VERDICT = re.compile(r"fn (\S+): (.*)")
 GOAL = re.compile(r"note: (?:\./)?(src/\S+?):(\d+):\d+: (it is not proved that .*|`search` found no proof .*)")
-ANSWER = re.compile(r"(?:\./)?proofs/(\S+)/\w+\.antt:\d+:\d+: error: (.*)")
+ANSWER = re.compile(r"(?:\./)?proofs/(\S+)/(\w+\.antt):(\d+):\d+: error: (.*)")
 NO_PROOF = re.compile(r"`(?:search|grind|omega|simp|cc)\b[^`]*`: no proof|found no proof|no proof of")
 NO_FUNCTION = re.compile(r"proofs/(\S+)/Proof\.antt: error: `\w+` has no function")
 PROVED = ("no holes", "depends on a hole in")
 # The line that rattle prints of a body that does not compile.
 ERROR = re.compile(r"(?:\./)?(src/\S+?):(\d+):\d+: error")
-# A proof that is left out. With names for the statement's variables, the goal of some generic functions takes minutes.
-HOLE = """use Rattle.{crate}.proofs.{module}.Statement.{{statement}}
-
-pub {name}_spec : {{M : Type 1}} → statement M
-{name}_spec = ?
-"""
 # A body that is left out: it is of every type.
 NO_BODY = "loop {}"
 
@@ -47,7 +41,7 @@ def copied(edit, name, twins):
     """Returns the text of the edit's function with the edit and under another name, or None if there can be no such copy."""
     own = edit.function
     text = "\n".join(text_of(f"{edit.crate.folder}/{own.file}").split("\n")[own.first - 1 : own.last])
-    if own.cycle or own.block and own.block.is_of_trait or os.path.isdir(recursive_proofs(edit.crate, own.spelled)):
+    if own.cycle or own.block and own.block.is_of_trait or os.path.isdir(answers.recursive_folder(edit.crate, own.spelled)):
         return None
     for path, old, new, twin in edit.pairs:
         if path != own.file or text.count(old) != 1:
@@ -57,10 +51,10 @@ def copied(edit, name, twins):
 
 
 class Planted:
-    """A copy of a crate with edits planted: those that are tried in it, and those that are left for another one."""
+    """A copy of a crate with edits planted, or their twins: `tried` has the edits in it, and `left` has the edits for another copy."""
 
     def __init__(self, crate, edits, twins=False):
-        self.crate, self.tried, self.left = crate, [], []
+        self.crate, self.twins, self.tried, self.left = crate, twins, [], []
         # the text of an edit's copy of its function, by its name
         self.copies, names = {}, {}
         for edit in edits:
@@ -97,15 +91,18 @@ class Planted:
             if os.path.isdir(f"{self.crate.folder}/{part}"):
                 shutil.copytree(f"{self.crate.folder}/{part}", f"{scratch}/{part}")
         for edit, (name, _) in self.copies.items():
-            copy_proofs(scratch, edit.function, name)
+            answers.copy(scratch, edit.function, name)
+        for edit, function in self.functions.items():
+            if not self.twins:
+                answers.leave_out(f"{scratch}/{answers.folder_of(function.spelled)}", edit.left_out)
         kept = {function.path for function in self.functions.values()} | kept_proofs
         # a recursive function keeps its body: rattle names its proofs otherwise than those of the same function without it; so does a
         # destructor, whose proofs rattle looks for elsewhere
-        recursive = {function.spelled for function in self.all_functions if os.path.isdir(recursive_proofs(self.crate, function.spelled))}
+        recursive = {function.spelled for function in self.all_functions if os.path.isdir(answers.recursive_folder(self.crate, function.spelled))}
         stays = lambda own: own.cycle or own.spelled in recursive or own.path in kept or own.is_destructor()
         left_out = [own for own in self.all_functions if own.has_body and not stays(own)]
         for function in left_out:
-            leave_out(self.crate, scratch, function.spelled)
+            answers.leave_out_proof(self.crate, scratch, function.spelled)
         for path in self.crate.modules():
             lines = self.text(path).split("\n")
             for function in sorted((own for own in left_out if own.file == path), key=lambda own: -own.first):
@@ -148,34 +145,6 @@ def without_body(lines):
     return [*lines[: first + 1], f"{inner}    {NO_BODY}", *[""] * (len(lines) - first - 3), lines[-1]]
 
 
-def recursive_proofs(crate, path):
-    """Returns the folder of a function's proofs, if it calls itself."""
-    *modules, name = path.split("::")
-    return "/".join([crate.folder, "proofs", *modules, f"+{name}"])
-
-
-def copy_proofs(scratch, function, name):
-    """Copies a function's answers for a copy of it under this name."""
-    folder = f"{scratch}/proofs/{function.spelled.replace('::', '/')}"
-    if os.path.isdir(folder):
-        to = shutil.copytree(folder, f"{os.path.dirname(folder)}/{name}")
-        for file in (f"{at}/{it}" for at, _, names in os.walk(to) for it in names):
-            text = re.sub(rf"\b{function.name}(?=\b|_spec\b)", name, text_of(file))
-            with open(file, "w", encoding="utf-8") as opened:
-                opened.write(text)
-
-
-def leave_out(crate, scratch, path):
-    """Puts a hole instead of a function's proof."""
-    folder = f"{scratch}/proofs/{path.replace('::', '/')}"
-    os.makedirs(folder, exist_ok=True)
-    for name in os.listdir(folder):
-        if os.path.isfile(f"{folder}/{name}"):
-            os.remove(f"{folder}/{name}")
-    with open(f"{folder}/Proof.antt", "w", encoding="utf-8") as opened:
-        opened.write(HOLE.format(crate=crate.name, module=path.replace("::", "."), name=path.split("::")[-1]))
-
-
 class Report:
     """The lines that a check of planted edits printed: verdicts by function, goals that it left open, and answers that are not proofs."""
 
@@ -186,7 +155,7 @@ class Report:
         for function in self.functions.values():
             function.find(self.verdicts)
         self.goals = [found for found in map(GOAL.match, self.lines) if found]
-        self.answers = [(plain(found[1].split("/")), found[2]) for found in map(ANSWER.match, self.lines) if found]
+        self.answers = [found for found in map(ANSWER.match, self.lines) if found]
 
     def uncompiled(self):
         """Returns the edits whose bodies do not compile, for which no other was checked either."""
@@ -197,15 +166,29 @@ class Report:
     def proves(self, edit):
         return self.verdicts.get(self.functions[edit].path, "").startswith(PROVED)
 
-    def judge(self, edit):
-        """Notes of the edit whether a goal of its own function is open, and why."""
+    def open_goals(self, edit):
+        """Returns the prover's lines on open goals of the edited function."""
         own = self.functions[edit]
-        goals = [found[3] for found in self.goals if found[1] == own.file and own.first <= int(found[2]) <= own.last]
-        answers = [why for path, why in self.answers if path == own.path]
-        goals += filter(NO_PROOF.search, answers)
-        edit.misfit = "" if goals or not answers else answers[0]
-        edit.is_refused = bool(goals) and not self.proves(edit)
+        return [found[3] for found in self.goals if found[1] == own.file and own.first <= int(found[2]) <= own.last]
+
+    def unfit_answers(self, edit):
+        """Returns the prover's lines on answers of the edited function that do not prove their goals, and these goals."""
+        found = [it for it in self.answers if plain(it[1].split("/")) == self.functions[edit].path]
+        folder = f"{edit.crate.folder}/{answers.folder_of(edit.function.spelled)}"
+        goals = [answers.goal_at(f"{folder}/{it[2]}", int(it[3])) for it in found if it[2] == answers.FILE]
+        return [it[4] for it in found], set(filter(None, goals))
+
+    def why_unproved(self, edit):
+        """Returns why the edit's function is not proved."""
+        own = self.functions[edit]
         if own.path not in self.verdicts:
-            edit.said = next((line for line in self.lines if "error" in line), f"no verdict on {own.spelled}")
-        else:
-            edit.said = (goals or answers or [f"its function is {self.verdicts[own.path]}"])[0]
+            return next((line for line in self.lines if "error" in line), f"no verdict on {own.spelled}")
+        return (self.open_goals(edit) or self.unfit_answers(edit)[0] or [f"its function is {self.verdicts[own.path]}"])[0]
+
+    def judge(self, edit):
+        """Notes whether a goal of the edited function is open, and why, or else which of its answers do not prove their goals."""
+        edit.is_refused = bool(self.open_goals(edit)) and not self.proves(edit)
+        said, edit.unfit = ([], set()) if edit.is_refused else self.unfit_answers(edit)
+        edit.misfit = said[0] if said else ""
+        edit.is_unproved = any(map(NO_PROOF.search, said))
+        edit.said = self.why_unproved(edit)

@@ -3,9 +3,11 @@
 A file crates/NAME/wrong-bodies/MODULE.edits puts wrong bodies instead of right ones (edits.py). The edits of a crate are planted in
 copies of it (planted.py). An edit that these checks do not show refused, as when a body does not compile, is tried again alone.
 
-An edit counts as refused only if a goal of its own function is left open: one that rattle made and did not prove, or one whose tactic in
-the function's file of answers found no proof. That a callee is not proved says nothing of it, nor does an answer that no longer fits,
-since it may not fit a right body either. If that is all, the edit has to have a twin, a right body in the same place.
+An edit is refused for its meaning if a goal of the edited function is open. An unproved callee shows nothing. An answer that no longer
+proves its goal shows little: a right body may break it too, and the goal may be true for another reason. So such an edit needs a twin,
+a right body in the same place. The twin must be proved with the answer, unless a tactic in the answer found no proof. Then the edit is
+tried without the answer. If it is proved, it is not refused. If its goal is open, it counts as refused by an answer alone. The last
+lines count these edits separately, since a reviewer must check that the contract forbids them.
 
 Which edits were refused is kept on this machine, by the sum of all that their check read. Nothing else is kept.
 
@@ -26,15 +28,18 @@ from build.edits import edits_of
 from build.kept import Store, key_of
 from build.planted import Planted, Report
 
-MISFIT = "its answer no longer fits, while it fits the twin"
+ALLOWED = "it is proved without the answer that does not fit it, so its contract allows it"
 NO_TWIN = "only an answer no longer fits, as it might under a right body"
+BAD_TWIN = "only an answer no longer fits, and its twin is not proved"
+# The reason of an edit that an answer alone refuses.
+BY_ANSWER = "its answer no longer proves its goal, and nothing else does"
 REFUSED = "refused, as it must be"
 # An environment variable that has rt try each wrong body by itself.
 PLAIN = "JWT_TESTS_PLAIN"
 
 
 def try_edits(crate, edits):
-    """Tries edits in as few checks as they fit in, and then alone what was not refused."""
+    """Tries edits in as few checks as they fit in, and then alone what was neither refused nor met by an answer that does not fit."""
     left = edits
     with tempfile.TemporaryDirectory(prefix="wrong-bodies-") as work:
         while left:
@@ -44,12 +49,56 @@ def try_edits(crate, edits):
                 found.judge(edit)
             broken = found.uncompiled()
             left = [edit for edit in left if edit not in broken] if broken else planted.left
-        for edit in [edit for edit in edits if not edit.is_refused and not (edit.misfit and edit.has_twin)]:
+        for edit in [edit for edit in edits if not edit.is_refused and not may_be_by_answer(edit)]:
             Report(Planted(crate, [edit]), work).judge(edit)
-    for edit in edits:
-        if not edit.is_refused and edit.misfit:
-            edit.is_refused = edit.has_twin
-            edit.said = f"{MISFIT if edit.has_twin else NO_TWIN}: {edit.misfit}"
+        for edit in edits:
+            if edit.misfit and not may_be_by_answer(edit):
+                edit.said = f"{NO_TWIN}: {edit.misfit}"
+        try_without_answers(crate, with_right_twins(crate, list(filter(may_be_by_answer, edits)), work), work)
+
+
+def may_be_by_answer(edit):
+    """Returns whether only answers no longer prove their goals, in an edit that has a twin, or for want of a tactic's proof."""
+    return bool(edit.misfit) and (edit.has_twin or edit.is_unproved)
+
+
+def with_right_twins(crate, edits, work):
+    """Returns these edits without those whose twins are not proved."""
+    wrong = [edit for edit, why in tried_twins(crate, edits, work) if why]
+    for edit in wrong:
+        edit.said = f"{BAD_TWIN}: {edit.misfit}"
+    return [edit for edit in edits if edit not in wrong]
+
+
+def try_without_answers(crate, edits, work):
+    """Tries edits without the answers that do not fit. If the prover proves an edit without them, it is not refused."""
+    left = edits
+    for edit in left:
+        edit.left_out = set(edit.unfit)
+    while left:
+        planted = Planted(crate, left)
+        found, again = Report(planted, work), []
+        for edit in planted.tried:
+            misfit = edit.misfit
+            found.judge(edit)
+            if edit.unfit - edit.left_out:
+                edit.left_out |= edit.unfit
+                again.append(edit)
+            elif found.proves(edit):
+                edit.said = f"{ALLOWED}: {misfit}"
+            elif edit.is_refused or edit.misfit:
+                edit.is_refused, edit.said = True, f"{BY_ANSWER}: {misfit}"
+        left = [*planted.left, *again]
+
+
+def tried_twins(crate, edits, work=None):
+    """Yields the edits that have twins, each with why its twin is not proved, or None."""
+    left = [edit for edit in edits if edit.has_twin and not edit.is_bad]
+    while left:
+        planted = Planted(crate, left, twins=True)
+        found = Report(planted, work)
+        yield from ((edit, None if found.proves(edit) else found.why_unproved(edit)) for edit in planted.tried)
+        left = planted.left
 
 
 class Earlier:
@@ -89,6 +138,10 @@ class Earlier:
                 store.keep(key, edit.said)
 
 
+def is_by_answer(edit):
+    return edit.is_refused and edit.said.startswith(BY_ANSWER)
+
+
 def try_all(crate, edits, is_anew):
     """Tries a crate's edits and says how each went. Returns how many were tried in this run."""
     start = time.monotonic()
@@ -99,24 +152,18 @@ def try_all(crate, edits, is_anew):
     for edit in edits:
         word = "BAD EDIT" if edit.is_bad else REFUSED if edit.is_refused else "NOT REFUSED"
         print(f"wrong body {crate.name}/{edit.name}: {word}: {edit.said[:200]}")
-    refused = sum(edit.is_refused for edit in edits)
-    print(f"{crate.name}: {refused} of {len(edits)} wrong bodies refused, {len(left)} of them tried in this run, in {time.monotonic() - start:.0f} s", flush=True)
+    refused, by_answer = sum(edit.is_refused for edit in edits), sum(map(is_by_answer, edits))
+    how = f"{len(left)} of them tried in this run, in {time.monotonic() - start:.0f} s"
+    print(f"{crate.name}: {refused} of {len(edits)} wrong bodies refused, {by_answer} of them by an answer alone; {how}", flush=True)
     return len(left)
 
 
 def try_twins(crate, edits):
     """Has the prover prove the twins of edits, and says how each went. Returns how many are not proved."""
-    left = [edit for edit in edits if edit.has_twin and not edit.is_bad]
     lost = 0
-    while left:
-        planted = Planted(crate, left, twins=True)
-        found = Report(planted)
-        for edit in planted.tried:
-            found.judge(edit)
-            is_proved = found.proves(edit)
-            print(f"twin of {crate.name}/{edit.name}: {'proved, as it must be' if is_proved else f'NOT PROVED: {edit.said[:200]}'}", flush=True)
-            lost += not is_proved
-        left = planted.left
+    for edit, why in tried_twins(crate, edits):
+        print(f"twin of {crate.name}/{edit.name}: {f'NOT PROVED: {why[:200]}' if why else 'proved, as it must be'}", flush=True)
+        lost += bool(why)
     return lost
 
 
@@ -160,8 +207,10 @@ def refuse(edits, is_anew):
     if is_plain(edits):
         return try_plainly(edits)
     tried = sum(side_by_side(lambda crate, some: try_all(crate, some, is_anew), edits))
-    print(f"{tried} of {sum(map(len, edits.values()))} wrong bodies were tried in this run, and the others in an earlier one")
-    return sum(edit.is_refused for some in edits.values() for edit in some)
+    every = [edit for some in edits.values() for edit in some]
+    print(f"{sum(map(is_by_answer, every))} of {len(every)} wrong bodies are refused by an answer alone: no goal of theirs is open with it, and one is without it")
+    print(f"{tried} of {len(every)} wrong bodies were tried in this run, and the others in an earlier one")
+    return sum(edit.is_refused for edit in every)
 
 
 def build_below(named):
