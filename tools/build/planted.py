@@ -17,6 +17,8 @@ VERDICT = re.compile(r"fn (\S+): (.*)")
 GOAL = re.compile(r"note: (?:\./)?(src/\S+?):(\d+):\d+: (it is not proved that .*|`search` found no proof .*)")
 ANSWER = re.compile(r"(?:\./)?proofs/(\S+)/(\w+\.antt):(\d+):\d+: error: (.*)")
 NO_PROOF = re.compile(r"`(?:search|grind|omega|simp|cc)\b[^`]*`: no proof|found no proof|no proof of")
+# What rattle adds to a goal for which it found a counterexample.
+REFUTED = "the facts known there allow values at which this goal is false"
 NO_FUNCTION = re.compile(r"proofs/(\S+)/Proof\.antt: error: `\w+` has no function")
 PROVED = ("no holes", "depends on a hole in")
 # The line that rattle prints of a body that does not compile.
@@ -171,6 +173,10 @@ class Report:
         own = self.functions[edit]
         return [found[3] for found in self.goals if found[1] == own.file and own.first <= int(found[2]) <= own.last]
 
+    def refutes(self, edit):
+        """Returns whether the prover found a counterexample for a goal of the edited function."""
+        return any(REFUTED in said for said in self.open_goals(edit))
+
     def unfit_answers(self, edit):
         """Returns the prover's lines on answers of the edited function that do not prove their goals, and these goals."""
         found = [it for it in self.answers if plain(it[1].split("/")) == self.functions[edit].path]
@@ -183,7 +189,8 @@ class Report:
         own = self.functions[edit]
         if own.path not in self.verdicts:
             return next((line for line in self.lines if "error" in line), f"no verdict on {own.spelled}")
-        return (self.open_goals(edit) or self.unfit_answers(edit)[0] or [f"its function is {self.verdicts[own.path]}"])[0]
+        goals = sorted(self.open_goals(edit), key=lambda said: REFUTED not in said)
+        return (goals or self.unfit_answers(edit)[0] or [f"its function is {self.verdicts[own.path]}"])[0]
 
     def judge(self, edit):
         """Notes whether a goal of the edited function is open, and why, or else which of its answers do not prove their goals."""

@@ -6,8 +6,9 @@ copies of it (planted.py). An edit that these checks do not show refused, as whe
 An edit is refused for its meaning if a goal of the edited function is open. An unproved callee shows nothing. An answer that no longer
 proves its goal shows little: a right body may break it too, and the goal may be true for another reason. So such an edit needs a twin,
 a right body in the same place. The twin must be proved with the answer, unless a tactic in the answer found no proof. Then the edit is
-tried without the answer. If it is proved, it is not refused. If its goal is open, it counts as refused by an answer alone. The last
-lines count these edits separately, since a reviewer must check that the contract forbids them.
+tried without the answer. If it is proved, it is not refused. If its goal is open, it is refused: for its meaning if the prover finds
+a counterexample, and otherwise by an answer alone. The last lines count the edits that an answer alone refuses, since a reviewer must
+check that the contract forbids them.
 
 Which edits were refused is kept on this machine, by the sum of all that their check read. Nothing else is kept.
 
@@ -86,7 +87,7 @@ def try_without_answers(crate, edits, work):
                 again.append(edit)
             elif found.proves(edit):
                 edit.said = f"{ALLOWED}: {misfit}"
-            elif edit.is_refused or edit.misfit:
+            elif not found.refutes(edit) and (edit.is_refused or edit.misfit):
                 edit.is_refused, edit.said = True, f"{BY_ANSWER}: {misfit}"
         left = [*planted.left, *again]
 
@@ -208,7 +209,7 @@ def refuse(edits, is_anew):
         return try_plainly(edits)
     tried = sum(side_by_side(lambda crate, some: try_all(crate, some, is_anew), edits))
     every = [edit for some in edits.values() for edit in some]
-    print(f"{sum(map(is_by_answer, every))} of {len(every)} wrong bodies are refused by an answer alone: no goal of theirs is open with it, and one is without it")
+    print(f"{sum(map(is_by_answer, every))} of {len(every)} wrong bodies are refused by an answer alone: without it, the prover neither proves nor refutes the goal")
     print(f"{tried} of {len(every)} wrong bodies were tried in this run, and the others in an earlier one")
     return sum(edit.is_refused for edit in every)
 
