@@ -175,7 +175,7 @@ fn copy(alloc: Global, text: Option<&str>) -> Result<Option<String>, AllocError>
 
 /// Returns a text as it can be shown: in quotes, with escapes, if a character is not seen.
 fn printable_text(alloc: Global, text: &str) -> Result<String, AllocError> {
-    if text.chars().any(is_unseen) {
+    if text.chars().any(|character| is_unseen(character)) {
         return format!(in alloc; "{text:?}");
     }
     String::from_str(alloc, text)
