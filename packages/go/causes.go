@@ -57,7 +57,7 @@ func causeOf(status C.enum_jwt_status, test C.uint32_t, token string) string {
 	switch test {
 	case C.JWT_TEST_HEADER_IS_JSON:
 		return "the header is not JSON"
-	case C.JWT_TEST_HEADER_READS:
+	case C.JWT_TEST_HEADER_IS_VALID:
 		return faultOfPart(token)
 	case C.JWT_TEST_PAYLOAD_IS_JSON:
 		return "the payload is not JSON"

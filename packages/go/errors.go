@@ -98,11 +98,11 @@ func keyRefusal(status C.enum_jwt_status) error {
 	switch status {
 	case C.JWT_OUT_OF_MEMORY:
 		return refusal(status, 0)
-	case C.JWT_BLANK_KEY:
+	case C.JWT_ALL_ZERO_SECRET:
 		why += ": a secret is empty or has zeros alone"
 	case C.JWT_KEY_AS_SECRET:
 		why += ": a secret is a key of another kind, of SSH, in PEM, in DER, or a JSON Web Key or a set of them"
-	case C.JWT_UNFIT_KEY:
+	case C.JWT_NO_USABLE_KEY:
 		why += ": none verifies with any of them, and of a set only keys with a kid count"
 	case C.JWT_PROVIDER:
 		why = "it is a private key, and tokens are verified by the public one"

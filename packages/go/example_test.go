@@ -82,7 +82,7 @@ func ExampleError() {
 	if errors.Is(err, jwt.ErrMissingClaim) && errors.As(err, &refused) {
 		fmt.Println(refused.Claim, refused.Test)
 	}
-	// Output: iss ClaimRulesHold
+	// Output: iss ClaimsAreValid
 }
 
 func ExampleNewKeySet() {

@@ -57,7 +57,7 @@ func fill(size int, made call) ([]byte, C.enum_jwt_status) {
 		buffer := make([]byte, size)
 		at, room := slice(buffer)
 		status := made(at, room, &length)
-		if status != C.JWT_NO_ROOM {
+		if status != C.JWT_BUFFER_TOO_SMALL {
 			return buffer[:length], status
 		}
 		size = int(length)
@@ -179,7 +179,7 @@ func (it *handle) decode(token string, now uint64) (*Token, error) {
 		switch status {
 		case C.JWT_OK:
 			return made.set(token, claims[:it.length]), nil
-		case C.JWT_NO_ROOM:
+		case C.JWT_BUFFER_TOO_SMALL:
 			claims = make([]byte, it.length)
 		default:
 			return nil, tokenRefusal(status, it.test, token)
@@ -192,7 +192,7 @@ func (it *handle) decode(token string, now uint64) (*Token, error) {
 func (it *handle) verifySignature(token string) error {
 	verifier := (*C.uint8_t)(unsafe.Pointer(&it.verifier))
 	status := C.decode(verifier, token, 0, nil, 0, &it.length, &it.last, &it.test)
-	if status == C.JWT_OK || status == C.JWT_NO_ROOM || it.test > C.JWT_TEST_SIGNATURE_IS_ACCEPTED {
+	if status == C.JWT_OK || status == C.JWT_BUFFER_TOO_SMALL || it.test > C.JWT_TEST_SIGNATURE_IS_ACCEPTED {
 		return nil
 	}
 	return refusal(status, it.test)
@@ -232,5 +232,5 @@ func keyFromPEM(text []byte) ([]byte, error) {
 // Statuses that are more than their kind.
 const (
 	noKey    = uint32(C.JWT_NO_KEY)
-	unfitKey = uint32(C.JWT_UNFIT_KEY)
+	unfitKey = uint32(C.JWT_NO_USABLE_KEY)
 )

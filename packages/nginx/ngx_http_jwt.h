@@ -15,7 +15,7 @@
 /* room for the text of a status or of a test */
 #define NGX_HTTP_JWT_TEXT  64
 /* this module's own test, after those of the library: iss is no list */
-#define NGX_HTTP_JWT_ISSUER_TEST  (JWT_TEST_CLAIM_RULES_HOLD + 1)
+#define NGX_HTTP_JWT_ISSUER_TEST  (JWT_TEST_CLAIMS_ARE_VALID + 1)
 /* the longest token with its claims that is remembered */
 #define NGX_HTTP_JWT_SLOT  4000
 

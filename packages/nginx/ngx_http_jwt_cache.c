@@ -99,7 +99,7 @@ ngx_http_jwt_decode_by(struct jwt_verifier *verifier, ngx_http_jwt_ctx_t *ctx,
                                      ctx->token.len, now,
                                      (char *) ctx->claims.data, size,
                                      &ctx->claims.len, last, &ctx->test);
-    } while (status == JWT_NO_ROOM);
+    } while (status == JWT_BUFFER_TOO_SMALL);
 
     return status;
 }

@@ -344,7 +344,7 @@ ngx_http_jwt_check_list(ngx_conf_t *cf, ngx_command_t *cmd, ngx_str_t *value,
                                  JWT_PREPARE_NOTHING, &verifier);
     jwt_verifier_free(&verifier);
 
-    return status == JWT_OK || status == JWT_UNFIT_KEY ? NGX_CONF_OK
+    return status == JWT_OK || status == JWT_NO_USABLE_KEY ? NGX_CONF_OK
            : ngx_http_jwt_report(cf, (char *) cmd->name.data, value, status,
                                  NULL);
 }

@@ -114,7 +114,7 @@ ngx_http_jwt_report_fetch(ngx_http_jwt_fetch_t *fetch, ngx_uint_t answer,
                   "auth_jwt: no keys from \"%V\" of server \"%V\": status "
                   "%ui, %ui bytes: %V%s", &source->key->name,
                   &cscf->server_name, answer, fetch->set.nelts, &said,
-                  status == JWT_UNFIT_KEY
+                  status == JWT_NO_USABLE_KEY
                   ? ngx_http_jwt_unfit(fetch->set.elts, fetch->set.nelts, 1)
                   : "");
 }

@@ -100,10 +100,10 @@ ngx_http_jwt_report(ngx_conf_t *cf, const char *directive, ngx_str_t *value,
     if (status == JWT_BAD_OPTIONS) {
         hint = ": no algorithm of this name, or a name that is not UTF-8";
 
-    } else if (status == JWT_UNFIT_KEY && key != NULL) {
+    } else if (status == JWT_NO_USABLE_KEY && key != NULL) {
         hint = ngx_http_jwt_unfit(key->text.data, key->text.len, key->is_set);
 
-    } else if (status < JWT_NO_ROOM) {
+    } else if (status < JWT_BUFFER_TOO_SMALL) {
         /* why one of the three is not read says little of the others */
         ngx_str_set(&said, "no JSON Web Key Set, JSON Web Key or public key "
                            "in PEM");

@@ -13,7 +13,7 @@ ngx_http_jwt_write(ngx_http_jwt_call_pt call, ngx_pool_t *pool, ngx_str_t *in,
     uint32_t  status;
 
     status = call((char *) in->data, in->len, NULL, 0, &out->len);
-    if (status != JWT_NO_ROOM) {
+    if (status != JWT_BUFFER_TOO_SMALL) {
         return status;
     }
 

@@ -235,15 +235,15 @@ def refused(server):
         ("an unknown key", signed(PASS, kid="c"), "KeyIsFound", "c"),
         ("an odd kid", signed(PASS, kid=odd), "KeyIsFound", '\\" 200 OK \\"\\\\\\r\\n\\u0001 caf\u00e9'),
         ("a kid with quotation marks", signed(PASS, kid='a" "b\\'), "KeyIsFound", 'a\\" \\"b\\\\'),
-        ("another algorithm", signed(PASS, digest="sha384", alg="HS384"), "AlgorithmIsListed", "a"),
+        ("another algorithm", signed(PASS, digest="sha384", alg="HS384"), "AlgorithmIsAllowed", "a"),
         ("another signature", signed(PASS, b"x" * 32), "SignatureIsAccepted", "a"),
         ("a payload that is no object", signed([1]), "ClaimsAreAnObject", "a"),
-        ("an expired one", signed({"exp": NOW - 5}), "ClaimRulesHold", "a"),
+        ("an expired one", signed({"exp": NOW - 5}), "ClaimsAreValid", "a"),
     ):
         _, headers = server.get("/", token)
         said = [(headers[it] or "").encode("latin-1").decode() for it in ("X-Test", "X-Refused")]
         test(f"{name}: {said}", said == [failed_test, kid])
-    found = eventually(lambda: '401 ExpiredSignature - "ClaimRulesHold" "a"' in server.read("access.log"))
+    found = eventually(lambda: '401 ExpiredSignature - "ClaimsAreValid" "a"' in server.read("access.log"))
     test("the log has the test and the kid", found)
     test("no kid ends the quotes of the log", '"KeyIsFound" "\\x5C\\x22 200 OK \\x5C\\x22' in server.read("access.log"))
     status, headers = server.get("/", "x" * (1024 * 1024 + 1))

@@ -79,7 +79,7 @@ static bool is_kept(const struct answer *a, size_t from) {
 /* the status; after a refusal the length is 0 and the buffer is unchanged, after a result the bytes behind it are */
 static long status_of(const struct answer *a) {
     size_t given = a->status == JWT_OK ? a->len : 0;
-    if (a->status != JWT_OK && a->status != JWT_NO_ROOM && a->len != 0) return -1;
+    if (a->status != JWT_OK && a->status != JWT_BUFFER_TOO_SMALL && a->len != 0) return -1;
     return is_kept(a, given) ? (long)a->status : -2;
 }
 
@@ -179,12 +179,12 @@ static void rooms(void) {
     size_t needed = strlen(CLAIMS);
     for (size_t room = 0; room <= needed + 9; room++) {
         struct answer a = hmac_in(TOKEN, "secret", OPTIONS, LAST, room);
-        is("a buffer's status", a.status, room < needed ? JWT_NO_ROOM : JWT_OK);
+        is("a buffer's status", a.status, room < needed ? JWT_BUFFER_TOO_SMALL : JWT_OK);
         is("the length that is needed", a.len, needed);
         is("bytes behind the result", is_kept(&a, room < needed ? 0 : needed), 1);
     }
     size_t len = 7;
-    is("no buffer", jwt_decode_hmac(TEXT(TOKEN), BYTES("secret"), TEXT(OPTIONS), LAST, NULL, 0, &len), JWT_NO_ROOM);
+    is("no buffer", jwt_decode_hmac(TEXT(TOKEN), BYTES("secret"), TEXT(OPTIONS), LAST, NULL, 0, &len), JWT_BUFFER_TOO_SMALL);
     is("the length without a buffer", len, needed);
 }
 
@@ -285,7 +285,7 @@ static void faults_of_options(void) {
     }
     struct answer a = fresh();
     a.status = jwt_options_fault(TEXT("{\"algs\":1}"), a.room, 22, &a.len);
-    is("a buffer too small for a fault", status_of(&a), JWT_NO_ROOM);
+    is("a buffer too small for a fault", status_of(&a), JWT_BUFFER_TOO_SMALL);
     is("the fault's length", a.len, 23);
 }
 
@@ -325,7 +325,7 @@ static void quoted(void) {
         a = quoted_in(rows[i].text, strlen(rows[i].text), len);
         is("a buffer that a string just fits", gives(&a, rows[i].json), 1);
         a = quoted_in(rows[i].text, strlen(rows[i].text), len - 1);
-        is("a buffer too small for a string", status_of(&a) == JWT_NO_ROOM && a.len == len, 1);
+        is("a buffer too small for a string", status_of(&a) == JWT_BUFFER_TOO_SMALL && a.len == len, 1);
     }
     struct answer a = quoted_in(NULL, 0, ROOM);
     is("a text by a null pointer", gives(&a, "\"\""), 1);
@@ -467,7 +467,7 @@ static void signed_parts(void) {
     }
     a = fresh();
     a.status = jwt_signed_part(TEXT(TOKEN), &algorithm, &message, (uint8_t *)a.room, 31, &a.len);
-    is("a buffer too small for a signature", status_of(&a), JWT_NO_ROOM);
+    is("a buffer too small for a signature", status_of(&a), JWT_BUFFER_TOO_SMALL);
     is("the signature's length", a.len, 32);
     is("the algorithm all the same", algorithm, JWT_HS256);
     is("the message's length all the same", message, strlen(TOKEN) - 44);
@@ -498,7 +498,7 @@ static void headers(void) {
     for (size_t room = 0; room <= 30; room++) {
         a = fresh();
         a.status = jwt_decode_header(TEXT(TOKEN), a.room, room, &a.len);
-        is("a header's buffer", status_of(&a), room < 27 ? JWT_NO_ROOM : JWT_OK);
+        is("a header's buffer", status_of(&a), room < 27 ? JWT_BUFFER_TOO_SMALL : JWT_OK);
         is("a header's length", a.len, 27);
     }
     a = fresh();
@@ -558,7 +558,7 @@ static void sets(void) {
     struct answer a = by_set(NAMED, SET, OPTIONS, LAST, ROOM);
     is("claims by a set", gives(&a, CLAIMS), 1);
     a = by_set(NAMED, SET, OPTIONS, LAST, strlen(CLAIMS) - 1);
-    is("a buffer too small for claims by a set", status_of(&a), JWT_NO_ROOM);
+    is("a buffer too small for claims by a set", status_of(&a), JWT_BUFFER_TOO_SMALL);
     is("the length that they need", a.len, strlen(CLAIMS));
 }
 
@@ -617,7 +617,7 @@ static void keys_of_all(void) {
                LAST),
            JWT_INVALID_ALGORITHM);
         a = by_key(token, by_all[i].key, options, LAST, strlen(CLAIMS) - 1);
-        is("a buffer too small for claims by a key", status_of(&a), JWT_NO_ROOM);
+        is("a buffer too small for claims by a key", status_of(&a), JWT_BUFFER_TOO_SMALL);
         is("the length that they need by a key", a.len, strlen(CLAIMS));
     }
 }
@@ -722,7 +722,7 @@ static void issued(void) {
         is(refused[i].header, status_of(&a), refused[i].status);
     }
     struct answer a = issued_in("{\"alg\":\"HS256\",\"kid\":\"b\"}", CLAIMS, "secret", strlen(NAMED) - 1);
-    is("a buffer too small for a token", status_of(&a), JWT_NO_ROOM);
+    is("a buffer too small for a token", status_of(&a), JWT_BUFFER_TOO_SMALL);
     is("a token's length", a.len, strlen(NAMED));
 }
 
@@ -756,7 +756,7 @@ static void signing_inputs(void) {
     a = fresh(), algorithm = 99;
     a.status =
         jwt_signing_input(TEXT(BY_CURVE_HEADER), TEXT(BY_CURVE_CLAIMS), &algorithm, (uint8_t *)a.room, 10, &a.len);
-    is("a buffer too small for a message", status_of(&a), JWT_NO_ROOM);
+    is("a buffer too small for a message", status_of(&a), JWT_BUFFER_TOO_SMALL);
     is("the message's length", a.len, strlen(BY_CURVE_MESSAGE));
     is("the algorithm all the same", algorithm, JWT_ES256);
     static const struct {
@@ -826,7 +826,7 @@ static void pairs(void) {
     a = numbers_of(der, sizeof der, JWT_ES384, ROOM);
     is("their length by ES384", a.len, 96);
     a = numbers_of(der, sizeof der, JWT_ES256, 63);
-    is("a buffer too small for two numbers", status_of(&a), JWT_NO_ROOM);
+    is("a buffer too small for two numbers", status_of(&a), JWT_BUFFER_TOO_SMALL);
     a = numbers_of(longer, sizeof longer, JWT_ES256, ROOM);
     is("a 0 too many", status_of(&a), JWT_INVALID_SIGNATURE);
     a = numbers_of(der, sizeof der - 1, JWT_ES256, ROOM);
@@ -946,7 +946,7 @@ static void keys_in_pem(void) {
     struct answer a = key_in(P256_PEM, strlen(P256_JWK));
     is("a buffer that a key just fits", gives(&a, P256_JWK), 1);
     a = key_in(P256_PEM, strlen(P256_JWK) - 1);
-    is("a buffer too small for a key", status_of(&a), JWT_NO_ROOM);
+    is("a buffer too small for a key", status_of(&a), JWT_BUFFER_TOO_SMALL);
     is("the key's length", a.len, strlen(P256_JWK));
     is("a text by a null pointer", jwt_key_from_pem(NULL, 0, a.room, ROOM, &a.len), JWT_INVALID_KEY_FORMAT);
 }
@@ -1172,7 +1172,7 @@ static void issued_by_keys(void) {
     struct answer a = issued_by_key(header, CLAIMS, secret, ROOM), by_secret;
     is("a token by a key", gives(&a, NAMED), 1);
     a = issued_by_key(header, CLAIMS, secret, strlen(NAMED) - 1);
-    is("a buffer too small for a token by a key", status_of(&a), JWT_NO_ROOM);
+    is("a buffer too small for a token by a key", status_of(&a), JWT_BUFFER_TOO_SMALL);
     is("the token's length", a.len, strlen(NAMED));
     /* as with the secret itself, by each algorithm, and the key's own members are ignored */
     static const char *const algorithms[] = {"HS256", "HS384", "HS512"};
@@ -1192,15 +1192,15 @@ static void issued_by_keys(void) {
     } rows[] = {
         /* the key is checked before the header is read, and that is before the claims */
         {"{}", "[]", "", JWT_BAD_KEY},
-        {"{}", "[]", OCT(""), JWT_BLANK_KEY},
+        {"{}", "[]", OCT(""), JWT_ALL_ZERO_SECRET},
         {"{}", "[]", secret, JWT_BAD_HEADER},
         {"{}", "[]", "{}", JWT_BAD_HEADER},
         {header, "[]", secret, JWT_BAD_CLAIMS},
         {header, "[]", RSA_KEY, JWT_BAD_CLAIMS},
         /* anyone can sign with it: of no bytes, of zeros, and the text "ssh-rsa AAAA" */
-        {header, CLAIMS, OCT(""), JWT_BLANK_KEY},
-        {header, CLAIMS, OCT("AA"), JWT_BLANK_KEY},
-        {header, CLAIMS, OCT("AAAAAAAA"), JWT_BLANK_KEY},
+        {header, CLAIMS, OCT(""), JWT_ALL_ZERO_SECRET},
+        {header, CLAIMS, OCT("AA"), JWT_ALL_ZERO_SECRET},
+        {header, CLAIMS, OCT("AAAAAAAA"), JWT_ALL_ZERO_SECRET},
         {header, CLAIMS, OCT("AAAB"), JWT_OK},
         {header, CLAIMS, OCT("c3NoLXJzYSBBQUFB"), JWT_KEY_AS_SECRET},
         {header, CLAIMS, "", JWT_BAD_KEY},
@@ -1295,7 +1295,7 @@ static void keys_of_certificates(void) {
         is(refused[i].name, status_of(&a), JWT_INVALID_KEY_FORMAT);
     }
     struct answer a = key_of_certificate(P256_CERTIFICATE, strlen(P256_JWK) - 1);
-    is("a buffer too small for the key of a certificate", status_of(&a), JWT_NO_ROOM);
+    is("a buffer too small for the key of a certificate", status_of(&a), JWT_BUFFER_TOO_SMALL);
     is("the key's length", a.len, strlen(P256_JWK));
     a = key_in(P256_CERTIFICATE, ROOM);
     is("a certificate for a key", status_of(&a), JWT_INVALID_KEY_FORMAT);
@@ -1305,24 +1305,24 @@ static void keys_of_certificates(void) {
 static void test_texts(void) {
     static const char *names[20] = {
         [JWT_TEST_HAS_THREE_PARTS] = "HasThreeParts",
-        [JWT_TEST_HEADER_IS_PART] = "HeaderIsPart",
+        [JWT_TEST_HEADER_IS_BASE64URL] = "HeaderIsBase64url",
         [JWT_TEST_HEADER_IS_JSON] = "HeaderIsJson",
-        [JWT_TEST_HEADER_READS] = "HeaderReads",
+        [JWT_TEST_HEADER_IS_VALID] = "HeaderIsValid",
         [JWT_TEST_CRIT_IS_UNDERSTOOD] = "CritIsUnderstood",
         [JWT_TEST_KEY_IS_FOUND] = "KeyIsFound",
-        [JWT_TEST_KEY_ALGORITHM_AGREES] = "KeyAlgorithmAgrees",
+        [JWT_TEST_KEY_ALG_MATCHES] = "KeyAlgMatches",
         [JWT_TEST_KEY_IS_USABLE] = "KeyIsUsable",
-        [JWT_TEST_ALGORITHMS_ARE_LISTED] = "AlgorithmsAreListed",
-        [JWT_TEST_ALGORITHM_IS_LISTED] = "AlgorithmIsListed",
-        [JWT_TEST_VERIFIER_IS_MADE] = "VerifierIsMade",
-        [JWT_TEST_FAMILIES_AGREE] = "FamiliesAgree",
-        [JWT_TEST_SIGNATURE_IS_PART] = "SignatureIsPart",
+        [JWT_TEST_ALGORITHMS_ARE_CONFIGURED] = "AlgorithmsAreConfigured",
+        [JWT_TEST_ALGORITHM_IS_ALLOWED] = "AlgorithmIsAllowed",
+        [JWT_TEST_KEY_FITS_ALGORITHM] = "KeyFitsAlgorithm",
+        [JWT_TEST_ALGORITHMS_SHARE_FAMILY] = "AlgorithmsShareFamily",
+        [JWT_TEST_SIGNATURE_IS_BASE64URL] = "SignatureIsBase64url",
         [JWT_TEST_SIGNATURE_IS_ACCEPTED] = "SignatureIsAccepted",
-        [JWT_TEST_PAYLOAD_IS_PART] = "PayloadIsPart",
+        [JWT_TEST_PAYLOAD_IS_BASE64URL] = "PayloadIsBase64url",
         [JWT_TEST_PAYLOAD_IS_JSON] = "PayloadIsJson",
-        [JWT_TEST_CLAIMS_READ] = "ClaimsRead",
+        [JWT_TEST_CLAIMS_MATCH_TYPE] = "ClaimsMatchType",
         [JWT_TEST_CLAIMS_ARE_AN_OBJECT] = "ClaimsAreAnObject",
-        [JWT_TEST_CLAIM_RULES_HOLD] = "ClaimRulesHold",
+        [JWT_TEST_CLAIMS_ARE_VALID] = "ClaimsAreValid",
     };
     struct answer a;
     for (uint32_t i = 1; i < 20; i++) {
@@ -1334,16 +1334,16 @@ static void test_texts(void) {
     for (size_t i = 0; i < sizeof others / sizeof *others; i++) {
         a = fresh();
         a.status = jwt_test_text(others[i], a.room, ROOM, &a.len);
-        is("no test", status_of(&a), JWT_NO_STATUS);
+        is("no test", status_of(&a), JWT_UNKNOWN_NUMBER);
     }
     for (uint32_t i = 1; i < 20; i++)
         for (size_t room = 0; room <= 32; room++) {
             a = fresh();
             a.status = jwt_test_text(i, a.room, room, &a.len);
-            is("a name's buffer", status_of(&a), room < strlen(names[i]) ? JWT_NO_ROOM : JWT_OK);
+            is("a name's buffer", status_of(&a), room < strlen(names[i]) ? JWT_BUFFER_TOO_SMALL : JWT_OK);
             is("a name's length", a.len, strlen(names[i]));
         }
-    is("a name and no buffer", jwt_test_text(JWT_TEST_KEY_IS_FOUND, NULL, 0, &a.len), JWT_NO_ROOM);
+    is("a name and no buffer", jwt_test_text(JWT_TEST_KEY_IS_FOUND, NULL, 0, &a.len), JWT_BUFFER_TOO_SMALL);
     is("its length", a.len, 10);
 }
 
@@ -1390,17 +1390,17 @@ static void status_texts(void) {
         {JWT_MALFORMED_ISS, "Invalid format for claim: iss"},
         {JWT_MALFORMED_SUB, "Invalid format for claim: sub"},
         {JWT_MALFORMED_CLAIM, "Invalid format for claim"},
-        {JWT_NO_ROOM, "Buffer too small"},
+        {JWT_BUFFER_TOO_SMALL, "Buffer too small"},
         {JWT_BAD_OPTIONS, "Options not understood"},
-        {JWT_NO_STATUS, "Unknown status"},
+        {JWT_UNKNOWN_NUMBER, "Unknown status"},
         {JWT_BAD_SET, "Key set not understood"},
         {JWT_BAD_HEADER, "Header not understood"},
         {JWT_BAD_CLAIMS, "Claims not understood"},
         {JWT_BAD_KEY, "Key not understood"},
-        {JWT_BLANK_KEY, "Anyone can sign"},
+        {JWT_ALL_ZERO_SECRET, "Anyone can sign"},
         {JWT_NO_VERIFIER, "No verifier"},
-        {JWT_VERIFIER_IS_MADE, "Verifier already made"},
-        {JWT_UNFIT_KEY, "Key serves no algorithm"},
+        {JWT_VERIFIER_IN_USE, "Verifier already made"},
+        {JWT_NO_USABLE_KEY, "Key serves no algorithm"},
         {JWT_TOKEN_TOO_LONG, "Token too long"},
         {JWT_NO_MEMBER, "No such member"},
         {JWT_KEY_AS_SECRET, "Secret is the text of a key"},
@@ -1419,11 +1419,11 @@ static void status_texts(void) {
         if (i < 300 && is_status[i]) continue;
         a = fresh();
         a.status = jwt_status_text(i < 300 ? i : UINT32_MAX, a.room, ROOM, &a.len);
-        is("no status", status_of(&a), JWT_NO_STATUS);
+        is("no status", status_of(&a), JWT_UNKNOWN_NUMBER);
     }
     a = fresh();
     a.status = jwt_status_text(2, a.room, 15, &a.len);
-    is("a buffer too small for a text", status_of(&a), JWT_NO_ROOM);
+    is("a buffer too small for a text", status_of(&a), JWT_BUFFER_TOO_SMALL);
     is("the text's length", a.len, 16);
 }
 
@@ -1538,26 +1538,26 @@ static void failed_tests(void) {
         uint32_t status;
     } rows[] = {
         {TOKEN, "secret", OPTIONS, LAST, "", JWT_OK},
-        {TOKEN, "secret", OPTIONS, LAST + 1, "ClaimRulesHold", JWT_OK},
+        {TOKEN, "secret", OPTIONS, LAST + 1, "ClaimsAreValid", JWT_OK},
         {TOKEN, "Secret", OPTIONS, LAST, "SignatureIsAccepted", JWT_OK},
         {TOKEN, "Secret", OPTIONS, LAST + 1, "SignatureIsAccepted", JWT_OK},
         {"", "secret", OPTIONS, LAST, "HasThreeParts", JWT_OK},
         {"e30.e30", "secret", OPTIONS, LAST, "HasThreeParts", JWT_OK},
-        {"e30=.e30.", "secret", OPTIONS, LAST, "HeaderIsPart", JWT_OK},
+        {"e30=.e30.", "secret", OPTIONS, LAST, "HeaderIsBase64url", JWT_OK},
         {"_w.e30.", "secret", OPTIONS, LAST, "HeaderIsJson", JWT_OK},
-        {"e30.e30.", "secret", OPTIONS, LAST, "HeaderReads", JWT_OK},
+        {"e30.e30.", "secret", OPTIONS, LAST, "HeaderIsValid", JWT_OK},
         /* the header {"alg":"HS256","crit":["x"],"x":1} */
         {"eyJhbGciOiJIUzI1NiIsImNyaXQiOlsieCJdLCJ4IjoxfQ.e30.", "secret", OPTIONS, LAST, "CritIsUnderstood", JWT_OK},
-        {TOKEN, "secret", "{}", LAST, "no verifier", JWT_UNFIT_KEY},
-        {TOKEN, "secret", "{\"algorithms\":[\"HS384\"]}", LAST, "AlgorithmIsListed", JWT_OK},
+        {TOKEN, "secret", "{}", LAST, "no verifier", JWT_NO_USABLE_KEY},
+        {TOKEN, "secret", "{\"algorithms\":[\"HS384\"]}", LAST, "AlgorithmIsAllowed", JWT_OK},
         /* the header {"alg":"ES256"} */
-        {"eyJhbGciOiJFUzI1NiJ9.e30.", "secret", "{\"algorithms\":[\"ES256\"]}", LAST, "no verifier", JWT_UNFIT_KEY},
+        {"eyJhbGciOiJFUzI1NiJ9.e30.", "secret", "{\"algorithms\":[\"ES256\"]}", LAST, "no verifier", JWT_NO_USABLE_KEY},
         {TOKEN, "secret", "{\"algorithms\":[\"HS256\",\"RS256\"]}", LAST, "no verifier", JWT_MIXED_FAMILIES},
-        {HS256 ".e30.Y", "secret", OPTIONS, LAST, "SignatureIsPart", JWT_OK},
-        {NO_PART, "secret", OPTIONS, LAST, "PayloadIsPart", JWT_OK},
+        {HS256 ".e30.Y", "secret", OPTIONS, LAST, "SignatureIsBase64url", JWT_OK},
+        {NO_PART, "secret", OPTIONS, LAST, "PayloadIsBase64url", JWT_OK},
         {NO_JSON, "secret", OPTIONS, LAST, "PayloadIsJson", JWT_OK},
         {NO_OBJECT, "secret", OPTIONS, LAST, "ClaimsAreAnObject", JWT_OK},
-        {NO_CLAIMS, "secret", OPTIONS, LAST, "ClaimRulesHold", JWT_OK},
+        {NO_CLAIMS, "secret", OPTIONS, LAST, "ClaimsAreValid", JWT_OK},
         {NO_CLAIMS, "secret", NOT_REQUIRED "}", LAST, "", JWT_OK},
     };
     for (size_t i = 0; i < sizeof rows / sizeof *rows; i++)
@@ -1567,7 +1567,7 @@ static void failed_tests(void) {
     uint64_t last;
     uint32_t test = 99;
     make(OF_SECRET, "secret", OPTIONS, &v);
-    is("no buffer", jwt_verifier_decode(&v, TEXT(TOKEN), LAST, NULL, 0, &a.len, &last, &test), JWT_NO_ROOM);
+    is("no buffer", jwt_verifier_decode(&v, TEXT(TOKEN), LAST, NULL, 0, &a.len, &last, &test), JWT_BUFFER_TOO_SMALL);
     is("no test fails without a buffer", test == 0 && last == LAST && a.len == strlen(CLAIMS), 1);
     a = tested(&v, NULL, 0, LAST, &test);
     is("a token by a null pointer", status_of(&a), JWT_INVALID_TOKEN);
@@ -1580,11 +1580,11 @@ static void failed_tests_by_keys(void) {
         const char *token = by_all[i].token, *one = by_all[i].key, *options = by_all[i].options;
         fails(OF_KEY, token, one, options, LAST, "", JWT_OK);
         fails(OF_SET, token, ALL_KEYS, options, LAST, "", JWT_OK);
-        fails(OF_KEY, token, one, options, LAST + 1, "ClaimRulesHold", JWT_OK);
-        fails(OF_SET, token, ALL_KEYS, options, LAST + 1, "ClaimRulesHold", JWT_OK);
+        fails(OF_KEY, token, one, options, LAST + 1, "ClaimsAreValid", JWT_OK);
+        fails(OF_SET, token, ALL_KEYS, options, LAST + 1, "ClaimsAreValid", JWT_OK);
         fails(OF_KEY, tampered(token, 0), one, options, LAST, "SignatureIsAccepted", JWT_OK);
         fails(OF_SET, tampered(token, 0), ALL_KEYS, options, LAST, "SignatureIsAccepted", JWT_OK);
-        fails(OF_KEY, token, by_all[(i + 3) % ALL].key, options, LAST, "no verifier", JWT_UNFIT_KEY);
+        fails(OF_KEY, token, by_all[(i + 3) % ALL].key, options, LAST, "no verifier", JWT_NO_USABLE_KEY);
         lasts(OF_KEY, token, one, options, 0, LAST, JWT_OK);
         lasts(OF_SET, token, ALL_KEYS, options, 0, LAST, JWT_OK);
         lasts(OF_KEY, tampered(token, 0), one, options, 1, 0, JWT_OK);
@@ -1596,14 +1596,14 @@ static void failed_tests_by_keys(void) {
     } rows[] = {
         {NAMED, SET, "", JWT_OK},
         {TOKEN, SET, "KeyIsFound", JWT_OK},
-        {NAMED, "{\"keys\":[]}", "no verifier", JWT_UNFIT_KEY},
+        {NAMED, "{\"keys\":[]}", "no verifier", JWT_NO_USABLE_KEY},
         {NAMED, "{\"keys\":[" HMAC_KEY "]}", "KeyIsFound", JWT_OK},
         {NAMED, SET_WITH("\"alg\":\"HS256\","), "", JWT_OK},
-        {NAMED, SET_WITH("\"alg\":\"HS512\","), "KeyAlgorithmAgrees", JWT_OK},
-        {NAMED, "{\"keys\":[{\"kty\":\"oct\",\"kid\":\"b\",\"k\":\"*\"}]}", "no verifier", JWT_UNFIT_KEY},
+        {NAMED, SET_WITH("\"alg\":\"HS512\","), "KeyAlgMatches", JWT_OK},
+        {NAMED, "{\"keys\":[{\"kty\":\"oct\",\"kid\":\"b\",\"k\":\"*\"}]}", "no verifier", JWT_NO_USABLE_KEY},
         {NAMED, "{\"keys\":[{\"kty\":\"oct\",\"kid\":\"b\",\"k\":\"*\"}," HMAC_KEY "]}", "KeyIsUsable", JWT_OK},
         {NAMED, "{\"keys\":[{\"kty\":\"OKP\",\"crv\":\"Ed25519\",\"kid\":\"b\",\"x\":\"AAAA\"}," HMAC_KEY "]}",
-         "VerifierIsMade", JWT_OK},
+         "KeyFitsAlgorithm", JWT_OK},
         {NAMED, "{\"keys\":[{\"kty\":\"oct\",\"kid\":\"b\",\"k\":\"AAAA\"}]}", "SignatureIsAccepted", JWT_OK},
         {"a", SET, "HasThreeParts", JWT_OK},
     };
@@ -1624,7 +1624,7 @@ static void moments(void) {
         {TOKEN, "Secret", OPTIONS, 1, 0, JWT_OK},
         {TOKEN, "secret", "{\"algorithms\":[\"HS256\"],\"sub\":\"s\"}", 1, 0, JWT_OK},
         {TOKEN, "secret", "{\"algorithms\":[\"HS256\"],\"required_spec_claims\":[\"exp\",\"iss\"]}", 1, 0, JWT_OK},
-        {TOKEN, "secret", "{}", 1, 0, JWT_UNFIT_KEY},
+        {TOKEN, "secret", "{}", 1, 0, JWT_NO_USABLE_KEY},
         {"", "secret", OPTIONS, 1, 0, JWT_OK},
         {NO_JSON, "secret", OPTIONS, 1, 0, JWT_OK},
         {FROM_1000_TO_2000, "secret", NOT_REQUIRED ",\"validate_nbf\":true}", 940, 2060, JWT_OK},
@@ -1781,7 +1781,7 @@ static bool test_given(struct answer *a) {
 static bool test_by_a_key_given(struct answer *a) {
     uint32_t test = 99;
     by_verifier(a, OF_KEY, BY_ES256, P256_KEY, "{\"algorithms\":[\"ES256\"]}", LAST + 1, &test);
-    return status_of(a) == JWT_EXPIRED_SIGNATURE && test == JWT_TEST_CLAIM_RULES_HOLD;
+    return status_of(a) == JWT_EXPIRED_SIGNATURE && test == JWT_TEST_CLAIMS_ARE_VALID;
 }
 
 static bool no_test_by_a_set_given(struct answer *a) {
@@ -1832,13 +1832,13 @@ static bool checked_secret_given(struct answer *a) {
 static bool checked_key_given(struct answer *a) {
     a->status = jwt_check_key(TEXT("{\"kty\":\"oct\",\"k\":\"AAAA\"}"));
     a->len = 0;
-    return a->status == JWT_BLANK_KEY;
+    return a->status == JWT_ALL_ZERO_SECRET;
 }
 
 static bool checked_set_given(struct answer *a) {
     a->status = jwt_check_set(TEXT(SET));
     a->len = 0;
-    return a->status == JWT_BLANK_KEY;
+    return a->status == JWT_ALL_ZERO_SECRET;
 }
 
 static bool signature_verified(struct answer *a) {
@@ -2056,10 +2056,10 @@ static void threads(void) {
 static void checked_secrets(void) {
     static uint8_t zeros[300];
     static const size_t sizes[] = {0, 1, 2, 31, 32, 63, 64, 65, 127, 128, 129, 300};
-    is("a secret by a null pointer", jwt_check_secret(NULL, 0), JWT_BLANK_KEY);
+    is("a secret by a null pointer", jwt_check_secret(NULL, 0), JWT_ALL_ZERO_SECRET);
     for (size_t i = 0; i < sizeof sizes / sizeof *sizes; i++) {
         size_t size = sizes[i];
-        is("zeros", jwt_check_secret(zeros, size), JWT_BLANK_KEY);
+        is("zeros", jwt_check_secret(zeros, size), JWT_ALL_ZERO_SECRET);
         for (size_t at = 0; at < size; at++)
             for (int bit = 1; bit < 256; bit *= 2) {
                 zeros[at] = bit;
@@ -2093,9 +2093,9 @@ static void checked_keys(void) {
         const char *key;
         uint32_t status;
     } rows[] = {
-        {OCT(""), JWT_BLANK_KEY},
-        {OCT("AA"), JWT_BLANK_KEY},
-        {OCT("AAAA"), JWT_BLANK_KEY},
+        {OCT(""), JWT_ALL_ZERO_SECRET},
+        {OCT("AA"), JWT_ALL_ZERO_SECRET},
+        {OCT("AAAA"), JWT_ALL_ZERO_SECRET},
         {OCT("AAAB"), JWT_OK},
         {OCT("c2VjcmV0"), JWT_OK},
         {OCT("LS0tLS1CRUdJTiA"), JWT_KEY_AS_SECRET},
@@ -2128,15 +2128,15 @@ static void checked_sets(void) {
     } rows[] = {
         {"{\"keys\":[]}", JWT_OK},
         {"{\"keys\":[" OCT("c2VjcmV0") "]}", JWT_OK},
-        {"{\"keys\":[" OCT("") "]}", JWT_BLANK_KEY},
-        {"{\"keys\":[" OCT("c2VjcmV0") "," OCT("AAAA") "," OCT("c2VjcmV0") "]}", JWT_BLANK_KEY},
-        {"{\"keys\":[" OCT("c2VjcmV0") "," OCT("AAAA") "]}", JWT_BLANK_KEY},
-        {"{\"keys\":[" OCT("A") "," OCT("AAAA") "]}", JWT_BLANK_KEY},
+        {"{\"keys\":[" OCT("") "]}", JWT_ALL_ZERO_SECRET},
+        {"{\"keys\":[" OCT("c2VjcmV0") "," OCT("AAAA") "," OCT("c2VjcmV0") "]}", JWT_ALL_ZERO_SECRET},
+        {"{\"keys\":[" OCT("c2VjcmV0") "," OCT("AAAA") "]}", JWT_ALL_ZERO_SECRET},
+        {"{\"keys\":[" OCT("A") "," OCT("AAAA") "]}", JWT_ALL_ZERO_SECRET},
         {"{\"keys\":[" OCT("A") "," OCT("AAAB") "]}", JWT_OK},
         {"{\"keys\":[" OCT("c2VjcmV0") "," OCT("c3NoLXJzYQ") "]}", JWT_KEY_AS_SECRET},
         {"{\"keys\":[" OCT("c3NoLXJzYQ") "," OCT("c2VjcmV0") "]}", JWT_KEY_AS_SECRET},
-        {"{\"keys\":[" OCT("c3NoLXJzYQ") "," OCT("AAAA") "]}", JWT_BLANK_KEY},
-        {SET, JWT_BLANK_KEY},
+        {"{\"keys\":[" OCT("c3NoLXJzYQ") "," OCT("AAAA") "]}", JWT_ALL_ZERO_SECRET},
+        {SET, JWT_ALL_ZERO_SECRET},
         {OCT("AAAA"), JWT_BAD_SET},
         {"{\"keys\":[" OCT("AAAA") ",1]}", JWT_BAD_SET},
         {"[]", JWT_BAD_SET},
@@ -2260,7 +2260,7 @@ static void version(void) {
     is("the version", gives(&a, JWT_VERSION), 1);
     a = fresh();
     a.status = jwt_version(a.room, 4, &a.len);
-    is("the version in a buffer that is too small", status_of(&a) == JWT_NO_ROOM && a.len == strlen(JWT_VERSION), 1);
+    is("the version in a buffer that is too small", status_of(&a) == JWT_BUFFER_TOO_SMALL && a.len == strlen(JWT_VERSION), 1);
 }
 
 static void version_number(void) {

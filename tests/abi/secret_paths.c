@@ -122,7 +122,7 @@ static void try_zeros(size_t secret_len) {
     uint32_t status = jwt_check_secret(secret, secret_len);
     unsigned found = VALGRIND_COUNT_ERRORS - before;
     (void)VALGRIND_MAKE_MEM_DEFINED(&status, sizeof status);
-    note("a check for zeros", "no algorithm", secret_len, status == JWT_BLANK_KEY && found == (secret_len > 0), found);
+    note("a check for zeros", "no algorithm", secret_len, status == JWT_ALL_ZERO_SECRET && found == (secret_len > 0), found);
     free(secret);
 }
 

@@ -9,7 +9,7 @@ import os
 argparse.ArgumentParser(description=__doc__).parse_args()
 TOP = os.path.dirname(os.path.dirname(os.path.dirname(os.path.abspath(__file__))))
 LIBRARY = ctypes.CDLL(os.environ.get("JWT_LIBRARY") or f"{TOP}/out/libjwtproved.so")
-OK, BLANK_KEY, KEY_AS_SECRET = 0, 107, 113
+OK, ALL_ZERO_SECRET, KEY_AS_SECRET = 0, 107, 113
 PUBLIC = '{"kty":"OKP","crv":"Ed25519","x":"11qYAYKxCrfVS_7TyWQHOg7hcvPapiMlrwIaaPcHURo"}'
 
 
@@ -29,7 +29,7 @@ def statuses(secret):
 def wanted(row, secret):
     if not row["refused"]:
         return OK
-    return KEY_AS_SECRET if any(secret) else BLANK_KEY
+    return KEY_AS_SECRET if any(secret) else ALL_ZERO_SECRET
 
 
 passed = failed = 0

@@ -154,13 +154,13 @@ static void made(void) {
         {OF_KEY, HMAC_KEY, "{\"algorithms\":[\"HS256\"],\"iss\":[\"a\",\"\"]}", JWT_BAD_OPTIONS},
         {OF_SECRET, "a secret", "{\"algorithms\":[\"HS256\"],\"sub\":\"\"}", JWT_BAD_OPTIONS},
         /* keys with which anyone can sign, before those that do not serve */
-        {OF_SET, SET_OF(RSA_KEY "," OCT("")), HS256, JWT_BLANK_KEY},
-        {OF_SET, SET_OF(RSA_KEY "," OCT("AAAA")), RS256, JWT_BLANK_KEY},
-        {OF_SET, SET_OF(OCT("AAAA")), RS256, JWT_BLANK_KEY},
-        {OF_KEY, OCT("AA"), HS256, JWT_BLANK_KEY},
-        {OF_KEY, OCT(""), RS256, JWT_BLANK_KEY},
-        {OF_SECRET, "", HS256, JWT_BLANK_KEY},
-        {OF_SECRET, "", MIXED, JWT_BLANK_KEY},
+        {OF_SET, SET_OF(RSA_KEY "," OCT("")), HS256, JWT_ALL_ZERO_SECRET},
+        {OF_SET, SET_OF(RSA_KEY "," OCT("AAAA")), RS256, JWT_ALL_ZERO_SECRET},
+        {OF_SET, SET_OF(OCT("AAAA")), RS256, JWT_ALL_ZERO_SECRET},
+        {OF_KEY, OCT("AA"), HS256, JWT_ALL_ZERO_SECRET},
+        {OF_KEY, OCT(""), RS256, JWT_ALL_ZERO_SECRET},
+        {OF_SECRET, "", HS256, JWT_ALL_ZERO_SECRET},
+        {OF_SECRET, "", MIXED, JWT_ALL_ZERO_SECRET},
         /* secrets that are the text of a key of another kind, before blank ones */
         {OF_SECRET, PEM, HS256, JWT_KEY_AS_SECRET},
         {OF_SECRET, PEM, MIXED, JWT_KEY_AS_SECRET},
@@ -184,23 +184,23 @@ static void made(void) {
         {OF_KEY, ED_KEY, MIXED, JWT_MIXED_FAMILIES},
         {OF_SECRET, "a secret", MIXED, JWT_MIXED_FAMILIES},
         /* keys that serve no algorithm of the options */
-        {OF_SET, SET_OF(""), HS256, JWT_UNFIT_KEY},
-        {OF_SET, SET_OF(OCT_UNNAMED), HS256, JWT_UNFIT_KEY},
-        {OF_SET, SET_OF(ED_KEY "," OCT_UNNAMED), HS256, JWT_UNFIT_KEY},
-        {OF_SET, ALL_KEYS, "{\"algorithms\":[]}", JWT_UNFIT_KEY},
-        {OF_SET, ALL_KEYS, "{}", JWT_UNFIT_KEY},
-        {OF_SET, SET_OF(HMAC_KEY "," P256_KEY), RS256, JWT_UNFIT_KEY},
-        {OF_SET, SET_OF(P256_KEY), "{\"algorithms\":[\"ES384\"]}", JWT_UNFIT_KEY},
-        {OF_SET, SET_OF(SMALL_RSA "," OFF_CURVE), RS256, JWT_UNFIT_KEY},
-        {OF_SET, SET_OF(SMALL_RSA "," OFF_CURVE), ES256, JWT_UNFIT_KEY},
-        {OF_SET, SET_OF(OCT("*")), HS256, JWT_UNFIT_KEY},
-        {OF_KEY, HMAC_KEY, RS256, JWT_UNFIT_KEY},
-        {OF_KEY, RSA_KEY, HS256, JWT_UNFIT_KEY},
-        {OF_KEY, SMALL_RSA, RS256, JWT_UNFIT_KEY},
-        {OF_KEY, OFF_CURVE, ES256, JWT_UNFIT_KEY},
-        {OF_KEY, P384_KEY, ES256, JWT_UNFIT_KEY},
-        {OF_KEY, OKP("AAAA"), EDDSA, JWT_UNFIT_KEY},
-        {OF_SECRET, "a secret", RS256, JWT_UNFIT_KEY},
+        {OF_SET, SET_OF(""), HS256, JWT_NO_USABLE_KEY},
+        {OF_SET, SET_OF(OCT_UNNAMED), HS256, JWT_NO_USABLE_KEY},
+        {OF_SET, SET_OF(ED_KEY "," OCT_UNNAMED), HS256, JWT_NO_USABLE_KEY},
+        {OF_SET, ALL_KEYS, "{\"algorithms\":[]}", JWT_NO_USABLE_KEY},
+        {OF_SET, ALL_KEYS, "{}", JWT_NO_USABLE_KEY},
+        {OF_SET, SET_OF(HMAC_KEY "," P256_KEY), RS256, JWT_NO_USABLE_KEY},
+        {OF_SET, SET_OF(P256_KEY), "{\"algorithms\":[\"ES384\"]}", JWT_NO_USABLE_KEY},
+        {OF_SET, SET_OF(SMALL_RSA "," OFF_CURVE), RS256, JWT_NO_USABLE_KEY},
+        {OF_SET, SET_OF(SMALL_RSA "," OFF_CURVE), ES256, JWT_NO_USABLE_KEY},
+        {OF_SET, SET_OF(OCT("*")), HS256, JWT_NO_USABLE_KEY},
+        {OF_KEY, HMAC_KEY, RS256, JWT_NO_USABLE_KEY},
+        {OF_KEY, RSA_KEY, HS256, JWT_NO_USABLE_KEY},
+        {OF_KEY, SMALL_RSA, RS256, JWT_NO_USABLE_KEY},
+        {OF_KEY, OFF_CURVE, ES256, JWT_NO_USABLE_KEY},
+        {OF_KEY, P384_KEY, ES256, JWT_NO_USABLE_KEY},
+        {OF_KEY, OKP("AAAA"), EDDSA, JWT_NO_USABLE_KEY},
+        {OF_SECRET, "a secret", RS256, JWT_NO_USABLE_KEY},
         {OF_KEY, P256_KEY, "{\"algorithms\":[\"ES384\",\"ES256\"]}", JWT_OK},
         {OF_KEY, ED_KEY, EDDSA, JWT_OK},
         {OF_SECRET, "s", HS256, JWT_OK},
@@ -212,11 +212,11 @@ static void made(void) {
         is("a verifier exactly if it is made", v.at != NULL, rows[i].status == JWT_OK);
         jwt_verifier_free(&v);
         is("freed", v.at == NULL, 1);
-        bool is_blank = rows[i].status == JWT_BLANK_KEY || rows[i].status == JWT_KEY_AS_SECRET;
+        bool is_blank = rows[i].status == JWT_ALL_ZERO_SECRET || rows[i].status == JWT_KEY_AS_SECRET;
         bool serves = strcmp(rows[i].options, HS256) == 0, is_mixed = strcmp(rows[i].options, MIXED) == 0;
         uint32_t others = is_mixed                                ? JWT_MIXED_FAMILIES
                           : serves || strstr(rows[i].keys, "RSA") ? JWT_OK
-                                                                  : JWT_UNFIT_KEY;
+                                                                  : JWT_NO_USABLE_KEY;
         is("keys with which anyone can sign that are allowed",
            make(rows[i].source, rows[i].keys, rows[i].options, 0, true, &v), is_blank ? others : rows[i].status);
         jwt_verifier_free(&v);
@@ -233,13 +233,13 @@ static void slips(void) {
     jwt_verifier_free(&v);
     is("made", make(OF_SET, ALL_KEYS, HS256, 0, false, &v), JWT_OK);
     void *at = v.at;
-    is("made twice", make(OF_SET, ALL_KEYS, RS256, 0, false, &v), JWT_VERIFIER_IS_MADE);
-    is("made of nothing then", make(OF_KEY, "{", "{", 0, false, &v), JWT_VERIFIER_IS_MADE);
+    is("made twice", make(OF_SET, ALL_KEYS, RS256, 0, false, &v), JWT_VERIFIER_IN_USE);
+    is("made of nothing then", make(OF_KEY, "{", "{", 0, false, &v), JWT_VERIFIER_IN_USE);
     is("it is unchanged", v.at == at && status(&v, BY_HS256) == JWT_OK, 1);
     is("shared", jwt_verifier_share(&v, &w), JWT_OK);
-    is("shared twice", jwt_verifier_share(&v, &w), JWT_VERIFIER_IS_MADE);
+    is("shared twice", jwt_verifier_share(&v, &w), JWT_VERIFIER_IN_USE);
     is("a share of none in the place of one", (jwt_verifier_free(&v), jwt_verifier_share(&v, &w)),
-       JWT_VERIFIER_IS_MADE);
+       JWT_VERIFIER_IN_USE);
     is("freed", status(&v, BY_HS256), JWT_NO_VERIFIER);
     is("its times", has_no_times(&v, TEXT(BY_HS256), JWT_NO_VERIFIER), 1);
     is("the share stays", status(&w, BY_HS256), JWT_OK);
@@ -299,21 +299,21 @@ static const struct {
     uint32_t test, status, other;
 } kinds[] = {
     {JWT_TEST_HAS_THREE_PARTS, JWT_INVALID_TOKEN, 0},
-    {JWT_TEST_HEADER_IS_PART, JWT_BASE64, 0},
+    {JWT_TEST_HEADER_IS_BASE64URL, JWT_BASE64, 0},
     {JWT_TEST_HEADER_IS_JSON, JWT_JSON, 0},
-    {JWT_TEST_HEADER_READS, JWT_JSON, 0},
+    {JWT_TEST_HEADER_IS_VALID, JWT_JSON, 0},
     {JWT_TEST_CRIT_IS_UNDERSTOOD, JWT_INVALID_CRIT, 0},
     {JWT_TEST_KEY_IS_FOUND, JWT_NO_KEY, 0},
-    {JWT_TEST_KEY_ALGORITHM_AGREES, JWT_INVALID_ALGORITHM, 0},
+    {JWT_TEST_KEY_ALG_MATCHES, JWT_INVALID_ALGORITHM, 0},
     {JWT_TEST_KEY_IS_USABLE, JWT_BASE64, JWT_UNSUPPORTED_ALGORITHM},
-    {JWT_TEST_ALGORITHM_IS_LISTED, JWT_INVALID_ALGORITHM, 0},
-    {JWT_TEST_VERIFIER_IS_MADE, JWT_INVALID_KEY_FORMAT, JWT_UNSUPPORTED_ALGORITHM},
-    {JWT_TEST_SIGNATURE_IS_PART, JWT_BASE64, 0},
+    {JWT_TEST_ALGORITHM_IS_ALLOWED, JWT_INVALID_ALGORITHM, 0},
+    {JWT_TEST_KEY_FITS_ALGORITHM, JWT_INVALID_KEY_FORMAT, JWT_UNSUPPORTED_ALGORITHM},
+    {JWT_TEST_SIGNATURE_IS_BASE64URL, JWT_BASE64, 0},
     {JWT_TEST_SIGNATURE_IS_ACCEPTED, JWT_INVALID_SIGNATURE, 0},
-    {JWT_TEST_PAYLOAD_IS_PART, JWT_BASE64, 0},
+    {JWT_TEST_PAYLOAD_IS_BASE64URL, JWT_BASE64, 0},
     {JWT_TEST_PAYLOAD_IS_JSON, JWT_JSON, 0},
     {JWT_TEST_CLAIMS_ARE_AN_OBJECT, JWT_JSON, 0},
-    {JWT_TEST_CLAIM_RULES_HOLD, JWT_EXPIRED_SIGNATURE, JWT_INVALID_SUBJECT},
+    {JWT_TEST_CLAIMS_ARE_VALID, JWT_EXPIRED_SIGNATURE, JWT_INVALID_SUBJECT},
 };
 static long compared;
 
@@ -329,7 +329,7 @@ static struct answer stateless(enum source source, const char *key, const char *
 
 /* whether the test is one of which the status comes */
 static bool agrees(uint32_t test, uint32_t status) {
-    if (status == JWT_OK || status == JWT_NO_ROOM) return test == 0;
+    if (status == JWT_OK || status == JWT_BUFFER_TOO_SMALL) return test == 0;
     for (size_t i = 0; i < COUNT(kinds); i++)
         if (kinds[i].test == test) return status == kinds[i].status || status == kinds[i].other;
     return false;
@@ -341,7 +341,7 @@ static bool is_alike(struct jwt_verifier *v, const struct answer *plain, const c
                      size_t room, uint32_t *test) {
     struct answer a = decode(v, token, len, now, room);
     struct times t = times_of(v, token, len);
-    bool is_accepted = plain->status == JWT_OK || plain->status == JWT_NO_ROOM, is_ever = t.first == 0;
+    bool is_accepted = plain->status == JWT_OK || plain->status == JWT_BUFFER_TOO_SMALL, is_ever = t.first == 0;
     compared++;
     *test = a.test;
     return a.status == plain->status && a.len == plain->len && memcmp(a.room, plain->room, ROOM) == 0 &&
@@ -395,7 +395,7 @@ static void compare_all(enum source source, const char **list, size_t count, siz
         for (size_t o = 0; o < COUNT(all_options); o++) {
             struct jwt_verifier v = JWT_VERIFIER_NONE;
             uint32_t status = make(source, list[k], all_options[o], 0, false, &v);
-            is("made, or not", status == JWT_OK || status == JWT_UNFIT_KEY || status == JWT_MIXED_FAMILIES, 1);
+            is("made, or not", status == JWT_OK || status == JWT_NO_USABLE_KEY || status == JWT_MIXED_FAMILIES, 1);
             is("of several families", status == JWT_MIXED_FAMILIES, strcmp(all_options[o], MIXED) == 0);
             for (size_t t = 0; t < COUNT(tokens); t++)
                 if (status == JWT_OK)
@@ -631,7 +631,7 @@ static void members(void) {
         is("its type", type, rows[i].type);
         is("its text", len == strlen(rows[i].text) && memcmp(room, rows[i].text, len) == 0, 1);
     }
-    is("a small buffer", jwt_member(TEXT(object), TEXT("sub"), &type, room, 2, &len), JWT_NO_ROOM);
+    is("a small buffer", jwt_member(TEXT(object), TEXT("sub"), &type, room, 2, &len), JWT_BUFFER_TOO_SMALL);
     is("what it needs", len == 7 && type == JWT_STRING, 1);
 }
 

@@ -14,7 +14,7 @@ TOP = os.path.dirname(os.path.dirname(os.path.dirname(os.path.abspath(__file__))
 BYTES = [ctypes.c_char_p, ctypes.c_size_t]
 BUFFER = [ctypes.c_char_p, ctypes.c_size_t, ctypes.POINTER(ctypes.c_size_t)]
 LIMITS = [ctypes.c_size_t, ctypes.c_bool, ctypes.c_size_t]
-OK, UNFIT_KEY, MIXED_FAMILIES = 0, 110, 114
+OK, NO_USABLE_KEY, MIXED_FAMILIES = 0, 110, 114
 # The names of kinds that are not their texts.
 NAMES = {"Base64 error": "Base64", "JSON error": "Json", "UTF-8 error": "Utf8"}
 
@@ -63,7 +63,7 @@ def results(library, row, kind, key):
     plain = left(lambda *buffer: stateless(*given(token), *given(key), *given(options), now, *buffer))
     handle = Handle()
     status = getattr(library, f"jwt_verifier_{kind}")(*given(key), *given(options), 1 << 30, True, 0, ctypes.byref(handle))
-    if status in (UNFIT_KEY, MIXED_FAMILIES):
+    if status in (NO_USABLE_KEY, MIXED_FAMILIES):
         return plain, None
     first, last, test = ctypes.c_uint64(), ctypes.c_uint64(), ctypes.c_uint32()
     by_handle = left(lambda *buffer: library.jwt_verifier_decode(ctypes.byref(handle), *given(token), now, *buffer, ctypes.byref(last), ctypes.byref(test)))

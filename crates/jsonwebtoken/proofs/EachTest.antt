@@ -12,11 +12,11 @@ use Rattle.jsonwebtoken.specs.Order.{IsFirstFailed, Passes}
 use Rattle.jsonwebtoken.specs.Refused.{IsRefusal, DecidesByTest}
 use Rattle.jsonwebtoken.specs.declared.refusal.Refusal.{Refusal}
 use Rattle.jsonwebtoken.proofs.Engine.{not_passed}
-use Rattle.jsonwebtoken.specs.Tests.{Call, Given, Test, HasThreeParts, HeaderIsPart, HeaderIsJson, HeaderReads}
-use Rattle.jsonwebtoken.specs.Tests.{CritIsUnderstood, KeyIsFound, KeyAlgorithmAgrees, KeyIsUsable, AlgorithmsAreListed}
-use Rattle.jsonwebtoken.specs.Tests.{AlgorithmIsListed, VerifierIsMade, FamiliesAgree, SignatureIsPart}
-use Rattle.jsonwebtoken.specs.Tests.{SignatureIsAccepted, PayloadIsPart, PayloadIsJson, ClaimsRead, ClaimsAreAnObject}
-use Rattle.jsonwebtoken.specs.Tests.{ClaimRulesHold, Contents, Condition, HasKind, InSet, set_order, KeySource, key_of}
+use Rattle.jsonwebtoken.specs.Tests.{Call, Given, Test, HasThreeParts, HeaderIsBase64url, HeaderIsJson, HeaderIsValid}
+use Rattle.jsonwebtoken.specs.Tests.{CritIsUnderstood, KeyIsFound, KeyAlgMatches, KeyIsUsable, AlgorithmsAreConfigured}
+use Rattle.jsonwebtoken.specs.Tests.{AlgorithmIsAllowed, KeyFitsAlgorithm, AlgorithmsShareFamily, SignatureIsBase64url}
+use Rattle.jsonwebtoken.specs.Tests.{SignatureIsAccepted, PayloadIsBase64url, PayloadIsJson, ClaimsMatchType, ClaimsAreAnObject}
+use Rattle.jsonwebtoken.specs.Tests.{ClaimsAreValid, Contents, Condition, HasKind, InSet, set_order, KeySource, key_of}
 use Rattle.jsonwebtoken.specs.Tests.{message_of, token_tests}
 use Rattle.jsonwebtoken.specs.Steps.{Failed, FailsAt, Step}
 use Rattle.jsonwebtoken.specs.private_clauses.Steps.{whole}
@@ -38,53 +38,53 @@ use Rattle.jwt_validation.specs.Options.{Options, Texts}
 use Rattle.jsonwebtoken.specs.Crit.{IsUnderstoodName, IsUnderstoodList}
 
 abbrev every_test : List Test
-every_test = HasThreeParts ∷ HeaderIsPart ∷ HeaderIsJson ∷ HeaderReads ∷ CritIsUnderstood ∷ KeyIsFound
-    ∷ KeyAlgorithmAgrees ∷ KeyIsUsable
-    ∷ AlgorithmsAreListed ∷ AlgorithmIsListed ∷ VerifierIsMade ∷ FamiliesAgree ∷ SignatureIsPart ∷ SignatureIsAccepted
-    ∷ PayloadIsPart ∷ PayloadIsJson ∷ ClaimsRead ∷ ClaimsAreAnObject ∷ ClaimRulesHold ∷ []
+every_test = HasThreeParts ∷ HeaderIsBase64url ∷ HeaderIsJson ∷ HeaderIsValid ∷ CritIsUnderstood ∷ KeyIsFound
+    ∷ KeyAlgMatches ∷ KeyIsUsable
+    ∷ AlgorithmsAreConfigured ∷ AlgorithmIsAllowed ∷ KeyFitsAlgorithm ∷ AlgorithmsShareFamily ∷ SignatureIsBase64url ∷ SignatureIsAccepted
+    ∷ PayloadIsBase64url ∷ PayloadIsJson ∷ ClaimsMatchType ∷ ClaimsAreAnObject ∷ ClaimsAreValid ∷ []
 
 abbrev pub number : Test → ℕ
 number HasThreeParts = 0
-number HeaderIsPart = 1
+number HeaderIsBase64url = 1
 number HeaderIsJson = 2
-number HeaderReads = 3
+number HeaderIsValid = 3
 number CritIsUnderstood = 4
 number KeyIsFound = 5
-number KeyAlgorithmAgrees = 6
+number KeyAlgMatches = 6
 number KeyIsUsable = 7
-number AlgorithmsAreListed = 8
-number AlgorithmIsListed = 9
-number VerifierIsMade = 10
-number FamiliesAgree = 11
-number SignatureIsPart = 12
+number AlgorithmsAreConfigured = 8
+number AlgorithmIsAllowed = 9
+number KeyFitsAlgorithm = 10
+number AlgorithmsShareFamily = 11
+number SignatureIsBase64url = 12
 number SignatureIsAccepted = 13
-number PayloadIsPart = 14
+number PayloadIsBase64url = 14
 number PayloadIsJson = 15
-number ClaimsRead = 16
+number ClaimsMatchType = 16
 number ClaimsAreAnObject = 17
-number ClaimRulesHold = 18
+number ClaimsAreValid = 18
 
 at_number : (c : Test) → slice_get every_test (number c) ≡ Some c
 at_number = elim [
   | HasThreeParts ↦ refl
-  | HeaderIsPart ↦ refl
+  | HeaderIsBase64url ↦ refl
   | HeaderIsJson ↦ refl
-  | HeaderReads ↦ refl
+  | HeaderIsValid ↦ refl
   | CritIsUnderstood ↦ refl
   | KeyIsFound ↦ refl
-  | KeyAlgorithmAgrees ↦ refl
+  | KeyAlgMatches ↦ refl
   | KeyIsUsable ↦ refl
-  | AlgorithmsAreListed ↦ refl
-  | AlgorithmIsListed ↦ refl
-  | VerifierIsMade ↦ refl
-  | FamiliesAgree ↦ refl
-  | SignatureIsPart ↦ refl
+  | AlgorithmsAreConfigured ↦ refl
+  | AlgorithmIsAllowed ↦ refl
+  | KeyFitsAlgorithm ↦ refl
+  | AlgorithmsShareFamily ↦ refl
+  | SignatureIsBase64url ↦ refl
   | SignatureIsAccepted ↦ refl
-  | PayloadIsPart ↦ refl
+  | PayloadIsBase64url ↦ refl
   | PayloadIsJson ↦ refl
-  | ClaimsRead ↦ refl
+  | ClaimsMatchType ↦ refl
   | ClaimsAreAnObject ↦ refl
-  | ClaimRulesHold ↦ refl
+  | ClaimsAreValid ↦ refl
 ]
 
 abbrev pub is_in : Test → List Test → Bool
@@ -98,13 +98,13 @@ abbrev pub parts_known : List Test → Bool
 parts_known b = is_in HasThreeParts b
 
 abbrev pub bytes_known : List Test → Bool
-bytes_known b = parts_known b && is_in HeaderIsPart b
+bytes_known b = parts_known b && is_in HeaderIsBase64url b
 
 abbrev pub value_known : List Test → Bool
 value_known b = bytes_known b && is_in HeaderIsJson b
 
 abbrev pub header_known : List Test → Bool
-header_known b = value_known b && is_in HeaderReads b
+header_known b = value_known b && is_in HeaderIsValid b
 
 abbrev pub jwk_known : List Test → Bool
 jwk_known b = header_known b && is_in KeyIsFound b
@@ -120,10 +120,10 @@ abbrev pub key_known : Bool → List Test → Bool
 key_known given b = given || jwk_key_known b
 
 abbrev pub signature_known : List Test → Bool
-signature_known b = parts_known b && is_in SignatureIsPart b
+signature_known b = parts_known b && is_in SignatureIsBase64url b
 
 abbrev pub payload_known : List Test → Bool
-payload_known b = parts_known b && is_in PayloadIsPart b
+payload_known b = parts_known b && is_in PayloadIsBase64url b
 
 abbrev pub claims_known : List Test → Bool
 claims_known b = payload_known b && is_in PayloadIsJson b
@@ -131,24 +131,24 @@ claims_known b = payload_known b && is_in PayloadIsJson b
 -- the tests before this one make known the things that it speaks of
 abbrev pub ready : Bool → Test → List Test → Bool
 ready given HasThreeParts b = true
-ready given HeaderIsPart b = parts_known b
+ready given HeaderIsBase64url b = parts_known b
 ready given HeaderIsJson b = bytes_known b
-ready given HeaderReads b = value_known b
+ready given HeaderIsValid b = value_known b
 ready given CritIsUnderstood b = header_known b
 ready given KeyIsFound b = header_known b
-ready given KeyAlgorithmAgrees b = header_known b && jwk_known b
+ready given KeyAlgMatches b = header_known b && jwk_known b
 ready given KeyIsUsable b = jwk_known b
-ready given AlgorithmsAreListed b = true
-ready given AlgorithmIsListed b = header_known b
-ready given VerifierIsMade b = header_known b && key_known given b
-ready given FamiliesAgree b = header_known b
-ready given SignatureIsPart b = parts_known b
+ready given AlgorithmsAreConfigured b = true
+ready given AlgorithmIsAllowed b = header_known b
+ready given KeyFitsAlgorithm b = header_known b && key_known given b
+ready given AlgorithmsShareFamily b = header_known b
+ready given SignatureIsBase64url b = parts_known b
 ready given SignatureIsAccepted b = header_known b && (key_known given b && signature_known b)
-ready given PayloadIsPart b = parts_known b
+ready given PayloadIsBase64url b = parts_known b
 ready given PayloadIsJson b = payload_known b
-ready given ClaimsRead b = claims_known b
+ready given ClaimsMatchType b = claims_known b
 ready given ClaimsAreAnObject b = claims_known b
-ready given ClaimRulesHold b = claims_known b
+ready given ClaimsAreValid b = claims_known b
 
 -- each test of the order stands after those that it rests on
 abbrev pub is_sound : Bool → List Test → Bool
@@ -156,9 +156,9 @@ is_sound given = engine.is_well_ordered (ready given)
 
 parts_first : (b : List Test) → header_known b ≡ true → parts_known b ≡ true
 parts_first b e =
-    let v = (engine.both_true (value_known b) (is_in HeaderReads b) e).0 in
+    let v = (engine.both_true (value_known b) (is_in HeaderIsValid b) e).0 in
     let w = (engine.both_true (bytes_known b) (is_in HeaderIsJson b) v).0 in
-    (engine.both_true (parts_known b) (is_in HeaderIsPart b) w).0
+    (engine.both_true (parts_known b) (is_in HeaderIsBase64url b) w).0
 
 same_key_of : (keys : KeySource) (known : Bool) (j k : Key) → (is_given keys || known) ≡ true → (known ≡ true → j ≡ k)
     → key_of keys j ≡ key_of keys k
@@ -183,16 +183,16 @@ module _ {T : Type 0} (call : Call T) where
     same_parts e = one_way call.token t.parts s.parts (met b t p HasThreeParts e) (met b s q HasThreeParts e)
 
     same_bytes : bytes_known b ≡ true → t.header_bytes ≡ s.header_bytes
-    same_bytes e = let k = engine.both_true (parts_known b) (is_in HeaderIsPart b) e in
-        one_part s.parts.header _ _ (rw (same_parts k.0) at (met b t p HeaderIsPart k.1)) (met b s q HeaderIsPart k.1)
+    same_bytes e = let k = engine.both_true (parts_known b) (is_in HeaderIsBase64url b) e in
+        one_part s.parts.header _ _ (rw (same_parts k.0) at (met b t p HeaderIsBase64url k.1)) (met b s q HeaderIsBase64url k.1)
 
     same_value : value_known b ≡ true → t.header_value ≡ s.header_value
     same_value e = let k = engine.both_true (bytes_known b) (is_in HeaderIsJson b) e in
         one_json s.header_bytes _ _ (rw (same_bytes k.0) at (met b t p HeaderIsJson k.1)) (met b s q HeaderIsJson k.1)
 
     pub same_header : header_known b ≡ true → t.header ≡ s.header
-    same_header e = let k = engine.both_true (value_known b) (is_in HeaderReads b) e in
-        one_header s.header_value _ _ (rw (same_value k.0) at (met b t p HeaderReads k.1)) (met b s q HeaderReads k.1)
+    same_header e = let k = engine.both_true (value_known b) (is_in HeaderIsValid b) e in
+        one_header s.header_value _ _ (rw (same_value k.0) at (met b t p HeaderIsValid k.1)) (met b s q HeaderIsValid k.1)
 
     same_jwk : jwk_known b ≡ true → t.jwk ≡ s.jwk
     same_jwk e =
@@ -208,12 +208,12 @@ module _ {T : Type 0} (call : Call T) where
     same_key e = same_key_of call.keys (jwk_key_known b) t.jwk_key s.jwk_key e same_jwk_key
 
     pub same_signature : signature_known b ≡ true → t.signature_bytes ≡ s.signature_bytes
-    same_signature e = let k = engine.both_true (parts_known b) (is_in SignatureIsPart b) e in
-        one_part s.parts.signature _ _ (rw (same_parts k.0) at (met b t p SignatureIsPart k.1)) (met b s q SignatureIsPart k.1)
+    same_signature e = let k = engine.both_true (parts_known b) (is_in SignatureIsBase64url b) e in
+        one_part s.parts.signature _ _ (rw (same_parts k.0) at (met b t p SignatureIsBase64url k.1)) (met b s q SignatureIsBase64url k.1)
 
     same_payload : payload_known b ≡ true → t.payload_bytes ≡ s.payload_bytes
-    same_payload e = let k = engine.both_true (parts_known b) (is_in PayloadIsPart b) e in
-        one_part s.parts.payload _ _ (rw (same_parts k.0) at (met b t p PayloadIsPart k.1)) (met b s q PayloadIsPart k.1)
+    same_payload e = let k = engine.both_true (parts_known b) (is_in PayloadIsBase64url b) e in
+        one_part s.parts.payload _ _ (rw (same_parts k.0) at (met b t p PayloadIsBase64url k.1)) (met b s q PayloadIsBase64url k.1)
 
     pub same_claims : claims_known b ≡ true → t.payload_value ≡ s.payload_value
     same_claims e = let k = engine.both_true (payload_known b) (is_in PayloadIsJson b) e in
@@ -221,30 +221,30 @@ module _ {T : Type 0} (call : Call T) where
 
     fails_for_these : (c : Test) → ready (is_given call.keys) c b ≡ true → FailsAt call c t → Condition call c s → ⊥
     fails_for_these HasThreeParts e none h = none s.parts h
-    fails_for_these HeaderIsPart e none h = none s.header_bytes (rw (same_parts e) h)
+    fails_for_these HeaderIsBase64url e none h = none s.header_bytes (rw (same_parts e) h)
     fails_for_these HeaderIsJson e none h = none s.header_value (rw (same_bytes e) h)
-    fails_for_these HeaderReads e none h = none s.header (rw (same_value e) h)
+    fails_for_these HeaderIsValid e none h = none s.header (rw (same_value e) h)
     fails_for_these CritIsUnderstood e none h = none (rw (same_header e) h)
     fails_for_these KeyIsFound e none h = none s.jwk (rw (same_header e) h)
-    fails_for_these KeyAlgorithmAgrees e none h = let k = engine.both_true (header_known b) (jwk_known b) e in
+    fails_for_these KeyAlgMatches e none h = let k = engine.both_true (header_known b) (jwk_known b) e in
         none (rw (same_header k.0, same_jwk k.1) h)
     fails_for_these KeyIsUsable e none h = none s.jwk_key (rw (same_jwk e) h)
-    fails_for_these AlgorithmsAreListed e none h = none h
-    fails_for_these AlgorithmIsListed e none h = none (rw (same_header e) h)
-    fails_for_these VerifierIsMade e none h = let k =
+    fails_for_these AlgorithmsAreConfigured e none h = none h
+    fails_for_these AlgorithmIsAllowed e none h = none (rw (same_header e) h)
+    fails_for_these KeyFitsAlgorithm e none h = let k =
         engine.both_true (header_known b) (key_known (is_given call.keys) b) e in none (rw (same_header k.0, same_key k.1) h)
-    fails_for_these FamiliesAgree e none h = none (rw (same_header e) h)
-    fails_for_these SignatureIsPart e none h = none s.signature_bytes (rw (same_parts e) h)
+    fails_for_these AlgorithmsShareFamily e none h = none (rw (same_header e) h)
+    fails_for_these SignatureIsBase64url e none h = none s.signature_bytes (rw (same_parts e) h)
     fails_for_these SignatureIsAccepted e none h =
         let k = engine.both_true (header_known b) (key_known (is_given call.keys) b && signature_known b) e in
         let l = engine.both_true (key_known (is_given call.keys) b) (signature_known b) k.1 in
         none (subst (λ j. call.accepts t.header.alg j (message_of t.parts) t.signature_bytes) (sym (same_key l.0))
         (rw (same_header k.0, same_signature l.1, same_parts (parts_first b k.0)) h))
-    fails_for_these PayloadIsPart e none h = none s.payload_bytes (rw (same_parts e) h)
+    fails_for_these PayloadIsBase64url e none h = none s.payload_bytes (rw (same_parts e) h)
     fails_for_these PayloadIsJson e none h = none s.payload_value (rw (same_payload e) h)
-    fails_for_these ClaimsRead e none h = none h.0 (rw (same_claims e) h.1)
+    fails_for_these ClaimsMatchType e none h = none h.0 (rw (same_claims e) h.1)
     fails_for_these ClaimsAreAnObject e none h = none (rw (same_claims e) h)
-    fails_for_these ClaimRulesHold e none h = none (rw (same_claims e) h)
+    fails_for_these ClaimsAreValid e none h = none (rw (same_claims e) h)
 
   fails_for : (b : List Test) (t s : Contents) → Passes (token_tests call) b t → Passes (token_tests call) b s
       → (c : Test) → ready (is_given call.keys) c b ≡ true → FailsAt call c t → Condition call c s → ⊥
@@ -326,28 +326,28 @@ some_listed (a ∷ v) w keeps some = not_empty w a (keeps a (0, omega arith, ref
 module _ {T : Type 0} (call : Call T) (t : Contents) (w : Options) (l : Looser call.options w) where
   looser_at : (c : Test) → Condition call c t → Condition (record call { options = w }) c t
   looser_at HasThreeParts h = h
-  looser_at HeaderIsPart h = h
+  looser_at HeaderIsBase64url h = h
   looser_at HeaderIsJson h = h
-  looser_at HeaderReads h = h
+  looser_at HeaderIsValid h = h
   looser_at CritIsUnderstood h = more_understood call.options.understood w.understood l.understood t.header.extras
       t.header.crit h
   looser_at KeyIsFound h = h
-  looser_at KeyAlgorithmAgrees h = h
+  looser_at KeyAlgMatches h = h
   looser_at KeyIsUsable h = h
-  looser_at AlgorithmsAreListed h = some_listed call.options.algorithms w.algorithms l.keeps h
-  looser_at AlgorithmIsListed h = l.keeps t.header.alg h
-  looser_at VerifierIsMade h = h
-  looser_at FamiliesAgree h = All-weaker (Contains w.algorithms) (λ a. family_of a ≡ family_of t.header.alg)
+  looser_at AlgorithmsAreConfigured h = some_listed call.options.algorithms w.algorithms l.keeps h
+  looser_at AlgorithmIsAllowed h = l.keeps t.header.alg h
+  looser_at KeyFitsAlgorithm h = h
+  looser_at AlgorithmsShareFamily h = All-weaker (Contains w.algorithms) (λ a. family_of a ≡ family_of t.header.alg)
       (λ a i. let f = l.families a i in sym f.2
       ∙ All-contains (λ b. family_of b ≡ family_of t.header.alg) call.options.algorithms f.0 h f.1)
       w.algorithms (All-contains_itself w.algorithms)
-  looser_at SignatureIsPart h = h
+  looser_at SignatureIsBase64url h = h
   looser_at SignatureIsAccepted h = h
-  looser_at PayloadIsPart h = h
+  looser_at PayloadIsBase64url h = h
   looser_at PayloadIsJson h = h
-  looser_at ClaimsRead h = h
+  looser_at ClaimsMatchType h = h
   looser_at ClaimsAreAnObject h = h
-  looser_at ClaimRulesHold h = rules-looser call.options w t.payload_value call.time l h
+  looser_at ClaimsAreValid h = rules-looser call.options w t.payload_value call.time l h
 
   -- contents that pass under some options pass under looser ones
   pub passes_looser : (order : List Test) → Passes (token_tests call) order t
@@ -370,24 +370,24 @@ module _ {T : Type 0} (call : Call T) (t : Contents) (ks more : List Jwk) where
 
   kept_at : (c : Test) → Condition fewer c t → Condition with_more c t
   kept_at HasThreeParts h = h
-  kept_at HeaderIsPart h = h
+  kept_at HeaderIsBase64url h = h
   kept_at HeaderIsJson h = h
-  kept_at HeaderReads h = h
+  kept_at HeaderIsValid h = h
   kept_at CritIsUnderstood h = h
   kept_at KeyIsFound h = still_named ks more t.header.kid t.jwk h
-  kept_at KeyAlgorithmAgrees h = h
+  kept_at KeyAlgMatches h = h
   kept_at KeyIsUsable h = h
-  kept_at AlgorithmsAreListed h = h
-  kept_at AlgorithmIsListed h = h
-  kept_at VerifierIsMade h = h
-  kept_at FamiliesAgree h = h
-  kept_at SignatureIsPart h = h
+  kept_at AlgorithmsAreConfigured h = h
+  kept_at AlgorithmIsAllowed h = h
+  kept_at KeyFitsAlgorithm h = h
+  kept_at AlgorithmsShareFamily h = h
+  kept_at SignatureIsBase64url h = h
   kept_at SignatureIsAccepted h = h
-  kept_at PayloadIsPart h = h
+  kept_at PayloadIsBase64url h = h
   kept_at PayloadIsJson h = h
-  kept_at ClaimsRead h = h
+  kept_at ClaimsMatchType h = h
   kept_at ClaimsAreAnObject h = h
-  kept_at ClaimRulesHold h = h
+  kept_at ClaimsAreValid h = h
 
   -- contents that pass with a set pass with more keys after those of the set
   pub kept_with_more : Passes (token_tests fewer) set_order t → Passes (token_tests with_more) set_order t

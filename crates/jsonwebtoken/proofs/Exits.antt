@@ -15,7 +15,7 @@ use Rattle.serde_json.specs.Find.{as_object}
 use Rattle.jsonwebtoken.specs.Calls.{Carries}
 use Rattle.jsonwebtoken.specs.Order.{Tests, Passes, Decides, FailsFirst, FindsFailed}
 use Rattle.jsonwebtoken.specs.Refused.{DecidesByTest, IsRefusal}
-use Rattle.jsonwebtoken.specs.Tests.{Call, Parts, HasParts, key_of, Test, ClaimsAreAnObject, ClaimRulesHold, Contents}
+use Rattle.jsonwebtoken.specs.Tests.{Call, Parts, HasParts, key_of, Test, ClaimsAreAnObject, ClaimsAreValid, Contents}
 use Rattle.jsonwebtoken.specs.Tests.{header_tests, header_order, verifying_tests, token_tests}
 use Rattle.jsonwebtoken.specs.declared.decoding.TokenData.{TokenData}
 use Rattle.jsonwebtoken.specs.declared.refusal.Refusal.{Refusal}
@@ -239,7 +239,7 @@ not_held v d time k (broken none r first) held = first.fails (held.rules r)
 
 -- claims that `validate` refuses fail one of its tests
 pub rules_failed : (o : Options) (d : Data) (time : ℕ) (c : Test) (e : Error)
-    → (IsSome (as_object d) × (c ≡ ClaimRulesHold)) ⊎ ((¬ IsSome (as_object d)) × (c ≡ ClaimsAreAnObject))
+    → (IsSome (as_object d) × (c ≡ ClaimsAreValid)) ⊎ ((¬ IsSome (as_object d)) × (c ≡ ClaimsAreAnObject))
     → ((k : Kind) × IsFault o d time k × IsErrorFor e k)
     → IsMemory e ⊎ Failed (holding o time) rule_tests (with_value d no_contents) c (kind_of e)
 rules_failed o d time c e (inl (object, is)) (k, inl (none, json), told) = absurd (none object)

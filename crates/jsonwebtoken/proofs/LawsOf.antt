@@ -15,9 +15,9 @@ use Rattle.jsonwebtoken.specs.Laws.{timeless, HasMoments, KeepsLooser, KeyFits, 
 use Rattle.jsonwebtoken.specs.Order.{Passes}
 use Rattle.jsonwebtoken.specs.Tests.{Call, Token, Compact, Separate, HasParts, key_of, Test, Contents, Parts}
 use Rattle.jsonwebtoken.specs.Tests.{message_of, decode_order, jws_order, header_order, opening_tests}
-use Rattle.jsonwebtoken.specs.Tests.{jws_algorithm_tests, algorithm_tests, verifying_tests, HasThreeParts, HeaderIsPart}
-use Rattle.jsonwebtoken.specs.Tests.{HeaderIsJson, HeaderReads, KeyIsFound, KeyIsUsable, VerifierIsMade}
-use Rattle.jsonwebtoken.specs.Tests.{SignatureIsPart, SignatureIsAccepted, PayloadIsPart, ClaimRulesHold, token_tests}
+use Rattle.jsonwebtoken.specs.Tests.{jws_algorithm_tests, algorithm_tests, verifying_tests, HasThreeParts, HeaderIsBase64url}
+use Rattle.jsonwebtoken.specs.Tests.{HeaderIsJson, HeaderIsValid, KeyIsFound, KeyIsUsable, KeyFitsAlgorithm}
+use Rattle.jsonwebtoken.specs.Tests.{SignatureIsBase64url, SignatureIsAccepted, PayloadIsBase64url, ClaimsAreValid, token_tests}
 use Rattle.jsonwebtoken.proofs.Ascii.{message_bytes}
 use Rattle.jsonwebtoken.proofs.Dots.{are_parts, same_as_parts}
 use Rattle.jsonwebtoken.proofs.EachTest.{is_in, are_in, met, among, join, passes_looser}
@@ -30,7 +30,7 @@ jws_rest_order = opening_tests ++ jws_algorithm_tests ++ verifying_tests
 
 -- the tests that fix the token
 abbrev text_tests : List Test
-text_tests = header_order ++ SignatureIsPart ∷ SignatureIsAccepted ∷ PayloadIsPart ∷ []
+text_tests = header_order ++ SignatureIsBase64url ∷ SignatureIsAccepted ∷ PayloadIsBase64url ∷ []
 
 -- with the same header bytes and payload bytes, by the same key, two tokens have the same parts
 module _ {T : Type 0} (call : Call T) (t : Contents) (p : Passes (token_tests call) text_tests t)
@@ -46,18 +46,18 @@ module _ {T : Type 0} (call : Call T) (t : Contents) (p : Passes (token_tests ca
       let values : u.header_value ≡ t.header_value =
       one_json t.header_bytes _ _ (rw hb at (met other text_tests u q HeaderIsJson refl))
       (met call text_tests t p HeaderIsJson refl) in
-      one_header t.header_value _ _ (rw values at (met other text_tests u q HeaderReads refl))
-      (met call text_tests t p HeaderReads refl)
+      one_header t.header_value _ _ (rw values at (met other text_tests u q HeaderIsValid refl))
+      (met call text_tests t p HeaderIsValid refl)
 
   same_parts_of : key_of call.keys u.jwk_key ≡ key_of call.keys t.jwk_key → u.parts ≡ t.parts
   same_parts_of key =
-      let hp = met call text_tests t p HeaderIsPart refl in
-      let pp = met call text_tests t p PayloadIsPart refl in
-      let sp = met call text_tests t p SignatureIsPart refl in
-      let sq = met other text_tests u q SignatureIsPart refl in
-      let headers : u.parts.header ≡ t.parts.header = (met other text_tests u q HeaderIsPart refl).1
+      let hp = met call text_tests t p HeaderIsBase64url refl in
+      let pp = met call text_tests t p PayloadIsBase64url refl in
+      let sp = met call text_tests t p SignatureIsBase64url refl in
+      let sq = met other text_tests u q SignatureIsBase64url refl in
+      let headers : u.parts.header ≡ t.parts.header = (met other text_tests u q HeaderIsBase64url refl).1
       ∙ ap (encode_symbols url_characters) hb ∙ sym hp.1 in
-      let payloads : u.parts.payload ≡ t.parts.payload = (met other text_tests u q PayloadIsPart refl).1
+      let payloads : u.parts.payload ≡ t.parts.payload = (met other text_tests u q PayloadIsBase64url refl).1
       ∙ ap (encode_symbols url_characters) pb ∙ sym pp.1 in
       let signed = rw (same_header_of, key, headers, payloads) at (met other text_tests u q SignatureIsAccepted refl) in
       let bytes : u.signature_bytes ≡ t.signature_bytes =
@@ -78,20 +78,20 @@ module _ {T : Type 0} (call : Call T) (order : List Test) where
   looser t p w l = passes_looser call t w l order p
 
   -- by a provider's law of families
-  pub key_fits : is_in VerifierIsMade order ≡ true → ((a : Algorithm) (k : Key) → call.refusal a k ≡ None
+  pub key_fits : is_in KeyFitsAlgorithm order ≡ true → ((a : Algorithm) (k : Key) → call.refusal a k ≡ None
       → key_family k ≡ family_of a) → KeyFits call order
-  key_fits made law t p = law t.header.alg (key_of call.keys t.jwk_key) (met call order t p VerifierIsMade made)
+  key_fits made law t p = law t.header.alg (key_of call.keys t.jwk_key) (met call order t p KeyFitsAlgorithm made)
 
-  pub moments : are_in (timeless order) order ≡ true → is_in ClaimRulesHold order ≡ true
-      → are_in order (timeless order ++ ClaimRulesHold ∷ []) ≡ true
+  pub moments : are_in (timeless order) order ≡ true → is_in ClaimsAreValid order ≡ true
+      → are_in order (timeless order ++ ClaimsAreValid ∷ []) ≡ true
       → ((t : Contents) (m : ℕ) → Passes (token_tests (record call { time = m })) (timeless order) t
       ↔ Passes (token_tests call) (timeless order) t) → HasMoments call order
   moments inside has outside same t m le =
       let at = record call { time = m } in (
-        λ p. let w = within call.options t.payload_value m le (met at order t p ClaimRulesHold has) in
+        λ p. let w = within call.options t.payload_value m le (met at order t p ClaimsAreValid has) in
             record { base = (same t m).0 (among at (timeless order) order t inside p); rules = w.0; from = w.1; until = w.2 },
-        λ w. among at order (timeless order ++ ClaimRulesHold ∷ []) t outside
-            (join at (timeless order) (ClaimRulesHold ∷ []) t ((same t m).1 w.base)
+        λ w. among at order (timeless order ++ ClaimsAreValid ∷ []) t outside
+            (join at (timeless order) (ClaimsAreValid ∷ []) t ((same t m).1 w.base)
             (held_within call.options t.payload_value m w.rules w.from w.until, tt)),
       )
 
@@ -129,13 +129,13 @@ agree call parts t = (
   λ p.
       let apart = on_parts call parts in
       let is : t.parts ≡ parts = met apart jws_order t p HasThreeParts refl in
-      let cut = rw is at (are_parts t.parts _ _ _ (met apart jws_order t p HeaderIsPart refl)
-      (met apart jws_order t p PayloadIsPart refl) (met apart jws_order t p SignatureIsPart refl)) in
+      let cut = rw is at (are_parts t.parts _ _ _ (met apart jws_order t p HeaderIsBase64url refl)
+      (met apart jws_order t p PayloadIsBase64url refl) (met apart jws_order t p SignatureIsBase64url refl)) in
       (rw is cut, among apart rest_order jws_order t refl p),
   λ p.
       let text = on_text call parts in
       let cut = met text decode_order t p HasThreeParts refl in
-      let is = same_as_parts parts t.parts _ _ _ cut (met text decode_order t p HeaderIsPart refl)
-      (met text decode_order t p PayloadIsPart refl) (met text decode_order t p SignatureIsPart refl) in
+      let is = same_as_parts parts t.parts _ _ _ cut (met text decode_order t p HeaderIsBase64url refl)
+      (met text decode_order t p PayloadIsBase64url refl) (met text decode_order t p SignatureIsBase64url refl) in
       (is, among text jws_rest_order decode_order t refl p),
 )

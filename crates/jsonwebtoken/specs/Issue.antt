@@ -15,8 +15,8 @@ use Rattle.jwt_header.specs.Header.{header_value}
 use Rattle.jwt_header.specs.HeaderWritten.{normal_header}
 use Rattle.jwt_header.specs.declared.header.Header.{Header}
 use Rattle.jsonwebtoken.specs.Order.{Tests, Passes}
-use Rattle.jsonwebtoken.specs.Tests.{dot, Parts, message_of, text_of_parts, Test, HasThreeParts, SignatureIsPart}
-use Rattle.jsonwebtoken.specs.Tests.{PayloadIsPart, PayloadIsJson, header_tests, Contents, token_tests, header_call}
+use Rattle.jsonwebtoken.specs.Tests.{dot, Parts, message_of, text_of_parts, Test, HasThreeParts, SignatureIsBase64url}
+use Rattle.jsonwebtoken.specs.Tests.{PayloadIsBase64url, PayloadIsJson, header_tests, Contents, token_tests, header_call}
 
 -- ---- a call
 
@@ -136,7 +136,7 @@ issuing header payload key signer_refusal sign_refusal signs = record {
 
 -- the tests that ask neither for a validation nor for a key nor for a type of claims
 abbrev pub issued_tests : List Test
-issued_tests = HasThreeParts ∷ header_tests ++ SignatureIsPart ∷ PayloadIsPart ∷ PayloadIsJson ∷ []
+issued_tests = HasThreeParts ∷ header_tests ++ SignatureIsBase64url ∷ PayloadIsBase64url ∷ PayloadIsJson ∷ []
 
 -- every signature that the issuer's key makes is accepted with this one
 abbrev pub AcceptsOf : Issue → (Algorithm → Key → List ℕ → List ℕ → Type 0) → Key → Type 0

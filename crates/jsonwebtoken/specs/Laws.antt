@@ -10,11 +10,11 @@ use Rattle.jwt_validation.specs.Moments.{RulesOfNoMoment, first_moment, last_mom
 use Rattle.jwt_validation.specs.Options.{Options}
 use Rattle.jsonwebtoken.specs.Order.{Passes}
 use Rattle.jsonwebtoken.specs.Tests.{Call, Token, Compact, Separate, Parts, InSet, key_of, text_of_parts, Test}
-use Rattle.jsonwebtoken.specs.Tests.{ClaimRulesHold, Contents, decode_order, jws_order, token_tests}
+use Rattle.jsonwebtoken.specs.Tests.{ClaimsAreValid, Contents, decode_order, jws_order, token_tests}
 
 -- every test but the claim rules does not depend on the time
 abbrev pub is_timeless : Test → Bool
-is_timeless ClaimRulesHold = false
+is_timeless ClaimsAreValid = false
 is_timeless _ = true
 
 -- the order without the claim rules

@@ -13,8 +13,8 @@ use Rattle.jwt_keys.specs.declared.jwk.Jwk.{Jwk}
 use Rattle.jsonwebtoken.specs.FailedAt.{FailedBy}
 use Rattle.jsonwebtoken.specs.Order.{Passes}
 use Rattle.jsonwebtoken.specs.Tests.{Parts, HasParts, set_of, named_key, Call, Test, HasThreeParts}
-use Rattle.jsonwebtoken.specs.Tests.{HeaderIsPart, HeaderIsJson, HeaderReads, KeyIsFound, KeyIsUsable, SignatureIsPart}
-use Rattle.jsonwebtoken.specs.Tests.{PayloadIsPart, PayloadIsJson, ClaimsRead, Contents, Condition, token_tests}
+use Rattle.jsonwebtoken.specs.Tests.{HeaderIsBase64url, HeaderIsJson, HeaderIsValid, KeyIsFound, KeyIsUsable, SignatureIsBase64url}
+use Rattle.jsonwebtoken.specs.Tests.{PayloadIsBase64url, PayloadIsJson, ClaimsMatchType, Contents, Condition, token_tests}
 use Rattle.jsonwebtoken.specs.declared.refusal.Refusal.{Refusal}
 
 -- the result meets the first relation; or the test and the kind of the refusal meet the second, unless memory ran out
@@ -35,15 +35,15 @@ module _ {T : Type 0} (call : Call T) where
   -- the test fails at these contents, whatever the value that it looks for
   abbrev pub FailsAt : Test → Contents → Type 0
   FailsAt HasThreeParts t = (p : Parts) → HasParts call.token p → ⊥
-  FailsAt HeaderIsPart t = (b : List ℕ) → IsPart t.parts.header b → ⊥
+  FailsAt HeaderIsBase64url t = (b : List ℕ) → IsPart t.parts.header b → ⊥
   FailsAt HeaderIsJson t = (d : Data) → IsJson t.header_bytes d → ⊥
-  FailsAt HeaderReads t = (h : Header) → ReadsHeader t.header_value h → ⊥
+  FailsAt HeaderIsValid t = (h : Header) → ReadsHeader t.header_value h → ⊥
   FailsAt KeyIsFound t = (j : Jwk) → named_key (set_of call.keys) t.header ≡ Some j → ⊥
   FailsAt KeyIsUsable t = (k : Key) → IsKeyOf t.jwk.algorithm k → ⊥
-  FailsAt SignatureIsPart t = (b : List ℕ) → IsPart t.parts.signature b → ⊥
-  FailsAt PayloadIsPart t = (b : List ℕ) → IsPart t.parts.payload b → ⊥
+  FailsAt SignatureIsBase64url t = (b : List ℕ) → IsPart t.parts.signature b → ⊥
+  FailsAt PayloadIsBase64url t = (b : List ℕ) → IsPart t.parts.payload b → ⊥
   FailsAt PayloadIsJson t = (d : Data) → IsJson t.payload_bytes d → ⊥
-  FailsAt ClaimsRead t = (c : T) → call.reads t.payload_value c → ⊥
+  FailsAt ClaimsMatchType t = (c : T) → call.reads t.payload_value c → ⊥
   FailsAt c t = Condition call c t → ⊥
 
   abbrev pub Failed : List Test → Contents → Test → Kind → Type 0

@@ -1,28 +1,28 @@
 -- The names of the tests of a token.
 use Rattle.std.specs.Prelude.{ℕ, List, codes}
-use Rattle.jsonwebtoken.specs.Tests.{Test, HasThreeParts, HeaderIsPart, HeaderIsJson, HeaderReads, CritIsUnderstood}
-use Rattle.jsonwebtoken.specs.Tests.{KeyIsFound, KeyAlgorithmAgrees, KeyIsUsable, AlgorithmsAreListed}
-use Rattle.jsonwebtoken.specs.Tests.{AlgorithmIsListed, VerifierIsMade, FamiliesAgree, SignatureIsPart}
-use Rattle.jsonwebtoken.specs.Tests.{SignatureIsAccepted, PayloadIsPart, PayloadIsJson, ClaimsRead, ClaimsAreAnObject}
-use Rattle.jsonwebtoken.specs.Tests.{ClaimRulesHold}
+use Rattle.jsonwebtoken.specs.Tests.{Test, HasThreeParts, HeaderIsBase64url, HeaderIsJson, HeaderIsValid, CritIsUnderstood}
+use Rattle.jsonwebtoken.specs.Tests.{KeyIsFound, KeyAlgMatches, KeyIsUsable, AlgorithmsAreConfigured}
+use Rattle.jsonwebtoken.specs.Tests.{AlgorithmIsAllowed, KeyFitsAlgorithm, AlgorithmsShareFamily, SignatureIsBase64url}
+use Rattle.jsonwebtoken.specs.Tests.{SignatureIsAccepted, PayloadIsBase64url, PayloadIsJson, ClaimsMatchType, ClaimsAreAnObject}
+use Rattle.jsonwebtoken.specs.Tests.{ClaimsAreValid}
 
 abbrev pub test_name : Test → List ℕ
 test_name HasThreeParts = codes "HasThreeParts"
-test_name HeaderIsPart = codes "HeaderIsPart"
+test_name HeaderIsBase64url = codes "HeaderIsBase64url"
 test_name HeaderIsJson = codes "HeaderIsJson"
-test_name HeaderReads = codes "HeaderReads"
+test_name HeaderIsValid = codes "HeaderIsValid"
 test_name CritIsUnderstood = codes "CritIsUnderstood"
 test_name KeyIsFound = codes "KeyIsFound"
-test_name KeyAlgorithmAgrees = codes "KeyAlgorithmAgrees"
+test_name KeyAlgMatches = codes "KeyAlgMatches"
 test_name KeyIsUsable = codes "KeyIsUsable"
-test_name AlgorithmsAreListed = codes "AlgorithmsAreListed"
-test_name AlgorithmIsListed = codes "AlgorithmIsListed"
-test_name VerifierIsMade = codes "VerifierIsMade"
-test_name FamiliesAgree = codes "FamiliesAgree"
-test_name SignatureIsPart = codes "SignatureIsPart"
+test_name AlgorithmsAreConfigured = codes "AlgorithmsAreConfigured"
+test_name AlgorithmIsAllowed = codes "AlgorithmIsAllowed"
+test_name KeyFitsAlgorithm = codes "KeyFitsAlgorithm"
+test_name AlgorithmsShareFamily = codes "AlgorithmsShareFamily"
+test_name SignatureIsBase64url = codes "SignatureIsBase64url"
 test_name SignatureIsAccepted = codes "SignatureIsAccepted"
-test_name PayloadIsPart = codes "PayloadIsPart"
+test_name PayloadIsBase64url = codes "PayloadIsBase64url"
 test_name PayloadIsJson = codes "PayloadIsJson"
-test_name ClaimsRead = codes "ClaimsRead"
+test_name ClaimsMatchType = codes "ClaimsMatchType"
 test_name ClaimsAreAnObject = codes "ClaimsAreAnObject"
-test_name ClaimRulesHold = codes "ClaimRulesHold"
+test_name ClaimsAreValid = codes "ClaimsAreValid"

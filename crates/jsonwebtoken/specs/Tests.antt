@@ -20,13 +20,13 @@ use Rattle.jwt_validation.specs.Options.{Options, default_options}
 use Rattle.jsonwebtoken.specs.Order.{Tests}
 use Rattle.jwt_header.specs.declared.header.Header.{Header}
 pub use Rattle.jsonwebtoken.specs.declared.refusal.Test.{Test}
-pub use Rattle.jsonwebtoken.specs.declared.refusal.Test.TheVariants.{HasThreeParts, HeaderIsPart, HeaderIsJson}
-pub use Rattle.jsonwebtoken.specs.declared.refusal.Test.TheVariants.{HeaderReads, CritIsUnderstood, KeyIsFound}
-pub use Rattle.jsonwebtoken.specs.declared.refusal.Test.TheVariants.{KeyAlgorithmAgrees, KeyIsUsable}
-pub use Rattle.jsonwebtoken.specs.declared.refusal.Test.TheVariants.{AlgorithmsAreListed, AlgorithmIsListed}
-pub use Rattle.jsonwebtoken.specs.declared.refusal.Test.TheVariants.{VerifierIsMade, FamiliesAgree, SignatureIsPart}
-pub use Rattle.jsonwebtoken.specs.declared.refusal.Test.TheVariants.{SignatureIsAccepted, PayloadIsPart, PayloadIsJson}
-pub use Rattle.jsonwebtoken.specs.declared.refusal.Test.TheVariants.{ClaimsRead, ClaimsAreAnObject, ClaimRulesHold}
+pub use Rattle.jsonwebtoken.specs.declared.refusal.Test.TheVariants.{HasThreeParts, HeaderIsBase64url, HeaderIsJson}
+pub use Rattle.jsonwebtoken.specs.declared.refusal.Test.TheVariants.{HeaderIsValid, CritIsUnderstood, KeyIsFound}
+pub use Rattle.jsonwebtoken.specs.declared.refusal.Test.TheVariants.{KeyAlgMatches, KeyIsUsable}
+pub use Rattle.jsonwebtoken.specs.declared.refusal.Test.TheVariants.{AlgorithmsAreConfigured, AlgorithmIsAllowed}
+pub use Rattle.jsonwebtoken.specs.declared.refusal.Test.TheVariants.{KeyFitsAlgorithm, AlgorithmsShareFamily, SignatureIsBase64url}
+pub use Rattle.jsonwebtoken.specs.declared.refusal.Test.TheVariants.{SignatureIsAccepted, PayloadIsBase64url, PayloadIsJson}
+pub use Rattle.jsonwebtoken.specs.declared.refusal.Test.TheVariants.{ClaimsMatchType, ClaimsAreAnObject, ClaimsAreValid}
 
 -- ---- a token
 
@@ -120,65 +120,65 @@ module _ {T : Type 0} (call : Call T) where
   -- RFC 7515 section 7.1
   Condition HasThreeParts t = HasParts call.token t.parts
   -- RFC 7515 sections 2 and 5.2
-  Condition HeaderIsPart t = IsPart t.parts.header t.header_bytes
+  Condition HeaderIsBase64url t = IsPart t.parts.header t.header_bytes
   -- RFC 7515 section 5.2
   Condition HeaderIsJson t = IsJson t.header_bytes t.header_value
   -- RFC 7515 section 4.1
-  Condition HeaderReads t = ReadsHeader t.header_value t.header
+  Condition HeaderIsValid t = ReadsHeader t.header_value t.header
   -- RFC 7515 section 4.1.11
   Condition CritIsUnderstood t = IsUnderstood call.options.understood t.header
   -- RFC 7515 section 4.1.4, RFC 7517 section 4.5
   Condition KeyIsFound t = named_key (set_of call.keys) t.header ≡ Some t.jwk
   -- RFC 7517 section 4.4
-  Condition KeyAlgorithmAgrees t = AgreesWith t.header.alg t.jwk
+  Condition KeyAlgMatches t = AgreesWith t.header.alg t.jwk
   -- RFC 7518 section 6, RFC 8037 section 2
   Condition KeyIsUsable t = IsKeyOf t.jwk.algorithm t.jwk_key
   -- RFC 8725 section 3.1
-  Condition AlgorithmsAreListed t = ¬ (call.options.algorithms ≡ [])
+  Condition AlgorithmsAreConfigured t = ¬ (call.options.algorithms ≡ [])
   -- RFC 8725 section 3.1
-  Condition AlgorithmIsListed t = Contains call.options.algorithms t.header.alg
+  Condition AlgorithmIsAllowed t = Contains call.options.algorithms t.header.alg
   -- RFC 7515 section 4.1.1
-  Condition VerifierIsMade t = call.refusal t.header.alg (key_of call.keys t.jwk_key) ≡ None
+  Condition KeyFitsAlgorithm t = call.refusal t.header.alg (key_of call.keys t.jwk_key) ≡ None
   -- RFC 8725 section 3.1
-  Condition FamiliesAgree t =
+  Condition AlgorithmsShareFamily t =
       All (λ a. family_of a ≡ family_of t.header.alg) call.options.algorithms
   -- RFC 7515 sections 2 and 5.2
-  Condition SignatureIsPart t = IsPart t.parts.signature t.signature_bytes
+  Condition SignatureIsBase64url t = IsPart t.parts.signature t.signature_bytes
   -- RFC 7515 section 5.2
   Condition SignatureIsAccepted t =
       call.accepts t.header.alg (key_of call.keys t.jwk_key) (message_of t.parts) t.signature_bytes
   -- RFC 7515 sections 2 and 5.2
-  Condition PayloadIsPart t = IsPart t.parts.payload t.payload_bytes
+  Condition PayloadIsBase64url t = IsPart t.parts.payload t.payload_bytes
   -- RFC 7519 section 7.2
   Condition PayloadIsJson t = IsJson t.payload_bytes t.payload_value
   -- RFC 7519 section 4
-  Condition ClaimsRead t = (c : T) × call.reads t.payload_value c
+  Condition ClaimsMatchType t = (c : T) × call.reads t.payload_value c
   -- RFC 7519 section 7.2
   Condition ClaimsAreAnObject t = IsSome (as_object t.payload_value)
   -- RFC 7519 section 4.1
-  Condition ClaimRulesHold t = RulesHold call.options t.payload_value call.time
+  Condition ClaimsAreValid t = RulesHold call.options t.payload_value call.time
 
   -- the kinds of a failed test
   abbrev pub HasKind : Test → Contents → Kind → Type 0
   HasKind HasThreeParts t k = k ≡ kind.InvalidToken
-  HasKind HeaderIsPart t k = k ≡ kind.Base64
+  HasKind HeaderIsBase64url t k = k ≡ kind.Base64
   HasKind HeaderIsJson t k = k ≡ kind.Json
-  HasKind HeaderReads t k = k ≡ kind.Json
+  HasKind HeaderIsValid t k = k ≡ kind.Json
   HasKind CritIsUnderstood t k = k ≡ kind.InvalidCrit
   HasKind KeyIsFound t k = k ≡ kind.NoKey
-  HasKind KeyAlgorithmAgrees t k = k ≡ kind.InvalidAlgorithm
+  HasKind KeyAlgMatches t k = k ≡ kind.InvalidAlgorithm
   HasKind KeyIsUsable t k = k ≡ refusal_of t.jwk.algorithm
-  HasKind AlgorithmsAreListed t k = k ≡ kind.MissingAlgorithm
-  HasKind AlgorithmIsListed t k = k ≡ kind.InvalidAlgorithm
-  HasKind VerifierIsMade t k = call.refusal t.header.alg (key_of call.keys t.jwk_key) ≡ Some k
-  HasKind FamiliesAgree t k = k ≡ kind.InvalidAlgorithm
-  HasKind SignatureIsPart t k = k ≡ kind.Base64
+  HasKind AlgorithmsAreConfigured t k = k ≡ kind.MissingAlgorithm
+  HasKind AlgorithmIsAllowed t k = k ≡ kind.InvalidAlgorithm
+  HasKind KeyFitsAlgorithm t k = call.refusal t.header.alg (key_of call.keys t.jwk_key) ≡ Some k
+  HasKind AlgorithmsShareFamily t k = k ≡ kind.InvalidAlgorithm
+  HasKind SignatureIsBase64url t k = k ≡ kind.Base64
   HasKind SignatureIsAccepted t k = k ≡ kind.InvalidSignature
-  HasKind PayloadIsPart t k = k ≡ kind.Base64
+  HasKind PayloadIsBase64url t k = k ≡ kind.Base64
   HasKind PayloadIsJson t k = k ≡ kind.Json
-  HasKind ClaimsRead t k = k ≡ kind.Json
+  HasKind ClaimsMatchType t k = k ≡ kind.Json
   HasKind ClaimsAreAnObject t k = k ≡ kind.Json
-  HasKind ClaimRulesHold t k = IsRuleFault call.options t.payload_value call.time k
+  HasKind ClaimsAreValid t k = IsRuleFault call.options t.payload_value call.time k
 
   -- the tests of a token
   abbrev pub token_tests : Tests Test Contents
@@ -187,29 +187,29 @@ module _ {T : Type 0} (call : Call T) where
 -- ---- the orders
 
 abbrev pub header_tests : List Test
-header_tests = HeaderIsPart ∷ HeaderIsJson ∷ HeaderReads ∷ []
+header_tests = HeaderIsBase64url ∷ HeaderIsJson ∷ HeaderIsValid ∷ []
 
 -- the tests of the header, which come first in every call that verifies, once the parts are found
 abbrev pub opening_tests : List Test
 opening_tests = header_tests ++ CritIsUnderstood ∷ []
 
 abbrev pub key_tests : List Test
-key_tests = KeyIsFound ∷ KeyAlgorithmAgrees ∷ KeyIsUsable ∷ []
+key_tests = KeyIsFound ∷ KeyAlgMatches ∷ KeyIsUsable ∷ []
 
 abbrev pub algorithm_tests : List Test
-algorithm_tests = AlgorithmsAreListed ∷ AlgorithmIsListed ∷ VerifierIsMade ∷ FamiliesAgree ∷ []
+algorithm_tests = AlgorithmsAreConfigured ∷ AlgorithmIsAllowed ∷ KeyFitsAlgorithm ∷ AlgorithmsShareFamily ∷ []
 
 abbrev pub jws_algorithm_tests : List Test
-jws_algorithm_tests = VerifierIsMade ∷ AlgorithmsAreListed ∷ FamiliesAgree ∷ AlgorithmIsListed ∷ []
+jws_algorithm_tests = KeyFitsAlgorithm ∷ AlgorithmsAreConfigured ∷ AlgorithmsShareFamily ∷ AlgorithmIsAllowed ∷ []
 
 abbrev pub signature_tests : List Test
-signature_tests = SignatureIsPart ∷ SignatureIsAccepted ∷ []
+signature_tests = SignatureIsBase64url ∷ SignatureIsAccepted ∷ []
 
 abbrev pub payload_tests : List Test
-payload_tests = PayloadIsPart ∷ PayloadIsJson ∷ ClaimsRead ∷ []
+payload_tests = PayloadIsBase64url ∷ PayloadIsJson ∷ ClaimsMatchType ∷ []
 
 abbrev pub claim_tests : List Test
-claim_tests = payload_tests ++ ClaimsAreAnObject ∷ ClaimRulesHold ∷ []
+claim_tests = payload_tests ++ ClaimsAreAnObject ∷ ClaimsAreValid ∷ []
 
 -- the tests of the signature and then of the claims, which come last in every call that verifies
 abbrev pub verifying_tests : List Test
@@ -220,7 +220,7 @@ header_order = HasThreeParts ∷ header_tests
 
 -- the tests of a token before its signature is checked elsewhere
 abbrev pub signed_order : List Test
-signed_order = header_order ++ SignatureIsPart ∷ []
+signed_order = header_order ++ SignatureIsBase64url ∷ []
 
 abbrev pub insecure_order : List Test
 insecure_order = header_order ++ payload_tests

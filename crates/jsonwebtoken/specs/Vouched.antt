@@ -10,15 +10,15 @@ use Rattle.jwt_validation.specs.declared.validation.Validation.{Validation}
 use Rattle.jwt_crypto.specs.Verdict.{Verdict, IsVerified, refusal_by}
 use Rattle.jsonwebtoken.specs.Calls.{Carries}
 use Rattle.jsonwebtoken.specs.Order.{Passes, FailsFirst}
-use Rattle.jsonwebtoken.specs.Tests.{Call, Compact, Given, Test, HasThreeParts, AlgorithmsAreListed, AlgorithmIsListed}
-use Rattle.jsonwebtoken.specs.Tests.{FamiliesAgree, SignatureIsPart, Contents, token_tests, decode_order, opening_tests}
+use Rattle.jsonwebtoken.specs.Tests.{Call, Compact, Given, Test, HasThreeParts, AlgorithmsAreConfigured, AlgorithmIsAllowed}
+use Rattle.jsonwebtoken.specs.Tests.{AlgorithmsShareFamily, SignatureIsBase64url, Contents, token_tests, decode_order, opening_tests}
 use Rattle.jsonwebtoken.specs.Tests.{claim_tests, message_of, verifying_call}
 use Rattle.jsonwebtoken.specs.declared.decoding.TokenData.{TokenData}
 
 -- the tests of `decode` that ask no provider
 abbrev pub unasked_order : List Test
 unasked_order = HasThreeParts ∷ opening_tests
-    ++ AlgorithmsAreListed ∷ AlgorithmIsListed ∷ FamiliesAgree ∷ SignatureIsPart ∷ claim_tests
+    ++ AlgorithmsAreConfigured ∷ AlgorithmIsAllowed ∷ AlgorithmsShareFamily ∷ SignatureIsBase64url ∷ claim_tests
 
 -- the call of `decode` with the provider of a verdict and a key of its algorithm's family
 abbrev pub decoding_by_verdict : {T : Type 0} → ClaimsOf T → Verdict → List ℕ → Validation → ℕ → Call T

@@ -56,7 +56,7 @@ fn claim_moments(alloc: Global, token: &[u8], validation: &Validation) -> Result
         result }
 {
     let parts = token_parts(token)?;
-    let bytes = read_part(alloc, Test::PayloadIsPart, parts.payload)?;
+    let bytes = read_part(alloc, Test::PayloadIsBase64url, parts.payload)?;
     let value = read_json(alloc, Test::PayloadIsJson, bytes.as_slice())?;
     Ok(claimed_moments(&value, validation))
 }

@@ -76,7 +76,7 @@ fn signed_part_by_steps(alloc: Global, token: &[u8]) -> Result<SignedPart<'_>, R
 {
     let parts = token_parts(token)?;
     let header = read_header(alloc, parts.header)?;
-    let signature = read_part(alloc, Test::SignatureIsPart, parts.signature);
+    let signature = read_part(alloc, Test::SignatureIsBase64url, parts.signature);
     with_signature(header, parts.message, signature)
 }
 

@@ -13,44 +13,44 @@ pub enum Test {
     /// The text has at least two dots (RFC 7515 section 7.1).
     HasThreeParts,
     /// The header part is canonical base64url (RFC 7515 sections 2 and 5.2).
-    HeaderIsPart,
+    HeaderIsBase64url,
     /// The header's bytes are JSON (RFC 7515 section 5.2).
     HeaderIsJson,
     /// Their value reads as a header (RFC 7515 section 4.1).
-    HeaderReads,
+    HeaderIsValid,
     /// The header's `crit`, if there is one, is understood (RFC 7515 section 4.1.11).
     CritIsUnderstood,
     /// The header has a `kid`, and a key of the set has it too (RFC 7515 section 4.1.4, RFC 7517
     /// section 4.5).
     KeyIsFound,
     /// The first such key has no `alg`, or the header's (RFC 7517 section 4.4).
-    KeyAlgorithmAgrees,
+    KeyAlgMatches,
     /// A key is made of it (RFC 7518 section 6, RFC 8037 section 2).
     KeyIsUsable,
     /// The validation lists an algorithm (RFC 8725 section 3.1).
-    AlgorithmsAreListed,
+    AlgorithmsAreConfigured,
     /// The validation lists the header's algorithm (RFC 8725 section 3.1).
-    AlgorithmIsListed,
+    AlgorithmIsAllowed,
     /// The provider makes a verifier for the header's algorithm and the key (RFC 7515 section
     /// 4.1.1).
-    VerifierIsMade,
+    KeyFitsAlgorithm,
     /// Every listed algorithm is of the family of the header's (RFC 8725 section 3.1).
-    FamiliesAgree,
+    AlgorithmsShareFamily,
     /// The signature part is canonical base64url (RFC 7515 sections 2 and 5.2).
-    SignatureIsPart,
+    SignatureIsBase64url,
     /// The verifier accepts the signature's bytes over the header part, the dot and the payload
     /// part (RFC 7515 section 5.2).
     SignatureIsAccepted,
     /// The payload part is canonical base64url (RFC 7515 sections 2 and 5.2).
-    PayloadIsPart,
+    PayloadIsBase64url,
     /// The payload's bytes are JSON (RFC 7519 section 7.2).
     PayloadIsJson,
     /// Their value reads as the type of the claims (RFC 7519 section 4).
-    ClaimsRead,
+    ClaimsMatchType,
     /// That value is an object (RFC 7519 section 7.2).
     ClaimsAreAnObject,
     /// The claim rules of [`validate`](crate::validate) hold (RFC 7519 section 4.1).
-    ClaimRulesHold,
+    ClaimsAreValid,
 }
 
 impl Test {
@@ -63,24 +63,24 @@ impl Test {
     {
         match self {
             Test::HasThreeParts => "HasThreeParts",
-            Test::HeaderIsPart => "HeaderIsPart",
+            Test::HeaderIsBase64url => "HeaderIsBase64url",
             Test::HeaderIsJson => "HeaderIsJson",
-            Test::HeaderReads => "HeaderReads",
+            Test::HeaderIsValid => "HeaderIsValid",
             Test::CritIsUnderstood => "CritIsUnderstood",
             Test::KeyIsFound => "KeyIsFound",
-            Test::KeyAlgorithmAgrees => "KeyAlgorithmAgrees",
+            Test::KeyAlgMatches => "KeyAlgMatches",
             Test::KeyIsUsable => "KeyIsUsable",
-            Test::AlgorithmsAreListed => "AlgorithmsAreListed",
-            Test::AlgorithmIsListed => "AlgorithmIsListed",
-            Test::VerifierIsMade => "VerifierIsMade",
-            Test::FamiliesAgree => "FamiliesAgree",
-            Test::SignatureIsPart => "SignatureIsPart",
+            Test::AlgorithmsAreConfigured => "AlgorithmsAreConfigured",
+            Test::AlgorithmIsAllowed => "AlgorithmIsAllowed",
+            Test::KeyFitsAlgorithm => "KeyFitsAlgorithm",
+            Test::AlgorithmsShareFamily => "AlgorithmsShareFamily",
+            Test::SignatureIsBase64url => "SignatureIsBase64url",
             Test::SignatureIsAccepted => "SignatureIsAccepted",
-            Test::PayloadIsPart => "PayloadIsPart",
+            Test::PayloadIsBase64url => "PayloadIsBase64url",
             Test::PayloadIsJson => "PayloadIsJson",
-            Test::ClaimsRead => "ClaimsRead",
+            Test::ClaimsMatchType => "ClaimsMatchType",
             Test::ClaimsAreAnObject => "ClaimsAreAnObject",
-            Test::ClaimRulesHold => "ClaimRulesHold",
+            Test::ClaimsAreValid => "ClaimsAreValid",
         }
     }
 }

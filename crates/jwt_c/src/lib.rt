@@ -36,7 +36,7 @@ ghost use Rattle.jwt_c_calls.specs.Options.{AnswersFault, AnswersQuoted};
 ghost use Rattle.jwt_c_calls.specs.Secrets.{ChecksSecret, ChecksKey, ChecksSet};
 ghost use Rattle.jwt_c_calls.specs.Serving.{AnswersAlgorithms};
 ghost use Rattle.jwt_c_calls.specs.Signatures.{AnswersVerifyHmac, AnswersVerifyKey};
-ghost use Rattle.jwt_c_calls.specs.Status.{kind_part, number, no_status, status_text, told_text, version};
+ghost use Rattle.jwt_c_calls.specs.Status.{kind_part, number, unknown_number, status_text, told_text, version};
 ghost use Rattle.jwt_c_calls.specs.Status.{algorithm_numbered, IsGiven, IsKept};
 ghost use Rattle.jwt_c_calls.specs.TestNumbers.{LeavesTestName};
 ghost use Rattle.jwt_c_calls.specs.Verifiers.{limits_of, AreOfKey, AreOfSecret, AreOfSet};
@@ -60,7 +60,9 @@ use jwt_c_calls::secrets::{key_status, secret_status, set_status};
 use jwt_c_calls::serving::algorithms_answer;
 use jwt_c_calls::signatures::{hmac_signature_answer, key_signature_answer};
 use jwt_c_calls::status::{algorithm_number, leave, number_of, put_bytes, status_of};
-use jwt_c_calls::status_table::{NO_MEMBER, NO_STATUS, NO_VERIFIER, OK, VERIFIER_IS_MADE, text_of};
+use jwt_c_calls::status_table::{
+    NO_MEMBER, NO_VERIFIER, OK, UNKNOWN_NUMBER, VERIFIER_IN_USE, text_of,
+};
 use jwt_c_calls::test_numbers::numbered_test;
 use jwt_c_calls::verifiers::{
     decode_with_expiry, leave_moments, limits, moments_by, verifier_of_key, verifier_of_secret,
@@ -615,7 +617,7 @@ pub extern "C" fn jwt_verifier_share(
 {
     if let Some(held) = other.take(alloc) {
         *other = Handle::of(held);
-        return VERIFIER_IS_MADE.0;
+        return VERIFIER_IN_USE.0;
     }
     match verifier.take(alloc) {
         Some(made) => {
@@ -756,7 +758,7 @@ pub extern "C" fn jwt_check_member(alloc: Global, json: &[u8], name: &[u8], text
 #[unsafe(no_mangle)]
 pub extern "C" fn jwt_status_text(status: u32, room: &mut [u8], len: &mut usize) -> u32
     ensures text { MatchOption (status_text status)
-        (IsKept no_status result len.new room.old room.new)
+        (IsKept unknown_number result len.new room.old room.new)
         (λ given. IsGiven given result len.new room.old room.new) }
     // The text of a refusal's status is that of its kind, as far as a status tells it.
     ensures kinds { (k : Kind) → status_text (number k) ≡ Some (told_text (kind_part k)) }
@@ -765,7 +767,7 @@ pub extern "C" fn jwt_status_text(status: u32, room: &mut [u8], len: &mut usize)
         Some(text) => put_bytes(text.as_bytes(), room, len),
         None => {
             *len = 0;
-            NO_STATUS.0
+            UNKNOWN_NUMBER.0
         }
     }
 }
@@ -778,7 +780,7 @@ pub extern "C" fn jwt_test_text(test: u32, room: &mut [u8], len: &mut usize) -> 
 {
     let Some(test) = numbered_test(test) else {
         *len = 0;
-        return NO_STATUS.0;
+        return UNKNOWN_NUMBER.0;
     };
     put_bytes(test.name().as_bytes(), room, len)
 }

@@ -8,13 +8,13 @@ use Rattle.jwt_keys.specs.declared.jwk.Jwk.{Jwk}
 use Rattle.jwt_secrets.specs.Blank.{IsBlank, IsBlankJwk, HasBlankKey}
 use Rattle.jwt_secrets.specs.KeyTexts.{IsKeyText, JwkHasKeyText, SetHasKeyText}
 use Rattle.jwt_c_calls.specs.Calls.{HasNoReading}
-use Rattle.jwt_c_calls.specs.Status.{number, blank_key, key_as_secret, input_status}
+use Rattle.jwt_c_calls.specs.Status.{number, all_zero_secret, key_as_secret, input_status}
 use Rattle.jwt_c_calls.specs.declared.inputs.Input.{Input}
 use Rattle.jwt_c_calls.specs.declared.inputs.Input.TheVariants as input
 
 -- the status says whether anyone can sign; and if not, whether a secret is the text of a key of another kind
 abbrev pub SaysWhether : (Blank KeyText : Type 0) → ℕ → Type 0
-SaysWhether Blank KeyText status = (Blank × (status ≡ blank_key))
+SaysWhether Blank KeyText status = (Blank × (status ≡ all_zero_secret))
     ⊎ (((¬ Blank) × KeyText × (status ≡ key_as_secret))
     ⊎ ((¬ Blank) × (¬ KeyText) × (status ≡ 0)))
 

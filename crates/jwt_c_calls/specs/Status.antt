@@ -61,11 +61,11 @@ number (MissingRequiredClaim claim) = 40 + claim_place claim
 number (InvalidClaimFormat claim) = 60 + claim_place claim
 
 -- a buffer is too small, a number is not a status
-abbrev pub no_room : ℕ
-no_room = 100
+abbrev pub buffer_too_small : ℕ
+buffer_too_small = 100
 
-abbrev pub no_status : ℕ
-no_status = 102
+abbrev pub unknown_number : ℕ
+unknown_number = 102
 
 -- a text does not describe the value that it must
 abbrev pub input_status : Input → ℕ
@@ -76,8 +76,8 @@ input_status input.Claims = 105
 input_status input.Key = 106
 
 -- anyone can sign with a secret, or for a key
-abbrev pub blank_key : ℕ
-blank_key = 107
+abbrev pub all_zero_secret : ℕ
+all_zero_secret = 107
 
 -- a handle holds no verifier, or holds one already
 abbrev pub no_verifier : ℕ
@@ -87,8 +87,8 @@ abbrev pub has_verifier : ℕ
 has_verifier = 109
 
 -- no key verifies with any of the algorithms of the options, or none with a `kid`
-abbrev pub unfit_key : ℕ
-unfit_key = 110
+abbrev pub no_usable_key : ℕ
+no_usable_key = 110
 
 -- a token is longer than a verifier allows
 abbrev pub token_too_long : ℕ
@@ -136,17 +136,17 @@ statuses = (0, codes "OK")
     ∷ of_kind (InvalidClaimFormat (codes "exp")) ∷ of_kind (InvalidClaimFormat (codes "nbf"))
     ∷ of_kind (InvalidClaimFormat (codes "aud")) ∷ of_kind (InvalidClaimFormat (codes "iss"))
     ∷ of_kind (InvalidClaimFormat (codes "sub")) ∷ of_kind (InvalidClaimFormat [])
-    ∷ (no_room, codes "Buffer too small")
+    ∷ (buffer_too_small, codes "Buffer too small")
     ∷ (input_status input.Options, codes "Options not understood")
-    ∷ (no_status, codes "Unknown status")
+    ∷ (unknown_number, codes "Unknown status")
     ∷ (input_status input.Set, codes "Key set not understood")
     ∷ (input_status input.Header, codes "Header not understood")
     ∷ (input_status input.Claims, codes "Claims not understood")
     ∷ (input_status input.Key, codes "Key not understood")
-    ∷ (blank_key, codes "Anyone can sign")
+    ∷ (all_zero_secret, codes "Anyone can sign")
     ∷ (no_verifier, codes "No verifier")
     ∷ (has_verifier, codes "Verifier already made")
-    ∷ (unfit_key, codes "Key serves no algorithm")
+    ∷ (no_usable_key, codes "Key serves no algorithm")
     ∷ (token_too_long, codes "Token too long")
     ∷ (no_member, codes "No such member")
     ∷ (key_as_secret, codes "Secret is the text of a key")
@@ -184,7 +184,7 @@ pub record IsGiven (bytes : List ℕ) (status len : ℕ) (before after : List �
   pub needs : len ≡ length bytes
   pub fits : length bytes ≤ length before
       → (status ≡ 0) × (after ≡ bytes ++ drop (length bytes) before)
-  pub small : length before < length bytes → (status ≡ no_room) × (after ≡ before)
+  pub small : length before < length bytes → (status ≡ buffer_too_small) × (after ≡ before)
 
 -- nothing is written, with this status
 pub record IsKept (n status len : ℕ) (before after : List ℕ) : Type 0 where

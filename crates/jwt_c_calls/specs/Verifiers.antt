@@ -34,7 +34,7 @@ use Rattle.jwt_verifier.specs.declared.keys.Keys.TheVariants.{One, Set}
 use Rattle.jwt_verifier.specs.declared.limits.Limits.{Limits}
 use Rattle.jwt_verifier.specs.declared.verifier.Verifier.{Verifier}
 use Rattle.jwt_c_calls.specs.Calls.{Answer, Returns, Refuses, InputError, AnswersBy, IsClaimsText, status_of}
-use Rattle.jwt_c_calls.specs.Status.{number, blank_key, key_as_secret, mixed_families, unfit_key}
+use Rattle.jwt_c_calls.specs.Status.{number, all_zero_secret, key_as_secret, mixed_families, no_usable_key}
 use Rattle.jwt_c_calls.specs.Status.{token_too_long}
 use Rattle.jwt_c_calls.specs.TestNumbers.{test_number}
 
@@ -90,9 +90,9 @@ HaveNoKeyText allows_blank keys = IsTrue allows_blank ⊎ (¬ HaveKeyText keys)
 
 -- the status of keys of which no verifier is made
 abbrev pub problem_status : KeyProblem → ℕ
-problem_status Blank = blank_key
+problem_status Blank = all_zero_secret
 problem_status Mixed = mixed_families
-problem_status Useless = unfit_key
+problem_status Useless = no_usable_key
 problem_status Memory = number kind.OutOfMemory
 
 -- Why no verifier is made of the keys: memory ran out; or a secret is the text of a key, which is not allowed; or

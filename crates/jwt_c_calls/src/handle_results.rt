@@ -7,7 +7,7 @@ ghost use Rattle.jwt_c_calls.specs.Held.{verifier_in, IsHeldAs};
 use crate::handle::Handle;
 use crate::shared::Shared;
 use crate::status::put_bytes;
-use crate::status_table::{OK, OUT_OF_MEMORY, VERIFIER_IS_MADE};
+use crate::status_table::{OK, OUT_OF_MEMORY, VERIFIER_IN_USE};
 use crate::verifiers::{Accepted, TokenRefusal};
 use jwt_verifier::Verifier;
 use std::alloc::Global;
@@ -35,7 +35,7 @@ pub fn write_handle(alloc: Global, made: Result<Verifier, u32>, verifier: &mut H
 {
     if let Some(held) = verifier.take(alloc) {
         *verifier = Handle::of(held);
-        return VERIFIER_IS_MADE.0;
+        return VERIFIER_IN_USE.0;
     }
     match made {
         Ok(made) => store_new(alloc, made, verifier),

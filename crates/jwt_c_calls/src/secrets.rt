@@ -17,7 +17,7 @@ ghost use Rattle.jwt_c_calls.specs.declared.inputs.Input.TheVariants as input;
 
 use crate::inputs::{CallError, Input, read_as};
 use crate::status::{number_of, status_of};
-use crate::status_table::{BLANK_KEY, KEY_AS_SECRET, OK};
+use crate::status_table::{ALL_ZERO_SECRET, KEY_AS_SECRET, OK};
 use jsonwebtoken::errors::Error;
 use jwt_keys::jwk::Jwk;
 use jwt_keys::jwk_set::JwkSet;
@@ -60,7 +60,7 @@ fn secret_answer(alloc: Global, secret: &[u8]) -> Result<u32, Error>
     ensures err { IfErr result (λ e. (¬ IsBlank secret.now) × IsMemory e) }
 {
     if is_blank(secret) {
-        return Ok(BLANK_KEY.0);
+        return Ok(ALL_ZERO_SECRET.0);
     }
     if is_key_text(alloc, secret)? {
         return Ok(KEY_AS_SECRET.0);
@@ -87,7 +87,7 @@ fn jwk_answer(alloc: Global, jwk: &Jwk) -> Result<u32, Error>
     ensures err { IfErr result IsMemory }
 {
     if is_blank_jwk(alloc, jwk)? {
-        return Ok(BLANK_KEY.0);
+        return Ok(ALL_ZERO_SECRET.0);
     }
     if jwk_has_key_text(alloc, jwk)? {
         return Ok(KEY_AS_SECRET.0);
@@ -120,7 +120,7 @@ fn keys_answer(alloc: Global, set: &JwkSet) -> Result<u32, Error>
     ensures err { IfErr result IsMemory }
 {
     if has_blank_key(alloc, set)? {
-        return Ok(BLANK_KEY.0);
+        return Ok(ALL_ZERO_SECRET.0);
     }
     if set_has_key_text(alloc, set)? {
         return Ok(KEY_AS_SECRET.0);

@@ -105,7 +105,7 @@ pub fn put_bytes(bytes: &[u8], room: &mut [u8], len: &mut usize) -> u32
 {
     *len = bytes.len();
     if bytes.len() > room.len() {
-        return NO_ROOM.0;
+        return BUFFER_TOO_SMALL.0;
     }
     room[..bytes.len()].copy_from_slice(bytes);
     OK.0

@@ -87,11 +87,11 @@ pub const MALFORMED_SUB: Status = (64, "Invalid format for claim: sub");
 
 pub const MALFORMED_CLAIM: Status = (79, "Invalid format for claim");
 
-pub const NO_ROOM: Status = (100, "Buffer too small");
+pub const BUFFER_TOO_SMALL: Status = (100, "Buffer too small");
 
 pub const BAD_OPTIONS: Status = (101, "Options not understood");
 
-pub const NO_STATUS: Status = (102, "Unknown status");
+pub const UNKNOWN_NUMBER: Status = (102, "Unknown status");
 
 pub const BAD_SET: Status = (103, "Key set not understood");
 
@@ -101,13 +101,13 @@ pub const BAD_CLAIMS: Status = (105, "Claims not understood");
 
 pub const BAD_KEY: Status = (106, "Key not understood");
 
-pub const BLANK_KEY: Status = (107, "Anyone can sign");
+pub const ALL_ZERO_SECRET: Status = (107, "Anyone can sign");
 
 pub const NO_VERIFIER: Status = (108, "No verifier");
 
-pub const VERIFIER_IS_MADE: Status = (109, "Verifier already made");
+pub const VERIFIER_IN_USE: Status = (109, "Verifier already made");
 
-pub const UNFIT_KEY: Status = (110, "Key serves no algorithm");
+pub const NO_USABLE_KEY: Status = (110, "Key serves no algorithm");
 
 pub const TOKEN_TOO_LONG: Status = (111, "Token too long");
 
@@ -166,17 +166,17 @@ fn statuses() -> [Status; 53]
         MALFORMED_ISS,
         MALFORMED_SUB,
         MALFORMED_CLAIM,
-        NO_ROOM,
+        BUFFER_TOO_SMALL,
         BAD_OPTIONS,
-        NO_STATUS,
+        UNKNOWN_NUMBER,
         BAD_SET,
         BAD_HEADER,
         BAD_CLAIMS,
         BAD_KEY,
-        BLANK_KEY,
+        ALL_ZERO_SECRET,
         NO_VERIFIER,
-        VERIFIER_IS_MADE,
-        UNFIT_KEY,
+        VERIFIER_IN_USE,
+        NO_USABLE_KEY,
         TOKEN_TOO_LONG,
         NO_MEMBER,
         KEY_AS_SECRET,

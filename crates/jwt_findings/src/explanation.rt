@@ -115,7 +115,7 @@ fn accepted_claims(
     token: &[u8],
     outcome: &Outcome,
 ) -> Result<Option<Value>, AllocError> {
-    if let Outcome::Accepted | Outcome::Failed(Test::ClaimRulesHold, _) = outcome
+    if let Outcome::Accepted | Outcome::Failed(Test::ClaimsAreValid, _) = outcome
         && let Some(parts) = split_parts(token)
     {
         return part_value(alloc, parts.payload);

@@ -83,7 +83,7 @@ pub fn findings_of(
     validation: &Validation,
     refusal: &Refusal,
 ) -> Result<Vec<Finding>, AllocError> {
-    if let (Test::ClaimRulesHold, Some(parts)) = (refusal.test, split_parts(token.text)) {
+    if let (Test::ClaimsAreValid, Some(parts)) = (refusal.test, split_parts(token.text)) {
         return claim_findings(alloc, parts.payload, validation, token.time);
     }
     let mut findings = Vec::new(alloc);
@@ -102,20 +102,20 @@ fn finding_of(
         return text_finding(alloc, token.text);
     };
     match test {
-        Test::HeaderIsPart
+        Test::HeaderIsBase64url
         | Test::HeaderIsJson
-        | Test::HeaderReads
-        | Test::SignatureIsPart
-        | Test::PayloadIsPart
+        | Test::HeaderIsValid
+        | Test::SignatureIsBase64url
+        | Test::PayloadIsBase64url
         | Test::PayloadIsJson
-        | Test::ClaimsRead
+        | Test::ClaimsMatchType
         | Test::ClaimsAreAnObject => finding_by_part(alloc, token, parts, test),
         Test::KeyIsUsable => Finding::new(
             alloc,
             "a key whose members are malformed, or that verifies nothing here",
             "the members of RFC 7518 section 6 or RFC 8037 section 2; 'jwt keys' says more",
         ),
-        Test::AlgorithmsAreListed => Finding::new(
+        Test::AlgorithmsAreConfigured => Finding::new(
             alloc,
             "no algorithm that is accepted",
             "--alg, or a key with an 'alg' of its own",
@@ -133,10 +133,10 @@ fn finding_by_part(
     test: Test,
 ) -> Result<Finding, AllocError> {
     match test {
-        Test::HeaderIsPart | Test::HeaderIsJson | Test::HeaderReads => {
+        Test::HeaderIsBase64url | Test::HeaderIsJson | Test::HeaderIsValid => {
             part_finding(alloc, token.text, parts.header, test)
         }
-        Test::SignatureIsPart => signature_part_finding(alloc, token, parts),
+        Test::SignatureIsBase64url => signature_part_finding(alloc, token, parts),
         _ => part_finding(alloc, token.text, parts.payload, test),
     }
 }
@@ -152,7 +152,12 @@ fn signature_part_finding(
     {
         return Ok(finding);
     }
-    part_finding(alloc, token.text, parts.signature, Test::SignatureIsPart)
+    part_finding(
+        alloc,
+        token.text,
+        parts.signature,
+        Test::SignatureIsBase64url,
+    )
 }
 
 /// Returns the finding of a signature that is not accepted.
@@ -237,13 +242,13 @@ fn header_finding(
     match test {
         Test::CritIsUnderstood => crit_finding(alloc, header),
         Test::KeyIsFound => kid_finding(alloc, &header.kid, token.keys),
-        Test::KeyAlgorithmAgrees => algorithm_finding(
+        Test::KeyAlgMatches => algorithm_finding(
             alloc,
             header,
             wanted_algorithm(key_algorithm_name(header, token.keys)),
         ),
-        Test::AlgorithmIsListed => listing_finding(alloc, header, validation),
-        Test::FamiliesAgree => family_finding(alloc, header, validation),
+        Test::AlgorithmIsAllowed => listing_finding(alloc, header, validation),
+        Test::AlgorithmsShareFamily => family_finding(alloc, header, validation),
         _ => verifier_finding(alloc, header, token.keys),
     }
 }

@@ -107,21 +107,23 @@ pub fn part_finding(
     part: &[u8],
     test: Test,
 ) -> Result<Finding, AllocError> {
-    if let Test::HeaderIsPart
+    if let Test::HeaderIsBase64url
     | Test::HeaderIsJson
-    | Test::SignatureIsPart
-    | Test::PayloadIsPart = test
+    | Test::SignatureIsBase64url
+    | Test::PayloadIsBase64url = test
         && let Some(found) = wrapping_of(token)
     {
         return Finding::new(alloc, found.found, found.wanted);
     }
     match test {
-        Test::HeaderIsPart | Test::HeaderIsJson if is_no_header(part) => no_header(alloc),
-        Test::HeaderIsPart | Test::SignatureIsPart | Test::PayloadIsPart => Ok(Finding {
-            found: base64url_problem(alloc, part)?,
-            wanted: String::from_str(alloc, base64url_cure(part))?,
-        }),
-        Test::HeaderReads => header_finding(alloc, part),
+        Test::HeaderIsBase64url | Test::HeaderIsJson if is_no_header(part) => no_header(alloc),
+        Test::HeaderIsBase64url | Test::SignatureIsBase64url | Test::PayloadIsBase64url => Ok(
+            Finding {
+                found: base64url_problem(alloc, part)?,
+                wanted: String::from_str(alloc, base64url_cure(part))?,
+            },
+        ),
+        Test::HeaderIsValid => header_finding(alloc, part),
         Test::ClaimsAreAnObject => Ok(Finding {
             found: type_text(alloc, part)?,
             wanted: String::from_str(alloc, "an object (RFC 7519 section 7.2)")?,
@@ -178,7 +180,7 @@ pub fn unread_finding(alloc: Global, token: &[u8]) -> Result<Finding, AllocError
     }
     let test = match value_unless_refused(part_bytes(alloc, parts.payload))? {
         Some(_) => Test::PayloadIsJson,
-        None => Test::PayloadIsPart,
+        None => Test::PayloadIsBase64url,
     };
     part_finding(alloc, token, parts.payload, test)
 }
@@ -352,13 +354,13 @@ fn header_cure(header: &Value) -> &'static str {
 /// Returns the first test of a header that can't be read, or `None` if it can.
 fn header_test(alloc: Global, token: &[u8], header: &[u8]) -> Result<Option<Test>, AllocError> {
     if is_refused(part_bytes(alloc, header))? {
-        return Ok(Some(Test::HeaderIsPart));
+        return Ok(Some(Test::HeaderIsBase64url));
     }
     if part_value(alloc, header)?.is_none() {
         return Ok(Some(Test::HeaderIsJson));
     }
     if is_refused(decode_header(alloc, token))? {
-        return Ok(Some(Test::HeaderReads));
+        return Ok(Some(Test::HeaderIsValid));
     }
     Ok(None)
 }

@@ -46,8 +46,8 @@ class Handles:
     @staticmethod
     def _decode(handle: _Owned, token: bytes, now: int) -> bytes:
         length, last, test = ctypes.c_size_t(max(len(token), 1024)), ctypes.c_uint64(), ctypes.c_uint32()
-        status: int = Status.NO_ROOM
-        while status == Status.NO_ROOM:
+        status: int = Status.BUFFER_TOO_SMALL
+        while status == Status.BUFFER_TOO_SMALL:
             buffer = ctypes.create_string_buffer(length.value)
             status = library.jwt_verifier_decode(handle, token, len(token), now, buffer, len(buffer), length, last, test)
         check(status, test.value)

@@ -186,7 +186,7 @@ static PyObject *claims_of_long(Handles *self, struct jwt_verifier *handle, stru
 
 static PyObject *claims_of(Handles *self, struct jwt_verifier *handle, struct verification *it) {
     verify(self, handle, it);
-    if (it->status == JWT_NO_ROOM) {
+    if (it->status == JWT_BUFFER_TOO_SMALL) {
         return claims_of_long(self, handle, it);
     }
     if (it->status != JWT_OK) {

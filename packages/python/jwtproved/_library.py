@@ -120,8 +120,8 @@ def check(status: int, test: int = 0) -> None:
 def answer(call: Any, *arguments: Any) -> bytes:
     """Returns what a call writes. Raises Refusal, or MemoryError."""
     length = ctypes.c_size_t(1024)
-    status: int = Status.NO_ROOM
-    while status == Status.NO_ROOM:
+    status: int = Status.BUFFER_TOO_SMALL
+    while status == Status.BUFFER_TOO_SMALL:
         buffer = ctypes.create_string_buffer(length.value)
         status = call(*arguments, buffer, len(buffer), ctypes.byref(length))
     check(status)

@@ -8,14 +8,14 @@ from ._parts import parts_of
 from ._status import Status
 
 UNLISTED_ALG = "The specified alg value is not allowed"
-UNFIT_KEY = "the key that the kid names is for other algorithms, or does not serve"
+NO_USABLE_KEY = "the key that the kid names is for other algorithms, or does not serve"
 # The statuses that have an exception and a text of their own. Any other is a DecodeError with the library's text.
 _EXCEPTIONS: dict[int, tuple[type[Exception], str]] = {
     Status.INVALID_TOKEN: (exceptions.DecodeError, "Not enough segments"),
     Status.INVALID_SIGNATURE: (exceptions.InvalidSignatureError, "Signature verification failed"),
     # the header names the key of a set, so that these refuse a token as another alg does
     Status.UNSUPPORTED_ALGORITHM: (exceptions.InvalidAlgorithmError, "no token is verified with the key that the kid names"),
-    Status.INVALID_KEY_FORMAT: (exceptions.InvalidAlgorithmError, UNFIT_KEY),
+    Status.INVALID_KEY_FORMAT: (exceptions.InvalidAlgorithmError, NO_USABLE_KEY),
     Status.EXPIRED_SIGNATURE: (exceptions.ExpiredSignatureError, "Signature has expired"),
     Status.INVALID_ISSUER: (exceptions.InvalidIssuerError, "Invalid issuer"),
     Status.INVALID_AUDIENCE: (exceptions.InvalidAudienceError, "Invalid audience"),
@@ -39,9 +39,9 @@ _OF_CLAIMS: dict[int, tuple[type[Exception], str]] = {
     # an exp of 0 is before every time
     Status.INVALID_TOKEN: (exceptions.ExpiredSignatureError, "Signature has expired"),
 }
-_TESTS_OF_CLAIMS = ("PayloadIsJson", "ClaimsAreAnObject", "ClaimRulesHold")
+_TESTS_OF_CLAIMS = ("PayloadIsJson", "ClaimsAreAnObject", "ClaimsAreValid")
 # by the test of a part
-_PARTS = {"HeaderIsPart": "Invalid header padding", "PayloadIsPart": "Invalid payload padding", "SignatureIsPart": "Invalid crypto padding"}
+_PARTS = {"HeaderIsBase64url": "Invalid header padding", "PayloadIsBase64url": "Invalid payload padding", "SignatureIsBase64url": "Invalid crypto padding"}
 _MISSING: dict[int, str] = {
     Status.MISSING_EXP: "exp",
     Status.MISSING_NBF: "nbf",

@@ -59,7 +59,7 @@ def _made(material: Material, rules: Rules, algorithms: tuple[str, ...], longest
     try:
         return Handles(material.kind, material.text, rules.text(algorithms), longest, prepared)
     except Refusal as refusal:
-        if refusal.status == Status.UNFIT_KEY:
+        if refusal.status == Status.NO_USABLE_KEY:
             return None
         raise _refusals.exception_of_texts(refusal) from None
 
@@ -143,10 +143,10 @@ class Refuser:
             raise _refusals.exception_of(refusal, token) from None
         # in the order of the tests of a set
         if self._only not in (None, named):
-            raise _refusals.other_algorithm(_refusals.UNLISTED_ALG, "KeyAlgorithmAgrees")
+            raise _refusals.other_algorithm(_refusals.UNLISTED_ALG, "KeyAlgMatches")
         if named not in self._listed:
-            raise _refusals.other_algorithm(_refusals.UNLISTED_ALG, "AlgorithmIsListed")
-        raise _refusals.other_algorithm(_refusals.UNFIT_KEY, "VerifierIsMade")
+            raise _refusals.other_algorithm(_refusals.UNLISTED_ALG, "AlgorithmIsAllowed")
+        raise _refusals.other_algorithm(_refusals.NO_USABLE_KEY, "KeyFitsAlgorithm")
 
 
 # each keeps its key in memory, a secret too

@@ -161,7 +161,7 @@ def _is_signed(key: Key, algorithm: str, parts: Parts) -> bool:
     except InvalidKeyError:
         # the token named it
         if isinstance(key, PyJWK):
-            raise _refusals.other_algorithm(_refusals.UNFIT_KEY, "VerifierIsMade") from None
+            raise _refusals.other_algorithm(_refusals.NO_USABLE_KEY, "KeyFitsAlgorithm") from None
         raise
 
 

@@ -52,7 +52,7 @@ enum jwt_status jwt_verifier_secret(const uint8_t *secret, size_t secret_len, co
                                     size_t max_token_len, bool allows_blank, size_t max_prepared,
                                     struct jwt_verifier *verifier) {
     (void)secret, (void)options, (void)options_len, (void)max_token_len, (void)allows_blank, (void)max_prepared;
-    return secret_len == 3 ? JWT_UNFIT_KEY : make(verifier);
+    return secret_len == 3 ? JWT_NO_USABLE_KEY : make(verifier);
 }
 
 enum jwt_status jwt_verifier_key(const char *key, size_t key_len, const char *options, size_t options_len,
@@ -90,7 +90,7 @@ void jwt_verifier_free(struct jwt_verifier *verifier) {
 static enum jwt_status say(const char *claims, size_t size, char *buffer, size_t buffer_len, size_t *len) {
     *len = size;
     if (buffer_len < size) {
-        return JWT_NO_ROOM;
+        return JWT_BUFFER_TOO_SMALL;
     }
     memset(buffer, ' ', size);
     memcpy(buffer, claims, strlen(claims));

@@ -4,11 +4,11 @@ use Rattle.jwt_validation.specs.Claim.{claims_of}
 use Rattle.jwt_validation.specs.Moments.{first_moment, last_moment}
 use Rattle.jwt_validation.specs.Options.{Options}
 use Rattle.jwt_validation.specs.declared.interval.Moments.{Moments}
-use Rattle.jsonwebtoken.specs.Tests.{Contents, Test, HasThreeParts, PayloadIsPart, PayloadIsJson}
+use Rattle.jsonwebtoken.specs.Tests.{Contents, Test, HasThreeParts, PayloadIsBase64url, PayloadIsJson}
 
 -- the tests that find a token's claims
 abbrev pub value_tests : List Test
-value_tests = HasThreeParts ∷ PayloadIsPart ∷ PayloadIsJson ∷ []
+value_tests = HasThreeParts ∷ PayloadIsBase64url ∷ PayloadIsJson ∷ []
 
 -- the times are those that the claims allow
 abbrev pub AreClaimed : Options → Contents → Moments → Type 0

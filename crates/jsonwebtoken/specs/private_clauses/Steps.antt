@@ -12,7 +12,7 @@ use Rattle.jwt_keys.specs.declared.jwk.Jwk.{Jwk}
 use Rattle.jwt_params.specs.declared.parameters.AlgorithmParameters.TheVariants.{Other}
 use Rattle.jwt_params.specs.Common.{no_common}
 use Rattle.jwt_validation.specs.Options.{Options}
-use Rattle.jsonwebtoken.specs.Tests.{Parts, Given, Call, Test, ClaimsAreAnObject, ClaimRulesHold, Contents}
+use Rattle.jsonwebtoken.specs.Tests.{Parts, Given, Call, Test, ClaimsAreAnObject, ClaimsAreValid, Contents}
 use Rattle.jsonwebtoken.specs.Tests.{header_call, insecure_call}
 use Rattle.jsonwebtoken.specs.declared.decoding.TokenData.{TokenData}
 use Rattle.jsonwebtoken.specs.declared.decoding.parts.TokenParts.{TokenParts}
@@ -82,7 +82,7 @@ with_opening p h x = record x { parts = p; header = h }
 
 -- the tests of claims that are read
 abbrev pub rule_tests : List Test
-rule_tests = ClaimsAreAnObject ∷ ClaimRulesHold ∷ []
+rule_tests = ClaimsAreAnObject ∷ ClaimsAreValid ∷ []
 
 -- ---- the calls that a step knows of
 

@@ -21,7 +21,7 @@ ghost use Rattle.jsonwebtoken.specs.private_clauses.Steps.{ShowsClaims};
 ghost use Rattle.jsonwebtoken.specs.private_clauses.Asking.{given_key, options_asked};
 ghost use Rattle.jsonwebtoken.specs.private_clauses.Steps.{parts_in};
 ghost use Rattle.jsonwebtoken.specs.private_clauses.Steps.{with_opening};
-ghost use Rattle.jsonwebtoken.specs.Tests.{Compact, VerifierIsMade, algorithm_tests, token_tests};
+ghost use Rattle.jsonwebtoken.specs.Tests.{Compact, KeyFitsAlgorithm, algorithm_tests, token_tests};
 ghost use Rattle.jsonwebtoken.specs.Tests.{verifying_tests};
 
 use crate::decoding::TokenData;
@@ -240,7 +240,7 @@ pub(crate) fn make_verifier<K: KeyFinder>(
     algorithm: Algorithm,
 ) -> Result<K::Verifier, Refusal>
     ensures made { let refusal = K.refusal keys.now algorithm (K.key keys.now found.now) in
-        Finds VerifierIsMade (λ _. refusal ≡ None) (refusal ≡ None → ⊥)
+        Finds KeyFitsAlgorithm (λ _. refusal ≡ None) (refusal ≡ None → ⊥)
         (λ k. refusal ≡ Some k) result }
     ensures accepts { IfOk result (λ v. (m s : List ℕ) → K.Verifier.accepts v m s
         ↔ K.accepts keys.now algorithm (K.key keys.now found.now) m s) }
@@ -249,7 +249,7 @@ pub(crate) fn make_verifier<K: KeyFinder>(
     match keys.verifier(alloc, algorithm, found) {
         Ok(verifier) => Ok(verifier),
         Err(error) => Err(Refusal {
-            test: Test::VerifierIsMade,
+            test: Test::KeyFitsAlgorithm,
             error,
         }),
     }

@@ -49,7 +49,7 @@ pub trait KeyFinder {
     ghost accepts: { Self → Algorithm → Key → List ℕ → List ℕ → Type 0 };
 
     /// Returns the key of the token with this header. A refusal has the first test of the key that
-    /// fails: `KeyIsFound` with `NoKey`, `KeyAlgorithmAgrees` with `InvalidAlgorithm`, or
+    /// fails: `KeyIsFound` with `NoKey`, `KeyAlgMatches` with `InvalidAlgorithm`, or
     /// `KeyIsUsable` with the kind of [`DecodingKey::from_jwk`](crate::DecodingKey::from_jwk). If
     /// memory ran out, its error is `OutOfMemory`.
     fn find(&self, alloc: Global, header: &Header) -> Result<Self::Found, Refusal>

@@ -13,7 +13,7 @@ ghost use Rattle.jsonwebtoken.specs.Order.{Decides};
 ghost use Rattle.jsonwebtoken.specs.Refused.{DecidesByTest};
 ghost use Rattle.jsonwebtoken.specs.Steps.{Asks, Finds};
 ghost use Rattle.jsonwebtoken.specs.Tests.{Compact, InSet, named_key, AgreesWith};
-ghost use Rattle.jsonwebtoken.specs.Tests.{KeyAlgorithmAgrees, KeyIsUsable};
+ghost use Rattle.jsonwebtoken.specs.Tests.{KeyAlgMatches, KeyIsUsable};
 ghost use Rattle.jsonwebtoken.specs.Tests.{set_order, token_tests};
 
 use crate::decoding::TokenData;
@@ -162,7 +162,7 @@ pub(crate) fn named_jwk<'k>(set: &'k JwkSet, header: &Header) -> Option<&'k Jwk>
 
 /// Returns the key of the token with this header, given the JSON Web Key that it names in a set, if it
 /// names one: for a [`KeyFinder`] whose keys are kept elsewhere. A refusal has the first test of the
-/// key that fails: `KeyIsFound` with `NoKey`, `KeyAlgorithmAgrees` with `InvalidAlgorithm`, or
+/// key that fails: `KeyIsFound` with `NoKey`, `KeyAlgMatches` with `InvalidAlgorithm`, or
 /// `KeyIsUsable` with the kind of [`DecodingKey::from_jwk`]. If memory ran out, its error is
 /// `OutOfMemory`.
 pub fn key_for(alloc: Global, named: Option<&Jwk>, header: &Header) -> Result<DecodingKey, Refusal>
@@ -180,12 +180,12 @@ pub fn key_for(alloc: Global, named: Option<&Jwk>, header: &Header) -> Result<De
 
 /// Refuses with `InvalidAlgorithm` a key that is for another algorithm (RFC 7517 section 4.4).
 pub fn check_key_algorithm(jwk: &Jwk, algorithm: Algorithm) -> Result<(), Refusal>
-    ensures { Asks KeyAlgorithmAgrees (AgreesWith algorithm jwk.now)
+    ensures { Asks KeyAlgMatches (AgreesWith algorithm jwk.now)
         (λ k. k ≡ kind.InvalidAlgorithm) result }
 {
     match jwk.common.key_algorithm {
         Some(named) if named != KeyAlgorithm::from(algorithm) => Err(Refusal::new(
-            Test::KeyAlgorithmAgrees,
+            Test::KeyAlgMatches,
             ErrorKind::InvalidAlgorithm,
         )),
         _ => Ok(()),

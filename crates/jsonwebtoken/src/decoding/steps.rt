@@ -30,10 +30,10 @@ ghost use Rattle.jsonwebtoken.specs.private_clauses.Steps.{with_value};
 ghost use Rattle.jsonwebtoken.specs.private_clauses.Steps.{accepting, claiming, holding};
 ghost use Rattle.jsonwebtoken.specs.private_clauses.Steps.{reading, rule_tests, verifying_by};
 ghost use Rattle.jsonwebtoken.specs.Tests.{dot, Parts, ArePartsOf, Test, HasThreeParts};
-ghost use Rattle.jsonwebtoken.specs.Tests.{AlgorithmsAreListed};
-ghost use Rattle.jsonwebtoken.specs.Tests.{AlgorithmIsListed, FamiliesAgree};
-ghost use Rattle.jsonwebtoken.specs.Tests.{SignatureIsAccepted, ClaimsRead, ClaimsAreAnObject};
-ghost use Rattle.jsonwebtoken.specs.Tests.{ClaimRulesHold, header_tests};
+ghost use Rattle.jsonwebtoken.specs.Tests.{AlgorithmsAreConfigured};
+ghost use Rattle.jsonwebtoken.specs.Tests.{AlgorithmIsAllowed, AlgorithmsShareFamily};
+ghost use Rattle.jsonwebtoken.specs.Tests.{SignatureIsAccepted, ClaimsMatchType, ClaimsAreAnObject};
+ghost use Rattle.jsonwebtoken.specs.Tests.{ClaimsAreValid, header_tests};
 ghost use Rattle.jsonwebtoken.specs.Tests.{signature_tests, payload_tests, claim_tests};
 ghost use Rattle.jsonwebtoken.specs.Tests.{verifying_tests};
 
@@ -55,37 +55,37 @@ use std::alloc::Global;
 
 /// Refuses an empty list with `MissingAlgorithm`.
 pub(crate) fn check_some_listed(algorithms: &[Algorithm]) -> Result<(), Refusal>
-    ensures { Asks AlgorithmsAreListed (¬ (algorithms.now ≡ []))
+    ensures { Asks AlgorithmsAreConfigured (¬ (algorithms.now ≡ []))
         (λ k. k ≡ kind.MissingAlgorithm) result }
 {
     if algorithms.is_empty() {
-        return Err(Refusal::new(Test::AlgorithmsAreListed, ErrorKind::MissingAlgorithm));
+        return Err(Refusal::new(Test::AlgorithmsAreConfigured, ErrorKind::MissingAlgorithm));
     }
     Ok(())
 }
 
 /// Refuses an algorithm that is not listed with `InvalidAlgorithm`.
 pub(crate) fn check_listed(algorithms: &[Algorithm], algorithm: Algorithm) -> Result<(), Refusal>
-    ensures { Asks AlgorithmIsListed (Contains algorithms.now algorithm)
+    ensures { Asks AlgorithmIsAllowed (Contains algorithms.now algorithm)
         (λ k. k ≡ kind.InvalidAlgorithm) result }
 {
     if algorithms.contains(&algorithm) {
         Ok(())
     } else {
-        Err(Refusal::new(Test::AlgorithmIsListed, ErrorKind::InvalidAlgorithm))
+        Err(Refusal::new(Test::AlgorithmIsAllowed, ErrorKind::InvalidAlgorithm))
     }
 }
 
 /// Refuses with `InvalidAlgorithm` a list with an algorithm of another family.
 pub(crate) fn check_families(algorithms: &[Algorithm], algorithm: Algorithm) -> Result<(), Refusal>
-    ensures { Asks FamiliesAgree
+    ensures { Asks AlgorithmsShareFamily
         (All (λ b. family_of b ≡ family_of algorithm) algorithms.now)
         (λ k. k ≡ kind.InvalidAlgorithm) result }
 {
     if algorithms.iter().all(|b| b.family() == algorithm.family()) {
         Ok(())
     } else {
-        Err(Refusal::new(Test::FamiliesAgree, ErrorKind::InvalidAlgorithm))
+        Err(Refusal::new(Test::AlgorithmsShareFamily, ErrorKind::InvalidAlgorithm))
     }
 }
 
@@ -124,7 +124,7 @@ pub(crate) fn read_header_noting(alloc: Global, part: &[u8], failed: &mut Test) 
         (tested failed.new result) }
 {
     if let Some(algorithm) = known_algorithm(part) {
-        *failed = Test::HeaderReads;
+        *failed = Test::HeaderIsValid;
         let typ = Text::from_str(alloc, "JWT")?;
         // as `Header::new` makes it
         return Ok(Header {
@@ -146,11 +146,11 @@ pub(crate) fn read_header_noting(alloc: Global, part: &[u8], failed: &mut Test) 
             extras: Extras::new(alloc),
         });
     }
-    *failed = Test::HeaderIsPart;
+    *failed = Test::HeaderIsBase64url;
     let bytes = part_bytes(alloc, part)?;
     *failed = Test::HeaderIsJson;
     let value = json_value(alloc, bytes.as_slice())?;
-    *failed = Test::HeaderReads;
+    *failed = Test::HeaderIsValid;
     Header::from_value(alloc, &value)
 }
 
@@ -158,7 +158,7 @@ pub(crate) fn read_header_noting(alloc: Global, part: &[u8], failed: &mut Test) 
 pub(crate) fn read_header(alloc: Global, part: &[u8]) -> Result<Header, Refusal>
     ensures { Step bare header_tests (with_header_part part.now) ShowsHeader result }
 {
-    let mut failed = Test::HeaderIsPart;
+    let mut failed = Test::HeaderIsBase64url;
     let header = read_header_noting(alloc, part, &mut failed);
     with_test(failed, header)
 }
@@ -185,7 +185,7 @@ pub(crate) fn read_payload<T: Claims>(alloc: Global, part: &[u8]) -> Result<T, R
     ensures { Step (reading T.reads) payload_tests (with_payload_part part.now)
         (ShowsClaims T.reads) result }
 {
-    let bytes = read_part(alloc, Test::PayloadIsPart, part)?;
+    let bytes = read_part(alloc, Test::PayloadIsBase64url, part)?;
     let value = read_json(alloc, Test::PayloadIsJson, bytes.as_slice())?;
     claims_of_value(alloc, value)
 }
@@ -223,7 +223,7 @@ fn check_signature<V: JwtVerifier>(
     ensures { Step (accepting (V.accepts verifier.now)) signature_tests
         (with_parts (parts_in parts.now)) ShowsNothing result }
 {
-    let bytes = read_part(alloc, Test::SignatureIsPart, parts.signature)?;
+    let bytes = read_part(alloc, Test::SignatureIsBase64url, parts.signature)?;
     check_verdict(alloc, verifier, parts.message, bytes.as_slice())
 }
 
@@ -256,7 +256,7 @@ fn read_claims<T: Claims>(
     ensures { Step (claiming T.reads (options_of validation.now) time) claim_tests
         (with_payload_part part.now) (ShowsClaims T.reads) result }
 {
-    let bytes = read_part(alloc, Test::PayloadIsPart, part)?;
+    let bytes = read_part(alloc, Test::PayloadIsBase64url, part)?;
     let value = read_json(alloc, Test::PayloadIsJson, bytes.as_slice())?;
     let held = check_claims(alloc, &value, validation, time);
     let claims = claims_of_value(alloc, value)?;
@@ -282,11 +282,11 @@ fn check_claims(
 
 /// Returns the test that claims fail which [`validate`] refuses.
 fn failed_rule(claims: &Value) -> Test
-    ensures { (IsSome (as_object (view claims.now)) × (result ≡ ClaimRulesHold))
+    ensures { (IsSome (as_object (view claims.now)) × (result ≡ ClaimsAreValid))
         ⊎ ((¬ IsSome (as_object (view claims.now))) × (result ≡ ClaimsAreAnObject)) }
 {
     if claims.is_object() {
-        Test::ClaimRulesHold
+        Test::ClaimsAreValid
     } else {
         Test::ClaimsAreAnObject
     }
@@ -294,8 +294,8 @@ fn failed_rule(claims: &Value) -> Test
 
 /// Returns the claims of a JSON value.
 fn claims_of_value<T: Claims>(alloc: Global, value: Value) -> Result<T, Refusal>
-    ensures { Finds ClaimsRead (λ c. T.reads (view value) c) ((c : T) → ¬ T.reads (view value) c)
+    ensures { Finds ClaimsMatchType (λ c. T.reads (view value) c) ((c : T) → ¬ T.reads (view value) c)
         (λ k. k ≡ kind.Json) result }
 {
-    with_test(Test::ClaimsRead, T::from_owned(alloc, value))
+    with_test(Test::ClaimsMatchType, T::from_owned(alloc, value))
 }

@@ -129,13 +129,13 @@ fn kind_of(status: u32) -> ErrorKind {
         status::TOKEN_TOO_LONG => ErrorKind::TokenTooLong,
         status::OUT_OF_MEMORY => ErrorKind::OutOfMemory,
         status::CLOCK_BEFORE_EPOCH => ErrorKind::ClockBeforeEpoch,
-        status::BAD_SET | status::BAD_KEY | status::BLANK_KEY | status::KEY_AS_SECRET => {
+        status::BAD_SET | status::BAD_KEY | status::ALL_ZERO_SECRET | status::KEY_AS_SECRET => {
             ErrorKind::UnusableKey(text_of(status))
         }
-        status::UNFIT_KEY => {
+        status::NO_USABLE_KEY => {
             ErrorKind::UnusableKey(format!("{}, and of a set only keys with a kid count", text_of(status)))
         }
-        status::NO_ROOM.. => ErrorKind::InvalidArgument(text_of(status)),
+        status::BUFFER_TOO_SMALL.. => ErrorKind::InvalidArgument(text_of(status)),
         _ => ErrorKind::InvalidToken,
     }
 }

@@ -436,11 +436,11 @@ fn serves(set: &[u8]) -> std::result::Result<(), u32> {
     for algorithms in FOR_ANY_KEY {
         let options = serde_json::json!({ "algorithms": algorithms }).to_string();
         let made = Handle::new(Kind::Set, set, &options, 0, Use::Once).map(|_| ());
-        if made != Err(status::UNFIT_KEY) {
+        if made != Err(status::NO_USABLE_KEY) {
             return made;
         }
     }
-    Err(status::UNFIT_KEY)
+    Err(status::NO_USABLE_KEY)
 }
 
 /// Returns whether a token is refused since the set has no key for it.

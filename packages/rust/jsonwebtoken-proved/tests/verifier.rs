@@ -50,18 +50,18 @@ fn the_test_that_failed() {
     let rows = [
         ("a.b".to_string(), ErrorKind::InvalidToken, "HasThreeParts"),
         // the header {"alg":"HS384"}
-        ("eyJhbGciOiJIUzM4NCJ9.e30.AAAA".to_string(), ErrorKind::InvalidAlgorithm, "AlgorithmIsListed"),
+        ("eyJhbGciOiJIUzM4NCJ9.e30.AAAA".to_string(), ErrorKind::InvalidAlgorithm, "AlgorithmIsAllowed"),
         (format!("{front}.AAAA"), ErrorKind::InvalidSignature, "SignatureIsAccepted"),
-        (token(r#"{"exp":1}"#), ErrorKind::ExpiredSignature, "ClaimRulesHold"),
-        (token("{}"), ErrorKind::MissingRequiredClaim("exp".to_string()), "ClaimRulesHold"),
+        (token(r#"{"exp":1}"#), ErrorKind::ExpiredSignature, "ClaimsAreValid"),
+        (token("{}"), ErrorKind::MissingRequiredClaim("exp".to_string()), "ClaimsAreValid"),
     ];
     for (token, error, test) in rows {
         assert_eq!(refusal(&verifier, &token), (error, Some(test.to_string())), "{token}");
     }
     let (error, test) = refusal(&verifier, "a.b.c");
-    assert!(matches!(error, ErrorKind::Base64(_)) && test.as_deref() == Some("HeaderIsPart"));
+    assert!(matches!(error, ErrorKind::Base64(_)) && test.as_deref() == Some("HeaderIsBase64url"));
     let (error, test) = refusal(&verifier, "e30.e30.e30");
-    assert!(matches!(error, ErrorKind::Json(_)) && test.as_deref() == Some("HeaderReads"));
+    assert!(matches!(error, ErrorKind::Json(_)) && test.as_deref() == Some("HeaderIsValid"));
 }
 
 #[test]

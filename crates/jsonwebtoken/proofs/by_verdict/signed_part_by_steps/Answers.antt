@@ -1,7 +1,7 @@
 use Rattle.std.proofs.Common.{[], ◌∷◌, inl, refl, sym, ◌∙◌}
 use Rattle.jsonwebtoken.specs.Calls.{HasSigned}
 use Rattle.jsonwebtoken.specs.private_clauses.Steps.{no_contents, parts_in, whole}
-use Rattle.jsonwebtoken.specs.Tests.{HasThreeParts, SignatureIsPart, header_order, header_tests, signed_order, header_call}
+use Rattle.jsonwebtoken.specs.Tests.{HasThreeParts, SignatureIsBase64url, header_order, header_tests, signed_order, header_call}
 use Rattle.jsonwebtoken.proofs.EachTest.{join}
 use Rattle.jsonwebtoken.proofs.Exits.{exit, last_of, stop}
 use Rattle.jsonwebtoken.proofs.by_verdict.signed_part_by_steps.Goals as goal
@@ -28,8 +28,8 @@ returns c =
     c.with_signature.ensures.ok c.with_signature.ensures.err c.read_part-signature.ensures
     (λ p w b. (
       record found { signature_bytes = p.signature.items },
-      join call header_order (SignatureIsPart ∷ []) (record found { signature_bytes = p.signature.items })
+      join call header_order (SignatureIsBase64url ∷ []) (record found { signature_bytes = p.signature.items })
           (c.in_ok-parts.ensures, h.1) (b, tt),
       (h.2 ∙ w.0, sym c.in_ok-parts.parts.joined ∙ w.1, refl),
     ))
-    (λ t k f. stop call signed_order header_order (SignatureIsPart ∷ []) found _ _ (c.in_ok-parts.ensures, h.1) (inl f))
+    (λ t k f. stop call signed_order header_order (SignatureIsBase64url ∷ []) found _ _ (c.in_ok-parts.ensures, h.1) (inl f))

@@ -38,9 +38,9 @@ fn answers() -> Result<Vec<(String, &'static str)>, Error> {
     let header = Header { kid: Some("b".to_string()), typ: None, ..Header::new(Algorithm::HS256) };
     Ok(vec![
         (shown(by_secret.decode_json(TOKEN, EXP)), CLAIMS),
-        (shown(by_secret.decode_json(TOKEN, EXP + 61)), "the token has expired: ClaimRulesHold"),
+        (shown(by_secret.decode_json(TOKEN, EXP + 61)), "the token has expired: ClaimsAreValid"),
         (shown(by_set.decode_json(TOKEN, EXP)), CLAIMS),
-        (shown(of_a_service.decode_json(TOKEN, EXP)), "a required claim is missing or malformed: aud: ClaimRulesHold"),
+        (shown(of_a_service.decode_json(TOKEN, EXP)), "a required claim is missing or malformed: aud: ClaimsAreValid"),
         (
             shown(by_key.decode_json(ES256, 1300819379)),
             r#"{"exp":1300819380,"http://example.com/is_root":true,"iss":"joe"}"#,

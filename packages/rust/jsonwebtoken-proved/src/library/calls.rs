@@ -45,7 +45,7 @@ fn written(size: usize, mut call: impl FnMut(*mut u8, usize, *mut usize) -> u32)
                 unsafe { buffer.set_len(len) }
                 return Ok(buffer);
             }
-            status::NO_ROOM => buffer.reserve(len),
+            status::BUFFER_TOO_SMALL => buffer.reserve(len),
             status => return Err(status),
         }
     }
