@@ -186,7 +186,7 @@ module _ {T : Type 0} (call : Call T) where
     same_bytes e = let k = engine.both_true (parts_known b) (is_in HeaderIsBase64url b) e in
         one_part s.parts.header _ _ (rw (same_parts k.0) at (met b t p HeaderIsBase64url k.1)) (met b s q HeaderIsBase64url k.1)
 
-    same_value : value_known b ≡ true → t.header_value ≡ s.header_value
+    pub same_value : value_known b ≡ true → t.header_value ≡ s.header_value
     same_value e = let k = engine.both_true (bytes_known b) (is_in HeaderIsJson b) e in
         one_json s.header_bytes _ _ (rw (same_bytes k.0) at (met b t p HeaderIsJson k.1)) (met b s q HeaderIsJson k.1)
 

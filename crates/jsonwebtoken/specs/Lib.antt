@@ -3,6 +3,7 @@ pub mod ByHmac
 pub mod Calls
 pub mod Crit
 pub mod FailedAt
+pub mod Family
 pub mod Finder
 pub mod Finding
 pub mod Issue

@@ -218,6 +218,10 @@ verifying_tests = signature_tests ++ claim_tests
 abbrev pub header_order : List Test
 header_order = HasThreeParts ∷ header_tests
 
+-- the tests of a token whose header is read as a JSON value alone
+abbrev pub header_value_order : List Test
+header_value_order = HasThreeParts ∷ HeaderIsBase64url ∷ HeaderIsJson ∷ []
+
 -- the tests of a token before its signature is checked elsewhere
 abbrev pub signed_order : List Test
 signed_order = header_order ++ SignatureIsBase64url ∷ []

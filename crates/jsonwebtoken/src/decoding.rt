@@ -21,7 +21,9 @@ pub(crate) mod own;
 pub(crate) mod parts;
 pub(crate) mod steps;
 
-pub use crate::decoding::engine::{decode_by, decode_by_or_refusal, decode_by_own_algorithm};
+pub use crate::decoding::engine::{
+    decode_by, decode_by_family, decode_by_or_refusal, decode_by_own_algorithm,
+};
 pub use crate::decoding::finder::KeyFinder;
 pub use crate::decoding::key_set::{KeysOfSet, decode_with_set, decode_with_set_or_refusal};
 pub use crate::decoding::one_key::OneKey;

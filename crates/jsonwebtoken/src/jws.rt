@@ -326,7 +326,7 @@ fn verifier_for<P: CryptoProvider>(
     let verifier = make_verifier(alloc, &keys, &key, algorithm)?;
     let algorithms = validation.algorithms.as_slice();
     check_some_listed(algorithms)?;
-    check_families(algorithms, algorithm)?;
-    check_listed(algorithms, algorithm)?;
+    check_families(algorithms, None, algorithm)?;
+    check_listed(algorithms, None, algorithm)?;
     Ok(verifier)
 }

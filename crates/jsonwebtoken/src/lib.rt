@@ -32,9 +32,9 @@ pub use accepted_moments::first_and_last_moment;
 pub use by_signature::{SigningInput, encode_by_signature, signing_input};
 pub use by_verdict::{SignedPart, decode_by_verdict, signed_part};
 pub use decoding::{
-    KeyFinder, KeysOfSet, OneKey, TokenData, decode, decode_by, decode_by_or_refusal,
-    decode_by_own_algorithm, decode_header, decode_or_refusal, decode_with_set,
-    decode_with_set_by_own_algorithm, decode_with_set_or_refusal,
+    KeyFinder, KeysOfSet, OneKey, TokenData, decode, decode_by, decode_by_family,
+    decode_by_or_refusal, decode_by_own_algorithm, decode_header, decode_or_refusal,
+    decode_with_set, decode_with_set_by_own_algorithm, decode_with_set_or_refusal,
 };
 pub use encoding::encode;
 pub use first_failed::failed_test;

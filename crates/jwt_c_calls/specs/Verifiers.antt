@@ -28,7 +28,7 @@ use Rattle.jsonwebtoken.specs.declared.refusal.Test.{Test}
 use Rattle.jwt_verifier.specs.Fitness.{token_limit, prepared_limit, AreFit, IsKeyProblem}
 use Rattle.jwt_verifier.specs.Verifying.{source_of, order_of}
 use Rattle.jwt_verifier.specs.declared.fitness.KeyProblem.{KeyProblem}
-use Rattle.jwt_verifier.specs.declared.fitness.KeyProblem.TheVariants.{Blank, Mixed, Useless, Memory}
+use Rattle.jwt_verifier.specs.declared.fitness.KeyProblem.TheVariants.{AllZero, NoUsableKey, Memory}
 use Rattle.jwt_verifier.specs.declared.keys.Keys.{Keys}
 use Rattle.jwt_verifier.specs.declared.keys.Keys.TheVariants.{One, Set}
 use Rattle.jwt_verifier.specs.declared.limits.Limits.{Limits}
@@ -90,9 +90,8 @@ HaveNoKeyText allows_blank keys = IsTrue allows_blank ⊎ (¬ HaveKeyText keys)
 
 -- the status of keys of which no verifier is made
 abbrev pub problem_status : KeyProblem → ℕ
-problem_status Blank = all_zero_secret
-problem_status Mixed = mixed_families
-problem_status Useless = no_usable_key
+problem_status AllZero = all_zero_secret
+problem_status NoUsableKey = no_usable_key
 problem_status Memory = number kind.OutOfMemory
 
 -- Why no verifier is made of the keys: memory ran out; or a secret is the text of a key, which is not allowed; or

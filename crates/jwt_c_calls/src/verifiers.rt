@@ -21,8 +21,7 @@ ghost use Rattle.jwt_c_calls.specs.Verifiers.{AreRefused, HaveKeyText, HaveNoKey
 use crate::keys::{options_and_key, options_and_secret, options_and_set};
 use crate::status::{number_of, status_of};
 use crate::status_table::{
-    ALL_ZERO_SECRET, KEY_AS_SECRET, MIXED_FAMILIES, NO_USABLE_KEY, OK, OUT_OF_MEMORY,
-    TOKEN_TOO_LONG,
+    ALL_ZERO_SECRET, KEY_AS_SECRET, NO_USABLE_KEY, OK, OUT_OF_MEMORY, TOKEN_TOO_LONG,
 };
 use crate::test_numbers::test_number;
 use jsonwebtoken::errors::{Error, ErrorKind, Result as Checked};
@@ -230,9 +229,8 @@ fn status_of_problem(problem: KeyProblem) -> u32
     ensures { result ≡ problem_status problem }
 {
     match problem {
-        KeyProblem::Blank => ALL_ZERO_SECRET.0,
-        KeyProblem::Mixed => MIXED_FAMILIES.0,
-        KeyProblem::Useless => NO_USABLE_KEY.0,
+        KeyProblem::AllZero => ALL_ZERO_SECRET.0,
+        KeyProblem::NoUsableKey => NO_USABLE_KEY.0,
         KeyProblem::Memory => OUT_OF_MEMORY.0,
     }
 }

@@ -1,18 +1,20 @@
 //! Whether a verifier can be made of keys, for algorithms.
 
-// Keys that serve nobody, or everybody, are refused: a service finds out when it starts, and not by
-// its first token. Keys with which anyone can sign are allowed by a named argument, for tests.
+// Unusable keys and all-zero secrets are refused here, so that a service fails when it starts, and not
+// at its first token. Tests allow all-zero secrets by a named argument.
 
 ghost use Rattle.std.specs.Prelude.{◌≡◌, ◌⊎◌, ◌↔◌, None, IfOk, IfErr, OnOk, IsTrue};
 ghost use Rattle.jwt_base.specs.KindOf.{IsMemory};
 ghost use Rattle.jwt_standard.specs.StandardKeys.{verifier_refusal};
-ghost use Rattle.jwt_verifier.specs.Fitness.{AreFit, AreOfOneFamily, AreSafe, CanServe, HasBlank};
+ghost use Rattle.jsonwebtoken.specs.Tests.{AgreesWith};
+ghost use Rattle.jwt_verifier.specs.Fitness.{AreFit, AreSafe, CanServe, HasBlank, ServesAs};
 ghost use Rattle.jwt_verifier.specs.Fitness.{IsKeyProblem, JwkServes, Serves};
 ghost use Rattle.std.specs.List.{Any};
 
 use crate::keys::Keys;
 use jsonwebtoken::crypto::CryptoProvider;
 use jsonwebtoken::errors::{Error, ErrorKind, Result as Checked};
+use jsonwebtoken::jwk::KeyAlgorithm;
 use jsonwebtoken::{Algorithm, DecodingKey};
 use jwt_keys::jwk::Jwk;
 use jwt_keys::jwk_set::JwkSet;
@@ -24,13 +26,11 @@ use std::result::Result;
 /// The reason for which no verifier is made of keys.
 #[derive(Debug, Clone, Copy)]
 pub enum KeyProblem {
-    /// Anyone can sign with the secret, or with one of the set.
-    Blank,
-    /// The options list algorithms of several families, and so accept no token.
-    Mixed,
-    /// No key verifies with any of the algorithms that the options list, or none of a set that has
-    /// a `kid`.
-    Useless,
+    /// The secret, or a secret of the set, is empty or all zeros, so that anyone can sign with it.
+    AllZero,
+    /// No key fits an algorithm that the options list. A key of a set fits only if it has a `kid`, and
+    /// if its `alg`, if it has one, is that algorithm.
+    NoUsableKey,
     /// Memory ran out.
     Memory,
 }
@@ -45,9 +45,8 @@ impl From<Error> for KeyProblem {
     }
 }
 
-/// Refuses keys of which no verifier can be made for these algorithms: with which anyone can sign,
-/// unless that is allowed; then any, if the algorithms are of several families; and then those of
-/// which none serves.
+/// Refuses keys of which no verifier can be made for these algorithms: all-zero secrets, unless they
+/// are allowed, and then keys of which none fits an algorithm.
 pub(crate) fn check_keys(
     alloc: Global,
     keys: &Keys,
@@ -58,7 +57,6 @@ pub(crate) fn check_keys(
     ensures err { IfErr result (IsKeyProblem allows_blank algorithms.now keys.now) }
 {
     check_safe(alloc, keys, allows_blank)?;
-    check_families(algorithms)?;
     check_served(alloc, keys, algorithms)?;
     Ok(())
 }
@@ -66,13 +64,13 @@ pub(crate) fn check_keys(
 fn check_safe(alloc: Global, keys: &Keys, allows_blank: bool) -> Result<(), KeyProblem>
     ensures ok { OnOk result (AreSafe allows_blank keys.now) }
     ensures err { IfErr result (λ why. (why ≡ KeyProblem.Memory)
-        ⊎ ((why ≡ KeyProblem.Blank) × (¬ IsTrue allows_blank) × HasBlank keys.now)) }
+        ⊎ ((why ≡ KeyProblem.AllZero) × (¬ IsTrue allows_blank) × HasBlank keys.now)) }
 {
     if allows_blank {
         return Ok(());
     }
     if have_blank(alloc, keys)? {
-        return Err(KeyProblem::Blank);
+        return Err(KeyProblem::AllZero);
     }
     Ok(())
 }
@@ -87,37 +85,15 @@ fn have_blank(alloc: Global, keys: &Keys) -> Checked<bool>
     }
 }
 
-fn check_families(algorithms: &[Algorithm]) -> Result<(), KeyProblem>
-    ensures ok { OnOk result (AreOfOneFamily algorithms.now) }
-    ensures err { IfErr result (λ why. (why ≡ KeyProblem.Mixed) × (¬ AreOfOneFamily algorithms.now)) }
-{
-    if are_of_one_family(algorithms) {
-        Ok(())
-    } else {
-        Err(KeyProblem::Mixed)
-    }
-}
-
-fn are_of_one_family(algorithms: &[Algorithm]) -> bool
-    ensures { IsTrue result ↔ AreOfOneFamily algorithms.now }
-{
-    match algorithms.first() {
-        Some(first) => algorithms
-            .iter()
-            .all(|other| other.family() == first.family()),
-        None => true,
-    }
-}
-
 fn check_served(alloc: Global, keys: &Keys, algorithms: &[Algorithm]) -> Result<(), KeyProblem>
     ensures ok { OnOk result (CanServe algorithms.now keys.now) }
     ensures err { IfErr result (λ why. (why ≡ KeyProblem.Memory)
-        ⊎ ((why ≡ KeyProblem.Useless) × (¬ CanServe algorithms.now keys.now))) }
+        ⊎ ((why ≡ KeyProblem.NoUsableKey) × (¬ CanServe algorithms.now keys.now))) }
 {
     if keys_serve(alloc, keys, algorithms)? {
         Ok(())
     } else {
-        Err(KeyProblem::Useless)
+        Err(KeyProblem::NoUsableKey)
     }
 }
 
@@ -182,12 +158,44 @@ fn jwk_serves(alloc: Global, jwk: &Jwk, algorithms: &[Algorithm]) -> Checked<boo
     match DecodingKey::from_jwk(alloc, jwk) {
         Ok(key) => {
             // named for the proof
-            let serves = key_serves(alloc, &key, algorithms)?;
+            let serves = serves_as(alloc, jwk, &key, algorithms)?;
             Ok(serves)
         }
         Err(refused) => match refused.kind() {
             ErrorKind::OutOfMemory => Err(refused),
             _ => Ok(false),
         },
+    }
+}
+
+fn serves_as(alloc: Global, jwk: &Jwk, key: &DecodingKey, algorithms: &[Algorithm]) -> Checked<bool>
+    ensures ok { IfOk result (λ yes. IsTrue yes ↔ ServesAs algorithms.now jwk.now key.now) }
+    ensures err { IfErr result IsMemory }
+{
+    for algorithm in algorithms {
+        if fits(alloc, jwk, key, algorithm)? {
+            return Ok(true);
+        }
+    }
+    Ok(false)
+}
+
+fn fits(alloc: Global, jwk: &Jwk, key: &DecodingKey, algorithm: &Algorithm) -> Checked<bool>
+    ensures ok { IfOk result (λ yes. IsTrue yes
+        ↔ (AgreesWith algorithm.now jwk.now × (verifier_refusal algorithm.now key.now ≡ None))) }
+    ensures err { IfErr result IsMemory }
+{
+    if !agrees(jwk, *algorithm) {
+        return Ok(false);
+    }
+    serves_one(alloc, key, algorithm)
+}
+
+fn agrees(jwk: &Jwk, algorithm: Algorithm) -> bool
+    ensures { IsTrue result ↔ AgreesWith algorithm jwk.now }
+{
+    match jwk.common.key_algorithm {
+        None => true,
+        Some(named) => named == KeyAlgorithm::from(algorithm),
     }
 }

@@ -22,7 +22,7 @@ use crate::keys::Keys;
 use jsonwebtoken::crypto::{CryptoProvider, JwtVerifier};
 use jsonwebtoken::errors::{ErrorKind, Result as Checked, new_error};
 use jsonwebtoken::jwk::{check_key_algorithm, key_of_jwk, own_algorithm};
-use jsonwebtoken::{Algorithm, DecodingKey, Header, KeyFinder, Refusal, Test};
+use jsonwebtoken::{Algorithm, AlgorithmFamily, DecodingKey, Header, KeyFinder, Refusal, Test};
 use jwt_keys::jwk::Jwk;
 use jwt_keys::jwk_set::JwkSet;
 use jwt_standard::StandardProvider;
@@ -59,6 +59,13 @@ impl<'r> KeyFinder for &'r KeyRing {
 
     fn own_algorithm(&self, header: &Header) -> Option<Algorithm> {
         self.find_own(header)
+    }
+
+    fn family(&self, found: &Found<'r>) -> AlgorithmFamily {
+        match found {
+            Found::Kept(key, _) => key.family(),
+            Found::Made(key) => key.family(),
+        }
     }
 
     fn verifier(

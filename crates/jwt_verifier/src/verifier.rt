@@ -2,9 +2,11 @@
 
 // `VerifierRefusal` is an error of its own, since a token that is too long fails no test of `decode`.
 
-ghost use Rattle.std.specs.Prelude.{◌≡◌, ◌↔◌, ◌<◌, ◌≤◌, ℕ, List, length, IfOk, IfErr, IsTrue};
-ghost use Rattle.jsonwebtoken.specs.Accepted.{FindsMoments};
+ghost use Rattle.std.specs.Prelude.{◌≡◌, ◌↔◌, ◌<◌, ◌≤◌, ℕ, List, Option, length, IfOk, IfErr};
+ghost use Rattle.std.specs.Prelude.{IsTrue};
+ghost use Rattle.jwt_base.specs.declared.algorithms.AlgorithmFamily.{AlgorithmFamily as Family};
 ghost use Rattle.jsonwebtoken.specs.Calls.{Carries};
+ghost use Rattle.jsonwebtoken.specs.Family.{AreOfOneFamily, ByFamily, with_family};
 ghost use Rattle.jsonwebtoken.specs.Laws.{HasLaws};
 ghost use Rattle.jsonwebtoken.specs.Order.{Decides};
 ghost use Rattle.jsonwebtoken.specs.Refused.{DecidesByTest};
@@ -16,12 +18,9 @@ use crate::fitness::{KeyProblem, check_keys};
 use crate::key_ring::KeyRing;
 use crate::keys::Keys;
 use crate::limits::Limits;
-use jsonwebtoken::errors::{Error, Result as Checked};
+use jsonwebtoken::errors::Error;
 use jsonwebtoken::json::Claims;
-use jsonwebtoken::{
-    Algorithm, Moments, Refusal, TokenData, Validation, decode_by, decode_by_or_refusal,
-    first_and_last_moment,
-};
+use jsonwebtoken::{Algorithm, Refusal, TokenData, Validation, decode_by_family};
 use std::alloc::Global;
 use std::result::Result;
 
@@ -34,7 +33,8 @@ pub enum VerifierRefusal<E> {
     Failed(E),
 }
 
-/// Keys and options, which are prepared once and decide many tokens, with all twelve algorithms.
+/// Keys and options, which are prepared once and decide many tokens, with all twelve algorithms. The
+/// options may list algorithms of several families: the token's key decides which of them count.
 #[derive(Drop)]
 pub struct Verifier {
     pub keys: KeyRing,
@@ -45,12 +45,11 @@ pub struct Verifier {
 impl Verifier {
     /// Returns the verifier with these keys and options, for tokens of up to 1 MiB.
     ///
-    /// Keys with which anyone can sign are refused with `Blank` (RFC 2104 section 2). Then
-    /// algorithms of several families are refused with `Mixed`, since every token would be, and
-    /// then keys of which none verifies with an algorithm of the options with `Useless`: a key of
-    /// another family, an RSA modulus of a length that is not allowed, a point that is not on the
-    /// curve, a set without any other key that has a `kid`. A key of a set that does not serve is
-    /// refused when a token names it.
+    /// Errors: `AllZero` for an empty or all-zero secret (RFC 2104 section 2), then `NoUsableKey` if no
+    /// key fits an algorithm of the options: keys of other families, an RSA modulus of a length that
+    /// is not allowed, a point that is not on the curve, a set whose other keys have no `kid` or
+    /// another `alg`. If one key of a set is usable and others are not, a token that names one of the
+    /// others is refused.
     pub fn new(alloc: Global, keys: Keys, validation: Validation) -> Result<Verifier, KeyProblem>
         ensures ok { IfOk result (λ v. (v.keys.keys ≡ keys) × (v.validation ≡ validation)
             × (v.limits ≡ usual_limits) × (v.keys.prepared ≤ usual_limits.max_prepared)
@@ -84,23 +83,25 @@ impl Verifier {
 
     /// Verifies a token in its compact form at the time `time`, in whole seconds since 1970-01-01
     /// 00:00:00 UTC, and returns its header and its claims: what [`decode`] or [`decode_with_set`]
-    /// returns by `StandardProvider` with the verifier's keys and options. A token that is longer
-    /// than the limit is refused with `TooLong` before anything of it is read.
+    /// returns by `StandardProvider` with the verifier's keys and options, where only the algorithms
+    /// of the key's family are accepted (see [`decode_by_family`]). A token that is longer than the
+    /// limit is refused with `TooLong` before anything of it is read.
     pub fn decode<T: Claims>(
         &self,
         alloc: Global,
         token: &[u8],
         time: u64,
     ) -> Result<TokenData<T>, VerifierRefusal<Error>>
-        ensures decided { let call = call_with T.Claims self.now.keys.keys self.now.validation
-            token.now time in
-            IsBounded (Decides (token_tests call) (order_of self.now.keys.keys) (Carries call))
-            self.now.limits.max_len (length token.now) result }
+        ensures decided { ByFamily (call_with T.Claims self.now.keys.keys self.now.validation
+            token.now time) token.now
+            (λ call. IsBounded (Decides (token_tests call) (order_of self.now.keys.keys)
+            (Carries call)) self.now.limits.max_len (length token.now) result) }
 
         // The laws of `decode` and `decode_with_set` hold: the token is accepted exactly at the
         // times from the first to the last, among others.
         ensures laws { length token.now ≤ self.now.limits.max_len
-            → HasLaws (call_with T.Claims self.now.keys.keys self.now.validation token.now time)
+            → (f : Option Family) → HasLaws (with_family
+            (call_with T.Claims self.now.keys.keys self.now.validation token.now time) f)
             (order_of self.now.keys.keys) (List ℕ) Compact token.now }
     {
         if self.is_too_long(token) {
@@ -108,7 +109,7 @@ impl Verifier {
         }
         match self.decode_whole(alloc, token, time) {
             Ok(decoded) => Ok(decoded),
-            Err(refused) => Err(VerifierRefusal::Failed(refused)),
+            Err(refused) => Err(VerifierRefusal::Failed(refused.error)),
         }
     }
 
@@ -120,39 +121,23 @@ impl Verifier {
         token: &[u8],
         time: u64,
     ) -> Result<TokenData<T>, VerifierRefusal<Refusal>>
-        ensures { let call = call_with T.Claims self.now.keys.keys self.now.validation token.now time in
-            IsBounded (DecidesByTest (token_tests call) (order_of self.now.keys.keys) (Carries call))
-            self.now.limits.max_len (length token.now) result }
-    {
-        if self.is_too_long(token) {
-            return Err(VerifierRefusal::TooLong);
-        }
-        let keys = &self.keys;
-        match decode_by_or_refusal(alloc, &keys, token, &self.validation, time) {
-            Ok(decoded) => Ok(decoded),
-            Err(refused) => Err(VerifierRefusal::Failed(refused)),
-        }
-    }
+        ensures decided { ByFamily (call_with T.Claims self.now.keys.keys self.now.validation
+            token.now time) token.now
+            (λ call. IsBounded (DecidesByTest (token_tests call) (order_of self.now.keys.keys)
+            (Carries call)) self.now.limits.max_len (length token.now) result) }
 
-    /// Returns the first and the last time at which [`Verifier::decode`] accepts a token, in whole
-    /// seconds since 1970-01-01 00:00:00 UTC, or `None` if it accepts the token at no time. It is
-    /// accepted at all times from the first to the last, and at no other (RFC 7519 sections 4.1.4
-    /// and 4.1.5). A token that is longer than the limit is refused with `TooLong`, and otherwise the
-    /// only refusal is `OutOfMemory`.
-    pub fn first_and_last_moment<T: Claims>(
-        &self,
-        alloc: Global,
-        token: &[u8],
-    ) -> Result<Option<Moments>, VerifierRefusal<Error>>
-        ensures { IsBounded (FindsMoments (call_with T.Claims self.now.keys.keys self.now.validation
-            token.now 0) (order_of self.now.keys.keys))
-            self.now.limits.max_len (length token.now) result }
+        // With algorithms of one family it is what `decode` or `decode_with_set` returns.
+        ensures one_family { let call = call_with T.Claims self.now.keys.keys self.now.validation
+            token.now time in
+            AreOfOneFamily call.options.algorithms
+            → IsBounded (DecidesByTest (token_tests call) (order_of self.now.keys.keys)
+            (Carries call)) self.now.limits.max_len (length token.now) result }
     {
         if self.is_too_long(token) {
             return Err(VerifierRefusal::TooLong);
         }
-        match self.moments_of_whole::<T>(alloc, token) {
-            Ok(moments) => Ok(moments),
+        match self.decode_whole(alloc, token, time) {
+            Ok(decoded) => Ok(decoded),
             Err(refused) => Err(VerifierRefusal::Failed(refused)),
         }
     }
@@ -169,24 +154,21 @@ impl Verifier {
         alloc: Global,
         token: &[u8],
         time: u64,
-    ) -> Checked<TokenData<T>>
-        ensures decided { let call = call_with T.Claims self.now.keys.keys self.now.validation
+    ) -> Result<TokenData<T>, Refusal>
+        ensures decided { ByFamily (call_with T.Claims self.now.keys.keys self.now.validation
+            token.now time) token.now
+            (λ call. DecidesByTest (token_tests call) (order_of self.now.keys.keys) (Carries call)
+            result) }
+        ensures one_family { let call = call_with T.Claims self.now.keys.keys self.now.validation
             token.now time in
-            Decides (token_tests call) (order_of self.now.keys.keys) (Carries call) result }
-        ensures laws { HasLaws (call_with T.Claims self.now.keys.keys self.now.validation token.now time)
+            AreOfOneFamily call.options.algorithms
+            → DecidesByTest (token_tests call) (order_of self.now.keys.keys) (Carries call) result }
+        ensures laws { (f : Option Family) → HasLaws (with_family
+            (call_with T.Claims self.now.keys.keys self.now.validation token.now time) f)
             (order_of self.now.keys.keys) (List ℕ) Compact token.now }
     {
         let keys = &self.keys;
-        decode_by(alloc, &keys, token, &self.validation, time)
-    }
-
-    /// Returns the times at which a token of any length is accepted.
-    fn moments_of_whole<T: Claims>(&self, alloc: Global, token: &[u8]) -> Checked<Option<Moments>>
-        ensures { FindsMoments (call_with T.Claims self.now.keys.keys self.now.validation token.now 0)
-            (order_of self.now.keys.keys) result }
-    {
-        let keys = &self.keys;
-        first_and_last_moment::<&KeyRing, T>(alloc, &keys, token, &self.validation)
+        decode_by_family(alloc, &keys, token, &self.validation, time)
     }
 }
 

@@ -7,9 +7,12 @@
 ghost use Rattle.std.specs.Prelude.{◌≡◌, ◌⊎◌, ◌↔◌, ◌++◌, ℕ, List, [], Option, Some, None, IfOk};
 ghost use Rattle.std.specs.Prelude.{IsErrAnd};
 ghost use Rattle.jwt_base.specs.KindOf.{IsMemory};
+ghost use Rattle.jwt_base.specs.declared.algorithms.AlgorithmFamily.{AlgorithmFamily as Family};
 ghost use Rattle.jwt_validation.specs.Options.{Options};
 ghost use Rattle.jwt_validation.specs.OptionsOf.{options_of};
 ghost use Rattle.jsonwebtoken.specs.Calls.{Carries};
+ghost use Rattle.jsonwebtoken.specs.Family.{AcceptsByFamily, AreOfOneFamily, ByFamily, KeepsToKey};
+ghost use Rattle.jsonwebtoken.specs.Family.{family_by, with_family};
 ghost use Rattle.jsonwebtoken.specs.Finder.{IsOwnOf, order_by, tests_after_header};
 ghost use Rattle.jsonwebtoken.specs.Finding.{finding};
 ghost use Rattle.jsonwebtoken.specs.Laws.{HasLaws};
@@ -76,6 +79,7 @@ pub fn decode_by<K: KeyFinder, T: Claims>(
     };
     let asked = Asked {
         algorithms: validation.algorithms.as_slice(),
+        family: None,
         validation,
         time,
     };
@@ -117,10 +121,78 @@ pub fn decode_by_or_refusal<K: KeyFinder, T: Claims>(
     };
     let asked = Asked {
         algorithms: validation.algorithms.as_slice(),
+        family: None,
         validation,
         time,
     };
     match read_claims(alloc, keys, &opening, &asked) {
+        Ok(claims) => Ok(TokenData { header, claims }),
+        Err(refusal) => {
+            drop(header);
+            Err(refusal)
+        }
+    }
+}
+
+/// Verifies a token like [`decode_by_or_refusal`], for algorithms of several families: only those of
+/// the family of the token's key are accepted (RFC 8725 section 3.1).
+///
+/// The key is the one that the finder finds. If no algorithm of `validation` is of its family, all of
+/// them stay, and the token is refused. With algorithms of one family the result is that of
+/// [`decode_by_or_refusal`].
+pub fn decode_by_family<K: KeyFinder, T: Claims>(
+    alloc: Global,
+    keys: &K,
+    token: &[u8],
+    validation: &Validation,
+    time: u64,
+) -> Result<TokenData<T>, Refusal>
+    // The result is that of `decode_by_or_refusal` with the algorithms of the key's family. The
+    // token's `alg` does not choose the family.
+    ensures decided { ByFamily (finding K.KeyFinder T.Claims
+        keys.now token.now (options_of validation.now) time) token.now
+        (λ call. DecidesByTest (token_tests call) (order_by (K.source keys.now)) (Carries call)
+        result) }
+
+    // A token is accepted if and only if `decode_by_or_refusal` accepts it with the algorithms of
+    // one family that `validation` lists.
+    ensures accepts { let call = finding K.KeyFinder T.Claims
+        keys.now token.now (options_of validation.now) time in
+        AcceptsByFamily call (order_by (K.source keys.now)) (Carries call) result }
+
+    // With algorithms of one family, the result is that of `decode_by_or_refusal`.
+    ensures one_family { let call = finding K.KeyFinder T.Claims
+        keys.now token.now (options_of validation.now) time in
+        AreOfOneFamily call.options.algorithms
+        → DecidesByTest (token_tests call) (order_by (K.source keys.now)) (Carries call) result }
+
+    // Whatever the family, a token is accepted only with a listed algorithm of its key's family,
+    // which is the key's own `alg` if it has one.
+    ensures fits { let call = finding K.KeyFinder T.Claims
+        keys.now token.now (options_of validation.now) time in
+        (f : Option Family) → KeepsToKey call (with_family call f)
+        (order_by (K.source keys.now)) }
+
+    // The laws of `decode_by` hold.
+    ensures laws { (f : Option Family) → HasLaws
+        (with_family (finding K.KeyFinder T.Claims
+        keys.now token.now (options_of validation.now) time) f)
+        (order_by (K.source keys.now)) (List ℕ) Compact token.now }
+{
+    let parts = match token_parts(token) {
+        Ok(parts) => parts,
+        Err(refusal) => return Err(refusal),
+    };
+    let mut test = Test::HasThreeParts;
+    let header = match read_header_noting(alloc, parts.header, &mut test) {
+        Ok(header) => header,
+        Err(error) => return Err(Refusal { test, error }),
+    };
+    let opening = Opening {
+        parts: &parts,
+        header: &header,
+    };
+    match read_claims_by_family(alloc, keys, &opening, validation, time) {
         Ok(claims) => Ok(TokenData { header, claims }),
         Err(refusal) => {
             drop(header);
@@ -166,6 +238,7 @@ pub fn decode_by_own_algorithm<K: KeyFinder, T: Claims>(
     };
     let asked = Asked {
         algorithms: own.as_slice(),
+        family: None,
         validation,
         time,
     };
@@ -199,6 +272,34 @@ fn read_claims<K: KeyFinder, T: Claims>(
     Ok(claims)
 }
 
+/// Returns the claims of a token like [`read_claims`], with the algorithms of its key's family.
+fn read_claims_by_family<K: KeyFinder, T: Claims>(
+    alloc: Global,
+    keys: &K,
+    opening: &Opening<'_>,
+    validation: &Validation,
+    time: u64,
+) -> Result<T, Refusal>
+    ensures { let call = with_family (finding K.KeyFinder T.Claims
+        keys.now [] (options_of validation.now) time)
+        (family_by (K.source keys.now) opening.now.header.now) in
+        Step call (tests_after_header (K.source keys.now))
+        (with_opening (parts_in opening.now.parts.now) opening.now.header.now)
+        (ShowsClaims T.reads) result }
+{
+    check_crit(opening.header, validation)?;
+    let found = keys.find(alloc, opening.header)?;
+    let asked = Asked {
+        algorithms: validation.algorithms.as_slice(),
+        family: Some(keys.family(&found)),
+        validation,
+        time,
+    };
+    // named for the proof
+    let claims = verify_by(alloc, keys, &found, opening, &asked)?;
+    Ok(claims)
+}
+
 /// Returns the claims of a token that passes, by the key, the tests of the algorithm and those that
 /// follow them.
 fn verify_by<K: KeyFinder, T: Claims>(
@@ -216,12 +317,12 @@ fn verify_by<K: KeyFinder, T: Claims>(
 {
     let algorithm = opening.header.alg;
     check_some_listed(asked.algorithms)?;
-    check_listed(asked.algorithms, algorithm)?;
+    check_listed(asked.algorithms, asked.family, algorithm)?;
     let verifier = match make_verifier(alloc, keys, found, algorithm) {
         Ok(verifier) => verifier,
         Err(refusal) => return Err(refusal),
     };
-    check_families(asked.algorithms, algorithm)?;
+    check_families(asked.algorithms, asked.family, algorithm)?;
     let claims = verify_and_read_claims(
         alloc,
         &verifier,

@@ -10,7 +10,7 @@ ghost use Rattle.jsonwebtoken.specs.Finder.{FindsKey, own_by};
 ghost use Rattle.jsonwebtoken.specs.Tests.{KeySource};
 
 use crate::refusal::Refusal;
-use jwt_base::algorithms::Algorithm;
+use jwt_base::algorithms::{Algorithm, AlgorithmFamily};
 use jwt_base::errors::Result;
 use jwt_header::Header;
 use jwt_keys::provider::JwtVerifier;
@@ -23,8 +23,8 @@ use std::alloc::Global;
 /// key or the key set that the finder stands for, and the prover checks the calls against it. Over
 /// a table of keys, `source` is the set of its rows, `find` looks up the row with the header's
 /// `kid` and returns what [`key_for`](crate::jwk::key_for) makes of it, `own_algorithm` is
-/// [`own_algorithm`](crate::jwk::own_algorithm) of it, and `verifier` calls a provider. `KeyRing`
-/// of the crate `jwt_verifier` is such a finder.
+/// [`own_algorithm`](crate::jwk::own_algorithm) of it, `family` is that of the key, and `verifier`
+/// calls a provider. `KeyRing` of the crate `jwt_verifier` is such a finder.
 ///
 /// By these laws a finder's result depends on the finder and the header alone. A lookup that reads
 /// a database during `decode` can return different rows, so it does not meet them: read the keys
@@ -59,6 +59,10 @@ pub trait KeyFinder {
     /// section 4.4), or `None` if it has none, if there is no such key, or if the key is given.
     fn own_algorithm(&self, header: &Header) -> Option<Algorithm>
         ensures { result ≡ own_by (source self.now) header.now };
+
+    /// Returns the family of the algorithms that a key which was found is for.
+    fn family(&self, found: &Self::Found) -> AlgorithmFamily
+        ensures { result ≡ key_family (key self.now found.now) };
 
     /// Returns a verifier by this algorithm and key. It is refused with the kind of `refusal`, or
     /// with `OutOfMemory`.

@@ -21,7 +21,7 @@ use crate::decoding::engine::{decode_by, decode_by_or_refusal};
 use crate::decoding::finder::KeyFinder;
 use crate::decoding::own::named_algorithm;
 use crate::refusal::{Refusal, Test, with_test};
-use jwt_base::algorithms::{Algorithm, KeyAlgorithm};
+use jwt_base::algorithms::{Algorithm, AlgorithmFamily, KeyAlgorithm};
 use jwt_base::errors::{ErrorKind, Result};
 use jwt_base::json::Claims;
 use jwt_header::Header;
@@ -128,6 +128,10 @@ impl<'k, P: CryptoProvider> KeyFinder for KeysOfSet<'k, P> {
 
     fn own_algorithm(&self, header: &Header) -> Option<Algorithm> {
         named_algorithm(self.set, header)
+    }
+
+    fn family(&self, found: &DecodingKey) -> AlgorithmFamily {
+        found.family()
     }
 
     fn verifier(

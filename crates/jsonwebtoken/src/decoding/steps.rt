@@ -8,8 +8,10 @@
 // callee's case split. The claim rules look at a payload's value first, and then it is given up to
 // the claims, but the claims' refusal is returned first.
 
-ghost use Rattle.std.specs.Prelude.{◌≡◌, ◌⊎◌, ◌↔◌, ◌++◌, ◌∷◌, ℕ, List, Some, None, IfOk, IfErr};
-ghost use Rattle.std.specs.Prelude.{IfSome, IfNone, IsSome, Contains, [], All};
+ghost use Rattle.std.specs.Prelude.{◌≡◌, ◌⊎◌, ◌↔◌, ◌++◌, ◌∷◌, ℕ, List, Option, Some, None, IfOk};
+ghost use Rattle.std.specs.Prelude.{IfErr};
+ghost use Rattle.std.specs.Prelude.{IfSome, IfNone, IsSome, IsTrue, Contains, [], All};
+ghost use Rattle.std.specs.List.{Any};
 ghost use Rattle.serde_json.specs.Data.{Data};
 ghost use Rattle.serde_json.specs.Find.{as_object};
 ghost use Rattle.serde_json.specs.View.{view};
@@ -18,8 +20,10 @@ ghost use Rattle.jwt_base.specs.Base64Url.{IsPart};
 ghost use Rattle.jwt_base.specs.JsonText.{IsJson};
 ghost use Rattle.jwt_base.specs.Kind as kind;
 ghost use Rattle.jwt_base.specs.KindOf.{IsMemory};
+ghost use Rattle.jwt_base.specs.declared.algorithms.AlgorithmFamily.{AlgorithmFamily as Family};
 ghost use Rattle.jwt_header.specs.Header.{new_header};
 ghost use Rattle.jwt_validation.specs.OptionsOf.{options_of};
+ghost use Rattle.jsonwebtoken.specs.Family.{left_for};
 ghost use Rattle.jsonwebtoken.specs.private_clauses.Refused.{tested};
 ghost use Rattle.jsonwebtoken.specs.Steps.{Asks, Finds, Step};
 ghost use Rattle.jsonwebtoken.specs.private_clauses.Steps.{ShowsNothing};
@@ -41,7 +45,7 @@ use crate::decoding::crit::check_crit;
 use crate::decoding::parts::{Opening, TokenParts};
 use crate::known_headers::known_algorithm;
 use crate::refusal::{Refusal, Test, with_test};
-use jwt_base::algorithms::Algorithm;
+use jwt_base::algorithms::{Algorithm, AlgorithmFamily};
 use jwt_base::errors::{ErrorKind, Result};
 use jwt_base::json::Claims;
 use jwt_base::serialization::{json_value, part_bytes};
@@ -55,7 +59,8 @@ use std::alloc::Global;
 
 /// Refuses an empty list with `MissingAlgorithm`.
 pub(crate) fn check_some_listed(algorithms: &[Algorithm]) -> Result<(), Refusal>
-    ensures { Asks AlgorithmsAreConfigured (¬ (algorithms.now ≡ []))
+    ensures { (f : Option Family)
+        → Asks AlgorithmsAreConfigured (¬ (left_for f algorithms.now ≡ []))
         (λ k. k ≡ kind.MissingAlgorithm) result }
 {
     if algorithms.is_empty() {
@@ -64,29 +69,109 @@ pub(crate) fn check_some_listed(algorithms: &[Algorithm]) -> Result<(), Refusal>
     Ok(())
 }
 
-/// Refuses an algorithm that is not listed with `InvalidAlgorithm`.
-pub(crate) fn check_listed(algorithms: &[Algorithm], algorithm: Algorithm) -> Result<(), Refusal>
-    ensures { Asks AlgorithmIsAllowed (Contains algorithms.now algorithm)
+/// Refuses an algorithm that is not among those that are left for the family with
+/// `InvalidAlgorithm`.
+pub(crate) fn check_listed(
+    algorithms: &[Algorithm],
+    family: Option<AlgorithmFamily>,
+    algorithm: Algorithm,
+) -> Result<(), Refusal>
+    ensures { Asks AlgorithmIsAllowed (Contains (left_for family algorithms.now) algorithm)
         (λ k. k ≡ kind.InvalidAlgorithm) result }
 {
-    if algorithms.contains(&algorithm) {
+    if is_allowed(algorithms, family, algorithm) {
         Ok(())
     } else {
         Err(Refusal::new(Test::AlgorithmIsAllowed, ErrorKind::InvalidAlgorithm))
     }
 }
 
-/// Refuses with `InvalidAlgorithm` a list with an algorithm of another family.
-pub(crate) fn check_families(algorithms: &[Algorithm], algorithm: Algorithm) -> Result<(), Refusal>
+/// Refuses with `InvalidAlgorithm` if an algorithm that is left for the family is of another one
+/// than the token's.
+pub(crate) fn check_families(
+    algorithms: &[Algorithm],
+    family: Option<AlgorithmFamily>,
+    algorithm: Algorithm,
+) -> Result<(), Refusal>
     ensures { Asks AlgorithmsShareFamily
-        (All (λ b. family_of b ≡ family_of algorithm) algorithms.now)
+        (All (λ b. family_of b ≡ family_of algorithm) (left_for family algorithms.now))
         (λ k. k ≡ kind.InvalidAlgorithm) result }
 {
-    if algorithms.iter().all(|b| b.family() == algorithm.family()) {
+    if share_family(algorithms, family, algorithm) {
         Ok(())
     } else {
         Err(Refusal::new(Test::AlgorithmsShareFamily, ErrorKind::InvalidAlgorithm))
     }
+}
+
+/// Returns whether an algorithm is among those that are left for the family.
+fn is_allowed(
+    algorithms: &[Algorithm],
+    family: Option<AlgorithmFamily>,
+    algorithm: Algorithm,
+) -> bool
+    ensures { IsTrue result ↔ Contains (left_for family algorithms.now) algorithm }
+{
+    match family {
+        None => is_listed(algorithms, algorithm),
+        Some(family) => is_left(algorithms, family, algorithm),
+    }
+}
+
+fn is_left(algorithms: &[Algorithm], family: AlgorithmFamily, algorithm: Algorithm) -> bool
+    ensures { IsTrue result ↔ Contains (left_for (Some family) algorithms.now) algorithm }
+{
+    is_listed(algorithms, algorithm)
+        && (is_of(algorithm, family) || !has_family(algorithms, family))
+}
+
+/// Returns whether all algorithms that are left for the family are of the algorithm's.
+fn share_family(
+    algorithms: &[Algorithm],
+    family: Option<AlgorithmFamily>,
+    algorithm: Algorithm,
+) -> bool
+    ensures { IsTrue result
+        ↔ All (λ b. family_of b ≡ family_of algorithm) (left_for family algorithms.now) }
+{
+    match family {
+        None => are_all_of(algorithms, algorithm.family()),
+        Some(family) => left_are_of(algorithms, family, algorithm),
+    }
+}
+
+fn left_are_of(algorithms: &[Algorithm], family: AlgorithmFamily, algorithm: Algorithm) -> bool
+    ensures { IsTrue result
+        ↔ All (λ b. family_of b ≡ family_of algorithm) (left_for (Some family) algorithms.now) }
+{
+    if has_family(algorithms, family) {
+        return is_of(algorithm, family);
+    }
+    are_all_of(algorithms, algorithm.family())
+}
+
+fn is_listed(algorithms: &[Algorithm], algorithm: Algorithm) -> bool
+    ensures { IsTrue result ↔ Contains algorithms.now algorithm }
+{
+    algorithms.contains(&algorithm)
+}
+
+fn is_of(algorithm: Algorithm, family: AlgorithmFamily) -> bool
+    ensures { IsTrue result ↔ (family_of algorithm ≡ family) }
+{
+    algorithm.family() == family
+}
+
+fn has_family(algorithms: &[Algorithm], family: AlgorithmFamily) -> bool
+    ensures { IsTrue result ↔ Any (λ a. family_of a ≡ family) algorithms.now }
+{
+    algorithms.iter().any(|a| a.family() == family)
+}
+
+fn are_all_of(algorithms: &[Algorithm], family: AlgorithmFamily) -> bool
+    ensures { IsTrue result ↔ All (λ a. family_of a ≡ family) algorithms.now }
+{
+    algorithms.iter().all(|a| a.family() == family)
 }
 
 /// Returns the parts of the token. A token with fewer than two dots is refused with `InvalidToken`.

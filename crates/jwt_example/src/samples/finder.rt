@@ -9,7 +9,8 @@ use jsonwebtoken::crypto::CryptoProvider;
 use jsonwebtoken::errors::Result as Checked;
 use jsonwebtoken::jwk::{Jwk, JwkSet, key_for, own_algorithm};
 use jsonwebtoken::{
-    Algorithm, DecodingKey, Header, KeyFinder, Refusal, TokenData, Validation, decode_by,
+    Algorithm, AlgorithmFamily, DecodingKey, Header, KeyFinder, Refusal, TokenData, Validation,
+    decode_by,
 };
 use jwt_standard::{StandardProvider, StandardVerifier};
 use serde_json::Value;
@@ -66,6 +67,10 @@ impl KeyFinder for Table {
             Some(row) => own_algorithm(row),
             None => None,
         }
+    }
+
+    fn family(&self, found: &DecodingKey) -> AlgorithmFamily {
+        found.family()
     }
 
     fn verifier(
