@@ -20,13 +20,17 @@
 
 #![tactic(auto)]
 
-ghost use Rattle.std.specs.Prelude.{◌≡◌, ℕ, List, length, None, Some, MatchOption};
+ghost use Rattle.std.specs.Prelude.{◌≡◌, ℕ, List, length, None, Some};
+ghost use Rattle.jwt_base.specs.Algorithm.{name_of};
 ghost use Rattle.jwt_base.specs.Kind.{Kind};
+ghost use Rattle.jwt_base.specs.declared.algorithms.Algorithm.{Algorithm};
+ghost use Rattle.jsonwebtoken.specs.TestName.{test_name};
+ghost use Rattle.jsonwebtoken.specs.declared.refusal.Test.{Test};
 ghost use Rattle.jwt_c_calls.specs.BySignature.{AnswersSignature, AnswersEcdsa, LeavesInput};
 ghost use Rattle.jwt_c_calls.specs.Calls.{Answer, Leaves, LeavesSigned, AnswersHmac, AnswersKey};
-ghost use Rattle.jwt_c_calls.specs.Calls.{AnswersSet, AnswersGivenVerdict, AnswersHeader, AnswersNumbers};
-ghost use Rattle.jwt_c_calls.specs.Calls.{AnswersIssuedAt};
+ghost use Rattle.jwt_c_calls.specs.Calls.{AnswersSet, AnswersGivenVerdict, AnswersIssuedAt, AnswersNumbers};
 ghost use Rattle.jwt_c_calls.specs.Calls.{status_of};
+ghost use Rattle.jwt_c_calls.specs.ClaimRules.{AnswersRules};
 ghost use Rattle.jwt_c_calls.specs.Issued.{hash_numbered, AnswersEncode, AnswersThumbprint};
 ghost use Rattle.jwt_c_calls.specs.KeyFiles.{AnswersCertificate, AnswersPem};
 ghost use Rattle.jwt_c_calls.specs.Keys.{AnswersWithKey, AnswersWithOptions, AnswersWithSet};
@@ -36,19 +40,21 @@ ghost use Rattle.jwt_c_calls.specs.Options.{AnswersFault, AnswersQuoted};
 ghost use Rattle.jwt_c_calls.specs.Secrets.{ChecksSecret, ChecksKey, ChecksSet};
 ghost use Rattle.jwt_c_calls.specs.Serving.{AnswersAlgorithms};
 ghost use Rattle.jwt_c_calls.specs.Signatures.{AnswersVerifyHmac, AnswersVerifyKey};
-ghost use Rattle.jwt_c_calls.specs.Status.{kind_part, number, unknown_number, status_text, told_text, version};
-ghost use Rattle.jwt_c_calls.specs.Status.{algorithm_numbered, IsGiven, IsKept};
-ghost use Rattle.jwt_c_calls.specs.TestNumbers.{LeavesTestName};
+ghost use Rattle.jwt_c_calls.specs.Status.{algorithm_numbered, kind_part, number as status_number, told_text};
+ghost use Rattle.jwt_c_calls.specs.TestNumbers.{test_number};
+ghost use Rattle.jwt_c_calls.specs.Texts.{IsNumberOfName, LeavesText, text_numbered};
+ghost use Rattle.jwt_c_calls.specs.Unverified.{LeavesPart};
 ghost use Rattle.jwt_c_calls.specs.Verifiers.{limits_of, AreOfKey, AreOfSecret, AreOfSet};
-ghost use Rattle.jwt_c_calls.specs.Held.{LeavesMade, LeavesMoments, LeavesShared, LeavesUntil, FitsVerifier};
+ghost use Rattle.jwt_c_calls.specs.Held.{LeavesMade, LeavesShared, LeavesUntil, FitsVerifier};
 ghost use Rattle.jwt_c.specs.Issued.{LeavesByKey};
 
 use jsonwebtoken::signed_part;
 use jwt_c_calls::answers::{
-    CallerVerdict, given_verdict_answer, header_answer, hmac_answer, issued_at_answer, key_answer,
-    numbers_answer, set_answer,
+    CallerVerdict, given_verdict_answer, hmac_answer, issued_at_answer, key_answer, numbers_answer,
+    set_answer,
 };
 use jwt_c_calls::by_signature::{ecdsa_answer, input_answer, signature_answer};
+use jwt_c_calls::claim_rules::rules_answer;
 use jwt_c_calls::handle::Handle;
 use jwt_c_calls::handle_results::{store, write_handle, write_verdict};
 use jwt_c_calls::issued::{encode_answer, encode_key_answer, thumbprint_answer};
@@ -60,17 +66,13 @@ use jwt_c_calls::secrets::{key_status, secret_status, set_status};
 use jwt_c_calls::serving::algorithms_answer;
 use jwt_c_calls::signatures::{hmac_signature_answer, key_signature_answer};
 use jwt_c_calls::status::{algorithm_number, leave, number_of, put_bytes, status_of};
-use jwt_c_calls::status_table::{
-    NO_MEMBER, NO_VERIFIER, OK, UNKNOWN_NUMBER, VERIFIER_IN_USE, text_of,
-};
-use jwt_c_calls::test_numbers::numbered_test;
+use jwt_c_calls::status_table::{NO_MEMBER, NO_VERIFIER, OK, UNKNOWN_NUMBER, VERIFIER_IN_USE};
+use jwt_c_calls::texts::{number_of_name, text_numbered};
+use jwt_c_calls::unverified::{numbered_part, part_answer};
 use jwt_c_calls::verifiers::{
-    decode_with_expiry, leave_moments, limits, moments_by, verifier_of_key, verifier_of_secret,
-    verifier_of_set,
+    decode_with_expiry, limits, verifier_of_key, verifier_of_secret, verifier_of_set,
 };
 use std::alloc::Global;
-
-const VERSION: &str = "0.1.0";
 
 /// Verifies a token with HMAC and a secret, at the time `time`, and writes its claims as JSON. The
 /// options are the JSON text of [`Validation::from_value`](jsonwebtoken::Validation::from_value),
@@ -248,18 +250,45 @@ pub extern "C" fn jwt_verify_signature_key(
     }
 }
 
-/// Writes the header of a token as JSON. Nothing is verified.
+/// Writes a part of a token as JSON, with the members in the order of their names: the header if
+/// `part` is 1, and the payload if it is 2. Nothing is verified, and the token may be of any
+/// algorithm. A token that does not have three parts is refused with `InvalidToken`, a part that is
+/// not base64url with `Base64`, and one that is not the JSON of an object with `Json`. Any other
+/// `part` is 102.
 #[unsafe(no_mangle)]
-pub extern "C" fn jwt_decode_header(
+pub extern "C" fn jwt_unverified(
     alloc: Global,
     token: &[u8],
+    part: u32,
     room: &mut [u8],
     len: &mut usize,
 ) -> u32
-    ensures { (a : Answer) × AnswersHeader token.now a × Leaves a result len.new room.old room.new }
+    ensures { LeavesPart token.now part result len.new room.old room.new }
 {
-    let answer = header_answer(alloc, token);
-    leave(answer, room, len)
+    match numbered_part(part) {
+        Some(part) => {
+            let answer = part_answer(alloc, token, part);
+            leave(answer, room, len)
+        }
+        None => {
+            *len = 0;
+            UNKNOWN_NUMBER.0
+        }
+    }
+}
+
+/// Checks claims by the rules of options at the time `time`: returns 0 if every rule holds, and else
+/// the status of the first that does not. The algorithms of the options are not looked at, and
+/// nothing is verified. A text that does not describe options is 101, and then claims that are not
+/// the JSON of an object are 105.
+#[unsafe(no_mangle)]
+pub extern "C" fn jwt_check_claims(alloc: Global, claims: &[u8], options: &[u8], time: u64) -> u32
+    ensures { (a : Answer) × AnswersRules options.now claims.now time a × (result ≡ status_of a) }
+{
+    match rules_answer(alloc, claims, options, time) {
+        Ok(()) => OK.0,
+        Err(refusal) => status_of(&refusal),
+    }
 }
 
 /// Signs a header and claims, which are JSON texts of objects, with HMAC and a secret, and writes
@@ -674,32 +703,6 @@ pub extern "C" fn jwt_verifier_decode(
     }
 }
 
-/// Sets `first` and `last` to the first and the last time at which `jwt_verifier_decode` accepts a
-/// token, in whole seconds since 1970-01-01 00:00:00 UTC: it is accepted at all times from the first
-/// to the last, and at no other (RFC 7519 sections 4.1.4 and 4.1.5). If it is accepted at no time,
-/// `first` is 1 and `last` is 0. With another status than 0 both are 0: 108 for a handle that holds
-/// no verifier, 111 for a token that is longer than the verifier allows, and 22 if memory ran out.
-#[unsafe(no_mangle)]
-pub extern "C" fn jwt_verifier_moments(
-    alloc: Global,
-    verifier: &mut Handle,
-    token: &[u8],
-    first: &mut u64,
-    last: &mut u64,
-) -> u32
-    ensures held { verifier.new.held ≡ verifier.old.held }
-    ensures times { LeavesMoments verifier.old.held token.now result first.new last.new }
-{
-    match verifier.take(alloc) {
-        Some(made) => {
-            let found = moments_by(alloc, &made.verifier, token);
-            *verifier = Handle::of(made);
-            leave_moments(found, first, last)
-        }
-        None => leave_moments(Err(NO_VERIFIER.0), first, last),
-    }
-}
-
 /// Frees the verifier that a handle holds, if it holds one: with the last handle of it, its keys.
 /// Then the handle holds none.
 #[unsafe(no_mangle)]
@@ -754,41 +757,33 @@ pub extern "C" fn jwt_check_member(alloc: Global, json: &[u8], name: &[u8], text
     member_status(alloc, json, name, text)
 }
 
-/// Writes the text of a status. For a number that is not a status, it returns 102.
+/// Returns the number of the algorithm with this name, such as 4 for `RS256`, or 0 if there is none.
 #[unsafe(no_mangle)]
-pub extern "C" fn jwt_status_text(status: u32, room: &mut [u8], len: &mut usize) -> u32
-    ensures text { MatchOption (status_text status)
-        (IsKept unknown_number result len.new room.old room.new)
-        (λ given. IsGiven given result len.new room.old room.new) }
-    // The text of a refusal's status is that of its kind, as far as a status tells it.
-    ensures kinds { (k : Kind) → status_text (number k) ≡ Some (told_text (kind_part k)) }
+pub extern "C" fn jwt_algorithm(name: &[u8]) -> u32
+    ensures { IsNumberOfName name.now result }
 {
-    match text_of(status) {
+    number_of_name(name)
+}
+
+/// Writes the text of a number: of a status if `of` is 1, the name of a test of
+/// `jwt_verifier_decode`, such as `SignatureIsAccepted`, if it is 2, the name of an algorithm if it
+/// is 3, and the version of the library, the `JWT_VERSION` of `packages/c/include/jwtproved.h`, if
+/// it is 4 and the number is 0. Any other `of` and number is 102.
+#[unsafe(no_mangle)]
+pub extern "C" fn jwt_text(of: u32, number: u32, room: &mut [u8], len: &mut usize) -> u32
+    ensures text { LeavesText of number result len.new room.old room.new }
+    // The text of a refusal's status is that of its kind, as far as a status tells it.
+    ensures kinds { (k : Kind) → text_numbered 1 (status_number k) ≡ Some (told_text (kind_part k)) }
+    // Each test that a call reports has its name, and each algorithm.
+    ensures tests { (t : Test) → text_numbered 2 (test_number t) ≡ Some (test_name t) }
+    ensures algorithms { (n : ℕ) → (a : Algorithm) → algorithm_numbered n ≡ Some a
+        → text_numbered 3 n ≡ Some (name_of a) }
+{
+    match text_numbered(of, number) {
         Some(text) => put_bytes(text.as_bytes(), room, len),
         None => {
             *len = 0;
             UNKNOWN_NUMBER.0
         }
     }
-}
-
-/// Writes the name of the test that `jwt_verifier_decode` reports by this number, such as
-/// `SignatureIsAccepted`. For a number of no test, it returns 102.
-#[unsafe(no_mangle)]
-pub extern "C" fn jwt_test_text(test: u32, room: &mut [u8], len: &mut usize) -> u32
-    ensures { LeavesTestName test result len.new room.old room.new }
-{
-    let Some(test) = numbered_test(test) else {
-        *len = 0;
-        return UNKNOWN_NUMBER.0;
-    };
-    put_bytes(test.name().as_bytes(), room, len)
-}
-
-/// Writes the version of the library, the `JWT_VERSION` of `packages/c/include/jwtproved.h`.
-#[unsafe(no_mangle)]
-pub extern "C" fn jwt_version(room: &mut [u8], len: &mut usize) -> u32
-    ensures { IsGiven version result len.new room.old room.new }
-{
-    put_bytes(VERSION.as_bytes(), room, len)
 }

@@ -16,7 +16,6 @@ use Rattle.jwt_base.specs.KindOf.{kind_of}
 use Rattle.jwt_base.specs.declared.algorithms.Algorithm.{Algorithm}
 use Rattle.jwt_base.specs.declared.algorithms.AlgorithmFamily.TheVariants.{Hmac}
 use Rattle.jwt_base.specs.declared.errors.Error.{Error}
-use Rattle.jwt_header.specs.Header.{header_value}
 use Rattle.jwt_keys.specs.Key.{Key, Plain}
 use Rattle.jwt_keys.specs.Jwk.{ReadsKey}
 use Rattle.jwt_keys.specs.JwkSet.{ReadsSet}
@@ -28,7 +27,7 @@ use Rattle.jwt_c_calls.specs.Inputs.{ReadsOptions}
 use Rattle.jwt_crypto.specs.Verdict.{Verdict, IsVerified, refusal_by}
 use Rattle.jsonwebtoken.specs.ByHmac.{decoding_by_hmac}
 use Rattle.jsonwebtoken.specs.Order.{Passes, FailsFirst}
-use Rattle.jsonwebtoken.specs.Tests.{Call, Compact, Contents, Given, InSet, decode_order, header_order, set_order}
+use Rattle.jsonwebtoken.specs.Tests.{Call, Compact, Contents, Given, InSet, decode_order, set_order}
 use Rattle.jsonwebtoken.specs.Tests.{signed_order, header_call, message_of, verifying_call, token_tests}
 use Rattle.jsonwebtoken.specs.Vouched.{IsVouched}
 use Rattle.jwt_c_calls.specs.Inputs.{ReadsClaimsText}
@@ -203,19 +202,7 @@ AnswersIssuedAt issued_at leeway time (Returns bytes) = (issued_at ≤ time + le
 AnswersIssuedAt issued_at leeway time (Refuses k) = (time + leeway < issued_at) × (k ≡ kind.ImmatureSignature)
 AnswersIssuedAt issued_at leeway time (InputError i) = ⊥
 
--- ---- the header and the message that is signed
-
--- the compact JSON text of the header of a token (RFC 7515 section 4)
-abbrev pub IsHeaderText : List ℕ → List ℕ → Type 0
-IsHeaderText token text = (t : Contents) × Passes (token_tests (header_call token)) header_order t
-    × ((value : Data) × (header_value t.header ≡ Some value) × (text ≡ compact_text value))
-
--- the header's text; or the kind of the first failed test, or memory ran out
-abbrev pub AnswersHeader : List ℕ → Answer → Type 0
-AnswersHeader token (Returns text) = IsHeaderText token text
-AnswersHeader token (Refuses k) =
-    (k ≡ kind.OutOfMemory) ⊎ FailsFirst (token_tests (header_call token)) header_order k
-AnswersHeader token (InputError i) = ⊥
+-- ---- the message that is signed
 
 -- the result of `jwt_signed_part`: the header's algorithm, the length of the message, which is the
 -- front of the token, and the signature's bytes in the buffer (RFC 7515 section 5.1); or a refusal

@@ -1,16 +1,15 @@
 -- The verifier that a handle holds, and what the calls with it leave.
-use Rattle.std.specs.Prelude.{◌≡◌, ◌⊎◌, ◌≤◌, ◌<◌, ℕ, List, length, Option, None, Result, Ok, Err, MatchOption, MatchResult}
+use Rattle.std.specs.Prelude.{◌≡◌, ◌⊎◌, ◌≤◌, ◌<◌, ℕ, List, length, Option, None, Result, Ok, MatchOption, MatchResult}
 use Rattle.std.specs.Arc.{arc_value}
 use Rattle.jwt_base.specs.Kind as kind
 use Rattle.jwt_validation.specs.Options.{Options}
 use Rattle.jwt_validation.specs.OptionsOf.{options_of}
-use Rattle.jwt_validation.specs.declared.interval.Moments.{Moments}
 use Rattle.jwt_verifier.specs.declared.keys.Keys.{Keys}
 use Rattle.jwt_verifier.specs.declared.limits.Limits.{Limits}
 use Rattle.jwt_verifier.specs.declared.verifier.Verifier.{Verifier}
 use Rattle.jwt_c_calls.specs.Calls.{Answer, Leaves}
 use Rattle.jwt_c_calls.specs.Status.{number, no_verifier, has_verifier, token_too_long, IsKept}
-use Rattle.jwt_c_calls.specs.Verifiers.{AnswersUntil, AreLeft, IsUnmade, IsVerifierOf, TellsMoments, TellsTestOf}
+use Rattle.jwt_c_calls.specs.Verifiers.{AnswersUntil, IsUnmade, IsVerifierOf, TellsTestOf}
 use Rattle.jwt_c_calls.specs.declared.shared.Shared.{Shared}
 
 abbrev pub verifier_in : Shared → Verifier
@@ -59,11 +58,6 @@ abbrev pub LeavesUntil : Option Shared → List ℕ → ℕ → ℕ → ℕ → 
 LeavesUntil held token time last test status len before after = MatchOption held
     ((last ≡ 0) × (test ≡ 0) × IsKept no_verifier status len before after)
     (λ s. LeavesBy (verifier_in s) token time last test status len before after)
-
--- the status, the first and the last time at which the verifier that a handle holds accepts the token
-abbrev pub LeavesMoments : Option Shared → List ℕ → ℕ → ℕ → ℕ → Type 0
-LeavesMoments held token status first last = MatchOption held (AreLeft (Err no_verifier) status first last)
-    (λ s. (found : Result (Option Moments) ℕ) × TellsMoments (verifier_in s) token found × AreLeft found status first last)
 
 -- ---- for private clauses
 

@@ -7,12 +7,15 @@ pub mod Members
 pub mod Membership
 pub mod Options
 pub mod BySignature
+pub mod ClaimRules
 pub mod Issued
 pub use Rattle.jwt_base.specs.Kind
 pub mod Secrets
 pub mod Serving
 pub mod Signatures
 pub mod TestNumbers
+pub mod Texts
+pub mod Unverified
 pub mod Verifiers
 pub mod Owned
 pub mod Held

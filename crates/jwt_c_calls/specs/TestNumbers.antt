@@ -1,6 +1,5 @@
 -- The numbers that report to C which test of a token failed.
-use Rattle.std.specs.Prelude.{◌≡◌, ◌≢◌, ◌⊎◌, ℕ, List}
-use Rattle.jsonwebtoken.specs.TestName.{test_name}
+use Rattle.std.specs.Prelude.{◌-◌, ◌==◌, ℕ, List, [], ◌∷◌, Option, None, slice_get, if◌then◌else◌}
 use Rattle.jsonwebtoken.specs.declared.refusal.Test.{Test}
 use Rattle.jsonwebtoken.specs.declared.refusal.Test.TheVariants.{HasThreeParts, HeaderIsBase64url, HeaderIsJson, HeaderIsValid}
 use Rattle.jsonwebtoken.specs.declared.refusal.Test.TheVariants.{CritIsUnderstood, KeyIsFound, KeyAlgMatches}
@@ -8,7 +7,6 @@ use Rattle.jsonwebtoken.specs.declared.refusal.Test.TheVariants.{KeyIsUsable, Al
 use Rattle.jsonwebtoken.specs.declared.refusal.Test.TheVariants.{KeyFitsAlgorithm, AlgorithmsShareFamily, SignatureIsBase64url}
 use Rattle.jsonwebtoken.specs.declared.refusal.Test.TheVariants.{SignatureIsAccepted, PayloadIsBase64url, PayloadIsJson}
 use Rattle.jsonwebtoken.specs.declared.refusal.Test.TheVariants.{ClaimsMatchType, ClaimsAreAnObject, ClaimsAreValid}
-use Rattle.jwt_c_calls.specs.Status.{unknown_number, IsGiven, IsKept}
 
 abbrev pub test_number : Test → ℕ
 test_number HasThreeParts = 1
@@ -31,8 +29,13 @@ test_number ClaimsMatchType = 17
 test_number ClaimsAreAnObject = 18
 test_number ClaimsAreValid = 19
 
--- the result of `jwt_test_text`: the name of the test with this number; or no test has this number
-abbrev pub LeavesTestName : (number status len : ℕ) (before after : List ℕ) → Type 0
-LeavesTestName number status len before after =
-    ((t : Test) × (test_number t ≡ number) × IsGiven (test_name t) status len before after)
-    ⊎ (((t : Test) → test_number t ≢ number) × IsKept unknown_number status len before after)
+-- the tests in the order of their numbers
+abbrev pub all_tests : List Test
+all_tests = HasThreeParts ∷ HeaderIsBase64url ∷ HeaderIsJson ∷ HeaderIsValid ∷ CritIsUnderstood ∷ KeyIsFound
+    ∷ KeyAlgMatches ∷ KeyIsUsable ∷ AlgorithmsAreConfigured ∷ AlgorithmIsAllowed ∷ KeyFitsAlgorithm
+    ∷ AlgorithmsShareFamily ∷ SignatureIsBase64url ∷ SignatureIsAccepted ∷ PayloadIsBase64url ∷ PayloadIsJson
+    ∷ ClaimsMatchType ∷ ClaimsAreAnObject ∷ ClaimsAreValid ∷ []
+
+-- the test of a number
+abbrev pub test_numbered : ℕ → Option Test
+test_numbered n = if n == 0 then None else slice_get all_tests (n - 1)

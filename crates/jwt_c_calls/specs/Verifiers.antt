@@ -1,6 +1,6 @@
 -- The results of the calls for C that make a verifier, and of those that verify with one.
 use Rattle.std.specs.Prelude.{◌≡◌, ◌⊎◌, ◌↔◌, ◌≤◌, ◌<◌, ◌==◌, ℕ, List, length, Bool, Result, Ok, Err, IsTrue}
-use Rattle.std.specs.Prelude.{if◌then◌else◌, Option, Some, None}
+use Rattle.std.specs.Prelude.{if◌then◌else◌}
 use Rattle.serde_json.specs.declared.value.Value.{Value}
 use Rattle.jwt_base.specs.Claims.{IsValue}
 use Rattle.jwt_base.specs.JsonText.{ReadsText}
@@ -19,9 +19,7 @@ use Rattle.jwt_validation.specs.Moments.{end_of_time}
 use Rattle.jwt_validation.specs.Options.{Options}
 use Rattle.jwt_validation.specs.OptionsOf.{options_of}
 use Rattle.jwt_c_calls.specs.Inputs.{ReadsOptions}
-use Rattle.jwt_validation.specs.declared.interval.Moments.{Moments}
 use Rattle.jwt_validation.specs.declared.validation.Validation.{Validation}
-use Rattle.jsonwebtoken.specs.Accepted.{AreMoments}
 use Rattle.jsonwebtoken.specs.Order.{Passes, FailsFirst, IsFirstFailed}
 use Rattle.jsonwebtoken.specs.Tests.{Call, Compact, Contents, token_tests, verifying_call}
 use Rattle.jsonwebtoken.specs.declared.refusal.Test.{Test}
@@ -169,19 +167,3 @@ IsRefusedWith v token time status test =
     ⊎ ((length token ≤ v.limits.max_len) × ((k : Kind)
     × AnswersWith v.keys.keys v.validation token time (Refuses k)
     × TellsTest v.keys.keys v.validation token time k test × (status ≡ number k)))
-
--- ---- the times at which it accepts
-
--- the times at which the verifier accepts the token, if it does at some (RFC 7519 sections 4.1.4 and 4.1.5); or the status:
--- the token is too long, or memory ran out
-abbrev pub TellsMoments : Verifier → List ℕ → Result (Option Moments) ℕ → Type 0
-TellsMoments v token (Ok m) = (length token ≤ v.limits.max_len)
-    × AreMoments (verifier_call v.keys.keys v.validation token 0) (order_of v.keys.keys) m
-TellsMoments v token (Err status) = ((v.limits.max_len < length token) × (status ≡ token_too_long))
-    ⊎ (status ≡ number kind.OutOfMemory)
-
--- the status, and the first and the last time: these are 1 and 0 if the token is accepted at no time, and 0 and 0 if it is refused
-abbrev pub AreLeft : Result (Option Moments) ℕ → ℕ → ℕ → ℕ → Type 0
-AreLeft (Ok (Some m)) status first last = (status ≡ 0) × (first ≡ m.first) × (last ≡ m.last)
-AreLeft (Ok None) status first last = (status ≡ 0) × (first ≡ 1) × (last ≡ 0)
-AreLeft (Err why) status first last = (status ≡ why) × (first ≡ 0) × (last ≡ 0)

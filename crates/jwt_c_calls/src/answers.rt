@@ -6,20 +6,16 @@
 // Numbers that are not exact are refused by a call of its own, `jwt_check_numbers`, since
 // `Validation::from_value` has no option for it.
 
-ghost use Rattle.std.specs.Prelude.{◌≡◌, ◌⊎◌, ◌≤◌, [], Some, false, IfOk, IfErr, OnOk};
+ghost use Rattle.std.specs.Prelude.{◌≡◌, ◌≤◌, [], IfOk, IfErr, OnOk};
 ghost use Rattle.serde_json.specs.Data.{depth};
 ghost use Rattle.serde_json.specs.Read.{max_depth};
 ghost use Rattle.serde_json.specs.View.{view};
 ghost use Rattle.serde_json.specs.Written.{has_float};
 ghost use Rattle.jwt_base.specs.Kind as kind;
-ghost use Rattle.jwt_base.specs.KindOf.{kind_of, IsMemory};
-ghost use Rattle.jwt_header.specs.Header.{header_value};
-ghost use Rattle.jsonwebtoken.specs.Order.{Passes, FailsFirst};
-ghost use Rattle.jsonwebtoken.specs.Tests.{Contents, header_order, header_call, token_tests};
 ghost use Rattle.jwt_c_calls.specs.Calls.{Returns, Refuses, AnswersHmac, AnswersKey, AnswersSet};
-ghost use Rattle.jwt_c_calls.specs.Calls.{AnswersVerdict, AnswersGivenVerdict, AnswersHeader};
+ghost use Rattle.jwt_c_calls.specs.Calls.{AnswersVerdict, AnswersGivenVerdict};
 ghost use Rattle.jwt_c_calls.specs.Calls.{AnswersNumbers, AnswersIssuedAt};
-ghost use Rattle.jwt_c_calls.specs.Calls.{HandsOut, IsHeaderText, IsTextOf, answer_of, answer_in, said_value};
+ghost use Rattle.jwt_c_calls.specs.Calls.{HandsOut, IsTextOf, answer_of, answer_in, said_value};
 ghost use Rattle.jwt_c_calls.specs.Status.{algorithm_numbered};
 
 use crate::inputs::{CallError, Input, read_as, read_claims, read_options};
@@ -28,7 +24,7 @@ use crate::status::numbered_algorithm;
 use jsonwebtoken::crypto::hmac::HmacProvider;
 use jsonwebtoken::crypto::verdict::VerdictProvider;
 use jsonwebtoken::errors::{Error, ErrorKind, new_error};
-use jsonwebtoken::{TokenData, decode, decode_by_verdict, decode_header, decode_with_set};
+use jsonwebtoken::{TokenData, decode, decode_by_verdict, decode_with_set};
 use jwt_base::json::has_float;
 use jwt_standard::StandardProvider;
 use jwt_validation::Validation;
@@ -124,15 +120,6 @@ pub fn given_verdict_answer(
     }
 }
 
-/// Returns the header of a token, which is not verified, as its text.
-pub fn header_answer(alloc: Global, token: &[u8]) -> Result<Vec<u8>, CallError>
-    ensures ok { IfOk result (λ b. AnswersHeader token.now (Returns b.items)) }
-    ensures err { IfErr result (λ r. AnswersHeader token.now (answer_of r)) }
-{
-    let value = header_of(alloc, token)?;
-    Ok(value.to_vec(alloc)?)
-}
-
 /// Checks that every number of the claims, which are the JSON text of an object, is an integer from
 /// -2^63 to 2^64 - 1; else the refusal is `Json`.
 pub fn numbers_answer(alloc: Global, claims: &[u8]) -> Result<(), CallError>
@@ -200,18 +187,4 @@ fn verdict_answer(
     let answer = decode_by_verdict(alloc, token, verdict, &validation, time);
     drop(validation);
     answer_of_claims(alloc, answer)
-}
-
-fn header_of(alloc: Global, token: &[u8]) -> Result<Value, Error>
-    ensures ok { IfOk result (λ v. (t : Contents)
-        × Passes (token_tests (header_call token.now)) header_order t
-        × (header_value t.header ≡ Some (view v))) }
-    ensures no_float { IfOk result (λ v. has_float (view v) ≡ false) }
-    ensures err { IfErr result (λ e. IsMemory e
-        ⊎ FailsFirst (token_tests (header_call token.now)) header_order (kind_of e)) }
-{
-    let header = decode_header(alloc, token)?;
-    let value = header.to_value(alloc);
-    drop(header);
-    value
 }

@@ -20,6 +20,7 @@
 
 pub mod answers;
 pub mod by_signature;
+pub mod claim_rules;
 pub mod handle;
 pub mod handle_results;
 pub mod inputs;
@@ -37,4 +38,6 @@ pub mod signatures;
 pub mod status;
 pub mod status_table;
 pub mod test_numbers;
+pub mod texts;
+pub mod unverified;
 pub mod verifiers;

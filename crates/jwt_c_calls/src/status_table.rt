@@ -89,25 +89,25 @@ pub const MALFORMED_CLAIM: Status = (79, "Invalid format for claim");
 
 pub const BUFFER_TOO_SMALL: Status = (100, "Buffer too small");
 
-pub const BAD_OPTIONS: Status = (101, "Options not understood");
+pub const BAD_OPTIONS: Status = (101, "Invalid options");
 
-pub const UNKNOWN_NUMBER: Status = (102, "Unknown status");
+pub const UNKNOWN_NUMBER: Status = (102, "Unknown number");
 
-pub const BAD_SET: Status = (103, "Key set not understood");
+pub const BAD_SET: Status = (103, "Invalid key set");
 
-pub const BAD_HEADER: Status = (104, "Header not understood");
+pub const BAD_HEADER: Status = (104, "Invalid header");
 
-pub const BAD_CLAIMS: Status = (105, "Claims not understood");
+pub const BAD_CLAIMS: Status = (105, "Invalid claims");
 
-pub const BAD_KEY: Status = (106, "Key not understood");
+pub const BAD_KEY: Status = (106, "Invalid key");
 
-pub const ALL_ZERO_SECRET: Status = (107, "Anyone can sign");
+pub const ALL_ZERO_SECRET: Status = (107, "Secret is empty or all zeros");
 
 pub const NO_VERIFIER: Status = (108, "No verifier");
 
 pub const VERIFIER_IN_USE: Status = (109, "Verifier already made");
 
-pub const NO_USABLE_KEY: Status = (110, "Key serves no algorithm");
+pub const NO_USABLE_KEY: Status = (110, "No key fits the algorithms");
 
 pub const TOKEN_TOO_LONG: Status = (111, "Token too long");
 

@@ -1,8 +1,7 @@
 //! The numbers that report to C which test of a token failed.
 
-ghost use Rattle.std.specs.Prelude.{◌≡◌, ◌≢◌, MatchOption};
-ghost use Rattle.jsonwebtoken.specs.declared.refusal.Test.{Test};
-ghost use Rattle.jwt_c_calls.specs.TestNumbers.{test_number};
+ghost use Rattle.std.specs.Prelude.{◌≡◌};
+ghost use Rattle.jwt_c_calls.specs.TestNumbers.{test_number, test_numbered};
 
 use jsonwebtoken::Test;
 
@@ -35,8 +34,7 @@ pub(crate) fn test_number(test: Test) -> u32
 
 /// Returns the test of a number.
 pub fn numbered_test(number: u32) -> Option<Test>
-    ensures { MatchOption result ((t : Test) → test_number t ≢ number)
-        (λ t. test_number t ≡ number) }
+    ensures { result ≡ test_numbered number }
 {
     match number {
         1 => Some(Test::HasThreeParts),

@@ -14,18 +14,18 @@ ghost use Rattle.jwt_c_calls.specs.Status.{key_as_secret, number};
 ghost use Rattle.jwt_c_calls.specs.Keys.{AnswersWithKey, AnswersWithOptions, AnswersWithSet};
 ghost use Rattle.jwt_c_calls.specs.TestNumbers.{test_number as number_of_test};
 ghost use Rattle.jwt_c_calls.specs.Verifiers.{limits_of, unless_zero, problem_status};
-ghost use Rattle.jwt_c_calls.specs.Verifiers.{AnswersUntil, AreLeft, AreOfKey, TellsMoments};
+ghost use Rattle.jwt_c_calls.specs.Verifiers.{AnswersUntil, AreOfKey};
 ghost use Rattle.jwt_c_calls.specs.Verifiers.{AreOfSecret, AreOfSet, IsMade, IsRefusedWith};
 ghost use Rattle.jwt_c_calls.specs.Verifiers.{AreRefused, HaveKeyText, HaveNoKeyText};
 
 use crate::keys::{options_and_key, options_and_secret, options_and_set};
 use crate::status::{number_of, status_of};
 use crate::status_table::{
-    ALL_ZERO_SECRET, KEY_AS_SECRET, NO_USABLE_KEY, OK, OUT_OF_MEMORY, TOKEN_TOO_LONG,
+    ALL_ZERO_SECRET, KEY_AS_SECRET, NO_USABLE_KEY, OUT_OF_MEMORY, TOKEN_TOO_LONG,
 };
 use crate::test_numbers::test_number;
 use jsonwebtoken::errors::{Error, ErrorKind, Result as Checked};
-use jsonwebtoken::{Moments, Refusal, TokenData};
+use jsonwebtoken::{Refusal, TokenData};
 use jwt_secrets::key_texts::{has_key_text, set_has_key_text};
 use jwt_validation::{Validation, claimed_moments};
 use jwt_verifier::{
@@ -149,33 +149,6 @@ pub fn decode_with_expiry(
         }),
         Err(VerifierRefusal::Failed(refusal)) => Err(reason_of(&refusal)),
     }
-}
-
-/// Returns the first and the last time at which a verifier accepts a token, or `None` if it accepts
-/// the token at no time. A refusal is the status of a token that is too long, or of `OutOfMemory`.
-pub fn moments_by(alloc: Global, verifier: &Verifier, token: &[u8]) -> Result<Option<Moments>, u32>
-    ensures { TellsMoments verifier.now token.now result }
-{
-    match verifier.first_and_last_moment::<Value>(alloc, token) {
-        Ok(moments) => Ok(moments),
-        Err(VerifierRefusal::TooLong) => Err(TOKEN_TOO_LONG.0),
-        Err(VerifierRefusal::Failed(_)) => Err(OUT_OF_MEMORY.0),
-    }
-}
-
-/// Sets `first` and `last` to the times that were found, or to 1 and 0 if there are none, and
-/// returns 0. After a refusal both are 0, and its status is returned.
-pub fn leave_moments(found: Result<Option<Moments>, u32>, first: &mut u64, last: &mut u64) -> u32
-    ensures { AreLeft found result first.new last.new }
-{
-    let (status, times) = match found {
-        Ok(Some(moments)) => (OK.0, (moments.first, moments.last)),
-        Ok(None) => (OK.0, (1, 0)),
-        Err(status) => (status, (0, 0)),
-    };
-    *first = times.0;
-    *last = times.1;
-    status
 }
 
 // Returns the verifier with these keys and options, or the status of the reason for which there is
