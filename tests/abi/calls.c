@@ -396,7 +396,7 @@ static void kinds_with_a_claim(void) {
         struct answer a = fresh();
         snprintf(asked, sizeof asked, ES256_LISTED ",\"required_spec_claims\":[\"%s\"]}", names[i]);
         is("a missing claim", claims("{}", asked), JWT_MISSING_EXP + i);
-        a.status = jwt_status_text(JWT_MISSING_EXP + i, a.room, ROOM, &a.len);
+        a.status = jwt_text(JWT_OF_STATUS, JWT_MISSING_EXP + i, a.room, ROOM, &a.len);
         snprintf(text, sizeof text, "Missing required claim: %s", names[i]);
         is(text, gives(&a, text), 1);
         snprintf(asked, sizeof asked,
@@ -404,7 +404,7 @@ static void kinds_with_a_claim(void) {
         snprintf(given, sizeof given, "{\"%s\":true}", names[i]);
         is("a malformed claim", claims(given, asked), JWT_MALFORMED_EXP + i);
         a = fresh();
-        a.status = jwt_status_text(JWT_MALFORMED_EXP + i, a.room, ROOM, &a.len);
+        a.status = jwt_text(JWT_OF_STATUS, JWT_MALFORMED_EXP + i, a.room, ROOM, &a.len);
         snprintf(text, sizeof text, "Invalid format for claim: %s", names[i]);
         is(text, gives(&a, text), 1);
     }
@@ -487,25 +487,123 @@ static void signed_parts(void) {
     }
 }
 
-static void headers(void) {
+static struct answer part_in(const char *token, uint32_t part, size_t room) {
     struct answer a = fresh();
-    a.status = jwt_decode_header(TEXT(TOKEN), a.room, ROOM, &a.len);
+    a.status = jwt_unverified(TEXT(token), part, a.room, room, &a.len);
+    return a;
+}
+
+static void unverified_parts(void) {
+    static const struct {
+        const char *header, *payload, *read;
+        uint32_t part;
+    } read[] = {
+        {"{\"x\":[1, \"\\u00e9\"],\"kid\":\"k\",\"alg\":\"EdDSA\"}", "?",
+         "{\"alg\":\"EdDSA\",\"kid\":\"k\",\"x\":[1,\"\xc3\xa9\"]}", JWT_HEADER},
+        {"?", " { \"sub\" : \"s\", \"exp\" : 1 } ", "{\"exp\":1,\"sub\":\"s\"}", JWT_PAYLOAD},
+        /* other algorithms than the twelve, and no header */
+        {"{\"alg\":\"none\"}", "{}", "{\"alg\":\"none\"}", JWT_HEADER},
+        {"{\"alg\":\"none\"}", "{}", "{}", JWT_PAYLOAD},
+        {"{\"alg\":\"ES512\",\"crit\":[]}", "", "{\"alg\":\"ES512\",\"crit\":[]}", JWT_HEADER},
+        {"{}", "{\"exp\":null}", "{}", JWT_HEADER},
+        {"{\"alg\":7,\"kid\":{}}", "", "{\"alg\":7,\"kid\":{}}", JWT_HEADER},
+        /* the last of several members of one name; a float is the nearest double */
+        {"", "{\"a\":1,\"a\":1.50}", "{\"a\":1.5}", JWT_PAYLOAD},
+    };
+    for (size_t i = 0; i < sizeof read / sizeof *read; i++) {
+        struct answer a = part_in(token_of(read[i].header, read[i].payload), read[i].part, ROOM);
+        is(read[i].read, gives(&a, read[i].read), 1);
+    }
+    static const struct {
+        const char *token;
+        uint32_t part, status;
+    } refused[] = {
+        {"", JWT_HEADER, JWT_INVALID_TOKEN},
+        {"e30.e30", JWT_HEADER, JWT_INVALID_TOKEN},
+        {"e30.e30", JWT_PAYLOAD, JWT_INVALID_TOKEN},
+        /* one dot more is a part of the header */
+        {"e30.e30.e30.", JWT_HEADER, JWT_BASE64},
+        {"e30=.e30.", JWT_HEADER, JWT_BASE64},
+        {"e30.e30=.", JWT_PAYLOAD, JWT_BASE64},
+        {"e31.e30.", JWT_HEADER, JWT_BASE64},
+        {".e30.", JWT_HEADER, JWT_JSON},
+        {"e30..", JWT_PAYLOAD, JWT_JSON},
+        {"ew.e30.", JWT_HEADER, JWT_JSON},
+        {"_w.e30.", JWT_HEADER, JWT_JSON},
+        {"e30.ew.", JWT_PAYLOAD, JWT_JSON},
+        /* an array, a string, null */
+        {"W10.e30.", JWT_HEADER, JWT_JSON},
+        {"e30.W10.", JWT_PAYLOAD, JWT_JSON},
+        {"IiI.e30.", JWT_HEADER, JWT_JSON},
+        {"e30.bnVsbA.", JWT_PAYLOAD, JWT_JSON},
+        {"e30.e30.", 0, JWT_UNKNOWN_NUMBER},
+        {"e30.e30.", 3, JWT_UNKNOWN_NUMBER},
+        {"", 3, JWT_UNKNOWN_NUMBER},
+        {"e30.e30.", UINT32_MAX, JWT_UNKNOWN_NUMBER},
+        /* the other parts are not read */
+        {"e30.?.?", JWT_HEADER, JWT_OK},
+        {"?.e30.?", JWT_PAYLOAD, JWT_OK},
+    };
+    for (size_t i = 0; i < sizeof refused / sizeof *refused; i++) {
+        struct answer a = part_in(refused[i].token, refused[i].part, ROOM);
+        is(refused[i].token, status_of(&a), refused[i].status);
+    }
+    struct answer a = part_in(TOKEN, JWT_HEADER, ROOM);
     is("a header", gives(&a, "{\"alg\":\"HS256\",\"typ\":\"JWT\"}"), 1);
-    a = fresh();
-    a.status = jwt_decode_header(TEXT(token_of("{\"x\":[1, \"\\u00e9\"],\"kid\":\"k\",\"alg\":\"EdDSA\"}", "?")),
-                                 a.room, ROOM, &a.len);
-    is("a header of more members", gives(&a, "{\"alg\":\"EdDSA\",\"kid\":\"k\",\"x\":[1,\"\xc3\xa9\"]}"), 1);
+    a = part_in(TOKEN, JWT_PAYLOAD, ROOM);
+    is("a payload", gives(&a, CLAIMS), 1);
     for (size_t room = 0; room <= 30; room++) {
-        a = fresh();
-        a.status = jwt_decode_header(TEXT(TOKEN), a.room, room, &a.len);
+        a = part_in(TOKEN, JWT_HEADER, room);
         is("a header's buffer", status_of(&a), room < 27 ? JWT_BUFFER_TOO_SMALL : JWT_OK);
         is("a header's length", a.len, 27);
     }
-    a = fresh();
-    a.status = jwt_decode_header(TEXT("e30.e30."), a.room, ROOM, &a.len);
-    is("no header to give", status_of(&a), JWT_JSON);
-    a.status = jwt_decode_header(NULL, 0, a.room, ROOM, &a.len);
-    is("the header of nothing", status_of(&a), JWT_INVALID_TOKEN);
+    a.status = jwt_unverified(NULL, 0, JWT_HEADER, a.room, ROOM, &a.len);
+    is("a part of nothing", a.status == JWT_INVALID_TOKEN && a.len == 0, 1);
+}
+
+static void checked_claims(void) {
+    static const struct {
+        const char *claims, *options;
+        uint64_t now;
+        uint32_t status;
+    } rows[] = {
+        {CLAIMS, OPTIONS, LAST, JWT_OK},
+        {CLAIMS, OPTIONS, LAST + 1, JWT_EXPIRED_SIGNATURE},
+        /* no algorithms, and any of them */
+        {CLAIMS, "{}", LAST, JWT_OK},
+        {CLAIMS, "{\"algorithms\":[\"RS256\",\"ES256\",\"EdDSA\"]}", LAST, JWT_OK},
+        {CLAIMS, "{\"leeway\":0}", LAST - 60, JWT_OK},
+        {CLAIMS, "{\"leeway\":0}", LAST - 59, JWT_EXPIRED_SIGNATURE},
+        {CLAIMS, "{\"sub\":\"b@b.com\"}", 0, JWT_OK},
+        {CLAIMS, "{\"sub\":\"b\"}", 0, JWT_INVALID_SUBJECT},
+        {CLAIMS, "{\"required_spec_claims\":[\"aud\"],\"validate_exp\":false}", UINT64_MAX, JWT_MISSING_AUD},
+        {"{}", "{}", 0, JWT_MISSING_EXP},
+        {"{}", "{\"required_spec_claims\":[]}", 0, JWT_OK},
+        {"{\"exp\":5}", "{\"reject_tokens_expiring_in_less_than\":6}", 0, JWT_INVALID_TOKEN},
+        {"{\"exp\":9,\"nbf\":100}", "{\"validate_nbf\":true,\"leeway\":1}", 9, JWT_IMMATURE_SIGNATURE},
+        {"{\"exp\":9,\"iss\":\"j\"}", "{\"iss\":[\"i\"]}", 0, JWT_INVALID_ISSUER},
+        {"{\"exp\":9,\"iss\":7}", "{\"iss\":[\"i\"]}", 0, JWT_MALFORMED_ISS},
+        {"{\"exp\":9,\"aud\":[\"a\",\"b\"]}", "{\"aud\":[\"b\"]}", 0, JWT_OK},
+        {"{\"exp\":9,\"aud\":[\"a\"]}", "{\"aud\":[\"b\"]}", 0, JWT_INVALID_AUDIENCE},
+        {"{\"exp\":9,\"aud\":\"a\"}", "{}", 0, JWT_INVALID_AUDIENCE},
+        {"{\"exp\":\"9\"}", "{\"required_spec_claims\":[]}", 0, JWT_MALFORMED_EXP},
+        {"{\"exp\":9}", "{\"strict\":true}", 9, JWT_EXPIRED_SIGNATURE},
+        {"{\"exp\":9}", "{\"strict\":true}", 8, JWT_OK},
+        /* texts that are not read, first that of the options */
+        {CLAIMS, "", LAST, JWT_BAD_OPTIONS},
+        {"", "[]", LAST, JWT_BAD_OPTIONS},
+        {"{}", "{\"algs\":1}", 0, JWT_BAD_OPTIONS},
+        {"{}", "{\"aud\":[\"\"]}", 0, JWT_BAD_OPTIONS},
+        {"", "{}", LAST, JWT_BAD_CLAIMS},
+        {"[]", "{}", LAST, JWT_BAD_CLAIMS},
+        {"null", "{\"required_spec_claims\":[]}", LAST, JWT_BAD_CLAIMS},
+        {"{\"exp\":9", "{}", 0, JWT_BAD_CLAIMS},
+        {"{\"a\":\"\xff\"}", "{}", 0, JWT_BAD_CLAIMS},
+    };
+    for (size_t i = 0; i < sizeof rows / sizeof *rows; i++)
+        is(rows[i].claims, jwt_check_claims(TEXT(rows[i].claims), TEXT(rows[i].options), rows[i].now), rows[i].status);
+    is("no bytes by null pointers", jwt_check_claims(NULL, 0, NULL, 0, 0), JWT_BAD_OPTIONS);
+    is("no claims by a null pointer", jwt_check_claims(NULL, 0, TEXT("{}"), 0), JWT_BAD_CLAIMS);
 }
 
 /* ---- key sets, tokens that are issued, thumbprints */
@@ -1327,23 +1425,23 @@ static void test_texts(void) {
     struct answer a;
     for (uint32_t i = 1; i < 20; i++) {
         a = fresh();
-        a.status = jwt_test_text(i, a.room, 32, &a.len);
+        a.status = jwt_text(JWT_OF_TEST, i, a.room, 32, &a.len);
         is(names[i], gives(&a, names[i]), 1);
     }
     static const uint32_t others[] = {0, 20, 102, 257, UINT32_MAX};
     for (size_t i = 0; i < sizeof others / sizeof *others; i++) {
         a = fresh();
-        a.status = jwt_test_text(others[i], a.room, ROOM, &a.len);
+        a.status = jwt_text(JWT_OF_TEST, others[i], a.room, ROOM, &a.len);
         is("no test", status_of(&a), JWT_UNKNOWN_NUMBER);
     }
     for (uint32_t i = 1; i < 20; i++)
         for (size_t room = 0; room <= 32; room++) {
             a = fresh();
-            a.status = jwt_test_text(i, a.room, room, &a.len);
+            a.status = jwt_text(JWT_OF_TEST, i, a.room, room, &a.len);
             is("a name's buffer", status_of(&a), room < strlen(names[i]) ? JWT_BUFFER_TOO_SMALL : JWT_OK);
             is("a name's length", a.len, strlen(names[i]));
         }
-    is("a name and no buffer", jwt_test_text(JWT_TEST_KEY_IS_FOUND, NULL, 0, &a.len), JWT_BUFFER_TOO_SMALL);
+    is("a name and no buffer", jwt_text(JWT_OF_TEST, JWT_TEST_KEY_IS_FOUND, NULL, 0, &a.len), JWT_BUFFER_TOO_SMALL);
     is("its length", a.len, 10);
 }
 
@@ -1391,16 +1489,16 @@ static void status_texts(void) {
         {JWT_MALFORMED_SUB, "Invalid format for claim: sub"},
         {JWT_MALFORMED_CLAIM, "Invalid format for claim"},
         {JWT_BUFFER_TOO_SMALL, "Buffer too small"},
-        {JWT_BAD_OPTIONS, "Options not understood"},
-        {JWT_UNKNOWN_NUMBER, "Unknown status"},
-        {JWT_BAD_SET, "Key set not understood"},
-        {JWT_BAD_HEADER, "Header not understood"},
-        {JWT_BAD_CLAIMS, "Claims not understood"},
-        {JWT_BAD_KEY, "Key not understood"},
-        {JWT_ALL_ZERO_SECRET, "Anyone can sign"},
+        {JWT_BAD_OPTIONS, "Invalid options"},
+        {JWT_UNKNOWN_NUMBER, "Unknown number"},
+        {JWT_BAD_SET, "Invalid key set"},
+        {JWT_BAD_HEADER, "Invalid header"},
+        {JWT_BAD_CLAIMS, "Invalid claims"},
+        {JWT_BAD_KEY, "Invalid key"},
+        {JWT_ALL_ZERO_SECRET, "Secret is empty or all zeros"},
         {JWT_NO_VERIFIER, "No verifier"},
         {JWT_VERIFIER_IN_USE, "Verifier already made"},
-        {JWT_NO_USABLE_KEY, "Key serves no algorithm"},
+        {JWT_NO_USABLE_KEY, "No key fits the algorithms"},
         {JWT_TOKEN_TOO_LONG, "Token too long"},
         {JWT_NO_MEMBER, "No such member"},
         {JWT_KEY_AS_SECRET, "Secret is the text of a key"},
@@ -1410,7 +1508,7 @@ static void status_texts(void) {
     bool is_status[300] = {false};
     for (size_t i = 0; i < sizeof rows / sizeof *rows; i++) {
         a = fresh();
-        a.status = jwt_status_text(rows[i].status, a.room, ROOM, &a.len);
+        a.status = jwt_text(JWT_OF_STATUS, rows[i].status, a.room, ROOM, &a.len);
         is(rows[i].text, gives(&a, rows[i].text), 1);
         is_status[rows[i].status] = true;
     }
@@ -1418,11 +1516,11 @@ static void status_texts(void) {
     for (uint32_t i = 0; i <= 300; i++) {
         if (i < 300 && is_status[i]) continue;
         a = fresh();
-        a.status = jwt_status_text(i < 300 ? i : UINT32_MAX, a.room, ROOM, &a.len);
+        a.status = jwt_text(JWT_OF_STATUS, i < 300 ? i : UINT32_MAX, a.room, ROOM, &a.len);
         is("no status", status_of(&a), JWT_UNKNOWN_NUMBER);
     }
     a = fresh();
-    a.status = jwt_status_text(2, a.room, 15, &a.len);
+    a.status = jwt_text(JWT_OF_STATUS, 2, a.room, 15, &a.len);
     is("a buffer too small for a text", status_of(&a), JWT_BUFFER_TOO_SMALL);
     is("the text's length", a.len, 16);
 }
@@ -1446,7 +1544,7 @@ static void nesting(void) {
     is("options of 128 levels", hmac(TOKEN, "secret", nested("aud", 128), LAST), JWT_BAD_OPTIONS);
 }
 
-/* ---- the first test that fails, and the moments at which a token is accepted */
+/* ---- the first test that fails, and the times at which a token is accepted */
 
 /* signed by Python's hmac with the secret "secret": a payload that is no part, no JSON and no object; no claims; an exp and an nbf,
    in both orders; the greatest exp */
@@ -1505,29 +1603,29 @@ static void fails(enum source source, const char *token, const char *key, const 
     if (status != JWT_OK) return;
     struct answer by = tested(&v, token, strlen(token), now, &test);
     is("the same as without a verifier", memcmp(&by, &plain, sizeof by), 0);
-    a.status = jwt_test_text(test, a.room, ROOM, &a.len);
+    a.status = jwt_text(JWT_OF_TEST, test, a.room, ROOM, &a.len);
     is(*name ? name : "no test fails", *name ? gives(&a, name) : test == 0, 1);
     jwt_verifier_free(&v);
 }
 
-/* Whether the moments are these; at the first and the last one the token is accepted, and beside them it is not. With another status than
-   JWT_OK no verifier is made, and the token is accepted at no time. */
+/* Whether the token is accepted from the first to the last of these times, and at no other; if the first is after the last, it is accepted at
+   no time. With another status than JWT_OK no verifier is made. */
 static void lasts(enum source source, const char *token, const char *key, const char *options, uint64_t first,
                   uint64_t last, uint32_t status) {
     const uint64_t before = first ? first - 1 : 0, after = last == UINT64_MAX ? last : last + 1;
-    const uint64_t moments[] = {first, last, before, after};
-    uint64_t got_first = 5, got_last = 4;
+    const uint64_t times[] = {first, last, before, after};
     struct jwt_verifier v;
     is("whether a verifier is made", make(source, key, options, &v), status);
-    is("the status of moments", jwt_verifier_moments(&v, TEXT(token), &got_first, &got_last),
-       status == JWT_OK ? JWT_OK : JWT_NO_VERIFIER);
-    is("the first moment", got_first == (status == JWT_OK ? first : 0), 1);
-    is("the last moment", got_last == (status == JWT_OK ? last : 0), 1);
-    jwt_verifier_free(&v);
     for (size_t i = 0; i < 4; i++) {
-        struct answer a = decoded(source, token, key, options, moments[i]);
-        is("at a moment", status_of(&a) == JWT_OK, first <= moments[i] && moments[i] <= last);
+        struct answer a = decoded(source, token, key, options, times[i]), by = fresh();
+        bool is_within = first <= times[i] && times[i] <= last;
+        uint64_t got = 5;
+        uint32_t test;
+        is("at a time", status_of(&a) == JWT_OK, is_within);
+        by.status = jwt_verifier_decode(&v, TEXT(token), times[i], by.room, ROOM, &by.len, &got, &test);
+        is("the last time", got == (status == JWT_OK && is_within ? last : 0), 1);
     }
+    jwt_verifier_free(&v);
 }
 
 static void failed_tests(void) {
@@ -1611,7 +1709,7 @@ static void failed_tests_by_keys(void) {
         fails(OF_SET, rows[i].token, rows[i].set, OPTIONS, LAST, rows[i].name, rows[i].status);
 }
 
-static void moments(void) {
+static void times_of_tokens(void) {
     static const struct {
         const char *token, *secret, *options;
         uint64_t first, last;
@@ -1696,8 +1794,19 @@ static bool signed_part_given(struct answer *a) {
 }
 
 static bool header_given(struct answer *a) {
-    a->status = jwt_decode_header(TEXT(TOKEN), a->room, ROOM, &a->len);
+    a->status = jwt_unverified(TEXT(TOKEN), JWT_HEADER, a->room, ROOM, &a->len);
     return gives(a, "{\"alg\":\"HS256\",\"typ\":\"JWT\"}");
+}
+
+static bool payload_given(struct answer *a) {
+    a->status = jwt_unverified(TEXT(TOKEN), JWT_PAYLOAD, a->room, ROOM, &a->len);
+    return gives(a, CLAIMS);
+}
+
+static bool rules_checked(struct answer *a) {
+    a->status = jwt_check_claims(TEXT("{\"exp\":9,\"iss\":7}"), TEXT("{\"iss\":[\"i\"]}"), 9);
+    a->len = 0;
+    return a->status == JWT_MALFORMED_ISS;
 }
 
 static bool set_claims_given(struct answer *a) {
@@ -1788,33 +1897,6 @@ static bool no_test_by_a_set_given(struct answer *a) {
     uint32_t test = 99;
     by_verifier(a, OF_SET, NAMED, SET, OPTIONS, LAST, &test);
     return gives(a, CLAIMS) && test == 0;
-}
-
-/* after a refusal both moments are 0 */
-static bool moments_given(struct answer *a, enum source source, const char *token, const char *key,
-                          const char *options) {
-    struct jwt_verifier v;
-    uint64_t first = 5, last = 4;
-    long allowed = refused_one;
-    refused_one = 0;
-    make(source, key, options, &v);
-    requests = 0, refused_one = allowed;
-    a->status = jwt_verifier_moments(&v, TEXT(token), &first, &last);
-    a->len = a->status == JWT_OK ? 0 : first + last;
-    jwt_verifier_free(&v);
-    return status_of(a) == JWT_OK && first == 0 && last == LAST;
-}
-
-static bool moments_by_a_secret_given(struct answer *a) {
-    return moments_given(a, OF_SECRET, TOKEN, "secret", OPTIONS);
-}
-
-static bool moments_by_a_key_given(struct answer *a) {
-    return moments_given(a, OF_KEY, BY_EDDSA, ED_KEY, "{\"algorithms\":[\"EdDSA\"]}");
-}
-
-static bool moments_by_a_set_given(struct answer *a) {
-    return moments_given(a, OF_SET, NAMED, SET, OPTIONS);
 }
 
 static bool string_given(struct answer *a) {
@@ -1912,9 +1994,8 @@ static void refused_memory(void) {
     is("a test out of memory", refused_in_turn(test_given) > 0, 1);
     is("a test by a key out of memory", refused_in_turn(test_by_a_key_given) > 0, 1);
     is("no test by a set out of memory", refused_in_turn(no_test_by_a_set_given) > 0, 1);
-    is("moments out of memory", refused_in_turn(moments_by_a_secret_given) > 0, 1);
-    is("moments by a key out of memory", refused_in_turn(moments_by_a_key_given) > 0, 1);
-    is("moments by a set out of memory", refused_in_turn(moments_by_a_set_given) > 0, 1);
+    is("a payload out of memory", refused_in_turn(payload_given) > 0, 1);
+    is("a check of claims out of memory", refused_in_turn(rules_checked) > 0, 1);
     is("a check of a secret out of memory", refused_in_turn(checked_secret_given) > 0, 1);
     is("a check of a key out of memory", refused_in_turn(checked_key_given) > 0, 1);
     is("a check of a set out of memory", refused_in_turn(checked_set_given) > 0, 1);
@@ -1946,12 +2027,12 @@ static bool is_in_room(uint32_t status, size_t len, const char *wanted) {
     return status == JWT_OK && len == strlen(wanted) && memcmp(big_room, wanted, len) == 0;
 }
 
-/* Of this size: claims that are issued and read back by a set, the set's text, and the key that verifies, of a test that fails, of
-   moments and of a thumbprint. */
+/* Of this size: claims that are issued and read back by a set, the set's text, and the key that verifies, of a test that fails, and of a
+   thumbprint; claims that are read unverified, and checked. */
 static long wrong_issued_at(size_t size) {
     static char part[3 * GREATEST + 300];
     size_t len = 0, given;
-    uint64_t first, last;
+    uint64_t last;
     uint32_t test;
     struct jwt_verifier v;
     long wrong = 0;
@@ -1960,6 +2041,10 @@ static long wrong_issued_at(size_t size) {
                              &len) != JWT_OK;
     uint32_t status = jwt_decode_set(part, len, TEXT(SET), TEXT(OPTIONS), 1000, big_room, sizeof big_room, &given);
     wrong += !is_in_room(status, given, text);
+    status = jwt_unverified(part, len, JWT_PAYLOAD, big_room, sizeof big_room, &given);
+    wrong += !is_in_room(status, given, text);
+    wrong += jwt_check_claims(TEXT(text), TEXT(OPTIONS), 1000) != JWT_OK;
+    wrong += jwt_check_claims(TEXT(text), TEXT(OPTIONS), 1001) != JWT_EXPIRED_SIGNATURE;
     filled("{\"keys\":[{\"kty\":\"oct\",\"kid\":\"b\",\"k\":\"c2VjcmV0\"}],\"x\":\"", size, "\"}");
     wrong += jwt_decode_set(part, len, TEXT(text), TEXT(OPTIONS), 1000, big_room, sizeof big_room, &given) != JWT_OK;
     filled("{\"kty\":\"oct\",\"k\":\"c2VjcmV0\",\"kid\":\"", size, "\"}");
@@ -1967,8 +2052,6 @@ static long wrong_issued_at(size_t size) {
     wrong += make(OF_KEY, text, OPTIONS, &v) != JWT_OK;
     status = jwt_verifier_decode(&v, part, len, 1000, big_room, sizeof big_room, &given, &last, &test);
     wrong += status != JWT_OK || test != 0 || last != 1000;
-    status = jwt_verifier_moments(&v, part, len, &first, &last);
-    wrong += status != JWT_OK || first != 0 || last != 1000;
     jwt_verifier_free(&v);
     status = jwt_thumbprint(TEXT(text), 256, big_room, sizeof big_room, &given);
     return wrong + !is_in_room(status, given, "DWBh0SEIAPYh1x5uvot4z3AhaikHkxNJa3Ada2fT-Cg");
@@ -2001,7 +2084,7 @@ static long wrong_at(size_t size) {
     wrong += !is_in_room(status, len, text) || message != at - 1;
     at = encode(filled("{\"alg\":\"ES256\",\"kid\":\"", size, "\"}"), token);
     strcpy(token + at, "..");
-    status = jwt_decode_header(TEXT(token), big_room, sizeof big_room, &len);
+    status = jwt_unverified(TEXT(token), JWT_HEADER, big_room, sizeof big_room, &len);
     return wrong + !is_in_room(status, len, text) + wrong_issued_at(size);
 }
 
@@ -2254,13 +2337,45 @@ static void checked_members(void) {
     is("no bytes by null pointers", jwt_check_member(TEXT("{\"\":[\"\"]}"), NULL, 0, NULL, 0), JWT_OK);
 }
 
-static void version(void) {
+static void algorithms(void) {
+    static const char *const names[] = {"HS256", "HS384", "HS512", "RS256", "RS384", "RS512",
+                                        "PS256", "PS384", "PS512", "ES256", "ES384", "EdDSA"};
+    static const char *const others[] = {"", "HS", "HS256 ", "hs256", "ES512", "none", "Ed25519", "EdDS", "EdDSAA", "\xff"};
+    for (uint32_t i = 1; i <= 12; i++) {
+        struct answer a = fresh();
+        is(names[i - 1], jwt_algorithm(TEXT(names[i - 1])), i);
+        a.status = jwt_text(JWT_OF_ALGORITHM, i, a.room, 5, &a.len);
+        is("its name", gives(&a, names[i - 1]), 1);
+    }
+    is("the numbers", JWT_HS256 == 1 && JWT_RS256 == 4 && JWT_PS256 == 7 && JWT_ES256 == 10 && JWT_EDDSA == 12, 1);
+    for (size_t i = 0; i < sizeof others / sizeof *others; i++) is(others[i], jwt_algorithm(TEXT(others[i])), 0);
+    is("a name with a byte 0", jwt_algorithm("HS256", 6), 0);
+    is("no name by a null pointer", jwt_algorithm(NULL, 0), 0);
+}
+
+static void texts(void) {
+    static const struct {
+        uint32_t of, number;
+    } rows[] = {
+        {JWT_OF_ALGORITHM, 0}, {JWT_OF_ALGORITHM, 13}, {JWT_OF_ALGORITHM, UINT32_MAX}, {JWT_OF_VERSION, 1},
+        {JWT_OF_VERSION, UINT32_MAX}, {0, 0}, {0, 1}, {5, 0}, {5, 1}, {UINT32_MAX, 0}, {257, 1},
+    };
     struct answer a = fresh();
-    a.status = jwt_version(a.room, ROOM, &a.len);
+    a.status = jwt_text(JWT_OF_VERSION, 0, a.room, ROOM, &a.len);
     is("the version", gives(&a, JWT_VERSION), 1);
     a = fresh();
-    a.status = jwt_version(a.room, 4, &a.len);
+    a.status = jwt_text(JWT_OF_VERSION, 0, a.room, 4, &a.len);
     is("the version in a buffer that is too small", status_of(&a) == JWT_BUFFER_TOO_SMALL && a.len == strlen(JWT_VERSION), 1);
+    for (size_t i = 0; i < sizeof rows / sizeof *rows; i++) {
+        a = fresh();
+        a.status = jwt_text(rows[i].of, rows[i].number, a.room, ROOM, &a.len);
+        is("a number without a text", status_of(&a), JWT_UNKNOWN_NUMBER);
+    }
+    size_t longest = 0;
+    for (uint32_t of = 0; of < 6; of++)
+        for (uint32_t number = 0; number < 300; number++)
+            if (jwt_text(of, number, NULL, 0, &a.len) == JWT_BUFFER_TOO_SMALL && a.len > longest) longest = a.len;
+    is("64 bytes hold every text", longest > 0 && longest <= 64, 1);
 }
 
 static void version_number(void) {
@@ -2282,7 +2397,8 @@ int main(void) {
     kinds_with_a_claim();
     verdicts();
     signed_parts();
-    headers();
+    unverified_parts();
+    checked_claims();
     sets();
     keys_of_all();
     keys_refused();
@@ -2306,11 +2422,12 @@ int main(void) {
     numbers();
     times_of_issue();
     checked_members();
-    version();
+    algorithms();
+    texts();
     nesting();
     failed_tests();
     failed_tests_by_keys();
-    moments();
+    times_of_tokens();
     misread_texts();
     refused_memory();
     sizes();

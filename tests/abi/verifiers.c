@@ -107,23 +107,6 @@ static long status(struct jwt_verifier *verifier, const char *token) {
     return decode(verifier, TEXT(token), 0, ROOM).status;
 }
 
-/* the times at which a verifier accepts a token, and the status */
-struct times {
-    uint32_t status;
-    uint64_t first, last;
-};
-
-static struct times times_of(struct jwt_verifier *verifier, const char *token, size_t token_len) {
-    struct times t = {0, 5, 4};
-    t.status = jwt_verifier_moments(verifier, token, token_len, &t.first, &t.last);
-    return t;
-}
-
-static bool has_no_times(struct jwt_verifier *verifier, const char *token, size_t token_len, uint32_t status) {
-    struct times t = times_of(verifier, token, token_len);
-    return t.status == status && t.first == 0 && t.last == 0;
-}
-
 /* ---- made of texts, or not */
 
 static void made(void) {
@@ -228,7 +211,6 @@ static void made(void) {
 static void slips(void) {
     struct jwt_verifier v = JWT_VERIFIER_NONE, w = JWT_VERIFIER_NONE;
     is("no verifier", status(&v, BY_HS256), JWT_NO_VERIFIER);
-    is("its times", has_no_times(&v, TEXT(BY_HS256), JWT_NO_VERIFIER), 1);
     is("a share of none", jwt_verifier_share(&v, &w), JWT_NO_VERIFIER);
     jwt_verifier_free(&v);
     is("made", make(OF_SET, ALL_KEYS, HS256, 0, false, &v), JWT_OK);
@@ -241,7 +223,6 @@ static void slips(void) {
     is("a share of none in the place of one", (jwt_verifier_free(&v), jwt_verifier_share(&v, &w)),
        JWT_VERIFIER_IN_USE);
     is("freed", status(&v, BY_HS256), JWT_NO_VERIFIER);
-    is("its times", has_no_times(&v, TEXT(BY_HS256), JWT_NO_VERIFIER), 1);
     is("the share stays", status(&w, BY_HS256), JWT_OK);
     struct jwt_verifier moved = w;
     is("moved", status(&moved, BY_HS256), JWT_OK);
@@ -264,12 +245,9 @@ static void lengths(void) {
         is("a token by its length", status(&v, BY_HS256), len > limit ? JWT_TOKEN_TOO_LONG : JWT_OK);
         char *token = calloc(limit + 1, 1);
         is("as long as allowed", decode(&v, token, limit, 0, ROOM).status, JWT_INVALID_TOKEN);
-        struct times t = times_of(&v, token, limit);
-        is("its times", t.status == JWT_OK && t.first == 1 && t.last == 0, 1);
         requests = 0;
         struct answer a = decode(&v, token, limit + 1, 0, ROOM);
         is("one byte longer", a.status == JWT_TOKEN_TOO_LONG && a.len == 0 && a.last == 0 && a.test == 0, 1);
-        is("its times", has_no_times(&v, token, limit + 1, JWT_TOKEN_TOO_LONG), 1);
         is("nothing is asked for", requests, 0);
         free(token);
         jwt_verifier_free(&v);
@@ -335,18 +313,16 @@ static bool agrees(uint32_t test, uint32_t status) {
     return false;
 }
 
-/* Whether a verifier leaves what the call without one leaves, the last time and a test of which the status comes, and the times at
-   which that call accepts: all those until LAST, or none. Sets *test. */
+/* Whether a verifier leaves what the call without one leaves, the last time, which is LAST of accepted tokens, and a test of which the
+   status comes. Sets *test. */
 static bool is_alike(struct jwt_verifier *v, const struct answer *plain, const char *token, size_t len, uint64_t now,
                      size_t room, uint32_t *test) {
     struct answer a = decode(v, token, len, now, room);
-    struct times t = times_of(v, token, len);
-    bool is_accepted = plain->status == JWT_OK || plain->status == JWT_BUFFER_TOO_SMALL, is_ever = t.first == 0;
+    bool is_accepted = plain->status == JWT_OK || plain->status == JWT_BUFFER_TOO_SMALL;
     compared++;
     *test = a.test;
     return a.status == plain->status && a.len == plain->len && memcmp(a.room, plain->room, ROOM) == 0 &&
-           a.last == (is_accepted ? LAST : 0) && agrees(a.test, a.status) && t.status == JWT_OK &&
-           t.first == !is_ever && t.last == (is_ever ? LAST : 0) && is_accepted == (is_ever && now <= LAST);
+           a.last == (is_accepted ? LAST : 0) && agrees(a.test, a.status);
 }
 
 /* whether a verifier, and one that keeps nothing prepared, leave it, and the same test */
@@ -561,20 +537,6 @@ static long decoding_refused_in_turn(struct jwt_verifier *v, const char *token) 
     return -1;
 }
 
-static long times_refused_in_turn(struct jwt_verifier *v, const char *token) {
-    for (long number = 1; number < 1000; number++) {
-        requests = 0, refused_one = number;
-        struct times t = times_of(v, TEXT(token));
-        bool was_refused = requests >= number;
-        refused_one = 0;
-        if (t.status != (was_refused ? JWT_OUT_OF_MEMORY : JWT_OK) || t.first != 0 ||
-            t.last != (was_refused ? 0 : LAST) || v->at == NULL)
-            return -1;
-        if (!was_refused) return number - 1;
-    }
-    return -1;
-}
-
 static void refused_memory(void) {
     is("a set", refused_in_turn(makes_of_set) > 20, 1);
     is("a key", refused_in_turn(makes_of_key) > 5, 1);
@@ -582,11 +544,9 @@ static void refused_memory(void) {
     makes_of_set(&shared_one);
     is("a share", refused_in_turn(shares), 1);
     is("RS256", decoding_refused_in_turn(&shared_one, BY_RS256) > 10, 1);
-    is("the times of RS256", times_refused_in_turn(&shared_one, BY_RS256) > 10, 1);
     jwt_verifier_free(&shared_one);
     make(OF_KEY, HMAC_KEY, HS256, 0, false, &shared_one);
     is("HS256", decoding_refused_in_turn(&shared_one, BY_HS256) > 10, 1);
-    is("the times of HS256", times_refused_in_turn(&shared_one, BY_HS256) > 10, 1);
     jwt_verifier_free(&shared_one);
 }
 

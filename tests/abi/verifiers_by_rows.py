@@ -1,7 +1,6 @@
 """Runs the rows of crates/jwt_vectors/data that verify a token with a JSON Web Key or a set of keys, through a verifier of the library for
 C and through the call without one: both leave the same status and bytes, and for the provider of all algorithms these are the row's. The
-time of a row is among those at which the verifier accepts the token, just if it does. If no verifier is made, the call without one refuses
-the token.
+last time of an accepted token is not before the row's. If no verifier is made, the call without one refuses the token.
 The last line counts."""
 import argparse
 import ctypes
@@ -15,6 +14,7 @@ BYTES = [ctypes.c_char_p, ctypes.c_size_t]
 BUFFER = [ctypes.c_char_p, ctypes.c_size_t, ctypes.POINTER(ctypes.c_size_t)]
 LIMITS = [ctypes.c_size_t, ctypes.c_bool, ctypes.c_size_t]
 OK, NO_USABLE_KEY, MIXED_FAMILIES = 0, 110, 114
+OF_STATUS = 1
 # The names of kinds that are not their texts.
 NAMES = {"Base64 error": "Base64", "JSON error": "Json", "UTF-8 error": "Utf8"}
 
@@ -29,9 +29,8 @@ def declare(library):
         getattr(library, f"jwt_decode_{kind}").argtypes = [*BYTES, *BYTES, *BYTES, ctypes.c_uint64, *BUFFER]
         getattr(library, f"jwt_verifier_{kind}").argtypes = [*BYTES, *BYTES, *LIMITS, handle]
     library.jwt_verifier_decode.argtypes = [handle, *BYTES, ctypes.c_uint64, *BUFFER, ctypes.POINTER(ctypes.c_uint64), ctypes.POINTER(ctypes.c_uint32)]
-    library.jwt_verifier_moments.argtypes = [handle, *BYTES, ctypes.POINTER(ctypes.c_uint64), ctypes.POINTER(ctypes.c_uint64)]
     library.jwt_verifier_free.argtypes = [handle]
-    library.jwt_status_text.argtypes = [ctypes.c_uint32, *BUFFER]
+    library.jwt_text.argtypes = [ctypes.c_uint32, ctypes.c_uint32, *BUFFER]
     return library
 
 
@@ -50,13 +49,13 @@ def shown(library, status, text):
     """Returns a result as rows show it."""
     if status == 0:
         return {"ok": json.loads(text)}
-    said = left(lambda *buffer: library.jwt_status_text(status, *buffer))[1].decode()
+    said = left(lambda *buffer: library.jwt_text(OF_STATUS, status, *buffer))[1].decode()
     return {"err": NAMES.get(said, said)}
 
 
 def results(library, row, kind, key):
     """Returns the results without a verifier and through one, or None if no verifier is made, since it could accept no token. The second is
-    no result if the verifier accepts the token at other times."""
+    no result if the last time is wrong."""
     options = json.dumps(row["validation"]).encode()
     token, now = row["token"].encode(), row["now"]
     stateless = getattr(library, f"jwt_decode_{kind}")
@@ -65,15 +64,14 @@ def results(library, row, kind, key):
     status = getattr(library, f"jwt_verifier_{kind}")(*given(key), *given(options), 1 << 30, True, 0, ctypes.byref(handle))
     if status in (NO_USABLE_KEY, MIXED_FAMILIES):
         return plain, None
-    first, last, test = ctypes.c_uint64(), ctypes.c_uint64(), ctypes.c_uint32()
+    last, test = ctypes.c_uint64(), ctypes.c_uint32()
     by_handle = left(lambda *buffer: library.jwt_verifier_decode(ctypes.byref(handle), *given(token), now, *buffer, ctypes.byref(last), ctypes.byref(test)))
-    told = library.jwt_verifier_moments(ctypes.byref(handle), *given(token), ctypes.byref(first), ctypes.byref(last))
     library.jwt_verifier_free(ctypes.byref(handle))
     if status != OK:
         # a text that is refused is refused when the verifier is made
         return plain, (status, b"")
-    is_within = told == OK and (first.value <= now <= last.value) == (by_handle[0] == OK)
-    return plain, by_handle if is_within else f"accepted from {first.value} to {last.value}, status {told}"
+    is_well = last.value >= now if by_handle[0] == OK else last.value == 0
+    return plain, by_handle if is_well else f"status {by_handle[0]}, accepted up to {last.value}"
 
 
 def key_of(row):

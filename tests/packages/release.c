@@ -22,7 +22,7 @@ int main(int count, char **words) {
     else
         status = jwt_decode_hmac(token, strlen(token), (const uint8_t *)key, key_len, options, options_len, now, claims,
                                  sizeof claims, &len);
-    if (status != JWT_OK) jwt_status_text(status, claims, sizeof claims, &len);
+    if (status != JWT_OK) jwt_text(JWT_OF_STATUS, status, claims, sizeof claims, &len);
     printf("%.*s\n", (int)len, claims);
     return status != JWT_OK;
 }

@@ -4,8 +4,8 @@ import re
 PATH = "packages/c/jwtproved.3"
 HEADER = "packages/c/include/jwtproved.h"
 # a comment with the declarations that it stands above, and one of these
-DESCRIBED = re.compile(r"^/\*((?:(?!\*/).)*)\*/\n((?:(?:enum jwt_status|void) jwt_\w+\([^;]*\);\n)+)", re.M | re.S)
-CALL = re.compile(r"(enum jwt_status|void) (jwt_\w+)\(([^;]*)\);")
+DESCRIBED = re.compile(r"^/\*((?:(?!\*/).)*)\*/\n((?:(?:enum jwt_status|uint32_t|void) jwt_\w+\([^;]*\);\n)+)", re.M | re.S)
+CALL = re.compile(r"(enum jwt_status|uint32_t|void) (jwt_\w+)\(([^;]*)\);")
 
 
 def sentence(comment):

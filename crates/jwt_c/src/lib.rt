@@ -757,7 +757,8 @@ pub extern "C" fn jwt_check_member(alloc: Global, json: &[u8], name: &[u8], text
     member_status(alloc, json, name, text)
 }
 
-/// Returns the number of the algorithm with this name, such as 4 for `RS256`, or 0 if there is none.
+/// Returns the number of the algorithm with this name, such as 4 for `RS256`, or 0 for any other
+/// name.
 #[unsafe(no_mangle)]
 pub extern "C" fn jwt_algorithm(name: &[u8]) -> u32
     ensures { IsNumberOfName name.now result }
@@ -772,7 +773,7 @@ pub extern "C" fn jwt_algorithm(name: &[u8]) -> u32
 #[unsafe(no_mangle)]
 pub extern "C" fn jwt_text(of: u32, number: u32, room: &mut [u8], len: &mut usize) -> u32
     ensures text { LeavesText of number result len.new room.old room.new }
-    // The text of a refusal's status is that of its kind, as far as a status tells it.
+    // The status of a refusal has the text of its kind, as far as a status tells it.
     ensures kinds { (k : Kind) → text_numbered 1 (status_number k) ≡ Some (told_text (kind_part k)) }
     // Each test that a call reports has its name, and each algorithm.
     ensures tests { (t : Test) → text_numbered 2 (test_number t) ≡ Some (test_name t) }

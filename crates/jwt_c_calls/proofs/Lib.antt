@@ -1,3 +1,4 @@
+pub mod AlgorithmNames
 pub mod Answered
 pub mod Checked
 pub mod Decided

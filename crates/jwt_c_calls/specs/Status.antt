@@ -60,7 +60,7 @@ number NoKey = 25
 number (MissingRequiredClaim claim) = 40 + claim_place claim
 number (InvalidClaimFormat claim) = 60 + claim_place claim
 
--- a buffer is too small, a number is not a status
+-- a buffer is too small; a number has no text, or is not that of a part
 abbrev pub buffer_too_small : ℕ
 buffer_too_small = 100
 

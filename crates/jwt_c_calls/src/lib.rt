@@ -14,7 +14,7 @@
 //! [`verifiers`] makes a `jwt_verifier::Verifier` of the texts of options and keys, or returns the
 //! status of the reason for which there is none. `decode_with_expiry` verifies a token with it, and
 //! returns the claims and the last time at which they are accepted, or the status and the number of
-//! the test that failed. [`test_numbers`] has those numbers. [`handle`] is the struct of a caller
+//! the test that failed. [`test_numbers`] has those numbers, and [`texts`] the text of every number. [`handle`] is the struct of a caller
 //! that holds a verifier, and [`handle_results`] has what the calls leave in it.
 #![tactic(auto)]
 

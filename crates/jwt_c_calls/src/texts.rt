@@ -19,7 +19,7 @@ use std::str::FromStr;
 /// The version of the library, the `JWT_VERSION` of `packages/c/include/jwtproved.h`.
 const VERSION: &str = "0.1.0";
 
-/// Returns the number of the algorithm with this name, or 0 if there is none.
+/// Returns the number of the algorithm with this name, or 0 for any other name.
 pub fn number_of_name(name: &[u8]) -> u32
     ensures { IsNumberOfName name.now result }
 {

@@ -40,7 +40,7 @@ static bool is_issued(EVP_PKEY *key, const char *header, const char *options) {
     if (status == JWT_OK) status = jwt_key_from_pem(pem, pem_len, jwk, sizeof jwk, &jwk_len);
     if (status == JWT_OK)
         status = jwt_decode_key(token, token_len, jwk, jwk_len, TEXT(options), 0, buffer, sizeof buffer, &len);
-    if (status != JWT_OK) jwt_status_text(status, buffer, sizeof buffer, &len);
+    if (status != JWT_OK) jwt_text(JWT_OF_STATUS, status, buffer, sizeof buffer, &len);
     printf("%.*s\n", (int)len, buffer);
     BIO_free(text);
     return len == strlen(CLAIMS) && memcmp(buffer, CLAIMS, len) == 0;

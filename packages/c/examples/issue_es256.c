@@ -43,7 +43,7 @@ static bool says(EVP_PKEY *key, const char *claims, const char *wanted) {
     if (status == JWT_OK)
         status = jwt_decode_key(token, token_len, jwk, jwk_len, TEXT("{\"algorithms\":[\"ES256\"]}"), 0, buffer,
                                 sizeof buffer, &len);
-    if (status != JWT_OK) jwt_status_text(status, buffer, sizeof buffer, &len);
+    if (status != JWT_OK) jwt_text(JWT_OF_STATUS, status, buffer, sizeof buffer, &len);
     printf("%.*s\n", (int)len, buffer);
     BIO_free(text);
     return len == strlen(wanted) && memcmp(buffer, wanted, len) == 0;

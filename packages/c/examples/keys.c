@@ -43,7 +43,7 @@ static bool says(decoder *decode, const char *token, const char *keys, const cha
     if (status == JWT_OK)
         status = decode(token, strlen(token), keys, strlen(keys), options, (size_t)options_len, 1300819380, buffer,
                         sizeof buffer, &len);
-    if (status != JWT_OK) jwt_status_text(status, buffer, sizeof buffer, &len);
+    if (status != JWT_OK) jwt_text(JWT_OF_STATUS, status, buffer, sizeof buffer, &len);
     printf("%.*s\n", (int)len, buffer);
     return len == strlen(wanted) && memcmp(buffer, wanted, len) == 0;
 }
@@ -56,10 +56,10 @@ int main(void) {
     right += says(jwt_decode_key, RS256_TOKEN, P256_KEY, "RS256", "InvalidKeyFormat");
     right += says(jwt_decode_key, RS256_TOKEN, RSA_KEY, "PS256", "InvalidAlgorithm");
     right += says(jwt_decode_set, RS256_TOKEN, set, "RS256", "NoKey");
-    right += says(jwt_decode_key, RS256_TOKEN, "", "RS256", "Key not understood");
-    right += says(jwt_decode_key, hs256, zeros_key, "HS256", "Anyone can sign");
-    right += says(jwt_decode_set, hs256, zeros_set, "HS256", "Anyone can sign");
-    right += says(jwt_decode_key, RS256_TOKEN, RSA_KEY, "RS256\"],\"leeway\":9,\"aud\":[\"", "Options not understood");
+    right += says(jwt_decode_key, RS256_TOKEN, "", "RS256", "Invalid key");
+    right += says(jwt_decode_key, hs256, zeros_key, "HS256", "Secret is empty or all zeros");
+    right += says(jwt_decode_set, hs256, zeros_set, "HS256", "Secret is empty or all zeros");
+    right += says(jwt_decode_key, RS256_TOKEN, RSA_KEY, "RS256\"],\"leeway\":9,\"aud\":[\"", "Invalid options");
     printf("%d tokens by keys from C, %d failed\n", right, 10 - right);
     return right != 10;
 }

@@ -34,7 +34,7 @@ static bool says(const char *token, EVP_PKEY *key, uint32_t algorithm, const cha
         status = jwt_decode_verdict(TEXT(token), algorithm, message, message_len, signature, signature_len, yes,
                                     TEXT(options), now, buffer, sizeof buffer, &len);
     }
-    if (status != JWT_OK) jwt_status_text(status, buffer, sizeof buffer, &len);
+    if (status != JWT_OK) jwt_text(JWT_OF_STATUS, status, buffer, sizeof buffer, &len);
     printf("%.*s\n", (int)len, buffer);
     return len == strlen(wanted) && memcmp(buffer, wanted, len) == 0;
 }

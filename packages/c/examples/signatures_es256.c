@@ -46,7 +46,7 @@ static bool says(const char *token, uint64_t now, const char *wanted) {
         status = jwt_decode_verdict(TEXT(token), JWT_ES256, message, message_len, signature, signature_len, yes,
                                     TEXT(OPTIONS), now, buffer, sizeof buffer, &len);
     }
-    if (status != JWT_OK) jwt_status_text(status, buffer, sizeof buffer, &len);
+    if (status != JWT_OK) jwt_text(JWT_OF_STATUS, status, buffer, sizeof buffer, &len);
     printf("%.*s\n", (int)len, buffer);
     return len == strlen(wanted) && memcmp(buffer, wanted, len) == 0;
 }
