@@ -523,6 +523,7 @@ static void unverified_parts(void) {
         {"e30.e30", JWT_PAYLOAD, JWT_INVALID_TOKEN},
         /* one dot more is a part of the header */
         {"e30.e30.e30.", JWT_HEADER, JWT_BASE64},
+        {"e30.?.e30.", JWT_PAYLOAD, JWT_OK},
         {"e30=.e30.", JWT_HEADER, JWT_BASE64},
         {"e30.e30=.", JWT_PAYLOAD, JWT_BASE64},
         {"e31.e30.", JWT_HEADER, JWT_BASE64},

@@ -252,9 +252,9 @@ pub extern "C" fn jwt_verify_signature_key(
 
 /// Writes a part of a token as JSON, with the members in the order of their names: the header if
 /// `part` is 1, and the payload if it is 2. Nothing is verified, and the token may be of any
-/// algorithm. A token that does not have three parts is refused with `InvalidToken`, a part that is
-/// not base64url with `Base64`, and one that is not the JSON of an object with `Json`. Any other
-/// `part` is 102.
+/// algorithm. A text with fewer than two dots is refused with `InvalidToken`, a part that is not
+/// base64url with `Base64`, and one that is not the JSON of an object with `Json`. Any other `part`
+/// is 102.
 #[unsafe(no_mangle)]
 pub extern "C" fn jwt_unverified(
     alloc: Global,

@@ -1,30 +1,32 @@
 -- Bytes that are not UTF-8 are not the name of an algorithm.
-use Rattle.std.proofs.Common.{◌≡◌, ℕ, List, [], ◌∷◌, Bool, true, false, cond, bytes_eq, Option, Some, None, refl, codes}
+use Rattle.std.proofs.Common.{◌≡◌, ℕ, List, [], ◌∷◌, Bool, true, false, cond, bytes_eq, Option, Some, None, refl}
 use Rattle.std.specs.Str.{IsUtf8}
+use Rattle.std.proofs.lemmas.Str.{IsUtf8-from_ascii}
 use Rattle.jwt_base.specs.Algorithm.{all_algorithms, algorithm_named, name_of}
 use Rattle.jwt_base.specs.Spelling.{spelled}
 use Rattle.jwt_base.specs.declared.algorithms.Algorithm.{Algorithm}
 use Rattle.jwt_base.specs.declared.algorithms.Algorithm.TheVariants.{HS256, HS384, HS512, RS256, RS384, RS512, PS256}
 use Rattle.jwt_base.specs.declared.algorithms.Algorithm.TheVariants.{PS384, PS512, ES256, ES384, EdDSA}
 use Rattle.jwt_base.proofs.MembersWritten.{same_texts}
+use Rattle.jsonwebtoken.proofs.Ascii.{ascii}
 
 names_are_utf8 : (a : Algorithm) → IsUtf8 (name_of a)
-names_are_utf8 HS256 = (codes "HS256", (refl, refl))
-names_are_utf8 HS384 = (codes "HS384", (refl, refl))
-names_are_utf8 HS512 = (codes "HS512", (refl, refl))
-names_are_utf8 RS256 = (codes "RS256", (refl, refl))
-names_are_utf8 RS384 = (codes "RS384", (refl, refl))
-names_are_utf8 RS512 = (codes "RS512", (refl, refl))
-names_are_utf8 PS256 = (codes "PS256", (refl, refl))
-names_are_utf8 PS384 = (codes "PS384", (refl, refl))
-names_are_utf8 PS512 = (codes "PS512", (refl, refl))
-names_are_utf8 ES256 = (codes "ES256", (refl, refl))
-names_are_utf8 ES384 = (codes "ES384", (refl, refl))
-names_are_utf8 EdDSA = (codes "EdDSA", (refl, refl))
+names_are_utf8 HS256 = IsUtf8-from_ascii (name_of HS256) (ascii (name_of HS256) refl)
+names_are_utf8 HS384 = IsUtf8-from_ascii (name_of HS384) (ascii (name_of HS384) refl)
+names_are_utf8 HS512 = IsUtf8-from_ascii (name_of HS512) (ascii (name_of HS512) refl)
+names_are_utf8 RS256 = IsUtf8-from_ascii (name_of RS256) (ascii (name_of RS256) refl)
+names_are_utf8 RS384 = IsUtf8-from_ascii (name_of RS384) (ascii (name_of RS384) refl)
+names_are_utf8 RS512 = IsUtf8-from_ascii (name_of RS512) (ascii (name_of RS512) refl)
+names_are_utf8 PS256 = IsUtf8-from_ascii (name_of PS256) (ascii (name_of PS256) refl)
+names_are_utf8 PS384 = IsUtf8-from_ascii (name_of PS384) (ascii (name_of PS384) refl)
+names_are_utf8 PS512 = IsUtf8-from_ascii (name_of PS512) (ascii (name_of PS512) refl)
+names_are_utf8 ES256 = IsUtf8-from_ascii (name_of ES256) (ascii (name_of ES256) refl)
+names_are_utf8 ES384 = IsUtf8-from_ascii (name_of ES384) (ascii (name_of ES384) refl)
+names_are_utf8 EdDSA = IsUtf8-from_ascii (name_of EdDSA) (ascii (name_of EdDSA) refl)
 
 none_at : (b : Bool) (s : List ℕ) (a : Algorithm) (more : Option Algorithm) → bytes_eq s (name_of a) ≡ b → ¬ IsUtf8 s
     → more ≡ None → cond b (Some a) more ≡ None
-none_at true s a more e other later = absurd (other (rw (← same_texts s (name_of a) e) (names_are_utf8 a)))
+none_at true s a more e other later = absurd (other (rw (same_texts s (name_of a) e) (names_are_utf8 a)))
 none_at false s a more e other later = later
 
 none_in : (all : List Algorithm) (s : List ℕ) → ¬ IsUtf8 s → spelled name_of all s ≡ None

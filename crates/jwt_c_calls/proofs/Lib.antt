@@ -6,6 +6,8 @@ pub mod Depths
 pub mod Handed
 pub mod HandleValues
 pub mod Made
+pub mod NumberTexts
+pub mod PartDepths
 pub mod Reasons
 pub mod Statuses
 pub mod Transfers
