@@ -184,7 +184,8 @@ static void rooms(void) {
         is("bytes behind the result", is_kept(&a, room < needed ? 0 : needed), 1);
     }
     size_t len = 7;
-    is("no buffer", jwt_decode_hmac(TEXT(TOKEN), BYTES("secret"), TEXT(OPTIONS), LAST, NULL, 0, &len), JWT_BUFFER_TOO_SMALL);
+    is("no buffer", jwt_decode_hmac(TEXT(TOKEN), BYTES("secret"), TEXT(OPTIONS), LAST, NULL, 0, &len),
+       JWT_BUFFER_TOO_SMALL);
     is("the length without a buffer", len, needed);
 }
 
@@ -1503,7 +1504,6 @@ static void status_texts(void) {
         {JWT_TOKEN_TOO_LONG, "Token too long"},
         {JWT_NO_MEMBER, "No such member"},
         {JWT_KEY_AS_SECRET, "Secret is the text of a key"},
-        {JWT_MIXED_FAMILIES, "Algorithms of several families"},
     };
     struct answer a;
     bool is_status[300] = {false};
@@ -1651,7 +1651,6 @@ static void failed_tests(void) {
         {TOKEN, "secret", "{\"algorithms\":[\"HS384\"]}", LAST, "AlgorithmIsAllowed", JWT_OK},
         /* the header {"alg":"ES256"} */
         {"eyJhbGciOiJFUzI1NiJ9.e30.", "secret", "{\"algorithms\":[\"ES256\"]}", LAST, "no verifier", JWT_NO_USABLE_KEY},
-        {TOKEN, "secret", "{\"algorithms\":[\"HS256\",\"RS256\"]}", LAST, "no verifier", JWT_MIXED_FAMILIES},
         {HS256 ".e30.Y", "secret", OPTIONS, LAST, "SignatureIsBase64url", JWT_OK},
         {NO_PART, "secret", OPTIONS, LAST, "PayloadIsBase64url", JWT_OK},
         {NO_JSON, "secret", OPTIONS, LAST, "PayloadIsJson", JWT_OK},
@@ -1698,7 +1697,9 @@ static void failed_tests_by_keys(void) {
         {NAMED, "{\"keys\":[]}", "no verifier", JWT_NO_USABLE_KEY},
         {NAMED, "{\"keys\":[" HMAC_KEY "]}", "KeyIsFound", JWT_OK},
         {NAMED, SET_WITH("\"alg\":\"HS256\","), "", JWT_OK},
-        {NAMED, SET_WITH("\"alg\":\"HS512\","), "KeyAlgMatches", JWT_OK},
+        {NAMED, SET_WITH("\"alg\":\"HS512\","), "no verifier", JWT_NO_USABLE_KEY},
+        {NAMED, "{\"keys\":[{\"kty\":\"oct\",\"kid\":\"b\",\"alg\":\"HS512\",\"k\":\"c2VjcmV0\"}," HMAC_KEY "]}",
+         "KeyAlgMatches", JWT_OK},
         {NAMED, "{\"keys\":[{\"kty\":\"oct\",\"kid\":\"b\",\"k\":\"*\"}]}", "no verifier", JWT_NO_USABLE_KEY},
         {NAMED, "{\"keys\":[{\"kty\":\"oct\",\"kid\":\"b\",\"k\":\"*\"}," HMAC_KEY "]}", "KeyIsUsable", JWT_OK},
         {NAMED, "{\"keys\":[{\"kty\":\"OKP\",\"crv\":\"Ed25519\",\"kid\":\"b\",\"x\":\"AAAA\"}," HMAC_KEY "]}",
@@ -2341,7 +2342,8 @@ static void checked_members(void) {
 static void algorithms(void) {
     static const char *const names[] = {"HS256", "HS384", "HS512", "RS256", "RS384", "RS512",
                                         "PS256", "PS384", "PS512", "ES256", "ES384", "EdDSA"};
-    static const char *const others[] = {"", "HS", "HS256 ", "hs256", "ES512", "none", "Ed25519", "EdDS", "EdDSAA", "\xff"};
+    static const char *const others[] = {"",     "HS",      "HS256 ", "hs256",  "ES512",
+                                         "none", "Ed25519", "EdDS",   "EdDSAA", "\xff"};
     for (uint32_t i = 1; i <= 12; i++) {
         struct answer a = fresh();
         is(names[i - 1], jwt_algorithm(TEXT(names[i - 1])), i);
@@ -2358,15 +2360,25 @@ static void texts(void) {
     static const struct {
         uint32_t of, number;
     } rows[] = {
-        {JWT_OF_ALGORITHM, 0}, {JWT_OF_ALGORITHM, 13}, {JWT_OF_ALGORITHM, UINT32_MAX}, {JWT_OF_VERSION, 1},
-        {JWT_OF_VERSION, UINT32_MAX}, {0, 0}, {0, 1}, {5, 0}, {5, 1}, {UINT32_MAX, 0}, {257, 1},
+        {JWT_OF_ALGORITHM, 0},
+        {JWT_OF_ALGORITHM, 13},
+        {JWT_OF_ALGORITHM, UINT32_MAX},
+        {JWT_OF_VERSION, 1},
+        {JWT_OF_VERSION, UINT32_MAX},
+        {0, 0},
+        {0, 1},
+        {5, 0},
+        {5, 1},
+        {UINT32_MAX, 0},
+        {257, 1},
     };
     struct answer a = fresh();
     a.status = jwt_text(JWT_OF_VERSION, 0, a.room, ROOM, &a.len);
     is("the version", gives(&a, JWT_VERSION), 1);
     a = fresh();
     a.status = jwt_text(JWT_OF_VERSION, 0, a.room, 4, &a.len);
-    is("the version in a buffer that is too small", status_of(&a) == JWT_BUFFER_TOO_SMALL && a.len == strlen(JWT_VERSION), 1);
+    is("the version in a buffer that is too small",
+       status_of(&a) == JWT_BUFFER_TOO_SMALL && a.len == strlen(JWT_VERSION), 1);
     for (size_t i = 0; i < sizeof rows / sizeof *rows; i++) {
         a = fresh();
         a.status = jwt_text(rows[i].of, rows[i].number, a.room, ROOM, &a.len);

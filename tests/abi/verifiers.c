@@ -156,16 +156,16 @@ static void made(void) {
         {OF_KEY, OCT("LS0tLS1CRUdJTiA"), RS256, JWT_KEY_AS_SECRET},
         {OF_SET, SET_OF(RSA_KEY "," OCT("c3NoLXJzYQ")), RS256, JWT_KEY_AS_SECRET},
         {OF_SET, SET_OF(OCT("AAAA") "," OCT("c3NoLXJzYQ")), HS256, JWT_KEY_AS_SECRET},
-        /* algorithms of several families, of which a token can have one alone, before keys that do not serve */
-        {OF_SET, ALL_KEYS, MIXED, JWT_MIXED_FAMILIES},
-        {OF_SET, ALL_KEYS, "{\"algorithms\":[\"ES384\",\"HS256\"]}", JWT_MIXED_FAMILIES},
-        {OF_SET, ALL_KEYS, "{\"algorithms\":[\"ES256\",\"ES384\",\"EdDSA\"]}", JWT_MIXED_FAMILIES},
-        {OF_SET, SET_OF(""), MIXED, JWT_MIXED_FAMILIES},
-        {OF_SET, SET_OF(SMALL_RSA "," OFF_CURVE), "{\"algorithms\":[\"RS256\",\"ES256\"]}", JWT_MIXED_FAMILIES},
-        {OF_KEY, HMAC_KEY, MIXED, JWT_MIXED_FAMILIES},
-        {OF_KEY, RSA_KEY, MIXED, JWT_MIXED_FAMILIES},
-        {OF_KEY, ED_KEY, MIXED, JWT_MIXED_FAMILIES},
-        {OF_SECRET, "a secret", MIXED, JWT_MIXED_FAMILIES},
+        /* algorithms of several families */
+        {OF_SET, ALL_KEYS, MIXED, JWT_OK},
+        {OF_SET, ALL_KEYS, "{\"algorithms\":[\"ES384\",\"HS256\"]}", JWT_OK},
+        {OF_SET, ALL_KEYS, "{\"algorithms\":[\"ES256\",\"ES384\",\"EdDSA\"]}", JWT_OK},
+        {OF_SET, SET_OF(""), MIXED, JWT_NO_USABLE_KEY},
+        {OF_SET, SET_OF(SMALL_RSA "," OFF_CURVE), "{\"algorithms\":[\"RS256\",\"ES256\"]}", JWT_NO_USABLE_KEY},
+        {OF_KEY, HMAC_KEY, MIXED, JWT_OK},
+        {OF_KEY, RSA_KEY, MIXED, JWT_OK},
+        {OF_KEY, ED_KEY, MIXED, JWT_NO_USABLE_KEY},
+        {OF_SECRET, "a secret", MIXED, JWT_OK},
         /* keys that serve no algorithm of the options */
         {OF_SET, SET_OF(""), HS256, JWT_NO_USABLE_KEY},
         {OF_SET, SET_OF(OCT_UNNAMED), HS256, JWT_NO_USABLE_KEY},
@@ -196,10 +196,8 @@ static void made(void) {
         jwt_verifier_free(&v);
         is("freed", v.at == NULL, 1);
         bool is_blank = rows[i].status == JWT_ALL_ZERO_SECRET || rows[i].status == JWT_KEY_AS_SECRET;
-        bool serves = strcmp(rows[i].options, HS256) == 0, is_mixed = strcmp(rows[i].options, MIXED) == 0;
-        uint32_t others = is_mixed                                ? JWT_MIXED_FAMILIES
-                          : serves || strstr(rows[i].keys, "RSA") ? JWT_OK
-                                                                  : JWT_NO_USABLE_KEY;
+        bool serves = strcmp(rows[i].options, HS256) == 0 || strcmp(rows[i].options, MIXED) == 0;
+        uint32_t others = serves || strstr(rows[i].keys, "RSA") ? JWT_OK : JWT_NO_USABLE_KEY;
         is("keys with which anyone can sign that are allowed",
            make(rows[i].source, rows[i].keys, rows[i].options, 0, true, &v), is_blank ? others : rows[i].status);
         jwt_verifier_free(&v);
@@ -220,8 +218,7 @@ static void slips(void) {
     is("it is unchanged", v.at == at && status(&v, BY_HS256) == JWT_OK, 1);
     is("shared", jwt_verifier_share(&v, &w), JWT_OK);
     is("shared twice", jwt_verifier_share(&v, &w), JWT_VERIFIER_IN_USE);
-    is("a share of none in the place of one", (jwt_verifier_free(&v), jwt_verifier_share(&v, &w)),
-       JWT_VERIFIER_IN_USE);
+    is("a share of none in the place of one", (jwt_verifier_free(&v), jwt_verifier_share(&v, &w)), JWT_VERIFIER_IN_USE);
     is("freed", status(&v, BY_HS256), JWT_NO_VERIFIER);
     is("the share stays", status(&w, BY_HS256), JWT_OK);
     struct jwt_verifier moved = w;
@@ -333,9 +330,21 @@ static bool are_alike(struct jwt_verifier v[2], const struct answer *plain, cons
     return is_alike(&v[1], plain, token, len, now, room, &test[1]) && is_well && test[0] == test[1];
 }
 
+/* The options with which the call without a verifier leaves the same: those of the algorithms that are of the family of the key that the token
+   names; if none is, all. */
+static const char *options_for(enum source source, const char *key, const char *options, const char *token) {
+    bool is_set = source == OF_SET;
+    if (strcmp(options, MIXED) != 0) return options;
+    if (is_set ? strcmp(token, BY_HS256) == 0 : strstr(key, "\"oct\"") != NULL) return HS256;
+    if (is_set ? strcmp(token, BY_RS256) == 0 || strcmp(token, BY_PS256) == 0 : strstr(key, "\"RSA\"") != NULL)
+        return "{\"algorithms\":[\"RS256\"]}";
+    return options;
+}
+
 /* the token as it is at each time, and damaged at every so many bytes */
 static void compare(struct jwt_verifier *v, enum source source, const char *key, const char *options, const char *text,
                     size_t step) {
+    const char *plain = options_for(source, key, options, text);
     struct jwt_verifier both[2] = {*v, JWT_VERIFIER_NONE};
     char token[800];
     size_t len = strlen(text), wrong = 0, kept = max_prepared;
@@ -345,12 +354,12 @@ static void compare(struct jwt_verifier *v, enum source source, const char *key,
     max_prepared = kept;
     for (size_t i = 0; i < 2 * COUNT(times); i++) {
         size_t room = i % 2 ? ROOM : 10;
-        struct answer a = stateless(source, key, options, token, len, times[i / 2], room);
+        struct answer a = stateless(source, key, plain, token, len, times[i / 2], room);
         wrong += !are_alike(both, &a, token, len, times[i / 2], room);
     }
     for (size_t at = 0; at < len; at += step) {
         token[at] ^= 1;
-        struct answer a = stateless(source, key, options, token, len, 1700000000, ROOM);
+        struct answer a = stateless(source, key, plain, token, len, 1700000000, ROOM);
         wrong += !are_alike(both, &a, token, len, 1700000000, ROOM);
         token[at] ^= 1;
     }
@@ -371,8 +380,7 @@ static void compare_all(enum source source, const char **list, size_t count, siz
         for (size_t o = 0; o < COUNT(all_options); o++) {
             struct jwt_verifier v = JWT_VERIFIER_NONE;
             uint32_t status = make(source, list[k], all_options[o], 0, false, &v);
-            is("made, or not", status == JWT_OK || status == JWT_NO_USABLE_KEY || status == JWT_MIXED_FAMILIES, 1);
-            is("of several families", status == JWT_MIXED_FAMILIES, strcmp(all_options[o], MIXED) == 0);
+            is("made, or not", status == JWT_OK || status == JWT_NO_USABLE_KEY, 1);
             for (size_t t = 0; t < COUNT(tokens); t++)
                 if (status == JWT_OK)
                     compare(&v, source, list[k], all_options[o], tokens[t], step);
@@ -603,8 +611,7 @@ static int verify(const char *way, const char *set, const char *options, const c
     size_t len;
     uint64_t last;
     uint32_t test, status = JWT_OK;
-    if (!is_anew)
-        status = jwt_verifier_set(TEXT(set), TEXT(options), 0, false, strtoull(way, NULL, 10), &verifier);
+    if (!is_anew) status = jwt_verifier_set(TEXT(set), TEXT(options), 0, false, strtoull(way, NULL, 10), &verifier);
     for (; status == JWT_OK && count > 0; count--)
         status = is_anew ? jwt_decode_set(TEXT(token), TEXT(set), TEXT(options), 1700000000, room, ROOM, &len)
                          : jwt_verifier_decode(&verifier, TEXT(token), 1700000000, room, ROOM, &len, &last, &test);
@@ -614,8 +621,7 @@ static int verify(const char *way, const char *set, const char *options, const c
 
 int main(int argc, char **argv) {
     /* anew, or the greatest number of bytes of prepared keys; SET OPTIONS TOKEN COUNT: for tests/programs/verified_once */
-    if (argc == 6)
-        return verify(argv[1], argv[2], argv[3], argv[4], atoi(argv[5]));
+    if (argc == 6) return verify(argv[1], argv[2], argv[3], argv[4], atoi(argv[5]));
     is_few = argc > 1 && strcmp(argv[1], "few") == 0;
     size_t step = is_few ? 400 : 23;
     if (is_few) rounds = 10;

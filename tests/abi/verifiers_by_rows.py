@@ -1,8 +1,10 @@
 """Runs the rows of crates/jwt_vectors/data that verify a token with a JSON Web Key or a set of keys, through a verifier of the library for
-C and through the call without one: both leave the same status and bytes, and for the provider of all algorithms these are the row's. The
-last time of an accepted token is not before the row's. If no verifier is made, the call without one refuses the token.
+C and through the call without one: both leave the same status and bytes, if the call without one has the algorithms of the key's family
+alone. For the provider of all algorithms, the call without a verifier leaves what the row wants. The last time of an accepted token is not
+before the row's. If no verifier is made, the call without one refuses the token.
 The last line counts."""
 import argparse
+import base64
 import ctypes
 import glob
 import json
@@ -13,8 +15,10 @@ TOP = os.path.dirname(os.path.dirname(os.path.dirname(os.path.abspath(__file__))
 BYTES = [ctypes.c_char_p, ctypes.c_size_t]
 BUFFER = [ctypes.c_char_p, ctypes.c_size_t, ctypes.POINTER(ctypes.c_size_t)]
 LIMITS = [ctypes.c_size_t, ctypes.c_bool, ctypes.c_size_t]
-OK, NO_USABLE_KEY, MIXED_FAMILIES = 0, 110, 114
+OK, NO_USABLE_KEY = 0, 110
 OF_STATUS = 1
+# the type of the keys of an algorithm's family, by the beginning of its name
+FAMILIES = {"HS": "oct", "RS": "RSA", "PS": "RSA", "ES": "EC", "Ed": "OKP"}
 # The names of kinds that are not their texts.
 NAMES = {"Base64 error": "Base64", "JSON error": "Json", "UTF-8 error": "Utf8"}
 
@@ -53,25 +57,48 @@ def shown(library, status, text):
     return {"err": NAMES.get(said, said)}
 
 
+def key_type(row, kind, key):
+    """Returns the `kty` of a row's key, or of the key of the set that the token's header names, or None if there is none."""
+    try:
+        if kind == "key":
+            return json.loads(key)["kty"]
+        part = row["token"].split(".")[0]
+        kid = json.loads(base64.urlsafe_b64decode(part + "=" * (-len(part) % 4)))["kid"]
+        return next(it["kty"] for it in json.loads(key)["keys"] if it.get("kid") == kid)
+    except (AttributeError, KeyError, StopIteration, TypeError, ValueError):
+        return None
+
+
+def options_for(row, kind, key):
+    """Returns the options by which the call without a verifier does the same: the algorithms of the key's family, or all if none is of it."""
+    options = row["validation"]
+    names = options.get("algorithms")
+    if not isinstance(names, list) or not all(isinstance(it, str) for it in names):
+        return options
+    of_family = [it for it in names if FAMILIES.get(it[:2]) == key_type(row, kind, key)]
+    return {**options, "algorithms": of_family or names}
+
+
 def results(library, row, kind, key):
-    """Returns the results without a verifier and through one, or None if no verifier is made, since it could accept no token. The second is
-    no result if the last time is wrong."""
-    options = json.dumps(row["validation"]).encode()
+    """Returns the results without a verifier, of the row and of the algorithms of the key's family, and the result through a verifier, or None if
+    no verifier is made, since it could accept no token. The third is no result if the last time is wrong."""
+    options, of_family = (json.dumps(it).encode() for it in (row["validation"], options_for(row, kind, key)))
     token, now = row["token"].encode(), row["now"]
     stateless = getattr(library, f"jwt_decode_{kind}")
-    plain = left(lambda *buffer: stateless(*given(token), *given(key), *given(options), now, *buffer))
+    as_row = left(lambda *buffer: stateless(*given(token), *given(key), *given(options), now, *buffer))
+    plain = left(lambda *buffer: stateless(*given(token), *given(key), *given(of_family), now, *buffer))
     handle = Handle()
     status = getattr(library, f"jwt_verifier_{kind}")(*given(key), *given(options), 1 << 30, True, 0, ctypes.byref(handle))
-    if status in (NO_USABLE_KEY, MIXED_FAMILIES):
-        return plain, None
+    if status == NO_USABLE_KEY:
+        return as_row, plain, None
     last, test = ctypes.c_uint64(), ctypes.c_uint32()
     by_handle = left(lambda *buffer: library.jwt_verifier_decode(ctypes.byref(handle), *given(token), now, *buffer, ctypes.byref(last), ctypes.byref(test)))
     library.jwt_verifier_free(ctypes.byref(handle))
     if status != OK:
         # a text that is refused is refused when the verifier is made
-        return plain, (status, b"")
+        return as_row, plain, (status, b"")
     is_well = last.value >= now if by_handle[0] == OK else last.value == 0
-    return plain, by_handle if is_well else f"status {by_handle[0]}, accepted up to {last.value}"
+    return as_row, plain, by_handle if is_well else f"status {by_handle[0]}, accepted up to {last.value}"
 
 
 def key_of(row):
@@ -95,12 +122,12 @@ def main():
                 key = key_of(row)
                 if key is None:
                     continue
-                plain, by_handle = results(library, row, *key)
+                as_row, plain, by_handle = results(library, row, *key)
                 unfit += by_handle is None
                 is_well = plain[0] != OK if by_handle is None else by_handle == plain
                 if row.get("provider") == "StandardProvider":
                     want = {"ok": row["want"]["ok"]["claims"]} if "ok" in row["want"] else row["want"]
-                    is_well = is_well and shown(library, *plain) == want
+                    is_well = is_well and shown(library, *as_row) == want
                 passed, failed = passed + is_well, failed + (not is_well)
                 if not is_well:
                     print(f"FAILED: {row['id']}: {by_handle}, not {plain}")

@@ -568,7 +568,6 @@ pub extern "C" fn jwt_check_set(alloc: Global, set: &[u8]) -> u32
 ///
 /// - 101 or 103 if a text is refused, as by `jwt_decode_set`;
 /// - 107 if anyone can sign with a key of the set (RFC 2104 section 2), unless `allows_blank`;
-/// - 114 if the algorithms of the options are of several families, so that every token is refused;
 /// - 110 if no key of the set that has a `kid` verifies with any of the algorithms of the options;
 /// - 109 if the handle holds a verifier already, which is unchanged.
 #[unsafe(no_mangle)]

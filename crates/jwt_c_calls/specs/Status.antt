@@ -60,7 +60,7 @@ number NoKey = 25
 number (MissingRequiredClaim claim) = 40 + claim_place claim
 number (InvalidClaimFormat claim) = 60 + claim_place claim
 
--- a buffer is too small; a number has no text, or is not that of a part
+-- a buffer is too small; a number has no text, or selects no part
 abbrev pub buffer_too_small : ℕ
 buffer_too_small = 100
 
@@ -101,10 +101,6 @@ no_member = 112
 -- a secret is the text of a key of another kind
 abbrev pub key_as_secret : ℕ
 key_as_secret = 113
-
--- the algorithms of the options are of several families
-abbrev pub mixed_families : ℕ
-mixed_families = 114
 
 -- The text of a status is that of its kind, without the colon that announces what no status tells: a message, or the
 -- claim of another name than the five. In C a provider's kind is that of a private key alone.
@@ -150,7 +146,6 @@ statuses = (0, codes "OK")
     ∷ (token_too_long, codes "Token too long")
     ∷ (no_member, codes "No such member")
     ∷ (key_as_secret, codes "Secret is the text of a key")
-    ∷ (mixed_families, codes "Algorithms of several families")
     ∷ []
 
 -- the text of a number in a table

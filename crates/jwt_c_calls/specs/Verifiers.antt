@@ -32,7 +32,7 @@ use Rattle.jwt_verifier.specs.declared.keys.Keys.TheVariants.{One, Set}
 use Rattle.jwt_verifier.specs.declared.limits.Limits.{Limits}
 use Rattle.jwt_verifier.specs.declared.verifier.Verifier.{Verifier}
 use Rattle.jwt_c_calls.specs.Calls.{Answer, Returns, Refuses, InputError, AnswersBy, IsClaimsText, status_of}
-use Rattle.jwt_c_calls.specs.Status.{number, all_zero_secret, key_as_secret, mixed_families, no_usable_key}
+use Rattle.jwt_c_calls.specs.Status.{number, all_zero_secret, key_as_secret, no_usable_key}
 use Rattle.jwt_c_calls.specs.Status.{token_too_long}
 use Rattle.jwt_c_calls.specs.TestNumbers.{test_number}
 

@@ -115,8 +115,6 @@ pub const NO_MEMBER: Status = (112, "No such member");
 
 pub const KEY_AS_SECRET: Status = (113, "Secret is the text of a key");
 
-pub const MIXED_FAMILIES: Status = (114, "Algorithms of several families");
-
 /// Returns the text of a status, if the number is one.
 pub fn text_of(number: u32) -> Option<&'static str>
     ensures { option_map (λ t. t.now) result ≡ status_text number }
@@ -124,7 +122,7 @@ pub fn text_of(number: u32) -> Option<&'static str>
     text_in(&statuses(), number)
 }
 
-fn statuses() -> [Status; 53]
+fn statuses() -> [Status; 52]
     ensures { map (λ s. (s.0, s.1.now)) result ≡ statuses }
 {
     [
@@ -180,7 +178,6 @@ fn statuses() -> [Status; 53]
         TOKEN_TOO_LONG,
         NO_MEMBER,
         KEY_AS_SECRET,
-        MIXED_FAMILIES,
     ]
 }
 

@@ -17,7 +17,8 @@ static const uint8_t secret[] = "0123456789abcdef0123456789abcdef";
 static void print_test(uint32_t test) {
     char name[32];
     size_t len;
-    if (jwt_text(JWT_OF_TEST, test, name, sizeof name, &len) == JWT_OK) printf("the test %.*s failed\n", (int)len, name);
+    if (jwt_text(JWT_OF_TEST, test, name, sizeof name, &len) == JWT_OK)
+        printf("the test %.*s failed\n", (int)len, name);
 }
 
 /* Returns whether the claims, or the refusal's text, are these. The length of the secret is tested here (RFC 7518 section 3.2); no
