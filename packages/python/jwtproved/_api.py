@@ -6,21 +6,18 @@ from collections.abc import Mapping
 from typing import Any, Never
 
 from . import _refusals, _signing
-from ._encoding import header_of, members_of, payload_of, unsignable, written
+from ._encoding import members_of, payload_of, unsignable, written
 from ._keys import Key, PyJWK, SigningKey, bytes_of, is_private, material_known, material_of
-from ._library import ALGORITHMS, Refusal, answer, library, slices
-from ._parts import parts_of
-from ._rules import DEFAULTS, Moment, Names, Rules, arguments_of, check_keywords, exact_str, names_nearest, options_of, rules_of
-from ._signatures import claims_by_verdict, signed_part
-from ._status import Status
-from ._verifier import Checker, Refuser, Token, checker_of, complete, moment_of, token_of
-from .exceptions import DecodeError, InvalidKeyError
+from ._library import ALGORITHMS, Refusal, algorithms_of, answer, check, library, number_of, slices
+from ._rules import DEFAULTS, Further, Moment, Names, Rules, arguments_of, check_keywords, exact_str, names_nearest, options_of, rules_of
+from ._status import Part, Status
+from ._unverified import header_of, octets_of, part_of
+from ._verifier import Checker, Token, checker_of, complete, moment_of, token_of
+from .exceptions import DecodeError, InvalidAlgorithmError, InvalidKeyError, InvalidTokenError
 from .types import Listed, Options
 
 # The most checkers that an object finds without reading the arguments again: PyJWT's interface has no object that is made once.
 _CACHE_SIZE = 64
-# the text of {"alg":"HS256"}
-_HEADER_OF_NONE = b"eyJhbGciOiJIUzI1NiJ9"
 
 
 _LISTS = frozenset((list, tuple, set, frozenset))
@@ -80,15 +77,15 @@ def _call(
         return None
 
 
-def _checker(key: Key, rules: Rules) -> Checker | Refuser:
+def _checker(key: Key, rules: Rules) -> Checker:
     if not rules.algorithms:
         raise DecodeError('It is required that you pass in a value for the "algorithms" argument when calling decode().')
     try:
         return checker_of(material_of(key), rules)
-    except InvalidKeyError:
-        # a JSON Web Key of its own serves some algorithm, and is chosen by the kid of whoever sent the token
+    except InvalidKeyError as error:
+        # the sender of the token may have chosen the key by its kid (PyJWKClient)
         if isinstance(key, PyJWK):
-            return Refuser(key._material, rules)
+            raise InvalidAlgorithmError(str(error)) from None
         raise
 
 
@@ -102,15 +99,9 @@ def _check_unused(verify: Any, detached_payload: Any, options: Any) -> None:
 
 
 @functools.cache
-def _signs(algorithm: str) -> bool:
-    """Returns whether the library signs with this algorithm."""
-    try:
-        answer(library.jwt_encode_hmac, *slices(header_of(algorithm, None), b"{}", b"any secret"))
-    except Refusal as refusal:
-        if refusal.status != Status.INVALID_ALGORITHM:
-            raise
-        return False
-    return True
+def _of_secrets() -> tuple[str, ...]:
+    """Returns the algorithms of a secret. The library signs with no others."""
+    return algorithms_of(b'{"kty":"oct","k":"c2VjcmV0"}')
 
 
 def _by_secret(key: SigningKey, algorithm: str, header: bytes, claims: bytes) -> str:
@@ -142,7 +133,7 @@ class PyJWT:
 
     def __init__(self, options: Options | None = None) -> None:
         self._own = options_of(options, drops=True)
-        self._kept: dict[tuple[Any, ...] | None, Checker | Refuser] = {}
+        self._kept: dict[tuple[Any, ...] | None, Checker] = {}
         self.options = {**DEFAULTS, **self._own, "require": list(self._own.get("require", ()))}
 
     def decode(
@@ -184,7 +175,7 @@ class PyJWT:
                 self._keep(call, checker)
         return checker.decode(token, moment_of(None))
 
-    def _keep(self, call: tuple[Any, ...], checker: Checker | Refuser) -> None:
+    def _keep(self, call: tuple[Any, ...], checker: Checker) -> None:
         if len(self._kept) >= _CACHE_SIZE:
             self._kept.clear()
         self._kept[call] = checker
@@ -215,18 +206,21 @@ class PyJWT:
 
     @staticmethod
     def _unverified(token: bytes, rules: Rules) -> dict[str, Any]:
-        """Returns the claims of a token whose signature is not verified, after the tests that are asked for by name."""
-        now = moment_of(None)
+        """Returns the claims of a token whose signature is not verified, after the checks that the options name."""
+        unless_named = {name: False for name in DEFAULTS if name.startswith("verify_")}
+        rules = rules._replace(options=tuple({**unless_named, **dict(rules.options)}.items()))
+        further, now = Further(rules), moment_of(None)
+        # PyJWT reads each part
+        header_of(token)
+        octets_of(token.rpartition(b".")[2], "crypto")
+        payload = part_of(token, Part.PAYLOAD)
         try:
-            part = signed_part(token)
-        except DecodeError:
-            # of another algorithm: the claims are those of a token of one that the library knows, of which no signature is verified either
-            found = parts_of(token)
-            token = b"%s.%s.%s" % (_HEADER_OF_NONE, found.texts[1].rstrip(b"="), _HEADER_OF_NONE)
-            part = signed_part(token)
-        unless_asked = {name: False for name in DEFAULTS if name.startswith("verify_")}
-        asked = tuple({**unless_asked, **dict(rules.options)}.items())
-        return claims_by_verdict(token, part, True, rules._replace(algorithms=(part.algorithm,), options=asked), now)
+            check(library.jwt_check_claims(*slices(payload, rules.text(())), now))
+        except Refusal as refusal:
+            raise _refusals.exception_of(refusal, token, True, further.unlike) from None
+        claims: dict[str, Any] = json.loads(payload)
+        further.check(claims, now)
+        return claims
 
     @names_nearest
     def encode(
@@ -246,17 +240,22 @@ class PyJWT:
         claims = payload_of(payload, json_encoder, self._is_lenient)
         members = members_of(algorithm or (key.algorithm_name if isinstance(key, PyJWK) else "HS256"), headers)
         named = members["alg"]
-        if not isinstance(named, str) or named not in ALGORITHMS:
+        if not isinstance(named, str) or not number_of(named):
             raise NotImplementedError(f"algorithm is {named!r}, which is not one of {', '.join(ALGORITHMS)}")
         header = written("headers", members, json_encoder)
-        if not _signs(named):
-            return _signing.signer_of(key, exact_str(named)).token(header, claims)
+        named = exact_str(named)
+        if named not in _of_secrets():
+            return _signing.signer_of(key, named).token(header, claims)
         return _by_secret(key, named, header, claims)
 
 
 def get_unverified_header(jwt: Token) -> dict[str, Any]:
-    """Returns the header of a token. Nothing is verified."""
-    return _refusals.header_of(token_of("jwt", jwt))
+    """Returns the header of a token of any algorithm. Nothing is verified. As in PyJWT, a `kid` must be a string."""
+    header = header_of(token_of("jwt", jwt))
+    kid = header.get("kid")
+    if kid is not None and not isinstance(kid, str):
+        raise InvalidTokenError("Key ID header parameter must be a string")
+    return header
 
 
 _DECODE = arguments_of(PyJWT.decode)

@@ -1,23 +1,13 @@
 """The shared library: its calls for C (jwtproved.h), by ctypes."""
 import ctypes
 import functools
+import itertools
 import os
 import threading
-from collections.abc import Callable
+from collections.abc import Callable, Iterator
 from typing import Any
 
-from ._status import Status
-
-# of one of these are the algorithms of a verifier (JWT_MIXED_FAMILIES); in the order of their numbers
-FAMILIES: tuple[tuple[str, ...], ...] = (
-    ("HS256", "HS384", "HS512"),
-    ("RS256", "RS384", "RS512", "PS256", "PS384", "PS512"),
-    ("ES256", "ES384"),
-    ("EdDSA",),
-)
-ALGORITHMS = tuple(it for family in FAMILIES for it in family)
-# the type of the keys that serve an algorithm (RFC 7518 section 6.1, RFC 8037 section 2)
-KEY_TYPES = {it: key_type for key_type, family in zip(("oct", "RSA", "EC", "OKP"), FAMILIES) for it in family}
+from ._status import Of, Status
 
 # the most bytes of prepared keys: the library's default, a bound for sets in `decode`, since fetched sets may have many keys, and so few
 # that no key is prepared, for one token
@@ -65,7 +55,8 @@ _PROTOTYPES: dict[str, list[Any]] = {
     "jwt_verify_signature_hmac": [*_BYTES, *_BYTES, *_BYTES, ctypes.c_uint32],
     "jwt_verify_signature_key": [*_BYTES, *_BYTES, *_BYTES, ctypes.c_uint32],
     "jwt_key_algorithms": [*_BYTES, _NUMBER],
-    "jwt_decode_header": [*_BYTES, *_BUFFER],
+    "jwt_unverified": [*_BYTES, ctypes.c_uint32, *_BUFFER],
+    "jwt_check_claims": [*_BYTES, *_BYTES, ctypes.c_uint64],
     "jwt_encode_hmac": [*_BYTES, *_BYTES, *_BYTES, *_BUFFER],
     "jwt_encode_key": [*_BYTES, *_BYTES, *_BYTES, *_BUFFER],
     "jwt_signing_input": [*_BYTES, *_BYTES, _NUMBER, *_BUFFER],
@@ -77,8 +68,8 @@ _PROTOTYPES: dict[str, list[Any]] = {
     "jwt_check_secret": _BYTES,
     "jwt_check_key": _BYTES,
     "jwt_check_set": _BYTES,
-    "jwt_status_text": [ctypes.c_uint32, *_BUFFER],
-    "jwt_test_text": [ctypes.c_uint32, *_BUFFER],
+    "jwt_algorithm": _BYTES,
+    "jwt_text": [ctypes.c_uint32, ctypes.c_uint32, *_BUFFER],
 }
 
 
@@ -128,15 +119,33 @@ def answer(call: Any, *arguments: Any) -> bytes:
     return buffer.raw[: length.value]
 
 
-def text_of(status: int) -> str:
-    """Returns the library's text of a status, such as 'InvalidSignature'."""
-    return str(answer(library.jwt_status_text, status), "utf-8")
-
-
 @functools.cache
+def _text(of: Of, number: int) -> str:
+    return str(answer(library.jwt_text, of, number), "utf-8")
+
+
+def text_of(status: int) -> str:
+    """Returns the text of a status, such as 'InvalidSignature'."""
+    return _text(Of.OF_STATUS, status)
+
+
 def test_of(number: int) -> str:
     """Returns the name of a test of a token, such as 'SignatureIsAccepted'."""
-    return str(answer(library.jwt_test_text, number), "utf-8")
+    return _text(Of.OF_TEST, number)
+
+
+def _algorithms() -> Iterator[str]:
+    for number in itertools.count(1):
+        try:
+            yield _text(Of.OF_ALGORITHM, number)
+        except Refusal as refusal:
+            if refusal.status != Status.UNKNOWN_NUMBER:
+                raise
+            return
+
+
+# the names of the library's algorithms, in the order of their numbers
+ALGORITHMS = tuple(_algorithms())
 
 
 def slices(*texts: bytes) -> list[Any]:
@@ -145,15 +154,15 @@ def slices(*texts: bytes) -> list[Any]:
 
 
 def number_of(algorithm: str) -> int:
-    """Returns the number of an algorithm in jwtproved.h."""
-    return ALGORITHMS.index(algorithm) + 1
+    """Returns the number of an algorithm in jwtproved.h, or 0 if the library has no algorithm of this name."""
+    return int(library.jwt_algorithm(*slices(str.encode(algorithm, "utf-8", "surrogatepass"))))
 
 
 def algorithms_of(key: bytes) -> tuple[str, ...]:
-    """Returns the algorithms that a JSON Web Key serves. Raises Refusal if the library can't read it."""
+    """Returns the algorithms of a JSON Web Key. Raises Refusal if the library can't read the key."""
     bits = ctypes.c_uint32()
     check(library.jwt_key_algorithms(*slices(key), ctypes.byref(bits)))
-    return tuple(it for it in ALGORITHMS if bits.value >> number_of(it) & 1)
+    return tuple(name for number, name in enumerate(ALGORITHMS, 1) if bits.value >> number & 1)
 
 
 def parts(token: bytes) -> tuple[str, bytes, bytes]:

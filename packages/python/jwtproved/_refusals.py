@@ -3,19 +3,19 @@ import json
 from typing import Any
 
 from . import exceptions
-from ._library import Refusal, answer, library, slices, test_of, text_of
-from ._parts import parts_of
+from ._library import Refusal, test_of, text_of
 from ._status import Status
+from ._unverified import header_of
 
 UNLISTED_ALG = "The specified alg value is not allowed"
-NO_USABLE_KEY = "the key that the kid names is for other algorithms, or does not serve"
+BAD_CRIT = "the header's crit names what is not understood"
 # The statuses that have an exception and a text of their own. Any other is a DecodeError with the library's text.
 _EXCEPTIONS: dict[int, tuple[type[Exception], str]] = {
     Status.INVALID_TOKEN: (exceptions.DecodeError, "Not enough segments"),
     Status.INVALID_SIGNATURE: (exceptions.InvalidSignatureError, "Signature verification failed"),
     # the header names the key of a set, so that these refuse a token as another alg does
     Status.UNSUPPORTED_ALGORITHM: (exceptions.InvalidAlgorithmError, "no token is verified with the key that the kid names"),
-    Status.INVALID_KEY_FORMAT: (exceptions.InvalidAlgorithmError, NO_USABLE_KEY),
+    Status.INVALID_KEY_FORMAT: (exceptions.InvalidAlgorithmError, "the key that the kid names is for other algorithms, or does not serve"),
     Status.EXPIRED_SIGNATURE: (exceptions.ExpiredSignatureError, "Signature has expired"),
     Status.INVALID_ISSUER: (exceptions.InvalidIssuerError, "Invalid issuer"),
     Status.INVALID_AUDIENCE: (exceptions.InvalidAudienceError, "Invalid audience"),
@@ -24,7 +24,7 @@ _EXCEPTIONS: dict[int, tuple[type[Exception], str]] = {
     Status.INVALID_ALGORITHM: (exceptions.InvalidAlgorithmError, UNLISTED_ALG),
     Status.BASE64: (exceptions.DecodeError, "a part of the token is not base64url"),
     Status.JSON: (exceptions.DecodeError, "Invalid header string: must be a json object with the alg of a signature that is known"),
-    Status.INVALID_CRIT: (exceptions.DecodeError, "the header's crit names what is not understood"),
+    Status.INVALID_CRIT: (exceptions.DecodeError, BAD_CRIT),
     Status.MALFORMED_EXP: (exceptions.DecodeError, "Expiration Time claim (exp) must be an integer."),
     Status.MALFORMED_NBF: (exceptions.DecodeError, "Not Before claim (nbf) must be an integer."),
     Status.MALFORMED_AUD: (exceptions.InvalidAudienceError, "Invalid claim format in token"),
@@ -83,24 +83,12 @@ def exception_of(refusal: Refusal, token: bytes, is_of_claims: bool = False, unl
     return error
 
 
-def other_algorithm(text: str, failed_test: str) -> exceptions.InvalidAlgorithmError:
-    """Returns the refusal of a token by its algorithm."""
-    error = exceptions.InvalidAlgorithmError(text)
-    error.failed_test = failed_test
-    return error
-
-
-def exception_of_texts(refusal: Refusal) -> Exception:
-    """Returns the exception for options, a key or a set of which the library makes no verifier."""
+def exception_of_making(refusal: Refusal, is_set: bool, algorithms: tuple[str, ...]) -> Exception:
+    """Returns the exception for a key, or a set of keys, and options with these algorithms, if the library does not make a verifier."""
     if refusal.status == Status.BAD_OPTIONS:
         return _exception_of(refusal.status, False, b"")
+    if refusal.status == Status.NO_USABLE_KEY:
+        which, each = ("no key of the set fits", "each has no kid, or") if is_set else ("the key does not fit", "it")
+        names = ", ".join(algorithms)
+        return exceptions.InvalidKeyError(f"{which} the algorithms {names}: {each} is of another type, for another alg, or too weak")
     return exceptions.InvalidKeyError(f"the key can't be read, or anyone can sign for it: {text_of(refusal.status)}")
-
-
-def header_of(token: bytes) -> dict[str, Any]:
-    """Returns the header of a token. Nothing is verified: the token may be of any algorithm."""
-    try:
-        found: dict[str, Any] = json.loads(answer(library.jwt_decode_header, *slices(token)))
-    except Refusal:
-        return parts_of(token).header
-    return found

@@ -155,6 +155,6 @@ def ecdsa_signature(der: bytes, algorithm: str) -> bytes:
 def _algorithm(name: str, value: Any) -> str:
     if not isinstance(value, str):
         raise wrong_type(name, "a string", value)
-    if value not in ALGORITHMS:
+    if not number_of(value):
         raise ValueError(f"{name} must be one of {', '.join(ALGORITHMS)}, not {value!r}")
     return value

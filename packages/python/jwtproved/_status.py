@@ -1,4 +1,4 @@
-"""The statuses of the library's calls (jwtproved.h)."""
+"""The statuses of the library's calls, and other numbers that they take (jwtproved.h)."""
 import enum
 
 
@@ -57,4 +57,19 @@ class Status(enum.IntEnum):
     TOKEN_TOO_LONG = 111
     NO_MEMBER = 112
     KEY_AS_SECRET = 113
-    MIXED_FAMILIES = 114
+
+
+class Of(enum.IntEnum):
+    """What a number stands for, named in the same way."""
+
+    OF_STATUS = 1
+    OF_TEST = 2
+    OF_ALGORITHM = 3
+    OF_VERSION = 4
+
+
+class Part(enum.IntEnum):
+    """A part of a token, named in the same way."""
+
+    HEADER = 1
+    PAYLOAD = 2

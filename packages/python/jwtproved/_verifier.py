@@ -8,11 +8,10 @@ from typing import Any
 from . import _refusals
 from ._handles import Handles
 from ._keys import Key, Material, material_of
-from ._library import ALGORITHMS, FAMILIES, PREPARE_NOTHING, PREPARED, PREPARED_OF_SET, Refusal, algorithms_of, parts
-from ._parts import parts_of
+from ._library import PREPARE_NOTHING, PREPARED, PREPARED_OF_SET, Refusal
 from ._rules import Further, Moment, Names, Rules, exact_number, exact_str, names_nearest, options_of, rules_of, wrong_type
-from ._status import Status
-from .exceptions import ClockError, DecodeError, InvalidKeyError
+from ._unverified import header_of, octets_of
+from .exceptions import ClockError, DecodeError
 from .types import Listed, Options
 
 Token = str | bytes | bytearray | memoryview
@@ -50,51 +49,24 @@ def moment_of(now: float | None) -> int:
     return int(now)
 
 
-# the number of the test (jwtproved.h)
-_ALGORITHM_IS_LISTED = 10
-
-
-def _made(material: Material, rules: Rules, algorithms: tuple[str, ...], longest: int, prepared: int) -> Handles | None:
-    """Returns the library's verifier for these algorithms, or None if the key is for none of them."""
-    try:
-        return Handles(material.kind, material.text, rules.text(algorithms), longest, prepared)
-    except Refusal as refusal:
-        if refusal.status == Status.NO_USABLE_KEY:
-            return None
-        raise _refusals.exception_of_texts(refusal) from None
-
-
-def _all_made(material: Material, rules: Rules, longest: int, prepared: int) -> list[Handles]:
-    """Returns the library's verifiers, of which each has the algorithms of one family. A key is of one family, and a set can be of several."""
-    served = algorithms_of(material.text) if material.kind == "key" else ALGORITHMS
-    usable = [it for it in rules.algorithms if it in served and material.algorithm in (None, it)]
-    by_family = (tuple(it for it in usable if it in family) for family in FAMILIES)
-    made = (_made(material, rules, its, longest, prepared) for its in by_family if its)
-    found = [it for it in made if it is not None]
-    if not found:
-        which = "each key of the set has no kid, or" if material.kind == "set" else "the key"
-        raise InvalidKeyError(f"{which} is for none of the algorithms {', '.join(rules.algorithms)}, or does not serve")
-    return found
-
-
 class Checker:
     """Verifies tokens with a key under rules: a Verifier without the checks of its arguments. With `waits` the key is prepared when the
     second token comes, since that takes as long as one or two verifications."""
 
-    # of the headers of tokens that were accepted, which say of which family the next one is
-    _MOST_HEADERS = 64
-
     def __init__(self, material: Material, rules: Rules, longest: int = 0, waits: bool = False) -> None:
         self._source = material, rules, longest
         self._tokens_unprepared = 2 if waits else 0
-        self._by_header: dict[bytes, int] = {}
         self._further = Further(rules)
         self._make(PREPARE_NOTHING if waits else PREPARED)
 
     def _make(self, prepared: int) -> None:
-        self._families = _all_made(*self._source, prepared)
-        # of one family, as of every key but a set
-        self._only = self._families[0].decode if len(self._families) == 1 else None
+        material, rules, longest = self._source
+        # the library compares the alg of a key only if the key is in a set
+        algorithms = [it for it in rules.algorithms if material.algorithm in (None, it)]
+        try:
+            self._decode = Handles(material.kind, material.text, rules.text(algorithms), longest, prepared).decode
+        except Refusal as refusal:
+            raise _refusals.exception_of_making(refusal, material.kind == "set", rules.algorithms) from None
 
     def decode(self, token: bytes, now: int) -> dict[str, Any]:
         if self._tokens_unprepared:
@@ -103,50 +75,12 @@ class Checker:
             if not left:
                 self._make(PREPARED_OF_SET if self._source[0].kind == "set" else PREPARED)
         try:
-            said = self._only(token, now) if self._only else self._said(token, now)
+            said = self._decode(token, now)
         except Refusal as refusal:
             raise _refusals.exception_of(refusal, token, unlike=self._further.unlike) from None
         claims: dict[str, Any] = read_json(said, 0)[0]
         self._further.check(claims, now)
         return claims
-
-    def _said(self, token: bytes, now: int) -> str:
-        """Returns the claims as JSON, by the verifier that has the algorithm of the header: each other one refuses the token by it."""
-        header = token.partition(b".")[0]
-        known = self._by_header.get(header)
-        if known is not None:
-            return str(self._families[known].decode(token, now))
-        for at, handles in enumerate(self._families):
-            try:
-                said = str(handles.decode(token, now))
-            except Refusal as refusal:
-                if refusal.test != _ALGORITHM_IS_LISTED or at + 1 == len(self._families):
-                    raise
-                continue
-            break
-        if len(self._by_header) >= self._MOST_HEADERS:
-            self._by_header.clear()
-        self._by_header[header] = at
-        return said
-
-
-class Refuser:
-    """Refuses the tokens whose header names a key that is for none of the algorithms."""
-
-    def __init__(self, material: Material, rules: Rules) -> None:
-        self._only, self._listed = material.algorithm, rules.algorithms
-
-    def decode(self, token: bytes, now: int) -> dict[str, Any]:
-        try:
-            named = parts(token)[0]
-        except Refusal as refusal:
-            raise _refusals.exception_of(refusal, token) from None
-        # in the order of the tests of a set
-        if self._only not in (None, named):
-            raise _refusals.other_algorithm(_refusals.UNLISTED_ALG, "KeyAlgMatches")
-        if named not in self._listed:
-            raise _refusals.other_algorithm(_refusals.UNLISTED_ALG, "AlgorithmIsAllowed")
-        raise _refusals.other_algorithm(_refusals.NO_USABLE_KEY, "KeyFitsAlgorithm")
 
 
 # each keeps its key in memory, a secret too
@@ -159,8 +93,9 @@ def checker_of(material: Material, rules: Rules) -> Checker:
 class Verifier:
     """Verifies tokens with one key, or with the keys of a set, under conditions that are read once. Any number of threads may use it.
 
-    The arguments are those of `decode`. The key is a secret, a public key in PEM, a JSON Web Key or a set of them, and has to serve one
-    of `algorithms`. `understood_crit` lists the names that the header's `crit` may have; the caller has to process these members.
+    The arguments are those of `decode`. The key is a secret, a public key in PEM, a JSON Web Key or a set of them, and must fit one of
+    `algorithms`, which may be of several families, such as RS256 and EdDSA. `understood_crit` lists the names that the header's `crit` may
+    have; the caller must process these members.
     A token that expires in less than `reject_tokens_expiring_in_less_than` seconds is refused; the default of 1 refuses one at its `exp`.
     A token may have at most `max_token_length` bytes, 1 MiB if it is None.
     """
@@ -213,4 +148,4 @@ def _longest(length: int | None) -> int:
 
 
 def complete(token: bytes, claims: dict[str, Any]) -> dict[str, Any]:
-    return {"header": _refusals.header_of(token), "payload": claims, "signature": parts_of(token).signature}
+    return {"header": header_of(token), "payload": claims, "signature": octets_of(token.rpartition(b".")[2], "crypto")}

@@ -9,7 +9,7 @@ from typing import Any, ClassVar, NoReturn
 
 from . import _cryptography
 from ._keys import Material, PyJWK, bytes_of, is_private, material_of, material_of_public
-from ._library import FAMILIES, algorithms_of
+from ._library import algorithms_of
 from ._rules import wrong_type
 from ._signatures import is_signed
 from ._signing import pkcs1_signs, signs
@@ -19,8 +19,6 @@ from .utils import base64url_encode
 has_crypto = importlib.util.find_spec("cryptography") is not None
 if has_crypto:
     from cryptography.hazmat.primitives import hashes
-
-_HMAC, _RSA, _EC, _OKP = FAMILIES
 
 # also those of PyJWT that are none of the twelve
 requires_cryptography = {
@@ -42,15 +40,15 @@ def get_default_algorithms() -> dict[str, "Algorithm"]:
     return found
 
 
-def _object(jwk: str | dict[str, Any], family: tuple[str, ...], error: str) -> dict[str, Any]:
-    """Returns a JSON Web Key that serves an algorithm of a family."""
+def _object(jwk: str | dict[str, Any], key_type: str, error: str) -> dict[str, Any]:
+    """Returns a JSON Web Key of this type (RFC 7518 section 6.1) that fits an algorithm."""
     try:
         found = json.loads(jwk) if isinstance(jwk, str) else jwk
     except ValueError:
         found = None
     if not isinstance(found, dict):
         raise InvalidKeyError("Key is not valid JSON")
-    if not set(_cryptography.served(found)) & set(family):
+    if not _cryptography.served(found) or found["kty"] != key_type:
         raise InvalidKeyError(f"{error}, or it does not serve")
     return found
 
@@ -163,13 +161,14 @@ class HMACAlgorithm(Algorithm):
 
     @staticmethod
     def from_jwk(jwk: str | dict[str, Any]) -> bytes:
-        return _cryptography.octets(_object(jwk, _HMAC, "Not an HMAC key"), "k")
+        return _cryptography.octets(_object(jwk, "oct", "Not an HMAC key"), "k")
 
 
 class _OfCryptography(Algorithm):
     """An algorithm whose keys are those of `cryptography`."""
 
-    _family: tuple[str, ...] = ()
+    # the type of its JSON Web Keys
+    _key_type: str
 
     def prepare_key(self, key: Any) -> Any:
         """Returns a key of `cryptography` as it is, and reads a PyJWK, or one in PEM, which is public or private."""
@@ -179,8 +178,9 @@ class _OfCryptography(Algorithm):
             key = _cryptography.of_any_pem(bytes_of("key", key))
         elif not is_private(key) and not hasattr(key, "public_bytes"):
             raise wrong_type("key", "a key in PEM, or one of cryptography", key)
-        if not set(algorithms_of(self._material(key).text)) & set(self._family):
-            raise InvalidKeyError(f"the key is for none of {', '.join(self._family)}, or does not serve")
+        text = self._material(key).text
+        if not algorithms_of(text) or json.loads(text)["kty"] != self._key_type:
+            raise InvalidKeyError(f"the key is not of the type {self._key_type}, or does not serve")
         return key
 
     def sign(self, msg: bytes, key: Any) -> bytes:
@@ -200,7 +200,7 @@ class _OfCryptography(Algorithm):
 class RSAAlgorithm(_OfCryptography):
     """RSASSA-PKCS1-v1_5 with SHA-2. With another digest it signs alone, as for OAuth 1 (RFC 5849 section 3.4.3), and verifies nothing."""
 
-    _family = _RSA
+    _key_type = "RSA"
     if has_crypto:
         SHA256, SHA384, SHA512 = hashes.SHA256, hashes.SHA384, hashes.SHA512
     _prefix = "RS"
@@ -216,7 +216,7 @@ class RSAAlgorithm(_OfCryptography):
 
     @staticmethod
     def from_jwk(jwk: str | dict[str, Any]) -> Any:
-        return _cryptography.of_jwk(_object(jwk, _RSA, "Not an RSA key"))
+        return _cryptography.of_jwk(_object(jwk, "RSA", "Not an RSA key"))
 
 
 class RSAPSSAlgorithm(RSAAlgorithm):
@@ -228,7 +228,7 @@ class RSAPSSAlgorithm(RSAAlgorithm):
 class ECAlgorithm(_OfCryptography):
     """ECDSA with P-256 and SHA-256, or P-384 and SHA-384."""
 
-    _family = _EC
+    _key_type = "EC"
     if has_crypto:
         SHA256, SHA384, SHA512 = hashes.SHA256, hashes.SHA384, hashes.SHA512
 
@@ -238,13 +238,13 @@ class ECAlgorithm(_OfCryptography):
 
     @staticmethod
     def from_jwk(jwk: str | dict[str, Any]) -> Any:
-        return _cryptography.of_jwk(_object(jwk, _EC, "Not an Elliptic curve key"))
+        return _cryptography.of_jwk(_object(jwk, "EC", "Not an Elliptic curve key"))
 
 
 class OKPAlgorithm(_OfCryptography):
     """EdDSA with Ed25519."""
 
-    _family, name = _OKP, "EdDSA"
+    _key_type, name = "OKP", "EdDSA"
 
     def __init__(self, **kwargs: Any) -> None:
         pass
@@ -255,4 +255,4 @@ class OKPAlgorithm(_OfCryptography):
 
     @staticmethod
     def from_jwk(jwk: str | dict[str, Any]) -> Any:
-        return _cryptography.of_jwk(_object(jwk, _OKP, "Not an Octet Key Pair"))
+        return _cryptography.of_jwk(_object(jwk, "OKP", "Not an Octet Key Pair"))

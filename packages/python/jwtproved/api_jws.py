@@ -7,9 +7,9 @@ from ._api import get_unverified_header
 from ._encoding import members_of
 from ._keys import Key, PyJWK, SigningKey, material_of
 from ._library import ALGORITHMS
-from ._parts import Parts, parts_of
-from ._rules import arguments_of, check_keywords, listed, names_nearest, options_of, rules_of, wrong_type
-from ._signatures import SignedPart, claims_by_verdict, is_signed
+from ._rules import arguments_of, check_keywords, listed, names_nearest, options_of, wrong_type
+from ._signatures import is_signed, signed_part
+from ._unverified import header_of, octets_of
 from ._verifier import Token, token_of
 from .algorithms import Algorithm, get_default_algorithms
 from .exceptions import DecodeError, InvalidAlgorithmError, InvalidKeyError, InvalidSignatureError
@@ -100,18 +100,22 @@ class PyJWS:
         names = listed(algorithms, self._is_lenient)
         if verifies and not names and not isinstance(key, PyJWK):
             raise DecodeError('It is required that you pass in a value for the "algorithms" argument when calling decode().')
-        parts = parts_of(token_of("jwt", jwt))
-        is_encoded = parts.header.get("b64", True)
+        token = token_of("jwt", jwt)
+        header = header_of(token)
+        head, text, signature = token.rsplit(b".", 2)
+        whole = {"payload": octets_of(text, "payload"), "header": header, "signature": octets_of(signature, "crypto")}
+        is_encoded = header.get("b64", True)
         if not isinstance(is_encoded, bool):
             raise DecodeError("Invalid header string: b64 must be true or false")
         if not is_encoded:
             if detached_payload is None:
                 why = "argument to decode a message having the b64 header set to false."
                 raise DecodeError(f'It is required that you pass in a value for the "detached_payload" {why}')
-            parts = parts._replace(texts=(parts.texts[0], detached_payload, parts.texts[2]), payload=detached_payload)
+            whole["payload"] = text = detached_payload
         if verifies:
-            self._verify(parts, key, names or (key.algorithm_name if isinstance(key, PyJWK) else "",))
-        return {"payload": parts.payload, "header": parts.header, "signature": parts.signature}
+            algorithm = self._algorithm_of(header, names or (key.algorithm_name if isinstance(key, PyJWK) else "",))
+            _check_signature(token, b"%s.%s" % (head, text), key, algorithm)
+        return whole
 
     def decode(
         self,
@@ -134,35 +138,34 @@ class PyJWS:
         """Returns the header of a token. Nothing is verified."""
         return get_unverified_header(jwt)
 
-    def _verify(self, parts: Parts, key: Key, algorithms: tuple[str, ...]) -> None:
-        named = parts.header.get("alg")
-        if "alg" not in parts.header:
+    def _algorithm_of(self, header: dict[str, Any], algorithms: tuple[str, ...]) -> str:
+        """Returns the algorithm of a header. Raises an exception if it is not one of these, or if the crit is not understood."""
+        named = header.get("alg")
+        if "alg" not in header:
             raise InvalidAlgorithmError("Algorithm not specified")
         if not named or named not in algorithms:
             raise InvalidAlgorithmError(_refusals.UNLISTED_ALG)
         if named not in self._algorithms or named not in ALGORITHMS:
             raise InvalidAlgorithmError("Algorithm not supported")
-        _check_header(parts, named)
-        if not _is_signed(key, named, parts):
-            raise InvalidSignatureError("Signature verification failed")
+        # no call of the library verifies a token without claims, and b64 alone is understood here
+        crit = header.get("crit")
+        if crit is not None and (crit != ["b64"] or "b64" not in header):
+            raise DecodeError(_refusals.BAD_CRIT)
+        return str(named)
 
 
-def _check_header(parts: Parts, algorithm: str) -> None:
-    """Raises an exception for what the library refuses in a header, such as its crit. It reads claims too, so that {} stands for the payload."""
-    header, _, signature = parts.texts
-    part = SignedPart(algorithm, b"%s.e30" % header, parts.signature)
-    claims_by_verdict(b"%s.e30.%s" % (header, signature), part, True, rules_of([algorithm], understood_crit="b64"), 0)
-
-
-def _is_signed(key: Key, algorithm: str, parts: Parts) -> bool:
-    material = material_of(key)
+def _check_signature(token: bytes, message: bytes, key: Key, algorithm: str) -> None:
+    """Raises an exception if the library does not read the token's header, or does not accept its signature for this message."""
+    part, material = signed_part(token), material_of(key)
     try:
-        return is_signed(b"%s.%s" % parts.texts[:2], parts.signature, material, algorithm)
-    except InvalidKeyError:
-        # the token named it
+        is_accepted = is_signed(message, part.signature, material, algorithm)
+    except InvalidKeyError as error:
+        # the sender of the token may have chosen the key by its kid (PyJWKClient)
         if isinstance(key, PyJWK):
-            raise _refusals.other_algorithm(_refusals.NO_USABLE_KEY, "KeyFitsAlgorithm") from None
+            raise InvalidAlgorithmError(str(error)) from None
         raise
+    if not is_accepted:
+        raise InvalidSignatureError("Signature verification failed")
 
 
 _DECODE = arguments_of(PyJWS.decode)

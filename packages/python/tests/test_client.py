@@ -242,6 +242,9 @@ def rotation():
         test("one fetch", len(server.heads) == 1)
         raises(jwt.InvalidSignatureError, decoded, client, token("a", by="b"))
         raises(jwt.InvalidAlgorithmError, decoded, client, token("a"), algorithms=["HS384"])
+        # the token chose a key for other algorithms, which is no fault of the program
+        raises(jwt.InvalidAlgorithmError, decoded, client, token("a"), algorithms=["RS256", "EdDSA"])
+        gives(CLAIMS, decoded, client, token("a"), algorithms=["RS256", "HS256", "EdDSA"])
         raises(jwt.MissingRequiredClaimError, decoded, client, token("a"), audience="web")
         server.answer = says(ROTATED)
         gives(CLAIMS, decoded, client, token("b"))

@@ -109,8 +109,11 @@ def tokens_of_bytes():
         raises(jwt.InvalidAlgorithmError, jws.decode, it, SECRET, ["HS256"], said="not allowed")
         raises(jwt.InvalidAlgorithmError, jws.decode, it, SECRET, ["none", "ES512"], said="not supported")
         gives(json.loads(base64.urlsafe_b64decode(it.split(".")[1] + "==")), lambda it=it: json.loads(jws.decode(it, options={"verify_signature": False})))
-    crit = signed({}, crit=["x"], x=1)
-    raises(jwt.DecodeError, jws.decode, crit, SECRET, ["HS256"], said="crit")
+    for crit in ({"crit": ["x"], "x": 1}, {"crit": ["b64"]}, {"crit": []}, {"crit": "b64", "b64": True}, {"crit": ["b64", "b64"], "b64": True}):
+        got = outcome(jws.decode, signed({}, **crit), SECRET, ["HS256"])
+        test(f"{crit}: {got!r}", type(got) is jwt.DecodeError and "crit" in str(got))
+    gives(b"{}", jws.decode, signed({}, crit=["b64"], b64=True), SECRET, ["HS256"])
+    raises(jwt.DecodeError, jws.decode, signed({}, kid=5), SECRET, ["HS256"], said="header")
     for it in (None, 5, "", "a.b", "a.b.c.d"):
         raises(jwt.DecodeError, jws.decode, it, SECRET, ["HS256"])
 
@@ -240,7 +243,30 @@ def unverified():
     raises(jwt.MissingRequiredClaimError, jwt.decode, ES512, options={**unchecked, "require": ["exp"]})
     for it, said in (("a", "segments"), ("a.b", "segments"), (".b.c", "header"), ("!.b.c", "header padding"), (part(b"[]") + ".e30.", "object")):
         raises(jwt.DecodeError, jwt.get_unverified_header, it, said=said)
+        raises(jwt.DecodeError, jwt.decode, it, options=unchecked, said=said)
     raises(jwt.InvalidTokenError, jwt.get_unverified_header, signed({}, kid=5), said="Key ID")
+    gives({"alg": "HS256", "kid": None}, jwt.get_unverified_header, signed({}, kid=None))
+    head, payload, last = ES512.split(".")
+    for token, said in (
+        (f"{head}.!.{last}", "payload padding"), (f"{head}.{payload}=.{last}", "payload padding"), (f"{head}.{part(b'[]')}.{last}", "payload string"),
+        (f"{head}..{last}", "payload string"), (f"{head}.{payload}.!", "crypto padding"), (f"{head}.{payload}.{last}=", "crypto padding"),
+        (f"{head}.{payload}.AB", "crypto padding"), (f"{head}.{payload}.A", "crypto padding"), (f"{head}.{payload}.++++", "crypto padding"),
+    ):
+        for call in (jwt.decode, jwt.decode_complete):
+            raises(jwt.DecodeError, call, token, options=unchecked, said=said)
+    # the options name the checks of the claims
+    for claims, options, kind in (
+        ({"exp": NOW + 1, "aud": "web"}, {"verify_exp": True}, None),
+        ({"exp": "5"}, {"verify_exp": True}, jwt.DecodeError),
+        ({"nbf": NOW + 1}, {"verify_nbf": True}, jwt.ImmatureSignatureError),
+        ({"iat": NOW + 1}, {"verify_iat": True}, jwt.ImmatureSignatureError),
+        ({"aud": "web"}, {"verify_aud": True}, jwt.InvalidAudienceError),
+        ({"sub": 5}, {"verify_sub": True}, jwt.InvalidSubjectError),
+        ({}, {"require": ["aud"]}, jwt.MissingRequiredClaimError),
+    ):
+        token = ".".join((head, part(json.dumps(claims).encode()), last))
+        got = outcome(jwt.decode, token, options={**unchecked, **options})
+        test(f"{claims} by {options}: {got!r}", got == claims if kind is None else type(got) is kind and got.failed_test is None)
 
 
 def warned(call, *arguments, **options):

@@ -110,7 +110,7 @@ def slips():
         raises(TypeError, jwt.encode_by_signature, claims, it, mac, said="part")
     raises(TypeError, jwt.encode, {"sub": b"bytes"}, SECRET, said="payload")
     raises(ValueError, jwt.encode, {"a": float("nan")}, SECRET, said="payload")
-    raises(ValueError, jwt.encode, {"sub": "\ud800"}, SECRET, said="Claims")
+    raises(ValueError, jwt.encode, {"sub": "\ud800"}, SECRET, said="claims")
     raises(ValueError, jwt.encode, {"n": 2**64}, SECRET, said="integer")
     raises(ValueError, jwt.signing_input, {"exp": NOW, "a": 1.5}, "ES256", said="integer")
     raises(ValueError, jwt.encode_by_signature, {"a": 1.5}, message, mac, said="integer")
