@@ -6,8 +6,6 @@ package jwt
 import "C"
 
 import (
-	"encoding/json"
-	"errors"
 	"math"
 	"strconv"
 )
@@ -52,46 +50,59 @@ func checkIssued(claims []byte, leeway, now uint64) error {
 	return nil
 }
 
-// numberOf returns the number of the algorithm of this name, or 0 if there is none.
-func numberOf(algorithm string) (C.uint32_t, error) {
-	header, err := json.Marshal(map[string]string{"alg": algorithm})
-	if err != nil {
-		return 0, err
-	}
-	_, number, err := signingInput(header, []byte("{}"))
-	if errors.Is(err, ErrOutOfMemory) {
-		return 0, err
-	}
-	return number, nil
+// numberOf returns the number of the algorithm with this name, or 0 for an unknown name.
+func numberOf(algorithm string) C.uint32_t {
+	at, length := slice([]byte(algorithm))
+	return C.jwt_algorithm(at, length)
 }
 
-func decodeHeader(token string) ([]byte, error) {
+// The parts of a token that unverified reads.
+const (
+	headerPart  C.uint32_t = C.JWT_HEADER
+	payloadPart C.uint32_t = C.JWT_PAYLOAD
+)
+
+// unverified returns a part of a token of any algorithm as JSON, if it is an object. Nothing is verified.
+func unverified(token string, part C.uint32_t) ([]byte, error) {
 	text := []byte(token)
 	return answer(len(text)+64, func(buffer *C.char, size C.size_t, length *C.size_t) C.enum_jwt_status {
 		at, textLen := slice(text)
-		return C.jwt_decode_header(at, textLen, buffer, size, length)
+		return C.jwt_unverified(at, textLen, part, buffer, size, length)
 	})
 }
 
-// signedPart returns the signature of a token, and how long the message is that it has to be of.
-func signedPart(token string) ([]byte, int, error) {
+// signedPart returns the signature of a token, the name of its algorithm, and the length of the message that it signs. Nothing is verified.
+func signedPart(token string) (signature []byte, algorithm string, length int, err error) {
 	text := []byte(token)
 	var number C.uint32_t
 	var message C.size_t
-	signature, err := answer(len(text), func(buffer *C.char, size C.size_t, length *C.size_t) C.enum_jwt_status {
+	signature, err = answer(len(text), func(buffer *C.char, size C.size_t, length *C.size_t) C.enum_jwt_status {
 		at, textLen := slice(text)
 		return C.jwt_signed_part(at, textLen, &number, &message, octetsAt(buffer), size, length)
 	})
-	return signature, int(message), err
+	if err != nil {
+		return nil, "", 0, err
+	}
+	return signature, textOf(C.JWT_OF_ALGORITHM, number), int(message), nil
+}
+
+// checkClaims returns an error if the claims break a rule of the options.
+func checkClaims(claims, options []byte, now uint64) error {
+	claimsAt, claimsLen := slice(claims)
+	optionsAt, optionsLen := slice(options)
+	switch status := C.jwt_check_claims(claimsAt, claimsLen, optionsAt, optionsLen, C.uint64_t(now)); status {
+	case C.JWT_OK:
+		return nil
+	case C.JWT_BAD_CLAIMS:
+		return &Error{Status: uint32(status), kind: ErrMalformed, text: statusText(status)}
+	default:
+		return claimsRefusal(status, claims)
+	}
 }
 
 // decodeVerdict has a token verified, of which a signature was checked.
 func decodeVerdict(token string, checked Signature, isGenuine bool, options []byte, now uint64) ([]byte, error) {
-	number, err := numberOf(checked.Algorithm)
-	if err != nil {
-		return nil, err
-	}
-	text := []byte(token)
+	text, number := []byte(token), numberOf(checked.Algorithm)
 	return answer(len(text)+64, func(buffer *C.char, size C.size_t, length *C.size_t) C.enum_jwt_status {
 		at, textLen := slice(text)
 		messageAt, messageLen := octets(checked.Message)
@@ -123,10 +134,7 @@ func signingInput(header, claims []byte) ([]byte, C.uint32_t, error) {
 }
 
 func encodeSignature(header, claims []byte, made Signature) ([]byte, error) {
-	number, err := numberOf(made.Algorithm)
-	if err != nil {
-		return nil, err
-	}
+	number := numberOf(made.Algorithm)
 	return answer(len(made.Message)+2*len(made.Bytes)+2, func(buffer *C.char, size C.size_t, length *C.size_t) C.enum_jwt_status {
 		headerAt, headerLen := slice(header)
 		claimsAt, claimsLen := slice(claims)
@@ -138,10 +146,7 @@ func encodeSignature(header, claims []byte, made Signature) ([]byte, error) {
 }
 
 func ecdsaSignature(der []byte, algorithm string) ([]byte, error) {
-	number, err := numberOf(algorithm)
-	if err != nil {
-		return nil, err
-	}
+	number := numberOf(algorithm)
 	return answer(len(der)+96, func(buffer *C.char, size C.size_t, length *C.size_t) C.enum_jwt_status {
 		at, derLen := octets(der)
 		return C.jwt_ecdsa_signature(at, derLen, number, octetsAt(buffer), size, length)

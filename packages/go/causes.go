@@ -6,7 +6,6 @@ package jwt
 import "C"
 
 import (
-	"encoding/base64"
 	"encoding/json"
 	"fmt"
 	"sort"
@@ -38,11 +37,24 @@ func quoted(text string) string {
 
 // tokenRefusal returns the refusal of a token, with what is at fault in it.
 func tokenRefusal(status C.enum_jwt_status, test C.uint32_t, token string) error {
-	refused := refusal(status, test)
-	if cause := causeOf(status, test, token); cause != "" {
-		refused.text += ": " + cause
+	return refusal(status, test).withCause(causeOf(status, test, token))
+}
+
+// claimsRefusal returns the refusal of claims, with what is at fault in them.
+func claimsRefusal(status C.enum_jwt_status, claims []byte) error {
+	refused := refusal(status, 0)
+	if refused.kind == ErrMissingClaim {
+		return refused.withCause(malformedClaim(refused.Claim, claims))
 	}
 	return refused
+}
+
+// withCause adds a cause to the text of an error, unless the cause is empty.
+func (e *Error) withCause(cause string) *Error {
+	if cause != "" {
+		e.text += ": " + cause
+	}
+	return e
 }
 
 func causeOf(status C.enum_jwt_status, test C.uint32_t, token string) string {
@@ -50,7 +62,11 @@ func causeOf(status C.enum_jwt_status, test C.uint32_t, token string) string {
 	case status == C.JWT_NO_KEY:
 		return missingKey(token)
 	case kindOf(status) == ErrMissingClaim:
-		return malformedClaim(claimOf(status), token)
+		claims, err := unverified(token, payloadPart)
+		if err != nil {
+			return ""
+		}
+		return malformedClaim(claimOf(status), claims)
 	case status != C.JWT_JSON:
 		return ""
 	}
@@ -68,15 +84,7 @@ func causeOf(status C.enum_jwt_status, test C.uint32_t, token string) string {
 }
 
 // malformedClaim returns the fault of a required claim whose value the library does not read, or "" if the claim is missing.
-func malformedClaim(name, token string) string {
-	parts := strings.Split(token, ".")
-	if len(parts) != 3 {
-		return ""
-	}
-	claims, err := base64.RawURLEncoding.DecodeString(parts[1])
-	if err != nil {
-		return ""
-	}
+func malformedClaim(name string, claims []byte) string {
 	if _, found, err := member(claims, name); err != nil || found == 0 {
 		return ""
 	}
@@ -88,7 +96,7 @@ func malformedClaim(name, token string) string {
 
 // missingKey returns which key a set does not have.
 func missingKey(token string) string {
-	header, err := decodeHeader(token)
+	header, err := unverified(token, headerPart)
 	if err != nil {
 		return ""
 	}
@@ -101,9 +109,11 @@ func missingKey(token string) string {
 
 // faultOfPart returns what is at fault in the header of a token.
 func faultOfPart(token string) string {
-	part, _, _ := strings.Cut(token, ".")
-	header, err := base64.RawURLEncoding.DecodeString(part)
-	if err != nil || len(part) > longestHeader {
+	header, err := unverified(token, headerPart)
+	switch {
+	case isStatus(err, uint32(C.JWT_JSON)):
+		return "the header is not an object"
+	case err != nil || len(header) > longestHeader:
 		return "a member of the header"
 	}
 	return faultOfHeader(header)
@@ -119,7 +129,7 @@ func faultOfHeader(header []byte) string {
 	if json.Unmarshal(members["alg"], &alg) != nil || alg == nil {
 		return "the header has no alg that is a text"
 	}
-	if number, err := numberOf(*alg); err == nil && number == 0 {
+	if numberOf(*alg) == 0 {
 		return fmt.Sprintf("the header's alg %s is none of the twelve", quoted(*alg))
 	}
 	for _, name := range headerNames {
@@ -133,7 +143,7 @@ func faultOfHeader(header []byte) string {
 	return "a member of the header"
 }
 
-// isHeader returns whether the library reads a header.
+// isHeader returns whether the library writes a signing input with a header.
 func isHeader(text []byte) bool {
 	_, _, err := signingInput(text, []byte("{}"))
 	return !isStatus(err, uint32(C.JWT_BAD_HEADER))

@@ -36,7 +36,7 @@ var (
 	ErrMissingClaim = errors.New("jwt: a required claim is missing or malformed")
 	// ErrMalformedClaim is a claim that is checked and malformed. Error.Claim is its name.
 	ErrMalformedClaim = errors.New("jwt: a claim is malformed")
-	// ErrKey is a key that can't be read, that is for none of the algorithms, or for which others can sign, and algorithms of two families.
+	// ErrKey is a key that can't be read, that fits no listed algorithm, or that lets others sign.
 	ErrKey = errors.New("jwt: the key does not serve")
 	// ErrOption is an option, a header or claims that are not understood.
 	ErrOption = errors.New("jwt: an argument is not understood")
@@ -88,7 +88,8 @@ func keyError(why string, arguments ...any) error {
 // refusal returns the error of a status, with the test of the token that failed, or 0.
 func refusal(status C.enum_jwt_status, test C.uint32_t) *Error {
 	return &Error{
-		Status: uint32(status), Test: testText(test), TestNumber: uint32(test), Claim: claimOf(status), kind: kindOf(status), text: statusText(status),
+		Status: uint32(status), Test: textOf(C.JWT_OF_TEST, test), TestNumber: uint32(test), Claim: claimOf(status), kind: kindOf(status),
+		text: statusText(status),
 	}
 }
 
@@ -98,16 +99,12 @@ func keyRefusal(status C.enum_jwt_status) error {
 	switch status {
 	case C.JWT_OUT_OF_MEMORY:
 		return refusal(status, 0)
-	case C.JWT_ALL_ZERO_SECRET:
-		why += ": a secret is empty or has zeros alone"
 	case C.JWT_KEY_AS_SECRET:
-		why += ": a secret is a key of another kind, of SSH, in PEM, in DER, or a JSON Web Key or a set of them"
+		why += ": of SSH, in PEM, in DER, a JSON Web Key or a key set"
 	case C.JWT_NO_USABLE_KEY:
-		why += ": none verifies with any of them, and of a set only keys with a kid count"
+		why += ": a key of a set needs a kid, and an alg that is accepted or none"
 	case C.JWT_PROVIDER:
 		why = "it is a private key, and tokens are verified by the public one"
-	case C.JWT_MIXED_FAMILIES:
-		return &Error{Status: uint32(status), kind: ErrKey, text: "the key does not serve: the algorithms are not of one family"}
 	}
 	return &Error{Status: uint32(status), kind: ErrKey, text: "the key does not serve: " + why}
 }

@@ -3,7 +3,9 @@ package jwt_test
 import (
 	"context"
 	"crypto"
+	"crypto/ecdsa"
 	"crypto/ed25519"
+	"crypto/elliptic"
 	"crypto/rand"
 	"crypto/rsa"
 	"crypto/sha256"
@@ -11,6 +13,7 @@ import (
 	"fmt"
 	"net/http"
 	"net/http/httptest"
+	"strings"
 	"time"
 
 	"curbsorrel.example/jwt"
@@ -45,6 +48,59 @@ func Example() {
 	}
 	fmt.Println(claims.Subject)
 	// Output: ada
+}
+
+func ExampleNewVerifier() {
+	rsaKey, _ := rsa.GenerateKey(rand.Reader, 2048)
+	ecKey, _ := ecdsa.GenerateKey(elliptic.P256(), rand.Reader)
+	_, edKey, _ := ed25519.GenerateKey(nil)
+	keys, tokens := []string{}, []string{}
+	for algorithm, key := range map[string]crypto.Signer{"RS256": rsaKey, "ES256": ecKey, "EdDSA": edKey} {
+		signer, err := jwt.NewSigner(key, algorithm, jwt.WithKeyID(algorithm))
+		if err != nil {
+			panic(err)
+		}
+		jwk, _ := signer.JWK()
+		token, _ := signer.Sign(map[string]any{"exp": 2532524891})
+		keys, tokens = append(keys, string(jwk)), append(tokens, token)
+	}
+	// one set with keys of three families, and one verifier
+	set, err := jwt.ParseJWKSet([]byte(`{"keys":[` + strings.Join(keys, ",") + `]}`))
+	if err != nil {
+		panic(err)
+	}
+	verifier, err := jwt.NewVerifier(set, []string{"RS256", "ES256", "EdDSA"})
+	if err != nil {
+		panic(err)
+	}
+	for _, it := range tokens {
+		_, err := verifier.Parse(it)
+		fmt.Println(err)
+	}
+	// Output:
+	// <nil>
+	// <nil>
+	// <nil>
+}
+
+func ExampleUnverifiedClaims() {
+	text, _ := jwt.Sign(map[string]any{"iss": "https://login.example", "exp": 2532524891}, secret, "HS256", nil)
+	claims, err := jwt.UnverifiedClaims(text)
+	if err != nil {
+		panic(err)
+	}
+	// anyone can have written iss: it only selects the verifier
+	fmt.Println(claims["iss"])
+	// Output: https://login.example
+}
+
+func ExampleCheckClaims() {
+	claims := []byte(`{"iss":"https://login.example","exp":2532524891}`)
+	fmt.Println(jwt.CheckClaims(claims, jwt.WithIssuer("https://login.example")))
+	fmt.Println(jwt.CheckClaims(claims, jwt.WithIssuer("https://other.example")))
+	// Output:
+	// <nil>
+	// jwt: InvalidIssuer
 }
 
 func ExampleParse() {

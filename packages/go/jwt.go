@@ -20,7 +20,6 @@ import (
 	"fmt"
 	"io"
 	"strings"
-	"time"
 )
 
 // Token is a token that was verified.
@@ -117,17 +116,46 @@ func Parse(token string, key Key, algorithms []string, opts ...Option) (*Token, 
 	return verifier.Parse(token)
 }
 
-// UnverifiedHeader returns the header of a token. Nothing is verified.
+// UnverifiedHeader returns the header of a token of any algorithm, also if this package does not verify the algorithm. Nothing is verified:
+// anyone can have written the header. The error is ErrMalformed if the header is not an object.
 func UnverifiedHeader(token string) (map[string]any, error) {
-	text, err := decodeHeader(token)
+	return readObject(unverified(token, headerPart))
+}
+
+// UnverifiedClaims returns the claims of a token of any algorithm, for example to select a Verifier by iss. Nothing is verified: anyone can
+// have written the claims. The error is ErrMalformed if the claims are not an object.
+func UnverifiedClaims(token string) (map[string]any, error) {
+	return readObject(unverified(token, payloadPart))
+}
+
+// readObject reads an object that the library wrote.
+func readObject(object []byte, err error) (map[string]any, error) {
 	if err != nil {
 		return nil, err
 	}
-	var header map[string]any
-	if err := json.Unmarshal(text, &header); err != nil {
+	var read map[string]any
+	if err := json.Unmarshal(object, &read); err != nil {
 		return nil, fmt.Errorf("%w: %v", ErrMalformed, err)
 	}
-	return header, nil
+	return read, nil
+}
+
+// CheckClaims checks the claims of a JSON object without a token, with the rules that Parse has for claims. Use it for the RawClaims of a
+// token that began a long connection, or for claims that a gateway passes on. CheckClaims verifies no signature. The error is ErrMalformed if
+// the claims are not a JSON object; other errors are as from Parse.
+func CheckClaims(claims []byte, opts ...Option) error {
+	asked, text, err := conditions(nil, opts)
+	if err != nil {
+		return err
+	}
+	now, err := asked.moment()
+	if err != nil {
+		return err
+	}
+	if err := checkClaims(claims, text, now); err != nil {
+		return err
+	}
+	return asked.checkIssued(claims, now)
 }
 
 // Signature is the signature of a token that is checked or made elsewhere, such as by other cryptography, a KMS or an HSM.
@@ -143,30 +171,23 @@ type Signature struct {
 // UnverifiedSignature returns the signature of a token, to be checked elsewhere. Nothing is verified, and the algorithm is the one that
 // the token itself names: check the signature with the one that your key is for, and with that key.
 func UnverifiedSignature(token string) (Signature, error) {
-	bytes, length, err := signedPart(token)
+	bytes, algorithm, length, err := signedPart(token)
 	if err != nil {
 		return Signature{}, err
 	}
-	header, err := decodeHeader(token)
-	if err != nil {
-		return Signature{}, err
-	}
-	algorithm, _ := stringOf(header, "alg")
 	return Signature{algorithm, []byte(token[:length]), bytes}, nil
 }
 
 // ParseByVerdict verifies a token whose signature was checked elsewhere: isGenuine says whether this is a signature of its message with
 // its algorithm and the key that the caller trusts. All else is verified as a Verifier does. The error is ErrSignature if isGenuine is
-// false, or if message or signature are not those of the token, and ErrAlgorithm if the algorithm is not.
+// false, or if message or signature are not those of the token, and ErrAlgorithm if the algorithm is not. All algorithms must be of one
+// family: otherwise each token is ErrAlgorithm.
 func ParseByVerdict(token string, checked Signature, isGenuine bool, algorithms []string, opts ...Option) (*Token, error) {
-	asked, text, err := conditions(algorithms, opts)
+	asked, text, err := listed(algorithms, opts)
 	if err != nil {
 		return nil, err
 	}
-	if asked.now == nil {
-		asked.now = time.Now
-	}
-	now, err := moment(asked.now)
+	now, err := asked.moment()
 	if err != nil {
 		return nil, err
 	}
@@ -186,7 +207,7 @@ func ParseByVerdict(token string, checked Signature, isGenuine bool, algorithms 
 // unknownAlgorithm names the first algorithm that the library does not know.
 func unknownAlgorithm(algorithms []string) error {
 	for _, it := range algorithms {
-		if number, err := numberOf(it); err == nil && number == 0 {
+		if numberOf(it) == 0 {
 			return optionError("algorithms has %s, which is none of the twelve", quoted(it))
 		}
 	}

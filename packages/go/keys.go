@@ -52,7 +52,7 @@ func (Key) String() string { return "[redacted]" }
 // NewSecretKey returns a secret as a key, for HS256, HS384 and HS512. RFC 7518 section 3.2 requires at least 32, 48 and 64 bytes. A secret
 // that anyone may have is refused: one that is empty or has zeros alone, a key of SSH, in PEM, in DER, or in JSON, and base64 of these.
 func NewSecretKey(secret []byte) (Key, error) {
-	if err := checkKey(secretKey, secret); err != nil {
+	if err := checkSecret(secret); err != nil {
 		return Key{}, err
 	}
 	return newKey(secretKey, secret), nil
@@ -81,31 +81,21 @@ func ParseJWKSet(text []byte) (Key, error) {
 	return checkedKey(newKey(keySet, text))
 }
 
-// forAnyKey has options for each kind of key: the algorithms of a verifier are of one family.
-var forAnyKey = []string{
-	`{"algorithms":["RS256"]}`, `{"algorithms":["ES256","ES384"]}`, `{"algorithms":["EdDSA"]}`, `{"algorithms":["HS256"]}`,
-}
+// allAlgorithms has options with each algorithm, for a verifier of any key.
+const allAlgorithms = `{"algorithms":["HS256","HS384","HS512","RS256","RS384","RS512","PS256","PS384","PS512","ES256","ES384","EdDSA"]}`
 
-// checkedKey returns a key that verifies tokens, unless others may have its secret.
+// checkedKey returns the key if the library makes a verifier with it: the key verifies tokens, and others can't have its secret. The library
+// decides: a reader of our own could find another key in the same JSON, if names of members differ in case or are repeated.
 func checkedKey(key Key) (Key, error) {
-	if err := checkKey(key.kind, key.bytes()); err != nil {
-		if bytes.Contains(key.bytes(), []byte("-----BEGIN ")) {
-			return Key{}, fmt.Errorf("%w; ParsePEM reads a key in PEM", err)
-		}
-		return Key{}, err
+	made, err := newHandle(key, []byte(allAlgorithms), defaultLength, forOneToken)
+	if err == nil {
+		made.free()
+		return key, nil
 	}
-	var refusal error
-	for _, options := range forAnyKey {
-		made, err := newHandle(key, []byte(options), defaultLength, forOneToken)
-		if err == nil {
-			made.free()
-			return key, nil
-		}
-		if refusal = err; !isStatus(err, unfitKey) {
-			break
-		}
+	if bytes.Contains(key.bytes(), []byte("-----BEGIN ")) {
+		err = fmt.Errorf("%w; ParsePEM reads a key in PEM", err)
 	}
-	return Key{}, refusal
+	return Key{}, err
 }
 
 // ParsePEM returns a public key of RSA, P-256, P-384 or Ed25519 in PEM as a key, in the strict form of RFC 7468 section 3: that of the

@@ -73,23 +73,15 @@ func answer(size int, made call) ([]byte, error) {
 	return nil, refusal(status, 0)
 }
 
-func statusText(status C.enum_jwt_status) string {
+// textOf returns the text of a status, or the name of a test or of an algorithm, or "" for an unknown number.
+func textOf(of, number C.uint32_t) string {
 	text, _ := fill(64, func(buffer *C.char, size C.size_t, length *C.size_t) C.enum_jwt_status {
-		return C.jwt_status_text(C.uint32_t(status), buffer, size, length)
+		return C.jwt_text(of, number, buffer, size, length)
 	})
 	return string(text)
 }
 
-// testText returns the name of a test of tokens, or "" if none failed.
-func testText(test C.uint32_t) string {
-	if test == 0 {
-		return ""
-	}
-	text, _ := fill(32, func(buffer *C.char, size C.size_t, length *C.size_t) C.enum_jwt_status {
-		return C.jwt_test_text(test, buffer, size, length)
-	})
-	return string(text)
-}
+func statusText(status C.enum_jwt_status) string { return textOf(C.JWT_OF_STATUS, C.uint32_t(status)) }
 
 // handle is a verifier of the library, which may be in one call at a time. The last three are what a call returns besides the claims.
 type handle struct {
@@ -198,20 +190,10 @@ func (it *handle) verifySignature(token string) error {
 	return refusal(status, it.test)
 }
 
-// checkKey returns an error if the library does not read a key, or if others may have its secret or that of a key of the set. The library
-// decides: a reader of our own could find another key in the same JSON, if names of members differ in case or are repeated.
-func checkKey(kind keyKind, text []byte) error {
-	at, length := slice(text)
-	var status C.enum_jwt_status
-	switch kind {
-	case secretKey:
-		status = C.jwt_check_secret(octetsAt(at), length)
-	case singleKey:
-		status = C.jwt_check_key(at, length)
-	default:
-		status = C.jwt_check_set(at, length)
-	}
-	if status != C.JWT_OK {
+// checkSecret returns an error if others can sign with a secret.
+func checkSecret(secret []byte) error {
+	at, length := octets(secret)
+	if status := C.jwt_check_secret(at, length); status != C.JWT_OK {
 		return keyRefusal(status)
 	}
 	return nil

@@ -12,7 +12,7 @@ import (
 // options has the conditions on a token, by the names of jwtproved.h.
 type options struct {
 	Strict      bool     `json:"strict"`
-	Algorithms  []string `json:"algorithms"`
+	Algorithms  []string `json:"algorithms,omitempty"`
 	Required    []string `json:"required_spec_claims"`
 	Leeway      uint64   `json:"leeway"`
 	Remaining   *uint64  `json:"reject_tokens_expiring_in_less_than,omitempty"`
@@ -237,6 +237,14 @@ func moment(now func() time.Time) (uint64, error) {
 	return uint64(since), nil
 }
 
+// moment returns the time for a call of the library that does not read the clock of the system.
+func (o *options) moment() (uint64, error) {
+	if o.now == nil {
+		o.now = time.Now
+	}
+	return moment(o.now)
+}
+
 // checkIssued refuses claims that were issued later, if WithIssuedAt asks for that.
 func (o *options) checkIssued(claims []byte, now uint64) error {
 	if !o.issuedAt {
@@ -258,11 +266,16 @@ func (o *options) contradiction() error {
 	return nil
 }
 
-// conditions returns what algorithms and options ask for, and its text for the library.
-func conditions(algorithms []string, opts []Option) (*options, []byte, error) {
+// listed returns the conditions of options and of a list of algorithms, which may not be empty.
+func listed(algorithms []string, opts []Option) (*options, []byte, error) {
 	if err := checkTexts("algorithms", algorithms...); err != nil {
 		return nil, nil, err
 	}
+	return conditions(algorithms, opts)
+}
+
+// conditions returns what algorithms and options ask for, and its text for the library.
+func conditions(algorithms []string, opts []Option) (*options, []byte, error) {
 	asked := &options{Strict: true, Algorithms: algorithms, Required: []string{}, given: onlyOnce{}}
 	for i, it := range opts {
 		if it == nil {

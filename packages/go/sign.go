@@ -19,7 +19,7 @@ import (
 // An exp, nbf or iat is a whole number of seconds from 1970 to the year 9999 (RFC 7519 section 2), such as NewNumericDate returns. Any
 // other value is ErrOption, such as null, milliseconds, or a time.Time in a map: verifiers do not read it, or read another time.
 func Sign(claims any, secret []byte, algorithm string, header map[string]any) (string, error) {
-	if err := checkKey(secretKey, secret); err != nil {
+	if err := checkSecret(secret); err != nil {
 		return "", err
 	}
 	headerText, claimsText, err := parts(claims, algorithm, header)

@@ -115,7 +115,7 @@ func NewSigner(key crypto.Signer, algorithm string, opts ...SignerOption) (*Sign
 	return &Signer{&signing{func() crypto.Signer { return key }, algorithm, form, header, jwk, verifying}}, nil
 }
 
-// headerBy returns the header of the tokens of a signer, which the library takes.
+// headerBy returns the header of the tokens of a signer, if the library writes a signing input with it.
 func headerBy(algorithm string, opts []SignerOption) ([]byte, error) {
 	members := map[string]any{}
 	for i, it := range opts {

@@ -61,14 +61,15 @@ func (Verifier) Format(state fmt.State, _ rune) {
 	_, _ = io.WriteString(state, "jwt.Verifier([redacted])")
 }
 
-// NewVerifier returns a verifier with a key, for these algorithms, which have to be of one family: that of the key. If neither the key
-// nor any key of a set verifies with one of them, the error is ErrKey.
+// NewVerifier returns a verifier with a key, for these algorithms. They may be of several families, such as RS256, ES256 and EdDSA: in a set the
+// header's kid selects the key, and the key decides which of the algorithms apply. A key of a set is ignored if its alg is not listed. If no
+// key can verify with a listed algorithm, the error is ErrKey.
 func NewVerifier(key Key, algorithms []string, opts ...Option) (*Verifier, error) {
 	return newVerifier(key, algorithms, opts, forManyTokens)
 }
 
 func newVerifier(key Key, algorithms []string, opts []Option, prepared preparedSize) (*Verifier, error) {
-	asked, text, err := conditions(algorithms, opts)
+	asked, text, err := listed(algorithms, opts)
 	if err != nil {
 		return nil, err
 	}
@@ -140,7 +141,7 @@ func mayHaveLaterKey(token string, err error) bool {
 	if !isStatus(err, noKey) && !isStatus(err, unfitKey) {
 		return false
 	}
-	header, err := decodeHeader(token)
+	header, err := unverified(token, headerPart)
 	if err != nil {
 		return false
 	}

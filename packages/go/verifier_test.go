@@ -74,10 +74,12 @@ func TestFailedTests(t *testing.T) {
 	leftOut := map[string]bool{
 		// the clock or the claims are those of other options
 		"none fails at the last moment": true, "not yet valid": true,
-		// NewVerifier or JWKSet refuses these
-		"no algorithm is listed": true, "no algorithm is listed, by a set": true, "two families are listed": true, "then the families": true,
-		"two families are listed, by a set": true, "a key of another kind": true, "a secret with padding": true, "a key of another family, by a set": true,
+		// NewVerifier or ParseJWKSet refuses these
+		"no algorithm is listed": true, "no algorithm is listed, by a set": true, "a key for another algorithm": true,
+		"a key of another kind": true, "a secret with padding": true, "a key of another family, by a set": true,
 		"the key before the list of algorithms": true, "the key's algorithm before the key": true, "an extension that is not understood, by a set": true,
+		// a Verifier accepts these: it takes the algorithms of the key's family
+		"two families are listed": true, "then the families": true, "two families are listed, by a set": true,
 	}
 	seen := map[string]int{}
 	rowsOf(t, vectors+"failed_tests.jsonl", func(line []byte) {
@@ -106,7 +108,7 @@ func TestFailedTests(t *testing.T) {
 			seen[*it.Want.Ok]++
 		}
 	})
-	if len(seen) != 14 {
+	if len(seen) != 13 {
 		t.Error(len(seen), seen)
 	}
 }
@@ -155,38 +157,6 @@ func TestRoom(t *testing.T) {
 		}
 		if count == 1000 && len(token.RawClaims()) <= len(claims)*2 {
 			t.Errorf("%d bytes are not more", len(token.RawClaims()))
-		}
-	}
-}
-
-// TestFamilies has algorithms of two families, by which no token would be accepted.
-func TestFamilies(t *testing.T) {
-	set, err := ParseJWKSet([]byte(setOf("a")))
-	if err != nil {
-		t.Fatal(err)
-	}
-	jwk, err := ParseJWK([]byte(joesKey))
-	if err != nil {
-		t.Fatal(err)
-	}
-	for _, it := range []struct {
-		key        Key
-		algorithms []string
-		want       error
-	}{
-		{secretOf(t, secret), []string{"HS256", "HS384", "HS512"}, nil},
-		{secretOf(t, secret), []string{"HS256", "RS256"}, ErrKey},
-		{secretOf(t, secret), []string{"RS256", "HS256"}, ErrKey},
-		{secretOf(t, secret), []string{"HS512", "HS256", "EdDSA"}, ErrKey},
-		{jwk, []string{"ES256", "ES384"}, nil},
-		{jwk, []string{"ES256", "EdDSA"}, ErrKey},
-		{set, []string{"EdDSA", "ES256"}, ErrKey},
-		{set, []string{"EdDSA"}, nil},
-		{set, []string{"EdDSA", "EdDSA"}, nil},
-	} {
-		verifier, err := NewVerifier(it.key, it.algorithms)
-		if !errors.Is(err, it.want) || (verifier != nil) != (it.want == nil) {
-			t.Errorf("%v: %v, not %v", it.algorithms, err, it.want)
 		}
 	}
 }
