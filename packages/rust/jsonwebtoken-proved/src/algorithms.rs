@@ -1,6 +1,7 @@
 //! The algorithms, and their families.
 
 use crate::errors::{Error, ErrorKind};
+use crate::library::calls::{self, Of};
 use serde::{Deserialize, Serialize};
 use std::fmt;
 use std::str::FromStr;
@@ -70,7 +71,7 @@ pub enum Algorithm {
 }
 
 impl Algorithm {
-    /// All algorithms, in the order of their numbers in `jwtproved.h`, from 1 on.
+    /// All algorithms.
     pub const ALL: &'static [Algorithm] = &[
         Algorithm::HS256,
         Algorithm::HS384,
@@ -97,12 +98,13 @@ impl Algorithm {
         }
     }
 
+    /// Returns the number of the algorithm in `jwtproved.h`.
     pub(crate) fn number(self) -> u32 {
-        Algorithm::ALL.iter().zip(1..).find(|it| *it.0 == self).map_or(0, |it| it.1)
+        calls::algorithm(&self.to_string())
     }
 
-    pub(crate) fn from_number(number: u32) -> Option<Algorithm> {
-        Algorithm::ALL.iter().copied().find(|it| it.number() == number)
+    pub(crate) fn from_number(number: u32) -> Result<Algorithm, Error> {
+        calls::text_of(Of::Algorithm, number).map_err(Error::from_status)?.parse()
     }
 }
 
@@ -127,21 +129,16 @@ impl FromStr for Algorithm {
 mod tests {
     use super::Algorithm;
 
+    /// The library has a number for each name, and no further algorithm.
     #[test]
-    fn the_numbers_are_those_of_the_header_file() {
-        let header = crate::tests::file_of_repository("packages/c/include/jwtproved.h");
-        let (_, declared) = header.split_once("enum jwt_algorithm {").unwrap();
-        let (declared, _) = declared.split_once("};").unwrap();
-        let declared: Vec<&str> = declared.split(',').map(str::trim).collect();
-        let named = |it: &Algorithm| format!("JWT_{} = {}", it.to_string().to_uppercase(), it.number());
-        assert_eq!(Algorithm::ALL.iter().map(named).collect::<Vec<_>>(), declared);
-    }
-
-    #[test]
-    fn each_algorithm_is_of_its_family() {
-        for it in Algorithm::ALL {
+    fn each_algorithm_has_a_number_and_a_family() {
+        let mut numbers: Vec<u32> = Algorithm::ALL.iter().map(|it| it.number()).collect();
+        for (it, number) in Algorithm::ALL.iter().zip(&numbers) {
             assert!(it.family().algorithms().contains(it), "{it}");
-            assert_eq!(Algorithm::from_number(it.number()), Some(*it));
+            assert_eq!(Algorithm::from_number(*number), Ok(*it));
         }
+        numbers.sort_unstable();
+        assert_eq!(numbers, (1..=12).collect::<Vec<_>>());
+        assert!([0, 13, u32::MAX].iter().all(|it| Algorithm::from_number(*it).is_err()));
     }
 }

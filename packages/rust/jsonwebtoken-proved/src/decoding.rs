@@ -4,7 +4,7 @@ use crate::base64::{self, STANDARD, URL_SAFE};
 use crate::errors::{Error, ErrorKind, Result};
 use crate::jwk::{EllipticCurve, EllipticCurveKeyParameters, Jwk, OctetKeyPairParameters, RSAKeyParameters};
 use crate::kept::Kept;
-use crate::library::calls::{self, Kind};
+use crate::library::calls::{self, Kind, Part};
 use crate::{AlgorithmFamily, Header, Validation, pem, validation};
 use serde::Serialize;
 use serde::de::DeserializeOwned;
@@ -125,7 +125,7 @@ impl DecodingKey {
     /// Returns a secret as a key, for HS256, HS384 and HS512.
     #[must_use]
     pub fn from_secret(secret: &[u8]) -> Self {
-        let read = calls::check(Kind::Secret, secret).map(|()| Readable::Secret);
+        let read = calls::check_secret(secret).map(|()| Readable::Secret);
         DecodingKey::of_bytes(AlgorithmFamily::Hmac, secret, read.map_err(key_kind))
     }
 
@@ -254,7 +254,7 @@ impl DecodingKey {
         let text = JwkText::of(&jwk.algorithm)?;
         calls::key_algorithms(&text.0).map_err(Error::from_key_status)?;
         let (family, kind) = jwk.algorithm.shown()?;
-        let read = calls::check(Kind::Jwk, &text.0).map(|()| Readable::Jwk(text));
+        let read = calls::check_key(&text.0).map(|()| Readable::Jwk(text));
         Ok(DecodingKey::of_kind(family, kind, read.map_err(key_kind)))
     }
 
@@ -352,7 +352,8 @@ fn from_pem(family: AlgorithmFamily, text: &[u8]) -> Result<DecodingKey> {
 /// # Errors
 ///
 /// A token that is refused has a kind that says why ([`Error::is_refusal`]). An algorithm of another family than the key's is
-/// [`ErrorKind::InvalidAlgorithm`]. The other errors are those of [`Verifier::new`] and [`Verifier::decode`].
+/// [`ErrorKind::InvalidAlgorithm`], as in the crate `jsonwebtoken`; a [`Verifier`] accepts a list of several families. It also returns the
+/// errors of [`Verifier::new`] and [`Verifier::decode`].
 ///
 /// [`Verifier`]: crate::Verifier
 /// [`Verifier::new`]: crate::Verifier::new
@@ -364,7 +365,7 @@ pub fn decode<T: DeserializeOwned>(
 ) -> Result<TokenData<T>> {
     let token = token.as_ref();
     if validation.insecure_ignores_signature {
-        return unverified(token, validation, validation::now()?);
+        return with_claims_checked(token, validation);
     }
     if validation.algorithms.iter().any(|it| it.family() != key.family) {
         return Err(ErrorKind::InvalidAlgorithm.into());
@@ -372,15 +373,27 @@ pub fn decode<T: DeserializeOwned>(
     key.kept.verifier(key, validation)?.verifier.token_data(token, validation::now()?)
 }
 
+/// Returns the header and the claims of a token, if its claims pass the rules. The signature is not verified.
+fn with_claims_checked<T: DeserializeOwned>(token: &[u8], validation: &Validation) -> Result<TokenData<T>> {
+    let (header, claims) = (decode_header(token)?, unverified(token, Part::Payload)?);
+    let (options, now) = (validation.options_of_claims()?, validation::now()?);
+    calls::check_claims(&claims, &options, now).map_err(Error::from_status)?;
+    Ok(TokenData { header, claims: serde_json::from_str(&claims)? })
+}
+
+/// Returns a part of a token, as JSON of an object. Nothing is verified.
+fn unverified(token: &[u8], part: Part) -> Result<String> {
+    calls::unverified(token, part).map_err(Error::from_status)
+}
+
 /// Returns the header of a token. Nothing is verified.
 ///
 /// # Errors
 ///
-/// A text that is not a token is [`ErrorKind::InvalidToken`] or [`ErrorKind::Base64`], and a header that can't be read
-/// [`ErrorKind::Json`].
+/// A text that is not a token is [`ErrorKind::InvalidToken`] or [`ErrorKind::Base64`]. A header that is not the JSON of a [`Header`], for
+/// example with the algorithm `none` or ES512, is [`ErrorKind::Json`].
 pub fn decode_header(token: impl AsRef<[u8]>) -> Result<Header> {
-    let header = calls::decode_header(token.as_ref()).map_err(Error::from_status)?;
-    Ok(serde_json::from_str(&header)?)
+    Ok(serde_json::from_str(&unverified(token.as_ref(), Part::Header)?)?)
 }
 
 /// Returns the header and the claims of a token of which nothing is verified, neither the signature nor a claim: anyone can have written
@@ -388,31 +401,20 @@ pub fn decode_header(token: impl AsRef<[u8]>) -> Result<Header> {
 ///
 /// # Errors
 ///
-/// A text that is not a token of one of the twelve algorithms is [`ErrorKind::InvalidToken`], [`ErrorKind::Base64`] or
-/// [`ErrorKind::Json`], and so are claims that are not those of the type. A `crit` that names a member which is not there is
-/// [`ErrorKind::InvalidCrit`].
+/// It returns the errors of [`decode_header`]. Claims that are not a JSON object, or do not match the type, are
+/// [`ErrorKind::Json`].
 pub fn insecure_decode<T: DeserializeOwned>(token: impl AsRef<[u8]>) -> Result<TokenData<T>> {
     let token = token.as_ref();
-    let understood_crit = decode_header(token)?.crit.unwrap_or_default();
-    unverified(token, &Validation { understood_crit, ..Validation::nothing() }, 0)
+    Ok(TokenData { header: decode_header(token)?, claims: insecure_decode_claims(token)? })
 }
 
-/// Returns what a token has, if it passes all tests but those of its algorithm and its signature.
-fn unverified<T: DeserializeOwned>(token: &[u8], validation: &Validation, now: u64) -> Result<TokenData<T>> {
-    let header = decode_header(token)?;
-    let asked = Validation { algorithms: vec![header.alg], insecure_ignores_signature: false, ..validation.clone() };
-    // the library reads another signature, for which the verdict is yes
-    let message = &token[..token.iter().rposition(|it| *it == b'.').unwrap_or(0)];
-    let signed = calls::Signed { algorithm: header.alg.number(), message, signature: &[0] };
-    let claims = calls::decode_verdict(&[message, b".AA"].concat(), signed, true, &asked.options()?, now);
-    Ok(TokenData { header, claims: serde_json::from_str(&claims.map_err(Error::from_status)?)? })
-}
-
-/// Returns the claims of a token of which nothing is verified, like [`insecure_decode`].
+/// Returns the claims of a token of any algorithm, also of `none`. Nothing is verified: anyone can have written them. The header is not
+/// read.
 ///
 /// # Errors
 ///
-/// The errors are those of [`insecure_decode`].
+/// A text that is not a token is [`ErrorKind::InvalidToken`] or [`ErrorKind::Base64`]. Claims that are not a JSON object, or do not match
+/// the type, are [`ErrorKind::Json`].
 pub fn insecure_decode_claims<T: DeserializeOwned>(token: impl AsRef<[u8]>) -> Result<T> {
-    Ok(insecure_decode(token)?.claims)
+    Ok(serde_json::from_str(&unverified(token.as_ref(), Part::Payload)?)?)
 }

@@ -146,7 +146,7 @@ pub fn encode<T: Serialize>(header: &Header, claims: &T, key: &EncodingKey) -> R
         let input = SigningInput::new(header, claims)?;
         return input.encode_verified(&signing::sign(key, header.alg, input.message())?, &signing::verifying_key(key)?);
     }
-    calls::check(calls::Kind::Secret, &key.bytes).map_err(Error::from_key_status)?;
+    calls::check_secret(&key.bytes).map_err(Error::from_key_status)?;
     let [header, claims] = [serde_json::to_string(header)?, serde_json::to_string(claims)?];
     calls::encode(&header, &claims, &key.bytes).map_err(Error::from_issue_status)
 }

@@ -1,6 +1,7 @@
 //! The errors of all calls.
 
 use crate::base64::Base64Error;
+use crate::library::calls::{self, Of};
 use crate::status;
 use serde::de::Error as _;
 use std::error::Error as StdError;
@@ -83,7 +84,7 @@ impl Error {
 }
 
 fn text_of(status: u32) -> String {
-    crate::library::calls::status_text(status)
+    calls::text_of(Of::Status, status).unwrap_or_default()
 }
 
 /// Returns an error of JSON that the library does not take.

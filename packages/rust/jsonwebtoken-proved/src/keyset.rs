@@ -1,10 +1,10 @@
 //! A set of keys that is fetched, and fetched again as its keys rotate.
 
 use crate::errors::{Cause, Error, ErrorKind, Result};
-use crate::library::calls::{self, Kind};
+use crate::library::calls::Kind;
 use crate::library::handle::{Handle, Use};
 use crate::validation::{self, argument};
-use crate::{Algorithm, Refusal, Validation, Verified, Verifier, decode_header, status};
+use crate::{Algorithm, Refusal, Validation, Verified, Verifier, decode_header};
 use serde::de::DeserializeOwned;
 use std::error::Error as StdError;
 use std::fmt;
@@ -413,34 +413,18 @@ fn outage(why: &Error) -> Error {
     }
 }
 
-/// Algorithms for each kind of key. Those of a verifier are of one family.
-const FOR_ANY_KEY: [&[Algorithm]; 4] =
-    [&[Algorithm::RS256], &[Algorithm::ES256, Algorithm::ES384], &[Algorithm::EdDSA], &[Algorithm::HS256]];
-
 /// Returns a set, if one of its keys with a `kid` verifies tokens. That is the set before, with its verifiers, if the text is the same.
 fn usable(text: &str, before: Option<&Arc<Fetched>>) -> Result<Arc<Fetched>> {
     if let Some(same) = before.filter(|it| *it.text == *text) {
         return Ok(Arc::clone(same));
     }
-    let serves = calls::check(Kind::Set, text.as_bytes()).and_then(|()| serves(text.as_bytes()));
-    serves.map_err(Error::from_key_status)?;
+    let options = serde_json::json!({ "algorithms": Algorithm::ALL }).to_string();
+    Handle::new(Kind::Set, text.as_bytes(), &options, 0, Use::Once).map_err(Error::from_key_status)?;
     let found = Fetched { text: Arc::from(text), verifiers: Mutex::default() };
     if let Some(before) = before {
         found.prepare(before);
     }
     Ok(Arc::new(found))
-}
-
-/// Returns the status of a set of which the library makes no verifier.
-fn serves(set: &[u8]) -> std::result::Result<(), u32> {
-    for algorithms in FOR_ANY_KEY {
-        let options = serde_json::json!({ "algorithms": algorithms }).to_string();
-        let made = Handle::new(Kind::Set, set, &options, 0, Use::Once).map(|_| ());
-        if made != Err(status::NO_USABLE_KEY) {
-            return made;
-        }
-    }
-    Err(status::NO_USABLE_KEY)
 }
 
 /// Returns whether a token is refused since the set has no key for it.

@@ -15,8 +15,8 @@
 //! # Ok::<(), jsonwebtoken_proved::errors::Error>(())
 //! ```
 //!
-//! Beyond that crate, a [`Verifier`] reads a key and a [`Validation`] once, and verifies many tokens; a [`KeySet`] fetches keys that
-//! rotate; [`Validation::strict`] leaves out the leeway and checks `nbf`; and [`SigningInput`] and [`decode_by_verdict`] take signatures
+//! Beyond that crate, a [`Verifier`] reads a key, or a key set with keys of several families, and a [`Validation`] once, and verifies many
+//! tokens; a [`KeySet`] fetches keys that rotate; [`Validation::strict`] leaves out the leeway and checks `nbf`; and [`SigningInput`] and [`decode_by_verdict`] take signatures
 //! that are made or checked elsewhere.
 #![warn(missing_docs, clippy::pedantic)]
 // names such as EdDSA stand as in the standards, and those of types and calls as in the crate jsonwebtoken

@@ -39,7 +39,7 @@ pub struct Verdict<'a> {
 /// [`ErrorKind::Json`].
 pub fn signed_part(token: &str) -> Result<SignedPart<'_>> {
     let (algorithm, len, signature) = calls::signed_part(token.as_bytes()).map_err(Error::from_status)?;
-    let algorithm = Algorithm::from_number(algorithm).ok_or(ErrorKind::InvalidAlgorithmName)?;
+    let algorithm = Algorithm::from_number(algorithm)?;
     Ok(SignedPart { algorithm, message: &token.as_bytes()[..len], signature })
 }
 

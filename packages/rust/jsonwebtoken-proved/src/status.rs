@@ -62,7 +62,6 @@ statuses! {
     TOKEN_TOO_LONG = 111,
     NO_MEMBER = 112,
     KEY_AS_SECRET = 113,
-    MIXED_FAMILIES = 114,
 }
 
 #[cfg(test)]

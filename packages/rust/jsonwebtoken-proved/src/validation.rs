@@ -79,7 +79,8 @@ pub struct Validation {
     pub iss: Option<HashSet<String>>,
     /// The subject that the token has to name.
     pub sub: Option<String>,
-    /// The algorithms that are accepted, all of the key's family.
+    /// The accepted algorithms. [`decode`](crate::decode) requires that all are of the key's family. A [`Verifier`](crate::Verifier) and a
+    /// [`KeySet`](crate::KeySet) accept a list of several families: a key verifies with the listed algorithms of the key's family.
     pub algorithms: Vec<Algorithm>,
     /// The names that the header's `crit` may have (RFC 7515 section 4.1.11): none at first.
     pub understood_crit: Vec<String>,
@@ -106,16 +107,6 @@ impl Validation {
             sub: None,
             understood_crit: Vec::new(),
             insecure_ignores_signature: false,
-        }
-    }
-
-    /// Accepts each token whose claims pass the tests, as [`insecure_decode`](crate::dangerous::insecure_decode) does not test them.
-    pub(crate) fn nothing() -> Validation {
-        Validation {
-            required_spec_claims: HashSet::new(),
-            validate_exp: false,
-            validate_aud: false,
-            ..Validation::default()
         }
     }
 
@@ -150,8 +141,8 @@ impl Validation {
         self.required_spec_claims = texts(items);
     }
 
-    /// Has [`decode`](crate::decode) look at neither the signature nor the algorithm: **anyone can have written the token.** Its claims are
-    /// checked. All other calls refuse such a `Validation` with [`ErrorKind::InvalidArgument`].
+    /// Has [`decode`](crate::decode) check the claims alone, and not the signature, the algorithm or `crit`: **anyone can have written the
+    /// token.** All other calls refuse such a `Validation` with [`ErrorKind::InvalidArgument`].
     #[deprecated(note = "`dangerous::insecure_decode` reads tokens without verifying them")]
     pub fn insecure_disable_signature_validation(&mut self) {
         self.insecure_ignores_signature = true;
@@ -159,6 +150,17 @@ impl Validation {
 
     /// Returns the options of `jwtproved.h`, as JSON.
     pub(crate) fn options(&self) -> Result<String> {
+        if self.insecure_ignores_signature {
+            return Err(argument("insecure_disable_signature_validation is for decode alone"));
+        }
+        if self.algorithms.is_empty() {
+            return Err(ErrorKind::MissingAlgorithm.into());
+        }
+        self.options_of_claims()
+    }
+
+    /// Returns the options for a check of claims alone, which ignores the algorithms.
+    pub(crate) fn options_of_claims(&self) -> Result<String> {
         self.check()?;
         let options = Options {
             strict: true,
@@ -179,12 +181,6 @@ impl Validation {
 
     /// Refuses empty lists, empty names, and claims without a rule, which could only be a slip.
     fn check(&self) -> Result<()> {
-        if self.insecure_ignores_signature {
-            return Err(argument("insecure_disable_signature_validation is for decode alone"));
-        }
-        if self.algorithms.is_empty() {
-            return Err(ErrorKind::MissingAlgorithm.into());
-        }
         let names =
             |it: &Option<HashSet<String>>, is_slip: fn(&HashSet<String>) -> bool| it.as_ref().map_or(false, is_slip);
         let slips = [

@@ -1,7 +1,7 @@
 //! Keys and conditions that are read once, and verify many tokens.
 
 use crate::errors::{Error, Result};
-use crate::library::calls::{self, Kind};
+use crate::library::calls::{self, Kind, Of};
 use crate::library::handle::{Handle, TokenRefusal, Use};
 use crate::validation::{self, argument};
 use crate::{DecodingKey, Header, TokenData, Validation, decode_header};
@@ -44,7 +44,7 @@ impl Refusal {
     /// The name is for a log: whoever sent the token need not be told.
     #[must_use]
     pub fn failed_test(&self) -> Option<String> {
-        calls::test_text(self.test).ok()
+        calls::text_of(Of::Test, self.test).ok()
     }
 }
 
@@ -79,7 +79,11 @@ impl std::error::Error for Refusal {
     }
 }
 
-/// A key and the conditions on a token, which are read once and verify many tokens. Any number of threads may use it at the same time.
+/// A key or a key set, and the conditions on a token, which are read once and verify many tokens. Any number of threads may use it at the
+/// same time.
+///
+/// The algorithms may be of several families. A key verifies with the listed algorithms of the key's family, so one verifier accepts the
+/// tokens of a key set with RSA, EC and Ed25519 keys. The token's `alg` selects neither the key nor the family.
 ///
 /// It must not be used in a child process that was forked from a process with several threads.
 ///
@@ -143,9 +147,9 @@ impl Verifier {
     ///
     /// # Errors
     ///
-    /// A key that serves none of the algorithms, or a secret that others may know, is [`ErrorKind::UnusableKey`]; an error that the key
-    /// was made with is returned. Conditions that are not understood, and algorithms of several families, are
-    /// [`ErrorKind::InvalidArgument`], and no algorithm is [`ErrorKind::MissingAlgorithm`].
+    /// A key that fits none of the algorithms, or a secret that others may know, is [`ErrorKind::UnusableKey`]; an error that the key
+    /// was made with is returned. Invalid conditions are [`ErrorKind::InvalidArgument`], and no algorithm is
+    /// [`ErrorKind::MissingAlgorithm`].
     ///
     /// [`ErrorKind::UnusableKey`]: crate::errors::ErrorKind::UnusableKey
     /// [`ErrorKind::InvalidArgument`]: crate::errors::ErrorKind::InvalidArgument
@@ -154,15 +158,24 @@ impl Verifier {
         Verifier::planned(key, validation, Use::Often)
     }
 
-    /// Returns the verifier of a JSON Web Key Set (RFC 7517 section 5), of which a token names a key by its `kid`, and conditions. A key
-    /// with an `alg` verifies tokens of that algorithm alone.
+    /// Returns the verifier of a JSON Web Key Set (RFC 7517 section 5) and conditions. The token's `kid` selects the key. A key with an
+    /// `alg` verifies tokens of that algorithm alone.
+    ///
+    /// ```
+    /// use jsonwebtoken_proved::{Algorithm, Validation, Verifier};
+    ///
+    /// # let set = r#"{"keys":[{"kty":"OKP","kid":"a","crv":"Ed25519","x":"11qYAYKxCrfVS_7TyWQHOg7hcvPapiMlrwIaaPcHURo"}]}"#;
+    /// let mut validation = Validation::strict(Algorithm::RS256);
+    /// validation.algorithms = vec![Algorithm::RS256, Algorithm::ES256, Algorithm::EdDSA];
+    /// let verifier = Verifier::from_jwk_set(set, &validation)?;
+    /// # Ok::<(), jsonwebtoken_proved::errors::Error>(())
+    /// ```
     ///
     /// # Errors
     ///
-    /// The errors are those of [`Verifier::new`]; a set that can't be read, or of which no key with a `kid` serves an algorithm, is
+    /// It returns the errors of [`Verifier::new`]. If the set can't be read, or no key with a `kid` fits an algorithm, this is
     /// [`ErrorKind::UnusableKey`](crate::errors::ErrorKind::UnusableKey).
     pub fn from_jwk_set(set: &str, validation: &Validation) -> Result<Verifier> {
-        calls::check(Kind::Set, set.as_bytes()).map_err(Error::from_key_status)?;
         Verifier::made(Kind::Set, set.as_bytes(), validation, 0, Use::Often)
     }
 
@@ -187,7 +200,7 @@ impl Verifier {
         Verifier::made(kind, text, validation, 0, planned)
     }
 
-    /// Returns the verifier of a fetched set, which was checked before, and conditions.
+    /// Returns the verifier of a fetched set and conditions.
     pub(crate) fn of_fetched(set: &str, validation: &Validation) -> Result<Verifier> {
         Verifier::made(Kind::Set, set.as_bytes(), validation, 0, Use::Fetched)
     }
@@ -255,7 +268,8 @@ impl fmt::Debug for Verifier {
 #[cfg(test)]
 mod tests {
     use super::Verifier;
-    use crate::{Algorithm, DecodingKey, Validation};
+    use crate::{Algorithm, DecodingKey, Validation, status};
+    use serde_json::Value;
     use std::panic::{AssertUnwindSafe, catch_unwind};
     use std::thread;
     use std::time::Instant;
@@ -281,6 +295,25 @@ mod tests {
         assert_eq!(verifier.lock().idle.len(), 1);
         drop(taken);
         assert!(verifier.decode_json(TOKEN, NOW).is_ok());
+    }
+
+    /// One call for C verifies a token with any listed algorithm, whatever its family. Python's cryptography signed the tokens.
+    #[test]
+    fn one_call_for_algorithms_of_several_families() {
+        let listed = [Algorithm::RS256, Algorithm::ES256, Algorithm::EdDSA];
+        let validation = Validation { algorithms: listed.to_vec(), ..Validation::default() };
+        let rows = crate::tests::file_of_repository("crates/jwt_vectors/data/standard.jsonl");
+        let rows: Vec<Value> = rows.lines().map(|it| serde_json::from_str(it).unwrap()).collect();
+        let rows: Vec<&Value> = rows.iter().filter(|it| it["id"].as_str().unwrap().ends_with(", by its kid")).collect();
+        assert!(rows.len() == Algorithm::ALL.len() && rows.iter().all(|it| it["set"] == rows[0]["set"]));
+        let verifier = Verifier::from_jwk_set(&rows[0]["set"].to_string(), &validation).unwrap();
+        let mut handle = verifier.reader().unwrap().handle;
+        for row in rows {
+            let algorithm = row["want"]["ok"]["header"]["alg"].as_str().unwrap().parse().unwrap();
+            let wanted = if listed.contains(&algorithm) { status::OK } else { status::INVALID_ALGORITHM };
+            let status = handle.status_of(row["token"].as_str().unwrap().as_bytes(), 0, &mut [0; 256]);
+            assert_eq!(status, wanted, "{algorithm}");
+        }
     }
 
     /// A panic that comes while a thread has the lock is no reason to verify no more.
@@ -316,8 +349,7 @@ mod tests {
         let in_c = nanoseconds(|| assert_eq!(handle.status_of(TOKEN.as_bytes(), NOW, &mut buffer), 0));
         let in_rust = nanoseconds(|| assert!(verifier.decode_json(TOKEN, NOW).is_ok()));
         let header = nanoseconds(|| assert!(crate::decode_header(TOKEN).is_ok()));
-        let once =
-            nanoseconds(|| assert!(crate::decode::<serde_json::Value>(TOKEN, &key, &Validation::default()).is_ok()));
+        let once = nanoseconds(|| assert!(crate::decode::<Value>(TOKEN, &key, &Validation::default()).is_ok()));
         println!("{} bytes: jwt_verifier_decode {in_c} ns, Verifier::decode_json {in_rust} ns", TOKEN.len());
         println!("decode_header {header} ns, decode {once} ns");
     }

@@ -197,17 +197,17 @@ fn json_web_keys() {
     assert!(serde_json::from_value::<Jwk>(json!({"kty": "oct", "k": "AA", "kid": 5})).is_err());
 }
 
-/// The library reads a key; one that serves no algorithm, or a secret that others may know, is refused when it is used.
+/// The library reads a key; one that fits no algorithm, or a secret that others may know, is refused when it is used.
 #[test]
 fn keys_of_json_web_keys() {
     let x = "f83OJ3D2xF1Bg8vub9tLe1gHMzV76e8Tus9uPHvRVEU"; // RFC 7515 appendix A.3.1
     let made = [
         (json!({"kty": "oct", "k": "MDEyMzQ1Njc4OWFiY2RlZjAxMjM0NTY3ODlhYmNkZWY", "alg": "RS256"}), None),
-        (json!({"kty": "oct", "k": "AAAA"}), Some("Anyone can sign")),
+        (json!({"kty": "oct", "k": "AAAA"}), Some("Secret is empty or all zeros")),
         (json!({"kty": "oct", "k": "c3NoLXJzYSBBQUFB"}), Some("is the text of a key")), // ssh-rsa AAAA
-        (json!({"kty": "EC", "crv": "P-256", "x": x, "y": x}), Some("serves no algorithm")),
-        (json!({"kty": "RSA", "n": "AQAB", "e": "AQAB"}), Some("serves no algorithm")),
-        (json!({"kty": "OKP", "crv": "Ed25519", "x": "AQAB"}), Some("serves no algorithm")),
+        (json!({"kty": "EC", "crv": "P-256", "x": x, "y": x}), Some("No key fits the algorithms")),
+        (json!({"kty": "RSA", "n": "AQAB", "e": "AQAB"}), Some("No key fits the algorithms")),
+        (json!({"kty": "OKP", "crv": "Ed25519", "x": "AQAB"}), Some("No key fits the algorithms")),
     ];
     for (text, why) in made {
         let jwk: Jwk = serde_json::from_value(text.clone()).unwrap();
@@ -280,6 +280,20 @@ fn tokens_that_are_not_verified() {
     }
     assert_eq!(insecure_decode::<Claims>("a.b").unwrap_err().kind(), &ErrorKind::InvalidToken);
     assert!(matches!(insecure_decode::<u8>(&token).unwrap_err().kind(), ErrorKind::Json(_)));
+    // the headers {"alg":"none"}, {"alg":"ES512"} and no header at all
+    let (_, rest) = token.split_once('.').unwrap();
+    for header in ["eyJhbGciOiJub25lIn0", "eyJhbGciOiJFUzUxMiJ9", "?"] {
+        let token = format!("{header}.{rest}");
+        assert_eq!(insecure_decode_claims::<Claims>(&token).unwrap().sub, "b@b.com");
+        let refused = [decode_header(&token).err(), insecure_decode::<Claims>(&token).err()];
+        for error in refused.map(|it| it.unwrap().into_kind()) {
+            assert!(matches!(error, ErrorKind::Json(_) | ErrorKind::Base64(_)), "{header} {error:?}");
+        }
+    }
+    // a list, a number and null
+    for token in ["e30.W10.", "e30.NQ.", "e30.bnVsbA."] {
+        assert!(matches!(insecure_decode_claims::<Value>(token).unwrap_err().kind(), ErrorKind::Json(_)), "{token}");
+    }
 }
 
 #[test]
@@ -378,6 +392,10 @@ fn signatures_that_are_ignored() {
     }
     let kind_of = |token: &str| decode::<Claims>(token, &nobody, &ignoring).unwrap_err().into_kind();
     assert_eq!(kind_of(&issue(&Header::default(), &json!({"sub": "b@b.com", "exp": 1}))), ErrorKind::ExpiredSignature);
+    assert_eq!(
+        kind_of(&issue(&Header::default(), &json!({"sub": "b@b.com"}))),
+        ErrorKind::MissingRequiredClaim("exp".to_string())
+    );
     assert_eq!(kind_of(token.rsplit_once('.').unwrap().0), ErrorKind::InvalidToken);
     assert!(matches!(kind_of(&format!("{token}.AAAA")), ErrorKind::Base64(_)));
     // no other call verifies like this

@@ -86,7 +86,7 @@ fn refusals_stay() {
     mixed.algorithms.push(Algorithm::ES256);
     for _ in 0..4 {
         assert_eq!(answer(TOKEN, &secret, &mixed), Err(ErrorKind::InvalidAlgorithm));
-        let why = ErrorKind::UnusableKey("Anyone can sign".to_string());
+        let why = ErrorKind::UnusableKey("Secret is empty or all zeros".to_string());
         assert_eq!(answer(FORGED, &blank, &Validation::default()), Err(why));
         assert!(answer(TOKEN, &secret, &Validation::default()).is_ok());
     }

@@ -639,6 +639,24 @@ fn keys_for_other_algorithms() {
     assert_eq!((server.fetches(), set.last_error()), (2, None));
 }
 
+/// One list of algorithms is for keys of several families. The `kid` selects the key, whatever the token's `alg` is.
+#[test]
+fn keys_of_several_families() {
+    let server = Server::new(says(points(0)));
+    let set = KeySet::new(server.fetch(LONG), rotation()).unwrap();
+    let algorithms = vec![Algorithm::RS256, Algorithm::ES256, Algorithm::HS256];
+    let validation = Validation { algorithms, ..Validation::default() };
+    let refusal = |token: &str| set.decode_json(token, &validation, NOW).err().map(|it| it.error.into_kind());
+    assert_eq!((refusal(OF_POINT), server.fetches()), (None, 1));
+    server.answers(says(points(0).replace("]}", &format!(",{}]}}", key("a")))));
+    for _ in 0..2 {
+        assert_eq!(refusal(&token(Some("a"), "a")), None);
+        assert_eq!(refusal(OF_POINT), None);
+        assert_eq!(refusal(&token(Some("p256"), "a")), Some(ErrorKind::InvalidAlgorithm));
+    }
+    assert_eq!((server.fetches(), set.last_error()), (2, None));
+}
+
 #[test]
 fn claims_of_a_type() {
     let set = KeySet::new(|| Ok::<_, Error>(Cursor::new(set_of(&["a"]))), rotation()).unwrap();

@@ -1,7 +1,9 @@
 //! Public keys in PEM: those of the tokens of RFC 7515 and RFC 8037, as Python's cryptography writes them.
 
 use jsonwebtoken_proved::errors::{Error, ErrorKind};
-use jsonwebtoken_proved::{Algorithm, DecodingKey, EncodingKey, Validation, Verifier};
+use jsonwebtoken_proved::jwk::Jwk;
+use jsonwebtoken_proved::{Algorithm, DecodingKey, EncodingKey, Header, Validation, Verifier, encode};
+use serde_json::json;
 
 const RSA: &str = "-----BEGIN PUBLIC KEY-----
 MIIBIjANBgkqhkiG9w0BAQEFAAOCAQ8AMIIBCgKCAQEAofgWCuLjybRlzo0tZWJj
@@ -133,6 +135,47 @@ fn keys_of_another_kind() {
         for pem in pems {
             assert_eq!(made(pem.as_bytes()).unwrap_err().kind(), &ErrorKind::InvalidKeyFormat, "{pem}");
         }
+    }
+}
+
+/// RFC 8725 section 2.1, algorithm confusion: everyone has the text of a public key, so HMAC with this text as the secret is a forgery.
+/// Python's hmac signed these tokens.
+#[test]
+fn the_text_of_a_public_key_is_no_secret() {
+    let forged = [
+        "eyJhbGciOiJIUzI1NiIsImtpZCI6InJzYSJ9.PAYLOAD.5Iwnh7GYZv-pqiqPptuP6c5seieuQ0r9GPti4FHJC_o",
+        "eyJhbGciOiJIUzI1NiIsImtpZCI6ImVjIn0.PAYLOAD.dVutbenRNo8mEyr7n4v62fSRjC14noUzzwP9NqLIe6g",
+        "eyJhbGciOiJIUzI1NiIsImtpZCI6ImVkIn0.PAYLOAD.j_WTe0EZZ4VXaFjR4NM5BSQJ9ldI_8zRUyUxAcQqdZ0",
+    ]
+    .map(|it| it.replace("PAYLOAD", PAYLOAD));
+    let made: [(Made, &str, &str); 3] = [
+        (DecodingKey::from_rsa_pem, RSA, "rsa"),
+        (DecodingKey::from_ec_pem, EC, "ec"),
+        (DecodingKey::from_ed_pem, ED, "ed"),
+    ];
+    let algorithms = vec![Algorithm::HS256, Algorithm::RS256, Algorithm::ES256, Algorithm::EdDSA];
+    let validation = Validation { algorithms, ..Validation::default() };
+    let mut set = vec![json!({"kty": "oct", "kid": "hmac", "k": "MDEyMzQ1Njc4OWFiY2RlZjAxMjM0NTY3ODlhYmNkZWY"})];
+    for (made, pem, kid) in made {
+        let key = made(pem.as_bytes()).unwrap();
+        let by_key = Verifier::new(&key, &validation).unwrap();
+        let mut jwk = Jwk::from_decoding_key(&key, None).unwrap();
+        jwk.common.key_id = Some(kid.to_string());
+        set.push(json!(jwk));
+        let by_set = Verifier::from_jwk_set(&json!({ "keys": set }).to_string(), &validation).unwrap();
+        for (token, name) in forged.iter().zip(["rsa", "ec", "ed"]) {
+            let refusal = by_key.decode_json(token, 0).unwrap_err();
+            assert_eq!(refusal.error.kind(), &ErrorKind::InvalidAlgorithm, "{kid} {name}");
+            if name == kid {
+                let refusal = by_set.decode_json(token, 0).unwrap_err();
+                assert_eq!(refusal.error.kind(), &ErrorKind::InvalidAlgorithm, "{kid}");
+                assert_eq!(refusal.failed_test().as_deref(), Some("AlgorithmIsAllowed"));
+            }
+        }
+        // the secret of the set signs
+        let header = Header { kid: Some("hmac".to_string()), ..Header::default() };
+        let secret = EncodingKey::from_secret(b"0123456789abcdef0123456789abcdef");
+        assert!(by_set.decode_json(encode(&header, &json!({"exp": 1}), &secret).unwrap(), 0).is_ok());
     }
 }
 

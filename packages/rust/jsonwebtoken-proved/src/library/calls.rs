@@ -1,11 +1,9 @@
 //! The calls for C as safe functions, which return the status of a call that has no result.
 
 use super::declared;
+pub use super::declared::{Of, Part};
 use crate::status;
 use std::ptr;
-
-/// A call that checks a key.
-type Check = unsafe extern "C" fn(*const u8, usize) -> u32;
 
 /// A call that reads the public key of a text in PEM.
 type FromPem = unsafe extern "C" fn(*const u8, usize, *mut u8, usize, *mut usize) -> u32;
@@ -56,25 +54,26 @@ pub fn text(size: usize, call: impl FnMut(*mut u8, usize, *mut usize) -> u32) ->
     written(size, call).map(|it| String::from_utf8(it).expect("the library writes UTF-8"))
 }
 
-pub fn status_text(status: u32) -> String {
+/// Returns the text of a number, such as the name of a test.
+pub fn text_of(of: Of, number: u32) -> Result<String, u32> {
     // SAFETY: the buffer has the length that is given
-    let text = text(64, |buffer, size, len| unsafe { declared::jwt_status_text(status, buffer, size, len) });
-    text.unwrap_or_default()
+    text(64, |buffer, size, len| unsafe { declared::jwt_text(of as u32, number, buffer, size, len) })
 }
 
-pub fn test_text(test: u32) -> Result<String, u32> {
-    // SAFETY: the buffer has the length that is given
-    text(32, |buffer, size, len| unsafe { declared::jwt_test_text(test, buffer, size, len) })
+/// Returns the number of the algorithm with this name, or 0.
+pub fn algorithm(name: &str) -> u32 {
+    // SAFETY: each pointer has the length of its slice
+    unsafe { declared::jwt_algorithm(name.as_ptr(), name.len()) }
 }
 
-pub fn check(kind: Kind, key: &[u8]) -> Result<(), u32> {
-    let call: Check = match kind {
-        Kind::Secret => declared::jwt_check_secret,
-        Kind::Jwk => declared::jwt_check_key,
-        Kind::Set => declared::jwt_check_set,
-    };
-    // SAFETY: the slice has the length that is given
-    checked(unsafe { call(key.as_ptr(), key.len()) })
+pub fn check_secret(secret: &[u8]) -> Result<(), u32> {
+    // SAFETY: each pointer has the length of its slice
+    checked(unsafe { declared::jwt_check_secret(secret.as_ptr(), secret.len()) })
+}
+
+pub fn check_key(jwk: &[u8]) -> Result<(), u32> {
+    // SAFETY: each pointer has the length of its slice
+    checked(unsafe { declared::jwt_check_key(jwk.as_ptr(), jwk.len()) })
 }
 
 /// Returns the JSON Web Key of a public key in PEM, or of the key of a certificate of which nothing is verified.
@@ -92,11 +91,18 @@ pub fn key_algorithms(jwk: &[u8]) -> Result<u32, u32> {
     Ok(bits)
 }
 
-pub fn decode_header(token: &[u8]) -> Result<String, u32> {
+/// Returns a part of a token, as JSON of an object. Nothing is verified.
+pub fn unverified(token: &[u8], part: Part) -> Result<String, u32> {
     // SAFETY: the slice has the length that is given, and the buffer does not overlap it
     text(token.len() + 64, |buffer, size, len| unsafe {
-        declared::jwt_decode_header(token.as_ptr(), token.len(), buffer, size, len)
+        declared::jwt_unverified(token.as_ptr(), token.len(), part as u32, buffer, size, len)
     })
+}
+
+/// Checks claims by the rules of options alone.
+pub fn check_claims(claims: &str, options: &str, now: u64) -> Result<(), u32> {
+    // SAFETY: each pointer has the length of its slice
+    checked(unsafe { declared::jwt_check_claims(claims.as_ptr(), claims.len(), options.as_ptr(), options.len(), now) })
 }
 
 /// Returns the number of a token's algorithm, the length of its message, and its signature.

@@ -96,12 +96,20 @@ extern "C" {
         algorithm: u32,
     ) -> u32;
     pub fn jwt_key_algorithms(key: *const u8, key_len: usize, bits: *mut u32) -> u32;
-    pub fn jwt_decode_header(
+    pub fn jwt_unverified(
         token: *const u8,
         token_len: usize,
+        part: u32,
         buffer: *mut u8,
         buffer_len: usize,
         len: *mut usize,
+    ) -> u32;
+    pub fn jwt_check_claims(
+        claims: *const u8,
+        claims_len: usize,
+        options: *const u8,
+        options_len: usize,
+        now: u64,
     ) -> u32;
     pub fn jwt_encode_hmac(
         header: *const u8,
@@ -165,13 +173,28 @@ extern "C" {
     ) -> u32;
     pub fn jwt_check_secret(secret: *const u8, secret_len: usize) -> u32;
     pub fn jwt_check_key(key: *const u8, key_len: usize) -> u32;
-    pub fn jwt_check_set(set: *const u8, set_len: usize) -> u32;
-    pub fn jwt_status_text(status: u32, buffer: *mut u8, buffer_len: usize, len: *mut usize) -> u32;
-    pub fn jwt_test_text(test: u32, buffer: *mut u8, buffer_len: usize, len: *mut usize) -> u32;
+    pub fn jwt_algorithm(name: *const u8, name_len: usize) -> u32;
+    pub fn jwt_text(of: u32, number: u32, buffer: *mut u8, buffer_len: usize, len: *mut usize) -> u32;
+}
+
+/// What a number stands for, `enum jwt_of`.
+#[derive(Clone, Copy, Debug)]
+pub enum Of {
+    Status = 1,
+    Test = 2,
+    Algorithm = 3,
+}
+
+/// A part of a token, `enum jwt_part`.
+#[derive(Clone, Copy, Debug)]
+pub enum Part {
+    Header = 1,
+    Payload = 2,
 }
 
 #[cfg(test)]
 mod tests {
+    use super::{Of, Part};
     use std::collections::BTreeMap;
 
     /// Returns the types of the parameters of each call after such a head, and what follows them.
@@ -214,10 +237,23 @@ mod tests {
         let mut its = calls(&header, "\nenum jwt_status ", of_c);
         its.values_mut().filter_map(|it| it.last_mut()).for_each(|it| *it = "-> u32".to_string());
         its.extend(calls(&header, "\nvoid ", of_c));
+        its.extend(calls(&header, "\nuint32_t ", of_c));
+        its.entry("jwt_algorithm").and_modify(|it| *it.last_mut().unwrap() = "-> u32".to_string());
         let ours = calls(include_str!("declared.rs"), "\n    pub fn ", of_rust);
         assert_eq!(ours.len(), include_str!("declared.rs").matches("    pub fn jwt_").count() - 1);
         for (name, types) in ours {
             assert_eq!(its.get(name), Some(&types), "{name}");
+        }
+    }
+
+    /// A number of another meaning would write another text, or another part of a token.
+    #[test]
+    fn the_numbers_are_those_of_the_header_file() {
+        let header = crate::tests::file_of_repository("packages/c/include/jwtproved.h");
+        let of = [Of::Status, Of::Test, Of::Algorithm].map(|it| format!("JWT_OF_{it:?} = {}", it as u32));
+        let parts = [Part::Header, Part::Payload].map(|it| format!("JWT_{it:?} = {}", it as u32));
+        for it in of.iter().chain(&parts) {
+            assert!(header.contains(&it.to_uppercase()), "{it}");
         }
     }
 }
