@@ -12,8 +12,14 @@
 #define NGX_HTTP_JWT_SET   1048576
 /* seconds from the end of a fetch to the next */
 #define NGX_HTTP_JWT_PAUSE  10
-/* room for the text of a status or of a test */
+/* room for each text of the library */
 #define NGX_HTTP_JWT_TEXT  64
+/* room for the names of all algorithms, and a few words */
+#define NGX_HTTP_JWT_NAMES  256
+/* what is said of a set that JWT_NO_USABLE_KEY refuses */
+#define NGX_HTTP_JWT_UNUSABLE                                                \
+    ": each key is for other algorithms, malformed, too weak or without a "  \
+    "kid; jwt keys FILE shows which"
 /* this module's own test, after those of the library: iss is no list */
 #define NGX_HTTP_JWT_ISSUER_TEST  (JWT_TEST_CLAIMS_ARE_VALID + 1)
 /* the longest token with its claims that is remembered */
@@ -171,19 +177,17 @@ ngx_int_t ngx_http_jwt_await(ngx_http_jwt_rules_t *rules,
 void ngx_http_jwt_stop_waiting(ngx_http_jwt_ctx_t *ctx);
 
 /* ngx_http_jwt_rules.c */
-char *ngx_http_jwt_report(ngx_conf_t *cf, const char *directive,
-    ngx_str_t *value, uint32_t status, ngx_http_jwt_key_t *key);
 char *ngx_http_jwt_read_key(ngx_conf_t *cf, ngx_http_jwt_key_t *key);
 char *ngx_http_jwt_set_rules(ngx_conf_t *cf, ngx_http_jwt_loc_conf_t *conf);
-const char *ngx_http_jwt_unfit(void *text, size_t len, ngx_uint_t is_set);
 uint32_t ngx_http_jwt_take_set(ngx_http_jwt_source_t *source,
     ngx_array_t *set);
 
 /* ngx_http_jwt_text.c */
 uint32_t ngx_http_jwt_write(ngx_http_jwt_call_pt call, ngx_pool_t *pool,
     ngx_str_t *in, ngx_str_t *out);
-ngx_int_t ngx_http_jwt_quote(ngx_pool_t *pool, ngx_str_t *text, ngx_uint_t n,
-    ngx_str_t *json);
+enum jwt_status ngx_http_jwt_header(const char *token, size_t token_len,
+    char *buffer, size_t buffer_len, size_t *len);
+u_char *ngx_http_jwt_write_algorithms(u_char *p, u_char *last, uint32_t bits);
 ngx_uint_t ngx_http_jwt_is_same_text(ngx_str_t *a, ngx_str_t *b);
 ngx_uint_t ngx_http_jwt_is_plain(ngx_str_t *text);
 ngx_uint_t ngx_http_jwt_has_variable(ngx_str_t *text);

@@ -274,17 +274,12 @@ ngx_http_jwt_read_realm(ngx_conf_t *cf, ngx_str_t *text, ngx_str_t *realm)
         return "has a realm with a variable";
     }
 
-    if (!ngx_http_jwt_is_plain(text)) {
+    /* without control characters the escapes are those of a quoted-string */
+    if (!ngx_http_jwt_is_plain(text)
+        || ngx_http_jwt_write(jwt_quote, cf->pool, text, realm) != JWT_OK)
+    {
         return "has a realm that is not UTF-8 without control characters";
     }
-
-    /* without control characters the escapes are those of a quoted-string */
-    if (ngx_http_jwt_quote(cf->pool, text, 1, realm) != NGX_OK) {
-        return NGX_CONF_ERROR;
-    }
-
-    realm->data++;
-    realm->len -= 2;
 
     return NGX_CONF_OK;
 }
@@ -324,58 +319,136 @@ ngx_http_jwt(ngx_conf_t *cf, ngx_command_t *cmd, void *conf)
 }
 
 
-/* Has the library read a list as a member of options, for a secret. */
+/* Has the library read the name of an algorithm. */
 static char *
-ngx_http_jwt_check_list(ngx_conf_t *cf, ngx_command_t *cmd, ngx_str_t *value,
-    ngx_str_t *list)
+ngx_http_jwt_check_algorithm(ngx_conf_t *cf, ngx_str_t *name)
 {
-    size_t                size = list->len + 32;
-    u_char               *text, *last;
-    uint32_t              status;
-    struct jwt_verifier   verifier = JWT_VERIFIER_NONE;
+    u_char  names[NGX_HTTP_JWT_NAMES], *last;
 
-    text = ngx_pnalloc(cf->pool, size);
-    if (text == NULL) {
-        return NGX_CONF_ERROR;
+    if (jwt_algorithm((char *) name->data, name->len) != 0) {
+        return NGX_CONF_OK;
     }
 
-    last = ngx_snprintf(text, size, "{\"%s\":%V}", cmd->post, list);
-    status = jwt_verifier_secret(NULL, 0, (char *) text, last - text, 0, 1,
-                                 JWT_PREPARE_NOTHING, &verifier);
-    jwt_verifier_free(&verifier);
-
-    return status == JWT_OK || status == JWT_NO_USABLE_KEY ? NGX_CONF_OK
-           : ngx_http_jwt_report(cf, (char *) cmd->name.data, value, status,
-                                 NULL);
+    last = ngx_http_jwt_write_algorithms(names, names + sizeof(names),
+                                         (uint32_t) -1);
+    ngx_conf_log_error(NGX_LOG_EMERG, cf, 0,
+                       "auth_jwt_alg \"%V\": no such algorithm, write one of "
+                       "%*s", name, (size_t) (last - names), names);
+    return NGX_CONF_ERROR;
 }
 
 
-/* Reads a name of a directive as a list in JSON. */
+/* Has the library read a list of one name as an option. */
+static char *
+ngx_http_jwt_check_option(ngx_conf_t *cf, ngx_command_t *cmd, ngx_str_t *name,
+    ngx_str_t *json)
+{
+    uint32_t    status;
+    ngx_str_t   options, fault;
+
+    options.len = json->len + 32;
+    options.data = ngx_pnalloc(cf->temp_pool, options.len);
+    if (options.data == NULL) {
+        return NGX_CONF_ERROR;
+    }
+
+    options.len = ngx_snprintf(options.data, options.len, "{\"%s\":[%V]}",
+                               cmd->post, json)
+                  - options.data;
+    status = ngx_http_jwt_write(jwt_options_fault, cf->temp_pool, &options,
+                                &fault);
+
+    if (status != JWT_OK) {
+        return NGX_CONF_ERROR;
+    }
+
+    if (fault.len == 0) {
+        return NGX_CONF_OK;
+    }
+
+    ngx_conf_log_error(NGX_LOG_EMERG, cf, 0, "%V \"%V\": %V", &cmd->name, name,
+                       &fault);
+    return NGX_CONF_ERROR;
+}
+
+
+/* Reads a name of a directive as a string in JSON. */
 static char *
 ngx_http_jwt_name(ngx_conf_t *cf, ngx_command_t *cmd, ngx_str_t *name,
-    ngx_str_t *list)
+    ngx_str_t *json)
 {
-    if (name->len == 0) {
-        return "has an empty name";
-    }
+    uint32_t  status;
 
     if (ngx_http_jwt_has_variable(name)) {
         return "takes no variables";
     }
 
-    return ngx_http_jwt_quote(cf->pool, name, 1, list) == NGX_OK
-           ? ngx_http_jwt_check_list(cf, cmd, name, list) : NGX_CONF_ERROR;
+    if (cmd->offset == offsetof(ngx_http_jwt_loc_conf_t, algorithms)
+        && ngx_http_jwt_check_algorithm(cf, name) != NGX_CONF_OK)
+    {
+        return NGX_CONF_ERROR;
+    }
+
+    status = ngx_http_jwt_write(jwt_quote, cf->temp_pool, name, json);
+
+    if (status != JWT_OK) {
+        return status == JWT_UTF8 ? "takes names that are UTF-8"
+                                  : NGX_CONF_ERROR;
+    }
+
+    return ngx_http_jwt_check_option(cf, cmd, name, json);
 }
 
 
-/* Reads the names of a directive as a list in JSON. */
+/* Reads names of a directive as a list in JSON. */
+static char *
+ngx_http_jwt_names(ngx_conf_t *cf, ngx_command_t *cmd, ngx_str_t *name,
+    ngx_uint_t n, ngx_str_t *list)
+{
+    char        *rv;
+    u_char      *p;
+    size_t       size = sizeof("[]") - 1;
+    ngx_str_t   *json;
+    ngx_uint_t   i;
+
+    json = ngx_palloc(cf->temp_pool, n * sizeof(ngx_str_t));
+    if (json == NULL) {
+        return NGX_CONF_ERROR;
+    }
+
+    for (i = 0; i < n; i++) {
+        rv = ngx_http_jwt_name(cf, cmd, &name[i], &json[i]);
+        if (rv != NGX_CONF_OK) {
+            return rv;
+        }
+
+        size += json[i].len + 1;
+    }
+
+    p = ngx_pnalloc(cf->pool, size);
+    if (p == NULL) {
+        return NGX_CONF_ERROR;
+    }
+
+    list->data = p;
+
+    for (i = 0; i < n; i++) {
+        *p++ = i == 0 ? '[' : ',';
+        p = ngx_cpymem(p, json[i].data, json[i].len);
+    }
+
+    *p++ = ']';
+    list->len = p - list->data;
+
+    return NGX_CONF_OK;
+}
+
+
 static char *
 ngx_http_jwt_list(ngx_conf_t *cf, ngx_command_t *cmd, void *conf)
 {
-    char        *rv;
-    ngx_str_t   *value = cf->args->elts;
-    ngx_str_t   *list = (ngx_str_t *) ((char *) conf + cmd->offset);
-    ngx_uint_t   i;
+    ngx_str_t  *value = cf->args->elts;
+    ngx_str_t  *list = (ngx_str_t *) ((char *) conf + cmd->offset);
 
     if (list->data != NULL) {
         return "is duplicate";
@@ -383,17 +456,7 @@ ngx_http_jwt_list(ngx_conf_t *cf, ngx_command_t *cmd, void *conf)
 
     ngx_http_jwt_keep_place(cf, conf);
 
-    for (i = 1; i < cf->args->nelts; i++) {
-        /* one by one, so that the report has the name */
-        rv = ngx_http_jwt_name(cf, cmd, &value[i], list);
-        if (rv != NGX_CONF_OK) {
-            return rv;
-        }
-    }
-
-    return ngx_http_jwt_quote(cf->pool, &value[1], cf->args->nelts - 1, list)
-           == NGX_OK ? ngx_http_jwt_check_list(cf, cmd, list, list)
-                     : NGX_CONF_ERROR;
+    return ngx_http_jwt_names(cf, cmd, &value[1], cf->args->nelts - 1, list);
 }
 
 
@@ -454,7 +517,7 @@ ngx_http_jwt_key(ngx_conf_t *cf, ngx_command_t *cmd, void *conf)
             return "takes iss=NAME as its second argument";
         }
 
-        rv = ngx_http_jwt_name(cf, cmd, &issuer, &key->issuer);
+        rv = ngx_http_jwt_names(cf, cmd, &issuer, 1, &key->issuer);
         if (rv != NGX_CONF_OK) {
             return rv;
         }

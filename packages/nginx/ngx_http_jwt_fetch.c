@@ -106,7 +106,8 @@ ngx_http_jwt_report_fetch(ngx_http_jwt_fetch_t *fetch, ngx_uint_t answer,
         ngx_str_set(&said, "cut");
 
     } else {
-        (void) jwt_status_text(status, (char *) text, sizeof(text), &said.len);
+        (void) jwt_text(JWT_OF_STATUS, status, (char *) text, sizeof(text),
+                        &said.len);
     }
 
     /* the log of a connection has the request's line, and so a token */
@@ -114,9 +115,7 @@ ngx_http_jwt_report_fetch(ngx_http_jwt_fetch_t *fetch, ngx_uint_t answer,
                   "auth_jwt: no keys from \"%V\" of server \"%V\": status "
                   "%ui, %ui bytes: %V%s", &source->key->name,
                   &cscf->server_name, answer, fetch->set.nelts, &said,
-                  status == JWT_NO_USABLE_KEY
-                  ? ngx_http_jwt_unfit(fetch->set.elts, fetch->set.nelts, 1)
-                  : "");
+                  status == JWT_NO_USABLE_KEY ? NGX_HTTP_JWT_UNUSABLE : "");
 }
 
 
@@ -316,7 +315,7 @@ static ngx_uint_t
 ngx_http_jwt_lacks_key(ngx_http_jwt_rules_t *rules, ngx_http_jwt_ctx_t *ctx)
 {
     size_t      len;
-    uint32_t    type, last;
+    uint32_t    type = JWT_STRING, last;
     ngx_str_t   header;
 
     if (ctx->test == 0) {
@@ -326,14 +325,18 @@ ngx_http_jwt_lacks_key(ngx_http_jwt_rules_t *rules, ngx_http_jwt_ctx_t *ctx)
     last = rules->is_bound ? JWT_TEST_SIGNATURE_IS_ACCEPTED
                            : JWT_TEST_KEY_IS_FOUND;
 
-    /* no set has a key for a token without a kid */
-    return ctx->test >= JWT_TEST_KEY_IS_FOUND && ctx->test <= last
-           && (ngx_http_jwt_write(jwt_decode_header, ctx->request->pool,
-                                  &ctx->token, &header)
-               != JWT_OK
-               || jwt_member((char *) header.data, header.len, "kid", 3, &type,
-                             NULL, 0, &len)
-                  != JWT_NO_MEMBER);
+    if (ctx->test < JWT_TEST_KEY_IS_FOUND || ctx->test > last) {
+        return 0;
+    }
+
+    /* no set has a key for a token whose kid is absent or null */
+    return ngx_http_jwt_write(ngx_http_jwt_header, ctx->request->pool,
+                              &ctx->token, &header)
+           != JWT_OK
+           || jwt_member((char *) header.data, header.len, "kid", 3, &type,
+                         NULL, 0, &len)
+              == JWT_OUT_OF_MEMORY
+           || type == JWT_STRING;
 }
 
 

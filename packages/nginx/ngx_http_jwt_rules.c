@@ -6,11 +6,8 @@
     "\"iss\":%V}"
 
 
-/*
- * keys of a longer text are not tried for what they are for, and fetched ones
- * are not prepared
- */
-#define NGX_HTTP_JWT_TRIED  65536
+/* if a fetched set is longer, none of its keys is prepared */
+#define NGX_HTTP_JWT_LONG  65536
 /*
  * bytes of prepared keys of a fetched set: 64 keys on P-256 take 0.1 s, in
  * which the worker serves no other request
@@ -18,55 +15,23 @@
 #define NGX_HTTP_JWT_PREPARED  1048576
 
 
-/* options that keys of one kind serve, and what is said of such keys */
-typedef struct {
-    ngx_str_t    options;
-    const char  *said;
-} ngx_http_jwt_kind_t;
-
-
-#define ngx_http_jwt_kind(algorithm, names)                                  \
-    { ngx_string("{\"algorithms\":[\"" algorithm "\"]}"),                      \
-      ": it is for " names ", and not for auth_jwt_alg" }
-
-
-static ngx_http_jwt_kind_t  ngx_http_jwt_kinds[] = {
-    ngx_http_jwt_kind("HS256", "HS256, HS384 and HS512"),
-    ngx_http_jwt_kind("RS256", "RS256 to RS512 and PS256 to PS512"),
-    ngx_http_jwt_kind("ES256", "ES256"),
-    ngx_http_jwt_kind("ES384", "ES384"),
-    ngx_http_jwt_kind("EdDSA", "EdDSA")
-};
-
-
-/* Returns why no key of a text verifies with one of the algorithms. */
-const char *
-ngx_http_jwt_unfit(void *text, size_t len, ngx_uint_t is_set)
+/* Writes what a single key is for, and returns the end. */
+static u_char *
+ngx_http_jwt_write_use(ngx_str_t *key, u_char *p, u_char *last)
 {
-    ngx_uint_t            i;
-    ngx_http_jwt_kind_t  *it = ngx_http_jwt_kinds;
-    struct jwt_verifier   verifier = JWT_VERIFIER_NONE;
+    uint32_t  bits;
 
-    for (i = 0; i < 5 && len <= NGX_HTTP_JWT_TRIED; i++) {
-        if ((is_set ? jwt_verifier_set : jwt_verifier_key)
-                (text, len, (char *) it[i].options.data, it[i].options.len, 0,
-                 0, JWT_PREPARE_NOTHING, &verifier)
-            == JWT_OK)
-        {
-            jwt_verifier_free(&verifier);
-            return it[i].said;
-        }
+    (void) jwt_key_algorithms((char *) key->data, key->len, &bits);
+
+    if (bits == 0) {
+        return ngx_slprintf(p, last, ": the key is malformed, or too weak, "
+                            "such as RSA of less than 2048 bits");
     }
 
-    if (!is_set) {
-        return ": it is malformed, or too weak, such as RSA of less than 2048 "
-               "bits";
-    }
+    p = ngx_slprintf(p, last, ": the key is for ");
+    p = ngx_http_jwt_write_algorithms(p, last, bits);
 
-    return ngx_strnstr(text, "\"kid\"", len) == NULL
-           ? ": none of its keys has a kid, by which a token names its key"
-           : ": each key is malformed, too weak, such as RSA of less than "
-             "2048 bits, or has no kid; jwt keys FILE says which";
+    return ngx_slprintf(p, last, ", and not for auth_jwt_alg");
 }
 
 
@@ -86,32 +51,34 @@ ngx_http_jwt_other(ngx_str_t *text)
 }
 
 
-/* Says why the library refuses a value of a directive, or its keys. */
-char *
-ngx_http_jwt_report(ngx_conf_t *cf, const char *directive, ngx_str_t *value,
-    uint32_t status, ngx_http_jwt_key_t *key)
+/* Says why the library refuses a key file. */
+static char *
+ngx_http_jwt_report(ngx_conf_t *cf, ngx_http_jwt_key_t *key, uint32_t status)
 {
-    u_char       text[NGX_HTTP_JWT_TEXT];
+    u_char       text[NGX_HTTP_JWT_TEXT], use[NGX_HTTP_JWT_NAMES];
+    u_char      *p = use;
     ngx_str_t    said = { 0, text };
     const char  *hint = "";
 
-    (void) jwt_status_text(status, (char *) text, sizeof(text), &said.len);
+    (void) jwt_text(JWT_OF_STATUS, status, (char *) text, sizeof(text),
+                    &said.len);
 
-    if (status == JWT_BAD_OPTIONS) {
-        hint = ": no algorithm of this name, or a name that is not UTF-8";
+    if (status == JWT_NO_USABLE_KEY && key->is_set) {
+        hint = NGX_HTTP_JWT_UNUSABLE;
 
-    } else if (status == JWT_NO_USABLE_KEY && key != NULL) {
-        hint = ngx_http_jwt_unfit(key->text.data, key->text.len, key->is_set);
+    } else if (status == JWT_NO_USABLE_KEY) {
+        p = ngx_http_jwt_write_use(&key->text, use, use + sizeof(use));
 
-    } else if (status < JWT_BUFFER_TOO_SMALL) {
+    } else if (status < JWT_BUFFER_TOO_SMALL && status != JWT_OUT_OF_MEMORY) {
         /* why one of the three is not read says little of the others */
         ngx_str_set(&said, "no JSON Web Key Set, JSON Web Key or public key "
                            "in PEM");
-        hint = key != NULL ? ngx_http_jwt_other(&key->text) : "";
+        hint = ngx_http_jwt_other(&key->text);
     }
 
-    ngx_conf_log_error(NGX_LOG_EMERG, cf, 0, "%s \"%V\": %V%s", directive,
-                       value, &said, hint);
+    ngx_conf_log_error(NGX_LOG_EMERG, cf, 0,
+                       "auth_jwt_key_file \"%V\": %V%s%*s", &key->name, &said,
+                       hint, (size_t) (p - use), use);
     return NGX_CONF_ERROR;
 }
 
@@ -181,8 +148,7 @@ ngx_http_jwt_read_key(ngx_conf_t *cf, ngx_http_jwt_key_t *key)
 
     if (status != JWT_OK) {
         key->text = text;
-        return ngx_http_jwt_report(cf, "auth_jwt_key_file", &key->name, status,
-                                   key);
+        return ngx_http_jwt_report(cf, key, status);
     }
 
     return NGX_CONF_OK;
@@ -352,8 +318,7 @@ ngx_http_jwt_make_verifiers(ngx_conf_t *cf, ngx_http_jwt_rules_t *rules)
                       0, 0, 0, &source[i].verifier);
 
         if (status != JWT_OK) {
-            return ngx_http_jwt_report(cf, "auth_jwt_key_file", &key[i].name,
-                                       status, &key[i]);
+            return ngx_http_jwt_report(cf, &key[i], status);
         }
     }
 
@@ -409,7 +374,7 @@ ngx_http_jwt_replace_set(ngx_http_jwt_source_t *source, ngx_str_t *text)
     uint32_t              status;
     struct jwt_verifier   next = JWT_VERIFIER_NONE;
 
-    if (text->len > NGX_HTTP_JWT_TRIED) {
+    if (text->len > NGX_HTTP_JWT_LONG) {
         prepared = JWT_PREPARE_NOTHING;
     }
 

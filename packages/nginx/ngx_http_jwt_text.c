@@ -27,37 +27,36 @@ ngx_http_jwt_write(ngx_http_jwt_call_pt call, ngx_pool_t *pool, ngx_str_t *in,
 }
 
 
-/* Writes texts as a list in JSON. */
-ngx_int_t
-ngx_http_jwt_quote(ngx_pool_t *pool, ngx_str_t *text, ngx_uint_t n,
-    ngx_str_t *json)
+/* The call for the header of a token. */
+enum jwt_status
+ngx_http_jwt_header(const char *token, size_t token_len, char *buffer,
+    size_t buffer_len, size_t *len)
 {
-    u_char      *p;
-    size_t       size = 1;
-    ngx_uint_t   i;
+    return jwt_unverified(token, token_len, JWT_HEADER, buffer, buffer_len,
+                          len);
+}
 
-    for (i = 0; i < n; i++) {
-        size += 3 + text[i].len
-                + ngx_escape_json(NULL, text[i].data, text[i].len);
+
+/* Writes the names of algorithms whose bits are set, and returns the end. */
+u_char *
+ngx_http_jwt_write_algorithms(u_char *p, u_char *last, uint32_t bits)
+{
+    char         text[NGX_HTTP_JWT_TEXT];
+    size_t       len;
+    uint32_t     i;
+    const char  *comma = "";
+
+    for (i = 1; i < 32; i++) {
+        if ((bits & ((uint32_t) 1 << i)) != 0
+            && jwt_text(JWT_OF_ALGORITHM, i, text, sizeof(text), &len)
+               == JWT_OK)
+        {
+            p = ngx_slprintf(p, last, "%s%*s", comma, len, text);
+            comma = ", ";
+        }
     }
 
-    p = ngx_pnalloc(pool, size);
-    if (p == NULL) {
-        return NGX_ERROR;
-    }
-
-    json->data = p;
-    json->len = size;
-
-    for (i = 0; i < n; i++) {
-        *p++ = i == 0 ? '[' : ',';
-        *p++ = '"';
-        p = (u_char *) ngx_escape_json(p, text[i].data, text[i].len);
-        *p++ = '"';
-    }
-
-    *p = ']';
-    return NGX_OK;
+    return p;
 }
 
 

@@ -155,20 +155,20 @@ ngx_http_jwt_escape(ngx_pool_t *pool, ngx_str_t *value, ngx_uint_t is_kid)
         return NGX_OK;
     }
 
-    if (ngx_http_jwt_quote(pool, value, 1, &json) != NGX_OK) {
+    if (ngx_http_jwt_write(jwt_quote, pool, value, &json) != JWT_OK) {
         return NGX_ERROR;
     }
 
-    value->data = json.data + 1 + is_kid;
-    value->len = json.len - 2 * (1 + is_kid);
+    value->data = json.data + is_kid;
+    value->len = json.len - 2 * is_kid;
     return NGX_OK;
 }
 
 
 /*
- * Reads a member of an object.  Returns NGX_DECLINED if there is none, or if
- * it has a number that is not a 64-bit integer: the library writes the nearest
- * double, which other numbers share.
+ * Reads a member of an object.  Returns NGX_DECLINED if there is none, if it
+ * is a kid that is not a string, or if it has a number that is not a 64-bit
+ * integer: the library writes the nearest double, which other numbers share.
  */
 static ngx_int_t
 ngx_http_jwt_read_member(ngx_pool_t *pool, ngx_str_t *object, ngx_str_t *name,
@@ -190,6 +190,10 @@ ngx_http_jwt_read_member(ngx_pool_t *pool, ngx_str_t *object, ngx_str_t *name,
 
     if (status == JWT_OK && type == JWT_STRING) {
         return ngx_http_jwt_escape(pool, value, is_kid);
+    }
+
+    if (status == JWT_OK && is_kid) {
+        return NGX_DECLINED;
     }
 
     if (status == JWT_OK) {
@@ -240,7 +244,8 @@ ngx_http_jwt_member_variable(ngx_http_request_t *r,
     object = ctx->claims;
 
     if (name.data[4] != 'c'
-        && ngx_http_jwt_write(jwt_decode_header, r->pool, &ctx->token, &object)
+        && ngx_http_jwt_write(ngx_http_jwt_header, r->pool, &ctx->token,
+                              &object)
            != JWT_OK)
     {
         return is_kid ? NGX_OK : NGX_ERROR;
@@ -390,9 +395,10 @@ ngx_http_jwt_text_variable(ngx_http_request_t *r,
     text = ngx_pnalloc(r->pool, NGX_HTTP_JWT_TEXT);
 
     if (text == NULL
-        || (is_test ? jwt_test_text : jwt_status_text)(
-               is_test ? ctx->test : ctx->status, (char *) text,
-               NGX_HTTP_JWT_TEXT, &len) != JWT_OK)
+        || jwt_text(is_test ? JWT_OF_TEST : JWT_OF_STATUS,
+                    is_test ? ctx->test : ctx->status, (char *) text,
+                    NGX_HTTP_JWT_TEXT, &len)
+           != JWT_OK)
     {
         return NGX_ERROR;
     }

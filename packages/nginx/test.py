@@ -53,9 +53,14 @@ SERVER = """
         location /rsa {{ auth_jwt_key_file {work}/standard.json; auth_jwt_alg RS256 RS384 RS512 PS256 PS384 PS512; }}
         location /ec {{ auth_jwt_key_file {work}/standard.json; auth_jwt_alg ES256 ES384; }}
         location /ed {{ auth_jwt_key_file {work}/standard.json; auth_jwt_alg EdDSA; }}
+        location /every {{ auth_jwt_key_file {work}/standard.json; auth_jwt_alg @EVERY@; }}
+        location /public {{ auth_jwt_key_file {work}/public.json; auth_jwt_alg @EVERY@; }}
         location /pem {{ auth_jwt_key_file {work}/p256.pem; auth_jwt_alg ES256; }}
         large_client_header_buffers 4 2m;
 """
+ALGORITHMS = ["HS256", "HS384", "HS512", "RS256", "RS384", "RS512", "PS256", "PS384", "PS512", "ES256", "ES384", "EdDSA"]
+SERVER = SERVER.replace("@EVERY@", " ".join(ALGORITHMS))
+
 
 def standard_rows():
     """Returns the algorithm and the token of each row that verifies by a set, and the keys of all of them."""
@@ -84,6 +89,7 @@ def write_keys(server):
     server.write("keys.json", json.dumps({"keys": [oct_key("a"), oct_key("b", b"another secret of 32 or more bytes")]}, indent=2))
     server.write("key.json", oct_key("a"))
     server.write("standard.json", {"keys": keys})
+    server.write("public.json", {"keys": [it for it in keys if it["kty"] != "oct"]})
     return rows
 
 
@@ -129,9 +135,12 @@ def verdicts(server, rows):
     for algorithm, token in rows:
         path = {"R": "/rsa", "P": "/rsa", "E": "/ec"}.get(algorithm[0], "/")
         path = "/ed" if algorithm == "EdDSA" else path
-        if path != "/":
-            test(algorithm, server.get(path, token)[0] == 200)
-            test(f"{algorithm}, changed", server.get(path, token[:-8] + "AAAA" + token[-4:])[0] == 401)
+        for place in {path, "/every"} - {"/"}:
+            test(f"{algorithm} at {place}", server.get(place, token)[0] == 200)
+            test(f"{algorithm} at {place}, changed", server.get(place, token[:-8] + "AAAA" + token[-4:])[0] == 401)
+        for place in {"/rsa", "/ec", "/ed"} - {path}:
+            status, headers = server.get(place, token)
+            test(f"{algorithm} at {place}: {status} {headers['X-Status']}", (status, headers["X-Status"]) == (401, "InvalidAlgorithm"))
         if algorithm == "ES256":
             test("ES256 by a key in PEM", server.get("/pem", token)[0] == 200)
             test("ES256 by a key in PEM, changed", server.get("/pem", token[:-8] + "AAAA" + token[-4:])[0] == 401)
@@ -146,6 +155,35 @@ def verdicts(server, rows):
     ):
         got, _ = server.get(path, **headers)
         test(f"{name}: {got}", got == status)
+
+
+def confused(server, rows):
+    """With the algorithms of all families, the key that the kid names decides which of them count, and the token's alg does not."""
+    test(f"tokens of {sorted(dict(rows))}", set(dict(rows)) == set(ALGORITHMS))
+    for key in standard_rows()[1]:
+        if key["kty"] == "oct":
+            continue
+        # the bytes of each form in which the key is public
+        forms = [json.dumps(key), json.dumps(key, separators=(",", ":")), json.dumps({"keys": [key]})]
+        forms += [key[it] for it in ("n", "x") if it in key] + ([in_pem(key)] if key.get("crv") == "P-256" else [])
+        secrets = [it.encode() for it in forms] + [base64.urlsafe_b64decode(key[it] + "==") for it in ("n", "e", "x", "y") if it in key]
+        for secret in (*secrets, b""):
+            for alg, digest in (("HS256", "sha256"), ("HS384", "sha384"), ("HS512", "sha512")):
+                token = signed(PASS, secret, digest, alg=alg, kid=key["kid"])
+                for path in ("/every", "/public"):
+                    status, headers = server.get(path, token)
+                    said = status, headers["X-Status"], headers["X-Refused"]
+                    test(f"{path}, {alg} by the public key {key['kid']}: {said}", said == (401, "InvalidAlgorithm", key["kid"]))
+        families = {"RSA": "RP", "EC": "E", "OKP": "E"}
+        for alg in ALGORITHMS:
+            status, headers = server.get("/public", signed(PASS, alg=alg, kid=key["kid"]))
+            said = status, headers["X-Status"]
+            wanted = ("InvalidSignature", "InvalidAlgorithm", "InvalidKeyFormat") if alg[0] in families[key["kty"]] else ("InvalidAlgorithm",)
+            test(f"{alg} of a token for a key of {key['kty']}: {said}", status == 401 and headers["X-Status"] in wanted)
+    for alg in ALGORITHMS:
+        for header in ({"kid": "nosuch"}, {"kid": None}):
+            status, headers = server.get("/every", signed(PASS, alg=alg, **header))
+            test(f"{alg} of {header}: {status} {headers['X-Status']}", (status, headers["X-Status"]) == (401, "NoKey"))
 
 
 def several(server):
@@ -239,6 +277,12 @@ def refused(server):
         ("another signature", signed(PASS, b"x" * 32), "SignatureIsAccepted", "a"),
         ("a payload that is no object", signed([1]), "ClaimsAreAnObject", "a"),
         ("an expired one", signed({"exp": NOW - 5}), "ClaimsAreValid", "a"),
+        # a header that is read, though it is none of the library's
+        ("no algorithm", signed(PASS, alg="none"), "HeaderIsValid", "a"),
+        ("an algorithm that is not supported", signed(PASS, alg="ES512", kid=odd), "HeaderIsValid", '\\" 200 OK \\"\\\\\\r\\n\\u0001 caf\u00e9'),
+        *((f"the kid {it}", signed(PASS, kid=it), "HeaderIsValid", "") for it in (7, 0.5, True, ["a"], {"a": 'b"c'})),
+        ("the kid null", signed(PASS, kid=None), "KeyIsFound", ""),
+        ("a header that is a list", part(b"[1]") + ".e30.YQ", "HeaderIsValid", ""),
     ):
         _, headers = server.get("/", token)
         said = [(headers[it] or "").encode("latin-1").decode() for it in ("X-Test", "X-Refused")]
@@ -254,15 +298,20 @@ def refused(server):
 
 
 KEYS = "auth_jwt r; auth_jwt_key_file {work}/keys.json; auth_jwt_alg HS256;"
+UNKNOWN = f"no such algorithm, write one of {', '.join(ALGORITHMS)} in"
+UNUSABLE = "No key fits the algorithms: each key is for other algorithms, malformed, too weak or without a kid; jwt keys FILE shows which in"
 BAD = [
     ("no file", "auth_jwt r; auth_jwt_key_file {work}/nosuch; auth_jwt_alg HS256;", "nosuch"),
     ("no key file", "auth_jwt r; auth_jwt_alg HS256;", "auth_jwt needs auth_jwt_key_file or auth_jwt_key_request in"),
     ("no algorithm", "auth_jwt r; auth_jwt_key_file {work}/keys.json;", "auth_jwt needs auth_jwt_alg in"),
-    ("a key of another family", "auth_jwt r; auth_jwt_key_file {work}/key.json; auth_jwt_alg RS256;", 'key.json": Key serves no algorithm: it is for HS256, HS384 and HS512, and not for auth_jwt_alg in'),
-    ("a set of other families", "auth_jwt r; auth_jwt_key_file {work}/keys.json; auth_jwt_alg EdDSA;", 'keys.json": Key serves no algorithm: it is for HS256, HS384 and HS512, and not for auth_jwt_alg in'),
-    ("a key in PEM of another family", "auth_jwt r; auth_jwt_key_file {work}/p256.pem; auth_jwt_alg RS256;", 'p256.pem": Key serves no algorithm: it is for ES256, and not for auth_jwt_alg in'),
-    ("a key in PEM of another curve", "auth_jwt r; auth_jwt_key_file {work}/p256.pem; auth_jwt_alg ES384;", 'p256.pem": Key serves no algorithm: it is for ES256, and not for auth_jwt_alg in'),
-    ("a set of RSA", "auth_jwt r; auth_jwt_key_file {work}/rsa.json; auth_jwt_alg ES256;", 'rsa.json": Key serves no algorithm: it is for RS256 to RS512 and PS256 to PS512, and not for'),
+    ("a key of another family", "auth_jwt r; auth_jwt_key_file {work}/key.json; auth_jwt_alg RS256;", 'key.json": No key fits the algorithms: the key is for HS256, HS384, HS512, and not for auth_jwt_alg in'),
+    ("a key of none of the families", "auth_jwt r; auth_jwt_key_file {work}/key.json; auth_jwt_alg RS256 ES256 EdDSA;", 'key.json": No key fits the algorithms: the key is for HS256, HS384, HS512, and not for auth_jwt_alg in'),
+    ("a set of other families", "auth_jwt r; auth_jwt_key_file {work}/keys.json; auth_jwt_alg EdDSA;", f'keys.json": {UNUSABLE}'),
+    ("a set of none of the families", "auth_jwt r; auth_jwt_key_file {work}/keys.json; auth_jwt_alg EdDSA RS256 ES384;", f'keys.json": {UNUSABLE}'),
+    ("a key in PEM of another family", "auth_jwt r; auth_jwt_key_file {work}/p256.pem; auth_jwt_alg RS256;", 'p256.pem": No key fits the algorithms: the key is for ES256, and not for auth_jwt_alg in'),
+    ("a key in PEM of another curve", "auth_jwt r; auth_jwt_key_file {work}/p256.pem; auth_jwt_alg ES384;", 'p256.pem": No key fits the algorithms: the key is for ES256, and not for auth_jwt_alg in'),
+    ("a key of RSA", "auth_jwt r; auth_jwt_key_file {work}/rsa_key.json; auth_jwt_alg ES256;", 'rsa_key.json": No key fits the algorithms: the key is for RS256, RS384, RS512, PS256, PS384, PS512, and not for auth_jwt_alg in'),
+    ("a set of RSA", "auth_jwt r; auth_jwt_key_file {work}/rsa.json; auth_jwt_alg ES256;", f'rsa.json": {UNUSABLE}'),
     ("a realm of two lines", 'auth_jwt "a\nb";', '"auth_jwt" directive has a realm that is not UTF-8'),
     ("no name of a variable", "auth_jwt r token=$;", '"auth_jwt" directive takes token=$variable'),
     ("two single keys", "auth_jwt r; auth_jwt_key_file {work}/key.json; auth_jwt_key_file {work}/key.json; auth_jwt_alg HS256;", 'key.json" is a single key, which has to be the only source of keys'),
@@ -271,13 +320,13 @@ BAD = [
     ("an issuer of one of two", "auth_jwt r; auth_jwt_key_file {work}/keys.json iss=a; auth_jwt_key_file {work}/keys.json; auth_jwt_alg HS256;", 'keys.json" needs iss= if other keys have it'),
     ("an issuer of the second of two", "auth_jwt r; auth_jwt_key_file {work}/keys.json; auth_jwt_key_request /keys iss=a; auth_jwt_alg HS256; location = /keys {{ }}", 'auth_jwt_key_request "/keys" needs iss= if other keys have it'),
     ("an issuer besides others", "auth_jwt_iss a; auth_jwt_alg HS256; location /a {{ auth_jwt r; auth_jwt_key_file {work}/keys.json iss=a; }}", 'keys.json" has iss= besides auth_jwt_iss in'),
-    ("an empty issuer of keys", "auth_jwt_key_file {work}/keys.json iss=;", '"auth_jwt_key_file" directive has an empty name in'),
+    ("an empty issuer of keys", "auth_jwt_key_file {work}/keys.json iss=;", 'auth_jwt_key_file "": "iss" has an empty text in'),
     ("a variable as issuer of keys", "auth_jwt_key_request /keys iss=$host;", '"auth_jwt_key_request" directive takes no variables in'),
-    ("an issuer of keys that is not UTF-8", "auth_jwt_key_file {work}/keys.json iss=\udcff;", '": Options not understood'),
+    ("an issuer of keys that is not UTF-8", "auth_jwt_key_file {work}/keys.json iss=\udcff;", '"auth_jwt_key_file" directive takes names that are UTF-8 in'),
     ("an issuer of keys without its word", "auth_jwt_key_file {work}/keys.json https://login.example;", '"auth_jwt_key_file" directive takes iss=NAME as its second argument'),
     ("a short word for an issuer", "auth_jwt_key_file {work}/keys.json a;", '"auth_jwt_key_file" directive takes iss=NAME as its second argument'),
     ("two uris of one issuer", "auth_jwt_key_request /keys iss=a; auth_jwt_key_request /keys iss=a;", '"auth_jwt_key_request" directive is duplicate'),
-    ("a second set of another family", "auth_jwt r; auth_jwt_key_file {work}/keys.json; auth_jwt_key_file {work}/ec.json; auth_jwt_alg HS256;", 'ec.json": Key serves no algorithm'),
+    ("a second set of another family", "auth_jwt r; auth_jwt_key_file {work}/keys.json; auth_jwt_key_file {work}/ec.json; auth_jwt_alg HS256;", 'ec.json": No key fits the algorithms'),
     ("an uri that is none", "auth_jwt_key_request keys;", '"auth_jwt_key_request" directive takes the path of a location'),
     ("an uri with a variable", "auth_jwt_key_request /keys/$host;", '"auth_jwt_key_request" directive takes the path of a location'),
     ("an uri with arguments", "auth_jwt_key_request /keys?a;", '"auth_jwt_key_request" directive takes the path of a location'),
@@ -295,14 +344,18 @@ BAD = [
     ),
     ("two times", "auth_jwt_key_cache 10s; auth_jwt_key_cache 20s;", '"auth_jwt_key_cache" directive is duplicate'),
     ("two lists", "auth_jwt_aud web; auth_jwt_aud app;", '"auth_jwt_aud" directive is duplicate'),
-    ("an unknown algorithm", "auth_jwt r; auth_jwt_key_file {work}/keys.json; auth_jwt_alg HS257;", 'auth_jwt_alg "HS257": Options not understood: no algorithm of this name'),
-    ("none", "auth_jwt r; auth_jwt_key_file {work}/keys.json; auth_jwt_alg none;", 'auth_jwt_alg "none": Options not understood'),
-    ("one of two is unknown", "auth_jwt r; auth_jwt_key_file {work}/keys.json; auth_jwt_alg HS256 hs384;", 'auth_jwt_alg "hs384": Options not understood'),
-    ("an algorithm with a quotation mark", "auth_jwt r; auth_jwt_key_file {work}/keys.json; auth_jwt_alg 'HS256\"';", 'HS256"": Options not understood'),
-    ("a long name of an algorithm", f"auth_jwt r; auth_jwt_key_file {{work}}/keys.json; auth_jwt_alg {'HS256' * 100};", 'HS256": Options not understood'),
-    ("two families", "auth_jwt r; auth_jwt_key_file {work}/keys.json; auth_jwt_alg HS256 RS256;", 'auth_jwt_alg "["HS256","RS256"]": Algorithms of several families'),
-    ("two families of one set", "auth_jwt r; auth_jwt_key_file {work}/standard.json; auth_jwt_alg HS256 RS256;", 'auth_jwt_alg "["HS256","RS256"]": Algorithms of several families'),
-    ("ES and Ed", "auth_jwt r; auth_jwt_key_file {work}/keys.json; auth_jwt_alg ES256 EdDSA;", 'auth_jwt_alg "["ES256","EdDSA"]": Algorithms of several families'),
+    *(
+        (f"the algorithm {name}", f"{KEYS} location /a {{{{ auth_jwt_alg {written or name}; }}}}", f'auth_jwt_alg "{name}": {UNKNOWN}')
+        for name, written in (
+            *((it, None) for it in ("HS257", "RS265", "none", "ES512", "EDDSA", "eddsa", "Ed25519", "RSA", "HS256,RS256", "HS256" * 100)),
+            ("hs384", "HS256 hs384"),
+            ("ES257", "RS256 ES257 EdDSA"),
+            ('HS256"', "'HS256\"'"),
+            ("RS256 ES256", '"RS256 ES256"'),
+            ("", '""'),
+        )
+    ),
+    ("an algorithm that is not UTF-8", "auth_jwt_alg \udcff;", f'": {UNKNOWN}'),
     ("another token", "auth_jwt r token=x; auth_jwt_key_file {work}/keys.json; auth_jwt_alg HS256;", "takes token=$variable"),
     ("an unknown variable", "auth_jwt r token=$nosuch; auth_jwt_key_file {work}/keys.json; auth_jwt_alg HS256;", "nosuch"),
     ("twice", "auth_jwt r; auth_jwt r; auth_jwt_key_file {work}/keys.json; auth_jwt_alg HS256;", "duplicate"),
@@ -313,10 +366,14 @@ BAD = [
     ("a cache of 63 bits", "auth_jwt_cache 9223372036854775807;", "value must be between 0 and 1048576"),
     ("too large a cache", "auth_jwt_cache 1048577;", "value must be between 0 and 1048576"),
     ("two caches", "auth_jwt_cache 1; auth_jwt_cache 1;", "duplicate"),
-    ("an empty audience", 'auth_jwt_aud web "";', '"auth_jwt_aud" directive has an empty name'),
-    ("an empty issuer", 'auth_jwt_iss "";', '"auth_jwt_iss" directive has an empty name'),
-    ("an empty algorithm", 'auth_jwt_alg "";', '"auth_jwt_alg" directive has an empty name'),
-    ("an audience that is not UTF-8", "auth_jwt r; auth_jwt_key_file {work}/keys.json; auth_jwt_alg HS256; auth_jwt_aud \udcff;", '": Options not understood'),
+    ("an empty audience", 'auth_jwt_aud web "";', 'auth_jwt_aud "": "aud" has an empty text in'),
+    ("an empty issuer", 'auth_jwt_iss "";', 'auth_jwt_iss "": "iss" has an empty text in'),
+    *(
+        (f"an audience that is not UTF-8: {it!r}", f"auth_jwt_aud web {it};", '"auth_jwt_aud" directive takes names that are UTF-8 in')
+        # a byte of none, a surrogate, and a character that is cut
+        for it in ("\udcff", "\udced\udca0\udc80", "a\udcc3")
+    ),
+    ("a realm with a surrogate", "auth_jwt \udced\udca0\udc80;", '"auth_jwt" directive has a realm that is not UTF-8'),
     ("a FIFO", "auth_jwt_key_file {work}/fifo;", '"auth_jwt_key_file" directive names no file of 1 byte to 1 MiB'),
     ("a folder", "auth_jwt_key_file {work}/root;", '"auth_jwt_key_file" directive names no file of 1 byte to 1 MiB'),
     ("a device", "auth_jwt_key_file /dev/zero;", '"auth_jwt_key_file" directive names no file of 1 byte to 1 MiB'),
@@ -356,6 +413,12 @@ BAD = [
 RIGHT = [
     "auth_jwt r; auth_jwt_alg HS256; auth_jwt_key_file {work}/key.json iss=a; auth_jwt_key_file {work}/keys.json iss=b; auth_jwt_key_file {work}/key.json iss=b;",
     "auth_jwt r; auth_jwt_alg HS256; auth_jwt_key_request /a iss=a; auth_jwt_key_request /a iss=b; auth_jwt_key_request /b iss=b; location ~ ^/[ab]$ {{ }}",
+    # algorithms of several families, for a set, a single key, several files and a fetched set
+    *(f"auth_jwt r; auth_jwt_key_file {{work}}/standard.json; auth_jwt_alg {it};" for it in ("HS256 RS256", "ES256 EdDSA", "RS256 ES384 EdDSA", " ".join(ALGORITHMS), "RS256 RS256 ES256 RS256")),
+    *(f"auth_jwt r; auth_jwt_key_file {{work}}/{it}; auth_jwt_alg ES384 RS256 EdDSA HS512 ES256;" for it in ("key.json", "rsa_key.json", "p256.pem", "keys.json", "rsa.json", "ec.json")),
+    "auth_jwt r; auth_jwt_alg RS256 ES256; auth_jwt_key_file {work}/rsa.json; auth_jwt_key_file {work}/ec.json;",
+    "auth_jwt r; auth_jwt_alg HS256 ES256; auth_jwt_key_file {work}/key.json iss=a; auth_jwt_key_file {work}/p256.pem iss=b;",
+    "auth_jwt r; auth_jwt_alg RS256 ES256 EdDSA; auth_jwt_key_request /keys; location = /keys {{ }}",
     "auth_jwt_cache 1048576;",
     "auth_jwt_key_cache 10s;",
     "auth_jwt_key_cache 10;",
@@ -409,21 +472,21 @@ BAD_KEYS = [
     ("{", "no JSON Web Key Set, JSON Web Key or public key in PEM"),
     ("[]", "no JSON Web Key Set, JSON Web Key or public key in PEM"),
     ('{"keys":5}', "no JSON Web Key Set, JSON Web Key or public key in PEM"),
-    ('{"keys":[]}', "Key serves no algorithm: none of its keys has a kid, by which a token names its key in"),
-    ('{"keys":[{"kty":"oct","k":"YQ"}]}', "Key serves no algorithm: none of its keys has a kid"),
-    ('{"keys":[{"kty":"other","kid":"a"}]}', "Key serves no algorithm: each key is malformed, too weak, such as RSA of less than 2048 bits, or has no kid; jwt keys FILE says which in"),
-    ('{"kty":"RSA","n":"AQAB","e":"AQAB"}', "Key serves no algorithm: it is malformed, or too weak, such as RSA of less than 2048 bits in"),
-    ('{"kty":"EC","crv":"P-256","x":"' + "A" * 43 + '","y":"' + "A" * 43 + '"}', "Key serves no algorithm: it is malformed, or too weak"),
-    ('{"keys":[{"kty":"oct","kid":"a","k":""}]}', "Anyone can sign"),
-    ('{"keys":[{"kty":"oct","kid":"b","k":"YQ"},{"kty":"oct","kid":"a","k":"AAAA"}]}', "Anyone can sign"),
-    ('{"keys":[{"kty":"oct","k":"YQ"},{"kty":"RSA","kid":"a","n":"AQAB","e":"AQAB"}]}', "Key serves no algorithm: each key is malformed, too weak, such as RSA of less than 2048 bits, or has no kid"),
-    ('{"kty":"oct","k":"AA"}', "Anyone can sign"),
-    ('{"kty":"\\u006fct","\\u006b":"AA"}', "Anyone can sign"),
-    ('{"kty":"oct","k":"","K":"c2VjcmV0"}', "Anyone can sign"),
-    ('{"kty":"oct","k":"","KTY":"RSA"}', "Anyone can sign"),
-    ('{"kty":"oct","k":"c2VjcmV0","\\u006b":""}', "Anyone can sign"),
-    ('{"kty":"RSA","k":"","kty":"oct"}', "Anyone can sign"),
-    ('{"keys":[{"kty":"oct","kid":"a","k":"YQ"}],"\\u006beys":[{"kty":"oct","kid":"a","k":""}]}', "Anyone can sign"),
+    ('{"keys":[]}', UNUSABLE),
+    ('{"keys":[{"kty":"oct","k":"YQ"}]}', UNUSABLE),
+    ('{"keys":[{"kty":"other","kid":"a"}]}', UNUSABLE),
+    ('{"kty":"RSA","n":"AQAB","e":"AQAB"}', "No key fits the algorithms: the key is malformed, or too weak, such as RSA of less than 2048 bits in"),
+    ('{"kty":"EC","crv":"P-256","x":"' + "A" * 43 + '","y":"' + "A" * 43 + '"}', "No key fits the algorithms: the key is malformed, or too weak"),
+    ('{"keys":[{"kty":"oct","kid":"a","k":""}]}', "Secret is empty or all zeros"),
+    ('{"keys":[{"kty":"oct","kid":"b","k":"YQ"},{"kty":"oct","kid":"a","k":"AAAA"}]}', "Secret is empty or all zeros"),
+    ('{"keys":[{"kty":"oct","k":"YQ"},{"kty":"RSA","kid":"a","n":"AQAB","e":"AQAB"}]}', UNUSABLE),
+    ('{"kty":"oct","k":"AA"}', "Secret is empty or all zeros"),
+    ('{"kty":"\\u006fct","\\u006b":"AA"}', "Secret is empty or all zeros"),
+    ('{"kty":"oct","k":"","K":"c2VjcmV0"}', "Secret is empty or all zeros"),
+    ('{"kty":"oct","k":"","KTY":"RSA"}', "Secret is empty or all zeros"),
+    ('{"kty":"oct","k":"c2VjcmV0","\\u006b":""}', "Secret is empty or all zeros"),
+    ('{"kty":"RSA","k":"","kty":"oct"}', "Secret is empty or all zeros"),
+    ('{"keys":[{"kty":"oct","kid":"a","k":"YQ"}],"\\u006beys":[{"kty":"oct","kid":"a","k":""}]}', "Secret is empty or all zeros"),
     ('{"kty":"oct","k":"a b"}', "no JSON Web Key Set, JSON Web Key or public key in PEM"),
     ("x" * 1048577, "names no file of 1 byte to 1 MiB"),
     ("-----BEGIN PUBLIC KEY-----\n-----END PUBLIC KEY-----\n", "no JSON Web Key Set, JSON Web Key or public key in PEM"),
@@ -432,8 +495,8 @@ BAD_KEYS = [
     ("-----BEGIN CERTIFICATE-----\nAAAA\n-----END CERTIFICATE-----\n", "public key in PEM: a certificate, whose key openssl x509 -pubkey -noout prints in "),
 ]
 for zeros in (bytes(size) for size in (1, 64, 65, 128, 129, 300)):
-    BAD_KEYS.append((json.dumps(oct_key("a", zeros)), "Anyone can sign"))
-    BAD_KEYS.append((json.dumps({"keys": [oct_key("b"), oct_key("a", zeros), oct_key("c")]}), "Anyone can sign"))
+    BAD_KEYS.append((json.dumps(oct_key("a", zeros)), "Secret is empty or all zeros"))
+    BAD_KEYS.append((json.dumps({"keys": [oct_key("b"), oct_key("a", zeros), oct_key("c")]}), "Secret is empty or all zeros"))
 # the last value of a member counts, and one byte that is not 0
 GOOD_KEYS = [
     '{"kty":"oct","k":"","k":"YQ"}',
@@ -459,6 +522,7 @@ def configurations(server):
     """A configuration that can't be right is refused, and says why, in which line."""
     for kind in ("EC", "RSA"):
         server.write(f"{kind.lower()}.json", {"keys": [it for it in standard_rows()[1] if it["kty"] == kind]})
+    server.write("rsa_key.json", next(it for it in standard_rows()[1] if it["kty"] == "RSA"))
     os.mkfifo(f"{server.work}/fifo")
     for name, conf, said in BAD:
         status, text = server.check(conf)
@@ -466,8 +530,8 @@ def configurations(server):
     for lines, said in (
         (["", "auth_jwt r;", "auth_jwt_alg HS256;", ""], "needs auth_jwt_key_file or auth_jwt_key_request in {}:3"),
         (["", "auth_jwt_key_file keys.json;", "auth_jwt r;", "", ""], "auth_jwt needs auth_jwt_alg in {}:3"),
-        (["auth_jwt_alg", "RS256", ";", "auth_jwt_key_file keys.json; auth_jwt r;", ""], 'it is for HS256, HS384 and HS512, and not for auth_jwt_alg in {}:4'),
-        (["auth_jwt r;", "auth_jwt_key_file", "key.json;", "auth_jwt_alg HS256", "HS257;", ""], '"HS257": Options not understood: no algorithm of this name, or a name that is not UTF-8 in {}:5'),
+        (["auth_jwt_alg", "RS256", ";", "auth_jwt_key_file keys.json; auth_jwt r;", ""], UNUSABLE + " {}:4"),
+        (["auth_jwt r;", "auth_jwt_key_file", "key.json;", "auth_jwt_alg HS256", "HS257;", ""], f'auth_jwt_alg "HS257": {UNKNOWN} {{}}:5'),
         (["auth_jwt_alg HS256;", "auth_jwt_require $host;", ""], "auth_jwt_require protects nothing without auth_jwt in {}:2"),
         (["auth_jwt r;", "auth_jwt_key_file nginx.conf;", "auth_jwt_alg HS256;", ""], "public key in PEM in {}:2"),
     ):
@@ -1350,6 +1414,7 @@ def run_default(module):
                 several(server)
                 variables(server)
                 refused(server)
+            confused(server, rows)
             again(server, "/")
             again(server, "/cached")
             reloads(server)
@@ -1367,6 +1432,7 @@ def run_anew(module):
         rows = write_keys(server)
         with started(server):
             verdicts(server, rows)
+            confused(server, rows)
             several(server)
             variables(server)
             refused(server)

@@ -228,11 +228,12 @@ def faults(server):
     test(f"no verdict: {headers['X-Status']} {headers['WWW-Authenticate']}", headers["X-Status"] == "NoKey" and headers["WWW-Authenticate"] is None)
     before = len(server.keys.asked)
     later(server, PAUSE)
-    nameless = made.signed({"alg": "HS256"}, {"exp": NOW + 10**6}, SECRETS["c"], "sha256").decode()
-    test("a token without a kid is refused, and causes no fetch", server.get("/", nameless)[0] == 401 and len(server.keys.asked) == before)
+    for header in ({}, {"kid": None}):
+        nameless = made.signed({"alg": "HS256", **header}, {"exp": NOW + 10**6}, SECRETS["c"], "sha256").decode()
+        test(f"a token without a kid is refused, and causes no fetch: {header}", server.get("/", nameless)[0] == 401 and len(server.keys.asked) == before)
     said = server.read("error.log")
     test("the faults are reported", said.count('auth_jwt: no keys from "/keys" of server "') >= 20)
-    for cause in (r"status 500, \d+ bytes: another status than 200", ": more than 1 MiB", ": cut", ": Key set not understood", ": Key serves no algorithm: each key is malformed, too weak", ": Key serves no algorithm: none of its keys has a kid", ": Anyone can sign"):
+    for cause in (r"status 500, \d+ bytes: another status than 200", ": more than 1 MiB", ": cut", ": Invalid key set", ": No key fits the algorithms: each key is for other algorithms, malformed, too weak or without a kid; jwt keys FILE shows which", ": Secret is empty or all zeros"):
         test(f"a fault is reported: {cause}", re.search(f"no keys from .*{cause}", said))
     server.keys.answer = whole(keys("c"))
     later(server, PAUSE)

@@ -17,7 +17,7 @@ import tempfile
 import threading
 import time
 
-from harness import NOW, SECRET, TOP, Server, eventually, free_port, oct_key, signed, started, test
+from harness import NOW, SECRET, TOP, Server, eventually, free_port, oct_key, part, signed, started, test
 from key_server import KeyServer, close, head, whole
 
 SECOND = SECRET[::-1]
@@ -47,6 +47,53 @@ def write_certificates(folder):
     write("authority", "authority.example")
     for name, (host, is_trusted) in CERTIFICATES.items():
         write(name, host, *(["-CA", f"{folder}/authority", "-CAkey", f"{folder}/authority.key"] if is_trusted else []))
+
+
+def openssl(*words, given=None):
+    return subprocess.run(["openssl", *words], input=given, check=True, capture_output=True).stdout
+
+
+class KeyPair:
+    """A private key of OpenSSL, which signs tokens with one algorithm, and its public key."""
+
+    KINDS = {"RS256": ["RSA", "-pkeyopt", "rsa_keygen_bits:2048"], "ES256": ["EC", "-pkeyopt", "ec_paramgen_curve:P-256"], "EdDSA": ["ED25519"]}
+
+    def __init__(self, folder, alg, kid):
+        self.alg, self.kid, self.file = alg, kid, f"{folder}/{kid}.pem"
+        openssl("genpkey", "-algorithm", *self.KINDS[alg], "-out", self.file)
+        self.pem = openssl("pkey", "-in", self.file, "-pubout")
+        self.der = openssl("pkey", "-in", self.file, "-pubout", "-outform", "DER")
+        self.jwk = {"kid": kid, **{name: part(it) if isinstance(it, bytes) else it for name, it in self.members().items()}}
+
+    def members(self):
+        """Returns the members of the JSON Web Key, whose numbers are at the end of the DER."""
+        if self.alg == "RS256":
+            return {"kty": "RSA", "n": self.der[-261:-5], "e": self.der[-3:]}
+        if self.alg == "ES256":
+            return {"kty": "EC", "crv": "P-256", "x": self.der[-64:-32], "y": self.der[-32:]}
+        return {"kty": "OKP", "crv": "Ed25519", "x": self.der[-32:]}
+
+    def signature(self, message):
+        if self.alg == "EdDSA":
+            with tempfile.NamedTemporaryFile() as file:
+                file.write(message)
+                file.flush()
+                return openssl("pkeyutl", "-sign", "-inkey", self.file, "-rawin", "-in", file.name)
+        made = openssl("dgst", "-sha256", "-sign", self.file, given=message)
+        if self.alg == "RS256":
+            return made
+        # the DER of two numbers (RFC 3279 section 2.2.3)
+        numbers = made[4 : 4 + made[3]], made[6 + made[3] :]
+        return b"".join(int.from_bytes(it, "big").to_bytes(32, "big") for it in numbers)
+
+    def token(self, header=(), **claims):
+        header = {"alg": self.alg, "kid": self.kid, **dict(header)}
+        message = ".".join(part(json.dumps(it).encode()) for it in (header, {"exp": NOW + 3600, "sub": "ada", **claims}))
+        return f"{message}.{part(self.signature(message.encode()))}"
+
+
+# The published keys of the sample with several families, by algorithm.
+PAIRS = {}
 
 
 def context(folder, name):
@@ -110,8 +157,7 @@ class Sample:
             ("https://$issuer/", f"https://$issuer:{self.keys.port}/"),
             ("/var/log/nginx", work),
             ("/var/cache/nginx/keys", f"{work}/store"),
-            ("RS256", "HS256"),
-            ("ES256", "HS384"),
+            *([] if "EdDSA" in sample else [("RS256", "HS256")]),
         ):
             sample = sample.replace(old, new)
         if "auth_jwt " not in sample:
@@ -129,7 +175,8 @@ class Sample:
             self.server.write("access.log", "")
         if is_of_http:
             self.server.port = self.port
-        for name, keys in (("jwks", [oct_key("a")]), ("second", [oct_key("b", SECOND)]), ("old", [oct_key("b", SECOND)])):
+        published = [it.jwk for it in PAIRS.values()] if "EdDSA" in sample else [oct_key("a")]
+        for name, keys in (("jwks", published), ("second", [oct_key("b", SECOND)]), ("old", [oct_key("b", SECOND)])):
             self.server.write(f"{name}.json", {"keys": keys})
 
     def two_tokens(self):
@@ -360,16 +407,51 @@ def issuers(it):
 
 
 def families(it):
-    other = {"iss": OTHER, "digest": "sha384", "alg": "HS384"}
-    mixed = {**other, **ISSUERS}
-    cases = [token(**ISSUERS), token(SECOND, "b", **other), token(SECOND, "b", **ISSUERS), token(**other), token(SECOND, **ISSUERS), None]
-    # the key of one with the name of the other
-    cases += [token(SECOND, "b", **mixed), token(SECOND, "a", **mixed), token(iss=other["iss"])]
-    got = [it.status("/api/x", given) for given in cases]
-    test(f"README, two families: {got}", got == [200, 200] + [401] * 7)
-    cases += [token(iss=[ISSUER, OTHER]), token(SECOND, "b", **{**other, "iss": [OTHER, ISSUER]})]
-    got = [it.server.get("/api/x", given)[1].get_all("WWW-Authenticate", []) for given in cases]
-    test(f"README, two families, WWW-Authenticate: {got}", [len(lines) for lines in got] == [0, 0] + [1] * 9)
+    cases = {}
+    for alg, pair in PAIRS.items():
+        good, stranger = pair.token(), KeyPair(it.certificates, alg, f"other-{alg}")
+        head, payload, signature = good.split(".")
+        cases[f"with {alg}"] = good, 200
+        cases[f"with {alg}, again"] = good, 200
+        cases[f"with {alg}, without its signature"] = f"{head}.{payload}.", 401
+        cases[f"with {alg}, and another signature"] = f"{head}.{payload}.{stranger.token().split('.')[2]}", 401
+        cases[f"with {alg}, and other claims"] = f"{head}.{pair.token(sub='root').split('.')[1]}.{signature}", 401
+        cases[f"with {alg}, by a key that is not in the set"] = stranger.token(), 401
+        cases[f"with {alg}, by a key that is not in the set, under the kid of one"] = stranger.token({"kid": pair.kid}), 401
+        cases[f"with {alg}, without a kid"] = pair.token({"kid": None}), 401
+        # algorithm confusion (RFC 8725 section 2.1)
+        for name, secret in (("PEM", pair.pem), ("PEM without its last newline", pair.pem.rstrip()), ("DER", pair.der), ("JSON", json.dumps(pair.jwk).encode()), ("nothing", b"")):
+            cases[f"with HS256, by the {name} of the key for {alg}"] = token(secret, pair.kid), 401
+        for other in ("none", "HS256", "RS384", "PS256", "ES384", *PAIRS):
+            if other != alg:
+                cases[f"with {alg}, whose header says {other}"] = pair.token({"alg": other}), 401
+        for other in PAIRS.values():
+            if other is not pair:
+                cases[f"with {alg}, under the kid of the key for {other.alg}"] = pair.token({"kid": other.kid}), 401
+                cases[f"with {alg}, whose header is that of {other.alg}"] = pair.token({"kid": other.kid, "alg": other.alg}), 401
+    for name, (given, wanted) in cases.items():
+        got = it.status("/api/x", given)
+        test(f"README, several families, a token {name}: {got}", got == wanted)
+    test("README, several families, no token", it.status("/api/x") == 401)
+    # a secret among them, and as the key of another issuer
+    pairs = PAIRS.values()
+    text = it.text.replace("auth_jwt_alg RS256", "auth_jwt_alg HS256 RS256")
+    with running(it.module, it.certificates, text) as other:
+        got = [other.status("/api/x", token(secret, pair.kid)) for pair in pairs for secret in (pair.pem, pair.der, b"")]
+        test(f"README, several families and HS256, by the text of a key: {got}", got == [401] * 9)
+        got = [other.status("/api/x", pair.token()) for pair in pairs]
+        test(f"README, several families and HS256: {got}", got == [200] * 3)
+    file = "auth_jwt_key_file jwks.json"
+    with running(it.module, it.certificates, text.replace(file, f"{file} iss={ISSUER}; auth_jwt_key_file second.json iss={OTHER}")) as other:
+        got = [other.status("/api/x", pair.token(iss=name)) for name in (ISSUER, OTHER) for pair in pairs]
+        test(f"README, issuers with keys of several families: {got}", got == [200] * 3 + [401] * 3)
+        got = [other.status("/api/x", token(SECOND, "b", iss=name)) for name in (OTHER, ISSUER)]
+        test(f"README, issuers with keys of several families, a secret: {got}", got == [200, 401])
+    fetched = it.text.replace(file, "auth_jwt_key_request /keys") + "location = /keys { internal; proxy_pass https://login.example/jwks; }\n"
+    with running(it.module, it.certificates, fetched) as other:
+        other.keys.answer = whole([oct_key("a"), {"kty": "unknown", "kid": "b"}, *(pair.jwk for pair in pairs)])
+        got = [other.status("/api/x", pair.token()) for pair in pairs] + [other.status("/api/x", given) for given in (token(), *(token(pair.pem, pair.kid) for pair in pairs))]
+        test(f"README, a fetched set with keys of several families: {got}", got == [200] * 3 + [401] * 4)
 
 
 def cookie(it):
@@ -417,6 +499,11 @@ def by(secret=SECRET, kid="a", digest="sha256", alg="HS256", **claims):
     return lambda **more: signed({"exp": NOW + 3600, "sub": "ada", **claims, **more}, secret, digest, kid=kid, alg=alg, typ="at+jwt")
 
 
+def by_pair(alg):
+    """Returns a call that signs these claims with the published key of this algorithm."""
+    return lambda **claims: PAIRS[alg].token(**claims)
+
+
 # Tests of a sample, and the path, header and tokens of a request that it lets pass. In the path and the header {} is the token.
 Case = collections.namedtuple("Case", "tests path header tokens")
 # By the words before the sample.
@@ -429,7 +516,7 @@ SAMPLES = {
     "Access tokens alone,": Case(access_tokens, "/", BEARER, [by()]),
     "A CORS preflight": Case(preflight, "/api/x", BEARER, [by()]),
     "Two issuers,": Case(issuers, "/api/x", BEARER, [by(**ISSUERS), by(SECOND, "b", iss=OTHER)]),
-    "Issuers with algorithms of two families": Case(families, "/api/x", BEARER, [by(**ISSUERS), by(SECOND, "b", "sha384", "HS384", iss=OTHER)]),
+    "Keys of several families,": Case(families, "/api/x", BEARER, [by_pair(alg) for alg in KeyPair.KINDS]),
     "A cookie": Case(cookie, "/app/x", {"Cookie": "auth={}"}, [by()]),
     "A WebSocket": Case(websocket, "/socket?token={}", {}, [by()]),
     "A service that decides,": Case(gate, "/files/x", BEARER, [by()]),
@@ -455,7 +542,7 @@ def identity(it, words, case):
             status = asked(it, case, sign(sub=sub), FORGED)
             got = passed_on(it, "X-User")
             test(f"README, {words} the client's own X-User: {status} {got}", status == 200 and got == users)
-            if len(case.tokens) > 1:
+            if "X-Issuer" in it.text:
                 got = passed_on(it, "X-Issuer")
                 test(f"README, {words} the client's own X-Issuer: {got}", got == [issuer])
 
@@ -476,6 +563,7 @@ def run(module):
     test(f"the samples of README: {list(found)}", list(found) == list(SAMPLES) and len(found) == len(samples()))
     with tempfile.TemporaryDirectory(prefix="nginx-jwt-") as certificates:
         write_certificates(certificates)
+        PAIRS.update((alg, KeyPair(certificates, alg, f"key-{alg}")) for alg in KeyPair.KINDS)
         for words, sample in found.items():
             case = SAMPLES[words]
             with running(module, certificates, sample) as it:
